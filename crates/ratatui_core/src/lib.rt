@@ -1,0 +1,41 @@
+//! The base of terminal interfaces, under the paths of the crate `ratatui-core`.
+//!
+//! This crate only gathers the others; docs/ARCHITECTURE.md says what each of them is.
+#![tactic(auto)]
+
+/// What a terminal draws on.
+pub mod backend {
+    pub use rtui_backend::{AsCell, Backend, TestBackend, TestError, WindowSize};
+}
+
+/// Cells, grids of cells, and the differences between two grids.
+pub mod buffer {
+    pub use rtui_buffer::{Buffer, BufferDiff, Cell, CellDiffOption, CellWidth};
+}
+
+/// Rectangles and positions, and layouts as data.
+pub mod layout {
+    pub use rtui_geometry::{Columns, Margin, Offset, Position, Positions, Rect, Rows, Size};
+    pub use rtui_layout::{
+        Alignment, Constraint, Direction, Flex, HorizontalAlignment, Layout, Spacing,
+        VerticalAlignment,
+    };
+}
+
+/// Colours, modifiers and styles.
+pub mod style {
+    pub use rtui_style::{Color, Modifier, ParseColorError, Style};
+}
+
+/// Symbols, and how they are joined.
+pub mod symbols {
+    /// Joining the symbols of borders.
+    pub mod merge {
+        pub use rtui_merge::MergeStrategy;
+    }
+}
+
+/// Terminals, and the frames that are drawn on them.
+pub mod terminal {
+    pub use rtui_terminal::{CompletedFrame, Frame, Terminal, TerminalError};
+}

@@ -1,0 +1,3 @@
+pub mod DrawLemmas
+pub mod LookLemmas
+pub mod PutLemmas

@@ -1,0 +1,4 @@
+pub mod Screen
+pub mod Count
+pub mod Looks
+pub mod Memory

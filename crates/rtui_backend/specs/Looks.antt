@@ -1,0 +1,13 @@
+-- The grid that a row-major list of cells stands for.
+use Rattle.std.specs.Prelude.{ℕ, ◌+◌, ◌*◌, nat_lt, if◌then◌else◌, List, map, slice_index_or}
+use Rattle.rtui_cell.specs.declared.cell.Cell.{Cell}
+use Rattle.rtui_cell.specs.Look.{Look, look_of, empty_look}
+use Rattle.rtui_cell.specs.Grid.{Grid}
+
+-- the look at a place, and the empty one past the end
+abbrev pub look_at : List Cell → ℕ → Look
+look_at cells i = slice_index_or (map look_of cells) i empty_look
+
+-- rows of w columns
+abbrev pub grid_of : ℕ → List Cell → Grid
+grid_of w cells a b = if nat_lt a w then look_at cells (b * w + a) else empty_look

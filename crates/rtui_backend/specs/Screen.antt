@@ -1,0 +1,83 @@
+-- What a screen is, and what each call of a backend does to it.
+use Rattle.std.specs.Prelude.{◌≡◌, ℕ, ◌+◌, ◌-◌, ◌^◌, ◌<◌, ◌≤◌, min, Bool, ◌++◌, map, nat_lt, if◌then◌else◌, true, List, [], length}
+use Rattle.std.specs.List.{range_with_len}
+use Rattle.rtui_geometry.specs.declared.position.Position.{Position}
+use Rattle.rtui_geometry.specs.declared.rect.Rect.{Rect}
+use Rattle.rtui_geometry.specs.declared.size.Size.{Size}
+use Rattle.rtui_cell.specs.Look.{Look, empty_look}
+use Rattle.rtui_cell.specs.Grid.{Grid, Update, puts}
+
+-- the rows that scrolled off, a grid of looks, a cursor, and how many items were drawn
+pub record Screen : Type 0 where
+  pub history : List (List Look)
+  pub width : ℕ
+  pub height : ℕ
+  pub grid : Grid
+  pub cursor_x : ℕ
+  pub cursor_y : ℕ
+  pub visible : Bool
+  pub written : ℕ
+
+-- the size fits 16 bits, and the cursor lies on the grid, or at 0 where there is none
+pub record IsOnGrid (s : Screen) : Type 0 where
+  pub columns : s.width < 2 ^ 16
+  pub rows : s.height < 2 ^ 16
+  pub cursor_x : s.cursor_x ≤ s.width - 1
+  pub cursor_y : s.cursor_y ≤ s.height - 1
+
+-- a row of the screen, as a list of looks; below the last row all is empty
+abbrev pub row_of : Screen → ℕ → List Look
+row_of s b = map (λ a. if nat_lt b s.height then s.grid a b else empty_look) (range_with_len 0 s.width)
+
+-- the rows above row `top`: the history, then the screen's rows before it
+abbrev pub rows_above : Screen → ℕ → List (List Look)
+rows_above s top = s.history ++ map (row_of s) (range_with_len 0 top)
+
+-- the items were put in order and counted; the cursor may be anywhere
+pub record Draws (old : Screen) (us : List Update) (new : Screen) : Type 0 where
+  pub history : new.history ≡ old.history
+  pub width : new.width ≡ old.width
+  pub height : new.height ≡ old.height
+  pub grid : (a b : ℕ) → new.grid a b ≡ puts old.width old.height us old.grid a b
+  pub visible : new.visible ≡ old.visible
+  pub written : old.written + length us < 2 ^ 64 - 1 → new.written ≡ old.written + length us
+
+-- the cursor was hidden or shown
+abbrev pub with_visible : Bool → Screen → Screen
+with_visible visible s = record s { visible = visible }
+
+-- the cursor went to a column and a row, each kept on the grid
+abbrev pub with_cursor : ℕ → ℕ → Screen → Screen
+with_cursor x y s = record s { cursor_x = min x (s.width - 1); cursor_y = min y (s.height - 1) }
+
+abbrev pub cursor_of : Screen → Position
+cursor_of s = record { x = s.cursor_x; y = s.cursor_y }
+
+abbrev pub size_of : Screen → Size
+size_of s = record { width = s.width; height = s.height }
+
+-- the rectangle of the whole screen
+abbrev pub screen_area : Screen → Rect
+screen_area s = record { x = 0; y = 0; width = s.width; height = s.height }
+
+-- a rectangle lies on a screen
+pub record IsOnScreen (r : Rect) (s : Screen) : Type 0 where
+  pub right : r.x + r.width ≤ s.width
+  pub bottom : r.y + r.height ≤ s.height
+
+-- a column of a row lies in a rectangle
+pub record IsWithin (r : Rect) (a b : ℕ) : Type 0 where
+  pub left : r.x ≤ a
+  pub right : a < r.x + r.width
+  pub top : r.y ≤ b
+  pub bottom : b < r.y + r.height
+
+-- a new screen of this size: no history, all empty, the cursor visible at the corner, nothing drawn
+pub record IsBlankScreen (w h : ℕ) (s : Screen) : Type 0 where
+  pub history : s.history ≡ []
+  pub width : s.width ≡ w
+  pub height : s.height ≡ h
+  pub grid : (a b : ℕ) → s.grid a b ≡ empty_look
+  pub cursor : cursor_of s ≡ record { x = 0; y = 0 }
+  pub visible : s.visible ≡ true
+  pub written : s.written ≡ 0

@@ -1,0 +1,115 @@
+ghost use Rattle.std.specs.Prelude.{◌≡◌, ℕ, List, map, true, false, IfOk, OnOk};
+ghost use Rattle.std.specs.Iterator.{IsFinite, Drains};
+ghost use Rattle.rtui_cell.specs.declared.cell.Cell.{Cell};
+ghost use Rattle.rtui_cell.specs.Grid.{update_by};
+ghost use Rattle.rtui_backend.specs.Screen.{Screen, IsOnGrid, Draws, with_visible, with_cursor, cursor_of, size_of};
+ghost use Rattle.rtui_backend.specs.Count.{Counts};
+
+use rtui_buffer::Cell;
+use rtui_geometry::{Position, Size};
+use std::error::Error;
+
+/// The size of a terminal's window.
+#[derive(Debug, Clone, Copy, PartialEq, Eq, Hash)]
+pub struct WindowSize {
+    /// Columns and rows.
+    pub columns_rows: Size,
+    /// Pixels, `Size::ZERO` where they aren't known.
+    pub pixels: Size,
+}
+
+/// What lends a cell, as `&Cell` does.
+pub trait AsCell: Drop {
+    ghost cell: { Self → Cell };
+
+    /// The cell that is lent.
+    fn as_cell(&self) -> &Cell
+        ensures { result.now ≡ cell self.now };
+}
+
+impl AsCell for &Cell {
+    ghost cell = { λ lent. lent.now };
+
+    fn as_cell(&self) -> &Cell {
+        *self
+    }
+}
+
+/// What a terminal draws on. Each call says what an Ok does to the screen; after an Err the screen may be
+/// anything of its size, and the count of failures is one more.
+pub trait Backend {
+    type Error: Error;
+
+    ghost screen: { Self → Screen };
+
+    ghost failures: { Self → ℕ };
+
+    /// Puts each cell in its column and row, in order: the column gets the cell's look, and the columns behind
+    /// it that the cell covers are emptied. Off the screen nothing changes. The cursor may end anywhere.
+    fn draw<C: AsCell, I: Iterator<Item = (u16, u16, C)>>(
+        &mut self,
+        content: I,
+    ) -> Result<(), Self::Error>
+        requires can { I.can_next content }
+        requires finite { IsFinite (I.remaining content) }
+        ensures ok { OnOk result ((items : List (ℕ × ℕ × C)) × Drains I.next_gives content items × Draws (screen self.old) (map (update_by C.cell) items) (screen self.new)) }
+        ensures counts { Counts result (failures self.old) (failures self.new) };
+
+    /// Hides the cursor.
+    fn hide_cursor(&mut self) -> Result<(), Self::Error>
+        ensures ok { OnOk result (screen self.new ≡ with_visible false (screen self.old)) }
+        ensures counts { Counts result (failures self.old) (failures self.new) };
+
+    /// Shows the cursor.
+    fn show_cursor(&mut self) -> Result<(), Self::Error>
+        ensures ok { OnOk result (screen self.new ≡ with_visible true (screen self.old)) }
+        ensures counts { Counts result (failures self.old) (failures self.new) };
+
+    /// Where the cursor is, on the screen.
+    fn get_cursor_position(&mut self) -> Result<Position, Self::Error>
+        ensures ok { IfOk result (λ position. position ≡ cursor_of (screen self.old)) }
+        ensures on_grid { OnOk result (IsOnGrid (screen self.old)) }
+        ensures stays { OnOk result (screen self.new ≡ screen self.old) }
+        ensures counts { Counts result (failures self.old) (failures self.new) };
+
+    /// Moves the cursor; its column and its row are each kept on the screen.
+    fn set_cursor_position(&mut self, position: Position) -> Result<(), Self::Error>
+        ensures ok { OnOk result (screen self.new ≡ with_cursor position.x position.y (screen self.old)) }
+        ensures counts { Counts result (failures self.old) (failures self.new) };
+
+    /// The older name of `get_cursor_position`: the column and the row.
+    fn get_cursor(&mut self) -> Result<(u16, u16), Self::Error>
+        ensures ok { IfOk result (λ place. (place.0 ≡ (screen self.old).cursor_x) × (place.1 ≡ (screen self.old).cursor_y)) }
+        ensures on_grid { OnOk result (IsOnGrid (screen self.old)) }
+        ensures stays { OnOk result (screen self.new ≡ screen self.old) }
+        ensures counts { Counts result (failures self.old) (failures self.new) }
+    {
+        let position = self.get_cursor_position()?;
+        Ok((position.x, position.y))
+    }
+
+    /// The older name of `set_cursor_position`.
+    fn set_cursor(&mut self, x: u16, y: u16) -> Result<(), Self::Error>
+        ensures ok { OnOk result (screen self.new ≡ with_cursor x y (screen self.old)) }
+        ensures counts { Counts result (failures self.old) (failures self.new) }
+    {
+        self.set_cursor_position(Position { x, y })
+    }
+
+    /// The size in columns and rows.
+    fn size(&mut self) -> Result<Size, Self::Error>
+        ensures ok { IfOk result (λ size. size ≡ size_of (screen self.old)) }
+        ensures stays { OnOk result (screen self.new ≡ screen self.old) }
+        ensures counts { Counts result (failures self.old) (failures self.new) };
+
+    /// The size in columns and rows, and in pixels where they are known.
+    fn window_size(&mut self) -> Result<WindowSize, Self::Error>
+        ensures ok { IfOk result (λ window. window.columns_rows ≡ size_of (screen self.old)) }
+        ensures stays { OnOk result (screen self.new ≡ screen self.old) }
+        ensures counts { Counts result (failures self.old) (failures self.new) };
+
+    /// Sends what is still held back; the screen stays as it is.
+    fn flush(&mut self) -> Result<(), Self::Error>
+        ensures ok { OnOk result (screen self.new ≡ screen self.old) }
+        ensures counts { Counts result (failures self.old) (failures self.new) };
+}

@@ -1,0 +1,12 @@
+//! What a terminal draws on: the trait `Backend`, and a backend in memory for tests.
+//!
+//! It stands on `rtui_geometry` and `rtui_buffer`. `specs/Screen` defines a screen and what each call does to it;
+//! an implementation of `Backend` keeps that contract, and the layer above uses nothing else of it. Failed calls
+//! are counted (`specs/Count`).
+#![tactic(auto)]
+
+mod backend;
+mod test;
+
+pub use backend::{AsCell, Backend, WindowSize};
+pub use test::{TestBackend, TestError};

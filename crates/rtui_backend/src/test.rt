@@ -1,0 +1,287 @@
+//! A backend in memory.
+
+ghost use Rattle.std.specs.Prelude.{◌≡◌, ◌↔◌, ℕ, ◌+◌, ◌-◌, ◌*◌, ◌^◌, ◌<◌, ◌≤◌, ◌==◌, ◌&&◌, true, nat_lt, if◌then◌else◌, List, [], ◌∷◌, map, length, IsTrue, IfOk, OnOk};
+ghost use Rattle.std.specs.Iterator.{IsFinite, Drains};
+ghost use Rattle.rtui_cell.specs.Look.{look_of, empty_look};
+ghost use Rattle.rtui_cell.specs.Cell.{width_of};
+ghost use Rattle.rtui_cell.specs.Grid.{put, update_by};
+ghost use Rattle.rtui_buffer.specs.Sheet.{IsEmptied};
+ghost use Rattle.rtui_backend.specs.Screen.{Draws};
+ghost use Rattle.rtui_backend.specs.Looks.{look_at, grid_of};
+ghost use Rattle.rtui_backend.specs.Count.{Counts};
+
+use crate::backend::{AsCell, Backend, WindowSize};
+use rtui_buffer::{Buffer, Cell, CellDiffOption, CellWidth};
+use rtui_geometry::{Position, Rect, Size};
+use std::alloc::{AllocError, Global};
+use std::error::Error;
+use std::fmt;
+
+/// Why a call of a `TestBackend` failed.
+#[derive(Clone, Copy, Debug, PartialEq, Eq, Hash)]
+pub enum TestError {
+    /// Memory was refused.
+    Memory,
+    /// `fail_after` asked for it.
+    Told,
+}
+
+impl fmt::Display for TestError {
+    fn fmt<W: fmt::Write>(&self, f: &mut fmt::Formatter<W>) -> fmt::Result {
+        f.write_str(match self {
+            TestError::Memory => "no memory",
+            TestError::Told => "told",
+        })
+    }
+}
+
+impl Error for TestError {}
+
+// A cell of the same look, without option and flag.
+#[tactic(auto, unfolding(rtui_cell::specs::Look::look_of))]
+fn shown(alloc: Global, cell: &Cell) -> Result<Cell, AllocError>
+    ensures { IfOk result (λ copy. look_of copy ≡ look_of cell.now) }
+{
+    let mut copy = cell.clone(alloc)?;
+    copy.diff_option = CellDiffOption::None;
+    copy.skip = false;
+    Ok(copy)
+}
+
+// Puts a cell at a place, and empties the cells behind it up to `end`.
+#[tactic(auto, using(crate::proofs::LookLemmas::looks))]
+fn place(cells: &mut [Cell], at: usize, end: usize, cell: Cell)
+    requires at_in { at < end }
+    requires end_in { end ≤ length cells.old }
+    ensures { (k : ℕ) → look_at cells.new k ≡ (if k == at then look_of cell else (if nat_lt at k && nat_lt k end then empty_look else look_at cells.old k)) }
+{
+    cells[at] = cell;
+    for k in at + 1..end {
+        cells[k].reset();
+    }
+}
+
+// Puts a cell in a column and a row, where `shown` has its look.
+fn put_cell(cells: &mut [Cell], size: Size, x: u16, y: u16, cell: &Cell, shown: Cell)
+    requires covers { length cells.old ≡ size.width * size.height }
+    requires look { look_of shown ≡ look_of cell.now }
+    ensures { (a b : ℕ) → grid_of size.width cells.new a b ≡ put size.width size.height (record { x = x; y = y; cell = cell.now }) (grid_of size.width cells.old) a b }
+{
+    if x >= size.width || y >= size.height {
+        return;
+    }
+    let row = usize::from(y) * usize::from(size.width);
+    let column = usize::from(x);
+    let behind = column + usize::from(cell.cell_width());
+    let end = behind.max(column + 1).min(usize::from(size.width));
+    place(cells, row + column, row + end, shown);
+}
+
+/// A screen in memory, for tests: it keeps the contract of `Backend`, shows what it holds, and fails when it is
+/// told to. Its cells have no options and no flags.
+#[derive(Debug, Drop, PartialEq, Eq, Hash)]
+pub struct TestBackend {
+    buffer: Buffer,
+    scrollback: Vec<Vec<Cell>>,
+    cursor: Position,
+    visible: bool,
+    written: u64,
+    // how many calls answer as usual before one fails
+    fail_after: Option<u64>,
+    failures: u64,
+    alloc: Global,
+    ghost corner_x: { buffer.area.x ≡ 0 },
+    ghost corner_y: { buffer.area.y ≡ 0 },
+    ghost column: { cursor.x ≤ buffer.area.width - 1 },
+    ghost row: { cursor.y ≤ buffer.area.height - 1 },
+}
+
+impl TestBackend {
+    ghost use Rattle.std.specs.Prelude.{Option, None, Some, OnErr, MatchOption};
+    ghost use Rattle.rtui_cell.specs.declared.cell.Cell.{Cell};
+    ghost use Rattle.rtui_backend.specs.Screen.{IsBlankScreen, cursor_of};
+    ghost use Rattle.rtui_backend.specs.Memory.{screen_of, failures_of, told_after, IsSameBackend};
+
+    /// A blank screen of this size in columns and rows, its cursor visible in the corner; refused where memory
+    /// is.
+    pub fn new(alloc: Global, width: u16, height: u16) -> Result<TestBackend, AllocError>
+        ensures screen { IfOk result (λ b. IsBlankScreen width height (screen_of b)) }
+        ensures failures { IfOk result (λ b. failures_of b ≡ 0) }
+        ensures told { IfOk result (λ b. told_after b ≡ None) }
+    {
+        Ok(TestBackend {
+            buffer: Buffer::empty(alloc, Rect::new(0, 0, width, height))?,
+            scrollback: Vec::new(alloc),
+            cursor: Position::ORIGIN,
+            visible: true,
+            written: 0,
+            fail_after: None,
+            failures: 0,
+            alloc,
+        })
+    }
+
+    /// What the screen shows, as a buffer with its corner at (0, 0).
+    pub fn buffer(&self) -> &Buffer
+        ensures area { result.now.area ≡ record { x = 0; y = 0; width = (screen_of self.now).width; height = (screen_of self.now).height } }
+        ensures shown { (a b : ℕ) → grid_of result.now.area.width result.now.cells a b ≡ (screen_of self.now).grid a b }
+    {
+        &self.buffer
+    }
+
+    /// Whether the cursor is visible.
+    pub fn cursor_visible(&self) -> bool
+        ensures { result ≡ (screen_of self.now).visible }
+    {
+        self.visible
+    }
+
+    /// Where the cursor is.
+    pub fn cursor_position(&self) -> Position
+        ensures { result ≡ cursor_of (screen_of self.now) }
+    {
+        self.cursor
+    }
+
+    /// How many items were handed to `draw` since the backend was made, those off the screen too; it stays at
+    /// the greatest number.
+    pub fn cells_written(&self) -> u64
+        ensures { result ≡ (screen_of self.now).written }
+    {
+        self.written
+    }
+
+    /// Lets the next `calls` calls of `Backend` answer as usual and the one after them answer `Told`, which
+    /// changes nothing but the count of failures; later calls answer as usual.
+    pub fn fail_after(&mut self, calls: u64)
+        ensures same { IsSameBackend self.old self.new }
+        ensures told { told_after self.new ≡ Some calls }
+    {
+        self.fail_after = Some(calls);
+    }
+
+    // The start of each call: fails where this is the one that was told to.
+    fn begin(&mut self) -> Result<(), TestError>
+        ensures ok { OnOk result (IsSameBackend self.old self.new) }
+        ensures err { OnErr result (screen_of self.new ≡ screen_of self.old) }
+        ensures counts { Counts result (failures_of self.old) (failures_of self.new) }
+        ensures told { (result ≡ Err TestError.Told) ↔ (told_after self.old ≡ Some 0) }
+    {
+        match self.fail_after {
+            None => Ok(()),
+            Some(0) => {
+                self.fail_after = None;
+                Err(self.failed(TestError::Told))
+            }
+            Some(calls) => {
+                self.fail_after = Some(calls - 1);
+                Ok(())
+            }
+        }
+    }
+
+    // Counts a failure, and gives the error back.
+    fn failed(&mut self, error: TestError) -> TestError
+        ensures error { result ≡ error }
+        ensures screen { screen_of self.new ≡ screen_of self.old }
+        ensures told { told_after self.new ≡ told_after self.old }
+        ensures count { failures_of self.old < 2 ^ 64 - 1 → failures_of self.new ≡ failures_of self.old + 1 }
+    {
+        self.failures = self.failures.saturating_add(1);
+        error
+    }
+
+    // Puts and counts one item.
+    fn put(&mut self, x: u16, y: u16, cell: &Cell) -> Result<(), AllocError>
+        ensures ok { OnOk result (Draws (screen_of self.old) (record { x = x; y = y; cell = cell.now } ∷ []) (screen_of self.new)) }
+        ensures failures { failures_of self.new ≡ failures_of self.old }
+    {
+        let copy = shown(self.alloc, cell)?;
+        let area = *self.buffer.area();
+        put_cell(self.buffer.cells_mut(), area.as_size(), x, y, cell, copy);
+        self.written = self.written.saturating_add(1);
+        Ok(())
+    }
+
+    // Puts and counts the items in order, as far as memory goes.
+    fn put_all<C: AsCell, I: Iterator<Item = (u16, u16, C)>>(
+        &mut self,
+        content: I,
+    ) -> Result<(), AllocError>
+        requires can { I.can_next content }
+        requires finite { IsFinite (I.remaining content) }
+        ensures ok { OnOk result ((items : List (ℕ × ℕ × C)) × Drains I.next_gives content items × Draws (screen_of self.old) (map (update_by C.cell) items) (screen_of self.new)) }
+        ensures failures { failures_of self.new ≡ failures_of self.old }
+    {
+        for (x, y, cell) in content {
+            self.put(x, y, cell.as_cell())?;
+        }
+        Ok(())
+    }
+}
+
+impl Backend for TestBackend {
+    ghost use Rattle.rtui_backend.specs.Memory.{screen_of, failures_of};
+
+    type Error = TestError;
+
+    ghost screen = { screen_of };
+
+    ghost failures = { failures_of };
+
+    fn draw<C: AsCell, I: Iterator<Item = (u16, u16, C)>>(
+        &mut self,
+        content: I,
+    ) -> Result<(), TestError> {
+        self.begin()?;
+        match self.put_all(content) {
+            Ok(()) => Ok(()),
+            Err(_) => Err(self.failed(TestError::Memory)),
+        }
+    }
+
+    fn hide_cursor(&mut self) -> Result<(), TestError> {
+        self.begin()?;
+        self.visible = false;
+        Ok(())
+    }
+
+    fn show_cursor(&mut self) -> Result<(), TestError> {
+        self.begin()?;
+        self.visible = true;
+        Ok(())
+    }
+
+    fn get_cursor_position(&mut self) -> Result<Position, TestError> {
+        self.begin()?;
+        let _area = self.buffer.area();
+        Ok(self.cursor)
+    }
+
+    fn set_cursor_position(&mut self, position: Position) -> Result<(), TestError> {
+        self.begin()?;
+        let area = *self.buffer.area();
+        self.cursor = Position {
+            x: position.x.min(area.width.saturating_sub(1)),
+            y: position.y.min(area.height.saturating_sub(1)),
+        };
+        Ok(())
+    }
+
+    fn size(&mut self) -> Result<Size, TestError> {
+        self.begin()?;
+        Ok(self.buffer.area().as_size())
+    }
+
+    fn window_size(&mut self) -> Result<WindowSize, TestError> {
+        self.begin()?;
+        Ok(WindowSize {
+            columns_rows: self.buffer.area().as_size(),
+            pixels: Size::ZERO,
+        })
+    }
+
+    fn flush(&mut self) -> Result<(), TestError> {
+        self.begin()
+    }
+}

@@ -1,0 +1,37 @@
+-- Empty buffers are settled, and blank grids show them.
+use Rattle.std.proofs.Common.{◌≡◌, ℕ, zero, suc, ◌+◌, ◌*◌, ◌<◌, refl, sym, ap, ◌∙◌, arith}
+use Rattle.rtui_cell.specs.Look.{look_of, empty_look}
+use Rattle.rtui_cell.specs.Cell.{empty_cell, width_of}
+use Rattle.rtui_cell.specs.Grid.{Grid}
+use Rattle.rtui_cell.proofs.CellLemmas.{look-empty, width-empty}
+use Rattle.rtui_diff.specs.Cells.{cell, cell_at}
+use Rattle.rtui_geometry.specs.declared.rect.Rect.{Rect}
+use Rattle.rtui_buffer.specs.Sheet.{Sheet, IsEmptied, empty_cells, area_size}
+use Rattle.rtui_buffer.specs.Frame.{IsSettledSheet, ShowsSheet}
+
+pub cell-empty : (n i : ℕ) → cell (empty_cells n) i ≡ empty_cell
+cell-empty zero i = refl
+cell-empty (suc n) zero = refl
+cell-empty (suc n) (suc i) = cell-empty n i
+
+module _ (r : Rect) (s : Sheet) (emptied : IsEmptied r s) where
+  all_empty : (w a b : ℕ) → cell_at w s.cells a b ≡ empty_cell
+  all_empty w a b = rw emptied.cells (cell-empty (area_size r) (b * w + a))
+
+  one_column : (w a b : ℕ) → width_of (cell_at w s.cells a b) ≡ 1
+  one_column w a b = ap width_of (all_empty w a b) ∙ width-empty
+
+  pub IsSettledSheet-empty : IsSettledSheet s
+  IsSettledSheet-empty = record {
+    skipped = λ a b a_in b_in skip. let one = one_column s.area.width a b in omega arith;
+    within = λ a b a_in b_in plain. let one = one_column s.area.width a b in omega arith;
+    behind = λ a b k a_in b_in plain more less. let one = one_column s.area.width a b in absurd (omega arith);
+  }
+
+  pub ShowsSheet-empty : (g : Grid) → ((a b : ℕ) → a < s.area.width → b < s.area.height → g (s.area.x + a) (s.area.y + b) ≡ empty_look) → ShowsSheet s g
+  ShowsSheet-empty g blank = record {
+    at = λ a b a_in b_in. record {
+      look = λ plain. blank a b a_in b_in ∙ sym (ap look_of (all_empty s.area.width a b) ∙ look-empty);
+      behind = λ j before plain covers. let one = one_column s.area.width j b in absurd (omega arith);
+    };
+  }

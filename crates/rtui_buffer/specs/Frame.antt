@@ -1,0 +1,29 @@
+-- Buffers as frames of a screen.
+use Rattle.std.specs.Prelude.{◌≡◌, ℕ, min, List}
+use Rattle.rtui_cell.specs.Grid.{Grid, Update}
+use Rattle.rtui_diff.specs.Settled.{IsSettled}
+use Rattle.rtui_diff.specs.Shows.{Shows}
+use Rattle.rtui_diff.specs.Updates.{updates}
+use Rattle.rtui_buffer.specs.Sheet.{Sheet}
+
+-- a screen can show the buffer as it is
+abbrev pub IsSettledSheet : Sheet → Type 0
+IsSettledSheet s = IsSettled s.area.width s.area.height s.cells
+
+-- the grid shows the buffer over its area
+abbrev pub ShowsSheet : Sheet → Grid → Type 0
+ShowsSheet s g = Shows s.area.x s.area.y s.area.width s.area.height s.cells g
+
+-- the same corner and the same width
+pub record IsAligned (prev next : Sheet) : Type 0 where
+  pub x : next.area.x ≡ prev.area.x
+  pub y : next.area.y ≡ prev.area.y
+  pub width : next.area.width ≡ prev.area.width
+
+-- how many rows both have
+abbrev pub common_rows : Sheet → Sheet → ℕ
+common_rows prev next = min prev.area.height next.area.height
+
+-- the updates from one buffer to the next, over their common rows
+abbrev pub sheet_updates : Sheet → Sheet → List Update
+sheet_updates prev next = updates prev.area.x prev.area.y prev.area.width (common_rows prev next) prev.cells next.cells

@@ -1,0 +1,58 @@
+-- What a buffer is: an area, its cells row by row, and for how many cells there is room.
+use Rattle.std.specs.Prelude.{◌≡◌, ℕ, ◌+◌, ◌-◌, ◌*◌, ◌/◌, ◌%◌, ◌++◌, List, take, drop, length, replicate, slice_index_or, slice_set}
+use Rattle.rtui_geometry.specs.declared.position.Position.{Position}
+use Rattle.rtui_geometry.specs.declared.rect.Rect.{Rect}
+use Rattle.rtui_geometry.specs.Rect.{EdgesFit}
+use Rattle.rtui_cell.specs.declared.cell.Cell.{Cell}
+use Rattle.rtui_cell.specs.Cell.{empty_cell}
+
+pub record Sheet : Type 0 where
+  pub area : Rect
+  pub cells : List Cell
+  pub room : ℕ
+
+-- how many cells an area has
+abbrev pub area_size : Rect → ℕ
+area_size r = r.width * r.height
+
+-- as many cells as the area has, and edges that are coordinates
+pub record IsSheet (area : Rect) (cells : List Cell) : Type 0 where
+  pub count : length cells ≡ area_size area
+  pub edges : EdgesFit area
+
+abbrev pub position_of : ℕ × ℕ → Position
+position_of p = record { x = p.0; y = p.1 }
+
+-- the place of a position, row by row
+abbrev pub cell_index : Rect → Position → ℕ
+cell_index r p = (p.y - r.y) * r.width + (p.x - r.x)
+
+-- the position of a place
+abbrev pub place_position : Rect → ℕ → ℕ × ℕ
+place_position r i = (r.x + i % r.width, r.y + i / r.width)
+
+-- the cell at a position
+abbrev pub cell_in : Sheet → Position → Cell
+cell_in s p = slice_index_or s.cells (cell_index s.area p) empty_cell
+
+-- the sheet with another cell at a position
+abbrev pub with_cell : Sheet → Position → Cell → Sheet
+with_cell s p c = record s { cells = slice_set s.cells (cell_index s.area p) c }
+
+-- the first cells, one for each of the former
+abbrev pub refilled : List Cell → List Cell → List Cell
+refilled former cells = take (length former) (cells ++ drop (length cells) former)
+
+-- n empty cells
+abbrev pub empty_cells : ℕ → List Cell
+empty_cells n = replicate n empty_cell
+
+-- the cells of an area, all empty
+pub record IsEmptied (over : Rect) (s : Sheet) : Type 0 where
+  pub area : s.area ≡ over
+  pub cells : s.cells ≡ empty_cells (area_size over)
+
+-- the same but for room
+pub record IsSameSheet (s t : Sheet) : Type 0 where
+  pub area : t.area ≡ s.area
+  pub cells : t.cells ≡ s.cells

@@ -1,0 +1,270 @@
+ghost use Rattle.std.specs.Prelude.{◌≡◌, ◌+◌, ◌-◌, ◌*◌, ◌<◌, ◌≤◌, ◌↔◌, ◌++◌, length, take, IsTrue, IsOk, IsSome, IfSome, OnOk, OnErr, IfOk, replicate, map, All};
+ghost use Rattle.std.specs.Borrow.{sem, Lends, LendsIf, Array};
+ghost use Rattle.rtui_geometry.specs.Rect.{HasPosition, EdgesFit};
+ghost use Rattle.rtui_cell.specs.contracts.cell.Cell.{the_row as cell_row};
+ghost use Rattle.rtui_cell.specs.Grid.{update_by};
+ghost use Rattle.rtui_diff.specs.Updates.{update_at, Rises, IsOwn};
+ghost use Rattle.rtui_diff.specs.Given.{IsNarrow, differing, Replays, GivesLittle, GivesEnough};
+ghost use Rattle.rtui_diff.specs.Shows.{Repaints};
+ghost use Rattle.rtui_diff.specs.Left.{updates_left};
+ghost use Rattle.rtui_buffer.specs.contracts.buffer.Buffer.{the_row};
+ghost use Rattle.rtui_buffer.specs.Sheet.{area_size, cell_index, place_position, position_of, cell_in, with_cell, empty_cells, refilled, IsEmptied, IsSameSheet};
+ghost use Rattle.rtui_buffer.specs.Frame.{IsSettledSheet, IsAligned, common_rows, sheet_updates};
+
+use rtui_cell::Cell;
+use rtui_diff::{BufferDiff, is_settled};
+use rtui_geometry::{Position, Rect};
+use std::alloc::{AllocError, Global};
+use std::marker::Model;
+
+mod index;
+mod sized;
+
+use sized::{copied, copies, cut_or_fill, empty_all};
+
+/// A grid of cells over an area of a screen, row by row. There are always as many cells as the area has, and
+/// its edges are at most 65535.
+#[derive(Debug, Drop)]
+pub struct Buffer {
+    area: Rect,
+    content: Vec<Cell>,
+}
+
+impl Model for Buffer {
+    ghost use Rattle.std.specs.Vec.{vec_capacity};
+    ghost use Rattle.rtui_buffer.specs.Sheet.{Sheet, IsSheet};
+
+    ghost Value = { Sheet };
+
+    ghost view = { λ b. record { area = b.area; cells = b.content.items; room = vec_capacity b.content } };
+
+    ghost invariant = { λ b. IsSheet b.area b.content.items };
+}
+
+impl Buffer {
+    /// A buffer of empty cells; refused where memory is.
+    pub fn empty(alloc: Global, area: Rect) -> Result<Buffer, AllocError>
+        requires { EdgesFit area }
+        ensures { IfOk result (IsEmptied area) }
+    {
+        let mut content = Vec::new(alloc);
+        cut_or_fill(&mut content, area.area() as usize)?;
+        Ok(Buffer { area, content })
+    }
+
+    /// A buffer with this cell everywhere; refused where memory is.
+    pub fn filled(alloc: Global, area: Rect, cell: Cell) -> Result<Buffer, AllocError>
+        requires { EdgesFit area }
+        ensures area { IfOk result (λ b. b.area ≡ area) }
+        ensures cells { IfOk result (λ b. b.cells ≡ replicate (area_size area) cell) }
+    {
+        let content = copies(alloc, &cell, area.area() as usize)?;
+        Ok(Buffer { area, content })
+    }
+
+    /// An equal buffer; refused where memory is.
+    pub fn clone(&self, alloc: Global) -> Result<Buffer, AllocError>
+        ensures { IfOk result (IsSameSheet self.now) }
+    {
+        let area = self.area;
+        let content = copied(alloc, self.content.as_slice())?;
+        Ok(Buffer { area, content })
+    }
+
+    /// The cells, row by row.
+    pub fn content(&self) -> &[Cell]
+        ensures cells { result.now ≡ self.now.cells }
+        ensures count { length result.now ≡ area_size self.now.area }
+    {
+        self.content.as_slice()
+    }
+
+    /// The cells, row by row, to be written.
+    pub fn cells_mut(&mut self) -> &mut [Cell]
+        ensures* writes_back { sem 𝓛 (Lends the_row (Array cell_row 0) self.entry result (λ cells. record self.old { cells = refilled self.old.cells cells })) }
+        ensures cells { result.now ≡ self.old.cells }
+        ensures count { length result.now ≡ area_size self.old.area }
+    {
+        self.content.as_mut_slice()
+    }
+
+    /// What the cells' list takes its memory from.
+    pub fn allocator(&self) -> Global {
+        *self.content.allocator()
+    }
+
+    /// The area, in columns and rows of the screen.
+    pub fn area(&self) -> &Rect
+        ensures area { result.now ≡ self.now.area }
+        ensures edges { EdgesFit self.now.area }
+    {
+        &self.area
+    }
+
+    /// The cell in a column and a row of the area.
+    pub fn get(&self, x: u16, y: u16) -> &Cell
+        requires { HasPosition self.now.area (position_of (x, y)) }
+        ensures { result.now ≡ cell_in self.now (position_of (x, y)) }
+    {
+        &self[Position { x, y }]
+    }
+
+    /// The cell in a column and a row of the area, to be written.
+    pub fn get_mut(&mut self, x: u16, y: u16) -> &mut Cell
+        requires { HasPosition self.old.area (position_of (x, y)) }
+        ensures* writes_back { sem 𝓛 (Lends the_row cell_row self.entry result (with_cell self.old (position_of (x, y)))) }
+        ensures value { result.now ≡ cell_in self.old (position_of (x, y)) }
+    {
+        let place = self.index_of(x, y);
+        &mut self.content[place]
+    }
+
+    /// The cell at a position, if it lies in the area.
+    pub fn cell(&self, position: Position) -> Option<&Cell>
+        ensures inside { IsSome result ↔ HasPosition self.now.area position }
+        ensures value { IfSome result (λ cell. cell.now ≡ cell_in self.now position) }
+    {
+        let place = self.place_of(position);
+        self.content.get(place)
+    }
+
+    /// The cell at a position, to be written, if it lies in the area.
+    pub fn cell_mut(&mut self, position: Position) -> Option<&mut Cell>
+        ensures* writes_back { sem 𝓛 (LendsIf the_row cell_row self.entry result (with_cell self.old position) self.old) }
+        ensures inside { IsSome result ↔ HasPosition self.old.area position }
+        ensures value { IfSome result (λ cell. cell.now ≡ cell_in self.old position) }
+    {
+        let place = self.place_of(position);
+        self.content.get_mut(place)
+    }
+
+    /// The place of a column and a row of the area in the list of cells.
+    pub fn index_of(&self, x: u16, y: u16) -> usize
+        requires { HasPosition self.now.area (position_of (x, y)) }
+        ensures value { result ≡ cell_index self.now.area (position_of (x, y)) }
+        ensures inside { result < length self.now.cells }
+    {
+        let width = usize::from(self.area.width);
+        usize::from(y - self.area.y) * width + usize::from(x - self.area.x)
+    }
+
+    // The place of a position, or the number of cells where it is outside.
+    fn place_of(&self, position: Position) -> usize
+        ensures inside { HasPosition self.now.area position → result ≡ cell_index self.now.area position }
+        ensures within { result < length self.now.cells ↔ HasPosition self.now.area position }
+        ensures outside { ¬ (HasPosition self.now.area position) → result ≡ length self.now.cells }
+    {
+        if self.area.contains(position) {
+            self.index_of(position.x, position.y)
+        } else {
+            self.content.len()
+        }
+    }
+
+    /// The column and the row of a place in the list of cells.
+    pub fn pos_of(&self, index: usize) -> (u16, u16)
+        requires { index < length self.now.cells }
+        ensures { result ≡ place_position self.now.area index }
+    {
+        let width = usize::from(self.area.width);
+        (
+            self.area.x + (index % width) as u16,
+            self.area.y + (index / width) as u16,
+        )
+    }
+
+    /// Empties each cell.
+    pub fn reset(&mut self)
+        ensures emptied { IsEmptied self.old.area self.new }
+        ensures room { self.new.room ≡ self.old.room }
+    {
+        empty_all(self.content.as_mut_slice());
+    }
+
+    /// Gives the buffer another area: its list of cells is cut, or goes on with empty ones. It takes no memory
+    /// within the room that `reserve` made; where memory is refused nothing changes.
+    pub fn resize(&mut self, area: Rect) -> Result<(), AllocError>
+        requires { EdgesFit area }
+        ensures area { OnOk result (self.new.area ≡ area) }
+        ensures cells { OnOk result (self.new.cells ≡ take (area_size area) self.old.cells ++ empty_cells (area_size area - length self.old.cells)) }
+        ensures room { OnOk result (self.old.room ≤ self.new.room) }
+        ensures succeeds { area_size area ≤ self.old.room → IsOk result }
+        ensures err { OnErr result (self.new ≡ self.old) }
+    {
+        cut_or_fill(&mut self.content, area.area() as usize)?;
+        self.area = area;
+        Ok(())
+    }
+
+    /// Makes room for the cells of an area; where memory is refused nothing changes.
+    pub fn reserve(&mut self, area: Rect) -> Result<(), AllocError>
+        requires { EdgesFit area }
+        ensures same { IsSameSheet self.old self.new }
+        ensures room { OnOk result (area_size area ≤ self.new.room) }
+        ensures err { OnErr result (self.new ≡ self.old) }
+    {
+        let count = area.area() as usize;
+        let len = self.content.len();
+        self.content.try_reserve(count.saturating_sub(len))
+    }
+
+    /// Moves the buffer to another corner, with the same cells.
+    pub fn move_to(&mut self, position: Position)
+        requires { EdgesFit (record self.old.area { x = position.x; y = position.y }) }
+        ensures { self.new ≡ record self.old { area = record self.old.area { x = position.x; y = position.y } } }
+    {
+        self.area.x = position.x;
+        self.area.y = position.y;
+    }
+
+    /// Whether a screen can show the buffer as it is: each skipped cell takes at most one column, each other
+    /// cell ends within its row, and behind an unskipped wide cell stand only empty or skipped ones. A full
+    /// repaint of such a buffer shows it, whatever the screen had.
+    pub fn is_settled(&self) -> bool
+        ensures settled { IsTrue result ↔ IsSettledSheet self.now }
+        ensures repaints { IsTrue result → Repaints self.now.area.width self.now.area.height self.now.cells }
+    {
+        let area = *self.area();
+        is_settled(self.content(), area.width, area.height)
+    }
+
+    /// The updates that turn a screen which shows this buffer into one that shows the next: over the common
+    /// rows, in order, only what differs.
+    pub fn diff_iter<'prev, 'next>(&'prev self, next: &'next Buffer) -> BufferDiff<'prev, 'next>
+        requires { IsAligned self.now next.now }
+        ensures walks { updates_left result ≡ sheet_updates self.now next.now }
+        ensures rises { Rises (updates_left result) }
+        ensures own { All (IsOwn self.now.area.x self.now.area.y self.now.area.width (common_rows self.now next.now) next.now.cells) (updates_left result) }
+        ensures narrow { IsNarrow (self.now.area.width * common_rows self.now next.now) self.now.cells next.now.cells → updates_left result ≡ map (update_at self.now.area.x self.now.area.y self.now.area.width next.now.cells) (differing self.now.cells next.now.cells (self.now.area.width * common_rows self.now next.now)) }
+        ensures replays { IsSettledSheet self.now → IsSettledSheet next.now → Replays self.now.area.x self.now.area.y self.now.area.width (common_rows self.now next.now) self.now.cells next.now.cells (updates_left result) }
+        ensures little { IsSettledSheet self.now → IsSettledSheet next.now → GivesLittle self.now.area.x self.now.area.y self.now.area.width (common_rows self.now next.now) self.now.cells next.now.cells (updates_left result) }
+        ensures enough { IsSettledSheet self.now → IsSettledSheet next.now → GivesEnough self.now.area.x self.now.area.y self.now.area.width (common_rows self.now next.now) self.now.cells next.now.cells (updates_left result) }
+    {
+        let area = *self.area();
+        let height = area.height.min(next.area().height);
+        BufferDiff::new(
+            self.content(),
+            next.content(),
+            area.x,
+            area.y,
+            area.width,
+            height,
+        )
+    }
+
+    /// The updates of `diff_iter` in a list; refused where memory is.
+    pub fn diff<'next>(
+        &self,
+        alloc: Global,
+        next: &'next Buffer,
+    ) -> Result<Vec<(u16, u16, &'next Cell)>, AllocError>
+        requires { IsAligned self.now next.now }
+        ensures { IfOk result (λ all. map (update_by (λ cell. cell.now)) all.items ≡ sheet_updates self.now next.now) }
+    {
+        let mut all = Vec::new(alloc);
+        for update in self.diff_iter(next) {
+            all.push(update)?;
+        }
+        Ok(all)
+    }
+}

@@ -1,0 +1,70 @@
+//! Lists of cells of a given length.
+
+ghost use Rattle.std.specs.Prelude.{◌≡◌, ◌-◌, ◌≤◌, ◌++◌, length, take, replicate, OnOk, OnErr, IfOk, IsOk, vec_len};
+ghost use Rattle.std.specs.Vec.{vec_capacity};
+ghost use Rattle.rtui_cell.specs.Cell.{empty_cell};
+ghost use Rattle.rtui_buffer.specs.Sheet.{empty_cells};
+
+use rtui_cell::Cell;
+use std::alloc::{AllocError, Global};
+
+// This many copies of a cell.
+pub fn copies(alloc: Global, cell: &Cell, count: usize) -> Result<Vec<Cell>, AllocError>
+    ensures { IfOk result (λ cells. cells.items ≡ replicate count cell.now) }
+{
+    let mut cells = Vec::with_capacity(alloc, count)?;
+    for _i in 0..count {
+        cells.push(cell.clone(alloc)?)?;
+    }
+    Ok(cells)
+}
+
+// The same cells.
+pub fn copied(alloc: Global, cells: &[Cell]) -> Result<Vec<Cell>, AllocError>
+    ensures { IfOk result (λ copies. copies.items ≡ cells.now) }
+{
+    let mut copies = Vec::with_capacity(alloc, cells.len())?;
+    for cell in cells {
+        copies.push(cell.clone(alloc)?)?;
+    }
+    Ok(copies)
+}
+
+// Cuts the list, or fills it up with empty cells.
+pub fn cut_or_fill(cells: &mut Vec<Cell>, count: usize) -> Result<(), AllocError>
+    ensures ok { OnOk result (cells.new.items ≡ take count cells.old.items ++ empty_cells (count - vec_len cells.old)) }
+    ensures room { OnOk result (vec_capacity cells.old ≤ vec_capacity cells.new) }
+    ensures succeeds { count ≤ vec_capacity cells.old → IsOk result }
+    ensures err { OnErr result (cells.new.items ≡ cells.old.items) }
+    ensures err_room { OnErr result (vec_capacity cells.new ≡ vec_capacity cells.old) }
+{
+    let len = cells.len();
+    if count <= len {
+        cells.truncate(count);
+        return Ok(());
+    }
+    cells.try_reserve(count - len)?;
+    fill_up(cells, count);
+    Ok(())
+}
+
+// Fills the list up with empty cells, for which there is room.
+fn fill_up(cells: &mut Vec<Cell>, count: usize)
+    requires more { vec_len cells.old ≤ count }
+    requires room { count ≤ vec_capacity cells.old }
+    ensures items { cells.new.items ≡ cells.old.items ++ empty_cells (count - vec_len cells.old) }
+    ensures room { vec_capacity cells.new ≡ vec_capacity cells.old }
+{
+    for _i in cells.len()..count {
+        cells.push_reserved(Cell::EMPTY);
+    }
+}
+
+// Empties each cell.
+pub fn empty_all(cells: &mut [Cell])
+    ensures { cells.new ≡ empty_cells (length cells.old) }
+{
+    for cell in cells.iter_mut() {
+        cell.reset();
+    }
+}

@@ -1,0 +1,142 @@
+-- What equal cells have in common, and what the empty cell is.
+use Rattle.std.proofs.Common.{◌≡◌, ℕ, Bool, true, false, ◌&&◌, nat_eq, refl, sym, ap}
+use Rattle.std.proofs.lemmas.Bool.{false≢true}
+use Rattle.std.proofs.lemmas.Bool.Decides.{Decides-eqb}
+use Rattle.std.specs.Int.NonZero.{non_zero_u16_get}
+use Rattle.std.specs.declared.num.NonZeroU16.{NonZeroU16}
+use Rattle.std.specs.contracts.num.NonZeroU16 as nonzero
+use Rattle.std.specs.Str.{bytes_eq}
+use Rattle.std.proofs.lemmas.Slice.Eq.{bytes_eq-Decides}
+use Rattle.std.specs.Cmp.Lexicographic.{pointwise, same_text}
+use Rattle.rtui_style.specs.declared.color.Color.{Color}
+use Rattle.rtui_style.specs.contracts.color.Color as color
+use Rattle.rtui_style.specs.contracts.color.ColorPartialEq.TheImpl as color_equality
+use Rattle.rtui_style.specs.Modifier.{modifier_of}
+use Rattle.rtui_style.specs.contracts.ModifierPartialEq.TheImpl as modifier_equality
+use Rattle.std.specs.contracts.prelude.BoolPartialEq.TheImpl as flag_equality
+use Rattle.rtui_cell.specs.declared.cell.Cell.{Cell}
+use Rattle.rtui_cell.specs.declared.cell.CellDiffOption.{CellDiffOption}
+use Rattle.rtui_cell.specs.contracts.cell.CellDiffOption as option
+use Rattle.rtui_cell.specs.contracts.cell.CellDiffOptionPartialEq.TheImpl as option_equality
+use Rattle.rtui_cell.specs.Symbol.{symbol_text}
+use Rattle.rtui_cell.specs.Width.{text_width}
+use Rattle.rtui_cell.specs.Look.{look_of, empty_look}
+use Rattle.rtui_cell.specs.Cell.{empty_cell, width_of, is_skipped}
+use Rattle.rtui_cell.specs.Equality.{is_same, is_same_symbol}
+use Rattle.rtui_cell.proofs.DerivedLemmas.{same_value}
+
+and_left : (a b : Bool) → (a && b) ≡ true → a ≡ true
+and_left true b e = refl
+and_left false b e = e
+
+and_right : (a b : Bool) → (a && b) ≡ true → b ≡ true
+and_right true b e = e
+and_right false b e = absurd (false≢true e)
+
+no_field : (a b : Unit {0}) → true ≡ true → a ≡ b
+no_field a b e = refl
+
+same_number : (a b : ℕ) → nat_eq a b ≡ true → a ≡ b
+same_number a b e = (Decides-eqb a b).0 e
+
+same_index : (a b : ℕ × Unit {0}) → nat_eq a.0 b.0 ≡ true → a ≡ b
+same_index a b e = ap (λ n. (n, tt)) (same_number a.0 b.0 e)
+
+same_channels : (a b : ℕ × (ℕ × (ℕ × Unit {0}))) → (nat_eq a.0 b.0 && (nat_eq a.1.0 b.1.0 && nat_eq a.1.1.0 b.1.1.0)) ≡ true → a ≡ b
+same_channels a b e =
+    let first = same_number a.0 b.0 (and_left _ _ e) in
+    let others : (nat_eq a.1.0 b.1.0 && nat_eq a.1.1.0 b.1.1.0) ≡ true = and_right (nat_eq a.0 b.0) _ e in
+    let second = same_number a.1.0 b.1.0 (and_left _ _ others) in
+    let third = same_number a.1.1.0 b.1.1.0 (and_right (nat_eq a.1.0 b.1.0) _ others) in
+    rw (first, second, third) refl
+
+same_width_given : (a b : NonZeroU16 × Unit {0}) → nat_eq (non_zero_u16_get a.0) (non_zero_u16_get b.0) ≡ true → a ≡ b
+same_width_given a b e = ap (λ n. (n, tt)) (nonzero.the_field.into_one a.0 b.0 (ap (λ n. (n, tt)) (same_number a.0.value b.0.value e)))
+
+same_color : (a b : Color) → color_equality.eq-value.it a b ≡ true → a ≡ b
+same_color =
+    let n = no_field in
+    same_value color.enum _
+    (n, (n, (n, (n, (n, (n, (n, (n, (n, (n, (n, (n, (n, (n, (n, (n, (n, (same_channels, (same_index, tt)))))))))))))))))))
+
+same_option : (a b : CellDiffOption) → option_equality.eq-value.it a b ≡ true → a ≡ b
+same_option =
+    let n = no_field in
+    same_value option.enum _ (n, (n, (n, (same_width_given, tt))))
+
+-- the parts of an equality
+pub record HasSameParts (a b : Cell) : Type 0 where
+  pub fg : a.fg ≡ b.fg
+  pub bg : a.bg ≡ b.bg
+  pub underline_color : a.underline_color ≡ b.underline_color
+  pub modifier : a.modifier ≡ b.modifier
+  pub option : a.diff_option ≡ b.diff_option
+  pub skip : a.skip ≡ b.skip
+  pub symbol : symbol_text a.symbol ≡ symbol_text b.symbol
+
+-- seven tests that hold together
+all_seven : (a b c d e f g : Bool) → (a && (b && (c && (d && (e && (f && g)))))) ≡ true
+    → (a ≡ true) × (b ≡ true) × (c ≡ true) × (d ≡ true) × (e ≡ true) × (f ≡ true) × (g ≡ true)
+all_seven true true true true true true true h = (refl, refl, refl, refl, refl, refl, refl)
+all_seven true true true true true true false h = absurd (false≢true h)
+all_seven true true true true true false g h = absurd (false≢true h)
+all_seven true true true true false f g h = absurd (false≢true h)
+all_seven true true true false e f g h = absurd (false≢true h)
+all_seven true true false d e f g h = absurd (false≢true h)
+all_seven true false c d e f g h = absurd (false≢true h)
+all_seven false b c d e f g h = absurd (false≢true h)
+
+same_flag : (a b : Bool) → flag_equality.eq-value.it a b ≡ true → a ≡ b
+same_flag true true e = refl
+same_flag true false e = absurd (false≢true e)
+same_flag false true e = absurd (false≢true e)
+same_flag false false e = refl
+
+same_parts : (a b : Cell) → is_same a b ≡ true → HasSameParts a b
+unfolding is_same
+same_parts a b e =
+    let h = all_seven (color_equality.eq-value.it a.fg b.fg) (color_equality.eq-value.it a.bg b.bg)
+    (color_equality.eq-value.it a.underline_color b.underline_color) (modifier_equality.eq-value.it a.modifier b.modifier)
+    (option_equality.eq-value.it a.diff_option b.diff_option) (flag_equality.eq-value.it a.skip b.skip)
+    (pointwise nat_eq (symbol_text a.symbol) (symbol_text b.symbol)) e in
+    record {
+      fg = same_color _ _ h.0;
+      bg = same_color _ _ h.1;
+      underline_color = same_color _ _ h.2;
+      modifier = ap modifier_of (same_number a.modifier.0 b.modifier.0 h.3);
+      option = same_option _ _ h.4;
+      skip = same_flag _ _ h.5;
+      symbol = same_text _ _ (sym h.6);
+    }
+
+pub same_look : (a b : Cell) → is_same a b ≡ true → look_of a ≡ look_of b
+unfolding look_of
+same_look a b e = let h = same_parts a b e in rw (h.fg, h.bg, h.underline_color, h.modifier, h.symbol) refl
+
+pub same_width : (a b : Cell) → is_same a b ≡ true → width_of a ≡ width_of b
+unfolding width_of
+same_width a b e = let h = same_parts a b e in rw (h.option, h.symbol) refl
+
+pub same_skipped : (a b : Cell) → is_same a b ≡ true → is_skipped a ≡ is_skipped b
+unfolding is_skipped
+same_skipped a b e = let h = same_parts a b e in rw (h.option, h.skip) refl
+
+pub same_symbol : (a b : Cell) → is_same a b ≡ true → is_same_symbol a b ≡ true
+unfolding is_same_symbol
+same_symbol a b e = let h = same_parts a b e in (bytes_eq-Decides _ _).1 h.symbol
+
+pub symbol_beside : (a b c : Cell) → is_same b c ≡ true → is_same_symbol a b ≡ is_same_symbol a c
+unfolding is_same_symbol
+symbol_beside a b c e = let h = same_parts b c e in ap (λ text. bytes_eq (symbol_text a.symbol) text) h.symbol
+
+pub look-empty : look_of empty_cell ≡ empty_look
+unfolding look_of
+look-empty = refl
+
+pub width-empty : width_of empty_cell ≡ 1
+unfolding width_of text_width
+width-empty = refl
+
+pub skipped-empty : is_skipped empty_cell ≡ false
+unfolding is_skipped
+skipped-empty = refl

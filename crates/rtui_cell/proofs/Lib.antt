@@ -1,0 +1,2 @@
+pub mod DerivedLemmas
+pub mod CellLemmas

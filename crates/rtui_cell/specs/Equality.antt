@@ -1,0 +1,14 @@
+-- What `==` of cells answers.
+use Rattle.std.specs.Prelude.{Bool}
+use Rattle.std.specs.Str.{bytes_eq}
+use Rattle.rtui_cell.specs.Symbol.{symbol_text}
+use Rattle.rtui_cell.specs.declared.cell.Cell.{Cell}
+use Rattle.rtui_cell.specs.contracts.cell.CellPartialEq.TheImpl as equality
+
+-- equal looks, options and flags, where an unset symbol reads as a blank
+unfoldable pub is_same : Cell → Cell → Bool
+is_same = equality.eq-value.it
+
+-- the same text, where an unset symbol reads as a blank
+unfoldable pub is_same_symbol : Cell → Cell → Bool
+is_same_symbol a b = bytes_eq (symbol_text a.symbol) (symbol_text b.symbol)

@@ -1,0 +1,6 @@
+pub mod Symbol
+pub mod Width
+pub mod Look
+pub mod Cell
+pub mod Equality
+pub mod Grid

@@ -1,0 +1,219 @@
+ghost use Rattle.std.specs.Prelude.{◌≡◌, Some, OnOk, OnErr, IfOk, encode_utf8};
+ghost use Rattle.rtui_cell.specs.Symbol.{symbol_text, appended};
+ghost use Rattle.rtui_cell.specs.Cell.{empty_cell, cell_of, styled, style_of, is_skipped};
+
+use crate::symbol::Symbol;
+use bitflags::Flags;
+use rtui_style::{Color, Modifier, Style};
+use std::alloc::{AllocError, Global};
+use std::num::NonZeroU16;
+
+/// How a diff treats a cell.
+#[derive(Debug, Default, Clone, Copy, PartialEq, Eq, Hash)]
+pub enum CellDiffOption {
+    /// By its contents.
+    #[default]
+    None,
+    /// Never drawn.
+    Skip,
+    /// Drawn each time.
+    AlwaysUpdate,
+    /// As a cell of this many columns, whatever its symbol takes.
+    ForcedWidth(NonZeroU16),
+}
+
+/// One cell of a buffer: what stands in a column of a row.
+///
+/// Two cells are equal where their texts, colours, modifiers, options and flags are; an unset symbol equals
+/// a blank.
+#[derive(Debug, Drop, PartialEq, Eq, Hash)]
+pub struct Cell {
+    /// The colour of the text.
+    pub fg: Color,
+    /// The colour behind the text.
+    pub bg: Color,
+    /// The colour of the underline.
+    pub underline_color: Color,
+    /// Bold, underlined and the like.
+    pub modifier: Modifier,
+    /// How a diff treats the cell.
+    pub diff_option: CellDiffOption,
+    /// Whether the cell is skipped where it has no option.
+    pub skip: bool,
+    symbol: Symbol,
+}
+
+impl Cell {
+    /// A blank without colours, modifiers and option; its symbol is unset.
+    pub const EMPTY: Cell = Cell {
+        fg: Color::Reset,
+        bg: Color::Reset,
+        underline_color: Color::Reset,
+        modifier: Modifier::NONE,
+        diff_option: CellDiffOption::None,
+        skip: false,
+        symbol: Symbol::UNSET,
+    };
+
+    /// An otherwise empty cell with this text; refused where memory is.
+    pub fn new(alloc: Global, symbol: &str) -> Result<Cell, AllocError>
+        ensures { IfOk result (λ cell. cell ≡ cell_of symbol.now) }
+    {
+        Ok(Cell {
+            symbol: Symbol::new(alloc, symbol)?,
+            ..Cell::EMPTY
+        })
+    }
+
+    /// An otherwise empty cell with this character; refused where memory is.
+    pub fn from_char(alloc: Global, ch: char) -> Result<Cell, AllocError>
+        ensures { IfOk result (λ cell. cell ≡ cell_of (encode_utf8 ch)) }
+    {
+        let mut bytes = [0; 4];
+        Cell::new(alloc, ch.encode_utf8(&mut bytes))
+    }
+
+    /// The text, one blank where none is set.
+    pub fn symbol(&self) -> &str
+        ensures { result.now ≡ symbol_text self.now.symbol }
+    {
+        self.symbol.as_str()
+    }
+
+    /// Sets the text; where memory is refused the cell is as it was.
+    pub fn set_symbol(&mut self, alloc: Global, symbol: &str) -> Result<(), AllocError>
+        ensures ok { OnOk result (self.new ≡ record self.old { symbol = Some symbol.now }) }
+        ensures err { OnErr result (self.new ≡ self.old) }
+    {
+        self.symbol = Symbol::new(alloc, symbol)?;
+        Ok(())
+    }
+
+    /// Puts a text behind the stored one, or in place of an unset one; where memory is refused the cell is as
+    /// it was.
+    pub fn append_symbol(&mut self, alloc: Global, symbol: &str) -> Result<(), AllocError>
+        ensures ok { OnOk result (self.new ≡ record self.old { symbol = Some (appended self.old.symbol symbol.now) }) }
+        ensures err { OnErr result (self.new ≡ self.old) }
+    {
+        self.symbol.append(alloc, symbol)
+    }
+
+    /// Sets the text to one character; where memory is refused the cell is as it was.
+    pub fn set_char(&mut self, alloc: Global, ch: char) -> Result<(), AllocError>
+        ensures ok { OnOk result (self.new ≡ record self.old { symbol = Some (encode_utf8 ch) }) }
+        ensures err { OnErr result (self.new ≡ self.old) }
+    {
+        let mut bytes = [0; 4];
+        self.set_symbol(alloc, ch.encode_utf8(&mut bytes))
+    }
+
+    /// Sets the colour of the text.
+    pub fn set_fg(&mut self, color: Color) -> &mut Self
+        ensures same { result.ghost_name ≡ self.entry.ghost_name }
+        ensures value { result.now ≡ record self.old { fg = color } }
+    {
+        self.fg = color;
+        self
+    }
+
+    /// Sets the colour behind the text.
+    pub fn set_bg(&mut self, color: Color) -> &mut Self
+        ensures same { result.ghost_name ≡ self.entry.ghost_name }
+        ensures value { result.now ≡ record self.old { bg = color } }
+    {
+        self.bg = color;
+        self
+    }
+
+    /// Lays a style over the cell: set colours replace, added modifiers come in, removed ones go.
+    pub fn set_style(&mut self, style: Style) -> &mut Self
+        ensures same { result.ghost_name ≡ self.entry.ghost_name }
+        ensures value { result.now ≡ styled style self.old }
+    {
+        if let Some(color) = style.fg {
+            self.fg = color;
+        }
+        if let Some(color) = style.bg {
+            self.bg = color;
+        }
+        if let Some(color) = style.underline_color {
+            self.underline_color = color;
+        }
+        self.modifier.insert(style.add_modifier);
+        self.modifier.remove(style.sub_modifier);
+        self
+    }
+
+    /// Its three colours, and its modifiers as added ones.
+    pub fn style(&self) -> Style
+        ensures { result ≡ style_of self.now }
+    {
+        Style {
+            fg: Some(self.fg),
+            bg: Some(self.bg),
+            underline_color: Some(self.underline_color),
+            add_modifier: self.modifier,
+            sub_modifier: Modifier::NONE,
+        }
+    }
+
+    /// Sets the flag that skips a cell without an option.
+    pub fn set_skip(&mut self, skip: bool) -> &mut Self
+        ensures same { result.ghost_name ≡ self.entry.ghost_name }
+        ensures value { result.now ≡ record self.old { skip = skip } }
+    {
+        self.skip = skip;
+        self
+    }
+
+    /// Sets how a diff treats the cell.
+    pub fn set_diff_option(&mut self, diff_option: CellDiffOption) -> &mut Self
+        ensures same { result.ghost_name ≡ self.entry.ghost_name }
+        ensures value { result.now ≡ record self.old { diff_option = diff_option } }
+    {
+        self.diff_option = diff_option;
+        self
+    }
+
+    /// Whether the cell is never drawn: its option is `Skip`, or it has none and the flag is set.
+    #[tactic(auto, unfolding(crate::specs::Cell::is_skipped))]
+    pub fn is_skipped(&self) -> bool
+        ensures { result ≡ is_skipped self.now }
+    {
+        match self.diff_option {
+            CellDiffOption::Skip => true,
+            CellDiffOption::None => self.skip,
+            _ => false,
+        }
+    }
+
+    /// Makes the cell empty.
+    pub fn reset(&mut self)
+        ensures { self.new ≡ empty_cell }
+    {
+        *self = Cell::EMPTY;
+    }
+
+    /// An equal cell; refused where memory is.
+    pub fn clone(&self, alloc: Global) -> Result<Cell, AllocError>
+        ensures { IfOk result (λ cell. cell ≡ self.now) }
+    {
+        Ok(Cell {
+            fg: self.fg,
+            bg: self.bg,
+            underline_color: self.underline_color,
+            modifier: self.modifier,
+            diff_option: self.diff_option,
+            skip: self.skip,
+            symbol: self.symbol.clone(alloc)?,
+        })
+    }
+}
+
+impl Default for Cell {
+    ghost is_default = { λ cell. cell ≡ empty_cell };
+
+    fn default() -> Cell {
+        Cell::EMPTY
+    }
+}

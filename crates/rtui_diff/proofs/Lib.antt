@@ -1,0 +1,9 @@
+pub mod WalkLemmas
+pub mod ColumnLemmas
+pub mod FrameLemmas
+pub mod ReplayLemmas
+pub mod GivenLemmas
+pub mod EnoughLemmas
+pub mod DiffLemmas
+pub mod RepaintLemmas
+pub mod SettledLemmas

@@ -1,0 +1,66 @@
+-- What one step of the walk does, by its cases.
+use Rattle.std.proofs.Common.{◌≡◌, ℕ, zero, suc, ◌+◌, ◌-◌, ◌&&◌, ◌||◌, Bool, true, false, not, List, [], refl, sym}
+use Rattle.std.specs.Prelude.{if◌then◌else◌, nat_lt}
+use Rattle.std.proofs.lemmas.Bool.{false≢true}
+use Rattle.rtui_cell.specs.declared.cell.Cell.{Cell}
+use Rattle.rtui_cell.specs.Cell.{width_of, is_skipped}
+use Rattle.rtui_diff.specs.Cells.{has_fe0f, is_forced, is_always, shows_on_blank, cell}
+use Rattle.rtui_cell.specs.Equality.{is_same}
+use Rattle.rtui_diff.specs.Walk.{Walk, start, gives, gives_plain, turn, turn_plain, give, given}
+
+pick : (P : Walk → Type 0) (s0 s1 s2 s3 : Walk) (sk fo gi wide fe vis : Bool) →
+    (sk ≡ true → P s0) → (sk ≡ false → P s1) →
+    (sk ≡ false → fo ≡ false → gi ≡ true → wide ≡ true → fe ≡ true → P s2) →
+    (sk ≡ false → gi ≡ true → wide ≡ false → vis ≡ true → P s3) →
+    (sk ≡ false → wide ≡ false → P s0) →
+    P (if sk then s0 else (if fo || not gi || (wide && not fe) then s1 else (if wide then s2 else (if vis then s3 else s0))))
+pick P s0 s1 s2 s3 true fo gi wide fe vis h0 h1 h2 h3 h4 = h0 refl
+pick P s0 s1 s2 s3 false true gi wide fe vis h0 h1 h2 h3 h4 = h1 refl
+pick P s0 s1 s2 s3 false false false wide fe vis h0 h1 h2 h3 h4 = h1 refl
+pick P s0 s1 s2 s3 false false true true false vis h0 h1 h2 h3 h4 = h1 refl
+pick P s0 s1 s2 s3 false false true true true vis h0 h1 h2 h3 h4 = h2 refl refl refl refl refl
+pick P s0 s1 s2 s3 false false true false fe true h0 h1 h2 h3 h4 = h3 refl refl refl refl
+pick P s0 s1 s2 s3 false false true false fe false h0 h1 h2 h3 h4 = h4 refl refl
+
+-- the five ways on from a cell that is neither stepped over nor visited
+pub turn_cases : (P : Walk → Type 0) (p n : Cell) →
+    (is_skipped n ≡ true → P start) →
+    (is_skipped n ≡ false → P (record { over = width_of n - 1; left = 0; force = false })) →
+    (is_skipped n ≡ false → is_forced n ≡ false → gives_plain p n ≡ true → nat_lt 1 (width_of n) ≡ true → has_fe0f n ≡ true → P (record { over = 0; left = width_of n - 1; force = false })) →
+    (is_skipped n ≡ false → gives_plain p n ≡ true → nat_lt 1 (width_of n) ≡ false → (nat_lt (width_of n) (width_of p) && shows_on_blank p) ≡ true → P (record { over = 0; left = width_of p - 1; force = true })) →
+    (is_skipped n ≡ false → nat_lt 1 (width_of n) ≡ false → P start) →
+    P (turn_plain p n)
+turn_cases P p n = pick P start _ _ _ (is_skipped n) (is_forced n) (gives_plain p n) (nat_lt 1 (width_of n)) (has_fe0f n) (nat_lt (width_of n) (width_of p) && shows_on_blank p)
+
+pub given-step : (ps ns : List Cell) (k : ℕ) (s : Walk) (i : ℕ) →
+    given ps ns (suc k) s i ≡ give (gives s (cell ps i) (cell ns i)) i (given ps ns k (turn s (cell ps i) (cell ns i)) (i + 1))
+unfolding given
+given-step ps ns k s i = refl
+
+pub given-none : (ps ns : List Cell) (s : Walk) (i : ℕ) → given ps ns 0 s i ≡ []
+unfolding given
+given-none ps ns s i = refl
+
+-- a plain cell that is not given is skipped or the same
+pub plain_same : (p n : Cell) → gives_plain p n ≡ false → is_skipped n ≡ false → is_same p n ≡ true
+plain_same p n e f = plain_by (is_skipped n) (is_always n) (is_same p n) e f
+  where
+    plain_by : (s a m : Bool) → (not s && (a || not m)) ≡ false → s ≡ false → m ≡ true
+    plain_by true a m e f = absurd (false≢true (sym f))
+    plain_by false true m e f = absurd (false≢true (sym e))
+    plain_by false false true e f = refl
+    plain_by false false false e f = absurd (false≢true (sym e))
+
+and_right : (a b : Bool) → (a && b) ≡ true → b ≡ true
+and_right true b e = e
+and_right false b e = absurd (false≢true e)
+
+unskipped_by : (s x : Bool) → (not s && x) ≡ true → s ≡ false
+unskipped_by true x e = absurd (false≢true e)
+unskipped_by false x e = refl
+
+-- what is given is not skipped
+pub unskipped : (over left : ℕ) (force : Bool) (p n : Cell) → gives (record { over = over; left = left; force = force }) p n ≡ true → is_skipped n ≡ false
+unskipped (suc over) left force p n e = absurd (false≢true e)
+unskipped zero (suc left) force p n e = unskipped_by (is_skipped n) _ e
+unskipped zero zero force p n e = unskipped_by (is_skipped n) _ e

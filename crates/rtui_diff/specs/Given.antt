@@ -1,0 +1,72 @@
+-- Which places are given, in words of columns.
+use Rattle.std.specs.Prelude.{◌≡◌, ◌⊎◌, ℕ, ◌+◌, ◌<◌, ◌≤◌, true, false, ◌&&◌, not, List, filter, Contains}
+use Rattle.std.specs.List.{range_with_len}
+use Rattle.rtui_cell.specs.declared.cell.Cell.{Cell}
+use Rattle.rtui_cell.specs.Cell.{empty_cell, width_of, is_skipped}
+use Rattle.rtui_diff.specs.Cells.{has_fe0f, is_forced, is_always, shows_on_blank, cell, cell_at}
+use Rattle.rtui_cell.specs.Equality.{is_same, is_same_symbol}
+use Rattle.rtui_cell.specs.Grid.{Grid, Update, puts}
+use Rattle.rtui_diff.specs.Shows.{Shows}
+
+-- the unskipped places that differ, of len places
+abbrev pub differing : List Cell → List Cell → ℕ → List ℕ
+differing ps ns len = filter (λ i. not (is_skipped (cell ns i)) && not (is_same (cell ps i) (cell ns i))) (range_with_len 0 len)
+
+-- no cell of both is wide, and none of next is always given
+pub record IsNarrow (len : ℕ) (ps ns : List Cell) : Type 0 where
+  pub former : (i : ℕ) → i < len → width_of (cell ps i) ≤ 1
+  pub next : (i : ℕ) → i < len → width_of (cell ns i) ≤ 1
+  pub changing : (i : ℕ) → i < len → is_always (cell ns i) ≡ false
+
+-- an update stands at column a and row b of the area at (x0, y0)
+pub record IsGiven (x0 y0 : ℕ) (us : List Update) (a b : ℕ) : Type 0 where
+  pub update : Update
+  pub among : Contains us update
+  pub x : update.x ≡ x0 + a
+  pub y : update.y ≡ y0 + b
+
+-- what stands in column j, where the column a behind it is given all the same
+pub record Repeats (x0 y0 w : ℕ) (ps ns : List Cell) (us : List Update) (j a b : ℕ) : Type 0 where
+  pub given : IsGiven x0 y0 us j b
+  pub unforced : is_forced (cell_at w ns j b) ≡ false
+  pub variation : has_fe0f (cell_at w ns j b) ≡ true
+  pub filled : is_same_symbol (cell_at w ps a b) empty_cell ≡ false
+
+-- a former wide cell with a visible style that stood before column a, under a given cell that is not wide
+pub record Uncovers (x0 y0 w : ℕ) (ps ns : List Cell) (us : List Update) (a b : ℕ) : Type 0 where
+  pub j : ℕ
+  pub before : j < a
+  pub former : is_skipped (cell_at w ps j b) ≡ false
+  pub covers : a < j + width_of (cell_at w ps j b)
+  pub visible : shows_on_blank (cell_at w ps j b) ≡ true
+  pub given : IsGiven x0 y0 us j b
+  pub narrow : width_of (cell_at w ns j b) ≤ 1
+
+-- nothing is given that a screen has no need of
+pub record GivesLittle (x0 y0 w h : ℕ) (ps ns : List Cell) (us : List Update) : Type 0 where
+  pub behind : (a b j : ℕ) → a < w → b < h → IsGiven x0 y0 us a b → j < a → is_skipped (cell_at w ns j b) ≡ false → a < j + width_of (cell_at w ns j b) → Repeats x0 y0 w ps ns us j a b
+  pub same : (a b : ℕ) → a < w → b < h → IsGiven x0 y0 us a b → is_same (cell_at w ps a b) (cell_at w ns a b) ≡ true → is_always (cell_at w ns a b) ≡ false → Uncovers x0 y0 w ps ns us a b
+
+-- putting the updates on a screen that shows prev over the area gives one that shows next there, and is the same elsewhere
+pub record Replays (x0 y0 w h : ℕ) (ps ns : List Cell) (us : List Update) : Type 0 where
+  pub shows : (W H : ℕ) (g : Grid) → x0 + w ≤ W → y0 + h ≤ H → Shows x0 y0 w h ps g → Shows x0 y0 w h ns (puts W H us g)
+  pub outside : (W H : ℕ) (g : Grid) → x0 + w ≤ W → y0 + h ≤ H → (a b : ℕ) → (a < x0) ⊎ (x0 + w ≤ a) ⊎ (b < y0) ⊎ (y0 + h ≤ b) → puts W H us g a b ≡ g a b
+
+-- no unskipped wide cell covers column a from before
+pub record IsFree (w : ℕ) (cells : List Cell) (a b : ℕ) : Type 0 where
+  pub free : (k : ℕ) → k < a → is_skipped (cell_at w cells k b) ≡ false → a < k + width_of (cell_at w cells k b) → ⊥
+
+-- nor one with a style that shows on blanks
+pub record IsDark (w : ℕ) (cells : List Cell) (a b : ℕ) : Type 0 where
+  pub dark : (k : ℕ) → k < a → is_skipped (cell_at w cells k b) ≡ false → a < k + width_of (cell_at w cells k b) → shows_on_blank (cell_at w cells k b) ≡ true → ⊥
+
+-- what screens may leave behind is given anew: behind a given wide cell with U+FE0F each unskipped column where something else stood,
+-- and under a former wide cell with a visible style each unskipped column
+pub record GivesEnough (x0 y0 w h : ℕ) (ps ns : List Cell) (us : List Update) : Type 0 where
+  pub blanks : (a b j : ℕ) → a < w → b < h → j < a → IsGiven x0 y0 us j b →
+      is_skipped (cell_at w ns j b) ≡ false → a < j + width_of (cell_at w ns j b) → is_forced (cell_at w ns j b) ≡ false → has_fe0f (cell_at w ns j b) ≡ true → IsDark w ps j b →
+      is_skipped (cell_at w ns a b) ≡ false → is_same_symbol (cell_at w ps a b) (cell_at w ns a b) ≡ false → IsGiven x0 y0 us a b
+  pub refreshes : (a b j : ℕ) → a < w → b < h → j < a → IsGiven x0 y0 us j b →
+      is_skipped (cell_at w ps j b) ≡ false → a < j + width_of (cell_at w ps j b) → shows_on_blank (cell_at w ps j b) ≡ true →
+      is_forced (cell_at w ns j b) ≡ false → width_of (cell_at w ns j b) ≤ 1 → IsFree w ns j b →
+      is_skipped (cell_at w ns a b) ≡ false → IsFree w ns a b → IsGiven x0 y0 us a b

@@ -1,0 +1,64 @@
+//! What the walk asks of a cell.
+
+ghost use Rattle.std.specs.Prelude.{◌≡◌};
+ghost use Rattle.rtui_cell.specs.Equality.{is_same, is_same_symbol};
+ghost use Rattle.rtui_diff.specs.Cells.{has_fe0f, is_forced, is_always, shows_on_blank};
+
+use bitflags::Flags;
+use rtui_cell::{Cell, CellDiffOption};
+use rtui_style::{Color, Modifier};
+
+// The modifiers that show on a blank.
+fn shown_on_blank() -> Modifier
+    ensures { result ≡ record { 0 = 376 } }
+{
+    Modifier::REVERSED
+        .union(Modifier::UNDERLINED)
+        .union(Modifier::SLOW_BLINK)
+        .union(Modifier::RAPID_BLINK)
+        .union(Modifier::CROSSED_OUT)
+}
+
+// The symbol holds the variation selector that asks for an emoji.
+#[tactic(auto, unfolding(crate::specs::Cells::has_fe0f))]
+pub fn has_fe0f(cell: &Cell) -> bool
+    ensures { result ≡ has_fe0f cell.now }
+{
+    cell.symbol().chars().any(|c| c == '\u{FE0F}')
+}
+
+// Whether the background or the modifiers show on a blank.
+#[tactic(auto, unfolding(crate::specs::Cells::shows_on_blank))]
+pub fn shows_on_blank(cell: &Cell) -> bool
+    ensures { result ≡ shows_on_blank cell.now }
+{
+    !matches!(cell.bg, Color::Reset) || cell.modifier.intersects(shown_on_blank())
+}
+
+#[tactic(auto, unfolding(crate::specs::Cells::is_forced))]
+pub fn is_forced(cell: &Cell) -> bool
+    ensures { result ≡ is_forced cell.now }
+{
+    matches!(cell.diff_option, CellDiffOption::ForcedWidth(_))
+}
+
+#[tactic(auto, unfolding(crate::specs::Cells::is_always))]
+pub fn is_always(cell: &Cell) -> bool
+    ensures { result ≡ is_always cell.now }
+{
+    matches!(cell.diff_option, CellDiffOption::AlwaysUpdate)
+}
+
+#[tactic(auto, unfolding(rtui_cell::specs::Equality::is_same_symbol))]
+pub fn has_same_symbol(a: &Cell, b: &Cell) -> bool
+    ensures { result ≡ is_same_symbol a.now b.now }
+{
+    a.symbol() == b.symbol()
+}
+
+#[tactic(auto, unfolding(rtui_cell::specs::Equality::is_same))]
+pub fn is_same(a: &Cell, b: &Cell) -> bool
+    ensures { result ≡ is_same a.now b.now }
+{
+    a == b
+}

@@ -1,0 +1,4 @@
+pub mod Offset
+pub mod Rect
+pub mod Rows
+pub mod Text

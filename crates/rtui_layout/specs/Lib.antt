@@ -1,0 +1,4 @@
+pub mod Constraint
+pub mod Layout
+pub mod Names
+pub mod Spacing

@@ -1,0 +1,169 @@
+ghost use Rattle.std.specs.Prelude.{◌≡◌, ◌↔◌, map, IsTrue, IfOk, Some};
+ghost use Rattle.rtui_layout.specs.Constraint.{IsMin, IsMax, IsLength, IsPercentage, IsRatio, IsFill, constraint_text};
+
+use std::alloc::{AllocError, Global};
+use std::convert::AsRef;
+use std::fmt;
+
+/// How many columns or rows one part of a layout is to have.
+#[derive(Debug, Clone, Copy, PartialEq, Eq, Hash)]
+pub enum Constraint {
+    /// At least so many columns or rows.
+    Min(u16),
+    /// At most so many columns or rows.
+    Max(u16),
+    /// So many columns or rows.
+    Length(u16),
+    /// So many hundredths of the area.
+    Percentage(u16),
+    /// A part of the area, the first number divided by the second.
+    Ratio(u32, u32),
+    /// What the others leave, shared with other parts of this kind by these numbers.
+    Fill(u16),
+}
+
+impl Constraint {
+    /// Whether this is a `Min`.
+    pub fn is_min(&self) -> bool
+        ensures { IsTrue result ↔ IsMin self.now }
+    {
+        matches!(self, Constraint::Min(..))
+    }
+
+    /// Whether this is a `Max`.
+    pub fn is_max(&self) -> bool
+        ensures { IsTrue result ↔ IsMax self.now }
+    {
+        matches!(self, Constraint::Max(..))
+    }
+
+    /// Whether this is a `Length`.
+    pub fn is_length(&self) -> bool
+        ensures { IsTrue result ↔ IsLength self.now }
+    {
+        matches!(self, Constraint::Length(..))
+    }
+
+    /// Whether this is a `Percentage`.
+    pub fn is_percentage(&self) -> bool
+        ensures { IsTrue result ↔ IsPercentage self.now }
+    {
+        matches!(self, Constraint::Percentage(..))
+    }
+
+    /// Whether this is a `Ratio`.
+    pub fn is_ratio(&self) -> bool
+        ensures { IsTrue result ↔ IsRatio self.now }
+    {
+        matches!(self, Constraint::Ratio(..))
+    }
+
+    /// Whether this is a `Fill`.
+    pub fn is_fill(&self) -> bool
+        ensures { IsTrue result ↔ IsFill self.now }
+    {
+        matches!(self, Constraint::Fill(..))
+    }
+
+    /// A `Length` of each number, in the order of the slice. Fails where memory runs out.
+    pub fn from_lengths(alloc: Global, lengths: &[u16]) -> Result<Vec<Self>, AllocError>
+        ensures { IfOk result (λ v. v.items ≡ map Constraint.Length lengths.now) }
+    {
+        lengths
+            .iter()
+            .map(|n| Constraint::Length(*n))
+            .collect(alloc)
+    }
+
+    /// A `Ratio` of each pair, in the order of the slice. Fails where memory runs out.
+    pub fn from_ratios(alloc: Global, ratios: &[(u32, u32)]) -> Result<Vec<Self>, AllocError>
+        ensures { IfOk result (λ v. v.items ≡ map (λ pair. Constraint.Ratio pair.0 pair.1) ratios.now) }
+    {
+        ratios
+            .iter()
+            .map(|pair| Constraint::Ratio(pair.0, pair.1))
+            .collect(alloc)
+    }
+
+    /// A `Percentage` of each number, in the order of the slice. Fails where memory runs out.
+    pub fn from_percentages(alloc: Global, percentages: &[u16]) -> Result<Vec<Self>, AllocError>
+        ensures { IfOk result (λ v. v.items ≡ map Constraint.Percentage percentages.now) }
+    {
+        percentages
+            .iter()
+            .map(|n| Constraint::Percentage(*n))
+            .collect(alloc)
+    }
+
+    /// A `Max` of each number, in the order of the slice. Fails where memory runs out.
+    pub fn from_maxes(alloc: Global, maxes: &[u16]) -> Result<Vec<Self>, AllocError>
+        ensures { IfOk result (λ v. v.items ≡ map Constraint.Max maxes.now) }
+    {
+        maxes.iter().map(|n| Constraint::Max(*n)).collect(alloc)
+    }
+
+    /// A `Min` of each number, in the order of the slice. Fails where memory runs out.
+    pub fn from_mins(alloc: Global, mins: &[u16]) -> Result<Vec<Self>, AllocError>
+        ensures { IfOk result (λ v. v.items ≡ map Constraint.Min mins.now) }
+    {
+        mins.iter().map(|n| Constraint::Min(*n)).collect(alloc)
+    }
+
+    /// A `Fill` of each number, in the order of the slice. Fails where memory runs out.
+    pub fn from_fills(alloc: Global, fills: &[u16]) -> Result<Vec<Self>, AllocError>
+        ensures { IfOk result (λ v. v.items ≡ map Constraint.Fill fills.now) }
+    {
+        fills.iter().map(|n| Constraint::Fill(*n)).collect(alloc)
+    }
+}
+
+impl From<u16> for Constraint {
+    ghost use Rattle.rtui_layout.specs.declared.constraint.Constraint.{Constraint};
+
+    ghost from_gives = { λ n c. c ≡ Constraint.Length n };
+
+    fn from(length: u16) -> Self {
+        Constraint::Length(length)
+    }
+}
+
+impl<'a> From<&'a Constraint> for Constraint {
+    ghost from_gives = { λ lent c. c ≡ lent.now };
+
+    fn from(constraint: &'a Constraint) -> Self {
+        *constraint
+    }
+}
+
+impl AsRef<Constraint> for Constraint {
+    fn as_ref(&self) -> &Constraint
+        ensures { result.now ≡ self.now }
+    {
+        self
+    }
+}
+
+impl Default for Constraint {
+    ghost use Rattle.rtui_layout.specs.declared.constraint.Constraint.{Constraint};
+
+    ghost is_default = { λ c. c ≡ Constraint.Percentage 100 };
+
+    fn default() -> Self {
+        Constraint::Percentage(100)
+    }
+}
+
+impl fmt::Display for Constraint {
+    ghost output = { λ c. Some (constraint_text c) };
+
+    fn fmt<W: fmt::Write>(&self, f: &mut fmt::Formatter<W>) -> fmt::Result {
+        match *self {
+            Constraint::Min(n) => write!(f, "Min({n})"),
+            Constraint::Max(n) => write!(f, "Max({n})"),
+            Constraint::Length(n) => write!(f, "Length({n})"),
+            Constraint::Percentage(n) => write!(f, "Percentage({n})"),
+            Constraint::Ratio(m, n) => write!(f, "Ratio({m}, {n})"),
+            Constraint::Fill(n) => write!(f, "Fill({n})"),
+        }
+    }
+}

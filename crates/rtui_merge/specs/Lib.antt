@@ -1,0 +1,5 @@
+pub mod Arms
+pub mod Symbols
+pub mod Shapes
+pub mod Merge
+pub mod Laws

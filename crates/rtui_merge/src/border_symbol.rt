@@ -1,0 +1,237 @@
+//! A border symbol as its four arms.
+ghost use Rattle.std.specs.Prelude.{◌≡◌};
+ghost use Rattle.rtui_merge.specs.Arms as spec;
+ghost use Rattle.rtui_merge.specs.Shapes as shape;
+ghost use Rattle.rtui_merge.specs.Merge as merge;
+
+/// How one arm of a border symbol is drawn. Only the first four mix in one symbol.
+#[derive(Clone, Copy, PartialEq, Eq)]
+pub(crate) enum LineStyle {
+    /// There is no arm.
+    Nothing,
+    Plain,
+    Double,
+    Thick,
+    Rounded,
+    /// Plain, with gaps that leave two dashes.
+    DoubleDash,
+    DoubleDashThick,
+    TripleDash,
+    TripleDashThick,
+    QuadrupleDash,
+    QuadrupleDashThick,
+}
+
+use LineStyle::{
+    Double, DoubleDash, DoubleDashThick, Nothing, Plain, QuadrupleDash, QuadrupleDashThick,
+    Rounded, Thick, TripleDash, TripleDashThick,
+};
+
+impl LineStyle {
+    /// Whether the two styles are one.
+    #[tactic(auto, unfolding(crate::specs::Arms::same_style))]
+    pub fn is(self, style: Self) -> bool
+        ensures { result ≡ spec.same_style self style }
+    {
+        self == style
+    }
+
+    /// The style's place among the styles.
+    pub fn number(self) -> usize
+        ensures { result ≡ spec.number_of self }
+    {
+        self as usize
+    }
+
+    /// The arm `next`, or this one where there is no `next`.
+    fn merge(self, next: Self) -> Self
+        ensures { result ≡ merge.over self next }
+    {
+        if next.is(Nothing) { self } else { next }
+    }
+
+    /// The style `to` in place of `from`, and any other as it is.
+    fn replace(self, from: Self, to: Self) -> Self
+        ensures { result ≡ spec.replace_style self from to }
+    {
+        if self.is(from) { to } else { self }
+    }
+
+    /// The style without its gaps.
+    fn solid(self) -> Self
+        ensures { result ≡ spec.solid self }
+    {
+        match self {
+            DoubleDash | TripleDash | QuadrupleDash => Plain,
+            DoubleDashThick | TripleDashThick | QuadrupleDashThick => Thick,
+            style => style,
+        }
+    }
+}
+
+/// Four arms, be there a symbol that has them or not.
+#[derive(Clone, Copy)]
+pub(crate) struct BorderSymbol {
+    pub right: LineStyle,
+    pub up: LineStyle,
+    pub left: LineStyle,
+    pub down: LineStyle,
+}
+
+impl BorderSymbol {
+    /// Whether an arm has this style.
+    #[tactic(auto, unfolding(crate::specs::Arms::contains))]
+    pub fn contains(self, style: LineStyle) -> bool
+        ensures { result ≡ spec.contains self style }
+    {
+        self.right.is(style) || self.up.is(style) || self.left.is(style) || self.down.is(style)
+    }
+
+    /// Whether opposite arms are equal, and one of the two pairs is not there.
+    #[tactic(auto, unfolding(crate::specs::Arms::is_straight))]
+    pub fn is_straight(self) -> bool
+        ensures { result ≡ spec.is_straight self }
+    {
+        self.up.is(self.down)
+            && self.left.is(self.right)
+            && (self.up.is(Nothing) || self.left.is(Nothing))
+    }
+
+    /// Whether two neighbouring arms are equal, and the other two are not there.
+    #[tactic(auto, unfolding(crate::specs::Arms::is_corner))]
+    fn is_corner(self) -> bool
+        ensures { result ≡ spec.is_corner self }
+    {
+        let BorderSymbol {
+            right,
+            up,
+            left,
+            down,
+        } = self;
+        bends(right, up, left, down)
+            || bends(up, left, right, down)
+            || bends(left, down, right, up)
+            || bends(down, right, left, up)
+    }
+
+    /// Whether each arm is none, plain, double or thick.
+    #[tactic(auto, unfolding(crate::specs::Shapes::is_mixed))]
+    pub fn is_mixed(self) -> bool
+        ensures { result ≡ shape.is_mixed self }
+    {
+        (self.right.number() < 4 && self.up.number() < 4)
+            && (self.left.number() < 4 && self.down.number() < 4)
+    }
+
+    /// Whether this is a corner of rounded arms.
+    #[tactic(auto, unfolding(crate::specs::Shapes::is_rounded))]
+    pub fn is_rounded(self) -> bool
+        ensures { result ≡ shape.is_rounded self }
+    {
+        self.is_corner() && self.contains(Rounded)
+    }
+
+    /// Every arm of the style `from` drawn as `to`.
+    #[tactic(auto, unfolding(crate::specs::Arms::replace))]
+    fn replace(self, from: LineStyle, to: LineStyle) -> Self
+        ensures { result ≡ spec.replace self from to }
+    {
+        BorderSymbol {
+            right: self.right.replace(from, to),
+            up: self.up.replace(from, to),
+            left: self.left.replace(from, to),
+            down: self.down.replace(from, to),
+        }
+    }
+}
+
+impl BorderSymbol {
+    /// Each arm of `next`, or this symbol's where `next` has none.
+    #[tactic(auto, unfolding(crate::specs::Merge::exact))]
+    pub fn exact(self, next: Self) -> Self
+        ensures { result ≡ merge.exact self next }
+    {
+        BorderSymbol {
+            right: self.right.merge(next.right),
+            up: self.up.merge(next.up),
+            left: self.left.merge(next.left),
+            down: self.down.merge(next.down),
+        }
+    }
+
+    /// Dashes stand in straight symbols alone.
+    #[tactic(auto, unfolding(crate::specs::Merge::solid_unless_straight))]
+    fn solid_unless_straight(self) -> Self
+        ensures { result ≡ merge.solid_unless_straight self }
+    {
+        if self.is_straight() {
+            self
+        } else {
+            BorderSymbol {
+                right: self.right.solid(),
+                up: self.up.solid(),
+                left: self.left.solid(),
+                down: self.down.solid(),
+            }
+        }
+    }
+
+    /// Rounded arms stand in corners alone.
+    #[tactic(auto, unfolding(crate::specs::Merge::square_unless_corner))]
+    fn square_unless_corner(self) -> Self
+        ensures { result ≡ merge.square_unless_corner self }
+    {
+        if self.is_corner() {
+            self
+        } else {
+            self.replace(Rounded, Plain)
+        }
+    }
+
+    /// Double and thick arms never meet.
+    #[tactic(auto, unfolding(crate::specs::Merge::double_or_thick))]
+    fn double_or_thick(self, next: Self) -> Self
+        ensures { result ≡ merge.double_or_thick self next }
+    {
+        if !(self.contains(Double) && self.contains(Thick)) {
+            self
+        } else if next.contains(Double) {
+            self.replace(Thick, Double)
+        } else {
+            self.replace(Double, Thick)
+        }
+    }
+
+    /// Some plain and double arms never meet.
+    #[tactic(auto, unfolding(crate::specs::Merge::double_or_plain))]
+    fn double_or_plain(self, next: Self) -> Self
+        ensures { result ≡ merge.double_or_plain self next }
+    {
+        if self.to_str().is_some() {
+            self
+        } else if next.contains(Double) {
+            self.replace(Plain, Double)
+        } else {
+            self.replace(Double, Plain)
+        }
+    }
+
+    /// These arms in styles for which there is a symbol, where `next` was drawn last.
+    #[tactic(auto, unfolding(crate::specs::Merge::fuzzy))]
+    pub fn fuzzy(self, next: Self) -> Self
+        ensures { result ≡ merge.fuzzy self next }
+    {
+        self.solid_unless_straight()
+            .square_unless_corner()
+            .double_or_thick(next)
+            .double_or_plain(next)
+    }
+}
+
+/// Whether the first two arms are equal, and the other two are not there.
+#[tactic(auto, unfolding(crate::specs::Arms::bends))]
+fn bends(first: LineStyle, second: LineStyle, third: LineStyle, fourth: LineStyle) -> bool
+    ensures { result ≡ spec.bends first second third fourth }
+{
+    first.is(second) && third.is(Nothing) && fourth.is(Nothing)
+}

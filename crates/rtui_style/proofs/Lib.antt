@@ -1,0 +1,6 @@
+mod Bits
+mod Names
+mod Printing
+mod ReadBack
+mod Reading
+mod Styles

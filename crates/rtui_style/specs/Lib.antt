@@ -1,0 +1,3 @@
+pub mod Color
+pub mod Modifier
+pub mod Style

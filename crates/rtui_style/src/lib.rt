@@ -1,0 +1,592 @@
+//! Colours, modifiers and styles.
+//!
+//! A [`Style`] says what to change of how a column is painted: up to three colours, a set of modifiers to add and one to take
+//! away. Contracts see it as data; `painted` (in `specs/Style`) is what it does to a paint, and the laws of [`laws`] say that
+//! laying one style over another by [`Style::patch`] is doing one after the other. A [`Color`] is printed and read as text.
+//!
+//! It stands on `bitflags` alone. The layer above uses the fields of a style, `patch`, `painted`, and the texts of a colour.
+#![tactic(auto)]
+
+ghost use Rattle.std.specs.Prelude.{⊤, ◌≡◌};
+ghost use Rattle.rtui_style.specs.Modifier.{modifier_table, bits_of};
+ghost use Rattle.rtui_style.specs.Style.{patch, new_style, reset_style, with_fg, with_bg, with_underline_color, with_modifier, without_modifier, has_modifier};
+
+mod color;
+pub mod laws;
+
+use bitflags::{Flag, Flags, bitflag_items};
+pub use color::{Color, ParseColorError};
+
+/// A set of modifiers of a text. `union`, `contains` and the other calls on sets are those of `Flags`.
+#[derive(Debug, Default, Clone, Copy, PartialEq, Eq, Hash)]
+pub struct Modifier(u16);
+
+bitflag_items! {
+    impl Modifier: u16 {
+        const BOLD = 1;
+        const DIM = 2;
+        const ITALIC = 4;
+        const UNDERLINED = 8;
+        const SLOW_BLINK = 16;
+        const RAPID_BLINK = 32;
+        const REVERSED = 64;
+        const HIDDEN = 128;
+        const CROSSED_OUT = 256;
+    }
+}
+
+impl Modifier {
+    /// The empty set, which `empty()` answers too.
+    pub const NONE: Modifier = Modifier(0);
+
+    /// All nine modifiers, which `all()` answers too.
+    pub const ALL: Modifier = Modifier(511);
+}
+
+impl Flags for Modifier {
+    type Bits = u16;
+
+    ghost exact = { ⊤ };
+
+    ghost table = { modifier_table };
+
+    ghost set_of = { bits_of };
+
+    fn flags<'a>() -> &'a [Flag<Modifier>] {
+        Modifier::FLAGS
+    }
+
+    fn bits(&self) -> u16 {
+        self.0
+    }
+
+    fn from_bits_retain(bits: u16) -> Modifier {
+        Modifier(bits)
+    }
+}
+
+/// What to change of how a column is painted. A colour that is `None` stays as it was.
+#[derive(Debug, Default, Clone, Copy, PartialEq, Eq, Hash)]
+pub struct Style {
+    /// The colour of the text.
+    pub fg: Option<Color>,
+    /// The colour behind the text.
+    pub bg: Option<Color>,
+    /// The colour of a line under the text.
+    pub underline_color: Option<Color>,
+    /// The modifiers that are added.
+    pub add_modifier: Modifier,
+    /// The modifiers that are taken away, after those were added.
+    pub sub_modifier: Modifier,
+}
+
+impl Style {
+    /// The style that changes nothing.
+    pub fn new() -> Self
+        ensures { result ≡ new_style }
+    {
+        Style {
+            fg: None,
+            bg: None,
+            underline_color: None,
+            add_modifier: Modifier::NONE,
+            sub_modifier: Modifier::NONE,
+        }
+    }
+
+    /// The style that sets all three colours to the terminal's own and takes every modifier away.
+    pub fn reset() -> Self
+        ensures { result ≡ reset_style }
+    {
+        Style {
+            fg: Some(Color::Reset),
+            bg: Some(Color::Reset),
+            underline_color: Some(Color::Reset),
+            add_modifier: Modifier::NONE,
+            sub_modifier: Modifier::ALL,
+        }
+    }
+
+    /// The style with this foreground.
+    pub fn fg(mut self, color: Color) -> Self
+        ensures { result ≡ with_fg color self }
+    {
+        self.fg = Some(color);
+        self
+    }
+
+    /// The style with this background.
+    pub fn bg(mut self, color: Color) -> Self
+        ensures { result ≡ with_bg color self }
+    {
+        self.bg = Some(color);
+        self
+    }
+
+    /// The style with this colour of the underline.
+    pub fn underline_color(mut self, color: Color) -> Self
+        ensures { result ≡ with_underline_color color self }
+    {
+        self.underline_color = Some(color);
+        self
+    }
+
+    /// The style that adds these modifiers, and takes none of them away.
+    pub fn add_modifier(mut self, modifier: Modifier) -> Self
+        ensures { result ≡ with_modifier modifier self }
+    {
+        self.sub_modifier = self.sub_modifier.difference(modifier);
+        self.add_modifier = self.add_modifier.union(modifier);
+        self
+    }
+
+    /// The style that takes these modifiers away, and adds none of them.
+    pub fn remove_modifier(mut self, modifier: Modifier) -> Self
+        ensures { result ≡ without_modifier modifier self }
+    {
+        self.add_modifier = self.add_modifier.difference(modifier);
+        self.sub_modifier = self.sub_modifier.union(modifier);
+        self
+    }
+
+    /// Whether these modifiers are all added, and not all taken away.
+    pub fn has_modifier(self, modifier: Modifier) -> bool
+        ensures { result ≡ has_modifier modifier self }
+    {
+        self.add_modifier.contains(modifier) && !self.sub_modifier.contains(modifier)
+    }
+
+    /// This style with `other` laid over it: where both say something, `other` counts.
+    pub fn patch(mut self, other: Style) -> Self
+        ensures { result ≡ patch self other }
+    {
+        self.fg = other.fg.or(self.fg);
+        self.bg = other.bg.or(self.bg);
+        self.underline_color = other.underline_color.or(self.underline_color);
+        self.add_modifier.remove(other.sub_modifier);
+        self.add_modifier.insert(other.add_modifier);
+        self.sub_modifier.remove(other.add_modifier);
+        self.sub_modifier.insert(other.sub_modifier);
+        self
+    }
+
+    /// The style with the foreground black.
+    pub fn black(self) -> Self
+        ensures { result ≡ with_fg Color.Black self }
+    {
+        self.fg(Color::Black)
+    }
+
+    /// The style with the background black.
+    pub fn on_black(self) -> Self
+        ensures { result ≡ with_bg Color.Black self }
+    {
+        self.bg(Color::Black)
+    }
+
+    /// The style with the foreground red.
+    pub fn red(self) -> Self
+        ensures { result ≡ with_fg Color.Red self }
+    {
+        self.fg(Color::Red)
+    }
+
+    /// The style with the background red.
+    pub fn on_red(self) -> Self
+        ensures { result ≡ with_bg Color.Red self }
+    {
+        self.bg(Color::Red)
+    }
+
+    /// The style with the foreground green.
+    pub fn green(self) -> Self
+        ensures { result ≡ with_fg Color.Green self }
+    {
+        self.fg(Color::Green)
+    }
+
+    /// The style with the background green.
+    pub fn on_green(self) -> Self
+        ensures { result ≡ with_bg Color.Green self }
+    {
+        self.bg(Color::Green)
+    }
+
+    /// The style with the foreground yellow.
+    pub fn yellow(self) -> Self
+        ensures { result ≡ with_fg Color.Yellow self }
+    {
+        self.fg(Color::Yellow)
+    }
+
+    /// The style with the background yellow.
+    pub fn on_yellow(self) -> Self
+        ensures { result ≡ with_bg Color.Yellow self }
+    {
+        self.bg(Color::Yellow)
+    }
+
+    /// The style with the foreground blue.
+    pub fn blue(self) -> Self
+        ensures { result ≡ with_fg Color.Blue self }
+    {
+        self.fg(Color::Blue)
+    }
+
+    /// The style with the background blue.
+    pub fn on_blue(self) -> Self
+        ensures { result ≡ with_bg Color.Blue self }
+    {
+        self.bg(Color::Blue)
+    }
+
+    /// The style with the foreground magenta.
+    pub fn magenta(self) -> Self
+        ensures { result ≡ with_fg Color.Magenta self }
+    {
+        self.fg(Color::Magenta)
+    }
+
+    /// The style with the background magenta.
+    pub fn on_magenta(self) -> Self
+        ensures { result ≡ with_bg Color.Magenta self }
+    {
+        self.bg(Color::Magenta)
+    }
+
+    /// The style with the foreground cyan.
+    pub fn cyan(self) -> Self
+        ensures { result ≡ with_fg Color.Cyan self }
+    {
+        self.fg(Color::Cyan)
+    }
+
+    /// The style with the background cyan.
+    pub fn on_cyan(self) -> Self
+        ensures { result ≡ with_bg Color.Cyan self }
+    {
+        self.bg(Color::Cyan)
+    }
+
+    /// The style with the foreground gray.
+    pub fn gray(self) -> Self
+        ensures { result ≡ with_fg Color.Gray self }
+    {
+        self.fg(Color::Gray)
+    }
+
+    /// The style with the background gray.
+    pub fn on_gray(self) -> Self
+        ensures { result ≡ with_bg Color.Gray self }
+    {
+        self.bg(Color::Gray)
+    }
+
+    /// The style with the foreground dark gray.
+    pub fn dark_gray(self) -> Self
+        ensures { result ≡ with_fg Color.DarkGray self }
+    {
+        self.fg(Color::DarkGray)
+    }
+
+    /// The style with the background dark gray.
+    pub fn on_dark_gray(self) -> Self
+        ensures { result ≡ with_bg Color.DarkGray self }
+    {
+        self.bg(Color::DarkGray)
+    }
+
+    /// The style with the foreground light red.
+    pub fn light_red(self) -> Self
+        ensures { result ≡ with_fg Color.LightRed self }
+    {
+        self.fg(Color::LightRed)
+    }
+
+    /// The style with the background light red.
+    pub fn on_light_red(self) -> Self
+        ensures { result ≡ with_bg Color.LightRed self }
+    {
+        self.bg(Color::LightRed)
+    }
+
+    /// The style with the foreground light green.
+    pub fn light_green(self) -> Self
+        ensures { result ≡ with_fg Color.LightGreen self }
+    {
+        self.fg(Color::LightGreen)
+    }
+
+    /// The style with the background light green.
+    pub fn on_light_green(self) -> Self
+        ensures { result ≡ with_bg Color.LightGreen self }
+    {
+        self.bg(Color::LightGreen)
+    }
+
+    /// The style with the foreground light yellow.
+    pub fn light_yellow(self) -> Self
+        ensures { result ≡ with_fg Color.LightYellow self }
+    {
+        self.fg(Color::LightYellow)
+    }
+
+    /// The style with the background light yellow.
+    pub fn on_light_yellow(self) -> Self
+        ensures { result ≡ with_bg Color.LightYellow self }
+    {
+        self.bg(Color::LightYellow)
+    }
+
+    /// The style with the foreground light blue.
+    pub fn light_blue(self) -> Self
+        ensures { result ≡ with_fg Color.LightBlue self }
+    {
+        self.fg(Color::LightBlue)
+    }
+
+    /// The style with the background light blue.
+    pub fn on_light_blue(self) -> Self
+        ensures { result ≡ with_bg Color.LightBlue self }
+    {
+        self.bg(Color::LightBlue)
+    }
+
+    /// The style with the foreground light magenta.
+    pub fn light_magenta(self) -> Self
+        ensures { result ≡ with_fg Color.LightMagenta self }
+    {
+        self.fg(Color::LightMagenta)
+    }
+
+    /// The style with the background light magenta.
+    pub fn on_light_magenta(self) -> Self
+        ensures { result ≡ with_bg Color.LightMagenta self }
+    {
+        self.bg(Color::LightMagenta)
+    }
+
+    /// The style with the foreground light cyan.
+    pub fn light_cyan(self) -> Self
+        ensures { result ≡ with_fg Color.LightCyan self }
+    {
+        self.fg(Color::LightCyan)
+    }
+
+    /// The style with the background light cyan.
+    pub fn on_light_cyan(self) -> Self
+        ensures { result ≡ with_bg Color.LightCyan self }
+    {
+        self.bg(Color::LightCyan)
+    }
+
+    /// The style with the foreground white.
+    pub fn white(self) -> Self
+        ensures { result ≡ with_fg Color.White self }
+    {
+        self.fg(Color::White)
+    }
+
+    /// The style with the background white.
+    pub fn on_white(self) -> Self
+        ensures { result ≡ with_bg Color.White self }
+    {
+        self.bg(Color::White)
+    }
+
+    /// The style that adds the modifier bold.
+    pub fn bold(self) -> Self
+        ensures { result ≡ with_modifier Modifier.BOLD self }
+    {
+        self.add_modifier(Modifier::BOLD)
+    }
+
+    /// The style that takes the modifier bold away.
+    pub fn not_bold(self) -> Self
+        ensures { result ≡ without_modifier Modifier.BOLD self }
+    {
+        self.remove_modifier(Modifier::BOLD)
+    }
+
+    /// The style that adds the modifier dim.
+    pub fn dim(self) -> Self
+        ensures { result ≡ with_modifier Modifier.DIM self }
+    {
+        self.add_modifier(Modifier::DIM)
+    }
+
+    /// The style that takes the modifier dim away.
+    pub fn not_dim(self) -> Self
+        ensures { result ≡ without_modifier Modifier.DIM self }
+    {
+        self.remove_modifier(Modifier::DIM)
+    }
+
+    /// The style that adds the modifier italic.
+    pub fn italic(self) -> Self
+        ensures { result ≡ with_modifier Modifier.ITALIC self }
+    {
+        self.add_modifier(Modifier::ITALIC)
+    }
+
+    /// The style that takes the modifier italic away.
+    pub fn not_italic(self) -> Self
+        ensures { result ≡ without_modifier Modifier.ITALIC self }
+    {
+        self.remove_modifier(Modifier::ITALIC)
+    }
+
+    /// The style that adds the modifier underlined.
+    pub fn underlined(self) -> Self
+        ensures { result ≡ with_modifier Modifier.UNDERLINED self }
+    {
+        self.add_modifier(Modifier::UNDERLINED)
+    }
+
+    /// The style that takes the modifier underlined away.
+    pub fn not_underlined(self) -> Self
+        ensures { result ≡ without_modifier Modifier.UNDERLINED self }
+    {
+        self.remove_modifier(Modifier::UNDERLINED)
+    }
+
+    /// The style that adds the modifier slow blink.
+    pub fn slow_blink(self) -> Self
+        ensures { result ≡ with_modifier Modifier.SLOW_BLINK self }
+    {
+        self.add_modifier(Modifier::SLOW_BLINK)
+    }
+
+    /// The style that takes the modifier slow blink away.
+    pub fn not_slow_blink(self) -> Self
+        ensures { result ≡ without_modifier Modifier.SLOW_BLINK self }
+    {
+        self.remove_modifier(Modifier::SLOW_BLINK)
+    }
+
+    /// The style that adds the modifier rapid blink.
+    pub fn rapid_blink(self) -> Self
+        ensures { result ≡ with_modifier Modifier.RAPID_BLINK self }
+    {
+        self.add_modifier(Modifier::RAPID_BLINK)
+    }
+
+    /// The style that takes the modifier rapid blink away.
+    pub fn not_rapid_blink(self) -> Self
+        ensures { result ≡ without_modifier Modifier.RAPID_BLINK self }
+    {
+        self.remove_modifier(Modifier::RAPID_BLINK)
+    }
+
+    /// The style that adds the modifier reversed.
+    pub fn reversed(self) -> Self
+        ensures { result ≡ with_modifier Modifier.REVERSED self }
+    {
+        self.add_modifier(Modifier::REVERSED)
+    }
+
+    /// The style that takes the modifier reversed away.
+    pub fn not_reversed(self) -> Self
+        ensures { result ≡ without_modifier Modifier.REVERSED self }
+    {
+        self.remove_modifier(Modifier::REVERSED)
+    }
+
+    /// The style that adds the modifier hidden.
+    pub fn hidden(self) -> Self
+        ensures { result ≡ with_modifier Modifier.HIDDEN self }
+    {
+        self.add_modifier(Modifier::HIDDEN)
+    }
+
+    /// The style that takes the modifier hidden away.
+    pub fn not_hidden(self) -> Self
+        ensures { result ≡ without_modifier Modifier.HIDDEN self }
+    {
+        self.remove_modifier(Modifier::HIDDEN)
+    }
+
+    /// The style that adds the modifier crossed out.
+    pub fn crossed_out(self) -> Self
+        ensures { result ≡ with_modifier Modifier.CROSSED_OUT self }
+    {
+        self.add_modifier(Modifier::CROSSED_OUT)
+    }
+
+    /// The style that takes the modifier crossed out away.
+    pub fn not_crossed_out(self) -> Self
+        ensures { result ≡ without_modifier Modifier.CROSSED_OUT self }
+    {
+        self.remove_modifier(Modifier::CROSSED_OUT)
+    }
+}
+
+/// A foreground.
+impl From<Color> for Style {
+    ghost from_gives = { λ color style. style ≡ with_fg color new_style };
+
+    fn from(color: Color) -> Style {
+        Style::new().fg(color)
+    }
+}
+
+/// A foreground and a background.
+impl From<(Color, Color)> for Style {
+    ghost from_gives = { λ pair style. style ≡ with_bg pair.1 (with_fg pair.0 new_style) };
+
+    fn from((fg, bg): (Color, Color)) -> Style {
+        Style::new().fg(fg).bg(bg)
+    }
+}
+
+/// Modifiers to add.
+impl From<Modifier> for Style {
+    ghost from_gives = { λ modifier style. style ≡ with_modifier modifier new_style };
+
+    fn from(modifier: Modifier) -> Style {
+        Style::new().add_modifier(modifier)
+    }
+}
+
+/// Modifiers to add, and then modifiers to take away.
+impl From<(Modifier, Modifier)> for Style {
+    ghost from_gives = { λ pair style. style ≡ without_modifier pair.1 (with_modifier pair.0 new_style) };
+
+    fn from((add_modifier, sub_modifier): (Modifier, Modifier)) -> Style {
+        Style::new()
+            .add_modifier(add_modifier)
+            .remove_modifier(sub_modifier)
+    }
+}
+
+/// A foreground and modifiers to add.
+impl From<(Color, Modifier)> for Style {
+    ghost from_gives = { λ pair style. style ≡ with_modifier pair.1 (with_fg pair.0 new_style) };
+
+    fn from((fg, modifier): (Color, Modifier)) -> Style {
+        Style::new().fg(fg).add_modifier(modifier)
+    }
+}
+
+/// A foreground, a background and modifiers to add.
+impl From<(Color, Color, Modifier)> for Style {
+    ghost from_gives = { λ all style. style ≡ with_modifier all.2 (with_bg all.1 (with_fg all.0 new_style)) };
+
+    fn from((fg, bg, modifier): (Color, Color, Modifier)) -> Style {
+        Style::new().fg(fg).bg(bg).add_modifier(modifier)
+    }
+}
+
+/// A foreground, a background, modifiers to add, and then modifiers to take away.
+impl From<(Color, Color, Modifier, Modifier)> for Style {
+    ghost from_gives = { λ all style. style
+        ≡ without_modifier all.3 (with_modifier all.2 (with_bg all.1 (with_fg all.0 new_style))) };
+
+    fn from((fg, bg, add_modifier, sub_modifier): (Color, Color, Modifier, Modifier)) -> Style {
+        Style::new()
+            .fg(fg)
+            .bg(bg)
+            .add_modifier(add_modifier)
+            .remove_modifier(sub_modifier)
+    }
+}

@@ -1,0 +1,3 @@
+pub mod DifferenceLemmas
+pub mod StartLemmas
+pub mod RenderLemmas

@@ -1,0 +1,5 @@
+pub mod State
+pub mod InStep
+pub mod Frames
+pub mod Lending
+pub mod Calls

@@ -1,0 +1,51 @@
+use rtui_backend::Backend;
+use rtui_buffer::Buffer;
+use rtui_geometry::Rect;
+use std::marker::Model;
+
+mod backend;
+mod buffers;
+mod cursor;
+pub mod error;
+pub mod frame;
+mod init;
+mod render;
+
+/// A terminal over a backend. It keeps the buffer to paint on and the one painted before, so that a draw writes
+/// only what differs. Its drop shows a cursor that it hid.
+#[derive(Debug)]
+pub struct Terminal<B: Backend> {
+    pub(crate) backend: B,
+    pub(crate) current: Buffer,
+    pub(crate) older: Buffer,
+    pub(crate) viewport_area: Rect,
+    pub(crate) hidden_cursor: bool,
+    pub(crate) frame_count: usize,
+}
+
+impl<B: Backend> Model for Terminal<B> {
+    ghost use Rattle.rtui_geometry.specs.Rect.{EdgesFit};
+    ghost use Rattle.rtui_terminal.specs.State.{State};
+
+    ghost Value = { State B };
+
+    ghost view = { λ t. record { backend = t.backend; current = t.current; older = t.older; viewport_area = t.viewport_area; hidden_cursor = t.hidden_cursor; frame_count = t.frame_count } };
+
+    ghost invariant = { λ t. EdgesFit t.viewport_area };
+}
+
+impl<B: Backend + Drop> Drop for Terminal<B> {
+    fn drop(mut self) {
+        if self.hidden_cursor {
+            let _ = self.show_cursor();
+        }
+        let Terminal {
+            backend: _,
+            current: _,
+            older: _,
+            viewport_area: _,
+            hidden_cursor: _,
+            frame_count: _,
+        } = self;
+    }
+}

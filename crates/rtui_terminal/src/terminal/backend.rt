@@ -1,0 +1,47 @@
+ghost use Rattle.std.specs.Prelude.{◌≡◌, OnOk, IfOk};
+ghost use Rattle.std.specs.Borrow.{sem, Lends};
+ghost use Rattle.rtui_backend.specs.Screen.{size_of};
+ghost use Rattle.rtui_terminal.specs.InStep.{IsInStep};
+ghost use Rattle.rtui_terminal.specs.Calls.{Faults, FailsOnlyByBackend, Stays};
+ghost use Rattle.rtui_terminal.specs.contracts.terminal.Terminal.{the_row};
+
+use crate::terminal::Terminal;
+use crate::terminal::error::TerminalError;
+use rtui_backend::Backend;
+use rtui_geometry::{Rect, Size};
+
+impl<B: Backend> Terminal<B> {
+    /// The backend.
+    pub fn backend(&self) -> &B
+        ensures { result.now ≡ self.now.backend }
+    {
+        &self.backend
+    }
+
+    /// The backend, to be written; what is changed on its screen the terminal doesn't know.
+    pub fn backend_mut(&mut self) -> &mut B
+        ensures* writes_back { sem 𝓛 (Lends (the_row B.row B.Error.row B.Backend B.Error.Debug B.Error.Display) B.row self.entry result (λ b. record self.entry.now { backend = b })) }
+        ensures value { result.now ≡ self.old.backend }
+    {
+        &mut self.backend
+    }
+
+    /// The viewport: the part of the screen that is drawn on, in columns and rows.
+    pub fn viewport_area(&self) -> Rect
+        ensures { result ≡ self.now.viewport_area }
+    {
+        self.viewport_area
+    }
+
+    /// The size of the backend's screen, in columns and rows.
+    pub fn size(&mut self) -> Result<Size, TerminalError<B::Error>>
+        ensures ok { IfOk result (λ size. size ≡ size_of (B.screen self.old.backend)) }
+        ensures stays { OnOk result (Stays B.screen self.old self.new) }
+        ensures in_step { OnOk result (IsInStep B.screen self.old → IsInStep B.screen self.new) }
+        ensures rest { self.new ≡ record self.old { backend = self.new.backend } }
+        ensures only { FailsOnlyByBackend result }
+        ensures faults { Faults result (B.failures self.old.backend) (B.failures self.new.backend) }
+    {
+        self.backend.size().map_err(TerminalError::Backend)
+    }
+}

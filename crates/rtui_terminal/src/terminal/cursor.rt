@@ -1,0 +1,91 @@
+ghost use Rattle.std.specs.Prelude.{◌≡◌, true, false, OnOk, OnErr, IfOk};
+ghost use Rattle.rtui_backend.specs.Screen.{with_visible, with_cursor, cursor_of};
+ghost use Rattle.rtui_terminal.specs.InStep.{IsInStep};
+ghost use Rattle.rtui_terminal.specs.Calls.{Faults, FailsOnlyByBackend, Stays, MovesCursor};
+
+use crate::terminal::Terminal;
+use crate::terminal::error::TerminalError;
+use rtui_backend::Backend;
+use rtui_geometry::Position;
+
+impl<B: Backend> Terminal<B> {
+    /// Hides the cursor.
+    pub fn hide_cursor(&mut self) -> Result<(), TerminalError<B::Error>>
+        ensures ok { OnOk result (MovesCursor B.screen true (with_visible false) self.old self.new) }
+        ensures err { OnErr result (self.new ≡ record self.old { backend = self.new.backend }) }
+        ensures only { FailsOnlyByBackend result }
+        ensures faults { Faults result (B.failures self.old.backend) (B.failures self.new.backend) }
+    {
+        self.backend.hide_cursor().map_err(TerminalError::Backend)?;
+        self.hidden_cursor = true;
+        Ok(())
+    }
+
+    /// Shows the cursor.
+    pub fn show_cursor(&mut self) -> Result<(), TerminalError<B::Error>>
+        ensures ok { OnOk result (MovesCursor B.screen false (with_visible true) self.old self.new) }
+        ensures err { OnErr result (self.new ≡ record self.old { backend = self.new.backend }) }
+        ensures only { FailsOnlyByBackend result }
+        ensures faults { Faults result (B.failures self.old.backend) (B.failures self.new.backend) }
+    {
+        self.backend.show_cursor().map_err(TerminalError::Backend)?;
+        self.hidden_cursor = false;
+        Ok(())
+    }
+
+    /// Whether the terminal hid the cursor and didn't show it since.
+    pub fn is_cursor_hidden(&self) -> bool
+        ensures { result ≡ self.now.hidden_cursor }
+    {
+        self.hidden_cursor
+    }
+
+    /// The older name of `get_cursor_position`: the column and the row.
+    pub fn get_cursor(&mut self) -> Result<(u16, u16), TerminalError<B::Error>>
+        ensures ok { IfOk result (λ place. place ≡ ((B.screen self.old.backend).cursor_x, (B.screen self.old.backend).cursor_y)) }
+        ensures stays { OnOk result (Stays B.screen self.old self.new) }
+        ensures in_step { OnOk result (IsInStep B.screen self.old → IsInStep B.screen self.new) }
+        ensures rest { self.new ≡ record self.old { backend = self.new.backend } }
+        ensures only { FailsOnlyByBackend result }
+        ensures faults { Faults result (B.failures self.old.backend) (B.failures self.new.backend) }
+    {
+        let position = self.get_cursor_position()?;
+        Ok((position.x, position.y))
+    }
+
+    /// The older name of `set_cursor_position`.
+    pub fn set_cursor(&mut self, x: u16, y: u16) -> Result<(), TerminalError<B::Error>>
+        ensures ok { OnOk result (MovesCursor B.screen self.old.hidden_cursor (with_cursor x y) self.old self.new) }
+        ensures err { OnErr result (self.new ≡ record self.old { backend = self.new.backend }) }
+        ensures only { FailsOnlyByBackend result }
+        ensures faults { Faults result (B.failures self.old.backend) (B.failures self.new.backend) }
+    {
+        self.set_cursor_position(Position { x, y })
+    }
+
+    /// Where the cursor is, on the screen.
+    pub fn get_cursor_position(&mut self) -> Result<Position, TerminalError<B::Error>>
+        ensures ok { IfOk result (λ position. position ≡ cursor_of (B.screen self.old.backend)) }
+        ensures stays { OnOk result (Stays B.screen self.old self.new) }
+        ensures in_step { OnOk result (IsInStep B.screen self.old → IsInStep B.screen self.new) }
+        ensures rest { self.new ≡ record self.old { backend = self.new.backend } }
+        ensures only { FailsOnlyByBackend result }
+        ensures faults { Faults result (B.failures self.old.backend) (B.failures self.new.backend) }
+    {
+        self.backend
+            .get_cursor_position()
+            .map_err(TerminalError::Backend)
+    }
+
+    /// Moves the cursor; its column and its row are each kept on the screen.
+    pub fn set_cursor_position(&mut self, position: Position) -> Result<(), TerminalError<B::Error>>
+        ensures ok { OnOk result (MovesCursor B.screen self.old.hidden_cursor (with_cursor position.x position.y) self.old self.new) }
+        ensures err { OnErr result (self.new ≡ record self.old { backend = self.new.backend }) }
+        ensures only { FailsOnlyByBackend result }
+        ensures faults { Faults result (B.failures self.old.backend) (B.failures self.new.backend) }
+    {
+        self.backend
+            .set_cursor_position(position)
+            .map_err(TerminalError::Backend)
+    }
+}

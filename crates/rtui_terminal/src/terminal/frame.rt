@@ -1,0 +1,84 @@
+ghost use Rattle.std.specs.Prelude.{◌≡◌, Some};
+ghost use Rattle.std.specs.Borrow.{sem};
+
+use crate::terminal::Terminal;
+use rtui_backend::Backend;
+use rtui_buffer::Buffer;
+use rtui_geometry::{Position, Rect};
+
+/// What a closure paints on: the current buffer of a terminal, its area, and where the cursor is to be
+/// afterwards.
+#[derive(Debug, Drop)]
+pub struct Frame<'a> {
+    pub(crate) cursor_position: Option<Position>,
+    pub(crate) viewport_area: Rect,
+    pub(crate) buffer: &'a mut Buffer,
+    pub(crate) count: usize,
+}
+
+impl Frame<'_> {
+    ghost use Rattle.rtui_terminal.specs.Lending.{LendsBuffer};
+
+    /// The area of the viewport, in columns and rows of the screen.
+    pub fn area(&self) -> Rect
+        ensures { result ≡ self.now.viewport_area }
+    {
+        self.viewport_area
+    }
+
+    /// The older name of `area`.
+    pub fn size(&self) -> Rect
+        ensures { result ≡ self.now.viewport_area }
+    {
+        self.viewport_area
+    }
+
+    /// Where the cursor is to be after the draw; a frame without one hides it.
+    pub fn set_cursor_position(&mut self, position: Position)
+        ensures { self.new ≡ record self.old { cursor_position = Some position } }
+    {
+        self.cursor_position = Some(position);
+    }
+
+    /// The older name of `set_cursor_position`.
+    pub fn set_cursor(&mut self, x: u16, y: u16)
+        ensures { self.new ≡ record self.old { cursor_position = Some (record { x = x; y = y }) } }
+    {
+        self.set_cursor_position(Position { x, y });
+    }
+
+    /// The buffer to paint on.
+    pub fn buffer_mut(&mut self) -> &mut Buffer
+        ensures* writes_back { sem 𝓛 (LendsBuffer self.entry result) }
+        ensures value { result.now ≡ self.old.buffer.now }
+    {
+        &mut *self.buffer
+    }
+
+    /// How many frames were drawn before this one; it starts again at 0 past the greatest number.
+    pub fn count(&self) -> usize
+        ensures { result ≡ self.now.count }
+    {
+        self.count
+    }
+}
+
+/// What a draw that answered Ok painted.
+#[derive(Drop)]
+pub struct CompletedFrame<'a, B: Backend> {
+    pub(crate) terminal: &'a mut Terminal<B>,
+    /// The area of the viewport.
+    pub area: Rect,
+    /// How many frames were drawn before this one.
+    pub count: usize,
+}
+
+impl<B: Backend> CompletedFrame<'_, B> {
+    /// The buffer that was painted.
+    pub fn buffer(&self) -> &Buffer
+        ensures { result.now ≡ self.now.terminal.now.older }
+    {
+        let terminal = &*self.terminal;
+        &terminal.older
+    }
+}

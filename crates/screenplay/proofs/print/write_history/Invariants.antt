@@ -1,0 +1,10 @@
+use Rattle.std.proofs.Common.{codes, drop}
+use Rattle.std.specs.List.{flat_map}
+use Rattle.screenplay.specs.Print.{printed_row}
+use Rattle.screenplay.proofs.PrintLemmas.{HasWritten}
+use Rattle.screenplay.proofs.print.write_history.Given as goal
+
+abbrev pub invariant-loop-row : goal.invariant-loop-row
+invariant-loop-row g l =
+    let text = flat_map (λ row. printed_row (codes "^") row.items) in
+    HasWritten (g.W.Write.contents l.initial.writer) (g.W.Write.contents l.writer) (text (drop l.row-index l.history)) (text l.history)

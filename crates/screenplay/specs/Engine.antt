@@ -1,0 +1,58 @@
+-- From the bytes of a script to what is printed, or to a fault.
+use Rattle.std.specs.Prelude.{ℕ, List, [], ◌++◌, Option, Some, codes, IfSome}
+use Rattle.std.specs.Fmt.{decimal}
+use Rattle.std.specs.Str.{IsUtf8}
+use Rattle.std.specs.Io.KnownBytes.{Appends}
+use Rattle.screenplay.specs.Script.{IsScript, IsFirstBadLine, text_lines}
+use Rattle.screenplay.specs.Run.{IsRun, IsFault}
+use Rattle.screenplay.specs.Print.{printed}
+use Rattle.screenplay.specs.declared.scene.Scene.{Scene}
+use Rattle.screenplay.specs.declared.scene.Stage.{Stage}
+use Rattle.screenplay.specs.declared.scene.Step.{Step}
+use Rattle.screenplay.specs.declared.scene.PlayFault.{PlayFault}
+use Rattle.screenplay.specs.declared.scene.PlayCause.{PlayCause}
+use Rattle.screenplay.specs.declared.scene.PlayCause.TheVariants as cause
+use Rattle.screenplay.specs.declared.fault.RunFault.{RunFault}
+use Rattle.screenplay.specs.declared.fault.RunFault.TheVariants.{Line, Step as AtStep, NotText, Read, Memory, Write}
+
+-- the bytes are a script, and the writer took the printed scenes of a run of it
+pub record PrintsRun (bytes : List ℕ) (old new : Option (List ℕ)) : Type 0 where
+  pub stage : Option Stage
+  pub steps : List Step
+  pub shows : List ℕ
+  pub scenes : List Scene
+  pub text : IsUtf8 bytes
+  pub script : IsScript (text_lines bytes) stage steps shows
+  pub run : IfSome stage (λ s. IsRun s steps scenes)
+  pub written : Appends old new (printed shows scenes)
+
+-- the bytes are a script with a step that can't be played
+pub record HasStepFault (bytes : List ℕ) (fault : PlayFault) : Type 0 where
+  pub stage : Stage
+  pub steps : List Step
+  pub shows : List ℕ
+  pub text : IsUtf8 bytes
+  pub script : IsScript (text_lines bytes) (Some stage) steps shows
+  pub played : IsFault stage steps fault
+
+-- why nothing of these bytes was printed
+abbrev pub IsRunFault : List ℕ → RunFault → Type 0
+IsRunFault bytes (Line n) = IsFirstBadLine (text_lines bytes) n
+IsRunFault bytes (AtStep fault) = HasStepFault bytes fault
+IsRunFault bytes NotText = IsUtf8 bytes → ⊥
+IsRunFault bytes Read = Unit {0}
+IsRunFault bytes Memory = Unit {0}
+IsRunFault bytes Write = Unit {0}
+
+abbrev pub cause_text : PlayCause → List ℕ
+cause_text cause.Memory = codes "memory"
+cause_text (cause.Unsettled area) = codes "unsettled"
+
+-- the line for standard error
+abbrev pub fault_text : RunFault → List ℕ
+fault_text (Line n) = codes "line " ++ decimal n ++ codes ": bad command"
+fault_text (AtStep fault) = codes "step " ++ decimal fault.step ++ codes ": " ++ cause_text fault.cause
+fault_text NotText = codes "input: not text"
+fault_text Read = codes "input: read failed"
+fault_text Memory = codes "input: no memory"
+fault_text Write = []

@@ -1,0 +1,6 @@
+pub mod Script
+pub mod Puts
+pub mod Run
+pub mod Print
+pub mod Playing
+pub mod Engine

@@ -1,0 +1,46 @@
+//! Why a script isn't printed.
+
+use crate::scene::{PlayCause, PlayFault};
+use std::fmt;
+
+/// Why a script wasn't read, played or printed. With any but `Write`, nothing was written.
+#[derive(Debug, Drop)]
+pub enum RunFault {
+    /// The line of this number, counted from 1, is the first bad one.
+    Line(usize),
+    /// A step couldn't be played.
+    Step(PlayFault),
+    /// The bytes aren't UTF-8.
+    NotText,
+    /// The reader failed.
+    Read,
+    /// Memory was refused while the script was read or taken apart.
+    Memory,
+    /// The writer failed.
+    Write,
+}
+
+/// The line for standard error; for `Write` none.
+impl fmt::Display for RunFault {
+    ghost use Rattle.std.specs.Prelude.{Some};
+    ghost use Rattle.screenplay.specs.Engine.{fault_text};
+
+    ghost output = { λ fault. Some (fault_text fault) };
+
+    fn fmt<W: fmt::Write>(&self, f: &mut fmt::Formatter<W>) -> fmt::Result {
+        match self {
+            RunFault::Line(number) => write!(f, "line {number}: bad command"),
+            RunFault::Step(fault) => {
+                let step = fault.step;
+                match fault.cause {
+                    PlayCause::Memory => write!(f, "step {step}: memory"),
+                    PlayCause::Unsettled(_) => write!(f, "step {step}: unsettled"),
+                }
+            }
+            RunFault::NotText => f.write_str("input: not text"),
+            RunFault::Read => f.write_str("input: read failed"),
+            RunFault::Memory => f.write_str("input: no memory"),
+            RunFault::Write => Ok(()),
+        }
+    }
+}

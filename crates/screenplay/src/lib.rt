@@ -1,0 +1,19 @@
+//! A script of frames, played on a screen in memory.
+//!
+//! It stands on `rtui_terminal`, by its contract alone, and on the backend in memory. `specs/Script` is the
+//! grammar of a script, `specs/Run` says what a run of its steps is, `specs/Print` is the text of a scene, and
+//! `specs/Engine` joins them. [`play`] gives the scenes of a run; [`run`] reads a script from any reader and writes
+//! the scenes that it shows to any writer.
+#![tactic(auto)]
+
+mod engine;
+mod fault;
+mod playing;
+mod print;
+mod scene;
+mod script;
+
+pub use engine::run;
+pub use fault::RunFault;
+pub use playing::play;
+pub use scene::{PlayCause, PlayFault, Puts, Scene, Stage, Step};

@@ -1,0 +1,90 @@
+//! Printing the scenes of a script.
+
+ghost use Rattle.std.specs.Prelude.{codes, ◌<◌, ◌≡◌, OnOk, slice_get};
+ghost use Rattle.std.specs.List.{flat_map, range_with_len};
+ghost use Rattle.std.specs.Io.KnownBytes.{Appends};
+ghost use Rattle.screenplay.specs.Print.{row_text, printed_row, sheet_row, printed_scene, printed_if, printed};
+
+use crate::scene::Scene;
+use rtui_buffer::Buffer;
+use rtui_cell::{Cell, CellWidth};
+use std::io::{self, Write};
+
+// Writes the symbols of a row, without the columns behind a wide one.
+fn write_cells<W: Write>(writer: &mut W, cells: &[Cell]) -> io::Result<()>
+    ensures { OnOk result (Appends (W.contents writer.old) (W.contents writer.new) (row_text 0 cells.now)) }
+{
+    let mut behind = 0;
+    for cell in cells {
+        if behind > 0 {
+            behind -= 1;
+        } else {
+            writer.write_all(cell.symbol().as_bytes())?;
+            behind = cell.symbol().cell_width().saturating_sub(1);
+        }
+    }
+    Ok(())
+}
+
+fn write_row<W: Write>(writer: &mut W, mark: &str, cells: &[Cell]) -> io::Result<()>
+    ensures { OnOk result (Appends (W.contents writer.old) (W.contents writer.new) (printed_row mark.now cells.now)) }
+{
+    writer.write_all(mark.as_bytes())?;
+    write_cells(writer, cells)?;
+    writer.write_all(b"\n")
+}
+
+fn write_history<W: Write>(writer: &mut W, history: &[Vec<Cell>]) -> io::Result<()>
+    ensures { OnOk result (Appends (W.contents writer.old) (W.contents writer.new) (flat_map (λ row. printed_row (codes "^") row.items) history.now)) }
+{
+    for row in history {
+        write_row(writer, "^", row.as_slice())?;
+    }
+    Ok(())
+}
+
+// Row b of a screen, from the left.
+fn screen_row(screen: &Buffer, b: u16) -> &[Cell]
+    requires { b < screen.now.area.height }
+    ensures { result.now ≡ sheet_row screen.now b }
+{
+    let width = screen.area().width as usize;
+    let start = b as usize * width;
+    &screen.content()[start..start + width]
+}
+
+fn write_screen<W: Write>(writer: &mut W, screen: &Buffer) -> io::Result<()>
+    ensures { OnOk result (Appends (W.contents writer.old) (W.contents writer.new) (flat_map (λ b. printed_row (codes "|") (sheet_row screen.now b)) (range_with_len 0 screen.now.area.height))) }
+{
+    for b in 0..screen.area().height {
+        write_row(writer, "|", screen_row(screen, b))?;
+    }
+    Ok(())
+}
+
+fn write_scene<W: Write>(writer: &mut W, scene: &Scene) -> io::Result<()>
+    ensures { OnOk result (Appends (W.contents writer.old) (W.contents writer.new) (printed_scene scene.now)) }
+{
+    write_history(writer, scene.history.as_slice())?;
+    write_screen(writer, &scene.screen)
+}
+
+// Writes the scene behind this number of steps, if it is there.
+fn write_shown<W: Write>(writer: &mut W, steps: usize, scenes: &[Scene]) -> io::Result<()>
+    ensures { OnOk result (Appends (W.contents writer.old) (W.contents writer.new) (printed_if (slice_get scenes.now steps))) }
+{
+    match scenes.get(steps) {
+        Some(scene) => write_scene(writer, scene),
+        None => Ok(()),
+    }
+}
+
+/// Writes the scenes behind these numbers of steps, in order.
+pub fn write_scenes<W: Write>(writer: &mut W, shows: &[usize], scenes: &[Scene]) -> io::Result<()>
+    ensures { OnOk result (Appends (W.contents writer.old) (W.contents writer.new) (printed shows.now scenes.now)) }
+{
+    for steps in shows {
+        write_shown(writer, *steps, scenes)?;
+    }
+    Ok(())
+}

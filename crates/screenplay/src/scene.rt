@@ -1,0 +1,93 @@
+//! What a play takes and gives.
+
+ghost use Rattle.std.specs.Prelude.{◌≡◌, ◌++◌, ◌∷◌, [], OnOk, OnErr};
+
+use rtui_buffer::{Buffer, Cell};
+use rtui_geometry::Rect;
+use std::alloc::{AllocError, Global};
+use std::marker::Model;
+
+/// The screen that a script is played on, in columns and rows.
+#[derive(Debug, Clone, Copy, PartialEq, Eq, Hash)]
+pub struct Stage {
+    pub width: u16,
+    pub height: u16,
+}
+
+/// Characters to be set, in order: each with its column and its row of the screen.
+#[derive(Debug, Drop)]
+pub struct Puts {
+    items: Vec<(u16, u16, char)>,
+}
+
+impl Model for Puts {
+    ghost use Rattle.std.specs.Prelude.{List, ℕ};
+
+    ghost Value = { List (ℕ × ℕ × ℕ) };
+
+    ghost view = { λ p. p.items.items };
+}
+
+impl Puts {
+    /// No puts; it takes no memory.
+    pub fn new(alloc: Global) -> Puts
+        ensures { result ≡ [] }
+    {
+        Puts {
+            items: Vec::new(alloc),
+        }
+    }
+
+    /// One more put behind the others; where memory is refused nothing changes.
+    pub fn push(&mut self, x: u16, y: u16, ch: char) -> Result<(), AllocError>
+        ensures ok { OnOk result (self.new ≡ self.old ++ (x, y, ch) ∷ []) }
+        ensures err { OnErr result (self.new ≡ self.old) }
+    {
+        self.items.push((x, y, ch))?;
+        Ok(())
+    }
+
+    /// The puts, in order.
+    pub fn as_slice(&self) -> &[(u16, u16, char)]
+        ensures { result.now ≡ self.now }
+    {
+        self.items.as_slice()
+    }
+}
+
+/// One step of a script.
+#[derive(Debug, Drop)]
+pub enum Step {
+    /// A frame: an empty buffer over the viewport on which each put sets its symbol, in order; one outside
+    /// the viewport does nothing.
+    Draw { puts: Puts },
+}
+
+/// What a screen shows between two steps.
+#[derive(Debug, Drop)]
+pub struct Scene {
+    /// The rows that scrolled off, the oldest first.
+    pub history: Vec<Vec<Cell>>,
+    /// The screen, its corner at (0, 0).
+    pub screen: Buffer,
+    /// The viewport of the terminal on the screen.
+    pub viewport: Rect,
+}
+
+/// Why a play ended early.
+#[derive(Debug, Clone, Copy, PartialEq, Eq)]
+pub enum PlayCause {
+    /// Memory was refused.
+    Memory,
+    /// The frame over this area can't be shown as it is; nothing of it was written.
+    Unsettled(Rect),
+}
+
+/// A play that ended early: before the step of this number, counted from 1, was done, or at 0 before the start.
+#[derive(Debug, Drop)]
+pub struct PlayFault {
+    pub step: usize,
+    pub cause: PlayCause,
+    /// The scenes reached before, `step` of them.
+    pub scenes: Vec<Scene>,
+}
