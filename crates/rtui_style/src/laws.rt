@@ -13,8 +13,7 @@ use crate::{Color, Modifier, Style};
 pub fn modifiers_have_sixteen_bits(style: Style)
     ensures added { bits_of style.add_modifier < 2 ^ 16 }
     ensures taken { bits_of style.sub_modifier < 2 ^ 16 }
-{
-}
+{}
 
 /// Of three layers it doesn't matter which two are joined first.
 pub fn patch_is_associative(bottom: Style, middle: Style, top: Style)

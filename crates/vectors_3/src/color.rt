@@ -1,0 +1,134 @@
+//! Colours, printed and read.
+use rtui_style::{Color, ParseColorError};
+use std::test::Fail;
+
+/// Colours and the texts that they print.
+const PRINTED: [(Color, &str); 24] = [
+    (Color::Reset, "Reset"),
+    (Color::Black, "Black"),
+    (Color::Red, "Red"),
+    (Color::Green, "Green"),
+    (Color::Yellow, "Yellow"),
+    (Color::Blue, "Blue"),
+    (Color::Magenta, "Magenta"),
+    (Color::Cyan, "Cyan"),
+    (Color::Gray, "Gray"),
+    (Color::DarkGray, "DarkGray"),
+    (Color::LightRed, "LightRed"),
+    (Color::LightGreen, "LightGreen"),
+    (Color::LightYellow, "LightYellow"),
+    (Color::LightBlue, "LightBlue"),
+    (Color::LightMagenta, "LightMagenta"),
+    (Color::LightCyan, "LightCyan"),
+    (Color::White, "White"),
+    (Color::Rgb(17, 34, 51), "#112233"),
+    (Color::Rgb(0, 10, 255), "#000AFF"),
+    (Color::Rgb(160, 9, 16), "#A00910"),
+    (Color::Indexed(0), "0"),
+    (Color::Indexed(9), "9"),
+    (Color::Indexed(42), "42"),
+    (Color::Indexed(255), "255"),
+];
+
+/// Colours, and texts that are read as them, split by commas.
+const READ: [(Color, &str); 22] = [
+    (Color::Reset, "reset,Reset,R-e_s et"),
+    (Color::Black, "black,blac\u{212A},_BLACK_"),
+    (Color::Red, "red,Red, r ed"),
+    (Color::Green, "green,Green, g reen"),
+    (Color::Yellow, "yellow,Yellow, y ellow"),
+    (Color::Blue, "blue,Blue, b lue"),
+    (Color::Magenta, "magenta,Magenta, m agenta"),
+    (Color::Cyan, "cyan,Cyan, c yan"),
+    (Color::Gray, "gray,grey,silver"),
+    (
+        Color::DarkGray,
+        "darkgray,darkgrey,dark silver,lightblack,brightblack,Bright Black,DarkGray",
+    ),
+    (
+        Color::LightRed,
+        "lightred,brightred,light-red,__LIGHT  red--",
+    ),
+    (
+        Color::LightGreen,
+        "lightgreen,brightgreen,light-green,__LIGHT  green--",
+    ),
+    (
+        Color::LightYellow,
+        "lightyellow,brightyellow,light-yellow,__LIGHT  yellow--",
+    ),
+    (
+        Color::LightBlue,
+        "lightblue,brightblue,light-blue,__LIGHT  blue--",
+    ),
+    (
+        Color::LightMagenta,
+        "lightmagenta,brightmagenta,light-magenta,__LIGHT  magenta--",
+    ),
+    (
+        Color::LightCyan,
+        "lightcyan,brightcyan,light-cyan,__LIGHT  cyan--",
+    ),
+    (
+        Color::White,
+        "white,lightwhite,brightwhite,lightgray,lightgrey,lightsilver,bright gray,bright-grey,bright_silver",
+    ),
+    (Color::Indexed(7), "7,+7,+007"),
+    (Color::Indexed(255), "255,00000000000255"),
+    (Color::Rgb(1, 2, 3), "#+1+2+3,#010203"),
+    (Color::Rgb(255, 0, 171), "#FF00AB,#ff00aB"),
+    (Color::Rgb(15, 15, 16), "#+f+F10"),
+];
+
+/// Texts that are no colours.
+const REFUSED: &str =
+    "256,-1, 7,7 ,+,++7,_- ,#12345,#1234567,#abcdef00,#1++2+3,#-1-2-3,#12 345,#1\u{1F980}2,abcdef0, bcdefa,112233,#gg0000,invalid_color,resets,lightblackk,light,bright,light light red,darkred,lightdarkgray,gr\u{E9}y";
+
+#[test]
+fn prints(rt: HostRuntime) -> Result<(), Fail> {
+    for (color, text) in PRINTED {
+        let printed = color.to_string(rt.alloc())?;
+        assert_eq!(rt; printed.as_str(), text);
+    }
+    Ok(())
+}
+
+#[test]
+fn reads(rt: HostRuntime) {
+    for (color, texts) in READ {
+        for text in texts.split(',') {
+            assert_eq!(rt; text.parse::<Color>(), Ok(color), "{text}");
+        }
+    }
+    for text in REFUSED.split(',') {
+        assert_eq!(rt; text.parse::<Color>(), Err(ParseColorError), "{text}");
+    }
+}
+
+#[test]
+fn refusal_has_its_text(rt: HostRuntime) -> Result<(), Fail> {
+    assert_eq!(rt; "".parse::<Color>(), Err(ParseColorError));
+    let printed = ParseColorError.to_string(rt.alloc())?;
+    assert_eq!(rt; printed.as_str(), "Failed to parse Colors");
+    Ok(())
+}
+
+#[test]
+fn numbers_and_bytes(rt: HostRuntime) {
+    for (number, expected) in [
+        (0, Color::Rgb(0, 0, 0)),
+        (0xff0000, Color::Rgb(255, 0, 0)),
+        (0x00ff00, Color::Rgb(0, 255, 0)),
+        (0x0000ff, Color::Rgb(0, 0, 255)),
+        (0xffffff, Color::Rgb(255, 255, 255)),
+        (0xff112233, Color::Rgb(17, 34, 51)),
+    ] {
+        assert_eq!(rt; Color::from_u32(number), expected);
+    }
+    let expected = Color::Rgb(10, 20, 30);
+    assert_eq!(rt; Color::from([10, 20, 30]), expected);
+    assert_eq!(rt; Color::from((10, 20, 30)), expected);
+    assert_eq!(rt; Color::from([10, 20, 30, 255]), expected);
+    assert_eq!(rt; Color::from((10, 20, 30, 255)), expected);
+    assert_eq!(rt; Color::default(), Color::Reset);
+}

@@ -1,0 +1,13 @@
+//! Tests of styles, colours, palettes and symbol tables: worked values, printed text, and each call once.
+#![tactic(auto)]
+
+#[cfg(test)]
+mod color;
+#[cfg(test)]
+mod palette;
+#[cfg(test)]
+mod style;
+#[cfg(test)]
+mod stylize;
+#[cfg(test)]
+mod symbols;
