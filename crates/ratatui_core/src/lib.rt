@@ -17,7 +17,7 @@ pub mod buffer {
 pub mod layout {
     pub use rtui_geometry::{Columns, Margin, Offset, Position, Positions, Rect, Rows, Size};
     pub use rtui_layout::{
-        Alignment, Constraint, Direction, Flex, HorizontalAlignment, Layout, Spacing,
+        Alignment, Constraint, Direction, Flex, HorizontalAlignment, Layout, ParseError, Spacing,
         VerticalAlignment,
     };
 }
@@ -25,10 +25,21 @@ pub mod layout {
 /// Colours, modifiers and styles.
 pub mod style {
     pub use rtui_style::{Color, Modifier, ParseColorError, Style};
+    pub use rtui_stylize::{Styled, Stylize};
+
+    /// Colours by name.
+    pub mod palette {
+        pub use rtui_palette::{material, tailwind};
+    }
 }
 
 /// Symbols, and how they are joined.
 pub mod symbols {
+    pub use rtui_symbols::marker::{DOT, Marker};
+    pub use rtui_symbols::{
+        bar, block, border, braille, half_block, line, marker, pixel, scrollbar, shade,
+    };
+
     /// Joining the symbols of borders.
     pub mod merge {
         pub use rtui_merge::MergeStrategy;
@@ -38,4 +49,9 @@ pub mod symbols {
 /// Terminals, and the frames that are drawn on them.
 pub mod terminal {
     pub use rtui_terminal::{CompletedFrame, Frame, Terminal, TerminalError};
+}
+
+/// Texts in styles.
+pub mod text {
+    pub use rtui_text::{Line, Span, Spans, text_columns};
 }

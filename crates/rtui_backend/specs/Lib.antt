@@ -2,3 +2,6 @@ pub mod Screen
 pub mod Count
 pub mod Looks
 pub mod Memory
+pub mod Texts
+pub mod Lines
+pub mod Walk

@@ -1,9 +1,12 @@
 -- What a `TestBackend` stands for.
-use Rattle.std.specs.Prelude.{◌≡◌, ℕ, Option, map}
+use Rattle.std.specs.Prelude.{◌≡◌, ◌↔◌, ℕ, ◌-◌, ◌==◌, if◌then◌else◌, map, Option, Some, None, Result, Err, MatchResult, OnErr}
 use Rattle.rtui_cell.specs.Look.{look_of}
+use Rattle.rtui_buffer.specs.Sheet.{Sheet}
 use Rattle.rtui_backend.specs.Screen.{Screen}
 use Rattle.rtui_backend.specs.Looks.{grid_of}
 use Rattle.rtui_backend.specs.declared.test.TestBackend.{TestBackend}
+use Rattle.rtui_backend.specs.declared.test.TestError.{TestError}
+use Rattle.rtui_backend.specs.declared.test.TestError.TheVariants.{Told}
 
 -- its screen
 abbrev pub screen_of : TestBackend → Screen
@@ -18,6 +21,10 @@ screen_of b = record {
   written = b.written;
 }
 
+-- its screen as a buffer
+abbrev pub sheet_of : TestBackend → Sheet
+sheet_of b = b.buffer
+
 -- how many calls it failed
 abbrev pub failures_of : TestBackend → ℕ
 failures_of b = b.failures
@@ -25,6 +32,18 @@ failures_of b = b.failures
 -- how many calls answer as usual before one fails, if one is to
 abbrev pub told_after : TestBackend → Option ℕ
 told_after b = b.fail_after
+
+-- the same after one more call: none is to fail once one did
+abbrev pub one_call_less : Option ℕ → Option ℕ
+one_call_less None = None
+one_call_less (Some calls) = if calls == 0 then None else Some (calls - 1)
+
+-- a call that takes no memory is refused exactly where it was told to, the screen stays then, and one call less is left
+pub record TakesTurn {T : Type 0} (result : Result T TestError) (old new : TestBackend) : Type 0 where
+  pub told : (result ≡ Err Told) ↔ (told_after old ≡ Some 0)
+  pub only : MatchResult result (λ _. Unit {0}) (λ error. error ≡ Told)
+  pub refused : OnErr result (screen_of new ≡ screen_of old)
+  pub left : told_after new ≡ one_call_less (told_after old)
 
 -- the same screen and count
 pub record IsSameBackend (old new : TestBackend) : Type 0 where

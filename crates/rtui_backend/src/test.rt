@@ -1,14 +1,15 @@
 //! A backend in memory.
 
-ghost use Rattle.std.specs.Prelude.{◌≡◌, ◌↔◌, ℕ, ◌+◌, ◌-◌, ◌*◌, ◌^◌, ◌<◌, ◌≤◌, ◌==◌, ◌&&◌, true, nat_lt, if◌then◌else◌, List, [], ◌∷◌, map, length, IsTrue, IfOk, OnOk};
+ghost use Rattle.std.specs.Prelude.{◌≡◌, ◌↔◌, ℕ, ◌+◌, ◌-◌, ◌*◌, ◌^◌, ◌<◌, ◌≤◌, ◌==◌, ◌&&◌, true, nat_lt, if◌then◌else◌, List, [], ◌∷◌, map, length, Some, IfOk, OnOk};
 ghost use Rattle.std.specs.Iterator.{IsFinite, Drains};
 ghost use Rattle.rtui_cell.specs.Look.{look_of, empty_look};
 ghost use Rattle.rtui_cell.specs.Cell.{width_of};
 ghost use Rattle.rtui_cell.specs.Grid.{put, update_by};
 ghost use Rattle.rtui_buffer.specs.Sheet.{IsEmptied};
 ghost use Rattle.rtui_backend.specs.Screen.{Draws};
-ghost use Rattle.rtui_backend.specs.Looks.{look_at, grid_of};
+ghost use Rattle.rtui_backend.specs.Looks.{look_at, grid_of, IsPlain, ArePlain};
 ghost use Rattle.rtui_backend.specs.Count.{Counts};
+ghost use Rattle.rtui_backend.specs.Texts.{error_text};
 
 use crate::backend::{AsCell, Backend, WindowSize};
 use rtui_buffer::{Buffer, Cell, CellDiffOption, CellWidth};
@@ -16,6 +17,8 @@ use rtui_geometry::{Position, Rect, Size};
 use std::alloc::{AllocError, Global};
 use std::error::Error;
 use std::fmt;
+
+mod lines;
 
 /// Why a call of a `TestBackend` failed.
 #[derive(Clone, Copy, Debug, PartialEq, Eq, Hash)]
@@ -27,6 +30,8 @@ pub enum TestError {
 }
 
 impl fmt::Display for TestError {
+    ghost output = { λ error. Some (error_text error) };
+
     fn fmt<W: fmt::Write>(&self, f: &mut fmt::Formatter<W>) -> fmt::Result {
         f.write_str(match self {
             TestError::Memory => "no memory",
@@ -40,7 +45,8 @@ impl Error for TestError {}
 // A cell of the same look, without option and flag.
 #[tactic(auto, unfolding(rtui_cell::specs::Look::look_of))]
 fn shown(alloc: Global, cell: &Cell) -> Result<Cell, AllocError>
-    ensures { IfOk result (λ copy. look_of copy ≡ look_of cell.now) }
+    ensures look { IfOk result (λ copy. look_of copy ≡ look_of cell.now) }
+    ensures plain { IfOk result IsPlain }
 {
     let mut copy = cell.clone(alloc)?;
     copy.diff_option = CellDiffOption::None;
@@ -53,7 +59,8 @@ fn shown(alloc: Global, cell: &Cell) -> Result<Cell, AllocError>
 fn place(cells: &mut [Cell], at: usize, end: usize, cell: Cell)
     requires at_in { at < end }
     requires end_in { end ≤ length cells.old }
-    ensures { (k : ℕ) → look_at cells.new k ≡ (if k == at then look_of cell else (if nat_lt at k && nat_lt k end then empty_look else look_at cells.old k)) }
+    ensures plain { IsPlain cell → ArePlain cells.old → ArePlain cells.new }
+    ensures looks { (k : ℕ) → look_at cells.new k ≡ (if k == at then look_of cell else (if nat_lt at k && nat_lt k end then empty_look else look_at cells.old k)) }
 {
     cells[at] = cell;
     for k in at + 1..end {
@@ -65,7 +72,8 @@ fn place(cells: &mut [Cell], at: usize, end: usize, cell: Cell)
 fn put_cell(cells: &mut [Cell], size: Size, x: u16, y: u16, cell: &Cell, shown: Cell)
     requires covers { length cells.old ≡ size.width * size.height }
     requires look { look_of shown ≡ look_of cell.now }
-    ensures { (a b : ℕ) → grid_of size.width cells.new a b ≡ put size.width size.height (record { x = x; y = y; cell = cell.now }) (grid_of size.width cells.old) a b }
+    ensures plain { IsPlain shown → ArePlain cells.old → ArePlain cells.new }
+    ensures grid { (a b : ℕ) → grid_of size.width cells.new a b ≡ put size.width size.height (record { x = x; y = y; cell = cell.now }) (grid_of size.width cells.old) a b }
 {
     if x >= size.width || y >= size.height {
         return;
@@ -94,13 +102,14 @@ pub struct TestBackend {
     ghost corner_y: { buffer.area.y ≡ 0 },
     ghost column: { cursor.x ≤ buffer.area.width - 1 },
     ghost row: { cursor.y ≤ buffer.area.height - 1 },
+    ghost plain: { ArePlain buffer.cells },
 }
 
 impl TestBackend {
-    ghost use Rattle.std.specs.Prelude.{Option, None, Some, OnErr, MatchOption};
+    ghost use Rattle.std.specs.Prelude.{None};
     ghost use Rattle.rtui_cell.specs.declared.cell.Cell.{Cell};
     ghost use Rattle.rtui_backend.specs.Screen.{IsBlankScreen, cursor_of};
-    ghost use Rattle.rtui_backend.specs.Memory.{screen_of, failures_of, told_after, IsSameBackend};
+    ghost use Rattle.rtui_backend.specs.Memory.{screen_of, sheet_of, failures_of, told_after, TakesTurn, IsSameBackend};
 
     /// A blank screen of this size in columns and rows, its cursor visible in the corner; refused where memory
     /// is.
@@ -125,8 +134,17 @@ impl TestBackend {
     pub fn buffer(&self) -> &Buffer
         ensures area { result.now.area ≡ record { x = 0; y = 0; width = (screen_of self.now).width; height = (screen_of self.now).height } }
         ensures shown { (a b : ℕ) → grid_of result.now.area.width result.now.cells a b ≡ (screen_of self.now).grid a b }
+        ensures value { result.now ≡ sheet_of self.now }
+        ensures plain { ArePlain result.now.cells }
     {
         &self.buffer
+    }
+
+    /// Whether the screen, as a buffer with its corner at (0, 0), equals this one.
+    pub fn buffer_is(&self, buffer: &Buffer) -> bool
+        ensures { result ≡ ⟦<Buffer as PartialEq>⟧.eq (sheet_of self.now) buffer.now }
+    {
+        self.buffer == *buffer
     }
 
     /// Whether the cursor is visible.
@@ -163,9 +181,8 @@ impl TestBackend {
     // The start of each call: fails where this is the one that was told to.
     fn begin(&mut self) -> Result<(), TestError>
         ensures ok { OnOk result (IsSameBackend self.old self.new) }
-        ensures err { OnErr result (screen_of self.new ≡ screen_of self.old) }
         ensures counts { Counts result (failures_of self.old) (failures_of self.new) }
-        ensures told { (result ≡ Err TestError.Told) ↔ (told_after self.old ≡ Some 0) }
+        ensures turn { TakesTurn result self.old self.new }
     {
         match self.fail_after {
             None => Ok(()),
@@ -195,6 +212,7 @@ impl TestBackend {
     fn put(&mut self, x: u16, y: u16, cell: &Cell) -> Result<(), AllocError>
         ensures ok { OnOk result (Draws (screen_of self.old) (record { x = x; y = y; cell = cell.now } ∷ []) (screen_of self.new)) }
         ensures failures { failures_of self.new ≡ failures_of self.old }
+        ensures told { told_after self.new ≡ told_after self.old }
     {
         let copy = shown(self.alloc, cell)?;
         let area = *self.buffer.area();
@@ -212,6 +230,7 @@ impl TestBackend {
         requires finite { IsFinite (I.remaining content) }
         ensures ok { OnOk result ((items : List (ℕ × ℕ × C)) × Drains I.next_gives content items × Draws (screen_of self.old) (map (update_by C.cell) items) (screen_of self.new)) }
         ensures failures { failures_of self.new ≡ failures_of self.old }
+        ensures told { told_after self.new ≡ told_after self.old }
     {
         for (x, y, cell) in content {
             self.put(x, y, cell.as_cell())?;
@@ -221,7 +240,10 @@ impl TestBackend {
 }
 
 impl Backend for TestBackend {
-    ghost use Rattle.rtui_backend.specs.Memory.{screen_of, failures_of};
+    ghost use Rattle.std.specs.Prelude.{true, false};
+    ghost use Rattle.rtui_geometry.specs.declared.size.Size.{Size};
+    ghost use Rattle.rtui_backend.specs.Screen.{IsOnGrid, with_visible, with_cursor, cursor_of, size_of};
+    ghost use Rattle.rtui_backend.specs.Memory.{screen_of, failures_of, told_after, one_call_less, TakesTurn};
 
     type Error = TestError;
 
@@ -232,7 +254,15 @@ impl Backend for TestBackend {
     fn draw<C: AsCell, I: Iterator<Item = (u16, u16, C)>>(
         &mut self,
         content: I,
-    ) -> Result<(), TestError> {
+    ) -> Result<(), TestError>
+        requires can { I.can_next content }
+        requires finite { IsFinite (I.remaining content) }
+        ensures ok { OnOk result ((items : List (ℕ × ℕ × C)) × Drains I.next_gives content items × Draws (screen_of self.old) (map (update_by C.cell) items) (screen_of self.new)) }
+        ensures counts { Counts result (failures_of self.old) (failures_of self.new) }
+        ensures told { (result ≡ Err TestError.Told) ↔ (told_after self.old ≡ Some 0) }
+        ensures unchanged { result ≡ Err TestError.Told → screen_of self.new ≡ screen_of self.old }
+        ensures left { told_after self.new ≡ one_call_less (told_after self.old) }
+    {
         self.begin()?;
         match self.put_all(content) {
             Ok(()) => Ok(()),
@@ -240,25 +270,43 @@ impl Backend for TestBackend {
         }
     }
 
-    fn hide_cursor(&mut self) -> Result<(), TestError> {
+    fn hide_cursor(&mut self) -> Result<(), TestError>
+        ensures ok { OnOk result (screen_of self.new ≡ with_visible false (screen_of self.old)) }
+        ensures counts { Counts result (failures_of self.old) (failures_of self.new) }
+        ensures turn { TakesTurn result self.old self.new }
+    {
         self.begin()?;
         self.visible = false;
         Ok(())
     }
 
-    fn show_cursor(&mut self) -> Result<(), TestError> {
+    fn show_cursor(&mut self) -> Result<(), TestError>
+        ensures ok { OnOk result (screen_of self.new ≡ with_visible true (screen_of self.old)) }
+        ensures counts { Counts result (failures_of self.old) (failures_of self.new) }
+        ensures turn { TakesTurn result self.old self.new }
+    {
         self.begin()?;
         self.visible = true;
         Ok(())
     }
 
-    fn get_cursor_position(&mut self) -> Result<Position, TestError> {
+    fn get_cursor_position(&mut self) -> Result<Position, TestError>
+        ensures ok { IfOk result (λ position. position ≡ cursor_of (screen_of self.old)) }
+        ensures on_grid { OnOk result (IsOnGrid (screen_of self.old)) }
+        ensures stays { OnOk result (screen_of self.new ≡ screen_of self.old) }
+        ensures counts { Counts result (failures_of self.old) (failures_of self.new) }
+        ensures turn { TakesTurn result self.old self.new }
+    {
         self.begin()?;
         let _area = self.buffer.area();
         Ok(self.cursor)
     }
 
-    fn set_cursor_position(&mut self, position: Position) -> Result<(), TestError> {
+    fn set_cursor_position(&mut self, position: Position) -> Result<(), TestError>
+        ensures ok { OnOk result (screen_of self.new ≡ with_cursor position.x position.y (screen_of self.old)) }
+        ensures counts { Counts result (failures_of self.old) (failures_of self.new) }
+        ensures turn { TakesTurn result self.old self.new }
+    {
         self.begin()?;
         let area = *self.buffer.area();
         self.cursor = Position {
@@ -268,12 +316,23 @@ impl Backend for TestBackend {
         Ok(())
     }
 
-    fn size(&mut self) -> Result<Size, TestError> {
+    fn size(&mut self) -> Result<Size, TestError>
+        ensures ok { IfOk result (λ size. size ≡ size_of (screen_of self.old)) }
+        ensures stays { OnOk result (screen_of self.new ≡ screen_of self.old) }
+        ensures counts { Counts result (failures_of self.old) (failures_of self.new) }
+        ensures turn { TakesTurn result self.old self.new }
+    {
         self.begin()?;
         Ok(self.buffer.area().as_size())
     }
 
-    fn window_size(&mut self) -> Result<WindowSize, TestError> {
+    fn window_size(&mut self) -> Result<WindowSize, TestError>
+        ensures ok { IfOk result (λ window. window.columns_rows ≡ size_of (screen_of self.old)) }
+        ensures pixels { IfOk result (λ window. window.pixels ≡ record { width = 0; height = 0 }) }
+        ensures stays { OnOk result (screen_of self.new ≡ screen_of self.old) }
+        ensures counts { Counts result (failures_of self.old) (failures_of self.new) }
+        ensures turn { TakesTurn result self.old self.new }
+    {
         self.begin()?;
         Ok(WindowSize {
             columns_rows: self.buffer.area().as_size(),
@@ -281,7 +340,11 @@ impl Backend for TestBackend {
         })
     }
 
-    fn flush(&mut self) -> Result<(), TestError> {
+    fn flush(&mut self) -> Result<(), TestError>
+        ensures ok { OnOk result (screen_of self.new ≡ screen_of self.old) }
+        ensures counts { Counts result (failures_of self.old) (failures_of self.new) }
+        ensures turn { TakesTurn result self.old self.new }
+    {
         self.begin()
     }
 }

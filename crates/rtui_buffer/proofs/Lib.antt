@@ -1,2 +1,10 @@
 pub mod FrameLemmas
 pub mod EmptyLemmas
+pub mod PaintLemmas
+pub mod PaintedLemmas
+pub mod SettledLemmas
+pub mod TextLemmas
+pub mod StyleLemmas
+pub mod LineLemmas
+pub mod RowLemmas
+pub mod OverlayLemmas

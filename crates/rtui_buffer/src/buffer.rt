@@ -18,8 +18,12 @@ use std::alloc::{AllocError, Global};
 use std::marker::Model;
 
 mod index;
+mod lines;
+mod overlay;
+mod painting;
 mod sized;
 
+pub use painting::painted_width;
 use sized::{copied, copies, cut_or_fill, empty_all};
 
 /// A grid of cells over an area of a screen, row by row. There are always as many cells as the area has, and

@@ -1,12 +1,14 @@
 //! A grid of cells over an area of a screen.
 //!
-//! It stands on `rtui_geometry`, `rtui_cell` and `rtui_diff`, and passes cells and the diff on. A buffer is seen
-//! as its area and its cells, row by row (`specs/Sheet`); `specs/Frame` says when a screen can show it. For the
-//! layer above, `Buffer::diff_iter` gives the updates between two buffers and says that they replay.
+//! It stands on `rtui_geometry`, `rtui_text`, `rtui_cell` and `rtui_diff`, and passes cells and the diff on. A
+//! buffer is seen as its area and its cells, row by row (`specs/Sheet`); `specs/Frame` says when a screen can show
+//! it, and `specs/Painting`, `specs/Text` and `specs/Line` what painting a text and a line does to it. For the layer
+//! above, `Buffer::diff_iter` gives the updates between two buffers and says that they replay, and painting on an
+//! empty buffer says that a screen can show it.
 #![tactic(auto)]
 
 mod buffer;
 
-pub use buffer::Buffer;
+pub use buffer::{Buffer, painted_width};
 pub use rtui_cell::{Cell, CellDiffOption, CellWidth};
 pub use rtui_diff::BufferDiff;

@@ -1,5 +1,7 @@
 -- What a symbol reads as. A text is the list of its bytes.
 use Rattle.std.specs.Prelude.{ℕ, List, [], ◌∷◌, ◌++◌, Option, Some, None}
+use Rattle.rtui_merge.specs.Merge.{merged}
+use Rattle.rtui_merge.specs.declared.MergeStrategy.{MergeStrategy}
 
 -- one blank
 abbrev pub blank : List ℕ
@@ -14,3 +16,8 @@ symbol_text (Some text) = text
 abbrev pub appended : Option (List ℕ) → List ℕ → List ℕ
 appended None text = text
 appended (Some stored) text = stored ++ text
+
+-- a text drawn over a stored symbol by a strategy, or in place of an unset one
+abbrev pub joined : MergeStrategy → Option (List ℕ) → List ℕ → List ℕ
+joined strategy None text = text
+joined strategy (Some stored) text = merged strategy stored text

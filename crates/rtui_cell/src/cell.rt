@@ -1,9 +1,10 @@
 ghost use Rattle.std.specs.Prelude.{◌≡◌, Some, OnOk, OnErr, IfOk, encode_utf8};
-ghost use Rattle.rtui_cell.specs.Symbol.{symbol_text, appended};
+ghost use Rattle.rtui_cell.specs.Symbol.{symbol_text, appended, joined};
 ghost use Rattle.rtui_cell.specs.Cell.{empty_cell, cell_of, styled, style_of, is_skipped};
 
 use crate::symbol::Symbol;
 use bitflags::Flags;
+use rtui_merge::MergeStrategy;
 use rtui_style::{Color, Modifier, Style};
 use std::alloc::{AllocError, Global};
 use std::num::NonZeroU16;
@@ -96,6 +97,20 @@ impl Cell {
         ensures err { OnErr result (self.new ≡ self.old) }
     {
         self.symbol.append(alloc, symbol)
+    }
+
+    /// Draws a text over the stored one by a strategy, or sets an unset one to it; where memory is refused the
+    /// cell is as it was.
+    pub fn merge_symbol(
+        &mut self,
+        alloc: Global,
+        symbol: &str,
+        strategy: MergeStrategy,
+    ) -> Result<(), AllocError>
+        ensures ok { OnOk result (self.new ≡ record self.old { symbol = Some (joined strategy self.old.symbol symbol.now) }) }
+        ensures err { OnErr result (self.new ≡ self.old) }
+    {
+        self.symbol.merge(alloc, symbol, strategy)
     }
 
     /// Sets the text to one character; where memory is refused the cell is as it was.

@@ -4,8 +4,9 @@ ghost use Rattle.std.specs.Cmp.Rules.{comparing, hashing};
 ghost use Rattle.std.specs.Cmp.Lexicographic.{pointwise};
 ghost use Rattle.std.specs.Ordering.{on};
 ghost use Rattle.std.proofs.Common.{rules};
-ghost use Rattle.rtui_cell.specs.Symbol.{symbol_text, appended};
+ghost use Rattle.rtui_cell.specs.Symbol.{symbol_text, appended, joined};
 
+use rtui_merge::MergeStrategy;
 use std::alloc::{AllocError, Global};
 use std::hash::{Hash, Hasher};
 use std::marker::Model;
@@ -61,6 +62,25 @@ impl Symbol {
             }
             Some(stored) => stored.push_str(text),
         }
+    }
+
+    /// Draws a text over the stored one by a strategy, or takes the place of an unset symbol; where memory is
+    /// refused nothing changes.
+    pub fn merge(
+        &mut self,
+        alloc: Global,
+        text: &str,
+        strategy: MergeStrategy,
+    ) -> Result<(), AllocError>
+        ensures ok { OnOk result (self.new ≡ Some (joined strategy self.old text.now)) }
+        ensures err { OnErr result (self.new ≡ self.old) }
+    {
+        let joined = match &self.text {
+            None => text,
+            Some(stored) => strategy.merge(stored.as_str(), text),
+        };
+        *self = Symbol::new(alloc, joined)?;
+        Ok(())
     }
 
     /// An equal symbol; refused where memory is.

@@ -31,6 +31,13 @@ IsBackendFault (Closure error) = ⊥
 abbrev pub FailsOnlyByBackend : {T E : Type 0} → Result T (TerminalError E) → Type 0
 FailsOnlyByBackend result = MatchResult result (λ _. Unit {0}) IsBackendFault
 
+-- a start is refused by the backend, whose count of failures had risen when it was dropped, or for want of memory
+abbrev pub StartErr : {B E : Type 0} → (B → ℕ) → B → TerminalError E → Type 0
+StartErr {B} failures b (Backend error) = (dropped : B) × (failures b < 2 ^ 64 - 1 → failures dropped ≡ failures b + 1)
+StartErr {B} failures b Memory = (dropped : B) × (failures dropped ≡ failures b)
+StartErr failures b Area = ⊥
+StartErr failures b (Closure error) = ⊥
+
 -- both buffers have the viewport's area
 pub record HasAreas {B : Type 0} (s : State B) : Type 0 where
   pub current : s.current.area ≡ s.viewport_area

@@ -3,3 +3,4 @@ pub mod InStep
 pub mod Frames
 pub mod Lending
 pub mod Calls
+pub mod Texts

@@ -5,6 +5,8 @@ use std::marker::Model;
 
 mod backend;
 mod buffers;
+mod compare;
+mod copies;
 mod cursor;
 pub mod error;
 pub mod frame;

@@ -1,6 +1,7 @@
 //! The backend in memory.
-use rtui_backend::{Backend, TestBackend, TestError};
-use rtui_cell::Cell;
+use crate::sheets::{put, row};
+use rtui_backend::{Backend, TestBackend, TestError, WindowSize};
+use rtui_cell::{Cell, CellDiffOption};
 use rtui_geometry::{Position, Size};
 use std::test::Fail;
 
@@ -50,16 +51,15 @@ fn keeps_the_cursor_on_the_screen(rt: HostRuntime) -> Result<(), Fail> {
             height: 2
         })
     );
-    match backend.window_size() {
-        Ok(window) => assert_eq!(rt;
-            window.columns_rows,
-            Size {
-                width: 3,
-                height: 2
-            }
-        ),
-        Err(_) => assert!(rt; false),
-    }
+    let columns_rows = Size {
+        width: 3,
+        height: 2,
+    };
+    let window = WindowSize {
+        columns_rows,
+        pixels: Size::ZERO,
+    };
+    assert_eq!(rt; backend.window_size(), Ok(window));
     Ok(())
 }
 
@@ -75,5 +75,80 @@ fn fails_when_told(rt: HostRuntime) -> Result<(), Fail> {
     assert_eq!(rt; told.as_str(), "told");
     let memory = TestError::Memory.to_string(rt.alloc())?;
     assert_eq!(rt; memory.as_str(), "no memory");
+    Ok(())
+}
+
+#[test]
+fn counts_each_call_of_the_trait(rt: HostRuntime) -> Result<(), Fail> {
+    for calls in 0..8 {
+        let mut backend = TestBackend::new(rt.alloc(), 3, 2)?;
+        backend.fail_after(calls);
+        let cell = Cell::new(rt.alloc(), "a")?;
+        let items = [(0, 0, &cell)];
+        let failed = [
+            backend.hide_cursor().is_err(),
+            backend.show_cursor().is_err(),
+            backend
+                .set_cursor_position(Position { x: 1, y: 1 })
+                .is_err(),
+            backend.get_cursor().is_err(),
+            backend.size().is_err(),
+            backend.window_size().is_err(),
+            backend.draw(items.into_iter()).is_err(),
+            backend.flush().is_err(),
+        ];
+        let told = failed.iter().position(|failed| *failed);
+        assert_eq!(rt; told, Some(calls as usize));
+        assert_eq!(rt; failed.iter().filter(|failed| **failed).count(), 1);
+    }
+    Ok(())
+}
+
+#[test]
+fn keeps_no_options(rt: HostRuntime) -> Result<(), Fail> {
+    let mut backend = TestBackend::new(rt.alloc(), 2, 1)?;
+    let mut cell = Cell::new(rt.alloc(), "a")?;
+    cell.diff_option = CellDiffOption::AlwaysUpdate;
+    cell.skip = true;
+    let items = [(1, 0, &cell)];
+    assert!(rt; backend.draw(items.into_iter()).is_ok());
+    for cell in backend.buffer().content() {
+        assert_eq!(rt; cell.diff_option, CellDiffOption::None);
+        assert!(rt; !cell.skip);
+    }
+    assert!(rt; shows(&backend, &[" ", "a"]));
+    Ok(())
+}
+
+#[test]
+fn compares_its_screen_with_a_buffer(rt: HostRuntime) -> Result<(), Fail> {
+    let mut backend = TestBackend::new(rt.alloc(), 4, 1)?;
+    let mut buffer = row(rt.alloc(), 4, &[])?;
+    assert!(rt; backend.buffer_is(&buffer));
+    let h = Cell::new(rt.alloc(), "h")?;
+    assert!(rt; backend.draw([(0, 0, &h)].into_iter()).is_ok());
+    assert!(rt; !backend.buffer_is(&buffer));
+    put(rt.alloc(), &mut buffer, 0, 0, &["h"])?;
+    assert!(rt; backend.buffer_is(&buffer));
+    buffer.move_to(Position { x: 1, y: 0 });
+    assert!(rt; !backend.buffer_is(&buffer));
+    Ok(())
+}
+
+#[test]
+fn compares_its_screen_with_lines(rt: HostRuntime) -> Result<(), Fail> {
+    let mut backend = TestBackend::new(rt.alloc(), 4, 2)?;
+    let (h, i) = (Cell::new(rt.alloc(), "h")?, Cell::new(rt.alloc(), "i")?);
+    assert!(rt; backend.draw([(0, 0, &h), (1, 0, &i)].into_iter()).is_ok());
+    assert!(rt; backend.lines_are(&["hi  ", "    "]));
+    assert!(rt; backend.lines_are(&["hi", "    "]));
+    assert!(rt; !backend.lines_are(&["hi  ", "   ."]));
+    assert!(rt; !backend.lines_are(&["    ", "hi  "]));
+    assert!(rt; !backend.lines_are(&["h\u{7}  ", "    "]));
+    assert!(rt; !backend.lines_are(&["hi  "]));
+    assert!(rt; !backend.lines_are(&["hi   ", "    "]));
+    let empty = TestBackend::new(rt.alloc(), 0, 0)?;
+    assert!(rt; empty.lines_are(&[]));
+    assert!(rt; !empty.lines_are(&[""]));
     Ok(())
 }

@@ -1,5 +1,6 @@
 //! Cells and the widths of their symbols.
 use rtui_cell::{Cell, CellDiffOption, CellWidth};
+use rtui_merge::MergeStrategy;
 use rtui_style::{Color, Modifier, Style};
 use std::hash::{BuildHasher, BuildHasherDefault, FoldHasher};
 use std::num::NonZeroU16;
@@ -45,6 +46,27 @@ fn symbols(rt: HostRuntime) -> Result<(), Fail> {
     let copy = cell.clone(rt.alloc())?;
     assert!(rt; copy == cell);
     assert_eq!(rt; Cell::from_char(rt.alloc(), 'x')?.symbol(), "x");
+    Ok(())
+}
+
+#[test]
+fn merged_symbols(rt: HostRuntime) -> Result<(), Fail> {
+    let mut unset = Cell::EMPTY;
+    unset.merge_symbol(rt.alloc(), "╠", MergeStrategy::Exact)?;
+    assert_eq!(rt; unset.symbol(), "╠");
+    let mut blank = Cell::new(rt.alloc(), " ")?;
+    blank.merge_symbol(rt.alloc(), "╠", MergeStrategy::Exact)?;
+    assert_eq!(rt; blank.symbol(), " ");
+    for (strategy, first, second, merged) in [
+        (MergeStrategy::Replace, "│", "━", "━"),
+        (MergeStrategy::Exact, "│", "━", "┿"),
+        (MergeStrategy::Fuzzy, "┘", "╭", "┼"),
+        (MergeStrategy::Fuzzy, "│", "a", "a"),
+    ] {
+        let mut cell = Cell::new(rt.alloc(), first)?;
+        cell.merge_symbol(rt.alloc(), second, strategy)?;
+        assert_eq!(rt; cell.symbol(), merged);
+    }
     Ok(())
 }
 

@@ -7,6 +7,8 @@ mod backend;
 #[cfg(test)]
 mod cell;
 #[cfg(test)]
+mod compared;
+#[cfg(test)]
 mod diff;
 #[cfg(test)]
 mod script;

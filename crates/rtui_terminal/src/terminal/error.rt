@@ -1,3 +1,5 @@
+ghost use Rattle.rtui_terminal.specs.Texts.{error_text};
+
 use std::error::Error;
 use std::fmt;
 
@@ -15,6 +17,8 @@ pub enum TerminalError<E> {
 }
 
 impl<E: fmt::Display> fmt::Display for TerminalError<E> {
+    ghost output = { error_text E.output };
+
     fn fmt<W: fmt::Write>(&self, f: &mut fmt::Formatter<W>) -> fmt::Result {
         match self {
             TerminalError::Backend(error) => write!(f, "backend: {error}"),

@@ -8,7 +8,7 @@ use rtui_geometry::{Position, Rect};
 
 /// What a closure paints on: the current buffer of a terminal, its area, and where the cursor is to be
 /// afterwards.
-#[derive(Debug, Drop)]
+#[derive(Debug, PartialEq, Eq, Hash, Drop)]
 pub struct Frame<'a> {
     pub(crate) cursor_position: Option<Position>,
     pub(crate) viewport_area: Rect,
@@ -63,8 +63,8 @@ impl Frame<'_> {
     }
 }
 
-/// What a draw that answered Ok painted.
-#[derive(Drop)]
+/// What a draw that answered Ok painted. Two are equal where their buffers, areas and counts are.
+#[derive(Debug, Drop)]
 pub struct CompletedFrame<'a, B: Backend> {
     pub(crate) terminal: &'a mut Terminal<B>,
     /// The area of the viewport.

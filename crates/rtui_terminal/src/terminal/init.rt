@@ -1,5 +1,5 @@
-ghost use Rattle.std.specs.Prelude.{◌≡◌, IfOk};
-ghost use Rattle.rtui_terminal.specs.Calls.{Starts};
+ghost use Rattle.std.specs.Prelude.{◌≡◌, IfOk, MatchResult};
+ghost use Rattle.rtui_terminal.specs.Calls.{Starts, StartErr};
 
 use crate::terminal::Terminal;
 use crate::terminal::error::TerminalError;
@@ -14,6 +14,7 @@ impl<B: Backend + Drop> Terminal<B> {
     pub fn new(alloc: Global, mut backend: B) -> Result<Self, TerminalError<B::Error>>
         ensures starts { IfOk result (Starts B.screen backend) }
         ensures count { IfOk result (λ t. B.failures t.backend ≡ B.failures backend) }
+        ensures refused { MatchResult result (λ _. Unit {0}) (StartErr B.failures backend) }
     {
         let size = match backend.size() {
             Ok(size) => size,

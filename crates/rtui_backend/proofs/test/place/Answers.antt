@@ -4,10 +4,20 @@ use Rattle.std.proofs.lemmas.Grind.{common_steps}
 use Rattle.rtui_cell.specs.Look.{look_of, empty_look}
 use Rattle.rtui_cell.proofs.CellLemmas.{look-empty}
 use Rattle.rtui_backend.proofs.LookLemmas.{look_at-set}
+use Rattle.rtui_backend.proofs.PlainLemmas.{plain-empty, ArePlain-set}
 use Rattle.rtui_backend.proofs.test.place.Goals as goal
 
+pub loop-k-init : goal.loop-k-init
+loop-k-init c = record {
+  plain = λ now before. ArePlain-set _ _ _ before now;
+  looks = λ j. rw (look_at-set c.args.cells.now c.args.at j c.args.cell (grind (arith, common_steps))) (grind (arith, nat_tests));
+}
+
 pub loop-k-preserved : goal.loop-k-preserved
-loop-k-preserved c = λ j.
-    let inside : c.loop-k.k < length c.loop-k.cells = grind (arith, common_steps) in
-    let blank : look_of c.reset.new.self ≡ empty_look = ap look_of c.reset.ensures ∙ look-empty in
-    rw (look_at-set c.loop-k.cells c.loop-k.k j c.reset.new.self inside, c.loop-k.invariant j, blank) (grind (arith, nat_tests))
+loop-k-preserved c = record {
+  plain = λ now before. ArePlain-set _ _ _ (c.loop-k.invariant.plain now before) (rw c.reset.ensures plain-empty);
+  looks = λ j.
+      let inside : c.loop-k.k < length c.loop-k.cells = grind (arith, common_steps) in
+      let blank : look_of c.reset.new.self ≡ empty_look = ap look_of c.reset.ensures ∙ look-empty in
+      rw (look_at-set c.loop-k.cells c.loop-k.k j c.reset.new.self inside, c.loop-k.invariant.looks j, blank) (grind (arith, nat_tests));
+}

@@ -9,6 +9,7 @@ loop-x-init g c = record {
   is_finite = search rules;
   drawn = Draws-none _;
   failures = refl;
+  told = refl;
 }
 
 pub loop-x-preserved : goal.loop-x-preserved
@@ -17,4 +18,5 @@ loop-x-preserved g c = record {
   is_finite = search rules;
   drawn = rw map-append (Draws-push c.loop-x.invariant.drawn (rw c.as_cell.ensures at c.in_ok-put.ensures.ok));
   failures = search rules;
+  told = search rules;
 }

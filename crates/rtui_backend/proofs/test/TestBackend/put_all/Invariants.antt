@@ -1,7 +1,7 @@
 use Rattle.std.proofs.Common.{◌≡◌, map}
 use Rattle.rtui_cell.specs.Grid.{update_by}
 use Rattle.rtui_backend.specs.Screen.{Draws}
-use Rattle.rtui_backend.specs.Memory.{screen_of, failures_of}
+use Rattle.rtui_backend.specs.Memory.{screen_of, failures_of, told_after}
 use Rattle.rtui_backend.proofs.test.TestBackend.put_all.Given as goal
 
 abbrev pub invariant-loop-x : goal.invariant-loop-x
@@ -10,4 +10,5 @@ invariant-loop-x g l = record {
   is_finite : (goal.iterator-loop-x g).is_finite l.x-iterator;
   drawn : Draws (screen_of l.initial.self) (map (update_by g.C.AsCell.cell) l.yielded) (screen_of l.self);
   failures : failures_of l.self ≡ failures_of l.initial.self;
+  told : told_after l.self ≡ told_after l.initial.self;
 }

@@ -16,3 +16,12 @@ returns-clause-starts g c =
       count = refl;
       in_step = starts _ _ _ c.in-Ok.ensures.stays over c.in-Ok-empty-2.ensures;
     }
+
+pub returns-in-Err-clause-refused : goal.returns-in-Err-clause-refused
+returns-in-Err-clause-refused g c = (_, c.in-Err.ensures.counts)
+
+pub returns-in-Err-empty-clause-refused : goal.returns-in-Err-empty-clause-refused
+returns-in-Err-empty-clause-refused g c = (_, c.in-Ok.ensures.counts)
+
+pub returns-in-Err-empty-2-clause-refused : goal.returns-in-Err-empty-2-clause-refused
+returns-in-Err-empty-2-clause-refused g c = (_, c.in-Ok.ensures.counts)

@@ -1,0 +1,25 @@
+use Rattle.std.proofs.Common.{ℕ, List, [], get_or, rules, arith, sym, ◌∙◌}
+use Rattle.std.proofs.lemmas.Grind.{common_steps}
+use Rattle.std.specs.Borrow.{Bor}
+use Rattle.std.specs.Str.Lines.{lines}
+use Rattle.rtui_text.specs.Texts.{raw_line}
+use Rattle.rtui_backend.specs.Lines.{symbols_in}
+use Rattle.rtui_backend.specs.Memory.{screen_of}
+use Rattle.rtui_backend.proofs.LineLemmas.{item-map, below-more}
+use Rattle.rtui_backend.proofs.RowLemmas.{row-tells, row-told}
+use Rattle.rtui_backend.proofs.test.TestBackend.lines_are.Goals as goal
+
+pub loop-y-preserved : goal.loop-y-preserved
+loop-y-preserved c =
+    let none : Bor (List ℕ) = record { ref_ptr = (0, 0); now = [] } in
+    let text : List ℕ = (get_or c.args.lines.now c.loop-y.y none).now in
+    let line = item-map (λ line. raw_line line.now) none c.args.lines.now c.loop-y.y in
+    let told = rw c.from-in-loop-y.ensures at (sym c.row_is.ensures ∙ c.if-not-row_is.false) in
+    below-more c.loop-y.y c.loop-y.invariant (rw line (row-tells _ (lines text) (symbols_in (screen_of c.args.self.now) c.loop-y.y) told))
+
+pub returns-then-not-row_is : goal.returns-then-not-row_is
+returns-then-not-row_is c =
+    let none : Bor (List ℕ) = record { ref_ptr = (0, 0); now = [] } in
+    let text : List ℕ = (get_or c.args.lines.now c.loop-y.y none).now in
+    let line = item-map (λ line. raw_line line.now) none c.args.lines.now c.loop-y.y in
+    (λ no. search rules, λ shows. sym c.if-not-row_is.true ∙ c.row_is.ensures ∙ rw c.from-in-loop-y.ensures (row-told _ (lines text) (symbols_in (screen_of c.args.self.now) c.loop-y.y) (rw line at (shows.rows c.loop-y.y (grind (arith, common_steps))))))

@@ -1,0 +1,129 @@
+-- How painting goes on, a piece at a time.
+use Rattle.std.proofs.Common.{◌≡◌, ◌≢◌, ℕ, suc, zero, ◌+◌, ◌-◌, ◌<◌, ◌≤◌, Bool, true, false, cond, List, [], ◌∷◌, set, refl, sym, ap, ◌∙◌, arith}
+use Rattle.std.proofs.lemmas.Bool.Decides.{nat_tests}
+use Rattle.std.proofs.lemmas.List.{get_or-set_other, length-set}
+use Rattle.std.proofs.lemmas.List.Sums.{sum_by-cons}
+use Rattle.rtui_style.specs.declared.Style.{Style}
+use Rattle.rtui_cell.specs.declared.cell.Cell.{Cell}
+use Rattle.rtui_cell.specs.Cell.{empty_cell}
+use Rattle.rtui_cell.specs.Width.{text_width}
+use Rattle.rtui_buffer.specs.Painting.{has_control, painted_width, is_painted, fitting, kept, Piece, piece_of, pieces, piece_width, columns, emptied, with_piece, painted, IsSameOutside}
+
+painted_width-cases : (g : List ℕ) (b : Bool) → has_control g ≡ b → 0 < painted_width g → painted_width g ≡ text_width g
+unfolding painted_width
+painted_width-cases g true e lt = absurd (let none : cond (has_control g) 0 (text_width g) ≡ 0 = rw e in omega arith)
+painted_width-cases g false e lt = rw e
+
+-- a grapheme that is painted takes its width
+pub painted_width-painted : (g : List ℕ) → 0 < painted_width g → painted_width g ≡ text_width g
+painted_width-painted g lt = painted_width-cases g (has_control g) refl lt
+
+pub kept-nil : (room : ℕ) → kept room [] ≡ []
+unfolding kept fitting
+kept-nil room = refl
+
+pub kept-skip : (room : ℕ) (g : List ℕ) (gs : List (List ℕ)) → painted_width g ≡ 0 → kept room (g ∷ gs) ≡ kept room gs
+unfolding kept
+kept-skip room g gs h = rw h
+
+pub kept-take : (room : ℕ) (g : List ℕ) (gs : List (List ℕ)) → 0 < painted_width g → text_width g ≤ room → kept room (g ∷ gs) ≡ g ∷ kept (room - text_width g) gs
+unfolding kept fitting
+kept-take room g gs h le = let p : is_painted g ≡ true = grind (arith, nat_tests) in rw p (grind (arith, nat_tests))
+
+pub kept-full : (room : ℕ) (g : List ℕ) (gs : List (List ℕ)) → 0 < painted_width g → room < text_width g → kept room (g ∷ gs) ≡ []
+unfolding kept fitting
+kept-full room g gs h lt = let p : is_painted g ≡ true = grind (arith, nat_tests) in rw p (grind (arith, nat_tests))
+
+pub painted-nil : (at : ℕ) (cells : List Cell) → painted at [] cells ≡ cells
+unfolding painted
+painted-nil at cells = refl
+
+pub painted-cons : (at : ℕ) (p : Piece) (ps : List Piece) (cells : List Cell) → painted at (p ∷ ps) cells ≡ painted (at + piece_width p) ps (with_piece at p cells)
+unfolding painted
+painted-cons at p ps cells = refl
+
+pub emptied-end : (at to : ℕ) (cells : List Cell) → to ≤ at → emptied at (to - at) cells ≡ cells
+unfolding emptied
+emptied-end at to cells le = let e : to - at ≡ 0 = omega arith in rw e
+
+pub emptied-more : (at to : ℕ) (cells : List Cell) → at < to → emptied at (to - at) cells ≡ emptied (at + 1) (to - (at + 1)) (set cells at empty_cell)
+unfolding emptied
+emptied-more at to cells lt = let e : to - at ≡ suc (to - (at + 1)) = omega arith in rw e
+
+pub IsSameOutside-refl : (from to : ℕ) (cells : List Cell) → IsSameOutside from to cells cells
+IsSameOutside-refl from to cells = record { count = refl; before = λ k h. refl; behind = λ k h. refl }
+
+pub IsSameOutside-set : (from to i : ℕ) (c : Cell) (old new : List Cell) → from ≤ i → i < to → IsSameOutside from to old new → IsSameOutside from to old (set new i c)
+IsSameOutside-set from to i c old new le lt h = record {
+  count = length-set new i c ∙ h.count;
+  before = λ k b. (let ne : k ≢ i = omega arith in get_or-set_other new i k c empty_cell ne) ∙ h.before k b;
+  behind = λ k b. (let ne : k ≢ i = omega arith in get_or-set_other new i k c empty_cell ne) ∙ h.behind k b;
+}
+
+pub IsSameOutside-wider : (from to to2 : ℕ) (old new : List Cell) → to ≤ to2 → IsSameOutside from to old new → IsSameOutside from to2 old new
+IsSameOutside-wider from to to2 old new le h = record {
+  count = h.count;
+  before = h.before;
+  behind = λ k b. h.behind k (omega arith);
+}
+
+pub IsSameOutside-then : (from mid to : ℕ) (a b c : List Cell) → from ≤ mid → mid ≤ to → IsSameOutside from mid a b → IsSameOutside mid to b c → IsSameOutside from to a c
+IsSameOutside-then from mid to a b c le le2 h g = record {
+  count = g.count ∙ h.count;
+  before = λ k lt. g.before k (omega arith) ∙ h.before k lt;
+  behind = λ k ge. g.behind k ge ∙ h.behind k (omega arith);
+}
+
+pub IsSameOutside-emptied : (from to at n : ℕ) (old new : List Cell) → from ≤ at → at + n ≤ to → IsSameOutside from to old new → IsSameOutside from to old (emptied at n new)
+unfolding emptied
+IsSameOutside-emptied from to at zero old new le lt h = h
+IsSameOutside-emptied from to at (suc n) old new le lt h =
+    IsSameOutside-emptied from to (at + 1) n old (set new at empty_cell) (omega arith) (omega arith) (IsSameOutside-set from to at empty_cell old new le (omega arith) h)
+
+pub IsSameOutside-put : (from at : ℕ) (p : Piece) (old new : List Cell) → from ≤ at → 0 < piece_width p → IsSameOutside from at old new → IsSameOutside from (at + piece_width p) old (with_piece at p new)
+unfolding with_piece
+IsSameOutside-put from at p old new le lt h =
+    IsSameOutside-emptied from (at + piece_width p) (at + 1) (piece_width p - 1) old _ (omega arith) (omega arith)
+    (IsSameOutside-set from (at + piece_width p) at _ old new le (omega arith) (IsSameOutside-wider from at (at + piece_width p) old new (omega arith) h))
+
+-- a turn of the loop paints the next grapheme
+pub painted-turn : (s : Style) (start used room width : ℕ) (left gs : List (List ℕ)) (g : List ℕ) (cells more whole : List Cell)
+    → left ≡ g ∷ gs → width ≡ painted_width g → 0 < width → width ≤ room - used → more ≡ with_piece (start + used) (piece_of s g) cells
+    → painted (start + used) (pieces s (kept (room - used) left)) cells ≡ whole
+    → painted (start + (used + width)) (pieces s (kept (room - (used + width)) gs)) more ≡ whole
+painted-turn s start used room width left gs g cells more whole is wide pos fits put h =
+    let p : 0 < painted_width g = omega arith in
+    let same = painted_width-painted g p in
+    let fits' : text_width g ≤ room - used = omega arith in
+    let rest : room - (used + width) ≡ room - used - text_width g = omega arith in
+    let place : start + (used + width) ≡ start + used + text_width g = omega arith in
+    rw (rest, place, put) (sym (painted-cons (start + used) (piece_of s g) (pieces s (kept (room - used - text_width g) gs)) cells)
+    ∙ ap (λ ks. painted (start + used) (pieces s ks) cells) (sym (kept-take (room - used) g gs p fits') ∙ ap (kept (room - used)) (sym is)) ∙ h)
+
+pub columns-turn : (s : Style) (used room width all : ℕ) (left gs : List (List ℕ)) (g : List ℕ)
+    → left ≡ g ∷ gs → width ≡ painted_width g → 0 < width → width ≤ room - used
+    → used + columns (pieces s (kept (room - used) left)) ≡ all
+    → used + width + columns (pieces s (kept (room - (used + width)) gs)) ≡ all
+columns-turn s used room width all left gs g is wide pos fits h =
+    let p : 0 < painted_width g = omega arith in
+    let same = painted_width-painted g p in
+    let fits' : text_width g ≤ room - used = omega arith in
+    let rest : room - (used + width) ≡ room - used - text_width g = omega arith in
+    let first : columns (pieces s (kept (room - used) left)) ≡ text_width g + columns (pieces s (kept (room - used - text_width g) gs)) =
+    ap (λ l. columns (pieces s (kept (room - used) l))) is ∙ ap (λ ks. columns (pieces s ks)) (kept-take (room - used) g gs p fits')
+    ∙ sum_by-cons piece_width (piece_of s g) (pieces s (kept (room - used - text_width g) gs)) in
+    rw rest (omega arith)
+
+-- and it leaves the rest alone
+pub outside-turn : (s : Style) (start used width : ℕ) (g : List ℕ) (old cells more : List Cell)
+    → width ≡ painted_width g → 0 < width → more ≡ with_piece (start + used) (piece_of s g) cells
+    → IsSameOutside start (start + used) old cells → IsSameOutside start (start + (used + width)) old more
+outside-turn s start used width g old cells more wide pos put h =
+    let p : 0 < painted_width g = omega arith in
+    let same = painted_width-painted g p in
+    let place : start + (used + width) ≡ start + used + text_width g = omega arith in
+    rw (place, put) (IsSameOutside-put start (start + used) (piece_of s g) old cells (omega arith) (omega arith) h)
+
+pub ruleset empty_steps = (emptied-end, emptied-more)
+
+pub ruleset paint_steps = (painted_width-painted, kept-nil, kept-skip, kept-take, kept-full, painted-nil, painted-cons, IsSameOutside-refl, IsSameOutside-wider)

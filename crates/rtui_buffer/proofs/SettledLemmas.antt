@@ -1,0 +1,108 @@
+-- Painting on empty cells leaves settled ones.
+use Rattle.std.proofs.Common.{◌≡◌, ℕ, suc, ◌+◌, ◌-◌, ◌*◌, ◌%◌, ◌<◌, ◌≤◌, ⊎_elim, true, false, List, [], ◌∷◌, length, take, inl, refl, sym, ap, subst, ◌∙◌, arith}
+use Rattle.std.proofs.lemmas.Bool.{cases_lt}
+use Rattle.std.proofs.lemmas.Nat.{mod-mul-add}
+use Rattle.std.proofs.lemmas.List.Sums.{sum_by-cons}
+use Rattle.rtui_cell.specs.declared.cell.Cell.{Cell}
+use Rattle.rtui_cell.specs.Cell.{empty_cell, width_of, is_skipped}
+use Rattle.rtui_cell.specs.Equality.{is_same}
+use Rattle.rtui_cell.proofs.CellLemmas.{width-empty}
+use Rattle.rtui_diff.specs.Cells.{cell}
+use Rattle.rtui_diff.specs.Settled.{IsSettled, IsSettledAt}
+use Rattle.rtui_diff.proofs.FrameLemmas.{column_in}
+use Rattle.rtui_diff.proofs.SettledLemmas.{settled_from}
+use Rattle.rtui_buffer.specs.Painting.{Piece, piece_width, columns, shown, piece_at, place_of, IsPainted}
+
+same-empty : is_same empty_cell empty_cell ≡ true
+unfolding is_same
+same-empty = refl
+
+skipped-shown : (p : Piece) → is_skipped (shown p empty_cell) ≡ false
+unfolding is_skipped
+skipped-shown p = refl
+
+width-shown : (p : Piece) → width_of (shown p empty_cell) ≡ piece_width p
+unfolding width_of
+width-shown p = refl
+
+-- where a column of the pieces lies: in which of them, and how far in it
+record IsIn (ps : List Piece) (k : ℕ) : Type 0 where
+  piece : ℕ
+  column : ℕ
+  in_list : piece < length ps
+  in_piece : column < piece_width (piece_at ps piece)
+  place : columns (take piece ps) + column ≡ k
+  ends : columns (take piece ps) + piece_width (piece_at ps piece) ≤ columns ps
+
+is_in : (ps : List Piece) (k : ℕ) → k < columns ps → IsIn ps k
+is_in [] k lt = absurd (omega arith)
+is_in (p ∷ ps) k lt =
+    let sum : columns (p ∷ ps) ≡ piece_width p + columns ps = sum_by-cons piece_width p ps in
+    ⊎_elim
+    (λ (first : k < piece_width p). record { piece = 0; column = k; in_list = omega arith; in_piece = first; place = omega arith; ends = omega arith })
+    (λ (more : piece_width p ≤ k).
+    let r : IsIn ps (k - piece_width p) = is_in ps (k - piece_width p) (omega arith) in
+    let front : columns (take (suc r.piece) (p ∷ ps)) ≡ piece_width p + columns (take r.piece ps) = sum_by-cons piece_width p (take r.piece ps) in
+    let at = r.place in
+    let end = r.ends in
+    record { piece = suc r.piece; column = r.column; in_list = (let e = r.in_list in omega arith); in_piece = r.in_piece; place = omega arith; ends = omega arith })
+    (cases_lt k (piece_width p))
+
+settled_at-empty : (w h i : ℕ) (cells : List Cell) → i < w * h → cell cells i ≡ empty_cell → IsSettledAt w cells i
+settled_at-empty w h i cells lt e =
+    let one : width_of (cell cells i) ≡ 1 = ap width_of e ∙ width-empty in
+    let inside : i % w < w = column_in w h i lt in
+    record {
+      skipped = λ s. omega arith;
+      within = λ s. omega arith;
+      behind = λ s k more less. absurd (omega arith);
+    }
+
+pub IsSettled-empty : (w h : ℕ) (cells : List Cell) → ((i : ℕ) → cell cells i ≡ empty_cell) → IsSettled w h cells
+IsSettled-empty w h cells empty = settled_from w h cells (λ i lt. settled_at-empty w h i cells lt (empty i))
+
+module _ (w h x y : ℕ) (ps : List Piece) (old new : List Cell) (is : IsPainted (y * w + x) ps old new) (empty : (i : ℕ) → cell old i ≡ empty_cell) (fits : x + columns ps ≤ w) where
+  start-shown : (k : ℕ) → k < length ps → cell new (place_of (y * w + x) ps k) ≡ shown (piece_at ps k) empty_cell
+  start-shown k lt = is.starts k lt ∙ ap (shown (piece_at ps k)) (empty (place_of (y * w + x) ps k))
+
+  settled_at-start : (k : ℕ) → k < length ps → 0 < piece_width (piece_at ps k) → columns (take k ps) + piece_width (piece_at ps k) ≤ columns ps → IsSettledAt w new (place_of (y * w + x) ps k)
+  settled_at-start k lt pos ends =
+      let here = start-shown k lt in
+      let wide : width_of (cell new (place_of (y * w + x) ps k)) ≡ piece_width (piece_at ps k) = ap width_of here ∙ width-shown (piece_at ps k) in
+      let plain : is_skipped (cell new (place_of (y * w + x) ps k)) ≡ false = ap is_skipped here ∙ skipped-shown (piece_at ps k) in
+      let place : place_of (y * w + x) ps k ≡ y * w + (x + columns (take k ps)) = omega arith in
+      let column : place_of (y * w + x) ps k % w ≡ x + columns (take k ps) = ap (λ n. n % w) place ∙ mod-mul-add y w (x + columns (take k ps)) (omega arith) in
+      record {
+        skipped = λ s. absurd (let e : false ≡ true = sym plain ∙ s in cc);
+        within = λ s. omega arith;
+        behind = λ s j more less.
+            let e : place_of (y * w + x) ps k + (j - place_of (y * w + x) ps k) ≡ j = omega arith in
+            let blank : cell new j ≡ empty_cell = subst (λ n. cell new n ≡ empty_cell) e (is.behind k (j - place_of (y * w + x) ps k) lt (omega arith) (omega arith)) in
+            inl (ap (λ c. is_same c empty_cell) blank ∙ same-empty);
+      }
+
+  settled_at-inside : (i : ℕ) → i < w * h → IsIn ps (i - (y * w + x)) → y * w + x ≤ i → IsSettledAt w new i
+  settled_at-inside i lt r le =
+      let at = r.place in
+      let inside = r.in_piece in
+      let place : place_of (y * w + x) ps r.piece + r.column ≡ i = omega arith in
+      ⊎_elim
+      (λ (behind : 0 < r.column). settled_at-empty w h i new lt (subst (λ n. cell new n ≡ empty_cell) place (is.behind r.piece r.column r.in_list behind r.in_piece)))
+      (λ (first : r.column ≤ 0).
+      let here : place_of (y * w + x) ps r.piece ≡ i = omega arith in
+      subst (IsSettledAt w new) here (settled_at-start r.piece r.in_list (omega arith) r.ends))
+      (cases_lt 0 r.column)
+
+  settled_at-painted : (i : ℕ) → i < w * h → IsSettledAt w new i
+  settled_at-painted i lt =
+      ⊎_elim
+      (λ (before : i < y * w + x). settled_at-empty w h i new lt (is.outside.before i before ∙ empty i))
+      (λ (from : y * w + x ≤ i).
+      ⊎_elim
+      (λ (inside : i < y * w + x + columns ps). settled_at-inside i lt (is_in ps (i - (y * w + x)) (omega arith)) from)
+      (λ (behind : y * w + x + columns ps ≤ i). settled_at-empty w h i new lt (is.outside.behind i behind ∙ empty i))
+      (cases_lt i (y * w + x + columns ps)))
+      (cases_lt i (y * w + x))
+
+  pub IsSettled-painted : IsSettled w h new
+  IsSettled-painted = settled_from w h new settled_at-painted

@@ -1,0 +1,75 @@
+-- How a style is laid over cells, one after the other.
+use Rattle.std.proofs.Common.{◌≡◌, ◌≢◌, ℕ, suc, ◌+◌, ◌-◌, ◌*◌, ◌<◌, ◌≤◌, ⊎_elim, ◌&&◌, nat_le, nat_lt, if◌then◌else◌, List, length, set, refl, ap, subst, ◌∙◌, arith}
+use Rattle.std.proofs.lemmas.Bool.{cases_lt}
+use Rattle.std.proofs.lemmas.Bool.Decides.{nat_tests}
+use Rattle.std.proofs.lemmas.List.{get_or-set_other, get_or-set_same}
+use Rattle.rtui_style.specs.declared.Style.{Style}
+use Rattle.rtui_cell.specs.declared.cell.Cell.{Cell}
+use Rattle.rtui_cell.specs.Cell.{empty_cell, styled}
+use Rattle.rtui_diff.specs.Cells.{cell, cell_at}
+use Rattle.rtui_buffer.specs.Text.{IsStyledPart, IsStyledRows}
+use Rattle.rtui_buffer.proofs.PaintLemmas.{IsSameOutside-refl, IsSameOutside-set, IsSameOutside-wider}
+
+pub IsStyledPart-none : (from : ℕ) (s : Style) (cells : List Cell) → IsStyledPart from from s cells cells
+IsStyledPart-none from s cells = record { inside = λ k le lt. absurd (omega arith); outside = IsSameOutside-refl from from cells }
+
+pub IsStyledPart-more : (from i : ℕ) (s : Style) (old now : List Cell) → from ≤ i → i < length now → IsStyledPart from i s old now → IsStyledPart from (i + 1) s old (set now i (styled s (cell now i)))
+IsStyledPart-more from i s old now le lt h = record {
+  inside = λ k ge less. ⊎_elim
+      (λ (before : k < i). (let ne : k ≢ i = omega arith in get_or-set_other now i k (styled s (cell now i)) empty_cell ne) ∙ h.inside k ge before)
+      (λ (not_before : i ≤ k).
+      let here : i ≡ k = omega arith in
+      subst (λ n. cell (set now i (styled s (cell now i))) n ≡ styled s (cell old n)) here
+      (get_or-set_same now i (styled s (cell now i)) empty_cell lt ∙ ap (styled s) (h.outside.behind i (omega arith))))
+      (cases_lt k i);
+  outside = IsSameOutside-set from (i + 1) i (styled s (cell now i)) old now le (omega arith) (IsSameOutside-wider from i (i + 1) old now (omega arith) h.outside);
+}
+
+pub IsStyledRows-none : (w left right top : ℕ) (s : Style) (cells : List Cell) → IsStyledRows w left right top top s cells cells
+IsStyledRows-none w left right top s cells = record { count = refl; at = λ a b lt. grind (arith, nat_tests) }
+
+rows_before : (w b c : ℕ) → b < c → b * w + w ≤ c * w
+rows_before w b c lt = let k : c ≡ suc b + (c - suc b) = omega arith in rw k (omega arith)
+
+module _ (w left right top row : ℕ) (s : Style) (old now more : List Cell) (fits : right ≤ w) (order : left ≤ right) (from : top ≤ row)
+    (h : IsStyledRows w left right top row s old now) (g : IsStyledPart (row * w + left) (row * w + right) s now more) where
+  former : (a : ℕ) → a < w → cell_at w now a row ≡ cell_at w old a row
+  former a lt = let e = h.at a row lt in grind (arith, nat_tests)
+
+  in_row : (a : ℕ) → a < w → cell_at w more a row ≡ (if nat_le left a && nat_lt a right && nat_le top row && nat_lt row (row + 1) then styled s (cell_at w old a row) else cell_at w old a row)
+  in_row a lt =
+      let f = former a lt in
+      ⊎_elim
+      (λ (before : a < left). let e : cell_at w more a row ≡ cell_at w now a row = g.outside.before (row * w + a) (omega arith) in let e2 : cell_at w more a row ≡ cell_at w old a row = e ∙ f in grind (arith, nat_tests))
+      (λ (from_left : left ≤ a).
+      ⊎_elim
+      (λ (inside : a < right). let e : cell_at w more a row ≡ styled s (cell_at w now a row) = g.inside (row * w + a) (omega arith) (omega arith) in let e2 : cell_at w more a row ≡ styled s (cell_at w old a row) = e ∙ ap (styled s) f in grind (arith, nat_tests))
+      (λ (behind : right ≤ a). let e : cell_at w more a row ≡ cell_at w now a row = g.outside.behind (row * w + a) (omega arith) in let e2 : cell_at w more a row ≡ cell_at w old a row = e ∙ f in grind (arith, nat_tests))
+      (cases_lt a right))
+      (cases_lt a left)
+
+  above : (a b : ℕ) → a < w → b < row → cell_at w more a b ≡ cell_at w now a b
+  above a b lt up = let r = rows_before w b row up in g.outside.before (b * w + a) (omega arith)
+
+  below : (a b : ℕ) → a < w → row < b → cell_at w more a b ≡ cell_at w now a b
+  below a b lt down = let r = rows_before w row b down in g.outside.behind (b * w + a) (omega arith)
+
+  pub IsStyledRows-more : IsStyledRows w left right top (row + 1) s old more
+  IsStyledRows-more = record {
+    count = g.outside.count ∙ h.count;
+    at = λ a b lt. ⊎_elim
+        (λ (up : b < row). let e = above a b lt up in let f = h.at a b lt in grind (arith, nat_tests))
+        (λ (not_up : row ≤ b). ⊎_elim
+        (λ (down : row < b). let e = below a b lt down in let f = h.at a b lt in grind (arith, nat_tests))
+        (λ (not_down : b ≤ row). let same : row ≡ b = omega arith in
+        subst (λ n. cell_at w more a n ≡ (if nat_le left a && nat_lt a right && nat_le top n && nat_lt n (row + 1) then styled s (cell_at w old a n) else cell_at w old a n)) same (in_row a lt))
+        (cases_lt row b))
+        (cases_lt b row);
+  }
+
+pub rows_fit : (w h b n : ℕ) → b ≤ h → n ≡ w * h → b * w ≤ n
+rows_fit w h b n le e = let k : h ≡ b + (h - b) = omega arith in rw (e, k) (omega arith)
+
+pub ruleset part_steps = (IsStyledPart-none, IsStyledPart-more)
+
+pub ruleset row_steps = (IsStyledRows-none, IsStyledRows-more)

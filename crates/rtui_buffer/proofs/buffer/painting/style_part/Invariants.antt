@@ -1,0 +1,5 @@
+use Rattle.rtui_buffer.specs.Text.{IsStyledPart}
+use Rattle.rtui_buffer.proofs.buffer.painting.style_part.Given as goal
+
+abbrev pub invariant-loop-i : goal.invariant-loop-i
+invariant-loop-i l = IsStyledPart l.from l.i l.style l.initial.cells l.cells

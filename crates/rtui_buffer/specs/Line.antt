@@ -1,0 +1,56 @@
+-- Painting lines of spans.
+use Rattle.std.specs.Prelude.{ℕ, ◌-◌, ◌*◌, ◌<◌, ◌≡◌, List, [], ◌∷◌, ◌++◌, length, take, drop, map, max, slice_index_or}
+use Rattle.std.specs.List.{flat_map}
+use Rattle.std.specs.Borrow.{Bor}
+use Rattle.rtui_geometry.specs.declared.rect.Rect.{Rect}
+use Rattle.rtui_style.specs.declared.Style.{Style}
+use Rattle.rtui_style.specs.Style.{patch}
+use Rattle.rtui_cell.specs.declared.cell.Cell.{Cell}
+use Rattle.rtui_text.specs.Texts.{SpanData, LineData, line_of, raw_line}
+use Rattle.rtui_text.specs.Widths.{line_width}
+use Rattle.rtui_buffer.specs.Sheet.{empty_cells}
+use Rattle.rtui_buffer.specs.Painting.{Piece, text_pieces, columns, painted, IsPainted}
+use Rattle.rtui_buffer.specs.Text.{room_at}
+
+-- the pieces of spans one behind the other, each span in the width that is left, its style over the base style
+unfoldable pub line_pieces : ℕ → Style → List SpanData → List Piece
+line_pieces room base [] = []
+line_pieces room base (s ∷ ss) =
+    let ps = text_pieces room (patch base s.style) s.content in ps ++ line_pieces (room - columns ps) base ss
+
+-- the pieces of a line that are painted at a column, in at most max columns
+abbrev pub line_pieces_at : Rect → ℕ → ℕ → LineData → List Piece
+line_pieces_at r x max l = line_pieces (room_at r x max) l.style l.spans
+
+-- a row of w cells that shows a line and nothing else
+unfoldable pub line_row : ℕ → LineData → List Cell
+line_row w l = painted 0 (line_pieces w l.style l.spans) (empty_cells w)
+
+-- the greatest width of these lines
+abbrev pub widest : List LineData → ℕ
+widest [] = 0
+widest (l ∷ ls) = max (line_width l.spans) (widest ls)
+
+-- rows of w cells that show these lines and nothing else
+abbrev pub line_rows : ℕ → List LineData → List Cell
+line_rows w ls = flat_map (line_row w) ls
+
+abbrev pub line_at : List LineData → ℕ → LineData
+line_at ls k = slice_index_or ls k (line_of [])
+
+-- row k of rows of w cells
+abbrev pub row_cells : ℕ → List Cell → ℕ → List Cell
+row_cells w cells k = take w (drop (k * w) cells)
+
+-- in rows of w cells: a row for each line, with its pieces painted on empty cells
+pub record ShowsLines (w : ℕ) (ls : List LineData) (cells : List Cell) : Type 0 where
+  pub count : length cells ≡ w * length ls
+  pub row : (k : ℕ) → k < length ls → IsPainted 0 (line_pieces w (line_at ls k).style (line_at ls k).spans) (empty_cells w) (row_cells w cells k)
+
+-- the area of a buffer with these lines
+abbrev pub lines_area : List LineData → Rect
+lines_area ls = record { x = 0; y = 0; width = widest ls; height = length ls }
+
+-- a plain line for each text
+abbrev pub raw_lines : List (Bor (List ℕ)) → List LineData
+raw_lines texts = map (λ text. raw_line text.now) texts

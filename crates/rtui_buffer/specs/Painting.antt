@@ -1,0 +1,93 @@
+-- Painting pieces of text into a list of cells, one behind the other.
+use Rattle.std.specs.Prelude.{ℕ, Bool, true, ◌+◌, ◌-◌, ◌≡◌, ◌≤◌, ◌<◌, suc, zero, nat_le, nat_lt, List, [], ◌∷◌, length, take, map, filter, sum_by, if◌then◌else◌, Some, slice_index_or, slice_set, chars}
+use Rattle.std.specs.Char.{is_control}
+use Rattle.std.specs.List.{list_any}
+use Rattle.unicode_segmentation.specs.Grapheme.{graphemes}
+use Rattle.rtui_style.specs.declared.Style.{Style}
+use Rattle.rtui_style.specs.Style.{new_style}
+use Rattle.rtui_cell.specs.declared.cell.Cell.{Cell}
+use Rattle.rtui_cell.specs.Cell.{empty_cell, styled}
+use Rattle.rtui_cell.specs.Width.{text_width}
+use Rattle.rtui_diff.specs.Cells.{cell}
+
+-- a control character stands in the text
+abbrev pub has_control : List ℕ → Bool
+has_control text = list_any is_control (chars text)
+
+-- the columns in which a grapheme is painted: none if it has a control character
+unfoldable pub painted_width : List ℕ → ℕ
+painted_width text = if has_control text then 0 else text_width text
+
+-- a grapheme that is painted: no control character, and some column
+abbrev pub is_painted : List ℕ → Bool
+is_painted text = nat_lt 0 (painted_width text)
+
+-- the longest front whose widths sum to at most the room
+unfoldable pub fitting : ℕ → List (List ℕ) → List (List ℕ)
+fitting room [] = []
+fitting room (g ∷ gs) = if nat_le (text_width g) room then g ∷ fitting (room - text_width g) gs else []
+
+-- the graphemes of a list that are painted in this room
+unfoldable pub kept : ℕ → List (List ℕ) → List (List ℕ)
+kept room gs = fitting room (filter is_painted gs)
+
+-- a grapheme and the style that it is painted in
+pub record Piece : Type 0 where
+  pub style : Style
+  pub symbol : List ℕ
+
+abbrev pub piece_of : Style → List ℕ → Piece
+piece_of s g = record { style = s; symbol = g }
+
+abbrev pub pieces : Style → List (List ℕ) → List Piece
+pieces s gs = map (piece_of s) gs
+
+-- the pieces of a text that are painted in this room
+abbrev pub text_pieces : ℕ → Style → List ℕ → List Piece
+text_pieces room s text = pieces s (kept room (graphemes true text))
+
+-- how many columns a piece takes
+abbrev pub piece_width : Piece → ℕ
+piece_width p = text_width p.symbol
+
+-- how many columns pieces take
+abbrev pub columns : List Piece → ℕ
+columns ps = sum_by piece_width ps
+
+-- a former cell that shows a piece
+abbrev pub shown : Piece → Cell → Cell
+shown p c = styled p.style (record c { symbol = Some p.symbol })
+
+-- the cells with n empty ones from a place on
+unfoldable pub emptied : ℕ → ℕ → List Cell → List Cell
+emptied at zero cells = cells
+emptied at (suc n) cells = emptied (at + 1) n (slice_set cells at empty_cell)
+
+-- the cells with a piece at a place, and empty cells in the other columns that it takes
+unfoldable pub with_piece : ℕ → Piece → List Cell → List Cell
+with_piece at p cells = emptied (at + 1) (piece_width p - 1) (slice_set cells at (shown p (cell cells at)))
+
+-- the cells with pieces from a place on, one behind the other
+unfoldable pub painted : ℕ → List Piece → List Cell → List Cell
+painted at [] cells = cells
+painted at (p ∷ ps) cells = painted (at + piece_width p) ps (with_piece at p cells)
+
+-- outside a part, from one place up to another, the cells are the same
+pub record IsSameOutside (from to : ℕ) (old new : List Cell) : Type 0 where
+  pub count : length new ≡ length old
+  pub before : (k : ℕ) → k < from → cell new k ≡ cell old k
+  pub behind : (k : ℕ) → to ≤ k → cell new k ≡ cell old k
+
+abbrev pub piece_at : List Piece → ℕ → Piece
+piece_at ps k = slice_index_or ps k (piece_of new_style [])
+
+-- the place of a piece: the sum of the widths before it
+abbrev pub place_of : ℕ → List Piece → ℕ → ℕ
+place_of at ps k = at + columns (take k ps)
+
+-- What painting means, column by column: each piece stands at the sum of the widths before it, its symbol and its style over the
+-- former cell; the other columns that it takes are empty; all else is as before.
+pub record IsPainted (at : ℕ) (ps : List Piece) (old new : List Cell) : Type 0 where
+  pub starts : (k : ℕ) → k < length ps → cell new (place_of at ps k) ≡ shown (piece_at ps k) (cell old (place_of at ps k))
+  pub behind : (k j : ℕ) → k < length ps → 0 < j → j < piece_width (piece_at ps k) → cell new (place_of at ps k + j) ≡ empty_cell
+  pub outside : IsSameOutside at (at + columns ps) old new

@@ -1,0 +1,53 @@
+-- Painting into a buffer, from a position on.
+use Rattle.std.specs.Prelude.{ℕ, ◌+◌, ◌-◌, ◌≡◌, ◌≤◌, ◌<◌, ◌&&◌, nat_le, nat_lt, if◌then◌else◌, min, List, length}
+use Rattle.rtui_geometry.specs.declared.position.Position.{Position}
+use Rattle.rtui_geometry.specs.declared.rect.Rect.{Rect}
+use Rattle.rtui_style.specs.declared.Style.{Style}
+use Rattle.rtui_geometry.specs.Rect.{HasPosition}
+use Rattle.rtui_cell.specs.declared.cell.Cell.{Cell}
+use Rattle.rtui_cell.specs.Cell.{styled}
+use Rattle.rtui_diff.specs.Cells.{cell, cell_at}
+use Rattle.rtui_buffer.specs.Sheet.{Sheet, cell_index, cell_in}
+use Rattle.rtui_buffer.specs.Painting.{Piece, text_pieces, columns, IsSameOutside, IsPainted}
+
+-- the row lies in the area
+pub record HasRow (r : Rect) (y : ℕ) : Type 0 where
+  pub top : r.y ≤ y
+  pub bottom : y < r.y + r.height
+
+-- the columns from x to the area's right edge, at most max and 65535
+abbrev pub room_at : Rect → ℕ → ℕ → ℕ
+room_at r x max = min (min max 65535) (r.x + r.width - x)
+
+-- the pieces of a text that are painted at a column, in at most max columns
+abbrev pub pieces_at : Rect → ℕ → ℕ → Style → List ℕ → List Piece
+pieces_at r x max s text = text_pieces (room_at r x max) s text
+
+-- the buffer with the pieces painted from a position on
+pub record Paints (p : Position) (ps : List Piece) (old new : Sheet) : Type 0 where
+  pub area : new.area ≡ old.area
+  pub room : new.room ≡ old.room
+  pub cells : IsPainted (cell_index old.area p) ps old.cells new.cells
+
+-- the buffers differ at most where the pieces would have been painted
+pub record IsSameBeside (p : Position) (ps : List Piece) (old new : Sheet) : Type 0 where
+  pub area : new.area ≡ old.area
+  pub room : new.room ≡ old.room
+  pub cells : IsSameOutside (cell_index old.area p) (cell_index old.area p + columns ps) old.cells new.cells
+
+-- the cells of a part with a style laid over them
+pub record IsStyledPart (from to : ℕ) (s : Style) (old new : List Cell) : Type 0 where
+  pub inside : (k : ℕ) → from ≤ k → k < to → cell new k ≡ styled s (cell old k)
+  pub outside : IsSameOutside from to old new
+
+-- in rows of w columns: the cells of some columns of some rows with a style laid over them, all else as before
+pub record IsStyledRows (w left right top bottom : ℕ) (s : Style) (old new : List Cell) : Type 0 where
+  pub count : length new ≡ length old
+  pub at : (a b : ℕ) → a < w → cell_at w new a b ≡ (if nat_le left a && nat_lt a right && nat_le top b && nat_lt b bottom then styled s (cell_at w old a b) else cell_at w old a b)
+
+-- the buffer with a style laid over the cells of an area
+pub record IsStyled (r : Rect) (s : Style) (old new : Sheet) : Type 0 where
+  pub area : new.area ≡ old.area
+  pub room : new.room ≡ old.room
+  pub inside : (p : Position) → HasPosition old.area p → HasPosition r p → cell_in new p ≡ styled s (cell_in old p)
+  pub outside : (p : Position) → HasPosition old.area p → ¬ (HasPosition r p) → cell_in new p ≡ cell_in old p

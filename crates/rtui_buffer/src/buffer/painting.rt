@@ -1,0 +1,235 @@
+//! Painting texts and styles.
+
+ghost use Rattle.std.specs.Prelude.{true, ◌≡◌, ◌+◌, ◌-◌, ◌*◌, ◌<◌, ◌≤◌, length, OnOk, OnErr, IfOk};
+ghost use Rattle.unicode_segmentation.specs.Grapheme.{graphemes};
+ghost use Rattle.rtui_geometry.specs.Rect.{EdgesFit};
+ghost use Rattle.rtui_cell.specs.Cell.{empty_cell, styled};
+ghost use Rattle.rtui_cell.specs.Width.{text_width};
+ghost use Rattle.rtui_buffer.specs.Sheet.{cell_index, position_of, IsEmptied};
+ghost use Rattle.rtui_buffer.specs.Frame.{IsSettledSheet};
+ghost use Rattle.rtui_buffer.specs.Painting.{has_control, painted_width, piece_of, text_pieces, columns, shown, emptied, with_piece, painted, IsSameOutside, IsPainted};
+ghost use Rattle.rtui_buffer.specs.Text.{HasRow, room_at, pieces_at, Paints, IsSameBeside, IsStyledPart, IsStyledRows, IsStyled};
+
+use crate::buffer::Buffer;
+use rtui_cell::{Cell, CellWidth};
+use rtui_geometry::Rect;
+use rtui_style::Style;
+use std::alloc::{AllocError, Global};
+use unicode_segmentation::UnicodeSegmentation;
+
+impl Buffer {
+    /// Paints a text in a style, from a column and a row on: the longest front of its graphemes that fits the
+    /// area and `max` columns, without those that have a control character or no width. The columns behind a
+    /// wide grapheme become empty. It answers the column behind the last one that was painted, and the row.
+    /// Where memory is refused at most the columns that these would have taken differ.
+    #[tactic(auto, using(crate::proofs::TextLemmas::none_steps))]
+    pub fn set_stringn(
+        &mut self,
+        x: u16,
+        y: u16,
+        text: &str,
+        max: usize,
+        style: Style,
+    ) -> Result<(u16, u16), AllocError>
+        requires row { HasRow self.old.area y }
+        requires column { self.old.area.x ≤ x }
+        ensures place { IfOk result (λ end. end ≡ (x + columns (pieces_at self.old.area x max style text.now), y)) }
+        ensures ok { OnOk result (Paints (position_of (x, y)) (pieces_at self.old.area x max style text.now) self.old self.new) }
+        ensures err { OnErr result (IsSameBeside (position_of (x, y)) (pieces_at self.old.area x max style text.now) self.old self.new) }
+        ensures settled { IsEmptied self.old.area self.old → OnOk result (IsSettledSheet self.new) }
+    {
+        let room = room_at(self.area, x, max);
+        if room == 0 {
+            return Ok((x, y));
+        }
+        let start = self.index_of(x, y);
+        let alloc = *self.content.allocator();
+        let used = paint_text(alloc, self.content.as_mut_slice(), start, room, text, style)?;
+        Ok((x + used, y))
+    }
+
+    /// Paints a text in a style, from a column and a row on, as `set_stringn` does, as far as the area goes.
+    pub fn set_string(&mut self, x: u16, y: u16, text: &str, style: Style) -> Result<(), AllocError>
+        requires row { HasRow self.old.area y }
+        requires column { self.old.area.x ≤ x }
+        ensures ok { OnOk result (Paints (position_of (x, y)) (pieces_at self.old.area x 65535 style text.now) self.old self.new) }
+        ensures err { OnErr result (IsSameBeside (position_of (x, y)) (pieces_at self.old.area x 65535 style text.now) self.old self.new) }
+        ensures settled { IsEmptied self.old.area self.old → OnOk result (IsSettledSheet self.new) }
+    {
+        self.set_stringn(x, y, text, usize::MAX, style)?;
+        Ok(())
+    }
+
+    /// Lays a style over the cells of an area, as far as the buffer has them.
+    pub fn set_style(&mut self, area: Rect, style: Style)
+        ensures { IsStyled area style self.old self.new }
+    {
+        let common = self.area.intersection(area);
+        if common.is_empty() {
+            return;
+        }
+        let width = usize::from(self.area.width);
+        let left = usize::from(common.x - self.area.x);
+        let top = usize::from(common.y - self.area.y);
+        let right = left + usize::from(common.width);
+        let bottom = top + usize::from(common.height);
+        style_rows(
+            self.content.as_mut_slice(),
+            width,
+            left,
+            right,
+            top,
+            bottom,
+            style,
+        );
+    }
+}
+
+// The columns from x to the area's right edge, at most this many and 65535.
+pub fn room_at(area: Rect, x: u16, max: usize) -> u16
+    requires { EdgesFit area }
+    ensures { result ≡ room_at area x max }
+{
+    let left = usize::from(area.right().saturating_sub(x));
+    max.min(65535).min(left) as u16
+}
+
+// Paints the graphemes of a text that fit the room, and says how many columns they take.
+#[tactic(auto, using(crate::proofs::PaintLemmas::paint_steps, crate::proofs::PaintedLemmas::shown_steps))]
+pub fn paint_text(
+    alloc: Global,
+    cells: &mut [Cell],
+    start: usize,
+    room: u16,
+    text: &str,
+    style: Style,
+) -> Result<u16, AllocError>
+    requires inside { start + room ≤ length cells.old }
+    ensures fits { IfOk result (λ n. n ≤ room) }
+    ensures columns { IfOk result (λ n. n ≡ columns (text_pieces room style text.now)) }
+    ensures ok { OnOk result (cells.new ≡ painted start (text_pieces room style text.now) cells.old) }
+    ensures shown { OnOk result (IsPainted start (text_pieces room style text.now) cells.old cells.new) }
+    ensures err { OnErr result (IsSameOutside start (start + columns (text_pieces room style text.now)) cells.old cells.new) }
+{
+    let mut used = 0;
+    for grapheme in text.graphemes(true) {
+        let width = painted_width(grapheme);
+        if width == 0 {
+            continue;
+        }
+        if width > room - used {
+            return Ok(used);
+        }
+        put_piece(
+            alloc,
+            cells,
+            start + used as usize,
+            width as usize,
+            grapheme,
+            style,
+        )?;
+        used += width;
+    }
+    Ok(used)
+}
+
+/// How many columns a grapheme is painted in: none if it has a control character.
+#[tactic(auto, unfolding(crate::specs::Painting::painted_width))]
+pub fn painted_width(grapheme: &str) -> u16
+    ensures { result ≡ painted_width grapheme.now }
+{
+    if has_control(grapheme) {
+        return 0;
+    }
+    grapheme.cell_width()
+}
+
+fn has_control(text: &str) -> bool
+    ensures { result ≡ has_control text.now }
+{
+    text.chars().any(|c| c.is_control())
+}
+
+// Paints a grapheme of this width.
+#[tactic(auto, unfolding(crate::specs::Painting::with_piece))]
+fn put_piece(
+    alloc: Global,
+    cells: &mut [Cell],
+    at: usize,
+    width: usize,
+    symbol: &str,
+    style: Style,
+) -> Result<(), AllocError>
+    requires width { width ≡ text_width symbol.now }
+    requires wide { 0 < width }
+    requires inside { at + width ≤ length cells.old }
+    ensures ok { OnOk result (cells.new ≡ with_piece at (piece_of style symbol.now) cells.old) }
+    ensures err { OnErr result (cells.new ≡ cells.old) }
+{
+    show(alloc, &mut cells[at], symbol, style)?;
+    empty_part(cells, at + 1, at + width);
+    Ok(())
+}
+
+// Shows a grapheme in a cell, in a style.
+fn show(alloc: Global, cell: &mut Cell, symbol: &str, style: Style) -> Result<(), AllocError>
+    ensures ok { OnOk result (cell.new ≡ shown (piece_of style symbol.now) cell.old) }
+    ensures err { OnErr result (cell.new ≡ cell.old) }
+{
+    cell.set_symbol(alloc, symbol)?;
+    cell.set_style(style);
+    Ok(())
+}
+
+// Empties the cells of a part.
+#[tactic(auto, using(crate::proofs::PaintLemmas::empty_steps))]
+fn empty_part(cells: &mut [Cell], from: usize, to: usize)
+    requires order { from ≤ to }
+    requires inside { to ≤ length cells.old }
+    ensures { cells.new ≡ emptied from (to - from) cells.old }
+{
+    for i in from..to {
+        cells[i].reset();
+    }
+}
+
+// Lays a style over the columns from left to right of the rows from top to bottom.
+#[tactic(auto, using(crate::proofs::StyleLemmas::row_steps))]
+fn style_rows(
+    cells: &mut [Cell],
+    width: usize,
+    left: usize,
+    right: usize,
+    top: usize,
+    bottom: usize,
+    style: Style,
+)
+    requires columns { right ≤ width }
+    requires ordered { left ≤ right }
+    requires rows { top ≤ bottom }
+    requires inside { bottom * width ≤ length cells.old }
+    ensures { IsStyledRows width left right top bottom style cells.old cells.new }
+{
+    for row in top..bottom {
+        style_part(cells, row * width + left, row * width + right, style);
+    }
+}
+
+// Lays a style over the cells of a part.
+#[tactic(auto, using(crate::proofs::StyleLemmas::part_steps))]
+fn style_part(cells: &mut [Cell], from: usize, to: usize, style: Style)
+    requires order { from ≤ to }
+    requires inside { to ≤ length cells.old }
+    ensures { IsStyledPart from to style cells.old cells.new }
+{
+    for i in from..to {
+        lay(&mut cells[i], style);
+    }
+}
+
+// Lays a style over a cell.
+fn lay(cell: &mut Cell, style: Style)
+    ensures { cell.new ≡ styled style cell.old }
+{
+    cell.set_style(style);
+}

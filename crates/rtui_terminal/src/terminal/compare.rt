@@ -1,0 +1,79 @@
+//! Equality and hashes.
+
+ghost use Rattle.std.specs.Prelude.{◌++◌, nat_eq};
+ghost use Rattle.std.specs.Bool.{beq};
+ghost use Rattle.std.specs.Hash as fed;
+ghost use Rattle.std.specs.Hash.{on_Alike, and-Alike, same_Alike};
+ghost use Rattle.std.specs.Cmp.{and_equiv, on_equiv, and_per, on_per, partial_equiv_from_equiv, unsigned_Decides, booleans_Decides, nat_eq_equiv, bool_eq_equiv};
+ghost use Rattle.std.specs.Ordering.{on, eq_of_both};
+ghost use Rattle.rtui_geometry.specs.contracts.rect.RectEq.TheImpl.Laws.{laws-law as rect_laws};
+ghost use Rattle.rtui_geometry.specs.contracts.rect.RectHash.TheImpl.Laws.{respects_eq-law as rect_hashes};
+ghost use Rattle.rtui_buffer.specs.contracts.buffer.index.BufferEq.TheImpl.Laws.{laws-law as buffer_laws};
+ghost use Rattle.rtui_buffer.specs.contracts.buffer.index.BufferHash.TheImpl.Laws.{respects_eq-law as buffer_hashes};
+
+use crate::terminal::Terminal;
+use crate::terminal::frame::CompletedFrame;
+use rtui_backend::Backend;
+use rtui_buffer::Buffer;
+use rtui_geometry::Rect;
+use std::hash::{Hash, Hasher};
+
+impl<B: Backend + PartialEq> PartialEq for Terminal<B> {
+    ghost eq = { eq_of_both (eq_of_both (eq_of_both (eq_of_both (eq_of_both (on (λ t. t.backend) B.eq) (on (λ t. t.current) ⟦<Buffer as PartialEq>⟧.eq)) (on (λ t. t.older) ⟦<Buffer as PartialEq>⟧.eq)) (on (λ t. t.viewport_area) ⟦<Rect as PartialEq>⟧.eq)) (on (λ t. t.hidden_cursor) beq)) (on (λ t. t.frame_count) nat_eq) };
+
+    ghost laws = { and_per (and_per (and_per (and_per (and_per (on_per (λ t. t.backend) B.PartialEq.laws) (on_per (λ t. t.current) (partial_equiv_from_equiv buffer_laws))) (on_per (λ t. t.older) (partial_equiv_from_equiv buffer_laws))) (on_per (λ t. t.viewport_area) (partial_equiv_from_equiv rect_laws))) (on_per (λ t. t.hidden_cursor) (partial_equiv_from_equiv bool_eq_equiv))) (on_per (λ t. t.frame_count) (partial_equiv_from_equiv nat_eq_equiv)) };
+
+    fn eq(&self, other: &Self) -> bool {
+        self.backend == other.backend
+            && self.current == other.current
+            && self.older == other.older
+            && self.viewport_area == other.viewport_area
+            && self.hidden_cursor == other.hidden_cursor
+            && self.frame_count == other.frame_count
+    }
+}
+
+impl<B: Backend + Eq> Eq for Terminal<B> {
+    ghost laws = { and_equiv (and_equiv (and_equiv (and_equiv (and_equiv (on_equiv (λ t. t.backend) B.Eq.laws) (on_equiv (λ t. t.current) buffer_laws)) (on_equiv (λ t. t.older) buffer_laws)) (on_equiv (λ t. t.viewport_area) rect_laws)) (on_equiv (λ t. t.hidden_cursor) bool_eq_equiv)) (on_equiv (λ t. t.frame_count) nat_eq_equiv) };
+}
+
+impl<B: Backend + Hash> Hash for Terminal<B> {
+    ghost hash_input = { λ t. B.hash_input t.backend ++ ⟦<Buffer as Hash>⟧.hash_input t.current ++ ⟦<Buffer as Hash>⟧.hash_input t.older ++ ⟦<Rect as Hash>⟧.hash_input t.viewport_area ++ fed.bool t.hidden_cursor ++ fed.usize t.frame_count };
+
+    ghost respects_eq = { (and-Alike (and-Alike (and-Alike (and-Alike (and-Alike (on_Alike (λ t. t.backend) (record { fed = B.Hash.respects_eq })) (on_Alike (λ t. t.current) (record { fed = buffer_hashes }))) (on_Alike (λ t. t.older) (record { fed = buffer_hashes }))) (on_Alike (λ t. t.viewport_area) (record { fed = rect_hashes }))) (on_Alike (λ t. t.hidden_cursor) (same_Alike fed.bool booleans_Decides))) (on_Alike (λ t. t.frame_count) (same_Alike fed.usize unsigned_Decides))).fed };
+
+    fn hash<H: Hasher>(&self, state: &mut H) {
+        self.backend.hash(state);
+        self.current.hash(state);
+        self.older.hash(state);
+        self.viewport_area.hash(state);
+        self.hidden_cursor.hash(state);
+        self.frame_count.hash(state);
+    }
+}
+
+impl<B: Backend> PartialEq for CompletedFrame<'_, B> {
+    ghost eq = { eq_of_both (eq_of_both (on (λ f. f.terminal.now.older) ⟦<Buffer as PartialEq>⟧.eq) (on (λ f. f.area) ⟦<Rect as PartialEq>⟧.eq)) (on (λ f. f.count) nat_eq) };
+
+    ghost laws = { partial_equiv_from_equiv (and_equiv (and_equiv (on_equiv (λ f. f.terminal.now.older) buffer_laws) (on_equiv (λ f. f.area) rect_laws)) (on_equiv (λ f. f.count) nat_eq_equiv)) };
+
+    fn eq(&self, other: &Self) -> bool {
+        self.buffer() == other.buffer() && self.area == other.area && self.count == other.count
+    }
+}
+
+impl<B: Backend> Eq for CompletedFrame<'_, B> {
+    ghost laws = { and_equiv (and_equiv (on_equiv (λ f. f.terminal.now.older) buffer_laws) (on_equiv (λ f. f.area) rect_laws)) (on_equiv (λ f. f.count) nat_eq_equiv) };
+}
+
+impl<B: Backend> Hash for CompletedFrame<'_, B> {
+    ghost hash_input = { λ f. ⟦<Buffer as Hash>⟧.hash_input f.terminal.now.older ++ ⟦<Rect as Hash>⟧.hash_input f.area ++ fed.usize f.count };
+
+    ghost respects_eq = { (and-Alike (and-Alike (on_Alike (λ f. f.terminal.now.older) (record { fed = buffer_hashes })) (on_Alike (λ f. f.area) (record { fed = rect_hashes }))) (on_Alike (λ f. f.count) (same_Alike fed.usize unsigned_Decides))).fed };
+
+    fn hash<H: Hasher>(&self, state: &mut H) {
+        self.buffer().hash(state);
+        self.area.hash(state);
+        self.count.hash(state);
+    }
+}

@@ -1,0 +1,45 @@
+//! The default terminal, and copies.
+
+ghost use Rattle.std.specs.Prelude.{◌≡◌, IfOk};
+ghost use Rattle.rtui_terminal.specs.State.{IsSameTerminal, IsDefaultOver};
+
+use crate::terminal::Terminal;
+use rtui_backend::Backend;
+use rtui_buffer::Buffer;
+use rtui_geometry::Rect;
+use std::alloc::{AllocError, Global};
+
+impl<B: Backend + Default + Drop> Terminal<B> {
+    /// A terminal over a default backend, which isn't asked for its size: the viewport is empty. It takes no
+    /// memory.
+    pub fn default_in(alloc: Global) -> Self
+        ensures empty { IsDefaultOver result }
+        ensures backend { B.is_default result.backend }
+    {
+        Terminal {
+            backend: B::default(),
+            current: Buffer::default_in(alloc),
+            older: Buffer::default_in(alloc),
+            viewport_area: Rect::ZERO,
+            hidden_cursor: false,
+            frame_count: 0,
+        }
+    }
+}
+
+impl<B: Backend + Clone> Terminal<B> {
+    /// An equal terminal over a clone of the backend, which has to equal the backend; refused where memory is.
+    pub fn clone(&self, alloc: Global) -> Result<Self, AllocError>
+        requires { (copy : B) → B.is_clone self.now.backend copy → copy ≡ self.now.backend }
+        ensures { IfOk result (IsSameTerminal self.now) }
+    {
+        Ok(Terminal {
+            backend: self.backend.clone()?,
+            current: self.current.clone(alloc)?,
+            older: self.older.clone(alloc)?,
+            viewport_area: self.viewport_area,
+            hidden_cursor: self.hidden_cursor,
+            frame_count: self.frame_count,
+        })
+    }
+}

@@ -1,0 +1,11 @@
+-- Equal texts are hashed alike.
+use Rattle.std.specs.Prelude.{refl, nat_eq}
+use Rattle.std.proofs.lemmas.Bool.Decides.{Decides-eqb}
+use Rattle.std.proofs.lemmas.Slice.Eq.{slice_eq-Decides}
+use Rattle.std.specs.Cmp.Lexicographic.{pointwise}
+use Rattle.std.specs.Hash as fed
+use Rattle.std.specs.Hash.{Alike, same_Alike}
+
+-- equal bytes feed a hasher the same
+pub text_Alike : Alike (pointwise nat_eq) fed.str
+text_Alike = same_Alike fed.str (λ x y. slice_eq-Decides Decides-eqb x y _ refl)

@@ -1,0 +1,4 @@
+pub mod Texts
+pub mod Widths
+pub mod Heads
+pub mod Alike

@@ -1,0 +1,12 @@
+-- How many columns spans and lines take.
+use Rattle.std.specs.Prelude.{ℕ, ◌-◌, ◌^◌, List, sum_by, min}
+use Rattle.rtui_cell.specs.Width.{columns_of}
+use Rattle.rtui_text.specs.Texts.{SpanData}
+
+-- the columns of its text
+abbrev pub span_width : SpanData → ℕ
+span_width span = columns_of span.content
+
+-- the sum of the widths, at most the greatest usize
+abbrev pub line_width : List SpanData → ℕ
+line_width spans = min (sum_by span_width spans) (2 ^ 64 - 1)

@@ -1,0 +1,21 @@
+ghost use Rattle.std.specs.Prelude.{◌≡◌, ◌↔◌, IsTrue, count_by, chars};
+ghost use Rattle.rtui_cell.specs.Width.{columns_of, is_sound_mark};
+
+use unicode_width::UnicodeWidthStr;
+
+/// How many columns a text takes in a line: its Unicode width less the half-width katakana sound marks.
+#[tactic(auto, unfolding(rtui_cell::specs::Width::columns_of))]
+pub fn text_columns(text: &str) -> usize
+    ensures { result ≡ columns_of text.now }
+{
+    text.width().saturating_sub(sound_marks(text))
+}
+
+// How many half-width katakana sound marks a text has.
+fn sound_marks(text: &str) -> usize
+    ensures { result ≡ count_by is_sound_mark (chars text.now) }
+{
+    text.chars()
+        .filter(|c| *c == '\u{FF9E}' || *c == '\u{FF9F}')
+        .count()
+}

@@ -1,0 +1,14 @@
+//! Tests of buffers: what they are made of, painting, one laid over another, and each call that takes memory; and of
+//! screens of lines.
+#![tactic(auto)]
+
+#[cfg(test)]
+mod areas;
+#[cfg(test)]
+mod overlay;
+#[cfg(test)]
+mod painting;
+#[cfg(test)]
+mod screens;
+#[cfg(test)]
+mod sheets;

@@ -1,0 +1,47 @@
+//! Screens of lines.
+use crate::sheets::{sheet, widest};
+use rtui_backend::TestBackend;
+use rtui_geometry::Position;
+use std::alloc::Global;
+use std::test::Fail;
+
+// A screen that shows these lines.
+fn screen(alloc: Global, lines: &[&str]) -> Result<TestBackend, Fail> {
+    if lines.len() > 65535 || widest(alloc, lines)? > 65535 {
+        return Err(Fail::new("too wide for a screen"));
+    }
+    Ok(TestBackend::with_lines(alloc, lines)?)
+}
+
+#[test]
+fn made_of_lines(rt: HostRuntime) -> Result<(), Fail> {
+    let screen = screen(rt.alloc(), &["コx", "a"])?;
+    assert!(rt; screen.buffer_is(&sheet(rt.alloc(), &["コx", "a"])?));
+    assert!(rt; screen.cursor_visible());
+    assert_eq!(rt; screen.cursor_position(), Position::ORIGIN);
+    assert_eq!(rt; screen.cells_written(), 0);
+    Ok(())
+}
+
+#[test]
+fn shows_lines(rt: HostRuntime) -> Result<(), Fail> {
+    let wide = screen(rt.alloc(), &["コx", "a"])?;
+    assert!(rt; wide.lines_are(&["コx", "a"]));
+    assert!(rt; wide.lines_are(&["コ\nx", "a  "]));
+    assert!(rt; !wide.lines_are(&["コx", "b"]));
+    assert!(rt; !wide.lines_are(&["コy", "a"]));
+    assert!(rt; !wide.lines_are(&["コ", "a"]));
+    assert!(rt; !wide.lines_are(&["コx "]));
+    assert!(rt; !wide.lines_are(&["コx ", "a"]));
+    assert!(rt; !wide.lines_are(&["a", "コx"]));
+    Ok(())
+}
+
+#[test]
+fn shows_a_line_that_is_too_narrow_for_its_mark(rt: HostRuntime) -> Result<(), Fail> {
+    let marked = screen(rt.alloc(), &["\u{FF76}\u{FF9E}"])?;
+    assert!(rt; marked.lines_are(&["\u{FF76}\u{FF9E}"]));
+    assert!(rt; marked.lines_are(&[" "]));
+    assert!(rt; !marked.lines_are(&["a"]));
+    Ok(())
+}
