@@ -2,50 +2,54 @@
 use rtui_layout::Alignment;
 use rtui_style::{Color, Style};
 use rtui_text::{Line, Span, Spans, text_columns};
+use std::alloc::{AllocError, Global};
 use std::borrow::CowStr;
 use std::hash::{BuildHasher, BuildHasherDefault, FoldHasher};
 use std::test::Fail;
 
+// Whether a text takes this many columns, alone and in a span.
+fn takes(text: &str, columns: usize) -> bool {
+    text_columns(text) == columns && Span::raw(text).width() == columns
+}
+
+#[test]
+fn columns(rt: HostRuntime) {
+    assert!(rt; takes("", 0));
+    assert!(rt; takes("ab", 2));
+    assert!(rt; takes("コンピュータ", 12));
+    assert!(rt; takes("\u{2328}", 1));
+    assert!(rt; takes("\u{2328}\u{FE0F}", 2));
+    assert!(rt; takes("\u{200B}", 0));
+}
+
 #[test]
 fn columns_leave_sound_marks_out(rt: HostRuntime) {
-    for (text, columns) in [
-        ("", 0),
-        ("a", 1),
-        ("ab", 2),
-        ("コ", 2),
-        ("コンピュータ", 12),
-        ("\u{2328}", 1),
-        ("\u{2328}\u{FE0F}", 2),
-        ("\u{200B}", 0),
-        ("a\u{FF76}\u{FF9E}b", 3),
-        ("\u{3042}\u{FF9E}", 2),
-        ("\u{FF76}\u{FF9E}", 1),
-        ("\u{FF8A}\u{FF9F}", 1),
-        ("\u{FF9E}", 0),
-    ] {
-        assert_eq!(rt; text_columns(text), columns, "{text}");
-        assert_eq!(rt; Span::raw(text).width(), columns, "{text}");
-    }
+    assert!(rt; takes("a\u{FF76}\u{FF9E}b", 3));
+    assert!(rt; takes("\u{3042}\u{FF9E}", 2));
+    assert!(rt; takes("\u{FF8A}\u{FF9F}", 1));
+    assert!(rt; takes("\u{FF9E}", 0));
+}
+
+// Whether a text reads as a line of these plain spans and nothing else.
+fn reads_as(alloc: Global, text: &str, parts: &[&str]) -> Result<bool, AllocError> {
+    let line = Line::raw(alloc, text)?;
+    let plain = line.spans.iter().all(|span| span.style == Style::new());
+    let texts = line.spans.iter().map(|span| span.text());
+    Ok(
+        plain
+            && texts.eq(parts.iter().copied())
+            && line.style == Style::new()
+            && line.alignment.is_none(),
+    )
 }
 
 #[test]
 fn raw_makes_a_span_of_each_line(rt: HostRuntime) -> Result<(), Fail> {
-    let none = Line::raw(rt.alloc(), "")?;
-    assert!(rt; none.spans.is_empty());
-    assert_eq!(rt; none.width(), 0);
-    assert!(rt; none == Line::default_in(rt.alloc()));
-    let line = Line::raw(rt.alloc(), "a\nb\r\nc")?;
-    assert_eq!(rt; line.spans.len(), 3);
-    assert_eq!(rt; line.width(), 3);
-    assert_eq!(rt; line.style, Style::new());
-    assert_eq!(rt; line.alignment, None);
-    let expected = Line::from_slice(
-        rt.alloc(),
-        &[Span::raw("a"), Span::raw("b"), Span::raw("c")],
-    )?;
-    assert!(rt; line == expected);
-    assert_eq!(rt; Line::raw(rt.alloc(), "a\n")?.spans.len(), 1);
-    assert_eq!(rt; Line::raw(rt.alloc(), "\n\na")?.spans.len(), 3);
+    assert!(rt; reads_as(rt.alloc(), "", &[])?);
+    assert!(rt; reads_as(rt.alloc(), "a\nb\r\nc", &["a", "b", "c"])?);
+    assert!(rt; reads_as(rt.alloc(), "a\n", &["a"])?);
+    assert!(rt; reads_as(rt.alloc(), "\n\na", &["", "", "a"])?);
+    assert!(rt; Line::default_in(rt.alloc()).spans.is_empty());
     Ok(())
 }
 
