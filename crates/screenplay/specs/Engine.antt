@@ -15,15 +15,19 @@ use Rattle.screenplay.specs.declared.scene.PlayCause.TheVariants as cause
 use Rattle.screenplay.specs.declared.fault.RunFault.{RunFault}
 use Rattle.screenplay.specs.declared.fault.RunFault.TheVariants.{Line, Step as AtStep, NotText, Read, Memory, Write}
 
--- the bytes are a script, and the writer took the printed scenes of a run of it
-pub record PrintsRun (bytes : List ℕ) (old new : Option (List ℕ)) : Type 0 where
+-- the bytes are a script with these shows, and these are the scenes of a run of it
+pub record IsPlayed (bytes shows : List ℕ) (scenes : List Scene) : Type 0 where
   pub stage : Option Stage
   pub steps : List Step
-  pub shows : List ℕ
-  pub scenes : List Scene
   pub text : IsUtf8 bytes
   pub script : IsScript (text_lines bytes) stage steps shows
   pub run : IfSome stage (λ s. IsRun s steps scenes)
+
+-- the writer took the printed scenes of a run of the script
+pub record PrintsRun (bytes : List ℕ) (old new : Option (List ℕ)) : Type 0 where
+  pub shows : List ℕ
+  pub scenes : List Scene
+  pub played : IsPlayed bytes shows scenes
   pub written : Appends old new (printed shows scenes)
 
 -- the bytes are a script with a step that can't be played
@@ -35,14 +39,14 @@ pub record HasStepFault (bytes : List ℕ) (fault : PlayFault) : Type 0 where
   pub script : IsScript (text_lines bytes) (Some stage) steps shows
   pub played : IsFault stage steps fault
 
--- why nothing of these bytes was printed
+-- why nothing of these bytes was printed, or with a failed writer a part: they are a script that was played
 abbrev pub IsRunFault : List ℕ → RunFault → Type 0
 IsRunFault bytes (Line n) = IsFirstBadLine (text_lines bytes) n
 IsRunFault bytes (AtStep fault) = HasStepFault bytes fault
 IsRunFault bytes NotText = IsUtf8 bytes → ⊥
 IsRunFault bytes Read = Unit {0}
 IsRunFault bytes Memory = Unit {0}
-IsRunFault bytes Write = Unit {0}
+IsRunFault bytes Write = (shows : List ℕ) × (scenes : List Scene) × IsPlayed bytes shows scenes
 
 abbrev pub cause_text : PlayCause → List ℕ
 cause_text cause.Memory = codes "memory"

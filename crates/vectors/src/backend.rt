@@ -3,7 +3,21 @@ use crate::sheets::{put, row};
 use rtui_backend::{Backend, TestBackend, TestError, WindowSize};
 use rtui_cell::{Cell, CellDiffOption};
 use rtui_geometry::{Position, Size};
+use std::alloc::{AllocError, Global};
 use std::test::Fail;
+
+fn blank(alloc: Global, width: u16, height: u16) -> Result<TestBackend, AllocError> {
+    TestBackend::new(alloc, width, height)
+}
+
+fn cell(alloc: Global, symbol: &str) -> Result<Cell, AllocError> {
+    Cell::new(alloc, symbol)
+}
+
+// Whether one call draws these items.
+fn draws(backend: &mut TestBackend, items: &[(u16, u16, &Cell)]) -> bool {
+    backend.draw(items.iter().copied()).is_ok()
+}
 
 // Whether the symbols of the screen, row by row, are these.
 fn shows(backend: &TestBackend, symbols: &[&str]) -> bool {
@@ -13,9 +27,9 @@ fn shows(backend: &TestBackend, symbols: &[&str]) -> bool {
 
 #[test]
 fn puts_cells(rt: HostRuntime) -> Result<(), Fail> {
-    let mut backend = TestBackend::new(rt.alloc(), 3, 2)?;
-    let a = Cell::new(rt.alloc(), "a")?;
-    let wide = Cell::new(rt.alloc(), "コ")?;
+    let mut backend = blank(rt.alloc(), 3, 2)?;
+    let a = cell(rt.alloc(), "a")?;
+    let wide = cell(rt.alloc(), "コ")?;
     let items = [
         (0, 0, &a),
         (1, 0, &a),
@@ -25,108 +39,154 @@ fn puts_cells(rt: HostRuntime) -> Result<(), Fail> {
         (3, 0, &a),
         (0, 2, &a),
     ];
-    assert!(rt; backend.draw(items.into_iter()).is_ok());
+    assert!(rt; draws(&mut backend, &items));
     assert!(rt; shows(&backend, &["コ", " ", "a", " ", " ", "コ"]));
-    assert_eq!(rt; backend.cells_written(), 7);
+    assert!(rt; backend.cells_written() == 7);
     Ok(())
 }
 
 #[test]
-fn keeps_the_cursor_on_the_screen(rt: HostRuntime) -> Result<(), Fail> {
-    let mut backend = TestBackend::new(rt.alloc(), 3, 2)?;
+fn hides_and_shows_the_cursor(rt: HostRuntime) -> Result<(), Fail> {
+    let mut backend = blank(rt.alloc(), 3, 2)?;
     assert!(rt; backend.cursor_visible());
     assert!(rt; backend.hide_cursor().is_ok());
     assert!(rt; !backend.cursor_visible());
     assert!(rt; backend.show_cursor().is_ok());
     assert!(rt; backend.cursor_visible());
-    assert!(rt; backend.set_cursor_position(Position { x: 9, y: 1 }).is_ok());
-    assert_eq!(rt; backend.cursor_position(), Position { x: 2, y: 1 });
-    assert!(rt; backend.set_cursor(1, 9).is_ok());
-    assert_eq!(rt; backend.get_cursor(), Ok((1, 1)));
-    assert_eq!(rt; backend.get_cursor_position(), Ok(Position { x: 1, y: 1 }));
-    assert_eq!(rt;
-        backend.size(),
-        Ok(Size {
-            width: 3,
-            height: 2
-        })
-    );
-    let columns_rows = Size {
-        width: 3,
-        height: 2,
-    };
+    Ok(())
+}
+
+// Whether the cursor, set to a place of the screen or off it, is then at this one.
+fn moves_cursor(backend: &mut TestBackend, to: Position, at: Position) -> bool {
+    backend.set_cursor_position(to).is_ok() && backend.cursor_position() == at
+}
+
+// The same by the older names; both calls that tell the place agree.
+fn moves_cursor_by_numbers(backend: &mut TestBackend, to: (u16, u16), at: (u16, u16)) -> bool {
+    let (x, y) = to;
+    backend.set_cursor(x, y).is_ok()
+        && backend.get_cursor() == Ok(at)
+        && backend.get_cursor_position() == Ok(Position { x: at.0, y: at.1 })
+}
+
+#[test]
+fn keeps_the_cursor_on_the_screen(rt: HostRuntime) -> Result<(), Fail> {
+    let mut backend = blank(rt.alloc(), 3, 2)?;
+    let (to, at) = (Position { x: 9, y: 1 }, Position { x: 2, y: 1 });
+    assert!(rt; moves_cursor(&mut backend, to, at));
+    assert!(rt; moves_cursor_by_numbers(&mut backend, (1, 9), (1, 1)));
+    Ok(())
+}
+
+// Whether the backend tells this size, and no pixels.
+fn has_size(backend: &mut TestBackend, columns_rows: Size) -> bool {
     let window = WindowSize {
         columns_rows,
         pixels: Size::ZERO,
     };
-    assert_eq!(rt; backend.window_size(), Ok(window));
+    backend.size() == Ok(columns_rows) && backend.window_size() == Ok(window)
+}
+
+#[test]
+fn tells_its_size(rt: HostRuntime) -> Result<(), Fail> {
+    let mut backend = blank(rt.alloc(), 3, 2)?;
+    let columns_rows = Size {
+        width: 3,
+        height: 2,
+    };
+    assert!(rt; has_size(&mut backend, columns_rows));
     Ok(())
+}
+
+fn flushes(backend: &mut TestBackend, answer: Result<(), TestError>) -> bool {
+    backend.flush() == answer
 }
 
 #[test]
 fn fails_when_told(rt: HostRuntime) -> Result<(), Fail> {
-    let mut backend = TestBackend::new(rt.alloc(), 1, 1)?;
+    let mut backend = blank(rt.alloc(), 1, 1)?;
     backend.fail_after(2);
-    assert_eq!(rt; backend.flush(), Ok(()));
-    assert_eq!(rt; backend.flush(), Ok(()));
-    assert_eq!(rt; backend.flush(), Err(TestError::Told));
-    assert_eq!(rt; backend.flush(), Ok(()));
-    let told = TestError::Told.to_string(rt.alloc())?;
-    assert_eq!(rt; told.as_str(), "told");
-    let memory = TestError::Memory.to_string(rt.alloc())?;
-    assert_eq!(rt; memory.as_str(), "no memory");
+    assert!(rt; flushes(&mut backend, Ok(())));
+    assert!(rt; flushes(&mut backend, Ok(())));
+    assert!(rt; flushes(&mut backend, Err(TestError::Told)));
+    assert!(rt; flushes(&mut backend, Ok(())));
     Ok(())
+}
+
+fn prints(alloc: Global, error: TestError, text: &str) -> Result<bool, AllocError> {
+    Ok(error.to_string(alloc)?.as_str() == text)
+}
+
+#[test]
+fn prints_its_errors(rt: HostRuntime) -> Result<(), Fail> {
+    assert!(rt; prints(rt.alloc(), TestError::Told, "told")?);
+    assert!(rt; prints(rt.alloc(), TestError::Memory, "no memory")?);
+    Ok(())
+}
+
+// Makes one of the eight calls of the trait, and whether it failed.
+fn call_fails(backend: &mut TestBackend, number: u64, cell: &Cell) -> bool {
+    match number {
+        0 => backend.hide_cursor().is_err(),
+        1 => backend.show_cursor().is_err(),
+        2 => backend
+            .set_cursor_position(Position { x: 1, y: 1 })
+            .is_err(),
+        3 => backend.get_cursor().is_err(),
+        4 => backend.size().is_err(),
+        5 => backend.window_size().is_err(),
+        6 => !draws(backend, &[(0, 0, cell)]),
+        _ => backend.flush().is_err(),
+    }
+}
+
+// Whether of the eight calls, made in turn, the one after so many calls fails and no other.
+fn fails_once_after(alloc: Global, calls: u64) -> Result<bool, AllocError> {
+    let mut backend = blank(alloc, 3, 2)?;
+    backend.fail_after(calls);
+    let cell = cell(alloc, "a")?;
+    let mut as_told = true;
+    for number in 0..8 {
+        if call_fails(&mut backend, number, &cell) != (number == calls) {
+            as_told = false;
+        }
+    }
+    Ok(as_told)
 }
 
 #[test]
 fn counts_each_call_of_the_trait(rt: HostRuntime) -> Result<(), Fail> {
     for calls in 0..8 {
-        let mut backend = TestBackend::new(rt.alloc(), 3, 2)?;
-        backend.fail_after(calls);
-        let cell = Cell::new(rt.alloc(), "a")?;
-        let items = [(0, 0, &cell)];
-        let failed = [
-            backend.hide_cursor().is_err(),
-            backend.show_cursor().is_err(),
-            backend
-                .set_cursor_position(Position { x: 1, y: 1 })
-                .is_err(),
-            backend.get_cursor().is_err(),
-            backend.size().is_err(),
-            backend.window_size().is_err(),
-            backend.draw(items.into_iter()).is_err(),
-            backend.flush().is_err(),
-        ];
-        let told = failed.iter().position(|failed| *failed);
-        assert_eq!(rt; told, Some(calls as usize));
-        assert_eq!(rt; failed.iter().filter(|failed| **failed).count(), 1);
+        assert!(rt; fails_once_after(rt.alloc(), calls)?, "{calls}");
     }
     Ok(())
 }
 
+// Whether no cell of the screen has an option or the flag.
+fn is_plain(backend: &TestBackend) -> bool {
+    let mut cells = backend.buffer().content().iter();
+    cells.all(|cell| cell.diff_option == CellDiffOption::None && !cell.skip)
+}
+
 #[test]
 fn keeps_no_options(rt: HostRuntime) -> Result<(), Fail> {
-    let mut backend = TestBackend::new(rt.alloc(), 2, 1)?;
-    let mut cell = Cell::new(rt.alloc(), "a")?;
+    let mut backend = blank(rt.alloc(), 2, 1)?;
+    let mut cell = cell(rt.alloc(), "a")?;
     cell.diff_option = CellDiffOption::AlwaysUpdate;
     cell.skip = true;
-    let items = [(1, 0, &cell)];
-    assert!(rt; backend.draw(items.into_iter()).is_ok());
-    for cell in backend.buffer().content() {
-        assert_eq!(rt; cell.diff_option, CellDiffOption::None);
-        assert!(rt; !cell.skip);
-    }
+    assert!(rt; draws(&mut backend, &[(1, 0, &cell)]));
+    assert!(rt; is_plain(&backend));
     assert!(rt; shows(&backend, &[" ", "a"]));
     Ok(())
 }
 
 #[test]
 fn compares_its_screen_with_a_buffer(rt: HostRuntime) -> Result<(), Fail> {
-    let mut backend = TestBackend::new(rt.alloc(), 4, 1)?;
+    let mut backend = blank(rt.alloc(), 4, 1)?;
     let mut buffer = row(rt.alloc(), 4, &[])?;
     assert!(rt; backend.buffer_is(&buffer));
-    let h = Cell::new(rt.alloc(), "h")?;
-    assert!(rt; backend.draw([(0, 0, &h)].into_iter()).is_ok());
+    let h = cell(rt.alloc(), "h")?;
+    assert!(rt; draws(&mut backend, &[(0, 0, &h)]));
     assert!(rt; !backend.buffer_is(&buffer));
     put(rt.alloc(), &mut buffer, 0, 0, &["h"])?;
     assert!(rt; backend.buffer_is(&buffer));
@@ -137,9 +197,9 @@ fn compares_its_screen_with_a_buffer(rt: HostRuntime) -> Result<(), Fail> {
 
 #[test]
 fn compares_its_screen_with_lines(rt: HostRuntime) -> Result<(), Fail> {
-    let mut backend = TestBackend::new(rt.alloc(), 4, 2)?;
-    let (h, i) = (Cell::new(rt.alloc(), "h")?, Cell::new(rt.alloc(), "i")?);
-    assert!(rt; backend.draw([(0, 0, &h), (1, 0, &i)].into_iter()).is_ok());
+    let mut backend = blank(rt.alloc(), 4, 2)?;
+    let (h, i) = (cell(rt.alloc(), "h")?, cell(rt.alloc(), "i")?);
+    assert!(rt; draws(&mut backend, &[(0, 0, &h), (1, 0, &i)]));
     assert!(rt; backend.lines_are(&["hi  ", "    "]));
     assert!(rt; backend.lines_are(&["hi", "    "]));
     assert!(rt; !backend.lines_are(&["hi  ", "   ."]));
@@ -147,7 +207,12 @@ fn compares_its_screen_with_lines(rt: HostRuntime) -> Result<(), Fail> {
     assert!(rt; !backend.lines_are(&["h\u{7}  ", "    "]));
     assert!(rt; !backend.lines_are(&["hi  "]));
     assert!(rt; !backend.lines_are(&["hi   ", "    "]));
-    let empty = TestBackend::new(rt.alloc(), 0, 0)?;
+    Ok(())
+}
+
+#[test]
+fn compares_an_empty_screen_with_lines(rt: HostRuntime) -> Result<(), Fail> {
+    let empty = blank(rt.alloc(), 0, 0)?;
     assert!(rt; empty.lines_are(&[]));
     assert!(rt; !empty.lines_are(&[""]));
     Ok(())

@@ -2,112 +2,187 @@
 use rtui_cell::{Cell, CellDiffOption, CellWidth};
 use rtui_merge::MergeStrategy;
 use rtui_style::{Color, Modifier, Style};
+use std::alloc::{AllocError, Global};
 use std::hash::{BuildHasher, BuildHasherDefault, FoldHasher};
 use std::num::NonZeroU16;
 use std::test::Fail;
 
+fn takes(text: &str, width: u16) -> bool {
+    text.cell_width() == width
+}
+
 #[test]
 fn widths(rt: HostRuntime) {
-    for (text, width) in [
-        ("", 0),
-        ("a", 1),
-        ("\u{7}", 1),
-        ("ab", 2),
-        ("コ", 2),
-        ("コンピュータ", 12),
-        ("\u{2328}", 1),
-        ("\u{2328}\u{FE0F}", 2),
-        ("\u{200B}", 0),
-        ("a\u{FF76}\u{FF9E}b", 4),
-        ("\u{3042}\u{FF9E}", 3),
-        ("\u{FF76}\u{FF9E}", 2),
-    ] {
-        assert_eq!(rt; text.cell_width(), width, "{text}");
-    }
+    assert!(rt; takes("", 0));
+    assert!(rt; takes("a", 1));
+    assert!(rt; takes("\u{7}", 1));
+    assert!(rt; takes("ab", 2));
+    assert!(rt; takes("コ", 2));
+    assert!(rt; takes("コンピュータ", 12));
+    assert!(rt; takes("\u{2328}", 1));
+    assert!(rt; takes("\u{2328}\u{FE0F}", 2));
+    assert!(rt; takes("\u{200B}", 0));
+}
+
+#[test]
+fn widths_count_sound_marks(rt: HostRuntime) {
+    assert!(rt; takes("a\u{FF76}\u{FF9E}b", 4));
+    assert!(rt; takes("\u{3042}\u{FF9E}", 3));
+    assert!(rt; takes("\u{FF76}\u{FF9E}", 2));
+}
+
+fn cell(alloc: Global, symbol: &str) -> Result<Cell, AllocError> {
+    Cell::new(alloc, symbol)
+}
+
+fn shows(cell: &Cell, symbol: &str) -> bool {
+    cell.symbol() == symbol
+}
+
+// Puts a text behind the symbol of a cell, and whether it then shows this.
+fn appends(alloc: Global, cell: &mut Cell, text: &str, symbol: &str) -> Result<bool, AllocError> {
+    cell.append_symbol(alloc, text)?;
+    Ok(cell.symbol() == symbol)
+}
+
+// Whether a cell with this character shows this symbol, in so many columns.
+fn sets_char(
+    alloc: Global,
+    cell: &mut Cell,
+    ch: char,
+    symbol: &str,
+    width: u16,
+) -> Result<bool, AllocError> {
+    cell.set_char(alloc, ch)?;
+    Ok(cell.symbol() == symbol && cell.cell_width() == width)
+}
+
+// Whether a cell of one character shows this symbol.
+fn made_of_char(alloc: Global, ch: char, symbol: &str) -> Result<bool, AllocError> {
+    Ok(Cell::from_char(alloc, ch)?.symbol() == symbol)
+}
+
+// Whether a cell with this text equals an empty one.
+fn is_empty_with(alloc: Global, cell: &mut Cell, text: &str) -> Result<bool, AllocError> {
+    cell.set_symbol(alloc, text)?;
+    Ok(*cell == Cell::EMPTY)
+}
+
+#[test]
+fn symbols_of_new_cells(rt: HostRuntime) -> Result<(), Fail> {
+    assert!(rt; shows(&Cell::EMPTY, " "));
+    assert!(rt; shows(&cell(rt.alloc(), "a")?, "a"));
+    assert!(rt; made_of_char(rt.alloc(), 'x', "x")?);
+    Ok(())
 }
 
 #[test]
 fn symbols(rt: HostRuntime) -> Result<(), Fail> {
-    assert_eq!(rt; Cell::EMPTY.symbol(), " ");
-    let mut cell = Cell::new(rt.alloc(), "a")?;
-    assert_eq!(rt; cell.symbol(), "a");
-    cell.append_symbol(rt.alloc(), "\u{301}")?;
-    assert_eq!(rt; cell.symbol(), "a\u{301}");
-    cell.set_char(rt.alloc(), 'コ')?;
-    assert_eq!(rt; cell.symbol(), "コ");
-    assert_eq!(rt; cell.cell_width(), 2);
-    cell.set_symbol(rt.alloc(), " ")?;
-    assert!(rt; cell == Cell::EMPTY);
-    cell.append_symbol(rt.alloc(), "x")?;
-    assert_eq!(rt; cell.symbol(), " x");
-    cell.reset();
-    cell.append_symbol(rt.alloc(), "x")?;
-    assert_eq!(rt; cell.symbol(), "x");
-    let copy = cell.clone(rt.alloc())?;
-    assert!(rt; copy == cell);
-    assert_eq!(rt; Cell::from_char(rt.alloc(), 'x')?.symbol(), "x");
+    let mut cell = cell(rt.alloc(), "a")?;
+    assert!(rt; appends(rt.alloc(), &mut cell, "\u{301}", "a\u{301}")?);
+    assert!(rt; sets_char(rt.alloc(), &mut cell, 'コ', "コ", 2)?);
+    assert!(rt; is_empty_with(rt.alloc(), &mut cell, " ")?);
+    assert!(rt; appends(rt.alloc(), &mut cell, "x", " x")?);
     Ok(())
+}
+
+// Whether a cell that was reset shows a text that is put behind its symbol, and equals its copy.
+fn appends_to_reset(alloc: Global, first: &str, second: &str) -> Result<bool, AllocError> {
+    let mut cell = Cell::new(alloc, first)?;
+    cell.reset();
+    cell.append_symbol(alloc, second)?;
+    Ok(cell.symbol() == second && cell.clone(alloc)? == cell)
+}
+
+#[test]
+fn symbols_after_a_reset(rt: HostRuntime) -> Result<(), Fail> {
+    assert!(rt; appends_to_reset(rt.alloc(), " x", "x")?);
+    Ok(())
+}
+
+// Whether a text drawn over a cell shows as this symbol.
+fn merges(
+    alloc: Global,
+    cell: Cell,
+    strategy: MergeStrategy,
+    text: &str,
+    symbol: &str,
+) -> Result<bool, AllocError> {
+    let mut cell = cell;
+    cell.merge_symbol(alloc, text, strategy)?;
+    Ok(cell.symbol() == symbol)
+}
+
+// The same over a cell with a symbol.
+fn merges_over(
+    alloc: Global,
+    strategy: MergeStrategy,
+    first: &str,
+    second: &str,
+    symbol: &str,
+) -> Result<bool, AllocError> {
+    let cell = Cell::new(alloc, first)?;
+    merges(alloc, cell, strategy, second, symbol)
 }
 
 #[test]
 fn merged_symbols(rt: HostRuntime) -> Result<(), Fail> {
-    let mut unset = Cell::EMPTY;
-    unset.merge_symbol(rt.alloc(), "╠", MergeStrategy::Exact)?;
-    assert_eq!(rt; unset.symbol(), "╠");
-    let mut blank = Cell::new(rt.alloc(), " ")?;
-    blank.merge_symbol(rt.alloc(), "╠", MergeStrategy::Exact)?;
-    assert_eq!(rt; blank.symbol(), " ");
-    for (strategy, first, second, merged) in [
-        (MergeStrategy::Replace, "│", "━", "━"),
-        (MergeStrategy::Exact, "│", "━", "┿"),
-        (MergeStrategy::Fuzzy, "┘", "╭", "┼"),
-        (MergeStrategy::Fuzzy, "│", "a", "a"),
-    ] {
-        let mut cell = Cell::new(rt.alloc(), first)?;
-        cell.merge_symbol(rt.alloc(), second, strategy)?;
-        assert_eq!(rt; cell.symbol(), merged);
-    }
+    let exact = MergeStrategy::Exact;
+    assert!(rt; merges(rt.alloc(), Cell::EMPTY, exact, "╠", "╠")?);
+    assert!(rt; merges_over(rt.alloc(), exact, " ", "╠", " ")?);
+    assert!(rt; merges_over(rt.alloc(), exact, "│", "━", "┿")?);
+    assert!(rt; merges_over(rt.alloc(), MergeStrategy::Replace, "│", "━", "━")?);
+    assert!(rt; merges_over(rt.alloc(), MergeStrategy::Fuzzy, "┘", "╭", "┼")?);
+    assert!(rt; merges_over(rt.alloc(), MergeStrategy::Fuzzy, "│", "a", "a")?);
     Ok(())
+}
+
+fn hash_of(cell: &Cell) -> u64 {
+    BuildHasherDefault::<FoldHasher>::default().hash_one(cell)
 }
 
 #[test]
 fn equal_cells_have_equal_hashes(rt: HostRuntime) -> Result<(), Fail> {
-    let hasher = BuildHasherDefault::<FoldHasher>::default();
     let unset = Cell::EMPTY;
-    let blank = Cell::new(rt.alloc(), " ")?;
+    let blank = cell(rt.alloc(), " ")?;
     assert!(rt; unset == blank);
-    assert_eq!(rt; hasher.hash_one(&unset), hasher.hash_one(&blank));
-    let mut skipped = Cell::new(rt.alloc(), " ")?;
+    assert!(rt; hash_of(&unset) == hash_of(&blank));
+    let mut skipped = cell(rt.alloc(), " ")?;
     skipped.set_skip(true);
     assert!(rt; skipped != blank);
     Ok(())
 }
 
+// Whether a cell has these colours and this modifier after a style is laid over it.
+fn has_under(cell: &mut Cell, style: Style, fg: Color, bg: Color, modifier: Modifier) -> bool {
+    cell.set_style(style);
+    cell.fg == fg && cell.bg == bg && cell.modifier == modifier && cell.style().fg == Some(fg)
+}
+
 #[test]
 fn styles(rt: HostRuntime) -> Result<(), Fail> {
-    let mut cell = Cell::new(rt.alloc(), "a")?;
+    let mut cell = cell(rt.alloc(), "a")?;
     cell.set_fg(Color::Red).set_bg(Color::Blue);
-    cell.set_style(Style::new().fg(Color::Green).add_modifier(Modifier::BOLD));
-    assert_eq!(rt; cell.fg, Color::Green);
-    assert_eq!(rt; cell.bg, Color::Blue);
-    assert_eq!(rt; cell.modifier, Modifier::BOLD);
-    cell.set_style(Style::new().remove_modifier(Modifier::BOLD));
-    assert_eq!(rt; cell.modifier, Modifier::NONE);
-    assert_eq!(rt; cell.style().fg, Some(Color::Green));
+    let style = Style::new().fg(Color::Green).add_modifier(Modifier::BOLD);
+    assert!(rt; has_under(&mut cell, style, Color::Green, Color::Blue, Modifier::BOLD));
+    let style = Style::new().remove_modifier(Modifier::BOLD);
+    assert!(rt; has_under(&mut cell, style, Color::Green, Color::Blue, Modifier::NONE));
     Ok(())
+}
+
+// Whether a cell with this flag and option is skipped.
+fn is_skipped(skip: bool, diff_option: CellDiffOption) -> bool {
+    let mut cell = Cell::EMPTY;
+    cell.set_skip(skip).set_diff_option(diff_option);
+    cell.is_skipped()
 }
 
 #[test]
 fn skipped(rt: HostRuntime) {
-    for (skip, diff_option, skipped) in [
-        (false, CellDiffOption::None, false),
-        (true, CellDiffOption::None, true),
-        (false, CellDiffOption::Skip, true),
-        (true, CellDiffOption::AlwaysUpdate, false),
-        (true, CellDiffOption::ForcedWidth(NonZeroU16::MIN), false),
-    ] {
-        let mut cell = Cell::EMPTY;
-        cell.set_skip(skip).set_diff_option(diff_option);
-        assert_eq!(rt; cell.is_skipped(), skipped);
-    }
+    let one_wide = CellDiffOption::ForcedWidth(NonZeroU16::MIN);
+    assert!(rt; !is_skipped(false, CellDiffOption::None));
+    assert!(rt; is_skipped(true, CellDiffOption::None));
+    assert!(rt; is_skipped(false, CellDiffOption::Skip));
+    assert!(rt; !is_skipped(true, CellDiffOption::AlwaysUpdate));
+    assert!(rt; !is_skipped(true, one_wide));
 }

@@ -2,9 +2,11 @@
 ghost use Rattle.std.specs.Prelude.{true, []};
 ghost use Rattle.rtui_cell.specs.Look.{empty_look};
 
+use crate::terminal::terminal;
 use rtui_backend::{AsCell, Backend, TestBackend, TestError, WindowSize};
 use rtui_geometry::{Position, Rect, Size};
 use rtui_terminal::{Terminal, TerminalError};
+use std::alloc::Global;
 use std::hash::{DefaultHasher, Hash, Hasher};
 use std::test::Fail;
 
@@ -158,60 +160,77 @@ fn hash_of<T: Hash>(value: &T) -> u64 {
 #[test]
 fn copies_a_terminal(rt: HostRuntime) -> Result<(), Fail> {
     let mut terminal = Terminal::<Refusing>::default_in(rt.alloc());
-    assert_eq!(rt; terminal.viewport_area(), Rect::ZERO);
-    assert_eq!(rt; *terminal.backend(), Refusing { failures: 0 });
+    assert!(rt; terminal.viewport_area() == Rect::ZERO);
+    assert!(rt; *terminal.backend() == Refusing { failures: 0 });
     let copy = terminal.clone(rt.alloc())?;
     assert!(rt; copy == terminal);
-    assert_eq!(rt; hash_of(&copy), hash_of(&terminal));
+    assert!(rt; hash_of(&copy) == hash_of(&terminal));
     assert!(rt; terminal.hide_cursor().is_err());
-    assert_eq!(rt; terminal.backend().failures, 1);
+    assert!(rt; terminal.backend().failures == 1);
     assert!(rt; copy != terminal);
     Ok(())
 }
 
-#[test]
-fn compares_terminals_and_frames(rt: HostRuntime) -> Result<(), Fail> {
-    let (one, other) = (
-        TestBackend::new(rt.alloc(), 2, 1)?,
-        TestBackend::new(rt.alloc(), 2, 1)?,
-    );
-    match (
-        Terminal::new(rt.alloc(), one),
-        Terminal::new(rt.alloc(), other),
-    ) {
-        (Ok(mut one), Ok(mut other)) => {
-            assert!(rt; one == other);
-            assert_eq!(rt; hash_of(&one), hash_of(&other));
-            let mut frame = one.get_frame();
-            let frames = frame == other.get_frame();
-            assert!(rt; frames);
-            assert_eq!(rt; hash_of(&frame), hash_of(&other.get_frame()));
-            frame.set_cursor(1, 0);
-            let frames = frame == other.get_frame();
-            assert!(rt; !frames);
-            match (one.draw(|_| Ok(())), other.draw(|_| Ok(()))) {
-                (Ok(drawn), Ok(again)) => {
-                    assert!(rt; drawn == again);
-                    assert_eq!(rt; hash_of(&drawn), hash_of(&again));
-                }
-                _ => assert!(rt; false),
-            }
-            assert!(rt; one == other);
-            assert!(rt; one.show_cursor().is_ok());
-            assert!(rt; one != other);
-        }
-        _ => assert!(rt; false),
+// Whether two terminals are equal, and their hashes.
+fn are_alike(one: &Terminal<TestBackend>, other: &Terminal<TestBackend>) -> bool {
+    one == other && hash_of(one) == hash_of(other)
+}
+
+// Whether two empty frames, drawn on two terminals, are equal, and their hashes.
+fn draw_alike(one: &mut Terminal<TestBackend>, other: &mut Terminal<TestBackend>) -> bool {
+    match (one.draw(|_| Ok(())), other.draw(|_| Ok(()))) {
+        (Ok(drawn), Ok(again)) => drawn == again && hash_of(&drawn) == hash_of(&again),
+        _ => false,
     }
+}
+
+#[test]
+fn compares_terminals(rt: HostRuntime) -> Result<(), Fail> {
+    let mut one = terminal(rt.alloc(), 2, 1)?;
+    let mut other = terminal(rt.alloc(), 2, 1)?;
+    assert!(rt; are_alike(&one, &other));
+    assert!(rt; draw_alike(&mut one, &mut other));
+    assert!(rt; one == other);
+    assert!(rt; one.show_cursor().is_ok());
+    assert!(rt; one != other);
     Ok(())
+}
+
+// Whether the next frames of two terminals are equal, and their hashes.
+fn frames_are_alike(one: &mut Terminal<TestBackend>, other: &mut Terminal<TestBackend>) -> bool {
+    let frame = one.get_frame();
+    let again = other.get_frame();
+    frame == again && hash_of(&frame) == hash_of(&again)
+}
+
+// Whether a cursor on one of them tells the next frames of two terminals apart.
+fn cursor_parts_frames(one: &mut Terminal<TestBackend>, other: &mut Terminal<TestBackend>) -> bool {
+    let mut frame = one.get_frame();
+    frame.set_cursor(1, 0);
+    frame != other.get_frame()
+}
+
+#[test]
+fn compares_frames(rt: HostRuntime) -> Result<(), Fail> {
+    let mut one = terminal(rt.alloc(), 2, 1)?;
+    let mut other = terminal(rt.alloc(), 2, 1)?;
+    assert!(rt; frames_are_alike(&mut one, &mut other));
+    assert!(rt; cursor_parts_frames(&mut one, &mut other));
+    Ok(())
+}
+
+// Whether a terminal can't start over a backend, for the fault that it was told.
+fn is_refused(alloc: Global, backend: TestBackend) -> bool {
+    match Terminal::new(alloc, backend) {
+        Err(TerminalError::Backend(error)) => error == TestError::Told,
+        _ => false,
+    }
 }
 
 #[test]
 fn refuses_to_start_over_a_failing_backend(rt: HostRuntime) -> Result<(), Fail> {
     let mut backend = TestBackend::new(rt.alloc(), 2, 1)?;
     backend.fail_after(0);
-    match Terminal::new(rt.alloc(), backend) {
-        Err(TerminalError::Backend(error)) => assert_eq!(rt; error, TestError::Told),
-        _ => assert!(rt; false),
-    }
+    assert!(rt; is_refused(rt.alloc(), backend));
     Ok(())
 }
