@@ -1,433 +1,460 @@
 //! Rectangles and the small types beside them.
+use crate::texts::prints;
 use rtui_geometry::{Columns, Margin, Offset, Position, Positions, Rect, Rows, Size};
 use std::test::Fail;
 
+/// The rectangle at this position, cut at the last column and row.
+fn rect(x: u16, y: u16, width: u16, height: u16) -> Rect {
+    Rect::new(x, y, width, height)
+}
+
+/// The rectangle of these fields, not cut.
+fn uncut(x: u16, y: u16, width: u16, height: u16) -> Rect {
+    Rect {
+        x,
+        y,
+        width,
+        height,
+    }
+}
+
+fn position(x: u16, y: u16) -> Position {
+    Position::new(x, y)
+}
+
+fn offset(x: i32, y: i32) -> Offset {
+    Offset::new(x, y)
+}
+
+fn size(width: u16, height: u16) -> Size {
+    Size::new(width, height)
+}
+
+fn margin(horizontal: u16, vertical: u16) -> Margin {
+    Margin::new(horizontal, vertical)
+}
+
+/// Whether a rectangle of one row has this width and ends at this column.
+fn columns_are(rect: Rect, width: u16, right: u16) -> bool {
+    rect.width == width && rect.right() == right && rect.height == 1 && rect.left() == rect.x
+}
+
+/// Whether a rectangle has this height and ends at this row.
+fn rows_are(rect: Rect, height: u16, bottom: u16) -> bool {
+    rect.height == height && rect.bottom() == bottom && rect.top() == rect.y
+}
+
 #[test]
 fn edges_are_cut(rt: HostRuntime) {
-    for (rect, width, right) in [
-        (Rect::new(65530, 0, 100, 1), 5, 65535),
-        (Rect::new(65534, 0, 1, 1), 1, 65535),
-        (Rect::new(65534, 0, 2, 1), 1, 65535),
-        (Rect::new(65535, 0, 5, 1), 0, 65535),
-        (Rect::new(3, 0, 5, 1), 5, 8),
-    ] {
-        assert_eq!(rt; rect.width, width, "{rect}");
-        assert_eq!(rt; rect.right(), right, "{rect}");
-        assert_eq!(rt; rect.height, 1);
-        assert_eq!(rt; rect.left(), rect.x);
-    }
-    for (rect, height, bottom) in [
-        (Rect::new(0, 65530, 1, 100), 5, 65535),
-        (Rect::new(0, 3, 1, 5), 5, 8),
-    ] {
-        assert_eq!(rt; rect.height, height, "{rect}");
-        assert_eq!(rt; rect.bottom(), bottom, "{rect}");
-        assert_eq!(rt; rect.top(), rect.y);
-    }
-    let uncut = Rect {
-        x: 65530,
-        y: 0,
-        width: 100,
-        height: 1,
-    };
-    assert_eq!(rt; uncut.right(), 65535);
-    assert_eq!(rt;
-        Rect::from((Position::new(65530, 0), Size::new(100, 1))),
-        uncut
-    );
+    assert!(rt; columns_are(rect(65530, 0, 100, 1), 5, 65535));
+    assert!(rt; columns_are(rect(65534, 0, 1, 1), 1, 65535));
+    assert!(rt; columns_are(rect(65534, 0, 2, 1), 1, 65535));
+    assert!(rt; columns_are(rect(65535, 0, 5, 1), 0, 65535));
+    assert!(rt; columns_are(rect(3, 0, 5, 1), 5, 8));
+    assert!(rt; rows_are(rect(0, 65530, 1, 100), 5, 65535));
+    assert!(rt; rows_are(rect(0, 3, 1, 5), 5, 8));
+}
+
+#[test]
+fn edges_of_fields_are_not_cut(rt: HostRuntime) {
+    let fields = uncut(65530, 0, 100, 1);
+    assert_eq!(rt; fields.right(), 65535);
+    assert_eq!(rt; Rect::from((position(65530, 0), size(100, 1))), fields);
+}
+
+/// Whether a rectangle has this area and is empty or not.
+fn area_is(rect: Rect, area: u32, empty: bool) -> bool {
+    rect.area() == area && rect.is_empty() == empty && rect.as_size().area() == area
 }
 
 #[test]
 fn area_and_emptiness(rt: HostRuntime) {
-    for (rect, area, empty) in [
-        (Rect::new(1, 2, 3, 4), 12, false),
-        (Rect::new(1, 2, 0, 4), 0, true),
-        (Rect::new(1, 2, 3, 0), 0, true),
-        (Rect::ZERO, 0, true),
-        (Rect::MAX, 4294836225, false),
-    ] {
-        assert_eq!(rt; rect.area(), area, "{rect}");
-        assert_eq!(rt; rect.is_empty(), empty, "{rect}");
-        assert_eq!(rt; rect.as_size().area(), area, "{rect}");
-    }
+    assert!(rt; area_is(rect(1, 2, 3, 4), 12, false));
+    assert!(rt; area_is(rect(1, 2, 0, 4), 0, true));
+    assert!(rt; area_is(rect(1, 2, 3, 0), 0, true));
+    assert!(rt; area_is(Rect::ZERO, 0, true));
+    assert!(rt; area_is(Rect::MAX, 4294836225, false));
+}
+
+/// Whether the rectangle holds this position.
+fn holds(rect: Rect, x: u16, y: u16) -> bool {
+    rect.contains(Position::new(x, y))
 }
 
 #[test]
 fn contains(rt: HostRuntime) {
-    let rect = Rect::new(1, 2, 3, 4);
-    for (x, y, within) in [
-        (1, 2, true),
-        (3, 2, true),
-        (1, 5, true),
-        (3, 5, true),
-        (0, 2, false),
-        (4, 2, false),
-        (1, 1, false),
-        (1, 6, false),
-        (4, 6, false),
-    ] {
-        assert_eq!(rt; rect.contains(Position::new(x, y)), within, "({x}, {y})");
-    }
+    let rect = rect(1, 2, 3, 4);
+    assert!(rt; holds(rect, 1, 2));
+    assert!(rt; holds(rect, 3, 2));
+    assert!(rt; holds(rect, 1, 5));
+    assert!(rt; holds(rect, 3, 5));
+    assert!(rt; !holds(rect, 0, 2));
+    assert!(rt; !holds(rect, 4, 2));
+    assert!(rt; !holds(rect, 1, 1));
+    assert!(rt; !holds(rect, 1, 6));
+    assert!(rt; !holds(rect, 4, 6));
+}
+
+/// Whether this is inside of the margins.
+fn inner_is(rect: Rect, margin: Margin, wanted: Rect) -> bool {
+    rect.inner(margin) == wanted
 }
 
 #[test]
-fn margins(rt: HostRuntime) {
-    let rect = Rect::new(2, 3, 4, 2);
-    for (horizontal, vertical, inner) in [
-        (1, 1, Rect::new(3, 4, 2, 0)),
-        (3, 0, Rect::ZERO),
-        (2, 1, Rect::new(4, 4, 0, 0)),
-        (0, 2, Rect::ZERO),
-        (0, 0, rect),
-        (65535, 0, Rect::ZERO),
-    ] {
-        let margin = Margin::new(horizontal, vertical);
-        assert_eq!(rt; rect.inner(margin), inner, "{margin}");
-    }
-    for (horizontal, vertical, outer) in [
-        (3, 1, Rect::new(0, 2, 9, 4)),
-        (1, 1, Rect::new(1, 2, 6, 4)),
-        (65535, 65535, Rect::MAX),
-    ] {
-        let margin = Margin::new(horizontal, vertical);
-        assert_eq!(rt; rect.outer(margin), outer, "{margin}");
-    }
-    let last = Rect::new(65533, 65533, 2, 2);
-    assert_eq!(rt;
-        last.outer(Margin::new(1, 2)),
-        Rect::new(65532, 65531, 3, 4)
-    );
-    assert_eq!(rt;
-        Rect::MAX.inner(Margin::new(40000, 0)),
-        Rect {
-            x: 40000,
-            y: 0,
-            width: 0,
-            height: 65535
-        }
-    );
+fn inside_of_margins(rt: HostRuntime) {
+    let area = rect(2, 3, 4, 2);
+    assert!(rt; inner_is(area, margin(1, 1), rect(3, 4, 2, 0)));
+    assert!(rt; inner_is(area, margin(3, 0), Rect::ZERO));
+    assert!(rt; inner_is(area, margin(2, 1), rect(4, 4, 0, 0)));
+    assert!(rt; inner_is(area, margin(0, 2), Rect::ZERO));
+    assert!(rt; inner_is(area, margin(0, 0), area));
+    assert!(rt; inner_is(area, margin(65535, 0), Rect::ZERO));
+    assert!(rt; inner_is(Rect::MAX, margin(40000, 0), uncut(40000, 0, 0, 65535)));
+}
+
+/// Whether the rectangle with these margins around is this.
+fn outer_is(rect: Rect, margin: Margin, wanted: Rect) -> bool {
+    rect.outer(margin) == wanted
 }
 
 #[test]
-fn union_and_intersection(rt: HostRuntime) {
-    for (first, second, union, intersection, intersects) in [
-        (
-            Rect::new(1, 2, 3, 4),
-            Rect::new(2, 3, 4, 5),
-            Rect::new(1, 2, 5, 6),
-            Rect::new(2, 3, 2, 3),
-            true,
-        ),
-        (
-            Rect::new(1, 2, 2, 2),
-            Rect::new(5, 6, 1, 1),
-            Rect::new(1, 2, 5, 5),
-            Rect::new(5, 6, 0, 0),
-            false,
-        ),
-        (
-            Rect::new(0, 0, 2, 2),
-            Rect::new(5, 5, 0, 0),
-            Rect::new(0, 0, 5, 5),
-            Rect::new(5, 5, 0, 0),
-            false,
-        ),
-        (
-            Rect::new(0, 0, 4, 4),
-            Rect::new(1, 1, 0, 0),
-            Rect::new(0, 0, 4, 4),
-            Rect::new(1, 1, 0, 0),
-            true,
-        ),
-        (
-            Rect::new(0, 0, 2, 2),
-            Rect::new(2, 0, 2, 2),
-            Rect::new(0, 0, 4, 2),
-            Rect::new(2, 0, 0, 2),
-            false,
-        ),
-    ] {
-        assert_eq!(rt; first.union(second), union, "{first} {second}");
-        assert_eq!(rt; second.union(first), union, "{first} {second}");
-        assert_eq!(rt;
-            first.intersection(second),
-            intersection,
-            "{first} {second}"
-        );
-        assert_eq!(rt;
-            second.intersection(first),
-            intersection,
-            "{first} {second}"
-        );
-        assert_eq!(rt; first.intersects(second), intersects, "{first} {second}");
-        assert_eq!(rt; second.intersects(first), intersects, "{first} {second}");
-    }
+fn margins_around(rt: HostRuntime) {
+    let area = rect(2, 3, 4, 2);
+    assert!(rt; outer_is(area, margin(3, 1), rect(0, 2, 9, 4)));
+    assert!(rt; outer_is(area, margin(1, 1), rect(1, 2, 6, 4)));
+    assert!(rt; outer_is(area, margin(65535, 65535), Rect::MAX));
+    let last = rect(65533, 65533, 2, 2);
+    assert!(rt; outer_is(last, margin(1, 2), rect(65532, 65531, 3, 4)));
+}
+
+/// Whether this is the union of two rectangles, in either order.
+fn union_is(first: Rect, second: Rect, wanted: Rect) -> bool {
+    first.union(second) == wanted && second.union(first) == wanted
+}
+
+#[test]
+fn unions(rt: HostRuntime) {
+    assert!(rt; union_is(rect(1, 2, 3, 4), rect(2, 3, 4, 5), rect(1, 2, 5, 6)));
+    assert!(rt; union_is(rect(1, 2, 2, 2), rect(5, 6, 1, 1), rect(1, 2, 5, 5)));
+    assert!(rt; union_is(rect(0, 0, 2, 2), rect(5, 5, 0, 0), rect(0, 0, 5, 5)));
+    assert!(rt; union_is(rect(0, 0, 4, 4), rect(1, 1, 0, 0), rect(0, 0, 4, 4)));
+    assert!(rt; union_is(rect(0, 0, 2, 2), rect(2, 0, 2, 2), rect(0, 0, 4, 2)));
+}
+
+/// Whether this is the intersection of two rectangles, in either order.
+fn intersection_is(first: Rect, second: Rect, wanted: Rect) -> bool {
+    first.intersection(second) == wanted && second.intersection(first) == wanted
+}
+
+#[test]
+fn intersections(rt: HostRuntime) {
+    assert!(rt; intersection_is(rect(1, 2, 3, 4), rect(2, 3, 4, 5), rect(2, 3, 2, 3)));
+    assert!(rt; intersection_is(rect(1, 2, 2, 2), rect(5, 6, 1, 1), rect(5, 6, 0, 0)));
+    assert!(rt; intersection_is(rect(0, 0, 2, 2), rect(5, 5, 0, 0), rect(5, 5, 0, 0)));
+    assert!(rt; intersection_is(rect(0, 0, 4, 4), rect(1, 1, 0, 0), rect(1, 1, 0, 0)));
+    assert!(rt; intersection_is(rect(0, 0, 2, 2), rect(2, 0, 2, 2), rect(2, 0, 0, 2)));
+}
+
+/// Whether two rectangles intersect or not, in either order.
+fn intersects_is(first: Rect, second: Rect, wanted: bool) -> bool {
+    first.intersects(second) == wanted && second.intersects(first) == wanted
+}
+
+#[test]
+fn intersects(rt: HostRuntime) {
+    assert!(rt; intersects_is(rect(1, 2, 3, 4), rect(2, 3, 4, 5), true));
+    assert!(rt; intersects_is(rect(1, 2, 2, 2), rect(5, 6, 1, 1), false));
+    assert!(rt; intersects_is(rect(0, 0, 2, 2), rect(5, 5, 0, 0), false));
+    assert!(rt; intersects_is(rect(0, 0, 4, 4), rect(1, 1, 0, 0), true));
+    assert!(rt; intersects_is(rect(0, 0, 2, 2), rect(2, 0, 2, 2), false));
+}
+
+/// Whether a rectangle clamped into the one of these fields is this.
+fn clamp_is(rect: Rect, (x, y, width, height): (u16, u16, u16, u16), wanted: Rect) -> bool {
+    rect.clamp(Rect::new(x, y, width, height)) == wanted
 }
 
 #[test]
 fn clamped_into_another(rt: HostRuntime) {
-    let other = Rect::new(10, 10, 100, 100);
-    for (rect, clamped) in [
-        (Rect::new(20, 20, 10, 10), Rect::new(20, 20, 10, 10)),
-        (Rect::new(5, 5, 10, 10), Rect::new(10, 10, 10, 10)),
-        (Rect::new(105, 5, 10, 10), Rect::new(100, 10, 10, 10)),
-        (Rect::new(5, 105, 10, 10), Rect::new(10, 100, 10, 10)),
-        (Rect::new(105, 105, 10, 10), Rect::new(100, 100, 10, 10)),
-        (Rect::new(5, 20, 200, 10), Rect::new(10, 20, 100, 10)),
-        (Rect::new(20, 5, 10, 200), Rect::new(20, 10, 10, 100)),
-        (Rect::new(0, 0, 200, 200), Rect::new(10, 10, 100, 100)),
-    ] {
-        assert_eq!(rt; rect.clamp(other), clamped, "{rect}");
-    }
-    assert_eq!(rt;
-        Rect::new(10, 10, 5, 5).clamp(Rect::new(0, 0, 8, 8)),
-        Rect::new(3, 3, 5, 5)
-    );
+    let other = (10, 10, 100, 100);
+    assert!(rt; clamp_is(rect(20, 20, 10, 10), other, rect(20, 20, 10, 10)));
+    assert!(rt; clamp_is(rect(5, 5, 10, 10), other, rect(10, 10, 10, 10)));
+    assert!(rt; clamp_is(rect(105, 5, 10, 10), other, rect(100, 10, 10, 10)));
+    assert!(rt; clamp_is(rect(5, 105, 10, 10), other, rect(10, 100, 10, 10)));
+    assert!(rt; clamp_is(rect(105, 105, 10, 10), other, rect(100, 100, 10, 10)));
+    assert!(rt; clamp_is(rect(5, 20, 200, 10), other, rect(10, 20, 100, 10)));
+    assert!(rt; clamp_is(rect(20, 5, 10, 200), other, rect(20, 10, 10, 100)));
+    assert!(rt; clamp_is(rect(0, 0, 200, 200), other, rect(10, 10, 100, 100)));
+    assert!(rt; clamp_is(rect(10, 10, 5, 5), (0, 0, 8, 8), rect(3, 3, 5, 5)));
+}
+
+/// Whether a rectangle of this size instead is this.
+fn resize_is(rect: Rect, size: Size, wanted: Rect) -> bool {
+    rect.resize(size) == wanted
 }
 
 #[test]
 fn resized(rt: HostRuntime) {
-    let rect = Rect::new(65530, 65530, 1, 1);
-    for (size, width, height) in [
-        (Size::new(2, 3), 2, 3),
-        (Size::MAX, 5, 5),
-        (Size::ZERO, 0, 0),
-    ] {
-        let wanted = Rect {
-            x: 65530,
-            y: 65530,
-            width,
-            height,
-        };
-        assert_eq!(rt; rect.resize(size), wanted, "{size}");
-    }
+    let last = rect(65530, 65530, 1, 1);
+    assert!(rt; resize_is(last, size(2, 3), uncut(65530, 65530, 2, 3)));
+    assert!(rt; resize_is(last, Size::MAX, uncut(65530, 65530, 5, 5)));
+    assert!(rt; resize_is(last, Size::ZERO, uncut(65530, 65530, 0, 0)));
+}
+
+/// Whether each call that adds an offset to a rectangle gives the first result,
+/// and each that subtracts it the second.
+fn rect_moves(rect: Rect, offset: Offset, added: Rect, subtracted: Rect) -> bool {
+    let mut forward = rect;
+    forward += offset;
+    let mut back = rect;
+    back -= offset;
+    rect + offset == added
+        && offset + rect == added
+        && rect.offset(offset) == added
+        && forward == added
+        && rect - offset == subtracted
+        && back == subtracted
 }
 
 #[test]
 fn offsets_of_rectangles(rt: HostRuntime) {
-    let rect = Rect::new(3, 4, 5, 6);
-    for (offset, added, subtracted) in [
-        (Offset::ZERO, rect, rect),
-        (
-            Offset::new(1, 2),
-            Rect::new(4, 6, 5, 6),
-            Rect::new(2, 2, 5, 6),
-        ),
-        (
-            Offset::new(-1, -2),
-            Rect::new(2, 2, 5, 6),
-            Rect::new(4, 6, 5, 6),
-        ),
-        (
-            Offset::MIN,
-            Rect::new(0, 0, 5, 6),
-            Rect::new(65530, 65529, 5, 6),
-        ),
-        (
-            Offset::MAX,
-            Rect::new(65530, 65529, 5, 6),
-            Rect::new(0, 0, 5, 6),
-        ),
-    ] {
-        assert_eq!(rt; rect + offset, added, "{offset:?}");
-        assert_eq!(rt; offset + rect, added, "{offset:?}");
-        assert_eq!(rt; rect.offset(offset), added, "{offset:?}");
-        assert_eq!(rt; rect - offset, subtracted, "{offset:?}");
-        let mut moved = rect;
-        moved += offset;
-        assert_eq!(rt; moved, added, "{offset:?}");
-        let mut moved = rect;
-        moved -= offset;
-        assert_eq!(rt; moved, subtracted, "{offset:?}");
-    }
-    assert_eq!(rt; rect - (-Offset::MAX), Rect::new(65530, 65529, 5, 6));
+    let area = rect(3, 4, 5, 6);
+    let first = rect(0, 0, 5, 6);
+    let last = rect(65530, 65529, 5, 6);
+    assert!(rt; rect_moves(area, Offset::ZERO, area, area));
+    assert!(rt; rect_moves(area, offset(1, 2), rect(4, 6, 5, 6), rect(2, 2, 5, 6)));
+    assert!(rt; rect_moves(area, offset(-1, -2), rect(2, 2, 5, 6), rect(4, 6, 5, 6)));
+    assert!(rt; rect_moves(area, Offset::MIN, first, last));
+    assert!(rt; rect_moves(area, Offset::MAX, last, first));
+    assert_eq!(rt; area - (-Offset::MAX), last);
+}
+
+/// Whether each call that adds an offset to a position gives the first result,
+/// and each that subtracts it the second.
+fn position_moves(
+    position: Position,
+    offset: Offset,
+    added: Position,
+    subtracted: Position,
+) -> bool {
+    let mut forward = position;
+    forward += offset;
+    let mut back = position;
+    back -= offset;
+    position + offset == added
+        && offset + position == added
+        && position.offset(offset) == added
+        && forward == added
+        && position - offset == subtracted
+        && back == subtracted
 }
 
 #[test]
 fn offsets_of_positions(rt: HostRuntime) {
-    let position = Position::new(10, 10);
-    for (offset, added, subtracted) in [
-        (Offset::ZERO, position, position),
-        (
-            Offset::new(-3, 4),
-            Position::new(7, 14),
-            Position::new(13, 6),
-        ),
-        (
-            Offset::new(5, 20),
-            Position::new(15, 30),
-            Position::new(5, 0),
-        ),
-        (Offset::MAX, Position::MAX, Position::ORIGIN),
-        (Offset::MIN, Position::MIN, Position::MAX),
-    ] {
-        assert_eq!(rt; position + offset, added, "{offset:?}");
-        assert_eq!(rt; offset + position, added, "{offset:?}");
-        assert_eq!(rt; position.offset(offset), added, "{offset:?}");
-        assert_eq!(rt; position - offset, subtracted, "{offset:?}");
-        let mut moved = position;
-        moved += offset;
-        assert_eq!(rt; moved, added, "{offset:?}");
-        let mut moved = position;
-        moved -= offset;
-        assert_eq!(rt; moved, subtracted, "{offset:?}");
-    }
-    assert_eq!(rt; -Offset::new(3, -4), Offset::new(-3, 4));
+    let ten = position(10, 10);
+    assert!(rt; position_moves(ten, Offset::ZERO, ten, ten));
+    assert!(rt; position_moves(ten, offset(-3, 4), position(7, 14), position(13, 6)));
+    assert!(rt; position_moves(ten, offset(5, 20), position(15, 30), position(5, 0)));
+    assert!(rt; position_moves(ten, Offset::MAX, Position::MAX, Position::ORIGIN));
+    assert!(rt; position_moves(ten, Offset::MIN, Position::MIN, Position::MAX));
+    assert_eq!(rt; -Offset::new(3, -4), offset(-3, 4));
+}
+
+/// Whether so many rows are left and the next from the front is this.
+fn front_row_is(rows: &mut Rows, left: usize, wanted: Option<Rect>) -> bool {
+    rows.size_hint() == (left, Some(left)) && rows.next() == wanted
+}
+
+/// Whether so many rows are left and the next from the back is this.
+fn back_row_is(rows: &mut Rows, left: usize, wanted: Option<Rect>) -> bool {
+    rows.size_hint() == (left, Some(left)) && rows.next_back() == wanted
 }
 
 #[test]
 fn rows_from_both_ends(rt: HostRuntime) {
-    let rect = Rect::new(0, 0, 2, 4);
-    let mut rows = Rows::new(rect);
-    for (left, back, y) in [
-        (4, false, Some(0)),
-        (3, true, Some(3)),
-        (2, false, Some(1)),
-        (1, true, Some(2)),
-        (0, false, None),
-        (0, true, None),
-    ] {
-        assert_eq!(rt; rows.size_hint(), (left, Some(left)));
-        let row = if back { rows.next_back() } else { rows.next() };
-        assert_eq!(rt; row, y.map(|y| Rect::new(0, y, 2, 1)));
-    }
-    let mut rows = Rect::new(0, 0, 2, 3).rows();
-    assert_eq!(rt; rows.next(), Some(Rect::new(0, 0, 2, 1)));
-    assert_eq!(rt; rows.next_back(), Some(Rect::new(0, 2, 2, 1)));
-    assert_eq!(rt; rows.next(), Some(Rect::new(0, 1, 2, 1)));
-    assert_eq!(rt; rows.next(), None);
+    let mut rows = Rows::new(rect(0, 0, 2, 4));
+    assert!(rt; front_row_is(&mut rows, 4, Some(rect(0, 0, 2, 1))));
+    assert!(rt; back_row_is(&mut rows, 3, Some(rect(0, 3, 2, 1))));
+    assert!(rt; front_row_is(&mut rows, 2, Some(rect(0, 1, 2, 1))));
+    assert!(rt; back_row_is(&mut rows, 1, Some(rect(0, 2, 2, 1))));
+    assert!(rt; front_row_is(&mut rows, 0, None));
+    assert!(rt; back_row_is(&mut rows, 0, None));
+}
+
+#[test]
+fn rows_of_a_rectangle(rt: HostRuntime) {
+    let mut rows = rect(0, 0, 2, 3).rows();
+    assert!(rt; front_row_is(&mut rows, 3, Some(rect(0, 0, 2, 1))));
+    assert!(rt; back_row_is(&mut rows, 2, Some(rect(0, 2, 2, 1))));
+    assert!(rt; front_row_is(&mut rows, 1, Some(rect(0, 1, 2, 1))));
+    assert!(rt; front_row_is(&mut rows, 0, None));
+}
+
+/// Whether so many columns are left and the next from the front is this.
+fn front_column_is(columns: &mut Columns, left: usize, wanted: Option<Rect>) -> bool {
+    columns.size_hint() == (left, Some(left)) && columns.next() == wanted
+}
+
+/// Whether so many columns are left and the next from the back is this.
+fn back_column_is(columns: &mut Columns, left: usize, wanted: Option<Rect>) -> bool {
+    columns.size_hint() == (left, Some(left)) && columns.next_back() == wanted
 }
 
 #[test]
 fn columns_from_both_ends(rt: HostRuntime) {
-    let rect = Rect::new(0, 0, 4, 2);
-    let mut columns = Columns::new(rect);
-    for (left, back, x) in [
-        (4, true, Some(3)),
-        (3, false, Some(0)),
-        (2, true, Some(2)),
-        (1, false, Some(1)),
-        (0, true, None),
-        (0, false, None),
-    ] {
-        assert_eq!(rt; columns.size_hint(), (left, Some(left)));
-        let column = if back {
-            columns.next_back()
-        } else {
-            columns.next()
-        };
-        assert_eq!(rt; column, x.map(|x| Rect::new(x, 0, 1, 2)));
-    }
-    let uncut = Rect {
-        x: 65530,
-        y: 0,
-        width: 100,
-        height: 1,
-    };
-    assert_eq!(rt; uncut.columns().size_hint(), (5, Some(5)));
-    let mut last = Rect::MAX.columns().skip(65534);
-    assert_eq!(rt; last.next(), Some(Rect::new(65534, 0, 1, 65535)));
-    assert_eq!(rt; last.next(), None);
-    let mut first = Rect::MAX.columns().rev().skip(65534);
-    assert_eq!(rt; first.next(), Some(Rect::new(0, 0, 1, 65535)));
-    assert_eq!(rt; first.next(), None);
+    let mut columns = Columns::new(rect(0, 0, 4, 2));
+    assert!(rt; back_column_is(&mut columns, 4, Some(rect(3, 0, 1, 2))));
+    assert!(rt; front_column_is(&mut columns, 3, Some(rect(0, 0, 1, 2))));
+    assert!(rt; back_column_is(&mut columns, 2, Some(rect(2, 0, 1, 2))));
+    assert!(rt; front_column_is(&mut columns, 1, Some(rect(1, 0, 1, 2))));
+    assert!(rt; back_column_is(&mut columns, 0, None));
+    assert!(rt; front_column_is(&mut columns, 0, None));
+}
+
+/// Whether a rectangle has so many columns.
+fn column_count_is(rect: Rect, count: usize) -> bool {
+    rect.columns().size_hint() == (count, Some(count))
+}
+
+/// Whether after so many columns only this one comes.
+fn one_column_after(rect: Rect, count: usize, wanted: Rect) -> bool {
+    let mut columns = rect.columns().skip(count);
+    columns.next() == Some(wanted) && columns.next().is_none()
+}
+
+/// Whether before so many last columns only this one comes.
+fn one_column_before(rect: Rect, count: usize, wanted: Rect) -> bool {
+    let mut columns = rect.columns().rev().skip(count);
+    columns.next() == Some(wanted) && columns.next().is_none()
+}
+
+#[test]
+fn columns_at_the_edge(rt: HostRuntime) {
+    assert!(rt; column_count_is(uncut(65530, 0, 100, 1), 5));
+    assert!(rt; one_column_after(Rect::MAX, 65534, rect(65534, 0, 1, 65535)));
+    assert!(rt; one_column_before(Rect::MAX, 65534, rect(0, 0, 1, 65535)));
+}
+
+/// Whether so many positions are left and the next is this.
+fn next_position_is(positions: &mut Positions, left: usize, wanted: Option<Position>) -> bool {
+    positions.size_hint() == (left, Some(left)) && positions.next() == wanted
 }
 
 #[test]
 fn positions_row_by_row(rt: HostRuntime) {
-    let mut positions = Positions::new(Rect::new(1, 1, 2, 2));
-    for (left, position) in [
-        (4, Some((1, 1))),
-        (3, Some((2, 1))),
-        (2, Some((1, 2))),
-        (1, Some((2, 2))),
-        (0, None),
-        (0, None),
-    ] {
-        assert_eq!(rt; positions.size_hint(), (left, Some(left)));
-        assert_eq!(rt;
-            positions.next(),
-            position.map(|(x, y)| Position::new(x, y))
-        );
-    }
-    for rect in [
-        Rect::new(0, 0, 0, 1),
-        Rect::new(0, 0, 1, 0),
-        Rect::new(65535, 65535, 3, 3),
-    ] {
-        let mut positions = rect.positions();
-        assert_eq!(rt; positions.size_hint(), (0, Some(0)), "{rect}");
-        assert_eq!(rt; positions.next(), None, "{rect}");
-    }
-    assert_eq!(rt;
-        Rect::new(0, 0, 300, 300).positions().size_hint(),
-        (90000, Some(90000))
-    );
+    let mut positions = Positions::new(rect(1, 1, 2, 2));
+    assert!(rt; next_position_is(&mut positions, 4, Some(position(1, 1))));
+    assert!(rt; next_position_is(&mut positions, 3, Some(position(2, 1))));
+    assert!(rt; next_position_is(&mut positions, 2, Some(position(1, 2))));
+    assert!(rt; next_position_is(&mut positions, 1, Some(position(2, 2))));
+    assert!(rt; next_position_is(&mut positions, 0, None));
+    assert!(rt; next_position_is(&mut positions, 0, None));
+}
+
+/// Whether a rectangle has no position.
+fn has_no_position(rect: Rect) -> bool {
+    next_position_is(&mut rect.positions(), 0, None)
+}
+
+/// Whether a rectangle has so many positions.
+fn position_count_is(rect: Rect, count: usize) -> bool {
+    rect.positions().size_hint() == (count, Some(count))
+}
+
+#[test]
+fn counts_of_positions(rt: HostRuntime) {
+    assert!(rt; has_no_position(rect(0, 0, 0, 1)));
+    assert!(rt; has_no_position(rect(0, 0, 1, 0)));
+    assert!(rt; has_no_position(rect(65535, 65535, 3, 3)));
+    assert!(rt; position_count_is(rect(0, 0, 300, 300), 90000));
 }
 
 #[test]
 fn walks_agree(rt: HostRuntime) -> Result<(), Fail> {
-    let rect = Rect::new(3, 2, 3, 2);
+    let area = rect(3, 2, 3, 2);
     let mut seen = Vec::new(rt.alloc());
-    for row in rect.rows() {
+    for row in area.rows() {
         for position in row.positions() {
             seen.push(position)?;
         }
     }
-    let positions = rect.positions().collect::<Vec<_>>(rt.alloc())?;
+    let positions = area.positions().collect::<Vec<_>>(rt.alloc())?;
     assert_eq!(rt; seen, positions);
     assert_eq!(rt; positions.len(), 6);
-    assert!(rt; positions.iter().all(|p| rect.contains(*p)));
+    assert!(rt; positions.iter().all(|p| area.contains(*p)));
     Ok(())
 }
 
 #[test]
-fn constants(rt: HostRuntime) {
-    assert_eq!(rt; Rect::ZERO, Rect::new(0, 0, 0, 0));
-    assert_eq!(rt;
-        Rect::MIN,
-        Rect::new(u16::MIN, u16::MIN, u16::MIN, u16::MIN)
-    );
-    assert_eq!(rt; Rect::MAX, Rect::new(0, 0, u16::MAX, u16::MAX));
+fn constant_rectangles(rt: HostRuntime) {
+    assert_eq!(rt; Rect::ZERO, rect(0, 0, 0, 0));
+    assert_eq!(rt; Rect::MIN, rect(u16::MIN, u16::MIN, u16::MIN, u16::MIN));
+    assert_eq!(rt; Rect::MAX, rect(0, 0, u16::MAX, u16::MAX));
     assert_eq!(rt; Rect::default(), Rect::ZERO);
-    assert_eq!(rt; Position::ORIGIN, Position::new(0, 0));
-    assert_eq!(rt; Position::MIN, Position::new(u16::MIN, u16::MIN));
-    assert_eq!(rt; Position::MAX, Position::new(u16::MAX, u16::MAX));
+}
+
+#[test]
+fn constant_positions(rt: HostRuntime) {
+    assert_eq!(rt; Position::ORIGIN, position(0, 0));
+    assert_eq!(rt; Position::MIN, position(u16::MIN, u16::MIN));
+    assert_eq!(rt; Position::MAX, position(u16::MAX, u16::MAX));
     assert_eq!(rt; Position::default(), Position::ORIGIN);
-    assert_eq!(rt; Offset::ZERO, Offset::new(0, 0));
-    assert_eq!(rt; Offset::MIN, Offset::new(i32::MIN, i32::MIN));
-    assert_eq!(rt; Offset::MAX, Offset::new(i32::MAX, i32::MAX));
+}
+
+#[test]
+fn constant_offsets(rt: HostRuntime) {
+    assert_eq!(rt; Offset::ZERO, offset(0, 0));
+    assert_eq!(rt; Offset::MIN, offset(i32::MIN, i32::MIN));
+    assert_eq!(rt; Offset::MAX, offset(i32::MAX, i32::MAX));
     assert_eq!(rt; Offset::default(), Offset::ZERO);
-    assert_eq!(rt; Size::ZERO, Size::new(0, 0));
-    assert_eq!(rt; Size::MIN, Size::new(u16::MIN, u16::MIN));
-    assert_eq!(rt; Size::MAX, Size::new(u16::MAX, u16::MAX));
-    assert_eq!(rt; Size::MAX.area(), 4294836225);
+}
+
+/// Whether this is the area of a size.
+fn size_area_is(size: Size, area: u32) -> bool {
+    size.area() == area
+}
+
+#[test]
+fn constant_sizes_and_margins(rt: HostRuntime) {
+    assert_eq!(rt; Size::ZERO, size(0, 0));
+    assert_eq!(rt; Size::MIN, size(u16::MIN, u16::MIN));
+    assert_eq!(rt; Size::MAX, size(u16::MAX, u16::MAX));
+    assert!(rt; size_area_is(Size::MAX, 4294836225));
     assert_eq!(rt; Size::default(), Size::ZERO);
-    assert_eq!(rt; Margin::default(), Margin::new(0, 0));
+    assert_eq!(rt; Margin::default(), margin(0, 0));
+}
+
+/// Whether a rectangle has this corner and this size, and is made of them.
+fn is_made_of(rect: Rect, position: Position, size: Size) -> bool {
+    Position::from(rect) == position
+        && rect.as_position() == position
+        && Size::from(rect) == size
+        && rect.as_size() == size
+        && Rect::from((position, size)) == rect
+}
+
+/// Whether a pair turns into this position and back.
+fn position_of_pair_is(pair: (u16, u16), position: Position) -> bool {
+    Position::from(pair) == position && <(u16, u16)>::from(position) == pair
+}
+
+/// Whether a pair turns into this size and back.
+fn size_of_pair_is(pair: (u16, u16), size: Size) -> bool {
+    Size::from(pair) == size && <(u16, u16)>::from(size) == pair
 }
 
 #[test]
 fn conversions(rt: HostRuntime) {
-    let rect = Rect::new(1, 2, 3, 4);
-    let position = Position::from((1, 2));
-    let size = Size::from((3, 4));
-    assert_eq!(rt; position, Position { x: 1, y: 2 });
-    assert_eq!(rt;
-        size,
-        Size {
-            width: 3,
-            height: 4
-        }
-    );
-    assert_eq!(rt; <(u16, u16)>::from(position), (1, 2));
-    assert_eq!(rt; <(u16, u16)>::from(size), (3, 4));
-    assert_eq!(rt; Position::from(rect), position);
-    assert_eq!(rt; rect.as_position(), position);
-    assert_eq!(rt; Size::from(rect), size);
-    assert_eq!(rt; rect.as_size(), size);
-    assert_eq!(rt; Rect::from((position, size)), rect);
-    assert_eq!(rt; Rect::from(size), Rect::new(0, 0, 3, 4));
-    assert_eq!(rt; Offset::from(Position::new(4, 9)), Offset { x: 4, y: 9 });
+    let corner = Position { x: 1, y: 2 };
+    let extent = Size {
+        width: 3,
+        height: 4,
+    };
+    assert!(rt; position_of_pair_is((1, 2), corner));
+    assert!(rt; size_of_pair_is((3, 4), extent));
+    assert!(rt; is_made_of(rect(1, 2, 3, 4), corner, extent));
+    assert_eq!(rt; Rect::from(size(3, 4)), rect(0, 0, 3, 4));
+    assert_eq!(rt; Offset::from(position(4, 9)), Offset { x: 4, y: 9 });
     assert_eq!(rt;
         Margin::from(5),
         Margin {
@@ -437,28 +464,27 @@ fn conversions(rt: HostRuntime) {
     );
 }
 
+/// Whether a position comes after another, or after none.
+fn comes_after(position: Position, other: Option<Position>) -> bool {
+    other < Some(position)
+}
+
 #[test]
 fn positions_are_ordered_by_column(rt: HostRuntime) {
-    let mut last = None;
-    for (x, y) in [(0, 0), (0, 9), (1, 0), (1, 1), (2, 0)] {
-        let position = Position::new(x, y);
-        assert!(rt; last < Some(position), "{position}");
-        last = Some(position);
-    }
+    assert!(rt; comes_after(position(0, 0), None));
+    assert!(rt; comes_after(position(0, 9), Some(position(0, 0))));
+    assert!(rt; comes_after(position(1, 0), Some(position(0, 9))));
+    assert!(rt; comes_after(position(1, 1), Some(position(1, 0))));
+    assert!(rt; comes_after(position(2, 0), Some(position(1, 1))));
 }
 
 #[test]
 fn texts(rt: HostRuntime) -> Result<(), Fail> {
-    let alloc = rt.alloc();
-    let rect = Rect::new(1, 2, 3, 4);
-    for (text, wanted) in [
-        (rect.to_string(alloc)?, "3x4+1+2"),
-        (Rect::MAX.to_string(alloc)?, "65535x65535+0+0"),
-        (rect.as_position().to_string(alloc)?, "(1, 2)"),
-        (rect.as_size().to_string(alloc)?, "3x4"),
-        (Margin::new(1, 2).to_string(alloc)?, "1x2"),
-    ] {
-        assert_eq!(rt; text.as_str(), wanted);
-    }
+    let rect = rect(1, 2, 3, 4);
+    assert!(rt; prints(rt.alloc(), &rect, "3x4+1+2")?);
+    assert!(rt; prints(rt.alloc(), &Rect::MAX, "65535x65535+0+0")?);
+    assert!(rt; prints(rt.alloc(), &rect.as_position(), "(1, 2)")?);
+    assert!(rt; prints(rt.alloc(), &rect.as_size(), "3x4")?);
+    assert!(rt; prints(rt.alloc(), &margin(1, 2), "1x2")?);
     Ok(())
 }

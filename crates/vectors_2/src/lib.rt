@@ -5,3 +5,5 @@
 mod geometry;
 #[cfg(test)]
 mod layout;
+#[cfg(test)]
+mod texts;

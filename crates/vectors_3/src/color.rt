@@ -1,5 +1,8 @@
 //! Colours, printed and read.
+use crate::texts::prints;
 use rtui_style::{Color, ParseColorError};
+use std::alloc::{AllocError, Global};
+use std::process::Abort;
 use std::test::Fail;
 
 /// Colours and the texts that they print.
@@ -84,51 +87,88 @@ const READ: [(Color, &str); 22] = [
 const REFUSED: &str =
     "256,-1, 7,7 ,+,++7,_- ,#12345,#1234567,#abcdef00,#1++2+3,#-1-2-3,#12 345,#1\u{1F980}2,abcdef0, bcdefa,112233,#gg0000,invalid_color,resets,lightblackk,light,bright,light light red,darkred,lightdarkgray,gr\u{E9}y";
 
-#[test]
-fn prints(rt: HostRuntime) -> Result<(), Fail> {
-    for (color, text) in PRINTED {
-        let printed = color.to_string(rt.alloc())?;
-        assert_eq!(rt; printed.as_str(), text);
+/// Asserts that each colour prints its text.
+fn all_print(rt: &impl Abort, alloc: Global, printed: &[(Color, &str)]) -> Result<(), AllocError> {
+    for (color, text) in printed {
+        assert!(rt; prints(alloc, color, text)?, "{text}");
     }
     Ok(())
+}
+
+#[test]
+fn texts_of_colors(rt: HostRuntime) -> Result<(), Fail> {
+    all_print(&rt, rt.alloc(), &PRINTED)?;
+    Ok(())
+}
+
+/// Whether a text is read as this colour.
+fn is_read(text: &str, color: Color) -> bool {
+    text.parse::<Color>() == Ok(color)
+}
+
+/// Asserts that each colour is read from each of its texts.
+fn all_are_read(rt: &impl Abort, read: &[(Color, &str)]) {
+    for (color, texts) in read {
+        for text in texts.split(',') {
+            assert!(rt; is_read(text, *color), "{text}");
+        }
+    }
 }
 
 #[test]
 fn reads(rt: HostRuntime) {
-    for (color, texts) in READ {
-        for text in texts.split(',') {
-            assert_eq!(rt; text.parse::<Color>(), Ok(color), "{text}");
-        }
+    all_are_read(&rt, &READ);
+}
+
+/// Whether a text is no colour.
+fn is_refused(text: &str) -> bool {
+    text.parse::<Color>() == Err(ParseColorError)
+}
+
+/// Asserts that no colour is read from any of these texts, split by commas.
+fn all_are_refused(rt: &impl Abort, texts: &str) {
+    for text in texts.split(',') {
+        assert!(rt; is_refused(text), "{text}");
     }
-    for text in REFUSED.split(',') {
-        assert_eq!(rt; text.parse::<Color>(), Err(ParseColorError), "{text}");
-    }
+}
+
+#[test]
+fn refuses(rt: HostRuntime) {
+    all_are_refused(&rt, REFUSED);
+    assert!(rt; is_refused(""));
 }
 
 #[test]
 fn refusal_has_its_text(rt: HostRuntime) -> Result<(), Fail> {
-    assert_eq!(rt; "".parse::<Color>(), Err(ParseColorError));
-    let printed = ParseColorError.to_string(rt.alloc())?;
-    assert_eq!(rt; printed.as_str(), "Failed to parse Colors");
+    assert!(rt; prints(rt.alloc(), &ParseColorError, "Failed to parse Colors")?);
     Ok(())
 }
 
+/// Whether a number is this colour.
+fn number_is(number: u32, color: Color) -> bool {
+    Color::from_u32(number) == color
+}
+
 #[test]
-fn numbers_and_bytes(rt: HostRuntime) {
-    for (number, expected) in [
-        (0, Color::Rgb(0, 0, 0)),
-        (0xff0000, Color::Rgb(255, 0, 0)),
-        (0x00ff00, Color::Rgb(0, 255, 0)),
-        (0x0000ff, Color::Rgb(0, 0, 255)),
-        (0xffffff, Color::Rgb(255, 255, 255)),
-        (0xff112233, Color::Rgb(17, 34, 51)),
-    ] {
-        assert_eq!(rt; Color::from_u32(number), expected);
-    }
-    let expected = Color::Rgb(10, 20, 30);
-    assert_eq!(rt; Color::from([10, 20, 30]), expected);
-    assert_eq!(rt; Color::from((10, 20, 30)), expected);
-    assert_eq!(rt; Color::from([10, 20, 30, 255]), expected);
-    assert_eq!(rt; Color::from((10, 20, 30, 255)), expected);
+fn numbers(rt: HostRuntime) {
+    assert!(rt; number_is(0, Color::Rgb(0, 0, 0)));
+    assert!(rt; number_is(0xff0000, Color::Rgb(255, 0, 0)));
+    assert!(rt; number_is(0x00ff00, Color::Rgb(0, 255, 0)));
+    assert!(rt; number_is(0x0000ff, Color::Rgb(0, 0, 255)));
+    assert!(rt; number_is(0xffffff, Color::Rgb(255, 255, 255)));
+    assert!(rt; number_is(0xff112233, Color::Rgb(17, 34, 51)));
+}
+
+/// Whether the bytes, with and without an alpha, are this colour.
+fn bytes_are(red: u8, green: u8, blue: u8, alpha: u8, color: Color) -> bool {
+    Color::from([red, green, blue]) == color
+        && Color::from((red, green, blue)) == color
+        && Color::from([red, green, blue, alpha]) == color
+        && Color::from((red, green, blue, alpha)) == color
+}
+
+#[test]
+fn bytes(rt: HostRuntime) {
+    assert!(rt; bytes_are(10, 20, 30, 255, Color::Rgb(10, 20, 30)));
     assert_eq!(rt; Color::default(), Color::Reset);
 }

@@ -11,3 +11,5 @@ mod style;
 mod stylize;
 #[cfg(test)]
 mod symbols;
+#[cfg(test)]
+mod texts;

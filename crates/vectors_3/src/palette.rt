@@ -4,7 +4,22 @@ use rtui_palette::tailwind::{self, Palette};
 use rtui_style::Color;
 use std::process::Abort;
 
-/// Whether the shades of a palette are these numbers, split by blanks.
+/// Whether this is the number of a shade.
+fn shade_is(number: &str, shade: Color) -> bool {
+    u32::from_str_radix(number, 16).map(Color::from_u32) == Ok(shade)
+}
+
+/// Asserts that the shades are these numbers, split by blanks.
+fn shades_are(rt: &impl Abort, shades: &[Color], numbers: &str) {
+    let mut count = 0usize;
+    for (shade, number) in shades.iter().zip(numbers.split(' ')) {
+        assert!(rt; shade_is(number, *shade), "{number}");
+        count = count.saturating_add(1);
+    }
+    assert_eq!(rt; count, shades.len());
+}
+
+/// Asserts that the shades of a palette are these numbers, split by blanks.
 fn tailwind_is(rt: &impl Abort, palette: Palette, numbers: &str) {
     let shades = [
         palette.c50,
@@ -19,19 +34,10 @@ fn tailwind_is(rt: &impl Abort, palette: Palette, numbers: &str) {
         palette.c900,
         palette.c950,
     ];
-    let mut count = 0usize;
-    for (shade, number) in shades.iter().zip(numbers.split(' ')) {
-        assert_eq!(rt;
-            u32::from_str_radix(number, 16).map(Color::from_u32),
-            Ok(*shade),
-            "{number}"
-        );
-        count = count.saturating_add(1);
-    }
-    assert_eq!(rt; count, shades.len());
+    shades_are(rt, &shades, numbers);
 }
 
-/// Whether the shades of a palette are these numbers, split by blanks.
+/// Asserts that the shades of a palette are these numbers, split by blanks.
 fn accented_is(rt: &impl Abort, palette: AccentedPalette, numbers: &str) {
     let shades = [
         palette.c50,
@@ -49,19 +55,10 @@ fn accented_is(rt: &impl Abort, palette: AccentedPalette, numbers: &str) {
         palette.a400,
         palette.a700,
     ];
-    let mut count = 0usize;
-    for (shade, number) in shades.iter().zip(numbers.split(' ')) {
-        assert_eq!(rt;
-            u32::from_str_radix(number, 16).map(Color::from_u32),
-            Ok(*shade),
-            "{number}"
-        );
-        count = count.saturating_add(1);
-    }
-    assert_eq!(rt; count, shades.len());
+    shades_are(rt, &shades, numbers);
 }
 
-/// Whether the shades of a palette are these numbers, split by blanks.
+/// Asserts that the shades of a palette are these numbers, split by blanks.
 fn non_accented_is(rt: &impl Abort, palette: NonAccentedPalette, numbers: &str) {
     let shades = [
         palette.c50,
@@ -75,16 +72,7 @@ fn non_accented_is(rt: &impl Abort, palette: NonAccentedPalette, numbers: &str) 
         palette.c800,
         palette.c900,
     ];
-    let mut count = 0usize;
-    for (shade, number) in shades.iter().zip(numbers.split(' ')) {
-        assert_eq!(rt;
-            u32::from_str_radix(number, 16).map(Color::from_u32),
-            Ok(*shade),
-            "{number}"
-        );
-        count = count.saturating_add(1);
-    }
-    assert_eq!(rt; count, shades.len());
+    shades_are(rt, &shades, numbers);
 }
 
 #[test]
@@ -320,35 +308,28 @@ fn non_accented_brown_to_blue_gray(rt: HostRuntime) {
 fn worked_values(rt: HostRuntime) {
     assert_eq!(rt; tailwind::SLATE.c500, Color::Rgb(100, 116, 139));
     assert_eq!(rt; material::RED.a700, Color::Rgb(213, 0, 0));
-    for (color, expected) in [
-        (tailwind::BLACK, Color::Rgb(0, 0, 0)),
-        (tailwind::WHITE, Color::Rgb(255, 255, 255)),
-        (material::BLACK, Color::Rgb(0, 0, 0)),
-        (material::WHITE, Color::Rgb(255, 255, 255)),
-    ] {
-        assert_eq!(rt; color, expected);
-    }
+    assert_eq!(rt; tailwind::BLACK, Color::Rgb(0, 0, 0));
+    assert_eq!(rt; tailwind::WHITE, Color::Rgb(255, 255, 255));
+    assert_eq!(rt; material::BLACK, Color::Rgb(0, 0, 0));
+    assert_eq!(rt; material::WHITE, Color::Rgb(255, 255, 255));
+}
+
+/// Asserts that the palette of these numbers has them as shades.
+fn accented_keeps(rt: &impl Abort, variants: [u32; 14], numbers: &str) {
+    accented_is(rt, AccentedPalette::from_variants(variants), numbers);
+}
+
+/// Asserts that the palette of these numbers has them as shades.
+fn non_accented_keeps(rt: &impl Abort, variants: [u32; 10], numbers: &str) {
+    non_accented_is(rt, NonAccentedPalette::from_variants(variants), numbers);
 }
 
 #[test]
 fn palettes_of_numbers(rt: HostRuntime) {
-    let accented = AccentedPalette::from_variants([
-        1,
-        2,
-        3,
-        4,
-        5,
-        6,
-        7,
-        8,
-        9,
-        10,
-        11,
-        12,
-        13,
-        0xff00_000e,
-    ]);
-    accented_is(&rt, accented, "1 2 3 4 5 6 7 8 9 a b c d e");
-    let plain = NonAccentedPalette::from_variants([1, 2, 3, 4, 5, 6, 7, 8, 9, 10]);
-    non_accented_is(&rt, plain, "1 2 3 4 5 6 7 8 9 a");
+    accented_keeps(
+        &rt,
+        [1, 2, 3, 4, 5, 6, 7, 8, 9, 10, 11, 12, 13, 0xff00_000e],
+        "1 2 3 4 5 6 7 8 9 a b c d e",
+    );
+    non_accented_keeps(&rt, [1, 2, 3, 4, 5, 6, 7, 8, 9, 10], "1 2 3 4 5 6 7 8 9 a");
 }

@@ -1,6 +1,7 @@
 //! Modifiers and styles.
 use bitflags::Flags;
 use rtui_style::{Color, Modifier, Style};
+use std::process::Abort;
 
 /// Every modifier with its bit.
 const MODIFIERS: [(Modifier, u16); 9] = [
@@ -15,127 +16,72 @@ const MODIFIERS: [(Modifier, u16); 9] = [
     (Modifier::CROSSED_OUT, 256),
 ];
 
-/// The color pairs: what each sets as foreground and as background.
-fn color_pairs() -> [(Color, Style, Style); 16] {
-    [
-        (Color::Black, Style::new().black(), Style::new().on_black()),
-        (Color::Red, Style::new().red(), Style::new().on_red()),
-        (Color::Green, Style::new().green(), Style::new().on_green()),
-        (
-            Color::Yellow,
-            Style::new().yellow(),
-            Style::new().on_yellow(),
-        ),
-        (Color::Blue, Style::new().blue(), Style::new().on_blue()),
-        (
-            Color::Magenta,
-            Style::new().magenta(),
-            Style::new().on_magenta(),
-        ),
-        (Color::Cyan, Style::new().cyan(), Style::new().on_cyan()),
-        (Color::Gray, Style::new().gray(), Style::new().on_gray()),
-        (
-            Color::DarkGray,
-            Style::new().dark_gray(),
-            Style::new().on_dark_gray(),
-        ),
-        (
-            Color::LightRed,
-            Style::new().light_red(),
-            Style::new().on_light_red(),
-        ),
-        (
-            Color::LightGreen,
-            Style::new().light_green(),
-            Style::new().on_light_green(),
-        ),
-        (
-            Color::LightYellow,
-            Style::new().light_yellow(),
-            Style::new().on_light_yellow(),
-        ),
-        (
-            Color::LightBlue,
-            Style::new().light_blue(),
-            Style::new().on_light_blue(),
-        ),
-        (
-            Color::LightMagenta,
-            Style::new().light_magenta(),
-            Style::new().on_light_magenta(),
-        ),
-        (
-            Color::LightCyan,
-            Style::new().light_cyan(),
-            Style::new().on_light_cyan(),
-        ),
-        (Color::White, Style::new().white(), Style::new().on_white()),
-    ]
-}
-
-/// The modifier pairs: what each adds and takes away.
-fn modifier_pairs() -> [(Modifier, Style, Style); 9] {
-    [
-        (Modifier::BOLD, Style::new().bold(), Style::new().not_bold()),
-        (Modifier::DIM, Style::new().dim(), Style::new().not_dim()),
-        (
-            Modifier::ITALIC,
-            Style::new().italic(),
-            Style::new().not_italic(),
-        ),
-        (
-            Modifier::UNDERLINED,
-            Style::new().underlined(),
-            Style::new().not_underlined(),
-        ),
-        (
-            Modifier::SLOW_BLINK,
-            Style::new().slow_blink(),
-            Style::new().not_slow_blink(),
-        ),
-        (
-            Modifier::RAPID_BLINK,
-            Style::new().rapid_blink(),
-            Style::new().not_rapid_blink(),
-        ),
-        (
-            Modifier::REVERSED,
-            Style::new().reversed(),
-            Style::new().not_reversed(),
-        ),
-        (
-            Modifier::HIDDEN,
-            Style::new().hidden(),
-            Style::new().not_hidden(),
-        ),
-        (
-            Modifier::CROSSED_OUT,
-            Style::new().crossed_out(),
-            Style::new().not_crossed_out(),
-        ),
-    ]
-}
-
-#[test]
-fn modifiers_have_their_bits(rt: HostRuntime) {
+/// Asserts that the modifiers have these bits, and that there are no others.
+fn bits_are(rt: &impl Abort, modifiers: &[(Modifier, u16)]) {
     let mut all = Modifier::empty();
-    for (modifier, bit) in MODIFIERS {
-        assert_eq!(rt; modifier.bits(), bit);
-        assert_eq!(rt; Modifier::from_bits(bit), Some(modifier));
-        all.insert(modifier);
+    for (modifier, bit) in modifiers {
+        assert_eq!(rt; modifier.bits(), *bit);
+        assert_eq!(rt; Modifier::from_bits(*bit), Some(*modifier));
+        all.insert(*modifier);
     }
     assert_eq!(rt; all, Modifier::all());
     assert_eq!(rt; all, Modifier::ALL);
     assert_eq!(rt; all.bits(), 511);
+}
+
+/// Whether no modifier has these bits, and a set can still keep them.
+fn are_unknown(bits: u16) -> bool {
+    Modifier::from_bits(bits).is_none() && Modifier::from_bits_retain(bits).bits() == bits
+}
+
+/// Whether a name is that of this modifier.
+fn name_is(name: &str, modifier: Option<Modifier>) -> bool {
+    Modifier::from_name(name) == modifier
+}
+
+#[test]
+fn modifiers_have_their_bits(rt: HostRuntime) {
+    bits_are(&rt, &MODIFIERS);
     assert_eq!(rt; Modifier::empty(), Modifier::NONE);
     assert_eq!(rt; Modifier::default(), Modifier::NONE);
-    assert_eq!(rt; Modifier::from_bits(512), None);
-    assert_eq!(rt; Modifier::from_bits_retain(512).bits(), 512);
-    assert_eq!(rt;
-        Modifier::from_name("SLOW_BLINK"),
-        Some(Modifier::SLOW_BLINK)
-    );
-    assert_eq!(rt; Modifier::from_name("slow_blink"), None);
+    assert!(rt; are_unknown(512));
+    assert!(rt; name_is("SLOW_BLINK", Some(Modifier::SLOW_BLINK)));
+    assert!(rt; name_is("slow_blink", None));
+}
+
+/// Whether each operator on two sets gives what the call of its name gives.
+fn operators_are_calls(a: Modifier, b: Modifier) -> bool {
+    a | b == a.union(b)
+        && a & b == a.intersection(b)
+        && a ^ b == a.symmetric_difference(b)
+        && a - b == a.difference(b)
+        && !a == a.complement()
+}
+
+/// Whether each operator that assigns leaves what the call of its name gives.
+fn assignments_are_calls(a: Modifier, b: Modifier) -> bool {
+    let mut union = a;
+    union |= b;
+    let mut intersection = a;
+    intersection &= b;
+    let mut symmetric_difference = a;
+    symmetric_difference ^= b;
+    let mut difference = a;
+    difference -= b;
+    union == a.union(b)
+        && intersection == a.intersection(b)
+        && symmetric_difference == a.symmetric_difference(b)
+        && difference == a.difference(b)
+}
+
+/// Asserts that the operators on each two of these sets are calls.
+fn all_are_calls(rt: &impl Abort, sets: &[Modifier]) {
+    for a in sets {
+        for b in sets {
+            assert!(rt; operators_are_calls(*a, *b));
+            assert!(rt; assignments_are_calls(*a, *b));
+        }
+    }
 }
 
 #[test]
@@ -148,27 +94,7 @@ fn modifier_operators_are_set_calls(rt: HostRuntime) {
         Modifier::ALL,
         Modifier::from_bits_retain(0xffff),
     ];
-    for a in sets {
-        assert_eq!(rt; !a, a.complement());
-        for b in sets {
-            assert_eq!(rt; a | b, a.union(b));
-            assert_eq!(rt; a & b, a.intersection(b));
-            assert_eq!(rt; a ^ b, a.symmetric_difference(b));
-            assert_eq!(rt; a - b, a.difference(b));
-            let mut c = a;
-            c |= b;
-            assert_eq!(rt; c, a.union(b));
-            c = a;
-            c &= b;
-            assert_eq!(rt; c, a.intersection(b));
-            c = a;
-            c ^= b;
-            assert_eq!(rt; c, a.symmetric_difference(b));
-            c = a;
-            c -= b;
-            assert_eq!(rt; c, a.difference(b));
-        }
-    }
+    all_are_calls(&rt, &sets);
 }
 
 #[test]
@@ -214,27 +140,97 @@ fn setters_change_their_part(rt: HostRuntime) {
     );
 }
 
-#[test]
-fn every_pair(rt: HostRuntime) {
-    for (color, text, behind) in color_pairs() {
-        assert_eq!(rt; text, Style::new().fg(color), "{color}");
-        assert_eq!(rt; behind, Style::new().bg(color), "{color}");
-    }
-    for (modifier, added, taken) in modifier_pairs() {
-        assert_eq!(rt; added, Style::new().add_modifier(modifier));
-        assert_eq!(rt; taken, Style::new().remove_modifier(modifier));
-    }
+/// Whether these styles set the colour in front and behind.
+fn set_color(text: Style, behind: Style, color: Color) -> bool {
+    text == Style::new().fg(color) && behind == Style::new().bg(color)
 }
 
 #[test]
-fn patches(rt: HostRuntime) {
+fn dark_colors(rt: HostRuntime) {
+    let new = Style::new();
+    assert!(rt; set_color(new.black(), new.on_black(), Color::Black));
+    assert!(rt; set_color(new.red(), new.on_red(), Color::Red));
+    assert!(rt; set_color(new.green(), new.on_green(), Color::Green));
+    assert!(rt; set_color(new.yellow(), new.on_yellow(), Color::Yellow));
+    assert!(rt; set_color(new.blue(), new.on_blue(), Color::Blue));
+    assert!(rt; set_color(new.magenta(), new.on_magenta(), Color::Magenta));
+    assert!(rt; set_color(new.cyan(), new.on_cyan(), Color::Cyan));
+    assert!(rt; set_color(new.gray(), new.on_gray(), Color::Gray));
+}
+
+#[test]
+fn light_colors(rt: HostRuntime) {
+    let new = Style::new();
+    assert!(rt; set_color(new.dark_gray(), new.on_dark_gray(), Color::DarkGray));
+    assert!(rt; set_color(new.light_red(), new.on_light_red(), Color::LightRed));
+    assert!(rt; set_color(new.light_green(), new.on_light_green(), Color::LightGreen));
+    assert!(rt;
+        set_color(
+            new.light_yellow(),
+            new.on_light_yellow(),
+            Color::LightYellow
+        )
+    );
+    assert!(rt; set_color(new.light_blue(), new.on_light_blue(), Color::LightBlue));
+    assert!(rt;
+        set_color(
+            new.light_magenta(),
+            new.on_light_magenta(),
+            Color::LightMagenta
+        )
+    );
+    assert!(rt; set_color(new.light_cyan(), new.on_light_cyan(), Color::LightCyan));
+    assert!(rt; set_color(new.white(), new.on_white(), Color::White));
+}
+
+/// Whether these styles add the modifier and take it away.
+fn set_modifier(added: Style, taken: Style, modifier: Modifier) -> bool {
+    added == Style::new().add_modifier(modifier) && taken == Style::new().remove_modifier(modifier)
+}
+
+#[test]
+fn modifiers(rt: HostRuntime) {
+    let new = Style::new();
+    assert!(rt; set_modifier(new.bold(), new.not_bold(), Modifier::BOLD));
+    assert!(rt; set_modifier(new.dim(), new.not_dim(), Modifier::DIM));
+    assert!(rt; set_modifier(new.italic(), new.not_italic(), Modifier::ITALIC));
+    assert!(rt; set_modifier(new.underlined(), new.not_underlined(), Modifier::UNDERLINED));
+    assert!(rt; set_modifier(new.slow_blink(), new.not_slow_blink(), Modifier::SLOW_BLINK));
+    assert!(rt;
+        set_modifier(
+            new.rapid_blink(),
+            new.not_rapid_blink(),
+            Modifier::RAPID_BLINK
+        )
+    );
+    assert!(rt; set_modifier(new.reversed(), new.not_reversed(), Modifier::REVERSED));
+    assert!(rt; set_modifier(new.hidden(), new.not_hidden(), Modifier::HIDDEN));
+    assert!(rt;
+        set_modifier(
+            new.crossed_out(),
+            new.not_crossed_out(),
+            Modifier::CROSSED_OUT
+        )
+    );
+}
+
+/// A style to patch.
+fn below() -> Style {
+    Style::new().red().on_blue().bold().not_dim()
+}
+
+/// A style to patch it with.
+fn above() -> Style {
+    Style::new().green().underline_color(Color::White).dim()
+}
+
+#[test]
+fn later_styles_win(rt: HostRuntime) {
     let patched = Style::new().bold().patch(Style::new().not_bold());
     assert_eq!(rt; patched.add_modifier, Modifier::NONE);
     assert_eq!(rt; patched.sub_modifier, Modifier::BOLD);
-    let below = Style::new().red().on_blue().bold().not_dim();
-    let above = Style::new().green().underline_color(Color::White).dim();
     assert_eq!(rt;
-        below.patch(above),
+        below().patch(above()),
         Style {
             fg: Some(Color::Green),
             bg: Some(Color::Blue),
@@ -243,13 +239,32 @@ fn patches(rt: HostRuntime) {
             sub_modifier: Modifier::NONE,
         }
     );
-    for a in [below, above, Style::reset(), Style::new()] {
-        assert_eq!(rt; a.patch(Style::new()), a);
-        assert_eq!(rt; Style::new().patch(a), a);
-        for b in [below, above, Style::reset()] {
-            assert_eq!(rt; a.patch(b).patch(below), a.patch(b.patch(below)));
-        }
-    }
+}
+
+/// Whether the empty style changes nothing, below and above.
+fn empty_style_is_neutral(style: Style) -> bool {
+    style.patch(Style::new()) == style && Style::new().patch(style) == style
+}
+
+/// Whether it is the same to patch with two styles in turn or with the two patched.
+fn patches_group(first: Style, second: Style, third: Style) -> bool {
+    first.patch(second).patch(third) == first.patch(second.patch(third))
+}
+
+/// Asserts that patches of a style group, whatever of these styles comes next.
+fn all_patches_group(rt: &impl Abort, style: Style) {
+    assert!(rt; empty_style_is_neutral(style));
+    assert!(rt; patches_group(style, below(), below()));
+    assert!(rt; patches_group(style, above(), below()));
+    assert!(rt; patches_group(style, Style::reset(), below()));
+}
+
+#[test]
+fn patches_can_be_grouped(rt: HostRuntime) {
+    all_patches_group(&rt, below());
+    all_patches_group(&rt, above());
+    all_patches_group(&rt, Style::reset());
+    all_patches_group(&rt, Style::new());
 }
 
 #[test]
@@ -268,30 +283,30 @@ fn has_modifier_needs_all_and_none_taken_whole(rt: HostRuntime) {
 }
 
 #[test]
-fn conversions(rt: HostRuntime) {
+fn conversions_of_colors(rt: HostRuntime) {
+    let red = Style::new().red();
+    assert_eq!(rt; Style::from(Color::Red), red);
+    assert_eq!(rt; Style::from((Color::Red, Color::Blue)), red.on_blue());
+}
+
+#[test]
+fn conversions_of_modifiers(rt: HostRuntime) {
+    let bold = Style::new().bold();
     let two = Modifier::BOLD.union(Modifier::DIM);
-    let colors = Style::new().red().on_blue();
-    for (converted, expected) in [
-        (Style::from(Color::Red), Style::new().red()),
-        (Style::from((Color::Red, Color::Blue)), colors),
-        (Style::from(Modifier::BOLD), Style::new().bold()),
-        (
-            Style::from((two, Modifier::DIM)),
-            Style::new().bold().not_dim(),
-        ),
-        (
-            Style::from((Color::Red, Modifier::DIM)),
-            Style::new().red().dim(),
-        ),
-        (
-            Style::from((Color::Red, Color::Blue, Modifier::DIM)),
-            colors.dim(),
-        ),
-        (
-            Style::from((Color::Red, Color::Blue, two, Modifier::DIM)),
-            colors.bold().not_dim(),
-        ),
-    ] {
-        assert_eq!(rt; converted, expected);
-    }
+    assert_eq!(rt; Style::from(Modifier::BOLD), bold);
+    assert_eq!(rt; Style::from((two, Modifier::DIM)), bold.not_dim());
+}
+
+#[test]
+fn conversions_of_colors_with_modifiers(rt: HostRuntime) {
+    let red = Style::new().red();
+    let colors = red.on_blue();
+    let dim = Modifier::DIM;
+    let two = Modifier::BOLD.union(dim);
+    assert_eq!(rt; Style::from((Color::Red, dim)), red.dim());
+    assert_eq!(rt; Style::from((Color::Red, Color::Blue, dim)), colors.dim());
+    assert_eq!(rt;
+        Style::from((Color::Red, Color::Blue, two, dim)),
+        colors.bold().not_dim()
+    );
 }

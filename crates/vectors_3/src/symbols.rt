@@ -1,20 +1,21 @@
 //! Every symbol, every set of them, the tables of patterns, and markers.
+use crate::texts::prints;
 use rtui_layout::ParseError;
 use rtui_symbols::marker::{self, Marker};
 use rtui_symbols::{bar, block, border, braille, half_block, line, pixel, scrollbar, shade};
 use std::alloc::{AllocError, Global};
+use std::process::Abort;
 use std::test::Fail;
 
-/// The texts, one after another.
-fn joined(alloc: Global, texts: &[&str]) -> Result<String, AllocError> {
-    let mut all = String::new(alloc);
-    for text in texts {
-        all.push_str(text)?;
-    }
-    Ok(all)
+/// Whether the symbols, one after another, are this text.
+fn join_to(symbols: &[&str], text: &str) -> bool {
+    symbols
+        .iter()
+        .flat_map(|symbol| symbol.chars())
+        .eq(text.chars())
 }
 
-fn bar_is(alloc: Global, set: bar::Set, expected: &str) -> Result<bool, AllocError> {
+fn bar_is(set: &bar::Set, expected: &str) -> bool {
     let symbols = [
         set.full,
         set.seven_eighths,
@@ -26,10 +27,10 @@ fn bar_is(alloc: Global, set: bar::Set, expected: &str) -> Result<bool, AllocErr
         set.one_eighth,
         set.empty,
     ];
-    Ok(joined(alloc, &symbols)?.as_str() == expected)
+    join_to(&symbols, expected)
 }
 
-fn block_is(alloc: Global, set: block::Set, expected: &str) -> Result<bool, AllocError> {
+fn block_is(set: &block::Set, expected: &str) -> bool {
     let symbols = [
         set.full,
         set.seven_eighths,
@@ -41,10 +42,10 @@ fn block_is(alloc: Global, set: block::Set, expected: &str) -> Result<bool, Allo
         set.one_eighth,
         set.empty,
     ];
-    Ok(joined(alloc, &symbols)?.as_str() == expected)
+    join_to(&symbols, expected)
 }
 
-fn line_is(alloc: Global, set: line::Set, expected: &str) -> Result<bool, AllocError> {
+fn line_is(set: &line::Set, expected: &str) -> bool {
     let symbols = [
         set.vertical,
         set.horizontal,
@@ -58,10 +59,10 @@ fn line_is(alloc: Global, set: line::Set, expected: &str) -> Result<bool, AllocE
         set.horizontal_up,
         set.cross,
     ];
-    Ok(joined(alloc, &symbols)?.as_str() == expected)
+    join_to(&symbols, expected)
 }
 
-fn border_is(alloc: Global, set: border::Set, expected: &str) -> Result<bool, AllocError> {
+fn border_is(set: &border::Set, expected: &str) -> bool {
     let symbols = [
         set.top_left,
         set.top_right,
@@ -72,16 +73,16 @@ fn border_is(alloc: Global, set: border::Set, expected: &str) -> Result<bool, Al
         set.horizontal_top,
         set.horizontal_bottom,
     ];
-    Ok(joined(alloc, &symbols)?.as_str() == expected)
+    join_to(&symbols, expected)
 }
 
-fn scrollbar_is(alloc: Global, set: scrollbar::Set, expected: &str) -> Result<bool, AllocError> {
+fn scrollbar_is(set: &scrollbar::Set, expected: &str) -> bool {
     let symbols = [set.track, set.thumb, set.begin, set.end];
-    Ok(joined(alloc, &symbols)?.as_str() == expected)
+    join_to(&symbols, expected)
 }
 
 #[test]
-fn bars(rt: HostRuntime) -> Result<(), Fail> {
+fn bars(rt: HostRuntime) {
     let symbols = [
         bar::FULL,
         bar::SEVEN_EIGHTHS,
@@ -92,12 +93,11 @@ fn bars(rt: HostRuntime) -> Result<(), Fail> {
         bar::ONE_QUARTER,
         bar::ONE_EIGHTH,
     ];
-    assert_eq!(rt; joined(rt.alloc(), &symbols)?.as_str(), "█▇▆▅▄▃▂▁");
-    Ok(())
+    assert!(rt; join_to(&symbols, "█▇▆▅▄▃▂▁"));
 }
 
 #[test]
-fn blocks(rt: HostRuntime) -> Result<(), Fail> {
+fn blocks(rt: HostRuntime) {
     let symbols = [
         block::FULL,
         block::SEVEN_EIGHTHS,
@@ -108,12 +108,11 @@ fn blocks(rt: HostRuntime) -> Result<(), Fail> {
         block::ONE_QUARTER,
         block::ONE_EIGHTH,
     ];
-    assert_eq!(rt; joined(rt.alloc(), &symbols)?.as_str(), "█▉▊▋▌▍▎▏");
-    Ok(())
+    assert!(rt; join_to(&symbols, "█▉▊▋▌▍▎▏"));
 }
 
 #[test]
-fn lines(rt: HostRuntime) -> Result<(), Fail> {
+fn lines(rt: HostRuntime) {
     let symbols = [
         line::VERTICAL,
         line::DOUBLE_VERTICAL,
@@ -140,15 +139,11 @@ fn lines(rt: HostRuntime) -> Result<(), Fail> {
         line::VERTICAL_LEFT,
         line::DOUBLE_VERTICAL_LEFT,
     ];
-    assert_eq!(rt;
-        joined(rt.alloc(), &symbols)?.as_str(),
-        "│║┃─═━┐╗┓╮┌╔┏╭┘╝┛╯└╚┗╰┤╣"
-    );
-    Ok(())
+    assert!(rt; join_to(&symbols, "│║┃─═━┐╗┓╮┌╔┏╭┘╝┛╯└╚┗╰┤╣"));
 }
 
 #[test]
-fn more_lines(rt: HostRuntime) -> Result<(), Fail> {
+fn more_lines(rt: HostRuntime) {
     let symbols = [
         line::THICK_VERTICAL_LEFT,
         line::VERTICAL_RIGHT,
@@ -176,15 +171,11 @@ fn more_lines(rt: HostRuntime) -> Result<(), Fail> {
         line::LIGHT_QUADRUPLE_DASH_HORIZONTAL,
         line::HEAVY_QUADRUPLE_DASH_HORIZONTAL,
     ];
-    assert_eq!(rt;
-        joined(rt.alloc(), &symbols)?.as_str(),
-        "┫├╠┣┬╦┳┴╩┻┼╬╋╎╏╌╍┆┇┄┅┊┋┈┉"
-    );
-    Ok(())
+    assert!(rt; join_to(&symbols, "┫├╠┣┬╦┳┴╩┻┼╬╋╎╏╌╍┆┇┄┅┊┋┈┉"));
 }
 
 #[test]
-fn quadrants_and_eighths(rt: HostRuntime) -> Result<(), Fail> {
+fn quadrants_and_eighths(rt: HostRuntime) {
     let symbols = [
         border::QUADRANT_TOP_LEFT,
         border::QUADRANT_TOP_RIGHT,
@@ -206,15 +197,11 @@ fn quadrants_and_eighths(rt: HostRuntime) -> Result<(), Fail> {
         border::ONE_EIGHTH_LEFT_EIGHT,
         border::ONE_EIGHTH_RIGHT_EIGHT,
     ];
-    assert_eq!(rt;
-        joined(rt.alloc(), &symbols)?.as_str(),
-        "▘▝▖▗▀▄▌▐▙▛▜▟▚▞█▔▁▏▕"
-    );
-    Ok(())
+    assert!(rt; join_to(&symbols, "▘▝▖▗▀▄▌▐▙▛▜▟▚▞█▔▁▏▕"));
 }
 
 #[test]
-fn shades(rt: HostRuntime) -> Result<(), Fail> {
+fn shades(rt: HostRuntime) {
     let symbols = [
         shade::EMPTY,
         shade::LIGHT,
@@ -222,96 +209,122 @@ fn shades(rt: HostRuntime) -> Result<(), Fail> {
         shade::DARK,
         shade::FULL,
     ];
-    assert_eq!(rt; joined(rt.alloc(), &symbols)?.as_str(), " ░▒▓█");
-    Ok(())
+    assert!(rt; join_to(&symbols, " ░▒▓█"));
 }
 
 #[test]
-fn sets_of_levels(rt: HostRuntime) -> Result<(), Fail> {
-    assert!(rt; bar_is(rt.alloc(), bar::NINE_LEVELS, "█▇▆▅▄▃▂▁ ")?);
-    assert!(rt; bar_is(rt.alloc(), bar::THREE_LEVELS, "██▄▄▄▄▄  ")?);
-    assert!(rt; bar_is(rt.alloc(), bar::Set::default(), "█▇▆▅▄▃▂▁ ")?);
-    assert!(rt; block_is(rt.alloc(), block::NINE_LEVELS, "█▉▊▋▌▍▎▏ ")?);
-    assert!(rt; block_is(rt.alloc(), block::THREE_LEVELS, "██▌▌▌▌▌  ")?);
-    assert!(rt; block_is(rt.alloc(), block::Set::default(), "█▉▊▋▌▍▎▏ ")?);
-    Ok(())
+fn levels_of_bars(rt: HostRuntime) {
+    assert!(rt; bar_is(&bar::NINE_LEVELS, "█▇▆▅▄▃▂▁ "));
+    assert!(rt; bar_is(&bar::THREE_LEVELS, "██▄▄▄▄▄  "));
+    assert!(rt; bar_is(&bar::Set::default(), "█▇▆▅▄▃▂▁ "));
 }
 
 #[test]
-fn sets_of_lines(rt: HostRuntime) -> Result<(), Fail> {
-    assert!(rt; line_is(rt.alloc(), line::NORMAL, "│─┐┌┘└┤├┬┴┼")?);
-    assert!(rt; line_is(rt.alloc(), line::ROUNDED, "│─╮╭╯╰┤├┬┴┼")?);
-    assert!(rt; line_is(rt.alloc(), line::DOUBLE, "║═╗╔╝╚╣╠╦╩╬")?);
-    assert!(rt; line_is(rt.alloc(), line::THICK, "┃━┓┏┛┗┫┣┳┻╋")?);
-    assert!(rt; line_is(rt.alloc(), line::LIGHT_DOUBLE_DASHED, "╎╌┐┌┘└┤├┬┴┼")?);
-    assert!(rt; line_is(rt.alloc(), line::LIGHT_TRIPLE_DASHED, "┆┄┐┌┘└┤├┬┴┼")?);
-    assert!(rt; line_is(rt.alloc(), line::LIGHT_QUADRUPLE_DASHED, "┊┈┐┌┘└┤├┬┴┼")?);
-    assert!(rt; line_is(rt.alloc(), line::HEAVY_DOUBLE_DASHED, "╏╍┓┏┛┗┫┣┳┻╋")?);
-    assert!(rt; line_is(rt.alloc(), line::HEAVY_TRIPLE_DASHED, "┇┅┓┏┛┗┫┣┳┻╋")?);
-    assert!(rt; line_is(rt.alloc(), line::HEAVY_QUADRUPLE_DASHED, "┋┉┓┏┛┗┫┣┳┻╋")?);
-    assert!(rt; line_is(rt.alloc(), line::Set::default(), "│─┐┌┘└┤├┬┴┼")?);
-    Ok(())
+fn levels_of_blocks(rt: HostRuntime) {
+    assert!(rt; block_is(&block::NINE_LEVELS, "█▉▊▋▌▍▎▏ "));
+    assert!(rt; block_is(&block::THREE_LEVELS, "██▌▌▌▌▌  "));
+    assert!(rt; block_is(&block::Set::default(), "█▉▊▋▌▍▎▏ "));
 }
 
 #[test]
-fn borders_of_lines(rt: HostRuntime) -> Result<(), Fail> {
-    assert!(rt; border_is(rt.alloc(), border::PLAIN, "┌┐└┘││──")?);
-    assert!(rt; border_is(rt.alloc(), border::ROUNDED, "╭╮╰╯││──")?);
-    assert!(rt; border_is(rt.alloc(), border::DOUBLE, "╔╗╚╝║║══")?);
-    assert!(rt; border_is(rt.alloc(), border::THICK, "┏┓┗┛┃┃━━")?);
-    assert!(rt; border_is(rt.alloc(), border::LIGHT_DOUBLE_DASHED, "┌┐└┘╎╎╌╌")?);
-    assert!(rt; border_is(rt.alloc(), border::LIGHT_TRIPLE_DASHED, "┌┐└┘┆┆┄┄")?);
-    assert!(rt; border_is(rt.alloc(), border::LIGHT_QUADRUPLE_DASHED, "┌┐└┘┊┊┈┈")?);
-    assert!(rt; border_is(rt.alloc(), border::HEAVY_DOUBLE_DASHED, "┏┓┗┛╏╏╍╍")?);
-    assert!(rt; border_is(rt.alloc(), border::HEAVY_TRIPLE_DASHED, "┏┓┗┛┇┇┅┅")?);
-    assert!(rt; border_is(rt.alloc(), border::HEAVY_QUADRUPLE_DASHED, "┏┓┗┛┋┋┉┉")?);
-    assert!(rt; border_is(rt.alloc(), border::Set::default(), "┌┐└┘││──")?);
-    Ok(())
+fn sets_of_lines(rt: HostRuntime) {
+    assert!(rt; line_is(&line::NORMAL, "│─┐┌┘└┤├┬┴┼"));
+    assert!(rt; line_is(&line::ROUNDED, "│─╮╭╯╰┤├┬┴┼"));
+    assert!(rt; line_is(&line::DOUBLE, "║═╗╔╝╚╣╠╦╩╬"));
+    assert!(rt; line_is(&line::THICK, "┃━┓┏┛┗┫┣┳┻╋"));
+    assert!(rt; line_is(&line::Set::default(), "│─┐┌┘└┤├┬┴┼"));
 }
 
 #[test]
-fn borders_of_blocks(rt: HostRuntime) -> Result<(), Fail> {
-    assert!(rt; border_is(rt.alloc(), border::QUADRANT_OUTSIDE, "▛▜▙▟▌▐▀▄")?);
-    assert!(rt; border_is(rt.alloc(), border::QUADRANT_INSIDE, "▗▖▝▘▐▌▄▀")?);
-    assert!(rt; border_is(rt.alloc(), border::ONE_EIGHTH_WIDE, "▁▁▔▔▏▕▁▔")?);
-    assert!(rt; border_is(rt.alloc(), border::ONE_EIGHTH_TALL, "▕▏▕▏▕▏▔▁")?);
-    assert!(rt; border_is(rt.alloc(), border::PROPORTIONAL_WIDE, "▄▄▀▀██▄▀")?);
-    assert!(rt; border_is(rt.alloc(), border::PROPORTIONAL_TALL, "██████▀▄")?);
-    assert!(rt; border_is(rt.alloc(), border::FULL, "████████")?);
-    assert!(rt; border_is(rt.alloc(), border::EMPTY, "        ")?);
-    Ok(())
+fn sets_of_light_dashes(rt: HostRuntime) {
+    assert!(rt; line_is(&line::LIGHT_DOUBLE_DASHED, "╎╌┐┌┘└┤├┬┴┼"));
+    assert!(rt; line_is(&line::LIGHT_TRIPLE_DASHED, "┆┄┐┌┘└┤├┬┴┼"));
+    assert!(rt; line_is(&line::LIGHT_QUADRUPLE_DASHED, "┊┈┐┌┘└┤├┬┴┼"));
 }
 
 #[test]
-fn scroll_bars(rt: HostRuntime) -> Result<(), Fail> {
-    assert!(rt; scrollbar_is(rt.alloc(), scrollbar::DOUBLE_VERTICAL, "║█▲▼")?);
-    assert!(rt; scrollbar_is(rt.alloc(), scrollbar::DOUBLE_HORIZONTAL, "═█◄►")?);
-    assert!(rt; scrollbar_is(rt.alloc(), scrollbar::VERTICAL, "│█↑↓")?);
-    assert!(rt; scrollbar_is(rt.alloc(), scrollbar::HORIZONTAL, "─█←→")?);
-    assert!(rt; scrollbar_is(rt.alloc(), scrollbar::Set::default(), "")?);
-    Ok(())
+fn sets_of_heavy_dashes(rt: HostRuntime) {
+    assert!(rt; line_is(&line::HEAVY_DOUBLE_DASHED, "╏╍┓┏┛┗┫┣┳┻╋"));
+    assert!(rt; line_is(&line::HEAVY_TRIPLE_DASHED, "┇┅┓┏┛┗┫┣┳┻╋"));
+    assert!(rt; line_is(&line::HEAVY_QUADRUPLE_DASHED, "┋┉┓┏┛┗┫┣┳┻╋"));
+}
+
+#[test]
+fn borders_of_lines(rt: HostRuntime) {
+    assert!(rt; border_is(&border::PLAIN, "┌┐└┘││──"));
+    assert!(rt; border_is(&border::ROUNDED, "╭╮╰╯││──"));
+    assert!(rt; border_is(&border::DOUBLE, "╔╗╚╝║║══"));
+    assert!(rt; border_is(&border::THICK, "┏┓┗┛┃┃━━"));
+    assert!(rt; border_is(&border::Set::default(), "┌┐└┘││──"));
+}
+
+#[test]
+fn borders_of_light_dashes(rt: HostRuntime) {
+    assert!(rt; border_is(&border::LIGHT_DOUBLE_DASHED, "┌┐└┘╎╎╌╌"));
+    assert!(rt; border_is(&border::LIGHT_TRIPLE_DASHED, "┌┐└┘┆┆┄┄"));
+    assert!(rt; border_is(&border::LIGHT_QUADRUPLE_DASHED, "┌┐└┘┊┊┈┈"));
+}
+
+#[test]
+fn borders_of_heavy_dashes(rt: HostRuntime) {
+    assert!(rt; border_is(&border::HEAVY_DOUBLE_DASHED, "┏┓┗┛╏╏╍╍"));
+    assert!(rt; border_is(&border::HEAVY_TRIPLE_DASHED, "┏┓┗┛┇┇┅┅"));
+    assert!(rt; border_is(&border::HEAVY_QUADRUPLE_DASHED, "┏┓┗┛┋┋┉┉"));
+}
+
+#[test]
+fn borders_of_quadrants_and_eighths(rt: HostRuntime) {
+    assert!(rt; border_is(&border::QUADRANT_OUTSIDE, "▛▜▙▟▌▐▀▄"));
+    assert!(rt; border_is(&border::QUADRANT_INSIDE, "▗▖▝▘▐▌▄▀"));
+    assert!(rt; border_is(&border::ONE_EIGHTH_WIDE, "▁▁▔▔▏▕▁▔"));
+    assert!(rt; border_is(&border::ONE_EIGHTH_TALL, "▕▏▕▏▕▏▔▁"));
+}
+
+#[test]
+fn borders_of_whole_and_half_blocks(rt: HostRuntime) {
+    assert!(rt; border_is(&border::PROPORTIONAL_WIDE, "▄▄▀▀██▄▀"));
+    assert!(rt; border_is(&border::PROPORTIONAL_TALL, "██████▀▄"));
+    assert!(rt; border_is(&border::FULL, "████████"));
+    assert!(rt; border_is(&border::EMPTY, "        "));
+}
+
+#[test]
+fn scroll_bars(rt: HostRuntime) {
+    assert!(rt; scrollbar_is(&scrollbar::DOUBLE_VERTICAL, "║█▲▼"));
+    assert!(rt; scrollbar_is(&scrollbar::DOUBLE_HORIZONTAL, "═█◄►"));
+    assert!(rt; scrollbar_is(&scrollbar::VERTICAL, "│█↑↓"));
+    assert!(rt; scrollbar_is(&scrollbar::HORIZONTAL, "─█←→"));
+    assert!(rt; scrollbar_is(&scrollbar::Set::default(), ""));
+}
+
+/// Whether a table of patterns has this symbol at this place.
+fn is_at(patterns: &[char], place: usize, symbol: char) -> bool {
+    patterns.get(place) == Some(&symbol)
 }
 
 #[test]
 fn patterns(rt: HostRuntime) {
-    let braille = &braille::BRAILLE;
-    assert_eq!(rt;
-        [braille[2], braille[4], braille[255]],
-        ['\u{2808}', '\u{2802}', '\u{28FF}']
-    );
-    let sextants = &pixel::SEXTANTS;
-    assert_eq!(rt;
-        [sextants[1], sextants[21], sextants[22], sextants[62]],
-        ['\u{1FB00}', '▌', '\u{1FB14}', '\u{1FB3B}']
-    );
-    let octants = &pixel::OCTANTS;
-    assert_eq!(rt;
-        [octants[1], octants[4], octants[5], octants[254]],
-        ['\u{1CEA8}', '\u{1CD00}', '▘', '\u{1CDE5}']
-    );
-    for (symbol, expected) in pixel::QUADRANTS.iter().zip(" ▘▝▀▖▌▞▛▗▚▐▜▄▙▟█".chars()) {
-        assert_eq!(rt; *symbol, expected);
-    }
+    assert!(rt; is_at(&braille::BRAILLE, 2, '\u{2808}'));
+    assert!(rt; is_at(&braille::BRAILLE, 4, '\u{2802}'));
+    assert!(rt; is_at(&braille::BRAILLE, 255, '\u{28FF}'));
+    assert!(rt; is_at(&pixel::SEXTANTS, 1, '\u{1FB00}'));
+    assert!(rt; is_at(&pixel::SEXTANTS, 21, '▌'));
+    assert!(rt; is_at(&pixel::SEXTANTS, 22, '\u{1FB14}'));
+    assert!(rt; is_at(&pixel::SEXTANTS, 62, '\u{1FB3B}'));
+    assert!(rt; is_at(&pixel::OCTANTS, 1, '\u{1CEA8}'));
+    assert!(rt; is_at(&pixel::OCTANTS, 4, '\u{1CD00}'));
+    assert!(rt; is_at(&pixel::OCTANTS, 5, '▘'));
+    assert!(rt; is_at(&pixel::OCTANTS, 254, '\u{1CDE5}'));
+}
+
+/// Whether the symbols are those of this text.
+fn symbols_are(symbols: &[char], text: &str) -> bool {
+    symbols.iter().copied().eq(text.chars())
+}
+
+#[test]
+fn quadrants_and_halves(rt: HostRuntime) {
+    assert!(rt; symbols_are(&pixel::QUADRANTS, " ▘▝▀▖▌▞▛▗▚▐▜▄▙▟█"));
     assert_eq!(rt;
         [half_block::UPPER, half_block::LOWER, half_block::FULL],
         ['▀', '▄', '█']
@@ -332,28 +345,42 @@ const NAMES: [(Marker, &str); 9] = [
     (Marker::Custom('\0'), "Custom"),
 ];
 
-#[test]
-fn markers_print_their_names(rt: HostRuntime) -> Result<(), Fail> {
-    for (marker, name) in NAMES {
-        let printed = marker.to_string(rt.alloc())?;
-        assert_eq!(rt; printed.as_str(), name);
+/// Asserts that each marker prints its name.
+fn all_print(rt: &impl Abort, alloc: Global, names: &[(Marker, &str)]) -> Result<(), AllocError> {
+    for (marker, name) in names {
+        assert!(rt; prints(alloc, marker, name)?, "{name}");
     }
-    let printed = Marker::Custom('+').to_string(rt.alloc())?;
-    assert_eq!(rt; printed.as_str(), "Custom");
-    assert_eq!(rt; Marker::default(), Marker::Dot);
     Ok(())
 }
 
 #[test]
-fn markers_read_their_names(rt: HostRuntime) {
-    for (marker, name) in NAMES {
-        assert_eq!(rt; name.parse::<Marker>(), Ok(marker), "{name}");
+fn markers_print_their_names(rt: HostRuntime) -> Result<(), Fail> {
+    all_print(&rt, rt.alloc(), &NAMES)?;
+    assert!(rt; prints(rt.alloc(), &Marker::Custom('+'), "Custom")?);
+    assert_eq!(rt; Marker::default(), Marker::Dot);
+    Ok(())
+}
+
+/// Asserts that each marker is read from its name.
+fn all_are_read(rt: &impl Abort, names: &[(Marker, &str)]) {
+    for (marker, name) in names {
+        assert_eq!(rt; name.parse::<Marker>(), Ok(*marker), "{name}");
     }
-    for text in "custom,Dots,dot, Dot,half block,".split(',') {
+}
+
+/// Asserts that no marker is read from any of these texts, split by commas.
+fn none_is_read(rt: &impl Abort, texts: &str) {
+    for text in texts.split(',') {
         assert_eq!(rt;
             text.parse::<Marker>(),
             Err(ParseError::VariantNotFound),
             "{text}"
         );
     }
+}
+
+#[test]
+fn markers_read_their_names(rt: HostRuntime) {
+    all_are_read(&rt, &NAMES);
+    none_is_read(&rt, "custom,Dots,dot, Dot,half block,");
 }
