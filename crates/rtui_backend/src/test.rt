@@ -298,6 +298,7 @@ impl Backend for TestBackend {
         ensures turn { TakesTurn result self.old self.new }
     {
         self.begin()?;
+        // The area's edges fit 16 bits, and so does the cursor's place.
         let _area = self.buffer.area();
         Ok(self.cursor)
     }

@@ -10,8 +10,7 @@ use Rattle.rtui_diff.specs.Walk.{Walk, start, gives, turn, give, given}
 use Rattle.rtui_cell.specs.Grid.{Grid, puts}
 use Rattle.rtui_diff.specs.Updates.{update_at, updates, RisesFrom, IsBefore, Rises, IsOwn}
 use Rattle.rtui_diff.specs.Settled.{IsSettled}
-use Rattle.rtui_diff.specs.Shows.{ShowsColumn, Shows}
-use Rattle.rtui_diff.specs.Given.{Replays}
+use Rattle.rtui_diff.specs.Shows.{ShowsColumn, Shows, Replays}
 use Rattle.rtui_diff.proofs.WalkLemmas.{given-step, given-none, unskipped}
 use Rattle.rtui_diff.proofs.ColumnLemmas.{replay_column}
 use Rattle.rtui_diff.proofs.FrameLemmas.{Fits, row_start, column_in, row_in, row_end, settled_flat, place_shown, column_shown, puts_inside, puts_outside}

@@ -1,12 +1,11 @@
 -- Which places are given, in words of columns.
-use Rattle.std.specs.Prelude.{◌≡◌, ◌⊎◌, ℕ, ◌+◌, ◌<◌, ◌≤◌, true, false, ◌&&◌, not, List, filter, Contains}
+use Rattle.std.specs.Prelude.{◌≡◌, ℕ, ◌+◌, ◌<◌, ◌≤◌, true, false, ◌&&◌, not, List, filter, Contains}
 use Rattle.std.specs.List.{range_with_len}
 use Rattle.rtui_cell.specs.declared.cell.Cell.{Cell}
 use Rattle.rtui_cell.specs.Cell.{empty_cell, width_of, is_skipped}
 use Rattle.rtui_diff.specs.Cells.{has_fe0f, is_forced, is_always, shows_on_blank, cell, cell_at}
 use Rattle.rtui_cell.specs.Equality.{is_same, is_same_symbol}
-use Rattle.rtui_cell.specs.Grid.{Grid, Update, puts}
-use Rattle.rtui_diff.specs.Shows.{Shows}
+use Rattle.rtui_cell.specs.Grid.{Update}
 
 -- the unskipped places that differ, of len places
 abbrev pub differing : List Cell → List Cell → ℕ → List ℕ
@@ -46,11 +45,6 @@ pub record Uncovers (x0 y0 w : ℕ) (ps ns : List Cell) (us : List Update) (a b 
 pub record GivesLittle (x0 y0 w h : ℕ) (ps ns : List Cell) (us : List Update) : Type 0 where
   pub behind : (a b j : ℕ) → a < w → b < h → IsGiven x0 y0 us a b → j < a → is_skipped (cell_at w ns j b) ≡ false → a < j + width_of (cell_at w ns j b) → Repeats x0 y0 w ps ns us j a b
   pub same : (a b : ℕ) → a < w → b < h → IsGiven x0 y0 us a b → is_same (cell_at w ps a b) (cell_at w ns a b) ≡ true → is_always (cell_at w ns a b) ≡ false → Uncovers x0 y0 w ps ns us a b
-
--- putting the updates on a screen that shows prev over the area gives one that shows next there, and is the same elsewhere
-pub record Replays (x0 y0 w h : ℕ) (ps ns : List Cell) (us : List Update) : Type 0 where
-  pub shows : (W H : ℕ) (g : Grid) → x0 + w ≤ W → y0 + h ≤ H → Shows x0 y0 w h ps g → Shows x0 y0 w h ns (puts W H us g)
-  pub outside : (W H : ℕ) (g : Grid) → x0 + w ≤ W → y0 + h ≤ H → (a b : ℕ) → (a < x0) ⊎ (x0 + w ≤ a) ⊎ (b < y0) ⊎ (y0 + h ≤ b) → puts W H us g a b ≡ g a b
 
 -- no unskipped wide cell covers column a from before
 pub record IsFree (w : ℕ) (cells : List Cell) (a b : ℕ) : Type 0 where

@@ -1,5 +1,5 @@
--- What it means that a grid shows a frame, and that a row agrees with a frame's row.
-use Rattle.std.specs.Prelude.{◌≡◌, ℕ, ◌+◌, ◌*◌, ◌<◌, ◌≤◌, Bool, false, not, List, map, filter, length, slice_index_or}
+-- What it means that a grid shows a frame, that a row agrees with a frame's row, and that updates bring a frame on a grid.
+use Rattle.std.specs.Prelude.{◌≡◌, ◌⊎◌, ℕ, ◌+◌, ◌*◌, ◌<◌, ◌≤◌, Bool, false, not, List, map, filter, length, slice_index_or}
 use Rattle.std.specs.List.{range_with_len}
 use Rattle.rtui_cell.specs.declared.cell.Cell.{Cell}
 use Rattle.rtui_cell.specs.Look.{Look, empty_look, look_of}
@@ -32,3 +32,8 @@ repaint x0 y0 w h ns = map (update_at x0 y0 w ns) (filter (is_plain ns) (range_w
 -- a full repaint over an area shows the cells there, whatever the grid had
 pub record Repaints (w h : ℕ) (ns : List Cell) : Type 0 where
   pub shows : (W H x0 y0 : ℕ) (g : Grid) → x0 + w ≤ W → y0 + h ≤ H → Shows x0 y0 w h ns (puts W H (repaint x0 y0 w h ns) g)
+
+-- putting the updates on a screen that shows prev over the area gives one that shows next there, and is the same elsewhere
+pub record Replays (x0 y0 w h : ℕ) (ps ns : List Cell) (us : List Update) : Type 0 where
+  pub shows : (W H : ℕ) (g : Grid) → x0 + w ≤ W → y0 + h ≤ H → Shows x0 y0 w h ps g → Shows x0 y0 w h ns (puts W H us g)
+  pub outside : (W H : ℕ) (g : Grid) → x0 + w ≤ W → y0 + h ≤ H → (a b : ℕ) → (a < x0) ⊎ (x0 + w ≤ a) ⊎ (b < y0) ⊎ (y0 + h ≤ b) → puts W H us g a b ≡ g a b

@@ -30,7 +30,8 @@ impl<'prev, 'next> BufferDiff<'prev, 'next> {
     ghost use Rattle.rtui_diff.specs.Left.{updates_left};
     ghost use Rattle.rtui_diff.specs.Settled.{IsSettled};
     ghost use Rattle.rtui_diff.specs.Updates.{update_at, updates, Rises, IsOwn};
-    ghost use Rattle.rtui_diff.specs.Given.{IsNarrow, differing, Replays, GivesLittle, GivesEnough};
+    ghost use Rattle.rtui_diff.specs.Shows.{Replays};
+    ghost use Rattle.rtui_diff.specs.Given.{IsNarrow, differing, GivesLittle, GivesEnough};
 
     /// The updates over the area at (x, y) of this width and height, in columns and rows. Both lists have its
     /// cells, row by row, and may go on behind it.

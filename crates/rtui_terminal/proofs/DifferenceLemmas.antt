@@ -4,9 +4,9 @@ use Rattle.std.proofs.lemmas.Bool.{cases_lt}
 use Rattle.std.proofs.lemmas.List.{length-map}
 use Rattle.rtui_geometry.specs.declared.rect.Rect.{Rect}
 use Rattle.rtui_cell.specs.Grid.{Update}
-use Rattle.rtui_diff.specs.Shows.{ShowsColumn, Shows}
+use Rattle.rtui_diff.specs.Shows.{ShowsColumn, Shows, Replays}
 use Rattle.rtui_diff.specs.Updates.{update_at}
-use Rattle.rtui_diff.specs.Given.{IsNarrow, differing, Replays}
+use Rattle.rtui_diff.specs.Given.{IsNarrow, differing}
 use Rattle.rtui_buffer.specs.Sheet.{Sheet}
 use Rattle.rtui_buffer.specs.Frame.{IsSettledSheet, common_rows}
 use Rattle.rtui_backend.specs.Screen.{Screen, Draws, IsWithin}
