@@ -1,8 +1,10 @@
 -- What a `TestBackend` stands for.
-use Rattle.std.specs.Prelude.{◌≡◌, ◌↔◌, ℕ, ◌-◌, ◌==◌, if◌then◌else◌, map, Option, Some, None, Result, Err, MatchResult, OnErr}
+use Rattle.std.specs.Prelude.{◌≡◌, ◌↔◌, ℕ, ◌-◌, ◌==◌, if◌then◌else◌, map, Option, Some, None, Result, Err, MatchResult, OnErr, List}
+use Rattle.std.specs.Iterator.{Yields}
 use Rattle.rtui_cell.specs.Look.{look_of}
+use Rattle.rtui_cell.specs.Grid.{Update}
 use Rattle.rtui_buffer.specs.Sheet.{Sheet}
-use Rattle.rtui_backend.specs.Screen.{Screen}
+use Rattle.rtui_backend.specs.Screen.{Screen, Draws}
 use Rattle.rtui_backend.specs.Looks.{grid_of}
 use Rattle.rtui_backend.specs.declared.test.TestBackend.{TestBackend}
 use Rattle.rtui_backend.specs.declared.test.TestError.{TestError}
@@ -49,3 +51,10 @@ pub record TakesTurn {T : Type 0} (result : Result T TestError) (old new : TestB
 pub record IsSameBackend (old new : TestBackend) : Type 0 where
   pub screen : screen_of new ≡ screen_of old
   pub failures : failures_of new ≡ failures_of old
+
+-- the first items that an iterator gives, maybe none, were put in order and counted, and the others weren't
+pub record DrawsFront {S A : Type 0} (steps : S → Option A → S → Type 0) (content : S) (update : A → Update) (old new : Screen) : Type 0 where
+  pub front : List A
+  pub rest : S
+  pub gives : Yields steps content front rest
+  pub draws : Draws old (map update front) new

@@ -1,6 +1,6 @@
 //! A backend in memory.
 
-ghost use Rattle.std.specs.Prelude.{◌≡◌, ◌↔◌, ℕ, ◌+◌, ◌-◌, ◌*◌, ◌^◌, ◌<◌, ◌≤◌, ◌==◌, ◌&&◌, true, nat_lt, if◌then◌else◌, List, [], ◌∷◌, map, length, Some, IfOk, OnOk};
+ghost use Rattle.std.specs.Prelude.{◌≡◌, ◌↔◌, ℕ, ◌+◌, ◌-◌, ◌*◌, ◌^◌, ◌<◌, ◌≤◌, ◌==◌, ◌&&◌, true, nat_lt, if◌then◌else◌, List, [], ◌∷◌, map, length, Some, IfOk, OnOk, OnErr};
 ghost use Rattle.std.specs.Iterator.{IsFinite, Drains};
 ghost use Rattle.rtui_cell.specs.Look.{look_of, empty_look};
 ghost use Rattle.rtui_cell.specs.Cell.{width_of};
@@ -86,7 +86,8 @@ fn put_cell(cells: &mut [Cell], size: Size, x: u16, y: u16, cell: &Cell, shown: 
 }
 
 /// A screen in memory, for tests: it keeps the contract of `Backend`, shows what it holds, and fails when it is
-/// told to. Its cells have no options and no flags.
+/// told to. A draw leaves the cursor where it is, and where memory is refused it has put the items before. Its
+/// cells have no options and no flags.
 #[derive(Debug, Drop, PartialEq, Eq, Hash)]
 pub struct TestBackend {
     buffer: Buffer,
@@ -109,7 +110,7 @@ impl TestBackend {
     ghost use Rattle.std.specs.Prelude.{None};
     ghost use Rattle.rtui_cell.specs.declared.cell.Cell.{Cell};
     ghost use Rattle.rtui_backend.specs.Screen.{IsBlankScreen, cursor_of};
-    ghost use Rattle.rtui_backend.specs.Memory.{screen_of, sheet_of, failures_of, told_after, TakesTurn, IsSameBackend};
+    ghost use Rattle.rtui_backend.specs.Memory.{screen_of, sheet_of, failures_of, told_after, TakesTurn, IsSameBackend, DrawsFront};
 
     /// A blank screen of this size in columns and rows, its cursor visible in the corner; refused where memory
     /// is.
@@ -211,6 +212,8 @@ impl TestBackend {
     // Puts and counts one item.
     fn put(&mut self, x: u16, y: u16, cell: &Cell) -> Result<(), AllocError>
         ensures ok { OnOk result (Draws (screen_of self.old) (record { x = x; y = y; cell = cell.now } ∷ []) (screen_of self.new)) }
+        ensures memory { OnErr result (self.new ≡ self.old) }
+        ensures cursor { cursor_of (screen_of self.new) ≡ cursor_of (screen_of self.old) }
         ensures failures { failures_of self.new ≡ failures_of self.old }
         ensures told { told_after self.new ≡ told_after self.old }
     {
@@ -229,6 +232,8 @@ impl TestBackend {
         requires can { I.can_next content }
         requires finite { IsFinite (I.remaining content) }
         ensures ok { OnOk result ((items : List (ℕ × ℕ × C)) × Drains I.next_gives content items × Draws (screen_of self.old) (map (update_by C.cell) items) (screen_of self.new)) }
+        ensures memory { OnErr result (DrawsFront I.next_gives content (update_by C.cell) (screen_of self.old) (screen_of self.new)) }
+        ensures cursor { cursor_of (screen_of self.new) ≡ cursor_of (screen_of self.old) }
         ensures failures { failures_of self.new ≡ failures_of self.old }
         ensures told { told_after self.new ≡ told_after self.old }
     {
@@ -243,7 +248,7 @@ impl Backend for TestBackend {
     ghost use Rattle.std.specs.Prelude.{true, false};
     ghost use Rattle.rtui_geometry.specs.declared.size.Size.{Size};
     ghost use Rattle.rtui_backend.specs.Screen.{IsOnGrid, with_visible, with_cursor, cursor_of, size_of};
-    ghost use Rattle.rtui_backend.specs.Memory.{screen_of, failures_of, told_after, one_call_less, TakesTurn};
+    ghost use Rattle.rtui_backend.specs.Memory.{screen_of, failures_of, told_after, one_call_less, TakesTurn, DrawsFront};
 
     type Error = TestError;
 
@@ -258,6 +263,8 @@ impl Backend for TestBackend {
         requires can { I.can_next content }
         requires finite { IsFinite (I.remaining content) }
         ensures ok { OnOk result ((items : List (ℕ × ℕ × C)) × Drains I.next_gives content items × Draws (screen_of self.old) (map (update_by C.cell) items) (screen_of self.new)) }
+        ensures memory { result ≡ Err TestError.Memory → DrawsFront I.next_gives content (update_by C.cell) (screen_of self.old) (screen_of self.new) }
+        ensures cursor { cursor_of (screen_of self.new) ≡ cursor_of (screen_of self.old) }
         ensures counts { Counts result (failures_of self.old) (failures_of self.new) }
         ensures told { (result ≡ Err TestError.Told) ↔ (told_after self.old ≡ Some 0) }
         ensures unchanged { result ≡ Err TestError.Told → screen_of self.new ≡ screen_of self.old }

@@ -8,3 +8,5 @@ pub mod StyleLemmas
 pub mod LineLemmas
 pub mod RowLemmas
 pub mod OverlayLemmas
+pub mod FrontLemmas
+pub mod ColumnLemmas

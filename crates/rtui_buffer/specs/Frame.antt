@@ -1,6 +1,8 @@
 -- Buffers as frames of a screen.
-use Rattle.std.specs.Prelude.{◌≡◌, ℕ, min, List}
-use Rattle.rtui_cell.specs.Grid.{Grid, Update}
+use Rattle.std.specs.Prelude.{◌≡◌, ℕ, min, List, map}
+use Rattle.std.specs.Borrow.{Bor}
+use Rattle.rtui_cell.specs.declared.cell.Cell.{Cell}
+use Rattle.rtui_cell.specs.Grid.{Grid, Update, update_by}
 use Rattle.rtui_diff.specs.Settled.{IsSettled}
 use Rattle.rtui_diff.specs.Shows.{Shows}
 use Rattle.rtui_diff.specs.Updates.{updates}
@@ -27,3 +29,7 @@ common_rows prev next = min prev.area.height next.area.height
 -- the updates from one buffer to the next, over their common rows
 abbrev pub sheet_updates : Sheet → Sheet → List Update
 sheet_updates prev next = updates prev.area.x prev.area.y prev.area.width (common_rows prev next) prev.cells next.cells
+
+-- the updates in a list of lent cells
+abbrev pub listed : List (ℕ × ℕ × Bor Cell) → List Update
+listed items = map (update_by (λ cell. cell.now)) items

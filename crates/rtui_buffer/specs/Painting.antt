@@ -22,7 +22,7 @@ painted_width text = if has_control text then 0 else text_width text
 abbrev pub is_painted : List ℕ → Bool
 is_painted text = nat_lt 0 (painted_width text)
 
--- the longest front whose widths sum to at most the room
+-- the graphemes from the first on, as far as there is room
 unfoldable pub fitting : ℕ → List (List ℕ) → List (List ℕ)
 fitting room [] = []
 fitting room (g ∷ gs) = if nat_le (text_width g) room then g ∷ fitting (room - text_width g) gs else []
@@ -30,6 +30,12 @@ fitting room (g ∷ gs) = if nat_le (text_width g) room then g ∷ fitting (room
 -- the graphemes of a list that are painted in this room
 unfoldable pub kept : ℕ → List (List ℕ) → List (List ℕ)
 kept room gs = fitting room (filter is_painted gs)
+
+-- of these graphemes, the longest front whose widths sum to at most the room
+pub record IsLongestFront (room : ℕ) (gs front : List (List ℕ)) : Type 0 where
+  pub first : front ≡ take (length front) gs
+  pub fits : sum_by text_width front ≤ room
+  pub longest : (n : ℕ) → n ≤ length gs → sum_by text_width (take n gs) ≤ room → n ≤ length front
 
 -- a grapheme and the style that it is painted in
 pub record Piece : Type 0 where

@@ -1,14 +1,14 @@
 -- Painting into a buffer, from a position on.
-use Rattle.std.specs.Prelude.{ℕ, ◌+◌, ◌-◌, ◌≡◌, ◌≤◌, ◌<◌, ◌&&◌, nat_le, nat_lt, if◌then◌else◌, min, List, length}
+use Rattle.std.specs.Prelude.{ℕ, ◌+◌, ◌-◌, ◌≡◌, ◌⊎◌, ◌≤◌, ◌<◌, ◌&&◌, nat_le, nat_lt, if◌then◌else◌, min, List, length, take}
 use Rattle.rtui_geometry.specs.declared.position.Position.{Position}
 use Rattle.rtui_geometry.specs.declared.rect.Rect.{Rect}
 use Rattle.rtui_style.specs.declared.Style.{Style}
 use Rattle.rtui_geometry.specs.Rect.{HasPosition}
 use Rattle.rtui_cell.specs.declared.cell.Cell.{Cell}
-use Rattle.rtui_cell.specs.Cell.{styled}
+use Rattle.rtui_cell.specs.Cell.{empty_cell, styled}
 use Rattle.rtui_diff.specs.Cells.{cell, cell_at}
 use Rattle.rtui_buffer.specs.Sheet.{Sheet, cell_index, cell_in}
-use Rattle.rtui_buffer.specs.Painting.{Piece, text_pieces, columns, IsSameOutside, IsPainted}
+use Rattle.rtui_buffer.specs.Painting.{Piece, text_pieces, piece_width, piece_at, columns, shown, IsSameOutside, IsPainted}
 
 -- the row lies in the area
 pub record HasRow (r : Rect) (y : ℕ) : Type 0 where
@@ -28,6 +28,21 @@ pub record Paints (p : Position) (ps : List Piece) (old new : Sheet) : Type 0 wh
   pub area : new.area ≡ old.area
   pub room : new.room ≡ old.room
   pub cells : IsPainted (cell_index old.area p) ps old.cells new.cells
+
+-- the position some columns further right
+abbrev pub right_by : ℕ → Position → Position
+right_by n p = record { x = p.x + n; y = p.y }
+
+-- the position stands in another row, or beside n columns from p on
+abbrev pub IsBeside : Position → ℕ → Position → Type 0
+IsBeside p n q = q.y ≡ p.y → (q.x < p.x) ⊎ (p.x + n ≤ q.x)
+
+-- The same by columns: each piece stands in the column at the sum of the widths before it, its symbol and its style over the former
+-- cell; the other columns that it takes are empty; each position beside them is as before.
+pub record PaintsColumns (p : Position) (ps : List Piece) (old new : Sheet) : Type 0 where
+  pub starts : (k : ℕ) → k < length ps → cell_in new (right_by (columns (take k ps)) p) ≡ shown (piece_at ps k) (cell_in old (right_by (columns (take k ps)) p))
+  pub behind : (k j : ℕ) → k < length ps → 0 < j → j < piece_width (piece_at ps k) → cell_in new (right_by (columns (take k ps) + j) p) ≡ empty_cell
+  pub outside : (q : Position) → HasPosition old.area q → IsBeside p (columns ps) q → cell_in new q ≡ cell_in old q
 
 -- the buffers differ at most where the pieces would have been painted
 pub record IsSameBeside (p : Position) (ps : List Piece) (old new : Sheet) : Type 0 where

@@ -2,14 +2,13 @@ ghost use Rattle.std.specs.Prelude.{◌≡◌, ◌+◌, ◌-◌, ◌*◌, ◌<�
 ghost use Rattle.std.specs.Borrow.{sem, Lends, LendsIf, Array};
 ghost use Rattle.rtui_geometry.specs.Rect.{HasPosition, EdgesFit};
 ghost use Rattle.rtui_cell.specs.contracts.cell.Cell.{the_row as cell_row};
-ghost use Rattle.rtui_cell.specs.Grid.{update_by};
 ghost use Rattle.rtui_diff.specs.Updates.{update_at, Rises, IsOwn};
 ghost use Rattle.rtui_diff.specs.Given.{IsNarrow, differing, GivesLittle, GivesEnough};
 ghost use Rattle.rtui_diff.specs.Shows.{Repaints, Replays};
 ghost use Rattle.rtui_diff.specs.Left.{updates_left};
 ghost use Rattle.rtui_buffer.specs.contracts.buffer.Buffer.{the_row};
 ghost use Rattle.rtui_buffer.specs.Sheet.{area_size, cell_index, place_position, position_of, cell_in, with_cell, empty_cells, refilled, IsEmptied, IsSameSheet};
-ghost use Rattle.rtui_buffer.specs.Frame.{IsSettledSheet, IsAligned, common_rows, sheet_updates};
+ghost use Rattle.rtui_buffer.specs.Frame.{IsSettledSheet, IsAligned, common_rows, sheet_updates, listed};
 
 use rtui_cell::Cell;
 use rtui_diff::{BufferDiff, is_settled};
@@ -62,7 +61,7 @@ impl Buffer {
         ensures area { IfOk result (λ b. b.area ≡ area) }
         ensures cells { IfOk result (λ b. b.cells ≡ replicate (area_size area) cell) }
     {
-        let content = copies(alloc, &cell, area.area() as usize)?;
+        let content = copies(alloc, cell, area.area() as usize)?;
         Ok(Buffer { area, content })
     }
 
@@ -263,12 +262,28 @@ impl Buffer {
         next: &'next Buffer,
     ) -> Result<Vec<(u16, u16, &'next Cell)>, AllocError>
         requires { IsAligned self.now next.now }
-        ensures { IfOk result (λ all. map (update_by (λ cell. cell.now)) all.items ≡ sheet_updates self.now next.now) }
+        ensures walks { IfOk result (λ all. listed all.items ≡ sheet_updates self.now next.now) }
+        ensures rises { IfOk result (λ all. Rises (listed all.items)) }
+        ensures own { IfOk result (λ all. All (IsOwn self.now.area.x self.now.area.y self.now.area.width (common_rows self.now next.now) next.now.cells) (listed all.items)) }
+        ensures narrow { IfOk result (λ all. IsNarrow (self.now.area.width * common_rows self.now next.now) self.now.cells next.now.cells → listed all.items ≡ map (update_at self.now.area.x self.now.area.y self.now.area.width next.now.cells) (differing self.now.cells next.now.cells (self.now.area.width * common_rows self.now next.now))) }
+        ensures replays { IfOk result (λ all. IsSettledSheet self.now → IsSettledSheet next.now → Replays self.now.area.x self.now.area.y self.now.area.width (common_rows self.now next.now) self.now.cells next.now.cells (listed all.items)) }
+        ensures little { IfOk result (λ all. IsSettledSheet self.now → IsSettledSheet next.now → GivesLittle self.now.area.x self.now.area.y self.now.area.width (common_rows self.now next.now) self.now.cells next.now.cells (listed all.items)) }
+        ensures enough { IfOk result (λ all. IsSettledSheet self.now → IsSettledSheet next.now → GivesEnough self.now.area.x self.now.area.y self.now.area.width (common_rows self.now next.now) self.now.cells next.now.cells (listed all.items)) }
     {
-        let mut all = Vec::new(alloc);
-        for update in self.diff_iter(next) {
-            all.push(update)?;
-        }
-        Ok(all)
+        collected(alloc, self.diff_iter(next))
     }
+}
+
+// What a diff gives, in a list.
+fn collected<'next>(
+    alloc: Global,
+    updates: BufferDiff<'_, 'next>,
+) -> Result<Vec<(u16, u16, &'next Cell)>, AllocError>
+    ensures { IfOk result (λ all. listed all.items ≡ updates_left updates.entry) }
+{
+    let mut all = Vec::new(alloc);
+    for update in updates {
+        all.push(update)?;
+    }
+    Ok(all)
 }

@@ -4,10 +4,12 @@
 //! buffer is seen as its area and its cells, row by row (`specs/Sheet`); `specs/Frame` says when a screen can show
 //! it, and `specs/Painting`, `specs/Text` and `specs/Line` what painting a text and a line does to it. For the layer
 //! above, `Buffer::diff_iter` gives the updates between two buffers and says that they replay, and painting on an
-//! empty buffer says that a screen can show it.
+//! empty buffer says that a screen can show it. The laws of [`laws`] say what painting is by columns, and which
+//! graphemes are kept.
 #![tactic(auto)]
 
 mod buffer;
+pub mod laws;
 
 pub use buffer::{Buffer, painted_width};
 pub use rtui_cell::{Cell, CellDiffOption, CellWidth};

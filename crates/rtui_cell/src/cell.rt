@@ -145,14 +145,14 @@ impl Cell {
         ensures same { result.ghost_name ≡ self.entry.ghost_name }
         ensures value { result.now ≡ styled style self.old }
     {
-        if let Some(color) = style.fg {
-            self.fg = color;
+        if let Some(fg) = style.fg {
+            self.fg = fg;
         }
-        if let Some(color) = style.bg {
-            self.bg = color;
+        if let Some(bg) = style.bg {
+            self.bg = bg;
         }
-        if let Some(color) = style.underline_color {
-            self.underline_color = color;
+        if let Some(underline_color) = style.underline_color {
+            self.underline_color = underline_color;
         }
         self.modifier.insert(style.add_modifier);
         self.modifier.remove(style.sub_modifier);

@@ -96,22 +96,38 @@ module _ {B : Type 0} (screen : B → Screen) where
     pub drawn : (between : Screen) × WritesDifferences s.older s.current (screen s.backend) between × (screen t.backend ≡ cursor_placed cursor between)
     pub in_step : IsInStep screen s → IsSettledSheet s.current → IsInStep screen t
 
-  -- a backend failed on the way: the areas and the count stay, and the painted buffer is still current, or already the older one
-  pub record FailsApplying (s t : State B) : Type 0 where
+  -- before the swap the painted buffer is still current, and the cursor's flag may have been set
+  pub record IsUnswapped (cursor : Option Position) (s t : State B) : Type 0 where
+    pub current : t.current ≡ s.current
+    pub older : t.older ≡ s.older
+    pub hidden : (t.hidden_cursor ≡ s.hidden_cursor) ⊎ (t.hidden_cursor ≡ is_none cursor)
+
+  -- behind the swap the painted buffer is the older one, the current one is empty, and the cursor's flag is set
+  pub record IsSwapped (cursor : Option Position) (s t : State B) : Type 0 where
+    pub current : IsEmptied s.viewport_area t.current
+    pub older : t.older ≡ s.current
+    pub hidden : t.hidden_cursor ≡ is_none cursor
+
+  -- a backend failed on the way, before the swap or behind it: the areas and the count stay
+  pub record FailsApplying (cursor : Option Position) (s t : State B) : Type 0 where
     pub areas : HasAreas s
     pub viewport : t.viewport_area ≡ s.viewport_area
     pub count : t.frame_count ≡ s.frame_count
-    pub buffers : ((t.current ≡ s.current) × (t.older ≡ s.older)) ⊎ (IsEmptied s.viewport_area t.current × (t.older ≡ s.current))
+    pub buffers : IsUnswapped cursor s t ⊎ IsSwapped cursor s t
 
-  abbrev pub ApplyErr : {E : Type 0} → State B → State B → TerminalError E → Type 0
-  ApplyErr s t (Backend error) = FailsApplying s t
-  ApplyErr s t Memory = ⊥
-  ApplyErr s t Area = (t ≡ s) × (HasAreas s → ⊥)
-  ApplyErr s t (Closure error) = ⊥
+  -- a buffer hadn't the viewport's area, and nothing changed
+  abbrev pub RefusesArea : State B → State B → Type 0
+  RefusesArea s t = (t ≡ s) × (HasAreas s → ⊥)
+
+  abbrev pub ApplyErr : {E : Type 0} → Option Position → State B → State B → TerminalError E → Type 0
+  ApplyErr cursor s t (Backend error) = FailsApplying cursor s t
+  ApplyErr cursor s t Memory = ⊥
+  ApplyErr cursor s t Area = RefusesArea s t
+  ApplyErr cursor s t (Closure error) = ⊥
 
   -- an apply by its answer
   abbrev pub AppliesBy : {T E : Type 0} → Option Position → State B → State B → Result T (TerminalError E) → Type 0
-  AppliesBy cursor s t result = MatchResult result (λ _. Applies cursor s t) (ApplyErr s t)
+  AppliesBy cursor s t result = MatchResult result (λ _. Applies cursor s t) (ApplyErr cursor s t)
 
   -- a new terminal: empty buffers over the whole screen, in step where that is blank
   pub record Starts (b : B) (t : State B) : Type 0 where
@@ -137,17 +153,17 @@ module _ {B : Type 0} (screen : B → Screen) where
       pub rest : t ≡ record s { current = t.current }
 
     -- the closure painted, and what came after was refused
-    pub record PaintedErr (answer : A) (s t : State B) (after : State B → State B → Type 0) : Type 0 where
+    pub record PaintedErr (answer : A) (s t : State B) (after : Option Position → State B → State B → Type 0) : Type 0 where
       pub cursor : Option Position
       pub painted : Sheet
       pub closure : ran s answer cursor painted
-      pub left : after (record s { current = painted }) t
+      pub left : after cursor (record s { current = painted }) t
 
   module _ (ran : State B → Result (Unit {0}) AllocError → Option Position → Sheet → Type 0) where
     abbrev pub DrawErr : {E : Type 0} → State B → State B → TerminalError E → Type 0
     DrawErr s t (Backend error) = PaintedErr ran (Ok tt) s t FailsApplying
     DrawErr s t Memory = ClosureErr ran (Err alloc_error) s t
-    DrawErr s t Area = PaintedErr ran (Ok tt) s t (λ painted t'. (t' ≡ painted) × (HasAreas painted → ⊥))
+    DrawErr s t Area = PaintedErr ran (Ok tt) s t (λ _. RefusesArea)
     DrawErr s t (Closure error) = ⊥
 
     -- a draw by its answer
@@ -158,7 +174,7 @@ module _ {B : Type 0} (screen : B → Screen) where
     abbrev pub TryErr : State B → State B → TerminalError X → Type 0
     TryErr s t (Backend error) = PaintedErr ran (Ok tt) s t FailsApplying
     TryErr s t Memory = ⊥
-    TryErr s t Area = PaintedErr ran (Ok tt) s t (λ painted t'. (t' ≡ painted) × (HasAreas painted → ⊥))
+    TryErr s t Area = PaintedErr ran (Ok tt) s t (λ _. RefusesArea)
     TryErr s t (Closure error) = ClosureErr ran (Err error) s t
 
     -- a try by its answer

@@ -53,6 +53,23 @@ impl Puts {
     {
         self.items.as_slice()
     }
+
+    /// The list of the puts; takes no memory.
+    pub fn into_vec(self) -> Vec<(u16, u16, char)>
+        ensures { result.items ≡ self }
+    {
+        let Puts { items } = self;
+        items
+    }
+}
+
+/// Takes no memory.
+impl From<Vec<(u16, u16, char)>> for Puts {
+    ghost from_gives = { λ v p. p ≡ v.items };
+
+    fn from(items: Vec<(u16, u16, char)>) -> Puts {
+        Puts { items }
+    }
 }
 
 /// One step of a script.

@@ -124,7 +124,7 @@ fn prints_its_errors(rt: HostRuntime) -> Result<(), Fail> {
     Ok(())
 }
 
-// Makes one of the eight calls of the trait, and whether it failed.
+// Makes one of the ten calls of the trait, and whether it failed.
 fn call_fails(backend: &mut TestBackend, number: u64, cell: &Cell) -> bool {
     match number {
         0 => backend.hide_cursor().is_err(),
@@ -132,21 +132,23 @@ fn call_fails(backend: &mut TestBackend, number: u64, cell: &Cell) -> bool {
         2 => backend
             .set_cursor_position(Position { x: 1, y: 1 })
             .is_err(),
-        3 => backend.get_cursor().is_err(),
-        4 => backend.size().is_err(),
-        5 => backend.window_size().is_err(),
-        6 => !draws(backend, &[(0, 0, cell)]),
+        3 => backend.set_cursor(1, 1).is_err(),
+        4 => backend.get_cursor_position().is_err(),
+        5 => backend.get_cursor().is_err(),
+        6 => backend.size().is_err(),
+        7 => backend.window_size().is_err(),
+        8 => !draws(backend, &[(0, 0, cell)]),
         _ => backend.flush().is_err(),
     }
 }
 
-// Whether of the eight calls, made in turn, the one after so many calls fails and no other.
+// Whether of the ten calls, made in turn, the one after so many calls fails and no other.
 fn fails_once_after(alloc: Global, calls: u64) -> Result<bool, AllocError> {
     let mut backend = blank(alloc, 3, 2)?;
     backend.fail_after(calls);
     let cell = cell(alloc, "a")?;
     let mut as_told = true;
-    for number in 0..8 {
+    for number in 0..10 {
         if call_fails(&mut backend, number, &cell) != (number == calls) {
             as_told = false;
         }
@@ -156,7 +158,7 @@ fn fails_once_after(alloc: Global, calls: u64) -> Result<bool, AllocError> {
 
 #[test]
 fn counts_each_call_of_the_trait(rt: HostRuntime) -> Result<(), Fail> {
-    for calls in 0..8 {
+    for calls in 0..10 {
         assert!(rt; fails_once_after(rt.alloc(), calls)?, "{calls}");
     }
     Ok(())

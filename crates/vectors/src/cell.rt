@@ -31,6 +31,42 @@ fn widths_count_sound_marks(rt: HostRuntime) {
     assert!(rt; takes("\u{FF76}\u{FF9E}", 2));
 }
 
+#[test]
+fn widths_of_kana(rt: HostRuntime) {
+    assert!(rt; takes("あ", 2));
+    assert!(rt; takes("カ", 2));
+    assert!(rt; takes("\u{FF76}", 1));
+}
+
+#[test]
+fn widths_of_sound_marks_alone(rt: HostRuntime) {
+    assert!(rt; takes("\u{FF9E}", 1));
+    assert!(rt; takes("\u{FF9F}", 1));
+}
+
+#[test]
+fn widths_of_half_width_kana_with_sound_marks(rt: HostRuntime) {
+    assert!(rt; takes("\u{FF7B}\u{FF9E}", 2));
+    assert!(rt; takes("\u{FF8A}\u{FF9F}", 2));
+    assert!(rt; takes("\u{FF8B}\u{FF9F}", 2));
+    assert!(rt; takes("あ\u{FF76}\u{FF9E}", 4));
+}
+
+#[test]
+fn widths_of_other_letters_with_sound_marks(rt: HostRuntime) {
+    assert!(rt; takes("a\u{FF9E}", 2));
+    assert!(rt; takes("1\u{FF9F}", 2));
+    assert!(rt; takes("紅\u{FF9E}", 3));
+}
+
+#[test]
+fn widths_of_kana_with_combining_marks(rt: HostRuntime) {
+    assert!(rt; takes("\u{FF76}\u{3099}", 1));
+    assert!(rt; takes("\u{30AB}\u{3099}", 2));
+    assert!(rt; takes("\u{FF8A}\u{309A}", 1));
+    assert!(rt; takes("\u{30CF}\u{309A}", 2));
+}
+
 fn cell(alloc: Global, symbol: &str) -> Result<Cell, AllocError> {
     Cell::new(alloc, symbol)
 }
@@ -68,6 +104,14 @@ fn is_empty_with(alloc: Global, cell: &mut Cell, text: &str) -> Result<bool, All
     Ok(*cell == Cell::EMPTY)
 }
 
+// Whether a new cell with this symbol shows it, and equals an empty cell that is given the symbol.
+fn is_new_as_set(alloc: Global, symbol: &str) -> Result<bool, AllocError> {
+    let made = Cell::new(alloc, symbol)?;
+    let mut set = Cell::EMPTY;
+    set.set_symbol(alloc, symbol)?;
+    Ok(made == set && made.symbol() == symbol && set.symbol() == symbol)
+}
+
 #[test]
 fn symbols_of_new_cells(rt: HostRuntime) -> Result<(), Fail> {
     assert!(rt; shows(&Cell::EMPTY, " "));
@@ -86,6 +130,21 @@ fn symbols(rt: HostRuntime) -> Result<(), Fail> {
     Ok(())
 }
 
+#[test]
+fn symbols_that_are_set(rt: HostRuntime) -> Result<(), Fail> {
+    assert!(rt; is_new_as_set(rt.alloc(), "あ")?);
+    assert!(rt; is_new_as_set(rt.alloc(), "\u{1F468}\u{1F469}\u{1F467}\u{1F466}")?);
+    let mut cell = cell(rt.alloc(), "あ")?;
+    assert!(rt; appends(rt.alloc(), &mut cell, "\u{200B}", "あ\u{200B}")?);
+    Ok(())
+}
+
+#[test]
+fn default_cells_are_empty(rt: HostRuntime) {
+    assert!(rt; Cell::default() == Cell::EMPTY);
+    assert!(rt; shows(&Cell::default(), " "));
+}
+
 // Whether a cell that was reset shows a text that is put behind its symbol, and equals its copy.
 fn appends_to_reset(alloc: Global, first: &str, second: &str) -> Result<bool, AllocError> {
     let mut cell = Cell::new(alloc, first)?;
@@ -97,6 +156,23 @@ fn appends_to_reset(alloc: Global, first: &str, second: &str) -> Result<bool, Al
 #[test]
 fn symbols_after_a_reset(rt: HostRuntime) -> Result<(), Fail> {
     assert!(rt; appends_to_reset(rt.alloc(), " x", "x")?);
+    Ok(())
+}
+
+// Whether a cell is an empty one, without an option, after a reset.
+fn is_empty_after_reset(cell: &mut Cell) -> bool {
+    cell.reset();
+    *cell == Cell::EMPTY && cell.diff_option == CellDiffOption::None
+}
+
+#[test]
+fn everything_is_reset(rt: HostRuntime) -> Result<(), Fail> {
+    let mut cell = cell(rt.alloc(), "あ")?;
+    cell.set_fg(Color::Red)
+        .set_bg(Color::Blue)
+        .set_diff_option(CellDiffOption::Skip)
+        .set_skip(true);
+    assert!(rt; is_empty_after_reset(&mut cell));
     Ok(())
 }
 
@@ -153,6 +229,46 @@ fn equal_cells_have_equal_hashes(rt: HostRuntime) -> Result<(), Fail> {
     Ok(())
 }
 
+fn differs_from_empty(cell: &Cell) -> bool {
+    *cell != Cell::EMPTY
+}
+
+// Whether cells with these symbols differ.
+fn symbols_differ(alloc: Global, one: &str, other: &str) -> Result<bool, AllocError> {
+    Ok(Cell::new(alloc, one)? != Cell::new(alloc, other)?)
+}
+
+#[test]
+fn cells_of_other_symbols_differ(rt: HostRuntime) -> Result<(), Fail> {
+    assert!(rt; symbols_differ(rt.alloc(), "あ", "い")?);
+    assert!(rt; !symbols_differ(rt.alloc(), "あ", "あ")?);
+    Ok(())
+}
+
+#[test]
+fn cells_of_other_colors_differ(rt: HostRuntime) {
+    let mut cell = Cell::EMPTY;
+    cell.fg = Color::Red;
+    assert!(rt; differs_from_empty(&cell));
+    let mut cell = Cell::EMPTY;
+    cell.bg = Color::Red;
+    assert!(rt; differs_from_empty(&cell));
+    let mut cell = Cell::EMPTY;
+    cell.underline_color = Color::Red;
+    assert!(rt; differs_from_empty(&cell));
+}
+
+#[test]
+fn cells_of_other_modifiers_and_options_differ(rt: HostRuntime) {
+    let mut cell = Cell::EMPTY;
+    cell.modifier = Modifier::BOLD;
+    assert!(rt; differs_from_empty(&cell));
+    let mut cell = Cell::EMPTY;
+    cell.diff_option = CellDiffOption::Skip;
+    assert!(rt; differs_from_empty(&cell));
+    assert!(rt; !differs_from_empty(&Cell::EMPTY));
+}
+
 // Whether a cell has these colours and this modifier after a style is laid over it.
 fn has_under(cell: &mut Cell, style: Style, fg: Color, bg: Color, modifier: Modifier) -> bool {
     cell.set_style(style);
@@ -167,6 +283,63 @@ fn styles(rt: HostRuntime) -> Result<(), Fail> {
     assert!(rt; has_under(&mut cell, style, Color::Green, Color::Blue, Modifier::BOLD));
     let style = Style::new().remove_modifier(Modifier::BOLD);
     assert!(rt; has_under(&mut cell, style, Color::Green, Color::Blue, Modifier::NONE));
+    Ok(())
+}
+
+// Whether a cell has this underline colour after a style is laid over it.
+fn has_underline_under(cell: &mut Cell, style: Style, color: Color) -> bool {
+    cell.set_style(style);
+    cell.underline_color == color
+}
+
+#[test]
+fn underline_colors(rt: HostRuntime) {
+    let mut cell = Cell::EMPTY;
+    let underlined = Style::new().underline_color(Color::Red);
+    assert!(rt; has_underline_under(&mut cell, underlined, Color::Red));
+    let colored = Style::new().fg(Color::Green);
+    assert!(rt; has_underline_under(&mut cell, colored, Color::Red));
+}
+
+fn has_style(cell: &Cell, style: Style) -> bool {
+    cell.style() == style
+}
+
+#[test]
+fn style_of_an_empty_cell(rt: HostRuntime) {
+    let style = Style {
+        fg: Some(Color::Reset),
+        bg: Some(Color::Reset),
+        underline_color: Some(Color::Reset),
+        add_modifier: Modifier::NONE,
+        sub_modifier: Modifier::NONE,
+    };
+    assert!(rt; has_style(&Cell::EMPTY, style));
+}
+
+// Whether a cell that is given this option has it.
+fn keeps_option(diff_option: CellDiffOption) -> bool {
+    let mut cell = Cell::EMPTY;
+    cell.set_diff_option(diff_option);
+    cell.diff_option == diff_option
+}
+
+// Whether a cell takes this many columns with this option.
+fn takes_with_option(cell: Cell, diff_option: CellDiffOption, width: u16) -> bool {
+    let mut cell = cell;
+    cell.set_diff_option(diff_option);
+    cell.cell_width() == width
+}
+
+#[test]
+fn diff_options(rt: HostRuntime) -> Result<(), Fail> {
+    assert!(rt; keeps_option(CellDiffOption::AlwaysUpdate));
+    let Some(two) = NonZeroU16::new(2) else {
+        return Err(Fail::new("2 is not 0"));
+    };
+    let forced = CellDiffOption::ForcedWidth(two);
+    assert!(rt; takes_with_option(cell(rt.alloc(), "a")?, forced, 2));
+    assert!(rt; takes_with_option(cell(rt.alloc(), "a")?, CellDiffOption::None, 1));
     Ok(())
 }
 

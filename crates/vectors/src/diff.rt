@@ -4,7 +4,7 @@ ghost use Rattle.rtui_geometry.specs.Rect.{EdgesFit};
 ghost use Rattle.rtui_buffer.specs.Frame.{IsAligned};
 
 use crate::sheets::{put, row};
-use rtui_buffer::{Buffer, CellDiffOption};
+use rtui_buffer::{Buffer, Cell, CellDiffOption};
 use rtui_geometry::{Position, Rect};
 use rtui_style::Color;
 use std::alloc::{AllocError, Global};
@@ -59,6 +59,15 @@ fn shifted_and_cleared(rt: HostRuntime) -> Result<(), Fail> {
     let cleared = [(0, 0, KEYBOARD), (1, 0, " ")];
     assert!(rt; rows_give(alloc, 2, &["a", "b"], &[KEYBOARD], &cleared)?);
     assert!(rt; rows_give(alloc, 2, &["a", " "], &[KEYBOARD], &[(0, 0, KEYBOARD)])?);
+    Ok(())
+}
+
+#[test]
+fn shifted_into_place(rt: HostRuntime) -> Result<(), Fail> {
+    let alloc = rt.alloc();
+    let prev = ["a", "b", "c", "d", "─", "e"];
+    let next = ["a", "称", "─", "─", "e"];
+    assert!(rt; rows_give(alloc, 6, &prev, &next, &[(1, 0, "称"), (3, 0, "─")])?);
     Ok(())
 }
 
@@ -175,6 +184,37 @@ fn sheet(alloc: Global, area: Rect, x: u16, y: u16, symbols: &[&str]) -> Result<
     let mut buffer = Buffer::empty(alloc, area)?;
     put(alloc, &mut buffer, x, y, symbols)?;
     Ok(buffer)
+}
+
+// Whether the updates from an empty buffer of this size to one with a symbol everywhere are these.
+fn full_gives(
+    alloc: Global,
+    width: u16,
+    height: u16,
+    symbol: &str,
+    expected: &[(u16, u16, &str)],
+) -> Result<bool, AllocError> {
+    let area = Rect::new(0, 0, width, height);
+    let prev = Buffer::empty(alloc, area)?;
+    let next = Buffer::filled(alloc, area, Cell::new(alloc, symbol)?)?;
+    gives(alloc, &prev, &next, expected)
+}
+
+// Whether there are no updates between two empty buffers of this size.
+fn empty_gives_nothing(alloc: Global, width: u16, height: u16) -> Result<bool, AllocError> {
+    let area = Rect::new(0, 0, width, height);
+    let prev = Buffer::empty(alloc, area)?;
+    let next = Buffer::empty(alloc, area)?;
+    gives(alloc, &prev, &next, &[])
+}
+
+#[test]
+fn whole_buffers(rt: HostRuntime) -> Result<(), Fail> {
+    let alloc = rt.alloc();
+    assert!(rt; empty_gives_nothing(alloc, 2, 2)?);
+    let everywhere = [(0, 0, "x"), (1, 0, "x"), (0, 1, "x"), (1, 1, "x")];
+    assert!(rt; full_gives(alloc, 2, 2, "x", &everywhere)?);
+    Ok(())
 }
 
 #[test]

@@ -1,5 +1,5 @@
-//! Tests across the crates: worked values, printed text, each call that takes memory once, and each backend call
-//! failing in turn.
+//! Tests of cells, the diff and the backend in memory: worked values, printed text, each call that takes memory once, and
+//! each backend call failing in turn.
 #![tactic(auto)]
 
 #[cfg(test)]
@@ -7,12 +7,6 @@ mod backend;
 #[cfg(test)]
 mod cell;
 #[cfg(test)]
-mod compared;
-#[cfg(test)]
 mod diff;
 #[cfg(test)]
-mod script;
-#[cfg(test)]
 mod sheets;
-#[cfg(test)]
-mod terminal;

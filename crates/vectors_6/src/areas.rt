@@ -1,8 +1,10 @@
-//! Buffers made of a cell or of texts, and given other areas.
+//! Buffers made of a cell, of lines or of texts, and given other areas.
 use crate::sheets::{sheet, shows};
 use rtui_buffer::{Buffer, Cell};
 use rtui_geometry::{Position, Rect};
 use rtui_style::{Color, Style};
+use rtui_text::{Line, Span};
+use std::alloc::{AllocError, Global};
 use std::test::Fail;
 
 #[test]
@@ -24,9 +26,7 @@ fn made_and_filled(rt: HostRuntime) -> Result<(), Fail> {
 
 #[test]
 fn resized(rt: HostRuntime) -> Result<(), Fail> {
-    let mut buffer = Buffer::empty(rt.alloc(), Rect::new(0, 0, 2, 2))?;
-    buffer.set_string(0, 0, "ab", Style::new())?;
-    buffer.set_string(0, 1, "cd", Style::new())?;
+    let mut buffer = sheet(rt.alloc(), &["ab", "cd"])?;
     buffer.resize(Rect::new(0, 0, 3, 1))?;
     assert!(rt; shows(&buffer, &["a", "b", "c"]));
     buffer.resize(Rect::new(5, 5, 2, 2))?;
@@ -37,6 +37,59 @@ fn resized(rt: HostRuntime) -> Result<(), Fail> {
     assert_eq!(rt; *buffer.area(), Rect::new(1, 0, 2, 2));
     buffer.reset();
     assert!(rt; shows(&buffer, &[" ", " ", " ", " "]));
+    Ok(())
+}
+
+// Makes room for an area in the corner of the grid, and whether a buffer then takes it, with a cell for each place.
+fn takes_reserved(buffer: &mut Buffer, width: u16, height: u16) -> Result<bool, AllocError> {
+    let area = Rect::new(0, 0, width, height);
+    buffer.reserve(area)?;
+    let is_resized = buffer.resize(area).is_ok();
+    Ok(is_resized && *buffer.area() == area && buffer.content().len() == area.area() as usize)
+}
+
+// Whether the first cells show these symbols.
+fn begins_with(buffer: &Buffer, symbols: &[&str]) -> bool {
+    let shown = buffer.content().iter().map(|cell| cell.symbol());
+    shown.take(symbols.len()).eq(symbols.iter().copied())
+}
+
+#[test]
+fn resized_within_its_room(rt: HostRuntime) -> Result<(), Fail> {
+    let mut buffer = sheet(rt.alloc(), &["ab", "cd"])?;
+    assert!(rt; takes_reserved(&mut buffer, 10, 10)?);
+    assert!(rt; begins_with(&buffer, &["a", "b", "c", "d", " "]));
+    Ok(())
+}
+
+// A buffer of two lines.
+fn two_rows(alloc: Global, upper: Line<'_>, lower: Line<'_>) -> Result<Buffer, Fail> {
+    if upper.width() > 65535 || lower.width() > 65535 {
+        return Err(Fail::new("too wide for a buffer"));
+    }
+    Ok(Buffer::with_lines(alloc, &[upper, lower])?)
+}
+
+// Whether the cell at this place has these colours.
+fn has_colors(buffer: &Buffer, x: u16, y: u16, fg: Color, bg: Color) -> bool {
+    let cell = buffer.cell(Position { x, y });
+    cell.map(|cell| (cell.fg, cell.bg)) == Some((fg, bg))
+}
+
+#[test]
+fn made_of_styled_lines(rt: HostRuntime) -> Result<(), Fail> {
+    let red = Span::styled("a", Style::new().fg(Color::Red));
+    let on_blue = Span::styled("b", Style::new().bg(Color::Blue));
+    let upper = Line::from_slice(rt.alloc(), &[red, on_blue])?;
+    let lower = Line::from_slice(rt.alloc(), &[Span::raw("c")])?;
+    let buffer = two_rows(rt.alloc(), upper, lower)?;
+    assert_eq!(rt; *buffer.area(), Rect::new(0, 0, 2, 2));
+    assert!(rt; shows(&buffer, &["a", "b", "c", " "]));
+    assert!(rt; has_colors(&buffer, 0, 0, Color::Red, Color::Reset));
+    assert!(rt; has_colors(&buffer, 1, 0, Color::Reset, Color::Blue));
+    assert!(rt; has_colors(&buffer, 0, 1, Color::Reset, Color::Reset));
+    assert!(rt; has_colors(&buffer, 1, 1, Color::Reset, Color::Reset));
+    assert!(rt; buffer.is_settled());
     Ok(())
 }
 

@@ -1,6 +1,6 @@
 //! Texts painted on buffers, by worked values.
 use crate::sheets::{row, shows};
-use rtui_buffer::Buffer;
+use rtui_buffer::{Buffer, Cell};
 use rtui_geometry::{Position, Rect};
 use rtui_style::{Color, Modifier, Style};
 use rtui_text::{Line, Span};
@@ -49,6 +49,59 @@ fn graphemes_of_no_column_and_of_several_characters(rt: HostRuntime) -> Result<(
             &["\u{FF76}\u{FF9E}", " ", "x", " "]
         )?
     );
+    Ok(())
+}
+
+#[test]
+fn emoji_presentations_and_control_characters(rt: HostRuntime) -> Result<(), Fail> {
+    assert!(rt;
+        paints(
+            rt.alloc(),
+            4,
+            "\u{2328}\u{FE0F}x",
+            9,
+            3,
+            &["\u{2328}\u{FE0F}", " ", "x", " "]
+        )?
+    );
+    assert!(rt; paints(rt.alloc(), 2, "a\u{7F}\u{85}\u{9F}b", 9, 2, &["a", "b"])?);
+    Ok(())
+}
+
+// A text painted in a style on an empty row, in at most `max` columns, and the place behind it.
+fn painted(
+    alloc: Global,
+    width: u16,
+    text: &str,
+    max: usize,
+    style: Style,
+) -> Result<(Buffer, (u16, u16)), AllocError> {
+    let mut buffer = row(alloc, width)?;
+    let place = buffer.set_stringn(0, 0, text, max, style)?;
+    Ok((buffer, place))
+}
+
+// Whether the cell in this column of the upper row shows this symbol on this colour.
+fn shows_on(buffer: &Buffer, x: u16, symbol: &str, bg: Color) -> bool {
+    let cell = buffer.cell(Position { x, y: 0 });
+    cell.map(|cell| (cell.symbol(), cell.bg)) == Some((symbol, bg))
+}
+
+// Whether the cell in this column of the upper row is an empty one.
+fn is_empty_at(buffer: &Buffer, x: u16) -> bool {
+    let cell = buffer.cell(Position { x, y: 0 });
+    cell.map(|cell| *cell == Cell::EMPTY) == Some(true)
+}
+
+#[test]
+fn a_wide_grapheme_without_room(rt: HostRuntime) -> Result<(), Fail> {
+    let style = Style::new().bg(Color::Red);
+    let (buffer, place) = painted(rt.alloc(), 4, "コン", 3, style)?;
+    assert_eq!(rt; place, (2, 0));
+    assert!(rt; shows_on(&buffer, 0, "コ", Color::Red));
+    assert!(rt; is_empty_at(&buffer, 1));
+    assert!(rt; is_empty_at(&buffer, 2));
+    assert!(rt; is_empty_at(&buffer, 3));
     Ok(())
 }
 
@@ -109,6 +162,29 @@ fn a_line_goes_on_behind_a_cut_span(rt: HostRuntime) -> Result<(), Fail> {
     let line = Line::from_slice(rt.alloc(), &spans)?;
     assert_eq!(rt; cut.set_line(0, 0, &line, 2)?, (2, 0));
     assert!(rt; shows(&cut, &["a", "x", " ", " "]));
+    Ok(())
+}
+
+// Whether painting two texts as the spans of a line on an empty row, in at most `max` columns, ends in this column and
+// shows these symbols.
+fn paints_spans(
+    alloc: Global,
+    width: u16,
+    first: &str,
+    second: &str,
+    max: u16,
+    end: u16,
+    symbols: &[&str],
+) -> Result<bool, AllocError> {
+    let mut buffer = row(alloc, width)?;
+    let line = Line::from_slice(alloc, &[Span::raw(first), Span::raw(second)])?;
+    let place = buffer.set_line(0, 0, &line, max)?;
+    Ok(place == (end, 0) && shows(&buffer, symbols) && buffer.is_settled())
+}
+
+#[test]
+fn a_span_behind_a_wide_grapheme_without_room(rt: HostRuntime) -> Result<(), Fail> {
+    assert!(rt; paints_spans(rt.alloc(), 4, "コン", "x", 3, 3, &["コ", " ", "x", " "])?);
     Ok(())
 }
 

@@ -8,13 +8,16 @@ ghost use Rattle.rtui_buffer.specs.Sheet.{empty_cells};
 use rtui_cell::Cell;
 use std::alloc::{AllocError, Global};
 
-// This many copies of a cell.
-pub fn copies(alloc: Global, cell: &Cell, count: usize) -> Result<Vec<Cell>, AllocError>
-    ensures { IfOk result (λ cells. cells.items ≡ replicate count cell.now) }
+// A cell, this many times.
+pub fn copies(alloc: Global, cell: Cell, count: usize) -> Result<Vec<Cell>, AllocError>
+    ensures { IfOk result (λ cells. cells.items ≡ replicate count cell) }
 {
     let mut cells = Vec::with_capacity(alloc, count)?;
-    for _i in 0..count {
-        cells.push(cell.clone(alloc)?)?;
+    if count > 0 {
+        for _i in 0..count - 1 {
+            cells.push(cell.clone(alloc)?)?;
+        }
+        cells.push(cell)?;
     }
     Ok(cells)
 }

@@ -8,6 +8,7 @@ loop-x-init g c = record {
   can_next = search rules;
   is_finite = search rules;
   drawn = Draws-none _;
+  cursor = refl;
   failures = refl;
   told = refl;
 }
@@ -17,6 +18,7 @@ loop-x-preserved g c = record {
   can_next = search rules;
   is_finite = search rules;
   drawn = rw map-append (Draws-push c.loop-x.invariant.drawn (rw c.as_cell.ensures at c.in_ok-put.ensures.ok));
+  cursor = search rules;
   failures = search rules;
   told = search rules;
 }

@@ -6,7 +6,7 @@ use crate::terminal::terminal;
 use rtui_backend::{AsCell, Backend, TestBackend, TestError, WindowSize};
 use rtui_geometry::{Position, Rect, Size};
 use rtui_terminal::{Terminal, TerminalError};
-use std::alloc::Global;
+use std::alloc::{AllocError, Global};
 use std::hash::{DefaultHasher, Hash, Hasher};
 use std::test::Fail;
 
@@ -93,16 +93,17 @@ fn shows_a_hidden_cursor_when_dropped(rt: HostRuntime) -> Result<(), Fail> {
     Ok(())
 }
 
-// A screen without columns and rows that refuses each call.
+// A screen that tells its size and refuses each other call.
 #[derive(Debug, Default, Clone, Copy, PartialEq, Eq, Hash)]
 struct Refusing {
+    size: Size,
     failures: u64,
 }
 
 impl Backend for Refusing {
     type Error = TestError;
 
-    ghost screen = { λ b. record { history = []; width = 0; height = 0; grid = λ _ _. empty_look; cursor_x = 0; cursor_y = 0; visible = true; written = 0 } };
+    ghost screen = { λ b. record { history = []; width = b.size.width; height = b.size.height; grid = λ _ _. empty_look; cursor_x = 0; cursor_y = 0; visible = true; written = 0 } };
 
     ghost failures = { λ b. b.failures };
 
@@ -136,8 +137,7 @@ impl Backend for Refusing {
     }
 
     fn size(&mut self) -> Result<Size, TestError> {
-        self.failures = self.failures.saturating_add(1);
-        Err(TestError::Told)
+        Ok(self.size)
     }
 
     fn window_size(&mut self) -> Result<WindowSize, TestError> {
@@ -157,16 +157,49 @@ fn hash_of<T: Hash>(value: &T) -> u64 {
     state.finish()
 }
 
+// A terminal over a screen of this size that refuses to be drawn on.
+fn over_refusing(alloc: Global, width: u16, height: u16) -> Result<Terminal<Refusing>, Fail> {
+    let size = Size { width, height };
+    match Terminal::new(alloc, Refusing { size, failures: 0 }) {
+        Ok(terminal) => Ok(terminal),
+        Err(_) => Err(Fail::from(AllocError)),
+    }
+}
+
 #[test]
 fn copies_a_terminal(rt: HostRuntime) -> Result<(), Fail> {
     let mut terminal = Terminal::<Refusing>::default_in(rt.alloc());
     assert!(rt; terminal.viewport_area() == Rect::ZERO);
-    assert!(rt; *terminal.backend() == Refusing { failures: 0 });
+    assert!(rt; *terminal.backend() == Refusing::default());
     let copy = terminal.clone(rt.alloc())?;
     assert!(rt; copy == terminal);
     assert!(rt; hash_of(&copy) == hash_of(&terminal));
     assert!(rt; terminal.hide_cursor().is_err());
     assert!(rt; terminal.backend().failures == 1);
+    assert!(rt; copy != terminal);
+    Ok(())
+}
+
+// Sets a character in the corner of the next frame.
+fn set_corner(
+    alloc: Global,
+    terminal: &mut Terminal<Refusing>,
+    ch: char,
+) -> Result<(), AllocError> {
+    if let Some(cell) = terminal.current_buffer_mut().cell_mut(Position::ORIGIN) {
+        cell.set_char(alloc, ch)?;
+    }
+    Ok(())
+}
+
+#[test]
+fn copies_a_terminal_with_cells(rt: HostRuntime) -> Result<(), Fail> {
+    let mut terminal = over_refusing(rt.alloc(), 2, 1)?;
+    set_corner(rt.alloc(), &mut terminal, 'x')?;
+    let mut copy = terminal.clone(rt.alloc())?;
+    assert!(rt; copy == terminal);
+    assert!(rt; hash_of(&copy) == hash_of(&terminal));
+    set_corner(rt.alloc(), &mut copy, 'y')?;
     assert!(rt; copy != terminal);
     Ok(())
 }

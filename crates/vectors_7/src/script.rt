@@ -45,6 +45,7 @@ fn fails(alloc: Global, script: &str, text: &str) -> Result<bool, AllocError> {
 fn names_the_first_bad_line(rt: HostRuntime) -> Result<(), Fail> {
     let alloc = rt.alloc();
     assert!(rt; fails(alloc, "screen 3 1\nput 0 0 あ\ndraw", "line 2: bad command")?);
+    assert!(rt; fails(alloc, "screen 3 1\nput 0 0 あ", "line 2: bad command")?);
     assert!(rt; fails(alloc, "draw", "line 1: bad command")?);
     assert!(rt; fails(alloc, "\n\nshow", "line 3: bad command")?);
     assert!(rt; fails(alloc, "screen 3 1\nscreen 3 1", "line 2: bad command")?);

@@ -15,8 +15,8 @@ pub fn terminal(alloc: Global, width: u16, height: u16) -> Result<Terminal<TestB
     }
 }
 
-// Sets the characters of a text in the first row.
-fn write(alloc: Global, buffer: &mut Buffer, text: &str) -> Result<(), AllocError> {
+/// Sets the characters of a text in the first row.
+pub fn write(alloc: Global, buffer: &mut Buffer, text: &str) -> Result<(), AllocError> {
     for (x, ch) in text.chars().enumerate() {
         let x = x.min(65535) as u16;
         if let Some(cell) = buffer.cell_mut(Position { x, y: 0 }) {
@@ -26,8 +26,15 @@ fn write(alloc: Global, buffer: &mut Buffer, text: &str) -> Result<(), AllocErro
     Ok(())
 }
 
-// Draws a frame with a text in the first row; the answer is the area that was drawn.
-fn draw(
+/// A buffer of one row with a text.
+pub fn row(alloc: Global, width: u16, text: &str) -> Result<Buffer, AllocError> {
+    let mut buffer = Buffer::empty(alloc, Rect::new(0, 0, width, 1))?;
+    write(alloc, &mut buffer, text)?;
+    Ok(buffer)
+}
+
+/// Draws a frame with a text in the first row; the answer is the area that was drawn.
+pub fn draw(
     alloc: Global,
     terminal: &mut Terminal<TestBackend>,
     text: &str,
@@ -42,8 +49,8 @@ fn draw_nothing(terminal: &mut Terminal<TestBackend>) -> Result<usize, TerminalE
     Ok(completed.count)
 }
 
-// Whether the symbols of the screen, row by row, are those of a text, a column each.
-fn shows(terminal: &Terminal<TestBackend>, text: &str) -> bool {
+/// Whether the symbols of the screen, row by row, are those of a text, a column each.
+pub fn shows(terminal: &Terminal<TestBackend>, text: &str) -> bool {
     let cells = terminal.backend().buffer().content().iter();
     let expected = text.chars().map(|ch| Some(ch));
     cells.map(|cell| cell.symbol().chars().next()).eq(expected)
@@ -99,8 +106,8 @@ fn places_cursor(terminal: &mut Terminal<TestBackend>, position: Position) -> bo
     placed.is_ok() && terminal.backend().cursor_position() == position
 }
 
-// Whether the screen and the terminal both tell that the cursor is visible, or both that it isn't.
-fn has_cursor(terminal: &Terminal<TestBackend>, visible: bool) -> bool {
+/// Whether the screen and the terminal both tell that the cursor is visible, or both that it isn't.
+pub fn has_cursor(terminal: &Terminal<TestBackend>, visible: bool) -> bool {
     terminal.backend().cursor_visible() == visible && terminal.is_cursor_hidden() != visible
 }
 

@@ -1,0 +1,70 @@
+-- Painting within a row, seen by columns.
+use Rattle.std.proofs.Common.{◌≡◌, ℕ, ◌+◌, ◌-◌, ◌*◌, ◌<◌, ◌≤◌, ⊎_elim, List, take, ap, arith}
+use Rattle.std.proofs.lemmas.Bool.{cases_lt}
+use Rattle.std.proofs.lemmas.Nat.{row_fits}
+use Rattle.unicode_segmentation.specs.Grapheme.{graphemes}
+use Rattle.std.specs.Prelude.{true}
+use Rattle.rtui_geometry.specs.declared.position.Position.{Position}
+use Rattle.rtui_geometry.specs.declared.rect.Rect.{Rect}
+use Rattle.rtui_geometry.specs.Rect.{HasPosition}
+use Rattle.rtui_style.specs.declared.Style.{Style}
+use Rattle.rtui_cell.specs.declared.cell.Cell.{Cell}
+use Rattle.rtui_text.specs.Texts.{LineData}
+use Rattle.rtui_diff.specs.Cells.{cell}
+use Rattle.rtui_buffer.specs.Sheet.{Sheet, cell_index}
+use Rattle.rtui_buffer.specs.Painting.{Piece, columns, IsSameOutside}
+use Rattle.rtui_buffer.specs.Text.{HasRow, room_at, pieces_at, Paints, right_by, IsBeside, PaintsColumns}
+use Rattle.rtui_buffer.specs.Line.{line_pieces_at}
+use Rattle.rtui_buffer.proofs.PaintedLemmas.{columns-kept}
+use Rattle.rtui_buffer.proofs.LineLemmas.{columns-line}
+
+pub text-ends : (r : Rect) (x max : ℕ) (s : Style) (text : List ℕ) → columns (pieces_at r x max s text) ≤ r.x + r.width - x
+text-ends r x max s text = let k = columns-kept s (room_at r x max) (graphemes true text) in omega arith
+
+pub line-ends : (r : Rect) (x max : ℕ) (l : LineData) → columns (line_pieces_at r x max l) ≤ r.x + r.width - x
+line-ends r x max l = let k = columns-line (room_at r x max) l.style l.spans in omega arith
+
+-- the place of a position some columns further right
+place-at : (r : Rect) (p : Position) (n : ℕ) → r.x ≤ p.x → cell_index r (right_by n p) ≡ cell_index r p + n
+place-at r p n le = omega arith
+
+place-right : (r : Rect) (p : Position) (n j : ℕ) → r.x ≤ p.x → cell_index r (right_by (n + j) p) ≡ cell_index r p + n + j
+place-right r p n j le = omega arith
+
+-- a position beside these columns whose place isn't before the first one stands behind the last one
+place-behind : (r : Rect) (p q : Position) (n : ℕ) → HasRow r p.y → r.x ≤ p.x → n ≤ r.x + r.width - p.x → HasPosition r q → IsBeside p n q
+    → cell_index r p ≤ cell_index r q → 0 < n → cell_index r p + n ≤ cell_index r q
+place-behind r p q n row le fits h beside ge some =
+    let top = row.top in let above = h.top in let left = h.left in let right = h.right in
+    ⊎_elim
+    (λ (lt : q.y < p.y). absurd (let rows = row_fits (q.y - r.y) r.width (p.y - r.y) r.width (omega arith) (omega arith) in omega arith))
+    (λ (le_y : p.y ≤ q.y).
+    ⊎_elim
+    (λ (lt : p.y < q.y). let rows = row_fits (p.y - r.y) r.width (q.y - r.y) r.width (omega arith) (omega arith) in omega arith)
+    (λ (le_q : q.y ≤ p.y).
+    let same : q.y ≡ p.y = omega arith in
+    let rows : (q.y - r.y) * r.width ≡ (p.y - r.y) * r.width = ap (λ y. (y - r.y) * r.width) same in
+    ⊎_elim (λ (before : q.x < p.x). absurd (omega arith)) (λ (behind : p.x + n ≤ q.x). omega arith) (beside same))
+    (cases_lt p.y q.y))
+    (cases_lt q.y p.y)
+
+-- such a position is beside the painted part
+beside-same : (r : Rect) (p q : Position) (n : ℕ) (old new : List Cell) → HasRow r p.y → r.x ≤ p.x → n ≤ r.x + r.width - p.x → HasPosition r q → IsBeside p n q
+    → IsSameOutside (cell_index r p) (cell_index r p + n) old new → cell new (cell_index r q) ≡ cell old (cell_index r q)
+beside-same r p q n old new row le fits h beside same =
+    ⊎_elim
+    (λ (lt : cell_index r q < cell_index r p). same.before (cell_index r q) lt)
+    (λ (ge : cell_index r p ≤ cell_index r q).
+    ⊎_elim
+    (λ (some : 0 < n). same.behind (cell_index r q) (place-behind r p q n row le fits h beside ge some))
+    (λ (none : n ≤ 0). same.behind (cell_index r q) (omega arith))
+    (cases_lt 0 n))
+    (cases_lt (cell_index r q) (cell_index r p))
+
+pub PaintsColumns-paints : (p : Position) (ps : List Piece) (old new : Sheet) → HasRow old.area p.y → old.area.x ≤ p.x
+    → columns ps ≤ old.area.x + old.area.width - p.x → Paints p ps old new → PaintsColumns p ps old new
+PaintsColumns-paints p ps old new row le fits h = record {
+  starts = λ k k_in. rw (h.area, place-at old.area p (columns (take k ps)) le) (h.cells.starts k k_in);
+  behind = λ k j k_in some j_in. rw (h.area, place-right old.area p (columns (take k ps)) j le) (h.cells.behind k j k_in some j_in);
+  outside = λ q q_in beside. rw h.area (beside-same old.area p q (columns ps) old.cells new.cells row le fits q_in beside h.cells.outside);
+}

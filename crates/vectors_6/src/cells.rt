@@ -1,0 +1,115 @@
+//! The cells of a buffer by position, and equal buffers.
+use crate::sheets::sheet;
+use rtui_buffer::Buffer;
+use rtui_geometry::{Position, Rect};
+use rtui_style::{Color, Modifier};
+use std::alloc::{AllocError, Global};
+use std::hash::{BuildHasher, BuildHasherDefault, FoldHasher};
+use std::test::Fail;
+
+// Whether each call that reads the cell at a place of the area gives one with this symbol.
+fn reads(buffer: &Buffer, x: u16, y: u16, symbol: &str) -> bool {
+    let position = Position { x, y };
+    if !buffer.area().contains(position) {
+        return false;
+    }
+    let got = buffer.get(x, y).symbol() == symbol;
+    let at_position = buffer[position].symbol() == symbol;
+    let at_pair = buffer[(x, y)].symbol() == symbol;
+    let found = buffer.cell(position).map(|cell| cell.symbol()) == Some(symbol);
+    got && at_position && at_pair && found
+}
+
+#[test]
+fn reads_cells(rt: HostRuntime) -> Result<(), Fail> {
+    let buffer = sheet(rt.alloc(), &["ab", "cd"])?;
+    assert!(rt; reads(&buffer, 0, 0, "a"));
+    assert!(rt; reads(&buffer, 1, 0, "b"));
+    assert!(rt; reads(&buffer, 0, 1, "c"));
+    assert!(rt; reads(&buffer, 1, 1, "d"));
+    Ok(())
+}
+
+// Whether each call that gives a cell to be written gives the one at this place of the area.
+fn writes(buffer: &mut Buffer, x: u16, y: u16) -> bool {
+    let position = Position { x, y };
+    if !buffer.area().contains(position) {
+        return false;
+    }
+    buffer.get_mut(x, y).set_fg(Color::Red);
+    buffer[position].set_bg(Color::Green);
+    buffer[(x, y)].underline_color = Color::Blue;
+    if let Some(cell) = buffer.cell_mut(position) {
+        cell.modifier = Modifier::BOLD;
+    }
+    let cell = &buffer[position];
+    cell.fg == Color::Red
+        && cell.bg == Color::Green
+        && cell.underline_color == Color::Blue
+        && cell.modifier == Modifier::BOLD
+}
+
+// Whether the red cells are these, row by row.
+fn reds_are(buffer: &Buffer, reds: &[bool]) -> bool {
+    let red = buffer.content().iter().map(|cell| cell.fg == Color::Red);
+    red.eq(reds.iter().copied())
+}
+
+#[test]
+fn writes_cells(rt: HostRuntime) -> Result<(), Fail> {
+    let mut buffer = Buffer::empty(rt.alloc(), Rect::new(1, 2, 2, 2))?;
+    assert!(rt; writes(&mut buffer, 2, 2));
+    assert!(rt; reds_are(&buffer, &[false, true, false, false]));
+    assert!(rt; writes(&mut buffer, 1, 3));
+    assert!(rt; reds_are(&buffer, &[false, true, true, false]));
+    Ok(())
+}
+
+// Whether there is no cell at this place.
+fn is_outside(buffer: &mut Buffer, x: u16, y: u16) -> bool {
+    let position = Position { x, y };
+    buffer.cell(position).is_none() && buffer.cell_mut(position).is_none()
+}
+
+#[test]
+fn outside_is_no_cell(rt: HostRuntime) -> Result<(), Fail> {
+    let mut buffer = Buffer::empty(rt.alloc(), Rect::new(1, 2, 2, 2))?;
+    assert!(rt; !is_outside(&mut buffer, 1, 2));
+    assert!(rt; !is_outside(&mut buffer, 2, 3));
+    assert!(rt; is_outside(&mut buffer, 0, 2));
+    assert!(rt; is_outside(&mut buffer, 1, 1));
+    assert!(rt; is_outside(&mut buffer, 3, 2));
+    assert!(rt; is_outside(&mut buffer, 1, 4));
+    Ok(())
+}
+
+fn hash_of(buffer: &Buffer) -> u64 {
+    BuildHasherDefault::<FoldHasher>::default().hash_one(buffer)
+}
+
+fn are_alike(one: &Buffer, other: &Buffer) -> bool {
+    one == other && hash_of(one) == hash_of(other)
+}
+
+#[test]
+fn equal_buffers_have_equal_hashes(rt: HostRuntime) -> Result<(), Fail> {
+    let one = sheet(rt.alloc(), &["ab", "cd"])?;
+    assert!(rt; are_alike(&one, &sheet(rt.alloc(), &["ab", "cd"])?));
+    assert!(rt; one != sheet(rt.alloc(), &["ab", "ce"])?);
+    Ok(())
+}
+
+// Whether empty buffers of one cell at these columns and rows are equal.
+fn are_equal_at(alloc: Global, one: [u16; 2], other: [u16; 2]) -> Result<bool, AllocError> {
+    let one = Buffer::empty(alloc, Rect::new(one[0], one[1], 1, 1))?;
+    let other = Buffer::empty(alloc, Rect::new(other[0], other[1], 1, 1))?;
+    Ok(one == other)
+}
+
+#[test]
+fn buffers_at_other_corners_differ(rt: HostRuntime) -> Result<(), Fail> {
+    assert!(rt; are_equal_at(rt.alloc(), [1, 2], [1, 2])?);
+    assert!(rt; !are_equal_at(rt.alloc(), [1, 2], [0, 2])?);
+    assert!(rt; !are_equal_at(rt.alloc(), [1, 2], [1, 3])?);
+    Ok(())
+}
