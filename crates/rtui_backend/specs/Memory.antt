@@ -52,7 +52,7 @@ pub record IsSameBackend (old new : TestBackend) : Type 0 where
   pub screen : screen_of new ≡ screen_of old
   pub failures : failures_of new ≡ failures_of old
 
--- the first items that an iterator gives, maybe none, were put in order and counted, and the others weren't
+-- the first items that an iterator gives, maybe none, were put in order and counted, and no others
 pub record DrawsFront {S A : Type 0} (steps : S → Option A → S → Type 0) (content : S) (update : A → Update) (old new : Screen) : Type 0 where
   pub front : List A
   pub rest : S

@@ -31,7 +31,8 @@ IsBackendFault (Closure error) = ⊥
 abbrev pub FailsOnlyByBackend : {T E : Type 0} → Result T (TerminalError E) → Type 0
 FailsOnlyByBackend result = MatchResult result (λ _. Unit {0}) IsBackendFault
 
--- a start is refused by the backend, whose count of failures had risen when it was dropped, or for want of memory
+-- a start is refused by the backend or for want of memory; the backend was dropped then, so that some backend with such a count of
+-- failures is all that is said
 abbrev pub StartErr : {B E : Type 0} → (B → ℕ) → B → TerminalError E → Type 0
 StartErr {B} failures b (Backend error) = (dropped : B) × (failures b < 2 ^ 64 - 1 → failures dropped ≡ failures b + 1)
 StartErr {B} failures b Memory = (dropped : B) × (failures dropped ≡ failures b)
