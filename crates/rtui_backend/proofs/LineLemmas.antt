@@ -6,7 +6,7 @@ use Rattle.rtui_cell.specs.declared.cell.Cell.{Cell}
 use Rattle.rtui_cell.specs.Cell.{empty_cell}
 use Rattle.rtui_cell.specs.Look.{look_of}
 use Rattle.rtui_cell.proofs.CellLemmas.{look-empty}
-use Rattle.rtui_backend.specs.Looks.{look_at}
+use Rattle.rtui_backend.specs.CellGrid.{look_at}
 
 -- a cell shows its look
 pub look_at-cell : (cells : List Cell) (i : ℕ) → look_at cells i ≡ look_of (slice_index_or cells i empty_cell)

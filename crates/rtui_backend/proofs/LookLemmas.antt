@@ -6,7 +6,7 @@ use Rattle.rtui_cell.specs.declared.cell.Cell.{Cell}
 use Rattle.rtui_cell.specs.Look.{look_of, empty_look}
 use Rattle.rtui_cell.proofs.CellLemmas.{look-empty}
 use Rattle.rtui_buffer.specs.Sheet.{empty_cells}
-use Rattle.rtui_backend.specs.Looks.{look_at, grid_of}
+use Rattle.rtui_backend.specs.CellGrid.{look_at, grid_of}
 
 -- a cell that is written shows its look, and the others what they showed
 pub look_at-set : (cells : List Cell) (i j : ℕ) (c : Cell) → i < length cells → look_at (set cells i c) j ≡ if j == i then look_of c else look_at cells j

@@ -2,12 +2,12 @@
 use Rattle.std.proofs.Common.{ℕ, zero, suc, ◌+◌, ◌-◌, List, [], ◌∷◌, ◌++◌, set, refl, sym, subst}
 use Rattle.rtui_cell.specs.declared.cell.Cell.{Cell}
 use Rattle.rtui_cell.specs.Cell.{empty_cell}
-use Rattle.rtui_text.specs.Texts.{LineData}
+use Rattle.rtui_text.specs.Text.{LineData}
 use Rattle.rtui_buffer.specs.Sheet.{empty_cells}
 use Rattle.rtui_buffer.specs.Painting.{Piece, piece_width, emptied, with_piece, painted}
 use Rattle.rtui_buffer.specs.Line.{line_row, line_rows}
 use Rattle.rtui_buffer.proofs.EmptyLemmas.{cell-empty}
-use Rattle.rtui_backend.specs.Looks.{IsPlain, ArePlain}
+use Rattle.rtui_backend.specs.CellGrid.{IsPlain, ArePlain}
 
 pub plain-empty : IsPlain empty_cell
 plain-empty = record { option = refl; flag = refl }

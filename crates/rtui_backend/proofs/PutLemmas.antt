@@ -7,7 +7,7 @@ use Rattle.rtui_cell.specs.declared.cell.Cell.{Cell}
 use Rattle.rtui_cell.specs.Look.{look_of, empty_look}
 use Rattle.rtui_cell.specs.Cell.{width_of}
 use Rattle.rtui_cell.specs.Grid.{Update, put}
-use Rattle.rtui_backend.specs.Looks.{look_at, grid_of}
+use Rattle.rtui_backend.specs.CellGrid.{look_at, grid_of}
 
 -- rows do not overlap
 row_below : (w b y : ℕ) → b < y → b * w + w ≤ y * w

@@ -13,15 +13,15 @@ use Rattle.rtui_cell.specs.Look.{look_of}
 use Rattle.rtui_cell.specs.declared.cell.Cell.{Cell}
 use Rattle.rtui_cell.specs.Cell.{empty_cell}
 use Rattle.rtui_cell.proofs.CellLemmas.{look-empty}
-use Rattle.rtui_text.specs.Texts.{line_of, plain}
+use Rattle.rtui_text.specs.Text.{line_of, plain}
 use Rattle.rtui_buffer.specs.Sheet.{empty_cells}
 use Rattle.rtui_buffer.specs.Painting.{Piece, piece_width, piece_at, place_of, columns, text_pieces, shown, painted, IsPainted}
 use Rattle.rtui_buffer.specs.Line.{line_pieces, line_row}
 use Rattle.rtui_buffer.proofs.EmptyLemmas.{cell-empty}
 use Rattle.rtui_buffer.proofs.PaintedLemmas.{AreWide, IsPainted-painted}
 use Rattle.rtui_buffer.proofs.LineLemmas.{columns-line, columns-append, AreWide-line, line_pieces-nil, line_pieces-cons}
-use Rattle.rtui_backend.specs.Looks.{look_at}
-use Rattle.rtui_backend.specs.Walk.{are_blank, is_piece, are_pieces, pieces_end, at_end, spans_end, is_blank_from, is_row_of}
+use Rattle.rtui_backend.specs.CellGrid.{look_at}
+use Rattle.rtui_backend.specs.RowMatch.{are_blank, is_piece, are_pieces, pieces_end, at_end, spans_end, is_blank_from, is_row_of}
 use Rattle.rtui_backend.proofs.LineLemmas.{look_at-cell}
 use Rattle.rtui_backend.proofs.WalkLemmas.{pieces_end-nil}
 

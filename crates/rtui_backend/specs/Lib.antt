@@ -1,7 +1,7 @@
 pub mod Screen
-pub mod Count
-pub mod Looks
-pub mod Memory
-pub mod Texts
+pub mod Failures
+pub mod CellGrid
+pub mod TestBackend
+pub mod Display
 pub mod Lines
-pub mod Walk
+pub mod RowMatch

@@ -1,9 +1,9 @@
 -- When a screen shows lines of text, as a buffer made of them does.
 use Rattle.std.specs.Prelude.{◌≡◌, ℕ, ◌<◌, true, List, [], length}
-use Rattle.rtui_text.specs.Texts.{LineData}
+use Rattle.rtui_text.specs.Text.{LineData}
 use Rattle.rtui_buffer.specs.Line.{line_row, line_rows, line_at, widest}
 use Rattle.rtui_backend.specs.Screen.{Screen, cursor_of}
-use Rattle.rtui_backend.specs.Looks.{look_at, grid_of}
+use Rattle.rtui_backend.specs.CellGrid.{look_at, grid_of}
 
 -- the symbol in each column of a row of a screen
 abbrev pub symbols_in : Screen → ℕ → ℕ → List ℕ

@@ -3,7 +3,7 @@ ghost use Rattle.std.specs.Iterator.{IsFinite, Drains};
 ghost use Rattle.rtui_cell.specs.declared.cell.Cell.{Cell};
 ghost use Rattle.rtui_cell.specs.Grid.{update_by};
 ghost use Rattle.rtui_backend.specs.Screen.{Screen, IsOnGrid, Draws, with_visible, with_cursor, cursor_of, size_of};
-ghost use Rattle.rtui_backend.specs.Count.{Counts};
+ghost use Rattle.rtui_backend.specs.Failures.{Counts};
 
 use rtui_buffer::Cell;
 use rtui_geometry::{Position, Size};

@@ -2,7 +2,7 @@
 //!
 //! It stands on `rtui_geometry` and `rtui_buffer`. `specs/Screen` defines a screen and what each call does to it;
 //! an implementation of `Backend` keeps that contract, and the layer above uses nothing else of it. Failed calls
-//! are counted (`specs/Count`).
+//! are counted (`specs/Failures`).
 #![tactic(auto)]
 
 mod backend;

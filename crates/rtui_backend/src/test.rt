@@ -7,9 +7,9 @@ ghost use Rattle.rtui_cell.specs.Cell.{width_of};
 ghost use Rattle.rtui_cell.specs.Grid.{put, update_by};
 ghost use Rattle.rtui_buffer.specs.Sheet.{IsEmptied};
 ghost use Rattle.rtui_backend.specs.Screen.{Draws};
-ghost use Rattle.rtui_backend.specs.Looks.{look_at, grid_of, IsPlain, ArePlain};
-ghost use Rattle.rtui_backend.specs.Count.{Counts};
-ghost use Rattle.rtui_backend.specs.Texts.{error_text};
+ghost use Rattle.rtui_backend.specs.CellGrid.{look_at, grid_of, IsPlain, ArePlain};
+ghost use Rattle.rtui_backend.specs.Failures.{Counts};
+ghost use Rattle.rtui_backend.specs.Display.{test_error_text};
 
 use crate::backend::{AsCell, Backend, WindowSize};
 use rtui_buffer::{Buffer, Cell, CellDiffOption, CellWidth};
@@ -30,7 +30,7 @@ pub enum TestError {
 }
 
 impl fmt::Display for TestError {
-    ghost output = { λ error. Some (error_text error) };
+    ghost output = { λ error. Some (test_error_text error) };
 
     fn fmt<W: fmt::Write>(&self, f: &mut fmt::Formatter<W>) -> fmt::Result {
         f.write_str(match self {
@@ -110,7 +110,7 @@ impl TestBackend {
     ghost use Rattle.std.specs.Prelude.{None};
     ghost use Rattle.rtui_cell.specs.declared.cell.Cell.{Cell};
     ghost use Rattle.rtui_backend.specs.Screen.{IsBlankScreen, cursor_of};
-    ghost use Rattle.rtui_backend.specs.Memory.{screen_of, sheet_of, failures_of, told_after, TakesTurn, IsSameBackend, DrawsFront};
+    ghost use Rattle.rtui_backend.specs.TestBackend.{screen_of, sheet_of, failures_of, told_after, TakesTurn, IsSameBackend, DrawsFront};
 
     /// A blank screen of this size in columns and rows, its cursor visible in the corner; refused where memory
     /// is.
@@ -248,7 +248,7 @@ impl Backend for TestBackend {
     ghost use Rattle.std.specs.Prelude.{true, false};
     ghost use Rattle.rtui_geometry.specs.declared.size.Size.{Size};
     ghost use Rattle.rtui_backend.specs.Screen.{IsOnGrid, with_visible, with_cursor, cursor_of, size_of};
-    ghost use Rattle.rtui_backend.specs.Memory.{screen_of, failures_of, told_after, one_call_less, TakesTurn, DrawsFront};
+    ghost use Rattle.rtui_backend.specs.TestBackend.{screen_of, failures_of, told_after, one_call_less, TakesTurn, DrawsFront};
 
     type Error = TestError;
 

@@ -7,9 +7,9 @@ use Rattle.rtui_geometry.specs.declared.rect.Rect.{Rect}
 use Rattle.rtui_style.specs.declared.Style.{Style}
 use Rattle.rtui_style.specs.Style.{patch}
 use Rattle.rtui_cell.specs.declared.cell.Cell.{Cell}
-use Rattle.rtui_text.specs.Texts.{SpanData}
+use Rattle.rtui_text.specs.Text.{SpanData}
 use Rattle.rtui_buffer.specs.Painting.{Piece, piece_width, text_pieces, columns, with_piece, painted, IsSameOutside, IsPainted}
-use Rattle.rtui_buffer.specs.Text.{room_at}
+use Rattle.rtui_buffer.specs.PaintedText.{room_at}
 use Rattle.rtui_buffer.specs.Line.{line_pieces}
 use Rattle.rtui_buffer.proofs.EmptyLemmas.{IsSettledSheet-empty}
 use Rattle.rtui_buffer.proofs.PaintLemmas.{painted-nil, painted-cons, IsSameOutside-refl, IsSameOutside-wider, IsSameOutside-then}

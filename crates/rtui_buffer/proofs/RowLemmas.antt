@@ -8,7 +8,7 @@ use Rattle.rtui_cell.specs.declared.cell.Cell.{Cell}
 use Rattle.rtui_cell.specs.Cell.{empty_cell, width_of, is_skipped}
 use Rattle.rtui_diff.specs.Cells.{cell, cell_at}
 use Rattle.rtui_diff.specs.Settled.{IsSettled, IsBlankOrSkipped}
-use Rattle.rtui_text.specs.Texts.{LineData}
+use Rattle.rtui_text.specs.Text.{LineData}
 use Rattle.rtui_buffer.specs.Sheet.{empty_cells}
 use Rattle.rtui_buffer.specs.Painting.{Piece, piece_width, columns, shown, emptied, with_piece, painted, IsPainted}
 use Rattle.rtui_buffer.specs.Line.{line_pieces, line_row, line_rows, line_at, row_cells, ShowsLines}

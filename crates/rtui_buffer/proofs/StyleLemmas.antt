@@ -7,7 +7,7 @@ use Rattle.rtui_style.specs.declared.Style.{Style}
 use Rattle.rtui_cell.specs.declared.cell.Cell.{Cell}
 use Rattle.rtui_cell.specs.Cell.{empty_cell, styled}
 use Rattle.rtui_diff.specs.Cells.{cell, cell_at}
-use Rattle.rtui_buffer.specs.Text.{IsStyledPart, IsStyledRows}
+use Rattle.rtui_buffer.specs.PaintedText.{IsStyledPart, IsStyledRows}
 use Rattle.rtui_buffer.proofs.PaintLemmas.{IsSameOutside-refl, IsSameOutside-set, IsSameOutside-wider}
 
 pub IsStyledPart-none : (from : ℕ) (s : Style) (cells : List Cell) → IsStyledPart from from s cells cells

@@ -10,7 +10,7 @@ use Rattle.rtui_cell.specs.declared.cell.Cell.{Cell}
 use Rattle.rtui_diff.specs.Settled.{IsSettled}
 use Rattle.rtui_buffer.specs.Sheet.{Sheet, area_size, cell_index, position_of, empty_cells, IsEmptied}
 use Rattle.rtui_buffer.specs.Painting.{Piece, pieces, text_pieces, columns, IsPainted}
-use Rattle.rtui_buffer.specs.Text.{room_at, Paints}
+use Rattle.rtui_buffer.specs.PaintedText.{room_at, Paints}
 use Rattle.rtui_buffer.proofs.EmptyLemmas.{cell-empty, IsSettledSheet-empty}
 use Rattle.rtui_buffer.proofs.PaintedLemmas.{kept-none, columns-kept, IsPainted-none}
 use Rattle.rtui_buffer.proofs.SettledLemmas.{IsSettled-painted}

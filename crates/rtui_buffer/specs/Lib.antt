@@ -1,6 +1,6 @@
 pub mod Sheet
 pub mod Frame
 pub mod Painting
-pub mod Text
+pub mod PaintedText
 pub mod Line
 pub mod Overlay

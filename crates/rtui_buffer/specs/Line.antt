@@ -6,11 +6,11 @@ use Rattle.rtui_geometry.specs.declared.rect.Rect.{Rect}
 use Rattle.rtui_style.specs.declared.Style.{Style}
 use Rattle.rtui_style.specs.Style.{patch}
 use Rattle.rtui_cell.specs.declared.cell.Cell.{Cell}
-use Rattle.rtui_text.specs.Texts.{SpanData, LineData, line_of, raw_line}
+use Rattle.rtui_text.specs.Text.{SpanData, LineData, line_of, raw_line}
 use Rattle.rtui_text.specs.Widths.{line_width}
 use Rattle.rtui_buffer.specs.Sheet.{empty_cells}
 use Rattle.rtui_buffer.specs.Painting.{Piece, text_pieces, columns, painted, IsPainted}
-use Rattle.rtui_buffer.specs.Text.{room_at}
+use Rattle.rtui_buffer.specs.PaintedText.{room_at}
 
 -- the pieces of spans one behind the other, each span in the width that is left, its style over the base style
 unfoldable pub line_pieces : ℕ → Style → List SpanData → List Piece

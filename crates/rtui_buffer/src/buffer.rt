@@ -2,10 +2,10 @@ ghost use Rattle.std.specs.Prelude.{◌≡◌, ◌+◌, ◌-◌, ◌*◌, ◌<�
 ghost use Rattle.std.specs.Borrow.{sem, Lends, LendsIf, Array};
 ghost use Rattle.rtui_geometry.specs.Rect.{HasPosition, EdgesFit};
 ghost use Rattle.rtui_cell.specs.contracts.cell.Cell.{the_row as cell_row};
-ghost use Rattle.rtui_diff.specs.Updates.{update_at, Rises, IsOwn};
-ghost use Rattle.rtui_diff.specs.Given.{IsNarrow, differing, GivesLittle, GivesEnough};
+ghost use Rattle.rtui_diff.specs.Updates.{update_at, Rises, IsCellOfNext};
+ghost use Rattle.rtui_diff.specs.Completeness.{AreNarrow, differing, IsMinimal, IsComplete};
 ghost use Rattle.rtui_diff.specs.Shows.{Repaints, Replays};
-ghost use Rattle.rtui_diff.specs.Left.{updates_left};
+ghost use Rattle.rtui_diff.specs.Remaining.{updates_left};
 ghost use Rattle.rtui_buffer.specs.contracts.buffer.Buffer.{the_row};
 ghost use Rattle.rtui_buffer.specs.Sheet.{area_size, cell_index, place_position, position_of, cell_in, with_cell, empty_cells, refilled, IsEmptied, IsSameSheet};
 ghost use Rattle.rtui_buffer.specs.Frame.{IsSettledSheet, IsAligned, common_rows, sheet_updates, listed};
@@ -237,11 +237,11 @@ impl Buffer {
         requires { IsAligned self.now next.now }
         ensures walks { updates_left result ≡ sheet_updates self.now next.now }
         ensures rises { Rises (updates_left result) }
-        ensures own { All (IsOwn self.now.area.x self.now.area.y self.now.area.width (common_rows self.now next.now) next.now.cells) (updates_left result) }
-        ensures narrow { IsNarrow (self.now.area.width * common_rows self.now next.now) self.now.cells next.now.cells → updates_left result ≡ map (update_at self.now.area.x self.now.area.y self.now.area.width next.now.cells) (differing self.now.cells next.now.cells (self.now.area.width * common_rows self.now next.now)) }
+        ensures own { All (IsCellOfNext self.now.area.x self.now.area.y self.now.area.width (common_rows self.now next.now) next.now.cells) (updates_left result) }
+        ensures narrow { AreNarrow (self.now.area.width * common_rows self.now next.now) self.now.cells next.now.cells → updates_left result ≡ map (update_at self.now.area.x self.now.area.y self.now.area.width next.now.cells) (differing self.now.cells next.now.cells (self.now.area.width * common_rows self.now next.now)) }
         ensures replays { IsSettledSheet self.now → IsSettledSheet next.now → Replays self.now.area.x self.now.area.y self.now.area.width (common_rows self.now next.now) self.now.cells next.now.cells (updates_left result) }
-        ensures little { IsSettledSheet self.now → IsSettledSheet next.now → GivesLittle self.now.area.x self.now.area.y self.now.area.width (common_rows self.now next.now) self.now.cells next.now.cells (updates_left result) }
-        ensures enough { IsSettledSheet self.now → IsSettledSheet next.now → GivesEnough self.now.area.x self.now.area.y self.now.area.width (common_rows self.now next.now) self.now.cells next.now.cells (updates_left result) }
+        ensures little { IsSettledSheet self.now → IsSettledSheet next.now → IsMinimal self.now.area.x self.now.area.y self.now.area.width (common_rows self.now next.now) self.now.cells next.now.cells (updates_left result) }
+        ensures enough { IsSettledSheet self.now → IsSettledSheet next.now → IsComplete self.now.area.x self.now.area.y self.now.area.width (common_rows self.now next.now) self.now.cells next.now.cells (updates_left result) }
     {
         let area = *self.area();
         let height = area.height.min(next.area().height);
@@ -264,11 +264,11 @@ impl Buffer {
         requires { IsAligned self.now next.now }
         ensures walks { IfOk result (λ all. listed all.items ≡ sheet_updates self.now next.now) }
         ensures rises { IfOk result (λ all. Rises (listed all.items)) }
-        ensures own { IfOk result (λ all. All (IsOwn self.now.area.x self.now.area.y self.now.area.width (common_rows self.now next.now) next.now.cells) (listed all.items)) }
-        ensures narrow { IfOk result (λ all. IsNarrow (self.now.area.width * common_rows self.now next.now) self.now.cells next.now.cells → listed all.items ≡ map (update_at self.now.area.x self.now.area.y self.now.area.width next.now.cells) (differing self.now.cells next.now.cells (self.now.area.width * common_rows self.now next.now))) }
+        ensures own { IfOk result (λ all. All (IsCellOfNext self.now.area.x self.now.area.y self.now.area.width (common_rows self.now next.now) next.now.cells) (listed all.items)) }
+        ensures narrow { IfOk result (λ all. AreNarrow (self.now.area.width * common_rows self.now next.now) self.now.cells next.now.cells → listed all.items ≡ map (update_at self.now.area.x self.now.area.y self.now.area.width next.now.cells) (differing self.now.cells next.now.cells (self.now.area.width * common_rows self.now next.now))) }
         ensures replays { IfOk result (λ all. IsSettledSheet self.now → IsSettledSheet next.now → Replays self.now.area.x self.now.area.y self.now.area.width (common_rows self.now next.now) self.now.cells next.now.cells (listed all.items)) }
-        ensures little { IfOk result (λ all. IsSettledSheet self.now → IsSettledSheet next.now → GivesLittle self.now.area.x self.now.area.y self.now.area.width (common_rows self.now next.now) self.now.cells next.now.cells (listed all.items)) }
-        ensures enough { IfOk result (λ all. IsSettledSheet self.now → IsSettledSheet next.now → GivesEnough self.now.area.x self.now.area.y self.now.area.width (common_rows self.now next.now) self.now.cells next.now.cells (listed all.items)) }
+        ensures little { IfOk result (λ all. IsSettledSheet self.now → IsSettledSheet next.now → IsMinimal self.now.area.x self.now.area.y self.now.area.width (common_rows self.now next.now) self.now.cells next.now.cells (listed all.items)) }
+        ensures enough { IfOk result (λ all. IsSettledSheet self.now → IsSettledSheet next.now → IsComplete self.now.area.x self.now.area.y self.now.area.width (common_rows self.now next.now) self.now.cells next.now.cells (listed all.items)) }
     {
         collected(alloc, self.diff_iter(next))
     }

@@ -5,10 +5,10 @@ ghost use Rattle.std.specs.Prelude.{ℕ, ◌+◌, ◌-◌, ◌≤◌, List, filt
 ghost use Rattle.rtui_geometry.specs.declared.rect.Rect.{Rect};
 ghost use Rattle.rtui_geometry.specs.declared.position.Position.{Position};
 ghost use Rattle.rtui_style.specs.declared.Style.{Style};
-ghost use Rattle.rtui_text.specs.Texts.{LineData};
+ghost use Rattle.rtui_text.specs.Text.{LineData};
 ghost use Rattle.rtui_buffer.specs.Sheet.{Sheet};
 ghost use Rattle.rtui_buffer.specs.Painting.{Piece, is_painted, kept, columns, IsLongestFront};
-ghost use Rattle.rtui_buffer.specs.Text.{HasRow, pieces_at, Paints, PaintsColumns};
+ghost use Rattle.rtui_buffer.specs.PaintedText.{HasRow, pieces_at, Paints, PaintsColumns};
 ghost use Rattle.rtui_buffer.specs.Line.{line_pieces_at};
 
 /// Of the graphemes without control characters that have a column, the longest front that fits the room is painted.

@@ -7,8 +7,8 @@ abbrev pub is_sound_mark : ℕ → Bool
 is_sound_mark c = (c == 0xFF9E) || (c == 0xFF9F)
 
 -- the columns of a text in a line, in which sound marks count for nothing
-unfoldable pub columns_of : List ℕ → ℕ
-columns_of text = str_width false (chars text) - count_by is_sound_mark (chars text)
+unfoldable pub text_columns : List ℕ → ℕ
+text_columns text = str_width false (chars text) - count_by is_sound_mark (chars text)
 
 -- the columns of a text in a cell, in which each sound mark counts for one: the Unicode width, at most 65535, and 1 for one byte
 unfoldable pub text_width : List ℕ → ℕ

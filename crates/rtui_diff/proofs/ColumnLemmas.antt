@@ -8,7 +8,7 @@ use Rattle.rtui_cell.specs.Look.{Look, empty_look, look_of}
 use Rattle.rtui_cell.specs.Cell.{empty_cell, width_of, is_skipped}
 use Rattle.rtui_cell.specs.Equality.{is_same}
 use Rattle.rtui_diff.specs.Cells.{cell}
-use Rattle.rtui_diff.specs.Walk.{Walk, start, gives, gives_visited, gives_plain, turn, give, given}
+use Rattle.rtui_diff.specs.DiffRule.{Walk, start, gives, gives_visited, gives_plain, turn, give, given}
 use Rattle.rtui_diff.specs.Settled.{IsBlankOrSkipped}
 use Rattle.rtui_cell.proofs.CellLemmas.{same_look, same_width, same_skipped, look-empty, width-empty}
 use Rattle.rtui_diff.proofs.WalkLemmas.{turn_cases, given-step, given-none, plain_same, unskipped}

@@ -5,9 +5,9 @@ use Rattle.std.proofs.Common.{◌≡◌, ℕ, zero, suc, ◌+◌, ◌-◌, ◌<�
 use Rattle.rtui_cell.specs.declared.cell.Cell.{Cell}
 use Rattle.rtui_cell.specs.Cell.{width_of, empty_cell}
 use Rattle.rtui_diff.specs.Cells.{cell}
-use Rattle.rtui_diff.specs.Walk.{Walk, gives_plain, gives_visited, turn_plain, give, given}
+use Rattle.rtui_diff.specs.DiffRule.{Walk, gives_plain, gives_visited, turn_plain, give, given}
 use Rattle.rtui_diff.specs.Updates.{update_at}
-use Rattle.rtui_diff.specs.Left.{updates_left}
+use Rattle.rtui_diff.specs.Remaining.{updates_left}
 use Rattle.rtui_diff.specs.declared.diff.BufferDiff.{BufferDiff}
 use Rattle.rtui_diff.proofs.WalkLemmas.{given-step, given-none}
 

@@ -9,10 +9,10 @@ use Rattle.rtui_cell.specs.declared.cell.Cell.{Cell}
 use Rattle.rtui_cell.specs.Cell.{width_of, is_skipped}
 use Rattle.rtui_diff.specs.Cells.{has_fe0f, is_forced, shows_on_blank, cell, cell_at}
 use Rattle.rtui_cell.specs.Equality.{is_same_symbol}
-use Rattle.rtui_diff.specs.Walk.{Walk, start, gives, gives_plain, gives_visited, turn, give, given}
+use Rattle.rtui_diff.specs.DiffRule.{Walk, start, gives, gives_plain, gives_visited, turn, give, given}
 use Rattle.rtui_diff.specs.Updates.{updates}
 use Rattle.rtui_diff.specs.Settled.{IsSettled}
-use Rattle.rtui_diff.specs.Given.{IsFree, IsDark, GivesEnough}
+use Rattle.rtui_diff.specs.Completeness.{IsFree, IsDark, IsComplete}
 use Rattle.rtui_diff.proofs.GivenLemmas.{given_at, place_at}
 use Rattle.rtui_diff.proofs.WalkLemmas.{given-step, given-none, unskipped, turn_cases}
 use Rattle.rtui_diff.proofs.ColumnLemmas.{Settled, Behind, Stands, step, stands_start, behind_width}
@@ -278,7 +278,7 @@ dark_flat w h cells a b st a_in b_in dark x =
     let covers : a < x.k % w + width_of (cell cells x.k) = (let c = x.covers in omega arith) in
     dark.dark (x.k % w) q.1 (subst (λ k. is_skipped (cell cells k) ≡ false) here x.plain) (subst (λ k. a < x.k % w + width_of (cell cells k)) here covers) (subst (λ k. shows_on_blank (cell cells k) ≡ true) here x.visible)
 
-pub gives_enough : (x0 y0 w h : ℕ) (ps ns : List Cell) → IsSettled w h ps → IsSettled w h ns → GivesEnough x0 y0 w h ps ns (updates x0 y0 w h ps ns)
+pub gives_enough : (x0 y0 w h : ℕ) (ps ns : List Cell) → IsSettled w h ps → IsSettled w h ns → IsComplete x0 y0 w h ps ns (updates x0 y0 w h ps ns)
 gives_enough x0 y0 w h ps ns sp st = record {
   blanks = λ a b j a_in b_in less is plain covers unforced variation dark plain_here other.
       let end : b * w + w ≤ w * h = row_end w h b b_in in

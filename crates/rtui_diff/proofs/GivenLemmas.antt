@@ -11,10 +11,10 @@ use Rattle.rtui_cell.specs.declared.cell.Cell.{Cell}
 use Rattle.rtui_cell.specs.Cell.{empty_cell, width_of, is_skipped}
 use Rattle.rtui_diff.specs.Cells.{has_fe0f, is_forced, is_always, shows_on_blank, cell, cell_at}
 use Rattle.rtui_cell.specs.Equality.{is_same, is_same_symbol}
-use Rattle.rtui_diff.specs.Walk.{Walk, start, gives, gives_plain, turn, turn_plain, give, given}
+use Rattle.rtui_diff.specs.DiffRule.{Walk, start, gives, gives_plain, turn, turn_plain, give, given}
 use Rattle.rtui_diff.specs.Updates.{update_at, updates}
 use Rattle.rtui_diff.specs.Settled.{IsSettled}
-use Rattle.rtui_diff.specs.Given.{differing, IsNarrow, IsGiven, Uncovers, GivesLittle}
+use Rattle.rtui_diff.specs.Completeness.{differing, AreNarrow, IsGiven, Uncovers, IsMinimal}
 use Rattle.rtui_cell.proofs.CellLemmas.{same_symbol, symbol_beside}
 use Rattle.rtui_diff.proofs.WalkLemmas.{given-step, given-none, turn_cases, unskipped}
 use Rattle.rtui_diff.proofs.ColumnLemmas.{Settled, Stands, reach, step, stands_start, behind_width}
@@ -32,7 +32,7 @@ give_cond false i is = refl
 gives_differs : (p n : Cell) → is_always n ≡ false → gives_plain p n ≡ (not (is_skipped n) && not (is_same p n))
 gives_differs p n e = rw e refl
 
-narrow_from : (len : ℕ) (ps ns : List Cell) (n : ℕ) (s : Walk) (i : ℕ) → IsNarrow len ps ns → i + n ≡ len → s.over ≡ 0 → s.left ≡ 0 →
+narrow_from : (len : ℕ) (ps ns : List Cell) (n : ℕ) (s : Walk) (i : ℕ) → AreNarrow len ps ns → i + n ≡ len → s.over ≡ 0 → s.left ≡ 0 →
     given ps ns n s i ≡ filter (differs ps ns) (range_with_len i n)
 narrow_from len ps ns zero s i narrow e o l = given-none ps ns s i
 narrow_from len ps ns (suc n) s i narrow e o l =
@@ -52,7 +52,7 @@ narrow_from len ps ns (suc n) s i narrow e o l =
     ∙ give_cond (differs ps ns i) i (filter (differs ps ns) (range_with_len (i + 1) n))
 
 -- where all cells are narrow, exactly the unskipped ones that differ are given
-pub given_narrow : (len : ℕ) (ps ns : List Cell) → IsNarrow len ps ns → given ps ns len start 0 ≡ differing ps ns len
+pub given_narrow : (len : ℕ) (ps ns : List Cell) → AreNarrow len ps ns → given ps ns len start 0 ≡ differing ps ns len
 given_narrow len ps ns narrow = narrow_from len ps ns len start 0 narrow (omega arith) refl refl
 
 -- Where the two visited ranges come from.
@@ -275,7 +275,7 @@ module _ (x0 y0 w h : ℕ) (ps ns : List Cell) where
       let place : i ≡ b * w + a = sym (row_start w h i) ∙ rw (column', row') refl in
       subst (Contains is) place q.1
 
-  pub gives_little : IsSettled w h ps → IsSettled w h ns → GivesLittle x0 y0 w h ps ns (updates x0 y0 w h ps ns)
+  pub gives_little : IsSettled w h ps → IsSettled w h ns → IsMinimal x0 y0 w h ps ns (updates x0 y0 w h ps ns)
   gives_little sp st = record {
     behind = λ a b j a_in b_in is less plain covers.
         let q = (at a b is).behind (b * w + j) (omega arith) plain (omega arith) in

@@ -6,9 +6,9 @@ use Rattle.std.proofs.lemmas.List.Elements.{All-nil, All-cons, All-weaker, All-m
 use Rattle.rtui_cell.specs.declared.cell.Cell.{Cell}
 use Rattle.rtui_cell.specs.Cell.{width_of, is_skipped}
 use Rattle.rtui_diff.specs.Cells.{cell}
-use Rattle.rtui_diff.specs.Walk.{Walk, start, gives, turn, give, given}
+use Rattle.rtui_diff.specs.DiffRule.{Walk, start, gives, turn, give, given}
 use Rattle.rtui_cell.specs.Grid.{Grid, puts}
-use Rattle.rtui_diff.specs.Updates.{update_at, updates, RisesFrom, IsBefore, Rises, IsOwn}
+use Rattle.rtui_diff.specs.Updates.{update_at, updates, RisesFrom, IsBefore, Rises, IsCellOfNext}
 use Rattle.rtui_diff.specs.Settled.{IsSettled}
 use Rattle.rtui_diff.specs.Shows.{ShowsColumn, Shows, Replays}
 use Rattle.rtui_diff.proofs.WalkLemmas.{given-step, given-none, unskipped}
@@ -62,7 +62,7 @@ module _ (x0 y0 w h : ℕ) (ns : List Cell) where
     updates_rise (i + 1) is r.3,
   )
 
-  own : (i : ℕ) → i < w * h → Plain ns i → IsOwn x0 y0 w h ns (update_at x0 y0 w ns i)
+  own : (i : ℕ) → i < w * h → Plain ns i → IsCellOfNext x0 y0 w h ns (update_at x0 y0 w ns i)
   own i lt p = record {
     a = i % w;
     b = i / w;
@@ -78,10 +78,10 @@ module _ (x0 y0 w h : ℕ) (ns : List Cell) where
   pub updates_rises : (ps : List Cell) → Rises (updates x0 y0 w h ps ns)
   updates_rises ps = updates_rise 0 (given ps ns (w * h) start 0) (rises ps ns (w * h) start 0 (w * h) (omega arith))
 
-  pub updates_own : (ps : List Cell) → All (IsOwn x0 y0 w h ns) (updates x0 y0 w h ps ns)
+  pub updates_own : (ps : List Cell) → All (IsCellOfNext x0 y0 w h ns) (updates x0 y0 w h ps ns)
   updates_own ps =
-      All-map (IsOwn x0 y0 w h ns) (update_at x0 y0 w ns) (given ps ns (w * h) start 0)
-      (All-weaker (λ j. (0 ≤ j) × (j < w * h) × Plain ns j) (λ j. IsOwn x0 y0 w h ns (update_at x0 y0 w ns j)) (λ j q. own j q.1 q.2) (given ps ns (w * h) start 0)
+      All-map (IsCellOfNext x0 y0 w h ns) (update_at x0 y0 w ns) (given ps ns (w * h) start 0)
+      (All-weaker (λ j. (0 ≤ j) × (j < w * h) × Plain ns j) (λ j. IsCellOfNext x0 y0 w h ns (update_at x0 y0 w ns j)) (λ j q. own j q.1 q.2) (given ps ns (w * h) start 0)
       (rises_all (Plain ns) 0 (w * h) (given ps ns (w * h) start 0) (rises ps ns (w * h) start 0 (w * h) (omega arith))))
 
 -- the places that are given fit into their rows

@@ -6,7 +6,7 @@ use Rattle.rtui_cell.specs.declared.cell.Cell.{Cell}
 use Rattle.rtui_cell.specs.Cell.{width_of, is_skipped}
 use Rattle.rtui_diff.specs.Cells.{has_fe0f, is_forced, is_always, shows_on_blank, cell}
 use Rattle.rtui_cell.specs.Equality.{is_same}
-use Rattle.rtui_diff.specs.Walk.{Walk, start, gives, gives_plain, turn, turn_plain, give, given}
+use Rattle.rtui_diff.specs.DiffRule.{Walk, start, gives, gives_plain, turn, turn_plain, give, given}
 
 pick : (P : Walk → Type 0) (s0 s1 s2 s3 : Walk) (sk fo gi wide fe vis : Bool) →
     (sk ≡ true → P s0) → (sk ≡ false → P s1) →

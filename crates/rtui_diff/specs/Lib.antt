@@ -2,7 +2,7 @@ pub mod Cells
 pub mod Settled
 pub mod Shows
 pub mod Updates
-pub mod Walk
-pub mod Given
-pub mod Left
-pub mod Turn
+pub mod DiffRule
+pub mod Completeness
+pub mod Remaining
+pub mod Step

@@ -4,7 +4,7 @@ use Rattle.rtui_cell.specs.declared.cell.Cell.{Cell}
 use Rattle.rtui_cell.specs.Cell.{is_skipped}
 use Rattle.rtui_cell.specs.Grid.{Update}
 use Rattle.rtui_diff.specs.Cells.{cell, cell_at}
-use Rattle.rtui_diff.specs.Walk.{given, start}
+use Rattle.rtui_diff.specs.DiffRule.{given, start}
 
 -- the update that gives the cell at a place, where the frame's corner is at (x0, y0) and its rows have w columns
 abbrev pub update_at : ℕ → ℕ → ℕ → List Cell → ℕ → Update
@@ -29,7 +29,7 @@ Rises [] = Unit {0}
 Rises (u ∷ us) = All (IsBefore u) us × Rises us
 
 -- the update gives next's own cell at its place in the common rows, and that is not skipped
-pub record IsOwn (x0 y0 w h : ℕ) (ns : List Cell) (u : Update) : Type 0 where
+pub record IsCellOfNext (x0 y0 w h : ℕ) (ns : List Cell) (u : Update) : Type 0 where
   pub a : ℕ
   pub b : ℕ
   pub in_row : a < w

@@ -27,11 +27,11 @@ pub struct BufferDiff<'prev, 'next> {
 }
 
 impl<'prev, 'next> BufferDiff<'prev, 'next> {
-    ghost use Rattle.rtui_diff.specs.Left.{updates_left};
+    ghost use Rattle.rtui_diff.specs.Remaining.{updates_left};
     ghost use Rattle.rtui_diff.specs.Settled.{IsSettled};
-    ghost use Rattle.rtui_diff.specs.Updates.{update_at, updates, Rises, IsOwn};
+    ghost use Rattle.rtui_diff.specs.Updates.{update_at, updates, Rises, IsCellOfNext};
     ghost use Rattle.rtui_diff.specs.Shows.{Replays};
-    ghost use Rattle.rtui_diff.specs.Given.{IsNarrow, differing, GivesLittle, GivesEnough};
+    ghost use Rattle.rtui_diff.specs.Completeness.{AreNarrow, differing, IsMinimal, IsComplete};
 
     /// The updates over the area at (x, y) of this width and height, in columns and rows. Both lists have its
     /// cells, row by row, and may go on behind it.
@@ -49,11 +49,11 @@ impl<'prev, 'next> BufferDiff<'prev, 'next> {
         requires bottom { y + height ≤ 65535 }
         ensures walks { updates_left result ≡ updates x y width height prev.now next.now }
         ensures rises { Rises (updates_left result) }
-        ensures own { All (IsOwn x y width height next.now) (updates_left result) }
-        ensures narrow { IsNarrow (width * height) prev.now next.now → updates_left result ≡ map (update_at x y width next.now) (differing prev.now next.now (width * height)) }
+        ensures own { All (IsCellOfNext x y width height next.now) (updates_left result) }
+        ensures narrow { AreNarrow (width * height) prev.now next.now → updates_left result ≡ map (update_at x y width next.now) (differing prev.now next.now (width * height)) }
         ensures replays { IsSettled width height prev.now → IsSettled width height next.now → Replays x y width height prev.now next.now (updates_left result) }
-        ensures little { IsSettled width height prev.now → IsSettled width height next.now → GivesLittle x y width height prev.now next.now (updates_left result) }
-        ensures enough { IsSettled width height prev.now → IsSettled width height next.now → GivesEnough x y width height prev.now next.now (updates_left result) }
+        ensures little { IsSettled width height prev.now → IsSettled width height next.now → IsMinimal x y width height prev.now next.now (updates_left result) }
+        ensures enough { IsSettled width height prev.now → IsSettled width height next.now → IsComplete x y width height prev.now next.now (updates_left result) }
     {
         BufferDiff::at_start(prev, next, x, y, width, height)
     }
@@ -89,8 +89,8 @@ impl<'prev, 'next> BufferDiff<'prev, 'next> {
 
 impl<'prev, 'next> BufferDiff<'prev, 'next> {
     ghost use Rattle.std.specs.Prelude.{◌<◌};
-    ghost use Rattle.rtui_diff.specs.Walk.{give};
-    ghost use Rattle.rtui_diff.specs.Left.{places_left, IsSameBut};
+    ghost use Rattle.rtui_diff.specs.DiffRule.{give};
+    ghost use Rattle.rtui_diff.specs.Remaining.{places_left, IsSameBut};
     ghost use Rattle.rtui_cell.specs.Grid.{update_by};
     ghost use Rattle.rtui_diff.specs.Updates.{update_at};
 
@@ -133,7 +133,7 @@ impl<'prev, 'next> BufferDiff<'prev, 'next> {
 
 impl<'prev, 'next> Iterator for BufferDiff<'prev, 'next> {
     ghost use Rattle.std.specs.Iterator.{YieldsFirstBy, item_count};
-    ghost use Rattle.rtui_diff.specs.Left.{updates_left};
+    ghost use Rattle.rtui_diff.specs.Remaining.{updates_left};
     ghost use Rattle.rtui_cell.specs.Grid.{update_by};
 
     type Item = (u16, u16, &'next Cell);

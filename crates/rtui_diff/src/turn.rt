@@ -1,8 +1,8 @@
 //! What the walk does at one cell.
 
 ghost use Rattle.std.specs.Prelude.{◌≡◌};
-ghost use Rattle.rtui_diff.specs.Walk.{gives_visited, gives_plain, turn_plain};
-ghost use Rattle.rtui_diff.specs.Turn.{walk_of};
+ghost use Rattle.rtui_diff.specs.DiffRule.{gives_visited, gives_plain, turn_plain};
+ghost use Rattle.rtui_diff.specs.Step.{walk_of};
 
 use crate::cells::{has_fe0f, has_same_symbol, is_always, is_forced, is_same, shows_on_blank};
 use rtui_cell::{Cell, CellWidth};

@@ -1,4 +1,4 @@
 pub mod Offset
 pub mod Rect
 pub mod Rows
-pub mod Text
+pub mod Display

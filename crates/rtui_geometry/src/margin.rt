@@ -1,5 +1,5 @@
 ghost use Rattle.std.specs.Prelude.{◌≡◌, Some};
-ghost use Rattle.rtui_geometry.specs.Text.{margin_text};
+ghost use Rattle.rtui_geometry.specs.Display.{margin_text};
 
 use std::fmt;
 

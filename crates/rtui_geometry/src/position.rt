@@ -1,6 +1,6 @@
 ghost use Rattle.std.specs.Prelude.{◌≡◌, Some};
 ghost use Rattle.rtui_geometry.specs.Offset.{moved_position, opposite};
-ghost use Rattle.rtui_geometry.specs.Text.{position_text};
+ghost use Rattle.rtui_geometry.specs.Display.{position_text};
 
 use crate::offset::{Offset, moved, moved_back};
 use crate::rect::Rect;

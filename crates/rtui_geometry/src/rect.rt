@@ -2,7 +2,7 @@ ghost use Rattle.std.specs.Prelude.{◌≡◌, ◌+◌, ◌-◌, ◌*◌, ◌≤
 ghost use Rattle.rtui_geometry.specs.Rect.{right_edge, bottom_edge, HasPosition, corner, SharePosition, EdgesFit, IsInside, cut_rect, spanning, Intersects, HasRoom, shrunk, grown, KeepsMargin, between};
 ghost use Rattle.rtui_geometry.specs.Offset.{moved_rect};
 ghost use Rattle.rtui_geometry.specs.Rows.{rows_of, columns_of, positions_of, ListsRows, ListsColumns, ListsPositions};
-ghost use Rattle.rtui_geometry.specs.Text.{rect_text};
+ghost use Rattle.rtui_geometry.specs.Display.{rect_text};
 
 use crate::margin::Margin;
 use crate::offset::Offset;

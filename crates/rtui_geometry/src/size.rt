@@ -1,5 +1,5 @@
 ghost use Rattle.std.specs.Prelude.{◌≡◌, ◌*◌, Some};
-ghost use Rattle.rtui_geometry.specs.Text.{size_text};
+ghost use Rattle.rtui_geometry.specs.Display.{size_text};
 
 use crate::rect::Rect;
 use std::fmt;

@@ -11,7 +11,7 @@ use Rattle.rtui_merge.specs.declared.border_symbol.LineStyle.{LineStyle}
 use Rattle.rtui_merge.specs.declared.border_symbol.LineStyle.TheVariants.{Nothing}
 use Rattle.rtui_merge.specs.declared.border_symbol.BorderSymbol.{BorderSymbol}
 use Rattle.rtui_merge.specs.declared.tables.TheConstants.{CROSSINGS, HORIZONTALS, VERTICALS}
-use Rattle.rtui_merge.specs.Arms.{number_of, same_style, same_arms, is_straight, is_corner, bends, contains}
+use Rattle.rtui_merge.specs.Arms.{style_number, same_style, same_arms, is_straight, is_corner, bends, contains}
 use Rattle.rtui_merge.specs.Shapes.{is_mixed, is_rounded, across, upright}
 use Rattle.rtui_merge.specs.Symbols.{Symbol, symbols, symbol_of}
 use Rattle.rtui_merge.proofs.FindLemmas.{find-other_shape}
@@ -21,14 +21,14 @@ use Rattle.rtui_merge.proofs.StyleLemmas.{get_or-map-styles, same_arms-true, all
 abbrev pub horizontals : List (Option (List ℕ))
 horizontals = map (option_map (λ text. text.now)) HORIZONTALS
 
-pub symbol_of_across : (style : LineStyle) → get_or horizontals (number_of style) None ≡ symbol_of (across style)
+pub symbol_of_across : (style : LineStyle) → get_or horizontals (style_number style) None ≡ symbol_of (across style)
 unfolding symbol_of symbols encode_utf8 same_style
 symbol_of_across style = get_or-map-styles (λ style. symbol_of (across style)) style None
 
 abbrev pub verticals : List (Option (List ℕ))
 verticals = map (option_map (λ text. text.now)) VERTICALS
 
-pub symbol_of_upright : (style : LineStyle) → get_or verticals (number_of style) None ≡ symbol_of (upright style)
+pub symbol_of_upright : (style : LineStyle) → get_or verticals (style_number style) None ≡ symbol_of (upright style)
 unfolding symbol_of symbols encode_utf8 same_style
 symbol_of_upright style = get_or-map-styles (λ style. symbol_of (upright style)) style None
 
@@ -69,7 +69,7 @@ crossings = map (map (map (map (option_map (λ text. text.now))))) CROSSINGS
 -- its entry for four arms
 abbrev pub crossing_of : BorderSymbol → Option (List ℕ)
 crossing_of s =
-    get_or (get_or (get_or (get_or crossings (number_of s.right) []) (number_of s.up) []) (number_of s.left) []) (number_of s.down) None
+    get_or (get_or (get_or (get_or crossings (style_number s.right) []) (style_number s.up) []) (style_number s.left) []) (style_number s.down) None
 
 crossing_all : all_arms (λ s. not (is_mixed s) || same_symbol (crossing_of s) (symbol_of s)) ≡ true
 unfolding symbol_of symbols encode_utf8 is_mixed same_style
@@ -132,7 +132,7 @@ abbrev pub looked_up : BorderSymbol → Option (List ℕ)
 looked_up s =
     if is_mixed s then crossing_of s
     else (if is_straight s
-    then (if same_style s.up Nothing then get_or horizontals (number_of s.right) None else get_or verticals (number_of s.up) None)
+    then (if same_style s.up Nothing then get_or horizontals (style_number s.right) None else get_or verticals (style_number s.up) None)
     else (if is_rounded s then rounded_of s else None))
 
 pub looked_up-is : (s : BorderSymbol) → looked_up s ≡ symbol_of s

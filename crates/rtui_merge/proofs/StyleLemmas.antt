@@ -5,7 +5,7 @@ use Rattle.std.proofs.lemmas.Bool.{and_parts, eqb-true, or_cases, both_ways, not
 use Rattle.rtui_merge.specs.declared.border_symbol.LineStyle.{LineStyle}
 use Rattle.rtui_merge.specs.declared.border_symbol.LineStyle.TheVariants.{Nothing, Plain, Double, Thick, Rounded, DoubleDash, DoubleDashThick, TripleDash, TripleDashThick, QuadrupleDash, QuadrupleDashThick}
 use Rattle.rtui_merge.specs.declared.border_symbol.BorderSymbol.{BorderSymbol}
-use Rattle.rtui_merge.specs.Arms.{number_of, same_style, same_arms}
+use Rattle.rtui_merge.specs.Arms.{style_number, same_style, same_arms}
 
 -- the styles by their numbers
 abbrev pub styles : List LineStyle
@@ -13,7 +13,7 @@ styles =
     Nothing ∷ Plain ∷ Double ∷ Thick ∷ Rounded ∷ DoubleDash ∷ DoubleDashThick ∷ TripleDash ∷ TripleDashThick
     ∷ QuadrupleDash ∷ QuadrupleDashThick ∷ []
 
-pub get_or-map-styles : {X : Type 0} (f : LineStyle → X) (style : LineStyle) (d : X) → get_or (map f styles) (number_of style) d ≡ f style
+pub get_or-map-styles : {X : Type 0} (f : LineStyle → X) (style : LineStyle) (d : X) → get_or (map f styles) (style_number style) d ≡ f style
 get_or-map-styles f Nothing d = refl
 get_or-map-styles f Plain d = refl
 get_or-map-styles f Double d = refl
@@ -30,7 +30,7 @@ pub same_style-true : (a b : LineStyle) → same_style a b ≡ true → a ≡ b
 unfolding same_style
 same_style-true a b e =
     sym (get_or-map-styles (λ style. style) a Nothing)
-    ∙ ap (λ n. get_or (map (λ style. style) styles) n Nothing) (eqb-true (number_of a) (number_of b) e)
+    ∙ ap (λ n. get_or (map (λ style. style) styles) n Nothing) (eqb-true (style_number a) (style_number b) e)
     ∙ get_or-map-styles (λ style. style) b Nothing
 
 pub same_arms-true : (a b : BorderSymbol) → same_arms a b ≡ true → a ≡ b
@@ -52,7 +52,7 @@ get_or-map-list_all test (x ∷ xs) (suc n) e = get_or-map-list_all test xs n (a
 
 -- what a test of all styles says of one
 list_all-styles : (test : LineStyle → Bool) → list_all test styles ≡ true → (style : LineStyle) → test style ≡ true
-list_all-styles test e style = sym (get_or-map-styles test style true) ∙ get_or-map-list_all test styles (number_of style) e
+list_all-styles test e style = sym (get_or-map-styles test style true) ∙ get_or-map-list_all test styles (style_number style) e
 
 -- the test holds of any four arms
 abbrev pub all_arms : (BorderSymbol → Bool) → Bool

@@ -5,22 +5,22 @@ use Rattle.rtui_merge.specs.declared.border_symbol.LineStyle.TheVariants.{Nothin
 use Rattle.rtui_merge.specs.declared.border_symbol.BorderSymbol.{BorderSymbol}
 
 -- a number for each style, to tell them apart
-abbrev pub number_of : LineStyle → ℕ
-number_of Nothing = 0
-number_of Plain = 1
-number_of Double = 2
-number_of Thick = 3
-number_of Rounded = 4
-number_of DoubleDash = 5
-number_of DoubleDashThick = 6
-number_of TripleDash = 7
-number_of TripleDashThick = 8
-number_of QuadrupleDash = 9
-number_of QuadrupleDashThick = 10
+abbrev pub style_number : LineStyle → ℕ
+style_number Nothing = 0
+style_number Plain = 1
+style_number Double = 2
+style_number Thick = 3
+style_number Rounded = 4
+style_number DoubleDash = 5
+style_number DoubleDashThick = 6
+style_number TripleDash = 7
+style_number TripleDashThick = 8
+style_number QuadrupleDash = 9
+style_number QuadrupleDashThick = 10
 
 -- the two styles are one
 unfoldable pub same_style : LineStyle → LineStyle → Bool
-same_style a b = number_of a == number_of b
+same_style a b = style_number a == style_number b
 
 -- the arm is not there
 abbrev pub is_nothing : LineStyle → Bool

@@ -3,7 +3,7 @@ use Rattle.std.specs.Prelude.{nat_lt, Bool, ◌&&◌}
 use Rattle.rtui_merge.specs.declared.border_symbol.LineStyle.{LineStyle}
 use Rattle.rtui_merge.specs.declared.border_symbol.LineStyle.TheVariants.{Nothing, Rounded}
 use Rattle.rtui_merge.specs.declared.border_symbol.BorderSymbol.{BorderSymbol}
-use Rattle.rtui_merge.specs.Arms.{number_of, is_corner, contains}
+use Rattle.rtui_merge.specs.Arms.{style_number, is_corner, contains}
 
 -- a horizontal symbol of one style
 abbrev pub across : LineStyle → BorderSymbol
@@ -16,8 +16,8 @@ upright style = record { right = Nothing; up = style; left = Nothing; down = sty
 -- each arm is none, plain, double or thick: these styles mix
 unfoldable pub is_mixed : BorderSymbol → Bool
 is_mixed s =
-    (nat_lt (number_of s.right) 4 && nat_lt (number_of s.up) 4)
-    && (nat_lt (number_of s.left) 4 && nat_lt (number_of s.down) 4)
+    (nat_lt (style_number s.right) 4 && nat_lt (style_number s.up) 4)
+    && (nat_lt (style_number s.left) 4 && nat_lt (style_number s.down) 4)
 
 -- a corner of rounded arms
 unfoldable pub is_rounded : BorderSymbol → Bool

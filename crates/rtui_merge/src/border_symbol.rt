@@ -38,7 +38,7 @@ impl LineStyle {
 
     /// The style's place among the styles.
     pub fn number(self) -> usize
-        ensures { result ≡ spec.number_of self }
+        ensures { result ≡ spec.style_number self }
     {
         self as usize
     }

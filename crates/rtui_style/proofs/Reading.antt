@@ -7,7 +7,7 @@ use Rattle.std.proofs.lemmas.Bool.Decides.{nat_tests}
 use Rattle.rtui_style.specs.declared.color.Color.{Color}
 use Rattle.rtui_style.specs.declared.color.Color.TheVariants.{Indexed}
 use Rattle.rtui_style.specs.declared.color.ParseColorError.{ParseColorError}
-use Rattle.rtui_style.specs.Color.{named_color, index_of, hex_color, color_of, color_or_error, first_of}
+use Rattle.rtui_style.specs.Color.{named_color, color_index, hex_color, color_of, color_or_error, first_of}
 
 abbrev is_digit : ℕ → Bool
 is_digit c = nat_lt (digit_value c) 10
@@ -69,14 +69,14 @@ none_unless n false h = refl
 
 -- a decimal number of at most 255 is the index
 pub index_is_parsed : (text : List ℕ) (n : ℕ) → (IsNumeral 10 (without_leading_plus text) × (digits_value 10 (without_leading_plus text) < 2 ^ 8))
-    × (n ≡ digits_value 10 (without_leading_plus text)) → index_of text ≡ Some n
+    × (n ≡ digits_value 10 (without_leading_plus text)) → color_index text ≡ Some n
 unfolding some_if
 index_is_parsed text n h =
     let ds = without_leading_plus text in
     ap (some_if (digits_value 10 ds)) (small ds h.0.0 h.0.1) ∙ ap Some (sym h.1)
 
 pub no_index : (text : List ℕ) → ¬ (IsNumeral 10 (without_leading_plus text) × (digits_value 10 (without_leading_plus text) < 2 ^ 8))
-    → index_of text ≡ None
+    → color_index text ≡ None
 unfolding some_if
 no_index text h =
     let ds = without_leading_plus text in
@@ -86,14 +86,14 @@ abbrev answer_of : Option Color → Option ℕ → Option Color → Result Color
 answer_of named index hex = color_or_error (first_of named (first_of (option_map Indexed index) hex))
 
 pub read_name : (text : List ℕ) (c : Color) → named_color text ≡ Some c → Ok c ≡ color_or_error (color_of text)
-read_name text c named = sym (ap (λ x. answer_of x (index_of text) (hex_color text)) named)
+read_name text c named = sym (ap (λ x. answer_of x (color_index text) (hex_color text)) named)
 
-pub read_index : (text : List ℕ) (n : ℕ) → named_color text ≡ None → index_of text ≡ Some n → Ok (Indexed n) ≡ color_or_error (color_of text)
+pub read_index : (text : List ℕ) (n : ℕ) → named_color text ≡ None → color_index text ≡ Some n → Ok (Indexed n) ≡ color_or_error (color_of text)
 read_index text n named index =
-    sym (ap (λ x. answer_of x (index_of text) (hex_color text)) named ∙ ap (λ y. answer_of None y (hex_color text)) index)
+    sym (ap (λ x. answer_of x (color_index text) (hex_color text)) named ∙ ap (λ y. answer_of None y (hex_color text)) index)
 
-pub read_hex : (text : List ℕ) (z : Option Color) → named_color text ≡ None → index_of text ≡ None → hex_color text ≡ z
+pub read_hex : (text : List ℕ) (z : Option Color) → named_color text ≡ None → color_index text ≡ None → hex_color text ≡ z
     → color_or_error z ≡ color_or_error (color_of text)
 read_hex text z named index hex =
-    sym (ap (λ x. answer_of x (index_of text) (hex_color text)) named ∙ ap (λ y. answer_of None y (hex_color text)) index
+    sym (ap (λ x. answer_of x (color_index text) (hex_color text)) named ∙ ap (λ y. answer_of None y (hex_color text)) index
     ∙ ap (answer_of None None) hex)

@@ -99,8 +99,8 @@ abbrev pub named_color : List ℕ → Option Color
 named_color text = color_among color_names text
 
 -- the number from 0 to 255 that a text writes in decimal digits, where a plus may stand first
-abbrev pub index_of : List ℕ → Option ℕ
-index_of text =
+abbrev pub color_index : List ℕ → Option ℕ
+color_index text =
     let digits = without_leading_plus text in
     if nat_lt 0 (length digits) && list_all (λ c. nat_lt (digit_value c) 10) digits && nat_lt (digits_value 10 digits) 256
     then Some (digits_value 10 digits) else None
@@ -129,7 +129,7 @@ first_of None other = other
 
 -- the colour that a text is read as: its name, its index, or its three bytes
 abbrev pub color_of : List ℕ → Option Color
-color_of text = first_of (named_color text) (first_of (option_map Indexed (index_of text)) (hex_color text))
+color_of text = first_of (named_color text) (first_of (option_map Indexed (color_index text)) (hex_color text))
 
 -- a colour, or the error where there is none
 abbrev pub color_or_error : Option Color → Result Color ParseColorError

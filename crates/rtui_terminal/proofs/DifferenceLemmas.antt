@@ -6,7 +6,7 @@ use Rattle.rtui_geometry.specs.declared.rect.Rect.{Rect}
 use Rattle.rtui_cell.specs.Grid.{Update}
 use Rattle.rtui_diff.specs.Shows.{ShowsColumn, Shows, Replays}
 use Rattle.rtui_diff.specs.Updates.{update_at}
-use Rattle.rtui_diff.specs.Given.{IsNarrow, differing}
+use Rattle.rtui_diff.specs.Completeness.{AreNarrow, differing}
 use Rattle.rtui_buffer.specs.Sheet.{Sheet}
 use Rattle.rtui_buffer.specs.Frame.{IsSettledSheet, common_rows}
 use Rattle.rtui_backend.specs.Screen.{Screen, Draws, IsWithin}
@@ -34,7 +34,7 @@ module _ (p n : Sheet) (us : List Update) (old new : Screen) (same : n.area ≡ 
 
   pub writes_differences :
       (IsSettledSheet p → IsSettledSheet n → Replays p.area.x p.area.y p.area.width (common_rows p n) p.cells n.cells us)
-      → (IsNarrow (p.area.width * common_rows p n) p.cells n.cells → us ≡ map (update_at p.area.x p.area.y p.area.width n.cells) (differing p.cells n.cells (p.area.width * common_rows p n)))
+      → (AreNarrow (p.area.width * common_rows p n) p.cells n.cells → us ≡ map (update_at p.area.x p.area.y p.area.width n.cells) (differing p.cells n.cells (p.area.width * common_rows p n)))
       → WritesDifferences p n old new
   writes_differences replays narrow = record {
     size = record { width = drawn.width; height = drawn.height; history = drawn.history };

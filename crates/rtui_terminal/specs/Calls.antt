@@ -2,7 +2,7 @@
 use Rattle.std.specs.Prelude.{◌≡◌, ◌⊎◌, ℕ, ◌+◌, ◌-◌, ◌*◌, ◌%◌, ◌^◌, ◌<◌, Bool, true, false, length, Option, None, Some, Result, Ok, Err, MatchResult, is_none, alloc_error}
 use Rattle.std.specs.declared.alloc.AllocError.{AllocError}
 use Rattle.rtui_geometry.specs.declared.position.Position.{Position}
-use Rattle.rtui_diff.specs.Given.{IsNarrow, differing}
+use Rattle.rtui_diff.specs.Completeness.{AreNarrow, differing}
 use Rattle.rtui_buffer.specs.Sheet.{Sheet, IsEmptied}
 use Rattle.rtui_buffer.specs.Frame.{IsSettledSheet, ShowsSheet}
 use Rattle.rtui_backend.specs.Screen.{Screen, IsOnScreen, with_visible, with_cursor, screen_area}
@@ -54,7 +54,7 @@ pub record WritesDifferences (older current : Sheet) (old new : Screen) : Type 0
   pub visible : new.visible ≡ old.visible
   pub shown : IsOnScreen older.area old → IsSettledSheet older → IsSettledSheet current → ShowsSheet older old.grid → ShowsSheet current new.grid
   pub outside : IsOnScreen older.area old → IsSettledSheet older → IsSettledSheet current → KeepsOutside older.area old new
-  pub few : IsNarrow (older.area.width * older.area.height) older.cells current.cells → old.written + differing_count older current < 2 ^ 64 - 1 → new.written ≡ old.written + differing_count older current
+  pub few : AreNarrow (older.area.width * older.area.height) older.cells current.cells → old.written + differing_count older current < 2 ^ 64 - 1 → new.written ≡ old.written + differing_count older current
 
 -- the cursor of a frame: hidden where there is none, else visible at its place
 abbrev pub cursor_placed : Option Position → Screen → Screen

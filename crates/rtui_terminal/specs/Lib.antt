@@ -1,6 +1,6 @@
 pub mod State
 pub mod InStep
 pub mod Frames
-pub mod Lending
+pub mod Borrows
 pub mod Calls
-pub mod Texts
+pub mod Display

@@ -1,4 +1,4 @@
-pub mod Texts
+pub mod Text
 pub mod Widths
-pub mod Heads
-pub mod Alike
+pub mod LineHead
+pub mod Hashing

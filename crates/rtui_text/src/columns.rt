@@ -1,12 +1,12 @@
 ghost use Rattle.std.specs.Prelude.{◌≡◌, ◌↔◌, IsTrue, count_by, chars};
-ghost use Rattle.rtui_cell.specs.Width.{columns_of, is_sound_mark};
+ghost use Rattle.rtui_cell.specs.Width.{text_columns, is_sound_mark};
 
 use unicode_width::UnicodeWidthStr;
 
 /// How many columns a text takes in a line: its Unicode width less the half-width katakana sound marks.
-#[tactic(auto, unfolding(rtui_cell::specs::Width::columns_of))]
+#[tactic(auto, unfolding(rtui_cell::specs::Width::text_columns))]
 pub fn text_columns(text: &str) -> usize
-    ensures { result ≡ columns_of text.now }
+    ensures { result ≡ text_columns text.now }
 {
     text.width().saturating_sub(sound_marks(text))
 }

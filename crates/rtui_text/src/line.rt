@@ -7,9 +7,9 @@ ghost use Rattle.rtui_text.specs.contracts.spans.SpansEq.TheImpl.Laws.{laws-law 
 ghost use Rattle.rtui_text.specs.contracts.spans.SpansHash.TheImpl.Laws.{respects_eq-law as spans_hashes};
 ghost use Rattle.rtui_text.specs.contracts.line.LineHeadEq.TheImpl.Laws.{laws-law as head_laws};
 ghost use Rattle.rtui_text.specs.contracts.line.LineHeadHash.TheImpl.Laws.{respects_eq-law as head_hashes};
-ghost use Rattle.rtui_text.specs.Texts.{line_of, raw_line};
+ghost use Rattle.rtui_text.specs.Text.{line_of, raw_line};
 ghost use Rattle.rtui_text.specs.Widths.{line_width};
-ghost use Rattle.rtui_text.specs.Heads.{line_head};
+ghost use Rattle.rtui_text.specs.LineHead.{line_head};
 
 use crate::span::Span;
 use crate::spans::Spans;
@@ -38,7 +38,7 @@ pub struct Line<'a> {
 }
 
 impl<'a> Model for Line<'a> {
-    ghost use Rattle.rtui_text.specs.Texts.{LineData};
+    ghost use Rattle.rtui_text.specs.Text.{LineData};
 
     ghost Value = { LineData };
 
@@ -135,7 +135,7 @@ impl<'a> From<Vec<Span<'a>>> for Line<'a> {
 }
 
 impl<'a> PartialEq for Line<'a> {
-    ghost use Rattle.rtui_text.specs.Heads.{line_head};
+    ghost use Rattle.rtui_text.specs.LineHead.{line_head};
 
     ghost eq = { eq_of_both (on line_head ⟦<LineHead as PartialEq>⟧.eq) (on (λ l. l.spans) ⟦<Spans<'a> as PartialEq>⟧.eq) };
 
@@ -147,13 +147,13 @@ impl<'a> PartialEq for Line<'a> {
 }
 
 impl<'a> Eq for Line<'a> {
-    ghost use Rattle.rtui_text.specs.Heads.{line_head};
+    ghost use Rattle.rtui_text.specs.LineHead.{line_head};
 
     ghost laws = { and_equiv (on_equiv line_head head_laws) (on_equiv (λ l. l.spans) spans_laws) };
 }
 
 impl<'a> Hash for Line<'a> {
-    ghost use Rattle.rtui_text.specs.Heads.{line_head};
+    ghost use Rattle.rtui_text.specs.LineHead.{line_head};
 
     ghost hash_input = { λ l. ⟦<LineHead as Hash>⟧.hash_input (line_head l) ++ ⟦<Spans<'a> as Hash>⟧.hash_input l.spans };
 

@@ -7,9 +7,9 @@ ghost use Rattle.std.specs.Cmp.Lexicographic.{pointwise, nat_list_eq_equiv};
 ghost use Rattle.std.specs.Ordering.{on, eq_of_both};
 ghost use Rattle.rtui_style.specs.contracts.StyleEq.TheImpl.Laws.{laws-law as style_laws};
 ghost use Rattle.rtui_style.specs.contracts.StyleHash.TheImpl.Laws.{respects_eq-law as style_hashes};
-ghost use Rattle.rtui_text.specs.Texts.{plain};
+ghost use Rattle.rtui_text.specs.Text.{plain};
 ghost use Rattle.rtui_text.specs.Widths.{span_width};
-ghost use Rattle.rtui_text.specs.Alike.{text_Alike};
+ghost use Rattle.rtui_text.specs.Hashing.{text_Alike};
 
 use crate::columns::text_columns;
 use rtui_style::Style;
@@ -29,7 +29,7 @@ pub struct Span<'a> {
 
 impl<'a> Model for Span<'a> {
     ghost use Rattle.std.specs.Cow.{cow_str_bytes};
-    ghost use Rattle.rtui_text.specs.Texts.{SpanData};
+    ghost use Rattle.rtui_text.specs.Text.{SpanData};
 
     ghost Value = { SpanData };
 

@@ -21,7 +21,7 @@ pub struct Spans<'a> {
 
 impl<'a> Model for Spans<'a> {
     ghost use Rattle.std.specs.Prelude.{List};
-    ghost use Rattle.rtui_text.specs.Texts.{SpanData};
+    ghost use Rattle.rtui_text.specs.Text.{SpanData};
 
     ghost Value = { List SpanData };
 

@@ -8,7 +8,7 @@ use Rattle.std.specs.Str.Parse.{digits_value, ParsesUnsigned}
 use Rattle.std.proofs.lemmas.Bool.{cases_lt}
 use Rattle.std.proofs.lemmas.Bool.Decides.{nat_tests}
 use Rattle.std.proofs.lemmas.Str.Parse.{IsNumeralModel, numerals_by_value, parse_digits}
-use Rattle.screenplay.specs.Script.{number_of}
+use Rattle.screenplay.specs.Script.{parsed_number}
 
 own : IsNumeralModel (λ ds. list_all is_ascii_digit ds ≡ true) (digits_value 10)
 own = numerals_by_value _ (search rules)
@@ -34,5 +34,5 @@ number_if : {E : Type 0} (n value : ℕ) (digits : Bool) (r : Result ℕ E) → 
 number_if n value digits (Ok x) p h = rw (fits_true n value digits p h.0.0 h.0.1) (ap Some h.1)
 number_if n value digits (Err e) p h = rw (fits_false n value digits p h) refl
 
-pub number_parsed : {E : Type 0} (bs : List ℕ) (r : Result ℕ E) → ParsesUnsigned 16 10 bs r → list_all is_ascii_digit bs ≡ true → result_ok r ≡ number_of bs
+pub number_parsed : {E : Type 0} (bs : List ℕ) (r : Result ℕ E) → ParsesUnsigned 16 10 bs r → list_all is_ascii_digit bs ≡ true → result_ok r ≡ parsed_number bs
 number_parsed bs r h p = number_if (length bs) (digits_value 10 bs) (list_all is_ascii_digit bs) r p (parse_digits own 16 bs r h p)

@@ -9,12 +9,12 @@ use Rattle.rtui_diff.specs.Shows.{ShowsColumn}
 use Rattle.rtui_geometry.specs.declared.rect.Rect.{Rect}
 use Rattle.rtui_cell.specs.Look.{empty_look}
 use Rattle.rtui_backend.specs.Screen.{Screen, IsBlankScreen, screen_area}
-use Rattle.rtui_backend.specs.Memory.{screen_of}
+use Rattle.rtui_backend.specs.TestBackend.{screen_of}
 use Rattle.rtui_backend.specs.declared.test.TestBackend.{TestBackend}
 use Rattle.rtui_terminal.specs.State.{State}
 use Rattle.rtui_terminal.specs.Calls.{Starts}
 use Rattle.rtui_buffer.specs.Sheet.{Sheet, IsEmptied, IsSameSheet}
-use Rattle.rtui_backend.specs.Looks.{grid_of}
+use Rattle.rtui_backend.specs.CellGrid.{grid_of}
 use Rattle.screenplay.specs.Run.{stage_area, ShowsFrame, IsRun, IsAfter, IsFault, puts_in}
 use Rattle.screenplay.specs.Playing.{IsPlaying, IsSceneOf, IsCause}
 use Rattle.screenplay.specs.declared.scene.PlayCause.{PlayCause}

@@ -10,7 +10,7 @@ use Rattle.screenplay.specs.declared.script.Command.{Command}
 use Rattle.screenplay.specs.declared.script.Command.TheVariants.{Screen, Put, Draw, Show}
 use Rattle.screenplay.specs.declared.scene.Stage.{Stage}
 use Rattle.screenplay.specs.declared.scene.Step.{Step}
-use Rattle.screenplay.specs.Script.{command_of, commands_of, is_screen, is_empty, same_flag, may_follow, is_good_line, line_at, AreGood, IsFirstBadLine, stage_of, stage_after, steps_of, shows_of, IsScript}
+use Rattle.screenplay.specs.Script.{command_of, commands_of, is_screen, is_empty, same_flag, may_follow, is_good_line, script_line, AreGood, IsFirstBadLine, stage_of, stage_after, steps_of, shows_of, IsScript}
 
 -- the first i lines are read: what is done so far, continued by what is left, is the whole
 pub record HasRead (all : List (List ℕ)) (i : ℕ) (stage : Option Stage) (steps : List Step) (puts : List (ℕ × ℕ × ℕ)) (shows : List ℕ) : Type 0 where
@@ -72,7 +72,7 @@ unfolding command_of
 command_of-empty [] e = refl
 command_of-empty (b ∷ bs) e = absurd (omega arith)
 
-module _ (all : List (List ℕ)) (i : ℕ) (line : List ℕ) (inside : i < length all) (here : line_at all i ≡ line) where
+module _ (all : List (List ℕ)) (i : ℕ) (line : List ℕ) (inside : i < length all) (here : script_line all i ≡ line) where
   took : take (i + 1) all ≡ take i all ++ line ∷ []
   took = ap (λ n. take n all) (add-one i) ∙ take-suc all i [] inside ∙ ap (λ l. take i all ++ l ∷ []) here
 
@@ -80,7 +80,7 @@ module _ (all : List (List ℕ)) (i : ℕ) (line : List ℕ) (inside : i < lengt
   left = drop-cons all i [] inside ∙ ap (λ l. l ∷ drop (suc i) all) here ∙ ap (λ n. line ∷ drop n all) (sym (add-one i))
 
   good_more : is_good_line (take i all) line ≡ true → AreGood i all → AreGood (i + 1) all
-  good_more good before = below_more (λ k. is_good_line (take k all) (line_at all k) ≡ true) i before (rw here good)
+  good_more good before = below_more (λ k. is_good_line (take k all) (script_line all k) ≡ true) i before (rw here good)
 
   -- an empty line is passed over
   pub HasRead-skip : {stage : Option Stage} {steps : List Step} {puts : List (ℕ × ℕ × ℕ)} {shows : List ℕ} → length line ≡ 0 → HasRead all i stage steps puts shows → HasRead all (i + 1) stage steps puts shows

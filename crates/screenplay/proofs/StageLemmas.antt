@@ -7,7 +7,7 @@ use Rattle.screenplay.specs.declared.script.Command.TheVariants.{Screen, Put, Dr
 use Rattle.screenplay.specs.declared.scene.Stage.{Stage}
 use Rattle.screenplay.specs.declared.scene.Step.{Step}
 use Rattle.screenplay.specs.Run.{IsGoodStage}
-use Rattle.screenplay.specs.Script.{number_of, first_word, behind_word, char_of, screen_by, put_by, screen_of, put_of, command_of, commands_of, stage_of, IsScript}
+use Rattle.screenplay.specs.Script.{parsed_number, first_word, behind_word, char_of, screen_by, put_by, screen_command, put_of, command_of, commands_of, stage_of, IsScript}
 
 abbrev SetsGood : List Command → Type 0
 SetsGood commands = IfSome (stage_of commands) IsGoodStage
@@ -36,12 +36,12 @@ IsGood-put_by (Some x) (Some y) None = tt
 IsGood-put_by (Some x) (Some y) (Some c) = tt
 
 IsGood-command_of : (line : List ℕ) → IsGood (command_of line)
-unfolding command_of screen_of put_of
+unfolding command_of screen_command put_of
 IsGood-command_of line =
     IsGood-if (bytes_eq line (codes "draw")) _ _ tt
     (IsGood-if (bytes_eq line (codes "show")) _ _ tt
-    (IsGood-if (bytes_eq (first_word line) (codes "screen")) _ _ (IsGood-screen_by (number_of (first_word (behind_word line))) (number_of (behind_word (behind_word line))))
-    (IsGood-if (bytes_eq (first_word line) (codes "put")) _ _ (IsGood-put_by (number_of (first_word (behind_word line))) (number_of (first_word (behind_word (behind_word line)))) (char_of (behind_word (behind_word (behind_word line))))) tt)))
+    (IsGood-if (bytes_eq (first_word line) (codes "screen")) _ _ (IsGood-screen_by (parsed_number (first_word (behind_word line))) (parsed_number (behind_word (behind_word line))))
+    (IsGood-if (bytes_eq (first_word line) (codes "put")) _ _ (IsGood-put_by (parsed_number (first_word (behind_word line))) (parsed_number (first_word (behind_word (behind_word line)))) (char_of (behind_word (behind_word (behind_word line))))) tt)))
 
 SetsGood-first : (c : Command) (cs : List Command) → SetsGood (c ∷ []) → SetsGood (c ∷ cs)
 SetsGood-first (Screen w h) cs p = p

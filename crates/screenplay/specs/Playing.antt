@@ -1,7 +1,7 @@
 -- A terminal in the middle of a play.
 use Rattle.std.specs.Prelude.{◌≡◌, ℕ, List, []}
 use Rattle.rtui_buffer.specs.Sheet.{IsEmptied}
-use Rattle.rtui_backend.specs.Memory.{screen_of}
+use Rattle.rtui_backend.specs.TestBackend.{screen_of}
 use Rattle.rtui_backend.specs.declared.test.TestBackend.{TestBackend}
 use Rattle.rtui_terminal.specs.State.{State}
 use Rattle.rtui_terminal.specs.InStep.{IsInStep}

@@ -5,7 +5,7 @@ use Rattle.rtui_cell.specs.Look.{empty_look}
 use Rattle.rtui_cell.specs.Grid.{Grid}
 use Rattle.rtui_buffer.specs.Sheet.{Sheet, IsEmptied}
 use Rattle.rtui_buffer.specs.Frame.{IsSettledSheet, ShowsSheet}
-use Rattle.rtui_backend.specs.Looks.{grid_of}
+use Rattle.rtui_backend.specs.CellGrid.{grid_of}
 use Rattle.screenplay.specs.declared.scene.Scene.{Scene}
 use Rattle.screenplay.specs.Puts.{with_puts}
 use Rattle.screenplay.specs.declared.scene.PlayFault.{PlayFault}

@@ -18,8 +18,8 @@ abbrev pub is_blank : ℕ → Bool
 is_blank b = b == 32
 
 -- decimal digits, one at least, with a value of at most 65535
-abbrev pub number_of : List ℕ → Option ℕ
-number_of text =
+abbrev pub parsed_number : List ℕ → Option ℕ
+parsed_number text =
     if nat_lt 0 (length text) && list_all is_ascii_digit text && nat_le (digits_value 10 text) 65535 then Some (digits_value 10 text) else None
 
 -- the first character of a text, if it is all of it, takes one column and isn't a control character
@@ -47,20 +47,20 @@ put_by (Some x) (Some y) (Some c) = Some (Put x y c)
 put_by a b c = None
 
 -- `screen W H`, both at least 1
-unfoldable pub screen_of : List ℕ → Option Command
-screen_of arguments = screen_by (number_of (first_word arguments)) (number_of (behind_word arguments))
+unfoldable pub screen_command : List ℕ → Option Command
+screen_command arguments = screen_by (parsed_number (first_word arguments)) (parsed_number (behind_word arguments))
 
 -- `put X Y C`, where C is the rest of the line
 unfoldable pub put_of : List ℕ → Option Command
 put_of arguments =
-    put_by (number_of (first_word arguments)) (number_of (first_word (behind_word arguments))) (char_of (behind_word (behind_word arguments)))
+    put_by (parsed_number (first_word arguments)) (parsed_number (first_word (behind_word arguments))) (char_of (behind_word (behind_word arguments)))
 
 -- the command of a line
 unfoldable pub command_of : List ℕ → Option Command
 command_of line =
     if bytes_eq line (codes "draw") then Some Draw
     else (if bytes_eq line (codes "show") then Some Show
-    else (if bytes_eq (first_word line) (codes "screen") then screen_of (behind_word line)
+    else (if bytes_eq (first_word line) (codes "screen") then screen_command (behind_word line)
     else (if bytes_eq (first_word line) (codes "put") then put_of (behind_word line)
     else None)))
 
@@ -89,18 +89,18 @@ may_follow before (Some c) = same_flag (is_empty before) (is_screen c)
 abbrev pub is_good_line : List (List ℕ) → List ℕ → Bool
 is_good_line before line = (length line == 0) || may_follow (commands_of before) (command_of line)
 
-abbrev pub line_at : List (List ℕ) → ℕ → List ℕ
-line_at lines k = slice_index_or lines k []
+abbrev pub script_line : List (List ℕ) → ℕ → List ℕ
+script_line lines k = slice_index_or lines k []
 
 -- the first n lines are good
 abbrev pub AreGood : ℕ → List (List ℕ) → Type 0
-AreGood n lines = (k : ℕ) → k < n → is_good_line (take k lines) (line_at lines k) ≡ true
+AreGood n lines = (k : ℕ) → k < n → is_good_line (take k lines) (script_line lines k) ≡ true
 
 -- line n, counted from 1, is bad, and none before it
 pub record IsFirstBadLine (lines : List (List ℕ)) (n : ℕ) : Type 0 where
   pub counted : 0 < n
   pub inside : n ≤ length lines
-  pub bad : is_good_line (take (n - 1) lines) (line_at lines (n - 1)) ≡ false
+  pub bad : is_good_line (take (n - 1) lines) (script_line lines (n - 1)) ≡ false
   pub before : AreGood (n - 1) lines
 
 -- the stage that the commands set, if any does

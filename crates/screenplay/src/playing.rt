@@ -3,7 +3,7 @@
 ghost use Rattle.std.specs.Prelude.{◌≡◌, ℕ, ◌++◌, ◌∷◌, [], Ok, Err, IfOk, IfErr, OnOk, OnErr};
 ghost use Rattle.rtui_cell.specs.Look.{empty_look};
 ghost use Rattle.rtui_buffer.specs.Frame.{IsSettledSheet};
-ghost use Rattle.rtui_backend.specs.Memory.{screen_of};
+ghost use Rattle.rtui_backend.specs.TestBackend.{screen_of};
 ghost use Rattle.screenplay.specs.Puts.{with_put, with_puts};
 ghost use Rattle.screenplay.specs.Run.{IsGoodStage, ShowsFrame, IsRun, IsFault, puts_in};
 ghost use Rattle.screenplay.specs.Playing.{IsPlaying, IsSceneOf, IsCause};
@@ -37,7 +37,7 @@ fn set_puts(alloc: Global, buffer: &mut Buffer, puts: &[(u16, u16, char)]) -> Re
     Ok(())
 }
 
-// Paints a frame; it answers `Told` where the frame isn't settled.
+// PaintsFrame a frame; it answers `Told` where the frame isn't settled.
 fn paint(alloc: Global, frame: &mut Frame<'_>, puts: &Puts) -> Result<(), TestError>
     ensures keeps { frame.new.buffer.ghost_name ≡ frame.old.buffer.ghost_name }
     ensures ok { OnOk result ((frame.new.buffer.now ≡ with_puts puts.now frame.old.buffer.now) × IsSettledSheet frame.new.buffer.now) }

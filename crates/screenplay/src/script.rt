@@ -3,7 +3,7 @@
 ghost use Rattle.std.specs.Prelude.{◌≡◌, ◌∷◌, ◌++◌, List, length, map, vec_len, IfOk, IfErr, OnOk};
 ghost use Rattle.std.specs.Char.{is_ascii_digit};
 ghost use Rattle.std.specs.List.{list_all};
-ghost use Rattle.screenplay.specs.Script.{number_of, char_of, first_word, behind_word, screen_of, put_of, command_of, is_screen, steps_of, shows_of, stage_after, text_lines, IsScript, IsRefused};
+ghost use Rattle.screenplay.specs.Script.{parsed_number, char_of, first_word, behind_word, screen_command, put_of, command_of, is_screen, steps_of, shows_of, stage_after, text_lines, IsScript, IsRefused};
 ghost use Rattle.screenplay.specs.declared.script.Command.{Command};
 
 use crate::scene::{Puts, Stage, Step};
@@ -39,7 +39,7 @@ fn are_digits(text: &str) -> bool
 
 // A number of decimal digits, at most 65535.
 fn read_number(text: &str) -> Option<u16>
-    ensures { result ≡ number_of text.now }
+    ensures { result ≡ parsed_number text.now }
 {
     if are_digits(text) {
         text.parse().ok()
@@ -61,9 +61,9 @@ fn read_char(text: &str) -> Option<char>
     }
 }
 
-#[tactic(auto, unfolding(crate::specs::Script::screen_of))]
+#[tactic(auto, unfolding(crate::specs::Script::screen_command))]
 fn read_screen(arguments: &str) -> Option<Command>
-    ensures { result ≡ screen_of arguments.now }
+    ensures { result ≡ screen_command arguments.now }
 {
     let (width, height) = split_word(arguments);
     let width = read_number(width)?;

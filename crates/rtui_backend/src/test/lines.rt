@@ -4,13 +4,13 @@ ghost use Rattle.std.specs.Prelude.{◌≡◌, ◌↔◌, ◌+◌, ◌-◌, ◌<
 ghost use Rattle.std.specs.Str.Lines.{lines};
 ghost use Rattle.rtui_style.specs.Style.{new_style};
 ghost use Rattle.rtui_cell.specs.Width.{text_width};
-ghost use Rattle.rtui_text.specs.Texts.{plain, raw_line};
+ghost use Rattle.rtui_text.specs.Text.{plain, raw_line};
 ghost use Rattle.rtui_text.specs.Widths.{line_width};
 ghost use Rattle.rtui_buffer.specs.Painting.{text_pieces};
 ghost use Rattle.rtui_buffer.specs.Line.{widest, raw_lines};
 ghost use Rattle.rtui_backend.specs.Lines.{symbols_in, HasLines, IsScreenOf};
-ghost use Rattle.rtui_backend.specs.Walk.{are_blank, is_piece, pieces_end, spans_end, is_row_of};
-ghost use Rattle.rtui_backend.specs.Memory.{screen_of};
+ghost use Rattle.rtui_backend.specs.RowMatch.{are_blank, is_piece, pieces_end, spans_end, is_row_of};
+ghost use Rattle.rtui_backend.specs.TestBackend.{screen_of};
 
 use crate::test::TestBackend;
 use rtui_buffer::{Buffer, painted_width};
@@ -43,7 +43,7 @@ fn widest(lines: &[&str]) -> usize
 
 impl TestBackend {
     ghost use Rattle.std.specs.Prelude.{None};
-    ghost use Rattle.rtui_backend.specs.Memory.{failures_of, told_after};
+    ghost use Rattle.rtui_backend.specs.TestBackend.{failures_of, told_after};
 
     /// A screen that shows these lines, a row each, as a buffer made by `Buffer::from_texts` of them does, its cursor
     /// visible in the corner; refused where memory is.
@@ -96,7 +96,7 @@ impl TestBackend {
     }
 
     // Whether a symbol of this width stands in a column, and blanks behind it.
-    #[tactic(auto, unfolding(crate::specs::Walk::is_piece))]
+    #[tactic(auto, unfolding(crate::specs::RowMatch::is_piece))]
     fn is_piece(&self, x: u16, y: u16, width: u16, symbol: &str) -> bool
         requires width { width ≡ text_width symbol.now }
         requires wide { 0 < width }
@@ -151,7 +151,7 @@ impl TestBackend {
     }
 
     // Whether a row shows a line.
-    #[tactic(auto, using(crate::proofs::WalkLemmas::row_steps), unfolding(crate::specs::Walk::is_row_of))]
+    #[tactic(auto, using(crate::proofs::WalkLemmas::row_steps), unfolding(crate::specs::RowMatch::is_row_of))]
     fn row_is(&self, y: u16, line: &str) -> bool
         requires row { y < (screen_of self.now).height }
         ensures { result ≡ is_row_of (symbols_in (screen_of self.now) y) (screen_of self.now).width (map plain (lines line.now)) }

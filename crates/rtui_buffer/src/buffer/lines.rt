@@ -5,7 +5,7 @@ ghost use Rattle.rtui_style.specs.Style.{patch};
 ghost use Rattle.rtui_buffer.specs.Sheet.{position_of, empty_cells, IsEmptied};
 ghost use Rattle.rtui_buffer.specs.Frame.{IsSettledSheet};
 ghost use Rattle.rtui_buffer.specs.Painting.{text_pieces, columns, painted, IsSameOutside, IsPainted};
-ghost use Rattle.rtui_buffer.specs.Text.{HasRow, room_at, pieces_at, Paints, IsSameBeside};
+ghost use Rattle.rtui_buffer.specs.PaintedText.{HasRow, room_at, pieces_at, Paints, IsSameBeside};
 ghost use Rattle.rtui_buffer.specs.Line.{line_pieces, line_pieces_at, widest, lines_area, line_rows, ShowsLines, raw_lines};
 
 use super::painting::{paint_text, room_at};

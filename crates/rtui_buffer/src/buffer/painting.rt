@@ -8,7 +8,7 @@ ghost use Rattle.rtui_cell.specs.Width.{text_width};
 ghost use Rattle.rtui_buffer.specs.Sheet.{cell_index, position_of, IsEmptied};
 ghost use Rattle.rtui_buffer.specs.Frame.{IsSettledSheet};
 ghost use Rattle.rtui_buffer.specs.Painting.{has_control, painted_width, piece_of, text_pieces, columns, shown, emptied, with_piece, painted, IsSameOutside, IsPainted};
-ghost use Rattle.rtui_buffer.specs.Text.{HasRow, room_at, pieces_at, Paints, IsSameBeside, IsStyledPart, IsStyledRows, IsStyled};
+ghost use Rattle.rtui_buffer.specs.PaintedText.{HasRow, room_at, pieces_at, Paints, IsSameBeside, IsStyledPart, IsStyledRows, IsStyled};
 
 use crate::buffer::Buffer;
 use rtui_cell::{Cell, CellWidth};

@@ -2,7 +2,7 @@ ghost use Rattle.std.specs.Prelude.{◌≡◌, MatchResult, OnOk};
 ghost use Rattle.std.specs.Borrow.{sem, Lends, follows};
 ghost use Rattle.rtui_buffer.specs.Sheet.{IsEmptied};
 ghost use Rattle.rtui_buffer.specs.contracts.buffer.Buffer.{the_row as buffer_row};
-ghost use Rattle.rtui_backend.specs.Count.{Counts};
+ghost use Rattle.rtui_backend.specs.Failures.{Counts};
 ghost use Rattle.rtui_terminal.specs.Calls.{Faults, HasAreas, WritesDifferences, Flushes, FlushErr};
 ghost use Rattle.rtui_terminal.specs.Frames.{IsNewFrame};
 ghost use Rattle.rtui_terminal.specs.contracts.terminal.Terminal.{the_row};

@@ -1,4 +1,4 @@
-ghost use Rattle.rtui_terminal.specs.Texts.{error_text};
+ghost use Rattle.rtui_terminal.specs.Display.{terminal_error_text};
 
 use std::error::Error;
 use std::fmt;
@@ -17,7 +17,7 @@ pub enum TerminalError<E> {
 }
 
 impl<E: fmt::Display> fmt::Display for TerminalError<E> {
-    ghost output = { error_text E.output };
+    ghost output = { terminal_error_text E.output };
 
     fn fmt<W: fmt::Write>(&self, f: &mut fmt::Formatter<W>) -> fmt::Result {
         match self {

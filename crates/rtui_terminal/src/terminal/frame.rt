@@ -17,7 +17,7 @@ pub struct Frame<'a> {
 }
 
 impl Frame<'_> {
-    ghost use Rattle.rtui_terminal.specs.Lending.{LendsBuffer};
+    ghost use Rattle.rtui_terminal.specs.Borrows.{LendsBuffer};
 
     /// The area of the viewport, in columns and rows of the screen.
     pub fn area(&self) -> Rect

@@ -2,7 +2,7 @@ ghost use Rattle.std.specs.Prelude.{◌≡◌, ◌+◌, ◌%◌, ◌^◌, None, 
 ghost use Rattle.std.specs.Borrow.{sem, RestsIfErr};
 ghost use Rattle.rtui_buffer.specs.Frame.{IsSettledSheet};
 ghost use Rattle.rtui_terminal.specs.InStep.{IsInStep};
-ghost use Rattle.rtui_terminal.specs.Frames.{Paints, TakesNew, TakesOffered, paints_on};
+ghost use Rattle.rtui_terminal.specs.Frames.{PaintsFrame, AcceptsNewFrame, AcceptsFrames, paints_on};
 ghost use Rattle.rtui_terminal.specs.Calls.{Faults, Applies, AppliesBy, ApplyErr, DrawOk, DrawsBy, TriesBy};
 ghost use Rattle.rtui_terminal.specs.contracts.terminal.Terminal.{the_row};
 
@@ -23,8 +23,8 @@ fn paint<R, F>(
 ) -> (R, Option<Position>)
 where
     F: FnOnce(&mut Frame<'_>) -> R,
-    requires { TakesNew F.FnOnce render_callback viewport_area count buffer.old }
-    ensures { Paints F.FnOnce render_callback viewport_area count buffer.old result.0 result.1 buffer.new }
+    requires { AcceptsNewFrame F.FnOnce render_callback viewport_area count buffer.old }
+    ensures { PaintsFrame F.FnOnce render_callback viewport_area count buffer.old result.0 result.1 buffer.new }
 {
     let mut frame = Frame {
         cursor_position: None,
@@ -61,7 +61,7 @@ impl<B: Backend> Terminal<B> {
     fn draw_frame<F>(&mut self, render_callback: F) -> Result<(), TerminalError<B::Error>>
     where
         F: FnOnce(&mut Frame<'_>) -> Result<(), AllocError>,
-        requires { TakesOffered F.FnOnce render_callback self.old }
+        requires { AcceptsFrames F.FnOnce render_callback self.old }
         ensures drawn { DrawsBy B.screen (paints_on F.FnOnce render_callback) self.old self.new result }
         ensures faults { Faults result (B.failures self.old.backend) (B.failures self.new.backend) }
     {
@@ -77,7 +77,7 @@ impl<B: Backend> Terminal<B> {
     fn try_draw_frame<F>(&mut self, render_callback: F) -> Result<(), TerminalError<B::Error>>
     where
         F: FnOnce(&mut Frame<'_>) -> Result<(), B::Error>,
-        requires { TakesOffered F.FnOnce render_callback self.old }
+        requires { AcceptsFrames F.FnOnce render_callback self.old }
         ensures drawn { TriesBy B.screen (paints_on F.FnOnce render_callback) self.old self.new result }
         ensures faults { Faults result (B.failures self.old.backend) (B.failures self.new.backend) }
     {
@@ -103,7 +103,7 @@ impl<B: Backend> Terminal<B> {
     ) -> Result<CompletedFrame<'_, B>, TerminalError<B::Error>>
     where
         F: FnOnce(&mut Frame<'_>) -> Result<(), AllocError>,
-        requires { TakesOffered F.FnOnce render_callback self.old }
+        requires { AcceptsFrames F.FnOnce render_callback self.old }
         ensures* refused { sem 𝓛 (RestsIfErr (the_row B.row B.Error.row B.Backend B.Error.Debug B.Error.Display) self.entry (λ frame. frame.terminal.ghost_name) result (λ t. DrawsBy B.screen (paints_on F.FnOnce render_callback) self.old t result × Faults result (B.failures self.old.backend) (B.failures t.backend))) }
         ensures same_terminal { IfOk result (λ frame. frame.terminal.ghost_name ≡ self.entry.ghost_name) }
         ensures drawn { IfOk result (λ frame. DrawOk B.screen (paints_on F.FnOnce render_callback) (Ok tt) self.old frame.terminal.now) }
@@ -130,7 +130,7 @@ impl<B: Backend> Terminal<B> {
     ) -> Result<CompletedFrame<'_, B>, TerminalError<B::Error>>
     where
         F: FnOnce(&mut Frame<'_>) -> Result<(), B::Error>,
-        requires { TakesOffered F.FnOnce render_callback self.old }
+        requires { AcceptsFrames F.FnOnce render_callback self.old }
         ensures* refused { sem 𝓛 (RestsIfErr (the_row B.row B.Error.row B.Backend B.Error.Debug B.Error.Display) self.entry (λ frame. frame.terminal.ghost_name) result (λ t. TriesBy B.screen (paints_on F.FnOnce render_callback) self.old t result × Faults result (B.failures self.old.backend) (B.failures t.backend))) }
         ensures same_terminal { IfOk result (λ frame. frame.terminal.ghost_name ≡ self.entry.ghost_name) }
         ensures drawn { IfOk result (λ frame. DrawOk B.screen (paints_on F.FnOnce render_callback) (Ok tt) self.old frame.terminal.now) }

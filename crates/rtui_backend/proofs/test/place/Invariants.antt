@@ -1,6 +1,6 @@
 use Rattle.std.proofs.Common.{◌≡◌, ℕ, ◌==◌, ◌&&◌, nat_lt, if◌then◌else◌}
 use Rattle.rtui_cell.specs.Look.{look_of, empty_look}
-use Rattle.rtui_backend.specs.Looks.{look_at, IsPlain, ArePlain}
+use Rattle.rtui_backend.specs.CellGrid.{look_at, IsPlain, ArePlain}
 use Rattle.rtui_backend.proofs.test.place.Given as goal
 
 abbrev pub invariant-loop-k : goal.invariant-loop-k

@@ -1,7 +1,7 @@
 use Rattle.std.proofs.Common.{◌≡◌, ◌-◌}
-use Rattle.rtui_backend.specs.Memory.{screen_of}
+use Rattle.rtui_backend.specs.TestBackend.{screen_of}
 use Rattle.rtui_backend.specs.Lines.{symbols_in}
-use Rattle.rtui_backend.specs.Walk.{are_blank}
+use Rattle.rtui_backend.specs.RowMatch.{are_blank}
 use Rattle.rtui_backend.proofs.test.TestBackend.is_blank.Given as goal
 
 abbrev pub invariant-loop-x : goal.invariant-loop-x

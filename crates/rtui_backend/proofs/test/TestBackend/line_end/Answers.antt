@@ -2,10 +2,10 @@ use Rattle.std.proofs.Common.{map, ap, ◌∙◌, sym, arith}
 use Rattle.std.proofs.lemmas.Iterator.Consumers.{YieldsList-end}
 use Rattle.std.proofs.lemmas.Iterator.Splits.{YieldsList-from_lines}
 use Rattle.std.specs.Str.Iter.{lines_rest}
-use Rattle.rtui_text.specs.Texts.{plain}
+use Rattle.rtui_text.specs.Text.{plain}
 use Rattle.rtui_backend.specs.Lines.{symbols_in}
-use Rattle.rtui_backend.specs.Memory.{screen_of}
-use Rattle.rtui_backend.specs.Walk.{spans_end}
+use Rattle.rtui_backend.specs.TestBackend.{screen_of}
+use Rattle.rtui_backend.specs.RowMatch.{spans_end}
 use Rattle.rtui_backend.proofs.WalkLemmas.{spans_end-nil, line-turn, line-over}
 use Rattle.rtui_backend.proofs.test.TestBackend.line_end.Goals as goal
 

@@ -1,9 +1,9 @@
 use Rattle.std.proofs.Common.{◌≡◌, ◌≤◌, map}
 use Rattle.std.specs.Prelude.{IfSome}
-use Rattle.rtui_text.specs.Texts.{plain}
-use Rattle.rtui_backend.specs.Memory.{screen_of}
+use Rattle.rtui_text.specs.Text.{plain}
+use Rattle.rtui_backend.specs.TestBackend.{screen_of}
 use Rattle.rtui_backend.specs.Lines.{symbols_in}
-use Rattle.rtui_backend.specs.Walk.{spans_end}
+use Rattle.rtui_backend.specs.RowMatch.{spans_end}
 use Rattle.rtui_backend.proofs.test.TestBackend.line_end.Given as goal
 
 abbrev pub invariant-loop-text : goal.invariant-loop-text

@@ -2,9 +2,9 @@ use Rattle.std.proofs.Common.{ℕ, List, [], get_or, rules, arith, sym, ◌∙�
 use Rattle.std.proofs.lemmas.Grind.{common_steps}
 use Rattle.std.specs.Borrow.{Bor}
 use Rattle.std.specs.Str.Lines.{lines}
-use Rattle.rtui_text.specs.Texts.{raw_line}
+use Rattle.rtui_text.specs.Text.{raw_line}
 use Rattle.rtui_backend.specs.Lines.{symbols_in}
-use Rattle.rtui_backend.specs.Memory.{screen_of}
+use Rattle.rtui_backend.specs.TestBackend.{screen_of}
 use Rattle.rtui_backend.proofs.LineLemmas.{item-map, below-more}
 use Rattle.rtui_backend.proofs.RowLemmas.{row-tells, row-told}
 use Rattle.rtui_backend.proofs.test.TestBackend.lines_are.Goals as goal

@@ -2,9 +2,9 @@ use Rattle.std.proofs.Common.{◌≡◌, ◌-◌, ◌≤◌}
 use Rattle.unicode_segmentation.specs.Iter.{graphemes_left}
 use Rattle.rtui_style.specs.Style.{new_style}
 use Rattle.rtui_buffer.specs.Painting.{kept, pieces, text_pieces}
-use Rattle.rtui_backend.specs.Memory.{screen_of}
+use Rattle.rtui_backend.specs.TestBackend.{screen_of}
 use Rattle.rtui_backend.specs.Lines.{symbols_in}
-use Rattle.rtui_backend.specs.Walk.{pieces_end}
+use Rattle.rtui_backend.specs.RowMatch.{pieces_end}
 use Rattle.rtui_backend.proofs.test.TestBackend.text_end.Given as goal
 
 abbrev pub invariant-loop-grapheme : goal.invariant-loop-grapheme

@@ -1,5 +1,5 @@
 use Rattle.std.proofs.Common.{◌≡◌, map}
-use Rattle.rtui_text.specs.Texts.{plain}
+use Rattle.rtui_text.specs.Text.{plain}
 use Rattle.rtui_text.specs.Widths.{line_width}
 use Rattle.rtui_backend.proofs.test.lines.line_width.Given as goal
 

@@ -1,5 +1,5 @@
 use Rattle.std.proofs.Common.{◌≡◌, map, take}
-use Rattle.rtui_text.specs.Texts.{raw_line}
+use Rattle.rtui_text.specs.Text.{raw_line}
 use Rattle.rtui_buffer.proofs.buffer.Buffer.from_texts.Given as goal
 
 abbrev pub invariant-loop-text : goal.invariant-loop-text

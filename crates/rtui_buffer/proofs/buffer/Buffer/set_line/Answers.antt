@@ -1,5 +1,5 @@
 use Rattle.std.proofs.Common.{◌≡◌, rules, ap, length, ◌∙◌}
-use Rattle.rtui_buffer.specs.Text.{room_at}
+use Rattle.rtui_buffer.specs.PaintedText.{room_at}
 use Rattle.rtui_buffer.proofs.TextLemmas.{IsSettled-written}
 use Rattle.rtui_buffer.proofs.LineLemmas.{line-fits}
 use Rattle.rtui_buffer.proofs.buffer.Buffer.set_line.Goals as goal

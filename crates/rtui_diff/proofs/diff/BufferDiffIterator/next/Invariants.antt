@@ -1,5 +1,5 @@
 use Rattle.std.proofs.Common.{◌-◌, ◌≡◌}
-use Rattle.rtui_diff.specs.Left.{updates_left}
+use Rattle.rtui_diff.specs.Remaining.{updates_left}
 use Rattle.rtui_diff.proofs.diff.BufferDiffIterator.next.Given as goal
 
 abbrev pub invariant-loop-self : goal.invariant-loop-self

@@ -2,7 +2,7 @@ use Rattle.std.proofs.Common.{refl}
 use Rattle.std.proofs.lemmas.Result.{on_ok_weaker}
 use Rattle.std.proofs.lemmas.Iterator.Consumers.{YieldsList-from_first}
 use Rattle.rtui_cell.specs.Grid.{update_by}
-use Rattle.rtui_diff.specs.Left.{updates_left}
+use Rattle.rtui_diff.specs.Remaining.{updates_left}
 use Rattle.rtui_backend.proofs.DrawLemmas.{Draws-along}
 use Rattle.rtui_terminal.proofs.DifferenceLemmas.{writes_differences}
 use Rattle.rtui_terminal.proofs.terminal.buffers.write_differences.Goals as goal

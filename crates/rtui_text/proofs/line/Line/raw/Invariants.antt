@@ -1,5 +1,5 @@
 use Rattle.std.proofs.Common.{◌≡◌, map}
-use Rattle.rtui_text.specs.Texts.{plain}
+use Rattle.rtui_text.specs.Text.{plain}
 use Rattle.rtui_text.proofs.line.Line.raw.Given as goal
 
 abbrev pub invariant-loop-line : goal.invariant-loop-line

@@ -1,6 +1,6 @@
 -- What a diff has still to give.
 use Rattle.std.specs.Prelude.{◌≡◌, ℕ, ◌-◌, List, map}
-use Rattle.rtui_diff.specs.Walk.{given}
+use Rattle.rtui_diff.specs.DiffRule.{given}
 use Rattle.rtui_cell.specs.Grid.{Update}
 use Rattle.rtui_diff.specs.Updates.{update_at}
 use Rattle.rtui_diff.specs.declared.diff.BufferDiff.{BufferDiff}

@@ -1,6 +1,6 @@
 -- What a line has besides its spans.
 use Rattle.rtui_text.specs.declared.line.LineHead.{LineHead}
-use Rattle.rtui_text.specs.Texts.{LineData}
+use Rattle.rtui_text.specs.Text.{LineData}
 
 -- its style and its alignment
 abbrev pub line_head : LineData → LineHead

@@ -4,6 +4,6 @@ use Rattle.rtui_backend.specs.declared.test.TestError.{TestError}
 use Rattle.rtui_backend.specs.declared.test.TestError.TheVariants.{Memory, Told}
 
 -- the printed error
-abbrev pub error_text : TestError → List ℕ
-error_text Memory = codes "no memory"
-error_text Told = codes "told"
+abbrev pub test_error_text : TestError → List ℕ
+test_error_text Memory = codes "no memory"
+test_error_text Told = codes "told"

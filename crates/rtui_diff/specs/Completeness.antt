@@ -12,7 +12,7 @@ abbrev pub differing : List Cell → List Cell → ℕ → List ℕ
 differing ps ns len = filter (λ i. not (is_skipped (cell ns i)) && not (is_same (cell ps i) (cell ns i))) (range_with_len 0 len)
 
 -- no cell of both is wide, and none of next is always given
-pub record IsNarrow (len : ℕ) (ps ns : List Cell) : Type 0 where
+pub record AreNarrow (len : ℕ) (ps ns : List Cell) : Type 0 where
   pub former : (i : ℕ) → i < len → width_of (cell ps i) ≤ 1
   pub next : (i : ℕ) → i < len → width_of (cell ns i) ≤ 1
   pub changing : (i : ℕ) → i < len → is_always (cell ns i) ≡ false
@@ -42,7 +42,7 @@ pub record Uncovers (x0 y0 w : ℕ) (ps ns : List Cell) (us : List Update) (a b 
   pub narrow : width_of (cell_at w ns j b) ≤ 1
 
 -- nothing is given that a screen has no need of
-pub record GivesLittle (x0 y0 w h : ℕ) (ps ns : List Cell) (us : List Update) : Type 0 where
+pub record IsMinimal (x0 y0 w h : ℕ) (ps ns : List Cell) (us : List Update) : Type 0 where
   pub behind : (a b j : ℕ) → a < w → b < h → IsGiven x0 y0 us a b → j < a → is_skipped (cell_at w ns j b) ≡ false → a < j + width_of (cell_at w ns j b) → Repeats x0 y0 w ps ns us j a b
   pub same : (a b : ℕ) → a < w → b < h → IsGiven x0 y0 us a b → is_same (cell_at w ps a b) (cell_at w ns a b) ≡ true → is_always (cell_at w ns a b) ≡ false → Uncovers x0 y0 w ps ns us a b
 
@@ -56,7 +56,7 @@ pub record IsDark (w : ℕ) (cells : List Cell) (a b : ℕ) : Type 0 where
 
 -- what screens may leave behind is given anew: behind a given wide cell with U+FE0F each unskipped column where something else stood,
 -- and under a former wide cell with a visible style each unskipped column
-pub record GivesEnough (x0 y0 w h : ℕ) (ps ns : List Cell) (us : List Update) : Type 0 where
+pub record IsComplete (x0 y0 w h : ℕ) (ps ns : List Cell) (us : List Update) : Type 0 where
   pub blanks : (a b j : ℕ) → a < w → b < h → j < a → IsGiven x0 y0 us j b →
       is_skipped (cell_at w ns j b) ≡ false → a < j + width_of (cell_at w ns j b) → is_forced (cell_at w ns j b) ≡ false → has_fe0f (cell_at w ns j b) ≡ true → IsDark w ps j b →
       is_skipped (cell_at w ns a b) ≡ false → is_same_symbol (cell_at w ps a b) (cell_at w ns a b) ≡ false → IsGiven x0 y0 us a b

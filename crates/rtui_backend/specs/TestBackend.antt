@@ -5,7 +5,7 @@ use Rattle.rtui_cell.specs.Look.{look_of}
 use Rattle.rtui_cell.specs.Grid.{Update}
 use Rattle.rtui_buffer.specs.Sheet.{Sheet}
 use Rattle.rtui_backend.specs.Screen.{Screen, Draws}
-use Rattle.rtui_backend.specs.Looks.{grid_of}
+use Rattle.rtui_backend.specs.CellGrid.{grid_of}
 use Rattle.rtui_backend.specs.declared.test.TestBackend.{TestBackend}
 use Rattle.rtui_backend.specs.declared.test.TestError.{TestError}
 use Rattle.rtui_backend.specs.declared.test.TestError.TheVariants.{Told}

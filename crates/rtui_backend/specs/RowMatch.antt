@@ -4,7 +4,7 @@ use Rattle.std.specs.Str.{bytes_eq}
 use Rattle.rtui_style.specs.Style.{new_style}
 use Rattle.rtui_cell.specs.Symbol.{blank}
 use Rattle.rtui_cell.specs.Width.{text_width}
-use Rattle.rtui_text.specs.Texts.{SpanData}
+use Rattle.rtui_text.specs.Text.{SpanData}
 use Rattle.rtui_buffer.specs.Painting.{Piece, piece_width, columns, text_pieces}
 
 -- n blanks from a column on

@@ -1,5 +1,5 @@
 -- What follows a cell.
-use Rattle.rtui_diff.specs.Walk.{Walk}
+use Rattle.rtui_diff.specs.DiffRule.{Walk}
 use Rattle.rtui_diff.specs.declared.turn.Turn.{Turn}
 
 abbrev pub walk_of : Turn → Walk
