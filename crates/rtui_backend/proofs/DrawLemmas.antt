@@ -17,7 +17,7 @@ puts-push w h [] u g = refl
 puts-push w h (v ∷ us) u g = puts-push w h us u (put w h v g)
 
 pub Draws-none : (s : Screen) → Draws s [] s
-Draws-none s = record { history = refl; width = refl; height = refl; visible = refl; written = λ below. omega arith; grid = λ a b. refl }
+Draws-none s = record { history = refl; width = refl; height = refl; visible = refl; written = λ below. omega arith; full = λ above. omega arith; grid = λ a b. refl }
 
 pub Draws-push : {r s t : Screen} {us : List Update} {u : Update} → Draws r us s → Draws s (u ∷ []) t → Draws r (us ++ u ∷ []) t
 Draws-push {r} {s} {t} {us} {u} p q = record {
@@ -26,6 +26,7 @@ Draws-push {r} {s} {t} {us} {u} p q = record {
   height = q.height ∙ p.height;
   visible = q.visible ∙ p.visible;
   written = λ below. grind (arith, common_steps, length-append us (u ∷ []), p.written, q.written);
+  full = λ above. grind (arith, common_steps, length-append us (u ∷ []), p.written, p.full, q.full);
   grid = λ a b.
       q.grid a b ∙ (rw (p.width, p.height) (put_at r.width r.height u s.grid (puts r.width r.height us r.grid) a b (p.grid a b)))
       ∙ ap (λ g. g a b) (sym (puts-push r.width r.height us u r.grid));

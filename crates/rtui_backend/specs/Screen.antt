@@ -4,6 +4,7 @@ use Rattle.std.specs.List.{range_with_len}
 use Rattle.rtui_geometry.specs.declared.position.Position.{Position}
 use Rattle.rtui_geometry.specs.declared.rect.Rect.{Rect}
 use Rattle.rtui_geometry.specs.declared.size.Size.{Size}
+use Rattle.rtui_geometry.specs.Rect.{HasPosition}
 use Rattle.rtui_cell.specs.Look.{Look, empty_look}
 use Rattle.rtui_cell.specs.Grid.{Grid, Update, puts}
 
@@ -33,7 +34,7 @@ row_of s b = map (λ a. if nat_lt b s.height then s.grid a b else empty_look) (r
 abbrev pub rows_above : Screen → ℕ → List (List Look)
 rows_above s top = s.history ++ map (row_of s) (range_with_len 0 top)
 
--- the items were put in order and counted; the cursor may be anywhere
+-- the items were put in order and counted, as far as the count goes; the cursor may be anywhere
 pub record Draws (old : Screen) (us : List Update) (new : Screen) : Type 0 where
   pub history : new.history ≡ old.history
   pub width : new.width ≡ old.width
@@ -41,6 +42,7 @@ pub record Draws (old : Screen) (us : List Update) (new : Screen) : Type 0 where
   pub grid : (a b : ℕ) → new.grid a b ≡ puts old.width old.height us old.grid a b
   pub visible : new.visible ≡ old.visible
   pub written : old.written + length us < 2 ^ 64 - 1 → new.written ≡ old.written + length us
+  pub full : 2 ^ 64 - 1 ≤ old.written + length us → 2 ^ 64 - 1 ≤ new.written
 
 -- the cursor was hidden or shown
 abbrev pub with_visible : Bool → Screen → Screen
@@ -66,11 +68,8 @@ pub record IsOnScreen (r : Rect) (s : Screen) : Type 0 where
   pub bottom : r.y + r.height ≤ s.height
 
 -- a column of a row lies in a rectangle
-pub record IsWithin (r : Rect) (a b : ℕ) : Type 0 where
-  pub left : r.x ≤ a
-  pub right : a < r.x + r.width
-  pub top : r.y ≤ b
-  pub bottom : b < r.y + r.height
+abbrev pub IsWithin : Rect → ℕ → ℕ → Type 0
+IsWithin r a b = HasPosition r (record { x = a; y = b })
 
 -- a new screen of this size: no history, all empty, the cursor visible at the corner, nothing drawn
 pub record IsBlankScreen (w h : ℕ) (s : Screen) : Type 0 where

@@ -35,8 +35,8 @@ impl AsCell for &Cell {
     }
 }
 
-/// What a terminal draws on. Each call says what an Ok does to the screen; after an Err the screen may be
-/// anything of its size, and the count of failures is one more.
+/// What a terminal draws on. Each call says what an Ok does to the screen; after an Err nothing is said of
+/// the screen, and the count of failures is one more.
 pub trait Backend {
     type Error: Error;
 

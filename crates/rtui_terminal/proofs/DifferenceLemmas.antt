@@ -3,18 +3,19 @@ use Rattle.std.proofs.Common.{◌≡◌, ◌⊎◌, ℕ, ◌+◌, ◌*◌, ◌<�
 use Rattle.std.proofs.lemmas.Bool.{cases_lt}
 use Rattle.std.proofs.lemmas.List.{length-map}
 use Rattle.rtui_geometry.specs.declared.rect.Rect.{Rect}
+use Rattle.rtui_geometry.specs.Rect.{EdgesFit}
 use Rattle.rtui_cell.specs.Grid.{Update}
 use Rattle.rtui_diff.specs.Shows.{ShowsColumn, Shows, Replays}
 use Rattle.rtui_diff.specs.Updates.{update_at}
 use Rattle.rtui_diff.specs.Completeness.{AreNarrow, differing}
 use Rattle.rtui_buffer.specs.Sheet.{Sheet}
-use Rattle.rtui_buffer.specs.Frame.{IsSettledSheet, common_rows}
+use Rattle.rtui_buffer.specs.Frame.{IsSettledSheet, common_rows, sheet_updates}
 use Rattle.rtui_backend.specs.Screen.{Screen, Draws, IsWithin}
 use Rattle.rtui_terminal.specs.Calls.{WritesDifferences, differing_count}
 
 -- a column that isn't in a rectangle lies on one side of it
-beside : (r : Rect) (a b : ℕ) → (IsWithin r a b → ⊥) → (a < r.x) ⊎ (r.x + r.width ≤ a) ⊎ (b < r.y) ⊎ (r.y + r.height ≤ b)
-beside r a b out = elim (cases_lt a r.x) [
+beside : (r : Rect) (a b : ℕ) → EdgesFit r → (IsWithin r a b → ⊥) → (a < r.x) ⊎ (r.x + r.width ≤ a) ⊎ (b < r.y) ⊎ (r.y + r.height ≤ b)
+beside r a b fit out = elim (cases_lt a r.x) [
   | inl left ↦ inl left
   | inr x ↦ elim (cases_lt a (r.x + r.width)) [
     | inr right ↦ inr (inl right)
@@ -22,13 +23,13 @@ beside r a b out = elim (cases_lt a r.x) [
       | inl above ↦ inr (inr (inl above))
       | inr y ↦ elim (cases_lt b (r.y + r.height)) [
         | inr below ↦ inr (inr (inr below))
-        | inl y' ↦ absurd (out (record { left = x; right = x'; top = y; bottom = y' }))
+        | inl y' ↦ absurd (out (record { left = x; right = omega arith; top = y; bottom = omega arith }))
       ]
     ]
   ]
 ]
 
-module _ (p n : Sheet) (us : List Update) (old new : Screen) (same : n.area ≡ p.area) (drawn : Draws old us new) where
+module _ (p n : Sheet) (us : List Update) (old new : Screen) (fit : EdgesFit p.area) (same : n.area ≡ p.area) (are : us ≡ sheet_updates p n) (drawn : Draws old us new) where
   rows : common_rows p n ≡ p.area.height
   rows = let h : n.area.height ≡ p.area.height = ap (λ r. r.height) same in omega arith
 
@@ -37,8 +38,7 @@ module _ (p n : Sheet) (us : List Update) (old new : Screen) (same : n.area ≡ 
       → (AreNarrow (p.area.width * common_rows p n) p.cells n.cells → us ≡ map (update_at p.area.x p.area.y p.area.width n.cells) (differing p.cells n.cells (p.area.width * common_rows p n)))
       → WritesDifferences p n old new
   writes_differences replays narrow = record {
-    size = record { width = drawn.width; height = drawn.height; history = drawn.history };
-    visible = drawn.visible;
+    drawn = subst (λ updates. Draws old updates new) are drawn;
     shown = λ on sp sn shown.
         let r = rw rows at (replays sp sn) in
         let all = r.shows old.width old.height old.grid on.right on.bottom shown in
@@ -46,7 +46,7 @@ module _ (p n : Sheet) (us : List Update) (old new : Screen) (same : n.area ≡ 
         (record { at = λ a b a_in b_in. subst (ShowsColumn p.area.width n.cells a b) (sym (drawn.grid (p.area.x + a) (p.area.y + b))) (all.at a b a_in b_in) });
     outside = λ on sp sn.
         let r = rw rows at (replays sp sn) in
-        record { at = λ a b a_in b_in out. drawn.grid a b ∙ r.outside old.width old.height old.grid on.right on.bottom a b (beside p.area a b out) };
+        record { at = λ a b a_in b_in out. drawn.grid a b ∙ r.outside old.width old.height old.grid on.right on.bottom a b (beside p.area a b fit out) };
     few = λ is_narrow below.
         let us_are = rw rows at narrow in
         let count : length us ≡ differing_count p n = ap length (us_are is_narrow) ∙ length-map _ _ in

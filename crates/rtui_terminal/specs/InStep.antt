@@ -13,12 +13,6 @@ pub record IsInStep {B : Type 0} (screen : B → Screen) (s : State B) : Type 0 
   pub settled : IsSettledSheet s.older
   pub shown : ShowsSheet s.older (screen s.backend).grid
 
--- the size and the history stay
-pub record KeepsSize (old new : Screen) : Type 0 where
-  pub width : new.width ≡ old.width
-  pub height : new.height ≡ old.height
-  pub history : new.history ≡ old.history
-
 -- nothing changed outside a rectangle
 pub record KeepsOutside (r : Rect) (old new : Screen) : Type 0 where
   pub at : (a b : ℕ) → a < old.width → b < old.height → (IsWithin r a b → ⊥) → new.grid a b ≡ old.grid a b

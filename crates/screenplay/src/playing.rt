@@ -37,7 +37,7 @@ fn set_puts(alloc: Global, buffer: &mut Buffer, puts: &[(u16, u16, char)]) -> Re
     Ok(())
 }
 
-// PaintsFrame a frame; it answers `Told` where the frame isn't settled.
+// Paints a frame; it answers `Told` where the frame isn't settled.
 fn paint(alloc: Global, frame: &mut Frame<'_>, puts: &Puts) -> Result<(), TestError>
     ensures keeps { frame.new.buffer.ghost_name ≡ frame.old.buffer.ghost_name }
     ensures ok { OnOk result ((frame.new.buffer.now ≡ with_puts puts.now frame.old.buffer.now) × IsSettledSheet frame.new.buffer.now) }

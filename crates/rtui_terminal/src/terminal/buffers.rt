@@ -1,5 +1,6 @@
 ghost use Rattle.std.specs.Prelude.{◌≡◌, MatchResult, OnOk};
 ghost use Rattle.std.specs.Borrow.{sem, Lends, follows};
+ghost use Rattle.rtui_geometry.specs.Rect.{EdgesFit};
 ghost use Rattle.rtui_buffer.specs.Sheet.{IsEmptied};
 ghost use Rattle.rtui_buffer.specs.contracts.buffer.Buffer.{the_row as buffer_row};
 ghost use Rattle.rtui_backend.specs.Failures.{Counts};
@@ -20,7 +21,8 @@ fn write_differences<B: Backend>(
     older: &Buffer,
     current: &Buffer,
 ) -> Result<(), B::Error>
-    requires { current.now.area ≡ older.now.area }
+    requires same { current.now.area ≡ older.now.area }
+    requires edges { EdgesFit older.now.area }
     ensures ok { OnOk result (WritesDifferences older.now current.now (B.screen backend.old) (B.screen backend.new)) }
     ensures counts { Counts result (B.failures backend.old) (B.failures backend.new) }
 {
@@ -30,7 +32,9 @@ fn write_differences<B: Backend>(
 impl<B: Backend> Terminal<B> {
     /// A new frame over the current buffer, without a cursor.
     pub fn get_frame(&mut self) -> Frame<'_>
-        ensures* writes_back { sem 𝓛 (follows (the_row B.row B.Error.row B.Backend B.Error.Debug B.Error.Display) buffer_row self.entry.ghost_name result.buffer.ghost_name (λ sheet. record self.entry.now { current = sheet })) }
+        ensures* writes_back { let row = the_row B.row B.Error.row B.Backend B.Error.Debug B.Error.Display in
+            sem 𝓛 (follows row buffer_row self.entry.ghost_name result.buffer.ghost_name (λ sheet.
+                record self.entry.now { current = sheet })) }
         ensures value { IsNewFrame self.old.viewport_area self.old.frame_count self.old.current result }
     {
         let count = self.frame_count;
@@ -45,7 +49,9 @@ impl<B: Backend> Terminal<B> {
 
     /// The buffer to paint on.
     pub fn current_buffer_mut(&mut self) -> &mut Buffer
-        ensures* writes_back { sem 𝓛 (Lends (the_row B.row B.Error.row B.Backend B.Error.Debug B.Error.Display) buffer_row self.entry result (λ sheet. record self.entry.now { current = sheet })) }
+        ensures* writes_back { let row = the_row B.row B.Error.row B.Backend B.Error.Debug B.Error.Display in
+            sem 𝓛 (Lends row buffer_row self.entry result (λ sheet.
+                record self.entry.now { current = sheet })) }
         ensures value { result.now ≡ self.old.current }
     {
         &mut self.current

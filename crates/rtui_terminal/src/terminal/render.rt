@@ -3,7 +3,7 @@ ghost use Rattle.std.specs.Borrow.{sem, RestsIfErr};
 ghost use Rattle.rtui_buffer.specs.Frame.{IsSettledSheet};
 ghost use Rattle.rtui_terminal.specs.InStep.{IsInStep};
 ghost use Rattle.rtui_terminal.specs.Frames.{PaintsFrame, AcceptsNewFrame, AcceptsFrames, paints_on};
-ghost use Rattle.rtui_terminal.specs.Calls.{Faults, Applies, AppliesBy, ApplyErr, DrawOk, DrawsBy, TriesBy};
+ghost use Rattle.rtui_terminal.specs.Calls.{Faults, WritesBy, Applies, AppliesBy, DrawOk, DrawsBy, TriesBy};
 ghost use Rattle.rtui_terminal.specs.contracts.terminal.Terminal.{the_row};
 
 use crate::terminal::Terminal;
@@ -37,9 +37,9 @@ where
 }
 
 impl<B: Backend> Terminal<B> {
-    // Draws the current buffer, and leaves the cursor at its place.
-    fn apply(&mut self, cursor: Option<Position>) -> Result<(), TerminalError<B::Error>>
-        ensures outcome { AppliesBy B.screen cursor self.old self.new result }
+    // Writes what differs, and leaves the cursor at its place.
+    fn write_frame(&mut self, cursor: Option<Position>) -> Result<(), TerminalError<B::Error>>
+        ensures outcome { WritesBy B.screen cursor self.old self.new result }
         ensures faults { Faults result (B.failures self.old.backend) (B.failures self.new.backend) }
     {
         self.flush()?;
@@ -50,8 +50,20 @@ impl<B: Backend> Terminal<B> {
                 self.set_cursor_position(position)?;
             }
         }
+        Ok(())
+    }
+
+    // Draws the current buffer, and leaves the cursor at its place.
+    fn apply(&mut self, cursor: Option<Position>) -> Result<(), TerminalError<B::Error>>
+        ensures outcome { AppliesBy B.screen cursor self.old self.new result }
+        ensures faults { Faults result (B.failures self.old.backend) (B.failures self.new.backend) }
+    {
+        self.write_frame(cursor)?;
         self.swap_buffers();
-        self.backend.flush().map_err(TerminalError::Backend)?;
+        match self.backend.flush() {
+            Ok(()) => {}
+            Err(error) => return Err(TerminalError::Backend(error)),
+        }
         self.frame_count = self.frame_count.wrapping_add(1);
         Ok(())
     }
@@ -104,12 +116,18 @@ impl<B: Backend> Terminal<B> {
     where
         F: FnOnce(&mut Frame<'_>) -> Result<(), AllocError>,
         requires { AcceptsFrames F.FnOnce render_callback self.old }
-        ensures* refused { sem 𝓛 (RestsIfErr (the_row B.row B.Error.row B.Backend B.Error.Debug B.Error.Display) self.entry (λ frame. frame.terminal.ghost_name) result (λ t. DrawsBy B.screen (paints_on F.FnOnce render_callback) self.old t result × Faults result (B.failures self.old.backend) (B.failures t.backend))) }
+        ensures* refused { let row = the_row B.row B.Error.row B.Backend B.Error.Debug B.Error.Display in
+            sem 𝓛 (RestsIfErr row self.entry (λ frame. frame.terminal.ghost_name) result (λ t.
+                DrawsBy B.screen (paints_on F.FnOnce render_callback) self.old t result
+                × Faults result (B.failures self.old.backend) (B.failures t.backend))) }
         ensures same_terminal { IfOk result (λ frame. frame.terminal.ghost_name ≡ self.entry.ghost_name) }
-        ensures drawn { IfOk result (λ frame. DrawOk B.screen (paints_on F.FnOnce render_callback) (Ok tt) self.old frame.terminal.now) }
-        ensures in_step { IfOk result (λ frame. IsInStep B.screen self.old → IsSettledSheet frame.terminal.now.older → IsInStep B.screen frame.terminal.now) }
-        ensures faults { IfOk result (λ frame. B.failures frame.terminal.now.backend ≡ B.failures self.old.backend) }
-        ensures rest { IfOk result (λ frame. (frame.area ≡ self.old.viewport_area) × (frame.count ≡ self.old.frame_count)) }
+        ensures drawn { IfOk result (λ frame. DrawOk B.screen (paints_on F.FnOnce render_callback) self.old frame.terminal.now) }
+        ensures in_step { IfOk result (λ frame. IsInStep B.screen self.old
+            → IsSettledSheet frame.terminal.now.older → IsInStep B.screen frame.terminal.now) }
+        ensures faults { IfOk result (λ frame. B.failures frame.terminal.now.backend
+            ≡ B.failures self.old.backend) }
+        ensures area { IfOk result (λ frame. frame.area ≡ self.old.viewport_area) }
+        ensures count { IfOk result (λ frame. frame.count ≡ self.old.frame_count) }
     {
         let area = self.viewport_area;
         let count = self.frame_count;
@@ -131,12 +149,18 @@ impl<B: Backend> Terminal<B> {
     where
         F: FnOnce(&mut Frame<'_>) -> Result<(), B::Error>,
         requires { AcceptsFrames F.FnOnce render_callback self.old }
-        ensures* refused { sem 𝓛 (RestsIfErr (the_row B.row B.Error.row B.Backend B.Error.Debug B.Error.Display) self.entry (λ frame. frame.terminal.ghost_name) result (λ t. TriesBy B.screen (paints_on F.FnOnce render_callback) self.old t result × Faults result (B.failures self.old.backend) (B.failures t.backend))) }
+        ensures* refused { let row = the_row B.row B.Error.row B.Backend B.Error.Debug B.Error.Display in
+            sem 𝓛 (RestsIfErr row self.entry (λ frame. frame.terminal.ghost_name) result (λ t.
+                TriesBy B.screen (paints_on F.FnOnce render_callback) self.old t result
+                × Faults result (B.failures self.old.backend) (B.failures t.backend))) }
         ensures same_terminal { IfOk result (λ frame. frame.terminal.ghost_name ≡ self.entry.ghost_name) }
-        ensures drawn { IfOk result (λ frame. DrawOk B.screen (paints_on F.FnOnce render_callback) (Ok tt) self.old frame.terminal.now) }
-        ensures in_step { IfOk result (λ frame. IsInStep B.screen self.old → IsSettledSheet frame.terminal.now.older → IsInStep B.screen frame.terminal.now) }
-        ensures faults { IfOk result (λ frame. B.failures frame.terminal.now.backend ≡ B.failures self.old.backend) }
-        ensures rest { IfOk result (λ frame. (frame.area ≡ self.old.viewport_area) × (frame.count ≡ self.old.frame_count)) }
+        ensures drawn { IfOk result (λ frame. DrawOk B.screen (paints_on F.FnOnce render_callback) self.old frame.terminal.now) }
+        ensures in_step { IfOk result (λ frame. IsInStep B.screen self.old
+            → IsSettledSheet frame.terminal.now.older → IsInStep B.screen frame.terminal.now) }
+        ensures faults { IfOk result (λ frame. B.failures frame.terminal.now.backend
+            ≡ B.failures self.old.backend) }
+        ensures area { IfOk result (λ frame. frame.area ≡ self.old.viewport_area) }
+        ensures count { IfOk result (λ frame. frame.count ≡ self.old.frame_count) }
     {
         let area = self.viewport_area;
         let count = self.frame_count;
@@ -152,11 +176,16 @@ impl<B: Backend> Terminal<B> {
 
     /// Draws the current buffer as it is, and hides the cursor.
     pub fn apply_buffer(&mut self) -> Result<CompletedFrame<'_, B>, TerminalError<B::Error>>
-        ensures* refused { sem 𝓛 (RestsIfErr (the_row B.row B.Error.row B.Backend B.Error.Debug B.Error.Display) self.entry (λ frame. frame.terminal.ghost_name) result (λ t. AppliesBy B.screen None self.old t result × Faults result (B.failures self.old.backend) (B.failures t.backend))) }
+        ensures* refused { let row = the_row B.row B.Error.row B.Backend B.Error.Debug B.Error.Display in
+            sem 𝓛 (RestsIfErr row self.entry (λ frame. frame.terminal.ghost_name) result (λ t.
+                AppliesBy B.screen None self.old t result
+                × Faults result (B.failures self.old.backend) (B.failures t.backend))) }
         ensures same_terminal { IfOk result (λ frame. frame.terminal.ghost_name ≡ self.entry.ghost_name) }
         ensures applied { IfOk result (λ frame. Applies B.screen None self.old frame.terminal.now) }
-        ensures faults { IfOk result (λ frame. B.failures frame.terminal.now.backend ≡ B.failures self.old.backend) }
-        ensures rest { IfOk result (λ frame. (frame.area ≡ self.old.viewport_area) × (frame.count ≡ self.old.frame_count)) }
+        ensures faults { IfOk result (λ frame. B.failures frame.terminal.now.backend
+            ≡ B.failures self.old.backend) }
+        ensures area { IfOk result (λ frame. frame.area ≡ self.old.viewport_area) }
+        ensures count { IfOk result (λ frame. frame.count ≡ self.old.frame_count) }
     {
         self.apply_buffer_with_cursor(None)
     }
@@ -167,11 +196,16 @@ impl<B: Backend> Terminal<B> {
         &mut self,
         cursor_position: Option<Position>,
     ) -> Result<CompletedFrame<'_, B>, TerminalError<B::Error>>
-        ensures* refused { sem 𝓛 (RestsIfErr (the_row B.row B.Error.row B.Backend B.Error.Debug B.Error.Display) self.entry (λ frame. frame.terminal.ghost_name) result (λ t. AppliesBy B.screen cursor_position self.old t result × Faults result (B.failures self.old.backend) (B.failures t.backend))) }
+        ensures* refused { let row = the_row B.row B.Error.row B.Backend B.Error.Debug B.Error.Display in
+            sem 𝓛 (RestsIfErr row self.entry (λ frame. frame.terminal.ghost_name) result (λ t.
+                AppliesBy B.screen cursor_position self.old t result
+                × Faults result (B.failures self.old.backend) (B.failures t.backend))) }
         ensures same_terminal { IfOk result (λ frame. frame.terminal.ghost_name ≡ self.entry.ghost_name) }
         ensures applied { IfOk result (λ frame. Applies B.screen cursor_position self.old frame.terminal.now) }
-        ensures faults { IfOk result (λ frame. B.failures frame.terminal.now.backend ≡ B.failures self.old.backend) }
-        ensures rest { IfOk result (λ frame. (frame.area ≡ self.old.viewport_area) × (frame.count ≡ self.old.frame_count)) }
+        ensures faults { IfOk result (λ frame. B.failures frame.terminal.now.backend
+            ≡ B.failures self.old.backend) }
+        ensures area { IfOk result (λ frame. frame.area ≡ self.old.viewport_area) }
+        ensures count { IfOk result (λ frame. frame.count ≡ self.old.frame_count) }
     {
         let area = self.viewport_area;
         let count = self.frame_count;

@@ -1,11 +1,11 @@
 use Rattle.std.proofs.Common.{refl}
-use Rattle.rtui_terminal.proofs.RenderLemmas.{draws_by}
+use Rattle.rtui_terminal.proofs.RenderLemmas.{draws_on}
 use Rattle.rtui_terminal.proofs.terminal.Terminal.draw_frame.Goals as goal
 
 pub returns-in-Ok-clause-drawn : goal.returns-in-Ok-clause-drawn
 returns-in-Ok-clause-drawn g c =
     rw (← c.self.view_is)
-    (draws_by _ _ _ _ _ _ (rw c.in-Ok.is at c.paint-answer.ensures) c.apply.result c.apply.ensures.outcome)
+    (draws_on _ _ _ _ _ _ (rw c.in-Ok.is at c.paint-answer.ensures) _ _ c.apply.result c.apply.ensures.outcome)
 
 pub returns-in-Err-clause-drawn : goal.returns-in-Err-clause-drawn
 returns-in-Err-clause-drawn g c =

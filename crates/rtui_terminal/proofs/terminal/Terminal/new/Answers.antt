@@ -14,7 +14,7 @@ returns-clause-starts g c =
       older = c.in-Ok-empty-2.ensures;
       hidden = refl;
       count = refl;
-      in_step = starts _ _ _ c.in-Ok.ensures.stays over c.in-Ok-empty-2.ensures;
+      in_step = starts _ _ _ c.in-Ok.ensures.stays over (record { right = grind (arith, common_steps); bottom = grind (arith, common_steps) }) c.in-Ok-empty-2.ensures;
     }
 
 pub returns-in-Err-clause-refused : goal.returns-in-Err-clause-refused
