@@ -1,5 +1,5 @@
 -- Playing, a scene at a time.
-use Rattle.std.proofs.Common.{◌≡◌, ℕ, ◌+◌, ◌-◌, ◌<◌, List, [], ◌∷◌, ◌++◌, length, take, get_or, Some, arith, length-append, inl, inr, refl, sym, ap, ap₂, ◌∙◌, subst}
+use Rattle.std.proofs.Common.{◌≡◌, ℕ, ◌+◌, ◌-◌, ◌<◌, List, [], ◌∷◌, ◌++◌, length, take, get_or, Some, None, arith, length-append, inl, inr, refl, sym, ap, ap₂, ◌∙◌, subst}
 use Rattle.std.specs.Prelude.{slice_get}
 use Rattle.std.proofs.lemmas.Bool.{cases_lt}
 use Rattle.std.proofs.lemmas.List.{get_or_append_left}
@@ -12,9 +12,12 @@ use Rattle.rtui_backend.specs.Screen.{Screen, IsBlankScreen, screen_area}
 use Rattle.rtui_backend.specs.TestBackend.{screen_of}
 use Rattle.rtui_backend.specs.declared.test.TestBackend.{TestBackend}
 use Rattle.rtui_terminal.specs.State.{State}
-use Rattle.rtui_terminal.specs.Calls.{Starts}
+use Rattle.rtui_terminal.specs.Calls.{Starts, Applies}
+use Rattle.rtui_terminal.specs.InStep.{IsInStep}
 use Rattle.rtui_buffer.specs.Sheet.{Sheet, IsEmptied, IsSameSheet}
 use Rattle.rtui_backend.specs.CellGrid.{grid_of}
+use Rattle.rtui_buffer.specs.Frame.{IsSettledSheet}
+use Rattle.screenplay.specs.Puts.{with_puts}
 use Rattle.screenplay.specs.Run.{stage_area, ShowsFrame, IsRun, IsAfter, IsFault, puts_in}
 use Rattle.screenplay.specs.Playing.{IsPlaying, IsSceneOf, IsCause}
 use Rattle.screenplay.specs.declared.scene.PlayCause.{PlayCause}
@@ -39,6 +42,30 @@ IsPlaying-started stage b t blank starts =
         current = subst (λ area. IsEmptied area t.current) view starts.current;
       },
       λ a b'. ap (λ (s : Screen). s.grid a b') same ∙ blank.grid a b',
+    )
+
+-- a settled frame painted on the empty buffer and drawn
+pub IsPlaying-drawn : (stage : Stage) (puts : List (ℕ × ℕ × ℕ)) (frame : Sheet) (s t : State TestBackend) → IsPlaying stage s → frame ≡ with_puts puts s.current → IsSettledSheet frame
+    → Applies screen_of None (record s { current = frame }) t → IsPlaying stage t × ShowsFrame stage puts (screen_of t.backend).grid
+IsPlaying-drawn stage puts frame s t playing painted settled applied =
+    let at = playing.in_step in
+    let drawn = applied.drawn.1.drawn in
+    let placed = applied.drawn.2 in
+    let shown : IsInStep screen_of t = applied.in_step (record { on_screen = at.on_screen; area = at.area; settled = at.settled; shown = at.shown }) settled in (
+      record {
+        width = ap (λ (s : Screen). s.width) placed ∙ drawn.width ∙ playing.width;
+        height = ap (λ (s : Screen). s.height) placed ∙ drawn.height ∙ playing.height;
+        history = ap (λ (s : Screen). s.history) placed ∙ drawn.history ∙ playing.history;
+        viewport = applied.viewport ∙ playing.viewport;
+        in_step = shown;
+        current = subst (λ area. IsEmptied area t.current) playing.viewport applied.emptied;
+      },
+      record {
+        frame = t.older;
+        made = record { blank = s.current; emptied = playing.current; painted = applied.painted ∙ painted };
+        settled = shown.settled;
+        shown = shown.shown;
+      },
     )
 
 -- a scene made of what the backend's buffer shows

@@ -1,6 +1,6 @@
 //! Playing the steps of a script.
 
-ghost use Rattle.std.specs.Prelude.{◌≡◌, ℕ, ◌++◌, ◌∷◌, [], Ok, Err, IfOk, IfErr, OnOk, OnErr};
+ghost use Rattle.std.specs.Prelude.{◌≡◌, ◌↔◌, ℕ, ◌++◌, ◌∷◌, [], IsTrue, IfOk, IfErr, OnOk, OnErr};
 ghost use Rattle.rtui_cell.specs.Look.{empty_look};
 ghost use Rattle.rtui_buffer.specs.Frame.{IsSettledSheet};
 ghost use Rattle.rtui_backend.specs.TestBackend.{screen_of};
@@ -14,7 +14,7 @@ use crate::scene::{PlayCause, PlayFault, Puts, Scene, Stage, Step};
 use rtui_backend::{TestBackend, TestError};
 use rtui_buffer::Buffer;
 use rtui_geometry::Position;
-use rtui_terminal::{Frame, Terminal, TerminalError};
+use rtui_terminal::{Terminal, TerminalError};
 use std::alloc::{AllocError, Global};
 
 // Sets a character at a place of the screen, where the buffer has it.
@@ -37,22 +37,13 @@ fn set_puts(alloc: Global, buffer: &mut Buffer, puts: &[(u16, u16, char)]) -> Re
     Ok(())
 }
 
-// Paints a frame; it answers `Told` where the frame isn't settled.
-fn paint(alloc: Global, frame: &mut Frame<'_>, puts: &Puts) -> Result<(), TestError>
-    ensures keeps { frame.new.buffer.ghost_name ≡ frame.old.buffer.ghost_name }
-    ensures ok { OnOk result ((frame.new.buffer.now ≡ with_puts puts.now frame.old.buffer.now) × IsSettledSheet frame.new.buffer.now) }
-    ensures told { result ≡ Err TestError.Told → (frame.new.buffer.now ≡ with_puts puts.now frame.old.buffer.now) × (IsSettledSheet frame.new.buffer.now → ⊥) }
+// Paints a frame, and answers whether it is settled.
+fn paint(alloc: Global, frame: &mut Buffer, puts: &Puts) -> Result<bool, AllocError>
+    ensures painted { OnOk result (frame.new ≡ with_puts puts.now frame.old) }
+    ensures settled { IfOk result (λ settled. IsTrue settled ↔ IsSettledSheet frame.new) }
 {
-    let buffer = frame.buffer_mut();
-    match set_puts(alloc, buffer, puts.as_slice()) {
-        Ok(()) => {}
-        Err(_) => return Err(TestError::Memory),
-    }
-    if buffer.is_settled() {
-        Ok(())
-    } else {
-        Err(TestError::Told)
-    }
+    set_puts(alloc, frame, puts.as_slice())?;
+    Ok(frame.is_settled())
 }
 
 // A terminal over a blank stage.
@@ -71,10 +62,13 @@ fn draw(alloc: Global, terminal: &mut Terminal<TestBackend>, puts: &Puts) -> Res
     ensures ok { OnOk result ((stage : Stage) → IsPlaying stage terminal.old → IsPlaying stage terminal.new × ShowsFrame stage puts.now (screen_of terminal.new.backend).grid) }
     ensures err { IfErr result (λ cause. (stage : Stage) → IsPlaying stage terminal.old → IsCause stage puts.now cause) }
 {
-    let area = terminal.viewport_area();
-    match terminal.try_draw(|frame| paint(alloc, frame, puts)) {
+    match paint(alloc, terminal.current_buffer_mut(), puts) {
+        Ok(true) => {}
+        Ok(false) => return Err(PlayCause::Unsettled(terminal.viewport_area())),
+        Err(_) => return Err(PlayCause::Memory),
+    }
+    match terminal.apply_buffer() {
         Ok(_) => Ok(()),
-        Err(TerminalError::Closure(TestError::Told)) => Err(PlayCause::Unsettled(area)),
         Err(_) => Err(PlayCause::Memory),
     }
 }
