@@ -1,7 +1,9 @@
 pub mod DrawLemmas
+pub mod ScrollLemmas
 pub mod LookLemmas
 pub mod PutLemmas
 pub mod PlainLemmas
+pub mod ShiftLemmas
 pub mod LineLemmas
 pub mod WalkLemmas
 pub mod RowLemmas

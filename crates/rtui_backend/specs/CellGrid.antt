@@ -6,6 +6,10 @@ use Rattle.rtui_cell.specs.Cell.{empty_cell}
 use Rattle.rtui_cell.specs.Look.{Look, look_of, empty_look}
 use Rattle.rtui_cell.specs.Grid.{Grid}
 
+-- the cell at a place, and an empty one past the end
+abbrev pub cell_at : List Cell → ℕ → Cell
+cell_at cells i = slice_index_or cells i empty_cell
+
 -- the look at a place, and the empty one past the end
 abbrev pub look_at : List Cell → ℕ → Look
 look_at cells i = slice_index_or (map look_of cells) i empty_look

@@ -1,3 +1,4 @@
+pub mod Clear
 pub mod Screen
 pub mod Failures
 pub mod CellGrid

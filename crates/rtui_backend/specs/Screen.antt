@@ -7,6 +7,8 @@ use Rattle.rtui_geometry.specs.declared.size.Size.{Size}
 use Rattle.rtui_geometry.specs.Rect.{HasPosition}
 use Rattle.rtui_cell.specs.Look.{Look, empty_look}
 use Rattle.rtui_cell.specs.Grid.{Grid, Update, puts}
+use Rattle.rtui_backend.specs.declared.clear_type.ClearType.{ClearType}
+use Rattle.rtui_backend.specs.Clear.{is_cleared}
 
 -- the rows that scrolled off, a grid of looks, a cursor, and how many items were drawn
 pub record Screen : Type 0 where
@@ -26,9 +28,13 @@ pub record IsOnGrid (s : Screen) : Type 0 where
   pub cursor_x : s.cursor_x ≤ s.width - 1
   pub cursor_y : s.cursor_y ≤ s.height - 1
 
--- a row of the screen, as a list of looks; below the last row all is empty
+-- what stands in a column of a row; below the last row all is empty
+abbrev pub seen : Screen → ℕ → ℕ → Look
+seen s a b = if nat_lt b s.height then s.grid a b else empty_look
+
+-- a row of the screen, as a list of looks
 abbrev pub row_of : Screen → ℕ → List Look
-row_of s b = map (λ a. if nat_lt b s.height then s.grid a b else empty_look) (range_with_len 0 s.width)
+row_of s b = map (λ a. seen s a b) (range_with_len 0 s.width)
 
 -- the rows above row `top`: the history, then the screen's rows before it
 abbrev pub rows_above : Screen → ℕ → List (List Look)
@@ -43,6 +49,37 @@ pub record Draws (old : Screen) (us : List Update) (new : Screen) : Type 0 where
   pub visible : new.visible ≡ old.visible
   pub written : old.written + length us < 2 ^ 64 - 1 → new.written ≡ old.written + length us
   pub full : 2 ^ 64 - 1 ≤ old.written + length us → 2 ^ 64 - 1 ≤ new.written
+
+-- k rows left at the top for the history, in order, and as many blank rows came in below; the cursor may be anywhere
+pub record Scrolls (old : Screen) (k : ℕ) (new : Screen) : Type 0 where
+  pub history : new.history ≡ rows_above old k
+  pub width : new.width ≡ old.width
+  pub height : new.height ≡ old.height
+  pub grid : (a b : ℕ) → a < old.width → b < old.height → new.grid a b ≡ seen old a (b + k)
+  pub visible : new.visible ≡ old.visible
+  pub written : new.written ≡ old.written
+
+-- how many of n lines below the cursor go past the last row; none where there are no rows
+abbrev pub lines_past : Screen → ℕ → ℕ
+lines_past s n = if nat_lt 0 s.height then s.cursor_y + n - (s.height - 1) else 0
+
+-- the cursor's row went down by n, and what went past the last row scrolled; its column may be any
+pub record Appends (old : Screen) (n : ℕ) (new : Screen) : Type 0 where
+  pub scrolled : Scrolls old (lines_past old n) new
+  pub row : new.cursor_y ≡ min (old.cursor_y + n) (old.height - 1)
+  pub no_rows : old.height ≡ 0 → new.cursor_x ≡ old.cursor_x
+
+-- a part of the screen was emptied, by where the cursor is, and all else stays
+pub record Clears (old : Screen) (kind : ClearType) (new : Screen) : Type 0 where
+  pub rest : new ≡ record old { grid = new.grid }
+  pub grid : (a b : ℕ) → a < old.width → b < old.height
+      → new.grid a b ≡ if is_cleared kind old.cursor_x old.cursor_y a b then empty_look else old.grid a b
+
+-- the size and the history stay
+pub record KeepsSize (old new : Screen) : Type 0 where
+  pub width : new.width ≡ old.width
+  pub height : new.height ≡ old.height
+  pub history : new.history ≡ old.history
 
 -- the cursor was hidden or shown
 abbrev pub with_visible : Bool → Screen → Screen

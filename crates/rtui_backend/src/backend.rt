@@ -2,9 +2,11 @@ ghost use Rattle.std.specs.Prelude.{◌≡◌, ℕ, List, map, true, false, IfOk
 ghost use Rattle.std.specs.Iterator.{IsFinite, Drains};
 ghost use Rattle.rtui_cell.specs.declared.cell.Cell.{Cell};
 ghost use Rattle.rtui_cell.specs.Grid.{update_by};
-ghost use Rattle.rtui_backend.specs.Screen.{Screen, IsOnGrid, Draws, with_visible, with_cursor, cursor_of, size_of};
+ghost use Rattle.rtui_backend.specs.Screen.{Screen, IsOnGrid, Draws, Appends, Clears, with_visible, with_cursor, cursor_of, size_of};
+ghost use Rattle.rtui_backend.specs.declared.clear_type.ClearType.TheVariants.{All};
 ghost use Rattle.rtui_backend.specs.Failures.{Counts};
 
+use crate::clear_type::ClearType;
 use rtui_buffer::Cell;
 use rtui_geometry::{Position, Size};
 use std::error::Error;
@@ -55,6 +57,13 @@ pub trait Backend {
         ensures ok { OnOk result ((items : List (ℕ × ℕ × C)) × Drains I.next_gives content items × Draws (screen self.old) (map (update_by C.cell) items) (screen self.new)) }
         ensures counts { Counts result (failures self.old) (failures self.new) };
 
+    /// Moves the cursor's row down by `n`. What goes past the last row scrolls: the rows that leave at the top go
+    /// to the history, in order, and blank rows come in below. The cursor may end in any column. Where the screen
+    /// has no rows nothing changes.
+    fn append_lines(&mut self, n: u16) -> Result<(), Self::Error>
+        ensures ok { OnOk result (Appends (screen self.old) n (screen self.new)) }
+        ensures counts { Counts result (failures self.old) (failures self.new) };
+
     /// Hides the cursor.
     fn hide_cursor(&mut self) -> Result<(), Self::Error>
         ensures ok { OnOk result (screen self.new ≡ with_visible false (screen self.old)) }
@@ -95,6 +104,16 @@ pub trait Backend {
     {
         self.set_cursor_position(Position { x, y })
     }
+
+    /// Empties the whole screen; the cursor stays.
+    fn clear(&mut self) -> Result<(), Self::Error>
+        ensures ok { OnOk result (Clears (screen self.old) All (screen self.new)) }
+        ensures counts { Counts result (failures self.old) (failures self.new) };
+
+    /// Empties a part of the screen; the cursor stays.
+    fn clear_region(&mut self, clear_type: ClearType) -> Result<(), Self::Error>
+        ensures ok { OnOk result (Clears (screen self.old) clear_type (screen self.new)) }
+        ensures counts { Counts result (failures self.old) (failures self.new) };
 
     /// The size in columns and rows.
     fn size(&mut self) -> Result<Size, Self::Error>

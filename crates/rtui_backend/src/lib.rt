@@ -6,7 +6,9 @@
 #![tactic(auto)]
 
 mod backend;
+mod clear_type;
 mod test;
 
 pub use backend::{AsCell, Backend, WindowSize};
+pub use clear_type::ClearType;
 pub use test::{TestBackend, TestError};

@@ -12,6 +12,7 @@ ghost use Rattle.rtui_backend.specs.Failures.{Counts};
 ghost use Rattle.rtui_backend.specs.Display.{test_error_text};
 
 use crate::backend::{AsCell, Backend, WindowSize};
+use crate::clear_type::ClearType;
 use rtui_buffer::{Buffer, Cell, CellDiffOption, CellWidth};
 use rtui_geometry::{Position, Rect, Size};
 use std::alloc::{AllocError, Global};
@@ -19,6 +20,7 @@ use std::error::Error;
 use std::fmt;
 
 mod lines;
+mod scroll;
 
 /// Why a call of a `TestBackend` failed.
 #[derive(Clone, Copy, Debug, PartialEq, Eq, Hash)]
@@ -246,6 +248,8 @@ impl TestBackend {
 
 impl Backend for TestBackend {
     ghost use Rattle.std.specs.Prelude.{true, false};
+    ghost use Rattle.rtui_backend.specs.declared.clear_type.ClearType.TheVariants.{All};
+    ghost use Rattle.rtui_backend.specs.Screen.{Appends, Clears};
     ghost use Rattle.rtui_geometry.specs.declared.size.Size.{Size};
     ghost use Rattle.rtui_backend.specs.Screen.{IsOnGrid, with_visible, with_cursor, cursor_of, size_of};
     ghost use Rattle.rtui_backend.specs.TestBackend.{screen_of, failures_of, told_after, one_call_less, TakesTurn, DrawsFront};
@@ -275,6 +279,39 @@ impl Backend for TestBackend {
             Ok(()) => Ok(()),
             Err(_) => Err(self.failed(TestError::Memory)),
         }
+    }
+
+    fn append_lines(&mut self, n: u16) -> Result<(), TestError>
+        ensures ok { OnOk result (Appends (screen_of self.old) n (screen_of self.new)) }
+        ensures column { OnOk result ((screen_of self.new).cursor_x ≡ (screen_of self.old).cursor_x) }
+        ensures refused { OnErr result (screen_of self.new ≡ screen_of self.old) }
+        ensures counts { Counts result (failures_of self.old) (failures_of self.new) }
+        ensures told { (result ≡ Err TestError.Told) ↔ (told_after self.old ≡ Some 0) }
+        ensures left { told_after self.new ≡ one_call_less (told_after self.old) }
+    {
+        self.begin()?;
+        match self.append(n) {
+            Ok(()) => Ok(()),
+            Err(_) => Err(self.failed(TestError::Memory)),
+        }
+    }
+
+    fn clear(&mut self) -> Result<(), TestError>
+        ensures ok { OnOk result (Clears (screen_of self.old) All (screen_of self.new)) }
+        ensures counts { Counts result (failures_of self.old) (failures_of self.new) }
+        ensures turn { TakesTurn result self.old self.new }
+    {
+        self.clear_region(ClearType::All)
+    }
+
+    fn clear_region(&mut self, clear_type: ClearType) -> Result<(), TestError>
+        ensures ok { OnOk result (Clears (screen_of self.old) clear_type (screen_of self.new)) }
+        ensures counts { Counts result (failures_of self.old) (failures_of self.new) }
+        ensures turn { TakesTurn result self.old self.new }
+    {
+        self.begin()?;
+        self.clear_part(clear_type);
+        Ok(())
     }
 
     fn hide_cursor(&mut self) -> Result<(), TestError>

@@ -1,0 +1,139 @@
+-- Rows of cells that move up, and parts that are emptied.
+use Rattle.std.proofs.Common.{◌≡◌, ℕ, zero, suc, true, false, ◌+◌, ◌-◌, ◌*◌, ◌<◌, ◌≤◌, ◌++◌, ◌&&◌, min, nat_lt, Bool, List, [], ◌∷◌, length, map, get_or, take, drop, set, refl, sym, ap, ◌∙◌, arith, inl, inr, length-drop, length-take, if◌then◌else◌}
+use Rattle.std.specs.Prelude.{nat_le, nat_eq}
+use Rattle.std.specs.List.{range_with_len}
+use Rattle.std.proofs.Math.Nat.{mul-le-mul_right}
+use Rattle.std.proofs.lemmas.Nat.{mul-add-lt}
+use Rattle.std.proofs.lemmas.Grind.{common_steps}
+use Rattle.std.proofs.lemmas.List.{length-map, get_or_append_left, get_or-append_right, get_or-take, get_or-drop, get_or_past, get_or-map}
+use Rattle.std.proofs.lemmas.Bool.{cases_lt}
+use Rattle.std.proofs.lemmas.Bool.Decides.{nat_tests}
+use Rattle.rtui_cell.specs.declared.cell.Cell.{Cell}
+use Rattle.rtui_cell.specs.Cell.{empty_cell}
+use Rattle.rtui_cell.specs.Look.{Look, look_of, empty_look}
+use Rattle.rtui_cell.proofs.CellLemmas.{look-empty}
+use Rattle.rtui_backend.specs.declared.clear_type.ClearType.TheVariants.{All, AfterCursor, BeforeCursor, CurrentLine, UntilNewLine}
+use Rattle.rtui_backend.specs.Clear.{is_cleared}
+use Rattle.rtui_backend.specs.CellGrid.{cell_at, look_at, grid_of, IsPlain, ArePlain}
+use Rattle.rtui_backend.proofs.PlainLemmas.{plain-empty}
+use Rattle.rtui_backend.proofs.ScrollLemmas.{map_same}
+
+pub cell_at-set : (cells : List Cell) (i j : ℕ) (c : Cell) → i < length cells → cell_at (set cells i c) j ≡ if nat_eq j i then c else cell_at cells j
+cell_at-set cells i j c inside = grind (arith, common_steps)
+
+-- the look of a cell, and of the empty one past the end
+pub look_at-cell : (cells : List Cell) (k : ℕ) → look_at cells k ≡ look_of (cell_at cells k)
+look_at-cell cells k = elim (cases_lt k (length cells)) [
+  | inl inside ↦ get_or-map look_of cells k empty_cell empty_look inside
+  | inr past ↦ get_or_past (map look_of cells) k empty_look (rw length-map past) ∙ sym (ap look_of (get_or_past cells k empty_cell past) ∙ look-empty)
+]
+
+-- cells that were emptied and moved to the end
+pub rotated : (xs : List Cell) (w : ℕ) → w ≤ length xs → ((j : ℕ) → j < w → cell_at xs j ≡ empty_cell) → (k : ℕ) → cell_at (drop w xs ++ take w xs) k ≡ cell_at xs (k + w)
+rotated xs w fits blanked k = elim (cases_lt k (length xs - w)) [
+  | inl before ↦
+      let len : k < length (drop w xs) = rw length-drop before in
+      get_or_append_left (drop w xs) (take w xs) empty_cell k len ∙ get_or-drop w xs k empty_cell ∙ ap (λ i. cell_at xs i) (omega arith)
+  | inr after ↦
+      get_or-append_right (drop w xs) (take w xs) (length xs - w) k empty_cell (length-drop w xs) after
+      ∙ moved (k - (length xs - w))
+      ∙ sym (get_or_past xs (k + w) empty_cell (omega arith))
+]
+  where
+    moved : (j : ℕ) → cell_at (take w xs) j ≡ empty_cell
+    moved j = elim (cases_lt j w) [
+      | inl inside ↦ get_or-take w xs j empty_cell inside ∙ blanked j inside
+      | inr past ↦ get_or_past (take w xs) j empty_cell (simp length-take (omega arith))
+    ]
+
+-- past the end all is empty
+pub past_end : (xs : List Cell) (k : ℕ) → length xs ≤ k → cell_at xs k ≡ empty_cell
+past_end xs k past = get_or_past xs k empty_cell past
+
+-- cells that are old ones or empty are plain
+pub ArePlain-moved : (old new : List Cell) (by : ℕ) → ((k : ℕ) → cell_at new k ≡ cell_at old (k + by)) → ArePlain old → ArePlain new
+ArePlain-moved old new by moved plain i = rw (moved i) (plain (i + by))
+
+pub ArePlain-blanked : (old new : List Cell) (which : ℕ → Bool) → ((k : ℕ) → cell_at new k ≡ if which k then empty_cell else cell_at old k) → ArePlain old → ArePlain new
+ArePlain-blanked old new which blanked plain i = rw (blanked i) (either (which i))
+  where
+    either : (b : Bool) → IsPlain (if b then empty_cell else cell_at old i)
+    either true = plain-empty
+    either false = plain i
+
+-- rows do not overlap
+row_below : (w b y : ℕ) → b < y → b * w + w ≤ y * w
+row_below w b y lower = let e : (b + 1) * w ≤ y * w = mul-le-mul_right w (omega arith) in omega arith
+
+-- which places of a list a clear empties
+module _ (w h x y a b : ℕ) (a_in : a < w) (b_in : b < h) (x_in : x < w) where
+  pub places_after : (nat_le (min (min (y * w) (w * h) + x) (w * h)) (b * w + a) && nat_lt (b * w + a) (w * h)) ≡ is_cleared AfterCursor x y a b
+  places_after = let inside : b * w + a < w * h = mul-add-lt b w a h b_in a_in in elim (cases_lt b y) [
+    | inl above ↦ let e = row_below w b y above in grind (arith, nat_tests)
+    | inr other ↦ elim (cases_lt y b) [
+      | inl below ↦ let e = row_below w y b below in grind (arith, nat_tests)
+      | inr here ↦ let e : b ≡ y = omega arith in grind (arith, nat_tests)
+    ]
+  ]
+
+  pub places_before : (nat_le 0 (b * w + a) && nat_lt (b * w + a) (min (min (min (y * w) (w * h) + x) (w * h) + 1) (w * h))) ≡ is_cleared BeforeCursor x y a b
+  places_before = let inside : b * w + a < w * h = mul-add-lt b w a h b_in a_in in elim (cases_lt b y) [
+    | inl above ↦ let e = row_below w b y above in grind (arith, nat_tests)
+    | inr other ↦ elim (cases_lt y b) [
+      | inl below ↦ let e = row_below w y b below in grind (arith, nat_tests)
+      | inr here ↦ let e : b ≡ y = omega arith in grind (arith, nat_tests)
+    ]
+  ]
+
+  pub places_line : (nat_le (min (y * w) (w * h)) (b * w + a) && nat_lt (b * w + a) (min (min (y * w) (w * h) + w) (w * h))) ≡ is_cleared CurrentLine x y a b
+  places_line = let inside : b * w + a < w * h = mul-add-lt b w a h b_in a_in in elim (cases_lt b y) [
+    | inl above ↦ let e = row_below w b y above in grind (arith, nat_tests)
+    | inr other ↦ elim (cases_lt y b) [
+      | inl below ↦ let e = row_below w y b below in grind (arith, nat_tests)
+      | inr here ↦ let e : b ≡ y = omega arith in grind (arith, nat_tests)
+    ]
+  ]
+
+  pub places_until : (nat_le (min (min (y * w) (w * h) + x) (w * h)) (b * w + a) && nat_lt (b * w + a) (min (min (y * w) (w * h) + w) (w * h))) ≡ is_cleared UntilNewLine x y a b
+  places_until = let inside : b * w + a < w * h = mul-add-lt b w a h b_in a_in in elim (cases_lt b y) [
+    | inl above ↦ let e = row_below w b y above in grind (arith, nat_tests)
+    | inr other ↦ elim (cases_lt y b) [
+      | inl below ↦ let e = row_below w y b below in grind (arith, nat_tests)
+      | inr here ↦ let e : b ≡ y = omega arith in grind (arith, nat_tests)
+    ]
+  ]
+
+-- rows of a list of cells, as rows of its grid
+module _ (w h : ℕ) (cells : List Cell) (size : length cells ≡ w * h) where
+  seen_is : (a b : ℕ) → a < w → look_at cells (b * w + a) ≡ (if nat_lt b h then grid_of w cells a b else empty_look)
+  seen_is a b a_in = elim (cases_lt b h) [
+    | inl inside ↦ grind (arith, nat_tests)
+    | inr past ↦
+        let e : h * w ≤ b * w = mul-le-mul_right w past in
+        let none : look_at cells (b * w + a) ≡ empty_look = look_at-cell cells (b * w + a) ∙ ap look_of (past_end cells (b * w + a) (omega arith)) ∙ look-empty in
+        none ∙ grind (arith, nat_tests)
+  ]
+
+  pub rows_are : (count : ℕ) → map (λ b. map (λ a. look_at cells (b * w + a)) (range_with_len 0 w)) (range_with_len 0 count)
+      ≡ map (λ b. map (λ a. if nat_lt b h then grid_of w cells a b else empty_look) (range_with_len 0 w)) (range_with_len 0 count)
+  rows_are count = map_same _ _ 0 count (λ b _ _. map_same _ _ 0 w (λ a _ a_in. seen_is a b (omega arith)))
+
+  pub scrolled_grid : (new : List Cell) (k : ℕ) → ((i : ℕ) → cell_at new i ≡ cell_at cells (i + k * w)) → (a b : ℕ) → a < w
+      → grid_of w new a b ≡ (if nat_lt (b + k) h then grid_of w cells a (b + k) else empty_look)
+  scrolled_grid new k moved a b a_in =
+      let here : grid_of w new a b ≡ look_at new (b * w + a) = grind (arith, nat_tests) in
+      here ∙ look_at-cell new (b * w + a) ∙ ap look_of (moved (b * w + a)) ∙ sym (look_at-cell cells (b * w + a + k * w))
+      ∙ ap (look_at cells) (omega arith) ∙ seen_is a (b + k) a_in
+
+-- what was emptied in a list of cells, on its grid
+pub cleared_grid : (w : ℕ) (old new : List Cell) (which : ℕ → Bool) (is : Bool) → ((k : ℕ) → cell_at new k ≡ if which k then empty_cell else cell_at old k) → (a b : ℕ) → a < w → which (b * w + a) ≡ is
+    → grid_of w new a b ≡ if is then empty_look else grid_of w old a b
+cleared_grid w old new which is blanked a b a_in e =
+    let here : grid_of w new a b ≡ look_at new (b * w + a) = grind (arith, nat_tests) in
+    let was : grid_of w old a b ≡ look_at old (b * w + a) = grind (arith, nat_tests) in
+    let now : cell_at new (b * w + a) ≡ if is then empty_cell else cell_at old (b * w + a) = rw (← e) (blanked (b * w + a)) in
+    here ∙ look_at-cell new (b * w + a) ∙ ap look_of now ∙ either is ∙ rw was refl
+  where
+    either : (t : Bool) → look_of (if t then empty_cell else cell_at old (b * w + a)) ≡ if t then empty_look else look_at old (b * w + a)
+    either true = look-empty
+    either false = sym (look_at-cell old (b * w + a))

@@ -1,0 +1,43 @@
+use Rattle.std.proofs.Common.{◌≡◌, ℕ, ◌+◌, ◌*◌, ◌++◌, length, List, map, refl, ap, sym, ◌∙◌, arith}
+use Rattle.std.specs.List.{range_with_len}
+use Rattle.std.proofs.lemmas.List.{map-append}
+use Rattle.std.proofs.lemmas.Bool.Decides.{nat_tests}
+use Rattle.std.proofs.lemmas.Grind.{common_steps}
+use Rattle.rtui_cell.specs.Look.{look_of}
+use Rattle.rtui_buffer.specs.Sheet.{refilled}
+use Rattle.rtui_backend.specs.CellGrid.{cell_at, look_at}
+use Rattle.rtui_backend.specs.Screen.{lines_past}
+use Rattle.rtui_backend.specs.TestBackend.{screen_of}
+use Rattle.rtui_backend.proofs.ShiftLemmas.{rows_are, scrolled_grid}
+use Rattle.rtui_backend.proofs.test.TestBackend.append.Goals as goal
+
+pub returns-clause-ok : goal.returns-clause-ok
+returns-clause-ok c =
+    let s = c.args.self.now in
+    let w = s.buffer.area.width in
+    let h = s.buffer.area.height in
+    let cells = s.buffer.cells in
+    let new = c.shift.new.cells in
+    let past = lines_past (screen_of s) c.args.n in
+    let size : length cells ≡ w * h = grind (arith, common_steps) in
+    let count : c.saturating_sub-past.result ≡ past = grind (arith, common_steps, nat_tests) in
+    let items : refilled cells new ≡ new = grind (arith, common_steps) in
+    let rows : map (λ r. map look_of r.items) c.in_ok-rows.rows.items ≡ map (λ b. map (λ a. look_at cells (b * w + a)) (range_with_len 0 w)) (range_with_len 0 past) =
+        rw (c.content.ensures.cells, c.area-area.ensures.area, count) at c.in_ok-rows.ensures in
+    let moved : (i : ℕ) → cell_at new i ≡ cell_at cells (i + past * w) = λ i.
+        rw (c.cells_mut.ensures.cells, c.from-4.ensures, c.area-area.ensures.area, count) at (c.shift.ensures i) in
+    record {
+      scrolled = record {
+        history =
+            ap (map (λ r. map look_of r.items)) c.in_ok-append.ensures.items
+            ∙ map-append (λ r. map look_of r.items) s.scrollback.items c.in_ok-rows.rows.items
+            ∙ ap (λ rs. map (λ r. map look_of r.items) s.scrollback.items ++ rs) (rows ∙ rows_are w h cells size past);
+        width = refl;
+        height = refl;
+        grid = λ a b a_in b_in. rw items (scrolled_grid w h cells size new past moved a b a_in);
+        visible = refl;
+        written = refl;
+      };
+      row = grind (arith, common_steps, nat_tests);
+      no_rows = λ none. refl;
+    }

@@ -1,0 +1,132 @@
+//! Rows that leave the screen, and parts of it that are emptied.
+
+ghost use Rattle.std.specs.Prelude.{◌≡◌, ◌+◌, ◌-◌, ◌*◌, ◌^◌, ◌<◌, ◌≤◌, ◌&&◌, ℕ, nat_lt, nat_le, if◌then◌else◌, length, map, OnOk, OnErr, IfOk};
+ghost use Rattle.std.specs.List.{range_with_len};
+ghost use Rattle.rtui_cell.specs.Cell.{empty_cell};
+ghost use Rattle.rtui_cell.specs.Look.{look_of};
+ghost use Rattle.rtui_backend.specs.Clear.{is_cleared};
+ghost use Rattle.rtui_backend.specs.CellGrid.{cell_at, look_at, ArePlain};
+
+use crate::clear_type::ClearType;
+use crate::test::TestBackend;
+use rtui_buffer::Cell;
+use rtui_geometry::{Position, Size};
+use std::alloc::{AllocError, Global};
+
+// Empties the cells from one place up to another.
+fn blank(cells: &mut [Cell], from: usize, to: usize)
+    requires order { from ≤ to }
+    requires end { to ≤ length cells.old }
+    ensures { (k : ℕ) → cell_at cells.new k ≡ (if nat_le from k && nat_lt k to then empty_cell else cell_at cells.old k) }
+{
+    for k in from..to {
+        cells[k].reset();
+    }
+}
+
+// Moves the cells up by so many places, and empties those that come free at the end.
+fn shift(cells: &mut [Cell], by: usize)
+    ensures { (k : ℕ) → cell_at cells.new k ≡ cell_at cells.old (k + by) }
+{
+    let count = by.min(cells.len());
+    blank(cells, 0, count);
+    cells.rotate_left(count);
+}
+
+// Copies of so many cells, with empty ones past the end.
+fn copied_row(
+    alloc: Global,
+    cells: &[Cell],
+    start: usize,
+    width: u16,
+) -> Result<Vec<Cell>, AllocError>
+    requires { start < 2 ^ 63 }
+    ensures { IfOk result (λ row. map look_of row.items ≡ map (λ a. look_at cells.now (start + a)) (range_with_len 0 width)) }
+{
+    let mut row = Vec::new(alloc);
+    for a in 0..usize::from(width) {
+        let cell = match cells.get(start + a) {
+            Some(cell) => cell.clone(alloc)?,
+            None => Cell::EMPTY,
+        };
+        row.push(cell)?;
+    }
+    Ok(row)
+}
+
+// Copies of the first rows, with empty ones past the end.
+fn copied_rows(
+    alloc: Global,
+    cells: &[Cell],
+    width: u16,
+    count: u32,
+) -> Result<Vec<Vec<Cell>>, AllocError>
+    ensures { IfOk result (λ rows. map (λ row. map look_of row.items) rows.items ≡ map (λ b. map (λ a. look_at cells.now (b * width + a)) (range_with_len 0 width)) (range_with_len 0 count)) }
+{
+    let mut rows = Vec::new(alloc);
+    for b in 0..count {
+        let start = b as usize * usize::from(width);
+        rows.push(copied_row(alloc, cells, start, width)?)?;
+    }
+    Ok(rows)
+}
+
+// The places that a clear empties, in rows of cells.
+fn cleared_places(size: Size, cursor: Position, clear_type: ClearType) -> (usize, usize)
+    requires column { cursor.x ≤ size.width - 1 }
+    ensures order { result.0 ≤ result.1 }
+    ensures end { result.1 ≤ size.width * size.height }
+    ensures places { (a b : ℕ) → a < size.width → b < size.height → (nat_le result.0 (b * size.width + a) && nat_lt (b * size.width + a) result.1) ≡ is_cleared clear_type cursor.x cursor.y a b }
+{
+    let width = usize::from(size.width);
+    let count = width * usize::from(size.height);
+    let line = (usize::from(cursor.y) * width).min(count);
+    let line_end = (line + width).min(count);
+    let at = (line + usize::from(cursor.x)).min(count);
+    match clear_type {
+        ClearType::All => (0, count),
+        ClearType::AfterCursor => (at, count),
+        ClearType::BeforeCursor => (0, (at + 1).min(count)),
+        ClearType::CurrentLine => (line, line_end),
+        ClearType::UntilNewLine => (at, line_end),
+    }
+}
+
+impl TestBackend {
+    ghost use Rattle.rtui_backend.specs.Screen.{Appends, Clears};
+    ghost use Rattle.rtui_backend.specs.TestBackend.{screen_of, failures_of, told_after};
+
+    // Moves the cursor's row down, and scrolls what goes past the last one.
+    pub fn append(&mut self, n: u16) -> Result<(), AllocError>
+        ensures ok { OnOk result (Appends (screen_of self.old) n (screen_of self.new)) }
+        ensures column { (screen_of self.new).cursor_x ≡ (screen_of self.old).cursor_x }
+        ensures memory { OnErr result (screen_of self.new ≡ screen_of self.old) }
+        ensures failures { failures_of self.new ≡ failures_of self.old }
+        ensures told { told_after self.new ≡ told_after self.old }
+    {
+        let area = *self.buffer.area();
+        if area.height == 0 {
+            return Ok(());
+        }
+        let last = area.height - 1;
+        let row = u32::from(self.cursor.y) + u32::from(n);
+        let past = row.saturating_sub(u32::from(last));
+        let mut rows = copied_rows(self.alloc, self.buffer.content(), area.width, past)?;
+        self.scrollback.append(&mut rows)?;
+        let places = past as usize * usize::from(area.width);
+        shift(self.buffer.cells_mut(), places);
+        self.cursor.y = self.cursor.y.saturating_add(n).min(last);
+        Ok(())
+    }
+
+    // Empties a part of the screen.
+    pub fn clear_part(&mut self, clear_type: ClearType)
+        ensures cleared { Clears (screen_of self.old) clear_type (screen_of self.new) }
+        ensures failures { failures_of self.new ≡ failures_of self.old }
+        ensures told { told_after self.new ≡ told_after self.old }
+    {
+        let size = self.buffer.area().as_size();
+        let (from, to) = cleared_places(size, self.cursor, clear_type);
+        blank(self.buffer.cells_mut(), from, to);
+    }
+}
