@@ -1,0 +1,2 @@
+pub mod BackendLemmas
+pub mod BufferLemmas

@@ -1,0 +1,7 @@
+pub mod Layout
+pub mod Style
+pub mod Symbols
+pub mod Text
+pub mod Buffer
+pub mod Backend
+pub mod Terminal
