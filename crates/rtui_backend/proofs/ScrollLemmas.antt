@@ -1,14 +1,11 @@
 -- The rows above a row, and what a scroll does to them.
 use Rattle.std.proofs.Common.{◌≡◌, ℕ, zero, suc, add-zero, ◌+◌, ◌++◌, ◌<◌, ◌≤◌, List, [], ◌∷◌, map, refl, sym, ap, ◌∙◌, arith, append_assoc, inl, inr}
+use Rattle.std.proofs.lemmas.List.{append-nil}
 use Rattle.std.proofs.lemmas.List.FromFn.{map-range_with_len_more}
 use Rattle.std.proofs.lemmas.Bool.{cases_lt}
 use Rattle.std.proofs.lemmas.Bool.Decides.{nat_tests}
 use Rattle.std.specs.List.{range_with_len}
 use Rattle.rtui_backend.specs.Screen.{Screen, seen, row_of, rows_above, Scrolls}
-
-append_none : {A : Type 0} (xs : List A) → xs ≡ xs ++ []
-append_none [] = refl
-append_none (x ∷ xs) = ap (λ ys. x ∷ ys) (append_none xs)
 
 -- a list made from a function depends on the function at its places alone
 pub map_same : {X : Type 0} (f g : ℕ → X) (a n : ℕ) → ((i : ℕ) → a ≤ i → i < a + n → f i ≡ g i) → map f (range_with_len a n) ≡ map g (range_with_len a n)
@@ -20,7 +17,7 @@ map_same f g a (suc n) same =
 
 -- the first k + e places, as the first k and the e behind them
 pub places_split : {X : Type 0} (f : ℕ → X) (k e : ℕ) → map f (range_with_len 0 (k + e)) ≡ map f (range_with_len 0 k) ++ map (λ i. f (i + k)) (range_with_len 0 e)
-places_split f k zero = rw add-zero (append_none (map f (range_with_len 0 k)))
+places_split f k zero = rw add-zero (sym (append-nil (map f (range_with_len 0 k))))
 places_split f k (suc e) =
     let whole : k + suc e ≡ (k + e) + 1 = omega arith in
     let part : e + 1 ≡ suc e = omega arith in

@@ -1,0 +1,89 @@
+-- What empty cells leave that are drawn over an area.
+use Rattle.std.proofs.Common.{◌≡◌, ◌⊎◌, ℕ, zero, suc, true, false, ◌+◌, ◌<◌, ◌≤◌, ◌&&◌, List, [], ◌∷◌, map, length, refl, sym, ap, ◌∙◌, arith, inl, inr}
+use Rattle.std.specs.Prelude.{if◌then◌else◌, nat_lt, nat_le, nat_eq}
+use Rattle.std.specs.List.{Contains}
+use Rattle.std.proofs.lemmas.Bool.{cases_lt, cases_eq}
+use Rattle.std.proofs.lemmas.Bool.Decides.{nat_tests}
+use Rattle.rtui_geometry.specs.declared.position.Position.{Position}
+use Rattle.rtui_geometry.specs.declared.rect.Rect.{Rect}
+use Rattle.rtui_geometry.specs.Rect.{EdgesFit, HasPosition, right_edge, bottom_edge}
+use Rattle.rtui_geometry.specs.Rows.{ListsPositions}
+use Rattle.rtui_cell.specs.Look.{Look, look_of, empty_look}
+use Rattle.rtui_cell.specs.Cell.{empty_cell, width_of}
+use Rattle.rtui_cell.specs.Grid.{Grid, put, puts}
+use Rattle.rtui_cell.proofs.CellLemmas.{look-empty, width-empty}
+use Rattle.rtui_backend.specs.Screen.{IsWithin}
+use Rattle.rtui_viewport.specs.Areas.{is_within}
+use Rattle.rtui_viewport.specs.Left.{blank_at}
+
+abbrev at : ℕ → ℕ → Position
+at a b = record { x = a; y = b }
+
+module _ (w h : ℕ) where
+  -- an empty cell empties its own column
+  put_here : (g : Grid) (a b : ℕ) → a < w → b < h → put w h (blank_at (at a b)) g a b ≡ empty_look
+  put_here g a b a_in b_in = let look = look-empty in grind (arith, nat_tests)
+
+  -- and no other
+  put_away : (p : Position) (g : Grid) (a b : ℕ) → (p ≡ at a b → ⊥) → put w h (blank_at p) g a b ≡ g a b
+  put_away p g a b other =
+      let one = width-empty in
+      elim (cases_eq p.x a) [
+        | inl x ↦ elim (cases_eq p.y b) [
+          | inl y ↦ absurd (other (rw (← x, ← y) refl))
+          | inr y ↦ let off : b ≡ p.y → ⊥ = λ e. y (sym e) in grind (arith, nat_tests)
+        ]
+        | inr x ↦ let off : a ≡ p.x → ⊥ = λ e. x (sym e) in grind (arith, nat_tests)
+      ]
+
+  -- an empty column stays so
+  put_empty : (p : Position) (g : Grid) (a b : ℕ) → a < w → b < h → g a b ≡ empty_look → put w h (blank_at p) g a b ≡ empty_look
+  put_empty p g a b a_in b_in was = elim (cases_eq p.x a) [
+    | inl x ↦ elim (cases_eq p.y b) [
+      | inl y ↦ rw (x, y) (put_here g a b a_in b_in)
+      | inr y ↦ put_away p g a b (λ e. y (ap (λ q. q.y) e)) ∙ was
+    ]
+    | inr x ↦ put_away p g a b (λ e. x (ap (λ q. q.x) e)) ∙ was
+  ]
+
+  puts_empty : (ps : List Position) (g : Grid) (a b : ℕ) → a < w → b < h → g a b ≡ empty_look → puts w h (map blank_at ps) g a b ≡ empty_look
+  puts_empty [] g a b a_in b_in was = was
+  puts_empty (p ∷ ps) g a b a_in b_in was = puts_empty ps (put w h (blank_at p) g) a b a_in b_in (put_empty p g a b a_in b_in was)
+
+  puts_here : (ps : List Position) (g : Grid) (a b : ℕ) → a < w → b < h → Contains ps (at a b) → puts w h (map blank_at ps) g a b ≡ empty_look
+  puts_here [] g a b a_in b_in (k, low, e) = absurd (omega (arith, low))
+  puts_here (p ∷ ps) g a b a_in b_in (zero, low, e) =
+      puts_empty ps (put w h (blank_at p) g) a b a_in b_in (rw e (put_here g a b a_in b_in))
+  puts_here (p ∷ ps) g a b a_in b_in (suc k, low, e) = puts_here ps (put w h (blank_at p) g) a b a_in b_in (k, omega (arith, low), e)
+
+  puts_away : (ps : List Position) (g : Grid) (a b : ℕ) → (Contains ps (at a b) → ⊥) → puts w h (map blank_at ps) g a b ≡ g a b
+  puts_away [] g a b other = refl
+  puts_away (p ∷ ps) g a b other =
+      puts_away ps (put w h (blank_at p) g) a b (λ c. other (suc c.0, omega (arith, c.1), c.2))
+      ∙ put_away p g a b (λ e. other (zero, omega arith, e))
+
+-- a column is in a rectangle, or not
+pub decide_within : (r : Rect) (a b : ℕ) → (IsWithin r a b × (is_within r a b ≡ true)) ⊎ ((IsWithin r a b → ⊥) × (is_within r a b ≡ false))
+decide_within r a b = elim (cases_lt a r.x) [
+  | inl off ↦ inr (λ w. omega (arith, w.left), grind (arith, nat_tests))
+  | inr left ↦ elim (cases_lt a (right_edge r)) [
+    | inr off ↦ inr (λ w. omega (arith, w.right), grind (arith, nat_tests))
+    | inl right ↦ elim (cases_lt b r.y) [
+      | inl off ↦ inr (λ w. omega (arith, w.top), grind (arith, nat_tests))
+      | inr top ↦ elim (cases_lt b (bottom_edge r)) [
+        | inr off ↦ inr (λ w. omega (arith, w.bottom), grind (arith, nat_tests))
+        | inl bottom ↦ inl (record { left = left; right = right; top = top; bottom = bottom }, grind (arith, nat_tests))
+      ]
+    ]
+  ]
+]
+
+-- drawn over an area that lies on the grid
+pub blanks_over : (r : Rect) (w h : ℕ) (ps : List Position) → EdgesFit r → r.x + r.width ≤ w → r.y + r.height ≤ h → ListsPositions r ps
+    → (g : Grid) (a b : ℕ) → a < w → b < h → puts w h (map blank_at ps) g a b ≡ if is_within r a b then empty_look else g a b
+blanks_over r w h ps fits right bottom lists g a b a_in b_in = elim (decide_within r a b) [
+  | inl (within, is) ↦ rw is (puts_here w h ps g a b a_in b_in ((lists.each (at a b)).1
+      within))
+  | inr (out, is) ↦ rw is (puts_away w h ps g a b (λ c. let p = (lists.each (at a b)).0 c in
+      out p))
+]

@@ -1,0 +1,143 @@
+-- Emptied columns, and what a clear of a viewport leaves.
+use Rattle.std.proofs.Common.{◌≡◌, ℕ, ◌+◌, ◌-◌, ◌<◌, ◌≤◌, Bool, true, false, List, map, refl, sym, ap, ◌∙◌, arith, inl, inr}
+use Rattle.std.specs.Prelude.{min, nat_le, ◌||◌, if◌then◌else◌}
+use Rattle.std.proofs.lemmas.Bool.{cases_lt}
+use Rattle.std.proofs.lemmas.Bool.Decides.{nat_tests}
+use Rattle.rtui_geometry.specs.declared.position.Position.{Position}
+use Rattle.rtui_geometry.specs.declared.rect.Rect.{Rect}
+use Rattle.rtui_geometry.specs.Rect.{EdgesFit}
+use Rattle.rtui_geometry.specs.Rows.{ListsPositions}
+use Rattle.rtui_backend.specs.declared.clear_type.ClearType.{ClearType}
+use Rattle.rtui_backend.specs.declared.clear_type.ClearType.TheVariants.{All, AfterCursor, CurrentLine}
+use Rattle.rtui_backend.specs.Clear.{is_cleared}
+use Rattle.rtui_backend.specs.Screen.{Screen, KeepsSize, Draws, Clears, IsOnScreen, IsWithin, with_cursor, rows_above}
+use Rattle.rtui_backend.proofs.ScrollLemmas.{above_same}
+use Rattle.rtui_viewport.specs.declared.viewport.Viewport.{Viewport}
+use Rattle.rtui_viewport.specs.declared.viewport.Viewport.TheVariants.{Fullscreen, Inline, Fixed}
+use Rattle.rtui_cell.specs.Look.{Look, empty_look}
+use Rattle.rtui_viewport.specs.Areas.{KeepsFrame, Empties, KeepsOutside, IsBlankOver, IsBlankBelow, is_between, is_within}
+use Rattle.rtui_viewport.specs.Clearing.{ClearsArea, is_emptied}
+use Rattle.rtui_viewport.specs.Left.{blank_at}
+use Rattle.rtui_viewport.proofs.BlankLemmas.{decide_within, blanks_over}
+
+pub frame_same : (s : Screen) → KeepsFrame s s
+frame_same s = record { size = record { width = refl; height = refl; history = refl }; visible = refl }
+
+pub frame_more : {r s t : Screen} → KeepsFrame r s → KeepsFrame s t → KeepsFrame r t
+frame_more p q = record {
+  size = record { width = q.size.width ∙ p.size.width; height = q.size.height ∙ p.size.height; history = q.size.history ∙ p.size.history };
+  visible = q.visible ∙ p.visible;
+}
+
+-- a clear, with the cursor where it is or elsewhere
+pub frame_cleared : {s t : Screen} (kind : ClearType) → Clears s kind t → KeepsFrame s t
+frame_cleared kind p = record {
+  size = record { width = ap (λ s. s.width) p.rest; height = ap (λ s. s.height) p.rest; history = ap (λ s. s.history) p.rest };
+  visible = ap (λ s. s.visible) p.rest;
+}
+
+pub frame_cleared_at : (x y : ℕ) {s t : Screen} (kind : ClearType) → Clears (with_cursor x y s) kind t → KeepsFrame s t
+frame_cleared_at x y kind p = record {
+  size = record { width = ap (λ s. s.width) p.rest; height = ap (λ s. s.height) p.rest; history = ap (λ s. s.history) p.rest };
+  visible = ap (λ s. s.visible) p.rest;
+}
+
+pub frame_drawn : {s t : Screen} {us : List _} → Draws s us t → KeepsFrame s t
+frame_drawn d = record { size = record { width = d.width; height = d.height; history = d.history }; visible = d.visible }
+
+-- nothing was emptied
+pub empties_none : (s : Screen) (which : ℕ → ℕ → Bool) → ((a b : ℕ) → which a b ≡ false) → Empties which s s
+empties_none s which none = record { frame = frame_same s; grid = λ a b _ _. rw (none a b) refl }
+
+-- what a clear with the cursor at a place empties
+pub empties_cleared : (x y : ℕ) {s t : Screen} (kind : ClearType) (which : ℕ → ℕ → Bool) → Clears (with_cursor x y s) kind t
+    → ((a b : ℕ) → a < s.width → b < s.height → is_cleared kind (min x (s.width - 1)) (min y (s.height - 1)) a b ≡ which a b) → Empties which s t
+empties_cleared x y kind which p same = record {
+  frame = frame_cleared_at x y kind p;
+  grid = λ a b a_in b_in. rw (← same a b a_in b_in) (p.grid a b a_in b_in);
+}
+
+-- row after row
+pub rows_more : (top y : ℕ) {r s t : Screen} → Empties (is_between top y) r s → top ≤ y → y < r.height → Clears (with_cursor 0 y s) CurrentLine t
+    → Empties (is_between top (y + 1)) r t
+rows_more top y {r} {s} {t} p from in_it q = record {
+  frame = frame_more p.frame (frame_cleared_at 0 y CurrentLine q);
+  grid = λ a b a_in b_in.
+      let width = p.frame.size.width in
+      let height = p.frame.size.height in
+      let was = p.grid a b a_in b_in in
+      let is = q.grid a b (omega arith) (omega arith) in
+      grind (arith, nat_tests);
+}
+
+pub rows_all : (top y bottom : ℕ) {r s : Screen} → Empties (is_between top y) r s → bottom ≤ y → y ≤ bottom → Empties (is_between top bottom) r s
+rows_all top y bottom p done end = let all : y ≡ bottom = omega arith in rw all at p
+
+-- empty cells drawn over an area
+pub empties_drawn : (r : Rect) {s t : Screen} (ps : List Position) → EdgesFit r → IsOnScreen r s → ListsPositions r ps → Draws s (map blank_at ps) t → Empties (is_within r) s t
+empties_drawn r {s} {t} ps fits on lists d = record {
+  frame = frame_drawn d;
+  grid = λ a b a_in b_in. d.grid a b ∙ blanks_over r s.width s.height ps fits on.right on.bottom lists s.grid a b a_in b_in;
+}
+
+-- a clear of the whole screen
+pub clears_fullscreen : {s t : Screen} → Clears s All t → Empties (λ a b. true) s t
+clears_fullscreen p = record { frame = frame_cleared All p; grid = p.grid }
+
+-- a clear of all behind the left end of a row
+pub clears_inline : (n : ℕ) (area : Rect) {s t : Screen} → Clears (with_cursor area.x area.y s) AfterCursor t → ClearsArea (Inline n) area s t
+clears_inline n area p left = empties_cleared area.x area.y AfterCursor _ p (λ a b a_in b_in. grind (arith, nat_tests))
+
+-- the cursor may be set behind a clear
+pub empties_set : (x y : ℕ) {which : ℕ → ℕ → Bool} {s t : Screen} → Empties which s t → Empties which s (with_cursor x y t)
+empties_set x y p = record {
+  frame = record { size = record { width = p.frame.size.width; height = p.frame.size.height; history = p.frame.size.history }; visible = p.frame.visible };
+  grid = p.grid;
+}
+
+-- one after the other
+pub empties_more : {p q : ℕ → ℕ → Bool} {r s t : Screen} → Empties p r s → Empties q s t → Empties (λ a b. q a b || p a b) r t
+empties_more {p} {q} {r} {s} {t} first next = record {
+  frame = frame_more first.frame next.frame;
+  grid = λ a b a_in b_in.
+      let width = first.frame.size.width in
+      let height = first.frame.size.height in
+      next.grid a b (omega arith) (omega arith) ∙ ap (λ was. if q a b then empty_look else was) (first.grid a b a_in b_in) ∙ either (q a b) (p a b) (r.grid a b);
+}
+  where
+    either : (x y : Bool) (look : Look) → (if x then empty_look else (if y then empty_look else look)) ≡ (if x || y then empty_look else look)
+    either true y look = refl
+    either false y look = refl
+
+-- where a viewport has its place and lies on the screen, it is blank then
+pub blank_over : (v : Viewport) (r : Rect) {s t : Screen} → IsOnScreen r s → Empties (is_emptied v r s.height) s t → IsBlankOver r t
+blank_over Fullscreen r on p = record { at = λ a b w. p.grid a b (omega (arith, w.right, on.right)) (omega (arith, w.bottom, on.bottom)) }
+blank_over (Inline n) r {s} on p = record { at = λ a b w.
+    let is = p.grid a b (omega (arith, w.right, on.right)) (omega (arith, w.bottom, on.bottom)) in
+    let below : nat_le (min r.y (s.height - 1)) b ≡ true = let top = w.top in grind (arith, nat_tests) in
+    is ∙ rw below refl }
+blank_over (Fixed f) r on p = record { at = λ a b w. elim (decide_within r a b) [
+    | inl (within, is) ↦ let at = p.grid a b (omega (arith, w.right, on.right)) (omega (arith, w.bottom, on.bottom)) in at ∙ rw is refl
+    | inr (out, is) ↦ absurd (out w)
+  ] }
+
+-- nothing changes outside a fixed viewport
+pub keeps_outside : (r : Rect) {s t : Screen} → Empties (is_within r) s t → KeepsOutside r s t
+keeps_outside r p = record { at = λ a b a_in b_in out. elim (decide_within r a b) [
+    | inl (within, is) ↦ absurd (out within)
+    | inr (off, is) ↦ p.grid a b a_in b_in ∙ rw is refl
+  ] }
+
+-- the rows above an inline viewport with a row stay, and those below it are blank
+pub keeps_above : (n : ℕ) (r : Rect) {s t : Screen} → IsOnScreen r s → 0 < r.height → Empties (is_emptied (Inline n) r s.height) s t → rows_above t r.y ≡ rows_above s r.y
+keeps_above n r {s} {t} on some p = above_same s t r.y p.frame.size.history p.frame.size.width p.frame.size.height
+    (λ a b a_in b_in low.
+    let above : nat_le (min r.y (s.height - 1)) b ≡ false = let bottom = on.bottom in grind (arith, nat_tests) in
+    p.grid a b a_in b_in ∙ rw above refl)
+
+pub blank_below : (n : ℕ) (r : Rect) {s t : Screen} → Empties (is_emptied (Inline n) r s.height) s t → IsBlankBelow r t
+blank_below n r {s} {t} p = record { at = λ a b a_in b_in low.
+    let width = p.frame.size.width in
+    let height = p.frame.size.height in
+    let below : nat_le (min r.y (s.height - 1)) b ≡ true = grind (arith, nat_tests) in
+    p.grid a b (omega arith) (omega arith) ∙ rw below refl }

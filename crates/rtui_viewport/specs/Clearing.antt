@@ -1,0 +1,23 @@
+-- What a clear of a viewport does to a screen.
+use Rattle.std.specs.Prelude.{◌≡◌, ℕ, ◌-◌, Bool, true, min, nat_le}
+use Rattle.rtui_geometry.specs.declared.rect.Rect.{Rect}
+use Rattle.rtui_backend.specs.Screen.{Screen, IsOnScreen}
+use Rattle.rtui_viewport.specs.declared.viewport.Viewport.{Viewport}
+use Rattle.rtui_viewport.specs.declared.viewport.Viewport.TheVariants.{Fullscreen, Inline, Fixed}
+use Rattle.rtui_viewport.specs.Areas.{Empties, is_within}
+
+-- the columns that a clear empties on a screen of h rows: all; those of the rows from the top on, the last row at least; the viewport's own
+abbrev pub is_emptied : Viewport → Rect → ℕ → ℕ → ℕ → Bool
+is_emptied Fullscreen r h a b = true
+is_emptied (Inline n) r h a b = nat_le (min r.y (h - 1)) b
+is_emptied (Fixed f) r h a b = is_within r a b
+
+-- an inline viewport begins in column 0, and a fixed one lies on the screen
+abbrev pub HasPlace : Viewport → Rect → Screen → Type 0
+HasPlace Fullscreen r s = Unit {0}
+HasPlace (Inline n) r s = r.x ≡ 0
+HasPlace (Fixed f) r s = IsOnScreen r s
+
+-- a viewport that has its place was emptied
+abbrev pub ClearsArea : Viewport → Rect → Screen → Screen → Type 0
+ClearsArea v r old new = HasPlace v r old → Empties (is_emptied v r old.height) old new

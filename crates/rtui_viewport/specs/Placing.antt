@@ -1,0 +1,66 @@
+-- Where a viewport goes on a screen.
+use Rattle.std.specs.Prelude.{◌≡◌, ℕ, ◌-◌, ◌<◌, min, max, nat_lt, if◌then◌else◌, Option, None, Some, List, ◌++◌}
+use Rattle.rtui_geometry.specs.declared.position.Position.{Position}
+use Rattle.rtui_geometry.specs.declared.rect.Rect.{Rect}
+use Rattle.rtui_geometry.specs.declared.size.Size.{Size}
+use Rattle.rtui_cell.specs.Look.{Look}
+use Rattle.rtui_backend.specs.Screen.{Screen, Scrolls, Appends, IsOnScreen, rows_above, lines_past, screen_area, cursor_of, with_cursor}
+use Rattle.rtui_viewport.specs.Areas.{Empties}
+use Rattle.rtui_viewport.specs.declared.viewport.Viewport.{Viewport}
+use Rattle.rtui_viewport.specs.declared.viewport.Viewport.TheVariants.{Fullscreen, Inline, Fixed}
+
+-- the lines that n wanted rows need below the cursor's row, where o of them lie above it
+abbrev pub lines_below : ℕ → ℕ → ℕ
+lines_below n o = n - o - 1
+
+-- the row where they begin on a screen of h rows, for a cursor in row r: what is missing below is taken above
+abbrev pub inline_top : ℕ → ℕ → ℕ → ℕ → ℕ
+inline_top n h o r = r - (lines_below n o - (h - r - 1)) - o
+
+-- the rows that are had of those wanted, in the width of the screen
+abbrev pub inline_area : ℕ → ℕ → ℕ → ℕ → ℕ → Rect
+inline_area n w h o r = record { x = 0; y = inline_top n h o r; width = w; height = min n h }
+
+-- above which row of the former screen stood what is above the viewport now: that of the cursor less o, or one further below
+-- where more rows than that left the screen
+abbrev pub rows_left : ℕ → ℕ → Screen → ℕ
+rows_left n o s = max (s.cursor_y - o) (lines_past s (lines_below n o))
+
+-- an inline viewport of n wanted rows went on the screen, o of them above the cursor's row
+pub record PlacesInline (n o : ℕ) (old : Screen) (placed : Rect) (new : Screen) : Type 0 where
+  pub area : placed ≡ inline_area n old.width old.height o old.cursor_y
+  pub on_screen : IsOnScreen placed new
+  pub above : rows_above new placed.y ≡ rows_above old (rows_left n o old)
+
+-- where a viewport goes in an area, for a cursor in row r
+abbrev pub area_in : Viewport → Rect → ℕ → ℕ → Rect
+area_in Fullscreen area o r = area
+area_in (Inline n) area o r = inline_area n area.width area.height o r
+area_in (Fixed f) area o r = area
+
+-- a viewport that became narrower goes to the top
+abbrev pub raised : ℕ → Rect → Rect
+raised former r = if nat_lt r.width former then record r { y = 0 } else r
+
+-- the cursor that is to be set again
+abbrev pub cursor_found : Viewport → Screen → Option Position
+cursor_found Fullscreen s = None
+cursor_found (Inline n) s = Some (cursor_of s)
+cursor_found (Fixed f) s = None
+
+-- the cursor was set to a place, if there is one, on a screen of the former size
+abbrev pub IsCursorSet : Option Position → Screen → Screen → Type 0
+IsCursorSet None old new = Unit {0}
+IsCursorSet (Some p) old new = cursor_of new ≡ cursor_of (with_cursor p.x p.y old)
+
+-- how many rows leave the screen, so that an inline viewport has its rows where o of them lie above the cursor's row
+abbrev pub rows_scrolled : Viewport → ℕ → Screen → ℕ
+rows_scrolled Fullscreen o s = 0
+rows_scrolled (Inline n) o s = lines_past s (lines_below n o)
+rows_scrolled (Fixed f) o s = 0
+
+-- a viewport was placed: these rows left the screen, and where it became narrower the whole screen was emptied then
+pub record Places (v : Viewport) (former width o : ℕ) (old new : Screen) : Type 0 where
+  pub scrolled : Screen
+  pub scrolls : Scrolls old (rows_scrolled v o old) scrolled
+  pub empties : Empties (λ a b. nat_lt width former) scrolled new

@@ -1,0 +1,118 @@
+ghost use Rattle.std.specs.Prelude.{◌≡◌, ◌≤◌, OnOk};
+ghost use Rattle.rtui_geometry.specs.Rect.{EdgesFit};
+ghost use Rattle.rtui_backend.specs.Failures.{Counts};
+ghost use Rattle.rtui_backend.specs.Screen.{IsOnScreen, cursor_of};
+ghost use Rattle.rtui_viewport.specs.Areas.{KeepsFrame, Empties, is_between, is_within};
+ghost use Rattle.rtui_viewport.specs.Clearing.{ClearsArea};
+ghost use Rattle.rtui_viewport.specs.Placing.{IsCursorSet};
+
+use crate::blanks::Blanks;
+use crate::viewport::Viewport;
+use rtui_backend::{Backend, ClearType};
+use rtui_cell::Cell;
+use rtui_geometry::{Position, Rect};
+
+// Empties the rows from `top` up to `bottom`.
+fn clear_rows<B: Backend>(backend: &mut B, top: u16, bottom: u16) -> Result<(), B::Error>
+    requires { top ≤ bottom }
+    ensures cleared { OnOk result (bottom ≤ (B.screen backend.old).height → Empties (is_between top bottom) (B.screen backend.old) (B.screen backend.new)) }
+    ensures frame { OnOk result (KeepsFrame (B.screen backend.old) (B.screen backend.new)) }
+    ensures counts { Counts result (B.failures backend.old) (B.failures backend.new) }
+{
+    for y in top..bottom {
+        backend.set_cursor_position(Position { x: 0, y })?;
+        backend.clear_region(ClearType::CurrentLine)?;
+    }
+    Ok(())
+}
+
+// Draws an empty cell at each position of an area.
+fn draw_blanks<B: Backend>(backend: &mut B, area: Rect) -> Result<(), B::Error>
+    requires { EdgesFit area }
+    ensures cleared { OnOk result (IsOnScreen area (B.screen backend.old) → Empties (is_within area) (B.screen backend.old) (B.screen backend.new)) }
+    ensures frame { OnOk result (KeepsFrame (B.screen backend.old) (B.screen backend.new)) }
+    ensures counts { Counts result (B.failures backend.old) (B.failures backend.new) }
+{
+    let blank = Cell::EMPTY;
+    backend.draw(Blanks::new(area, &blank))
+}
+
+// Empties an area and nothing else, by the fewest calls that serve.
+fn clear_fixed<B: Backend>(backend: &mut B, area: Rect) -> Result<(), B::Error>
+    requires { EdgesFit area }
+    ensures cleared { OnOk result (IsOnScreen area (B.screen backend.old) → Empties (is_within area) (B.screen backend.old) (B.screen backend.new)) }
+    ensures frame { OnOk result (KeepsFrame (B.screen backend.old) (B.screen backend.new)) }
+    ensures counts { Counts result (B.failures backend.old) (B.failures backend.new) }
+{
+    if area.is_empty() {
+        return Ok(());
+    }
+    let size = backend.size()?;
+    if area.x != 0 || area.width != size.width {
+        return draw_blanks(backend, area);
+    }
+    if area.bottom() != size.height {
+        return clear_rows(backend, area.y, area.bottom());
+    }
+    backend.set_cursor_position(area.as_position())?;
+    backend.clear_region(ClearType::AfterCursor)
+}
+
+/// Empties a viewport's area; the cursor may end anywhere. An inline viewport is emptied with all rows below it,
+/// a fixed one alone, and for a fullscreen one the whole screen is.
+pub fn clear_area<B: Backend>(
+    backend: &mut B,
+    viewport: Viewport,
+    area: Rect,
+) -> Result<(), B::Error>
+    requires { EdgesFit area }
+    ensures cleared { OnOk result (ClearsArea viewport area (B.screen backend.old) (B.screen backend.new)) }
+    ensures frame { OnOk result (KeepsFrame (B.screen backend.old) (B.screen backend.new)) }
+    ensures counts { Counts result (B.failures backend.old) (B.failures backend.new) }
+{
+    match viewport {
+        Viewport::Fullscreen => backend.clear_region(ClearType::All),
+        Viewport::Inline(_) => {
+            backend.set_cursor_position(area.as_position())?;
+            backend.clear_region(ClearType::AfterCursor)
+        }
+        Viewport::Fixed(_) => clear_fixed(backend, area),
+    }
+}
+
+/// Empties a viewport's area, and puts the cursor back.
+pub fn clear_viewport<B: Backend>(
+    backend: &mut B,
+    viewport: Viewport,
+    area: Rect,
+) -> Result<(), B::Error>
+    requires { EdgesFit area }
+    ensures cleared { OnOk result (ClearsArea viewport area (B.screen backend.old) (B.screen backend.new)) }
+    ensures frame { OnOk result (KeepsFrame (B.screen backend.old) (B.screen backend.new)) }
+    ensures cursor { OnOk result (cursor_of (B.screen backend.new) ≡ cursor_of (B.screen backend.old)) }
+    ensures counts { Counts result (B.failures backend.old) (B.failures backend.new) }
+{
+    let cursor = backend.get_cursor_position()?;
+    clear_area(backend, viewport, area)?;
+    backend.set_cursor_position(cursor)
+}
+
+/// Empties a viewport's area, and sets the cursor where one is given.
+pub fn clear_placed<B: Backend>(
+    backend: &mut B,
+    viewport: Viewport,
+    area: Rect,
+    cursor: Option<Position>,
+) -> Result<(), B::Error>
+    requires { EdgesFit area }
+    ensures cleared { OnOk result (ClearsArea viewport area (B.screen backend.old) (B.screen backend.new)) }
+    ensures frame { OnOk result (KeepsFrame (B.screen backend.old) (B.screen backend.new)) }
+    ensures cursor { OnOk result (IsCursorSet cursor (B.screen backend.old) (B.screen backend.new)) }
+    ensures counts { Counts result (B.failures backend.old) (B.failures backend.new) }
+{
+    clear_area(backend, viewport, area)?;
+    if let Some(position) = cursor {
+        backend.set_cursor_position(position)?;
+    }
+    Ok(())
+}
