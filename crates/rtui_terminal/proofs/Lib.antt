@@ -1,3 +1,3 @@
 pub mod DifferenceLemmas
-pub mod StartLemmas
+pub mod StepLemmas
 pub mod RenderLemmas

@@ -1,28 +1,44 @@
--- A closure's call, and what came after, as one draw.
-use Rattle.std.proofs.Common.{Option, Result, Ok, Err, sym, subst}
-use Rattle.std.specs.declared.alloc.AllocError.{AllocError}
+-- A closure's call, and what came before and after, as one draw.
+use Rattle.std.proofs.Common.{Option, Result, Ok, Err, sym, subst, inl, inr}
+use Rattle.std.specs.Prelude.{MatchResult}
 use Rattle.rtui_geometry.specs.declared.position.Position.{Position}
 use Rattle.rtui_buffer.specs.Sheet.{Sheet}
+use Rattle.rtui_buffer.specs.Frame.{IsSettledSheet}
 use Rattle.rtui_backend.specs.Screen.{Screen}
 use Rattle.rtui_terminal.specs.State.{State}
-use Rattle.rtui_terminal.specs.Calls.{Applies, AppliesBy, DrawOk, DrawErr, DrawsBy, TriesBy}
+use Rattle.rtui_terminal.specs.InStep.{IsInStep}
+use Rattle.rtui_terminal.specs.Calls.{Applies, AppliesBy, Autoresizes, AutoresizeErr, DrawOk, DrawErr}
 use Rattle.rtui_terminal.specs.declared.terminal.error.TerminalError.{TerminalError}
 use Rattle.rtui_terminal.specs.declared.terminal.error.TerminalError.TheVariants.{Backend, Memory, Area, Closure}
-use Rattle.std.specs.Prelude.{MatchResult}
 
-module _ {B X : Type 0} (screen : B → Screen) (ran : State B → Result (Unit {0}) X → Option Position → Sheet → Type 0) (s t : State B) (cursor : Option Position) (painted : Sheet) (closure : ran s (Ok tt) cursor painted) where
-  drawn_ok : Applies screen cursor (record s { current = painted }) t → DrawOk screen ran s t
+-- what is painted doesn't matter for what the screen shows
+pub in_step_painted : {B : Type 0} (screen : B → Screen) (s : State B) (painted : Sheet) → IsInStep screen s → IsInStep screen (record s { current = painted })
+in_step_painted screen s painted at = record { on_screen = at.on_screen; area = at.area; settled = at.settled; shown = at.shown }
+
+module _ {B X : Type 0} (screen : B → Screen) (ran : State B → Result (Unit {0}) X → Option Position → Sheet → Type 0) (s sized t : State B) (autoresized : Autoresizes screen s sized) (cursor : Option Position) (painted : Sheet) (closure : ran sized (Ok tt) cursor painted) where
+  drawn_ok : Applies screen cursor (record sized { current = painted }) t → DrawOk screen ran s t
   drawn_ok applied = record {
+    sized = sized;
+    autoresized = autoresized;
     cursor = cursor;
-    closure = subst (ran s (Ok tt) cursor) (sym applied.painted) closure;
-    applied = subst (λ sheet. Applies screen cursor (record s { current = sheet }) t) (sym applied.painted) applied;
+    closure = subst (ran sized (Ok tt) cursor) (sym applied.painted) closure;
+    applied = subst (λ sheet. Applies screen cursor (record sized { current = sheet }) t) (sym applied.painted) applied;
+    in_step = λ ready settled. applied.in_step (in_step_painted screen sized painted (autoresized.in_step ready)) (subst IsSettledSheet applied.painted settled);
   }
 
   -- whatever stands where a closure's error is answered
-  pub draws_on : {T E : Type 0} (memory : Type 0) (refused : E → Type 0) (result : Result T (TerminalError E)) → AppliesBy screen cursor (record s { current = painted }) t result
+  pub draws_on : {T E : Type 0} (memory : Type 0) (refused : E → Type 0) (result : Result T (TerminalError E)) → AppliesBy screen cursor (record sized { current = painted }) t result
       → MatchResult result (λ _. DrawOk screen ran s t) (DrawErr screen ran memory refused s t)
   draws_on memory refused (Ok x) applied = drawn_ok applied
-  draws_on memory refused (Err (Backend e)) left = record { cursor = cursor; painted = painted; closure = closure; left = left }
+  draws_on memory refused (Err (Backend e)) left = inr (record { sized = sized; autoresized = autoresized; cursor = cursor; painted = painted; closure = closure; left = left })
   draws_on memory refused (Err Memory) left = absurd left
-  draws_on memory refused (Err Area) left = record { cursor = cursor; painted = painted; closure = closure; left = left }
+  draws_on memory refused (Err Area) left = record { sized = sized; autoresized = autoresized; cursor = cursor; painted = painted; closure = closure; left = left }
   draws_on memory refused (Err (Closure e)) left = absurd left
+
+-- a refused autoresize refuses the draw
+pub refused_before : {B X E : Type 0} (screen : B → Screen) (ran : State B → Result (Unit {0}) X → Option Position → Sheet → Type 0) (s t : State B) (memory : Type 0) (refused : E → Type 0) (error : TerminalError E)
+    → AutoresizeErr screen s t error → DrawErr screen ran memory refused s t error
+refused_before screen ran s t memory refused (Backend e) left = inl left
+refused_before screen ran s t memory refused Memory left = inl left
+refused_before screen ran s t memory refused Area left = absurd left
+refused_before screen ran s t memory refused (Closure e) left = absurd left

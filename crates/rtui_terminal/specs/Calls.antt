@@ -1,13 +1,22 @@
 -- What each call does to a terminal, as a relation between its states before and after.
-use Rattle.std.specs.Prelude.{◌≡◌, ◌⊎◌, ℕ, ◌+◌, ◌-◌, ◌*◌, ◌%◌, ◌^◌, ◌<◌, Bool, true, false, length, IsSome, Option, None, Some, Result, Ok, Err, MatchResult, is_none, alloc_error}
+use Rattle.std.specs.Prelude.{◌≡◌, ◌⊎◌, ℕ, ◌+◌, ◌-◌, ◌*◌, ◌%◌, ◌^◌, ◌<◌, ◌||◌, nat_lt, Bool, true, false, List, [], ◌∷◌, ◌++◌, length, take, IsSome, Option, None, Some, Result, Ok, Err, MatchResult, is_none, alloc_error}
 use Rattle.std.specs.declared.alloc.AllocError.{AllocError}
 use Rattle.rtui_geometry.specs.declared.position.Position.{Position}
+use Rattle.rtui_geometry.specs.declared.rect.Rect.{Rect}
+use Rattle.rtui_geometry.specs.Rect.{corner}
+use Rattle.rtui_cell.specs.Grid.{Update}
 use Rattle.rtui_diff.specs.Completeness.{AreNarrow, differing}
-use Rattle.rtui_buffer.specs.Sheet.{Sheet, IsEmptied}
+use Rattle.rtui_buffer.specs.Sheet.{Sheet, IsEmptied, IsSameSheet, area_size, empty_cells}
 use Rattle.rtui_buffer.specs.Frame.{IsSettledSheet, ShowsSheet, sheet_updates}
-use Rattle.rtui_backend.specs.Screen.{Screen, Draws, IsOnScreen, with_visible, with_cursor, screen_area}
-use Rattle.rtui_terminal.specs.State.{State}
-use Rattle.rtui_terminal.specs.InStep.{IsInStep, IsBlankOver, KeepsOutside}
+use Rattle.rtui_backend.specs.Screen.{Screen, Draws, Scrolls, IsOnScreen, with_visible, with_cursor, cursor_of, screen_area}
+use Rattle.rtui_viewport.specs.declared.viewport.Viewport.{Viewport}
+use Rattle.rtui_viewport.specs.declared.viewport.Viewport.TheVariants.{Fullscreen, Inline, Fixed}
+use Rattle.rtui_viewport.specs.Viewports.{IsFixed, IsInline}
+use Rattle.rtui_viewport.specs.Areas.{KeepsFrame, KeepsOutside, IsBlankOver, Empties}
+use Rattle.rtui_viewport.specs.Placing.{area_in, raised, rows_scrolled}
+use Rattle.rtui_viewport.specs.Clearing.{HasPlace, ClearsArea, is_emptied}
+use Rattle.rtui_terminal.specs.State.{State, HasAreas, cursor_offset}
+use Rattle.rtui_terminal.specs.InStep.{IsInStep, IsSized, IsReady}
 use Rattle.rtui_terminal.specs.declared.terminal.error.TerminalError.{TerminalError}
 use Rattle.rtui_terminal.specs.declared.terminal.error.TerminalError.TheVariants.{Backend, Memory, Area, Closure}
 
@@ -39,11 +48,6 @@ StartErr {B} failures b Memory = (dropped : B) × (failures dropped ≡ failures
 StartErr failures b Area = ⊥
 StartErr failures b (Closure error) = ⊥
 
--- both buffers have the viewport's area
-pub record HasAreas {B : Type 0} (s : State B) : Type 0 where
-  pub current : s.current.area ≡ s.viewport_area
-  pub older : s.older.area ≡ s.viewport_area
-
 -- how many unskipped cells of the second buffer differ from the first one's
 abbrev pub differing_count : Sheet → Sheet → ℕ
 differing_count older current = length (differing older.cells current.cells (older.area.width * older.area.height))
@@ -64,6 +68,30 @@ cursor_placed (Some p) s = with_cursor p.x p.y (with_visible true s)
 abbrev pub HasDrawn : {B : Type 0} → Option Position → State B → Screen → Screen → Type 0
 HasDrawn cursor s old new = (between : Screen) × WritesDifferences s.older s.current old between × (new ≡ cursor_placed cursor between)
 
+-- the place of the last of some updates, and the given one where there are none
+abbrev pub last_place : Position → List Update → Position
+last_place p [] = p
+last_place p (u ∷ us) = last_place (record { x = u.x; y = u.y }) us
+
+-- the cursor that is known behind some updates; only an inline viewport asks for it
+abbrev pub known_behind : Viewport → Position → List Update → Position
+known_behind Fullscreen p us = p
+known_behind (Inline rows) p us = last_place p us
+known_behind (Fixed r) p us = p
+
+abbrev pub cursor_behind : {B : Type 0} → State B → Position
+cursor_behind s = known_behind s.viewport s.known_cursor (sheet_updates s.older s.current)
+
+-- the cursor that is known behind a frame: a placed one, else the one behind its updates
+abbrev pub cursor_after : {B : Type 0} → Option Position → State B → Position
+cursor_after None s = cursor_behind s
+cursor_after (Some placed) s = placed
+
+-- the same list of cells over another area, cut, or with empty cells behind it
+pub record IsResized (area : Rect) (old new : Sheet) : Type 0 where
+  pub area_is : new.area ≡ area
+  pub cells : new.cells ≡ take (area_size area) old.cells ++ empty_cells (area_size area - length old.cells)
+
 -- a refused flush changed nothing but the backend
 abbrev pub FlushErr : {B E : Type 0} → State B → State B → TerminalError E → Type 0
 FlushErr s t (Backend error) = HasAreas s × (t ≡ record s { backend = t.backend })
@@ -71,34 +99,91 @@ FlushErr s t Memory = ⊥
 FlushErr s t Area = (t ≡ s) × (HasAreas s → ⊥)
 FlushErr s t (Closure error) = ⊥
 
+-- the area that is known at the start: a fixed viewport's own, else the screen's
+abbrev pub first_area : Viewport → Screen → Rect
+first_area Fullscreen s = screen_area s
+first_area (Inline rows) s = screen_area s
+first_area (Fixed r) s = r
+
+-- the cursor that is known at the start: for an inline viewport the screen's
+abbrev pub first_cursor : Viewport → Screen → Position
+first_cursor Fullscreen s = record { x = 0; y = 0 }
+first_cursor (Inline rows) s = cursor_of s
+first_cursor (Fixed r) s = corner r
+
 module _ {B : Type 0} (screen : B → Screen) where
   -- the backend was asked, and nothing changed
   pub record Stays (s t : State B) : Type 0 where
     pub rest : t ≡ record s { backend = t.backend }
     pub screen_stays : screen t.backend ≡ screen s.backend
 
-  -- the cursor changed, and nothing else
-  pub record MovesCursor (hidden : Bool) (cursor : Screen → Screen) (s t : State B) : Type 0 where
-    pub rest : t ≡ record s { backend = t.backend; hidden_cursor = hidden }
+  -- the cursor changed, and with it what the terminal knows of it
+  pub record MovesCursor (hidden : Bool) (known : Position) (cursor : Screen → Screen) (s t : State B) : Type 0 where
+    pub rest : t ≡ record s { backend = t.backend; known_cursor = known; hidden_cursor = hidden }
     pub screen_cursor : screen t.backend ≡ cursor (screen s.backend)
     pub in_step : IsInStep screen s → IsInStep screen t
+
+  -- a clear: the older buffer is empty, and so is the viewport; the size, the history and the cursor stay
+  pub record Clears (s t : State B) : Type 0 where
+    pub rest : t ≡ record s { backend = t.backend; older = t.older }
+    pub older : IsEmptied s.older.area t.older
+    pub frame : KeepsFrame (screen s.backend) (screen t.backend)
+    pub cursor : cursor_of (screen t.backend) ≡ cursor_of (screen s.backend)
+    pub clears : ClearsArea s.viewport s.viewport_area (screen s.backend) (screen t.backend)
+    pub in_step : IsOnScreen s.viewport_area (screen s.backend) → s.older.area ≡ s.viewport_area → IsInStep screen t
+
+  -- a resize to an area: the viewport was placed on it, which may scroll, and cleared, or the whole screen where it became narrower; the
+  -- current buffer is cut or filled up, and the older one is empty
+  pub record Resizes (area : Rect) (s t : State B) : Type 0 where
+    pub rest : t ≡ record s { backend = t.backend; current = t.current; older = t.older; viewport_area = t.viewport_area; known_area = area }
+    pub viewport_area : t.viewport_area ≡ raised s.viewport_area.width (area_in s.viewport area (cursor_offset s) (screen s.backend).cursor_y)
+    pub current : IsResized t.viewport_area s.current t.current
+    pub older : IsEmptied t.viewport_area t.older
+    pub scrolled : Screen
+    pub scrolls : Scrolls (screen s.backend) (rows_scrolled s.viewport (cursor_offset s) (screen s.backend)) scrolled
+    pub frame : KeepsFrame scrolled (screen t.backend)
+    pub empties : HasPlace s.viewport t.viewport_area scrolled
+        → Empties (λ a b. is_emptied s.viewport t.viewport_area scrolled.height a b || nat_lt area.width s.viewport_area.width) scrolled (screen t.backend)
+    pub cursor : IsInline s.viewport → cursor_of (screen t.backend) ≡ cursor_of (screen s.backend)
+    pub on_screen : area ≡ screen_area (screen s.backend) → IsOnScreen t.viewport_area (screen t.backend)
+    pub in_step : IsOnScreen t.viewport_area (screen t.backend) → IsInStep screen t
+
+  -- a refused resize: for want of memory nothing changed but the room of the buffers; a failed backend leaves buffers that still have the
+  -- viewport's area if they had it before
+  abbrev pub ResizeErr : {E : Type 0} → State B → State B → TerminalError E → Type 0
+  ResizeErr s t (Backend error) = (t ≡ record s { backend = t.backend; current = t.current; older = t.older; viewport_area = t.viewport_area }) × (HasAreas s → HasAreas t)
+  ResizeErr s t Memory = (t ≡ record s { current = t.current; older = t.older }) × IsSameSheet s.current t.current × IsSameSheet s.older t.older
+  ResizeErr s t Area = ⊥
+  ResizeErr s t (Closure error) = ⊥
+
+  -- a resize to the screen's size where that isn't the last known one and the viewport isn't fixed, and else nothing
+  pub record Autoresizes (s t : State B) : Type 0 where
+    pub case : (IsSized screen s × Stays s t) ⊎ ((IsSized screen s → ⊥) × Resizes (screen_area (screen s.backend)) s t)
+    pub in_step : IsReady screen s → IsInStep screen t
+
+  -- a refused autoresize: the screen's size couldn't be asked for, or the resize was refused
+  abbrev pub AutoresizeErr : {E : Type 0} → State B → State B → TerminalError E → Type 0
+  AutoresizeErr s t (Backend error) = (t ≡ record s { backend = t.backend; current = t.current; older = t.older; viewport_area = t.viewport_area }) × (HasAreas s → HasAreas t)
+  AutoresizeErr s t Memory = (IsSized screen s → ⊥) × (t ≡ record s { backend = t.backend; current = t.current; older = t.older }) × (screen t.backend ≡ screen s.backend) × IsSameSheet s.current t.current × IsSameSheet s.older t.older
+  AutoresizeErr s t Area = ⊥
+  AutoresizeErr s t (Closure error) = ⊥
 
   -- the differences were written, and the buffers stay
   pub record Flushes (s t : State B) : Type 0 where
     pub areas : HasAreas s
-    pub rest : t ≡ record s { backend = t.backend }
+    pub rest : t ≡ record s { backend = t.backend; known_cursor = cursor_behind s }
     pub written : WritesDifferences s.older s.current (screen s.backend) (screen t.backend)
 
   -- the differences were written, and the cursor was hidden or placed; the buffers stay
   pub record Writes (cursor : Option Position) (s t : State B) : Type 0 where
     pub areas : HasAreas s
-    pub rest : t ≡ record s { backend = t.backend; hidden_cursor = is_none cursor }
+    pub rest : t ≡ record s { backend = t.backend; known_cursor = cursor_after cursor s; hidden_cursor = is_none cursor }
     pub drawn : HasDrawn cursor s (screen s.backend) (screen t.backend)
 
   -- a backend failed before all was written and the cursor placed; a cursor that was to be placed may be shown already
   pub record FailsWriting (cursor : Option Position) (s t : State B) : Type 0 where
     pub areas : HasAreas s
-    pub rest : t ≡ record s { backend = t.backend; hidden_cursor = t.hidden_cursor }
+    pub rest : t ≡ record s { backend = t.backend; known_cursor = t.known_cursor; hidden_cursor = t.hidden_cursor }
     pub hidden : (t.hidden_cursor ≡ s.hidden_cursor) ⊎ (IsSome cursor × (t.hidden_cursor ≡ false))
 
   -- the current buffer was drawn and is now the older one, the emptied older one is current, and a frame more is counted
@@ -106,9 +191,7 @@ module _ {B : Type 0} (screen : B → Screen) where
     pub areas : HasAreas s
     pub painted : t.older ≡ s.current
     pub emptied : IsEmptied s.viewport_area t.current
-    pub viewport : t.viewport_area ≡ s.viewport_area
-    pub hidden : t.hidden_cursor ≡ is_none cursor
-    pub count : t.frame_count ≡ (s.frame_count + 1) % 2 ^ 64
+    pub rest : t ≡ record s { backend = t.backend; current = t.current; older = t.older; known_cursor = cursor_after cursor s; hidden_cursor = is_none cursor; frame_count = (s.frame_count + 1) % 2 ^ 64 }
     pub drawn : HasDrawn cursor s (screen s.backend) (screen t.backend)
     pub in_step : IsInStep screen s → IsSettledSheet s.current → IsInStep screen t
 
@@ -143,40 +226,52 @@ module _ {B : Type 0} (screen : B → Screen) where
   abbrev pub AppliesBy : {T E : Type 0} → Option Position → State B → State B → Result T (TerminalError E) → Type 0
   AppliesBy cursor s t result = MatchResult result (λ _. Applies cursor s t) (RefusesBy (FailsApplying cursor s t) s t)
 
-  -- a new terminal: empty buffers over the whole screen, in step where that is blank
-  pub record Starts (b : B) (t : State B) : Type 0 where
-    pub screen_stays : screen t.backend ≡ screen b
-    pub viewport : t.viewport_area ≡ screen_area (screen b)
+  -- a new terminal: empty buffers over the viewport, which was placed, and that may have scrolled; in step where it is blank then
+  pub record Starts (viewport : Viewport) (b : B) (t : State B) : Type 0 where
+    pub kind : t.viewport ≡ viewport
+    pub known_area : t.known_area ≡ first_area viewport (screen b)
+    pub known_cursor : t.known_cursor ≡ first_cursor viewport (screen b)
+    pub viewport_area : t.viewport_area ≡ area_in viewport t.known_area 0 (screen b).cursor_y
     pub current : IsEmptied t.viewport_area t.current
     pub older : IsEmptied t.viewport_area t.older
     pub hidden : t.hidden_cursor ≡ false
     pub count : t.frame_count ≡ 0
-    pub in_step : IsBlankOver (screen_area (screen b)) (screen b) → IsInStep screen t
+    pub scrolls : Scrolls (screen b) (rows_scrolled viewport 0 (screen b)) (screen t.backend)
+    pub on_screen : (IsFixed viewport → ⊥) → IsOnScreen t.viewport_area (screen t.backend)
+    pub in_step : IsOnScreen t.viewport_area (screen t.backend) → IsBlankOver t.viewport_area (screen t.backend) → IsInStep screen t
 
   -- the kinds of draw: `ran` tells of the closure what it answered, where it left the cursor, and the buffer that it painted
   module _ {X : Type 0} (ran : State B → Result (Unit {0}) X → Option Position → Sheet → Type 0) where
+    -- resized if need be, then painted and drawn
     pub record DrawOk (s t : State B) : Type 0 where
+      pub sized : State B
+      pub autoresized : Autoresizes s sized
       pub cursor : Option Position
-      pub closure : ran s (Ok tt) cursor t.older
-      pub applied : Applies cursor (record s { current = t.older }) t
+      pub closure : ran sized (Ok tt) cursor t.older
+      pub applied : Applies cursor (record sized { current = t.older }) t
+      pub in_step : IsReady screen s → IsSettledSheet t.older → IsInStep screen t
 
     -- the closure refused, and the current buffer is what it left
     pub record ClosureErr (error : X) (s t : State B) : Type 0 where
+      pub sized : State B
+      pub autoresized : Autoresizes s sized
       pub cursor : Option Position
-      pub closure : ran s (Err error) cursor t.current
-      pub rest : t ≡ record s { current = t.current }
+      pub closure : ran sized (Err error) cursor t.current
+      pub rest : t ≡ record sized { current = t.current }
 
     -- the closure painted, and what came after was refused
     pub record PaintedErr (after : Option Position → State B → State B → Type 0) (s t : State B) : Type 0 where
+      pub sized : State B
+      pub autoresized : Autoresizes s sized
       pub cursor : Option Position
       pub painted : Sheet
-      pub closure : ran s (Ok tt) cursor painted
-      pub left : after cursor (record s { current = painted }) t
+      pub closure : ran sized (Ok tt) cursor painted
+      pub left : after cursor (record sized { current = painted }) t
 
     -- a refused draw by its error: `memory` and `closure` say what stands where the error is the closure's
     abbrev pub DrawErr : {E : Type 0} → Type 0 → (E → Type 0) → State B → State B → TerminalError E → Type 0
-    DrawErr memory closure s t (Backend error) = PaintedErr FailsApplying s t
-    DrawErr memory closure s t Memory = memory
+    DrawErr memory closure s t (Backend error) = AutoresizeErr s t (Backend error) ⊎ PaintedErr FailsApplying s t
+    DrawErr {E = E} memory closure s t Memory = AutoresizeErr {E = E} s t Memory ⊎ memory
     DrawErr memory closure s t Area = PaintedErr (λ _. RefusesArea) s t
     DrawErr memory closure s t (Closure error) = closure error
 

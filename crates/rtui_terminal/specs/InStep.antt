@@ -1,22 +1,27 @@
--- When a terminal knows what its screen shows.
-use Rattle.std.specs.Prelude.{◌≡◌, ℕ, ◌<◌}
-use Rattle.rtui_geometry.specs.declared.rect.Rect.{Rect}
-use Rattle.rtui_cell.specs.Look.{empty_look}
+-- When a terminal knows what its screen shows, and when a draw finds it out.
+use Rattle.std.specs.Prelude.{◌≡◌, ◌⊎◌, List}
+use Rattle.rtui_cell.specs.Look.{Look}
 use Rattle.rtui_buffer.specs.Frame.{IsSettledSheet, ShowsSheet}
-use Rattle.rtui_backend.specs.Screen.{Screen, IsOnScreen, IsWithin}
+use Rattle.rtui_backend.specs.Screen.{Screen, IsOnScreen, screen_area, rows_above}
+use Rattle.rtui_viewport.specs.Viewports.{IsFixed}
 use Rattle.rtui_terminal.specs.State.{State}
 
--- the viewport lies on the screen, the older buffer covers it and is settled, and the screen shows it there
-pub record IsInStep {B : Type 0} (screen : B → Screen) (s : State B) : Type 0 where
-  pub on_screen : IsOnScreen s.viewport_area (screen s.backend)
-  pub area : s.older.area ≡ s.viewport_area
-  pub settled : IsSettledSheet s.older
-  pub shown : ShowsSheet s.older (screen s.backend).grid
+module _ {B : Type 0} (screen : B → Screen) where
+  -- the viewport lies on the screen, the older buffer covers it and is settled, and the screen shows it there
+  pub record IsInStep (s : State B) : Type 0 where
+    pub on_screen : IsOnScreen s.viewport_area (screen s.backend)
+    pub area : s.older.area ≡ s.viewport_area
+    pub settled : IsSettledSheet s.older
+    pub shown : ShowsSheet s.older (screen s.backend).grid
 
--- nothing changed outside a rectangle
-pub record KeepsOutside (r : Rect) (old new : Screen) : Type 0 where
-  pub at : (a b : ℕ) → a < old.width → b < old.height → (IsWithin r a b → ⊥) → new.grid a b ≡ old.grid a b
+  -- the viewport is fixed, or the screen has its last known size: a draw won't resize
+  abbrev pub IsSized : State B → Type 0
+  IsSized s = IsFixed s.viewport ⊎ (screen_area (screen s.backend) ≡ s.known_area)
 
--- each column of a rectangle has the empty look
-pub record IsBlankOver (r : Rect) (s : Screen) : Type 0 where
-  pub at : (a b : ℕ) → IsWithin r a b → s.grid a b ≡ empty_look
+  -- in step, or a draw will resize
+  abbrev pub IsReady : State B → Type 0
+  IsReady s = IsInStep s ⊎ (IsSized s → ⊥)
+
+  -- the rows above an inline viewport: the history, and the screen's rows before the top
+  abbrev pub rows_over : State B → List (List Look)
+  rows_over s = rows_above (screen s.backend) s.viewport_area.y

@@ -9,4 +9,6 @@ mod terminal;
 
 pub use terminal::Terminal;
 pub use terminal::error::TerminalError;
+pub use rtui_viewport::Viewport;
 pub use terminal::frame::{CompletedFrame, Frame};
+pub use terminal::init::TerminalOptions;

@@ -1,6 +1,7 @@
 use rtui_backend::Backend;
 use rtui_buffer::Buffer;
-use rtui_geometry::Rect;
+use rtui_geometry::{Position, Rect};
+use rtui_viewport::Viewport;
 use std::marker::Model;
 
 mod backend;
@@ -10,8 +11,9 @@ mod copies;
 mod cursor;
 pub mod error;
 pub mod frame;
-mod init;
+pub mod init;
 mod render;
+mod resize;
 
 /// A terminal over a backend. It keeps the buffer to paint on and the one painted before, so that a draw writes
 /// only what differs. Its drop shows a cursor that it hid.
@@ -20,20 +22,23 @@ pub struct Terminal<B: Backend> {
     pub(crate) backend: B,
     pub(crate) current: Buffer,
     pub(crate) older: Buffer,
+    pub(crate) viewport: Viewport,
     pub(crate) viewport_area: Rect,
+    pub(crate) known_area: Rect,
+    pub(crate) known_cursor: Position,
     pub(crate) hidden_cursor: bool,
     pub(crate) frame_count: usize,
 }
 
 impl<B: Backend> Model for Terminal<B> {
     ghost use Rattle.rtui_geometry.specs.Rect.{EdgesFit};
-    ghost use Rattle.rtui_terminal.specs.State.{State};
+    ghost use Rattle.rtui_terminal.specs.State.{State, IsInPlace};
 
     ghost Value = { State B };
 
-    ghost view = { λ t. record { backend = t.backend; current = t.current; older = t.older; viewport_area = t.viewport_area; hidden_cursor = t.hidden_cursor; frame_count = t.frame_count } };
+    ghost view = { λ t. record { backend = t.backend; current = t.current; older = t.older; viewport = t.viewport; viewport_area = t.viewport_area; known_area = t.known_area; known_cursor = t.known_cursor; hidden_cursor = t.hidden_cursor; frame_count = t.frame_count } };
 
-    ghost invariant = { λ t. EdgesFit t.viewport_area };
+    ghost invariant = { λ t. EdgesFit t.viewport_area × IsInPlace t.viewport t.viewport_area };
 }
 
 impl<B: Backend + Drop> Drop for Terminal<B> {
@@ -45,7 +50,10 @@ impl<B: Backend + Drop> Drop for Terminal<B> {
             backend: _,
             current: _,
             older: _,
+            viewport: _,
             viewport_area: _,
+            known_area: _,
+            known_cursor: _,
             hidden_cursor: _,
             frame_count: _,
         } = self;

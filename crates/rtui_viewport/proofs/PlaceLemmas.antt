@@ -1,15 +1,14 @@
 -- Where an inline viewport goes.
 use Rattle.std.proofs.Common.{◌≡◌, ℕ, ◌+◌, ◌-◌, ◌<◌, ◌≤◌, refl, sym, ap, ◌∙◌, arith, inl, inr}
-use Rattle.std.specs.Prelude.{min, max, nat_lt, true}
+use Rattle.std.specs.Prelude.{min, max, nat_lt, true, false}
 use Rattle.std.proofs.lemmas.List.{append-nil}
 use Rattle.std.proofs.lemmas.Bool.{cases_lt}
 use Rattle.std.proofs.lemmas.Bool.Decides.{nat_tests}
 use Rattle.rtui_backend.specs.declared.clear_type.ClearType.TheVariants.{All}
 use Rattle.rtui_backend.specs.Screen.{Screen, IsOnGrid, Appends, Scrolls, Clears, IsOnScreen, lines_past, rows_above}
 use Rattle.rtui_backend.proofs.ScrollLemmas.{above_kept}
-use Rattle.rtui_viewport.specs.Areas.{Empties}
-use Rattle.rtui_viewport.proofs.ClearLemmas.{empties_none, clears_fullscreen}
-use Rattle.rtui_viewport.specs.Placing.{lines_below, inline_top, inline_area, rows_left, PlacesInline}
+use Rattle.rtui_viewport.proofs.ClearLemmas.{clears_fullscreen}
+use Rattle.rtui_viewport.specs.Placing.{lines_below, inline_top, inline_area, rows_left, PlacesInline, EmptiesAllIf}
 
 -- the lines that scroll and the top are together the rows that are left
 top_is : (n o : ℕ) (s : Screen) → IsOnGrid s → lines_past s (lines_below n o) + inline_top n s.height o s.cursor_y ≡ rows_left n o s
@@ -40,10 +39,12 @@ scrolls_none s = record {
 }
 
 -- emptied where a viewport became narrower
-pub raises_none : (width former : ℕ) (s : Screen) → former ≤ width → Empties (λ a b. nat_lt width former) s s
-raises_none width former s wide = empties_none s _ (λ a b. grind (arith, nat_tests))
+pub raises_none : (width former : ℕ) (s : Screen) → former ≤ width → EmptiesAllIf (nat_lt width former) s s
+raises_none width former s wide =
+    let is : nat_lt width former ≡ false = grind (arith, nat_tests) in
+    rw is refl
 
-pub raises_all : (width former : ℕ) {s t : Screen} → width < former → Clears s All t → Empties (λ a b. nat_lt width former) s t
+pub raises_all : (width former : ℕ) {s t : Screen} → width < former → Clears s All t → EmptiesAllIf (nat_lt width former) s t
 raises_all width former narrow p =
     let is : nat_lt width former ≡ true = grind (arith, nat_tests) in
     rw is (clears_fullscreen p)

@@ -1,5 +1,5 @@
 -- Where a viewport goes on a screen.
-use Rattle.std.specs.Prelude.{◌≡◌, ℕ, ◌-◌, ◌<◌, min, max, nat_lt, if◌then◌else◌, Option, None, Some, List, ◌++◌}
+use Rattle.std.specs.Prelude.{◌≡◌, Bool, true, false, ℕ, ◌-◌, ◌<◌, min, max, nat_lt, if◌then◌else◌, Option, None, Some, List, ◌++◌}
 use Rattle.rtui_geometry.specs.declared.position.Position.{Position}
 use Rattle.rtui_geometry.specs.declared.rect.Rect.{Rect}
 use Rattle.rtui_geometry.specs.declared.size.Size.{Size}
@@ -59,8 +59,13 @@ rows_scrolled Fullscreen o s = 0
 rows_scrolled (Inline n) o s = lines_past s (lines_below n o)
 rows_scrolled (Fixed f) o s = 0
 
+-- the whole screen was emptied, or nothing changed
+abbrev pub EmptiesAllIf : Bool → Screen → Screen → Type 0
+EmptiesAllIf true old new = Empties (λ a b. true) old new
+EmptiesAllIf false old new = new ≡ old
+
 -- a viewport was placed: these rows left the screen, and where it became narrower the whole screen was emptied then
 pub record Places (v : Viewport) (former width o : ℕ) (old new : Screen) : Type 0 where
   pub scrolled : Screen
   pub scrolls : Scrolls old (rows_scrolled v o old) scrolled
-  pub empties : Empties (λ a b. nat_lt width former) scrolled new
+  pub empties : EmptiesAllIf (nat_lt width former) scrolled new

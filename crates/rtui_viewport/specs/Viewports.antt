@@ -2,6 +2,7 @@
 use Rattle.std.specs.Prelude.{ℕ, min, List, ◌++◌, codes}
 use Rattle.std.specs.Fmt.{decimal}
 use Rattle.rtui_geometry.specs.declared.rect.Rect.{Rect}
+use Rattle.rtui_geometry.specs.Rect.{EdgesFit}
 use Rattle.rtui_geometry.specs.Display.{rect_text}
 use Rattle.rtui_viewport.specs.declared.viewport.Viewport.{Viewport}
 use Rattle.rtui_viewport.specs.declared.viewport.Viewport.TheVariants.{Fullscreen, Inline, Fixed}
@@ -15,6 +16,12 @@ abbrev pub IsFixed : Viewport → Type 0
 IsFixed Fullscreen = ⊥
 IsFixed (Inline n) = ⊥
 IsFixed (Fixed r) = Unit {0}
+
+-- the edges of a fixed viewport are at most 65535
+abbrev pub FitsEdges : Viewport → Type 0
+FitsEdges Fullscreen = Unit {0}
+FitsEdges (Inline n) = Unit {0}
+FitsEdges (Fixed r) = EdgesFit r
 
 -- how many of h rows a viewport takes
 abbrev pub rows_in : Viewport → ℕ → ℕ

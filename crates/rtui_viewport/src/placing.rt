@@ -2,9 +2,8 @@ ghost use Rattle.std.specs.Prelude.{◌≡◌, nat_lt, OnOk, IfOk};
 ghost use Rattle.rtui_geometry.specs.Rect.{EdgesFit};
 ghost use Rattle.rtui_backend.specs.Failures.{Counts};
 ghost use Rattle.rtui_backend.specs.Screen.{Appends, IsOnGrid, IsOnScreen, cursor_of, size_of, screen_area};
-ghost use Rattle.rtui_viewport.specs.Areas.{Empties};
 ghost use Rattle.rtui_viewport.specs.Viewports.{IsInline};
-ghost use Rattle.rtui_viewport.specs.Placing.{lines_below, inline_area, PlacesInline, Places, area_in, raised, cursor_found};
+ghost use Rattle.rtui_viewport.specs.Placing.{lines_below, inline_area, PlacesInline, Places, EmptiesAllIf, area_in, raised, cursor_found};
 
 use crate::viewport::Viewport;
 use rtui_backend::{Backend, ClearType};
@@ -53,7 +52,7 @@ fn raise<B: Backend>(backend: &mut B, area: Rect, former_width: u16) -> Result<R
     requires { EdgesFit area }
     ensures area { IfOk result (λ r. r ≡ raised former_width area) }
     ensures fits { IfOk result EdgesFit }
-    ensures emptied { OnOk result (Empties (λ a b. nat_lt area.width former_width) (B.screen backend.old) (B.screen backend.new)) }
+    ensures emptied { OnOk result (EmptiesAllIf (nat_lt area.width former_width) (B.screen backend.old) (B.screen backend.new)) }
     ensures counts { Counts result (B.failures backend.old) (B.failures backend.new) }
 {
     if area.width >= former_width {

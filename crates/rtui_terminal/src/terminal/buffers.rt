@@ -4,7 +4,9 @@ ghost use Rattle.rtui_geometry.specs.Rect.{EdgesFit};
 ghost use Rattle.rtui_buffer.specs.Sheet.{IsEmptied};
 ghost use Rattle.rtui_buffer.specs.contracts.buffer.Buffer.{the_row as buffer_row};
 ghost use Rattle.rtui_backend.specs.Failures.{Counts};
-ghost use Rattle.rtui_terminal.specs.Calls.{Faults, HasAreas, WritesDifferences, Flushes, FlushErr};
+ghost use Rattle.rtui_buffer.specs.Frame.{sheet_updates};
+ghost use Rattle.rtui_terminal.specs.State.{HasAreas};
+ghost use Rattle.rtui_terminal.specs.Calls.{Faults, WritesDifferences, Flushes, FlushErr, last_place, cursor_behind};
 ghost use Rattle.rtui_terminal.specs.Frames.{IsNewFrame};
 ghost use Rattle.rtui_terminal.specs.contracts.terminal.Terminal.{the_row};
 
@@ -13,6 +15,8 @@ use crate::terminal::error::TerminalError;
 use crate::terminal::frame::Frame;
 use rtui_backend::Backend;
 use rtui_buffer::Buffer;
+use rtui_geometry::Position;
+use rtui_viewport::Viewport;
 use std::mem;
 
 // Writes what differs between two buffers of one area.
@@ -29,7 +33,30 @@ fn write_differences<B: Backend>(
     backend.draw(older.diff_iter(current))
 }
 
+// The place of the last update from one buffer to another, or the given one where there is none.
+fn last_update(older: &Buffer, current: &Buffer, start: Position) -> Position
+    requires { current.now.area ≡ older.now.area }
+    ensures { result ≡ last_place start (sheet_updates older.now current.now) }
+{
+    let mut last = start;
+    for (x, y, _) in older.diff_iter(current) {
+        last = Position { x, y };
+    }
+    last
+}
+
 impl<B: Backend> Terminal<B> {
+    // Where the cursor will be known to be behind the updates; only an inline viewport asks for it.
+    fn cursor_behind(&self) -> Position
+        requires { HasAreas self.now }
+        ensures { result ≡ cursor_behind self.now }
+    {
+        match self.viewport {
+            Viewport::Inline(_) => last_update(&self.older, &self.current, self.known_cursor),
+            _ => self.known_cursor,
+        }
+    }
+
     /// A new frame over the current buffer, without a cursor.
     pub fn get_frame(&mut self) -> Frame<'_>
         ensures* writes_back { let row = the_row B.row B.Error.row B.Backend B.Error.Debug B.Error.Display in
@@ -67,9 +94,13 @@ impl<B: Backend> Terminal<B> {
         if *self.current.area() != area || *self.older.area() != area {
             return Err(TerminalError::Area);
         }
-        write_differences(&mut self.backend, &self.older, &self.current).map_err(
-            TerminalError::Backend,
-        )
+        let known = self.cursor_behind();
+        match write_differences(&mut self.backend, &self.older, &self.current) {
+            Ok(()) => {}
+            Err(error) => return Err(TerminalError::Backend(error)),
+        }
+        self.known_cursor = known;
+        Ok(())
     }
 
     /// Makes the current buffer the older one, and the emptied older one current.

@@ -6,7 +6,8 @@ ghost use Rattle.rtui_terminal.specs.State.{IsSameTerminal, IsDefaultOver};
 use crate::terminal::Terminal;
 use rtui_backend::Backend;
 use rtui_buffer::Buffer;
-use rtui_geometry::Rect;
+use rtui_geometry::{Position, Rect};
+use rtui_viewport::Viewport;
 use std::alloc::{AllocError, Global};
 
 impl<B: Backend + Default + Drop> Terminal<B> {
@@ -20,7 +21,10 @@ impl<B: Backend + Default + Drop> Terminal<B> {
             backend: B::default(),
             current: Buffer::default_in(alloc),
             older: Buffer::default_in(alloc),
+            viewport: Viewport::Fullscreen,
             viewport_area: Rect::ZERO,
+            known_area: Rect::ZERO,
+            known_cursor: Position::ORIGIN,
             hidden_cursor: false,
             frame_count: 0,
         }
@@ -37,7 +41,10 @@ impl<B: Backend + Clone> Terminal<B> {
             backend: self.backend.clone()?,
             current: self.current.clone(alloc)?,
             older: self.older.clone(alloc)?,
+            viewport: self.viewport,
             viewport_area: self.viewport_area,
+            known_area: self.known_area,
+            known_cursor: self.known_cursor,
             hidden_cursor: self.hidden_cursor,
             frame_count: self.frame_count,
         })

@@ -11,7 +11,7 @@ use rtui_geometry::Position;
 impl<B: Backend> Terminal<B> {
     /// Hides the cursor.
     pub fn hide_cursor(&mut self) -> Result<(), TerminalError<B::Error>>
-        ensures ok { OnOk result (MovesCursor B.screen true (with_visible false) self.old self.new) }
+        ensures ok { OnOk result (MovesCursor B.screen true self.old.known_cursor (with_visible false) self.old self.new) }
         ensures err { OnErr result (self.new ≡ record self.old { backend = self.new.backend }) }
         ensures only { FailsOnlyByBackend result }
         ensures faults { Faults result (B.failures self.old.backend) (B.failures self.new.backend) }
@@ -23,7 +23,7 @@ impl<B: Backend> Terminal<B> {
 
     /// Shows the cursor.
     pub fn show_cursor(&mut self) -> Result<(), TerminalError<B::Error>>
-        ensures ok { OnOk result (MovesCursor B.screen false (with_visible true) self.old self.new) }
+        ensures ok { OnOk result (MovesCursor B.screen false self.old.known_cursor (with_visible true) self.old self.new) }
         ensures err { OnErr result (self.new ≡ record self.old { backend = self.new.backend }) }
         ensures only { FailsOnlyByBackend result }
         ensures faults { Faults result (B.failures self.old.backend) (B.failures self.new.backend) }
@@ -55,7 +55,8 @@ impl<B: Backend> Terminal<B> {
 
     /// The older name of `set_cursor_position`.
     pub fn set_cursor(&mut self, x: u16, y: u16) -> Result<(), TerminalError<B::Error>>
-        ensures ok { OnOk result (MovesCursor B.screen self.old.hidden_cursor (with_cursor x y) self.old self.new) }
+        ensures ok { OnOk result (MovesCursor B.screen self.old.hidden_cursor (record { x = x; y = y })
+            (with_cursor x y) self.old self.new) }
         ensures err { OnErr result (self.new ≡ record self.old { backend = self.new.backend }) }
         ensures only { FailsOnlyByBackend result }
         ensures faults { Faults result (B.failures self.old.backend) (B.failures self.new.backend) }
@@ -79,13 +80,16 @@ impl<B: Backend> Terminal<B> {
 
     /// Moves the cursor; its column and its row are each kept on the screen.
     pub fn set_cursor_position(&mut self, position: Position) -> Result<(), TerminalError<B::Error>>
-        ensures ok { OnOk result (MovesCursor B.screen self.old.hidden_cursor (with_cursor position.x position.y) self.old self.new) }
+        ensures ok { OnOk result (MovesCursor B.screen self.old.hidden_cursor position
+            (with_cursor position.x position.y) self.old self.new) }
         ensures err { OnErr result (self.new ≡ record self.old { backend = self.new.backend }) }
         ensures only { FailsOnlyByBackend result }
         ensures faults { Faults result (B.failures self.old.backend) (B.failures self.new.backend) }
     {
         self.backend
             .set_cursor_position(position)
-            .map_err(TerminalError::Backend)
+            .map_err(TerminalError::Backend)?;
+        self.known_cursor = position;
+        Ok(())
     }
 }

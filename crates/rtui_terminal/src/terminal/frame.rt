@@ -67,7 +67,7 @@ impl Frame<'_> {
 #[derive(Debug, Drop)]
 pub struct CompletedFrame<'a, B: Backend> {
     pub(crate) terminal: &'a mut Terminal<B>,
-    /// The area of the viewport.
+    /// The area that was known last: the screen's, or a fixed viewport's own.
     pub area: Rect,
     /// How many frames were drawn before this one.
     pub count: usize,

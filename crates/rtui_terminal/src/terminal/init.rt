@@ -1,39 +1,100 @@
-ghost use Rattle.std.specs.Prelude.{◌≡◌, IfOk, MatchResult};
-ghost use Rattle.rtui_terminal.specs.Calls.{Starts, StartErr};
+ghost use Rattle.std.specs.Prelude.{◌≡◌, IfOk, OnOk, MatchResult};
+ghost use Rattle.rtui_geometry.specs.Rect.{EdgesFit};
+ghost use Rattle.rtui_backend.specs.Failures.{Counts};
+ghost use Rattle.rtui_viewport.specs.Viewports.{FitsEdges};
+ghost use Rattle.rtui_viewport.specs.declared.viewport.Viewport.TheVariants.{Fullscreen};
+ghost use Rattle.rtui_terminal.specs.Calls.{Starts, StartErr, first_area};
 
 use crate::terminal::Terminal;
 use crate::terminal::error::TerminalError;
 use rtui_backend::Backend;
 use rtui_buffer::Buffer;
 use rtui_geometry::Rect;
+use rtui_viewport::{Viewport, place_viewport};
 use std::alloc::Global;
+
+/// How a terminal is made.
+#[derive(Debug, Default, Clone, PartialEq, Eq, Hash, Drop)]
+pub struct TerminalOptions {
+    /// The part of the screen that it draws on.
+    pub viewport: Viewport,
+}
+
+// The area that a viewport is placed on: a fixed one's own, else the screen.
+fn placing_area<B: Backend>(backend: &mut B, viewport: Viewport) -> Result<Rect, B::Error>
+    requires { FitsEdges viewport }
+    ensures area { IfOk result (λ area. area ≡ first_area viewport (B.screen backend.old)) }
+    ensures fits { IfOk result EdgesFit }
+    ensures stays { OnOk result (B.screen backend.new ≡ B.screen backend.old) }
+    ensures counts { Counts result (B.failures backend.old) (B.failures backend.new) }
+{
+    if let Viewport::Fixed(area) = viewport {
+        return Ok(area);
+    }
+    Ok(Rect::from(backend.size()?))
+}
 
 impl<B: Backend + Drop> Terminal<B> {
     /// A terminal over the whole screen of a backend, with empty buffers; it is in step where the screen is
     /// blank. A refused call drops the backend.
-    pub fn new(alloc: Global, mut backend: B) -> Result<Self, TerminalError<B::Error>>
-        ensures starts { IfOk result (Starts B.screen backend) }
+    pub fn new(alloc: Global, backend: B) -> Result<Self, TerminalError<B::Error>>
+        ensures starts { IfOk result (Starts B.screen Fullscreen backend) }
         ensures count { IfOk result (λ t. B.failures t.backend ≡ B.failures backend) }
         ensures refused { MatchResult result (λ _. Unit {0}) (StartErr B.failures backend) }
     {
-        let size = match backend.size() {
-            Ok(size) => size,
+        let options = TerminalOptions {
+            viewport: Viewport::Fullscreen,
+        };
+        Terminal::with_options(alloc, backend, options)
+    }
+
+    /// A terminal over a part of a backend's screen, with empty buffers; it is in step where that part is on the
+    /// screen and blank. Where an inline viewport doesn't fit below the cursor the screen scrolls. A refused call
+    /// drops the backend.
+    pub fn with_options(
+        alloc: Global,
+        mut backend: B,
+        options: TerminalOptions,
+    ) -> Result<Self, TerminalError<B::Error>>
+        requires { FitsEdges options.viewport }
+        ensures starts { IfOk result (Starts B.screen options.viewport backend) }
+        ensures count { IfOk result (λ t. B.failures t.backend ≡ B.failures backend) }
+        ensures refused { MatchResult result (λ _. Unit {0}) (StartErr B.failures backend) }
+    {
+        let viewport = options.viewport;
+        let area = match placing_area(&mut backend, viewport) {
+            Ok(area) => area,
             Err(error) => return Err(TerminalError::Backend(error)),
         };
-        let area = Rect::from(size);
-        let current = match Buffer::empty(alloc, area) {
+        let rows = Rect {
+            x: 0,
+            y: 0,
+            width: area.width,
+            height: viewport.rows_in(area.height),
+        };
+        let mut current = match Buffer::empty(alloc, rows) {
             Ok(buffer) => buffer,
             Err(_) => return Err(TerminalError::Memory),
         };
-        let older = match Buffer::empty(alloc, area) {
+        let mut older = match Buffer::empty(alloc, rows) {
             Ok(buffer) => buffer,
             Err(_) => return Err(TerminalError::Memory),
         };
+        let placed = match place_viewport(&mut backend, viewport, 0, area, 0) {
+            Ok(placed) => placed,
+            Err(error) => return Err(TerminalError::Backend(error)),
+        };
+        current.move_to(placed.area.as_position());
+        older.move_to(placed.area.as_position());
+        let known_cursor = placed.cursor.unwrap_or(area.as_position());
         Ok(Terminal {
             backend,
             current,
             older,
-            viewport_area: area,
+            viewport,
+            viewport_area: placed.area,
+            known_area: area,
+            known_cursor,
             hidden_cursor: false,
             frame_count: 0,
         })

@@ -1,7 +1,7 @@
 ghost use Rattle.std.specs.Prelude.{◌≡◌, ◌+◌, ◌%◌, ◌^◌, None, Ok, Err, IfOk, MatchResult};
 ghost use Rattle.std.specs.Borrow.{sem, RestsIfErr};
 ghost use Rattle.rtui_buffer.specs.Frame.{IsSettledSheet};
-ghost use Rattle.rtui_terminal.specs.InStep.{IsInStep};
+ghost use Rattle.rtui_terminal.specs.InStep.{IsInStep, IsReady};
 ghost use Rattle.rtui_terminal.specs.Frames.{PaintsFrame, AcceptsNewFrame, AcceptsFrames, paints_on};
 ghost use Rattle.rtui_terminal.specs.Calls.{Faults, WritesBy, Applies, AppliesBy, DrawOk, DrawsBy, TriesBy};
 ghost use Rattle.rtui_terminal.specs.contracts.terminal.Terminal.{the_row};
@@ -77,6 +77,10 @@ impl<B: Backend> Terminal<B> {
         ensures drawn { DrawsBy B.screen (paints_on F.FnOnce render_callback) self.old self.new result }
         ensures faults { Faults result (B.failures self.old.backend) (B.failures self.new.backend) }
     {
+        match self.autoresize() {
+            Ok(()) => {}
+            Err(error) => return Err(error),
+        }
         let area = self.viewport_area;
         let count = self.frame_count;
         let (answer, cursor) = paint(&mut self.current, area, count, render_callback);
@@ -93,6 +97,10 @@ impl<B: Backend> Terminal<B> {
         ensures drawn { TriesBy B.screen (paints_on F.FnOnce render_callback) self.old self.new result }
         ensures faults { Faults result (B.failures self.old.backend) (B.failures self.new.backend) }
     {
+        match self.autoresize() {
+            Ok(()) => {}
+            Err(error) => return Err(error),
+        }
         let area = self.viewport_area;
         let count = self.frame_count;
         let (answer, cursor) = paint(&mut self.current, area, count, render_callback);
@@ -102,13 +110,13 @@ impl<B: Backend> Terminal<B> {
         }
     }
 
-    /// Draws a frame: the closure paints on the current buffer, what differs from the older one is written, and
-    /// the cursor is hidden, or shown where the closure put it. The painted buffer becomes the older one, and an
-    /// empty one current.
+    /// Draws a frame: the viewport is resized where the screen has another size, the closure paints on the current
+    /// buffer, what differs from the older one is written, and the cursor is hidden, or shown where the closure put
+    /// it. The painted buffer becomes the older one, and an empty one current.
     ///
-    /// It answers `Memory` only where the closure did, and `Area` where a buffer hasn't the viewport's area;
-    /// then nothing was written, and the current buffer keeps what the closure left. After `Backend` the screen
-    /// may show anything.
+    /// It answers `Memory` where the closure did, or where a resize was refused memory, which changes nothing; and
+    /// `Area` where a buffer hasn't the viewport's area. Then nothing was written behind the resize, and the current
+    /// buffer keeps what the closure left. After `Backend` the screen may show anything.
     pub fn draw<F>(
         &mut self,
         render_callback: F,
@@ -122,21 +130,23 @@ impl<B: Backend> Terminal<B> {
                 × Faults result (B.failures self.old.backend) (B.failures t.backend))) }
         ensures same_terminal { IfOk result (λ frame. frame.terminal.ghost_name ≡ self.entry.ghost_name) }
         ensures drawn { IfOk result (λ frame. DrawOk B.screen (paints_on F.FnOnce render_callback) self.old frame.terminal.now) }
-        ensures in_step { IfOk result (λ frame. IsInStep B.screen self.old
+        ensures in_step { IfOk result (λ frame. IsReady B.screen self.old
             → IsSettledSheet frame.terminal.now.older → IsInStep B.screen frame.terminal.now) }
         ensures faults { IfOk result (λ frame. B.failures frame.terminal.now.backend
             ≡ B.failures self.old.backend) }
-        ensures area { IfOk result (λ frame. frame.area ≡ self.old.viewport_area) }
+        ensures area { IfOk result (λ frame. frame.area ≡ frame.terminal.now.known_area) }
         ensures count { IfOk result (λ frame. frame.count ≡ self.old.frame_count) }
     {
-        let area = self.viewport_area;
         let count = self.frame_count;
         match self.draw_frame(render_callback) {
-            Ok(()) => Ok(CompletedFrame {
-                terminal: self,
-                area,
-                count,
-            }),
+            Ok(()) => {
+                let area = self.known_area;
+                Ok(CompletedFrame {
+                    terminal: self,
+                    area,
+                    count,
+                })
+            }
             Err(error) => Err(error),
         }
     }
@@ -155,21 +165,23 @@ impl<B: Backend> Terminal<B> {
                 × Faults result (B.failures self.old.backend) (B.failures t.backend))) }
         ensures same_terminal { IfOk result (λ frame. frame.terminal.ghost_name ≡ self.entry.ghost_name) }
         ensures drawn { IfOk result (λ frame. DrawOk B.screen (paints_on F.FnOnce render_callback) self.old frame.terminal.now) }
-        ensures in_step { IfOk result (λ frame. IsInStep B.screen self.old
+        ensures in_step { IfOk result (λ frame. IsReady B.screen self.old
             → IsSettledSheet frame.terminal.now.older → IsInStep B.screen frame.terminal.now) }
         ensures faults { IfOk result (λ frame. B.failures frame.terminal.now.backend
             ≡ B.failures self.old.backend) }
-        ensures area { IfOk result (λ frame. frame.area ≡ self.old.viewport_area) }
+        ensures area { IfOk result (λ frame. frame.area ≡ frame.terminal.now.known_area) }
         ensures count { IfOk result (λ frame. frame.count ≡ self.old.frame_count) }
     {
-        let area = self.viewport_area;
         let count = self.frame_count;
         match self.try_draw_frame(render_callback) {
-            Ok(()) => Ok(CompletedFrame {
-                terminal: self,
-                area,
-                count,
-            }),
+            Ok(()) => {
+                let area = self.known_area;
+                Ok(CompletedFrame {
+                    terminal: self,
+                    area,
+                    count,
+                })
+            }
             Err(error) => Err(error),
         }
     }
@@ -184,7 +196,7 @@ impl<B: Backend> Terminal<B> {
         ensures applied { IfOk result (λ frame. Applies B.screen None self.old frame.terminal.now) }
         ensures faults { IfOk result (λ frame. B.failures frame.terminal.now.backend
             ≡ B.failures self.old.backend) }
-        ensures area { IfOk result (λ frame. frame.area ≡ self.old.viewport_area) }
+        ensures area { IfOk result (λ frame. frame.area ≡ frame.terminal.now.known_area) }
         ensures count { IfOk result (λ frame. frame.count ≡ self.old.frame_count) }
     {
         self.apply_buffer_with_cursor(None)
@@ -204,17 +216,19 @@ impl<B: Backend> Terminal<B> {
         ensures applied { IfOk result (λ frame. Applies B.screen cursor_position self.old frame.terminal.now) }
         ensures faults { IfOk result (λ frame. B.failures frame.terminal.now.backend
             ≡ B.failures self.old.backend) }
-        ensures area { IfOk result (λ frame. frame.area ≡ self.old.viewport_area) }
+        ensures area { IfOk result (λ frame. frame.area ≡ frame.terminal.now.known_area) }
         ensures count { IfOk result (λ frame. frame.count ≡ self.old.frame_count) }
     {
-        let area = self.viewport_area;
         let count = self.frame_count;
         match self.apply(cursor_position) {
-            Ok(()) => Ok(CompletedFrame {
-                terminal: self,
-                area,
-                count,
-            }),
+            Ok(()) => {
+                let area = self.known_area;
+                Ok(CompletedFrame {
+                    terminal: self,
+                    area,
+                    count,
+                })
+            }
             Err(error) => Err(error),
         }
     }

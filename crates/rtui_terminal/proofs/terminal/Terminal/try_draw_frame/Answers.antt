@@ -1,13 +1,3 @@
-use Rattle.std.proofs.Common.{refl}
-use Rattle.rtui_terminal.proofs.RenderLemmas.{draws_on}
+use Rattle.std.proofs.Common.{rules, refl, inr}
+use Rattle.rtui_terminal.proofs.RenderLemmas.{draws_on, refused_before}
 use Rattle.rtui_terminal.proofs.terminal.Terminal.try_draw_frame.Goals as goal
-
-pub returns-in-Ok-clause-drawn : goal.returns-in-Ok-clause-drawn
-returns-in-Ok-clause-drawn g c =
-    rw (← c.self.view_is)
-    (draws_on _ _ _ _ _ _ (rw c.in-Ok.is at c.paint-answer.ensures) _ _ c.apply.result c.apply.ensures.outcome)
-
-pub returns-in-Err-clause-drawn : goal.returns-in-Err-clause-drawn
-returns-in-Err-clause-drawn g c =
-    rw (← c.self.view_is)
-    (record { cursor = c.paint-answer.result.1; closure = rw c.in-Err.is at c.paint-answer.ensures; rest = refl })

@@ -1,0 +1,124 @@
+-- An emptied viewport is in step with an emptied buffer.
+use Rattle.std.proofs.Common.{◌≡◌, ◌∙◌, ℕ, ◌+◌, ◌<◌, Option, Bool, true, false, refl, sym, subst, arith}
+use Rattle.std.specs.Prelude.{nat_lt, min, ◌-◌, ◌||◌, if◌then◌else◌}
+use Rattle.std.specs.Option.{unwrap_or}
+use Rattle.std.proofs.lemmas.Grind.{common_steps}
+use Rattle.std.proofs.lemmas.Bool.Decides.{nat_tests}
+use Rattle.rtui_geometry.specs.declared.position.Position.{Position}
+use Rattle.rtui_geometry.specs.declared.rect.Rect.{Rect}
+use Rattle.rtui_geometry.specs.Rect.{corner, EdgesFit}
+use Rattle.rtui_cell.specs.Look.{Look, empty_look}
+use Rattle.rtui_buffer.specs.Sheet.{Sheet, IsEmptied, IsSameSheet}
+use Rattle.rtui_buffer.proofs.EmptyLemmas.{IsSettledSheet-empty, ShowsSheet-empty}
+use Rattle.rtui_backend.specs.Screen.{Screen, Scrolls, IsOnGrid, IsOnScreen, screen_area, cursor_of}
+use Rattle.rtui_viewport.specs.Areas.{KeepsFrame, Empties, IsBlankOver}
+use Rattle.rtui_viewport.specs.Placing.{raised, area_in, cursor_found, IsCursorSet, EmptiesAllIf, Places, rows_scrolled}
+use Rattle.rtui_viewport.specs.Clearing.{HasPlace, ClearsArea, is_emptied}
+use Rattle.rtui_viewport.specs.Viewports.{IsFixed, IsInline, rows_in}
+use Rattle.rtui_viewport.specs.declared.viewport.Viewport.{Viewport}
+use Rattle.rtui_viewport.specs.declared.viewport.Viewport.TheVariants.{Fullscreen, Inline, Fixed}
+use Rattle.rtui_viewport.proofs.ClearLemmas.{empties_more, frame_same}
+use Rattle.rtui_terminal.specs.State.{State, IsInPlace}
+use Rattle.rtui_terminal.specs.InStep.{IsInStep}
+use Rattle.rtui_terminal.specs.Calls.{IsResized, first_area, first_cursor}
+
+pub blank_in_step : {B : Type 0} (screen : B → Screen) (t : State B) → EdgesFit t.viewport_area → IsOnScreen t.viewport_area (screen t.backend) → IsBlankOver t.viewport_area (screen t.backend)
+    → IsEmptied t.viewport_area t.older → IsInStep screen t
+blank_in_step screen t fits on blank older = record {
+  on_screen = on;
+  area = older.area;
+  settled = IsSettledSheet-empty _ t.older older;
+  shown = ShowsSheet-empty _ t.older older _ (rw older.area (λ a b a_in b_in. blank.at _ _
+      (record { left = omega arith; right = omega (arith, fits.right); top = omega arith; bottom = omega (arith, fits.bottom) })));
+}
+
+-- a rectangle lies on each of two screens of one size
+pub on_same : (r : Rect) (s t : Screen) → t.width ≡ s.width → t.height ≡ s.height → IsOnScreen r s → IsOnScreen r t
+on_same r s t w h on = record { right = omega (arith, on.right); bottom = omega (arith, on.bottom) }
+
+pub place_same : (v : Viewport) (r : Rect) (s t : Screen) → t.width ≡ s.width → t.height ≡ s.height → HasPlace v r s → HasPlace v r t
+place_same Fullscreen r s t w h place = tt
+place_same (Inline n) r s t w h place = place
+place_same (Fixed f) r s t w h place = on_same r s t w h place
+
+-- on the screen a viewport has its place
+pub has_place : (v : Viewport) (r : Rect) (s : Screen) → IsInPlace v r → IsOnScreen r s → HasPlace v r s
+has_place Fullscreen r s at on = tt
+has_place (Inline n) r s at on = at
+has_place (Fixed f) r s at on = on
+
+raised_x : (w : ℕ) (r : Rect) → (raised w r).x ≡ r.x
+raised_x w r = either (nat_lt r.width w)
+  where
+    either : (b : Bool) → (if b then record r { y = 0 } else r).x ≡ r.x
+    either true = refl
+    either false = refl
+
+pub placed_in_place : (v : Viewport) (w : ℕ) (area : Rect) (o row : ℕ) → IsInPlace v (raised w (area_in v area o row))
+placed_in_place Fullscreen w area o row = tt
+placed_in_place (Inline n) w area o row = raised_x w (area_in (Inline n) area o row)
+placed_in_place (Fixed f) w area o row = tt
+
+-- an emptied screen, or an untouched one
+pub emptied_frame : (narrow : Bool) {s m : Screen} → EmptiesAllIf narrow s m → KeepsFrame s m
+emptied_frame true p = p.frame
+emptied_frame false {s} same = rw same (frame_same s)
+
+-- an emptied viewport behind an emptied screen, or behind an untouched one
+pub emptied_after : (v : Viewport) (r : Rect) (narrow : Bool) {s m t : Screen} → EmptiesAllIf narrow s m → ClearsArea v r m t → HasPlace v r s
+    → Empties (λ a b. is_emptied v r s.height a b || narrow) s t
+emptied_after v r true {s} {m} {t} first clears place =
+    let same = first.frame.size in
+    empties_more first (subst (λ h. Empties (is_emptied v r h) m t) same.height (clears (place_same v r s m same.width same.height place)))
+emptied_after v r false {s} {m} {t} same clears place =
+    let p : Empties (is_emptied v r s.height) s t = subst (λ k. Empties (is_emptied v r k.height) k t) same (clears (rw same place)) in
+    record { frame = p.frame; grid = λ a b a_in b_in. p.grid a b a_in b_in ∙ either (is_emptied v r s.height a b) (s.grid a b) }
+  where
+    either : (x : Bool) (look : Look) → (if x then empty_look else look) ≡ (if x || false then empty_look else look)
+    either true look = refl
+    either false look = refl
+
+pub resized_same : (r : Rect) {a b c : Sheet} → IsSameSheet a b → IsResized r b c → IsResized r a c
+resized_same r p q = record { area_is = q.area_is; cells = rw (← p.cells) q.cells }
+
+-- a viewport of no columns can't become narrower
+pub never_raised : (r : Rect) → raised 0 r ≡ r
+never_raised r = let no : nat_lt r.width 0 ≡ false = grind (arith, nat_tests) in rw no refl
+
+-- the cursor that a new terminal knows
+pub first_cursor_is : (v : Viewport) (s : Screen) (area : Rect) (found : Option Position) (first : Position) → area ≡ first_area v s → found ≡ cursor_found v s → first ≡ unwrap_or found (corner area)
+    → first ≡ first_cursor v s
+first_cursor_is Fullscreen s area found first known is first_is = rw (known, is) at first_is
+first_cursor_is (Inline n) s area found first known is first_is = rw (known, is) at first_is
+first_cursor_is (Fixed r) s area found first known is first_is = rw (known, is) at first_is
+
+-- a viewport that isn't fixed starts over the whole screen
+pub first_area_open : (v : Viewport) (s : Screen) → (IsFixed v → ⊥) → first_area v s ≡ screen_area s
+first_area_open Fullscreen s other = refl
+first_area_open (Inline n) s other = refl
+first_area_open (Fixed r) s other = absurd (other tt)
+
+-- an empty buffer of a viewport's size, moved to its place
+pub placed_empty : (v : Viewport) (r : Rect) (o row : ℕ) (next : Rect) (a b : Sheet) → next ≡ area_in v r o row
+    → IsEmptied (record { x = 0; y = 0; width = r.width; height = rows_in v r.height }) a → b ≡ record a { area = record a.area { x = next.x; y = next.y } } → IsEmptied next b
+placed_empty Fullscreen r o row next a b is empty moved = rw (moved, empty.area, is) (record { area = refl; cells = empty.cells })
+placed_empty (Inline n) r o row next a b is empty moved = rw (moved, empty.area, is) (record { area = refl; cells = empty.cells })
+placed_empty (Fixed f) r o row next a b is empty moved = rw (moved, empty.area, is) (record { area = refl; cells = empty.cells })
+
+-- the cursor that was found is where it was
+pub cursor_back : (v : Viewport) (s m t : Screen) (found : Option Position) → found ≡ cursor_found v s → (IsInline v → IsOnGrid s) → m.width ≡ s.width → m.height ≡ s.height
+    → IsCursorSet found m t → IsInline v → cursor_of t ≡ cursor_of s
+cursor_back Fullscreen s m t found is on width height set inline = absurd inline
+cursor_back (Inline n) s m t found is on width height set inline =
+    let there = on inline in
+    let column : min s.cursor_x (m.width - 1) ≡ s.cursor_x = omega (arith, there.cursor_x) in
+    let row : min s.cursor_y (m.height - 1) ≡ s.cursor_y = omega (arith, there.cursor_y) in
+    rw (is, column, row) at set
+cursor_back (Fixed f) s m t found is on width height set inline = absurd inline
+
+-- a viewport that was placed at the start never became narrower
+pub placed_scrolls : (v : Viewport) (width o : ℕ) {s t : Screen} → Places v 0 width o s t → Scrolls s (rows_scrolled v o s) t
+placed_scrolls v width o {s} {t} p =
+    let no : nat_lt width 0 ≡ false = grind (arith, nat_tests) in
+    let same : t ≡ p.scrolled = rw no at p.empties in
+    rw same p.scrolls

@@ -1,0 +1,31 @@
+use Rattle.std.proofs.Common.{◌≡◌, refl, ◌∙◌, sym, subst}
+use Rattle.rtui_buffer.specs.Sheet.{IsEmptied}
+use Rattle.rtui_backend.specs.Screen.{Scrolls}
+use Rattle.rtui_viewport.specs.Placing.{area_in, rows_scrolled}
+use Rattle.rtui_terminal.proofs.StepLemmas.{blank_in_step, never_raised, first_cursor_is, first_area_open, placed_empty, placed_scrolls}
+use Rattle.rtui_terminal.proofs.terminal.Terminal.with_options.Goals as goal
+
+pub returns-clause-starts : goal.returns-clause-starts
+returns-clause-starts g c =
+    let screen = g.B.Backend.screen in
+    let viewport = c.args.options.viewport in
+    let next = c.in-Ok-place_viewport.placed.area in
+    let placed = c.in-Ok-place_viewport.ensures in
+    let stays = c.in-Ok.ensures.stays in
+    let known = c.in-Ok.ensures.area in
+    let area : next ≡ area_in viewport c.in-Ok.area 0 (screen c.args.backend).cursor_y = (rw stays at placed.area) ∙ never_raised _ in
+    let older : IsEmptied next c.move_to-2.new.self = placed_empty viewport c.in-Ok.area 0 _ next _ _ area (rw c.rows_in.ensures at c.in-Ok-empty-2.ensures) (rw c.as_position-2.ensures at c.move_to-2.ensures) in
+    let current : IsEmptied next c.move_to.new.self = placed_empty viewport c.in-Ok.area 0 _ next _ _ area (rw c.rows_in.ensures at c.in-Ok-empty.ensures) (rw c.as_position.ensures at c.move_to.ensures) in
+    record {
+      kind = refl;
+      known_area = known;
+      known_cursor = first_cursor_is viewport (screen c.args.backend) _ _ _ known (rw stays at placed.cursor) (rw c.as_position-3.ensures at c.unwrap_or-known_cursor.ensures);
+      viewport_area = area;
+      current = current;
+      older = older;
+      hidden = refl;
+      count = refl;
+      scrolls = placed_scrolls viewport _ 0 (rw stays at placed.placed);
+      on_screen = λ other. placed.on_screen (rw stays (known ∙ first_area_open viewport (screen c.args.backend) other));
+      in_step = λ on blank. blank_in_step screen _ placed.fits on blank older;
+    }

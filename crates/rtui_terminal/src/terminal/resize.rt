@@ -1,0 +1,117 @@
+ghost use Rattle.std.specs.Prelude.{◌≡◌, OnOk, OnErr, MatchResult};
+ghost use Rattle.rtui_geometry.specs.Rect.{EdgesFit};
+ghost use Rattle.rtui_buffer.specs.Sheet.{IsSameSheet};
+ghost use Rattle.rtui_terminal.specs.State.{HasRoom, IsInPlace};
+ghost use Rattle.rtui_terminal.specs.Calls.{Faults, FailsOnlyByBackend, IsResized, Clears, Resizes, ResizeErr, Autoresizes, AutoresizeErr};
+
+use crate::terminal::Terminal;
+use crate::terminal::error::TerminalError;
+use rtui_backend::Backend;
+use rtui_geometry::Rect;
+use rtui_viewport::{Viewport, clear_placed, clear_viewport, place_viewport};
+use std::alloc::AllocError;
+
+impl<B: Backend> Terminal<B> {
+    /// Empties the viewport and the older buffer, so that the next draw writes the whole frame; the current buffer
+    /// and the cursor stay. It takes no memory.
+    pub fn clear(&mut self) -> Result<(), TerminalError<B::Error>>
+        ensures ok { OnOk result (Clears B.screen self.old self.new) }
+        ensures err { OnErr result (self.new ≡ record self.old { backend = self.new.backend }) }
+        ensures only { FailsOnlyByBackend result }
+        ensures faults { Faults result (B.failures self.old.backend) (B.failures self.new.backend) }
+    {
+        match clear_viewport(&mut self.backend, self.viewport, self.viewport_area) {
+            Ok(()) => {}
+            Err(error) => return Err(TerminalError::Backend(error)),
+        }
+        self.older.reset();
+        Ok(())
+    }
+
+    // Makes room in both buffers for the cells of an area.
+    fn reserve(&mut self, area: Rect) -> Result<(), AllocError>
+        requires { EdgesFit area }
+        ensures current { IsSameSheet self.old.current self.new.current }
+        ensures older { IsSameSheet self.old.older self.new.older }
+        ensures rest { self.new ≡ record self.old { current = self.new.current; older = self.new.older } }
+        ensures room { OnOk result (HasRoom area self.new) }
+    {
+        self.current.reserve(area)?;
+        self.older.reserve(area)
+    }
+
+    // Gives the viewport and both buffers an area, for which there is room.
+    fn set_area(&mut self, area: Rect)
+        requires fits { EdgesFit area }
+        requires place { IsInPlace self.old.viewport area }
+        requires room { HasRoom area self.old }
+        ensures current { IsResized area self.old.current self.new.current }
+        ensures older { IsResized area self.old.older self.new.older }
+        ensures rest { self.new ≡ record self.old { current = self.new.current; older = self.new.older; viewport_area = area } }
+    {
+        let _ = self.current.resize(area);
+        let _ = self.older.resize(area);
+        self.viewport_area = area;
+    }
+
+    /// Places the viewport on a new area of the screen, in columns and rows, sizes both buffers to it, and empties
+    /// it: an inline viewport goes around the cursor, any other takes the area. Where it became narrower it goes to
+    /// the top, and the whole screen is emptied. Memory is taken first: after `Memory` nothing changed.
+    pub fn resize(&mut self, area: Rect) -> Result<(), TerminalError<B::Error>>
+        requires { EdgesFit area }
+        ensures outcome { MatchResult result (λ _. Resizes B.screen area self.old self.new)
+            (ResizeErr B.screen self.old self.new) }
+        ensures faults { Faults result (B.failures self.old.backend) (B.failures self.new.backend) }
+    {
+        let rows = Rect {
+            x: 0,
+            y: 0,
+            width: area.width,
+            height: self.viewport.rows_in(area.height),
+        };
+        match self.reserve(rows) {
+            Ok(()) => {}
+            Err(_) => return Err(TerminalError::Memory),
+        }
+        let offset = self.known_cursor.y.saturating_sub(self.viewport_area.y);
+        let former_width = self.viewport_area.width;
+        let placed = match place_viewport(
+            &mut self.backend,
+            self.viewport,
+            former_width,
+            area,
+            offset,
+        ) {
+            Ok(placed) => placed,
+            Err(error) => return Err(TerminalError::Backend(error)),
+        };
+        self.set_area(placed.area);
+        match clear_placed(&mut self.backend, self.viewport, placed.area, placed.cursor) {
+            Ok(()) => {}
+            Err(error) => return Err(TerminalError::Backend(error)),
+        }
+        self.older.reset();
+        self.known_area = area;
+        Ok(())
+    }
+
+    /// Resizes where the screen has another size than the last known one; a fixed viewport stays.
+    pub fn autoresize(&mut self) -> Result<(), TerminalError<B::Error>>
+        ensures outcome { MatchResult result (λ _. Autoresizes B.screen self.old self.new)
+            (AutoresizeErr B.screen self.old self.new) }
+        ensures faults { Faults result (B.failures self.old.backend) (B.failures self.new.backend) }
+    {
+        if let Viewport::Fixed(_) = self.viewport {
+            return Ok(());
+        }
+        let size = match self.backend.size() {
+            Ok(size) => size,
+            Err(error) => return Err(TerminalError::Backend(error)),
+        };
+        let area = Rect::from(size);
+        if area == self.known_area {
+            return Ok(());
+        }
+        self.resize(area)
+    }
+}
