@@ -11,6 +11,8 @@ use Rattle.std.specs.Cmp.Lexicographic.{pointwise, same_text}
 use Rattle.rtui_style.specs.declared.color.Color.{Color}
 use Rattle.rtui_style.specs.contracts.color.Color as color
 use Rattle.rtui_style.specs.contracts.color.ColorPartialEq.TheImpl as color_equality
+use Rattle.rtui_style.specs.contracts.color.ColorEq.TheImpl.Laws.{laws-law as color_laws}
+use Rattle.rtui_style.specs.contracts.ModifierEq.TheImpl.Laws.{laws-law as modifier_laws}
 use Rattle.rtui_style.specs.Modifier.{modifier_of}
 use Rattle.rtui_style.specs.contracts.ModifierPartialEq.TheImpl as modifier_equality
 use Rattle.std.specs.contracts.prelude.BoolPartialEq.TheImpl as flag_equality
@@ -22,7 +24,8 @@ use Rattle.rtui_cell.specs.Symbol.{symbol_text}
 use Rattle.rtui_cell.specs.Width.{text_width}
 use Rattle.rtui_cell.specs.Look.{look_of, empty_look}
 use Rattle.rtui_cell.specs.Cell.{empty_cell, width_of, is_skipped}
-use Rattle.rtui_cell.specs.Equality.{is_same, is_same_symbol}
+use Rattle.rtui_cell.specs.contracts.cell.CellDiffOptionEq.TheImpl.Laws.{laws-law as option_laws}
+use Rattle.rtui_cell.specs.Equality.{is_same, is_same_symbol, IsEqual}
 use Rattle.rtui_cell.proofs.DerivedLemmas.{same_value}
 
 and_left : (a b : Bool) → (a && b) ≡ true → a ≡ true
@@ -108,6 +111,41 @@ same_parts a b e =
       skip = same_flag _ _ h.5;
       symbol = same_text _ _ (sym h.6);
     }
+
+pub same_meaning : (a b : Cell) → is_same a b ≡ true → IsEqual a b
+unfolding look_of
+same_meaning a b e =
+    let h = same_parts a b e in
+    record { look = rw (h.fg, h.bg, h.underline_color, h.modifier, h.symbol) refl; option = h.option; flag = h.skip }
+
+both : (a b : Bool) → a ≡ true → b ≡ true → (a && b) ≡ true
+both true b h k = k
+both false b h k = absurd (false≢true h)
+
+-- a test that is true of each value and itself is true of equal values
+true_along : {A : Type 0} (E : A → A → Bool) → ((x : A) → E x x ≡ true) → (x y : A) → x ≡ y → E x y ≡ true
+true_along E same x y e = rw (← e) (same x)
+
+same_as_itself : (b : Bool) → flag_equality.eq-value.it b b ≡ true
+same_as_itself true = refl
+same_as_itself false = refl
+
+pub equal_parts : (a b : Cell) → IsEqual a b → is_same a b ≡ true
+unfolding is_same look_of
+equal_parts a b h =
+    both _ _ (true_along color_equality.eq-value.it color_laws.refl a.fg b.fg (ap (λ l. l.fg) h.look))
+    (both _ _ (true_along color_equality.eq-value.it color_laws.refl a.bg b.bg (ap (λ l. l.bg) h.look))
+    (both _ _ (true_along color_equality.eq-value.it color_laws.refl a.underline_color b.underline_color (ap (λ l. l.underline_color) h.look))
+    (both _ _ (true_along modifier_equality.eq-value.it modifier_laws.refl a.modifier b.modifier (ap (λ l. l.modifier) h.look))
+    (both _ _ (true_along option_equality.eq-value.it option_laws.refl a.diff_option b.diff_option h.option)
+    (both _ _ (true_along flag_equality.eq-value.it same_as_itself a.skip b.skip h.flag)
+    ((bytes_eq-Decides (symbol_text a.symbol) (symbol_text b.symbol)).1 (ap (λ l. l.symbol) h.look)))))))
+
+-- cells that differ in colours and modifiers alone
+pub same_but_paint : (x y c : Cell) → x.fg ≡ y.fg → x.bg ≡ y.bg → x.underline_color ≡ y.underline_color → x.modifier ≡ y.modifier
+    → record c { fg = x.fg; bg = x.bg; underline_color = x.underline_color; modifier = x.modifier }
+    ≡ record c { fg = y.fg; bg = y.bg; underline_color = y.underline_color; modifier = y.modifier }
+same_but_paint x y c f b u m = rw (f, b, u, m) refl
 
 pub same_look : (a b : Cell) → is_same a b ≡ true → look_of a ≡ look_of b
 unfolding look_of

@@ -1,5 +1,5 @@
 -- Cells: the empty one, a style laid over one, its width, and whether it is skipped.
-use Rattle.std.specs.Prelude.{ℕ, Bool, true, false, ◌≤◌, List, Some, None}
+use Rattle.std.specs.Prelude.{ℕ, Bool, true, false, ◌&&◌, ◌==◌, ◌≤◌, List, length, Some, None}
 use Rattle.std.specs.Int.NonZero.{non_zero_u16_get}
 use Rattle.rtui_style.specs.declared.color.Color.TheVariants.{Reset}
 use Rattle.rtui_style.specs.declared.Style.{Style}
@@ -26,6 +26,10 @@ empty_cell = record {
 -- a cell that shows a text and nothing else
 abbrev pub cell_of : List ℕ → Cell
 cell_of text = record empty_cell { symbol = Some text }
+
+-- a cell with another text
+abbrev pub with_symbol : List ℕ → Cell → Cell
+with_symbol text c = record c { symbol = Some text }
 
 -- a cell after a style was laid over it
 abbrev pub styled : Style → Cell → Cell
@@ -56,6 +60,16 @@ width_by (DiffOption.ForcedWidth forced) width = non_zero_u16_get forced
 -- how many columns a cell takes
 unfoldable pub width_of : Cell → ℕ
 width_of c = width_by c.diff_option (text_width (symbol_text c.symbol))
+
+abbrev pub is_plain_option : CellDiffOption → Bool
+is_plain_option DiffOption.None = true
+is_plain_option DiffOption.Skip = false
+is_plain_option DiffOption.AlwaysUpdate = false
+is_plain_option (DiffOption.ForcedWidth forced) = false
+
+-- a text of one byte and no option
+unfoldable pub is_single_byte : Cell → Bool
+is_single_byte c = is_plain_option c.diff_option && (length (symbol_text c.symbol) == 1)
 
 -- the option says so, or the flag where there is no option
 abbrev pub is_skipped_by : CellDiffOption → Bool → Bool
