@@ -1,5 +1,6 @@
 -- What equal cells have in common, and what the empty cell is.
-use Rattle.std.proofs.Common.{◌≡◌, ℕ, Bool, true, false, ◌&&◌, nat_eq, refl, sym, ap}
+use Rattle.std.proofs.Common.{◌≡◌, ℕ, Bool, true, false, ◌&&◌, ◌==◌, length, nat_eq, refl, sym, ap, ◌∙◌}
+use Rattle.std.specs.Prelude.{if◌then◌else◌}
 use Rattle.std.proofs.lemmas.Bool.{false≢true}
 use Rattle.std.proofs.lemmas.Bool.Decides.{Decides-eqb}
 use Rattle.std.specs.Int.NonZero.{non_zero_u16_get}
@@ -18,12 +19,13 @@ use Rattle.rtui_style.specs.contracts.ModifierPartialEq.TheImpl as modifier_equa
 use Rattle.std.specs.contracts.prelude.BoolPartialEq.TheImpl as flag_equality
 use Rattle.rtui_cell.specs.declared.cell.Cell.{Cell}
 use Rattle.rtui_cell.specs.declared.cell.CellDiffOption.{CellDiffOption}
+use Rattle.rtui_cell.specs.declared.cell.CellDiffOption.TheVariants as DiffOption
 use Rattle.rtui_cell.specs.contracts.cell.CellDiffOption as option
 use Rattle.rtui_cell.specs.contracts.cell.CellDiffOptionPartialEq.TheImpl as option_equality
 use Rattle.rtui_cell.specs.Symbol.{symbol_text}
 use Rattle.rtui_cell.specs.Width.{text_width}
 use Rattle.rtui_cell.specs.Look.{look_of, empty_look}
-use Rattle.rtui_cell.specs.Cell.{empty_cell, width_of, is_skipped}
+use Rattle.rtui_cell.specs.Cell.{empty_cell, width_by, width_of, is_skipped, is_plain_option, is_single_byte}
 use Rattle.rtui_cell.specs.contracts.cell.CellDiffOptionEq.TheImpl.Laws.{laws-law as option_laws}
 use Rattle.rtui_cell.specs.Equality.{is_same, is_same_symbol, IsEqual}
 use Rattle.rtui_cell.proofs.DerivedLemmas.{same_value}
@@ -178,3 +180,28 @@ width-empty = refl
 pub skipped-empty : is_skipped empty_cell ≡ false
 unfolding is_skipped
 skipped-empty = refl
+
+single_by : (o : CellDiffOption) (one : Bool) → (is_plain_option o && one) ≡ true → (is_plain_option o ≡ true) × (one ≡ true)
+single_by o one e = (and_left (is_plain_option o) one e, and_right (is_plain_option o) one e)
+
+plain_width : (o : CellDiffOption) (n : ℕ) → is_plain_option o ≡ true → width_by o n ≡ n
+plain_width DiffOption.None n e = refl
+plain_width DiffOption.Skip n e = absurd (false≢true e)
+plain_width DiffOption.AlwaysUpdate n e = absurd (false≢true e)
+plain_width (DiffOption.ForcedWidth forced) n e = absurd (false≢true e)
+
+one_byte_width : (one : Bool) (n : ℕ) → one ≡ true → (if one then 1 else n) ≡ 1
+one_byte_width true n e = refl
+one_byte_width false n e = absurd (false≢true e)
+
+-- a cell of a single byte takes one column
+pub single_byte_width : (c : Cell) → is_single_byte c ≡ true → width_of c ≡ 1
+unfolding is_single_byte width_of text_width
+single_byte_width c e =
+    let h = single_by c.diff_option (length (symbol_text c.symbol) == 1) e in
+    plain_width c.diff_option (text_width (symbol_text c.symbol)) h.0 ∙ one_byte_width (length (symbol_text c.symbol) == 1) _ h.1
+
+-- and has no option
+pub single_byte_option : (c : Cell) → is_single_byte c ≡ true → is_plain_option c.diff_option ≡ true
+unfolding is_single_byte
+single_byte_option c e = (single_by c.diff_option _ e).0

@@ -1,6 +1,6 @@
-ghost use Rattle.std.specs.Prelude.{◌≡◌, Some, IsOk, OnOk, OnErr, IfOk, encode_utf8};
+ghost use Rattle.std.specs.Prelude.{◌≡◌, Some, IsTrue, IsOk, OnOk, OnErr, IfOk, encode_utf8};
 ghost use Rattle.rtui_cell.specs.Symbol.{symbol_text, appended, joined, IsShort};
-ghost use Rattle.rtui_cell.specs.Cell.{empty_cell, cell_of, with_symbol, styled, style_of, is_skipped, is_single_byte};
+ghost use Rattle.rtui_cell.specs.Cell.{empty_cell, cell_of, with_symbol, styled, style_of, is_skipped, is_single_byte, width_of};
 
 use crate::symbol::Symbol;
 use bitflags::Flags;
@@ -215,9 +215,10 @@ impl Cell {
 
     /// Whether the text is a single byte, as a blank where none is set, and the cell has no option. It takes one
     /// column then.
-    #[tactic(auto, unfolding(crate::specs::Cell::is_single_byte))]
+    #[tactic(auto, using(crate::proofs::CellLemmas::single_byte_width), unfolding(crate::specs::Cell::is_single_byte))]
     pub fn is_single_byte(&self) -> bool
-        ensures { result ≡ is_single_byte self.now }
+        ensures value { result ≡ is_single_byte self.now }
+        ensures narrow { IsTrue result → width_of self.now ≡ 1 }
     {
         matches!(self.diff_option, CellDiffOption::None) && self.symbol.is_single_byte()
     }
