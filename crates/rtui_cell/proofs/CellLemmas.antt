@@ -25,7 +25,7 @@ use Rattle.rtui_cell.specs.contracts.cell.CellDiffOptionPartialEq.TheImpl as opt
 use Rattle.rtui_cell.specs.Symbol.{symbol_text}
 use Rattle.rtui_cell.specs.Width.{text_width}
 use Rattle.rtui_cell.specs.Look.{look_of, empty_look}
-use Rattle.rtui_cell.specs.Cell.{empty_cell, width_by, width_of, is_skipped, is_plain_option, is_single_byte}
+use Rattle.rtui_cell.specs.Cell.{empty_cell, width_by, width_of, is_skipped, has_no_option, is_single_byte}
 use Rattle.rtui_cell.specs.contracts.cell.CellDiffOptionEq.TheImpl.Laws.{laws-law as option_laws}
 use Rattle.rtui_cell.specs.Equality.{is_same, is_same_symbol, IsEqual}
 use Rattle.rtui_cell.proofs.DerivedLemmas.{same_value}
@@ -181,10 +181,10 @@ pub skipped-empty : is_skipped empty_cell ≡ false
 unfolding is_skipped
 skipped-empty = refl
 
-single_by : (o : CellDiffOption) (one : Bool) → (is_plain_option o && one) ≡ true → (is_plain_option o ≡ true) × (one ≡ true)
-single_by o one e = (and_left (is_plain_option o) one e, and_right (is_plain_option o) one e)
+single_by : (o : CellDiffOption) (one : Bool) → (has_no_option o && one) ≡ true → (has_no_option o ≡ true) × (one ≡ true)
+single_by o one e = (and_left (has_no_option o) one e, and_right (has_no_option o) one e)
 
-plain_width : (o : CellDiffOption) (n : ℕ) → is_plain_option o ≡ true → width_by o n ≡ n
+plain_width : (o : CellDiffOption) (n : ℕ) → has_no_option o ≡ true → width_by o n ≡ n
 plain_width DiffOption.None n e = refl
 plain_width DiffOption.Skip n e = absurd (false≢true e)
 plain_width DiffOption.AlwaysUpdate n e = absurd (false≢true e)
@@ -202,6 +202,6 @@ single_byte_width c e =
     plain_width c.diff_option (text_width (symbol_text c.symbol)) h.0 ∙ one_byte_width (length (symbol_text c.symbol) == 1) _ h.1
 
 -- and has no option
-pub single_byte_option : (c : Cell) → is_single_byte c ≡ true → is_plain_option c.diff_option ≡ true
+pub single_byte_option : (c : Cell) → is_single_byte c ≡ true → has_no_option c.diff_option ≡ true
 unfolding is_single_byte
 single_byte_option c e = (single_by c.diff_option _ e).0

@@ -5,7 +5,7 @@ use Rattle.std.proofs.Common.{◌≡◌, ℕ, zero, suc, ◌+◌, ◌-◌, ◌<�
 use Rattle.rtui_cell.specs.declared.cell.Cell.{Cell}
 use Rattle.rtui_cell.specs.declared.cell.CellDiffOption.{CellDiffOption}
 use Rattle.rtui_cell.specs.declared.cell.CellDiffOption.TheVariants as DiffOption
-use Rattle.rtui_cell.specs.Cell.{width_of, is_skipped, empty_cell, is_plain_option, is_single_byte}
+use Rattle.rtui_cell.specs.Cell.{width_of, is_skipped, empty_cell, has_no_option, is_single_byte}
 use Rattle.rtui_cell.specs.Equality.{is_same}
 use Rattle.rtui_cell.proofs.CellLemmas.{single_byte_width, single_byte_option}
 use Rattle.std.proofs.lemmas.Bool.{false≢true}
@@ -87,7 +87,7 @@ read-plain ps ns len at end over left force g f d e lt hp hn past is turns =
     given-plain ps ns len at end force (record { over = over; left = left; force = f }) lt past (turns ∙ rw (p, n) refl)
     ∙ ap (λ g. give g at (given ps ns (len - (at + 1 + over)) (record { over = 0; left = at + 1 + left - (at + 1 + over); force = f }) (at + 1 + over))) (sym (is ∙ rw (p, n) refl))
 
-plain_always : (o : CellDiffOption) → is_plain_option o ≡ true → is_always_by o ≡ false
+plain_always : (o : CellDiffOption) → has_no_option o ≡ true → is_always_by o ≡ false
 plain_always DiffOption.None e = refl
 plain_always DiffOption.Skip e = refl
 plain_always DiffOption.AlwaysUpdate e = absurd (false≢true e)
