@@ -1,10 +1,11 @@
 -- What a buffer is: an area, its cells row by row, and for how many cells there is room.
-use Rattle.std.specs.Prelude.{◌≡◌, ℕ, ◌≤◌, ◌+◌, ◌-◌, ◌*◌, ◌/◌, ◌%◌, ◌++◌, List, take, drop, length, replicate, slice_index_or, slice_set}
+use Rattle.std.specs.Prelude.{◌≡◌, ℕ, ◌<◌, ◌≤◌, ◌+◌, ◌-◌, ◌*◌, ◌/◌, ◌%◌, ◌++◌, List, take, drop, length, replicate, slice_index_or, slice_set}
 use Rattle.rtui_geometry.specs.declared.position.Position.{Position}
 use Rattle.rtui_geometry.specs.declared.rect.Rect.{Rect}
 use Rattle.rtui_geometry.specs.Rect.{EdgesFit}
 use Rattle.rtui_cell.specs.declared.cell.Cell.{Cell}
 use Rattle.rtui_cell.specs.Cell.{empty_cell}
+use Rattle.rtui_cell.specs.Equality.{IsEqual}
 
 pub record Sheet : Type 0 where
   pub area : Rect
@@ -65,3 +66,9 @@ pub record IsEmptied (over : Rect) (s : Sheet) : Type 0 where
 pub record IsSameSheet (s t : Sheet) : Type 0 where
   pub area : t.area ≡ s.area
   pub cells : t.cells ≡ s.cells
+
+-- the same area, and equal cells
+pub record IsEqualSheet (s t : Sheet) : Type 0 where
+  pub area : s.area ≡ t.area
+  pub count : length s.cells ≡ length t.cells
+  pub cells : (k : ℕ) → k < length s.cells → IsEqual (slice_index_or s.cells k empty_cell) (slice_index_or t.cells k empty_cell)
