@@ -5,6 +5,7 @@ use Rattle.rtui_cell.specs.declared.cell.Cell.{Cell}
 use Rattle.rtui_cell.specs.Grid.{Grid, Update, update_by}
 use Rattle.rtui_diff.specs.Settled.{IsSettled}
 use Rattle.rtui_diff.specs.Shows.{Shows}
+use Rattle.rtui_diff.specs.Updates.{updates}
 use Rattle.rtui_diff.specs.Diff.{IsDiff}
 use Rattle.rtui_buffer.specs.Sheet.{Sheet}
 
@@ -25,6 +26,10 @@ pub record IsAligned (prev next : Sheet) : Type 0 where
 -- how many rows both have
 abbrev pub common_rows : Sheet → Sheet → ℕ
 common_rows prev next = min prev.area.height next.area.height
+
+-- the updates from one buffer to the next, over their common rows
+abbrev pub sheet_updates : Sheet → Sheet → List Update
+sheet_updates prev next = updates prev.area.x prev.area.y prev.area.width (common_rows prev next) prev.cells next.cells
 
 -- the updates are a diff of the common rows of two buffers
 abbrev pub IsSheetDiff : Sheet → Sheet → List Update → Type 0
