@@ -1,8 +1,7 @@
 -- The grid that a row-major list of cells stands for.
 use Rattle.std.specs.Prelude.{◌≡◌, false, ℕ, ◌+◌, ◌*◌, nat_lt, if◌then◌else◌, List, map, slice_index_or}
 use Rattle.rtui_cell.specs.declared.cell.Cell.{Cell}
-use Rattle.rtui_cell.specs.declared.cell.CellDiffOption.TheVariants as DiffOption
-use Rattle.rtui_cell.specs.Cell.{empty_cell}
+use Rattle.rtui_cell.specs.Cell.{empty_cell, IsUnmarked}
 use Rattle.rtui_cell.specs.Look.{Look, look_of, empty_look}
 use Rattle.rtui_cell.specs.Grid.{Grid}
 
@@ -18,11 +17,6 @@ look_at cells i = slice_index_or (map look_of cells) i empty_look
 abbrev pub grid_of : ℕ → List Cell → Grid
 grid_of w cells a b = if nat_lt a w then look_at cells (b * w + a) else empty_look
 
--- a cell without option and flag
-pub record IsPlain (cell : Cell) : Type 0 where
-  pub option : cell.diff_option ≡ DiffOption.None
-  pub flag : cell.skip ≡ false
-
--- each cell is plain
-abbrev pub ArePlain : List Cell → Type 0
-ArePlain cells = (i : ℕ) → IsPlain (slice_index_or cells i empty_cell)
+-- no cell has an option or the flag
+abbrev pub AreUnmarked : List Cell → Type 0
+AreUnmarked cells = (i : ℕ) → IsUnmarked (slice_index_or cells i empty_cell)

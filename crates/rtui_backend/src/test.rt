@@ -7,7 +7,8 @@ ghost use Rattle.rtui_cell.specs.Cell.{width_of};
 ghost use Rattle.rtui_cell.specs.Grid.{put, update_by};
 ghost use Rattle.rtui_buffer.specs.Sheet.{IsEmptied};
 ghost use Rattle.rtui_backend.specs.Screen.{Draws};
-ghost use Rattle.rtui_backend.specs.CellGrid.{look_at, grid_of, IsPlain, ArePlain};
+ghost use Rattle.rtui_cell.specs.Cell.{IsUnmarked};
+ghost use Rattle.rtui_backend.specs.CellGrid.{look_at, grid_of, AreUnmarked};
 ghost use Rattle.rtui_backend.specs.Failures.{Counts};
 ghost use Rattle.rtui_backend.specs.Display.{test_error_text};
 
@@ -44,47 +45,60 @@ impl fmt::Display for TestError {
 
 impl Error for TestError {}
 
-// A cell of the same look, without option and flag.
+// Gives a cell the look of another one, without option and flag.
 #[tactic(auto, unfolding(rtui_cell::specs::Look::look_of))]
-fn shown(alloc: Global, cell: &Cell) -> Result<Cell, AllocError>
-    ensures look { IfOk result (λ copy. look_of copy ≡ look_of cell.now) }
-    ensures plain { IfOk result IsPlain }
+fn copy_look(alloc: Global, to: &mut Cell, cell: &Cell) -> Result<(), AllocError>
+    ensures look { OnOk result (look_of to.new ≡ look_of cell.now) }
+    ensures unmarked { OnOk result (IsUnmarked to.new) }
+    ensures err { OnErr result (to.new ≡ to.old) }
 {
-    let mut copy = cell.clone(alloc)?;
-    copy.diff_option = CellDiffOption::None;
-    copy.skip = false;
-    Ok(copy)
+    to.clone_from(alloc, cell)?;
+    to.diff_option = CellDiffOption::None;
+    to.skip = false;
+    Ok(())
 }
 
-// Puts a cell at a place, and empties the cells behind it up to `end`.
+// Empties the cells behind a place up to `end`.
 #[tactic(auto, using(crate::proofs::LookLemmas::looks))]
-fn place(cells: &mut [Cell], at: usize, end: usize, cell: Cell)
+fn empty_behind(cells: &mut [Cell], at: usize, end: usize)
     requires at_in { at < end }
     requires end_in { end ≤ length cells.old }
-    ensures plain { IsPlain cell → ArePlain cells.old → ArePlain cells.new }
-    ensures looks { (k : ℕ) → look_at cells.new k ≡ (if k == at then look_of cell else (if nat_lt at k && nat_lt k end then empty_look else look_at cells.old k)) }
+    ensures unmarked { AreUnmarked cells.old → AreUnmarked cells.new }
+    ensures looks { (k : ℕ) → look_at cells.new k
+        ≡ (if nat_lt at k && nat_lt k end then empty_look else look_at cells.old k) }
 {
-    cells[at] = cell;
     for k in at + 1..end {
         cells[k].reset();
     }
 }
 
-// Puts a cell in a column and a row, where `shown` has its look.
-fn put_cell(cells: &mut [Cell], size: Size, x: u16, y: u16, cell: &Cell, shown: Cell)
+// Puts a cell in a column and a row; where memory is refused nothing changes.
+#[tactic(auto, using(crate::proofs::LookLemmas::looks))]
+fn put_cell(
+    alloc: Global,
+    cells: &mut [Cell],
+    size: Size,
+    x: u16,
+    y: u16,
+    cell: &Cell,
+) -> Result<(), AllocError>
     requires covers { length cells.old ≡ size.width * size.height }
-    requires look { look_of shown ≡ look_of cell.now }
-    ensures plain { IsPlain shown → ArePlain cells.old → ArePlain cells.new }
-    ensures grid { (a b : ℕ) → grid_of size.width cells.new a b ≡ put size.width size.height (record { x = x; y = y; cell = cell.now }) (grid_of size.width cells.old) a b }
+    ensures unmarked { AreUnmarked cells.old → AreUnmarked cells.new }
+    ensures grid { OnOk result ((a b : ℕ) → grid_of size.width cells.new a b
+        ≡ put size.width size.height (record { x = x; y = y; cell = cell.now })
+            (grid_of size.width cells.old) a b) }
+    ensures err { OnErr result (cells.new ≡ cells.old) }
 {
     if x >= size.width || y >= size.height {
-        return;
+        return Ok(());
     }
     let row = usize::from(y) * usize::from(size.width);
     let column = usize::from(x);
     let behind = column + usize::from(cell.cell_width());
     let end = behind.max(column + 1).min(usize::from(size.width));
-    place(cells, row + column, row + end, shown);
+    copy_look(alloc, &mut cells[row + column], cell)?;
+    empty_behind(cells, row + column, row + end);
+    Ok(())
 }
 
 /// A screen in memory, for tests: it keeps the contract of `Backend`, shows what it holds, and fails when it is
@@ -105,7 +119,7 @@ pub struct TestBackend {
     ghost corner_y: { buffer.area.y ≡ 0 },
     ghost column: { cursor.x ≤ buffer.area.width - 1 },
     ghost row: { cursor.y ≤ buffer.area.height - 1 },
-    ghost plain: { ArePlain buffer.cells },
+    ghost plain: { AreUnmarked buffer.cells },
 }
 
 impl TestBackend {
@@ -138,7 +152,7 @@ impl TestBackend {
         ensures area { result.now.area ≡ record { x = 0; y = 0; width = (screen_of self.now).width; height = (screen_of self.now).height } }
         ensures shown { (a b : ℕ) → grid_of result.now.area.width result.now.cells a b ≡ (screen_of self.now).grid a b }
         ensures value { result.now ≡ sheet_of self.now }
-        ensures plain { ArePlain result.now.cells }
+        ensures plain { AreUnmarked result.now.cells }
     {
         &self.buffer
     }
@@ -219,9 +233,8 @@ impl TestBackend {
         ensures failures { failures_of self.new ≡ failures_of self.old }
         ensures told { told_after self.new ≡ told_after self.old }
     {
-        let copy = shown(self.alloc, cell)?;
-        let area = *self.buffer.area();
-        put_cell(self.buffer.cells_mut(), area.as_size(), x, y, cell, copy);
+        let size = self.buffer.area().as_size();
+        put_cell(self.alloc, self.buffer.cells_mut(), size, x, y, cell)?;
         self.written = self.written.saturating_add(1);
         Ok(())
     }

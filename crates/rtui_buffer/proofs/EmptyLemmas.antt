@@ -6,7 +6,9 @@ use Rattle.rtui_cell.specs.Grid.{Grid}
 use Rattle.rtui_cell.proofs.CellLemmas.{look-empty, width-empty}
 use Rattle.rtui_diff.specs.Cells.{cell, cell_at}
 use Rattle.rtui_geometry.specs.declared.rect.Rect.{Rect}
-use Rattle.rtui_buffer.specs.Sheet.{Sheet, IsEmptied, empty_cells, area_size}
+use Rattle.rtui_buffer.specs.Sheet.{Sheet, IsEmptied, empty_cells, area_size, cell_in, cell_index, position_of}
+use Rattle.rtui_buffer.specs.PaintedText.{IsPaintable}
+use Rattle.rtui_geometry.specs.declared.position.Position.{Position}
 use Rattle.rtui_buffer.specs.Frame.{IsSettledSheet, ShowsSheet}
 
 pub cell-empty : (n i : ℕ) → cell (empty_cells n) i ≡ empty_cell
@@ -26,6 +28,15 @@ module _ (r : Rect) (s : Sheet) (emptied : IsEmptied r s) where
     skipped = λ a b a_in b_in skip. let one = one_column s.area.width a b in omega arith;
     within = λ a b a_in b_in plain. let one = one_column s.area.width a b in omega arith;
     behind = λ a b k a_in b_in plain more less. let one = one_column s.area.width a b in absurd (omega arith);
+  }
+
+  cell_in-empty : (p : Position) → cell_in s p ≡ empty_cell
+  cell_in-empty p = rw emptied.cells (cell-empty (area_size r) (cell_index s.area p))
+
+  pub IsPaintable-empty : (p : Position) (n : ℕ) → IsPaintable p n s
+  IsPaintable-empty p n = record {
+    unmarked = λ a le lt. rw (cell_in-empty (position_of (a, p.y))) (record { option = refl; flag = refl });
+    uncovered = λ a le lt plain. let one : width_of (cell_in s (position_of (a, p.y))) ≡ 1 = ap width_of (cell_in-empty (position_of (a, p.y))) ∙ width-empty in omega arith;
   }
 
   pub ShowsSheet-empty : (g : Grid) → ((a b : ℕ) → a < s.area.width → b < s.area.height → g (s.area.x + a) (s.area.y + b) ≡ empty_look) → ShowsSheet s g

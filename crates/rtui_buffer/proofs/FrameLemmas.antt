@@ -3,7 +3,7 @@ use Rattle.std.proofs.Common.{subst, arith}
 use Rattle.rtui_diff.specs.Settled.{IsSettled}
 use Rattle.rtui_diff.proofs.SettledLemmas.{settled_fewer}
 use Rattle.rtui_buffer.specs.Sheet.{Sheet}
-use Rattle.rtui_buffer.specs.Frame.{IsSettledSheet, IsAligned, common_rows}
+use Rattle.rtui_buffer.specs.Frame.{IsSettledSheet, IsAligned, HaveSettledRows, common_rows}
 
 -- they are settled where the whole is
 common-prev : (p n : Sheet) → IsSettledSheet p → IsSettled p.area.width (common_rows p n) p.cells
@@ -14,8 +14,5 @@ common-next p n al s =
     subst (λ w. IsSettled w (common_rows p n) n.cells) al.width
     (settled_fewer n.area.width n.area.height (common_rows p n) n.cells (omega arith) s)
 
--- what holds of settled common rows holds of settled buffers
-pub on_common : {P : Type 0} (p n : Sheet) → IsAligned p n
-    → (IsSettled p.area.width (common_rows p n) p.cells → IsSettled p.area.width (common_rows p n) n.cells → P)
-    → IsSettledSheet p → IsSettledSheet n → P
-on_common p n al of_common sp sn = of_common (common-prev p n sp) (common-next p n al sn)
+pub settled_rows : (p n : Sheet) → IsAligned p n → IsSettledSheet p → IsSettledSheet n → HaveSettledRows p n
+settled_rows p n al sp sn = record { of_prev = common-prev p n sp; of_next = common-next p n al sn }

@@ -10,3 +10,4 @@ pub mod RowLemmas
 pub mod OverlayLemmas
 pub mod FrontLemmas
 pub mod ColumnLemmas
+pub mod EqualityLemmas

@@ -1,5 +1,5 @@
 -- How painting of spans goes on, a span at a time.
-use Rattle.std.proofs.Common.{◌≡◌, ◌≢◌, ℕ, ◌+◌, ◌-◌, ◌<◌, ◌≤◌, true, List, [], ◌∷◌, ◌++◌, length, get_or, drop, refl, sym, ap, ◌∙◌, arith, add-one, drop-cons}
+use Rattle.std.proofs.Common.{◌≡◌, ◌≢◌, ℕ, ◌+◌, ◌-◌, ◌<◌, ◌≤◌, true, List, [], ◌∷◌, ◌++◌, length, get_or, drop, refl, sym, ap, subst, ◌∙◌, arith, add-one, drop-cons}
 use Rattle.std.proofs.lemmas.List.{drop_all}
 use Rattle.std.proofs.lemmas.List.Sums.{sum_by-append}
 use Rattle.unicode_segmentation.specs.Grapheme.{graphemes}
@@ -9,9 +9,10 @@ use Rattle.rtui_style.specs.Style.{patch}
 use Rattle.rtui_cell.specs.declared.cell.Cell.{Cell}
 use Rattle.rtui_text.specs.Text.{SpanData}
 use Rattle.rtui_buffer.specs.Painting.{Piece, piece_width, text_pieces, columns, with_piece, painted, IsSameOutside, IsPainted}
-use Rattle.rtui_buffer.specs.PaintedText.{room_at}
+use Rattle.rtui_cell.specs.Symbol.{IsShort}
+use Rattle.std.proofs.lemmas.List.Elements.{All-nil, All-cons, All-head, All-tail}
+use Rattle.rtui_buffer.specs.PaintedText.{room_at, AreShort}
 use Rattle.rtui_buffer.specs.Line.{line_pieces}
-use Rattle.rtui_buffer.proofs.EmptyLemmas.{IsSettledSheet-empty}
 use Rattle.rtui_buffer.proofs.PaintLemmas.{painted-nil, painted-cons, IsSameOutside-refl, IsSameOutside-wider, IsSameOutside-then}
 use Rattle.rtui_buffer.proofs.PaintedLemmas.{AreWide, AreWide-kept, columns-kept, IsPainted-painted}
 use Rattle.rtui_buffer.proofs.TextLemmas.{text_pieces-none, columns-none, Paints-none}
@@ -93,6 +94,22 @@ module _ (base : Style) (start used room w : ℕ) (left ss : List SpanData) (s :
       let place : start + (used + w) ≡ start + used + columns ps = omega arith in
       rw (place, put) (sym (painted-append (start + used) ps (line_pieces (room - (used + w)) base ss) cells) ∙ ap (λ qs. painted (start + used) qs cells) (sym first) ∙ h)
 
+-- of two lists of short pieces both are
+short-front : (ps qs : List Piece) → AreShort (ps ++ qs) → AreShort ps
+short-front [] qs h = All-nil (λ p. IsShort p.symbol)
+short-front (p ∷ ps) qs h = All-cons (λ p. IsShort p.symbol) p ps (All-head (λ p. IsShort p.symbol) p (ps ++ qs) h) (short-front ps qs (All-tail (λ p. IsShort p.symbol) p (ps ++ qs) h))
+
+short-rest : (ps qs : List Piece) → AreShort (ps ++ qs) → AreShort qs
+short-rest [] qs h = h
+short-rest (p ∷ ps) qs h = short-rest ps qs (All-tail (λ p. IsShort p.symbol) p (ps ++ qs) h)
+
+pub span-short : (base : Style) (used room w : ℕ) (left ss : List SpanData) (s : SpanData) → left ≡ s ∷ ss → w ≡ columns (text_pieces (room - used) (patch base s.style) s.content)
+    → AreShort (line_pieces (room - used) base left)
+    → AreShort (text_pieces (room - used) (patch base s.style) s.content) × AreShort (line_pieces (room - (used + w)) base ss)
+span-short base used room w left ss s is wide h =
+    let all = subst AreShort (first base 0 used room w left ss s is wide) h in
+    (short-front _ _ all, short-rest _ _ all)
+
 pub span-outside : (start used w n : ℕ) (old cells more : List Cell) → IsSameOutside start (start + used) old cells → w ≡ n
     → IsSameOutside (start + used) (start + used + n) cells more → IsSameOutside start (start + (used + w)) old more
 span-outside start used w n old cells more h e g =
@@ -119,4 +136,4 @@ spans-more ss i d lt = rw (add-one, drop-cons ss i d)
 
 pub ruleset line_steps = (IsPainted-line, IsSameOutside-refl)
 
-pub ruleset no_line_steps = (line_pieces-none, columns-none, Paints-none, IsSettledSheet-empty)
+pub ruleset no_line_steps = (line_pieces-none, columns-none, Paints-none)

@@ -1,85 +1,184 @@
--- Cells put one by one at their positions in the list of an area.
-use Rattle.std.proofs.Common.{◌≡◌, ◌≢◌, ℕ, ◌+◌, ◌-◌, ◌<◌, List, length, get_or, sym, ap, ap₂, subst, ◌∙◌, arith, ⊎_elim}
-use Rattle.std.proofs.lemmas.Bool.{cases_eq}
-use Rattle.std.specs.Prelude.{slice_set}
-use Rattle.std.proofs.lemmas.Nat.{mul-add-lt, same_from_place}
+-- Blocks of cells in rows of others.
+use Rattle.std.proofs.Common.{◌≡◌, ◌≢◌, ℕ, ◌+◌, ◌-◌, ◌*◌, ◌<◌, ◌≤◌, ⊎_elim, ◌&&◌, nat_le, nat_lt, if◌then◌else◌, List, [], ◌++◌, take, length, set, get_or, refl, sym, ap, subst, ◌∙◌, arith, mul_comm}
+use Rattle.std.proofs.Math.Seq.{take-nil}
+use Rattle.std.proofs.lemmas.Bool.{cases_lt}
+use Rattle.std.proofs.lemmas.Bool.Decides.{nat_tests}
+use Rattle.std.proofs.lemmas.Nat.{row_fits}
 use Rattle.std.proofs.lemmas.List.{get_or-set_other, get_or-set_same}
 use Rattle.rtui_geometry.specs.declared.position.Position.{Position}
 use Rattle.rtui_geometry.specs.declared.rect.Rect.{Rect}
-use Rattle.rtui_geometry.specs.Rect.{HasPosition, IsInside}
+use Rattle.rtui_geometry.specs.Rect.{HasPosition, EdgesFit}
 use Rattle.rtui_cell.specs.declared.cell.Cell.{Cell}
 use Rattle.rtui_cell.specs.Cell.{empty_cell}
-use Rattle.rtui_buffer.specs.Sheet.{Sheet, area_size, cell_index, cell_in, position_of}
-use Rattle.rtui_buffer.specs.Overlay.{IsOverlay, IsOnlyIn, Stand, StandUpTo, cell_over, united}
+use Rattle.rtui_diff.specs.Cells.{cell, cell_at}
+use Rattle.rtui_buffer.specs.Sheet.{Sheet, cell_in, cell_index, empty_cells}
+use Rattle.rtui_buffer.proofs.EmptyLemmas.{cell-empty}
+use Rattle.rtui_buffer.specs.Painting.{IsSameOutside}
+use Rattle.rtui_buffer.specs.Overlay.{IsOverlay, IsExtended, IsAround, is_in_block, IsBlockAt, IsBlockIn, united}
+use Rattle.rtui_buffer.proofs.PaintLemmas.{IsSameOutside-set, IsSameOutside-wider}
 
--- a position's place is one of the list
-pub cell_index-lt : (r : Rect) (p : Position) → HasPosition r p → cell_index r p < area_size r
-cell_index-lt r p h =
-    let a = h.left in let b = h.right in let c = h.top in let d = h.bottom in
-    mul-add-lt (p.y - r.y) r.width (p.x - r.x) r.height (omega arith) (omega arith)
-
--- positions at one place are one
-pub same_position : (r : Rect) (p q : Position) → HasPosition r p → HasPosition r q → cell_index r p ≡ cell_index r q → p ≡ q
-same_position r p q h g e =
-    let a = h.left in let b = h.right in let c = g.left in let d = g.right in let i = h.top in let j = g.top in
-    let both = same_from_place (p.y - r.y) (p.x - r.x) (q.y - r.y) (q.x - r.x) r.width (omega arith) (omega arith) e in
-    let x : p.x ≡ q.x = let f = both.1 in omega arith in
-    let y : p.y ≡ q.y = let f = both.0 in omega arith in
-    ap₂ (λ (m : ℕ) (n : ℕ). position_of (m, n)) x y
-
-module _ (r : Rect) (p : Position) (h : HasPosition r p) (cells : List Cell) (c : Cell) where
-  -- the cell put at a position
-  pub put-same : length cells ≡ area_size r → cell_over r (slice_set cells (cell_index r p) c) p ≡ c
-  put-same n = let lt = cell_index-lt r p h in get_or-set_same cells (cell_index r p) c empty_cell (omega arith)
-
-  -- the cell at any other position stays
-  pub put-other : (q : Position) → HasPosition r q → q ≢ p → cell_over r (slice_set cells (cell_index r p) c) q ≡ cell_over r cells q
-  put-other q g ne = get_or-set_other cells (cell_index r p) (cell_index r q) c empty_cell (λ e. ne (same_position r q p g h e))
-
--- a put at a position keeps what stands at others
-pub Stand-put : (these : Position → Type 0) (u r : Rect) (given cells : List Cell) (p : Position) (c : Cell)
-    → HasPosition r p → ((q : Position) → these q → HasPosition r q × (q ≢ p))
-    → Stand these u given r cells → Stand these u given r (slice_set cells (cell_index r p) c)
-Stand-put these u r given cells p c h other stand = λ q t. put-other r p h cells c q (other q t).0 (other q t).1 ∙ stand q t
-
--- a put of the next cell at its position
-pub StandUpTo-put : (these : Position → Type 0) (u r : Rect) (given cells : List Cell) (n : ℕ) (p : Position)
-    → length cells ≡ area_size r → IsInside u r → ((q : Position) → these q → HasPosition u q) → HasPosition u p → cell_index u p ≡ n
-    → StandUpTo these u given r cells n → StandUpTo these u given r (slice_set cells (cell_index r p) (get_or given n empty_cell)) (n + 1)
-StandUpTo-put these u r given cells n p len inside within h at stand = λ q t lt.
-    let g = within q t in
+-- a swap of one more cell
+pub moved-more : (to from k : ℕ) (cells : List Cell) (was block former : List Cell) → to + k < length cells
+    → ((j : ℕ) → j < k → cell cells (to + j) ≡ cell was (from + j)) → cell block (from + k) ≡ cell was (from + k)
+    → (j : ℕ) → j < k + 1 → cell (set cells (to + k) (cell block (from + k))) (to + j) ≡ cell was (from + j)
+moved-more to from k cells was block former lt before here j less =
     ⊎_elim
-    (λ e.
-    let same : q ≡ p = same_position u q p g h (e ∙ sym at) in
-    ap (cell_over r (slice_set cells (cell_index r p) (get_or given n empty_cell))) same
-    ∙ put-same r p (inside p h) cells (get_or given n empty_cell) len ∙ sym (ap (λ k. get_or given k empty_cell) e))
-    (λ ne. put-other r p (inside p h) cells (get_or given n empty_cell) q (inside q g) (λ e. ne (ap (cell_index u) e ∙ at)) ∙ stand q t (omega arith))
-    (cases_eq (cell_index u q) n)
+    (λ (earlier : j < k). (let ne : to + j ≢ to + k = omega arith in get_or-set_other cells (to + k) (to + j) (cell block (from + k)) empty_cell ne) ∙ before j earlier)
+    (λ (not_earlier : k ≤ j).
+    let same : k ≡ j = omega arith in
+    subst (λ n. cell (set cells (to + k) (cell block (from + k))) (to + n) ≡ cell was (from + n)) same
+    (get_or-set_same cells (to + k) (cell block (from + k)) empty_cell lt ∙ here))
+    (cases_lt j k)
 
--- the next position was not to be put
-pub StandUpTo-pass : (these : Position → Type 0) (u r : Rect) (given cells : List Cell) (n : ℕ) (p : Position)
-    → ((q : Position) → these q → HasPosition u q) → HasPosition u p → cell_index u p ≡ n → ¬ (these p)
-    → StandUpTo these u given r cells n → StandUpTo these u given r cells (n + 1)
-StandUpTo-pass these u r given cells n p within h at out stand = λ q t lt.
-    let no : cell_index u q ≢ n = λ e. out (subst these (same_position u q p (within q t) h (e ∙ sym at)) t) in
-    stand q t (omega arith)
+pub IsBlockAt-none : (w left top columns : ℕ) (block cells : List Cell) → IsBlockAt w left top columns 0 block cells cells
+IsBlockAt-none w left top columns block cells = record { count = refl; at = λ a b lt. grind (arith, nat_tests) }
 
--- all cells are put
-pub Stand-all : (these : Position → Type 0) (u r : Rect) (given cells : List Cell) (n : ℕ)
-    → ((q : Position) → these q → HasPosition u q) → area_size u ≡ n → StandUpTo these u given r cells n → Stand these u given r cells
-Stand-all these u r given cells n within e stand = λ q t. let lt = cell_index-lt u q (within q t) in stand q t (omega arith)
+rows_before : (w b c : ℕ) → b < c → b * w + w ≤ c * w
+rows_before w b c lt = row_fits b w c w lt (omega arith)
 
--- the upper buffer's cells first, then those of the lower one
-pub IsOverlay-laid : (a b s : Sheet) (made cells : List Cell) → s.cells ≡ cells → s.area ≡ united a.area b.area → IsInside b.area s.area
-    → Stand (HasPosition b.area) b.area b.cells s.area made → ((p : Position) → IsOnlyIn s.area b.area p → cell_over s.area made p ≡ empty_cell)
-    → Stand (IsOnlyIn a.area b.area) a.area a.cells s.area cells
-    → Stand (λ p. HasPosition s.area p × HasPosition b.area p) s.area made s.area cells
-    → Stand (IsOnlyIn s.area a.area) s.area made s.area cells → IsOverlay a b s
-IsOverlay-laid a b s made cells same area inside copies blanks moved kept rest =
-    let now : (p : Position) → cell_in s p ≡ cell_over s.area cells p = λ p. ap (λ l. cell_over s.area l p) same in
+module _ (w left top columns row : ℕ) (block old now more given : List Cell) (fits : left + columns ≤ w)
+    (h : IsBlockAt w left top columns row block old now)
+    (moved : (k : ℕ) → k < columns → cell more ((top + row) * w + left + k) ≡ cell given (row * columns + k))
+    (rest : IsSameOutside ((top + row) * w + left) ((top + row) * w + left + columns) now more)
+    (left_over : (k : ℕ) → row * columns ≤ k → cell given k ≡ cell block k) where
+  former : (a : ℕ) → a < w → cell_at w now a (top + row) ≡ cell_at w old a (top + row)
+  former a lt = let e = h.at a (top + row) lt in grind (arith, nat_tests)
+
+  in_row : (a : ℕ) → a < w → cell_at w more a (top + row)
+      ≡ (if is_in_block left top columns (row + 1) a (top + row) then cell_at columns block (a - left) (top + row - top) else cell_at w old a (top + row))
+  in_row a lt =
+      let f = former a lt in
+      ⊎_elim
+      (λ (before : a < left). let e : cell_at w more a (top + row) ≡ cell_at w old a (top + row) = rest.before ((top + row) * w + a) (omega arith) ∙ f in grind (arith, nat_tests))
+      (λ (from_left : left ≤ a).
+      ⊎_elim
+      (λ (inside : a < left + columns).
+      let to : (top + row) * w + left + (a - left) ≡ (top + row) * w + a = omega arith in
+      let from : top + row - top ≡ row = omega arith in
+      let e : cell_at w more a (top + row) ≡ cell_at columns block (a - left) row = ap (cell more) (sym to) ∙ moved (a - left) (omega arith) ∙ left_over (row * columns + (a - left)) (omega arith) in
+      let e2 : cell_at w more a (top + row) ≡ cell_at columns block (a - left) (top + row - top) = e ∙ ap (cell_at columns block (a - left)) (sym from) in
+      grind (arith, nat_tests))
+      (λ (behind : left + columns ≤ a). let e : cell_at w more a (top + row) ≡ cell_at w old a (top + row) = rest.behind ((top + row) * w + a) (omega arith) ∙ f in grind (arith, nat_tests))
+      (cases_lt a (left + columns)))
+      (cases_lt a left)
+
+  above : (a b : ℕ) → a < w → b < top + row → cell_at w more a b ≡ cell_at w now a b
+  above a b lt up = let r = rows_before w b (top + row) up in rest.before (b * w + a) (omega arith)
+
+  below : (a b : ℕ) → a < w → top + row < b → cell_at w more a b ≡ cell_at w now a b
+  below a b lt down = let r = rows_before w (top + row) b down in rest.behind (b * w + a) (omega arith)
+
+  pub IsBlockAt-more : IsBlockAt w left top columns (row + 1) block old more
+  IsBlockAt-more = record {
+    count = rest.count ∙ h.count;
+    at = λ a b lt. ⊎_elim
+        (λ (up : b < top + row). let e = above a b lt up in let f = h.at a b lt in grind (arith, nat_tests))
+        (λ (not_up : top + row ≤ b). ⊎_elim
+        (λ (down : top + row < b). let e = below a b lt down in let f = h.at a b lt in grind (arith, nat_tests))
+        (λ (not_down : b ≤ top + row). let same : top + row ≡ b = omega arith in
+        subst (λ n. cell_at w more a n ≡ (if is_in_block left top columns (row + 1) a n then cell_at columns block (a - left) (n - top) else cell_at w old a n)) same (in_row a lt))
+        (cases_lt (top + row) b))
+        (cases_lt b (top + row));
+  }
+
+-- a row of the block ends within the lists
+pub row_ends : (w left columns b rows : ℕ) → left + columns ≤ w → b < rows → b * w + left + columns ≤ w * rows
+row_ends w left columns b rows fits lt =
+    let r = rows_before w b rows lt in let e = mul_comm rows w in omega arith
+
+pub block_ends : (columns b rows : ℕ) → b < rows → b * columns + columns ≤ columns * rows
+block_ends columns b rows lt = let r = rows_before columns b rows lt in let e = mul_comm rows columns in omega arith
+
+-- the cell at a position, in the list of an area
+abbrev cell_over : Rect → List Cell → Position → Cell
+cell_over r cells p = cell cells (cell_index r p)
+
+module _ (r u : Rect) (edges : EdgesFit u) (around : IsAround r u) (block old new : List Cell) (is : IsBlockIn r u block old new) where
+  of_block : (p : Position) → HasPosition u p → cell_over r new p ≡ cell_over u block p
+  of_block p h =
+      let a = h.left in let b = h.right in let c = h.top in let d = h.bottom in
+      let l = around.left in let m = around.right in let n = around.top in
+      let column : p.x - r.x - (u.x - r.x) ≡ p.x - u.x = omega arith in
+      let row : p.y - r.y - (u.y - r.y) ≡ p.y - u.y = omega arith in
+      let e = is.at (p.x - r.x) (p.y - r.y) (omega arith) in
+      let f : cell_at r.width new (p.x - r.x) (p.y - r.y) ≡ cell_at u.width block (p.x - r.x - (u.x - r.x)) (p.y - r.y - (u.y - r.y)) = grind (arith, nat_tests) in
+      f ∙ rw (column, row) refl
+
+  of_rest : (p : Position) → HasPosition r p → ¬ (HasPosition u p) → cell_over r new p ≡ cell_over r old p
+  of_rest p h not_in =
+      let a = h.left in let b = h.right in let c = h.top in let d = h.bottom in
+      let l = around.left in let n = around.top in
+      let e = is.at (p.x - r.x) (p.y - r.y) (omega arith) in
+      ⊎_elim
+      (λ (before : p.x - r.x < u.x - r.x). grind (arith, nat_tests))
+      (λ (from_left : u.x - r.x ≤ p.x - r.x).
+      ⊎_elim
+      (λ (above : p.y - r.y < u.y - r.y). grind (arith, nat_tests))
+      (λ (from_top : u.y - r.y ≤ p.y - r.y).
+      ⊎_elim
+      (λ (in_columns : p.x - r.x < u.x - r.x + u.width).
+      ⊎_elim
+      (λ (in_rows : p.y - r.y < u.y - r.y + u.height).
+      let right = edges.right in let bottom = edges.bottom in
+      absurd (not_in (record { left = omega arith; right = omega arith; top = omega arith; bottom = omega arith })))
+      (λ (beneath : u.y - r.y + u.height ≤ p.y - r.y). grind (arith, nat_tests))
+      (cases_lt (p.y - r.y) (u.y - r.y + u.height)))
+      (λ (behind : u.x - r.x + u.width ≤ p.x - r.x). grind (arith, nat_tests))
+      (cases_lt (p.x - r.x) (u.x - r.x + u.width)))
+      (cases_lt (p.y - r.y) (u.y - r.y)))
+      (cases_lt (p.x - r.x) (u.x - r.x))
+
+-- the union of two areas lies around both
+pub IsAround-first : (a b : Rect) → EdgesFit a → EdgesFit b → IsAround (united a b) a
+IsAround-first a b f g =
+    let x = f.right in let y = f.bottom in let z = g.right in let t = g.bottom in
+    record { left = omega arith; right = omega arith; top = omega arith; bottom = omega arith }
+
+pub IsAround-second : (a b : Rect) → EdgesFit a → EdgesFit b → IsAround (united a b) b
+IsAround-second a b f g =
+    let x = f.right in let y = f.bottom in let z = g.right in let t = g.bottom in
+    record { left = omega arith; right = omega arith; top = omega arith; bottom = omega arith }
+
+-- a list that was filled up from none is empty throughout
+pub filled-empty : (n m : ℕ) (none filled : List Cell) → filled ≡ take n none ++ empty_cells m → none ≡ [] → (i : ℕ) → cell filled i ≡ empty_cell
+filled-empty n m none filled e f i = rw (e, f, take-nil n) (cell-empty m i)
+
+pub IsExtended-same : (r : Rect) (s : Sheet) → r ≡ s.area → IsExtended r s s
+IsExtended-same r s e = record {
+  over = sym e;
+  of_old = λ p h. refl;
+  of_none = λ p h not_in. absurd (not_in (subst (λ t. HasPosition t p) e h));
+}
+
+pub IsExtended-block : (r : Rect) (old new : Sheet) (empty cells : List Cell) → new.area ≡ r → new.cells ≡ cells → EdgesFit old.area → IsAround r old.area
+    → ((i : ℕ) → cell empty i ≡ empty_cell) → IsBlockIn r old.area old.cells empty cells → IsExtended r old new
+IsExtended-block r old new empty cells area same edges around blank is = record {
+  over = area;
+  of_old = λ p h. rw (same, area) (of_block r old.area edges around old.cells empty cells is p h);
+  of_none = λ p h not_in. rw (same, area) (of_rest r old.area edges around old.cells empty cells is p h not_in ∙ blank (cell_index r p));
+}
+
+pub IsOverlay-block : (lower upper mid new : Sheet) (cells : List Cell) → EdgesFit lower.area → EdgesFit upper.area → IsExtended (united lower.area upper.area) lower mid
+    → new.area ≡ mid.area → new.cells ≡ cells → IsBlockIn (united lower.area upper.area) upper.area upper.cells mid.cells cells → IsOverlay lower upper new
+IsOverlay-block lower upper mid new cells lower_edges upper_edges extended area same is =
+    let r = united lower.area upper.area in
+    let around = IsAround-second lower.area upper.area lower_edges upper_edges in
+    let inside = IsAround-first lower.area upper.area lower_edges upper_edges in
+    let on = area ∙ extended.over in
+    let over = extended.over in
     record {
-      area = area;
-      of_upper = λ p h. now p ∙ kept p (inside p h, h) ∙ copies p h;
-      of_lower = λ p h no. now p ∙ moved p (record { first = h; second = no });
-      of_none = λ p h no_lower no_upper. now p ∙ rest p (record { first = h; second = no_lower }) ∙ blanks p (record { first = h; second = no_upper });
+      area = on;
+      of_upper = λ p h. rw (same, on) (of_block r upper.area upper_edges around upper.cells mid.cells cells is p h);
+      of_lower = λ p h not_in. rw (same, on) (of_rest r upper.area upper_edges around upper.cells mid.cells cells is p (HasPosition-around r lower.area inside lower_edges p h) not_in
+          ∙ rw over at (extended.of_old p h));
+      of_none = λ p h not_lower not_upper.
+          let there : HasPosition r p = subst (λ t. HasPosition t p) on h in
+          rw (same, on) (of_rest r upper.area upper_edges around upper.cells mid.cells cells is p there not_upper
+          ∙ rw over at (extended.of_none p there not_lower));
     }
+  where
+    HasPosition-around : (outer inner : Rect) → IsAround outer inner → EdgesFit inner → (p : Position) → HasPosition inner p → HasPosition outer p
+    HasPosition-around outer inner a f p h =
+        let l = a.left in let m = a.right in let n = a.top in let o = a.bottom in
+        let x = h.left in let y = h.right in let z = h.top in let t = h.bottom in
+        record { left = omega arith; right = omega arith; top = omega arith; bottom = omega arith }

@@ -1,5 +1,5 @@
 -- How painting goes on, a piece at a time.
-use Rattle.std.proofs.Common.{◌≡◌, ◌≢◌, ℕ, suc, zero, ◌+◌, ◌-◌, ◌<◌, ◌≤◌, Bool, true, false, cond, List, [], ◌∷◌, set, refl, sym, ap, ◌∙◌, arith}
+use Rattle.std.proofs.Common.{◌≡◌, ◌≢◌, ℕ, suc, zero, ◌+◌, ◌-◌, ◌<◌, ◌≤◌, Bool, true, false, cond, List, [], ◌∷◌, set, refl, sym, ap, subst, ◌∙◌, arith}
 use Rattle.std.proofs.lemmas.Bool.Decides.{nat_tests}
 use Rattle.std.proofs.lemmas.List.{get_or-set_other, length-set}
 use Rattle.std.proofs.lemmas.List.Sums.{sum_by-cons}
@@ -7,6 +7,9 @@ use Rattle.rtui_style.specs.declared.Style.{Style}
 use Rattle.rtui_cell.specs.declared.cell.Cell.{Cell}
 use Rattle.rtui_cell.specs.Cell.{empty_cell}
 use Rattle.rtui_cell.specs.Width.{text_width}
+use Rattle.std.proofs.lemmas.List.Elements.{All-head, All-tail}
+use Rattle.rtui_cell.specs.Symbol.{IsShort}
+use Rattle.rtui_buffer.specs.PaintedText.{AreShort}
 use Rattle.rtui_buffer.specs.Painting.{has_control, painted_width, is_painted, fitting, kept, Piece, piece_of, pieces, piece_width, columns, emptied, with_piece, painted, IsSameOutside}
 
 painted_width-cases : (g : List ℕ) (b : Bool) → has_control g ≡ b → 0 < painted_width g → painted_width g ≡ text_width g
@@ -123,6 +126,19 @@ outside-turn s start used width g old cells more wide pos put h =
     let same = painted_width-painted g p in
     let place : start + (used + width) ≡ start + used + text_width g = omega arith in
     rw (place, put) (IsSameOutside-put start (start + used) (piece_of s g) old cells (omega arith) (omega arith) h)
+
+-- of short pieces the first is short, and so are those behind it
+pub short-turn : (s : Style) (used room width : ℕ) (left gs : List (List ℕ)) (g : List ℕ)
+    → left ≡ g ∷ gs → width ≡ painted_width g → 0 < width → width ≤ room - used
+    → AreShort (pieces s (kept (room - used) left)) → IsShort g × AreShort (pieces s (kept (room - (used + width)) gs))
+short-turn s used room width left gs g is wide pos fits h =
+    let p : 0 < painted_width g = omega arith in
+    let same = painted_width-painted g p in
+    let fits' : text_width g ≤ room - used = omega arith in
+    let rest : room - (used + width) ≡ room - used - text_width g = omega arith in
+    let all : AreShort (pieces s (g ∷ kept (room - used - text_width g) gs)) = subst (λ ks. AreShort (pieces s ks)) (ap (kept (room - used)) is ∙ kept-take (room - used) g gs p fits') h in
+    let first : IsShort g = All-head (λ p. IsShort p.symbol) (piece_of s g) (pieces s (kept (room - used - text_width g) gs)) all in
+    (first, rw rest (All-tail (λ p. IsShort p.symbol) (piece_of s g) (pieces s (kept (room - used - text_width g) gs)) all))
 
 pub ruleset empty_steps = (emptied-end, emptied-more)
 

@@ -1,7 +1,8 @@
 -- What painting means, column by column.
-use Rattle.std.proofs.Common.{◌≡◌, ℕ, suc, zero, ◌+◌, ◌-◌, ◌<◌, ◌≤◌, ⊎_elim, List, [], ◌∷◌, length, set, take, refl, sym, ap, subst, ◌∙◌, arith}
+use Rattle.std.proofs.Common.{◌≡◌, ℕ, suc, zero, ◌+◌, ◌-◌, ◌<◌, ◌≤◌, ⊎_elim, List, [], ◌∷◌, length, set, take, All, refl, sym, ap, subst, ◌∙◌, arith}
 use Rattle.std.proofs.lemmas.Bool.{cases_lt}
 use Rattle.std.proofs.lemmas.List.{get_or-set_same, length-set}
+use Rattle.std.proofs.lemmas.List.Elements.{All-nil, All-cons}
 use Rattle.std.proofs.lemmas.List.Sums.{sum_by-cons}
 use Rattle.rtui_style.specs.declared.Style.{Style}
 use Rattle.rtui_cell.specs.declared.cell.Cell.{Cell}
@@ -116,6 +117,9 @@ kept-ind P none more (g ∷ gs) room = kept-step P none more room g gs (λ r. ke
 
 pub AreWide-kept : (s : Style) (room : ℕ) (gs : List (List ℕ)) → AreWide (pieces s (kept room gs))
 AreWide-kept s room gs = kept-ind (λ _ ks. AreWide (pieces s ks)) (λ _. tt) (λ room g ks pos le h. (pos, h)) gs room
+
+pub wide_graphemes : (room : ℕ) (gs : List (List ℕ)) → All (λ g. 0 < text_width g) (kept room gs)
+wide_graphemes room gs = kept-ind (λ _ ks. All (λ g. 0 < text_width g) ks) (λ _. All-nil (λ g. 0 < text_width g)) (λ room g ks pos le h. All-cons (λ g. 0 < text_width g) g ks pos h) gs room
 
 pub columns-kept : (s : Style) (room : ℕ) (gs : List (List ℕ)) → columns (pieces s (kept room gs)) ≤ room
 columns-kept s room gs = kept-ind (λ r ks. columns (pieces s ks) ≤ r) (λ r. omega arith) (λ r g ks pos le h. omega (arith, sum_by-cons piece_width (piece_of s g) (pieces s ks))) gs room

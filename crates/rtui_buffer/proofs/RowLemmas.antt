@@ -15,7 +15,7 @@ use Rattle.rtui_buffer.specs.Line.{line_pieces, line_row, line_rows, line_at, ro
 use Rattle.rtui_buffer.proofs.EmptyLemmas.{cell-empty}
 use Rattle.rtui_buffer.proofs.PaintLemmas.{painted-nil, painted-cons, IsSameOutside-refl, IsSameOutside-put}
 use Rattle.rtui_buffer.proofs.PaintedLemmas.{AreWide}
-use Rattle.rtui_buffer.proofs.SettledLemmas.{IsSettled-painted}
+use Rattle.rtui_buffer.proofs.SettledLemmas.{IsSettled-empty, IsSettled-painted, unmarked_empty}
 use Rattle.rtui_buffer.proofs.LineLemmas.{columns-line, AreWide-line, IsPainted-line}
 
 -- painting behind a front leaves it
@@ -147,7 +147,8 @@ row-settled w l =
     let le : columns (line_pieces w l.style l.spans) ≤ w = columns-line w l.style l.spans in
     let here : 0 ≡ 0 * w + 0 = omega arith in
     IsSettled-painted w 1 0 0 (line_pieces w l.style l.spans) (empty_cells w) (line_row w l)
-    (subst (λ n. IsPainted n (line_pieces w l.style l.spans) (empty_cells w) (line_row w l)) here (IsPainted-row w l)) (cell-empty w) (omega arith)
+    (subst (λ n. IsPainted n (line_pieces w l.style l.spans) (empty_cells w) (line_row w l)) here (IsPainted-row w l))
+    (IsSettled-empty w 1 (empty_cells w) (cell-empty w)) (λ a le lt. unmarked_empty (cell-empty w (0 * w + a))) (λ a lt. absurd (omega arith)) (omega arith) (omega arith)
 
 pub IsSettled-rows : (w : ℕ) (ls : List LineData) → IsSettled w (length ls) (line_rows w ls)
 IsSettled-rows w [] = record {

@@ -1,29 +1,32 @@
--- Painting on empty cells leaves settled ones.
-use Rattle.std.proofs.Common.{◌≡◌, ℕ, suc, ◌+◌, ◌-◌, ◌*◌, ◌%◌, ◌<◌, ◌≤◌, ⊎_elim, true, false, List, [], ◌∷◌, length, take, inl, refl, sym, ap, subst, ◌∙◌, arith}
+-- Painting within a row keeps a frame settled.
+use Rattle.std.proofs.Common.{◌≡◌, ℕ, suc, ◌+◌, ◌-◌, ◌*◌, ◌/◌, ◌%◌, ◌<◌, ◌≤◌, ⊎_elim, true, false, List, [], ◌∷◌, length, take, inl, refl, sym, ap, subst, ◌∙◌, arith}
 use Rattle.std.proofs.lemmas.Bool.{cases_lt}
-use Rattle.std.proofs.lemmas.Nat.{mod-mul-add}
+use Rattle.std.proofs.lemmas.Nat.{mod-mul-add, row_fits}
 use Rattle.std.proofs.lemmas.List.Sums.{sum_by-cons}
 use Rattle.rtui_cell.specs.declared.cell.Cell.{Cell}
-use Rattle.rtui_cell.specs.Cell.{empty_cell, width_of, is_skipped}
+use Rattle.rtui_cell.specs.Cell.{empty_cell, width_of, is_skipped, IsUnmarked}
 use Rattle.rtui_cell.specs.Equality.{is_same}
 use Rattle.rtui_cell.proofs.CellLemmas.{width-empty}
-use Rattle.rtui_diff.specs.Cells.{cell}
-use Rattle.rtui_diff.specs.Settled.{IsSettled, IsSettledAt}
-use Rattle.rtui_diff.proofs.FrameLemmas.{column_in}
-use Rattle.rtui_diff.proofs.SettledLemmas.{settled_from}
+use Rattle.rtui_diff.specs.Cells.{cell, cell_at}
+use Rattle.rtui_diff.specs.Settled.{IsSettled, IsSettledAt, IsBlankOrSkipped}
+use Rattle.rtui_diff.proofs.FrameLemmas.{column_in, row_start}
+use Rattle.rtui_diff.proofs.SettledLemmas.{settled_at, settled_from}
 use Rattle.rtui_buffer.specs.Painting.{Piece, piece_width, columns, shown, piece_at, place_of, IsPainted}
 
 same-empty : is_same empty_cell empty_cell ≡ true
 unfolding is_same
 same-empty = refl
 
-skipped-shown : (p : Piece) → is_skipped (shown p empty_cell) ≡ false
-unfolding is_skipped
-skipped-shown p = refl
+pub unmarked_empty : {c : Cell} → c ≡ empty_cell → IsUnmarked c
+unmarked_empty e = rw e (record { option = refl; flag = refl })
 
-width-shown : (p : Piece) → width_of (shown p empty_cell) ≡ piece_width p
+skipped-shown : (p : Piece) (c : Cell) → IsUnmarked c → is_skipped (shown p c) ≡ false
+unfolding is_skipped
+skipped-shown p c plain = rw (plain.option, plain.flag) refl
+
+width-shown : (p : Piece) (c : Cell) → IsUnmarked c → width_of (shown p c) ≡ piece_width p
 unfolding width_of
-width-shown p = refl
+width-shown p c plain = rw plain.option refl
 
 -- where a column of the pieces lies: in which of them, and how far in it
 record IsIn (ps : List Piece) (k : ℕ) : Type 0 where
@@ -61,17 +64,18 @@ settled_at-empty w h i cells lt e =
 pub IsSettled-empty : (w h : ℕ) (cells : List Cell) → ((i : ℕ) → cell cells i ≡ empty_cell) → IsSettled w h cells
 IsSettled-empty w h cells empty = settled_from w h cells (λ i lt. settled_at-empty w h i cells lt (empty i))
 
-module _ (w h x y : ℕ) (ps : List Piece) (old new : List Cell) (is : IsPainted (y * w + x) ps old new) (empty : (i : ℕ) → cell old i ≡ empty_cell) (fits : x + columns ps ≤ w) where
-  start-shown : (k : ℕ) → k < length ps → cell new (place_of (y * w + x) ps k) ≡ shown (piece_at ps k) empty_cell
-  start-shown k lt = is.starts k lt ∙ ap (shown (piece_at ps k)) (empty (place_of (y * w + x) ps k))
-
+module _ (w h x y : ℕ) (ps : List Piece) (old new : List Cell) (is : IsPainted (y * w + x) ps old new) (was : IsSettled w h old)
+    (unmarked : (a : ℕ) → x ≤ a → a < x + columns ps → IsUnmarked (cell_at w old a y))
+    (uncovered : (a : ℕ) → a < x → is_skipped (cell_at w old a y) ≡ false → a + width_of (cell_at w old a y) ≤ x)
+    (fits : x + columns ps ≤ w) (started : x ≤ w) where
   settled_at-start : (k : ℕ) → k < length ps → 0 < piece_width (piece_at ps k) → columns (take k ps) + piece_width (piece_at ps k) ≤ columns ps → IsSettledAt w new (place_of (y * w + x) ps k)
   settled_at-start k lt pos ends =
-      let here = start-shown k lt in
-      let wide : width_of (cell new (place_of (y * w + x) ps k)) ≡ piece_width (piece_at ps k) = ap width_of here ∙ width-shown (piece_at ps k) in
-      let plain : is_skipped (cell new (place_of (y * w + x) ps k)) ≡ false = ap is_skipped here ∙ skipped-shown (piece_at ps k) in
-      let place : place_of (y * w + x) ps k ≡ y * w + (x + columns (take k ps)) = omega arith in
-      let column : place_of (y * w + x) ps k % w ≡ x + columns (take k ps) = ap (λ n. n % w) place ∙ mod-mul-add y w (x + columns (take k ps)) (omega arith) in
+      let place : y * w + (x + columns (take k ps)) ≡ place_of (y * w + x) ps k = omega arith in
+      let former : IsUnmarked (cell old (place_of (y * w + x) ps k)) = subst (λ n. IsUnmarked (cell old n)) place (unmarked (x + columns (take k ps)) (omega arith) (omega arith)) in
+      let here = is.starts k lt in
+      let wide : width_of (cell new (place_of (y * w + x) ps k)) ≡ piece_width (piece_at ps k) = ap width_of here ∙ width-shown (piece_at ps k) _ former in
+      let plain : is_skipped (cell new (place_of (y * w + x) ps k)) ≡ false = ap is_skipped here ∙ skipped-shown (piece_at ps k) _ former in
+      let column : place_of (y * w + x) ps k % w ≡ x + columns (take k ps) = ap (λ n. n % w) (sym place) ∙ mod-mul-add y w (x + columns (take k ps)) (omega arith) in
       record {
         skipped = λ s. absurd (let e : false ≡ true = sym plain ∙ s in cc);
         within = λ s. omega arith;
@@ -93,14 +97,52 @@ module _ (w h x y : ℕ) (ps : List Piece) (old new : List Cell) (is : IsPainted
       subst (IsSettledAt w new) here (settled_at-start r.piece r.in_list (omega arith) r.ends))
       (cases_lt 0 r.column)
 
+  -- a cell before the painted ones doesn't reach them
+  ends_before : (i : ℕ) → i < w * h → i < y * w + x → is_skipped (cell old i) ≡ false → i + width_of (cell old i) ≤ y * w + x
+  ends_before i lt before plain =
+      let at : IsSettledAt w old i = settled_at w h old i lt was in
+      let ends : i % w + width_of (cell old i) ≤ w = at.within plain in
+      let split : i / w * w + i % w ≡ i = row_start w h i in
+      ⊎_elim
+      (λ (above : i / w < y). let r : i / w * w + w ≤ y * w = row_fits (i / w) w y w above (omega arith) in omega arith)
+      (λ (not_above : y ≤ i / w).
+      ⊎_elim
+      (λ (below : y < i / w). let r : y * w + w ≤ i / w * w = row_fits y w (i / w) w below (omega arith) in absurd (omega arith))
+      (λ (not_below : i / w ≤ y).
+      let same : i / w ≡ y = omega arith in
+      let start : i / w * w ≡ y * w = ap (λ q. q * w) same in
+      let here : y * w + i % w ≡ i = omega arith in
+      let plain' : is_skipped (cell_at w old (i % w) y) ≡ false = subst (λ n. is_skipped (cell old n) ≡ false) (sym here) plain in
+      let reach : i % w + width_of (cell old i) ≤ x = subst (λ n. i % w + width_of (cell old n) ≤ x) here (uncovered (i % w) (omega arith) plain') in
+      omega arith)
+      (cases_lt y (i / w)))
+      (cases_lt (i / w) y)
+
+  -- a cell that is as before, and so are those that it covers
+  settled_at-former : (i : ℕ) → i < w * h → cell new i ≡ cell old i
+      → ((k : ℕ) → is_skipped (cell old i) ≡ false → i < k → k < i + width_of (cell old i) → cell new k ≡ cell old k) → IsSettledAt w new i
+  settled_at-former i lt same covered =
+      let at : IsSettledAt w old i = settled_at w h old i lt was in
+      let plain_too : is_skipped (cell new i) ≡ is_skipped (cell old i) = ap is_skipped same in
+      let wide_too : width_of (cell new i) ≡ width_of (cell old i) = ap width_of same in
+      record {
+        skipped = λ s. let n = at.skipped (sym plain_too ∙ s) in omega arith;
+        within = λ s. let n = at.within (sym plain_too ∙ s) in omega arith;
+        behind = λ s k more less.
+            let s' : is_skipped (cell old i) ≡ false = sym plain_too ∙ s in
+            let less' : k < i + width_of (cell old i) = omega arith in
+            subst IsBlankOrSkipped (sym (covered k s' more less')) (at.behind s' k more less');
+      }
+
   settled_at-painted : (i : ℕ) → i < w * h → IsSettledAt w new i
   settled_at-painted i lt =
       ⊎_elim
-      (λ (before : i < y * w + x). settled_at-empty w h i new lt (is.outside.before i before ∙ empty i))
+      (λ (before : i < y * w + x).
+      settled_at-former i lt (is.outside.before i before) (λ k s more less. let e = ends_before i lt before s in is.outside.before k (omega arith)))
       (λ (from : y * w + x ≤ i).
       ⊎_elim
       (λ (inside : i < y * w + x + columns ps). settled_at-inside i lt (is_in ps (i - (y * w + x)) (omega arith)) from)
-      (λ (behind : y * w + x + columns ps ≤ i). settled_at-empty w h i new lt (is.outside.behind i behind ∙ empty i))
+      (λ (behind : y * w + x + columns ps ≤ i). settled_at-former i lt (is.outside.behind i behind) (λ k s more less. is.outside.behind k (omega arith)))
       (cases_lt i (y * w + x + columns ps)))
       (cases_lt i (y * w + x))
 

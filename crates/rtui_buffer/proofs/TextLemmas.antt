@@ -1,5 +1,5 @@
 -- Painting from a position on.
-use Rattle.std.proofs.Common.{◌≡◌, ℕ, ◌+◌, ◌-◌, ◌≤◌, ◌≢◌, List, [], ◌++◌, take, drop, length, refl, sym, ap, subst, ◌∙◌, arith}
+use Rattle.std.proofs.Common.{◌≡◌, ℕ, ◌+◌, ◌-◌, ◌*◌, ◌≤◌, ◌≢◌, false, List, [], ◌++◌, take, drop, length, refl, sym, ap, subst, ◌∙◌, arith}
 use Rattle.std.proofs.Math.Seq.{take-append_seam}
 use Rattle.unicode_segmentation.specs.Grapheme.{graphemes}
 use Rattle.std.specs.Prelude.{true}
@@ -7,11 +7,13 @@ use Rattle.rtui_geometry.specs.declared.position.Position.{Position}
 use Rattle.rtui_geometry.specs.declared.rect.Rect.{Rect}
 use Rattle.rtui_style.specs.declared.Style.{Style}
 use Rattle.rtui_cell.specs.declared.cell.Cell.{Cell}
+use Rattle.rtui_cell.specs.Cell.{width_of, is_skipped, IsUnmarked}
+use Rattle.rtui_diff.specs.Cells.{cell}
 use Rattle.rtui_diff.specs.Settled.{IsSettled}
-use Rattle.rtui_buffer.specs.Sheet.{Sheet, area_size, cell_index, position_of, empty_cells, IsEmptied}
+use Rattle.rtui_buffer.specs.Sheet.{Sheet, cell_index, position_of}
+use Rattle.rtui_buffer.specs.Frame.{IsSettledSheet}
 use Rattle.rtui_buffer.specs.Painting.{Piece, pieces, text_pieces, columns, IsPainted}
-use Rattle.rtui_buffer.specs.PaintedText.{room_at, Paints}
-use Rattle.rtui_buffer.proofs.EmptyLemmas.{cell-empty, IsSettledSheet-empty}
+use Rattle.rtui_buffer.specs.PaintedText.{room_at, Paints, IsPaintable}
 use Rattle.rtui_buffer.proofs.PaintedLemmas.{kept-none, columns-kept, IsPainted-none}
 use Rattle.rtui_buffer.proofs.SettledLemmas.{IsSettled-painted}
 
@@ -24,23 +26,36 @@ columns-none ps e = ap columns e
 pub Paints-none : (p : Position) (ps : List Piece) (s : Sheet) → ps ≡ [] → Paints p ps s s
 Paints-none p ps s e = record { area = refl; room = refl; cells = subst (λ qs. IsPainted (cell_index s.area p) qs s.cells s.cells) (sym e) (IsPainted-none (cell_index s.area p) s.cells) }
 
--- what is painted within a row of an empty buffer leaves it settled
-pub IsSettled-row : (r : Rect) (x y : ℕ) (ps : List Piece) (old new : List Cell) → IsPainted (cell_index r (position_of (x, y))) ps old new → old ≡ empty_cells (area_size r)
-    → r.x ≤ x → x + columns ps ≤ r.x + r.width → IsSettled r.width r.height new
-IsSettled-row r x y ps old new is empty le fits =
-    IsSettled-painted r.width r.height (x - r.x) (y - r.y) ps old new is (λ i. rw empty (cell-empty (area_size r) i)) (omega arith)
+-- what is painted within a row keeps a buffer settled
+pub IsSettled-row : (s : Sheet) (x y : ℕ) (ps : List Piece) (new : List Cell) → IsPainted (cell_index s.area (position_of (x, y))) ps s.cells new
+    → IsSettledSheet s → IsPaintable (position_of (x, y)) (columns ps) s → s.area.x ≤ x → x + columns ps ≤ s.area.x + s.area.width → IsSettled s.area.width s.area.height new
+IsSettled-row s x y ps new is was may le fits =
+    let r = s.area in
+    IsSettled-painted r.width r.height (x - r.x) (y - r.y) ps s.cells new is was
+    (λ a ge lt. let e : a + r.x - r.x ≡ a = omega arith in subst (λ n. IsUnmarked (cell s.cells ((y - r.y) * r.width + n))) e (may.unmarked (a + r.x) (omega arith) (omega arith)))
+    (λ a lt plain.
+    let e : a + r.x - r.x ≡ a = omega arith in
+    let there : is_skipped (cell s.cells ((y - r.y) * r.width + (a + r.x - r.x))) ≡ false = subst (λ n. is_skipped (cell s.cells ((y - r.y) * r.width + n)) ≡ false) (sym e) plain in
+    let h : a + r.x + width_of (cell s.cells ((y - r.y) * r.width + (a + r.x - r.x))) ≤ x = may.uncovered (a + r.x) (omega arith) (omega arith) there in
+    let h' : a + r.x + width_of (cell s.cells ((y - r.y) * r.width + a)) ≤ x = subst (λ n. a + r.x + width_of (cell s.cells ((y - r.y) * r.width + n)) ≤ x) e h in
+    omega arith)
+    (omega arith) (omega arith)
 
 pub text-fits : (r : Rect) (x max room : ℕ) (s : Style) (text : List ℕ) → room ≡ room_at r x max → room ≢ 0 → x + columns (text_pieces room s text) ≤ r.x + r.width
 text-fits r x max room s text e some = let k = columns-kept s room (graphemes true text) in omega arith
 
--- the same where the cells are written back whole
-pub IsSettled-written : (s : Sheet) (r : Rect) (x y start : ℕ) (ps : List Piece) (old items more : List Cell) (n : ℕ)
-    → r ≡ s.area → items ≡ s.cells → old ≡ items → n ≡ length old → IsPainted start ps old more → start ≡ cell_index s.area (position_of (x, y))
-    → s.area.x ≤ x → x + columns ps ≤ s.area.x + s.area.width → IsEmptied s.area s → IsSettled r.width r.height (take n (more ++ drop (length more) items))
-IsSettled-written s r x y start ps old items more n area cells same len is place le fits empty =
-    let count : length more ≡ length old = is.outside.count in
-    let now : IsSettled s.area.width s.area.height more = IsSettled-row s.area x y ps old more (rw place at is) (same ∙ cells ∙ empty.cells) le fits in
-    let all : take n (more ++ drop (length more) items) ≡ more = (let e : n ≡ length more = omega arith in rw e (take-append_seam more (drop (length more) items))) in
-    rw (all, area) now
+-- what is painted on a buffer's cells, which are then written back whole
+module _ (s : Sheet) (x y start : ℕ) (ps qs : List Piece) (old items more : List Cell) (n : ℕ) (cells : items ≡ s.cells) (same : old ≡ items) (len : n ≡ length old)
+    (is : IsPainted start ps old more) (place : start ≡ cell_index s.area (position_of (x, y))) (pieces_same : ps ≡ qs) where
+  all : take n (more ++ drop (length more) items) ≡ more
+  all = let count : length more ≡ length old = is.outside.count in
+      let e : n ≡ length more = omega arith in rw e (take-append_seam more (drop (length more) items))
 
-pub ruleset none_steps = (text_pieces-none, columns-none, Paints-none, IsSettledSheet-empty)
+  pub IsPainted-written : IsPainted (cell_index s.area (position_of (x, y))) qs s.cells (take n (more ++ drop (length more) items))
+  IsPainted-written = rw all (rw (place, same ∙ cells, pieces_same) at is)
+
+  pub IsSettled-written : (r : Rect) → r ≡ s.area → s.area.x ≤ x → x + columns ps ≤ s.area.x + s.area.width → IsSettledSheet s → IsPaintable (position_of (x, y)) (columns qs) s
+      → IsSettled r.width r.height (take n (more ++ drop (length more) items))
+  IsSettled-written r area le fits was may = rw area (IsSettled-row s x y qs _ IsPainted-written was may le (rw pieces_same at fits))
+
+pub ruleset none_steps = (text_pieces-none, columns-none, Paints-none)

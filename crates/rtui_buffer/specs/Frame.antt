@@ -6,6 +6,7 @@ use Rattle.rtui_cell.specs.Grid.{Grid, Update, update_by}
 use Rattle.rtui_diff.specs.Settled.{IsSettled}
 use Rattle.rtui_diff.specs.Shows.{Shows}
 use Rattle.rtui_diff.specs.Updates.{updates}
+use Rattle.rtui_diff.specs.Diff.{IsDiff}
 use Rattle.rtui_buffer.specs.Sheet.{Sheet}
 
 -- a screen can show the buffer as it is
@@ -29,6 +30,15 @@ common_rows prev next = min prev.area.height next.area.height
 -- the updates from one buffer to the next, over their common rows
 abbrev pub sheet_updates : Sheet → Sheet → List Update
 sheet_updates prev next = updates prev.area.x prev.area.y prev.area.width (common_rows prev next) prev.cells next.cells
+
+-- the updates are a diff of the common rows of two buffers
+abbrev pub IsSheetDiff : Sheet → Sheet → List Update → Type 0
+IsSheetDiff prev next us = IsDiff prev.area.x prev.area.y prev.area.width (common_rows prev next) prev.cells next.cells us
+
+-- the common rows of two buffers are settled in both
+pub record HaveSettledRows (prev next : Sheet) : Type 0 where
+  pub of_prev : IsSettled prev.area.width (common_rows prev next) prev.cells
+  pub of_next : IsSettled prev.area.width (common_rows prev next) next.cells
 
 -- the updates in a list of lent cells
 abbrev pub listed : List (ℕ × ℕ × Bor Cell) → List Update

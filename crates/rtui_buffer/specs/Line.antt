@@ -8,7 +8,7 @@ use Rattle.rtui_style.specs.Style.{patch}
 use Rattle.rtui_cell.specs.declared.cell.Cell.{Cell}
 use Rattle.rtui_text.specs.Text.{SpanData, LineData, line_of, raw_line}
 use Rattle.rtui_text.specs.Widths.{line_width}
-use Rattle.rtui_buffer.specs.Sheet.{empty_cells}
+use Rattle.rtui_buffer.specs.Sheet.{Sheet, empty_cells}
 use Rattle.rtui_buffer.specs.Painting.{Piece, text_pieces, columns, painted, IsPainted}
 use Rattle.rtui_buffer.specs.PaintedText.{room_at}
 
@@ -50,6 +50,12 @@ pub record ShowsLines (w : ℕ) (ls : List LineData) (cells : List Cell) : Type 
 -- the area of a buffer with these lines
 abbrev pub lines_area : List LineData → Rect
 lines_area ls = record { x = 0; y = 0; width = widest ls; height = length ls }
+
+-- a buffer with a line in each row, as wide as the widest of them
+pub record IsOfLines (ls : List LineData) (s : Sheet) : Type 0 where
+  pub area : s.area ≡ lines_area ls
+  pub cells : s.cells ≡ line_rows (widest ls) ls
+  pub rows : ShowsLines (widest ls) ls s.cells
 
 -- a plain line for each text
 abbrev pub raw_lines : List (Bor (List ℕ)) → List LineData

@@ -1,13 +1,16 @@
 -- Painting into a buffer, from a position on.
-use Rattle.std.specs.Prelude.{ℕ, ◌+◌, ◌-◌, ◌≡◌, ◌⊎◌, ◌≤◌, ◌<◌, ◌&&◌, nat_le, nat_lt, if◌then◌else◌, min, List, length, take}
+use Rattle.std.specs.Prelude.{ℕ, ◌+◌, ◌-◌, ◌≡◌, ◌⊎◌, ◌≤◌, ◌<◌, ◌&&◌, nat_le, nat_lt, if◌then◌else◌, min, false, List, length, take, All, Result, IsOk, OnOk, OnErr}
+use Rattle.std.specs.declared.alloc.AllocError.{AllocError}
 use Rattle.rtui_geometry.specs.declared.position.Position.{Position}
 use Rattle.rtui_geometry.specs.declared.rect.Rect.{Rect}
 use Rattle.rtui_style.specs.declared.Style.{Style}
 use Rattle.rtui_geometry.specs.Rect.{HasPosition}
 use Rattle.rtui_cell.specs.declared.cell.Cell.{Cell}
-use Rattle.rtui_cell.specs.Cell.{empty_cell, styled}
+use Rattle.rtui_cell.specs.Symbol.{IsShort}
+use Rattle.rtui_cell.specs.Cell.{empty_cell, styled, width_of, is_skipped, IsUnmarked}
 use Rattle.rtui_diff.specs.Cells.{cell, cell_at}
-use Rattle.rtui_buffer.specs.Sheet.{Sheet, cell_index, cell_in}
+use Rattle.rtui_buffer.specs.Sheet.{Sheet, cell_index, cell_in, position_of}
+use Rattle.rtui_buffer.specs.Frame.{IsSettledSheet}
 use Rattle.rtui_buffer.specs.Painting.{Piece, text_pieces, piece_width, piece_at, columns, shown, IsSameOutside, IsPainted}
 
 -- the row lies in the area
@@ -49,6 +52,25 @@ pub record IsSameBeside (p : Position) (ps : List Piece) (old new : Sheet) : Typ
   pub area : new.area ≡ old.area
   pub room : new.room ≡ old.room
   pub cells : IsSameOutside (cell_index old.area p) (cell_index old.area p + columns ps) old.cells new.cells
+
+-- each symbol of the pieces takes no memory
+abbrev pub AreShort : List Piece → Type 0
+AreShort ps = All (λ p. IsShort p.symbol) ps
+
+-- n columns from p on may be painted in a settled buffer: no cell of theirs has an option or the flag, and no unskipped cell before
+-- them reaches into them
+pub record IsPaintable (p : Position) (n : ℕ) (s : Sheet) : Type 0 where
+  pub unmarked : (a : ℕ) → p.x ≤ a → a < p.x + n → IsUnmarked (cell_in s (position_of (a, p.y)))
+  pub uncovered : (a : ℕ) → s.area.x ≤ a → a < p.x → is_skipped (cell_in s (position_of (a, p.y))) ≡ false
+      → a + width_of (cell_in s (position_of (a, p.y))) ≤ p.x
+
+-- What a call does that paints pieces from a position on. Ok, they are painted, and a settled buffer is still settled where their
+-- columns may be painted; where memory is refused, at most their columns differ. Short symbols are never refused.
+pub record PaintsOr {A : Type 0} (p : Position) (ps : List Piece) (result : Result A AllocError) (old new : Sheet) : Type 0 where
+  pub ok : OnOk result (Paints p ps old new)
+  pub settled : IsSettledSheet old → IsPaintable p (columns ps) old → OnOk result (IsSettledSheet new)
+  pub err : OnErr result (IsSameBeside p ps old new)
+  pub short : AreShort ps → IsOk result
 
 -- the cells of a part with a style laid over them
 pub record IsStyledPart (from to : ℕ) (s : Style) (old new : List Cell) : Type 0 where

@@ -1,10 +1,11 @@
 -- What a buffer is: an area, its cells row by row, and for how many cells there is room.
-use Rattle.std.specs.Prelude.{◌≡◌, ℕ, ◌+◌, ◌-◌, ◌*◌, ◌/◌, ◌%◌, ◌++◌, List, take, drop, length, replicate, slice_index_or, slice_set}
+use Rattle.std.specs.Prelude.{◌≡◌, ℕ, ◌<◌, ◌≤◌, ◌+◌, ◌-◌, ◌*◌, ◌/◌, ◌%◌, ◌++◌, List, take, drop, length, replicate, slice_index_or, slice_set}
 use Rattle.rtui_geometry.specs.declared.position.Position.{Position}
 use Rattle.rtui_geometry.specs.declared.rect.Rect.{Rect}
 use Rattle.rtui_geometry.specs.Rect.{EdgesFit}
 use Rattle.rtui_cell.specs.declared.cell.Cell.{Cell}
 use Rattle.rtui_cell.specs.Cell.{empty_cell}
+use Rattle.rtui_cell.specs.Equality.{IsEqual}
 
 pub record Sheet : Type 0 where
   pub area : Rect
@@ -15,10 +16,15 @@ pub record Sheet : Type 0 where
 abbrev pub area_size : Rect → ℕ
 area_size r = r.width * r.height
 
--- as many cells as the area has, and edges that are coordinates
-pub record IsSheet (area : Rect) (cells : List Cell) : Type 0 where
+-- as many cells as the area has, room for them, and edges that are coordinates
+pub record IsSheet (area : Rect) (cells : List Cell) (room : ℕ) : Type 0 where
   pub count : length cells ≡ area_size area
+  pub fits : length cells ≤ room
   pub edges : EdgesFit area
+
+-- the cells of an area fit into the room of the list
+abbrev pub HasRoomFor : Rect → Sheet → Type 0
+HasRoomFor r s = area_size r ≤ s.room
 
 abbrev pub position_of : ℕ × ℕ → Position
 position_of p = record { x = p.0; y = p.1 }
@@ -47,6 +53,10 @@ refilled former cells = take (length former) (cells ++ drop (length cells) forme
 abbrev pub empty_cells : ℕ → List Cell
 empty_cells n = replicate n empty_cell
 
+-- the first n cells, and empty ones where there are fewer
+abbrev pub resized : ℕ → List Cell → List Cell
+resized n cells = take n cells ++ empty_cells (n - length cells)
+
 -- the cells of an area, all empty
 pub record IsEmptied (over : Rect) (s : Sheet) : Type 0 where
   pub area : s.area ≡ over
@@ -56,3 +66,9 @@ pub record IsEmptied (over : Rect) (s : Sheet) : Type 0 where
 pub record IsSameSheet (s t : Sheet) : Type 0 where
   pub area : t.area ≡ s.area
   pub cells : t.cells ≡ s.cells
+
+-- the same area, and equal cells
+pub record IsEqualSheet (s t : Sheet) : Type 0 where
+  pub area : s.area ≡ t.area
+  pub count : length s.cells ≡ length t.cells
+  pub cells : (k : ℕ) → k < length s.cells → IsEqual (slice_index_or s.cells k empty_cell) (slice_index_or t.cells k empty_cell)

@@ -1,14 +1,11 @@
-ghost use Rattle.std.specs.Prelude.{◌≡◌, ◌+◌, ◌-◌, ◌*◌, ◌<◌, ◌≤◌, ◌↔◌, ◌++◌, length, take, IsTrue, IsOk, IsSome, IfSome, OnOk, OnErr, IfOk, replicate, map, All};
+ghost use Rattle.std.specs.Prelude.{◌≡◌, ◌<◌, ◌≤◌, ◌↔◌, length, IsTrue, IsOk, IsSome, IfSome, OnOk, OnErr, IfOk, replicate};
 ghost use Rattle.std.specs.Borrow.{sem, Lends, LendsIf, Array};
 ghost use Rattle.rtui_geometry.specs.Rect.{HasPosition, EdgesFit};
 ghost use Rattle.rtui_cell.specs.contracts.cell.Cell.{the_row as cell_row};
-ghost use Rattle.rtui_diff.specs.Updates.{update_at, Rises, IsCellOfNext};
-ghost use Rattle.rtui_diff.specs.Completeness.{AreNarrow, differing, IsMinimal, IsComplete};
-ghost use Rattle.rtui_diff.specs.Shows.{Repaints, Replays};
-ghost use Rattle.rtui_diff.specs.Remaining.{updates_left};
+ghost use Rattle.rtui_diff.specs.Shows.{Repaints};
 ghost use Rattle.rtui_buffer.specs.contracts.buffer.Buffer.{the_row};
-ghost use Rattle.rtui_buffer.specs.Sheet.{area_size, cell_index, place_position, position_of, cell_in, with_cell, empty_cells, refilled, IsEmptied, IsSameSheet};
-ghost use Rattle.rtui_buffer.specs.Frame.{IsSettledSheet, IsAligned, common_rows, sheet_updates, listed};
+ghost use Rattle.rtui_buffer.specs.Sheet.{area_size, cell_index, place_position, position_of, cell_in, with_cell, refilled, resized, IsEmptied, HasRoomFor, IsSameSheet};
+ghost use Rattle.rtui_buffer.specs.Frame.{IsSettledSheet, IsAligned, IsSheetDiff, listed};
 
 use rtui_cell::Cell;
 use rtui_diff::{BufferDiff, is_settled};
@@ -22,6 +19,7 @@ mod overlay;
 mod painting;
 mod sized;
 
+pub use lines::{lines_width, texts_width};
 pub use painting::painted_width;
 use sized::{copied, copies, cut_or_fill, empty_all};
 
@@ -41,14 +39,15 @@ impl Model for Buffer {
 
     ghost view = { λ b. record { area = b.area; cells = b.content.items; room = vec_capacity b.content } };
 
-    ghost invariant = { λ b. IsSheet b.area b.content.items };
+    ghost invariant = { λ b. IsSheet b.area b.content.items (vec_capacity b.content) };
 }
 
 impl Buffer {
     /// A buffer of empty cells; refused where memory is.
     pub fn empty(alloc: Global, area: Rect) -> Result<Buffer, AllocError>
         requires { EdgesFit area }
-        ensures { IfOk result (IsEmptied area) }
+        ensures emptied { IfOk result (IsEmptied area) }
+        ensures room { IfOk result (HasRoomFor area) }
     {
         let mut content = Vec::new(alloc);
         cut_or_fill(&mut content, area.area() as usize)?;
@@ -60,6 +59,7 @@ impl Buffer {
         requires { EdgesFit area }
         ensures area { IfOk result (λ b. b.area ≡ area) }
         ensures cells { IfOk result (λ b. b.cells ≡ replicate (area_size area) cell) }
+        ensures room { IfOk result (HasRoomFor area) }
     {
         let content = copies(alloc, cell, area.area() as usize)?;
         Ok(Buffer { area, content })
@@ -67,7 +67,8 @@ impl Buffer {
 
     /// An equal buffer; refused where memory is.
     pub fn clone(&self, alloc: Global) -> Result<Buffer, AllocError>
-        ensures { IfOk result (IsSameSheet self.now) }
+        ensures same { IfOk result (IsSameSheet self.now) }
+        ensures room { IfOk result (HasRoomFor self.now.area) }
     {
         let area = self.area;
         let content = copied(alloc, self.content.as_slice())?;
@@ -189,9 +190,10 @@ impl Buffer {
     pub fn resize(&mut self, area: Rect) -> Result<(), AllocError>
         requires { EdgesFit area }
         ensures area { OnOk result (self.new.area ≡ area) }
-        ensures cells { OnOk result (self.new.cells ≡ take (area_size area) self.old.cells ++ empty_cells (area_size area - length self.old.cells)) }
-        ensures room { OnOk result (self.old.room ≤ self.new.room) }
-        ensures succeeds { area_size area ≤ self.old.room → IsOk result }
+        ensures cells { OnOk result (self.new.cells ≡ resized (area_size area) self.old.cells) }
+        ensures room { OnOk result (HasRoomFor area self.new) }
+        ensures keeps_room { self.old.room ≤ self.new.room }
+        ensures succeeds { HasRoomFor area self.old → IsOk result }
         ensures err { OnErr result (self.new ≡ self.old) }
     {
         cut_or_fill(&mut self.content, area.area() as usize)?;
@@ -203,7 +205,8 @@ impl Buffer {
     pub fn reserve(&mut self, area: Rect) -> Result<(), AllocError>
         requires { EdgesFit area }
         ensures same { IsSameSheet self.old self.new }
-        ensures room { OnOk result (area_size area ≤ self.new.room) }
+        ensures room { OnOk result (HasRoomFor area self.new) }
+        ensures keeps_room { self.old.room ≤ self.new.room }
         ensures err { OnErr result (self.new ≡ self.old) }
     {
         let count = area.area() as usize;
@@ -232,16 +235,10 @@ impl Buffer {
     }
 
     /// The updates that turn a screen which shows this buffer into one that shows the next: over the common
-    /// rows, in order, only what differs.
+    /// rows, in order, only what differs. Both buffers have the same corner and width.
     pub fn diff_iter<'prev, 'next>(&'prev self, next: &'next Buffer) -> BufferDiff<'prev, 'next>
         requires { IsAligned self.now next.now }
-        ensures walks { updates_left result ≡ sheet_updates self.now next.now }
-        ensures rises { Rises (updates_left result) }
-        ensures own { All (IsCellOfNext self.now.area.x self.now.area.y self.now.area.width (common_rows self.now next.now) next.now.cells) (updates_left result) }
-        ensures narrow { AreNarrow (self.now.area.width * common_rows self.now next.now) self.now.cells next.now.cells → updates_left result ≡ map (update_at self.now.area.x self.now.area.y self.now.area.width next.now.cells) (differing self.now.cells next.now.cells (self.now.area.width * common_rows self.now next.now)) }
-        ensures replays { IsSettledSheet self.now → IsSettledSheet next.now → Replays self.now.area.x self.now.area.y self.now.area.width (common_rows self.now next.now) self.now.cells next.now.cells (updates_left result) }
-        ensures little { IsSettledSheet self.now → IsSettledSheet next.now → IsMinimal self.now.area.x self.now.area.y self.now.area.width (common_rows self.now next.now) self.now.cells next.now.cells (updates_left result) }
-        ensures enough { IsSettledSheet self.now → IsSettledSheet next.now → IsComplete self.now.area.x self.now.area.y self.now.area.width (common_rows self.now next.now) self.now.cells next.now.cells (updates_left result) }
+        ensures { IsSheetDiff self.now next.now result }
     {
         let area = *self.area();
         let height = area.height.min(next.area().height);
@@ -262,13 +259,7 @@ impl Buffer {
         next: &'next Buffer,
     ) -> Result<Vec<(u16, u16, &'next Cell)>, AllocError>
         requires { IsAligned self.now next.now }
-        ensures walks { IfOk result (λ all. listed all.items ≡ sheet_updates self.now next.now) }
-        ensures rises { IfOk result (λ all. Rises (listed all.items)) }
-        ensures own { IfOk result (λ all. All (IsCellOfNext self.now.area.x self.now.area.y self.now.area.width (common_rows self.now next.now) next.now.cells) (listed all.items)) }
-        ensures narrow { IfOk result (λ all. AreNarrow (self.now.area.width * common_rows self.now next.now) self.now.cells next.now.cells → listed all.items ≡ map (update_at self.now.area.x self.now.area.y self.now.area.width next.now.cells) (differing self.now.cells next.now.cells (self.now.area.width * common_rows self.now next.now))) }
-        ensures replays { IfOk result (λ all. IsSettledSheet self.now → IsSettledSheet next.now → Replays self.now.area.x self.now.area.y self.now.area.width (common_rows self.now next.now) self.now.cells next.now.cells (listed all.items)) }
-        ensures little { IfOk result (λ all. IsSettledSheet self.now → IsSettledSheet next.now → IsMinimal self.now.area.x self.now.area.y self.now.area.width (common_rows self.now next.now) self.now.cells next.now.cells (listed all.items)) }
-        ensures enough { IfOk result (λ all. IsSettledSheet self.now → IsSettledSheet next.now → IsComplete self.now.area.x self.now.area.y self.now.area.width (common_rows self.now next.now) self.now.cells next.now.cells (listed all.items)) }
+        ensures { IfOk result (λ all. IsSheetDiff self.now next.now (listed all.items)) }
     {
         collected(alloc, self.diff_iter(next))
     }
@@ -279,7 +270,7 @@ fn collected<'next>(
     alloc: Global,
     updates: BufferDiff<'_, 'next>,
 ) -> Result<Vec<(u16, u16, &'next Cell)>, AllocError>
-    ensures { IfOk result (λ all. listed all.items ≡ updates_left updates.entry) }
+    ensures { IfOk result (λ all. listed all.items ≡ updates.entry) }
 {
     let mut all = Vec::new(alloc);
     for update in updates {

@@ -1,15 +1,55 @@
-//! Laws of painting that are no single call's clause, stated over the definitions of `specs/` alone. Calling one of these
-//! functions costs nothing and tells the caller's proof its law.
+//! Laws of buffers and of painting that are no single call's clause, stated over the definitions of `specs/` alone. Calling
+//! one of these functions costs nothing and tells the caller's proof its law.
 
-ghost use Rattle.std.specs.Prelude.{ℕ, ◌+◌, ◌-◌, ◌≤◌, List, filter};
-ghost use Rattle.rtui_geometry.specs.declared.rect.Rect.{Rect};
+ghost use Rattle.std.specs.Prelude.{ℕ, ◌≡◌, ◌+◌, ◌-◌, ◌<◌, ◌≤◌, ◌++◌, ◌↔◌, IsTrue, List, filter, All};
+ghost use Rattle.std.specs.Hash as fed;
 ghost use Rattle.rtui_geometry.specs.declared.position.Position.{Position};
 ghost use Rattle.rtui_style.specs.declared.Style.{Style};
 ghost use Rattle.rtui_text.specs.Text.{LineData};
-ghost use Rattle.rtui_buffer.specs.Sheet.{Sheet};
+ghost use Rattle.rtui_cell.specs.Width.{text_width};
+ghost use Rattle.rtui_buffer.specs.Sheet.{Sheet, IsEmptied, IsEqualSheet};
+ghost use Rattle.rtui_buffer.specs.Frame.{IsSettledSheet, IsAligned, HaveSettledRows};
 ghost use Rattle.rtui_buffer.specs.Painting.{Piece, is_painted, kept, columns, IsLongestFront};
-ghost use Rattle.rtui_buffer.specs.PaintedText.{HasRow, pieces_at, Paints, PaintsColumns};
+ghost use Rattle.rtui_buffer.specs.PaintedText.{HasRow, pieces_at, IsPaintable, Paints, PaintsColumns};
 ghost use Rattle.rtui_buffer.specs.Line.{line_pieces_at};
+
+use crate::buffer::Buffer;
+use rtui_cell::Cell;
+use rtui_cell::laws::equality_is_by_looks;
+use rtui_geometry::Rect;
+use std::hash::Hash;
+
+/// Two buffers are equal exactly where their areas and their cells are.
+pub fn equality_is_by_cells()
+    ensures { (s t : Sheet) → IsTrue (⟦<Buffer as PartialEq>⟧.eq s t) ↔ IsEqualSheet s t }
+{
+    equality_is_by_looks();
+}
+
+/// A buffer feeds a hasher its area and its cells, and equal buffers feed it equally.
+pub fn hashing_names_area_and_cells()
+    ensures alike { (s t : Sheet) → IsTrue (⟦<Buffer as PartialEq>⟧.eq s t)
+        → ⟦<Buffer as Hash>⟧.hash_input s ≡ ⟦<Buffer as Hash>⟧.hash_input t }
+    ensures fields { (s : Sheet) → ⟦<Buffer as Hash>⟧.hash_input s
+        ≡ ⟦<Rect as Hash>⟧.hash_input s.area ++ fed.slice ⟦<Cell as Hash>⟧.hash_input s.cells }
+{}
+
+/// A screen can show an empty buffer, and each of its columns may be painted.
+pub fn empty_buffers_are_settled()
+    ensures settled { (r : Rect) (s : Sheet) → IsEmptied r s → IsSettledSheet s }
+    ensures paintable { (r : Rect) (s : Sheet) (p : Position) (n : ℕ) → IsEmptied r s → IsPaintable p n s }
+{}
+
+/// The common rows of two settled buffers are settled in both.
+pub fn common_rows_are_settled()
+    ensures { (prev next : Sheet) → IsAligned prev next → IsSettledSheet prev → IsSettledSheet next
+        → HaveSettledRows prev next }
+{}
+
+/// A kept grapheme takes at least one column.
+pub fn kept_graphemes_take_columns()
+    ensures { (room : ℕ) (gs : List (List ℕ)) → All (λ g. 0 < text_width g) (kept room gs) }
+{}
 
 /// Of the graphemes without control characters that have a column, the longest front that fits the room is painted.
 pub fn longest_front_is_kept()

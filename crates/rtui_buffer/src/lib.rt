@@ -11,6 +11,6 @@
 mod buffer;
 pub mod laws;
 
-pub use buffer::{Buffer, painted_width};
+pub use buffer::{Buffer, lines_width, painted_width, texts_width};
 pub use rtui_cell::{Cell, CellDiffOption, CellWidth};
 pub use rtui_diff::BufferDiff;

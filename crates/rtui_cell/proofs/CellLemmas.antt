@@ -1,5 +1,6 @@
 -- What equal cells have in common, and what the empty cell is.
-use Rattle.std.proofs.Common.{◌≡◌, ℕ, Bool, true, false, ◌&&◌, nat_eq, refl, sym, ap}
+use Rattle.std.proofs.Common.{◌≡◌, ℕ, Bool, true, false, ◌&&◌, ◌==◌, length, nat_eq, refl, sym, ap, ◌∙◌}
+use Rattle.std.specs.Prelude.{if◌then◌else◌}
 use Rattle.std.proofs.lemmas.Bool.{false≢true}
 use Rattle.std.proofs.lemmas.Bool.Decides.{Decides-eqb}
 use Rattle.std.specs.Int.NonZero.{non_zero_u16_get}
@@ -11,18 +12,22 @@ use Rattle.std.specs.Cmp.Lexicographic.{pointwise, same_text}
 use Rattle.rtui_style.specs.declared.color.Color.{Color}
 use Rattle.rtui_style.specs.contracts.color.Color as color
 use Rattle.rtui_style.specs.contracts.color.ColorPartialEq.TheImpl as color_equality
+use Rattle.rtui_style.specs.contracts.color.ColorEq.TheImpl.Laws.{laws-law as color_laws}
+use Rattle.rtui_style.specs.contracts.ModifierEq.TheImpl.Laws.{laws-law as modifier_laws}
 use Rattle.rtui_style.specs.Modifier.{modifier_of}
 use Rattle.rtui_style.specs.contracts.ModifierPartialEq.TheImpl as modifier_equality
 use Rattle.std.specs.contracts.prelude.BoolPartialEq.TheImpl as flag_equality
 use Rattle.rtui_cell.specs.declared.cell.Cell.{Cell}
 use Rattle.rtui_cell.specs.declared.cell.CellDiffOption.{CellDiffOption}
+use Rattle.rtui_cell.specs.declared.cell.CellDiffOption.TheVariants as DiffOption
 use Rattle.rtui_cell.specs.contracts.cell.CellDiffOption as option
 use Rattle.rtui_cell.specs.contracts.cell.CellDiffOptionPartialEq.TheImpl as option_equality
 use Rattle.rtui_cell.specs.Symbol.{symbol_text}
 use Rattle.rtui_cell.specs.Width.{text_width}
 use Rattle.rtui_cell.specs.Look.{look_of, empty_look}
-use Rattle.rtui_cell.specs.Cell.{empty_cell, width_of, is_skipped}
-use Rattle.rtui_cell.specs.Equality.{is_same, is_same_symbol}
+use Rattle.rtui_cell.specs.Cell.{empty_cell, width_by, width_of, is_skipped, has_no_option, is_single_byte}
+use Rattle.rtui_cell.specs.contracts.cell.CellDiffOptionEq.TheImpl.Laws.{laws-law as option_laws}
+use Rattle.rtui_cell.specs.Equality.{is_same, is_same_symbol, IsEqual}
 use Rattle.rtui_cell.proofs.DerivedLemmas.{same_value}
 
 and_left : (a b : Bool) → (a && b) ≡ true → a ≡ true
@@ -109,6 +114,41 @@ same_parts a b e =
       symbol = same_text _ _ (sym h.6);
     }
 
+pub same_meaning : (a b : Cell) → is_same a b ≡ true → IsEqual a b
+unfolding look_of
+same_meaning a b e =
+    let h = same_parts a b e in
+    record { look = rw (h.fg, h.bg, h.underline_color, h.modifier, h.symbol) refl; option = h.option; flag = h.skip }
+
+both : (a b : Bool) → a ≡ true → b ≡ true → (a && b) ≡ true
+both true b h k = k
+both false b h k = absurd (false≢true h)
+
+-- a test that is true of each value and itself is true of equal values
+true_along : {A : Type 0} (E : A → A → Bool) → ((x : A) → E x x ≡ true) → (x y : A) → x ≡ y → E x y ≡ true
+true_along E same x y e = rw (← e) (same x)
+
+same_as_itself : (b : Bool) → flag_equality.eq-value.it b b ≡ true
+same_as_itself true = refl
+same_as_itself false = refl
+
+pub equal_parts : (a b : Cell) → IsEqual a b → is_same a b ≡ true
+unfolding is_same look_of
+equal_parts a b h =
+    both _ _ (true_along color_equality.eq-value.it color_laws.refl a.fg b.fg (ap (λ l. l.fg) h.look))
+    (both _ _ (true_along color_equality.eq-value.it color_laws.refl a.bg b.bg (ap (λ l. l.bg) h.look))
+    (both _ _ (true_along color_equality.eq-value.it color_laws.refl a.underline_color b.underline_color (ap (λ l. l.underline_color) h.look))
+    (both _ _ (true_along modifier_equality.eq-value.it modifier_laws.refl a.modifier b.modifier (ap (λ l. l.modifier) h.look))
+    (both _ _ (true_along option_equality.eq-value.it option_laws.refl a.diff_option b.diff_option h.option)
+    (both _ _ (true_along flag_equality.eq-value.it same_as_itself a.skip b.skip h.flag)
+    ((bytes_eq-Decides (symbol_text a.symbol) (symbol_text b.symbol)).1 (ap (λ l. l.symbol) h.look)))))))
+
+-- cells that differ in colours and modifiers alone
+pub same_but_paint : (x y c : Cell) → x.fg ≡ y.fg → x.bg ≡ y.bg → x.underline_color ≡ y.underline_color → x.modifier ≡ y.modifier
+    → record c { fg = x.fg; bg = x.bg; underline_color = x.underline_color; modifier = x.modifier }
+    ≡ record c { fg = y.fg; bg = y.bg; underline_color = y.underline_color; modifier = y.modifier }
+same_but_paint x y c f b u m = rw (f, b, u, m) refl
+
 pub same_look : (a b : Cell) → is_same a b ≡ true → look_of a ≡ look_of b
 unfolding look_of
 same_look a b e = let h = same_parts a b e in rw (h.fg, h.bg, h.underline_color, h.modifier, h.symbol) refl
@@ -140,3 +180,28 @@ width-empty = refl
 pub skipped-empty : is_skipped empty_cell ≡ false
 unfolding is_skipped
 skipped-empty = refl
+
+single_by : (o : CellDiffOption) (one : Bool) → (has_no_option o && one) ≡ true → (has_no_option o ≡ true) × (one ≡ true)
+single_by o one e = (and_left (has_no_option o) one e, and_right (has_no_option o) one e)
+
+plain_width : (o : CellDiffOption) (n : ℕ) → has_no_option o ≡ true → width_by o n ≡ n
+plain_width DiffOption.None n e = refl
+plain_width DiffOption.Skip n e = absurd (false≢true e)
+plain_width DiffOption.AlwaysUpdate n e = absurd (false≢true e)
+plain_width (DiffOption.ForcedWidth forced) n e = absurd (false≢true e)
+
+one_byte_width : (one : Bool) (n : ℕ) → one ≡ true → (if one then 1 else n) ≡ 1
+one_byte_width true n e = refl
+one_byte_width false n e = absurd (false≢true e)
+
+-- a cell of a single byte takes one column
+pub single_byte_width : (c : Cell) → is_single_byte c ≡ true → width_of c ≡ 1
+unfolding is_single_byte width_of text_width
+single_byte_width c e =
+    let h = single_by c.diff_option (length (symbol_text c.symbol) == 1) e in
+    plain_width c.diff_option (text_width (symbol_text c.symbol)) h.0 ∙ one_byte_width (length (symbol_text c.symbol) == 1) _ h.1
+
+-- and has no option
+pub single_byte_option : (c : Cell) → is_single_byte c ≡ true → has_no_option c.diff_option ≡ true
+unfolding is_single_byte
+single_byte_option c e = (single_by c.diff_option _ e).0

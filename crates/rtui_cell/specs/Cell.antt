@@ -1,5 +1,5 @@
 -- Cells: the empty one, a style laid over one, its width, and whether it is skipped.
-use Rattle.std.specs.Prelude.{ℕ, Bool, true, false, ◌≤◌, List, Some, None}
+use Rattle.std.specs.Prelude.{◌≡◌, ℕ, Bool, true, false, ◌&&◌, ◌==◌, ◌≤◌, List, length, Some, None}
 use Rattle.std.specs.Int.NonZero.{non_zero_u16_get}
 use Rattle.rtui_style.specs.declared.color.Color.TheVariants.{Reset}
 use Rattle.rtui_style.specs.declared.Style.{Style}
@@ -26,6 +26,10 @@ empty_cell = record {
 -- a cell that shows a text and nothing else
 abbrev pub cell_of : List ℕ → Cell
 cell_of text = record empty_cell { symbol = Some text }
+
+-- a cell with another text
+abbrev pub with_symbol : List ℕ → Cell → Cell
+with_symbol text c = record c { symbol = Some text }
 
 -- a cell after a style was laid over it
 abbrev pub styled : Style → Cell → Cell
@@ -57,6 +61,17 @@ width_by (DiffOption.ForcedWidth forced) width = non_zero_u16_get forced
 unfoldable pub width_of : Cell → ℕ
 width_of c = width_by c.diff_option (text_width (symbol_text c.symbol))
 
+-- a diff goes by the cell's contents
+abbrev pub has_no_option : CellDiffOption → Bool
+has_no_option DiffOption.None = true
+has_no_option DiffOption.Skip = false
+has_no_option DiffOption.AlwaysUpdate = false
+has_no_option (DiffOption.ForcedWidth forced) = false
+
+-- a text of one byte and no option
+unfoldable pub is_single_byte : Cell → Bool
+is_single_byte c = has_no_option c.diff_option && (length (symbol_text c.symbol) == 1)
+
 -- the option says so, or the flag where there is no option
 abbrev pub is_skipped_by : CellDiffOption → Bool → Bool
 is_skipped_by DiffOption.None flag = flag
@@ -67,6 +82,11 @@ is_skipped_by (DiffOption.ForcedWidth forced) flag = false
 -- a skipped cell is never drawn
 unfoldable pub is_skipped : Cell → Bool
 is_skipped c = is_skipped_by c.diff_option c.skip
+
+-- no option and no flag
+pub record IsUnmarked (c : Cell) : Type 0 where
+  pub option : c.diff_option ≡ DiffOption.None
+  pub flag : c.skip ≡ false
 
 -- a cell of at most one column
 abbrev pub IsNarrow : Cell → Type 0

@@ -1,11 +1,18 @@
--- What `==` of cells answers.
-use Rattle.std.specs.Prelude.{Bool}
+-- What `==` of cells answers, and what it means.
+use Rattle.std.specs.Prelude.{◌≡◌, Bool}
 use Rattle.std.specs.Str.{bytes_eq}
 use Rattle.rtui_cell.specs.Symbol.{symbol_text}
+use Rattle.rtui_cell.specs.Look.{look_of}
 use Rattle.rtui_cell.specs.declared.cell.Cell.{Cell}
 use Rattle.rtui_cell.specs.contracts.cell.CellPartialEq.TheImpl as equality
 
--- equal looks, options and flags, where an unset symbol reads as a blank
+-- equal looks, options and flags; an unset symbol looks like a blank
+pub record IsEqual (a b : Cell) : Type 0 where
+  pub look : look_of a ≡ look_of b
+  pub option : a.diff_option ≡ b.diff_option
+  pub flag : a.skip ≡ b.skip
+
+-- what `==` answers
 unfoldable pub is_same : Cell → Cell → Bool
 is_same = equality.eq-value.it
 

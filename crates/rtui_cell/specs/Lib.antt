@@ -1,4 +1,5 @@
 pub mod Symbol
+pub mod Stored
 pub mod Width
 pub mod Look
 pub mod Cell

@@ -1,5 +1,5 @@
 -- What a symbol reads as. A text is the list of its bytes.
-use Rattle.std.specs.Prelude.{ℕ, List, [], ◌∷◌, ◌++◌, Option, Some, None}
+use Rattle.std.specs.Prelude.{ℕ, ◌≤◌, List, [], ◌∷◌, ◌++◌, length, Option, Some, None}
 use Rattle.rtui_merge.specs.Merge.{merged}
 use Rattle.rtui_merge.specs.declared.MergeStrategy.{MergeStrategy}
 
@@ -21,3 +21,7 @@ appended (Some stored) text = stored ++ text
 abbrev pub joined : MergeStrategy → Option (List ℕ) → List ℕ → List ℕ
 joined strategy None text = text
 joined strategy (Some stored) text = merged strategy stored text
+
+-- a text that a symbol holds without memory
+abbrev pub IsShort : List ℕ → Type 0
+IsShort text = length text ≤ 22

@@ -1,6 +1,6 @@
-ghost use Rattle.std.specs.Prelude.{◌≡◌, Some, OnOk, OnErr, IfOk, encode_utf8};
-ghost use Rattle.rtui_cell.specs.Symbol.{symbol_text, appended, joined};
-ghost use Rattle.rtui_cell.specs.Cell.{empty_cell, cell_of, styled, style_of, is_skipped};
+ghost use Rattle.std.specs.Prelude.{◌≡◌, Some, IsTrue, IsOk, OnOk, OnErr, IfOk, encode_utf8};
+ghost use Rattle.rtui_cell.specs.Symbol.{symbol_text, appended, joined, IsShort};
+ghost use Rattle.rtui_cell.specs.Cell.{empty_cell, cell_of, with_symbol, styled, style_of, is_skipped, is_single_byte, width_of};
 
 use crate::symbol::Symbol;
 use bitflags::Flags;
@@ -23,10 +23,16 @@ pub enum CellDiffOption {
     ForcedWidth(NonZeroU16),
 }
 
-/// One cell of a buffer: what stands in a column of a row.
+/// One cell of a buffer: what stands in a column of a row. A text of at most 22 bytes takes no memory.
 ///
 /// Two cells are equal where their texts, colours, modifiers, options and flags are; an unset symbol equals
 /// a blank.
+///
+/// ```
+/// let mut cell = Cell::new(alloc, "a")?;
+/// cell.set_fg(Color::Red).set_style(Style::new().bold());
+/// cell.append_symbol(alloc, "\u{301}")?; // an accent over it
+/// ```
 #[derive(Debug, Drop, PartialEq, Eq, Hash)]
 pub struct Cell {
     /// The colour of the text.
@@ -58,7 +64,8 @@ impl Cell {
 
     /// An otherwise empty cell with this text; refused where memory is.
     pub fn new(alloc: Global, symbol: &str) -> Result<Cell, AllocError>
-        ensures { IfOk result (λ cell. cell ≡ cell_of symbol.now) }
+        ensures value { IfOk result (λ cell. cell ≡ cell_of symbol.now) }
+        ensures short { IsShort symbol.now → IsOk result }
     {
         Ok(Cell {
             symbol: Symbol::new(alloc, symbol)?,
@@ -66,9 +73,10 @@ impl Cell {
         })
     }
 
-    /// An otherwise empty cell with this character; refused where memory is.
+    /// An otherwise empty cell with this character; takes no memory.
     pub fn from_char(alloc: Global, ch: char) -> Result<Cell, AllocError>
-        ensures { IfOk result (λ cell. cell ≡ cell_of (encode_utf8 ch)) }
+        ensures value { IfOk result (λ cell. cell ≡ cell_of (encode_utf8 ch)) }
+        ensures succeeds { IsOk result }
     {
         let mut bytes = [0; 4];
         Cell::new(alloc, ch.encode_utf8(&mut bytes))
@@ -83,8 +91,9 @@ impl Cell {
 
     /// Sets the text; where memory is refused the cell is as it was.
     pub fn set_symbol(&mut self, alloc: Global, symbol: &str) -> Result<(), AllocError>
-        ensures ok { OnOk result (self.new ≡ record self.old { symbol = Some symbol.now }) }
+        ensures ok { OnOk result (self.new ≡ with_symbol symbol.now self.old) }
         ensures err { OnErr result (self.new ≡ self.old) }
+        ensures short { IsShort symbol.now → IsOk result }
     {
         self.symbol = Symbol::new(alloc, symbol)?;
         Ok(())
@@ -93,8 +102,9 @@ impl Cell {
     /// Puts a text behind the stored one, or in place of an unset one; where memory is refused the cell is as
     /// it was.
     pub fn append_symbol(&mut self, alloc: Global, symbol: &str) -> Result<(), AllocError>
-        ensures ok { OnOk result (self.new ≡ record self.old { symbol = Some (appended self.old.symbol symbol.now) }) }
+        ensures ok { OnOk result (self.new ≡ with_symbol (appended self.old.symbol symbol.now) self.old) }
         ensures err { OnErr result (self.new ≡ self.old) }
+        ensures short { IsShort (appended self.old.symbol symbol.now) → IsOk result }
     {
         self.symbol.append(alloc, symbol)
     }
@@ -107,16 +117,17 @@ impl Cell {
         symbol: &str,
         strategy: MergeStrategy,
     ) -> Result<(), AllocError>
-        ensures ok { OnOk result (self.new ≡ record self.old { symbol = Some (joined strategy self.old.symbol symbol.now) }) }
+        ensures ok { OnOk result (self.new ≡ with_symbol (joined strategy self.old.symbol symbol.now) self.old) }
         ensures err { OnErr result (self.new ≡ self.old) }
+        ensures short { IsShort (joined strategy self.old.symbol symbol.now) → IsOk result }
     {
         self.symbol.merge(alloc, symbol, strategy)
     }
 
-    /// Sets the text to one character; where memory is refused the cell is as it was.
+    /// Sets the text to one character; takes no memory.
     pub fn set_char(&mut self, alloc: Global, ch: char) -> Result<(), AllocError>
-        ensures ok { OnOk result (self.new ≡ record self.old { symbol = Some (encode_utf8 ch) }) }
-        ensures err { OnErr result (self.new ≡ self.old) }
+        ensures ok { OnOk result (self.new ≡ with_symbol (encode_utf8 ch) self.old) }
+        ensures succeeds { IsOk result }
     {
         let mut bytes = [0; 4];
         self.set_symbol(alloc, ch.encode_utf8(&mut bytes))
@@ -202,6 +213,16 @@ impl Cell {
         }
     }
 
+    /// Whether the text is a single byte, as a blank where none is set, and the cell has no option. It takes one
+    /// column then.
+    #[tactic(auto, using(crate::proofs::CellLemmas::single_byte_width), unfolding(crate::specs::Cell::is_single_byte))]
+    pub fn is_single_byte(&self) -> bool
+        ensures value { result ≡ is_single_byte self.now }
+        ensures narrow { IsTrue result → width_of self.now ≡ 1 }
+    {
+        matches!(self.diff_option, CellDiffOption::None) && self.symbol.is_single_byte()
+    }
+
     /// Makes the cell empty.
     pub fn reset(&mut self)
         ensures { self.new ≡ empty_cell }
@@ -209,9 +230,26 @@ impl Cell {
         *self = Cell::EMPTY;
     }
 
+    /// Makes the cell equal to another one; where memory is refused it is as it was.
+    pub fn clone_from(&mut self, alloc: Global, other: &Cell) -> Result<(), AllocError>
+        ensures ok { OnOk result (self.new ≡ other.now) }
+        ensures err { OnErr result (self.new ≡ self.old) }
+        ensures short { IsShort (symbol_text other.now.symbol) → IsOk result }
+    {
+        self.symbol.clone_from(alloc, &other.symbol)?;
+        self.fg = other.fg;
+        self.bg = other.bg;
+        self.underline_color = other.underline_color;
+        self.modifier = other.modifier;
+        self.diff_option = other.diff_option;
+        self.skip = other.skip;
+        Ok(())
+    }
+
     /// An equal cell; refused where memory is.
     pub fn clone(&self, alloc: Global) -> Result<Cell, AllocError>
-        ensures { IfOk result (λ cell. cell ≡ self.now) }
+        ensures value { IfOk result (λ cell. cell ≡ self.now) }
+        ensures short { IsShort (symbol_text self.now.symbol) → IsOk result }
     {
         Ok(Cell {
             fg: self.fg,

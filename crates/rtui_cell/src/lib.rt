@@ -7,6 +7,7 @@
 
 mod cell;
 mod cell_width;
+pub mod laws;
 mod symbol;
 
 pub use cell::{Cell, CellDiffOption};

@@ -1,42 +1,60 @@
-ghost use Rattle.std.specs.Prelude.{◌≡◌, Some, None, nat_eq, OnOk, OnErr, IfOk};
+ghost use Rattle.std.specs.Prelude.{◌≡◌, ◌==◌, ◌++◌, length, Some, None, nat_eq, IsOk, OnOk, OnErr, IfOk};
+ghost use Rattle.std.specs.String.{string_bytes};
 ghost use Rattle.std.specs.Hash as fed;
 ghost use Rattle.std.specs.Cmp.Rules.{comparing, hashing};
 ghost use Rattle.std.specs.Cmp.Lexicographic.{pointwise};
 ghost use Rattle.std.specs.Ordering.{on};
 ghost use Rattle.std.proofs.Common.{rules};
-ghost use Rattle.rtui_cell.specs.Symbol.{symbol_text, appended, joined};
+ghost use Rattle.rtui_cell.specs.Symbol.{symbol_text, appended, joined, IsShort};
 
+use arrayvec::ArrayString;
 use rtui_merge::MergeStrategy;
 use std::alloc::{AllocError, Global};
 use std::hash::{Hash, Hasher};
 use std::marker::Model;
 
-/// The text of a cell, or none yet. An unset symbol reads as one blank and equals one.
+// The bytes of a text that are kept in the symbol itself.
+const INLINE: usize = 22;
+
+#[derive(Debug, Drop)]
+enum Text {
+    Unset,
+    Short(ArrayString<INLINE>),
+    Long(String),
+}
+
+/// The text of a cell, or none yet. An unset symbol reads as one blank and equals one. A text of at most 22
+/// bytes takes no memory.
 #[derive(Debug, Drop)]
 pub struct Symbol {
-    text: Option<String>,
+    text: Text,
 }
 
 impl Model for Symbol {
-    ghost use Rattle.std.specs.Prelude.{Option, List, ℕ, option_map};
-    ghost use Rattle.std.specs.String.{string_bytes};
+    ghost use Rattle.std.specs.Prelude.{Option, List, ℕ};
+    ghost use Rattle.rtui_cell.specs.Stored.{stored_text, IsStoredByLength};
 
     ghost Value = { Option (List ℕ) };
 
-    ghost view = { λ s. option_map string_bytes s.text };
+    ghost view = { λ s. stored_text s.text };
+
+    ghost invariant = { λ s. IsStoredByLength s.text };
 }
 
 impl Symbol {
     /// No text yet.
-    pub const UNSET: Symbol = Symbol { text: None };
+    pub const UNSET: Symbol = Symbol { text: Text::Unset };
 
     /// A symbol with this text; refused where memory is.
     pub fn new(alloc: Global, text: &str) -> Result<Symbol, AllocError>
-        ensures { IfOk result (λ s. s ≡ Some text.now) }
+        ensures value { IfOk result (λ s. s ≡ Some text.now) }
+        ensures short { IsShort text.now → IsOk result }
     {
-        Ok(Symbol {
-            text: Some(String::from_str(alloc, text)?),
-        })
+        let text = match ArrayString::from(text) {
+            Ok(short) => Text::Short(short),
+            Err(_) => Text::Long(String::from_str(alloc, text)?),
+        };
+        Ok(Symbol { text })
     }
 
     /// The text, one blank where there is none.
@@ -44,8 +62,9 @@ impl Symbol {
         ensures { result.now ≡ symbol_text self.now }
     {
         match &self.text {
-            None => " ",
-            Some(text) => text.as_str(),
+            Text::Unset => " ",
+            Text::Short(text) => text.as_str(),
+            Text::Long(text) => text.as_str(),
         }
     }
 
@@ -54,14 +73,18 @@ impl Symbol {
     pub fn append(&mut self, alloc: Global, text: &str) -> Result<(), AllocError>
         ensures ok { OnOk result (self.new ≡ Some (appended self.old text.now)) }
         ensures err { OnErr result (self.new ≡ self.old) }
+        ensures short { IsShort (appended self.old text.now) → IsOk result }
     {
         match &mut self.text {
-            None => {
-                self.text = Some(String::from_str(alloc, text)?);
-                Ok(())
+            Text::Unset => *self = Symbol::new(alloc, text)?,
+            Text::Short(stored) => {
+                if stored.try_push_str(text).is_err() {
+                    self.text = Text::Long(concat(alloc, stored.as_str(), text)?);
+                }
             }
-            Some(stored) => stored.push_str(text),
+            Text::Long(stored) => stored.push_str(text)?,
         }
+        Ok(())
     }
 
     /// Draws a text over the stored one by a strategy, or takes the place of an unset symbol; where memory is
@@ -74,24 +97,61 @@ impl Symbol {
     ) -> Result<(), AllocError>
         ensures ok { OnOk result (self.new ≡ Some (joined strategy self.old text.now)) }
         ensures err { OnErr result (self.new ≡ self.old) }
+        ensures short { IsShort (joined strategy self.old text.now) → IsOk result }
     {
         let joined = match &self.text {
-            None => text,
-            Some(stored) => strategy.merge(stored.as_str(), text),
+            Text::Unset => text,
+            Text::Short(stored) => strategy.merge(stored.as_str(), text),
+            Text::Long(stored) => strategy.merge(stored.as_str(), text),
         };
         *self = Symbol::new(alloc, joined)?;
         Ok(())
     }
 
-    /// An equal symbol; refused where memory is.
-    pub fn clone(&self, alloc: Global) -> Result<Symbol, AllocError>
-        ensures { IfOk result (λ s. s ≡ self.now) }
+    /// Whether the text is a single byte, as the blank of an unset symbol is.
+    pub fn is_single_byte(&self) -> bool
+        ensures { result ≡ (length (symbol_text self.now) == 1) }
     {
         match &self.text {
-            None => Ok(Symbol::UNSET),
-            Some(text) => Symbol::new(alloc, text.as_str()),
+            Text::Unset => true,
+            Text::Short(text) => text.len() == 1,
+            Text::Long(_) => false,
         }
     }
+
+    /// Makes the symbol equal to another one; where memory is refused it is as it was.
+    pub fn clone_from(&mut self, alloc: Global, other: &Symbol) -> Result<(), AllocError>
+        ensures ok { OnOk result (self.new ≡ other.now) }
+        ensures err { OnErr result (self.new ≡ self.old) }
+        ensures short { IsShort (symbol_text other.now) → IsOk result }
+    {
+        *self = other.clone(alloc)?;
+        Ok(())
+    }
+
+    /// An equal symbol; refused where memory is.
+    pub fn clone(&self, alloc: Global) -> Result<Symbol, AllocError>
+        ensures value { IfOk result (λ s. s ≡ self.now) }
+        ensures short { IsShort (symbol_text self.now) → IsOk result }
+    {
+        match &self.text {
+            Text::Unset => Ok(Symbol::UNSET),
+            Text::Short(text) => Ok(Symbol {
+                text: Text::Short(*text),
+            }),
+            Text::Long(text) => Symbol::new(alloc, text.as_str()),
+        }
+    }
+}
+
+// Two texts, one behind the other.
+fn concat(alloc: Global, front: &str, back: &str) -> Result<String, AllocError>
+    ensures { IfOk result (λ text. string_bytes text ≡ front.now ++ back.now) }
+{
+    let mut text = String::with_capacity(alloc, front.len() + back.len())?;
+    text.push_str(front)?;
+    text.push_str(back)?;
+    Ok(text)
 }
 
 impl PartialEq for Symbol {

@@ -8,10 +8,10 @@ use Rattle.rtui_cell.specs.Look.{Look, empty_look, look_of}
 use Rattle.rtui_cell.specs.Cell.{empty_cell, width_of, is_skipped}
 use Rattle.rtui_cell.specs.Equality.{is_same}
 use Rattle.rtui_diff.specs.Cells.{cell}
-use Rattle.rtui_diff.specs.DiffRule.{Walk, start, gives, gives_visited, gives_plain, turn, give, given}
+use Rattle.rtui_diff.specs.DiffRule.{Walk, start, gives, gives_visited, gives_plain, step, give, given}
 use Rattle.rtui_diff.specs.Settled.{IsBlankOrSkipped}
 use Rattle.rtui_cell.proofs.CellLemmas.{same_look, same_width, same_skipped, look-empty, width-empty}
-use Rattle.rtui_diff.proofs.WalkLemmas.{turn_cases, given-step, given-none, plain_same, unskipped}
+use Rattle.rtui_diff.proofs.WalkLemmas.{step_cases, given-step, given-none, plain_same, unskipped}
 
 -- the place k lies behind an unskipped cell that covers it
 pub record Behind (cells : List Cell) (k : ℕ) : Type 0 where
@@ -215,13 +215,13 @@ blank_kept len ns i k l true st lt b plain blank =
 blank_kept len ns i k l false st lt b plain blank = refl
 
 -- the invariant of the walk: one column
-pub step : (len : ℕ) (ps ns : List Cell) (over left : ℕ) (force : Bool) (i : ℕ) → Settled len ns → i < len →
+pub column_step : (len : ℕ) (ps ns : List Cell) (over left : ℕ) (force : Bool) (i : ℕ) → Settled len ns → i < len →
     (let s : Walk = record { over = over; left = left; force = force } in
     Stands len ns s i →
-    (let t : Walk = turn s (cell ps i) (cell ns i) in
+    (let t : Walk = step s (cell ps i) (cell ns i) in
     Stands len ns t (i + 1) ×
     ((k : ℕ) (l : Look) → k < len → Splits ps ns (reach s i) k l → Splits ps ns (reach t (i + 1)) k (step_look (gives s (cell ps i) (cell ns i)) ns i k l))))
-step len ps ns (suc over) left true i st lt stands =
+column_step len ps ns (suc over) left true i st lt stands =
     let e : i + suc over ≡ i + 1 + over = omega arith in (
       record {
         closed = subst (Closed ns) e stands.closed;
@@ -230,7 +230,7 @@ step len ps ns (suc over) left true i st lt stands =
       },
       λ k l klt sp. subst (λ r. Splits ps ns r k l) e sp,
     )
-step len ps ns (suc over) left false i st lt stands =
+column_step len ps ns (suc over) left false i st lt stands =
     let e : i + max (suc over) left ≡ i + 1 + max over (left - 1) = omega arith in (
       record {
         closed = subst (Closed ns) e stands.closed;
@@ -239,14 +239,14 @@ step len ps ns (suc over) left false i st lt stands =
       },
       λ k l klt sp. subst (λ r. Splits ps ns r k l) e sp,
     )
-step len ps ns zero (suc left) true i st lt stands =
+column_step len ps ns zero (suc left) true i st lt stands =
     let z : i + 0 ≡ i = omega arith in
     advance len ps ns (record { over = width_of (cell ns i) - 1; left = left; force = true }) i (i + 0) (gives_visited true (cell ps i) (cell ns i)) st lt
     (subst (Closed ns) z stands.closed) z
     (λ k l sp. forced_moves ps ns i k l (gives_visited true (cell ps i) (cell ns i)) refl)
     (omega arith)
     (λ f. absurd (false≢true (sym f)))
-step len ps ns zero (suc left) false i st lt stands =
+column_step len ps ns zero (suc left) false i st lt stands =
     let b : Behind ns i = stands.behind refl i (omega arith) (omega arith) in
     let w : width_of (cell ns i) ≤ 1 = behind_width len ns i st lt b in
     let e : i + max 0 (suc left) ≡ i + 1 + max (width_of (cell ns i) - 1) left = omega arith in (
@@ -261,12 +261,12 @@ step len ps ns zero (suc left) false i st lt stands =
           (λ same. (sp.shown (omega arith)).behind b.j (omega (arith, b.before)) b.plain (omega (arith, b.covers))) in
           subst (Splits ps ns (i + 1 + max (width_of (cell ns i) - 1) left) k) (sym kept) (subst (λ r. Splits ps ns r k l) e sp),
     )
-step len ps ns zero zero force i st lt stands =
+column_step len ps ns zero zero force i st lt stands =
     let z : reach_by 0 0 force i ≡ i = zero_reach force in
     let c : Closed ns i = subst (Closed ns) z stands.closed in
     let g : Bool = gives_plain (cell ps i) (cell ns i) in
     let mv : (k : ℕ) (l : Look) → Splits ps ns i k l → Moves ns i k l (step_look g ns i k l) = λ k l. plain_moves ps ns i k l g refl in
-    turn_cases (λ t. Stands len ns t (i + 1) × ((k : ℕ) (l : Look) → k < len → Splits ps ns (reach_by 0 0 force i) k l → Splits ps ns (reach t (i + 1)) k (step_look g ns i k l))) (cell ps i) (cell ns i)
+    step_cases (λ t. Stands len ns t (i + 1) × ((k : ℕ) (l : Look) → k < len → Splits ps ns (reach_by 0 0 force i) k l → Splits ps ns (reach t (i + 1)) k (step_look g ns i k l))) (cell ps i) (cell ns i)
     (λ skip. let w : width_of (cell ns i) ≤ 1 = st.skipped i lt skip in
     advance len ps ns start i _ g st lt c z mv (omega arith) (λ _ d a b. absurd (omega arith)))
     (λ plain. advance len ps ns (record { over = width_of (cell ns i) - 1; left = 0; force = false }) i _ g st lt c z mv (omega arith) (λ _ d a b. absurd (omega arith)))
@@ -296,9 +296,9 @@ replay_from len ps ns zero s i k l st e klt stands sp =
     let p : i ≤ reach s i = past_reach s i in
     rw (given-none ps ns s i) (sp.shown (omega arith))
 replay_from len ps ns (suc n) s i k l st e klt stands sp =
-    let t : Walk = turn s (cell ps i) (cell ns i) in
+    let t : Walk = step s (cell ps i) (cell ns i) in
     let g : Bool = gives s (cell ps i) (cell ns i) in
-    let q = step len ps ns s.over s.left s.force i st (omega arith) stands in
+    let q = column_step len ps ns s.over s.left s.force i st (omega arith) stands in
     subst (ShowsPlace ns k) (sym (ap (λ is. after ns is k l) (given-step ps ns n s i) ∙ after-give g ns i (given ps ns n t (i + 1)) k l))
     (replay_from len ps ns n t (i + 1) k (step_look g ns i k l) st (omega arith) klt q.0 (q.1 k l klt sp))
 

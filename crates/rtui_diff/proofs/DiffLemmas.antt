@@ -1,15 +1,20 @@
 -- The walk in steps of a whole cell, as the code takes them.
 use Rattle.std.proofs.lemmas.List.{get_or_default}
 use Rattle.std.specs.Prelude.{max}
-use Rattle.std.proofs.Common.{◌≡◌, ℕ, zero, suc, ◌+◌, ◌-◌, ◌<◌, ◌≤◌, Bool, List, [], map, length, get_or, refl, sym, ap, ◌∙◌, arith}
+use Rattle.std.proofs.Common.{◌≡◌, ℕ, zero, suc, ◌+◌, ◌-◌, ◌<◌, ◌≤◌, Bool, true, false, ◌&&◌, ◌||◌, not, List, [], map, length, get_or, refl, sym, ap, ◌∙◌, arith}
 use Rattle.rtui_cell.specs.declared.cell.Cell.{Cell}
-use Rattle.rtui_cell.specs.Cell.{width_of, empty_cell}
-use Rattle.rtui_diff.specs.Cells.{cell}
-use Rattle.rtui_diff.specs.DiffRule.{Walk, gives_plain, gives_visited, turn_plain, give, given}
+use Rattle.rtui_cell.specs.declared.cell.CellDiffOption.{CellDiffOption}
+use Rattle.rtui_cell.specs.declared.cell.CellDiffOption.TheVariants as DiffOption
+use Rattle.rtui_cell.specs.Cell.{width_of, is_skipped, empty_cell, has_no_option, is_single_byte}
+use Rattle.rtui_cell.specs.Equality.{is_same}
+use Rattle.rtui_cell.proofs.CellLemmas.{single_byte_width, single_byte_option}
+use Rattle.std.proofs.lemmas.Bool.{false≢true}
+use Rattle.rtui_diff.specs.Cells.{cell, is_always, is_always_by}
+use Rattle.rtui_diff.specs.DiffRule.{Walk, start, gives_plain, gives_visited, step_plain, give, given}
 use Rattle.rtui_diff.specs.Updates.{update_at}
 use Rattle.rtui_diff.specs.Remaining.{updates_left}
-use Rattle.rtui_diff.specs.declared.diff.BufferDiff.{BufferDiff}
-use Rattle.rtui_diff.proofs.WalkLemmas.{given-step, given-none}
+use Rattle.rtui_diff.specs.declared.diff.DiffWalk.{DiffWalk}
+use Rattle.rtui_diff.proofs.WalkLemmas.{given-step, given-none, step_cases}
 
 -- columns that are stepped over give nothing
 pub given-over : (ps ns : List Cell) (k over left : ℕ) (force : Bool) (i : ℕ) →
@@ -40,7 +45,7 @@ given-visited ps ns len at end to force lt visited e =
     ∙ ap (give (gives_visited force (cell ps at) (cell ns at)) at) (given-over ps ns (len - at - 1) (width_of (cell ns at) - 1) (end - at - 1) force (at + 1) ∙ rw (c, d, e) refl)
 
 -- any other place
-pub given-plain : (ps ns : List Cell) (len at end : ℕ) (force : Bool) (t : Walk) → at < len → end ≤ at → t ≡ turn_plain (cell ps at) (cell ns at) →
+pub given-plain : (ps ns : List Cell) (len at end : ℕ) (force : Bool) (t : Walk) → at < len → end ≤ at → t ≡ step_plain (cell ps at) (cell ns at) →
     given ps ns (len - at) (record { over = 0; left = end - at; force = force }) at
     ≡ give (gives_plain (cell ps at) (cell ns at)) at
     (given ps ns (len - (at + 1 + t.over)) (record { over = 0; left = at + 1 + t.left - (at + 1 + t.over); force = t.force }) (at + 1 + t.over))
@@ -55,7 +60,7 @@ given-plain ps ns len at end force t lt past e =
     ∙ ap (λ t. give (gives_plain (cell ps at) (cell ns at)) at (given ps ns (len - at - 1) t (at + 1))) (sym e)
     ∙ ap (give (gives_plain (cell ps at) (cell ns at)) at) (given-over ps ns (len - at - 1) t.over t.left t.force (at + 1) ∙ rw (c, d) refl)
 
-pub places-none : (d : BufferDiff) → d.len ≤ d.pos → updates_left d ≡ []
+pub places-none : (d : DiffWalk) → d.len ≤ d.pos → updates_left d ≡ []
 places-none d past =
     let a : d.len - d.pos ≡ 0 = omega arith in
     ap (λ k. map (update_at d.x d.y d.width d.next.now) (given d.prev.now d.next.now k (record { over = 0; left = d.end - d.pos; force = d.force }) d.pos)) a
@@ -73,7 +78,7 @@ read-visited ps ns len at end to w force g d e lt hp hn visited is wide goes =
     ∙ ap (λ g. give g at (given ps ns (len - to) (record { over = 0; left = end - to; force = force }) to)) (sym (is ∙ rw (p, n) refl))
 
 pub read-plain : (ps ns : List Cell) (len at end over left : ℕ) (force g f : Bool) (d e : Cell) → at < len → len ≤ length ps → len ≤ length ns → end ≤ at →
-    g ≡ gives_plain (get_or ps at d) (get_or ns at e) → record { over = over; left = left; force = f } ≡ turn_plain (get_or ps at d) (get_or ns at e) →
+    g ≡ gives_plain (get_or ps at d) (get_or ns at e) → record { over = over; left = left; force = f } ≡ step_plain (get_or ps at d) (get_or ns at e) →
     given ps ns (len - at) (record { over = 0; left = end - at; force = force }) at
     ≡ give g at (given ps ns (len - (at + 1 + over)) (record { over = 0; left = at + 1 + left - (at + 1 + over); force = f }) (at + 1 + over))
 read-plain ps ns len at end over left force g f d e lt hp hn past is turns =
@@ -81,3 +86,46 @@ read-plain ps ns len at end over left force g f d e lt hp hn past is turns =
     let n : get_or ns at e ≡ cell ns at = get_or_default ns at e empty_cell (omega arith) in
     given-plain ps ns len at end force (record { over = over; left = left; force = f }) lt past (turns ∙ rw (p, n) refl)
     ∙ ap (λ g. give g at (given ps ns (len - (at + 1 + over)) (record { over = 0; left = at + 1 + left - (at + 1 + over); force = f }) (at + 1 + over))) (sym (is ∙ rw (p, n) refl))
+
+plain_always : (o : CellDiffOption) → has_no_option o ≡ true → is_always_by o ≡ false
+plain_always DiffOption.None e = refl
+plain_always DiffOption.Skip e = refl
+plain_always DiffOption.AlwaysUpdate e = absurd (false≢true e)
+plain_always (DiffOption.ForcedWidth forced) e = refl
+
+not_given_by : (skipped always same : Bool) → always ≡ false → same ≡ true → (not skipped && (always || not same)) ≡ false
+not_given_by true always same a s = refl
+not_given_by false true same a s = absurd (false≢true (sym a))
+not_given_by false false true a s = refl
+not_given_by false false false a s = absurd (false≢true s)
+
+-- the same cell of a single byte is not given, and nothing follows it
+same_byte_not_given : (p n : Cell) → is_same p n ≡ true → is_single_byte n ≡ true → gives_plain p n ≡ false
+unfolding is_always
+same_byte_not_given p n same byte =
+    not_given_by (is_skipped n) (is_always_by n.diff_option) (is_same p n) (plain_always n.diff_option (single_byte_option n byte)) same
+
+same_byte_step : (p n : Cell) → is_same p n ≡ true → is_single_byte n ≡ true → start ≡ step_plain p n
+same_byte_step p n same byte =
+    let none = same_byte_not_given p n same byte in
+    let narrow = single_byte_width n byte in
+    sym (step_cases (λ s. s ≡ start) p n (λ _. refl) (λ _. rw narrow refl) (λ _ _ given _ _. absurd (false≢true (sym none ∙ given)))
+    (λ _ given _ _. absurd (false≢true (sym none ∙ given))) (λ _ _. refl))
+
+-- whether cells are forced is of no account outside a visited range
+given-unvisited : (ps ns : List Cell) (k : ℕ) (force other : Bool) (i : ℕ) →
+    given ps ns k (record { over = 0; left = 0; force = force }) i ≡ given ps ns k (record { over = 0; left = 0; force = other }) i
+given-unvisited ps ns zero force other i = given-none ps ns _ i ∙ sym (given-none ps ns _ i)
+given-unvisited ps ns (suc k) force other i = given-step ps ns k _ i ∙ sym (given-step ps ns k (record { over = 0; left = 0; force = other }) i)
+
+pub read-same_byte : (ps ns : List Cell) (len at end : ℕ) (force : Bool) (d e : Cell) → at < len → len ≤ length ps → len ≤ length ns → end ≤ at →
+    is_same (get_or ps at d) (get_or ns at e) ≡ true → is_single_byte (get_or ns at e) ≡ true →
+    given ps ns (len - at) (record { over = 0; left = end - at; force = force }) at
+    ≡ given ps ns (len - (at + 1)) (record { over = 0; left = end - (at + 1); force = force }) (at + 1)
+read-same_byte ps ns len at end force d e lt hp hn past same byte =
+    let none : at + 1 + 0 - (at + 1 + 0) ≡ 0 = omega arith in
+    let past_too : end - (at + 1) ≡ 0 = omega arith in
+    let on : at + 1 + 0 ≡ at + 1 = omega arith in
+    read-plain ps ns len at end 0 0 force false false d e lt hp hn past
+    (sym (same_byte_not_given _ _ same byte)) (same_byte_step _ _ same byte)
+    ∙ rw (none, past_too, on) (given-unvisited ps ns (len - (at + 1)) false force (at + 1))

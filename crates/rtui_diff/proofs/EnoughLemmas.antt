@@ -9,13 +9,13 @@ use Rattle.rtui_cell.specs.declared.cell.Cell.{Cell}
 use Rattle.rtui_cell.specs.Cell.{width_of, is_skipped}
 use Rattle.rtui_diff.specs.Cells.{has_fe0f, is_forced, shows_on_blank, cell, cell_at}
 use Rattle.rtui_cell.specs.Equality.{is_same_symbol}
-use Rattle.rtui_diff.specs.DiffRule.{Walk, start, gives, gives_plain, gives_visited, turn, give, given}
+use Rattle.rtui_diff.specs.DiffRule.{Walk, start, gives, gives_plain, gives_visited, step, give, given}
 use Rattle.rtui_diff.specs.Updates.{updates}
 use Rattle.rtui_diff.specs.Settled.{IsSettled}
 use Rattle.rtui_diff.specs.Completeness.{IsFree, IsDark, IsComplete}
 use Rattle.rtui_diff.proofs.GivenLemmas.{given_at, place_at}
-use Rattle.rtui_diff.proofs.WalkLemmas.{given-step, given-none, unskipped, turn_cases}
-use Rattle.rtui_diff.proofs.ColumnLemmas.{Settled, Behind, Stands, step, stands_start, behind_width}
+use Rattle.rtui_diff.proofs.WalkLemmas.{given-step, given-none, unskipped, step_cases}
+use Rattle.rtui_diff.proofs.ColumnLemmas.{Settled, Behind, Stands, column_step, stands_start, behind_width}
 use Rattle.rtui_diff.proofs.FrameLemmas.{settled_flat, row_start, row_end, column_in, row_in}
 use Rattle.rtui_diff.proofs.ReplayLemmas.{Plain, rises, rises_all}
 
@@ -118,11 +118,11 @@ record Sources (ps : List Cell) (s : Walk) (i : ℕ) : Type 0 where
   pub shone : s.force ≡ true → (c : ℕ) → i ≤ c → c < i + s.left → Shone ps c
 
 sources_step : (len : ℕ) (ps ns : List Cell) (over left : ℕ) (force : Bool) (i : ℕ) → Settled len ps → i < len →
-    (let s : Walk = record { over = over; left = left; force = force } in Sources ps s i → Sources ps (turn s (cell ps i) (cell ns i)) (i + 1))
+    (let s : Walk = record { over = over; left = left; force = force } in Sources ps s i → Sources ps (step s (cell ps i) (cell ns i)) (i + 1))
 sources_step len ps ns (suc over) left force i st lt o = record { shone = λ f c a b. o.shone f c (omega arith) (omega arith) }
 sources_step len ps ns zero (suc left) force i st lt o = record { shone = λ f c a b. o.shone f c (omega arith) (omega arith) }
 sources_step len ps ns zero zero force i st lt o =
-    turn_cases (λ t. Sources ps t (i + 1)) (cell ps i) (cell ns i) (λ _. none) (λ _. record { shone = λ f c a b. absurd (omega arith) })
+    step_cases (λ t. Sources ps t (i + 1)) (cell ps i) (cell ns i) (λ _. none) (λ _. record { shone = λ f c a b. absurd (omega arith) })
     (λ _ _ _ _ _. record { shone = λ f. absurd (false≢true f) })
     (λ _ _ narrow vis. record {
       shone = λ f c a b. record {
@@ -156,7 +156,7 @@ record At (len : ℕ) (ps ns : List Cell) (whole : List ℕ) (j : ℕ) : Type 0 
   pub stands : Stands len ns state j
   pub sources : Sources ps state j
   pub gave : gives state (cell ps j) (cell ns j) ≡ true
-  pub later : (c : ℕ) → Contains (given ps ns rest (turn state (cell ps j) (cell ns j)) (j + 1)) c → Contains whole c
+  pub later : (c : ℕ) → Contains (given ps ns rest (step state (cell ps j) (cell ns j)) (j + 1)) c → Contains whole c
 
 walk_to : (len : ℕ) (ps ns : List Cell) (n : ℕ) (s : Walk) (i j : ℕ) → Settled len ps → Settled len ns → i + n ≡ len → Stands len ns s i → Sources ps s i → i ≤ j →
     Contains (given ps ns n s i) j → At len ps ns (given ps ns n s i) j
@@ -166,13 +166,13 @@ walk_to len ps ns zero s i j sp st e stands sources low c = absurd (nothing (sub
     nothing h = let k = h.1 in omega arith
 walk_to len ps ns (suc n) s i j sp st e stands sources low c =
     let g : Bool = gives s (cell ps i) (cell ns i) in
-    let t : Walk = turn s (cell ps i) (cell ns i) in
+    let t : Walk = step s (cell ps i) (cell ns i) in
     let rest : List ℕ = given ps ns n t (i + 1) in
     let here : Contains (give g i rest) j = subst (λ is. Contains is j) (given-step ps ns n s i) c in
     subst (λ is. At len ps ns is j) (sym (given-step ps ns n s i))
     (elim (cases_lt i j) [
       | inl less ↦
-          let a : At len ps ns rest j = walk_to len ps ns n t (i + 1) j sp st (omega arith) (step len ps ns s.over s.left s.force i st (omega arith) stands).0
+          let a : At len ps ns rest j = walk_to len ps ns n t (i + 1) j sp st (omega arith) (column_step len ps ns s.over s.left s.force i st (omega arith) stands).0
           (sources_step len ps ns s.over s.left s.force i sp (omega arith) sources) (omega arith) (contains_later g i j rest less here) in
           record { state = a.state; rest = a.rest; total = a.total; stands = a.stands; sources = a.sources; gave = a.gave; later = λ d h. contains_give g i d rest (a.later d h) }
       | inr ge ↦
@@ -208,7 +208,7 @@ refreshed len ps ns j c sp st is less lt former covers visible unforced narrow f
     (forced_range len ps ns a.rest 0 (width_of (cell ps j) - 1) (j + 1) c st (omega arith) (omega arith) (omega arith) lt (λ d x y. absurd (omega arith)) plain free))
   where
     turned : (over left : ℕ) (force : Bool) → Stands len ns (record { over = over; left = left; force = force }) j → Sources ps (record { over = over; left = left; force = force }) j →
-        gives (record { over = over; left = left; force = force }) (cell ps j) (cell ns j) ≡ true → turn (record { over = over; left = left; force = force }) (cell ps j) (cell ns j) ≡ record { over = 0; left = width_of (cell ps j) - 1; force = true }
+        gives (record { over = over; left = left; force = force }) (cell ps j) (cell ns j) ≡ true → step (record { over = over; left = left; force = force }) (cell ps j) (cell ns j) ≡ record { over = 0; left = width_of (cell ps j) - 1; force = true }
     turned (suc over) left force stands sources gave = absurd (false≢true gave)
     turned zero (suc left) true stands sources gave =
         let x : Shone ps j = sources.shone refl j (omega arith) (omega arith) in
@@ -232,7 +232,7 @@ blanked len ps ns j c sp st is less lt plain covers unforced variation dark plai
     (λ d x y. record { j = j; before = omega arith; plain = plain; covers = omega arith }) plain_here other))
   where
     turned : (over left : ℕ) (force : Bool) → Stands len ns (record { over = over; left = left; force = force }) j → Sources ps (record { over = over; left = left; force = force }) j →
-        gives (record { over = over; left = left; force = force }) (cell ps j) (cell ns j) ≡ true → turn (record { over = over; left = left; force = force }) (cell ps j) (cell ns j) ≡ record { over = 0; left = width_of (cell ns j) - 1; force = false }
+        gives (record { over = over; left = left; force = force }) (cell ps j) (cell ns j) ≡ true → step (record { over = over; left = left; force = force }) (cell ps j) (cell ns j) ≡ record { over = 0; left = width_of (cell ns j) - 1; force = false }
     turned (suc over) left force stands sources gave = absurd (false≢true gave)
     turned zero (suc left) true stands sources gave = absurd (dark (sources.shone refl j (omega arith) (omega arith)))
     turned zero (suc left) false stands sources gave =

@@ -11,13 +11,13 @@ use Rattle.rtui_cell.specs.declared.cell.Cell.{Cell}
 use Rattle.rtui_cell.specs.Cell.{empty_cell, width_of, is_skipped}
 use Rattle.rtui_diff.specs.Cells.{has_fe0f, is_forced, is_always, shows_on_blank, cell, cell_at}
 use Rattle.rtui_cell.specs.Equality.{is_same, is_same_symbol}
-use Rattle.rtui_diff.specs.DiffRule.{Walk, start, gives, gives_plain, turn, turn_plain, give, given}
+use Rattle.rtui_diff.specs.DiffRule.{Walk, start, gives, gives_plain, step, step_plain, give, given}
 use Rattle.rtui_diff.specs.Updates.{update_at, updates}
 use Rattle.rtui_diff.specs.Settled.{IsSettled}
 use Rattle.rtui_diff.specs.Completeness.{differing, AreNarrow, IsGiven, Uncovers, IsMinimal}
 use Rattle.rtui_cell.proofs.CellLemmas.{same_symbol, symbol_beside}
-use Rattle.rtui_diff.proofs.WalkLemmas.{given-step, given-none, turn_cases, unskipped}
-use Rattle.rtui_diff.proofs.ColumnLemmas.{Settled, Stands, reach, step, stands_start, behind_width}
+use Rattle.rtui_diff.proofs.WalkLemmas.{given-step, given-none, step_cases, unskipped}
+use Rattle.rtui_diff.proofs.ColumnLemmas.{Settled, Stands, reach, column_step, stands_start, behind_width}
 use Rattle.rtui_diff.proofs.FrameLemmas.{settled_flat, row_start, row_end, column_in, row_in}
 
 -- Narrow cells: exactly those that differ.
@@ -41,14 +41,14 @@ narrow_from len ps ns (suc n) s i narrow e o l =
     let wp : width_of (cell ps i) ≤ 1 = narrow.former i (omega arith) in
     let wn : width_of (cell ns i) ≤ 1 = narrow.next i (omega arith) in
     let g : gives s p c ≡ gives_plain p c = rw (o, l) refl in
-    let t : turn s p c ≡ turn_plain p c = rw (o, l) refl in
+    let t : step s p c ≡ step_plain p c = rw (o, l) refl in
     let d : gives_plain p c ≡ differs ps ns i = gives_differs p c (narrow.changing i (omega arith)) in
-    let none : ((turn_plain p c).over ≡ 0) × ((turn_plain p c).left ≡ 0) =
-    turn_cases (λ t. (t.over ≡ 0) × (t.left ≡ 0)) p c (λ _. (refl, refl)) (λ _. (omega arith, refl)) (λ _ _ _ _ _. (refl, omega arith)) (λ _ _ _ _. (refl, omega arith)) (λ _ _. (refl, refl)) in
+    let none : ((step_plain p c).over ≡ 0) × ((step_plain p c).left ≡ 0) =
+    step_cases (λ t. (t.over ≡ 0) × (t.left ≡ 0)) p c (λ _. (refl, refl)) (λ _. (omega arith, refl)) (λ _ _ _ _ _. (refl, omega arith)) (λ _ _ _ _. (refl, omega arith)) (λ _ _. (refl, refl)) in
     given-step ps ns n s i
-    ∙ ap (λ g. give g i (given ps ns n (turn s p c) (i + 1))) (g ∙ d)
+    ∙ ap (λ g. give g i (given ps ns n (step s p c) (i + 1))) (g ∙ d)
     ∙ ap (λ t. give (differs ps ns i) i (given ps ns n t (i + 1))) t
-    ∙ ap (give (differs ps ns i) i) (narrow_from len ps ns n (turn_plain p c) (i + 1) narrow (omega arith) none.0 none.1)
+    ∙ ap (give (differs ps ns i) i) (narrow_from len ps ns n (step_plain p c) (i + 1) narrow (omega arith) none.0 none.1)
     ∙ give_cond (differs ps ns i) i (filter (differs ps ns) (range_with_len (i + 1) n))
 
 -- where all cells are narrow, exactly the unskipped ones that differ are given
@@ -107,7 +107,7 @@ and_right false b e = absurd (false≢true e)
 
 origins_step : (len : ℕ) (ps ns : List Cell) (Q : ℕ → Type 0) (over left : ℕ) (force : Bool) (i : ℕ) → Settled len ps → i < len →
     (let s : Walk = record { over = over; left = left; force = force } in
-    (gives s (cell ps i) (cell ns i) ≡ true → Q i) → Origins ps ns Q s i → Origins ps ns Q (turn s (cell ps i) (cell ns i)) (i + 1))
+    (gives s (cell ps i) (cell ns i) ≡ true → Q i) → Origins ps ns Q s i → Origins ps ns Q (step s (cell ps i) (cell ns i)) (i + 1))
 origins_step len ps ns Q (suc over) left force i st lt q o = record {
   unforced = λ f p. origin_on ns Q i left (i + 1) (left - 1) (omega arith) (omega arith) (o.unforced f (omega arith));
   forced = λ f p. former_on ps ns Q i left (i + 1) (left - 1) (omega arith) (omega arith) (o.forced f (omega arith));
@@ -117,7 +117,7 @@ origins_step len ps ns Q zero (suc left) force i st lt q o = record {
   forced = λ f p. former_on ps ns Q i (suc left) (i + 1) left (omega arith) (omega arith) (o.forced f (omega arith));
 }
 origins_step len ps ns Q zero zero force i st lt q o =
-    turn_cases (λ t. Origins ps ns Q t (i + 1)) (cell ps i) (cell ns i)
+    step_cases (λ t. Origins ps ns Q t (i + 1)) (cell ps i) (cell ns i)
     (λ _. none) (λ _. record { unforced = λ _ p. absurd (omega arith); forced = λ _ p. absurd (omega arith) })
     (λ plain unforced gave wide fe. record {
       unforced = λ _ p. record { j = i; before = omega arith; plain = plain; covers = omega arith; given = q gave; unforced = unforced; variation = fe };
@@ -227,13 +227,13 @@ all_reasons : (len : ℕ) (ps ns : List Cell) (Q : ℕ → Type 0) (n : ℕ) (s 
     Stands len ns s i → Origins ps ns Q s i → All Q (given ps ns n s i) → All (Reasons ps ns Q) (given ps ns n s i)
 all_reasons len ps ns Q zero s i sp st e stands o all = subst (All (Reasons ps ns Q)) (sym (given-none ps ns s i)) (All-nil (Reasons ps ns Q))
 all_reasons len ps ns Q (suc n) s i sp st e stands o all =
-    let t : Walk = turn s (cell ps i) (cell ns i) in
+    let t : Walk = step s (cell ps i) (cell ns i) in
     let g : Bool = gives s (cell ps i) (cell ns i) in
     let rest : List ℕ = given ps ns n t (i + 1) in
     let here : All Q (give g i rest) = subst (All Q) (given-step ps ns n s i) all in
     subst (All (Reasons ps ns Q)) (sym (given-step ps ns n s i))
     (all_give (Reasons ps ns Q) g i rest (reasons len ps ns Q s.over s.left s.force i st (omega arith) stands o)
-    (all_reasons len ps ns Q n t (i + 1) sp st (omega arith) (step len ps ns s.over s.left s.force i st (omega arith) stands).0
+    (all_reasons len ps ns Q n t (i + 1) sp st (omega arith) (column_step len ps ns s.over s.left s.force i st (omega arith) stands).0
     (origins_step len ps ns Q s.over s.left s.force i sp (omega arith) (give_head Q g i rest here) o)
     (give_tail Q g i rest here)))
 

@@ -7,3 +7,4 @@ pub mod EnoughLemmas
 pub mod DiffLemmas
 pub mod RepaintLemmas
 pub mod SettledLemmas
+pub mod DiffPromise

@@ -6,7 +6,7 @@ use Rattle.std.proofs.lemmas.List.Elements.{All-nil, All-cons, All-weaker, All-m
 use Rattle.rtui_cell.specs.declared.cell.Cell.{Cell}
 use Rattle.rtui_cell.specs.Cell.{width_of, is_skipped}
 use Rattle.rtui_diff.specs.Cells.{cell}
-use Rattle.rtui_diff.specs.DiffRule.{Walk, start, gives, turn, give, given}
+use Rattle.rtui_diff.specs.DiffRule.{Walk, start, gives, step, give, given}
 use Rattle.rtui_cell.specs.Grid.{Grid, puts}
 use Rattle.rtui_diff.specs.Updates.{update_at, updates, RisesFrom, IsBefore, Rises, IsCellOfNext}
 use Rattle.rtui_diff.specs.Settled.{IsSettled}
@@ -30,7 +30,7 @@ pub rises : (ps ns : List Cell) (n : ℕ) (s : Walk) (i hi : ℕ) → i + n ≡ 
 rises ps ns zero s i hi e = rw (given-none ps ns s i) tt
 rises ps ns (suc n) s i hi e = rw (given-step ps ns n s i)
     (rises_give (Plain ns) (gives s (cell ps i) (cell ns i)) i hi _ (omega arith) (unskipped s.over s.left s.force (cell ps i) (cell ns i))
-    (rises ps ns n (turn s (cell ps i) (cell ns i)) (i + 1) hi (omega arith)))
+    (rises ps ns n (step s (cell ps i) (cell ns i)) (i + 1) hi (omega arith)))
 
 pub rises_all : (P : ℕ → Type 0) (lo hi : ℕ) (is : List ℕ) → RisesFrom P lo hi is → All (λ i. (lo ≤ i) × (i < hi) × P i) is
 rises_all P lo hi [] r = All-nil (λ i. (lo ≤ i) × (i < hi) × P i)

@@ -6,7 +6,7 @@ use Rattle.rtui_cell.specs.declared.cell.Cell.{Cell}
 use Rattle.rtui_cell.specs.Cell.{width_of, is_skipped}
 use Rattle.rtui_diff.specs.Cells.{has_fe0f, is_forced, is_always, shows_on_blank, cell}
 use Rattle.rtui_cell.specs.Equality.{is_same}
-use Rattle.rtui_diff.specs.DiffRule.{Walk, start, gives, gives_plain, turn, turn_plain, give, given}
+use Rattle.rtui_diff.specs.DiffRule.{Walk, start, gives, gives_plain, step, step_plain, give, given}
 
 pick : (P : Walk → Type 0) (s0 s1 s2 s3 : Walk) (sk fo gi wide fe vis : Bool) →
     (sk ≡ true → P s0) → (sk ≡ false → P s1) →
@@ -23,17 +23,17 @@ pick P s0 s1 s2 s3 false false true false fe true h0 h1 h2 h3 h4 = h3 refl refl 
 pick P s0 s1 s2 s3 false false true false fe false h0 h1 h2 h3 h4 = h4 refl refl
 
 -- the five ways on from a cell that is neither stepped over nor visited
-pub turn_cases : (P : Walk → Type 0) (p n : Cell) →
+pub step_cases : (P : Walk → Type 0) (p n : Cell) →
     (is_skipped n ≡ true → P start) →
     (is_skipped n ≡ false → P (record { over = width_of n - 1; left = 0; force = false })) →
     (is_skipped n ≡ false → is_forced n ≡ false → gives_plain p n ≡ true → nat_lt 1 (width_of n) ≡ true → has_fe0f n ≡ true → P (record { over = 0; left = width_of n - 1; force = false })) →
     (is_skipped n ≡ false → gives_plain p n ≡ true → nat_lt 1 (width_of n) ≡ false → (nat_lt (width_of n) (width_of p) && shows_on_blank p) ≡ true → P (record { over = 0; left = width_of p - 1; force = true })) →
     (is_skipped n ≡ false → nat_lt 1 (width_of n) ≡ false → P start) →
-    P (turn_plain p n)
-turn_cases P p n = pick P start _ _ _ (is_skipped n) (is_forced n) (gives_plain p n) (nat_lt 1 (width_of n)) (has_fe0f n) (nat_lt (width_of n) (width_of p) && shows_on_blank p)
+    P (step_plain p n)
+step_cases P p n = pick P start _ _ _ (is_skipped n) (is_forced n) (gives_plain p n) (nat_lt 1 (width_of n)) (has_fe0f n) (nat_lt (width_of n) (width_of p) && shows_on_blank p)
 
 pub given-step : (ps ns : List Cell) (k : ℕ) (s : Walk) (i : ℕ) →
-    given ps ns (suc k) s i ≡ give (gives s (cell ps i) (cell ns i)) i (given ps ns k (turn s (cell ps i) (cell ns i)) (i + 1))
+    given ps ns (suc k) s i ≡ give (gives s (cell ps i) (cell ns i)) i (given ps ns k (step s (cell ps i) (cell ns i)) (i + 1))
 unfolding given
 given-step ps ns k s i = refl
 

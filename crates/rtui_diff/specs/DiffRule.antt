@@ -27,24 +27,24 @@ gives_at (suc over) left force p n = false
 gives_at zero (suc left) force p n = gives_visited force p n
 gives_at zero zero force p n = gives_plain p n
 
-abbrev pub turn_plain : Cell → Cell → Walk
-turn_plain p n =
+abbrev pub step_plain : Cell → Cell → Walk
+step_plain p n =
     if is_skipped n then start
     else (if is_forced n || not (gives_plain p n) || (nat_lt 1 (width_of n) && not (has_fe0f n)) then record { over = width_of n - 1; left = 0; force = false }
     else (if nat_lt 1 (width_of n) then record { over = 0; left = width_of n - 1; force = false }
     else (if nat_lt (width_of n) (width_of p) && shows_on_blank p then record { over = 0; left = width_of p - 1; force = true }
     else start)))
 
-abbrev pub turn_at : ℕ → ℕ → Bool → Cell → Cell → Walk
-turn_at (suc over) left force p n = record { over = over; left = left - 1; force = force }
-turn_at zero (suc left) force p n = record { over = width_of n - 1; left = left; force = force }
-turn_at zero zero force p n = turn_plain p n
+abbrev pub step_at : ℕ → ℕ → Bool → Cell → Cell → Walk
+step_at (suc over) left force p n = record { over = over; left = left - 1; force = force }
+step_at zero (suc left) force p n = record { over = width_of n - 1; left = left; force = force }
+step_at zero zero force p n = step_plain p n
 
 abbrev pub gives : Walk → Cell → Cell → Bool
 gives s p n = gives_at s.over s.left s.force p n
 
-abbrev pub turn : Walk → Cell → Cell → Walk
-turn s p n = turn_at s.over s.left s.force p n
+abbrev pub step : Walk → Cell → Cell → Walk
+step s p n = step_at s.over s.left s.force p n
 
 abbrev pub give : Bool → ℕ → List ℕ → List ℕ
 give true i is = i ∷ is
@@ -53,4 +53,4 @@ give false i is = is
 -- the places that are given of the k places from i on
 unfoldable pub given : List Cell → List Cell → ℕ → Walk → ℕ → List ℕ
 given ps ns zero s i = []
-given ps ns (suc k) s i = give (gives s (cell ps i) (cell ns i)) i (given ps ns k (turn s (cell ps i) (cell ns i)) (i + 1))
+given ps ns (suc k) s i = give (gives s (cell ps i) (cell ns i)) i (given ps ns k (step s (cell ps i) (cell ns i)) (i + 1))

@@ -6,3 +6,4 @@ pub mod DiffRule
 pub mod Completeness
 pub mod Remaining
 pub mod Step
+pub mod Diff

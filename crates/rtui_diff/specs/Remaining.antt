@@ -3,18 +3,18 @@ use Rattle.std.specs.Prelude.{◌≡◌, ℕ, ◌-◌, List, map}
 use Rattle.rtui_diff.specs.DiffRule.{given}
 use Rattle.rtui_cell.specs.Grid.{Update}
 use Rattle.rtui_diff.specs.Updates.{update_at}
-use Rattle.rtui_diff.specs.declared.diff.BufferDiff.{BufferDiff}
+use Rattle.rtui_diff.specs.declared.diff.DiffWalk.{DiffWalk}
 
 -- the places that a diff has left
-abbrev pub places_left : BufferDiff → List ℕ
+abbrev pub places_left : DiffWalk → List ℕ
 places_left d = given d.prev.now d.next.now (d.len - d.pos) (record { over = 0; left = d.end - d.pos; force = d.force }) d.pos
 
 -- the updates that a diff has left
-abbrev pub updates_left : BufferDiff → List Update
+abbrev pub updates_left : DiffWalk → List Update
 updates_left d = map (update_at d.x d.y d.width d.next.now) (places_left d)
 
 -- the same but for where the walk is
-pub record IsSameBut (old new : BufferDiff) : Type 0 where
+pub record IsSameBut (old new : DiffWalk) : Type 0 where
   pub prev : new.prev ≡ old.prev
   pub next : new.next ≡ old.next
   pub x : new.x ≡ old.x

@@ -1,6 +1,6 @@
 -- What follows a cell.
 use Rattle.rtui_diff.specs.DiffRule.{Walk}
-use Rattle.rtui_diff.specs.declared.turn.Turn.{Turn}
+use Rattle.rtui_diff.specs.declared.step.Step.{Step}
 
-abbrev pub walk_of : Turn → Walk
-walk_of t = record { over = t.over; left = t.left; force = t.force }
+abbrev pub walk_of : Step → Walk
+walk_of s = record { over = s.over; left = s.left; force = s.force }

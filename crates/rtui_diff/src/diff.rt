@@ -1,13 +1,78 @@
 //! The updates between two frames.
 
-ghost use Rattle.std.specs.Prelude.{◌≡◌, ℕ, ◌+◌, ◌*◌, ◌≤◌, length, map, All};
+ghost use Rattle.std.specs.Prelude.{◌≡◌, ◌+◌, ◌*◌, ◌<◌, ◌≤◌, length};
+ghost use Rattle.rtui_cell.specs.Grid.{update_by};
+ghost use Rattle.rtui_diff.specs.Diff.{IsDiff};
 
-use crate::turn::{is_given, is_given_when_visited, turn_after};
+use crate::cells::is_same;
+use crate::step::{is_given, is_given_when_visited, step_after};
 use rtui_cell::{Cell, CellWidth};
+use std::marker::Model;
 
-/// The updates from one frame to the next, over their common rows.
+/// The updates from one frame to the next that are left, over their common rows: a column, a row and the cell to be
+/// put there, row by row.
 #[derive(Debug, Drop)]
 pub struct BufferDiff<'prev, 'next> {
+    walk: DiffWalk<'prev, 'next>,
+}
+
+impl<'prev, 'next> Model for BufferDiff<'prev, 'next> {
+    ghost use Rattle.std.specs.Prelude.{List};
+    ghost use Rattle.rtui_cell.specs.Grid.{Update};
+
+    ghost Value = { List Update };
+
+    ghost use Rattle.rtui_diff.specs.Remaining.{updates_left};
+
+    ghost view = { λ d. updates_left d.walk };
+}
+
+impl<'prev, 'next> BufferDiff<'prev, 'next> {
+    /// The updates over the area at (x, y) of this width and height, in columns and rows. Both lists have its
+    /// cells, row by row, and may go on behind it.
+    pub fn new(
+        prev: &'prev [Cell],
+        next: &'next [Cell],
+        x: u16,
+        y: u16,
+        width: u16,
+        height: u16,
+    ) -> Self
+        requires prev_covers { width * height ≤ length prev.now }
+        requires next_covers { width * height ≤ length next.now }
+        requires right { x + width ≤ 65535 }
+        requires bottom { y + height ≤ 65535 }
+        ensures { IsDiff x y width height prev.now next.now result }
+    {
+        BufferDiff {
+            walk: DiffWalk::new(prev, next, x, y, width, height),
+        }
+    }
+}
+
+impl<'prev, 'next> Iterator for BufferDiff<'prev, 'next> {
+    ghost use Rattle.std.specs.Iterator.{YieldsFirstBy, item_count};
+
+    type Item = (u16, u16, &'next Cell);
+
+    ghost next_gives = { YieldsFirstBy (update_by (λ cell. cell.now)) (λ rest. rest) };
+
+    ghost remaining = { item_count (λ rest. rest) };
+
+    fn next(&mut self) -> Option<(u16, u16, &'next Cell)> {
+        while self.walk.pos < self.walk.len {
+            let at = self.walk.pos;
+            if self.walk.advance() {
+                return Some(self.walk.item(at));
+            }
+        }
+        None
+    }
+}
+
+// Two frames, and how far a diff of them is.
+#[derive(Debug, Drop)]
+struct DiffWalk<'prev, 'next> {
     prev: &'prev [Cell],
     next: &'next [Cell],
     x: u16,
@@ -26,39 +91,12 @@ pub struct BufferDiff<'prev, 'next> {
     ghost bottom: { y + height ≤ 65535 },
 }
 
-impl<'prev, 'next> BufferDiff<'prev, 'next> {
-    ghost use Rattle.rtui_diff.specs.Remaining.{updates_left};
-    ghost use Rattle.rtui_diff.specs.Settled.{IsSettled};
-    ghost use Rattle.rtui_diff.specs.Updates.{update_at, updates, Rises, IsCellOfNext};
-    ghost use Rattle.rtui_diff.specs.Shows.{Replays};
-    ghost use Rattle.rtui_diff.specs.Completeness.{AreNarrow, differing, IsMinimal, IsComplete};
+impl<'prev, 'next> DiffWalk<'prev, 'next> {
+    ghost use Rattle.rtui_diff.specs.DiffRule.{give};
+    ghost use Rattle.rtui_diff.specs.Remaining.{places_left, updates_left, IsSameBut};
+    ghost use Rattle.rtui_diff.specs.Updates.{update_at, updates};
 
-    /// The updates over the area at (x, y) of this width and height, in columns and rows. Both lists have its
-    /// cells, row by row, and may go on behind it.
-    pub fn new(
-        prev: &'prev [Cell],
-        next: &'next [Cell],
-        x: u16,
-        y: u16,
-        width: u16,
-        height: u16,
-    ) -> Self
-        requires prev_covers { width * height ≤ length prev.now }
-        requires next_covers { width * height ≤ length next.now }
-        requires right { x + width ≤ 65535 }
-        requires bottom { y + height ≤ 65535 }
-        ensures walks { updates_left result ≡ updates x y width height prev.now next.now }
-        ensures rises { Rises (updates_left result) }
-        ensures own { All (IsCellOfNext x y width height next.now) (updates_left result) }
-        ensures narrow { AreNarrow (width * height) prev.now next.now → updates_left result ≡ map (update_at x y width next.now) (differing prev.now next.now (width * height)) }
-        ensures replays { IsSettled width height prev.now → IsSettled width height next.now → Replays x y width height prev.now next.now (updates_left result) }
-        ensures little { IsSettled width height prev.now → IsSettled width height next.now → IsMinimal x y width height prev.now next.now (updates_left result) }
-        ensures enough { IsSettled width height prev.now → IsSettled width height next.now → IsComplete x y width height prev.now next.now (updates_left result) }
-    {
-        BufferDiff::at_start(prev, next, x, y, width, height)
-    }
-
-    fn at_start(
+    fn new(
         prev: &'prev [Cell],
         next: &'next [Cell],
         x: u16,
@@ -72,7 +110,7 @@ impl<'prev, 'next> BufferDiff<'prev, 'next> {
         requires bottom { y + height ≤ 65535 }
         ensures { updates_left result ≡ updates x y width height prev.now next.now }
     {
-        BufferDiff {
+        DiffWalk {
             prev,
             next,
             x,
@@ -85,14 +123,6 @@ impl<'prev, 'next> BufferDiff<'prev, 'next> {
             force: false,
         }
     }
-}
-
-impl<'prev, 'next> BufferDiff<'prev, 'next> {
-    ghost use Rattle.std.specs.Prelude.{◌<◌};
-    ghost use Rattle.rtui_diff.specs.DiffRule.{give};
-    ghost use Rattle.rtui_diff.specs.Remaining.{places_left, IsSameBut};
-    ghost use Rattle.rtui_cell.specs.Grid.{update_by};
-    ghost use Rattle.rtui_diff.specs.Updates.{update_at};
 
     // Goes past the next cell, and answers whether it is given.
     fn advance(&mut self) -> bool
@@ -106,20 +136,25 @@ impl<'prev, 'next> BufferDiff<'prev, 'next> {
         let next = &self.next[at];
         if at < self.end {
             self.pos = at + usize::from(next.cell_width().max(1));
-            is_given_when_visited(self.force, prev, next)
-        } else {
-            let given = is_given(prev, next);
-            let turn = turn_after(prev, next, given);
-            self.pos = at + 1 + usize::from(turn.over);
-            self.end = at + 1 + usize::from(turn.left);
-            self.force = turn.force;
-            given
+            return is_given_when_visited(self.force, prev, next);
         }
+        let same = is_same(prev, next);
+        if same && next.is_single_byte() {
+            self.pos = at + 1;
+            return false;
+        }
+        let given = is_given(next, same);
+        let step = step_after(prev, next, given);
+        self.pos = at + 1 + usize::from(step.over);
+        self.end = at + 1 + usize::from(step.left);
+        self.force = step.force;
+        given
     }
 
+    // The update at a place.
     fn item(&self, at: usize) -> (u16, u16, &'next Cell)
         requires inside { at < self.now.len }
-        ensures { update_by (λ c. c.now) result ≡ update_at self.now.x self.now.y self.now.width self.now.next.now at }
+        ensures { update_by (λ cell. cell.now) result ≡ update_at self.now.x self.now.y self.now.width self.now.next.now at }
     {
         let width = usize::from(self.width);
         let next = self.next;
@@ -128,27 +163,5 @@ impl<'prev, 'next> BufferDiff<'prev, 'next> {
             self.y + (at / width) as u16,
             &next[at],
         )
-    }
-}
-
-impl<'prev, 'next> Iterator for BufferDiff<'prev, 'next> {
-    ghost use Rattle.std.specs.Iterator.{YieldsFirstBy, item_count};
-    ghost use Rattle.rtui_diff.specs.Remaining.{updates_left};
-    ghost use Rattle.rtui_cell.specs.Grid.{update_by};
-
-    type Item = (u16, u16, &'next Cell);
-
-    ghost next_gives = { YieldsFirstBy (update_by (λ c. c.now)) updates_left };
-
-    ghost remaining = { item_count updates_left };
-
-    fn next(&mut self) -> Option<(u16, u16, &'next Cell)> {
-        while self.pos < self.len {
-            let at = self.pos;
-            if self.advance() {
-                return Some(self.item(at));
-            }
-        }
-        None
     }
 }

@@ -2,14 +2,14 @@
 //! shows the other afterwards.
 //!
 //! It stands on `rtui_cell`. `specs/` defines when a frame is settled (`Settled`), when a grid shows one
-//! (`Shows`), and which places a walk gives (`Walk`, `Given`). For the layer above, `BufferDiff::new` says what
-//! the updates are and that they replay, and `is_settled` that a full repaint shows the frame.
+//! (`Shows`), which places a diff gives (`DiffRule`), and what it promises (`Diff`). For the layer above,
+//! `BufferDiff::new` gives the updates with that promise, and `is_settled` says that a full repaint shows the frame.
 #![tactic(auto)]
 
 mod cells;
 mod diff;
 mod settled;
-mod turn;
+mod step;
 
 pub use diff::BufferDiff;
 pub use settled::is_settled;

@@ -1,16 +1,17 @@
 -- The laws of styles, over the definitions.
 use Rattle.std.proofs.Common.{◌≡◌, ℕ, ◌<◌, ◌^◌, Option, Some, None, refl, ap, ◌∙◌}
 use Rattle.rtui_style.specs.declared.color.Color.{Color}
+use Rattle.rtui_style.specs.declared.Modifier.{Modifier}
 use Rattle.rtui_style.specs.declared.Style.{Style}
 use Rattle.rtui_style.specs.Modifier.{bits_of, modifier_of}
-use Rattle.rtui_style.specs.Style.{new_style, patch, Paint, painted, color_or, color_after}
+use Rattle.rtui_style.specs.Style.{new_style, patch, color_or, color_after, modifier_after}
 use Rattle.rtui_style.proofs.Bits as bits
 
 color_or-associates : (a b c : Option Color) → color_or c (color_or b a) ≡ color_or (color_or c b) a
 color_or-associates a b None = refl
 color_or-associates a b (Some c) = refl
 
-color_after-or : (a b : Option Color) (c : Color) → color_after b (color_after a c) ≡ color_after (color_or b a) c
+pub color_after-or : (a b : Option Color) (c : Color) → color_after b (color_after a c) ≡ color_after (color_or b a) c
 color_after-or a None c = refl
 color_after-or a (Some b) c = refl
 
@@ -31,16 +32,6 @@ same_style p q f b u a s =
     ∙ ap (λ x. style_of q.fg q.bg q.underline_color x (bits_of p.sub_modifier)) a
     ∙ ap (λ x. style_of q.fg q.bg q.underline_color (bits_of q.add_modifier) x) s
 
-abbrev paint_of : Color → Color → Color → ℕ → Paint
-paint_of f b u m = record { fg = f; bg = b; underline_color = u; modifier = modifier_of m }
-
-same_paint : (x y : Paint) → x.fg ≡ y.fg → x.bg ≡ y.bg → x.underline_color ≡ y.underline_color → bits_of x.modifier ≡ bits_of y.modifier → x ≡ y
-same_paint x y f b u m =
-    ap (λ v. paint_of v x.bg x.underline_color (bits_of x.modifier)) f
-    ∙ ap (λ v. paint_of y.fg v x.underline_color (bits_of x.modifier)) b
-    ∙ ap (λ v. paint_of y.fg y.bg v (bits_of x.modifier)) u
-    ∙ ap (λ v. paint_of y.fg y.bg y.underline_color v) m
-
 pub patch_associates : (p q r : Style) → bits_of p.add_modifier < 2 ^ 16 → bits_of p.sub_modifier < 2 ^ 16
     → bits_of q.add_modifier < 2 ^ 16 → bits_of q.sub_modifier < 2 ^ 16 → bits_of r.add_modifier < 2 ^ 16 → bits_of r.sub_modifier < 2 ^ 16
     → patch (patch p q) r ≡ patch p (patch q r)
@@ -60,9 +51,7 @@ pub new_style_below : (p : Style) → patch new_style p ≡ p
 new_style_below p = same_style (patch new_style p) p (color_or-none p.fg) (color_or-none p.bg) (color_or-none p.underline_color)
     (bits.less-nothing (bits_of p.sub_modifier) (bits_of p.add_modifier)) (bits.less-nothing (bits_of p.add_modifier) (bits_of p.sub_modifier))
 
-pub patch_paints : (p q : Style) (x : Paint) → bits_of x.modifier < 2 ^ 16 → bits_of p.add_modifier < 2 ^ 16 → bits_of p.sub_modifier < 2 ^ 16
-    → bits_of q.add_modifier < 2 ^ 16 → bits_of q.sub_modifier < 2 ^ 16 → painted q (painted p x) ≡ painted (patch p q) x
-patch_paints p q x xm pa ps qa qs = same_paint (painted q (painted p x)) (painted (patch p q) x)
-    (color_after-or p.fg q.fg x.fg) (color_after-or p.bg q.bg x.bg) (color_after-or p.underline_color q.underline_color x.underline_color)
-    (bits.painted_twice (bits_of x.modifier) (bits_of p.add_modifier) (bits_of p.sub_modifier)
-    (bits_of q.add_modifier) (bits_of q.sub_modifier) xm pa ps qa qs)
+pub modifier_after-patch : (p q : Style) (m : Modifier) → bits_of m < 2 ^ 16 → bits_of p.add_modifier < 2 ^ 16 → bits_of p.sub_modifier < 2 ^ 16
+    → bits_of q.add_modifier < 2 ^ 16 → bits_of q.sub_modifier < 2 ^ 16 → modifier_after q (modifier_after p m) ≡ modifier_after (patch p q) m
+modifier_after-patch p q m h pa ps qa qs = ap modifier_of
+    (bits.painted_twice (bits_of m) (bits_of p.add_modifier) (bits_of p.sub_modifier) (bits_of q.add_modifier) (bits_of q.sub_modifier) h pa ps qa qs)

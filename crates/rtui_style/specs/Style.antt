@@ -1,4 +1,4 @@
--- Styles as data, what one laid over another comes to, and a style as a map.
+-- Styles as data, what one laid over another comes to, and what a style makes of colours and modifiers.
 use Rattle.std.specs.Prelude.{Bool, ◌&&◌, not, Option, Some, None}
 use Rattle.rtui_style.specs.Modifier.{no_modifier, all_modifiers, modifier_with, modifier_without, has_all}
 use Rattle.rtui_style.specs.declared.color.Color.{Color}
@@ -56,13 +56,6 @@ patch p q = record {
   sub_modifier = modifier_with (modifier_without p.sub_modifier q.add_modifier) q.sub_modifier;
 }
 
--- how a column is painted: three colours and a set of modifiers
-pub record Paint : Type 0 where
-  pub fg : Color
-  pub bg : Color
-  pub underline_color : Color
-  pub modifier : Modifier
-
 -- a colour under a style: the style's if it sets one, else as it was
 abbrev pub color_after : Option Color → Color → Color
 color_after (Some c) d = c
@@ -71,12 +64,3 @@ color_after None d = d
 -- the modifiers under a style: with those that it adds, then less those that it takes away
 abbrev pub modifier_after : Style → Modifier → Modifier
 modifier_after s m = modifier_without (modifier_with m s.add_modifier) s.sub_modifier
-
--- a style as a map of paints
-abbrev pub painted : Style → Paint → Paint
-painted s x = record {
-  fg = color_after s.fg x.fg;
-  bg = color_after s.bg x.bg;
-  underline_color = color_after s.underline_color x.underline_color;
-  modifier = modifier_after s x.modifier;
-}

@@ -1,11 +1,11 @@
 //! Laws of styles and colours that are no single call's clause, stated over the definitions of `specs/` alone. Calling one of
 //! these functions costs nothing and tells the caller's proof its law.
 
-ghost use Rattle.std.specs.Prelude.{◌≡◌, ◌<◌, ◌^◌, Some};
+ghost use Rattle.std.specs.Prelude.{◌≡◌, ◌<◌, ◌^◌, Option, Some};
 ghost use Rattle.bitflags.specs.Sets.{known_bits};
 ghost use Rattle.rtui_style.specs.Color.{color_of, color_text};
-ghost use Rattle.rtui_style.specs.Modifier.{bits_of, modifier_table};
-ghost use Rattle.rtui_style.specs.Style.{new_style, patch, Paint, painted};
+ghost use Rattle.rtui_style.specs.Modifier.{bits_of, modifier_table, no_modifier};
+ghost use Rattle.rtui_style.specs.Style.{new_style, patch, color_or, color_after, modifier_after};
 
 use crate::{Color, Modifier, Style};
 
@@ -32,10 +32,12 @@ pub fn new_style_is_identity(style: Style)
     modifiers_have_sixteen_bits(style);
 }
 
-/// Painting with one style and then with another is painting with the second laid over the first.
+/// What one style and then another make of a colour and of modifiers, the second laid over the first makes of them.
 pub fn styling_twice_is_patching(first: Style, second: Style)
-    ensures { (paint : Paint) → bits_of paint.modifier < 2 ^ 16
-        → painted second (painted first paint) ≡ painted (patch first second) paint }
+    ensures colors { (a b : Option Color) (c : Color)
+        → color_after b (color_after a c) ≡ color_after (color_or b a) c }
+    ensures modifiers { (m : Modifier) → bits_of m < 2 ^ 16
+        → modifier_after second (modifier_after first m) ≡ modifier_after (patch first second) m }
 {
     modifiers_have_sixteen_bits(first);
     modifiers_have_sixteen_bits(second);
@@ -63,4 +65,12 @@ fn index_is_read(index: u8)
 /// The constant of all modifiers has the bits of every one of them, and of no other.
 pub fn all_has_every_modifier()
     ensures { bits_of Modifier.ALL ≡ known_bits modifier_table }
+{}
+
+/// The default colour is the terminal's own, the default set of modifiers has none, and the default style changes
+/// nothing.
+pub fn defaults_change_nothing()
+    ensures color { (c : Color) → ⟦<Color as Default>⟧.is_default c → c ≡ Color.Reset }
+    ensures modifier { (m : Modifier) → ⟦<Modifier as Default>⟧.is_default m → m ≡ no_modifier }
+    ensures style { (s : Style) → ⟦<Style as Default>⟧.is_default s → s ≡ new_style }
 {}

@@ -1,10 +1,11 @@
 //! Colours, modifiers and styles.
 //!
 //! A [`Style`] says what to change of how a column is painted: up to three colours, a set of modifiers to add and one to take
-//! away. Contracts see it as data; `painted` (in `specs/Style`) is what it does to a paint, and the laws of [`laws`] say that
-//! laying one style over another by [`Style::patch`] is doing one after the other. A [`Color`] is printed and read as text.
+//! away. Contracts see it as data; `color_after` and `modifier_after` (in `specs/Style`) are what it makes of colours and
+//! modifiers, and the laws of [`laws`] say that laying one style over another by [`Style::patch`] is doing one after the
+//! other. A [`Color`] is printed and read as text.
 //!
-//! It stands on `bitflags` alone. The layer above uses the fields of a style, `patch`, `painted`, and the texts of a colour.
+//! It stands on `bitflags` alone. The layer above uses the fields of a style, `patch`, and the texts of a colour.
 #![tactic(auto)]
 
 ghost use Rattle.std.specs.Prelude.{⊤, ◌≡◌};

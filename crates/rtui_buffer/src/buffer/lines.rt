@@ -1,12 +1,15 @@
 //! Painting spans and lines.
 
-ghost use Rattle.std.specs.Prelude.{◌≡◌, ◌+◌, ◌-◌, ◌*◌, ◌<◌, ◌≤◌, length, OnOk, OnErr, IfOk};
+ghost use Rattle.std.specs.Prelude.{◌≡◌, ◌+◌, ◌-◌, ◌*◌, ◌<◌, ◌≤◌, length, IsOk, OnOk, OnErr, IfOk};
+ghost use Rattle.std.specs.Vec.{vec_capacity};
 ghost use Rattle.rtui_style.specs.Style.{patch};
-ghost use Rattle.rtui_buffer.specs.Sheet.{position_of, empty_cells, IsEmptied};
+ghost use Rattle.rtui_text.specs.Text.{raw_line};
+ghost use Rattle.rtui_text.specs.Widths.{line_width};
+ghost use Rattle.rtui_buffer.specs.Sheet.{position_of, empty_cells, HasRoomFor};
 ghost use Rattle.rtui_buffer.specs.Frame.{IsSettledSheet};
 ghost use Rattle.rtui_buffer.specs.Painting.{text_pieces, columns, painted, IsSameOutside, IsPainted};
-ghost use Rattle.rtui_buffer.specs.PaintedText.{HasRow, room_at, pieces_at, Paints, IsSameBeside};
-ghost use Rattle.rtui_buffer.specs.Line.{line_pieces, line_pieces_at, widest, lines_area, line_rows, ShowsLines, raw_lines};
+ghost use Rattle.rtui_buffer.specs.PaintedText.{HasRow, room_at, pieces_at, AreShort, PaintsOr};
+ghost use Rattle.rtui_buffer.specs.Line.{line_pieces, line_pieces_at, widest, lines_area, line_rows, IsOfLines, raw_lines};
 
 use super::painting::{paint_text, room_at};
 use super::sized::cut_or_fill;
@@ -14,7 +17,7 @@ use crate::buffer::Buffer;
 use rtui_cell::Cell;
 use rtui_geometry::Rect;
 use rtui_style::Style;
-use rtui_text::{Line, Span};
+use rtui_text::{Line, Span, text_columns};
 use std::alloc::{AllocError, Global};
 
 impl Buffer {
@@ -28,10 +31,10 @@ impl Buffer {
     ) -> Result<(u16, u16), AllocError>
         requires row { HasRow self.old.area y }
         requires column { self.old.area.x ≤ x }
-        ensures place { IfOk result (λ end. end ≡ (x + columns (pieces_at self.old.area x max span.now.style span.now.content), y)) }
-        ensures ok { OnOk result (Paints (position_of (x, y)) (pieces_at self.old.area x max span.now.style span.now.content) self.old self.new) }
-        ensures err { OnErr result (IsSameBeside (position_of (x, y)) (pieces_at self.old.area x max span.now.style span.now.content) self.old self.new) }
-        ensures settled { IsEmptied self.old.area self.old → OnOk result (IsSettledSheet self.new) }
+        ensures paints { let ps = pieces_at self.old.area x max span.now.style span.now.content in
+            PaintsOr (position_of (x, y)) ps result self.old self.new }
+        ensures place { let ps = pieces_at self.old.area x max span.now.style span.now.content in
+            IfOk result (λ end. end ≡ (x + columns ps, y)) }
     {
         self.set_stringn(x, y, span.text(), usize::from(max), span.style)
     }
@@ -50,10 +53,10 @@ impl Buffer {
     ) -> Result<(u16, u16), AllocError>
         requires row { HasRow self.old.area y }
         requires column { self.old.area.x ≤ x }
-        ensures place { IfOk result (λ end. end ≡ (x + columns (line_pieces_at self.old.area x max line.now), y)) }
-        ensures ok { OnOk result (Paints (position_of (x, y)) (line_pieces_at self.old.area x max line.now) self.old self.new) }
-        ensures err { OnErr result (IsSameBeside (position_of (x, y)) (line_pieces_at self.old.area x max line.now) self.old self.new) }
-        ensures settled { IsEmptied self.old.area self.old → OnOk result (IsSettledSheet self.new) }
+        ensures paints { let ps = line_pieces_at self.old.area x max line.now in
+            PaintsOr (position_of (x, y)) ps result self.old self.new }
+        ensures place { let ps = line_pieces_at self.old.area x max line.now in
+            IfOk result (λ end. end ≡ (x + columns ps, y)) }
     {
         let room = room_at(self.area, x, usize::from(max));
         if room == 0 {
@@ -74,33 +77,32 @@ impl Buffer {
     }
 
     /// A buffer at the corner `(0, 0)` with these lines, each in a row of its own: as wide as the widest of them,
-    /// and as high as there are lines. Refused where memory is.
+    /// and as high as there are lines, both at most 65535 ([`lines_width`] says how wide). Refused where memory is.
     pub fn with_lines(alloc: Global, lines: &[Line<'_>]) -> Result<Buffer, AllocError>
         requires height { length lines.now ≤ 65535 }
         requires width { widest lines.now ≤ 65535 }
-        ensures area { IfOk result (λ b. b.area ≡ lines_area lines.now) }
-        ensures cells { IfOk result (λ b. b.cells ≡ line_rows (widest lines.now) lines.now) }
-        ensures rows { IfOk result (λ b. ShowsLines (widest lines.now) lines.now b.cells) }
-        ensures settled { IfOk result (λ b. IsSettledSheet b) }
+        ensures lines { IfOk result (IsOfLines lines.now) }
+        ensures settled { IfOk result IsSettledSheet }
+        ensures room { IfOk result (HasRoomFor (lines_area lines.now)) }
     {
         let area = Rect {
             x: 0,
             y: 0,
-            width: widest(lines) as u16,
+            width: lines_width(lines) as u16,
             height: lines.len() as u16,
         };
         let content = rows_of(alloc, area.width, lines)?;
         Ok(Buffer { area, content })
     }
 
-    /// A buffer with a line for each of these texts, as `with_lines` has it; refused where memory is.
+    /// A buffer with a line for each of these texts, as `with_lines` has it ([`texts_width`] says how wide);
+    /// refused where memory is.
     pub fn from_texts(alloc: Global, texts: &[&str]) -> Result<Buffer, AllocError>
         requires height { length texts.now ≤ 65535 }
         requires width { widest (raw_lines texts.now) ≤ 65535 }
-        ensures area { IfOk result (λ b. b.area ≡ lines_area (raw_lines texts.now)) }
-        ensures cells { IfOk result (λ b. b.cells ≡ line_rows (widest (raw_lines texts.now)) (raw_lines texts.now)) }
-        ensures rows { IfOk result (λ b. ShowsLines (widest (raw_lines texts.now)) (raw_lines texts.now) b.cells) }
-        ensures settled { IfOk result (λ b. IsSettledSheet b) }
+        ensures lines { IfOk result (IsOfLines (raw_lines texts.now)) }
+        ensures settled { IfOk result IsSettledSheet }
+        ensures room { IfOk result (HasRoomFor (lines_area (raw_lines texts.now))) }
     {
         let mut lines = Vec::with_capacity(alloc, texts.len())?;
         for text in texts {
@@ -110,8 +112,8 @@ impl Buffer {
     }
 }
 
-// The greatest width of these lines.
-fn widest(lines: &[Line<'_>]) -> usize
+/// The greatest width of these lines in columns: that of the buffer that `Buffer::with_lines` makes.
+pub fn lines_width(lines: &[Line<'_>]) -> usize
     ensures { result ≡ widest lines.now }
 {
     let mut width = 0;
@@ -121,10 +123,34 @@ fn widest(lines: &[Line<'_>]) -> usize
     width
 }
 
+/// The greatest width of these texts in columns, each as a raw line: that of the buffer that
+/// `Buffer::from_texts` makes.
+pub fn texts_width(texts: &[&str]) -> usize
+    ensures { result ≡ widest (raw_lines texts.now) }
+{
+    let mut width = 0;
+    for text in texts {
+        width = raw_width(text).max(width);
+    }
+    width
+}
+
+// How many columns a text takes as a raw line.
+fn raw_width(text: &str) -> usize
+    ensures { result ≡ line_width (raw_line text.now).spans }
+{
+    let mut width = 0usize;
+    for line in text.lines() {
+        width = width.saturating_add(text_columns(line));
+    }
+    width
+}
+
 // Rows of this width, each with a line.
 fn rows_of(alloc: Global, width: u16, lines: &[Line<'_>]) -> Result<Vec<Cell>, AllocError>
     requires { length lines.now ≤ 65535 }
-    ensures { IfOk result (λ cells. cells.items ≡ line_rows width lines.now) }
+    ensures items { IfOk result (λ cells. cells.items ≡ line_rows width lines.now) }
+    ensures room { IfOk result (λ cells. width * length lines.now ≤ vec_capacity cells) }
 {
     let mut cells = Vec::new(alloc);
     cut_or_fill(&mut cells, usize::from(width) * lines.len())?;
@@ -173,6 +199,7 @@ fn paint_spans(
     ensures ok { OnOk result (cells.new ≡ painted start (line_pieces room base spans.now) cells.old) }
     ensures shown { OnOk result (IsPainted start (line_pieces room base spans.now) cells.old cells.new) }
     ensures err { OnErr result (IsSameOutside start (start + columns (line_pieces room base spans.now)) cells.old cells.new) }
+    ensures short { AreShort (line_pieces room base spans.now) → IsOk result }
 {
     let mut used = 0;
     for span in spans {

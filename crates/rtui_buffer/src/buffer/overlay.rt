@@ -1,16 +1,16 @@
 //! One buffer laid over another.
 
-ghost use Rattle.std.specs.Prelude.{◌≡◌, ◌≤◌, ◌<◌, length, OnOk, OnErr, IfOk, []};
-ghost use Rattle.std.specs.Vec.{vec_capacity};
-ghost use Rattle.rtui_geometry.specs.Rect.{HasPosition, EdgesFit, IsInside};
-ghost use Rattle.rtui_cell.specs.Cell.{empty_cell};
-ghost use Rattle.rtui_buffer.specs.Sheet.{area_size, cell_index};
-ghost use Rattle.rtui_buffer.specs.Overlay.{IsOverlay, IsOnlyIn, Stand, cell_over, no_area};
+ghost use Rattle.std.specs.Prelude.{ℕ, ◌≡◌, ◌+◌, ◌*◌, ◌<◌, ◌≤◌, length, OnOk, OnErr, []};
+ghost use Rattle.rtui_geometry.specs.Rect.{EdgesFit};
+ghost use Rattle.rtui_diff.specs.Cells.{cell};
+ghost use Rattle.rtui_buffer.specs.Sheet.{area_size};
+ghost use Rattle.rtui_buffer.specs.Painting.{IsSameOutside};
+ghost use Rattle.rtui_buffer.specs.Overlay.{IsOverlay, IsExtended, IsAround, IsBlockIn, no_area};
 
 use crate::buffer::Buffer;
-use crate::buffer::sized::cut_or_fill;
+use crate::buffer::sized::{copied, cut_or_fill};
 use rtui_cell::Cell;
-use rtui_geometry::{Position, Rect};
+use rtui_geometry::Rect;
 use std::alloc::{AllocError, Global};
 use std::mem;
 
@@ -19,6 +19,7 @@ impl Buffer {
     pub fn default_in(alloc: Global) -> Buffer
         ensures area { result.area ≡ no_area }
         ensures cells { result.cells ≡ [] }
+        ensures room { result.room ≡ 0 }
     {
         Buffer {
             area: Rect::ZERO,
@@ -30,103 +31,65 @@ impl Buffer {
     /// none each of this one, else an empty cell. Where memory is refused nothing changes.
     pub fn merge(&mut self, other: &Buffer) -> Result<(), AllocError>
         ensures overlay { OnOk result (IsOverlay self.old other.now self.new) }
-        ensures room { OnOk result (self.old.room ≤ self.new.room) }
+        ensures keeps_room { self.old.room ≤ self.new.room }
         ensures err { OnErr result (self.new ≡ self.old) }
     {
-        let area = self.area.union(other.area);
-        let mut content = laid(
-            *self.content.allocator(),
-            area,
-            self.content.capacity(),
-            other,
-        )?;
-        move_in(
-            content.as_mut_slice(),
-            area,
-            self.content.as_mut_slice(),
-            self.area,
-            other.area,
-        );
+        let alloc = *self.content.allocator();
+        let upper_area = other.area;
+        let mut upper = copied(alloc, other.content())?;
+        let area = self.area.union(upper_area);
+        self.extend(area)?;
+        move_block(self.content.as_mut_slice(), area, upper.as_mut_slice(), upper_area);
+        Ok(())
+    }
+
+    // Gives the buffer an area around its own, in which its cells stand where they stood, among empty ones.
+    fn extend(&mut self, area: Rect) -> Result<(), AllocError>
+        requires edges { EdgesFit area }
+        requires around { IsAround area self.old.area }
+        ensures ok { OnOk result (IsExtended area self.old self.new) }
+        ensures keeps_room { self.old.room ≤ self.new.room }
+        ensures err { OnErr result (self.new ≡ self.old) }
+    {
+        if area == self.area {
+            return Ok(());
+        }
+        let count = area.area() as usize;
+        let room = count.max(self.content.capacity());
+        let mut content = Vec::with_capacity(*self.content.allocator(), room)?;
+        cut_or_fill(&mut content, count)?;
+        move_block(content.as_mut_slice(), area, self.content.as_mut_slice(), self.area);
         self.content = content;
         self.area = area;
         Ok(())
     }
 }
 
-// The cells of an area: copies of a buffer's where it has some, else empty ones, with at least this room.
-fn laid(alloc: Global, area: Rect, room: usize, upper: &Buffer) -> Result<Vec<Cell>, AllocError>
-    requires edges { EdgesFit area }
-    requires inside { IsInside upper.now.area area }
-    ensures count { IfOk result (λ cells. length cells.items ≡ area_size area) }
-    ensures room { IfOk result (λ cells. room ≤ vec_capacity cells) }
-    ensures upper { IfOk result (λ cells. Stand (HasPosition upper.now.area) upper.now.area upper.now.cells area cells.items) }
-    ensures rest { IfOk result (λ cells. (p : Position) → IsOnlyIn area upper.now.area p → cell_over area cells.items p ≡ empty_cell) }
-{
-    let count = area.area() as usize;
-    let mut cells = Vec::with_capacity(alloc, count.max(room))?;
-    cut_or_fill(&mut cells, count)?;
-    copy_in(alloc, cells.as_mut_slice(), area, upper)?;
-    Ok(cells)
-}
-
-// Copies a buffer's cells to their positions in the list of an area.
-fn copy_in(alloc: Global, cells: &mut [Cell], area: Rect, upper: &Buffer) -> Result<(), AllocError>
+// Moves the cells of an inner area to their positions in the list of an area around it.
+fn move_block(cells: &mut [Cell], area: Rect, block: &mut [Cell], inner: Rect)
     requires count { length cells.old ≡ area_size area }
-    requires edges { EdgesFit area }
-    requires inside { IsInside upper.now.area area }
-    ensures upper { OnOk result (Stand (HasPosition upper.now.area) upper.now.area upper.now.cells area cells.new) }
-    ensures rest { OnOk result (Stand (IsOnlyIn area upper.now.area) area cells.old area cells.new) }
-{
-    let given = upper.content();
-    let upper_area = *upper.area();
-    for i in 0..given.len() {
-        let place = place_in(area, position_at(upper_area, i));
-        cells[place] = given[i].clone(alloc)?;
-    }
-    Ok(())
-}
-
-// Moves the cells of one area to their positions in the list of another, but for the positions of an upper one.
-fn move_in(cells: &mut [Cell], area: Rect, given: &mut [Cell], lower_area: Rect, upper_area: Rect)
-    requires count { length cells.old ≡ area_size area }
-    requires given_count { length given.old ≡ area_size lower_area }
-    requires edges { EdgesFit area }
-    requires lower_edges { EdgesFit lower_area }
-    requires inside { IsInside lower_area area }
-    ensures lower { Stand (IsOnlyIn lower_area upper_area) lower_area given.old area cells.new }
-    ensures upper { Stand (λ p. HasPosition area p × HasPosition upper_area p) area cells.old area cells.new }
-    ensures rest { Stand (IsOnlyIn area lower_area) area cells.old area cells.new }
-{
-    for i in 0..given.len() {
-        let position = position_at(lower_area, i);
-        if !upper_area.contains(position) {
-            let place = place_in(area, position);
-            mem::swap(&mut cells[place], &mut given[i]);
-        }
-    }
-}
-
-// The position of a place in the list of an area.
-fn position_at(area: Rect, place: usize) -> Position
-    requires edges { EdgesFit area }
-    requires within { place < area_size area }
-    ensures inside { HasPosition area result }
-    ensures place { cell_index area result ≡ place }
+    requires block_count { length block.old ≡ area_size inner }
+    requires around { IsAround area inner }
+    ensures { IsBlockIn area inner block.old cells.old cells.new }
 {
     let width = usize::from(area.width);
-    Position {
-        x: area.x + (place % width) as u16,
-        y: area.y + (place / width) as u16,
+    let columns = usize::from(inner.width);
+    let left = usize::from(inner.x - area.x);
+    let top = usize::from(inner.y - area.y);
+    for row in 0..usize::from(inner.height) {
+        swap_cells(cells, (top + row) * width + left, block, row * columns, columns);
     }
 }
 
-// The place of a position in the list of an area.
-fn place_in(area: Rect, position: Position) -> usize
-    requires edges { EdgesFit area }
-    requires inside { HasPosition area position }
-    ensures value { result ≡ cell_index area position }
-    ensures within { result < area_size area }
+// Swaps some cells from a place on with those of another list from a place on.
+fn swap_cells(cells: &mut [Cell], to: usize, block: &mut [Cell], from: usize, count: usize)
+    requires inside { to + count ≤ length cells.old }
+    requires block_inside { from + count ≤ length block.old }
+    ensures moved { (k : ℕ) → k < count → cell cells.new (to + k) ≡ cell block.old (from + k) }
+    ensures rest { IsSameOutside to (to + count) cells.old cells.new }
+    ensures block_rest { IsSameOutside from (from + count) block.old block.new }
 {
-    let width = usize::from(area.width);
-    usize::from(position.y - area.y) * width + usize::from(position.x - area.x)
+    for k in 0..count {
+        mem::swap(&mut cells[to + k], &mut block[from + k]);
+    }
 }

@@ -1,14 +1,14 @@
 //! Painting texts and styles.
 
-ghost use Rattle.std.specs.Prelude.{true, ◌≡◌, ◌+◌, ◌-◌, ◌*◌, ◌<◌, ◌≤◌, length, OnOk, OnErr, IfOk};
+ghost use Rattle.std.specs.Prelude.{true, ◌≡◌, ◌+◌, ◌-◌, ◌*◌, ◌<◌, ◌≤◌, length, IsOk, OnOk, OnErr, IfOk};
 ghost use Rattle.unicode_segmentation.specs.Grapheme.{graphemes};
 ghost use Rattle.rtui_geometry.specs.Rect.{EdgesFit};
+ghost use Rattle.rtui_cell.specs.Symbol.{IsShort};
 ghost use Rattle.rtui_cell.specs.Cell.{empty_cell, styled};
 ghost use Rattle.rtui_cell.specs.Width.{text_width};
-ghost use Rattle.rtui_buffer.specs.Sheet.{cell_index, position_of, IsEmptied};
-ghost use Rattle.rtui_buffer.specs.Frame.{IsSettledSheet};
+ghost use Rattle.rtui_buffer.specs.Sheet.{cell_index, position_of};
 ghost use Rattle.rtui_buffer.specs.Painting.{has_control, painted_width, piece_of, text_pieces, columns, shown, emptied, with_piece, painted, IsSameOutside, IsPainted};
-ghost use Rattle.rtui_buffer.specs.PaintedText.{HasRow, room_at, pieces_at, Paints, IsSameBeside, IsStyledPart, IsStyledRows, IsStyled};
+ghost use Rattle.rtui_buffer.specs.PaintedText.{HasRow, room_at, pieces_at, AreShort, PaintsOr, IsStyledPart, IsStyledRows, IsStyled};
 
 use crate::buffer::Buffer;
 use rtui_cell::{Cell, CellWidth};
@@ -33,10 +33,10 @@ impl Buffer {
     ) -> Result<(u16, u16), AllocError>
         requires row { HasRow self.old.area y }
         requires column { self.old.area.x ≤ x }
-        ensures place { IfOk result (λ end. end ≡ (x + columns (pieces_at self.old.area x max style text.now), y)) }
-        ensures ok { OnOk result (Paints (position_of (x, y)) (pieces_at self.old.area x max style text.now) self.old self.new) }
-        ensures err { OnErr result (IsSameBeside (position_of (x, y)) (pieces_at self.old.area x max style text.now) self.old self.new) }
-        ensures settled { IsEmptied self.old.area self.old → OnOk result (IsSettledSheet self.new) }
+        ensures paints { let ps = pieces_at self.old.area x max style text.now in
+            PaintsOr (position_of (x, y)) ps result self.old self.new }
+        ensures place { let ps = pieces_at self.old.area x max style text.now in
+            IfOk result (λ end. end ≡ (x + columns ps, y)) }
     {
         let room = room_at(self.area, x, max);
         if room == 0 {
@@ -52,9 +52,8 @@ impl Buffer {
     pub fn set_string(&mut self, x: u16, y: u16, text: &str, style: Style) -> Result<(), AllocError>
         requires row { HasRow self.old.area y }
         requires column { self.old.area.x ≤ x }
-        ensures ok { OnOk result (Paints (position_of (x, y)) (pieces_at self.old.area x 65535 style text.now) self.old self.new) }
-        ensures err { OnErr result (IsSameBeside (position_of (x, y)) (pieces_at self.old.area x 65535 style text.now) self.old self.new) }
-        ensures settled { IsEmptied self.old.area self.old → OnOk result (IsSettledSheet self.new) }
+        ensures { let ps = pieces_at self.old.area x 65535 style text.now in
+            PaintsOr (position_of (x, y)) ps result self.old self.new }
     {
         self.set_stringn(x, y, text, usize::MAX, style)?;
         Ok(())
@@ -110,6 +109,7 @@ pub fn paint_text(
     ensures ok { OnOk result (cells.new ≡ painted start (text_pieces room style text.now) cells.old) }
     ensures shown { OnOk result (IsPainted start (text_pieces room style text.now) cells.old cells.new) }
     ensures err { OnErr result (IsSameOutside start (start + columns (text_pieces room style text.now)) cells.old cells.new) }
+    ensures short { AreShort (text_pieces room style text.now) → IsOk result }
 {
     let mut used = 0;
     for grapheme in text.graphemes(true) {
@@ -165,6 +165,7 @@ fn put_piece(
     requires inside { at + width ≤ length cells.old }
     ensures ok { OnOk result (cells.new ≡ with_piece at (piece_of style symbol.now) cells.old) }
     ensures err { OnErr result (cells.new ≡ cells.old) }
+    ensures short { IsShort symbol.now → IsOk result }
 {
     show(alloc, &mut cells[at], symbol, style)?;
     empty_part(cells, at + 1, at + width);
@@ -175,6 +176,7 @@ fn put_piece(
 fn show(alloc: Global, cell: &mut Cell, symbol: &str, style: Style) -> Result<(), AllocError>
     ensures ok { OnOk result (cell.new ≡ shown (piece_of style symbol.now) cell.old) }
     ensures err { OnErr result (cell.new ≡ cell.old) }
+    ensures short { IsShort symbol.now → IsOk result }
 {
     cell.set_symbol(alloc, symbol)?;
     cell.set_style(style);

@@ -10,33 +10,47 @@ use std::alloc::{AllocError, Global};
 
 // A cell, this many times.
 pub fn copies(alloc: Global, cell: Cell, count: usize) -> Result<Vec<Cell>, AllocError>
-    ensures { IfOk result (λ cells. cells.items ≡ replicate count cell) }
+    ensures items { IfOk result (λ cells. cells.items ≡ replicate count cell) }
+    ensures room { IfOk result (λ cells. vec_capacity cells ≡ count) }
 {
     let mut cells = Vec::with_capacity(alloc, count)?;
     if count > 0 {
         for _i in 0..count - 1 {
-            cells.push(cell.clone(alloc)?)?;
+            cells.push_reserved(cell.clone(alloc)?);
         }
-        cells.push(cell)?;
+        cells.push_reserved(cell);
     }
     Ok(cells)
 }
 
 // The same cells.
 pub fn copied(alloc: Global, cells: &[Cell]) -> Result<Vec<Cell>, AllocError>
-    ensures { IfOk result (λ copies. copies.items ≡ cells.now) }
+    ensures items { IfOk result (λ copies. copies.items ≡ cells.now) }
+    ensures room { IfOk result (λ copies. vec_capacity copies ≡ length cells.now) }
 {
     let mut copies = Vec::with_capacity(alloc, cells.len())?;
-    for cell in cells {
-        copies.push(cell.clone(alloc)?)?;
-    }
+    fill_up(&mut copies, cells.len());
+    copy_all(alloc, copies.as_mut_slice(), cells)?;
     Ok(copies)
+}
+
+// Copies each cell to the same place.
+fn copy_all(alloc: Global, copies: &mut [Cell], cells: &[Cell]) -> Result<(), AllocError>
+    requires { length copies.old ≡ length cells.now }
+    ensures { OnOk result (copies.new ≡ cells.now) }
+{
+    for i in 0..cells.len() {
+        copies[i].clone_from(alloc, &cells[i])?;
+    }
+    Ok(())
 }
 
 // Cuts the list, or fills it up with empty cells.
 pub fn cut_or_fill(cells: &mut Vec<Cell>, count: usize) -> Result<(), AllocError>
+    requires { vec_len cells.old ≤ vec_capacity cells.old }
     ensures ok { OnOk result (cells.new.items ≡ take count cells.old.items ++ empty_cells (count - vec_len cells.old)) }
     ensures room { OnOk result (vec_capacity cells.old ≤ vec_capacity cells.new) }
+    ensures fits { OnOk result (count ≤ vec_capacity cells.new) }
     ensures succeeds { count ≤ vec_capacity cells.old → IsOk result }
     ensures err { OnErr result (cells.new.items ≡ cells.old.items) }
     ensures err_room { OnErr result (vec_capacity cells.new ≡ vec_capacity cells.old) }

@@ -1,6 +1,7 @@
+use Rattle.std.proofs.lemmas.Bool.{false≢true}
 use Rattle.std.proofs.Common.{◌≡◌, ◌∷◌, ◌+◌, rules, arith, drop, ap, ◌∙◌, sym, refl}
 use Rattle.rtui_style.specs.Style.{patch}
-use Rattle.rtui_buffer.proofs.LineLemmas.{span-columns, span-first, span-painted, span-outside, span-refused, columns-done, painted-done, line_pieces-none, line_pieces-end, spans-more, IsPainted-line}
+use Rattle.rtui_buffer.proofs.LineLemmas.{span-columns, span-first, span-painted, span-outside, span-refused, span-short, columns-done, painted-done, line_pieces-none, line_pieces-end, spans-more, IsPainted-line}
 use Rattle.rtui_buffer.proofs.buffer.lines.paint_spans.Goals as goal
 
 pub loop-span-preserved : goal.loop-span-preserved
@@ -15,6 +16,7 @@ loop-span-preserved c =
       within = omega (arith, c.in_ok-used.ensures.fits);
       columns = span-columns c.args.base c.args.start c.loop-span.used c.args.room _ _ _ c.span-item.result more wide _ i.columns;
       cells = span-painted c.args.base c.args.start c.loop-span.used c.args.room _ _ _ c.span-item.result more wide _ _ _ put i.cells;
+      short = λ all. (span-short c.args.base c.loop-span.used c.args.room _ _ _ c.span-item.result more wide (i.short all)).1;
       outside = span-outside _ _ _ _ _ _ _ i.outside c.in_ok-used.ensures.columns c.in_ok-used.ensures.shown.outside;
     }
 
@@ -28,6 +30,15 @@ returns-in_err-used-clause-err c =
     let le = span-first c.args.base c.args.start c.loop-span.used c.args.room _ _ _ c.span-item.result more refl _ i.columns in
     let same = span-refused _ _ _ _ _ _ _ i.outside err le in
     search rules
+
+pub returns-in_err-used-clause-short : goal.returns-in_err-used-clause-short
+returns-in_err-used-clause-short c = λ all.
+    let i = c.loop-span.invariant in
+    let more : drop c.loop-span.span-index c.args.spans.now ≡ c.span-item.result ∷ drop (c.loop-span.span-index + 1) c.args.spans.now =
+    spans-more c.args.spans.now c.loop-span.span-index c.span-item.result c.loop-span-test.true ∙ ap (λ s. s ∷ drop (c.loop-span.span-index + 1) c.args.spans.now) (sym c.span-item.is) in
+    let style : c.patch-style.result ≡ patch c.args.base c.span-item.result.style = c.patch-style.ensures ∙ ap (λ s. patch c.args.base s.style) c.span.view_is in
+    let short = rw (style, c.text.ensures) at c.in_err-used.ensures.short in
+    absurd (false≢true (short (span-short c.args.base c.loop-span.used c.args.room _ _ _ c.span-item.result more refl (i.short all)).0))
 
 pub returns-then-used-room-clause-columns : goal.returns-then-used-room-clause-columns
 returns-then-used-room-clause-columns c =

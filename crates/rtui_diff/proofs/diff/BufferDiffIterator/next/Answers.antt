@@ -4,5 +4,5 @@ use Rattle.rtui_diff.proofs.diff.BufferDiffIterator.next.Goals as goal
 
 pub returns-clause-steps : goal.returns-clause-steps
 returns-clause-steps c =
-    let none = places-none c.loop-self.self (omega arith) in
-    (sym c.loop-self.invariant.left ∙ none, none)
+    let none = places-none c.loop-self.self-inside.walk (omega arith) in
+    (sym c.self.view_is ∙ sym c.loop-self.invariant.left ∙ none, none)

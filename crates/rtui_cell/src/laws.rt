@@ -1,0 +1,47 @@
+//! Laws of cells that are no single call's clause, stated over the definitions of `specs/` alone. Calling one of these
+//! functions costs nothing and tells the caller's proof its law.
+
+ghost use Rattle.std.specs.Prelude.{◌≡◌, ◌<◌, ◌^◌, ◌++◌, ◌↔◌, IsTrue};
+ghost use Rattle.std.specs.Hash as fed;
+ghost use Rattle.rtui_style.specs.Modifier.{bits_of};
+ghost use Rattle.rtui_style.specs.Style.{patch};
+ghost use Rattle.rtui_cell.specs.Symbol.{symbol_text};
+ghost use Rattle.rtui_cell.specs.Cell.{styled};
+ghost use Rattle.rtui_cell.specs.Equality.{is_same, IsEqual};
+
+use crate::cell::{Cell, CellDiffOption};
+use rtui_style::laws::styling_twice_is_patching;
+use rtui_style::{Color, Modifier, Style};
+use std::hash::Hash;
+
+/// Two cells are equal exactly where their looks, options and flags are.
+pub fn equality_is_by_looks()
+    ensures { (a b : Cell) → IsTrue (is_same a b) ↔ IsEqual a b }
+{}
+
+/// Equal cells feed a hasher equally: each field in turn, an unset symbol as a blank.
+pub fn hashing_names_every_field()
+    ensures alike { (a b : Cell) → IsTrue (is_same a b)
+        → ⟦<Cell as Hash>⟧.hash_input a ≡ ⟦<Cell as Hash>⟧.hash_input b }
+    ensures fields { (c : Cell) → ⟦<Cell as Hash>⟧.hash_input c
+        ≡ ⟦<Color as Hash>⟧.hash_input c.fg
+            ++ (⟦<Color as Hash>⟧.hash_input c.bg
+            ++ (⟦<Color as Hash>⟧.hash_input c.underline_color
+            ++ (⟦<Modifier as Hash>⟧.hash_input c.modifier
+            ++ (⟦<CellDiffOption as Hash>⟧.hash_input c.diff_option
+            ++ (fed.bool c.skip
+            ++ fed.str (symbol_text c.symbol)))))) }
+{}
+
+/// By default a diff treats a cell by its contents.
+pub fn default_option_is_none()
+    ensures { (o : CellDiffOption) → ⟦<CellDiffOption as Default>⟧.is_default o → o ≡ CellDiffOption.None }
+{}
+
+/// Setting one style and then another is setting the second laid over the first.
+pub fn set_style_twice_sets_patch(first: Style, second: Style)
+    ensures { (c : Cell) → bits_of c.modifier < 2 ^ 16
+        → styled second (styled first c) ≡ styled (patch first second) c }
+{
+    styling_twice_is_patching(first, second);
+}
