@@ -14,8 +14,9 @@ use Rattle.rtui_cell.specs.Look.{Look, look_of, empty_look}
 use Rattle.rtui_cell.proofs.CellLemmas.{look-empty}
 use Rattle.rtui_backend.specs.declared.clear_type.ClearType.TheVariants.{All, AfterCursor, BeforeCursor, CurrentLine, UntilNewLine}
 use Rattle.rtui_backend.specs.Clear.{is_cleared}
-use Rattle.rtui_backend.specs.CellGrid.{cell_at, look_at, grid_of, IsPlain, ArePlain}
-use Rattle.rtui_backend.proofs.PlainLemmas.{plain-empty}
+use Rattle.rtui_cell.specs.Cell.{IsUnmarked}
+use Rattle.rtui_backend.specs.CellGrid.{cell_at, look_at, grid_of, AreUnmarked}
+use Rattle.rtui_backend.proofs.PlainLemmas.{unmarked-empty}
 use Rattle.rtui_backend.proofs.ScrollLemmas.{map_same}
 
 pub cell_at-set : (cells : List Cell) (i j : ℕ) (c : Cell) → i < length cells → cell_at (set cells i c) j ≡ if nat_eq j i then c else cell_at cells j
@@ -51,14 +52,14 @@ pub past_end : (xs : List Cell) (k : ℕ) → length xs ≤ k → cell_at xs k �
 past_end xs k past = get_or_past xs k empty_cell past
 
 -- cells that are old ones or empty are plain
-pub ArePlain-moved : (old new : List Cell) (by : ℕ) → ((k : ℕ) → cell_at new k ≡ cell_at old (k + by)) → ArePlain old → ArePlain new
-ArePlain-moved old new by moved plain i = rw (moved i) (plain (i + by))
+pub AreUnmarked-moved : (old new : List Cell) (by : ℕ) → ((k : ℕ) → cell_at new k ≡ cell_at old (k + by)) → AreUnmarked old → AreUnmarked new
+AreUnmarked-moved old new by moved plain i = rw (moved i) (plain (i + by))
 
-pub ArePlain-blanked : (old new : List Cell) (which : ℕ → Bool) → ((k : ℕ) → cell_at new k ≡ if which k then empty_cell else cell_at old k) → ArePlain old → ArePlain new
-ArePlain-blanked old new which blanked plain i = rw (blanked i) (either (which i))
+pub AreUnmarked-blanked : (old new : List Cell) (which : ℕ → Bool) → ((k : ℕ) → cell_at new k ≡ if which k then empty_cell else cell_at old k) → AreUnmarked old → AreUnmarked new
+AreUnmarked-blanked old new which blanked plain i = rw (blanked i) (either (which i))
   where
-    either : (b : Bool) → IsPlain (if b then empty_cell else cell_at old i)
-    either true = plain-empty
+    either : (b : Bool) → IsUnmarked (if b then empty_cell else cell_at old i)
+    either true = unmarked-empty
     either false = plain i
 
 -- rows do not overlap

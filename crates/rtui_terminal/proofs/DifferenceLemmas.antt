@@ -5,6 +5,7 @@ use Rattle.std.proofs.lemmas.List.{length-map}
 use Rattle.rtui_geometry.specs.declared.rect.Rect.{Rect}
 use Rattle.rtui_geometry.specs.Rect.{EdgesFit}
 use Rattle.rtui_cell.specs.Grid.{Update}
+use Rattle.rtui_diff.specs.Settled.{IsSettled}
 use Rattle.rtui_diff.specs.Shows.{ShowsColumn, Shows, Replays}
 use Rattle.rtui_diff.specs.Updates.{update_at}
 use Rattle.rtui_diff.specs.Completeness.{AreNarrow, differing}
@@ -33,19 +34,22 @@ module _ (p n : Sheet) (us : List Update) (old new : Screen) (fit : EdgesFit p.a
   rows : common_rows p n ≡ p.area.height
   rows = let h : n.area.height ≡ p.area.height = ap (λ r. r.height) same in omega arith
 
+  over : IsSettledSheet n → IsSettled p.area.width p.area.height n.cells
+  over settled = subst (λ area. IsSettled area.width area.height n.cells) same settled
+
   pub writes_differences :
-      (IsSettledSheet p → IsSettledSheet n → Replays p.area.x p.area.y p.area.width (common_rows p n) p.cells n.cells us)
+      (IsSettled p.area.width (common_rows p n) p.cells → IsSettled p.area.width (common_rows p n) n.cells → Replays p.area.x p.area.y p.area.width (common_rows p n) p.cells n.cells us)
       → (AreNarrow (p.area.width * common_rows p n) p.cells n.cells → us ≡ map (update_at p.area.x p.area.y p.area.width n.cells) (differing p.cells n.cells (p.area.width * common_rows p n)))
       → WritesDifferences p n old new
   writes_differences replays narrow = record {
     drawn = subst (λ updates. Draws old updates new) are drawn;
     shown = λ on sp sn shown.
-        let r = rw rows at (replays sp sn) in
+        let r = (rw rows at replays) sp (over sn) in
         let all = r.shows old.width old.height old.grid on.right on.bottom shown in
         subst (λ area. Shows area.x area.y area.width area.height n.cells new.grid) (sym same)
         (record { at = λ a b a_in b_in. subst (ShowsColumn p.area.width n.cells a b) (sym (drawn.grid (p.area.x + a) (p.area.y + b))) (all.at a b a_in b_in) });
     outside = λ on sp sn.
-        let r = rw rows at (replays sp sn) in
+        let r = (rw rows at replays) sp (over sn) in
         record { at = λ a b a_in b_in out. drawn.grid a b ∙ r.outside old.width old.height old.grid on.right on.bottom a b (beside p.area a b fit out) };
     few = λ is_narrow below.
         let us_are = rw rows at narrow in

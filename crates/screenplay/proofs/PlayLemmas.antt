@@ -2,13 +2,15 @@
 use Rattle.std.proofs.Common.{◌≡◌, ℕ, ◌+◌, ◌-◌, ◌<◌, List, [], ◌∷◌, ◌++◌, length, take, get_or, Some, None, arith, length-append, inl, inr, refl, sym, ap, ap₂, ◌∙◌, subst}
 use Rattle.std.specs.Prelude.{slice_get}
 use Rattle.std.proofs.lemmas.Bool.{cases_lt}
-use Rattle.std.proofs.lemmas.List.{get_or_append_left}
+use Rattle.std.proofs.lemmas.List.{get_or_append_left, append-nil}
 use Rattle.std.proofs.lemmas.Option.{slice_get-get_or, get_or_from_slice_get, slice_get_within}
 use Rattle.std.proofs.Math.Seq.{get_or-append_seam}
 use Rattle.rtui_diff.specs.Shows.{ShowsColumn}
 use Rattle.rtui_geometry.specs.declared.rect.Rect.{Rect}
 use Rattle.rtui_cell.specs.Look.{empty_look}
-use Rattle.rtui_backend.specs.Screen.{Screen, IsBlankScreen, screen_area}
+use Rattle.rtui_backend.specs.Screen.{Screen, IsBlankScreen, screen_area, seen, rows_above}
+use Rattle.rtui_viewport.specs.declared.viewport.Viewport.TheVariants.{Fullscreen}
+use Rattle.std.proofs.lemmas.Bool.Decides.{nat_tests}
 use Rattle.rtui_backend.specs.TestBackend.{screen_of}
 use Rattle.rtui_backend.specs.declared.test.TestBackend.{TestBackend}
 use Rattle.rtui_terminal.specs.State.{State}
@@ -18,7 +20,7 @@ use Rattle.rtui_buffer.specs.Sheet.{Sheet, IsEmptied, IsSameSheet}
 use Rattle.rtui_backend.specs.CellGrid.{grid_of}
 use Rattle.rtui_buffer.specs.Frame.{IsSettledSheet}
 use Rattle.screenplay.specs.Puts.{with_puts}
-use Rattle.screenplay.specs.Run.{stage_area, ShowsFrame, IsRun, IsAfter, IsFault, puts_in}
+use Rattle.screenplay.specs.Run.{stage_area, IsBlankStage, ShowsFrame, IsRun, IsAfter, IsFault, puts_in}
 use Rattle.screenplay.specs.Playing.{IsPlaying, IsSceneOf, IsCause}
 use Rattle.screenplay.specs.declared.scene.PlayCause.{PlayCause}
 use Rattle.screenplay.specs.declared.scene.Scene.{Scene}
@@ -27,22 +29,35 @@ use Rattle.std.specs.declared.alloc.Global.{Global}
 use Rattle.screenplay.specs.declared.scene.Stage.{Stage}
 use Rattle.screenplay.specs.declared.scene.Step.{Step}
 
-pub IsPlaying-started : (stage : Stage) (b : TestBackend) (t : State TestBackend) → IsBlankScreen stage.width stage.height (screen_of b) → Starts screen_of b t
-    → IsPlaying stage t × ((a b' : ℕ) → (screen_of t.backend).grid a b' ≡ empty_look)
+pub IsPlaying-started : (stage : Stage) (b : TestBackend) (t : State TestBackend) → IsBlankScreen stage.width stage.height (screen_of b) → Starts screen_of Fullscreen b t
+    → IsPlaying stage t × IsBlankStage stage (screen_of t.backend).grid
 IsPlaying-started stage b t blank starts =
-    let same = starts.screen_stays in
+    let same = starts.scrolls in
     let over : screen_area (screen_of b) ≡ stage_area stage = rw (blank.width, blank.height) refl in
-    let view : t.viewport_area ≡ stage_area stage = starts.viewport ∙ over in (
+    let view : t.viewport_area ≡ stage_area stage = starts.viewport_area ∙ starts.known_area ∙ over in
+    let width : (screen_of t.backend).width ≡ stage.width = same.width ∙ blank.width in
+    let height : (screen_of t.backend).height ≡ stage.height = same.height ∙ blank.height in
+    let empty : IsBlankStage stage (screen_of t.backend).grid = λ a b' a_in b_in.
+        same.grid a b' (omega (arith, blank.width)) (omega (arith, blank.height)) ∙ seen_blank (screen_of b) a b' blank.grid in (
       record {
-        width = ap (λ (s : Screen). s.width) same ∙ blank.width;
-        height = ap (λ (s : Screen). s.height) same ∙ blank.height;
-        history = ap (λ (s : Screen). s.history) same ∙ blank.history;
+        width = width;
+        height = height;
+        history = same.history ∙ rows_none (screen_of b) ∙ blank.history;
         viewport = view;
-        in_step = starts.in_step (record { at = λ a b' within. blank.grid a b' });
+        in_step = starts.in_step (starts.on_screen (λ x. x)) (rw view (record { at = λ a b' within. empty a b' (omega (arith, within.right)) (omega (arith, within.bottom)) }));
         current = subst (λ area. IsEmptied area t.current) view starts.current;
       },
-      λ a b'. ap (λ (s : Screen). s.grid a b') same ∙ blank.grid a b',
+      empty,
     )
+  where
+    rows_none : (s : Screen) → rows_above s 0 ≡ s.history
+    rows_none s = append-nil s.history
+
+    seen_blank : (s : Screen) (a b : ℕ) → ((a b : ℕ) → s.grid a b ≡ empty_look) → seen s a (b + 0) ≡ empty_look
+    seen_blank s a b all = elim (cases_lt (b + 0) s.height) [
+      | inl inside ↦ let is = all a (b + 0) in grind (arith, nat_tests)
+      | inr past ↦ grind (arith, nat_tests)
+    ]
 
 -- a settled frame painted on the empty buffer and drawn
 pub IsPlaying-drawn : (stage : Stage) (puts : List (ℕ × ℕ × ℕ)) (frame : Sheet) (s t : State TestBackend) → IsPlaying stage s → frame ≡ with_puts puts s.current → IsSettledSheet frame
@@ -56,7 +71,7 @@ IsPlaying-drawn stage puts frame s t playing painted settled applied =
         width = ap (λ (s : Screen). s.width) placed ∙ drawn.width ∙ playing.width;
         height = ap (λ (s : Screen). s.height) placed ∙ drawn.height ∙ playing.height;
         history = ap (λ (s : Screen). s.history) placed ∙ drawn.history ∙ playing.history;
-        viewport = applied.viewport ∙ playing.viewport;
+        viewport = ap (λ t. t.viewport_area) applied.rest ∙ playing.viewport;
         in_step = shown;
         current = subst (λ area. IsEmptied area t.current) playing.viewport applied.emptied;
       },

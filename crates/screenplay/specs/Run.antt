@@ -38,10 +38,14 @@ pub record IsOnStage (stage : Stage) (scene : Scene) : Type 0 where
   pub viewport : scene.viewport ≡ stage_area stage
   pub history : scene.history.items ≡ []
 
+-- each column of the stage has the empty look
+abbrev pub IsBlankStage : Stage → Grid → Type 0
+IsBlankStage stage grid = (a b : ℕ) → a < stage.width → b < stage.height → grid a b ≡ empty_look
+
 -- at the start the screen is blank
 pub record IsStart (stage : Stage) (scene : Scene) : Type 0 where
   pub on_stage : IsOnStage stage scene
-  pub blank : (a b : ℕ) → scene_grid scene a b ≡ empty_look
+  pub blank : IsBlankStage stage (scene_grid scene)
 
 -- a grid shows a settled frame of these puts over the stage
 pub record ShowsFrame (stage : Stage) (puts : List (ℕ × ℕ × ℕ)) (grid : Grid) : Type 0 where

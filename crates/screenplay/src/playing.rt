@@ -1,11 +1,10 @@
 //! Playing the steps of a script.
 
 ghost use Rattle.std.specs.Prelude.{◌≡◌, ◌↔◌, ℕ, ◌++◌, ◌∷◌, [], IsTrue, IfOk, IfErr, OnOk, OnErr};
-ghost use Rattle.rtui_cell.specs.Look.{empty_look};
 ghost use Rattle.rtui_buffer.specs.Frame.{IsSettledSheet};
 ghost use Rattle.rtui_backend.specs.TestBackend.{screen_of};
 ghost use Rattle.screenplay.specs.Puts.{with_put, with_puts};
-ghost use Rattle.screenplay.specs.Run.{IsGoodStage, ShowsFrame, IsRun, IsFault, puts_in};
+ghost use Rattle.screenplay.specs.Run.{IsGoodStage, ShowsFrame, IsRun, IsFault, IsBlankStage, puts_in};
 ghost use Rattle.screenplay.specs.Playing.{IsPlaying, IsSceneOf, IsCause};
 ghost use Rattle.screenplay.specs.declared.scene.Scene.{Scene};
 ghost use Rattle.screenplay.specs.declared.scene.Stage.{Stage};
@@ -48,7 +47,7 @@ fn paint(alloc: Global, frame: &mut Buffer, puts: &Puts) -> Result<bool, AllocEr
 
 // A terminal over a blank stage.
 fn open(alloc: Global, stage: Stage) -> Result<Terminal<TestBackend>, TerminalError<TestError>>
-    ensures { IfOk result (λ t. IsPlaying stage t × ((a b : ℕ) → (screen_of t.backend).grid a b ≡ empty_look)) }
+    ensures { IfOk result (λ t. IsPlaying stage t × IsBlankStage stage (screen_of t.backend).grid) }
 {
     let backend = match TestBackend::new(alloc, stage.width, stage.height) {
         Ok(backend) => backend,

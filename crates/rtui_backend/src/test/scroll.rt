@@ -5,7 +5,7 @@ ghost use Rattle.std.specs.List.{range_with_len};
 ghost use Rattle.rtui_cell.specs.Cell.{empty_cell};
 ghost use Rattle.rtui_cell.specs.Look.{look_of};
 ghost use Rattle.rtui_backend.specs.Clear.{is_cleared};
-ghost use Rattle.rtui_backend.specs.CellGrid.{cell_at, look_at, ArePlain};
+ghost use Rattle.rtui_backend.specs.CellGrid.{cell_at, look_at, AreUnmarked};
 
 use crate::clear_type::ClearType;
 use crate::test::TestBackend;

@@ -5,7 +5,7 @@ use Rattle.rtui_backend.proofs.test.TestBackend.new.Goals as goal
 
 pub returns-clause-screen : goal.returns-clause-screen
 returns-clause-screen c =
-    let made = c.in_ok-empty.ensures in
+    let made = c.in_ok-empty.ensures.emptied in
     record {
       history = grind (arith, common_steps);
       width = grind (arith, common_steps);

@@ -1,3 +1,17 @@
-use Rattle.std.proofs.Common.{rules, refl, inr}
-use Rattle.rtui_terminal.proofs.RenderLemmas.{draws_on, refused_before}
+use Rattle.std.proofs.Common.{refl, inr}
+use Rattle.rtui_terminal.proofs.RenderLemmas.{draws_on}
 use Rattle.rtui_terminal.proofs.terminal.Terminal.draw_frame.Goals as goal
+
+pub returns-in-Ok-answer-clause-drawn : goal.returns-in-Ok-answer-clause-drawn
+returns-in-Ok-answer-clause-drawn g c =
+    draws_on _ _ _ _ _ (rw (← c.self.view_is) at c.in-Ok.ensures.outcome) _ _ (rw c.in-Ok-answer.is at c.paint-answer.ensures) _ _ c.apply.result c.apply.ensures.outcome
+
+pub returns-in-Err-answer-clause-drawn : goal.returns-in-Err-answer-clause-drawn
+returns-in-Err-answer-clause-drawn g c =
+    inr (record {
+      sized = _;
+      autoresized = rw (← c.self.view_is) at c.in-Ok.ensures.outcome;
+      cursor = c.paint-answer.result.1;
+      closure = rw c.in-Err-answer.is at c.paint-answer.ensures;
+      rest = refl;
+    })

@@ -14,8 +14,8 @@ returns-clause-starts g c =
     let stays = c.in-Ok.ensures.stays in
     let known = c.in-Ok.ensures.area in
     let area : next ≡ area_in viewport c.in-Ok.area 0 (screen c.args.backend).cursor_y = (rw stays at placed.area) ∙ never_raised _ in
-    let older : IsEmptied next c.move_to-2.new.self = placed_empty viewport c.in-Ok.area 0 _ next _ _ area (rw c.rows_in.ensures at c.in-Ok-empty-2.ensures) (rw c.as_position-2.ensures at c.move_to-2.ensures) in
-    let current : IsEmptied next c.move_to.new.self = placed_empty viewport c.in-Ok.area 0 _ next _ _ area (rw c.rows_in.ensures at c.in-Ok-empty.ensures) (rw c.as_position.ensures at c.move_to.ensures) in
+    let older : IsEmptied next c.move_to-2.new.self = placed_empty viewport c.in-Ok.area 0 _ next _ _ area (rw c.rows_in.ensures at c.in-Ok-empty-2.ensures.emptied) (rw c.as_position-2.ensures at c.move_to-2.ensures) in
+    let current : IsEmptied next c.move_to.new.self = placed_empty viewport c.in-Ok.area 0 _ next _ _ area (rw c.rows_in.ensures at c.in-Ok-empty.ensures.emptied) (rw c.as_position.ensures at c.move_to.ensures) in
     record {
       kind = refl;
       known_area = known;

@@ -1,0 +1,15 @@
+use Rattle.std.proofs.Common.{◌≡◌, ◌+◌, ◌*◌, ◌<◌, length, arith}
+use Rattle.std.proofs.lemmas.Bool.Decides.{nat_tests}
+use Rattle.std.proofs.lemmas.Grind.{common_steps}
+use Rattle.rtui_backend.proofs.LookLemmas.{look_at-set}
+use Rattle.rtui_backend.proofs.PutLemmas.{put_shows}
+use Rattle.rtui_backend.proofs.test.put_cell.Goals as goal
+
+pub returns-clause-grid : goal.returns-clause-grid
+returns-clause-grid c =
+    put_shows c.args.size.width c.args.size.height _ _ _ (omega arith) (omega arith)
+    (λ k.
+    let behind = simp (c.from.ensures, c.from-2.ensures, c.from-column.ensures, c.cell_width.ensures, c.from-3.ensures, c.from-4.ensures, c.max.ensures, c.min-end.ensures) at (c.empty_behind.ensures.looks k) in
+    let inside : c.args.y * c.args.size.width + c.args.x < length c.args.cells.now = grind (arith, common_steps) in
+    let copied = look_at-set c.args.cells.now (c.args.y * c.args.size.width + c.args.x) k c.copy_look.new.to inside in
+    rw (behind, copied, c.copy_look.ensures.look) (grind (arith, nat_tests)))
