@@ -4,7 +4,7 @@ use Rattle.std.specs.Borrow.{Bor}
 use Rattle.rtui_cell.specs.declared.cell.Cell.{Cell}
 use Rattle.rtui_cell.specs.Grid.{Grid, Update, update_by}
 use Rattle.rtui_diff.specs.Settled.{IsSettled}
-use Rattle.rtui_diff.specs.Shows.{Shows}
+use Rattle.rtui_diff.specs.Shows.{Shows, Repaints}
 use Rattle.rtui_diff.specs.Updates.{updates}
 use Rattle.rtui_diff.specs.Diff.{IsDiff}
 use Rattle.rtui_buffer.specs.Sheet.{Sheet}
@@ -12,6 +12,10 @@ use Rattle.rtui_buffer.specs.Sheet.{Sheet}
 -- a screen can show the buffer as it is
 abbrev pub IsSettledSheet : Sheet → Type 0
 IsSettledSheet s = IsSettled s.area.width s.area.height s.cells
+
+-- a full repaint over an area of the buffer's size shows it, whatever the grid had
+abbrev pub IsShownByRepaint : Sheet → Type 0
+IsShownByRepaint s = Repaints s.area.width s.area.height s.cells
 
 -- the grid shows the buffer over its area
 abbrev pub ShowsSheet : Sheet → Grid → Type 0

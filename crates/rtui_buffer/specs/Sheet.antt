@@ -49,6 +49,14 @@ with_cell s p c = record s { cells = slice_set s.cells (cell_index s.area p) c }
 abbrev pub refilled : List Cell → List Cell → List Cell
 refilled former cells = take (length former) (cells ++ drop (length cells) former)
 
+-- the sheet with others in place of its first cells
+abbrev pub with_cells : Sheet → List Cell → Sheet
+with_cells s cells = record s { cells = refilled s.cells cells }
+
+-- the rectangle with its corner at a position
+abbrev pub moved_to : Position → Rect → Rect
+moved_to p r = record r { x = p.x; y = p.y }
+
 -- n empty cells
 abbrev pub empty_cells : ℕ → List Cell
 empty_cells n = replicate n empty_cell

@@ -2,10 +2,9 @@ ghost use Rattle.std.specs.Prelude.{◌≡◌, ◌<◌, ◌≤◌, ◌↔◌, le
 ghost use Rattle.std.specs.Borrow.{sem, Lends, LendsIf, Array};
 ghost use Rattle.rtui_geometry.specs.Rect.{HasPosition, EdgesFit};
 ghost use Rattle.rtui_cell.specs.contracts.cell.Cell.{the_row as cell_row};
-ghost use Rattle.rtui_diff.specs.Shows.{Repaints};
 ghost use Rattle.rtui_buffer.specs.contracts.buffer.Buffer.{the_row};
-ghost use Rattle.rtui_buffer.specs.Sheet.{area_size, cell_index, place_position, position_of, cell_in, with_cell, refilled, resized, IsEmptied, HasRoomFor, IsSameSheet};
-ghost use Rattle.rtui_buffer.specs.Frame.{IsSettledSheet, IsAligned, IsSheetDiff, listed};
+ghost use Rattle.rtui_buffer.specs.Sheet.{area_size, cell_index, place_position, position_of, cell_in, with_cell, with_cells, resized, moved_to, IsEmptied, HasRoomFor, IsSameSheet};
+ghost use Rattle.rtui_buffer.specs.Frame.{IsSettledSheet, IsShownByRepaint, IsAligned, IsSheetDiff, listed};
 
 use rtui_cell::Cell;
 use rtui_diff::{BufferDiff, is_settled};
@@ -25,6 +24,14 @@ use sized::{copied, copies, cut_or_fill, empty_all};
 
 /// A grid of cells over an area of a screen, row by row. There are always as many cells as the area has, and
 /// its edges are at most 65535.
+///
+/// ```
+/// let mut next = Buffer::empty(alloc, Rect::new(0, 0, 10, 1))?;
+/// next.set_string(0, 0, "Ready", Style::new().fg(Color::Green))?;
+/// for (x, y, cell) in shown.diff_iter(&next) {
+///     // what differs from the buffer that is shown: cell.symbol() goes to column x of row y
+/// }
+/// ```
 #[derive(Debug, Drop)]
 pub struct Buffer {
     area: Rect,
@@ -85,7 +92,7 @@ impl Buffer {
 
     /// The cells, row by row, to be written.
     pub fn cells_mut(&mut self) -> &mut [Cell]
-        ensures* writes_back { sem 𝓛 (Lends the_row (Array cell_row 0) self.entry result (λ cells. record self.old { cells = refilled self.old.cells cells })) }
+        ensures* writes_back { sem 𝓛 (Lends the_row (Array cell_row 0) self.entry result (with_cells self.old)) }
         ensures cells { result.now ≡ self.old.cells }
         ensures count { length result.now ≡ area_size self.old.area }
     {
@@ -116,7 +123,8 @@ impl Buffer {
     /// The cell in a column and a row of the area, to be written.
     pub fn get_mut(&mut self, x: u16, y: u16) -> &mut Cell
         requires { HasPosition self.old.area (position_of (x, y)) }
-        ensures* writes_back { sem 𝓛 (Lends the_row cell_row self.entry result (with_cell self.old (position_of (x, y)))) }
+        ensures* writes_back { let p = position_of (x, y) in
+            sem 𝓛 (Lends the_row cell_row self.entry result (with_cell self.old p)) }
         ensures value { result.now ≡ cell_in self.old (position_of (x, y)) }
     {
         let place = self.index_of(x, y);
@@ -134,7 +142,8 @@ impl Buffer {
 
     /// The cell at a position, to be written, if it lies in the area.
     pub fn cell_mut(&mut self, position: Position) -> Option<&mut Cell>
-        ensures* writes_back { sem 𝓛 (LendsIf the_row cell_row self.entry result (with_cell self.old position) self.old) }
+        ensures* writes_back {
+            sem 𝓛 (LendsIf the_row cell_row self.entry result (with_cell self.old position) self.old) }
         ensures inside { IsSome result ↔ HasPosition self.old.area position }
         ensures value { IfSome result (λ cell. cell.now ≡ cell_in self.old position) }
     {
@@ -154,7 +163,8 @@ impl Buffer {
 
     // The place of a position, or the number of cells where it is outside.
     fn place_of(&self, position: Position) -> usize
-        ensures inside { HasPosition self.now.area position → result ≡ cell_index self.now.area position }
+        ensures inside { let area = self.now.area in
+            HasPosition area position → result ≡ cell_index area position }
         ensures within { result < length self.now.cells ↔ HasPosition self.now.area position }
         ensures outside { ¬ (HasPosition self.now.area position) → result ≡ length self.now.cells }
     {
@@ -216,8 +226,8 @@ impl Buffer {
 
     /// Moves the buffer to another corner, with the same cells.
     pub fn move_to(&mut self, position: Position)
-        requires { EdgesFit (record self.old.area { x = position.x; y = position.y }) }
-        ensures { self.new ≡ record self.old { area = record self.old.area { x = position.x; y = position.y } } }
+        requires { EdgesFit (moved_to position self.old.area) }
+        ensures { self.new ≡ record self.old { area = moved_to position self.old.area } }
     {
         self.area.x = position.x;
         self.area.y = position.y;
@@ -228,7 +238,7 @@ impl Buffer {
     /// repaint of such a buffer shows it, whatever the screen had.
     pub fn is_settled(&self) -> bool
         ensures settled { IsTrue result ↔ IsSettledSheet self.now }
-        ensures repaints { IsTrue result → Repaints self.now.area.width self.now.area.height self.now.cells }
+        ensures repaints { IsTrue result → IsShownByRepaint self.now }
     {
         let area = *self.area();
         is_settled(self.content(), area.width, area.height)

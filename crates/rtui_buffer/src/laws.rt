@@ -37,7 +37,8 @@ pub fn hashing_names_area_and_cells()
 /// A screen can show an empty buffer, and each of its columns may be painted.
 pub fn empty_buffers_are_settled()
     ensures settled { (r : Rect) (s : Sheet) → IsEmptied r s → IsSettledSheet s }
-    ensures paintable { (r : Rect) (s : Sheet) (p : Position) (n : ℕ) → IsEmptied r s → IsPaintable p n s }
+    ensures paintable { (r : Rect) (s : Sheet) (p : Position) (n : ℕ) → IsEmptied r s
+        → IsPaintable p n s }
 {}
 
 /// The common rows of two settled buffers are settled in both.
@@ -53,17 +54,21 @@ pub fn kept_graphemes_take_columns()
 
 /// Of the graphemes without control characters that have a column, the longest front that fits the room is painted.
 pub fn longest_front_is_kept()
-    ensures { (room : ℕ) (gs : List (List ℕ)) → IsLongestFront room (filter is_painted gs) (kept room gs) }
+    ensures { (room : ℕ) (gs : List (List ℕ))
+        → IsLongestFront room (filter is_painted gs) (kept room gs) }
 {}
 
 /// A text and a line are painted up to the right edge of the area and no further.
 pub fn painting_ends_in_its_row()
-    ensures text { (r : Rect) (x max : ℕ) (s : Style) (text : List ℕ) → columns (pieces_at r x max s text) ≤ r.x + r.width - x }
-    ensures line { (r : Rect) (x max : ℕ) (l : LineData) → columns (line_pieces_at r x max l) ≤ r.x + r.width - x }
+    ensures text { (r : Rect) (x max : ℕ) (s : Style) (text : List ℕ)
+        → columns (pieces_at r x max s text) ≤ r.x + r.width - x }
+    ensures line { (r : Rect) (x max : ℕ) (l : LineData)
+        → columns (line_pieces_at r x max l) ≤ r.x + r.width - x }
 {}
 
 /// What is painted within a row of the area, seen by columns.
 pub fn painting_goes_by_columns()
-    ensures { (p : Position) (ps : List Piece) (old new : Sheet) → HasRow old.area p.y → old.area.x ≤ p.x
-        → columns ps ≤ old.area.x + old.area.width - p.x → Paints p ps old new → PaintsColumns p ps old new }
+    ensures { (p : Position) (ps : List Piece) (old new : Sheet)
+        → HasRow old.area p.y → old.area.x ≤ p.x → columns ps ≤ old.area.x + old.area.width - p.x
+        → Paints p ps old new → PaintsColumns p ps old new }
 {}

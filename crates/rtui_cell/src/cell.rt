@@ -102,7 +102,8 @@ impl Cell {
     /// Puts a text behind the stored one, or in place of an unset one; where memory is refused the cell is as
     /// it was.
     pub fn append_symbol(&mut self, alloc: Global, symbol: &str) -> Result<(), AllocError>
-        ensures ok { OnOk result (self.new ≡ with_symbol (appended self.old.symbol symbol.now) self.old) }
+        ensures ok { let text = appended self.old.symbol symbol.now in
+            OnOk result (self.new ≡ with_symbol text self.old) }
         ensures err { OnErr result (self.new ≡ self.old) }
         ensures short { IsShort (appended self.old.symbol symbol.now) → IsOk result }
     {
@@ -117,7 +118,8 @@ impl Cell {
         symbol: &str,
         strategy: MergeStrategy,
     ) -> Result<(), AllocError>
-        ensures ok { OnOk result (self.new ≡ with_symbol (joined strategy self.old.symbol symbol.now) self.old) }
+        ensures ok { let text = joined strategy self.old.symbol symbol.now in
+            OnOk result (self.new ≡ with_symbol text self.old) }
         ensures err { OnErr result (self.new ≡ self.old) }
         ensures short { IsShort (joined strategy self.old.symbol symbol.now) → IsOk result }
     {

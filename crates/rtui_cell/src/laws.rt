@@ -35,7 +35,8 @@ pub fn hashing_names_every_field()
 
 /// By default a diff treats a cell by its contents.
 pub fn default_option_is_none()
-    ensures { (o : CellDiffOption) → ⟦<CellDiffOption as Default>⟧.is_default o → o ≡ CellDiffOption.None }
+    ensures { (option : CellDiffOption) → ⟦<CellDiffOption as Default>⟧.is_default option
+        → option ≡ CellDiffOption.None }
 {}
 
 /// Setting one style and then another is setting the second laid over the first.

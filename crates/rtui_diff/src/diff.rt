@@ -154,7 +154,8 @@ impl<'prev, 'next> DiffWalk<'prev, 'next> {
     // The update at a place.
     fn item(&self, at: usize) -> (u16, u16, &'next Cell)
         requires inside { at < self.now.len }
-        ensures { update_by (λ cell. cell.now) result ≡ update_at self.now.x self.now.y self.now.width self.now.next.now at }
+        ensures { let d = self.now in
+            update_by (λ cell. cell.now) result ≡ update_at d.x d.y d.width d.next.now at }
     {
         let width = usize::from(self.width);
         let next = self.next;

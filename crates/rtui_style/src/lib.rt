@@ -67,6 +67,11 @@ impl Flags for Modifier {
 }
 
 /// What to change of how a column is painted. A colour that is `None` stays as it was.
+///
+/// ```
+/// let warning = Style::new().fg(Color::Yellow).add_modifier(Modifier::BOLD);
+/// let shown = Style::new().bg(Color::Black).patch(warning); // bold yellow on black
+/// ```
 #[derive(Debug, Default, Clone, Copy, PartialEq, Eq, Hash)]
 pub struct Style {
     /// The colour of the text.

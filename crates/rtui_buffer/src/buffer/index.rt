@@ -38,7 +38,8 @@ impl Index<Position> for Buffer {
 impl IndexMut<Position> for Buffer {
     fn index_mut(&mut self, position: Position) -> &mut Cell
         requires { HasPosition self.old.area position }
-        ensures* writes_back { sem 𝓛 (Lends the_row cell_row self.entry result (with_cell self.old position)) }
+        ensures* writes_back {
+            sem 𝓛 (Lends the_row cell_row self.entry result (with_cell self.old position)) }
         ensures value { result.now ≡ cell_in self.old position }
     {
         self.get_mut(position.x, position.y)
@@ -61,7 +62,8 @@ impl Index<(u16, u16)> for Buffer {
 impl IndexMut<(u16, u16)> for Buffer {
     fn index_mut(&mut self, position: (u16, u16)) -> &mut Cell
         requires { HasPosition self.old.area (position_of position) }
-        ensures* writes_back { sem 𝓛 (Lends the_row cell_row self.entry result (with_cell self.old (position_of position))) }
+        ensures* writes_back { let p = position_of position in
+            sem 𝓛 (Lends the_row cell_row self.entry result (with_cell self.old p)) }
         ensures value { result.now ≡ cell_in self.old (position_of position) }
     {
         self.get_mut(position.0, position.1)

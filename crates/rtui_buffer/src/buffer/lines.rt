@@ -196,9 +196,12 @@ fn paint_spans(
     requires inside { start + room ≤ length cells.old }
     ensures fits { IfOk result (λ n. n ≤ room) }
     ensures columns { IfOk result (λ n. n ≡ columns (line_pieces room base spans.now)) }
-    ensures ok { OnOk result (cells.new ≡ painted start (line_pieces room base spans.now) cells.old) }
-    ensures shown { OnOk result (IsPainted start (line_pieces room base spans.now) cells.old cells.new) }
-    ensures err { OnErr result (IsSameOutside start (start + columns (line_pieces room base spans.now)) cells.old cells.new) }
+    ensures ok { let ps = line_pieces room base spans.now in
+        OnOk result (cells.new ≡ painted start ps cells.old) }
+    ensures shown { let ps = line_pieces room base spans.now in
+        OnOk result (IsPainted start ps cells.old cells.new) }
+    ensures err { let ps = line_pieces room base spans.now in
+        OnErr result (IsSameOutside start (start + columns ps) cells.old cells.new) }
     ensures short { AreShort (line_pieces room base spans.now) → IsOk result }
 {
     let mut used = 0;

@@ -106,9 +106,12 @@ pub fn paint_text(
     requires inside { start + room ≤ length cells.old }
     ensures fits { IfOk result (λ n. n ≤ room) }
     ensures columns { IfOk result (λ n. n ≡ columns (text_pieces room style text.now)) }
-    ensures ok { OnOk result (cells.new ≡ painted start (text_pieces room style text.now) cells.old) }
-    ensures shown { OnOk result (IsPainted start (text_pieces room style text.now) cells.old cells.new) }
-    ensures err { OnErr result (IsSameOutside start (start + columns (text_pieces room style text.now)) cells.old cells.new) }
+    ensures ok { let ps = text_pieces room style text.now in
+        OnOk result (cells.new ≡ painted start ps cells.old) }
+    ensures shown { let ps = text_pieces room style text.now in
+        OnOk result (IsPainted start ps cells.old cells.new) }
+    ensures err { let ps = text_pieces room style text.now in
+        OnErr result (IsSameOutside start (start + columns ps) cells.old cells.new) }
     ensures short { AreShort (text_pieces room style text.now) → IsOk result }
 {
     let mut used = 0;

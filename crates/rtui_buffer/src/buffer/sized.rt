@@ -3,7 +3,7 @@
 ghost use Rattle.std.specs.Prelude.{◌≡◌, ◌-◌, ◌≤◌, ◌++◌, length, take, replicate, OnOk, OnErr, IfOk, IsOk, vec_len};
 ghost use Rattle.std.specs.Vec.{vec_capacity};
 ghost use Rattle.rtui_cell.specs.Cell.{empty_cell};
-ghost use Rattle.rtui_buffer.specs.Sheet.{empty_cells};
+ghost use Rattle.rtui_buffer.specs.Sheet.{empty_cells, resized};
 
 use rtui_cell::Cell;
 use std::alloc::{AllocError, Global};
@@ -48,7 +48,7 @@ fn copy_all(alloc: Global, copies: &mut [Cell], cells: &[Cell]) -> Result<(), Al
 // Cuts the list, or fills it up with empty cells.
 pub fn cut_or_fill(cells: &mut Vec<Cell>, count: usize) -> Result<(), AllocError>
     requires { vec_len cells.old ≤ vec_capacity cells.old }
-    ensures ok { OnOk result (cells.new.items ≡ take count cells.old.items ++ empty_cells (count - vec_len cells.old)) }
+    ensures ok { OnOk result (cells.new.items ≡ resized count cells.old.items) }
     ensures room { OnOk result (vec_capacity cells.old ≤ vec_capacity cells.new) }
     ensures fits { OnOk result (count ≤ vec_capacity cells.new) }
     ensures succeeds { count ≤ vec_capacity cells.old → IsOk result }
