@@ -2,4 +2,8 @@
 #![tactic(auto)]
 
 #[cfg(test)]
-mod text;
+mod columns;
+#[cfg(test)]
+mod lines;
+#[cfg(test)]
+mod spans;
