@@ -1,5 +1,5 @@
 //! The cells of a buffer by position, and equal buffers.
-use crate::sheets::sheet;
+use crate::sheets::{empty, rect, reds_are, sheet};
 use rtui_buffer::Buffer;
 use rtui_geometry::{Position, Rect};
 use rtui_style::{Color, Modifier};
@@ -49,15 +49,9 @@ fn writes(buffer: &mut Buffer, x: u16, y: u16) -> bool {
         && cell.modifier == Modifier::BOLD
 }
 
-// Whether the red cells are these, row by row.
-fn reds_are(buffer: &Buffer, reds: &[bool]) -> bool {
-    let red = buffer.content().iter().map(|cell| cell.fg == Color::Red);
-    red.eq(reds.iter().copied())
-}
-
 #[test]
 fn writes_cells(rt: HostRuntime) -> Result<(), Fail> {
-    let mut buffer = Buffer::empty(rt.alloc(), Rect::new(1, 2, 2, 2))?;
+    let mut buffer = empty(rt.alloc(), rect(1, 2, 2, 2))?;
     assert!(rt; writes(&mut buffer, 2, 2));
     assert!(rt; reds_are(&buffer, &[false, true, false, false]));
     assert!(rt; writes(&mut buffer, 1, 3));
@@ -73,7 +67,7 @@ fn is_outside(buffer: &mut Buffer, x: u16, y: u16) -> bool {
 
 #[test]
 fn outside_is_no_cell(rt: HostRuntime) -> Result<(), Fail> {
-    let mut buffer = Buffer::empty(rt.alloc(), Rect::new(1, 2, 2, 2))?;
+    let mut buffer = empty(rt.alloc(), rect(1, 2, 2, 2))?;
     assert!(rt; !is_outside(&mut buffer, 1, 2));
     assert!(rt; !is_outside(&mut buffer, 2, 3));
     assert!(rt; is_outside(&mut buffer, 0, 2));
@@ -91,11 +85,17 @@ fn are_alike(one: &Buffer, other: &Buffer) -> bool {
     one == other && hash_of(one) == hash_of(other)
 }
 
+// Whether buffers of these texts are equal, and their hashes.
+fn make_alike(alloc: Global, one: &[&str], other: &[&str]) -> Result<bool, Fail> {
+    let one = sheet(alloc, one)?;
+    let other = sheet(alloc, other)?;
+    Ok(are_alike(&one, &other))
+}
+
 #[test]
 fn equal_buffers_have_equal_hashes(rt: HostRuntime) -> Result<(), Fail> {
-    let one = sheet(rt.alloc(), &["ab", "cd"])?;
-    assert!(rt; are_alike(&one, &sheet(rt.alloc(), &["ab", "cd"])?));
-    assert!(rt; one != sheet(rt.alloc(), &["ab", "ce"])?);
+    assert!(rt; make_alike(rt.alloc(), &["ab", "cd"], &["ab", "cd"])?);
+    assert!(rt; !make_alike(rt.alloc(), &["ab", "cd"], &["ab", "ce"])?);
     Ok(())
 }
 

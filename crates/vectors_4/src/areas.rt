@@ -1,0 +1,159 @@
+//! Buffers made of a cell, of lines or of texts, and given other areas.
+use crate::sheets::{filled, is_of, rect, reds_are, sheet};
+use rtui_buffer::{Buffer, Cell};
+use rtui_geometry::{Position, Rect};
+use rtui_style::{Color, Style};
+use rtui_text::{Line, Span};
+use std::alloc::{AllocError, Global};
+use std::test::Fail;
+
+// A buffer of four red cells.
+fn four_reds(alloc: Global) -> Result<Buffer, AllocError> {
+    let mut cell = Cell::new(alloc, "x")?;
+    cell.set_fg(Color::Red);
+    filled(alloc, rect(1, 2, 2, 2), cell)
+}
+
+// Whether the cell at this place of the area, and no other, has this index.
+fn is_indexed(buffer: &Buffer, x: u16, y: u16, index: usize) -> bool {
+    if !buffer.area().contains(Position { x, y }) || index >= buffer.content().len() {
+        return false;
+    }
+    buffer.index_of(x, y) == index && buffer.pos_of(index) == (x, y)
+}
+
+fn copy_is_equal(alloc: Global, buffer: &Buffer) -> Result<bool, AllocError> {
+    Ok(buffer.clone(alloc)? == *buffer)
+}
+
+#[test]
+fn made_and_filled(rt: HostRuntime) -> Result<(), Fail> {
+    let filled = four_reds(rt.alloc())?;
+    assert!(rt; is_of(&filled, rect(1, 2, 2, 2), &["x", "x", "x", "x"]));
+    assert!(rt; reds_are(&filled, &[true, true, true, true]));
+    assert!(rt; is_indexed(&filled, 2, 3, 3));
+    assert!(rt; copy_is_equal(rt.alloc(), &filled)?);
+    Ok(())
+}
+
+// Whether a buffer that is given another area has it, and these symbols.
+fn resizes(buffer: &mut Buffer, area: Rect, symbols: &[&str]) -> Result<bool, AllocError> {
+    let area = Rect::new(area.x, area.y, area.width, area.height);
+    buffer.resize(area)?;
+    Ok(is_of(buffer, area, symbols))
+}
+
+// Whether making room changes nothing.
+fn reserves(buffer: &mut Buffer, area: Rect, symbols: &[&str]) -> Result<bool, AllocError> {
+    let before = *buffer.area();
+    buffer.reserve(Rect::new(area.x, area.y, area.width, area.height))?;
+    Ok(is_of(buffer, before, symbols))
+}
+
+// Whether a buffer that is moved has this area and its symbols.
+fn moves(buffer: &mut Buffer, to: Position, area: Rect, symbols: &[&str]) -> bool {
+    buffer.move_to(to);
+    is_of(buffer, area, symbols)
+}
+
+// Whether a buffer is of empty cells after a reset.
+fn resets(buffer: &mut Buffer) -> bool {
+    buffer.reset();
+    buffer.content().iter().all(|cell| *cell == Cell::EMPTY)
+}
+
+#[test]
+fn resized(rt: HostRuntime) -> Result<(), Fail> {
+    let mut buffer = sheet(rt.alloc(), &["ab", "cd"])?;
+    assert!(rt; resizes(&mut buffer, rect(0, 0, 3, 1), &["a", "b", "c"])?);
+    assert!(rt; resizes(&mut buffer, rect(5, 5, 2, 2), &["a", "b", "c", " "])?);
+    assert!(rt; reserves(&mut buffer, rect(0, 0, 10, 10), &["a", "b", "c", " "])?);
+    let to = Position { x: 1, y: 0 };
+    assert!(rt; moves(&mut buffer, to, rect(1, 0, 2, 2), &["a", "b", "c", " "]));
+    assert!(rt; resets(&mut buffer));
+    Ok(())
+}
+
+// Makes room for an area in the corner of the grid, and whether a buffer then takes it, with a cell for each place.
+fn takes_reserved(buffer: &mut Buffer, width: u16, height: u16) -> Result<bool, AllocError> {
+    let area = Rect::new(0, 0, width, height);
+    buffer.reserve(area)?;
+    let is_resized = buffer.resize(area).is_ok();
+    Ok(is_resized && *buffer.area() == area && buffer.content().len() == area.area() as usize)
+}
+
+// Whether the first cells show these symbols.
+fn begins_with(buffer: &Buffer, symbols: &[&str]) -> bool {
+    let shown = buffer.content().iter().map(|cell| cell.symbol());
+    shown.take(symbols.len()).eq(symbols.iter().copied())
+}
+
+#[test]
+fn resized_within_its_room(rt: HostRuntime) -> Result<(), Fail> {
+    let mut buffer = sheet(rt.alloc(), &["ab", "cd"])?;
+    assert!(rt; takes_reserved(&mut buffer, 10, 10)?);
+    assert!(rt; begins_with(&buffer, &["a", "b", "c", "d", " "]));
+    Ok(())
+}
+
+// A line of a red `a` and of a `b` on blue.
+fn colored(alloc: Global) -> Result<Line<'static>, AllocError> {
+    let mut line = Line::default_in(alloc);
+    line.spans
+        .push(Span::styled("a", Style::new().fg(Color::Red)))?;
+    line.spans
+        .push(Span::styled("b", Style::new().bg(Color::Blue)))?;
+    Ok(line)
+}
+
+// A buffer of two lines.
+fn two_rows(alloc: Global, upper: Line<'_>, lower: Line<'_>) -> Result<Buffer, Fail> {
+    if upper.width() > 65535 || lower.width() > 65535 {
+        return Err(Fail::new("too wide for a buffer"));
+    }
+    Ok(Buffer::with_lines(alloc, &[upper, lower])?)
+}
+
+// Whether the cell at this place has these colours.
+fn has_colors(buffer: &Buffer, x: u16, y: u16, fg: Color, bg: Color) -> bool {
+    let cell = buffer.cell(Position { x, y });
+    cell.map(|cell| (cell.fg, cell.bg)) == Some((fg, bg))
+}
+
+#[test]
+fn made_of_styled_lines(rt: HostRuntime) -> Result<(), Fail> {
+    let buffer = two_rows(
+        rt.alloc(),
+        colored(rt.alloc())?,
+        Line::raw(rt.alloc(), "c")?,
+    )?;
+    assert!(rt; is_of(&buffer, rect(0, 0, 2, 2), &["a", "b", "c", " "]));
+    assert!(rt; has_colors(&buffer, 0, 0, Color::Red, Color::Reset));
+    assert!(rt; has_colors(&buffer, 1, 0, Color::Reset, Color::Blue));
+    assert!(rt; has_colors(&buffer, 0, 1, Color::Reset, Color::Reset));
+    assert!(rt; has_colors(&buffer, 1, 1, Color::Reset, Color::Reset));
+    assert!(rt; buffer.is_settled());
+    Ok(())
+}
+
+// Whether these texts make a settled buffer in the corner of the grid with these symbols.
+fn makes(
+    alloc: Global,
+    texts: &[&str],
+    width: u16,
+    height: u16,
+    symbols: &[&str],
+) -> Result<bool, Fail> {
+    let buffer = sheet(alloc, texts)?;
+    Ok(is_of(&buffer, rect(0, 0, width, height), symbols) && buffer.is_settled())
+}
+
+#[test]
+fn made_of_texts(rt: HostRuntime) -> Result<(), Fail> {
+    assert!(rt; makes(rt.alloc(), &["ab", "コ"], 2, 2, &["a", "b", "コ", " "])?);
+    let short = ["a", "b", "c", " ", " ", " ", "x", "y", " "];
+    assert!(rt; makes(rt.alloc(), &["abc", "", "x\ny"], 3, 3, &short)?);
+    assert!(rt; makes(rt.alloc(), &["\u{FF76}\u{FF9E}"], 1, 1, &[" "])?);
+    assert!(rt; makes(rt.alloc(), &[], 0, 0, &[])?);
+    Ok(())
+}

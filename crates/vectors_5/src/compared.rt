@@ -1,0 +1,269 @@
+//! Terminals compared, copied and dropped.
+ghost use Rattle.std.specs.Prelude.{true, []};
+ghost use Rattle.rtui_cell.specs.Look.{empty_look};
+
+use crate::terminal::terminal;
+use rtui_backend::{AsCell, Backend, TestBackend, TestError, WindowSize};
+use rtui_geometry::{Position, Rect, Size};
+use rtui_terminal::{Terminal, TerminalError};
+use std::alloc::{AllocError, Global};
+use std::hash::{DefaultHasher, Hash, Hasher};
+use std::test::Fail;
+
+// A screen without columns and rows over a cursor that is lent; it can't be drawn on.
+struct CursorOnly<'a> {
+    visible: &'a mut bool,
+    failures: u64,
+}
+
+impl Drop for CursorOnly<'_> {
+    fn drop(self) {
+        let CursorOnly {
+            visible: _,
+            failures: _,
+        } = self;
+    }
+}
+
+impl Backend for CursorOnly<'_> {
+    type Error = TestError;
+
+    ghost screen = { λ b. record { history = []; width = 0; height = 0; grid = λ _ _. empty_look; cursor_x = 0; cursor_y = 0; visible = b.visible.now; written = 0 } };
+
+    ghost failures = { λ b. b.failures };
+
+    fn draw<C: AsCell, I: Iterator<Item = (u16, u16, C)>>(
+        &mut self,
+        content: I,
+    ) -> Result<(), TestError> {
+        for _ in content {}
+        self.failures = self.failures.saturating_add(1);
+        Err(TestError::Told)
+    }
+
+    fn hide_cursor(&mut self) -> Result<(), TestError> {
+        *self.visible = false;
+        Ok(())
+    }
+
+    fn show_cursor(&mut self) -> Result<(), TestError> {
+        *self.visible = true;
+        Ok(())
+    }
+
+    fn get_cursor_position(&mut self) -> Result<Position, TestError> {
+        Ok(Position::ORIGIN)
+    }
+
+    fn set_cursor_position(&mut self, _position: Position) -> Result<(), TestError> {
+        Ok(())
+    }
+
+    fn size(&mut self) -> Result<Size, TestError> {
+        Ok(Size::ZERO)
+    }
+
+    fn window_size(&mut self) -> Result<WindowSize, TestError> {
+        Ok(WindowSize {
+            columns_rows: Size::ZERO,
+            pixels: Size::ZERO,
+        })
+    }
+
+    fn flush(&mut self) -> Result<(), TestError> {
+        Ok(())
+    }
+}
+
+#[test]
+fn shows_a_hidden_cursor_when_dropped(rt: HostRuntime) -> Result<(), Fail> {
+    let mut visible = true;
+    let backend = CursorOnly {
+        visible: &mut visible,
+        failures: 0,
+    };
+    match Terminal::new(rt.alloc(), backend) {
+        Ok(mut terminal) => {
+            assert!(rt; terminal.hide_cursor().is_ok());
+            assert!(rt; !*terminal.backend().visible);
+        }
+        Err(_) => assert!(rt; false),
+    }
+    assert!(rt; visible);
+    Ok(())
+}
+
+// A screen that tells its size and refuses each other call.
+#[derive(Debug, Default, Clone, Copy, PartialEq, Eq, Hash)]
+struct Refusing {
+    size: Size,
+    failures: u64,
+}
+
+impl Backend for Refusing {
+    type Error = TestError;
+
+    ghost screen = { λ b. record { history = []; width = b.size.width; height = b.size.height; grid = λ _ _. empty_look; cursor_x = 0; cursor_y = 0; visible = true; written = 0 } };
+
+    ghost failures = { λ b. b.failures };
+
+    fn draw<C: AsCell, I: Iterator<Item = (u16, u16, C)>>(
+        &mut self,
+        content: I,
+    ) -> Result<(), TestError> {
+        for _ in content {}
+        self.failures = self.failures.saturating_add(1);
+        Err(TestError::Told)
+    }
+
+    fn hide_cursor(&mut self) -> Result<(), TestError> {
+        self.failures = self.failures.saturating_add(1);
+        Err(TestError::Told)
+    }
+
+    fn show_cursor(&mut self) -> Result<(), TestError> {
+        self.failures = self.failures.saturating_add(1);
+        Err(TestError::Told)
+    }
+
+    fn get_cursor_position(&mut self) -> Result<Position, TestError> {
+        self.failures = self.failures.saturating_add(1);
+        Err(TestError::Told)
+    }
+
+    fn set_cursor_position(&mut self, _position: Position) -> Result<(), TestError> {
+        self.failures = self.failures.saturating_add(1);
+        Err(TestError::Told)
+    }
+
+    fn size(&mut self) -> Result<Size, TestError> {
+        Ok(self.size)
+    }
+
+    fn window_size(&mut self) -> Result<WindowSize, TestError> {
+        self.failures = self.failures.saturating_add(1);
+        Err(TestError::Told)
+    }
+
+    fn flush(&mut self) -> Result<(), TestError> {
+        self.failures = self.failures.saturating_add(1);
+        Err(TestError::Told)
+    }
+}
+
+fn hash_of<T: Hash>(value: &T) -> u64 {
+    let mut state = DefaultHasher::new();
+    value.hash(&mut state);
+    state.finish()
+}
+
+// A terminal over a screen of this size that refuses to be drawn on.
+fn over_refusing(alloc: Global, width: u16, height: u16) -> Result<Terminal<Refusing>, Fail> {
+    let size = Size { width, height };
+    match Terminal::new(alloc, Refusing { size, failures: 0 }) {
+        Ok(terminal) => Ok(terminal),
+        Err(_) => Err(Fail::from(AllocError)),
+    }
+}
+
+#[test]
+fn copies_a_terminal(rt: HostRuntime) -> Result<(), Fail> {
+    let mut terminal = Terminal::<Refusing>::default_in(rt.alloc());
+    assert!(rt; terminal.viewport_area() == Rect::ZERO);
+    assert!(rt; *terminal.backend() == Refusing::default());
+    let copy = terminal.clone(rt.alloc())?;
+    assert!(rt; copy == terminal);
+    assert!(rt; hash_of(&copy) == hash_of(&terminal));
+    assert!(rt; terminal.hide_cursor().is_err());
+    assert!(rt; terminal.backend().failures == 1);
+    assert!(rt; copy != terminal);
+    Ok(())
+}
+
+// Sets a character in the corner of the next frame.
+fn set_corner(
+    alloc: Global,
+    terminal: &mut Terminal<Refusing>,
+    ch: char,
+) -> Result<(), AllocError> {
+    if let Some(cell) = terminal.current_buffer_mut().cell_mut(Position::ORIGIN) {
+        cell.set_char(alloc, ch)?;
+    }
+    Ok(())
+}
+
+#[test]
+fn copies_a_terminal_with_cells(rt: HostRuntime) -> Result<(), Fail> {
+    let mut terminal = over_refusing(rt.alloc(), 2, 1)?;
+    set_corner(rt.alloc(), &mut terminal, 'x')?;
+    let mut copy = terminal.clone(rt.alloc())?;
+    assert!(rt; copy == terminal);
+    assert!(rt; hash_of(&copy) == hash_of(&terminal));
+    set_corner(rt.alloc(), &mut copy, 'y')?;
+    assert!(rt; copy != terminal);
+    Ok(())
+}
+
+// Whether two terminals are equal, and their hashes.
+fn are_alike(one: &Terminal<TestBackend>, other: &Terminal<TestBackend>) -> bool {
+    one == other && hash_of(one) == hash_of(other)
+}
+
+// Whether two empty frames, drawn on two terminals, are equal, and their hashes.
+fn draw_alike(one: &mut Terminal<TestBackend>, other: &mut Terminal<TestBackend>) -> bool {
+    match (one.draw(|_| Ok(())), other.draw(|_| Ok(()))) {
+        (Ok(drawn), Ok(again)) => drawn == again && hash_of(&drawn) == hash_of(&again),
+        _ => false,
+    }
+}
+
+#[test]
+fn compares_terminals(rt: HostRuntime) -> Result<(), Fail> {
+    let mut one = terminal(rt.alloc(), 2, 1)?;
+    let mut other = terminal(rt.alloc(), 2, 1)?;
+    assert!(rt; are_alike(&one, &other));
+    assert!(rt; draw_alike(&mut one, &mut other));
+    assert!(rt; one == other);
+    assert!(rt; one.show_cursor().is_ok());
+    assert!(rt; one != other);
+    Ok(())
+}
+
+// Whether the next frames of two terminals are equal, and their hashes.
+fn frames_are_alike(one: &mut Terminal<TestBackend>, other: &mut Terminal<TestBackend>) -> bool {
+    let frame = one.get_frame();
+    let again = other.get_frame();
+    frame == again && hash_of(&frame) == hash_of(&again)
+}
+
+// Whether a cursor on one of them tells the next frames of two terminals apart.
+fn cursor_parts_frames(one: &mut Terminal<TestBackend>, other: &mut Terminal<TestBackend>) -> bool {
+    let mut frame = one.get_frame();
+    frame.set_cursor(1, 0);
+    frame != other.get_frame()
+}
+
+#[test]
+fn compares_frames(rt: HostRuntime) -> Result<(), Fail> {
+    let mut one = terminal(rt.alloc(), 2, 1)?;
+    let mut other = terminal(rt.alloc(), 2, 1)?;
+    assert!(rt; frames_are_alike(&mut one, &mut other));
+    assert!(rt; cursor_parts_frames(&mut one, &mut other));
+    Ok(())
+}
+
+// Whether a terminal can't start over a backend, for the fault that it was told.
+fn is_refused(alloc: Global, backend: TestBackend) -> bool {
+    match Terminal::new(alloc, backend) {
+        Err(TerminalError::Backend(error)) => error == TestError::Told,
+        _ => false,
+    }
+}
+
+#[test]
+fn refuses_to_start_over_a_failing_backend(rt: HostRuntime) -> Result<(), Fail> {
+    let mut backend = TestBackend::new(rt.alloc(), 2, 1)?;
+    backend.fail_after(0);
+    assert!(rt; is_refused(rt.alloc(), backend));
+    Ok(())
+}

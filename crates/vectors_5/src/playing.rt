@@ -1,0 +1,75 @@
+//! Plays of steps, without a script.
+use rtui_geometry::Rect;
+use screenplay::{PlayCause, PlayFault, Puts, Scene, Stage, Step, play};
+use std::alloc::{AllocError, Global};
+use std::test::Fail;
+
+// Plays one draw of one put on a stage of two columns and one row.
+fn play_put(
+    alloc: Global,
+    put: (u16, u16, char),
+) -> Result<Result<Vec<Scene>, PlayFault>, AllocError> {
+    let (x, y, ch) = put;
+    let mut puts = Puts::new(alloc);
+    puts.push(x, y, ch)?;
+    let stage = Stage {
+        width: 2,
+        height: 1,
+    };
+    Ok(play(alloc, stage, &[Step::Draw { puts }]))
+}
+
+// Whether a scene has these symbols, row by row, a viewport over its whole screen, and no history.
+fn is_scene(scene: &Scene, area: Rect, symbols: &[&str]) -> bool {
+    let cells = scene.screen.content().iter();
+    cells.map(|cell| cell.symbol()).eq(symbols.iter().copied())
+        && *scene.screen.area() == area
+        && scene.viewport == area
+        && scene.history.is_empty()
+}
+
+// Whether the play of one put gives a blank scene and one with these symbols.
+fn gives(
+    alloc: Global,
+    put: (u16, u16, char),
+    area: Rect,
+    symbols: &[&str],
+) -> Result<bool, AllocError> {
+    match play_put(alloc, put)? {
+        Ok(scenes) => Ok(match scenes.as_slice() {
+            [start, drawn] => is_scene(start, area, &[" ", " "]) && is_scene(drawn, area, symbols),
+            _ => false,
+        }),
+        Err(_) => Ok(false),
+    }
+}
+
+#[test]
+fn gives_a_scene_for_each_step(rt: HostRuntime) -> Result<(), Fail> {
+    let area = Rect::new(0, 0, 2, 1);
+    assert!(rt; gives(rt.alloc(), (1, 0, 'a'), area, &[" ", "a"])?);
+    assert!(rt; gives(rt.alloc(), (2, 0, 'a'), area, &[" ", " "])?);
+    Ok(())
+}
+
+// Whether the play of one put ends at its draw, as the frame over this area isn't settled, with a blank scene.
+fn is_unsettled(alloc: Global, put: (u16, u16, char), area: Rect) -> Result<bool, AllocError> {
+    match play_put(alloc, put)? {
+        Ok(_) => Ok(false),
+        Err(fault) => Ok(match fault.scenes.as_slice() {
+            [start] => {
+                fault.step == 1
+                    && fault.cause == PlayCause::Unsettled(area)
+                    && is_scene(start, area, &[" ", " "])
+            }
+            _ => false,
+        }),
+    }
+}
+
+#[test]
+fn ends_at_a_frame_that_is_not_settled(rt: HostRuntime) -> Result<(), Fail> {
+    let area = Rect::new(0, 0, 2, 1);
+    assert!(rt; is_unsettled(rt.alloc(), (1, 0, 'コ'), area)?);
+    Ok(())
+}

@@ -1,0 +1,172 @@
+//! Scripts, run over bytes in memory.
+use screenplay::{RunFault, run};
+use std::alloc::{AllocError, Global};
+use std::io::{self, Read};
+use std::test::Fail;
+
+// Whether a script runs, and prints this.
+fn prints(alloc: Global, script: &str, printed: &str) -> bool {
+    let mut written = Vec::new(alloc);
+    let mut reader = script.as_bytes();
+    run(alloc, &mut reader, &mut written).is_ok() && written.as_slice() == printed.as_bytes()
+}
+
+#[test]
+fn prints_what_it_shows(rt: HostRuntime) {
+    let drawn = "screen 5 2\nput 1 0 h\nput 2 0 i\ndraw\nshow\n";
+    assert!(rt; prints(rt.alloc(), drawn, "| hi  \n|     \n"));
+    let off_the_screen = "screen 3 1\nshow\nput 0 0 a\ndraw\nput 1 0 b\nput 9 9 z\ndraw\nshow";
+    assert!(rt; prints(rt.alloc(), off_the_screen, "|   \n| b \n"));
+    let twice = "screen 4 1\nput 0 0 ┌\nput 3 0 ┐\ndraw\nshow\nshow";
+    assert!(rt; prints(rt.alloc(), twice, "|┌  ┐\n|┌  ┐\n"));
+    let blank = "screen 1 1\nput 0 0  \ndraw\nshow";
+    assert!(rt; prints(rt.alloc(), blank, "| \n"));
+    assert!(rt; prints(rt.alloc(), "screen 2 1\r\nshow\r\n", "|  \n"));
+    assert!(rt; prints(rt.alloc(), "screen 65535 1\nput 65535 65535 a\ndraw", ""));
+    assert!(rt; prints(rt.alloc(), "", ""));
+    assert!(rt; prints(rt.alloc(), "\n\n", ""));
+}
+
+fn reads_as(alloc: Global, fault: RunFault, text: &str) -> Result<bool, AllocError> {
+    Ok(fault.to_string(alloc)?.as_str() == text)
+}
+
+// Whether the run of a script fails with this text, and prints nothing.
+fn fails(alloc: Global, script: &str, text: &str) -> Result<bool, AllocError> {
+    let mut written = Vec::new(alloc);
+    let mut reader = script.as_bytes();
+    match run(alloc, &mut reader, &mut written) {
+        Ok(()) => Ok(false),
+        Err(fault) => Ok(reads_as(alloc, fault, text)? && written.is_empty()),
+    }
+}
+
+#[test]
+fn names_the_first_bad_line(rt: HostRuntime) -> Result<(), Fail> {
+    let alloc = rt.alloc();
+    assert!(rt; fails(alloc, "screen 3 1\nput 0 0 あ\ndraw", "line 2: bad command")?);
+    assert!(rt; fails(alloc, "screen 3 1\nput 0 0 あ", "line 2: bad command")?);
+    assert!(rt; fails(alloc, "draw", "line 1: bad command")?);
+    assert!(rt; fails(alloc, "\n\nshow", "line 3: bad command")?);
+    assert!(rt; fails(alloc, "screen 3 1\nscreen 3 1", "line 2: bad command")?);
+    assert!(rt; fails(alloc, "screen 3 1\ndraw ", "line 2: bad command")?);
+    assert!(rt; fails(alloc, "screen 3 1\nDraw", "line 2: bad command")?);
+    assert!(rt; fails(alloc, "screen 3 1\nclear", "line 2: bad command")?);
+    Ok(())
+}
+
+#[test]
+fn names_a_bad_stage(rt: HostRuntime) -> Result<(), Fail> {
+    let alloc = rt.alloc();
+    assert!(rt; fails(alloc, "screen 3 0\ndraw", "line 1: bad command")?);
+    assert!(rt; fails(alloc, "screen 65536 1", "line 1: bad command")?);
+    assert!(rt; fails(alloc, "screen +3 1", "line 1: bad command")?);
+    assert!(rt; fails(alloc, "screen 3  1", "line 1: bad command")?);
+    assert!(rt; fails(alloc, "screen 3 1 ", "line 1: bad command")?);
+    assert!(rt; fails(alloc, "screen 3", "line 1: bad command")?);
+    Ok(())
+}
+
+#[test]
+fn names_a_bad_put(rt: HostRuntime) -> Result<(), Fail> {
+    let alloc = rt.alloc();
+    assert!(rt; fails(alloc, "screen 3 1\nput 0 0", "line 2: bad command")?);
+    assert!(rt; fails(alloc, "screen 3 1\nput 0 0 ab", "line 2: bad command")?);
+    assert!(rt; fails(alloc, "screen 3 1\nput 0 0 \t", "line 2: bad command")?);
+    assert!(rt; fails(alloc, "screen 3 1\nput 0 -1 a", "line 2: bad command")?);
+    Ok(())
+}
+
+// Whether these bytes are refused as no text, and nothing is printed.
+fn is_no_text(alloc: Global, bytes: &[u8]) -> bool {
+    let mut written = Vec::new(alloc);
+    let mut reader = bytes;
+    match run(alloc, &mut reader, &mut written) {
+        Err(RunFault::NotText) => written.is_empty(),
+        _ => false,
+    }
+}
+
+#[test]
+fn refuses_bytes_that_are_no_text(rt: HostRuntime) {
+    assert!(rt; is_no_text(rt.alloc(), b"screen 3 1\n\xff"));
+}
+
+// A reader that fails.
+#[derive(Drop)]
+struct Broken;
+
+impl Read for Broken {
+    fn read(&mut self, _buf: &mut [u8]) -> io::Result<usize> {
+        Err(io::Error::from(io::ErrorKind::NotFound))
+    }
+}
+
+// A writer that takes nothing.
+#[derive(Drop)]
+struct Full;
+
+impl io::Write for Full {
+    fn write(&mut self, _buf: &[u8]) -> io::Result<usize> {
+        Err(io::Error::from(io::ErrorKind::NotFound))
+    }
+
+    fn flush(&mut self) -> io::Result<()> {
+        Ok(())
+    }
+}
+
+// A writer that takes all, and knows whether something that it took awaits a flush.
+#[derive(Drop)]
+struct Holding {
+    holds: bool,
+}
+
+impl io::Write for Holding {
+    fn write(&mut self, buf: &[u8]) -> io::Result<usize> {
+        self.holds = true;
+        Ok(buf.len())
+    }
+
+    fn flush(&mut self) -> io::Result<()> {
+        self.holds = false;
+        Ok(())
+    }
+}
+
+// Whether the run of a script leaves nothing that awaits a flush.
+fn flushes(alloc: Global, script: &str) -> bool {
+    let mut reader = script.as_bytes();
+    let mut writer = Holding { holds: true };
+    run(alloc, &mut reader, &mut writer).is_ok() && !writer.holds
+}
+
+#[test]
+fn flushes_what_it_prints(rt: HostRuntime) {
+    assert!(rt; flushes(rt.alloc(), "screen 3 1\nshow"));
+}
+
+#[test]
+fn names_a_failed_read(rt: HostRuntime) -> Result<(), Fail> {
+    let mut written = Vec::new(rt.alloc());
+    match run(rt.alloc(), &mut Broken, &mut written) {
+        Ok(()) => assert!(rt; false),
+        Err(fault) => assert!(rt; reads_as(rt.alloc(), fault, "input: read failed")?),
+    }
+    Ok(())
+}
+
+// Whether the run of a script fails at its first write, which has no text.
+fn fails_to_write(alloc: Global, script: &str) -> Result<bool, AllocError> {
+    let mut reader = script.as_bytes();
+    match run(alloc, &mut reader, &mut Full) {
+        Err(RunFault::Write) => reads_as(alloc, RunFault::Write, ""),
+        _ => Ok(false),
+    }
+}
+
+#[test]
+fn says_nothing_of_a_failed_write(rt: HostRuntime) -> Result<(), Fail> {
+    assert!(rt; fails_to_write(rt.alloc(), "screen 3 1\nshow")?);
+    Ok(())
+}
