@@ -134,6 +134,29 @@ impl io::Write for Holding {
     }
 }
 
+// A writer that takes all, and fails to flush it.
+#[derive(Drop)]
+struct Unflushed;
+
+impl io::Write for Unflushed {
+    fn write(&mut self, buf: &[u8]) -> io::Result<usize> {
+        Ok(buf.len())
+    }
+
+    fn flush(&mut self) -> io::Result<()> {
+        Err(io::Error::from(io::ErrorKind::NotFound))
+    }
+}
+
+// Whether the run of a script fails at its flush.
+fn fails_to_flush(alloc: Global, script: &str) -> bool {
+    let mut reader = script.as_bytes();
+    match run(alloc, &mut reader, &mut Unflushed) {
+        Err(RunFault::Write) => true,
+        _ => false,
+    }
+}
+
 // Whether the run of a script leaves nothing that awaits a flush.
 fn flushes(alloc: Global, script: &str) -> bool {
     let mut reader = script.as_bytes();
@@ -144,6 +167,11 @@ fn flushes(alloc: Global, script: &str) -> bool {
 #[test]
 fn flushes_what_it_prints(rt: HostRuntime) {
     assert!(rt; flushes(rt.alloc(), "screen 3 1\nshow"));
+}
+
+#[test]
+fn says_nothing_of_a_failed_flush(rt: HostRuntime) {
+    assert!(rt; fails_to_flush(rt.alloc(), "screen 3 1\nshow"));
 }
 
 #[test]
