@@ -1,5 +1,5 @@
 //! Buffers made of a cell, of lines or of texts, and given other areas.
-use crate::sheets::{filled, is_of, rect, reds_are, sheet};
+use crate::sheets::{filled, is_of, rect, sheet};
 use rtui_buffer::{Buffer, Cell};
 use rtui_geometry::{Position, Rect};
 use rtui_style::{Color, Style};
@@ -26,32 +26,52 @@ fn copy_is_equal(alloc: Global, buffer: &Buffer) -> Result<bool, AllocError> {
     Ok(buffer.clone(alloc)? == *buffer)
 }
 
+// Whether four cells are filled with a red symbol, in their area.
+fn fills(alloc: Global, area: Rect, symbols: &str) -> Result<bool, AllocError> {
+    let buffer = four_reds(alloc)?;
+    Ok(is_of(&buffer, area, symbols) && buffer.content().iter().all(|cell| cell.fg == Color::Red))
+}
+
+// Whether the last of four cells has its index.
+fn is_last_indexed(alloc: Global) -> Result<bool, AllocError> {
+    let buffer = four_reds(alloc)?;
+    Ok(is_indexed(&buffer, 2, 3, 3))
+}
+
+// Whether a copy of four cells equals them.
+fn copies(alloc: Global) -> Result<bool, AllocError> {
+    let buffer = four_reds(alloc)?;
+    copy_is_equal(alloc, &buffer)
+}
+
 #[test]
 fn made_and_filled(rt: HostRuntime) -> Result<(), Fail> {
-    let filled = four_reds(rt.alloc())?;
-    assert!(rt; is_of(&filled, rect(1, 2, 2, 2), &["x", "x", "x", "x"]));
-    assert!(rt; reds_are(&filled, &[true, true, true, true]));
-    assert!(rt; is_indexed(&filled, 2, 3, 3));
-    assert!(rt; copy_is_equal(rt.alloc(), &filled)?);
+    assert!(rt; fills(rt.alloc(), rect(1, 2, 2, 2), "x|x|x|x")?);
+    assert!(rt; is_last_indexed(rt.alloc())?);
+    assert!(rt; copies(rt.alloc())?);
     Ok(())
 }
 
 // Whether a buffer that is given another area has it, and these symbols.
-fn resizes(buffer: &mut Buffer, area: Rect, symbols: &[&str]) -> Result<bool, AllocError> {
+fn resizes(buffer: &mut Buffer, area: Rect, symbols: &str) -> Result<bool, AllocError> {
     let area = Rect::new(area.x, area.y, area.width, area.height);
     buffer.resize(area)?;
     Ok(is_of(buffer, area, symbols))
 }
 
 // Whether making room changes nothing.
-fn reserves(buffer: &mut Buffer, area: Rect, symbols: &[&str]) -> Result<bool, AllocError> {
+fn reserves(buffer: &mut Buffer, area: Rect, symbols: &str) -> Result<bool, AllocError> {
     let before = *buffer.area();
     buffer.reserve(Rect::new(area.x, area.y, area.width, area.height))?;
     Ok(is_of(buffer, before, symbols))
 }
 
 // Whether a buffer that is moved has this area and its symbols.
-fn moves(buffer: &mut Buffer, to: Position, area: Rect, symbols: &[&str]) -> bool {
+fn moves(buffer: &mut Buffer, to: Position, area: Rect, symbols: &str) -> bool {
+    let size = buffer.area().as_size();
+    if size.width > u16::MAX - to.x || size.height > u16::MAX - to.y {
+        return false;
+    }
     buffer.move_to(to);
     is_of(buffer, area, symbols)
 }
@@ -62,37 +82,44 @@ fn resets(buffer: &mut Buffer) -> bool {
     buffer.content().iter().all(|cell| *cell == Cell::EMPTY)
 }
 
+// Whether a buffer of four symbols shows them in each area that it is given.
+fn shows_in_areas(buffer: &mut Buffer) -> Result<bool, AllocError> {
+    let four = "a|b|c| ";
+    Ok(
+        resizes(buffer, rect(0, 0, 3, 1), "a|b|c")?
+            && resizes(buffer, rect(5, 5, 2, 2), four)?
+            && reserves(buffer, rect(0, 0, 10, 10), four)?
+            && moves(buffer, Position { x: 1, y: 0 }, rect(1, 0, 2, 2), four)
+            && resets(buffer),
+    )
+}
+
+fn sheet_shows_in_areas(alloc: Global) -> Result<bool, Fail> {
+    let mut buffer = sheet(alloc, &["ab", "cd"])?;
+    Ok(shows_in_areas(&mut buffer)?)
+}
+
 #[test]
 fn resized(rt: HostRuntime) -> Result<(), Fail> {
-    let mut buffer = sheet(rt.alloc(), &["ab", "cd"])?;
-    assert!(rt; resizes(&mut buffer, rect(0, 0, 3, 1), &["a", "b", "c"])?);
-    assert!(rt; resizes(&mut buffer, rect(5, 5, 2, 2), &["a", "b", "c", " "])?);
-    assert!(rt; reserves(&mut buffer, rect(0, 0, 10, 10), &["a", "b", "c", " "])?);
-    let to = Position { x: 1, y: 0 };
-    assert!(rt; moves(&mut buffer, to, rect(1, 0, 2, 2), &["a", "b", "c", " "]));
-    assert!(rt; resets(&mut buffer));
+    assert!(rt; sheet_shows_in_areas(rt.alloc())?);
     Ok(())
 }
 
-// Makes room for an area in the corner of the grid, and whether a buffer then takes it, with a cell for each place.
-fn takes_reserved(buffer: &mut Buffer, width: u16, height: u16) -> Result<bool, AllocError> {
-    let area = Rect::new(0, 0, width, height);
+// Whether a buffer of four symbols takes an area for which room was made, with these.
+fn takes_reserved(buffer: &mut Buffer, area: Rect, symbols: &str) -> Result<bool, AllocError> {
+    let area = Rect::new(area.x, area.y, area.width, area.height);
     buffer.reserve(area)?;
-    let is_resized = buffer.resize(area).is_ok();
-    Ok(is_resized && *buffer.area() == area && buffer.content().len() == area.area() as usize)
+    Ok(buffer.resize(area).is_ok() && is_of(buffer, area, symbols))
 }
 
-// Whether the first cells show these symbols.
-fn begins_with(buffer: &Buffer, symbols: &[&str]) -> bool {
-    let shown = buffer.content().iter().map(|cell| cell.symbol());
-    shown.take(symbols.len()).eq(symbols.iter().copied())
+fn sheet_takes_reserved(alloc: Global, area: Rect, symbols: &str) -> Result<bool, Fail> {
+    let mut buffer = sheet(alloc, &["ab", "cd"])?;
+    Ok(takes_reserved(&mut buffer, area, symbols)?)
 }
 
 #[test]
 fn resized_within_its_room(rt: HostRuntime) -> Result<(), Fail> {
-    let mut buffer = sheet(rt.alloc(), &["ab", "cd"])?;
-    assert!(rt; takes_reserved(&mut buffer, 10, 10)?);
-    assert!(rt; begins_with(&buffer, &["a", "b", "c", "d", " "]));
+    assert!(rt; sheet_takes_reserved(rt.alloc(), rect(0, 0, 5, 1), "a|b|c|d| ")?);
     Ok(())
 }
 
@@ -127,7 +154,7 @@ fn made_of_styled_lines(rt: HostRuntime) -> Result<(), Fail> {
         colored(rt.alloc())?,
         Line::raw(rt.alloc(), "c")?,
     )?;
-    assert!(rt; is_of(&buffer, rect(0, 0, 2, 2), &["a", "b", "c", " "]));
+    assert!(rt; is_of(&buffer, rect(0, 0, 2, 2), "a|b|c| "));
     assert!(rt; has_colors(&buffer, 0, 0, Color::Red, Color::Reset));
     assert!(rt; has_colors(&buffer, 1, 0, Color::Reset, Color::Blue));
     assert!(rt; has_colors(&buffer, 0, 1, Color::Reset, Color::Reset));
@@ -142,7 +169,7 @@ fn makes(
     texts: &[&str],
     width: u16,
     height: u16,
-    symbols: &[&str],
+    symbols: &str,
 ) -> Result<bool, Fail> {
     let buffer = sheet(alloc, texts)?;
     Ok(is_of(&buffer, rect(0, 0, width, height), symbols) && buffer.is_settled())
@@ -150,10 +177,9 @@ fn makes(
 
 #[test]
 fn made_of_texts(rt: HostRuntime) -> Result<(), Fail> {
-    assert!(rt; makes(rt.alloc(), &["ab", "コ"], 2, 2, &["a", "b", "コ", " "])?);
-    let short = ["a", "b", "c", " ", " ", " ", "x", "y", " "];
-    assert!(rt; makes(rt.alloc(), &["abc", "", "x\ny"], 3, 3, &short)?);
-    assert!(rt; makes(rt.alloc(), &["\u{FF76}\u{FF9E}"], 1, 1, &[" "])?);
-    assert!(rt; makes(rt.alloc(), &[], 0, 0, &[])?);
+    assert!(rt; makes(rt.alloc(), &["ab", "コ"], 2, 2, "a|b|コ| ")?);
+    assert!(rt; makes(rt.alloc(), &["abc", "", "x\ny"], 3, 3, "a|b|c| | | |x|y| ")?);
+    assert!(rt; makes(rt.alloc(), &["\u{FF76}\u{FF9E}"], 1, 1, " ")?);
+    assert!(rt; sheet(rt.alloc(), &[])?.area().is_empty());
     Ok(())
 }

@@ -6,51 +6,44 @@ use rtui_style::Color;
 use std::alloc::{AllocError, Global};
 use std::test::Fail;
 
+// Whether one buffer merged with another has this area and these symbols.
+fn merge_is(
+    buffer: &mut Buffer,
+    other: &Buffer,
+    area: Rect,
+    symbols: &str,
+) -> Result<bool, AllocError> {
+    buffer.merge(other)?;
+    Ok(is_of(buffer, area, symbols))
+}
+
 // Whether an area of `a`, merged with one of `z`, has this area and these symbols.
 fn merges(
     alloc: Global,
     lower: Rect,
     upper: Rect,
     area: Rect,
-    symbols: &[&str],
+    symbols: &str,
 ) -> Result<bool, AllocError> {
     let mut buffer = filled(alloc, lower, Cell::new(alloc, "a")?)?;
     let other = filled(alloc, upper, Cell::new(alloc, "z")?)?;
-    buffer.merge(&other)?;
-    Ok(is_of(&buffer, area, symbols))
+    merge_is(&mut buffer, &other, area, symbols)
 }
 
 #[test]
 fn areas_apart(rt: HostRuntime) -> Result<(), Fail> {
     let (corner, right, all) = (rect(0, 0, 1, 1), rect(2, 1, 1, 1), rect(0, 0, 3, 2));
-    assert!(rt;
-        merges(
-            rt.alloc(),
-            corner,
-            right,
-            all,
-            &["a", " ", " ", " ", " ", "z"]
-        )?
-    );
-    assert!(rt;
-        merges(
-            rt.alloc(),
-            right,
-            corner,
-            all,
-            &["z", " ", " ", " ", " ", "a"]
-        )?
-    );
+    assert!(rt; merges(rt.alloc(), corner, right, all, "a| | | | |z")?);
+    assert!(rt; merges(rt.alloc(), right, corner, all, "z| | | | |a")?);
     Ok(())
 }
 
 #[test]
 fn the_upper_cell_wins(rt: HostRuntime) -> Result<(), Fail> {
     let (lower, upper, all) = (rect(1, 1, 2, 2), rect(0, 0, 2, 2), rect(0, 0, 3, 3));
-    let across = ["z", "z", " ", "z", "z", "a", " ", "a", "a"];
-    assert!(rt; merges(rt.alloc(), lower, upper, all, &across)?);
+    assert!(rt; merges(rt.alloc(), lower, upper, all, "z|z| |z|z|a| |a|a")?);
     let (row, column) = (rect(0, 0, 3, 1), rect(1, 0, 1, 1));
-    assert!(rt; merges(rt.alloc(), row, column, row, &["a", "z", "a"])?);
+    assert!(rt; merges(rt.alloc(), row, column, row, "a|z|a")?);
     Ok(())
 }
 
@@ -59,18 +52,17 @@ fn merges_onto_none(
     alloc: Global,
     upper: Rect,
     area: Rect,
-    symbols: &[&str],
+    symbols: &str,
 ) -> Result<bool, AllocError> {
-    let mut none = Buffer::default_in(alloc);
     let other = filled(alloc, upper, Cell::new(alloc, "z")?)?;
-    none.merge(&other)?;
-    Ok(is_of(&none, area, symbols))
+    let mut none = Buffer::default_in(alloc);
+    merge_is(&mut none, &other, area, symbols)
 }
 
 #[test]
 fn onto_a_buffer_without_cells(rt: HostRuntime) -> Result<(), Fail> {
-    assert!(rt; is_of(&Buffer::default_in(rt.alloc()), Rect::ZERO, &[]));
-    assert!(rt; merges_onto_none(rt.alloc(), rect(1, 0, 1, 1), rect(0, 0, 2, 1), &[" ", "z"])?);
+    assert!(rt; Buffer::default_in(rt.alloc()).area().is_empty());
+    assert!(rt; merges_onto_none(rt.alloc(), rect(1, 0, 1, 1), rect(0, 0, 2, 1), " |z")?);
     Ok(())
 }
 

@@ -9,6 +9,19 @@ use rtui_text::Line;
 use std::alloc::{AllocError, Global};
 use std::test::Fail;
 
+/// One empty row of this width.
+pub fn row(alloc: Global, width: u16) -> Result<Buffer, AllocError>
+    ensures { IfOk result (λ b. b.area ≡ record { x = 0; y = 0; width = width; height = 1 }) }
+{
+    let area = Rect {
+        x: 0,
+        y: 0,
+        width,
+        height: 1,
+    };
+    Buffer::empty(alloc, area)
+}
+
 /// The rectangle at this place, cut at the last column and row.
 pub fn rect(x: u16, y: u16, width: u16, height: u16) -> Rect {
     Rect::new(x, y, width, height)
@@ -45,19 +58,19 @@ pub fn sheet(alloc: Global, texts: &[&str]) -> Result<Buffer, Fail> {
     Ok(Buffer::from_texts(alloc, texts)?)
 }
 
-/// Whether these are the symbols, row by row.
-pub fn shows(buffer: &Buffer, symbols: &[&str]) -> bool {
+/// Whether the symbols, row by row, are those of this text, which has a `|` between two.
+pub fn shows(buffer: &Buffer, symbols: &str) -> bool {
     let shown = buffer.content().iter().map(|cell| cell.symbol());
-    shown.eq(symbols.iter().copied())
+    shown.eq(symbols.split('|'))
 }
 
 /// Whether a buffer has this area and these symbols, row by row.
-pub fn is_of(buffer: &Buffer, area: Rect, symbols: &[&str]) -> bool {
+pub fn is_of(buffer: &Buffer, area: Rect, symbols: &str) -> bool {
     *buffer.area() == area && shows(buffer, symbols)
 }
 
-/// Whether the red cells are these, row by row.
-pub fn reds_are(buffer: &Buffer, reds: &[bool]) -> bool {
+/// Whether the red cells are those with an `r` in this text, row by row.
+pub fn reds_are(buffer: &Buffer, reds: &str) -> bool {
     let red = buffer.content().iter().map(|cell| cell.fg == Color::Red);
-    red.eq(reds.iter().copied())
+    red.eq(reds.chars().map(|ch| ch == 'r'))
 }
