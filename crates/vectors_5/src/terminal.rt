@@ -58,52 +58,51 @@ pub fn shows(terminal: &Terminal<TestBackend>, text: &str) -> bool {
     cells.map(|cell| cell.symbol().chars().next()).eq(expected)
 }
 
-fn has_written(terminal: &Terminal<TestBackend>, cells: u64) -> bool {
-    terminal.backend().cells_written() == cells
+// Whether the draw of a text leaves the screen with the symbols of another, and so many cells written since the start.
+fn writes(
+    alloc: Global,
+    terminal: &mut Terminal<TestBackend>,
+    text: &str,
+    shown: &str,
+    cells: u64,
+) -> bool {
+    let area = terminal.viewport_area();
+    draw(alloc, terminal, text) == Ok(area)
+        && shows(terminal, shown)
+        && terminal.backend().cells_written() == cells
 }
 
 #[test]
 fn writes_only_differences(rt: HostRuntime) -> Result<(), Fail> {
     let mut terminal = terminal(rt.alloc(), 3, 1)?;
-    let area = Ok(Rect::new(0, 0, 3, 1));
-    assert!(rt; draw(rt.alloc(), &mut terminal, "abc") == area);
-    assert!(rt; shows(&terminal, "abc") && has_written(&terminal, 3));
-    assert!(rt; draw(rt.alloc(), &mut terminal, "axc") == area);
-    assert!(rt; shows(&terminal, "axc") && has_written(&terminal, 4));
-    assert!(rt; draw(rt.alloc(), &mut terminal, "axc") == area);
-    assert!(rt; shows(&terminal, "axc") && has_written(&terminal, 4));
-    assert!(rt; draw(rt.alloc(), &mut terminal, "") == area);
-    assert!(rt; shows(&terminal, "   ") && has_written(&terminal, 7));
+    assert!(rt; writes(rt.alloc(), &mut terminal, "abc", "abc", 3));
+    assert!(rt; writes(rt.alloc(), &mut terminal, "axc", "axc", 4));
+    assert!(rt; writes(rt.alloc(), &mut terminal, "axc", "axc", 4));
+    assert!(rt; writes(rt.alloc(), &mut terminal, "", "   ", 7));
     Ok(())
 }
 
 #[test]
 fn writes_wide_cells(rt: HostRuntime) -> Result<(), Fail> {
     let mut terminal = terminal(rt.alloc(), 4, 1)?;
-    assert!(rt; draw(rt.alloc(), &mut terminal, "コ").is_ok());
-    assert!(rt; shows(&terminal, "コ   ") && has_written(&terminal, 1));
-    assert!(rt; draw(rt.alloc(), &mut terminal, "コ ン").is_ok());
-    assert!(rt; shows(&terminal, "コ ン ") && has_written(&terminal, 2));
-    assert!(rt; draw(rt.alloc(), &mut terminal, "ab").is_ok());
-    assert!(rt; shows(&terminal, "ab  ") && has_written(&terminal, 5));
+    assert!(rt; writes(rt.alloc(), &mut terminal, "コ", "コ   ", 1));
+    assert!(rt; writes(rt.alloc(), &mut terminal, "コ ン", "コ ン ", 2));
+    assert!(rt; writes(rt.alloc(), &mut terminal, "ab", "ab  ", 5));
     Ok(())
 }
 
 #[test]
 fn draws_frames_that_are_not_settled(rt: HostRuntime) -> Result<(), Fail> {
     let mut terminal = terminal(rt.alloc(), 2, 1)?;
-    assert!(rt; draw(rt.alloc(), &mut terminal, "aコ").is_ok());
-    assert!(rt; shows(&terminal, "aコ") && has_written(&terminal, 2));
-    assert!(rt; draw(rt.alloc(), &mut terminal, "ab").is_ok());
-    assert!(rt; shows(&terminal, "ab") && has_written(&terminal, 3));
+    assert!(rt; writes(rt.alloc(), &mut terminal, "aコ", "aコ", 2));
+    assert!(rt; writes(rt.alloc(), &mut terminal, "ab", "ab", 3));
     Ok(())
 }
 
 #[test]
 fn draws_on_no_cells(rt: HostRuntime) -> Result<(), Fail> {
     let mut terminal = terminal(rt.alloc(), 0, 0)?;
-    assert!(rt; draw(rt.alloc(), &mut terminal, "abc") == Ok(Rect::ZERO));
-    assert!(rt; shows(&terminal, "") && has_written(&terminal, 0));
+    assert!(rt; writes(rt.alloc(), &mut terminal, "abc", "", 0));
     Ok(())
 }
 
@@ -114,19 +113,24 @@ fn set_always(buffer: &mut Buffer) {
     }
 }
 
-fn draws_always(terminal: &mut Terminal<TestBackend>) -> bool {
+fn has_written(terminal: &Terminal<TestBackend>, cells: u64) -> bool {
+    terminal.backend().cells_written() == cells
+}
+
+// Whether an empty frame whose first cell is drawn each time leaves so many cells written since the start.
+fn writes_always(terminal: &mut Terminal<TestBackend>, cells: u64) -> bool {
     let drawn = terminal.draw(|frame| {
         set_always(frame.buffer_mut());
         Ok(())
     });
-    drawn.is_ok()
+    drawn.is_ok() && has_written(terminal, cells)
 }
 
 #[test]
 fn writes_some_cells_each_time(rt: HostRuntime) -> Result<(), Fail> {
     let mut terminal = terminal(rt.alloc(), 2, 1)?;
-    assert!(rt; draws_always(&mut terminal) && has_written(&terminal, 1));
-    assert!(rt; draws_always(&mut terminal) && has_written(&terminal, 2));
+    assert!(rt; writes_always(&mut terminal, 1));
+    assert!(rt; writes_always(&mut terminal, 2));
     Ok(())
 }
 
