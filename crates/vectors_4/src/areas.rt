@@ -3,7 +3,7 @@ use crate::sheets::{filled, is_of, rect, sheet};
 use rtui_buffer::{Buffer, Cell};
 use rtui_geometry::{Position, Rect};
 use rtui_style::{Color, Style};
-use rtui_text::{Line, Span};
+use rtui_text::{Line, Span, Spans};
 use std::alloc::{AllocError, Global};
 use std::test::Fail;
 
@@ -125,12 +125,10 @@ fn resized_within_its_room(rt: HostRuntime) -> Result<(), Fail> {
 
 // A line of a red `a` and of a `b` on blue.
 fn colored(alloc: Global) -> Result<Line<'static>, AllocError> {
-    let mut line = Line::default_in(alloc);
-    line.spans
-        .push(Span::styled("a", Style::new().fg(Color::Red)))?;
-    line.spans
-        .push(Span::styled("b", Style::new().bg(Color::Blue)))?;
-    Ok(line)
+    let mut spans = Spans::new(alloc);
+    spans.push(Span::styled("a", Style::new().fg(Color::Red)))?;
+    spans.push(Span::styled("b", Style::new().bg(Color::Blue)))?;
+    Ok(Line::from(spans))
 }
 
 // A buffer of two lines.
@@ -175,11 +173,17 @@ fn makes(
     Ok(is_of(&buffer, rect(0, 0, width, height), symbols) && buffer.is_settled())
 }
 
+// Whether a buffer of no texts has no area.
+fn nothing_makes_no_cells(alloc: Global) -> Result<bool, Fail> {
+    let none = sheet(alloc, &[])?;
+    Ok(*none.area() == Rect::ZERO)
+}
+
 #[test]
 fn made_of_texts(rt: HostRuntime) -> Result<(), Fail> {
     assert!(rt; makes(rt.alloc(), &["ab", "コ"], 2, 2, "a|b|コ| ")?);
     assert!(rt; makes(rt.alloc(), &["abc", "", "x\ny"], 3, 3, "a|b|c| | | |x|y| ")?);
     assert!(rt; makes(rt.alloc(), &["\u{FF76}\u{FF9E}"], 1, 1, " ")?);
-    assert!(rt; sheet(rt.alloc(), &[])?.area().is_empty());
+    assert!(rt; nothing_makes_no_cells(rt.alloc())?);
     Ok(())
 }

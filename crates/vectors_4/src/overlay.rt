@@ -59,9 +59,15 @@ fn merges_onto_none(
     merge_is(&mut none, &other, area, symbols)
 }
 
+// Whether the default buffer has no area and no cells.
+fn default_is_empty(alloc: Global) -> bool {
+    let none = Buffer::default_in(alloc);
+    *none.area() == Rect::ZERO && none.content().is_empty()
+}
+
 #[test]
 fn onto_a_buffer_without_cells(rt: HostRuntime) -> Result<(), Fail> {
-    assert!(rt; Buffer::default_in(rt.alloc()).area().is_empty());
+    assert!(rt; default_is_empty(rt.alloc()));
     assert!(rt; merges_onto_none(rt.alloc(), rect(1, 0, 1, 1), rect(0, 0, 2, 1), " |z")?);
     Ok(())
 }
@@ -75,12 +81,17 @@ fn marked(alloc: Global) -> Result<Cell, AllocError> {
     Ok(cell)
 }
 
+// Whether a buffer becomes equal to another that is merged over it.
+fn becomes(buffer: &mut Buffer, other: &Buffer) -> Result<bool, AllocError> {
+    buffer.merge(other)?;
+    Ok(*buffer == *other)
+}
+
 // Whether a cell merged over another is there as it was.
 fn is_kept_over(alloc: Global, upper: Cell, lower: Cell) -> Result<bool, AllocError> {
     let mut buffer = filled(alloc, rect(0, 0, 1, 1), lower)?;
     let other = filled(alloc, rect(0, 0, 1, 1), upper)?;
-    buffer.merge(&other)?;
-    Ok(buffer == other)
+    becomes(&mut buffer, &other)
 }
 
 #[test]

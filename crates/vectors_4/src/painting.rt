@@ -6,7 +6,7 @@ use crate::sheets::{empty, rect, reds_are, row, shows};
 use rtui_buffer::{Buffer, Cell};
 use rtui_geometry::{Position, Rect};
 use rtui_style::{Color, Modifier, Style};
-use rtui_text::{Line, Span};
+use rtui_text::{Line, Span, Spans};
 use std::alloc::{AllocError, Global};
 use std::test::Fail;
 
@@ -177,9 +177,10 @@ fn line_ends_at(
 
 // A line on blue, of a plain `コ` and a red `x`.
 fn on_blue(alloc: Global) -> Result<Line<'static>, AllocError> {
-    let mut line = Line::raw(alloc, "コ")?;
-    line.spans
-        .push(Span::styled("x", Style::new().fg(Color::Red)))?;
+    let mut spans = Spans::new(alloc);
+    spans.push(Span::raw("コ"))?;
+    spans.push(Span::styled("x", Style::new().fg(Color::Red)))?;
+    let mut line = Line::from(spans);
     line.style = Style::new().bg(Color::Blue);
     Ok(line)
 }
@@ -239,12 +240,13 @@ fn a_span_behind_a_wide_grapheme_without_room(rt: HostRuntime) -> Result<(), Fai
     Ok(())
 }
 
-// Whether a span painted in the second column of two is cut there.
-fn paints_edge(buffer: &mut Buffer, span: &Span<'_>) -> Result<bool, AllocError>
+// Whether a red text, painted as a span in the second column of two, is cut there.
+fn paints_edge(buffer: &mut Buffer, text: &str) -> Result<bool, AllocError>
     requires row { HasRow buffer.old.area 0 }
     requires column { buffer.old.area.x ≡ 0 }
 {
-    let end = buffer.set_span(1, 0, span, 9)?;
+    let span = Span::styled(text, Style::new().fg(Color::Red));
+    let end = buffer.set_span(1, 0, &span, 9)?;
     Ok(
         end == (2, 0)
             && has(buffer, 0, " ", Color::Reset, Color::Reset)
@@ -254,10 +256,7 @@ fn paints_edge(buffer: &mut Buffer, span: &Span<'_>) -> Result<bool, AllocError>
 
 fn row_paints_edge(alloc: Global) -> Result<bool, AllocError> {
     let mut buffer = row(alloc, 2)?;
-    paints_edge(
-        &mut buffer,
-        &Span::styled("ab", Style::new().fg(Color::Red)),
-    )
+    paints_edge(&mut buffer, "ab")
 }
 
 #[test]
