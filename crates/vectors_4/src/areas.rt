@@ -145,19 +145,26 @@ fn has_colors(buffer: &Buffer, x: u16, y: u16, fg: Color, bg: Color) -> bool {
     cell.map(|cell| (cell.fg, cell.bg)) == Some((fg, bg))
 }
 
+// A buffer of the line above and of a plain `c`.
+fn colored_rows(alloc: Global) -> Result<Buffer, Fail> {
+    let upper = colored(alloc)?;
+    let lower = Line::raw(alloc, "c")?;
+    two_rows(alloc, upper, lower)
+}
+
+// Whether the colours of a buffer of four cells are those of the lines above.
+fn has_their_colors(buffer: &Buffer) -> bool {
+    has_colors(buffer, 0, 0, Color::Red, Color::Reset)
+        && has_colors(buffer, 1, 0, Color::Reset, Color::Blue)
+        && has_colors(buffer, 0, 1, Color::Reset, Color::Reset)
+        && has_colors(buffer, 1, 1, Color::Reset, Color::Reset)
+}
+
 #[test]
 fn made_of_styled_lines(rt: HostRuntime) -> Result<(), Fail> {
-    let buffer = two_rows(
-        rt.alloc(),
-        colored(rt.alloc())?,
-        Line::raw(rt.alloc(), "c")?,
-    )?;
+    let buffer = colored_rows(rt.alloc())?;
     assert!(rt; is_of(&buffer, rect(0, 0, 2, 2), "a|b|c| "));
-    assert!(rt; has_colors(&buffer, 0, 0, Color::Red, Color::Reset));
-    assert!(rt; has_colors(&buffer, 1, 0, Color::Reset, Color::Blue));
-    assert!(rt; has_colors(&buffer, 0, 1, Color::Reset, Color::Reset));
-    assert!(rt; has_colors(&buffer, 1, 1, Color::Reset, Color::Reset));
-    assert!(rt; buffer.is_settled());
+    assert!(rt; has_their_colors(&buffer) && buffer.is_settled());
     Ok(())
 }
 

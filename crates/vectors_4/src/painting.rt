@@ -211,32 +211,33 @@ fn styles_of_a_line(rt: HostRuntime) -> Result<(), Fail> {
     Ok(())
 }
 
-// Whether painting these spans as a line on an empty row, in at most `max` columns, ends in this column and shows
-// these symbols.
+// A line of a plain span for each piece of a text, which has a `|` between two.
+fn line_of(alloc: Global, pieces: &str) -> Result<Line<'_>, AllocError> {
+    let mut spans = Spans::new(alloc);
+    for piece in pieces.split('|') {
+        spans.push(Span::raw(piece))?;
+    }
+    Ok(Line::from(spans))
+}
+
+// Whether painting such a line on an empty row, in at most `max` columns, ends in this column and shows these symbols.
 fn paints_spans(
     alloc: Global,
-    spans: &[Span<'_>],
+    pieces: &str,
     max: u16,
     end: u16,
     symbols: &str,
 ) -> Result<bool, AllocError> {
+    let line = line_of(alloc, pieces)?;
     let mut buffer = row(alloc, 4)?;
-    let line = Line::from_slice(alloc, spans)?;
     let is_there = line_ends_at(&mut buffer, &line, max, end)?;
     Ok(is_there && shows(&buffer, symbols) && buffer.is_settled())
 }
 
 #[test]
 fn a_line_goes_on_behind_a_cut_span(rt: HostRuntime) -> Result<(), Fail> {
-    let spans = [Span::raw("a"), Span::raw("コ"), Span::raw("x")];
-    assert!(rt; paints_spans(rt.alloc(), &spans, 2, 2, "a|x| | ")?);
-    Ok(())
-}
-
-#[test]
-fn a_span_behind_a_wide_grapheme_without_room(rt: HostRuntime) -> Result<(), Fail> {
-    let spans = [Span::raw("コン"), Span::raw("x")];
-    assert!(rt; paints_spans(rt.alloc(), &spans, 3, 3, "コ| |x| ")?);
+    assert!(rt; paints_spans(rt.alloc(), "a|コ|x", 2, 2, "a|x| | ")?);
+    assert!(rt; paints_spans(rt.alloc(), "コン|x", 3, 3, "コ| |x| ")?);
     Ok(())
 }
 
