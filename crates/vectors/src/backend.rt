@@ -19,29 +19,37 @@ fn draws(backend: &mut TestBackend, items: &[(u16, u16, &Cell)]) -> bool {
     backend.draw(items.iter().copied()).is_ok()
 }
 
-// Whether the symbols of the screen, row by row, are these.
-fn shows(backend: &TestBackend, symbols: &[&str]) -> bool {
+// Whether the symbols of the screen, row by row, are those of this text, which has a `|` between two.
+fn shows(backend: &TestBackend, symbols: &str) -> bool {
     let cells = backend.buffer().content().iter();
-    cells.map(|cell| cell.symbol()).eq(symbols.iter().copied())
+    cells.map(|cell| cell.symbol()).eq(symbols.split('|'))
+}
+
+// Whether narrow and wide cells, drawn by one call, are put in order on a screen of three columns and two rows, and counted
+// also where they stand off it.
+fn puts_in_order(backend: &mut TestBackend, narrow: &Cell, wide: &Cell) -> bool {
+    let items = [
+        (0, 0, narrow),
+        (1, 0, narrow),
+        (2, 0, narrow),
+        (0, 0, wide),
+        (2, 1, wide),
+        (3, 0, narrow),
+        (0, 2, narrow),
+    ];
+    draws(backend, &items) && shows(backend, "コ| |a| | |コ") && backend.cells_written() == 7
+}
+
+fn screen_puts_in_order(alloc: Global) -> Result<bool, AllocError> {
+    let narrow = cell(alloc, "a")?;
+    let wide = cell(alloc, "コ")?;
+    let mut backend = blank(alloc, 3, 2)?;
+    Ok(puts_in_order(&mut backend, &narrow, &wide))
 }
 
 #[test]
 fn puts_cells(rt: HostRuntime) -> Result<(), Fail> {
-    let mut backend = blank(rt.alloc(), 3, 2)?;
-    let a = cell(rt.alloc(), "a")?;
-    let wide = cell(rt.alloc(), "コ")?;
-    let items = [
-        (0, 0, &a),
-        (1, 0, &a),
-        (2, 0, &a),
-        (0, 0, &wide),
-        (2, 1, &wide),
-        (3, 0, &a),
-        (0, 2, &a),
-    ];
-    assert!(rt; draws(&mut backend, &items));
-    assert!(rt; shows(&backend, &["コ", " ", "a", " ", " ", "コ"]));
-    assert!(rt; backend.cells_written() == 7);
+    assert!(rt; screen_puts_in_order(rt.alloc())?);
     Ok(())
 }
 
@@ -170,45 +178,107 @@ fn is_plain(backend: &TestBackend) -> bool {
     cells.all(|cell| cell.diff_option == CellDiffOption::None && !cell.skip)
 }
 
-#[test]
-fn keeps_no_options(rt: HostRuntime) -> Result<(), Fail> {
-    let mut backend = blank(rt.alloc(), 2, 1)?;
-    let mut cell = cell(rt.alloc(), "a")?;
+// Whether a cell with an option and the flag is put without them.
+fn puts_plain(alloc: Global, backend: &mut TestBackend) -> Result<bool, AllocError> {
+    let mut cell = cell(alloc, "a")?;
     cell.diff_option = CellDiffOption::AlwaysUpdate;
     cell.skip = true;
-    assert!(rt; draws(&mut backend, &[(1, 0, &cell)]));
-    assert!(rt; is_plain(&backend));
-    assert!(rt; shows(&backend, &[" ", "a"]));
+    Ok(draws(backend, &[(1, 0, &cell)]) && is_plain(backend) && shows(backend, " |a"))
+}
+
+fn screen_puts_plain(alloc: Global) -> Result<bool, AllocError> {
+    let mut backend = blank(alloc, 2, 1)?;
+    puts_plain(alloc, &mut backend)
+}
+
+#[test]
+fn keeps_no_options(rt: HostRuntime) -> Result<(), Fail> {
+    assert!(rt; screen_puts_plain(rt.alloc())?);
     Ok(())
+}
+
+// Whether one call draws a cell of this symbol in this column of the upper row.
+fn draws_symbol(
+    alloc: Global,
+    backend: &mut TestBackend,
+    x: u16,
+    symbol: &str,
+) -> Result<bool, AllocError> {
+    let cell = cell(alloc, symbol)?;
+    Ok(draws(backend, &[(x, 0, &cell)]))
+}
+
+// Whether the screen is a row of four columns with these symbols.
+fn is_row(alloc: Global, backend: &TestBackend, symbols: &[&str]) -> Result<bool, AllocError> {
+    let buffer = row(alloc, 4, symbols)?;
+    Ok(backend.buffer_is(&buffer))
+}
+
+// Whether the screen is a row of four columns with these symbols that starts in the second column.
+fn is_moved_row(
+    alloc: Global,
+    backend: &TestBackend,
+    symbols: &[&str],
+) -> Result<bool, AllocError> {
+    let mut buffer = row(alloc, 4, symbols)?;
+    buffer.move_to(Position { x: 1, y: 0 });
+    Ok(backend.buffer_is(&buffer))
+}
+
+// Whether a blank row equals a blank buffer, and one with a symbol just the buffer that has it too, in the same place.
+fn compares_with_buffers(alloc: Global, backend: &mut TestBackend) -> Result<bool, AllocError> {
+    Ok(
+        is_row(alloc, backend, &[])?
+            && draws_symbol(alloc, backend, 0, "h")?
+            && !is_row(alloc, backend, &[])?
+            && is_row(alloc, backend, &["h"])?
+            && !is_moved_row(alloc, backend, &["h"])?,
+    )
+}
+
+fn screen_compares_with_buffers(alloc: Global) -> Result<bool, AllocError> {
+    let mut backend = blank(alloc, 4, 1)?;
+    compares_with_buffers(alloc, &mut backend)
 }
 
 #[test]
 fn compares_its_screen_with_a_buffer(rt: HostRuntime) -> Result<(), Fail> {
-    let mut backend = blank(rt.alloc(), 4, 1)?;
-    let mut buffer = row(rt.alloc(), 4, &[])?;
-    assert!(rt; backend.buffer_is(&buffer));
-    let h = cell(rt.alloc(), "h")?;
-    assert!(rt; draws(&mut backend, &[(0, 0, &h)]));
-    assert!(rt; !backend.buffer_is(&buffer));
-    put(rt.alloc(), &mut buffer, 0, 0, &["h"])?;
-    assert!(rt; backend.buffer_is(&buffer));
-    buffer.move_to(Position { x: 1, y: 0 });
-    assert!(rt; !backend.buffer_is(&buffer));
+    assert!(rt; screen_compares_with_buffers(rt.alloc())?);
+    Ok(())
+}
+
+// Whether the screen of these symbols in the upper of two rows of four columns shows the lines of a text, which has a `|`
+// between two.
+fn shows_lines(alloc: Global, first: &str, second: &str, lines: &str) -> Result<bool, AllocError> {
+    let lines = lines.split('|').collect::<Vec<_>>(alloc)?;
+    let mut backend = blank(alloc, 4, 2)?;
+    let is_drawn = draws_both(alloc, &mut backend, first, second)?;
+    Ok(is_drawn && backend.lines_are(lines.as_slice()))
+}
+
+fn draws_both(
+    alloc: Global,
+    backend: &mut TestBackend,
+    first: &str,
+    second: &str,
+) -> Result<bool, AllocError> {
+    Ok(draws_symbol(alloc, backend, 0, first)? && draws_symbol(alloc, backend, 1, second)?)
+}
+
+#[test]
+fn shows_its_lines(rt: HostRuntime) -> Result<(), Fail> {
+    assert!(rt; shows_lines(rt.alloc(), "h", "i", "hi  |    ")?);
+    assert!(rt; shows_lines(rt.alloc(), "h", "i", "hi|    ")?);
     Ok(())
 }
 
 #[test]
-fn compares_its_screen_with_lines(rt: HostRuntime) -> Result<(), Fail> {
-    let mut backend = blank(rt.alloc(), 4, 2)?;
-    let (h, i) = (cell(rt.alloc(), "h")?, cell(rt.alloc(), "i")?);
-    assert!(rt; draws(&mut backend, &[(0, 0, &h), (1, 0, &i)]));
-    assert!(rt; backend.lines_are(&["hi  ", "    "]));
-    assert!(rt; backend.lines_are(&["hi", "    "]));
-    assert!(rt; !backend.lines_are(&["hi  ", "   ."]));
-    assert!(rt; !backend.lines_are(&["    ", "hi  "]));
-    assert!(rt; !backend.lines_are(&["h\u{7}  ", "    "]));
-    assert!(rt; !backend.lines_are(&["hi  "]));
-    assert!(rt; !backend.lines_are(&["hi   ", "    "]));
+fn shows_no_other_lines(rt: HostRuntime) -> Result<(), Fail> {
+    assert!(rt; !shows_lines(rt.alloc(), "h", "i", "hi  |   .")?);
+    assert!(rt; !shows_lines(rt.alloc(), "h", "i", "    |hi  ")?);
+    assert!(rt; !shows_lines(rt.alloc(), "h", "i", "h\u{7}  |    ")?);
+    assert!(rt; !shows_lines(rt.alloc(), "h", "i", "hi  ")?);
+    assert!(rt; !shows_lines(rt.alloc(), "h", "i", "hi   |    ")?);
     Ok(())
 }
 

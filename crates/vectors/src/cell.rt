@@ -269,6 +269,23 @@ fn cells_of_other_modifiers_and_options_differ(rt: HostRuntime) {
     assert!(rt; !differs_from_empty(&Cell::EMPTY));
 }
 
+// Whether cells with this option, one with the flag and one without, differ, and each equals one like it.
+fn flag_tells_apart(diff_option: CellDiffOption) -> bool {
+    let mut flagged = Cell::EMPTY;
+    flagged.diff_option = diff_option;
+    flagged.skip = true;
+    let mut plain = Cell::EMPTY;
+    plain.diff_option = diff_option;
+    flagged != plain && flagged == flagged && plain == plain
+}
+
+#[test]
+fn cells_of_other_flags_differ(rt: HostRuntime) {
+    assert!(rt; flag_tells_apart(CellDiffOption::None));
+    assert!(rt; flag_tells_apart(CellDiffOption::AlwaysUpdate));
+    assert!(rt; flag_tells_apart(CellDiffOption::ForcedWidth(NonZeroU16::MIN)));
+}
+
 // Whether a cell has these colours and this modifier after a style is laid over it.
 fn has_under(cell: &mut Cell, style: Style, fg: Color, bg: Color, modifier: Modifier) -> bool {
     cell.set_style(style);
@@ -284,6 +301,19 @@ fn styles(rt: HostRuntime) -> Result<(), Fail> {
     let style = Style::new().remove_modifier(Modifier::BOLD);
     assert!(rt; has_under(&mut cell, style, Color::Green, Color::Blue, Modifier::NONE));
     Ok(())
+}
+
+#[test]
+fn a_modifier_that_is_added_and_taken_away(rt: HostRuntime) {
+    let mut cell = Cell::EMPTY;
+    let style = Style {
+        fg: None,
+        bg: None,
+        underline_color: None,
+        add_modifier: Modifier::BOLD,
+        sub_modifier: Modifier::BOLD,
+    };
+    assert!(rt; has_under(&mut cell, style, Color::Reset, Color::Reset, Modifier::NONE));
 }
 
 // Whether a cell has this underline colour after a style is laid over it.

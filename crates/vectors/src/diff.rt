@@ -6,7 +6,7 @@ ghost use Rattle.rtui_buffer.specs.Frame.{IsAligned};
 use crate::sheets::{put, row};
 use rtui_buffer::{Buffer, Cell, CellDiffOption};
 use rtui_geometry::{Position, Rect};
-use rtui_style::Color;
+use rtui_style::{Color, Modifier};
 use std::alloc::{AllocError, Global};
 use std::num::NonZeroU16;
 use std::test::Fail;
@@ -25,7 +25,39 @@ fn gives(
     Ok(given.eq(expected.iter().copied()))
 }
 
+// Whether the iterator of the updates gives these, one after another.
+fn iterates(prev: &Buffer, next: &Buffer, expected: &[(u16, u16, &str)]) -> bool
+    requires { IsAligned prev.now next.now }
+{
+    let given = prev
+        .diff_iter(next)
+        .map(|(x, y, cell)| (x, y, cell.symbol()));
+    given.eq(expected.iter().copied())
+}
+
 // The same for two rows of this width.
+fn rows_iterate(
+    alloc: Global,
+    width: u16,
+    prev: &[&str],
+    next: &[&str],
+    expected: &[(u16, u16, &str)],
+) -> Result<bool, AllocError> {
+    let prev = row(alloc, width, prev)?;
+    let next = row(alloc, width, next)?;
+    Ok(iterates(&prev, &next, expected))
+}
+
+#[test]
+fn one_after_another(rt: HostRuntime) -> Result<(), Fail> {
+    let alloc = rt.alloc();
+    let shifted = [(0, 0, "a"), (1, 0, "コ"), (3, 0, "b")];
+    assert!(rt; rows_iterate(alloc, 4, &["コ", "ン"], &["a", "コ", "b"], &shifted)?);
+    assert!(rt; rows_iterate(alloc, 3, &["コ", "a"], &["コ", "a"], &[])?);
+    Ok(())
+}
+
+// Whether the updates between two rows of this width are these.
 fn rows_give(
     alloc: Global,
     width: u16,
@@ -97,6 +129,41 @@ fn styled_wide_cells(rt: HostRuntime) -> Result<(), Fail> {
     Ok(())
 }
 
+#[test]
+fn a_visited_wide_cell_reaches_past_its_range(rt: HostRuntime) -> Result<(), Fail> {
+    let alloc = rt.alloc();
+    let both = [(0, 0, "a"), (1, 0, "コ")];
+    assert!(rt; styled_row_gives(alloc, 3, &["コ", "x"], Color::Red, &["a", "コ"], &both)?);
+    Ok(())
+}
+
+// Whether the updates from a wide cell with this modifier to a narrow one are these.
+fn modified_gives(
+    alloc: Global,
+    modifier: Modifier,
+    expected: &[(u16, u16, &str)],
+) -> Result<bool, AllocError> {
+    let mut prev = row(alloc, 2, &["コ"])?;
+    if let Some(cell) = prev.cell_mut(Position::ORIGIN) {
+        cell.modifier = modifier;
+    }
+    let next = row(alloc, 2, &["a"])?;
+    gives(alloc, &prev, &next, expected)
+}
+
+#[test]
+fn modifiers_that_show_on_a_blank(rt: HostRuntime) -> Result<(), Fail> {
+    let alloc = rt.alloc();
+    let both = [(0, 0, "a"), (1, 0, " ")];
+    assert!(rt; modified_gives(alloc, Modifier::REVERSED, &both)?);
+    assert!(rt; modified_gives(alloc, Modifier::UNDERLINED, &both)?);
+    assert!(rt; modified_gives(alloc, Modifier::SLOW_BLINK, &both)?);
+    assert!(rt; modified_gives(alloc, Modifier::RAPID_BLINK, &both)?);
+    assert!(rt; modified_gives(alloc, Modifier::CROSSED_OUT, &both)?);
+    assert!(rt; modified_gives(alloc, Modifier::BOLD, &[(0, 0, "a")])?);
+    Ok(())
+}
+
 fn set_option(buffer: &mut Buffer, x: u16, diff_option: CellDiffOption)
     ensures { buffer.new.area ≡ buffer.old.area }
 {
@@ -144,35 +211,54 @@ fn options(rt: HostRuntime) -> Result<(), Fail> {
     Ok(())
 }
 
+// Whether the updates from a row to one with an option in a column are these.
+fn row_with_gives(
+    alloc: Global,
+    prev: &[&str],
+    next: &[&str],
+    x: u16,
+    diff_option: CellDiffOption,
+    expected: &[(u16, u16, &str)],
+) -> Result<bool, AllocError> {
+    let prev = row(alloc, 2, prev)?;
+    let next = row_with(alloc, 2, next, x, diff_option)?;
+    gives(alloc, &prev, &next, expected)
+}
+
 #[test]
 fn forced_widths(rt: HostRuntime) -> Result<(), Fail> {
-    let alloc = rt.alloc();
     let Some(two) = NonZeroU16::new(2) else {
         return Err(Fail::new("two is zero"));
     };
-    let prev = row(alloc, 2, &["b", "c"])?;
-    let next = row_with(alloc, 2, &["a"], 0, CellDiffOption::ForcedWidth(two))?;
-    assert!(rt; gives(alloc, &prev, &next, &[(0, 0, "a")])?);
+    let forced = CellDiffOption::ForcedWidth(two);
+    assert!(rt; row_with_gives(rt.alloc(), &["b", "c"], &["a"], 0, forced, &[(0, 0, "a")])?);
     Ok(())
 }
 
 #[test]
 fn a_column_that_is_skipped_behind_a_wide_cell(rt: HostRuntime) -> Result<(), Fail> {
-    let alloc = rt.alloc();
-    let prev = row(alloc, 2, &["a", "b"])?;
-    let next = row_with(alloc, 2, &[KEYBOARD], 1, CellDiffOption::Skip)?;
-    assert!(rt; gives(alloc, &prev, &next, &[(0, 0, KEYBOARD)])?);
+    let skip = CellDiffOption::Skip;
+    let wide = [(0, 0, KEYBOARD)];
+    assert!(rt; row_with_gives(rt.alloc(), &["a", "b"], &[KEYBOARD], 1, skip, &wide)?);
     Ok(())
+}
+
+// Whether nothing is given from a row of a wide symbol to one that has another one behind it, with an option.
+fn covered_gives_nothing(
+    alloc: Global,
+    wide: &str,
+    behind: &str,
+    diff_option: CellDiffOption,
+) -> Result<bool, AllocError> {
+    let prev = row(alloc, 2, &[wide])?;
+    let mut next = row_with(alloc, 2, &[wide], 1, diff_option)?;
+    put(alloc, &mut next, 1, 0, &[behind])?;
+    gives(alloc, &prev, &next, &[])
 }
 
 #[test]
 fn a_symbol_that_is_skipped_behind_a_wide_cell(rt: HostRuntime) -> Result<(), Fail> {
-    let alloc = rt.alloc();
-    let prev = row(alloc, 2, &["コ"])?;
-    let mut next = row(alloc, 2, &["コ"])?;
-    put(alloc, &mut next, 1, 0, &["y"])?;
-    set_option(&mut next, 1, CellDiffOption::Skip);
-    assert!(rt; gives(alloc, &prev, &next, &[])?);
+    assert!(rt; covered_gives_nothing(rt.alloc(), "コ", "y", CellDiffOption::Skip)?);
     Ok(())
 }
 
@@ -217,60 +303,65 @@ fn whole_buffers(rt: HostRuntime) -> Result<(), Fail> {
     Ok(())
 }
 
-#[test]
-fn common_rows(rt: HostRuntime) -> Result<(), Fail> {
-    let alloc = rt.alloc();
-    let column = Rect {
-        x: 0,
-        y: 0,
-        width: 1,
-        height: 2,
-    };
-    let mut prev = sheet(alloc, column, 0, 0, &["a"])?;
+// Whether of a buffer of two rows and one of a single row the first rows are compared alone.
+fn compares_common_rows(alloc: Global) -> Result<bool, AllocError> {
+    let mut prev = sheet(alloc, Rect::new(0, 0, 1, 2), 0, 0, &["a"])?;
     put(alloc, &mut prev, 0, 1, &["b"])?;
     let next = row(alloc, 1, &["x"])?;
-    assert!(rt; gives(alloc, &prev, &next, &[(0, 0, "x")])?);
+    gives(alloc, &prev, &next, &[(0, 0, "x")])
+}
+
+#[test]
+fn common_rows(rt: HostRuntime) -> Result<(), Fail> {
+    assert!(rt; compares_common_rows(rt.alloc())?);
     Ok(())
+}
+
+// Whether a symbol off the corner of the grid is given where it stands.
+fn gives_off_the_corner(alloc: Global) -> Result<bool, AllocError> {
+    let area = Rect::new(3, 4, 2, 1);
+    let prev = sheet(alloc, area, 3, 4, &[])?;
+    let next = sheet(alloc, area, 4, 4, &["z"])?;
+    gives(alloc, &prev, &next, &[(4, 4, "z")])
 }
 
 #[test]
 fn rows_off_the_corner(rt: HostRuntime) -> Result<(), Fail> {
-    let alloc = rt.alloc();
-    let area = Rect {
-        x: 3,
-        y: 4,
-        width: 2,
-        height: 1,
-    };
-    let prev = sheet(alloc, area, 3, 4, &[])?;
-    let next = sheet(alloc, area, 4, 4, &["z"])?;
-    assert!(rt; gives(alloc, &prev, &next, &[(4, 4, "z")])?);
+    assert!(rt; gives_off_the_corner(rt.alloc())?);
     Ok(())
+}
+
+// Whether a row of this width with a wide symbol that has an option is settled.
+fn wide_is_settled(
+    alloc: Global,
+    width: u16,
+    diff_option: CellDiffOption,
+) -> Result<bool, AllocError> {
+    let wide = row_with(alloc, width, &["コ"], 0, diff_option)?;
+    Ok(wide.is_settled())
+}
+
+// Whether a row is settled where a symbol stands behind a wide one, and these options are theirs.
+fn covered_is_settled(
+    alloc: Global,
+    wide: CellDiffOption,
+    behind: CellDiffOption,
+) -> Result<bool, AllocError> {
+    let mut row = row_with(alloc, 2, &["コ"], 0, wide)?;
+    put(alloc, &mut row, 1, 0, &["x"])?;
+    set_option(&mut row, 1, behind);
+    Ok(row.is_settled())
 }
 
 #[test]
 fn settled(rt: HostRuntime) -> Result<(), Fail> {
-    let alloc = rt.alloc();
-    let wide = row(alloc, 2, &["コ"])?;
-    assert!(rt; wide.is_settled());
-    let mut covered = row(alloc, 2, &["コ"])?;
-    put(alloc, &mut covered, 1, 0, &["x"])?;
-    assert!(rt; !covered.is_settled());
-    set_option(&mut covered, 1, CellDiffOption::Skip);
-    assert!(rt; covered.is_settled());
-    let cut = row(alloc, 1, &["コ"])?;
-    assert!(rt; !cut.is_settled());
-    Ok(())
-}
-
-#[test]
-fn settled_by_an_option(rt: HostRuntime) -> Result<(), Fail> {
-    let alloc = rt.alloc();
-    let skipped = row_with(alloc, 2, &["コ"], 0, CellDiffOption::Skip)?;
-    assert!(rt; !skipped.is_settled());
+    let (none, skip) = (CellDiffOption::None, CellDiffOption::Skip);
     let one_wide = CellDiffOption::ForcedWidth(NonZeroU16::MIN);
-    let mut forced = row_with(alloc, 2, &["コ"], 0, one_wide)?;
-    put(alloc, &mut forced, 1, 0, &["x"])?;
-    assert!(rt; forced.is_settled());
+    assert!(rt; wide_is_settled(rt.alloc(), 2, none)?);
+    assert!(rt; !wide_is_settled(rt.alloc(), 1, none)?);
+    assert!(rt; !wide_is_settled(rt.alloc(), 2, skip)?);
+    assert!(rt; !covered_is_settled(rt.alloc(), none, none)?);
+    assert!(rt; covered_is_settled(rt.alloc(), none, skip)?);
+    assert!(rt; covered_is_settled(rt.alloc(), one_wide, none)?);
     Ok(())
 }

@@ -1,8 +1,10 @@
-//! Tests of styles, colours, palettes and symbol tables: worked values, printed text, and each call once.
+//! Tests of styles, colours, palettes, symbol tables and border merging: worked values, printed text, and each call once.
 #![tactic(auto)]
 
 #[cfg(test)]
 mod color;
+#[cfg(test)]
+mod merge;
 #[cfg(test)]
 mod palette;
 #[cfg(test)]

@@ -4,7 +4,7 @@ use rtui_style::{Color, Modifier, Style};
 use std::process::Abort;
 
 /// Every modifier with its bit.
-const MODIFIERS: [(Modifier, u16); 9] = [
+pub(crate) static MODIFIERS: [(Modifier, u16); 9] = [
     (Modifier::BOLD, 1),
     (Modifier::DIM, 2),
     (Modifier::ITALIC, 4),
@@ -140,78 +140,138 @@ fn setters_change_their_part(rt: HostRuntime) {
     );
 }
 
-/// Whether these styles set the colour in front and behind.
-fn set_color(text: Style, behind: Style, color: Color) -> bool {
-    text == Style::new().fg(color) && behind == Style::new().bg(color)
+/// The colours that have names of their own.
+pub(crate) static COLORS: [Color; 16] = [
+    Color::Black,
+    Color::Red,
+    Color::Green,
+    Color::Yellow,
+    Color::Blue,
+    Color::Magenta,
+    Color::Cyan,
+    Color::Gray,
+    Color::DarkGray,
+    Color::LightRed,
+    Color::LightGreen,
+    Color::LightYellow,
+    Color::LightBlue,
+    Color::LightMagenta,
+    Color::LightCyan,
+    Color::White,
+];
+
+/// The call of the colour's name.
+fn colored(style: Style, color: Color) -> Style {
+    match color {
+        Color::Black => style.black(),
+        Color::Red => style.red(),
+        Color::Green => style.green(),
+        Color::Yellow => style.yellow(),
+        Color::Blue => style.blue(),
+        Color::Magenta => style.magenta(),
+        Color::Cyan => style.cyan(),
+        Color::Gray => style.gray(),
+        Color::DarkGray => style.dark_gray(),
+        Color::LightRed => style.light_red(),
+        Color::LightGreen => style.light_green(),
+        Color::LightYellow => style.light_yellow(),
+        Color::LightBlue => style.light_blue(),
+        Color::LightMagenta => style.light_magenta(),
+        Color::LightCyan => style.light_cyan(),
+        Color::White => style.white(),
+        _ => style.fg(color),
+    }
+}
+
+/// The call of the colour's name for what is behind the text.
+fn colored_behind(style: Style, color: Color) -> Style {
+    match color {
+        Color::Black => style.on_black(),
+        Color::Red => style.on_red(),
+        Color::Green => style.on_green(),
+        Color::Yellow => style.on_yellow(),
+        Color::Blue => style.on_blue(),
+        Color::Magenta => style.on_magenta(),
+        Color::Cyan => style.on_cyan(),
+        Color::Gray => style.on_gray(),
+        Color::DarkGray => style.on_dark_gray(),
+        Color::LightRed => style.on_light_red(),
+        Color::LightGreen => style.on_light_green(),
+        Color::LightYellow => style.on_light_yellow(),
+        Color::LightBlue => style.on_light_blue(),
+        Color::LightMagenta => style.on_light_magenta(),
+        Color::LightCyan => style.on_light_cyan(),
+        Color::White => style.on_white(),
+        _ => style.bg(color),
+    }
+}
+
+/// The call of the name of the modifier with this bit.
+fn modified(style: Style, bit: u16) -> Style {
+    match bit {
+        1 => style.bold(),
+        2 => style.dim(),
+        4 => style.italic(),
+        8 => style.underlined(),
+        16 => style.slow_blink(),
+        32 => style.rapid_blink(),
+        64 => style.reversed(),
+        128 => style.hidden(),
+        256 => style.crossed_out(),
+        _ => style,
+    }
+}
+
+/// The call that takes away the modifier with this bit.
+fn unmodified(style: Style, bit: u16) -> Style {
+    match bit {
+        1 => style.not_bold(),
+        2 => style.not_dim(),
+        4 => style.not_italic(),
+        8 => style.not_underlined(),
+        16 => style.not_slow_blink(),
+        32 => style.not_rapid_blink(),
+        64 => style.not_reversed(),
+        128 => style.not_hidden(),
+        256 => style.not_crossed_out(),
+        _ => style,
+    }
+}
+
+/// Whether the calls of the colour's name set it, in front and behind.
+fn set_color(color: Color) -> bool {
+    colored(Style::new(), color) == Style::new().fg(color)
+        && colored_behind(Style::new(), color) == Style::new().bg(color)
+}
+
+/// Asserts that the calls of these colours' names set them.
+fn all_set_color(rt: &impl Abort, colors: &[Color]) {
+    for color in colors {
+        assert!(rt; set_color(*color));
+    }
 }
 
 #[test]
-fn dark_colors(rt: HostRuntime) {
-    let new = Style::new();
-    assert!(rt; set_color(new.black(), new.on_black(), Color::Black));
-    assert!(rt; set_color(new.red(), new.on_red(), Color::Red));
-    assert!(rt; set_color(new.green(), new.on_green(), Color::Green));
-    assert!(rt; set_color(new.yellow(), new.on_yellow(), Color::Yellow));
-    assert!(rt; set_color(new.blue(), new.on_blue(), Color::Blue));
-    assert!(rt; set_color(new.magenta(), new.on_magenta(), Color::Magenta));
-    assert!(rt; set_color(new.cyan(), new.on_cyan(), Color::Cyan));
-    assert!(rt; set_color(new.gray(), new.on_gray(), Color::Gray));
+fn colors(rt: HostRuntime) {
+    all_set_color(&rt, &COLORS);
 }
 
-#[test]
-fn light_colors(rt: HostRuntime) {
-    let new = Style::new();
-    assert!(rt; set_color(new.dark_gray(), new.on_dark_gray(), Color::DarkGray));
-    assert!(rt; set_color(new.light_red(), new.on_light_red(), Color::LightRed));
-    assert!(rt; set_color(new.light_green(), new.on_light_green(), Color::LightGreen));
-    assert!(rt;
-        set_color(
-            new.light_yellow(),
-            new.on_light_yellow(),
-            Color::LightYellow
-        )
-    );
-    assert!(rt; set_color(new.light_blue(), new.on_light_blue(), Color::LightBlue));
-    assert!(rt;
-        set_color(
-            new.light_magenta(),
-            new.on_light_magenta(),
-            Color::LightMagenta
-        )
-    );
-    assert!(rt; set_color(new.light_cyan(), new.on_light_cyan(), Color::LightCyan));
-    assert!(rt; set_color(new.white(), new.on_white(), Color::White));
+/// Whether the calls of a modifier's name add it and take it away.
+fn set_modifier(modifier: Modifier, bit: u16) -> bool {
+    modified(Style::new(), bit) == Style::new().add_modifier(modifier)
+        && unmodified(Style::new(), bit) == Style::new().remove_modifier(modifier)
 }
 
-/// Whether these styles add the modifier and take it away.
-fn set_modifier(added: Style, taken: Style, modifier: Modifier) -> bool {
-    added == Style::new().add_modifier(modifier) && taken == Style::new().remove_modifier(modifier)
+/// Asserts that the calls of these modifiers' names set them.
+fn all_set_modifier(rt: &impl Abort, modifiers: &[(Modifier, u16)]) {
+    for (modifier, bit) in modifiers {
+        assert!(rt; set_modifier(*modifier, *bit));
+    }
 }
 
 #[test]
 fn modifiers(rt: HostRuntime) {
-    let new = Style::new();
-    assert!(rt; set_modifier(new.bold(), new.not_bold(), Modifier::BOLD));
-    assert!(rt; set_modifier(new.dim(), new.not_dim(), Modifier::DIM));
-    assert!(rt; set_modifier(new.italic(), new.not_italic(), Modifier::ITALIC));
-    assert!(rt; set_modifier(new.underlined(), new.not_underlined(), Modifier::UNDERLINED));
-    assert!(rt; set_modifier(new.slow_blink(), new.not_slow_blink(), Modifier::SLOW_BLINK));
-    assert!(rt;
-        set_modifier(
-            new.rapid_blink(),
-            new.not_rapid_blink(),
-            Modifier::RAPID_BLINK
-        )
-    );
-    assert!(rt; set_modifier(new.reversed(), new.not_reversed(), Modifier::REVERSED));
-    assert!(rt; set_modifier(new.hidden(), new.not_hidden(), Modifier::HIDDEN));
-    assert!(rt;
-        set_modifier(
-            new.crossed_out(),
-            new.not_crossed_out(),
-            Modifier::CROSSED_OUT
-        )
-    );
+    all_set_modifier(&rt, &MODIFIERS);
 }
 
 /// A style to patch.

@@ -1,8 +1,10 @@
 //! Styles by name, on a type of the tests.
 ghost use Rattle.rtui_style.specs.declared.Style.{Style};
 
+use crate::style::{COLORS, MODIFIERS};
 use rtui_style::{Color, Modifier, Style};
 use rtui_stylize::{Styled, Stylize};
+use std::process::Abort;
 
 /// A number with a style.
 #[derive(Debug, Clone, Copy, PartialEq, Eq)]
@@ -47,86 +49,153 @@ fn is_six(dice: Dice, style: Style) -> bool {
     dice == six(style)
 }
 
-#[test]
-fn foregrounds(rt: HostRuntime) {
-    assert!(rt; is_six(six(mixed()).black(), mixed().black()));
-    assert!(rt; is_six(six(mixed()).red(), mixed().red()));
-    assert!(rt; is_six(six(mixed()).green(), mixed().green()));
-    assert!(rt; is_six(six(mixed()).yellow(), mixed().yellow()));
-    assert!(rt; is_six(six(mixed()).blue(), mixed().blue()));
-    assert!(rt; is_six(six(mixed()).magenta(), mixed().magenta()));
-    assert!(rt; is_six(six(mixed()).cyan(), mixed().cyan()));
-    assert!(rt; is_six(six(mixed()).gray(), mixed().gray()));
-    assert!(rt; is_six(six(mixed()).dark_gray(), mixed().dark_gray()));
-    assert!(rt; is_six(six(mixed()).light_red(), mixed().light_red()));
-    assert!(rt; is_six(six(mixed()).light_green(), mixed().light_green()));
-    assert!(rt; is_six(six(mixed()).light_yellow(), mixed().light_yellow()));
-    assert!(rt; is_six(six(mixed()).light_blue(), mixed().light_blue()));
-    assert!(rt; is_six(six(mixed()).light_magenta(), mixed().light_magenta()));
-    assert!(rt; is_six(six(mixed()).light_cyan(), mixed().light_cyan()));
-    assert!(rt; is_six(six(mixed()).white(), mixed().white()));
+/// The call of the colour's name.
+fn colored(dice: Dice, color: Color) -> Dice {
+    match color {
+        Color::Black => dice.black(),
+        Color::Red => dice.red(),
+        Color::Green => dice.green(),
+        Color::Yellow => dice.yellow(),
+        Color::Blue => dice.blue(),
+        Color::Magenta => dice.magenta(),
+        Color::Cyan => dice.cyan(),
+        Color::Gray => dice.gray(),
+        Color::DarkGray => dice.dark_gray(),
+        Color::LightRed => dice.light_red(),
+        Color::LightGreen => dice.light_green(),
+        Color::LightYellow => dice.light_yellow(),
+        Color::LightBlue => dice.light_blue(),
+        Color::LightMagenta => dice.light_magenta(),
+        Color::LightCyan => dice.light_cyan(),
+        Color::White => dice.white(),
+        _ => dice.fg(color),
+    }
+}
+
+/// The call of the colour's name for what is behind the text.
+fn colored_behind(dice: Dice, color: Color) -> Dice {
+    match color {
+        Color::Black => dice.on_black(),
+        Color::Red => dice.on_red(),
+        Color::Green => dice.on_green(),
+        Color::Yellow => dice.on_yellow(),
+        Color::Blue => dice.on_blue(),
+        Color::Magenta => dice.on_magenta(),
+        Color::Cyan => dice.on_cyan(),
+        Color::Gray => dice.on_gray(),
+        Color::DarkGray => dice.on_dark_gray(),
+        Color::LightRed => dice.on_light_red(),
+        Color::LightGreen => dice.on_light_green(),
+        Color::LightYellow => dice.on_light_yellow(),
+        Color::LightBlue => dice.on_light_blue(),
+        Color::LightMagenta => dice.on_light_magenta(),
+        Color::LightCyan => dice.on_light_cyan(),
+        Color::White => dice.on_white(),
+        _ => dice.bg(color),
+    }
+}
+
+/// The call of the name of the modifier with this bit.
+fn modified(dice: Dice, bit: u16) -> Dice {
+    match bit {
+        1 => dice.bold(),
+        2 => dice.dim(),
+        4 => dice.italic(),
+        8 => dice.underlined(),
+        16 => dice.slow_blink(),
+        32 => dice.rapid_blink(),
+        64 => dice.reversed(),
+        128 => dice.hidden(),
+        256 => dice.crossed_out(),
+        _ => dice,
+    }
+}
+
+/// The call that takes away the modifier with this bit.
+fn unmodified(dice: Dice, bit: u16) -> Dice {
+    match bit {
+        1 => dice.not_bold(),
+        2 => dice.not_dim(),
+        4 => dice.not_italic(),
+        8 => dice.not_underlined(),
+        16 => dice.not_slow_blink(),
+        32 => dice.not_rapid_blink(),
+        64 => dice.not_reversed(),
+        128 => dice.not_hidden(),
+        256 => dice.not_crossed_out(),
+        _ => dice,
+    }
+}
+
+/// Whether the calls of the colour's name set it on a dice, in front and behind, and nothing else.
+fn set_color(color: Color) -> bool {
+    is_six(colored(six(mixed()), color), mixed().fg(color))
+        && is_six(colored_behind(six(mixed()), color), mixed().bg(color))
+}
+
+/// Asserts that the calls of these colours' names set them.
+fn all_set_color(rt: &impl Abort, colors: &[Color]) {
+    for color in colors {
+        assert!(rt; set_color(*color));
+    }
 }
 
 #[test]
-fn backgrounds(rt: HostRuntime) {
-    assert!(rt; is_six(six(mixed()).on_black(), mixed().on_black()));
-    assert!(rt; is_six(six(mixed()).on_red(), mixed().on_red()));
-    assert!(rt; is_six(six(mixed()).on_green(), mixed().on_green()));
-    assert!(rt; is_six(six(mixed()).on_yellow(), mixed().on_yellow()));
-    assert!(rt; is_six(six(mixed()).on_blue(), mixed().on_blue()));
-    assert!(rt; is_six(six(mixed()).on_magenta(), mixed().on_magenta()));
-    assert!(rt; is_six(six(mixed()).on_cyan(), mixed().on_cyan()));
-    assert!(rt; is_six(six(mixed()).on_gray(), mixed().on_gray()));
-    assert!(rt; is_six(six(mixed()).on_dark_gray(), mixed().on_dark_gray()));
-    assert!(rt; is_six(six(mixed()).on_light_red(), mixed().on_light_red()));
-    assert!(rt; is_six(six(mixed()).on_light_green(), mixed().on_light_green()));
-    assert!(rt; is_six(six(mixed()).on_light_yellow(), mixed().on_light_yellow()));
-    assert!(rt; is_six(six(mixed()).on_light_blue(), mixed().on_light_blue()));
-    assert!(rt; is_six(six(mixed()).on_light_magenta(), mixed().on_light_magenta()));
-    assert!(rt; is_six(six(mixed()).on_light_cyan(), mixed().on_light_cyan()));
-    assert!(rt; is_six(six(mixed()).on_white(), mixed().on_white()));
+fn colors(rt: HostRuntime) {
+    all_set_color(&rt, &COLORS);
+}
+
+/// Whether the calls of a modifier's name add it to a dice and take it away, and change nothing else.
+fn set_modifier(modifier: Modifier, bit: u16) -> bool {
+    is_six(modified(six(mixed()), bit), mixed().add_modifier(modifier))
+        && is_six(
+            unmodified(six(mixed()), bit),
+            mixed().remove_modifier(modifier),
+        )
+}
+
+/// Asserts that the calls of these modifiers' names set them.
+fn all_set_modifier(rt: &impl Abort, modifiers: &[(Modifier, u16)]) {
+    for (modifier, bit) in modifiers {
+        assert!(rt; set_modifier(*modifier, *bit));
+    }
 }
 
 #[test]
 fn modifiers(rt: HostRuntime) {
-    assert!(rt; is_six(six(mixed()).bold(), mixed().bold()));
-    assert!(rt; is_six(six(mixed()).dim(), mixed().dim()));
-    assert!(rt; is_six(six(mixed()).italic(), mixed().italic()));
-    assert!(rt; is_six(six(mixed()).underlined(), mixed().underlined()));
-    assert!(rt; is_six(six(mixed()).slow_blink(), mixed().slow_blink()));
-    assert!(rt; is_six(six(mixed()).rapid_blink(), mixed().rapid_blink()));
-    assert!(rt; is_six(six(mixed()).reversed(), mixed().reversed()));
-    assert!(rt; is_six(six(mixed()).hidden(), mixed().hidden()));
-    assert!(rt; is_six(six(mixed()).crossed_out(), mixed().crossed_out()));
+    all_set_modifier(&rt, &MODIFIERS);
 }
 
-#[test]
-fn modifiers_taken(rt: HostRuntime) {
-    assert!(rt; is_six(six(mixed()).not_bold(), mixed().not_bold()));
-    assert!(rt; is_six(six(mixed()).not_dim(), mixed().not_dim()));
-    assert!(rt; is_six(six(mixed()).not_italic(), mixed().not_italic()));
-    assert!(rt; is_six(six(mixed()).not_underlined(), mixed().not_underlined()));
-    assert!(rt; is_six(six(mixed()).not_slow_blink(), mixed().not_slow_blink()));
-    assert!(rt; is_six(six(mixed()).not_rapid_blink(), mixed().not_rapid_blink()));
-    assert!(rt; is_six(six(mixed()).not_reversed(), mixed().not_reversed()));
-    assert!(rt; is_six(six(mixed()).not_hidden(), mixed().not_hidden()));
-    assert!(rt; is_six(six(mixed()).not_crossed_out(), mixed().not_crossed_out()));
+/// Whether each call that takes a value sets it on a dice.
+fn set_values(dice: Dice, style: Style, color: Color, modifier: Modifier) -> bool {
+    is_six(dice.fg(color), style.fg(color))
+        && is_six(dice.bg(color), style.bg(color))
+        && is_six(dice.add_modifier(modifier), style.add_modifier(modifier))
+        && is_six(
+            dice.remove_modifier(modifier),
+            style.remove_modifier(modifier),
+        )
+}
+
+/// Whether a dice has a style, another one once it is set, and none once it is reset.
+fn keeps(dice: Dice, style: Style, other: Style) -> bool {
+    dice.style() == style
+        && is_six(dice.set_style(other), other)
+        && is_six(dice.reset(), Style::reset())
+}
+
+/// Whether calls in a row set one thing after another.
+fn set_in_turn(dice: Dice, style: Style) -> bool {
+    is_six(
+        dice.green().on_white().italic(),
+        style.green().on_white().italic(),
+    )
 }
 
 #[test]
 fn setters(rt: HostRuntime) {
-    let dice = six(mixed());
-    assert_eq!(rt; dice.style(), mixed());
-    assert!(rt; is_six(dice.set_style(Style::new()), Style::new()));
-    assert!(rt; is_six(dice.fg(Color::Indexed(1)), mixed().fg(Color::Indexed(1))));
-    assert!(rt; is_six(dice.bg(Color::Indexed(1)), mixed().bg(Color::Indexed(1))));
-    assert!(rt; is_six(dice.add_modifier(Modifier::DIM), mixed().dim()));
-    assert!(rt; is_six(dice.remove_modifier(Modifier::BOLD), mixed().not_bold()));
-    assert!(rt; is_six(dice.reset(), Style::reset()));
-    assert!(rt;
-        is_six(
-            dice.green().on_white().italic(),
-            mixed().green().on_white().italic()
-        )
-    );
+    assert!(rt; set_values(six(mixed()), mixed(), Color::Indexed(1), Modifier::DIM));
+    assert!(rt; set_values(six(mixed()), mixed(), Color::Reset, Modifier::BOLD));
+    assert!(rt; keeps(six(mixed()), mixed(), Style::new()));
+    assert!(rt; set_in_turn(six(mixed()), mixed()));
 }

@@ -1,5 +1,16 @@
-//! Tests of spans and lines: the lines of a text, widths in columns, styles, equality and hash, and copies.
+//! Tests of terminals and scripts: worked values, printed text, each call that takes memory once, and each backend call
+//! failing in turn.
 #![tactic(auto)]
 
 #[cfg(test)]
-mod text;
+mod calls;
+#[cfg(test)]
+mod compared;
+#[cfg(test)]
+mod failing;
+#[cfg(test)]
+mod playing;
+#[cfg(test)]
+mod script;
+#[cfg(test)]
+mod terminal;

@@ -2,6 +2,7 @@
 use screenplay::{RunFault, run};
 use std::alloc::{AllocError, Global};
 use std::io::{self, Read};
+use std::process::Abort;
 use std::test::Fail;
 
 // Whether a script runs, and prints this.
@@ -19,12 +20,28 @@ fn prints_what_it_shows(rt: HostRuntime) {
     assert!(rt; prints(rt.alloc(), off_the_screen, "|   \n| b \n"));
     let twice = "screen 4 1\nput 0 0 ┌\nput 3 0 ┐\ndraw\nshow\nshow";
     assert!(rt; prints(rt.alloc(), twice, "|┌  ┐\n|┌  ┐\n"));
+}
+
+#[test]
+fn prints_blanks(rt: HostRuntime) {
     let blank = "screen 1 1\nput 0 0  \ndraw\nshow";
     assert!(rt; prints(rt.alloc(), blank, "| \n"));
     assert!(rt; prints(rt.alloc(), "screen 2 1\r\nshow\r\n", "|  \n"));
-    assert!(rt; prints(rt.alloc(), "screen 65535 1\nput 65535 65535 a\ndraw", ""));
-    assert!(rt; prints(rt.alloc(), "", ""));
-    assert!(rt; prints(rt.alloc(), "\n\n", ""));
+}
+
+/// Scripts that print nothing.
+static SILENT: [&str; 3] = ["screen 65535 1\nput 65535 65535 a\ndraw", "", "\n\n"];
+
+// Asserts that each of these scripts runs and prints nothing.
+fn all_are_silent(rt: &impl Abort, alloc: Global, scripts: &[&str]) {
+    for script in scripts {
+        assert!(rt; prints(alloc, script, ""), "{script}");
+    }
+}
+
+#[test]
+fn prints_nothing_unasked(rt: HostRuntime) {
+    all_are_silent(&rt, rt.alloc(), &SILENT);
 }
 
 fn reads_as(alloc: Global, fault: RunFault, text: &str) -> Result<bool, AllocError> {
@@ -41,39 +58,49 @@ fn fails(alloc: Global, script: &str, text: &str) -> Result<bool, AllocError> {
     }
 }
 
+/// Scripts whose first bad line is the first one.
+static BAD_FIRST_LINES: [&str; 7] = [
+    "draw",
+    "screen 3 0\ndraw",
+    "screen 65536 1",
+    "screen +3 1",
+    "screen 3  1",
+    "screen 3 1 ",
+    "screen 3",
+];
+
+/// Scripts whose first bad line is the second one.
+static BAD_SECOND_LINES: [&str; 10] = [
+    "screen 3 1\nput 0 0 あ\ndraw",
+    "screen 3 1\nput 0 0 あ",
+    "screen 3 1\nscreen 3 1",
+    "screen 3 1\ndraw ",
+    "screen 3 1\nDraw",
+    "screen 3 1\nclear",
+    "screen 3 1\nput 0 0",
+    "screen 3 1\nput 0 0 ab",
+    "screen 3 1\nput 0 0 \t",
+    "screen 3 1\nput 0 -1 a",
+];
+
+// Asserts that the run of each of these scripts fails with this text.
+fn all_fail(
+    rt: &impl Abort,
+    alloc: Global,
+    scripts: &[&str],
+    text: &str,
+) -> Result<(), AllocError> {
+    for script in scripts {
+        assert!(rt; fails(alloc, script, text)?, "{script}");
+    }
+    Ok(())
+}
+
 #[test]
 fn names_the_first_bad_line(rt: HostRuntime) -> Result<(), Fail> {
-    let alloc = rt.alloc();
-    assert!(rt; fails(alloc, "screen 3 1\nput 0 0 あ\ndraw", "line 2: bad command")?);
-    assert!(rt; fails(alloc, "screen 3 1\nput 0 0 あ", "line 2: bad command")?);
-    assert!(rt; fails(alloc, "draw", "line 1: bad command")?);
-    assert!(rt; fails(alloc, "\n\nshow", "line 3: bad command")?);
-    assert!(rt; fails(alloc, "screen 3 1\nscreen 3 1", "line 2: bad command")?);
-    assert!(rt; fails(alloc, "screen 3 1\ndraw ", "line 2: bad command")?);
-    assert!(rt; fails(alloc, "screen 3 1\nDraw", "line 2: bad command")?);
-    assert!(rt; fails(alloc, "screen 3 1\nclear", "line 2: bad command")?);
-    Ok(())
-}
-
-#[test]
-fn names_a_bad_stage(rt: HostRuntime) -> Result<(), Fail> {
-    let alloc = rt.alloc();
-    assert!(rt; fails(alloc, "screen 3 0\ndraw", "line 1: bad command")?);
-    assert!(rt; fails(alloc, "screen 65536 1", "line 1: bad command")?);
-    assert!(rt; fails(alloc, "screen +3 1", "line 1: bad command")?);
-    assert!(rt; fails(alloc, "screen 3  1", "line 1: bad command")?);
-    assert!(rt; fails(alloc, "screen 3 1 ", "line 1: bad command")?);
-    assert!(rt; fails(alloc, "screen 3", "line 1: bad command")?);
-    Ok(())
-}
-
-#[test]
-fn names_a_bad_put(rt: HostRuntime) -> Result<(), Fail> {
-    let alloc = rt.alloc();
-    assert!(rt; fails(alloc, "screen 3 1\nput 0 0", "line 2: bad command")?);
-    assert!(rt; fails(alloc, "screen 3 1\nput 0 0 ab", "line 2: bad command")?);
-    assert!(rt; fails(alloc, "screen 3 1\nput 0 0 \t", "line 2: bad command")?);
-    assert!(rt; fails(alloc, "screen 3 1\nput 0 -1 a", "line 2: bad command")?);
+    all_fail(&rt, rt.alloc(), &BAD_FIRST_LINES, "line 1: bad command")?;
+    all_fail(&rt, rt.alloc(), &BAD_SECOND_LINES, "line 2: bad command")?;
+    assert!(rt; fails(rt.alloc(), "\n\nshow", "line 3: bad command")?);
     Ok(())
 }
 
@@ -134,6 +161,29 @@ impl io::Write for Holding {
     }
 }
 
+// A writer that takes all, and fails to flush it.
+#[derive(Drop)]
+struct Unflushed;
+
+impl io::Write for Unflushed {
+    fn write(&mut self, buf: &[u8]) -> io::Result<usize> {
+        Ok(buf.len())
+    }
+
+    fn flush(&mut self) -> io::Result<()> {
+        Err(io::Error::from(io::ErrorKind::NotFound))
+    }
+}
+
+// Whether the run of a script fails at its flush.
+fn fails_to_flush(alloc: Global, script: &str) -> bool {
+    let mut reader = script.as_bytes();
+    match run(alloc, &mut reader, &mut Unflushed) {
+        Err(RunFault::Write) => true,
+        _ => false,
+    }
+}
+
 // Whether the run of a script leaves nothing that awaits a flush.
 fn flushes(alloc: Global, script: &str) -> bool {
     let mut reader = script.as_bytes();
@@ -144,6 +194,11 @@ fn flushes(alloc: Global, script: &str) -> bool {
 #[test]
 fn flushes_what_it_prints(rt: HostRuntime) {
     assert!(rt; flushes(rt.alloc(), "screen 3 1\nshow"));
+}
+
+#[test]
+fn says_nothing_of_a_failed_flush(rt: HostRuntime) {
+    assert!(rt; fails_to_flush(rt.alloc(), "screen 3 1\nshow"));
 }
 
 #[test]

@@ -1,5 +1,5 @@
 //! The cells of a buffer by position, and equal buffers.
-use crate::sheets::sheet;
+use crate::sheets::{empty, rect, reds_are, sheet};
 use rtui_buffer::Buffer;
 use rtui_geometry::{Position, Rect};
 use rtui_style::{Color, Modifier};
@@ -49,37 +49,41 @@ fn writes(buffer: &mut Buffer, x: u16, y: u16) -> bool {
         && cell.modifier == Modifier::BOLD
 }
 
-// Whether the red cells are these, row by row.
-fn reds_are(buffer: &Buffer, reds: &[bool]) -> bool {
-    let red = buffer.content().iter().map(|cell| cell.fg == Color::Red);
-    red.eq(reds.iter().copied())
+// Whether what is written at two places of a buffer is at these places alone.
+fn writes_two(buffer: &mut Buffer) -> bool {
+    writes(buffer, 2, 2)
+        && reds_are(buffer, ".r..")
+        && writes(buffer, 1, 3)
+        && reds_are(buffer, ".rr.")
+}
+
+fn sheet_writes_two(alloc: Global, area: Rect) -> Result<bool, AllocError> {
+    let mut buffer = empty(alloc, area)?;
+    Ok(writes_two(&mut buffer))
 }
 
 #[test]
 fn writes_cells(rt: HostRuntime) -> Result<(), Fail> {
-    let mut buffer = Buffer::empty(rt.alloc(), Rect::new(1, 2, 2, 2))?;
-    assert!(rt; writes(&mut buffer, 2, 2));
-    assert!(rt; reds_are(&buffer, &[false, true, false, false]));
-    assert!(rt; writes(&mut buffer, 1, 3));
-    assert!(rt; reds_are(&buffer, &[false, true, true, false]));
+    assert!(rt; sheet_writes_two(rt.alloc(), rect(1, 2, 2, 2))?);
     Ok(())
 }
 
-// Whether there is no cell at this place.
-fn is_outside(buffer: &mut Buffer, x: u16, y: u16) -> bool {
+// Whether there is no cell at this place of a buffer with this area.
+fn is_outside(alloc: Global, area: Rect, x: u16, y: u16) -> Result<bool, AllocError> {
+    let mut buffer = empty(alloc, area)?;
     let position = Position { x, y };
-    buffer.cell(position).is_none() && buffer.cell_mut(position).is_none()
+    Ok(buffer.cell(position).is_none() && buffer.cell_mut(position).is_none())
 }
 
 #[test]
 fn outside_is_no_cell(rt: HostRuntime) -> Result<(), Fail> {
-    let mut buffer = Buffer::empty(rt.alloc(), Rect::new(1, 2, 2, 2))?;
-    assert!(rt; !is_outside(&mut buffer, 1, 2));
-    assert!(rt; !is_outside(&mut buffer, 2, 3));
-    assert!(rt; is_outside(&mut buffer, 0, 2));
-    assert!(rt; is_outside(&mut buffer, 1, 1));
-    assert!(rt; is_outside(&mut buffer, 3, 2));
-    assert!(rt; is_outside(&mut buffer, 1, 4));
+    let area = rect(1, 2, 2, 2);
+    assert!(rt; !is_outside(rt.alloc(), area, 1, 2)?);
+    assert!(rt; !is_outside(rt.alloc(), area, 2, 3)?);
+    assert!(rt; is_outside(rt.alloc(), area, 0, 2)?);
+    assert!(rt; is_outside(rt.alloc(), area, 1, 1)?);
+    assert!(rt; is_outside(rt.alloc(), area, 3, 2)?);
+    assert!(rt; is_outside(rt.alloc(), area, 1, 4)?);
     Ok(())
 }
 
@@ -91,25 +95,32 @@ fn are_alike(one: &Buffer, other: &Buffer) -> bool {
     one == other && hash_of(one) == hash_of(other)
 }
 
+// Whether buffers of these texts are equal, and their hashes.
+fn make_alike(alloc: Global, one: &[&str], other: &[&str]) -> Result<bool, Fail> {
+    let one = sheet(alloc, one)?;
+    let other = sheet(alloc, other)?;
+    Ok(are_alike(&one, &other))
+}
+
 #[test]
 fn equal_buffers_have_equal_hashes(rt: HostRuntime) -> Result<(), Fail> {
-    let one = sheet(rt.alloc(), &["ab", "cd"])?;
-    assert!(rt; are_alike(&one, &sheet(rt.alloc(), &["ab", "cd"])?));
-    assert!(rt; one != sheet(rt.alloc(), &["ab", "ce"])?);
+    assert!(rt; make_alike(rt.alloc(), &["ab", "cd"], &["ab", "cd"])?);
+    assert!(rt; !make_alike(rt.alloc(), &["ab", "cd"], &["ab", "ce"])?);
     Ok(())
 }
 
-// Whether empty buffers of one cell at these columns and rows are equal.
-fn are_equal_at(alloc: Global, one: [u16; 2], other: [u16; 2]) -> Result<bool, AllocError> {
-    let one = Buffer::empty(alloc, Rect::new(one[0], one[1], 1, 1))?;
-    let other = Buffer::empty(alloc, Rect::new(other[0], other[1], 1, 1))?;
+// Whether empty buffers of these areas are equal.
+fn are_equal_at(alloc: Global, one: Rect, other: Rect) -> Result<bool, AllocError> {
+    let one = empty(alloc, one)?;
+    let other = empty(alloc, other)?;
     Ok(one == other)
 }
 
 #[test]
 fn buffers_at_other_corners_differ(rt: HostRuntime) -> Result<(), Fail> {
-    assert!(rt; are_equal_at(rt.alloc(), [1, 2], [1, 2])?);
-    assert!(rt; !are_equal_at(rt.alloc(), [1, 2], [0, 2])?);
-    assert!(rt; !are_equal_at(rt.alloc(), [1, 2], [1, 3])?);
+    let area = rect(1, 2, 1, 1);
+    assert!(rt; are_equal_at(rt.alloc(), area, area)?);
+    assert!(rt; !are_equal_at(rt.alloc(), area, rect(0, 2, 1, 1))?);
+    assert!(rt; !are_equal_at(rt.alloc(), area, rect(1, 3, 1, 1))?);
     Ok(())
 }

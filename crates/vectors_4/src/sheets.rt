@@ -2,8 +2,9 @@
 ghost use Rattle.std.specs.Prelude.{◌≡◌, ◌≤◌, IfOk};
 ghost use Rattle.rtui_buffer.specs.Line.{widest, raw_lines};
 
-use rtui_buffer::Buffer;
+use rtui_buffer::{Buffer, Cell};
 use rtui_geometry::Rect;
+use rtui_style::Color;
 use rtui_text::Line;
 use std::alloc::{AllocError, Global};
 use std::test::Fail;
@@ -19,6 +20,23 @@ pub fn row(alloc: Global, width: u16) -> Result<Buffer, AllocError>
         height: 1,
     };
     Buffer::empty(alloc, area)
+}
+
+/// The rectangle at this place, cut at the last column and row.
+pub fn rect(x: u16, y: u16, width: u16, height: u16) -> Rect {
+    Rect::new(x, y, width, height)
+}
+
+/// An empty buffer.
+pub fn empty(alloc: Global, area: Rect) -> Result<Buffer, AllocError> {
+    let area = Rect::new(area.x, area.y, area.width, area.height);
+    Buffer::empty(alloc, area)
+}
+
+/// A buffer filled with a cell.
+pub fn filled(alloc: Global, area: Rect, cell: Cell) -> Result<Buffer, AllocError> {
+    let area = Rect::new(area.x, area.y, area.width, area.height);
+    Buffer::filled(alloc, area, cell)
 }
 
 /// The width of the widest of these texts.
@@ -40,8 +58,19 @@ pub fn sheet(alloc: Global, texts: &[&str]) -> Result<Buffer, Fail> {
     Ok(Buffer::from_texts(alloc, texts)?)
 }
 
-/// Whether these are the symbols, row by row.
-pub fn shows(buffer: &Buffer, symbols: &[&str]) -> bool {
+/// Whether the symbols, row by row, are those of this text, which has a `|` between two.
+pub fn shows(buffer: &Buffer, symbols: &str) -> bool {
     let shown = buffer.content().iter().map(|cell| cell.symbol());
-    shown.eq(symbols.iter().copied())
+    shown.eq(symbols.split('|'))
+}
+
+/// Whether a buffer has this area and these symbols, row by row.
+pub fn is_of(buffer: &Buffer, area: Rect, symbols: &str) -> bool {
+    *buffer.area() == area && shows(buffer, symbols)
+}
+
+/// Whether the red cells are those with an `r` in this text, row by row.
+pub fn reds_are(buffer: &Buffer, reds: &str) -> bool {
+    let red = buffer.content().iter().map(|cell| cell.fg == Color::Red);
+    red.eq(reds.chars().map(|ch| ch == 'r'))
 }

@@ -13,13 +13,19 @@ fn screen(alloc: Global, lines: &[&str]) -> Result<TestBackend, Fail> {
     Ok(TestBackend::with_lines(alloc, lines)?)
 }
 
+// Whether a screen is like a new one, with its cursor visible in the corner and nothing written.
+fn is_new(screen: &TestBackend) -> bool {
+    screen.cursor_visible()
+        && screen.cursor_position() == Position::ORIGIN
+        && screen.cells_written() == 0
+}
+
 #[test]
 fn made_of_lines(rt: HostRuntime) -> Result<(), Fail> {
     let screen = screen(rt.alloc(), &["コx", "a"])?;
-    assert!(rt; screen.buffer_is(&sheet(rt.alloc(), &["コx", "a"])?));
-    assert!(rt; screen.cursor_visible());
-    assert_eq!(rt; screen.cursor_position(), Position::ORIGIN);
-    assert_eq!(rt; screen.cells_written(), 0);
+    let buffer = sheet(rt.alloc(), &["コx", "a"])?;
+    assert!(rt; screen.buffer_is(&buffer));
+    assert!(rt; is_new(&screen));
     Ok(())
 }
 

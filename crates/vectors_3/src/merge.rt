@@ -1,3 +1,4 @@
+//! Border merging: worked pairs, every pair of border symbols, and the table of their arms.
 use rtui_merge::MergeStrategy;
 use std::test::Fail;
 

@@ -2,6 +2,7 @@
 use rtui_geometry::Rect;
 use screenplay::{PlayCause, PlayFault, Puts, Scene, Stage, Step, play};
 use std::alloc::{AllocError, Global};
+use std::slice;
 use std::test::Fail;
 
 // Plays one draw of one put on a stage of two columns and one row.
@@ -16,7 +17,8 @@ fn play_put(
         width: 2,
         height: 1,
     };
-    Ok(play(alloc, stage, &[Step::Draw { puts }]))
+    let step = Step::Draw { puts };
+    Ok(play(alloc, stage, slice::from_ref(&step)))
 }
 
 // Whether a scene has these symbols, row by row, a viewport over its whole screen, and no history.

@@ -5,7 +5,7 @@ ghost use Rattle.rtui_cell.specs.Look.{empty_look};
 use crate::terminal::terminal;
 use rtui_backend::{AsCell, Backend, TestBackend, TestError, WindowSize};
 use rtui_geometry::{Position, Rect, Size};
-use rtui_terminal::{Terminal, TerminalError};
+use rtui_terminal::{CompletedFrame, Terminal, TerminalError};
 use std::alloc::{AllocError, Global};
 use std::hash::{DefaultHasher, Hash, Hasher};
 use std::test::Fail;
@@ -75,21 +75,40 @@ impl Backend for CursorOnly<'_> {
     }
 }
 
+// A terminal over a cursor.
+fn over_cursor(alloc: Global, visible: &mut bool) -> Result<Terminal<CursorOnly<'_>>, Fail> {
+    let backend = CursorOnly {
+        visible,
+        failures: 0,
+    };
+    match Terminal::new(alloc, backend) {
+        Ok(terminal) => Ok(terminal),
+        Err(_) => Err(Fail::from(AllocError)),
+    }
+}
+
+// Makes a terminal over a cursor, hides it where that is asked for, and drops the terminal.
+fn drops(alloc: Global, visible: &mut bool, hides: bool) -> Result<(), Fail> {
+    let mut terminal = over_cursor(alloc, visible)?;
+    if hides && (terminal.hide_cursor().is_err() || *terminal.backend().visible) {
+        return Err(Fail::new("the cursor isn't hidden"));
+    }
+    Ok(())
+}
+
 #[test]
 fn shows_a_hidden_cursor_when_dropped(rt: HostRuntime) -> Result<(), Fail> {
     let mut visible = true;
-    let backend = CursorOnly {
-        visible: &mut visible,
-        failures: 0,
-    };
-    match Terminal::new(rt.alloc(), backend) {
-        Ok(mut terminal) => {
-            assert!(rt; terminal.hide_cursor().is_ok());
-            assert!(rt; !*terminal.backend().visible);
-        }
-        Err(_) => assert!(rt; false),
-    }
+    drops(rt.alloc(), &mut visible, true)?;
     assert!(rt; visible);
+    Ok(())
+}
+
+#[test]
+fn leaves_a_cursor_that_it_did_not_hide_when_dropped(rt: HostRuntime) -> Result<(), Fail> {
+    let mut visible = false;
+    drops(rt.alloc(), &mut visible, false)?;
+    assert!(rt; !visible);
     Ok(())
 }
 
@@ -209,11 +228,22 @@ fn are_alike(one: &Terminal<TestBackend>, other: &Terminal<TestBackend>) -> bool
     one == other && hash_of(one) == hash_of(other)
 }
 
+// Whether an empty frame, drawn on a terminal, equals one that was drawn, and their hashes.
+fn draws_like(
+    terminal: &mut Terminal<TestBackend>,
+    drawn: &CompletedFrame<'_, TestBackend>,
+) -> bool {
+    match terminal.draw(|_| Ok(())) {
+        Ok(again) => again == *drawn && hash_of(&again) == hash_of(drawn),
+        Err(_) => false,
+    }
+}
+
 // Whether two empty frames, drawn on two terminals, are equal, and their hashes.
 fn draw_alike(one: &mut Terminal<TestBackend>, other: &mut Terminal<TestBackend>) -> bool {
-    match (one.draw(|_| Ok(())), other.draw(|_| Ok(()))) {
-        (Ok(drawn), Ok(again)) => drawn == again && hash_of(&drawn) == hash_of(&again),
-        _ => false,
+    match one.draw(|_| Ok(())) {
+        Ok(drawn) => draws_like(other, &drawn),
+        Err(_) => false,
     }
 }
 

@@ -1,6 +1,6 @@
 //! Frames drawn on a screen in memory.
 use rtui_backend::{TestBackend, TestError};
-use rtui_buffer::Buffer;
+use rtui_buffer::{Buffer, CellDiffOption};
 use rtui_geometry::{Position, Rect};
 use rtui_terminal::{Terminal, TerminalError};
 use std::alloc::{AllocError, Global};
@@ -43,8 +43,10 @@ pub fn draw(
     Ok(completed.area)
 }
 
-// Draws an empty frame; the answer is how many were drawn before.
-fn draw_nothing(terminal: &mut Terminal<TestBackend>) -> Result<usize, TerminalError<TestError>> {
+/// Draws an empty frame; the answer is how many were drawn before.
+pub fn draw_nothing(
+    terminal: &mut Terminal<TestBackend>,
+) -> Result<usize, TerminalError<TestError>> {
     let completed = terminal.draw(|_| Ok(()))?;
     Ok(completed.count)
 }
@@ -56,22 +58,79 @@ pub fn shows(terminal: &Terminal<TestBackend>, text: &str) -> bool {
     cells.map(|cell| cell.symbol().chars().next()).eq(expected)
 }
 
-fn has_written(terminal: &Terminal<TestBackend>, cells: u64) -> bool {
-    terminal.backend().cells_written() == cells
+// Whether the draw of a text leaves the screen with the symbols of another, and so many cells written since the start.
+fn writes(
+    alloc: Global,
+    terminal: &mut Terminal<TestBackend>,
+    text: &str,
+    shown: &str,
+    cells: u64,
+) -> bool {
+    let area = terminal.viewport_area();
+    draw(alloc, terminal, text) == Ok(area)
+        && shows(terminal, shown)
+        && terminal.backend().cells_written() == cells
 }
 
 #[test]
 fn writes_only_differences(rt: HostRuntime) -> Result<(), Fail> {
     let mut terminal = terminal(rt.alloc(), 3, 1)?;
-    let area = Ok(Rect::new(0, 0, 3, 1));
-    assert!(rt; draw(rt.alloc(), &mut terminal, "abc") == area);
-    assert!(rt; shows(&terminal, "abc") && has_written(&terminal, 3));
-    assert!(rt; draw(rt.alloc(), &mut terminal, "axc") == area);
-    assert!(rt; shows(&terminal, "axc") && has_written(&terminal, 4));
-    assert!(rt; draw(rt.alloc(), &mut terminal, "axc") == area);
-    assert!(rt; shows(&terminal, "axc") && has_written(&terminal, 4));
-    assert!(rt; draw(rt.alloc(), &mut terminal, "") == area);
-    assert!(rt; shows(&terminal, "   ") && has_written(&terminal, 7));
+    assert!(rt; writes(rt.alloc(), &mut terminal, "abc", "abc", 3));
+    assert!(rt; writes(rt.alloc(), &mut terminal, "axc", "axc", 4));
+    assert!(rt; writes(rt.alloc(), &mut terminal, "axc", "axc", 4));
+    assert!(rt; writes(rt.alloc(), &mut terminal, "", "   ", 7));
+    Ok(())
+}
+
+#[test]
+fn writes_wide_cells(rt: HostRuntime) -> Result<(), Fail> {
+    let mut terminal = terminal(rt.alloc(), 4, 1)?;
+    assert!(rt; writes(rt.alloc(), &mut terminal, "コ", "コ   ", 1));
+    assert!(rt; writes(rt.alloc(), &mut terminal, "コ ン", "コ ン ", 2));
+    assert!(rt; writes(rt.alloc(), &mut terminal, "ab", "ab  ", 5));
+    Ok(())
+}
+
+#[test]
+fn draws_frames_that_are_not_settled(rt: HostRuntime) -> Result<(), Fail> {
+    let mut terminal = terminal(rt.alloc(), 2, 1)?;
+    assert!(rt; writes(rt.alloc(), &mut terminal, "aコ", "aコ", 2));
+    assert!(rt; writes(rt.alloc(), &mut terminal, "ab", "ab", 3));
+    Ok(())
+}
+
+#[test]
+fn draws_on_no_cells(rt: HostRuntime) -> Result<(), Fail> {
+    let mut terminal = terminal(rt.alloc(), 0, 0)?;
+    assert!(rt; writes(rt.alloc(), &mut terminal, "abc", "", 0));
+    Ok(())
+}
+
+// Has the first cell of a buffer drawn each time.
+fn set_always(buffer: &mut Buffer) {
+    if let Some(cell) = buffer.cell_mut(Position::ORIGIN) {
+        cell.diff_option = CellDiffOption::AlwaysUpdate;
+    }
+}
+
+fn has_written(terminal: &Terminal<TestBackend>, cells: u64) -> bool {
+    terminal.backend().cells_written() == cells
+}
+
+// Whether an empty frame whose first cell is drawn each time leaves so many cells written since the start.
+fn writes_always(terminal: &mut Terminal<TestBackend>, cells: u64) -> bool {
+    let drawn = terminal.draw(|frame| {
+        set_always(frame.buffer_mut());
+        Ok(())
+    });
+    drawn.is_ok() && has_written(terminal, cells)
+}
+
+#[test]
+fn writes_some_cells_each_time(rt: HostRuntime) -> Result<(), Fail> {
+    let mut terminal = terminal(rt.alloc(), 2, 1)?;
+    assert!(rt; writes_always(&mut terminal, 1));
+    assert!(rt; writes_always(&mut terminal, 2));
     Ok(())
 }
 
@@ -130,25 +189,6 @@ fn counts_frames(rt: HostRuntime) -> Result<(), Fail> {
     Ok(())
 }
 
-// Whether a draw fails as told, where so many calls of the backend answer as usual before one fails.
-fn fails_after(alloc: Global, calls: u64) -> Result<bool, Fail> {
-    let mut terminal = terminal(alloc, 3, 1)?;
-    terminal.backend_mut().fail_after(calls);
-    let drawn = draw(alloc, &mut terminal, "abc");
-    Ok(drawn == Err(TerminalError::Backend(TestError::Told)))
-}
-
-#[test]
-fn answers_each_failing_call(rt: HostRuntime) -> Result<(), Fail> {
-    for calls in 0..3 {
-        assert!(rt; fails_after(rt.alloc(), calls)?, "{calls}");
-    }
-    let mut terminal = terminal(rt.alloc(), 3, 1)?;
-    terminal.backend_mut().fail_after(3);
-    assert!(rt; draw_nothing(&mut terminal).is_ok());
-    Ok(())
-}
-
 // Whether a frame is refused whose buffer the closure gives this size.
 fn refuses_size(terminal: &mut Terminal<TestBackend>, width: u16, height: u16) -> bool {
     let area = Rect::new(0, 0, width, height);
@@ -166,6 +206,8 @@ fn refuses_a_frame_of_another_area(rt: HostRuntime) -> Result<(), Fail> {
     assert!(rt; refuses_size(&mut terminal, 4, 1));
     assert!(rt; shows(&terminal, "abc"));
     assert!(rt; draw_nothing(&mut terminal) == Err(TerminalError::Area));
+    terminal.current_buffer_mut().resize(Rect::new(0, 0, 3, 1))?;
+    assert!(rt; draw_nothing(&mut terminal) == Ok(1));
     Ok(())
 }
 
@@ -198,10 +240,20 @@ fn prints(alloc: Global, error: TerminalError<TestError>, text: &str) -> Result<
 
 #[test]
 fn prints_its_errors(rt: HostRuntime) -> Result<(), Fail> {
-    let backend = TerminalError::Backend(TestError::Told);
-    assert!(rt; prints(rt.alloc(), backend, "backend: told")?);
-    let closure = TerminalError::Closure(TestError::Memory);
-    assert!(rt; prints(rt.alloc(), closure, "closure: no memory")?);
+    assert!(rt;
+        prints(
+            rt.alloc(),
+            TerminalError::Backend(TestError::Told),
+            "backend: told"
+        )?
+    );
+    assert!(rt;
+        prints(
+            rt.alloc(),
+            TerminalError::Closure(TestError::Memory),
+            "closure: no memory"
+        )?
+    );
     assert!(rt; prints(rt.alloc(), TerminalError::Memory, "no memory")?);
     assert!(rt; prints(rt.alloc(), TerminalError::Area, "buffer area")?);
     Ok(())
