@@ -66,7 +66,8 @@ impl<'a> SpanGraphemes<'a> {
     }
 }
 
-fn has_control(text: &str) -> bool
+/// Whether a control character stands in a text.
+pub fn has_control(text: &str) -> bool
     ensures { result ≡ has_control text.now }
 {
     text.chars().any(|c| c.is_control())

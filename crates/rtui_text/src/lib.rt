@@ -15,7 +15,7 @@ mod spans;
 mod text;
 
 pub use columns::text_columns;
-pub use grapheme::{LineGraphemes, SpanGraphemes, StyledGrapheme};
+pub use grapheme::{LineGraphemes, SpanGraphemes, StyledGrapheme, has_control};
 pub use line::Line;
 pub use lines::Lines;
 pub use masked::Masked;

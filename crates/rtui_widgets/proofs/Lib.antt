@@ -1,0 +1,5 @@
+pub mod ColumnLemmas
+pub mod SpanLemmas
+pub mod EmptyLemmas
+pub mod LineLemmas
+pub mod StyleLemmas

@@ -1,0 +1,6 @@
+pub mod Span
+pub mod Line
+pub mod Rendering
+pub mod Steps
+pub mod IsPart
+pub mod Rows

@@ -1,0 +1,5 @@
+//! Texts on a buffer.
+#![tactic(auto)]
+
+mod line;
+mod span;
