@@ -3,3 +3,5 @@ pub mod SpanLemmas
 pub mod EmptyLemmas
 pub mod LineLemmas
 pub mod StyleLemmas
+pub mod RowLemmas
+pub mod SheetLemmas

@@ -1,18 +1,19 @@
 -- How lines are rendered.
 use Rattle.std.proofs.Common.{◌≡◌, ◌≢◌, ℕ, suc, zero, ◌+◌, ◌-◌, ◌<◌, ◌≤◌, Bool, true, false, cond, min, List, [], ◌∷◌, ◌++◌, length, get_or, set, take, drop, map, sum_by, refl, sym, ap, ◌∙◌, ◌⊎◌, ⊎_elim, arith, rules, append_assoc, take-add, take-append-drop}
-use Rattle.std.specs.Prelude.{nat_le}
+use Rattle.std.specs.Prelude.{nat_le, Option, ◌==◌}
+use Rattle.rtui_layout.specs.declared.alignment.HorizontalAlignment.{HorizontalAlignment}
 use Rattle.std.proofs.lemmas.Bool.Decides.{nat_tests}
 use Rattle.std.proofs.lemmas.Grind.{common_steps}
 use Rattle.std.proofs.lemmas.Bool.{cases_lt}
 use Rattle.std.proofs.lemmas.List.{take_all, drop_all, append-nil, length-drop, length-take, length-append, drop-drop, drop_at, take_at}
 use Rattle.rtui_cell.specs.declared.cell.Cell.{Cell}
 use Rattle.rtui_style.specs.declared.Style.{Style}
-use Rattle.rtui_text.specs.Text.{SpanData}
+use Rattle.rtui_text.specs.Text.{SpanData, LineData, line_of}
 use Rattle.rtui_cell.specs.Width.{text_columns}
 use Rattle.rtui_text.specs.Widths.{span_width}
 use Rattle.rtui_widgets.specs.Span.{span_rendered}
 use Rattle.rtui_widgets.proofs.SpanLemmas.{length-span_rendered, rendered-nothing}
-use Rattle.rtui_widgets.specs.Line.{Part, last_fitting, part_of, parts, behind_first, parts_rendered}
+use Rattle.rtui_widgets.specs.Line.{Part, last_fitting, part_of, parts, behind_first, parts_rendered, line_rendered}
 
 -- ---- the end of a text
 
@@ -73,7 +74,7 @@ pub length-lent : (a : ℕ) (row part : List Cell) → a ≤ length row → leng
 length-lent a row part le e = simp (length-append, length-take, length-drop) (omega arith)
 
 -- in no column nothing shows
-span-none : (style : Style) (text : List ℕ) → span_rendered style text [] ≡ []
+pub span-none : (style : Style) (text : List ℕ) → span_rendered style text [] ≡ []
 span-none style text = sym (rendered-nothing style text [] refl)
 
 parts-done : (row : List Cell) → parts_rendered [] row ≡ row
@@ -151,6 +152,20 @@ part-style-cases false p q s e h = h
 
 pub part-style : (skip : ℕ) (s : SpanData) → (part_of skip s).style ≡ s.style
 part-style skip s = part-style-cases _ _ _ s.style refl refl
+
+same-either : (b : Bool) (row : List Cell) → cond b row row ≡ row
+same-either true row = refl
+same-either false row = refl
+
+-- a line without spans leaves the row as it is
+pub line-none : (alignment : Option HorizontalAlignment) (row : List Cell) → line_rendered alignment (line_of []) row ≡ row
+unfolding line_rendered
+line-none alignment row = same-either (length row == 0) row
+
+-- in no column nothing of a line shows
+pub line-in_none : (alignment : Option HorizontalAlignment) (line : LineData) → line_rendered alignment line [] ≡ []
+unfolding line_rendered
+line-in_none alignment line = refl
 
 pub ruleset end_steps = (last_fitting-fits, last_fitting-drop)
 pub ruleset spans_steps = (parts-nil, parts-skip, parts-take)

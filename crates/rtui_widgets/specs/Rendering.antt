@@ -12,8 +12,8 @@ use Rattle.rtui_widgets.specs.Span.{span_rendered}
 use Rattle.rtui_widgets.specs.Line.{line_rendered}
 
 -- the part of an area that lies in a buffer's
-abbrev pub visible : Rect → Rect → Rect
-visible area own = spanning (max area.x own.x) (max area.y own.y) (min (right_edge area) (right_edge own)) (min (bottom_edge area) (bottom_edge own))
+abbrev pub clipped : Rect → Rect → Rect
+clipped area own = spanning (max area.x own.x) (max area.y own.y) (min (right_edge area) (right_edge own)) (min (bottom_edge area) (bottom_edge own))
 
 -- row k of a rectangle in a buffer, from left to right
 abbrev pub row_of : Rect → ℕ → Sheet → List Cell
@@ -28,7 +28,7 @@ pub record ChangesWithin (area : Rect) (old new : Sheet) : Type 0 where
 -- each row of an area, as far as the buffer has it, is what f makes of it, and nothing else changed
 pub record RendersRows (area : Rect) (f : ℕ → List Cell → List Cell) (old new : Sheet) : Type 0 where
   pub within : ChangesWithin area old new
-  pub rows : (k : ℕ) → k < (visible area old.area).height → row_of (visible area old.area) k new ≡ f k (row_of (visible area old.area) k old)
+  pub rows : (k : ℕ) → k < (clipped area old.area).height → row_of (clipped area old.area) k new ≡ f k (row_of (clipped area old.area) k old)
 
 -- f in the first row, and nothing in the others
 abbrev pub in_first_row : (List Cell → List Cell) → ℕ → List Cell → List Cell
