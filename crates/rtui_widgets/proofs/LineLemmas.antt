@@ -1,9 +1,8 @@
 -- How lines are rendered.
-use Rattle.std.proofs.Common.{◌≡◌, ◌≢◌, ℕ, suc, zero, ◌+◌, ◌-◌, ◌<◌, ◌≤◌, Bool, true, false, cond, min, List, [], ◌∷◌, ◌++◌, length, get_or, set, take, drop, map, sum_by, refl, sym, ap, ◌∙◌, ◌⊎◌, ⊎_elim, arith, rules, append_assoc, take-add, take-append-drop}
+use Rattle.std.proofs.Common.{◌≡◌, ℕ, ◌+◌, ◌-◌, ◌<◌, ◌≤◌, Bool, true, false, cond, min, List, [], ◌∷◌, ◌++◌, length, take, drop, sum_by, refl, sym, ap, ◌∙◌, ⊎_elim, arith, append_assoc, take-add, take-append-drop}
 use Rattle.std.specs.Prelude.{nat_le, Option, ◌==◌}
 use Rattle.rtui_layout.specs.declared.alignment.HorizontalAlignment.{HorizontalAlignment}
 use Rattle.std.proofs.lemmas.Bool.Decides.{nat_tests}
-use Rattle.std.proofs.lemmas.Grind.{common_steps}
 use Rattle.std.proofs.lemmas.Bool.{cases_lt}
 use Rattle.std.proofs.lemmas.List.{take_all, drop_all, append-nil, length-drop, length-take, length-append, drop-drop, drop_at, take_at}
 use Rattle.rtui_cell.specs.declared.cell.Cell.{Cell}
@@ -131,9 +130,9 @@ module _ (p : Part) (ps : List Part) (row part : List Cell) (start start1 start2
   pub part-turn : behind_first start2 (parts_rendered ps) (take start1 row ++ (part ++ drop (length row - start1) (drop start1 row))) ≡ behind_first start (parts_rendered (p ∷ ps)) row
   part-turn =
       let both : take start row ++ (take p.indent (drop start row) ++ (take p.width shown ++ parts_rendered ps (drop p.width shown))) ≡ (take start1 row ++ take p.width shown) ++ parts_rendered ps (drop p.width shown) =
-          sym (append_assoc (take start row) (take p.indent (drop start row)) (take p.width shown ++ parts_rendered ps (drop p.width shown)))
-          ∙ ap (λ cells. cells ++ (take p.width shown ++ parts_rendered ps (drop p.width shown))) (sym indented)
-          ∙ sym (append_assoc (take start1 row) (take p.width shown) (parts_rendered ps (drop p.width shown))) in
+      sym (append_assoc (take start row) (take p.indent (drop start row)) (take p.width shown ++ parts_rendered ps (drop p.width shown)))
+      ∙ ap (λ cells. cells ++ (take p.width shown ++ parts_rendered ps (drop p.width shown))) (sym indented)
+      ∙ sym (append_assoc (take start1 row) (take p.width shown) (parts_rendered ps (drop p.width shown))) in
       let here : behind_first start2 (parts_rendered ps) (take start1 row ++ shown) ≡ (take start1 row ++ take p.width shown) ++ parts_rendered ps (drop p.width shown) = rw (done, left) refl in
       let there : parts_rendered (p ∷ ps) (drop start row) ≡ take p.indent (drop start row) ++ (take p.width shown ++ parts_rendered ps (drop p.width shown)) = rendered-part p ps (drop start row) ∙ rw (← behind) refl in
       ap (behind_first start2 (parts_rendered ps)) lent ∙ here ∙ sym both ∙ sym (ap (λ cells. take start row ++ cells) there)
@@ -168,4 +167,5 @@ unfolding line_rendered
 line-in_none alignment line = refl
 
 pub ruleset end_steps = (last_fitting-fits, last_fitting-drop)
+
 pub ruleset spans_steps = (parts-nil, parts-skip, parts-take)

@@ -1,5 +1,5 @@
 -- Rows made anew, one after the other.
-use Rattle.std.proofs.Common.{◌≡◌, ℕ, suc, ◌+◌, ◌-◌, ◌*◌, ◌<◌, ◌≤◌, ◌⊎◌, ⊎_elim, inl, inr, List, [], ◌++◌, length, get_or, take, drop, refl, sym, ap, subst, ◌∙◌, arith}
+use Rattle.std.proofs.Common.{◌≡◌, ℕ, suc, ◌+◌, ◌-◌, ◌*◌, ◌<◌, ◌≤◌, ◌⊎◌, ⊎_elim, inl, inr, List, length, get_or, take, drop, refl, sym, ap, subst, ◌∙◌, arith}
 use Rattle.std.proofs.lemmas.Bool.{cases_lt}
 use Rattle.std.proofs.lemmas.List.{length-append, length-take, length-drop, get_or-take, get_or-drop, take_at, drop_at, ext_get_or}
 use Rattle.std.proofs.lemmas.Slice.{take-put_mid_below, drop-put_mid}
@@ -7,7 +7,7 @@ use borrow.Rule.Slice.PartMut.{put_mid}
 use Rattle.rtui_cell.specs.declared.cell.Cell.{Cell}
 use Rattle.rtui_cell.specs.Cell.{empty_cell}
 use Rattle.rtui_diff.specs.Cells.{cell}
-use Rattle.rtui_widgets.specs.Rows.{Rows, place, row_at, IsOutside, KeepsOthers, MakesRows}
+use Rattle.rtui_widgets.specs.Rows.{Rows, row_at, IsOutside, KeepsOthers, MakesRows}
 
 -- ---- a part of a list that was written
 
@@ -41,11 +41,11 @@ same-row from width xs ys len fits h =
     let count : (zs : List Cell) → length zs ≡ length ys → length (take width (drop from zs)) ≡ width = λ zs e. length-take width (drop from zs) ∙ (let d = length-drop from zs in omega arith) in
     ext_get_or empty_cell (take width (drop from xs)) (take width (drop from ys)) (count xs len ∙ sym (count ys refl))
     (λ i lt.
-        let c = count xs len in
-        let less : i < width = omega arith in
-        get_or-take width (drop from xs) i empty_cell less ∙ get_or-drop from xs i empty_cell
-        ∙ h (from + i) (omega arith) (omega arith)
-        ∙ sym (get_or-take width (drop from ys) i empty_cell less ∙ get_or-drop from ys i empty_cell))
+    let c = count xs len in
+    let less : i < width = omega arith in
+    get_or-take width (drop from xs) i empty_cell less ∙ get_or-drop from xs i empty_cell
+    ∙ h (from + i) (omega arith) (omega arith)
+    ∙ sym (get_or-take width (drop from ys) i empty_cell less ∙ get_or-drop from ys i empty_cell))
 
 -- ---- rows
 
@@ -107,13 +107,13 @@ module _ (start width stride : ℕ) (apart : width ≤ stride) where
     makes-row is = record {
       keeps = keeps-others (k + 1) (omega arith);
       rows = λ j lt.
-        ⊎_elim
-        (λ (a : j < k). before j a)
-        (λ (a : k ≤ j).
+          ⊎_elim
+          (λ (a : j < k). before j a)
+          (λ (a : k ≤ j).
           let here : k ≡ j = omega arith in
           let own : take width (drop at more) ≡ part = ap (λ w. take w (drop at more)) (sym width-is) ∙ written-there at n now part fits count in
           subst (λ m. row_at (rows (k + 1)) m more ≡ f m (row_at (rows (k + 1)) m old)) here (own ∙ is ∙ ap (f k) former))
-        (cases_lt j k);
+          (cases_lt j k);
     }
 
   pub makes-none : (f : ℕ → List Cell → List Cell) (cells : List Cell) → MakesRows (rows 0) f cells cells

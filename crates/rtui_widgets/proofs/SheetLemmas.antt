@@ -1,5 +1,5 @@
 -- Rows of cells as rows of a buffer.
-use Rattle.std.proofs.Common.{◌≡◌, ◌≢◌, ℕ, suc, ◌+◌, ◌-◌, ◌*◌, ◌<◌, ◌≤◌, ◌⊎◌, ⊎_elim, inl, inr, Bool, true, false, cond, List, [], ◌∷◌, ◌++◌, length, take, drop, min, max, refl, sym, ap, subst, ◌∙◌, arith}
+use Rattle.std.proofs.Common.{◌≡◌, ℕ, ◌+◌, ◌-◌, ◌*◌, ◌<◌, ◌≤◌, ◌⊎◌, ⊎_elim, inl, inr, Bool, true, false, cond, List, [], ◌∷◌, ◌++◌, length, take, drop, min, max, refl, sym, ap, subst, ◌∙◌, arith}
 use Rattle.std.specs.Prelude.{◌==◌}
 use Rattle.std.proofs.lemmas.Bool.{cases_lt}
 use Rattle.std.proofs.lemmas.Bool.Decides.{nat_tests}
@@ -10,8 +10,13 @@ use Rattle.rtui_geometry.specs.declared.rect.Rect.{Rect}
 use Rattle.rtui_geometry.specs.Rect.{HasPosition, right_edge, bottom_edge}
 use Rattle.rtui_cell.specs.declared.cell.Cell.{Cell}
 use Rattle.rtui_diff.specs.Cells.{cell}
-use Rattle.rtui_buffer.specs.Sheet.{Sheet, area_size, cell_index, cell_in, refilled}
-use Rattle.rtui_widgets.specs.Rendering.{clipped, row_of, ChangesWithin, RendersRows, in_first_row}
+use Rattle.rtui_buffer.specs.Sheet.{Sheet, area_size, cell_index, refilled}
+use Rattle.unicode_segmentation.specs.Grapheme.{graphemes}
+use Rattle.rtui_style.specs.declared.Style.{Style}
+use Rattle.rtui_buffer.specs.Painting.{Piece, columns}
+use Rattle.rtui_buffer.specs.PaintedText.{HasRow, room_at, pieces_at, IsSameBeside}
+use Rattle.rtui_buffer.proofs.PaintedLemmas.{columns-kept}
+use Rattle.rtui_widgets.specs.Rendering.{clipped, row_of, ChangesWithin, RendersRows, in_first_row, first_row}
 use Rattle.rtui_widgets.specs.Rows.{Rows, place, row_at, IsOutside, KeepsOthers, MakesRows}
 use Rattle.rtui_widgets.specs.Clipped.{IsClipped}
 use Rattle.rtui_widgets.proofs.RowLemmas.{length-written, written-before, written-behind, written-there, same-row, rows_before, other}
@@ -61,15 +66,15 @@ module _ (start width stride count : ℕ) (old part : List Cell) (n : ℕ) (apar
   makes-first g is = record {
     keeps = keeps-first;
     rows = λ k lt.
-      ⊎_elim
-      (λ (pos : 0 < k).
+        ⊎_elim
+        (λ (pos : 0 < k).
         let no : (k == 0) ≡ false = grind (arith, nat_tests) in
         row-more k pos lt ∙ rw no refl)
-      (λ (z : k ≤ 0).
+        (λ (z : k ≤ 0).
         let e : 0 ≡ k = omega arith in
         let at : start + 0 * stride ≡ start = omega arith in
         subst (λ m. row_at rows_here m more ≡ in_first_row g m (row_at rows_here m old)) e (row-zero ∙ is ∙ ap (λ a. g (take width (drop a old))) (sym at)))
-      (cases_lt 0 k);
+        (cases_lt 0 k);
   }
 
 -- ---- where the rows of an area stand in a buffer's list
@@ -85,12 +90,12 @@ row-beside a k b w c d width lt le same =
     ⊎_elim
     (λ (above : b < a + k). inl (let r = rows_before w b (a + k) above in omega arith))
     (λ (not_above : a + k ≤ b).
-      ⊎_elim
-      (λ (below : a + k < b). inr (let r = rows_before w (a + k) b below in omega arith))
-      (λ (not_below : b ≤ a + k).
-        let here : b ≡ a + k = omega arith in
-        ⊎_elim (λ (l : d < c). inl (rw here (omega arith))) (λ (r : c + width ≤ d). inr (rw here (omega arith))) (same here))
-      (cases_lt (a + k) b))
+    ⊎_elim
+    (λ (below : a + k < b). inr (let r = rows_before w (a + k) b below in omega arith))
+    (λ (not_below : b ≤ a + k).
+    let here : b ≡ a + k = omega arith in
+    ⊎_elim (λ (l : d < c). inl (rw here (omega arith))) (λ (r : c + width ≤ d). inr (rw here (omega arith))) (same here))
+    (cases_lt (a + k) b))
     (cases_lt b (a + k))
 
 module _ (area : Rect) (old : Sheet) (r : Rect) (h : IsClipped area old.area r) where
@@ -152,11 +157,11 @@ module _ (area : Rect) (old : Sheet) (r : Rect) (h : IsClipped area old.area r) 
       ⊎_elim
       (λ (before : p.x - own.x < r.x - own.x). inl before)
       (λ (from : r.x - own.x ≤ p.x - own.x).
-        ⊎_elim
-        (λ (inside : p.x - own.x < r.x - own.x + r.width).
-          absurd (off (h.of_area p (record { left = omega arith; right = omega arith; top = omega arith; bottom = omega arith }))))
-        (λ (past : r.x - own.x + r.width ≤ p.x - own.x). inr past)
-        (cases_lt (p.x - own.x) (r.x - own.x + r.width)))
+      ⊎_elim
+      (λ (inside : p.x - own.x < r.x - own.x + r.width).
+      absurd (off (h.of_area p (record { left = omega arith; right = omega arith; top = omega arith; bottom = omega arith }))))
+      (λ (past : r.x - own.x + r.width ≤ p.x - own.x). inr past)
+      (cases_lt (p.x - own.x) (r.x - own.x + r.width)))
       (cases_lt (p.x - own.x) (r.x - own.x))
 
   outside-rows : (p : Position) → HasPosition own p → ¬ (HasPosition area p) → IsOutside rows_of (cell_index own p)
@@ -187,12 +192,12 @@ pub renders-nothing : (area : Rect) (f : ℕ → List Cell → List Cell) (s : S
 renders-nothing area f s none empty = record {
   within = record { same_area = refl; same_room = refl; outside = λ p i o. refl };
   rows = λ k lt.
-    ⊎_elim
-    (λ (w : (clipped area s.area).width ≡ 0).
+      ⊎_elim
+      (λ (w : (clipped area s.area).width ≡ 0).
       let nil : row_of (clipped area s.area) k s ≡ [] = no-cells _ (length-take _ _ ∙ omega (arith, w)) in
       nil ∙ sym (ap (f k) nil ∙ none k))
-    (λ (z : (clipped area s.area).height ≡ 0). absurd (omega (arith, z, lt)))
-    empty;
+      (λ (z : (clipped area s.area).height ≡ 0). absurd (omega (arith, z, lt)))
+      empty;
 }
 
 either-none : (b : Bool) (xs : List Cell) → xs ≡ [] → cond b xs [] ≡ []
@@ -249,3 +254,39 @@ module _ (area : Rect) (old : Sheet) (r : Rect) (h : IsClipped area old.area r) 
   lent-changes keeps =
       subst (λ cells. ChangesWithin area old (record old { cells = cells })) (sym (refilled-same old.cells w same))
       (changes-within area old r h w (subst (λ rows. KeepsOthers rows old.cells w) rows-same keeps))
+
+-- ---- a text painted at an area's corner
+
+pub painted-within : (area : Rect) (old new : Sheet) (ps : List Piece) → HasRow old.area area.y → old.area.x ≤ area.x → columns ps ≤ area.width → columns ps ≤ old.area.x + old.area.width - area.x
+    → IsSameBeside (record { x = area.x; y = area.y }) ps old new → ChangesWithin (first_row area) old new
+painted-within area old new ps row le narrow fits same = record {
+  same_area = same.area;
+  same_room = same.room;
+  outside = λ p in_own off.
+      let top = row.top in let bottom = row.bottom in
+      let pl = in_own.left in let pr = in_own.right in let pt = in_own.top in let pb = in_own.bottom in
+      let start : ℕ = cell_index old.area (record { x = area.x; y = area.y }) in
+      let there : (cell_index old.area p < start) ⊎ (start + columns ps ≤ cell_index old.area p) =
+      ⊎_elim
+      (λ (some : 0 < columns ps).
+      let beside = row-beside (area.y - old.area.y) 0 (p.y - old.area.y) old.area.width (area.x - old.area.x) (p.x - old.area.x) (columns ps) (omega arith) (omega arith)
+      (λ e. ⊎_elim
+      (λ (before : p.x < area.x). inl (omega arith))
+      (λ (from : area.x ≤ p.x). ⊎_elim
+      (λ (inside : p.x < area.x + columns ps). absurd (off (record { left = from; right = omega arith; top = omega arith; bottom = omega arith })))
+      (λ (past : area.x + columns ps ≤ p.x). inr (omega arith))
+      (cases_lt p.x (area.x + columns ps)))
+      (cases_lt p.x area.x)) in
+      ⊎_elim (λ (a : (p.y - old.area.y) * old.area.width + (p.x - old.area.x) < (area.y - old.area.y) * old.area.width + (area.x - old.area.x) + 0 * old.area.width). inl (omega arith))
+      (λ (b : (area.y - old.area.y) * old.area.width + (area.x - old.area.x) + 0 * old.area.width + columns ps ≤ (p.y - old.area.y) * old.area.width + (p.x - old.area.x)). inr (omega arith)) beside)
+      (λ (none : columns ps ≤ 0). ⊎_elim (λ (a : cell_index old.area p < start). inl a) (λ (b : start ≤ cell_index old.area p). inr (omega arith)) (cases_lt (cell_index old.area p) start))
+      (cases_lt 0 (columns ps)) in
+      ap (λ r. cell new.cells (cell_index r p)) same.area
+      ∙ ⊎_elim (λ (a : cell_index old.area p < start). same.cells.before (cell_index old.area p) a) (λ (b : start + columns ps ≤ cell_index old.area p). same.cells.behind (cell_index old.area p) b) there;
+}
+
+pub text-narrow : (area own : Rect) (style : Style) (text : List ℕ) → columns (pieces_at own area.x area.width style text) ≤ area.width
+text-narrow area own style text = let k = columns-kept style (room_at own area.x area.width) (graphemes true text) in omega arith
+
+pub text-fits : (area own : Rect) (style : Style) (text : List ℕ) → columns (pieces_at own area.x area.width style text) ≤ own.x + own.width - area.x
+text-fits area own style text = let k = columns-kept style (room_at own area.x area.width) (graphemes true text) in omega arith

@@ -1,9 +1,8 @@
 -- How rendering goes on, a grapheme at a time.
-use Rattle.std.proofs.Common.{◌≡◌, ◌≢◌, ℕ, suc, zero, ◌+◌, ◌-◌, ◌<◌, ◌≤◌, ◌⊎◌, ⊎_elim, inl, inr, Bool, true, false, cond, List, [], ◌∷◌, ◌++◌, length, get_or, set, refl, sym, ap, subst, ◌∙◌, arith, rules, append_assoc}
-use Rattle.std.specs.Prelude.{◌==◌, ◌||◌, ◌&&◌, nat_lt, nat_le, filter, not}
+use Rattle.std.proofs.Common.{◌≡◌, ◌≢◌, ℕ, suc, zero, ◌+◌, ◌-◌, ◌<◌, ◌≤◌, ◌⊎◌, ⊎_elim, inl, inr, Bool, true, false, cond, List, [], ◌∷◌, ◌++◌, length, get_or, set, refl, sym, ap, ◌∙◌, arith, append_assoc}
+use Rattle.std.specs.Prelude.{◌||◌, ◌&&◌, nat_lt}
 use Rattle.std.proofs.lemmas.Bool.{cases_lt}
 use Rattle.std.proofs.lemmas.Bool.Decides.{nat_tests}
-use Rattle.std.proofs.lemmas.Grind.{common_steps}
 use Rattle.std.proofs.lemmas.List.{append-nil, get_or-set_other, get_or-set_same, length-set, ext_get_or}
 use Rattle.unicode_segmentation.specs.Grapheme.{graphemes}
 use Rattle.rtui_cell.specs.declared.cell.Cell.{Cell}
@@ -14,7 +13,7 @@ use Rattle.rtui_text.specs.Graphemes.{has_control}
 use Rattle.rtui_buffer.specs.Painting.{fitting, emptied}
 use Rattle.rtui_widgets.specs.Span.{showing, goes_to, those_at, is_behind, column_with, columns_from, span_rendered}
 use Rattle.rtui_widgets.specs.Steps.{end_of_those, with_appended, with_symbol, with_next, IsRowWith}
-use Rattle.rtui_widgets.proofs.ColumnLemmas.{end-append, those_at-far, is_behind-far, is_behind-before, reached, first_reached, column-behind, column-other, column-set, column-append}
+use Rattle.rtui_widgets.proofs.ColumnLemmas.{end-append, those_at-far, is_behind-far, reached, first_reached, column-behind, column-other, column-set, column-append}
 
 pub rendered-nothing : (s : Style) (text : List ℕ) (row : List Cell) → length row ≡ 0 → row ≡ span_rendered s text row
 unfolding span_rendered columns_from
@@ -62,9 +61,9 @@ emptied-inside at (suc n) k cells le lt fits =
     ⊎_elim
     (λ (past : at < k). emptied-inside (at + 1) n k (set cells at empty_cell) (omega arith) (omega arith) (omega arith))
     (λ (here : k ≤ at).
-        let same : k ≡ at = omega arith in
-        let in_cells : at < length cells = omega arith in
-        emptied-outside (at + 1) n k (set cells at empty_cell) (inl (omega arith)) ∙ ap (λ i. get_or (set cells at empty_cell) i empty_cell) same ∙ get_or-set_same cells at empty_cell empty_cell in_cells)
+    let same : k ≡ at = omega arith in
+    let in_cells : at < length cells = omega arith in
+    emptied-outside (at + 1) n k (set cells at empty_cell) (inl (omega arith)) ∙ ap (λ i. get_or (set cells at empty_cell) i empty_cell) same ∙ get_or-set_same cells at empty_cell empty_cell in_cells)
     (cases_lt at k)
 
 -- ---- a turn of the loop
@@ -136,13 +135,13 @@ module _ (s : Style) (gs : List (List ℕ)) (g : List ℕ) (x : ℕ) (is_first :
   own true e =
       ap (with_symbol s g) (h.columns place place-lt)
       ∙ sym (column-set s gs g x place (get_or old place empty_cell) ends refl
-        (⊎_elim (λ (f : is_first ≡ true). none_there place gs (first f)) (λ (w : (0 < x) × (0 < text_width g)). those_at-far place 0 gs (far-le w) (far-pos w)) (set-cases is_first x (text_width g) e))
-        (⊎_elim (λ (f : is_first ≡ true). none_behind place gs (first f)) (λ (w : (0 < x) × (0 < text_width g)). is_behind-far place 0 gs (far-le w)) (set-cases is_first x (text_width g) e)))
+      (⊎_elim (λ (f : is_first ≡ true). none_there place gs (first f)) (λ (w : (0 < x) × (0 < text_width g)). those_at-far place 0 gs (far-le w) (far-pos w)) (set-cases is_first x (text_width g) e))
+      (⊎_elim (λ (f : is_first ≡ true). none_behind place gs (first f)) (λ (w : (0 < x) × (0 < text_width g)). is_behind-far place 0 gs (far-le w)) (set-cases is_first x (text_width g) e)))
   own false e =
       let at = append-cases is_first x (text_width g) e in
       ap (with_appended s g) (h.columns place place-lt)
       ∙ sym (column-append s gs g x place (get_or old place empty_cell) ends refl
-        (λ open_. ⊎_elim (λ (z : x ≡ 0). zero_there place gs (zero-place z) (later at.0)) (λ (w : (0 < x) × (text_width g ≡ 0)). reached place 0 gs (omega arith) (near-lt w) open_) at.1))
+      (λ open_. ⊎_elim (λ (z : x ≡ 0). zero_there place gs (zero-place z) (later at.0)) (λ (w : (0 < x) × (text_width g ≡ 0)). reached place 0 gs (omega arith) (near-lt w) open_) at.1))
 
   pub IsRowWith-turn : IsRowWith s (gs ++ g ∷ []) old (with_next is_first x s g row)
   unfolding with_next
@@ -156,24 +155,23 @@ module _ (s : Style) (gs : List (List ℕ)) (g : List ℕ) (x : ℕ) (is_first :
       record {
         count = length-emptied (x + 1) (text_width g - 1) cells ∙ len;
         columns = λ k lt.
-          ⊎_elim
-          (λ (hidden : (x < k) × (k < x + text_width g)).
+            ⊎_elim
+            (λ (hidden : (x < k) × (k < x + text_width g)).
             let hidden-0 : x < k = hidden.0 in
             let hidden-1 : k < x + text_width g = hidden.1 in
             emptied-inside (x + 1) (text_width g - 1) k cells (omega arith) (omega arith) (omega arith)
             ∙ sym (column-behind s gs g x k (get_or old k empty_cell) ends hidden.0 hidden.1))
-          (λ (clear : (k ≤ x) ⊎ (x + text_width g ≤ k)).
+            (λ (clear : (k ≤ x) ⊎ (x + text_width g ≤ k)).
             let out = out_of x k (text_width g) clear in
             emptied-outside (x + 1) (text_width g - 1) k cells out
             ∙ ⊎_elim
-              (λ (here : k ≡ place). rw here (get_or-set_same row place new empty_cell place_in_row ∙ own is_set refl))
-              (λ (ne : k ≢ place).
-                get_or-set_other row place k new empty_cell ne ∙ h.columns k lt
-                ∙ sym (column-other s gs g x k (get_or old k empty_cell) ends ne clear))
-              (same_or_not k place))
-          (in_or_out x k (text_width g))
+            (λ (here : k ≡ place). rw here (get_or-set_same row place new empty_cell place_in_row ∙ own is_set refl))
+            (λ (ne : k ≢ place).
+            get_or-set_other row place k new empty_cell ne ∙ h.columns k lt
+            ∙ sym (column-other s gs g x k (get_or old k empty_cell) ends ne clear))
+            (same_or_not k place))
+            (in_or_out x k (text_width g));
       }
-
 
 -- ---- the row as a whole
 
@@ -202,8 +200,8 @@ IsRowWith-row : (s : Style) (gs : List (List ℕ)) (old new : List Cell) → IsR
 IsRowWith-row s gs old new h =
     ext_get_or empty_cell new (columns_from (column_with s gs) 0 old) (h.count ∙ sym (length-columns_from (column_with s gs) 0 old))
     (λ k lt.
-        let lt2 : k < length old = omega (arith, h.count) in
-        h.columns k lt2 ∙ sym (get_or-columns_from (column_with s gs) 0 k old lt2 ∙ ap (λ n. column_with s gs n (get_or old k empty_cell)) (zero-plus k)))
+    let lt2 : k < length old = omega (arith, h.count) in
+    h.columns k lt2 ∙ sym (get_or-columns_from (column_with s gs) 0 k old lt2 ∙ ap (λ n. column_with s gs n (get_or old k empty_cell)) (zero-plus k)))
 
 pub rendered_of : (s : Style) (text : List ℕ) (gs : List (List ℕ)) (old new : List Cell) → IsRowWith s gs old new → gs ≡ showing (length old) (graphemes true text) → new ≡ span_rendered s text old
 unfolding span_rendered

@@ -3,7 +3,6 @@ use Rattle.std.specs.Prelude.{◌≡◌, ◌<◌}
 use Rattle.rtui_geometry.specs.declared.position.Position.{Position}
 use Rattle.rtui_geometry.specs.declared.rect.Rect.{Rect}
 use Rattle.rtui_geometry.specs.Rect.{HasPosition, EdgesFit}
-use Rattle.rtui_buffer.specs.Sheet.{Sheet}
 use Rattle.rtui_widgets.specs.Rendering.{clipped}
 
 -- it has some position, and each is one of the area and one of the buffer's

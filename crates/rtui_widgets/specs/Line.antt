@@ -1,5 +1,5 @@
 -- A line in a row of cells.
-use Rattle.std.specs.Prelude.{ℕ, ◌+◌, ◌-◌, ◌/◌, ◌==◌, ◌++◌, nat_le, true, List, [], ◌∷◌, Option, Some, None, length, map, take, drop, sum_by, if◌then◌else◌}
+use Rattle.std.specs.Prelude.{ℕ, ◌-◌, ◌/◌, ◌==◌, ◌++◌, nat_le, true, List, [], ◌∷◌, Option, Some, None, length, map, take, drop, sum_by, if◌then◌else◌}
 use Rattle.std.specs.List.{concat}
 use Rattle.unicode_segmentation.specs.Grapheme.{graphemes}
 use Rattle.rtui_layout.specs.declared.alignment.HorizontalAlignment.{HorizontalAlignment}

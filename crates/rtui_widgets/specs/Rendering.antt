@@ -1,5 +1,5 @@
 -- What rendering spans, lines and texts makes of a buffer.
-use Rattle.std.specs.Prelude.{ℕ, ◌+◌, ◌<◌, ◌≡◌, ◌==◌, List, [], Option, Some, None, map, take, drop, min, max, if◌then◌else◌, slice_index_or}
+use Rattle.std.specs.Prelude.{ℕ, ◌+◌, ◌<◌, ◌≤◌, ◌≡◌, ◌==◌, List, [], Option, Some, None, map, take, drop, min, max, if◌then◌else◌, slice_index_or}
 use Rattle.rtui_geometry.specs.declared.position.Position.{Position}
 use Rattle.rtui_geometry.specs.declared.rect.Rect.{Rect}
 use Rattle.rtui_geometry.specs.Rect.{HasPosition, right_edge, bottom_edge, spanning}
@@ -8,6 +8,8 @@ use Rattle.rtui_cell.specs.declared.cell.Cell.{Cell}
 use Rattle.rtui_cell.specs.Cell.{styled}
 use Rattle.rtui_text.specs.Text.{SpanData, LineData, TextData, line_of}
 use Rattle.rtui_buffer.specs.Sheet.{Sheet, cell_index, cell_in}
+use Rattle.rtui_style.specs.Style.{new_style}
+use Rattle.rtui_buffer.specs.PaintedText.{HasRow, pieces_at, Paints}
 use Rattle.rtui_widgets.specs.Span.{span_rendered}
 use Rattle.rtui_widgets.specs.Line.{line_rendered}
 
@@ -57,3 +59,16 @@ text_row text k row =
 
 abbrev pub RendersText : TextData → Rect → Sheet → Sheet → Type 0
 RendersText text area = RendersRows area (text_row text)
+
+-- the first row of an area
+abbrev pub first_row : Rect → Rect
+first_row area = record area { height = 1 }
+
+-- the first row of an area lies in the buffer's, and doesn't begin left of it
+pub record HasFirstRow (area : Rect) (s : Sheet) : Type 0 where
+  pub row : HasRow s.area area.y
+  pub column : s.area.x ≤ area.x
+
+-- a text painted from the corner of an area on, in at most the area's columns
+abbrev pub PaintsText : List ℕ → Rect → Sheet → Sheet → Type 0
+PaintsText text area old = Paints (record { x = area.x; y = area.y }) (pieces_at old.area area.x area.width new_style text) old

@@ -1,5 +1,5 @@
 -- What single steps of rendering do to a row of cells.
-use Rattle.std.specs.Prelude.{ℕ, Bool, true, ◌+◌, ◌-◌, ◌<◌, ◌≡◌, ◌||◌, ◌&&◌, nat_lt, List, [], ◌∷◌, length, Some, if◌then◌else◌, slice_index_or, slice_set}
+use Rattle.std.specs.Prelude.{ℕ, Bool, ◌+◌, ◌-◌, ◌<◌, ◌≡◌, ◌||◌, ◌&&◌, nat_lt, List, [], ◌∷◌, length, Some, if◌then◌else◌, slice_index_or, slice_set}
 use Rattle.rtui_style.specs.declared.Style.{Style}
 use Rattle.rtui_cell.specs.declared.cell.Cell.{Cell}
 use Rattle.rtui_cell.specs.Cell.{empty_cell, styled}
@@ -34,4 +34,3 @@ end_of_those x (g ∷ gs) = end_of_those (x + text_width g) gs
 pub record IsRowWith (style : Style) (gs : List (List ℕ)) (old new : List Cell) : Type 0 where
   pub count : length new ≡ length old
   pub columns : (k : ℕ) → k < length old → slice_index_or new k empty_cell ≡ column_with style gs k (slice_index_or old k empty_cell)
-

@@ -1,15 +1,10 @@
-use Rattle.std.proofs.Common.{◌≡◌, ℕ, ◌+◌, ◌-◌, ◌*◌, ◌<◌, ◌≤◌, List, [], ◌++◌, length, take, drop, rules, arith, sym, ap, subst, ◌∙◌}
-use Rattle.std.proofs.lemmas.List.{length-take, length-drop}
-use Rattle.std.proofs.lemmas.Result.{on_ok_weaker, on_err_weaker}
-use Rattle.std.specs.Prelude.{OnOk, OnErr}
-use borrow.Rule.Slice.PartMut.{put_mid}
+use Rattle.std.proofs.Common.{◌≡◌, ℕ, ◌+◌, ◌-◌, List, length, take, drop, rules, arith, ap}
+use Rattle.std.proofs.lemmas.Result.{on_ok_weaker}
+use Rattle.std.specs.Prelude.{OnOk}
 use Rattle.rtui_cell.specs.declared.cell.Cell.{Cell}
-use Rattle.rtui_buffer.specs.Sheet.{Sheet, area_size, cell_index, refilled}
 use Rattle.rtui_widgets.specs.Span.{span_rendered}
-use Rattle.rtui_widgets.specs.Line.{line_rendered}
-use Rattle.rtui_widgets.specs.Rendering.{in_first_row, RendersRows, ChangesWithin}
-use Rattle.rtui_widgets.proofs.LineLemmas.{span-none, line-in_none}
-use Rattle.rtui_widgets.proofs.RowLemmas.{length-written}
+use Rattle.rtui_widgets.specs.Rendering.{in_first_row}
+use Rattle.rtui_widgets.proofs.LineLemmas.{span-none}
 use Rattle.rtui_widgets.proofs.SheetLemmas.{renders-nothing, first-none, first-renders, first-changes}
 use Rattle.rtui_widgets.proofs.buffer.span_in.Goals as goal
 

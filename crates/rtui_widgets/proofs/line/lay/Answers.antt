@@ -1,4 +1,4 @@
-use Rattle.std.proofs.Common.{ℕ, ◌<◌, length, arith}
+use Rattle.std.proofs.Common.{arith}
 use Rattle.rtui_widgets.proofs.StyleLemmas.{laid}
 use Rattle.rtui_widgets.proofs.line.lay.Goals as goal
 

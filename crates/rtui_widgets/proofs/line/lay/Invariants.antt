@@ -1,4 +1,4 @@
-use Rattle.std.proofs.Common.{ℕ, ◌≡◌, ◌<◌, ◌≤◌, map, get_or}
+use Rattle.std.proofs.Common.{ℕ, ◌≡◌, ◌<◌, ◌≤◌, get_or}
 use Rattle.rtui_cell.specs.Cell.{styled, empty_cell}
 use Rattle.rtui_widgets.proofs.line.lay.Given as goal
 

@@ -1,4 +1,4 @@
-use Rattle.std.proofs.Common.{ℕ, List, [], Bool, true, false, ◌≡◌, ◌≢◌, ◌+◌, ◌-◌, ◌≤◌, ◌<◌, ◌++◌, length}
+use Rattle.std.proofs.Common.{ℕ, List, [], true, false, ◌≡◌, ◌≢◌, ◌-◌, ◌≤◌, ◌<◌, ◌++◌, length}
 use Rattle.unicode_segmentation.specs.Grapheme.{graphemes}
 use Rattle.unicode_segmentation.specs.Iter.{graphemes_left}
 use Rattle.rtui_widgets.specs.Span.{showing}

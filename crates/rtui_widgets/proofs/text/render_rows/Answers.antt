@@ -1,8 +1,6 @@
-use Rattle.std.proofs.Common.{◌≡◌, ◌+◌, ◌-◌, ◌*◌, ◌<◌, ◌≤◌, List, ℕ, length, take, drop, rules, arith, sym, ap, ◌∙◌}
-use Rattle.std.proofs.lemmas.List.{length-take, length-drop}
-use Rattle.rtui_cell.specs.declared.cell.Cell.{Cell}
+use Rattle.std.proofs.Common.{◌≡◌, ◌+◌, ◌-◌, ◌*◌, ◌≤◌, ℕ, length, take, drop, rules, arith, ap, ◌∙◌}
 use Rattle.rtui_widgets.specs.Rendering.{text_row}
-use Rattle.rtui_widgets.proofs.RowLemmas.{makes-row, keeps-others}
+use Rattle.rtui_widgets.proofs.RowLemmas.{makes-row}
 use Rattle.rtui_widgets.proofs.text.render_rows.Goals as goal
 
 pub loop-k-preserved : goal.loop-k-preserved
