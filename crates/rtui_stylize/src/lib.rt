@@ -1,12 +1,14 @@
 //! Whatever has a style, styled by name: `text.red().on_white().bold()`.
 //!
-//! It stands on `rtui_style`. A type says by [`Styled`] what its style is and what it becomes with another one; an empty
-//! `impl Stylize` then gives it every call, each proved once for all types.
+//! It stands on `rtui_style` and `rtui_text`. A type says by [`Styled`] what its style is and what it becomes with another
+//! one; an empty `impl Stylize` then gives it every call, each proved once for all types.
 #![tactic(auto)]
 
 ghost use Rattle.std.specs.Prelude.{◌≡◌};
 ghost use Rattle.rtui_style.specs.declared.Style.{Style};
 ghost use Rattle.rtui_style.specs.Style.{reset_style, with_bg, with_fg, with_modifier, without_modifier};
+
+mod texts;
 
 use rtui_style::{Color, Modifier, Style};
 
@@ -31,6 +33,11 @@ pub trait Styled {
 }
 
 /// Shorthands that change one part of a style.
+///
+/// ```
+/// let title = "Files".bold().yellow().on_blue();
+/// let line = Line::raw(alloc, "plain text in a green line")?.green();
+/// ```
 pub trait Stylize: Styled + Sized {
     /// With this foreground.
     final fn fg(self, color: Color) -> Self::Item

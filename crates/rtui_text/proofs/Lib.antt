@@ -1,0 +1,2 @@
+pub mod GraphemeLemmas
+pub mod LineLemmas

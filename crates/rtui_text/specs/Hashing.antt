@@ -9,3 +9,7 @@ use Rattle.std.specs.Hash.{Alike, same_Alike}
 -- equal bytes feed a hasher the same
 pub text_Alike : Alike (pointwise nat_eq) fed.str
 text_Alike = same_Alike fed.str (λ x y. slice_eq-Decides Decides-eqb x y _ refl)
+
+-- equal characters feed a hasher the same
+pub char_Alike : Alike nat_eq fed.char
+char_Alike = same_Alike fed.char (λ x y. Decides-eqb x y)

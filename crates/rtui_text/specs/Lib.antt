@@ -1,4 +1,7 @@
 pub mod Text
 pub mod Widths
+pub mod Graphemes
+pub mod Display
+pub mod Masked
 pub mod LineHead
 pub mod Hashing

@@ -1,5 +1,5 @@
 -- Styled texts as data. A text is the list of its bytes.
-use Rattle.std.specs.Prelude.{ℕ, List, Option, None, map}
+use Rattle.std.specs.Prelude.{ℕ, ◌==◌, List, [], ◌∷◌, ◌++◌, Option, None, map, length, if◌then◌else◌}
 use Rattle.std.specs.Str.Lines.{lines}
 use Rattle.rtui_layout.specs.declared.alignment.HorizontalAlignment.{HorizontalAlignment}
 use Rattle.rtui_style.specs.declared.Style.{Style}
@@ -27,3 +27,30 @@ line_of spans = record { style = new_style; alignment = None; spans = spans }
 -- a plain span for each line of the text, none for the empty text
 abbrev pub raw_line : List ℕ → LineData
 raw_line text = line_of (map plain (lines text))
+
+-- lines one below the other, with the style of the whole and an alignment for the lines that have none
+pub record TextData : Type 0 where
+  pub alignment : Option HorizontalAlignment
+  pub style : Style
+  pub lines : List LineData
+
+-- lines one below the other, and nothing else
+abbrev pub text_of : List LineData → TextData
+text_of ls = record { alignment = None; style = new_style; lines = ls }
+
+-- a plain line for each line of the text, and one line without spans for the empty text
+abbrev pub text_lines : List ℕ → List LineData
+text_lines text = if length text == 0 then line_of [] ∷ [] else map raw_line (lines text)
+
+abbrev pub raw_text : List ℕ → TextData
+raw_text text = text_of (text_lines text)
+
+-- a line with one span more
+abbrev pub with_span : SpanData → LineData → LineData
+with_span span line = record line { spans = line.spans ++ span ∷ [] }
+
+-- lines with one span more at the end of the last one, or in a line of its own where there is none
+abbrev pub with_last_span : SpanData → List LineData → List LineData
+with_last_span span [] = line_of (span ∷ []) ∷ []
+with_last_span span (line ∷ []) = with_span span line ∷ []
+with_last_span span (line ∷ next ∷ more) = line ∷ with_last_span span (next ∷ more)

@@ -1,4 +1,4 @@
-ghost use Rattle.std.specs.Prelude.{◌≡◌, ◌↔◌, IsTrue, count_by, chars};
+ghost use Rattle.std.specs.Prelude.{◌≡◌, ◌*◌, ◌≤◌, length, count_by, chars};
 ghost use Rattle.rtui_cell.specs.Width.{text_columns, is_sound_mark};
 
 use unicode_width::UnicodeWidthStr;
@@ -6,7 +6,8 @@ use unicode_width::UnicodeWidthStr;
 /// How many columns a text takes in a line: its Unicode width less the half-width katakana sound marks.
 #[tactic(auto, unfolding(rtui_cell::specs::Width::text_columns))]
 pub fn text_columns(text: &str) -> usize
-    ensures { result ≡ text_columns text.now }
+    ensures value { result ≡ text_columns text.now }
+    ensures bound { result ≤ 2 * length text.now }
 {
     text.width().saturating_sub(sound_marks(text))
 }

@@ -6,11 +6,19 @@
 #![tactic(auto)]
 
 mod columns;
+mod grapheme;
 mod line;
+mod lines;
+mod masked;
 mod span;
 mod spans;
+mod text;
 
 pub use columns::text_columns;
+pub use grapheme::{LineGraphemes, SpanGraphemes, StyledGrapheme, has_control};
 pub use line::Line;
+pub use lines::Lines;
+pub use masked::Masked;
 pub use span::Span;
 pub use spans::Spans;
+pub use text::Text;

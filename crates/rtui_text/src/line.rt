@@ -1,4 +1,8 @@
-ghost use Rattle.std.specs.Prelude.{◌≡◌, ◌++◌, [], IfOk};
+ghost use Rattle.std.specs.Prelude.{◌≡◌, List, ◌++◌, [], ◌∷◌, Some, IfOk, OnOk, OnErr};
+ghost use Rattle.std.specs.String.{string_bytes};
+ghost use Rattle.std.specs.Iterator.{IsFinite, Drains, ExtendsWithItems};
+ghost use Rattle.std.specs.Slice.Iter.{iter_rest, iter_mut_rest};
+ghost use Rattle.std.specs.Vec.Iter.{into_iter_items};
 ghost use Rattle.std.specs.Hash as fed;
 ghost use Rattle.std.specs.Hash.{on_Alike, and-Alike};
 ghost use Rattle.std.specs.Cmp.{and_equiv, on_equiv, partial_equiv_from_equiv};
@@ -7,23 +11,31 @@ ghost use Rattle.rtui_text.specs.contracts.spans.SpansEq.TheImpl.Laws.{laws-law 
 ghost use Rattle.rtui_text.specs.contracts.spans.SpansHash.TheImpl.Laws.{respects_eq-law as spans_hashes};
 ghost use Rattle.rtui_text.specs.contracts.line.LineHeadEq.TheImpl.Laws.{laws-law as head_laws};
 ghost use Rattle.rtui_text.specs.contracts.line.LineHeadHash.TheImpl.Laws.{respects_eq-law as head_hashes};
-ghost use Rattle.rtui_text.specs.Text.{line_of, raw_line};
+ghost use Rattle.rtui_style.specs.Style.{patch, reset_style};
+ghost use Rattle.rtui_text.specs.Text.{SpanData, line_of, raw_line, text_of, with_span};
 ghost use Rattle.rtui_text.specs.Widths.{line_width};
+ghost use Rattle.rtui_text.specs.Graphemes.{line_graphemes, line_graphemes_left};
+ghost use Rattle.rtui_text.specs.Display.{line_content, printed_spans};
 ghost use Rattle.rtui_text.specs.LineHead.{line_head};
 
+use crate::grapheme::LineGraphemes;
 use crate::span::Span;
 use crate::spans::Spans;
-use rtui_layout::Alignment;
+use crate::text::Text;
+use rtui_layout::HorizontalAlignment;
 use rtui_style::Style;
 use std::alloc::{AllocError, Global};
+use std::fmt;
 use std::hash::{Hash, Hasher};
 use std::marker::Model;
+use std::slice;
+use std::vec;
 
-// What a line has besides its spans.
+// What a line has besides its spans, and a text besides its lines.
 #[derive(Clone, Copy, PartialEq, Eq, Hash)]
-struct LineHead {
-    style: Style,
-    alignment: Option<Alignment>,
+pub(crate) struct LineHead {
+    pub(crate) style: Style,
+    pub(crate) alignment: Option<HorizontalAlignment>,
 }
 
 /// Spans in a row, over which lies the style of the whole.
@@ -32,7 +44,7 @@ pub struct Line<'a> {
     /// The style of the whole line, under those of its spans.
     pub style: Style,
     /// Where the line stands between left and right, if it says so.
-    pub alignment: Option<Alignment>,
+    pub alignment: Option<HorizontalAlignment>,
     /// The spans, from left to right.
     pub spans: Spans<'a>,
 }
@@ -73,11 +85,173 @@ impl<'a> Line<'a> {
         Ok(line)
     }
 
+    /// The same line as `raw` makes of the text, with copies of its lines; refused where memory is.
+    pub fn raw_string(alloc: Global, content: String) -> Result<Line<'a>, AllocError>
+        ensures { IfOk result (λ l. l ≡ raw_line (string_bytes content)) }
+    {
+        Line::copied(alloc, content.as_str())
+    }
+
+    // The same line as `raw` makes of the text, with copies of its lines.
+    pub(crate) fn copied(alloc: Global, content: &str) -> Result<Line<'a>, AllocError>
+        ensures { IfOk result (λ l. l ≡ raw_line content.now) }
+    {
+        let mut spans = Spans::new(alloc);
+        for line in content.lines() {
+            spans.push(Span::from(String::from_str(alloc, line)?))?;
+        }
+        Ok(Line::from(spans))
+    }
+
+    /// A line of one span; refused where memory is.
+    pub fn from_span(alloc: Global, span: Span<'a>) -> Result<Line<'a>, AllocError>
+        ensures { IfOk result (λ l. l ≡ line_of (span.entry ∷ [])) }
+    {
+        let mut spans = Spans::new(alloc);
+        spans.push(span)?;
+        Ok(Line::from(spans))
+    }
+
     /// A line of spans equal to these; refused where memory is.
     pub fn from_slice(alloc: Global, spans: &[Span<'a>]) -> Result<Line<'a>, AllocError>
         ensures { IfOk result (λ l. l ≡ line_of spans.now) }
     {
         Ok(Line::from(Spans::from_slice(alloc, spans)?))
+    }
+
+    /// The line with spans equal to these in place of its own; refused where memory is.
+    pub fn spans(self, spans: &[Span<'a>]) -> Result<Line<'a>, AllocError>
+        ensures { IfOk result (λ l. l ≡ record self.entry { spans = spans.now }) }
+    {
+        let spans = Spans::from_slice(self.spans.allocator(), spans)?;
+        Ok(Line { spans, ..self })
+    }
+
+    /// The line in another style.
+    pub fn style(mut self, style: Style) -> Line<'a>
+        ensures { result ≡ record self.entry { style = style } }
+    {
+        self.style = style;
+        self
+    }
+
+    /// The line with a style laid over its own.
+    pub fn patch_style(mut self, style: Style) -> Line<'a>
+        ensures { result ≡ record self.entry { style = patch self.entry.style style } }
+    {
+        self.style = self.style.patch(style);
+        self
+    }
+
+    /// The line with the style laid over its own that sets all colours to the terminal's and takes every modifier away.
+    pub fn reset_style(self) -> Line<'a>
+        ensures { result ≡ record self.entry { style = patch self.entry.style reset_style } }
+    {
+        self.patch_style(Style::reset())
+    }
+
+    /// The line, aligned so.
+    pub fn alignment(mut self, alignment: HorizontalAlignment) -> Line<'a>
+        ensures { result ≡ record self.entry { alignment = Some alignment } }
+    {
+        self.alignment = Some(alignment);
+        self
+    }
+
+    /// The line, aligned to the left.
+    pub fn left_aligned(self) -> Line<'a>
+        ensures { result ≡ record self.entry { alignment = Some HorizontalAlignment.Left } }
+    {
+        self.alignment(HorizontalAlignment::Left)
+    }
+
+    /// The line, centred.
+    pub fn centered(self) -> Line<'a>
+        ensures { result ≡ record self.entry { alignment = Some HorizontalAlignment.Center } }
+    {
+        self.alignment(HorizontalAlignment::Center)
+    }
+
+    /// The line, aligned to the right.
+    pub fn right_aligned(self) -> Line<'a>
+        ensures { result ≡ record self.entry { alignment = Some HorizontalAlignment.Right } }
+    {
+        self.alignment(HorizontalAlignment::Right)
+    }
+
+    /// The graphemes without a control character, each in its span's style over the line's over a base style.
+    pub fn styled_graphemes<'l>(&'l self, base_style: Style) -> LineGraphemes<'l, 'a>
+        ensures { line_graphemes_left result ≡ line_graphemes (patch base_style self.now.style) self.now.spans }
+    {
+        LineGraphemes::new(self.spans.as_slice(), base_style.patch(self.style))
+    }
+
+    /// The spans, one by one.
+    pub fn iter(&self) -> slice::Iter<'_, Span<'a>>
+        ensures { iter_rest result ≡ self.now.spans }
+    {
+        self.spans.iter()
+    }
+
+    /// The spans, one by one, to be written.
+    pub fn iter_mut(&mut self) -> slice::IterMut<'_, Span<'a>>
+        ensures { iter_mut_rest result ≡ self.old.spans }
+    {
+        self.spans.iter_mut()
+    }
+
+    /// A line of the spans that an iterator gives; refused where memory is.
+    pub fn try_from_iter<I>(alloc: Global, spans: I) -> Result<Line<'a>, AllocError>
+    where
+        I: IntoIterator<Item = Span<'a>>,
+        requires { (it : I.IntoIter) → I.into_iter_gives spans it → I.IntoIter.can_next it × IsFinite (I.IntoIter.remaining it) }
+        ensures { IfOk result (λ made. (it : I.IntoIter) × (items : List SpanData) × I.into_iter_gives spans it × Drains I.IntoIter.next_gives it items × (made ≡ line_of items)) }
+    {
+        Ok(Line::from(Vec::from_iter(alloc, spans)?))
+    }
+
+    /// Puts the spans that an iterator gives behind the others; where memory is refused those stay that came before.
+    pub fn try_extend<I>(&mut self, spans: I) -> Result<(), AllocError>
+    where
+        I: IntoIterator<Item = Span<'a>>,
+        requires { (it : I.IntoIter) → I.into_iter_gives spans it → I.IntoIter.can_next it × IsFinite (I.IntoIter.remaining it) }
+        ensures { ExtendsWithItems I.into_iter_gives I.IntoIter.next_gives (λ old more new. new ≡ record old { spans = old.spans ++ more }) spans self.old self.new result }
+    {
+        self.spans.extend(spans)
+    }
+
+    /// Puts a span behind the others; where memory is refused nothing changes.
+    pub fn push_span(&mut self, span: Span<'a>) -> Result<(), AllocError>
+        ensures ok { OnOk result (self.new ≡ with_span span.entry self.old) }
+        ensures err { OnErr result (self.new ≡ self.old) }
+    {
+        self.spans.push(span)
+    }
+
+    /// The line with a span behind the others; refused where memory is.
+    pub fn try_add(mut self, span: Span<'a>) -> Result<Line<'a>, AllocError>
+        ensures { IfOk result (λ l. l ≡ with_span span.entry self.entry) }
+    {
+        self.push_span(span)?;
+        Ok(self)
+    }
+
+    /// A text of this line and another one below it; refused where memory is.
+    pub fn try_add_line(self, line: Line<'a>) -> Result<Text<'a>, AllocError>
+        ensures { IfOk result (λ t. t ≡ text_of (self.entry ∷ line.entry ∷ [])) }
+    {
+        Text::from_line(self.spans.allocator(), self)?.try_add_line(line)
+    }
+
+    /// The texts of the spans, one behind the other; refused where memory is.
+    pub fn try_into_string(self) -> Result<String, AllocError>
+        ensures { IfOk result (λ s. string_bytes s ≡ line_content self.entry.spans) }
+    {
+        let mut content = String::new(self.spans.allocator());
+        for span in self.spans.as_slice() {
+            content.push_str(span.text())?;
+        }
+        Ok(content)
     }
 
     /// How many columns the spans take together, at most the greatest `usize`.
@@ -134,6 +308,39 @@ impl<'a> From<Vec<Span<'a>>> for Line<'a> {
     }
 }
 
+impl<'a> IntoIterator for Line<'a> {
+    type Item = Span<'a>;
+    type IntoIter = vec::IntoIter<Span<'a>>;
+
+    ghost into_iter_gives = { λ it items. into_iter_items items ≡ it.spans };
+
+    fn into_iter(self) -> vec::IntoIter<Span<'a>> {
+        self.spans.into_iter()
+    }
+}
+
+impl<'b, 'a> IntoIterator for &'b Line<'a> {
+    type Item = &'b Span<'a>;
+    type IntoIter = slice::Iter<'b, Span<'a>>;
+
+    ghost into_iter_gives = { λ it items. iter_rest items ≡ it.now.spans };
+
+    fn into_iter(self) -> slice::Iter<'b, Span<'a>> {
+        self.iter()
+    }
+}
+
+impl<'b, 'a> IntoIterator for &'b mut Line<'a> {
+    type Item = &'b mut Span<'a>;
+    type IntoIter = slice::IterMut<'b, Span<'a>>;
+
+    ghost into_iter_gives = { λ it items. iter_mut_rest items ≡ it.now.spans };
+
+    fn into_iter(self) -> slice::IterMut<'b, Span<'a>> {
+        self.iter_mut()
+    }
+}
+
 impl<'a> PartialEq for Line<'a> {
     ghost use Rattle.rtui_text.specs.LineHead.{line_head};
 
@@ -162,5 +369,17 @@ impl<'a> Hash for Line<'a> {
     fn hash<H: Hasher>(&self, state: &mut H) {
         self.head().hash(state);
         self.spans.hash(state);
+    }
+}
+
+/// The spans, one behind the other, each without its line breaks.
+impl fmt::Display for Line<'_> {
+    ghost output = { λ l. Some (printed_spans l.spans) };
+
+    fn fmt<W: fmt::Write>(&self, f: &mut fmt::Formatter<W>) -> fmt::Result {
+        for span in self.spans.as_slice() {
+            write!(f, "{span}")?;
+        }
+        Ok(())
     }
 }

@@ -1,4 +1,5 @@
-ghost use Rattle.std.specs.Prelude.{◌≡◌, ◌++◌, [], IfOk, nat_eq};
+ghost use Rattle.std.specs.Prelude.{◌≡◌, ◌++◌, [], ◌∷◌, Some, IfOk, nat_eq};
+ghost use Rattle.std.specs.String.{string_bytes};
 ghost use Rattle.std.specs.Cow.{cow_str_bytes};
 ghost use Rattle.std.specs.Hash as fed;
 ghost use Rattle.std.specs.Hash.{on_Alike, and-Alike};
@@ -7,14 +8,21 @@ ghost use Rattle.std.specs.Cmp.Lexicographic.{pointwise, nat_list_eq_equiv};
 ghost use Rattle.std.specs.Ordering.{on, eq_of_both};
 ghost use Rattle.rtui_style.specs.contracts.StyleEq.TheImpl.Laws.{laws-law as style_laws};
 ghost use Rattle.rtui_style.specs.contracts.StyleHash.TheImpl.Laws.{respects_eq-law as style_hashes};
-ghost use Rattle.rtui_text.specs.Text.{plain};
+ghost use Rattle.rtui_style.specs.Style.{patch, reset_style};
+ghost use Rattle.rtui_text.specs.Text.{plain, line_of};
 ghost use Rattle.rtui_text.specs.Widths.{span_width};
+ghost use Rattle.rtui_text.specs.Graphemes.{span_graphemes, span_graphemes_left};
+ghost use Rattle.rtui_text.specs.Display.{printed_span};
 ghost use Rattle.rtui_text.specs.Hashing.{text_Alike};
 
 use crate::columns::text_columns;
+use crate::grapheme::SpanGraphemes;
+use crate::line::Line;
+use rtui_layout::HorizontalAlignment;
 use rtui_style::Style;
 use std::alloc::{AllocError, Global};
 use std::borrow::CowStr;
+use std::fmt;
 use std::hash::{Hash, Hasher};
 use std::marker::Model;
 
@@ -52,14 +60,42 @@ impl<'a> Span<'a> {
         Span { style, content }
     }
 
+    /// The span with another text, which it borrows.
+    pub fn content(mut self, content: &'a str) -> Span<'a>
+        ensures { result ≡ record self.entry { content = content.now } }
+    {
+        self.content = CowStr::Borrowed(content);
+        self
+    }
+
+    /// The span in another style.
+    pub fn style(mut self, style: Style) -> Span<'a>
+        ensures { result ≡ record self.entry { style = style } }
+    {
+        self.style = style;
+        self
+    }
+
+    /// The span with a style laid over its own.
+    pub fn patch_style(mut self, style: Style) -> Span<'a>
+        ensures { result ≡ record self.entry { style = patch self.entry.style style } }
+    {
+        self.style = self.style.patch(style);
+        self
+    }
+
+    /// The span with the style laid over its own that sets all colours to the terminal's and takes every modifier away.
+    pub fn reset_style(self) -> Span<'a>
+        ensures { result ≡ record self.entry { style = patch self.entry.style reset_style } }
+    {
+        self.patch_style(Style::reset())
+    }
+
     /// The text.
     pub fn text(&self) -> &str
         ensures { result.now ≡ self.now.content }
     {
-        match &self.content {
-            CowStr::Borrowed(text) => text,
-            CowStr::Owned(text) => text.as_str(),
-        }
+        self.content.as_str()
     }
 
     /// How many columns the text takes. The half-width katakana sound marks take none.
@@ -67,6 +103,62 @@ impl<'a> Span<'a> {
         ensures { result ≡ span_width self.now }
     {
         text_columns(self.text())
+    }
+
+    /// The graphemes without a control character, each in the span's style over a base style.
+    pub fn styled_graphemes(&self, base_style: Style) -> SpanGraphemes<'_>
+        ensures { span_graphemes_left result ≡ span_graphemes base_style self.now }
+    {
+        SpanGraphemes::new(self.text(), base_style.patch(self.style))
+    }
+
+    /// A line of this span, aligned to the left; refused where memory is.
+    pub fn into_left_aligned_line(self, alloc: Global) -> Result<Line<'a>, AllocError>
+        ensures { IfOk result (λ l. l ≡ record (line_of (self.entry ∷ [])) { alignment = Some HorizontalAlignment.Left }) }
+    {
+        Ok(Line::from_span(alloc, self)?.left_aligned())
+    }
+
+    /// The older name of `into_left_aligned_line`.
+    pub fn to_left_aligned_line(self, alloc: Global) -> Result<Line<'a>, AllocError>
+        ensures { IfOk result (λ l. l ≡ record (line_of (self.entry ∷ [])) { alignment = Some HorizontalAlignment.Left }) }
+    {
+        self.into_left_aligned_line(alloc)
+    }
+
+    /// A line of this span, centred; refused where memory is.
+    pub fn into_centered_line(self, alloc: Global) -> Result<Line<'a>, AllocError>
+        ensures { IfOk result (λ l. l ≡ record (line_of (self.entry ∷ [])) { alignment = Some HorizontalAlignment.Center }) }
+    {
+        Ok(Line::from_span(alloc, self)?.centered())
+    }
+
+    /// The older name of `into_centered_line`.
+    pub fn to_centered_line(self, alloc: Global) -> Result<Line<'a>, AllocError>
+        ensures { IfOk result (λ l. l ≡ record (line_of (self.entry ∷ [])) { alignment = Some HorizontalAlignment.Center }) }
+    {
+        self.into_centered_line(alloc)
+    }
+
+    /// A line of this span, aligned to the right; refused where memory is.
+    pub fn into_right_aligned_line(self, alloc: Global) -> Result<Line<'a>, AllocError>
+        ensures { IfOk result (λ l. l ≡ record (line_of (self.entry ∷ [])) { alignment = Some HorizontalAlignment.Right }) }
+    {
+        Ok(Line::from_span(alloc, self)?.right_aligned())
+    }
+
+    /// The older name of `into_right_aligned_line`.
+    pub fn to_right_aligned_line(self, alloc: Global) -> Result<Line<'a>, AllocError>
+        ensures { IfOk result (λ l. l ≡ record (line_of (self.entry ∷ [])) { alignment = Some HorizontalAlignment.Right }) }
+    {
+        self.into_right_aligned_line(alloc)
+    }
+
+    /// A line of this span and another behind it; refused where memory is.
+    pub fn try_add(self, alloc: Global, other: Span<'a>) -> Result<Line<'a>, AllocError>
+        ensures { IfOk result (λ l. l ≡ line_of (self.entry ∷ other.entry ∷ [])) }
+    {
+        Line::from_span(alloc, self)?.try_add(other)
     }
 
     /// An equal span, which borrows what this one borrows; refused where memory is.
@@ -115,5 +207,47 @@ impl<'a> Default for Span<'a> {
 
     fn default() -> Span<'a> {
         Span::raw("")
+    }
+}
+
+/// Borrows the text.
+impl<'a> From<&'a str> for Span<'a> {
+    ghost from_gives = { λ text s. s ≡ plain text.now };
+
+    fn from(text: &'a str) -> Span<'a> {
+        Span::raw(text)
+    }
+}
+
+/// Takes the text over.
+impl<'a> From<String> for Span<'a> {
+    ghost from_gives = { λ text s. s ≡ plain (string_bytes text) };
+
+    fn from(text: String) -> Span<'a> {
+        Span::from(CowStr::Owned(text))
+    }
+}
+
+/// Borrows the text, or takes it over.
+impl<'a> From<CowStr<'a>> for Span<'a> {
+    ghost from_gives = { λ text s. s ≡ plain (cow_str_bytes text) };
+
+    fn from(content: CowStr<'a>) -> Span<'a> {
+        Span {
+            style: Style::new(),
+            content,
+        }
+    }
+}
+
+/// The lines of the text, without their breaks.
+impl fmt::Display for Span<'_> {
+    ghost output = { λ s. Some (printed_span s) };
+
+    fn fmt<W: fmt::Write>(&self, f: &mut fmt::Formatter<W>) -> fmt::Result {
+        for line in self.text().lines() {
+            f.write_str(line)?;
+        }
+        Ok(())
     }
 }

@@ -1,5 +1,7 @@
 ghost use Rattle.std.specs.Prelude.{◌≡◌, ◌↔◌, ◌++◌, [], ◌∷◌, length, IsTrue, IfOk, OnOk, OnErr};
-ghost use Rattle.std.specs.Slice.Iter.{iter_rest};
+ghost use Rattle.std.specs.Slice.Iter.{iter_rest, iter_mut_rest};
+ghost use Rattle.std.specs.Vec.Iter.{into_iter_items};
+ghost use Rattle.std.specs.Iterator.{IsFinite, ExtendsWithItems};
 ghost use Rattle.std.specs.Hash as fed;
 ghost use Rattle.std.specs.Hash.{items_Alike};
 ghost use Rattle.std.specs.Cmp.{partial_equiv_from_equiv};
@@ -12,6 +14,7 @@ use std::alloc::{AllocError, Global};
 use std::hash::{Hash, Hasher};
 use std::marker::Model;
 use std::slice;
+use std::vec;
 
 /// The spans of a line, in order.
 #[derive(Debug, Drop)]
@@ -63,11 +66,30 @@ impl<'a> Spans<'a> {
         self.items.as_slice()
     }
 
+    /// The spans, in order, to be written.
+    pub fn as_mut_slice(&mut self) -> &mut [Span<'a>]
+        ensures { result.now ≡ self.old }
+    {
+        self.items.as_mut_slice()
+    }
+
+    /// What the list takes its memory from.
+    pub fn allocator(&self) -> Global {
+        *self.items.allocator()
+    }
+
     /// The spans, one by one.
     pub fn iter(&self) -> slice::Iter<'_, Span<'a>>
         ensures { iter_rest result ≡ self.now }
     {
         self.items.iter()
+    }
+
+    /// The spans, one by one, to be written.
+    pub fn iter_mut(&mut self) -> slice::IterMut<'_, Span<'a>>
+        ensures { iter_mut_rest result ≡ self.old }
+    {
+        self.as_mut_slice().iter_mut()
     }
 
     /// The list of the spans; takes no memory.
@@ -100,6 +122,14 @@ impl<'a> Spans<'a> {
         self.items.push(span)?;
         Ok(())
     }
+
+    /// Puts the spans that an iterator gives behind these; where memory is refused those stay that came before.
+    pub fn extend<I: IntoIterator<Item = Span<'a>>>(&mut self, spans: I) -> Result<(), AllocError>
+        requires { (it : I.IntoIter) → I.into_iter_gives spans it → I.IntoIter.can_next it × IsFinite (I.IntoIter.remaining it) }
+        ensures { ExtendsWithItems I.into_iter_gives I.IntoIter.next_gives (λ old more new. new ≡ old ++ more) spans self.old self.new result }
+    {
+        self.items.extend(spans)
+    }
 }
 
 /// Takes no memory.
@@ -108,6 +138,17 @@ impl<'a> From<Vec<Span<'a>>> for Spans<'a> {
 
     fn from(items: Vec<Span<'a>>) -> Spans<'a> {
         Spans { items }
+    }
+}
+
+impl<'a> IntoIterator for Spans<'a> {
+    type Item = Span<'a>;
+    type IntoIter = vec::IntoIter<Span<'a>>;
+
+    ghost into_iter_gives = { λ spans it. into_iter_items it ≡ spans };
+
+    fn into_iter(self) -> vec::IntoIter<Span<'a>> {
+        self.into_vec().into_iter()
     }
 }
 

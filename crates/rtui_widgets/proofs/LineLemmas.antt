@@ -1,0 +1,171 @@
+-- How lines are rendered.
+use Rattle.std.proofs.Common.{◌≡◌, ℕ, ◌+◌, ◌-◌, ◌<◌, ◌≤◌, Bool, true, false, cond, min, List, [], ◌∷◌, ◌++◌, length, take, drop, sum_by, refl, sym, ap, ◌∙◌, ⊎_elim, arith, append_assoc, take-add, take-append-drop}
+use Rattle.std.specs.Prelude.{nat_le, Option, ◌==◌}
+use Rattle.rtui_layout.specs.declared.alignment.HorizontalAlignment.{HorizontalAlignment}
+use Rattle.std.proofs.lemmas.Bool.Decides.{nat_tests}
+use Rattle.std.proofs.lemmas.Bool.{cases_lt}
+use Rattle.std.proofs.lemmas.List.{take_all, drop_all, append-nil, length-drop, length-take, length-append, drop-drop, drop_at, take_at}
+use Rattle.rtui_cell.specs.declared.cell.Cell.{Cell}
+use Rattle.rtui_style.specs.declared.Style.{Style}
+use Rattle.rtui_text.specs.Text.{SpanData, LineData, line_of}
+use Rattle.rtui_cell.specs.Width.{text_columns}
+use Rattle.rtui_text.specs.Widths.{span_width}
+use Rattle.rtui_widgets.specs.Span.{span_rendered}
+use Rattle.rtui_widgets.proofs.SpanLemmas.{length-span_rendered, rendered-nothing}
+use Rattle.rtui_widgets.specs.Line.{Part, last_fitting, part_of, parts, behind_first, parts_rendered, line_rendered}
+
+-- ---- the end of a text
+
+pub last_fitting-fits : (room : ℕ) (gs : List (List ℕ)) → sum_by text_columns gs ≤ room → last_fitting room gs ≡ gs
+unfolding last_fitting
+last_fitting-fits room [] le = refl
+last_fitting-fits room (g ∷ gs) le = let yes : nat_le (sum_by text_columns (g ∷ gs)) room ≡ true = grind (arith, nat_tests, le) in rw yes
+
+pub last_fitting-drop : (room : ℕ) (g : List ℕ) (gs : List (List ℕ)) → room < sum_by text_columns (g ∷ gs) → last_fitting room (g ∷ gs) ≡ last_fitting room gs
+unfolding last_fitting
+last_fitting-drop room g gs lt = let no : nat_le (sum_by text_columns (g ∷ gs)) room ≡ false = grind (arith, nat_tests, lt) in rw no
+
+-- ---- spans
+
+pub parts-nil : (skip : ℕ) (row : List Cell) → parts_rendered (parts skip []) row ≡ row
+unfolding parts parts_rendered
+parts-nil skip row = refl
+
+pub parts-skip : (skip : ℕ) (s : SpanData) (ss : List SpanData) → span_width s ≤ skip → parts skip (s ∷ ss) ≡ parts (skip - span_width s) ss
+unfolding parts
+parts-skip skip s ss le = let yes : nat_le (span_width s) skip ≡ true = grind (arith, nat_tests, le) in rw yes
+
+pub parts-take : (skip : ℕ) (s : SpanData) (ss : List SpanData) → skip < span_width s → parts skip (s ∷ ss) ≡ part_of skip s ∷ parts 0 ss
+unfolding parts
+parts-take skip s ss lt =
+    let no : nat_le (span_width s) skip ≡ false = grind (arith, nat_tests, lt) in
+    let none : skip - span_width s ≡ 0 = omega arith in
+    rw (no, none)
+
+take-min : {A : Type 0} (n : ℕ) (l : List A) → take (min n (length l)) l ≡ take n l
+take-min n l = ⊎_elim (λ (a : n < length l). (let e : min n (length l) ≡ n = omega arith in rw e)) (λ (b : length l ≤ n). (let e : min n (length l) ≡ length l = omega arith in rw e (take_all (length l) l (omega arith) ∙ sym (take_all n l b)))) (cases_lt n (length l))
+
+drop-min : {A : Type 0} (n : ℕ) (l : List A) → drop (min n (length l)) l ≡ drop n l
+drop-min n l = ⊎_elim (λ (a : n < length l). (let e : min n (length l) ≡ n = omega arith in rw e)) (λ (b : length l ≤ n). (let e : min n (length l) ≡ length l = omega arith in rw e (drop_all (length l) l (omega arith) ∙ sym (drop_all n l b)))) (cases_lt n (length l))
+
+rendered-part : (p : Part) (ps : List Part) (row : List Cell)
+    → parts_rendered (p ∷ ps) row ≡ behind_first p.indent (λ left. behind_first p.width (parts_rendered ps) (span_rendered p.style p.content left)) row
+unfolding parts_rendered
+rendered-part p ps row = refl
+
+rest-none : {A : Type 0} (a : ℕ) (xs : List A) → drop (length xs - a) (drop a xs) ≡ []
+rest-none a xs = drop_all (length xs - a) (drop a xs) (omega (arith, length-drop a xs))
+
+rest-all : {A : Type 0} (a : ℕ) (xs : List A) → take (length xs - a) (drop a xs) ≡ drop a xs
+rest-all a xs = take_all (length xs - a) (drop a xs) (omega (arith, length-drop a xs))
+
+drop-front : {A : Type 0} (n m : ℕ) (xs ys : List A) → length xs ≡ n → drop (n + m) (xs ++ ys) ≡ drop m ys
+drop-front n m xs ys e = sym (drop-drop m n (xs ++ ys)) ∙ ap (drop m) (drop_at xs ys n e)
+
+take-front : {A : Type 0} (n m : ℕ) (xs ys : List A) → length xs ≡ n → take (n + m) (xs ++ ys) ≡ xs ++ take m ys
+take-front n m xs ys e = take-add n m (xs ++ ys) ∙ rw (take_at xs ys n e, drop_at xs ys n e)
+
+pub length-rest : (a : ℕ) (row : List Cell) → length (take (length row - a) (drop a row)) ≡ length row - a
+length-rest a row = ap length (rest-all a row) ∙ length-drop a row
+
+-- a row of which the columns from a on were lent has as many columns as before
+pub length-lent : (a : ℕ) (row part : List Cell) → a ≤ length row → length part ≡ length row - a → length (take a row ++ (part ++ drop (length row - a) (drop a row))) ≡ length row
+length-lent a row part le e = simp (length-append, length-take, length-drop) (omega arith)
+
+-- in no column nothing shows
+pub span-none : (style : Style) (text : List ℕ) → span_rendered style text [] ≡ []
+span-none style text = sym (rendered-nothing style text [] refl)
+
+parts-done : (row : List Cell) → parts_rendered [] row ≡ row
+unfolding parts_rendered
+parts-done row = refl
+
+take-none : (n : ℕ) (none : List Cell) → length none ≡ 0 → take n none ≡ none
+take-none n none e = take_all n none (omega arith)
+
+drop-none : (n : ℕ) (none : List Cell) → length none ≡ 0 → drop n none ≡ []
+drop-none n none e = drop_all n none (omega arith)
+
+parts-none : (ps : List Part) → parts_rendered ps [] ≡ []
+parts-none [] = parts-done []
+parts-none (p ∷ ps) = rendered-part p ps [] ∙ rw (take-none p.indent [] refl, drop-none p.indent [] refl, span-none p.style p.content, take-none p.width [] refl, drop-none p.width [] refl) (parts-none ps)
+
+-- where the part's indent takes all columns that are left, nothing of it and of the others shows
+pub parts-past : (p : Part) (ps : List Part) (row : List Cell) (start start1 : ℕ) → start ≤ length row → start1 ≡ start + min p.indent (length row - start) → start1 ≡ length row
+    → row ≡ behind_first start (parts_rendered (p ∷ ps)) row
+parts-past p ps row start start1 within s1 past =
+    let all : take p.indent (drop start row) ≡ drop start row = take_all p.indent (drop start row) (omega (arith, length-drop start row)) in
+    let none : drop p.indent (drop start row) ≡ [] = drop_all p.indent (drop start row) (omega (arith, length-drop start row)) in
+    sym (rw (rendered-part, all, none, span-none p.style p.content, take-none p.width [] refl, drop-none p.width [] refl, parts-none ps, append-nil) (take-append-drop start row))
+
+-- a part in the columns from start on: in front of the row that is left, what is done
+module _ (p : Part) (ps : List Part) (row part : List Cell) (start start1 start2 : ℕ) (within : start ≤ length row)
+    (s1 : start1 ≡ start + min p.indent (length row - start))
+    (is : part ≡ span_rendered p.style p.content (take (length row - start1) (drop start1 row)))
+    (s2 : start2 ≡ start1 + min p.width (length row - start1)) where
+  abbrev shown : List Cell
+  shown = span_rendered p.style p.content (drop start1 row)
+
+  lent : take start1 row ++ (part ++ drop (length row - start1) (drop start1 row)) ≡ take start1 row ++ shown
+  lent = rw (rest-none start1 row, append-nil) (ap (λ cells. take start1 row ++ cells) (is ∙ ap (span_rendered p.style p.content) (rest-all start1 row)))
+
+  count : length shown ≡ length row - start1
+  count = length-span_rendered p.style p.content (drop start1 row) ∙ length-drop start1 row
+
+  front : length (take start1 row) ≡ start1
+  front = length-take start1 row ∙ omega arith
+
+  done : take start2 (take start1 row ++ shown) ≡ take start1 row ++ take p.width shown
+  done = rw (s2, ← count) (take-front start1 (min p.width (length shown)) (take start1 row) shown front ∙ ap (λ cells. take start1 row ++ cells) (take-min p.width shown))
+
+  left : drop start2 (take start1 row ++ shown) ≡ drop p.width shown
+  left = rw (s2, ← count) (drop-front start1 (min p.width (length shown)) (take start1 row) shown front ∙ drop-min p.width shown)
+
+  indented : take start1 row ≡ take start row ++ take p.indent (drop start row)
+  indented = rw (s1, ← length-drop start row) (take-add start (min p.indent (length (drop start row))) row ∙ ap (λ cells. take start row ++ cells) (take-min p.indent (drop start row)))
+
+  behind : drop start1 row ≡ drop p.indent (drop start row)
+  behind = rw (s1, ← length-drop start row) (sym (drop-drop (min p.indent (length (drop start row))) start row) ∙ drop-min p.indent (drop start row))
+
+  pub part-turn : behind_first start2 (parts_rendered ps) (take start1 row ++ (part ++ drop (length row - start1) (drop start1 row))) ≡ behind_first start (parts_rendered (p ∷ ps)) row
+  part-turn =
+      let both : take start row ++ (take p.indent (drop start row) ++ (take p.width shown ++ parts_rendered ps (drop p.width shown))) ≡ (take start1 row ++ take p.width shown) ++ parts_rendered ps (drop p.width shown) =
+      sym (append_assoc (take start row) (take p.indent (drop start row)) (take p.width shown ++ parts_rendered ps (drop p.width shown)))
+      ∙ ap (λ cells. cells ++ (take p.width shown ++ parts_rendered ps (drop p.width shown))) (sym indented)
+      ∙ sym (append_assoc (take start1 row) (take p.width shown) (parts_rendered ps (drop p.width shown))) in
+      let here : behind_first start2 (parts_rendered ps) (take start1 row ++ shown) ≡ (take start1 row ++ take p.width shown) ++ parts_rendered ps (drop p.width shown) = rw (done, left) refl in
+      let there : parts_rendered (p ∷ ps) (drop start row) ≡ take p.indent (drop start row) ++ (take p.width shown ++ parts_rendered ps (drop p.width shown)) = rendered-part p ps (drop start row) ∙ rw (← behind) refl in
+      ap (behind_first start2 (parts_rendered ps)) lent ∙ here ∙ sym both ∙ sym (ap (λ cells. take start row ++ cells) there)
+
+pub parts-end : (skip : ℕ) (ss : List SpanData) (row : List Cell) → length ss ≡ 0 → row ≡ parts_rendered (parts skip ss) row
+parts-end skip [] row e = sym (parts-nil skip row)
+parts-end skip (s ∷ ss) row e = absurd (omega arith)
+
+pub parts-with : (skip : ℕ) (s : SpanData) (all ss : List SpanData) (row new : List Cell) → all ≡ s ∷ ss → skip < span_width s
+    → new ≡ parts_rendered (part_of skip s ∷ parts 0 ss) row → new ≡ parts_rendered (parts skip all) row
+parts-with skip s all ss row new is lt h = h ∙ ap (λ ps. parts_rendered ps row) (sym (ap (parts skip) is ∙ parts-take skip s ss lt))
+
+part-style-cases : (b : Bool) (p q : Part) (s : Style) → p.style ≡ s → q.style ≡ s → (cond b p q).style ≡ s
+part-style-cases true p q s e h = e
+part-style-cases false p q s e h = h
+
+pub part-style : (skip : ℕ) (s : SpanData) → (part_of skip s).style ≡ s.style
+part-style skip s = part-style-cases _ _ _ s.style refl refl
+
+same-either : (b : Bool) (row : List Cell) → cond b row row ≡ row
+same-either true row = refl
+same-either false row = refl
+
+-- a line without spans leaves the row as it is
+pub line-none : (alignment : Option HorizontalAlignment) (row : List Cell) → line_rendered alignment (line_of []) row ≡ row
+unfolding line_rendered
+line-none alignment row = same-either (length row == 0) row
+
+-- in no column nothing of a line shows
+pub line-in_none : (alignment : Option HorizontalAlignment) (line : LineData) → line_rendered alignment line [] ≡ []
+unfolding line_rendered
+line-in_none alignment line = refl
+
+pub ruleset end_steps = (last_fitting-fits, last_fitting-drop)
+
+pub ruleset spans_steps = (parts-nil, parts-skip, parts-take)

@@ -1,0 +1,33 @@
+use Rattle.std.proofs.Common.{◌≡◌, ℕ, ◌+◌, ◌-◌, List, length, take, drop, rules, arith, ap}
+use Rattle.std.proofs.lemmas.Result.{on_ok_weaker}
+use Rattle.std.specs.Prelude.{OnOk}
+use Rattle.rtui_cell.specs.declared.cell.Cell.{Cell}
+use Rattle.rtui_widgets.specs.Span.{span_rendered}
+use Rattle.rtui_widgets.specs.Rendering.{in_first_row}
+use Rattle.rtui_widgets.proofs.LineLemmas.{span-none}
+use Rattle.rtui_widgets.proofs.SheetLemmas.{renders-nothing, first-none, first-renders, first-changes}
+use Rattle.rtui_widgets.proofs.buffer.span_in.Goals as goal
+
+pub returns-in_default-clause-ok : goal.returns-in_default-clause-ok
+returns-in_default-clause-ok c = renders-nothing c.args.area (in_first_row (span_rendered c.args.span.now.style c.args.span.now.content)) c.args.buf.now (first-none (span_rendered c.args.span.now.style c.args.span.now.content) (span-none c.args.span.now.style c.args.span.now.content)) (search rules)
+
+pub returns-clause-ok : goal.returns-clause-ok
+returns-clause-ok c =
+    let value = c.cells_mut-cells.ensures.cells in
+    let at : ℕ = c.index_of-start.result in
+    let n : ℕ = at + c.from.result - at in
+    let g : List Cell → List Cell = span_rendered c.args.span.now.style c.args.span.now.content in
+    let row : List Cell = c.render_span.new.row in
+    let count : length row ≡ length (take n (drop at c.args.buf.now.cells)) = rw (← value) c.render_span.auto.row in
+    let style : c.span.inside.style ≡ c.args.span.now.style = ap (λ s. s.style) c.span.view_is in
+    let ran : OnOk c.render_span.result (row ≡ g (take n (drop at c.args.buf.now.cells))) = rw (← style, ← c.text.ensures, ← value) c.render_span.ensures in
+    rw value (on_ok_weaker c.render_span.result (λ e. first-renders c.args.area c.args.buf.now c.in-Some.part c.in-Some.ensures at n row c.index_of-start.ensures.value (omega (arith, c.from.ensures)) (rw (← value) c.cells_mut-cells.ensures.count) count g e) ran)
+
+pub returns-clause-err : goal.returns-clause-err
+returns-clause-err c =
+    let value = c.cells_mut-cells.ensures.cells in
+    let at : ℕ = c.index_of-start.result in
+    let n : ℕ = at + c.from.result - at in
+    let row : List Cell = c.render_span.new.row in
+    let count : length row ≡ length (take n (drop at c.args.buf.now.cells)) = rw (← value) c.render_span.auto.row in
+    rw value (search (rules, first-changes c.args.area c.args.buf.now c.in-Some.part c.in-Some.ensures at n row c.index_of-start.ensures.value (omega (arith, c.from.ensures)) (rw (← value) c.cells_mut-cells.ensures.count) count))

@@ -1,0 +1,31 @@
+use Rattle.std.proofs.Common.{◌≡◌, length, rules, arith, ap, ◌∙◌}
+use Rattle.std.proofs.lemmas.Result.{on_ok_weaker, on_err_weaker}
+use Rattle.rtui_buffer.specs.Sheet.{area_size}
+use Rattle.rtui_widgets.specs.Rendering.{text_row}
+use Rattle.rtui_widgets.proofs.LineLemmas.{line-in_none}
+use Rattle.rtui_widgets.proofs.SheetLemmas.{renders-nothing, rows-inside, lent-renders, lent-changes}
+use Rattle.rtui_widgets.proofs.buffer.text_in.Goals as goal
+
+pub returns-in_default-clause-ok : goal.returns-in_default-clause-ok
+returns-in_default-clause-ok c = renders-nothing c.args.area (text_row c.args.text.now) c.args.buf.now (λ k. line-in_none _ _) (search rules)
+
+pub render_rows-requires-clause-inside : goal.render_rows-requires-clause-inside
+render_rows-requires-clause-inside c = λ k lt.
+    let stride : c.from-stride.result ≡ c.args.buf.now.area.width = c.from-stride.ensures ∙ ap (λ a. a.width) c.area.ensures.area in
+    let count : length c.args.buf.now.cells ≡ area_size c.args.buf.now.area = rw (← c.cells_mut.ensures.cells) c.cells_mut.ensures.count in
+    rw (stride, c.index_of-start.ensures.value, c.from.ensures, c.cells_mut.ensures.cells)
+    (rows-inside c.args.area c.args.buf.now c.in-Some.part c.in-Some.ensures count k (omega (arith, lt, c.from-2.ensures)))
+
+pub returns-clause-ok : goal.returns-clause-ok
+returns-clause-ok c =
+    let stride : c.from-stride.result ≡ c.args.buf.now.area.width = c.from-stride.ensures ∙ ap (λ a. a.width) c.area.ensures.area in
+    let value = c.cells_mut.ensures.cells in
+    let same : length c.render_rows.new.cells ≡ length c.args.buf.now.cells = rw (← value) c.render_rows.auto.cells in
+    on_ok_weaker c.render_rows.result (λ made. lent-renders c.args.area c.args.buf.now c.in-Some.part c.in-Some.ensures _ _ _ _ c.render_rows.new.cells c.index_of-start.ensures.value c.from.ensures stride c.from-2.ensures same (text_row c.args.text.now) (rw (← value) made)) c.render_rows.ensures.ok
+
+pub returns-clause-err : goal.returns-clause-err
+returns-clause-err c =
+    let stride : c.from-stride.result ≡ c.args.buf.now.area.width = c.from-stride.ensures ∙ ap (λ a. a.width) c.area.ensures.area in
+    let value = c.cells_mut.ensures.cells in
+    let same : length c.render_rows.new.cells ≡ length c.args.buf.now.cells = rw (← value) c.render_rows.auto.cells in
+    on_err_weaker c.render_rows.result (λ keeps. lent-changes c.args.area c.args.buf.now c.in-Some.part c.in-Some.ensures _ _ _ _ c.render_rows.new.cells c.index_of-start.ensures.value c.from.ensures stride c.from-2.ensures same (rw (← value) keeps)) c.render_rows.ensures.err

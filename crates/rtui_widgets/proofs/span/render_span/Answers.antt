@@ -1,0 +1,83 @@
+use Rattle.std.proofs.Common.{◌≡◌, ◌∷◌, [], ◌++◌, ◌-◌, ◌<◌, true, false, length, refl, rules, arith, ◌∙◌}
+use Rattle.std.proofs.lemmas.Grind.{common_steps}
+use Rattle.std.proofs.lemmas.Bool.Decides.{nat_tests}
+use Rattle.unicode_segmentation.specs.Grapheme.{graphemes}
+use Rattle.unicode_segmentation.specs.Iter.{graphemes_left}
+use Rattle.rtui_cell.specs.Width.{text_width}
+use Rattle.rtui_text.specs.Graphemes.{has_control}
+use Rattle.rtui_widgets.proofs.SpanLemmas.{rendered_of, front-skip, front-turn, front-full, front-end, append-some, end-more, end-none, IsRowWith-none, IsRowWith-turn}
+use Rattle.rtui_widgets.proofs.span.render_span.Goals as goal
+
+pub loop-grapheme-init : goal.loop-grapheme-init
+loop-grapheme-init c =
+    let some_ : 0 < length c.args.row.now = grind (arith, nat_tests, common_steps) in
+    let left : graphemes_left c.into_iter-grapheme-iterator.result ≡ graphemes true c.args.text.now = cc in
+    let all : length c.args.row.now - 0 ≡ length c.args.row.now = omega arith in (
+      [],
+      record {
+        can = search rules;
+        ends = search rules;
+        some = some_;
+        within = omega arith;
+        at = end-none;
+        first = λ _. refl;
+        later = λ (h : true ≡ false). cc;
+        front = rw (left, all);
+        row = IsRowWith-none _ _;
+      },
+    )
+
+pub loop-grapheme-preserved-then-has_control : goal.loop-grapheme-preserved-then-has_control
+loop-grapheme-preserved-then-has_control c =
+    let i = c.loop-grapheme.invariant.1 in
+    let is : graphemes_left c.loop-grapheme.grapheme-iterator ≡ c.in-Some.grapheme.now ∷ graphemes_left c.next.new.self = search rules in
+    let control : has_control c.in-Some.grapheme.now ≡ true = cc in (
+      c.loop-grapheme.invariant.0,
+      record {
+        can = search rules;
+        ends = search rules;
+        some = i.some;
+        within = i.within;
+        at = i.at;
+        first = i.first;
+        later = i.later;
+        front = front-skip _ _ _ _ _ _ is control i.front;
+        row = i.row;
+      },
+    )
+
+pub returns-then-width-row : goal.returns-then-width-row
+returns-then-width-row c =
+    let i = c.loop-grapheme.invariant.1 in
+    let is : graphemes_left c.loop-grapheme.grapheme-iterator ≡ c.in-Some.grapheme.now ∷ graphemes_left c.next.new.self = search rules in
+    let control : has_control c.in-Some.grapheme.now ≡ false = cc in
+    let width : c.from-width.result ≡ text_width c.in-Some.grapheme.now = c.from-width.ensures ∙ c.cell_width.ensures in
+    rendered_of _ _ _ _ _ i.row (front-full _ _ _ _ _ _ _ is control width c.if-width-row.true i.front)
+
+pub loop-grapheme-preserved : goal.loop-grapheme-preserved
+loop-grapheme-preserved c =
+    let i = c.loop-grapheme.invariant.1 in
+    let gs = c.loop-grapheme.invariant.0 in
+    let is : graphemes_left c.loop-grapheme.grapheme-iterator ≡ c.in-Some.grapheme.now ∷ graphemes_left c.next.new.self = search rules in
+    let control : has_control c.in-Some.grapheme.now ≡ false = cc in
+    let width : c.from-width.result ≡ text_width c.in-Some.grapheme.now = c.from-width.ensures ∙ c.cell_width.ensures in
+    let same : length c.put_next.new.row ≡ length c.loop-grapheme.row = search rules in
+    let more = IsRowWith-turn _ gs c.in-Some.grapheme.now _ c.loop-grapheme.is_first _ _ i.at i.first i.later (omega (arith, i.row.count, width)) (omega (arith, i.row.count)) i.row in (
+      gs ++ c.in-Some.grapheme.now ∷ [],
+      record {
+        can = search rules;
+        ends = search rules;
+        some = omega arith;
+        within = omega arith;
+        at = end-more _ _ _ _ width i.at;
+        first = λ (h : false ≡ true). cc;
+        later = λ _. append-some _ _;
+        front = rw same (front-turn _ _ _ _ _ _ _ _ is control width (omega arith) i.front);
+        row = rw c.in_ok-put_next.ensures more;
+      },
+    )
+
+pub returns : goal.returns
+returns c =
+    let i = c.loop-grapheme.invariant.1 in
+    rendered_of _ _ _ _ _ i.row (front-end _ _ _ _ (search rules) i.front)

@@ -1,0 +1,74 @@
+-- What rendering spans, lines and texts makes of a buffer.
+use Rattle.std.specs.Prelude.{ℕ, ◌+◌, ◌<◌, ◌≤◌, ◌≡◌, ◌==◌, List, [], Option, Some, None, map, take, drop, min, max, if◌then◌else◌, slice_index_or}
+use Rattle.rtui_geometry.specs.declared.position.Position.{Position}
+use Rattle.rtui_geometry.specs.declared.rect.Rect.{Rect}
+use Rattle.rtui_geometry.specs.Rect.{HasPosition, right_edge, bottom_edge, spanning}
+use Rattle.rtui_layout.specs.declared.alignment.HorizontalAlignment.{HorizontalAlignment}
+use Rattle.rtui_cell.specs.declared.cell.Cell.{Cell}
+use Rattle.rtui_cell.specs.Cell.{styled}
+use Rattle.rtui_text.specs.Text.{SpanData, LineData, TextData, line_of}
+use Rattle.rtui_buffer.specs.Sheet.{Sheet, cell_index, cell_in}
+use Rattle.rtui_style.specs.Style.{new_style}
+use Rattle.rtui_buffer.specs.PaintedText.{HasRow, pieces_at, Paints}
+use Rattle.rtui_widgets.specs.Span.{span_rendered}
+use Rattle.rtui_widgets.specs.Line.{line_rendered}
+
+-- the part of an area that lies in a buffer's
+abbrev pub clipped : Rect → Rect → Rect
+clipped area own = spanning (max area.x own.x) (max area.y own.y) (min (right_edge area) (right_edge own)) (min (bottom_edge area) (bottom_edge own))
+
+-- row k of a rectangle in a buffer, from left to right
+abbrev pub row_of : Rect → ℕ → Sheet → List Cell
+row_of r k s = take r.width (drop (cell_index s.area (record { x = r.x; y = r.y + k })) s.cells)
+
+-- no cell outside an area changed
+pub record ChangesWithin (area : Rect) (old new : Sheet) : Type 0 where
+  pub same_area : new.area ≡ old.area
+  pub same_room : new.room ≡ old.room
+  pub outside : (p : Position) → HasPosition old.area p → ¬ (HasPosition area p) → cell_in new p ≡ cell_in old p
+
+-- each row of an area, as far as the buffer has it, is what f makes of it, and nothing else changed
+pub record RendersRows (area : Rect) (f : ℕ → List Cell → List Cell) (old new : Sheet) : Type 0 where
+  pub within : ChangesWithin area old new
+  pub rows : (k : ℕ) → k < (clipped area old.area).height → row_of (clipped area old.area) k new ≡ f k (row_of (clipped area old.area) k old)
+
+-- f in the first row, and nothing in the others
+abbrev pub in_first_row : (List Cell → List Cell) → ℕ → List Cell → List Cell
+in_first_row f k row = if k == 0 then f row else row
+
+abbrev pub RendersSpan : SpanData → Rect → Sheet → Sheet → Type 0
+RendersSpan span area = RendersRows area (in_first_row (span_rendered span.style span.content))
+
+abbrev pub RendersLine : LineData → Rect → Sheet → Sheet → Type 0
+RendersLine line area = RendersRows area (in_first_row (line_rendered line.alignment line))
+
+-- the first alignment if there is one, else the second
+abbrev pub alignment_or : Option HorizontalAlignment → Option HorizontalAlignment → Option HorizontalAlignment
+alignment_or None other = other
+alignment_or (Some alignment) other = Some alignment
+
+-- line k of a text, or one without spans where it has none
+abbrev pub line_at : TextData → ℕ → LineData
+line_at text k = slice_index_or text.lines k (line_of [])
+
+-- row k of a text: under its line, aligned as the text is where the line doesn't say how, the style of the whole
+abbrev pub text_row : TextData → ℕ → List Cell → List Cell
+text_row text k row =
+    let line = line_at text k in
+    line_rendered (alignment_or line.alignment text.alignment) line (map (styled text.style) row)
+
+abbrev pub RendersText : TextData → Rect → Sheet → Sheet → Type 0
+RendersText text area = RendersRows area (text_row text)
+
+-- the first row of an area
+abbrev pub first_row : Rect → Rect
+first_row area = record area { height = 1 }
+
+-- the first row of an area lies in the buffer's, and doesn't begin left of it
+pub record HasFirstRow (area : Rect) (s : Sheet) : Type 0 where
+  pub row : HasRow s.area area.y
+  pub column : s.area.x ≤ area.x
+
+-- a text painted from the corner of an area on, in at most the area's columns
+abbrev pub PaintsText : List ℕ → Rect → Sheet → Sheet → Type 0
+PaintsText text area old = Paints (record { x = area.x; y = area.y }) (pieces_at old.area area.x area.width new_style text) old

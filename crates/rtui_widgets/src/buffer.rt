@@ -1,0 +1,76 @@
+//! Spans, lines and texts in a buffer.
+
+ghost use Rattle.std.specs.Prelude.{◌≡◌, ◌⊎◌, MatchOption, OnOk, OnErr};
+ghost use Rattle.rtui_widgets.specs.Rendering.{RendersSpan, RendersLine, RendersText, ChangesWithin, clipped};
+ghost use Rattle.rtui_widgets.specs.Clipped.{IsClipped};
+
+use crate::line::render_line;
+use crate::span::render_span;
+use crate::text::render_rows;
+use rtui_buffer::Buffer;
+use rtui_geometry::Rect;
+use rtui_text::{Line, Span, Text};
+use std::alloc::AllocError;
+
+// The part of an area that a buffer has, if there is one.
+fn clipped(buf: &Buffer, area: Rect) -> Option<Rect>
+    ensures { MatchOption result (((clipped area buf.now.area).width ≡ 0) ⊎ ((clipped area buf.now.area).height ≡ 0)) (IsClipped area buf.now.area) }
+{
+    let part = area.intersection(*buf.area());
+    if part.is_empty() {
+        return None;
+    }
+    Some(part)
+}
+
+// Renders a span in the first row of an area.
+pub(crate) fn span_in(span: &Span<'_>, area: Rect, buf: &mut Buffer) -> Result<(), AllocError>
+    ensures ok { OnOk result (RendersSpan span.now area buf.old buf.new) }
+    ensures err { OnErr result (ChangesWithin area buf.old buf.new) }
+{
+    let Some(part) = clipped(buf, area) else {
+        return Ok(());
+    };
+    let start = buf.index_of(part.x, part.y);
+    let end = start + usize::from(part.width);
+    let alloc = buf.allocator();
+    let cells = buf.cells_mut();
+    render_span(alloc, &mut cells[start..end], span.text(), span.style)
+}
+
+// Renders a line in the first row of an area.
+pub(crate) fn line_in(line: &Line<'_>, area: Rect, buf: &mut Buffer) -> Result<(), AllocError>
+    ensures ok { OnOk result (RendersLine line.now area buf.old buf.new) }
+    ensures err { OnErr result (ChangesWithin area buf.old buf.new) }
+{
+    let Some(part) = clipped(buf, area) else {
+        return Ok(());
+    };
+    let start = buf.index_of(part.x, part.y);
+    let end = start + usize::from(part.width);
+    let alloc = buf.allocator();
+    let cells = buf.cells_mut();
+    render_line(alloc, &mut cells[start..end], line, line.alignment)
+}
+
+// Renders a text in the rows of an area.
+pub(crate) fn text_in(text: &Text<'_>, area: Rect, buf: &mut Buffer) -> Result<(), AllocError>
+    ensures ok { OnOk result (RendersText text.now area buf.old buf.new) }
+    ensures err { OnErr result (ChangesWithin area buf.old buf.new) }
+{
+    let Some(part) = clipped(buf, area) else {
+        return Ok(());
+    };
+    let start = buf.index_of(part.x, part.y);
+    let stride = usize::from(buf.area().width);
+    let alloc = buf.allocator();
+    render_rows(
+        alloc,
+        buf.cells_mut(),
+        start,
+        usize::from(part.width),
+        stride,
+        usize::from(part.height),
+        text,
+    )
+}

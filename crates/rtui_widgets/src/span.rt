@@ -1,0 +1,111 @@
+//! Spans in a row of cells.
+
+ghost use Rattle.std.specs.Prelude.{true, ◌≡◌, ◌+◌, ◌-◌, ◌<◌, ◌≤◌, length, OnOk};
+ghost use Rattle.rtui_cell.specs.Width.{text_width};
+ghost use Rattle.rtui_buffer.specs.Painting.{emptied};
+ghost use Rattle.rtui_widgets.specs.Span.{span_rendered};
+ghost use Rattle.rtui_widgets.specs.Steps.{with_symbol, with_appended, with_next};
+
+use rtui_cell::{Cell, CellWidth};
+use rtui_style::Style;
+use rtui_text::has_control;
+use std::alloc::{AllocError, Global};
+use unicode_segmentation::UnicodeSegmentation;
+
+// Renders a text in a style from the first column of a row on.
+#[tactic(auto, using(crate::proofs::SpanLemmas::span_steps))]
+pub(crate) fn render_span(
+    alloc: Global,
+    row: &mut [Cell],
+    text: &str,
+    style: Style,
+) -> Result<(), AllocError>
+    ensures { OnOk result (row.new ≡ span_rendered style text.now row.old) }
+{
+    if row.is_empty() {
+        return Ok(());
+    }
+    let mut x = 0;
+    let mut is_first = true;
+    for grapheme in text.graphemes(true) {
+        if has_control(grapheme) {
+            continue;
+        }
+        let width = usize::from(grapheme.cell_width());
+        if width > row.len() - x {
+            return Ok(());
+        }
+        put_next(alloc, row, x, is_first, grapheme, style)?;
+        x += width;
+        is_first = false;
+    }
+    Ok(())
+}
+
+// Puts the next grapheme, which stands at column x.
+#[tactic(auto, unfolding(crate::specs::Steps::with_next))]
+fn put_next(
+    alloc: Global,
+    row: &mut [Cell],
+    x: usize,
+    is_first: bool,
+    grapheme: &str,
+    style: Style,
+) -> Result<(), AllocError>
+    requires fits { x + text_width grapheme.now ≤ length row.old }
+    requires some { 0 < length row.old }
+    requires first { is_first ≡ true → x ≡ 0 }
+    ensures { OnOk result (row.new ≡ with_next is_first x style grapheme.now row.old) }
+{
+    let width = usize::from(grapheme.cell_width());
+    if is_first || (x > 0 && width > 0) {
+        set(alloc, &mut row[x], grapheme, style)?;
+    } else if width == 0 && x > 0 {
+        append(alloc, &mut row[x - 1], grapheme, style)?;
+    } else {
+        append(alloc, &mut row[x], grapheme, style)?;
+    }
+    empty_behind(row, x, width);
+    Ok(())
+}
+
+// Sets a cell's symbol, in a style.
+fn set(alloc: Global, cell: &mut Cell, symbol: &str, style: Style) -> Result<(), AllocError>
+    ensures { OnOk result (cell.new ≡ with_symbol style symbol.now cell.old) }
+{
+    cell.set_symbol(alloc, symbol)?;
+    cell.set_style(style);
+    Ok(())
+}
+
+// Appends to a cell's symbol, in a style.
+fn append(alloc: Global, cell: &mut Cell, symbol: &str, style: Style) -> Result<(), AllocError>
+    ensures { OnOk result (cell.new ≡ with_appended style symbol.now cell.old) }
+{
+    cell.append_symbol(alloc, symbol)?;
+    cell.set_style(style);
+    Ok(())
+}
+
+// Empties the columns behind the first one of a grapheme.
+#[tactic(auto, using(crate::proofs::EmptyLemmas::empty_steps))]
+fn empty_behind(row: &mut [Cell], x: usize, width: usize)
+    requires { x + width ≤ length row.old }
+    ensures { row.new ≡ emptied (x + 1) (width - 1) row.old }
+{
+    if width > 1 {
+        empty_part(row, x + 1, x + width);
+    }
+}
+
+// Empties the cells of a part.
+#[tactic(auto, using(crate::proofs::EmptyLemmas::empty_steps))]
+fn empty_part(row: &mut [Cell], from: usize, to: usize)
+    requires order { from ≤ to }
+    requires inside { to ≤ length row.old }
+    ensures { row.new ≡ emptied from (to - from) row.old }
+{
+    for i in from..to {
+        row[i].reset();
+    }
+}

@@ -1,0 +1,43 @@
+//! Texts in rows of cells.
+
+ghost use Rattle.std.specs.Prelude.{◌≡◌, ℕ, ◌+◌, ◌*◌, ◌<◌, ◌≤◌, length, OnOk, OnErr};
+ghost use Rattle.rtui_widgets.specs.Rendering.{text_row};
+ghost use Rattle.rtui_widgets.specs.Rows.{Rows, KeepsOthers, MakesRows, place};
+
+use crate::line::{lay, render_line};
+use rtui_cell::Cell;
+use rtui_text::Text;
+use std::alloc::{AllocError, Global};
+
+// Renders a text in rows that stand a stride apart, each of this width.
+pub(crate) fn render_rows(
+    alloc: Global,
+    cells: &mut [Cell],
+    start: usize,
+    width: usize,
+    stride: usize,
+    height: usize,
+    text: &Text<'_>,
+) -> Result<(), AllocError>
+    requires apart { width ≤ stride }
+    requires inside { (k : ℕ) → k < height → start + k * stride + width ≤ length cells.old }
+    ensures ok { OnOk result (MakesRows (record { start = start; width = width; stride = stride; count = height }) (text_row text.now) cells.old cells.new) }
+    ensures err { OnErr result (KeepsOthers (record { start = start; width = width; stride = stride; count = height }) cells.old cells.new) }
+{
+    for k in 0..height {
+        let from = start + k * stride;
+        render_row(alloc, &mut cells[from..from + width], text, k)?;
+    }
+    Ok(())
+}
+
+// Renders row k of a text.
+fn render_row(alloc: Global, row: &mut [Cell], text: &Text<'_>, k: usize) -> Result<(), AllocError>
+    ensures { OnOk result (row.new ≡ text_row text.now k row.old) }
+{
+    lay(row, text.style);
+    match text.lines.as_slice().get(k) {
+        Some(line) => render_line(alloc, row, line, line.alignment.or(text.alignment)),
+        None => Ok(()),
+    }
+}

@@ -1,0 +1,173 @@
+ghost use Rattle.std.specs.Prelude.{⊤, ◌≡◌, MatchOption, OnOk, OnErr, option_map, unwrap_or};
+ghost use Rattle.rtui_geometry.specs.declared.rect.Rect.{Rect};
+ghost use Rattle.rtui_buffer.specs.Sheet.{Sheet};
+ghost use Rattle.rtui_widgets.specs.Rendering.{ChangesWithin};
+
+use crate::buffer::{line_in, span_in, text_in};
+use rtui_buffer::Buffer;
+use rtui_geometry::Rect;
+use rtui_style::Style;
+use rtui_text::{Line, Span, Text};
+use std::alloc::AllocError;
+
+/// What can be rendered over an area of a buffer.
+///
+/// ```
+/// let area = *buf.area();
+/// Line::raw(alloc, "Hello, world!")?.centered().render(area, buf)?;
+/// ```
+///
+/// A widget says by its ghost members over which areas it may be rendered, and what it makes of a buffer; what calls any widget
+/// relies on these alone.
+pub trait Widget {
+    // where it may be rendered: over this area of such a buffer
+    ghost can_render: { Self → Rect → Sheet → Type 0 } = { λ _ _ _. ⊤ };
+
+    // what it makes of a buffer over an area
+    ghost renders: { Self → Rect → Sheet → Sheet → Type 0 };
+
+    // the area outside which nothing changes where it is refused: the given one, unless it says otherwise
+    ghost reach: { Self → Rect → Rect } = { λ _ area. area };
+
+    /// Renders it. It is refused where memory is; then no cell outside the area changed.
+    fn render(self, area: Rect, buf: &mut Buffer) -> Result<(), AllocError>
+        requires { can_render self area buf.old }
+        ensures area { buf.new.area ≡ buf.old.area }
+        ensures ok { OnOk result (renders self area buf.old buf.new) }
+        ensures err { OnErr result (ChangesWithin (reach self area) buf.old buf.new) };
+}
+
+/// What can be rendered over an area of a buffer, and keeps a state from one rendering to the next.
+pub trait StatefulWidget {
+    /// What it keeps.
+    type State;
+
+    // where it may be rendered, in this state
+    ghost can_render: { Self → Self.State → Rect → Sheet → Type 0 } = { λ _ _ _ _. ⊤ };
+
+    // what it makes of a buffer over an area, from one state to the next
+    ghost renders: { Self → Self.State → Self.State → Rect → Sheet → Sheet → Type 0 };
+
+    // the area outside which nothing changes where it is refused: the given one, unless it says otherwise
+    ghost reach: { Self → Rect → Rect } = { λ _ area. area };
+
+    /// Renders it. It is refused where memory is; then no cell outside the area changed.
+    fn render(self, area: Rect, buf: &mut Buffer, state: &mut Self::State) -> Result<(), AllocError>
+        requires { can_render self state.old area buf.old }
+        ensures area { buf.new.area ≡ buf.old.area }
+        ensures ok { OnOk result (renders self state.old state.new area buf.old buf.new) }
+        ensures err { OnErr result (ChangesWithin (reach self area) buf.old buf.new) };
+}
+
+/// In the first row of the area: each grapheme at the sum of the widths before it, as far as the row goes.
+impl<'b, 'a> Widget for &'b Span<'a> {
+    ghost use Rattle.rtui_widgets.specs.Rendering.{RendersSpan};
+
+    ghost renders = { λ span. RendersSpan span.now };
+
+    fn render(self, area: Rect, buf: &mut Buffer) -> Result<(), AllocError> {
+        span_in(self, area, buf)
+    }
+}
+
+impl<'a> Widget for Span<'a> {
+    ghost use Rattle.rtui_widgets.specs.Rendering.{RendersSpan};
+
+    ghost renders = { RendersSpan };
+
+    fn render(self, area: Rect, buf: &mut Buffer) -> Result<(), AllocError> {
+        (&self).render(area, buf)
+    }
+}
+
+/// In the first row of the area, aligned as the line says: its spans one behind the other, under them the line's style over the
+/// whole row. What doesn't fit is cut, at the left where the line isn't aligned to the left.
+impl<'b, 'a> Widget for &'b Line<'a> {
+    ghost use Rattle.rtui_widgets.specs.Rendering.{RendersLine};
+
+    ghost renders = { λ line. RendersLine line.now };
+
+    fn render(self, area: Rect, buf: &mut Buffer) -> Result<(), AllocError> {
+        line_in(self, area, buf)
+    }
+}
+
+impl<'a> Widget for Line<'a> {
+    ghost use Rattle.rtui_widgets.specs.Rendering.{RendersLine};
+
+    ghost renders = { RendersLine };
+
+    fn render(self, area: Rect, buf: &mut Buffer) -> Result<(), AllocError> {
+        (&self).render(area, buf)
+    }
+}
+
+/// Line by line from the top of the area, each in a row of its own, under them the text's style over the whole area.
+impl<'b, 'a> Widget for &'b Text<'a> {
+    ghost use Rattle.rtui_widgets.specs.Rendering.{RendersText};
+
+    ghost renders = { λ text. RendersText text.now };
+
+    fn render(self, area: Rect, buf: &mut Buffer) -> Result<(), AllocError> {
+        text_in(self, area, buf)
+    }
+}
+
+impl<'a> Widget for Text<'a> {
+    ghost use Rattle.rtui_widgets.specs.Rendering.{RendersText};
+
+    ghost renders = { RendersText };
+
+    fn render(self, area: Rect, buf: &mut Buffer) -> Result<(), AllocError> {
+        (&self).render(area, buf)
+    }
+}
+
+/// The widget, if there is one.
+impl<W: Widget> Widget for Option<W> {
+    ghost can_render = { λ widget area s. MatchOption widget ⊤ (λ w. W.can_render w area s) };
+
+    ghost renders = { λ widget area old new. MatchOption widget (new ≡ old) (λ w. W.renders w area old new) };
+
+    ghost reach = { λ widget area. unwrap_or (option_map (λ w. W.reach w area) widget) area };
+
+    fn render(self, area: Rect, buf: &mut Buffer) -> Result<(), AllocError> {
+        match self {
+            Some(widget) => widget.render(area, buf),
+            None => Ok(()),
+        }
+    }
+}
+
+/// Painted from the corner of the area on, in at most its columns. The area's first row has to lie in the buffer, and not to
+/// begin left of it.
+impl<'a> Widget for &'a str {
+    ghost use Rattle.rtui_widgets.specs.Rendering.{HasFirstRow, PaintsText, first_row};
+
+    ghost can_render = { λ _. HasFirstRow };
+
+    ghost renders = { λ text. PaintsText text.now };
+
+    ghost reach = { λ _. first_row };
+
+    fn render(self, area: Rect, buf: &mut Buffer) -> Result<(), AllocError> {
+        buf.set_stringn(area.x, area.y, self, usize::from(area.width), Style::new())?;
+        Ok(())
+    }
+}
+
+/// As a `&str`.
+impl Widget for String {
+    ghost use Rattle.std.specs.String.{string_bytes};
+    ghost use Rattle.rtui_widgets.specs.Rendering.{HasFirstRow, PaintsText, first_row};
+
+    ghost can_render = { λ _. HasFirstRow };
+
+    ghost renders = { λ text. PaintsText (string_bytes text) };
+
+    ghost reach = { λ _. first_row };
+
+    fn render(self, area: Rect, buf: &mut Buffer) -> Result<(), AllocError> {
+        self.as_str().render(area, buf)
+    }
+}
