@@ -5,7 +5,7 @@ ghost use Rattle.std.specs.Iterator.{IsFinite, Drains};
 ghost use Rattle.ratatui_core.specs.Buffer.{update_by};
 ghost use Rattle.ratatui_core.specs.Backend.{Draws, Counts, screen_of};
 
-use ratatui_core::backend::{AsCell, Backend, TestBackend, WindowSize};
+use ratatui_core::backend::{AsCell, Backend, ClearType, TestBackend, WindowSize};
 use ratatui_core::buffer::Cell;
 use ratatui_core::layout::{Position, Size};
 use std::alloc::{AllocError, Global};
@@ -85,6 +85,27 @@ impl Backend for EscapeBackend {
             self.put(x, y, cell.as_cell())?;
         }
         Ok(())
+    }
+
+    fn append_lines(&mut self, n: u16) -> Result<(), EscapeError> {
+        match self.shown.append_lines(n) {
+            Ok(()) => Ok(()),
+            Err(_) => Err(self.failed()),
+        }
+    }
+
+    fn clear(&mut self) -> Result<(), EscapeError> {
+        match self.shown.clear() {
+            Ok(()) => Ok(()),
+            Err(_) => Err(self.failed()),
+        }
+    }
+
+    fn clear_region(&mut self, clear_type: ClearType) -> Result<(), EscapeError> {
+        match self.shown.clear_region(clear_type) {
+            Ok(()) => Ok(()),
+            Err(_) => Err(self.failed()),
+        }
     }
 
     fn hide_cursor(&mut self) -> Result<(), EscapeError> {

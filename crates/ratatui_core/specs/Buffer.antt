@@ -1,13 +1,15 @@
 -- Cells, buffers, painting, and the differences between two buffers.
 pub use Rattle.rtui_cell.specs.declared.cell.Cell.{Cell}
-pub use Rattle.rtui_cell.specs.Symbol.{blank, symbol_text, appended, joined}
+pub use Rattle.rtui_cell.specs.Symbol.{blank, symbol_text, appended, joined, IsShort}
+pub use Rattle.rtui_cell.specs.Stored.{stored_text, IsStoredByLength}
 unfoldable pub use Rattle.rtui_cell.specs.Width.{text_columns, text_width}
 pub use Rattle.rtui_cell.specs.Width.{is_sound_mark}
 unfoldable pub use Rattle.rtui_cell.specs.Look.{look_of}
 pub use Rattle.rtui_cell.specs.Look.{Look, empty_look}
-unfoldable pub use Rattle.rtui_cell.specs.Cell.{width_of, is_skipped}
-pub use Rattle.rtui_cell.specs.Cell.{empty_cell, cell_of, styled, style_of, width_by, is_skipped_by, IsNarrow}
+unfoldable pub use Rattle.rtui_cell.specs.Cell.{width_of, is_single_byte, is_skipped}
+pub use Rattle.rtui_cell.specs.Cell.{empty_cell, cell_of, with_symbol, styled, style_of, width_by, has_no_option, is_skipped_by, IsUnmarked, IsNarrow}
 unfoldable pub use Rattle.rtui_cell.specs.Equality.{is_same, is_same_symbol}
+pub use Rattle.rtui_cell.specs.Equality.{IsEqual}
 pub use Rattle.rtui_cell.specs.Grid.{Grid, Update, update_by, put, puts}
 unfoldable pub use Rattle.rtui_diff.specs.Cells.{has_fe0f, shows_on_blank, is_forced, is_always}
 pub use Rattle.rtui_diff.specs.Cells.{cell, cell_at, is_reset, shown_on_blank, is_forced_by, is_always_by}
@@ -15,15 +17,16 @@ pub use Rattle.rtui_diff.specs.Settled.{IsBlankOrSkipped, IsSettled, IsSettledAt
 pub use Rattle.rtui_diff.specs.Shows.{ShowsColumn, Shows, RowAgrees, is_plain, repaint, Repaints, Replays}
 pub use Rattle.rtui_diff.specs.Updates.{update_at, updates, RisesFrom, IsBefore, Rises, IsCellOfNext}
 unfoldable pub use Rattle.rtui_diff.specs.DiffRule.{given}
-pub use Rattle.rtui_diff.specs.DiffRule.{Walk, start, gives_visited, gives_plain, gives_at, turn_plain, turn_at, gives, turn, give}
+pub use Rattle.rtui_diff.specs.DiffRule.{Walk, start, gives_visited, gives_plain, gives_at, step_plain, step_at, gives, step, give}
 pub use Rattle.rtui_diff.specs.Completeness.{differing, AreNarrow, IsGiven, Repeats, Uncovers, IsMinimal, IsFree, IsDark, IsComplete}
 pub use Rattle.rtui_diff.specs.Remaining.{places_left, updates_left, IsSameBut}
 pub use Rattle.rtui_diff.specs.Step.{walk_of}
-pub use Rattle.rtui_buffer.specs.Sheet.{Sheet, area_size, IsSheet, position_of, cell_index, place_position, cell_in, with_cell, refilled, empty_cells, IsEmptied, IsSameSheet}
-pub use Rattle.rtui_buffer.specs.Frame.{IsSettledSheet, ShowsSheet, IsAligned, common_rows, sheet_updates, listed}
+pub use Rattle.rtui_diff.specs.Diff.{IsDiff}
+pub use Rattle.rtui_buffer.specs.Sheet.{Sheet, area_size, IsSheet, HasRoomFor, position_of, cell_index, place_position, cell_in, with_cell, refilled, with_cells, moved_to, empty_cells, resized, IsEmptied, IsSameSheet, IsEqualSheet}
+pub use Rattle.rtui_buffer.specs.Frame.{IsSettledSheet, IsShownByRepaint, ShowsSheet, IsAligned, common_rows, sheet_updates, IsSheetDiff, HaveSettledRows, listed}
 unfoldable pub use Rattle.rtui_buffer.specs.Painting.{painted_width, fitting, kept, emptied, with_piece, painted}
 pub use Rattle.rtui_buffer.specs.Painting.{has_control, is_painted, IsLongestFront, Piece, piece_of, pieces, text_pieces, piece_width, columns, shown, IsSameOutside, piece_at, place_of, IsPainted}
-pub use Rattle.rtui_buffer.specs.PaintedText.{HasRow, room_at, pieces_at, Paints, right_by, IsBeside, PaintsColumns, IsSameBeside, IsStyledPart, IsStyledRows, IsStyled}
+pub use Rattle.rtui_buffer.specs.PaintedText.{HasRow, room_at, pieces_at, Paints, right_by, IsBeside, PaintsColumns, IsSameBeside, AreShort, IsPaintable, PaintsOr, IsStyledPart, IsStyledRows, IsStyled}
 unfoldable pub use Rattle.rtui_buffer.specs.Line.{line_pieces, line_row}
-pub use Rattle.rtui_buffer.specs.Line.{line_pieces_at, widest, line_rows, line_at, row_cells, ShowsLines, lines_area, raw_lines}
-pub use Rattle.rtui_buffer.specs.Overlay.{no_area, united, IsOverlay, cell_over, Stand, StandUpTo, IsOnlyIn}
+pub use Rattle.rtui_buffer.specs.Line.{line_pieces_at, widest, line_rows, line_at, row_cells, ShowsLines, lines_area, IsOfLines, raw_lines}
+pub use Rattle.rtui_buffer.specs.Overlay.{no_area, united, IsOverlay, IsAround, IsExtended, is_in_block, IsBlockAt, IsBlockIn}

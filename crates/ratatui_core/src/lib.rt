@@ -5,12 +5,12 @@
 
 /// What a terminal draws on.
 pub mod backend {
-    pub use rtui_backend::{AsCell, Backend, TestBackend, TestError, WindowSize};
+    pub use rtui_backend::{AsCell, Backend, ClearType, TestBackend, TestError, WindowSize};
 }
 
 /// Cells, grids of cells, and the differences between two grids.
 pub mod buffer {
-    pub use rtui_buffer::{Buffer, BufferDiff, Cell, CellDiffOption, CellWidth};
+    pub use rtui_buffer::{Buffer, BufferDiff, Cell, CellDiffOption, CellWidth, laws};
 }
 
 /// Rectangles and positions, and layouts as data.
@@ -48,10 +48,20 @@ pub mod symbols {
 
 /// Terminals, and the frames that are drawn on them.
 pub mod terminal {
-    pub use rtui_terminal::{CompletedFrame, Frame, Terminal, TerminalError};
+    pub use rtui_terminal::{
+        CompletedFrame, Frame, Terminal, TerminalError, TerminalOptions, Viewport,
+    };
 }
 
 /// Texts in styles.
 pub mod text {
-    pub use rtui_text::{Line, Span, Spans, text_columns};
+    pub use rtui_text::{
+        Line, LineGraphemes, Lines, Masked, Span, SpanGraphemes, Spans, StyledGrapheme, Text,
+        text_columns,
+    };
+}
+
+/// What can be rendered over an area of a buffer.
+pub mod widgets {
+    pub use rtui_widgets::{StatefulWidget, Widget};
 }

@@ -1,7 +1,10 @@
 ghost use Rattle.std.specs.Prelude.{Some};
+ghost use Rattle.rtui_layout.specs.Names.{ReadsName};
 ghost use Rattle.rtui_backend.specs.Clear.{clear_name};
 
+use rtui_layout::ParseError;
 use std::fmt;
+use std::str::FromStr;
 
 /// Which part of the screen is emptied.
 #[derive(Debug, Clone, Copy, PartialEq, Eq, Hash)]
@@ -29,5 +32,22 @@ impl fmt::Display for ClearType {
             ClearType::CurrentLine => "CurrentLine",
             ClearType::UntilNewLine => "UntilNewLine",
         })
+    }
+}
+
+impl FromStr for ClearType {
+    type Err = ParseError;
+
+    ghost from_str_gives = { ReadsName clear_name };
+
+    fn from_str(s: &str) -> Result<Self, ParseError> {
+        match s {
+            "All" => Ok(ClearType::All),
+            "AfterCursor" => Ok(ClearType::AfterCursor),
+            "BeforeCursor" => Ok(ClearType::BeforeCursor),
+            "CurrentLine" => Ok(ClearType::CurrentLine),
+            "UntilNewLine" => Ok(ClearType::UntilNewLine),
+            _ => Err(ParseError::VariantNotFound),
+        }
     }
 }

@@ -164,6 +164,13 @@ impl TestBackend {
         self.buffer == *buffer
     }
 
+    /// The rows that scrolled off the screen, in order, each as wide as the screen was then.
+    pub fn scrollback(&self) -> &[Vec<Cell>]
+        ensures { map (λ row. map look_of row.items) result.now ≡ (screen_of self.now).history }
+    {
+        self.scrollback.as_slice()
+    }
+
     /// Whether the cursor is visible.
     pub fn cursor_visible(&self) -> bool
         ensures { result ≡ (screen_of self.now).visible }

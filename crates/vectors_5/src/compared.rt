@@ -3,7 +3,7 @@ ghost use Rattle.std.specs.Prelude.{true, []};
 ghost use Rattle.rtui_cell.specs.Look.{empty_look};
 
 use crate::terminal::terminal;
-use rtui_backend::{AsCell, Backend, TestBackend, TestError, WindowSize};
+use rtui_backend::{AsCell, Backend, ClearType, TestBackend, TestError, WindowSize};
 use rtui_geometry::{Position, Rect, Size};
 use rtui_terminal::{CompletedFrame, Terminal, TerminalError};
 use std::alloc::{AllocError, Global};
@@ -37,6 +37,21 @@ impl Backend for CursorOnly<'_> {
         content: I,
     ) -> Result<(), TestError> {
         for _ in content {}
+        self.failures = self.failures.saturating_add(1);
+        Err(TestError::Told)
+    }
+
+    fn append_lines(&mut self, _n: u16) -> Result<(), TestError> {
+        self.failures = self.failures.saturating_add(1);
+        Err(TestError::Told)
+    }
+
+    fn clear(&mut self) -> Result<(), TestError> {
+        self.failures = self.failures.saturating_add(1);
+        Err(TestError::Told)
+    }
+
+    fn clear_region(&mut self, _clear_type: ClearType) -> Result<(), TestError> {
         self.failures = self.failures.saturating_add(1);
         Err(TestError::Told)
     }
@@ -131,6 +146,21 @@ impl Backend for Refusing {
         content: I,
     ) -> Result<(), TestError> {
         for _ in content {}
+        self.failures = self.failures.saturating_add(1);
+        Err(TestError::Told)
+    }
+
+    fn append_lines(&mut self, _n: u16) -> Result<(), TestError> {
+        self.failures = self.failures.saturating_add(1);
+        Err(TestError::Told)
+    }
+
+    fn clear(&mut self) -> Result<(), TestError> {
+        self.failures = self.failures.saturating_add(1);
+        Err(TestError::Told)
+    }
+
+    fn clear_region(&mut self, _clear_type: ClearType) -> Result<(), TestError> {
         self.failures = self.failures.saturating_add(1);
         Err(TestError::Told)
     }

@@ -1,10 +1,12 @@
-ghost use Rattle.std.specs.Prelude.{◌≡◌, Some};
+ghost use Rattle.std.specs.Prelude.{◌≡◌, Some, OnOk, OnErr};
 ghost use Rattle.std.specs.Borrow.{sem};
 
 use crate::terminal::Terminal;
 use rtui_backend::Backend;
 use rtui_buffer::Buffer;
 use rtui_geometry::{Position, Rect};
+use rtui_widgets::{StatefulWidget, Widget};
+use std::alloc::AllocError;
 
 /// What a closure paints on: the current buffer of a terminal, its area, and where the cursor is to be
 /// afterwards.
@@ -17,7 +19,8 @@ pub struct Frame<'a> {
 }
 
 impl Frame<'_> {
-    ghost use Rattle.rtui_terminal.specs.Borrows.{LendsBuffer};
+    ghost use Rattle.rtui_terminal.specs.Borrows.{LendsBuffer, with_buffer};
+    ghost use Rattle.rtui_widgets.specs.Rendering.{ChangesWithin};
 
     /// The area of the viewport, in columns and rows of the screen.
     pub fn area(&self) -> Rect
@@ -45,6 +48,34 @@ impl Frame<'_> {
         ensures { self.new ≡ record self.old { cursor_position = Some (record { x = x; y = y }) } }
     {
         self.set_cursor_position(Position { x, y });
+    }
+
+    /// Renders a widget over an area of the buffer, in columns and rows of the screen; it is refused where memory is.
+    pub fn render_widget<W: Widget>(&mut self, widget: W, area: Rect) -> Result<(), AllocError>
+        requires { W.can_render widget area self.old.buffer.now }
+        ensures rest { self.new ≡ with_buffer self.old self.new.buffer.now }
+        ensures ok { OnOk result (W.renders widget area self.old.buffer.now self.new.buffer.now) }
+        ensures err { let reach = W.reach widget area in
+            OnErr result (ChangesWithin reach self.old.buffer.now self.new.buffer.now) }
+    {
+        widget.render(area, self.buffer)
+    }
+
+    /// Renders a widget that keeps a state over an area of the buffer; it is refused where memory is.
+    pub fn render_stateful_widget<W: StatefulWidget>(
+        &mut self,
+        widget: W,
+        area: Rect,
+        state: &mut W::State,
+    ) -> Result<(), AllocError>
+        requires { W.can_render widget state.old area self.old.buffer.now }
+        ensures rest { self.new ≡ with_buffer self.old self.new.buffer.now }
+        ensures ok { OnOk result (W.renders widget state.old state.new area
+            self.old.buffer.now self.new.buffer.now) }
+        ensures err { let reach = W.reach widget area in
+            OnErr result (ChangesWithin reach self.old.buffer.now self.new.buffer.now) }
+    {
+        widget.render(area, self.buffer, state)
     }
 
     /// The buffer to paint on.
