@@ -57,9 +57,18 @@ fn goes_on_from(
 }
 
 #[test]
-fn keeps_a_frame_that_is_not_written(rt: HostRuntime) -> Result<(), Fail> {
+fn paints_nothing_where_the_size_is_not_told(rt: HostRuntime) -> Result<(), Fail> {
     let mut terminal = drawn(rt.alloc())?;
     assert!(rt; fails_after(rt.alloc(), &mut terminal, "abc", 0));
+    assert!(rt; shows(&terminal, "   ") && terminal.is_cursor_hidden());
+    assert!(rt; goes_on_from(rt.alloc(), &mut terminal, "")?);
+    Ok(())
+}
+
+#[test]
+fn keeps_a_frame_that_is_not_written(rt: HostRuntime) -> Result<(), Fail> {
+    let mut terminal = drawn(rt.alloc())?;
+    assert!(rt; fails_after(rt.alloc(), &mut terminal, "abc", 1));
     assert!(rt; shows(&terminal, "   ") && terminal.is_cursor_hidden());
     assert!(rt; goes_on_from(rt.alloc(), &mut terminal, "abc")?);
     Ok(())
@@ -69,7 +78,7 @@ fn keeps_a_frame_that_is_not_written(rt: HostRuntime) -> Result<(), Fail> {
 fn keeps_a_frame_whose_cursor_is_not_hidden(rt: HostRuntime) -> Result<(), Fail> {
     let mut terminal = drawn(rt.alloc())?;
     assert!(rt; terminal.show_cursor().is_ok());
-    assert!(rt; fails_after(rt.alloc(), &mut terminal, "abc", 1));
+    assert!(rt; fails_after(rt.alloc(), &mut terminal, "abc", 2));
     assert!(rt; shows(&terminal, "abc") && !terminal.is_cursor_hidden());
     assert!(rt; goes_on_from(rt.alloc(), &mut terminal, "abc")?);
     Ok(())
@@ -78,7 +87,7 @@ fn keeps_a_frame_whose_cursor_is_not_hidden(rt: HostRuntime) -> Result<(), Fail>
 #[test]
 fn keeps_a_frame_whose_cursor_is_not_shown(rt: HostRuntime) -> Result<(), Fail> {
     let mut terminal = drawn(rt.alloc())?;
-    assert!(rt; cursor_fails_after(rt.alloc(), &mut terminal, "abc", 1));
+    assert!(rt; cursor_fails_after(rt.alloc(), &mut terminal, "abc", 2));
     assert!(rt; shows(&terminal, "abc") && terminal.is_cursor_hidden());
     assert!(rt; goes_on_from(rt.alloc(), &mut terminal, "abc")?);
     Ok(())
@@ -87,7 +96,7 @@ fn keeps_a_frame_whose_cursor_is_not_shown(rt: HostRuntime) -> Result<(), Fail> 
 #[test]
 fn keeps_a_frame_whose_cursor_is_not_placed(rt: HostRuntime) -> Result<(), Fail> {
     let mut terminal = drawn(rt.alloc())?;
-    assert!(rt; cursor_fails_after(rt.alloc(), &mut terminal, "abc", 2));
+    assert!(rt; cursor_fails_after(rt.alloc(), &mut terminal, "abc", 3));
     assert!(rt; shows(&terminal, "abc") && !terminal.is_cursor_hidden());
     assert!(rt; goes_on_from(rt.alloc(), &mut terminal, "abc")?);
     Ok(())
@@ -96,7 +105,7 @@ fn keeps_a_frame_whose_cursor_is_not_placed(rt: HostRuntime) -> Result<(), Fail>
 #[test]
 fn swaps_before_it_flushes(rt: HostRuntime) -> Result<(), Fail> {
     let mut terminal = drawn(rt.alloc())?;
-    assert!(rt; fails_after(rt.alloc(), &mut terminal, "abc", 2));
+    assert!(rt; fails_after(rt.alloc(), &mut terminal, "abc", 3));
     assert!(rt; shows(&terminal, "abc") && terminal.is_cursor_hidden());
     assert!(rt; goes_on_from(rt.alloc(), &mut terminal, "")?);
     Ok(())
@@ -132,10 +141,7 @@ fn way_fails_after(alloc: Global, way: Way, calls: u64) -> Result<bool, Fail> {
 #[test]
 fn answers_each_failing_call_of_a_draw(rt: HostRuntime) -> Result<(), Fail> {
     for calls in 0..4 {
-        assert!(rt;
-            way_fails_after(rt.alloc(), Way::Try, calls)? == (calls < 3),
-            "{calls}"
-        );
+        assert!(rt; way_fails_after(rt.alloc(), Way::Try, calls)?, "{calls}");
         assert!(rt;
             way_fails_after(rt.alloc(), Way::Apply, calls)? == (calls < 3),
             "{calls}"
@@ -145,6 +151,7 @@ fn answers_each_failing_call_of_a_draw(rt: HostRuntime) -> Result<(), Fail> {
             "{calls}"
         );
     }
+    assert!(rt; !way_fails_after(rt.alloc(), Way::Try, 4)?);
     assert!(rt; !way_fails_after(rt.alloc(), Way::ApplyWithCursor, 4)?);
     Ok(())
 }
@@ -161,14 +168,14 @@ fn draw_fails_after(alloc: Global, with_cursor: bool, calls: u64) -> Result<bool
 
 #[test]
 fn answers_each_failing_call(rt: HostRuntime) -> Result<(), Fail> {
-    for calls in 0..4 {
+    for calls in 0..5 {
         assert!(rt;
-            draw_fails_after(rt.alloc(), false, calls)? == (calls < 3),
+            draw_fails_after(rt.alloc(), false, calls)? == (calls < 4),
             "{calls}"
         );
         assert!(rt; draw_fails_after(rt.alloc(), true, calls)?, "{calls}");
     }
-    assert!(rt; !draw_fails_after(rt.alloc(), true, 4)?);
+    assert!(rt; !draw_fails_after(rt.alloc(), true, 5)?);
     Ok(())
 }
 

@@ -14,3 +14,5 @@ mod playing;
 mod script;
 #[cfg(test)]
 mod terminal;
+#[cfg(test)]
+mod viewports;
