@@ -11,9 +11,9 @@ use Rattle.rtui_style.specs.declared.Style.{Style}
 use Rattle.rtui_cell.specs.declared.cell.Cell.{Cell}
 use Rattle.rtui_text.specs.Text.{LineData}
 use Rattle.rtui_diff.specs.Cells.{cell}
-use Rattle.rtui_buffer.specs.Sheet.{Sheet, cell_index}
+use Rattle.rtui_buffer.specs.Sheet.{HasRow, Sheet, cell_index}
 use Rattle.rtui_buffer.specs.Painting.{Piece, columns, IsSameOutside}
-use Rattle.rtui_buffer.specs.PaintedText.{HasRow, room_at, pieces_at, Paints, right_by, IsBeside, PaintsColumns}
+use Rattle.rtui_buffer.specs.PaintedText.{room_at, pieces_at, Paints, right_by, IsBeside, PaintsColumns}
 use Rattle.rtui_buffer.specs.Line.{line_pieces_at}
 use Rattle.rtui_buffer.proofs.PaintedLemmas.{columns-kept}
 use Rattle.rtui_buffer.proofs.LineLemmas.{columns-line}

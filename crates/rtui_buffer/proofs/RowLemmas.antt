@@ -11,7 +11,8 @@ use Rattle.rtui_diff.specs.Settled.{IsSettled, IsBlankOrSkipped}
 use Rattle.rtui_text.specs.Text.{LineData}
 use Rattle.rtui_buffer.specs.Sheet.{empty_cells}
 use Rattle.rtui_buffer.specs.Painting.{Piece, piece_width, columns, shown, emptied, with_piece, painted, IsPainted}
-use Rattle.rtui_buffer.specs.Line.{line_pieces, line_row, line_rows, line_at, row_cells, ShowsLines}
+use Rattle.rtui_buffer.specs.Line.{line_pieces, line_row, line_rows, line_at, ShowsLines}
+use Rattle.rtui_buffer.specs.Sheet.{row_cells}
 use Rattle.rtui_buffer.proofs.EmptyLemmas.{cell-empty}
 use Rattle.rtui_buffer.proofs.PaintLemmas.{painted-nil, painted-cons, IsSameOutside-refl, IsSameOutside-put}
 use Rattle.rtui_buffer.proofs.PaintedLemmas.{AreWide}

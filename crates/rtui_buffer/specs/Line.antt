@@ -8,7 +8,7 @@ use Rattle.rtui_style.specs.Style.{patch}
 use Rattle.rtui_cell.specs.declared.cell.Cell.{Cell}
 use Rattle.rtui_text.specs.Text.{SpanData, LineData, line_of, raw_line}
 use Rattle.rtui_text.specs.Widths.{line_width}
-use Rattle.rtui_buffer.specs.Sheet.{Sheet, empty_cells}
+use Rattle.rtui_buffer.specs.Sheet.{Sheet, empty_cells, row_cells}
 use Rattle.rtui_buffer.specs.Painting.{Piece, text_pieces, columns, painted, IsPainted}
 use Rattle.rtui_buffer.specs.PaintedText.{room_at}
 
@@ -37,10 +37,6 @@ line_rows w ls = flat_map (line_row w) ls
 
 abbrev pub line_at : List LineData → ℕ → LineData
 line_at ls k = slice_index_or ls k (line_of [])
-
--- row k of rows of w cells
-abbrev pub row_cells : ℕ → List Cell → ℕ → List Cell
-row_cells w cells k = take w (drop (k * w) cells)
 
 -- in rows of w cells: a row for each line, with its pieces painted on empty cells
 pub record ShowsLines (w : ℕ) (ls : List LineData) (cells : List Cell) : Type 0 where

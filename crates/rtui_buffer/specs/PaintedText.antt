@@ -13,11 +13,6 @@ use Rattle.rtui_buffer.specs.Sheet.{Sheet, cell_index, cell_in, position_of}
 use Rattle.rtui_buffer.specs.Frame.{IsSettledSheet}
 use Rattle.rtui_buffer.specs.Painting.{Piece, text_pieces, piece_width, piece_at, columns, shown, IsSameOutside, IsPainted}
 
--- the row lies in the area
-pub record HasRow (r : Rect) (y : ℕ) : Type 0 where
-  pub top : r.y ≤ y
-  pub bottom : y < r.y + r.height
-
 -- the columns from x to the area's right edge, at most max and 65535
 abbrev pub room_at : Rect → ℕ → ℕ → ℕ
 room_at r x max = min (min max 65535) (r.x + r.width - x)

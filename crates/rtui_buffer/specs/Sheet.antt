@@ -57,6 +57,19 @@ with_cells s cells = record s { cells = refilled s.cells cells }
 abbrev pub moved_to : Position → Rect → Rect
 moved_to p r = record r { x = p.x; y = p.y }
 
+-- row k of rows of w cells
+abbrev pub row_cells : ℕ → List Cell → ℕ → List Cell
+row_cells w cells k = take w (drop (k * w) cells)
+
+-- the cells of a row of the area
+abbrev pub sheet_row : Sheet → ℕ → List Cell
+sheet_row s y = row_cells s.area.width s.cells (y - s.area.y)
+
+-- the row lies in the area
+pub record HasRow (r : Rect) (y : ℕ) : Type 0 where
+  pub top : r.y ≤ y
+  pub bottom : y < r.y + r.height
+
 -- n empty cells
 abbrev pub empty_cells : ℕ → List Cell
 empty_cells n = replicate n empty_cell

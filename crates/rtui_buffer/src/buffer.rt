@@ -3,7 +3,7 @@ ghost use Rattle.std.specs.Borrow.{sem, Lends, LendsIf, Array};
 ghost use Rattle.rtui_geometry.specs.Rect.{HasPosition, EdgesFit};
 ghost use Rattle.rtui_cell.specs.contracts.cell.Cell.{the_row as cell_row};
 ghost use Rattle.rtui_buffer.specs.contracts.buffer.Buffer.{the_row};
-ghost use Rattle.rtui_buffer.specs.Sheet.{area_size, cell_index, place_position, position_of, cell_in, with_cell, with_cells, resized, moved_to, IsEmptied, HasRoomFor, IsSameSheet};
+ghost use Rattle.rtui_buffer.specs.Sheet.{area_size, cell_index, place_position, position_of, cell_in, with_cell, with_cells, resized, moved_to, sheet_row, HasRow, IsEmptied, HasRoomFor, IsSameSheet};
 ghost use Rattle.rtui_buffer.specs.Frame.{IsSettledSheet, IsShownByRepaint, IsAligned, IsSheetDiff, listed};
 
 use rtui_cell::Cell;
@@ -88,6 +88,17 @@ impl Buffer {
         ensures count { length result.now ≡ area_size self.now.area }
     {
         self.content.as_slice()
+    }
+
+    /// The cells of a row of the area, from left to right.
+    pub fn row(&self, y: u16) -> &[Cell]
+        requires { HasRow self.now.area y }
+        ensures cells { result.now ≡ sheet_row self.now y }
+        ensures count { length result.now ≡ self.now.area.width }
+    {
+        let width = usize::from(self.area.width);
+        let start = usize::from(y - self.area.y) * width;
+        &self.content[start..start + width]
     }
 
     /// The cells, row by row, to be written.

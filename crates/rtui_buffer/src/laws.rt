@@ -7,10 +7,10 @@ ghost use Rattle.rtui_geometry.specs.declared.position.Position.{Position};
 ghost use Rattle.rtui_style.specs.declared.Style.{Style};
 ghost use Rattle.rtui_text.specs.Text.{LineData};
 ghost use Rattle.rtui_cell.specs.Width.{text_width};
-ghost use Rattle.rtui_buffer.specs.Sheet.{Sheet, IsEmptied, IsEqualSheet};
+ghost use Rattle.rtui_buffer.specs.Sheet.{HasRow, Sheet, IsEmptied, IsEqualSheet};
 ghost use Rattle.rtui_buffer.specs.Frame.{IsSettledSheet, IsAligned, HaveSettledRows};
 ghost use Rattle.rtui_buffer.specs.Painting.{Piece, is_painted, kept, columns, IsLongestFront};
-ghost use Rattle.rtui_buffer.specs.PaintedText.{HasRow, pieces_at, IsPaintable, Paints, PaintsColumns};
+ghost use Rattle.rtui_buffer.specs.PaintedText.{pieces_at, IsPaintable, Paints, PaintsColumns};
 ghost use Rattle.rtui_buffer.specs.Line.{line_pieces_at};
 
 use crate::buffer::Buffer;

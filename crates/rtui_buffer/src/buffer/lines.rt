@@ -5,10 +5,10 @@ ghost use Rattle.std.specs.Vec.{vec_capacity};
 ghost use Rattle.rtui_style.specs.Style.{patch};
 ghost use Rattle.rtui_text.specs.Text.{raw_line};
 ghost use Rattle.rtui_text.specs.Widths.{line_width};
-ghost use Rattle.rtui_buffer.specs.Sheet.{position_of, empty_cells, HasRoomFor};
+ghost use Rattle.rtui_buffer.specs.Sheet.{HasRow, position_of, empty_cells, HasRoomFor};
 ghost use Rattle.rtui_buffer.specs.Frame.{IsSettledSheet};
 ghost use Rattle.rtui_buffer.specs.Painting.{text_pieces, columns, painted, IsSameOutside, IsPainted};
-ghost use Rattle.rtui_buffer.specs.PaintedText.{HasRow, room_at, pieces_at, AreShort, PaintsOr};
+ghost use Rattle.rtui_buffer.specs.PaintedText.{room_at, pieces_at, AreShort, PaintsOr};
 ghost use Rattle.rtui_buffer.specs.Line.{line_pieces, line_pieces_at, widest, lines_area, line_rows, IsOfLines, raw_lines};
 
 use super::painting::{paint_text, room_at};

@@ -6,9 +6,9 @@ ghost use Rattle.rtui_geometry.specs.Rect.{EdgesFit};
 ghost use Rattle.rtui_cell.specs.Symbol.{IsShort};
 ghost use Rattle.rtui_cell.specs.Cell.{empty_cell, styled};
 ghost use Rattle.rtui_cell.specs.Width.{text_width};
-ghost use Rattle.rtui_buffer.specs.Sheet.{cell_index, position_of};
+ghost use Rattle.rtui_buffer.specs.Sheet.{HasRow, cell_index, position_of};
 ghost use Rattle.rtui_buffer.specs.Painting.{has_control, painted_width, piece_of, text_pieces, columns, shown, emptied, with_piece, painted, IsSameOutside, IsPainted};
-ghost use Rattle.rtui_buffer.specs.PaintedText.{HasRow, room_at, pieces_at, AreShort, PaintsOr, IsStyledPart, IsStyledRows, IsStyled};
+ghost use Rattle.rtui_buffer.specs.PaintedText.{room_at, pieces_at, AreShort, PaintsOr, IsStyledPart, IsStyledRows, IsStyled};
 
 use crate::buffer::Buffer;
 use rtui_cell::{Cell, CellWidth};
