@@ -3,6 +3,7 @@ ghost use Rattle.std.specs.Prelude.{◌≡◌, ◌-◌, ◌^◌, pos, negsuc};
 ghost use Rattle.std.specs.Ordering.{nat_cmp, ordering_then};
 ghost use Rattle.rtui_geometry.specs.Rect.{cut_rect};
 
+use crate::margin::Margin;
 use crate::offset::Offset;
 use crate::position::Position;
 use crate::rect::Rect;
@@ -39,4 +40,13 @@ pub fn offset_constants()
 /// Positions are ordered by their column, and in one column by their row.
 pub fn position_order(p: Position, q: Position)
     ensures { ⟦<Position as Ord>⟧.cmp p q ≡ ordering_then (nat_cmp p.x q.x) (nat_cmp p.y q.y) }
+{}
+
+/// Of each type the default is the one of zeros.
+pub fn defaults()
+    ensures rect { (r : Rect) → ⟦<Rect as Default>⟧.is_default r → r ≡ Rect.ZERO }
+    ensures position { (p : Position) → ⟦<Position as Default>⟧.is_default p → p ≡ Position.ORIGIN }
+    ensures size { (s : Size) → ⟦<Size as Default>⟧.is_default s → s ≡ Size.ZERO }
+    ensures offset { (o : Offset) → ⟦<Offset as Default>⟧.is_default o → o ≡ Offset.ZERO }
+    ensures margin { (m : Margin) → ⟦<Margin as Default>⟧.is_default m → m ≡ record { horizontal = 0; vertical = 0 } }
 {}

@@ -9,6 +9,10 @@ use std::ops::{Add, AddAssign, Sub, SubAssign};
 
 /// A cell of the grid: its column and its row, counted from the top left. Positions are ordered by
 /// their column, and then by their row.
+///
+/// ```
+/// Position::new(3, 4) + Offset::new(-5, 1); // (0, 5)
+/// ```
 #[derive(Debug, Default, Clone, Copy, PartialEq, Eq, PartialOrd, Ord, Hash)]
 pub struct Position {
     pub x: u16,

@@ -17,6 +17,13 @@ pub use iter::{Columns, Positions, Rows};
 
 /// A rectangle of cells: the column and the row of its corner at the top left, and how many columns
 /// and rows it has. Its positions are those from the corner up to its right and bottom edge.
+///
+/// ```
+/// let screen = Rect::new(0, 0, 80, 24);
+/// let inside = screen.inner(Margin::new(2, 1)); // 76x22+2+1
+/// inside.contains(Position::new(77, 22)); // true
+/// inside.right(); // 78
+/// ```
 #[derive(Debug, Default, Clone, Copy, PartialEq, Eq, Hash)]
 pub struct Rect {
     pub x: u16,

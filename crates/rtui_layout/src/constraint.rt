@@ -6,6 +6,11 @@ use std::convert::AsRef;
 use std::fmt;
 
 /// How many columns or rows one part of a layout is to have.
+///
+/// ```
+/// Constraint::from_percentages(alloc, &[25, 75])?; // [Percentage(25), Percentage(75)]
+/// Constraint::Ratio(1, 3).is_ratio(); // true
+/// ```
 #[derive(Debug, Clone, Copy, PartialEq, Eq, Hash)]
 pub enum Constraint {
     /// At least so many columns or rows.

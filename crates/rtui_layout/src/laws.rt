@@ -1,5 +1,10 @@
 //! Facts about the definitions that no single call states.
+ghost use Rattle.std.specs.Prelude.{◌≡◌};
 ghost use Rattle.rtui_layout.specs.Names.{ReadsBack, direction_name, horizontal_name, vertical_name, flex_name};
+
+use crate::alignment::{HorizontalAlignment, VerticalAlignment};
+use crate::direction::Direction;
+use crate::flex::Flex;
 
 /// A printed name is read as the variant that printed it, and as no other.
 pub fn names_read_back()
@@ -7,4 +12,12 @@ pub fn names_read_back()
     ensures horizontal { ReadsBack horizontal_name }
     ensures vertical { ReadsBack vertical_name }
     ensures flex { ReadsBack flex_name }
+{}
+
+/// The variants that are defaults: downwards, at the left, at the top, at the start.
+pub fn defaults()
+    ensures direction { (d : Direction) → ⟦<Direction as Default>⟧.is_default d → d ≡ Direction.Vertical }
+    ensures horizontal { (a : HorizontalAlignment) → ⟦<HorizontalAlignment as Default>⟧.is_default a → a ≡ HorizontalAlignment.Left }
+    ensures vertical { (a : VerticalAlignment) → ⟦<VerticalAlignment as Default>⟧.is_default a → a ≡ VerticalAlignment.Top }
+    ensures flex { (f : Flex) → ⟦<Flex as Default>⟧.is_default f → f ≡ Flex.Start }
 {}

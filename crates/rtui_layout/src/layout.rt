@@ -61,6 +61,13 @@ impl From<i16> for Spacing {
 
 /// How an area is to be cut into parts: which way, by which constraints, within which margin, and
 /// what becomes of the space that is left.
+///
+/// ```
+/// let parts = [Constraint::Length(3), Constraint::Min(0)];
+/// let layout = Layout::vertical(alloc, &parts)?.margin(1).flex(Flex::End);
+/// layout.margin_of(); // 1x1
+/// layout.constraints_of(); // [Length(3), Min(0)]
+/// ```
 #[derive(Debug, PartialEq, Eq, Hash, Drop)]
 pub struct Layout {
     direction: Direction,

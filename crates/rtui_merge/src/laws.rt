@@ -1,5 +1,8 @@
 //! Laws of merging that are no single call's clause, over the definitions of `specs/` alone.
+ghost use Rattle.std.specs.Prelude.{◌≡◌};
 ghost use Rattle.rtui_merge.specs.Laws.{AreBoxDrawings, DifferInArms, FoundByArms, FuzzyKeepsExact, MergesWithItself};
+
+use crate::MergeStrategy;
 
 /// By each strategy a text merged with itself is that text.
 #[tactic(auto, using(crate::proofs::LawLemmas::merges_with_itself))]
@@ -19,4 +22,9 @@ pub fn border_symbols()
     ensures box_drawings { AreBoxDrawings }
     ensures found { FoundByArms }
     ensures differ { DifferInArms }
+{}
+
+/// The default strategy is `Replace`.
+pub fn default_strategy()
+    ensures { (s : MergeStrategy) → ⟦<MergeStrategy as Default>⟧.is_default s → s ≡ MergeStrategy.Replace }
 {}

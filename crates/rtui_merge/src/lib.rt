@@ -18,6 +18,13 @@ mod tables;
 use border_symbol::BorderSymbol;
 
 /// How a text is drawn over the one that stands in a cell. The default is `Replace`.
+///
+/// ```
+/// MergeStrategy::Replace.merge("│", "━"); // "━"
+/// MergeStrategy::Exact.merge("│", "━"); // "┿"
+/// MergeStrategy::Exact.merge("┘", "╭"); // "╭", as no symbol has just the arms of both
+/// MergeStrategy::Fuzzy.merge("┘", "╭"); // "┼"
+/// ```
 #[derive(Debug, Copy, Clone, Eq, PartialEq, Hash, Default)]
 pub enum MergeStrategy {
     /// The new text takes the place of the old one.

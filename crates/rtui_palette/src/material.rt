@@ -6,6 +6,10 @@ ghost use Rattle.rtui_palette.specs.Material.{accented_of, non_accented_of};
 use rtui_style::Color;
 
 /// Ten shades of one colour, the lightest first, and four accents.
+///
+/// ```
+/// material::RED.a700; // Color::Rgb(213, 0, 0)
+/// ```
 #[derive(Debug, Clone, Copy, PartialEq, Eq, Hash)]
 pub struct AccentedPalette {
     pub c50: Color,

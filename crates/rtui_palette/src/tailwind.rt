@@ -3,6 +3,10 @@
 use rtui_style::Color;
 
 /// Eleven shades of one colour, the lightest first.
+///
+/// ```
+/// tailwind::SLATE.c500; // Color::Rgb(100, 116, 139)
+/// ```
 #[derive(Drop)]
 pub struct Palette {
     pub c50: Color,

@@ -60,6 +60,11 @@ pub const ONE_EIGHTH_LEFT_EIGHT: &str = "▏";
 pub const ONE_EIGHTH_RIGHT_EIGHT: &str = "▕";
 
 /// The corners and the sides of a box.
+///
+/// ```
+/// border::DOUBLE.top_left; // "╔"
+/// let round = border::Set { top_left: line::ROUNDED_TOP_LEFT, ..border::PLAIN };
+/// ```
 #[derive(Debug, Clone, Copy, PartialEq, Eq, Hash)]
 pub struct Set<'a> {
     pub top_left: &'a str,

@@ -1,13 +1,14 @@
 //! The rules by which tables are made, each over the whole table.
 
-ghost use Rattle.std.specs.Prelude.{◌≡◌, map};
+ghost use Rattle.std.specs.Prelude.{◌≡◌, [], ◌∷◌, map};
 ghost use Rattle.rtui_symbols.specs.Pixels.{braille_of, counted, filled, older_octants, older_sextants};
-ghost use Rattle.rtui_symbols.specs.Sets.{border_of, border_texts, double_lines, line_texts, normal_lines, rounded_lines, thick_lines, with_dashes};
+ghost use Rattle.rtui_symbols.specs.Sets.{border_of, border_texts, double_lines, line_texts, normal_lines, rounded_lines, scrollbar_texts, thick_lines, with_dashes};
 ghost use Rattle.rtui_symbols.specs.declared.line.TheConstants as line_symbol;
 ghost use Rattle.rtui_symbols.specs.declared.braille.TheConstants.{BRAILLE};
 ghost use Rattle.rtui_symbols.specs.declared.pixel.TheConstants.{OCTANTS, SEXTANTS};
 
-use crate::{border, line};
+use crate::marker::Marker;
+use crate::{border, line, scrollbar};
 
 /// Each Braille pattern has the dots of its place.
 pub fn braille_patterns_have_their_dots()
@@ -103,3 +104,13 @@ pub fn heavy_quadruple_dashed_border() -> (line::Set<'static>, border::Set<'stat
 {
     (line::HEAVY_QUADRUPLE_DASHED, border::HEAVY_QUADRUPLE_DASHED)
 }
+
+/// The default marker is a dot.
+pub fn default_marker()
+    ensures { (m : Marker) → ⟦<Marker as Default>⟧.is_default m → m ≡ Marker.Dot }
+{}
+
+/// The default scroll bar has no symbols.
+pub fn default_scrollbar()
+    ensures { (s : _) → ⟦<scrollbar::Set<'static> as Default>⟧.is_default s → scrollbar_texts s ≡ [] ∷ [] ∷ [] ∷ [] ∷ [] }
+{}

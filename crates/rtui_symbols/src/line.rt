@@ -148,6 +148,10 @@ pub const LIGHT_QUADRUPLE_DASH_HORIZONTAL: &str = "┈";
 pub const HEAVY_QUADRUPLE_DASH_HORIZONTAL: &str = "┉";
 
 /// The lines of a box, its corners and its joints.
+///
+/// ```
+/// line::DOUBLE.cross; // "╬"
+/// ```
 #[derive(Debug, Clone, Copy, PartialEq, Eq, Hash)]
 pub struct Set<'a> {
     pub vertical: &'a str,

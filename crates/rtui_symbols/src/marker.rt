@@ -11,6 +11,11 @@ use std::str::FromStr;
 pub const DOT: &str = "•";
 
 /// What marks a point.
+///
+/// ```
+/// "Braille".parse::<Marker>(); // Ok(Marker::Braille)
+/// Marker::HalfBlock.to_string(alloc)?; // "HalfBlock"
+/// ```
 #[derive(Debug, Default, Clone, Copy, PartialEq, Eq, Hash)]
 pub enum Marker {
     /// One dot for a point.

@@ -6,7 +6,7 @@ use std::process::Abort;
 use std::test::Fail;
 
 /// Colours and the texts that they print.
-const PRINTED: [(Color, &str); 24] = [
+static PRINTED: [(Color, &str); 24] = [
     (Color::Reset, "Reset"),
     (Color::Black, "Black"),
     (Color::Red, "Red"),
@@ -34,7 +34,7 @@ const PRINTED: [(Color, &str); 24] = [
 ];
 
 /// Colours, and texts that are read as them, split by commas.
-const READ: [(Color, &str); 22] = [
+static READ: [(Color, &str); 22] = [
     (Color::Reset, "reset,Reset,R-e_s et"),
     (Color::Black, "black,blac\u{212A},_BLACK_"),
     (Color::Red, "red,Red, r ed"),

@@ -81,135 +81,147 @@ fn scrollbar_is(set: &scrollbar::Set, expected: &str) -> bool {
     join_to(&symbols, expected)
 }
 
+/// Parts of a bar that grows upwards.
+static BARS: [&str; 8] = [
+    bar::FULL,
+    bar::SEVEN_EIGHTHS,
+    bar::THREE_QUARTERS,
+    bar::FIVE_EIGHTHS,
+    bar::HALF,
+    bar::THREE_EIGHTHS,
+    bar::ONE_QUARTER,
+    bar::ONE_EIGHTH,
+];
+
 #[test]
 fn bars(rt: HostRuntime) {
-    let symbols = [
-        bar::FULL,
-        bar::SEVEN_EIGHTHS,
-        bar::THREE_QUARTERS,
-        bar::FIVE_EIGHTHS,
-        bar::HALF,
-        bar::THREE_EIGHTHS,
-        bar::ONE_QUARTER,
-        bar::ONE_EIGHTH,
-    ];
-    assert!(rt; join_to(&symbols, "█▇▆▅▄▃▂▁"));
+    assert!(rt; join_to(&BARS, "█▇▆▅▄▃▂▁"));
 }
+
+/// Parts of a bar that grows to the right.
+static BLOCKS: [&str; 8] = [
+    block::FULL,
+    block::SEVEN_EIGHTHS,
+    block::THREE_QUARTERS,
+    block::FIVE_EIGHTHS,
+    block::HALF,
+    block::THREE_EIGHTHS,
+    block::ONE_QUARTER,
+    block::ONE_EIGHTH,
+];
 
 #[test]
 fn blocks(rt: HostRuntime) {
-    let symbols = [
-        block::FULL,
-        block::SEVEN_EIGHTHS,
-        block::THREE_QUARTERS,
-        block::FIVE_EIGHTHS,
-        block::HALF,
-        block::THREE_EIGHTHS,
-        block::ONE_QUARTER,
-        block::ONE_EIGHTH,
-    ];
-    assert!(rt; join_to(&symbols, "█▉▊▋▌▍▎▏"));
+    assert!(rt; join_to(&BLOCKS, "█▉▊▋▌▍▎▏"));
 }
+
+/// Lines, corners and the first joints.
+static LINES: [&str; 24] = [
+    line::VERTICAL,
+    line::DOUBLE_VERTICAL,
+    line::THICK_VERTICAL,
+    line::HORIZONTAL,
+    line::DOUBLE_HORIZONTAL,
+    line::THICK_HORIZONTAL,
+    line::TOP_RIGHT,
+    line::DOUBLE_TOP_RIGHT,
+    line::THICK_TOP_RIGHT,
+    line::ROUNDED_TOP_RIGHT,
+    line::TOP_LEFT,
+    line::DOUBLE_TOP_LEFT,
+    line::THICK_TOP_LEFT,
+    line::ROUNDED_TOP_LEFT,
+    line::BOTTOM_RIGHT,
+    line::DOUBLE_BOTTOM_RIGHT,
+    line::THICK_BOTTOM_RIGHT,
+    line::ROUNDED_BOTTOM_RIGHT,
+    line::BOTTOM_LEFT,
+    line::DOUBLE_BOTTOM_LEFT,
+    line::THICK_BOTTOM_LEFT,
+    line::ROUNDED_BOTTOM_LEFT,
+    line::VERTICAL_LEFT,
+    line::DOUBLE_VERTICAL_LEFT,
+];
 
 #[test]
 fn lines(rt: HostRuntime) {
-    let symbols = [
-        line::VERTICAL,
-        line::DOUBLE_VERTICAL,
-        line::THICK_VERTICAL,
-        line::HORIZONTAL,
-        line::DOUBLE_HORIZONTAL,
-        line::THICK_HORIZONTAL,
-        line::TOP_RIGHT,
-        line::DOUBLE_TOP_RIGHT,
-        line::THICK_TOP_RIGHT,
-        line::ROUNDED_TOP_RIGHT,
-        line::TOP_LEFT,
-        line::DOUBLE_TOP_LEFT,
-        line::THICK_TOP_LEFT,
-        line::ROUNDED_TOP_LEFT,
-        line::BOTTOM_RIGHT,
-        line::DOUBLE_BOTTOM_RIGHT,
-        line::THICK_BOTTOM_RIGHT,
-        line::ROUNDED_BOTTOM_RIGHT,
-        line::BOTTOM_LEFT,
-        line::DOUBLE_BOTTOM_LEFT,
-        line::THICK_BOTTOM_LEFT,
-        line::ROUNDED_BOTTOM_LEFT,
-        line::VERTICAL_LEFT,
-        line::DOUBLE_VERTICAL_LEFT,
-    ];
-    assert!(rt; join_to(&symbols, "│║┃─═━┐╗┓╮┌╔┏╭┘╝┛╯└╚┗╰┤╣"));
+    assert!(rt; join_to(&LINES, "│║┃─═━┐╗┓╮┌╔┏╭┘╝┛╯└╚┗╰┤╣"));
 }
+
+/// The other joints, crosses and dashes.
+static MORE_LINES: [&str; 25] = [
+    line::THICK_VERTICAL_LEFT,
+    line::VERTICAL_RIGHT,
+    line::DOUBLE_VERTICAL_RIGHT,
+    line::THICK_VERTICAL_RIGHT,
+    line::HORIZONTAL_DOWN,
+    line::DOUBLE_HORIZONTAL_DOWN,
+    line::THICK_HORIZONTAL_DOWN,
+    line::HORIZONTAL_UP,
+    line::DOUBLE_HORIZONTAL_UP,
+    line::THICK_HORIZONTAL_UP,
+    line::CROSS,
+    line::DOUBLE_CROSS,
+    line::THICK_CROSS,
+    line::LIGHT_DOUBLE_DASH_VERTICAL,
+    line::HEAVY_DOUBLE_DASH_VERTICAL,
+    line::LIGHT_DOUBLE_DASH_HORIZONTAL,
+    line::HEAVY_DOUBLE_DASH_HORIZONTAL,
+    line::LIGHT_TRIPLE_DASH_VERTICAL,
+    line::HEAVY_TRIPLE_DASH_VERTICAL,
+    line::LIGHT_TRIPLE_DASH_HORIZONTAL,
+    line::HEAVY_TRIPLE_DASH_HORIZONTAL,
+    line::LIGHT_QUADRUPLE_DASH_VERTICAL,
+    line::HEAVY_QUADRUPLE_DASH_VERTICAL,
+    line::LIGHT_QUADRUPLE_DASH_HORIZONTAL,
+    line::HEAVY_QUADRUPLE_DASH_HORIZONTAL,
+];
 
 #[test]
 fn more_lines(rt: HostRuntime) {
-    let symbols = [
-        line::THICK_VERTICAL_LEFT,
-        line::VERTICAL_RIGHT,
-        line::DOUBLE_VERTICAL_RIGHT,
-        line::THICK_VERTICAL_RIGHT,
-        line::HORIZONTAL_DOWN,
-        line::DOUBLE_HORIZONTAL_DOWN,
-        line::THICK_HORIZONTAL_DOWN,
-        line::HORIZONTAL_UP,
-        line::DOUBLE_HORIZONTAL_UP,
-        line::THICK_HORIZONTAL_UP,
-        line::CROSS,
-        line::DOUBLE_CROSS,
-        line::THICK_CROSS,
-        line::LIGHT_DOUBLE_DASH_VERTICAL,
-        line::HEAVY_DOUBLE_DASH_VERTICAL,
-        line::LIGHT_DOUBLE_DASH_HORIZONTAL,
-        line::HEAVY_DOUBLE_DASH_HORIZONTAL,
-        line::LIGHT_TRIPLE_DASH_VERTICAL,
-        line::HEAVY_TRIPLE_DASH_VERTICAL,
-        line::LIGHT_TRIPLE_DASH_HORIZONTAL,
-        line::HEAVY_TRIPLE_DASH_HORIZONTAL,
-        line::LIGHT_QUADRUPLE_DASH_VERTICAL,
-        line::HEAVY_QUADRUPLE_DASH_VERTICAL,
-        line::LIGHT_QUADRUPLE_DASH_HORIZONTAL,
-        line::HEAVY_QUADRUPLE_DASH_HORIZONTAL,
-    ];
-    assert!(rt; join_to(&symbols, "┫├╠┣┬╦┳┴╩┻┼╬╋╎╏╌╍┆┇┄┅┊┋┈┉"));
+    assert!(rt; join_to(&MORE_LINES, "┫├╠┣┬╦┳┴╩┻┼╬╋╎╏╌╍┆┇┄┅┊┋┈┉"));
 }
+
+/// Quadrants and eighths of a column.
+static QUADRANTS_AND_EIGHTHS: [&str; 19] = [
+    border::QUADRANT_TOP_LEFT,
+    border::QUADRANT_TOP_RIGHT,
+    border::QUADRANT_BOTTOM_LEFT,
+    border::QUADRANT_BOTTOM_RIGHT,
+    border::QUADRANT_TOP_HALF,
+    border::QUADRANT_BOTTOM_HALF,
+    border::QUADRANT_LEFT_HALF,
+    border::QUADRANT_RIGHT_HALF,
+    border::QUADRANT_TOP_LEFT_BOTTOM_LEFT_BOTTOM_RIGHT,
+    border::QUADRANT_TOP_LEFT_TOP_RIGHT_BOTTOM_LEFT,
+    border::QUADRANT_TOP_LEFT_TOP_RIGHT_BOTTOM_RIGHT,
+    border::QUADRANT_TOP_RIGHT_BOTTOM_LEFT_BOTTOM_RIGHT,
+    border::QUADRANT_TOP_LEFT_BOTTOM_RIGHT,
+    border::QUADRANT_TOP_RIGHT_BOTTOM_LEFT,
+    border::QUADRANT_BLOCK,
+    border::ONE_EIGHTH_TOP_EIGHT,
+    border::ONE_EIGHTH_BOTTOM_EIGHT,
+    border::ONE_EIGHTH_LEFT_EIGHT,
+    border::ONE_EIGHTH_RIGHT_EIGHT,
+];
 
 #[test]
 fn quadrants_and_eighths(rt: HostRuntime) {
-    let symbols = [
-        border::QUADRANT_TOP_LEFT,
-        border::QUADRANT_TOP_RIGHT,
-        border::QUADRANT_BOTTOM_LEFT,
-        border::QUADRANT_BOTTOM_RIGHT,
-        border::QUADRANT_TOP_HALF,
-        border::QUADRANT_BOTTOM_HALF,
-        border::QUADRANT_LEFT_HALF,
-        border::QUADRANT_RIGHT_HALF,
-        border::QUADRANT_TOP_LEFT_BOTTOM_LEFT_BOTTOM_RIGHT,
-        border::QUADRANT_TOP_LEFT_TOP_RIGHT_BOTTOM_LEFT,
-        border::QUADRANT_TOP_LEFT_TOP_RIGHT_BOTTOM_RIGHT,
-        border::QUADRANT_TOP_RIGHT_BOTTOM_LEFT_BOTTOM_RIGHT,
-        border::QUADRANT_TOP_LEFT_BOTTOM_RIGHT,
-        border::QUADRANT_TOP_RIGHT_BOTTOM_LEFT,
-        border::QUADRANT_BLOCK,
-        border::ONE_EIGHTH_TOP_EIGHT,
-        border::ONE_EIGHTH_BOTTOM_EIGHT,
-        border::ONE_EIGHTH_LEFT_EIGHT,
-        border::ONE_EIGHTH_RIGHT_EIGHT,
-    ];
-    assert!(rt; join_to(&symbols, "▘▝▖▗▀▄▌▐▙▛▜▟▚▞█▔▁▏▕"));
+    assert!(rt; join_to(&QUADRANTS_AND_EIGHTHS, "▘▝▖▗▀▄▌▐▙▛▜▟▚▞█▔▁▏▕"));
 }
+
+/// Shades from none to full.
+static SHADES: [&str; 5] = [
+    shade::EMPTY,
+    shade::LIGHT,
+    shade::MEDIUM,
+    shade::DARK,
+    shade::FULL,
+];
 
 #[test]
 fn shades(rt: HostRuntime) {
-    let symbols = [
-        shade::EMPTY,
-        shade::LIGHT,
-        shade::MEDIUM,
-        shade::DARK,
-        shade::FULL,
-    ];
-    assert!(rt; join_to(&symbols, " ░▒▓█"));
+    assert!(rt; join_to(&SHADES, " ░▒▓█"));
 }
 
 #[test]
@@ -226,66 +238,66 @@ fn levels_of_blocks(rt: HostRuntime) {
     assert!(rt; block_is(&block::Set::default(), "█▉▊▋▌▍▎▏ "));
 }
 
+/// Sets of lines and their symbols.
+static SETS_OF_LINES: [(line::Set<'static>, &str); 10] = [
+    (line::NORMAL, "│─┐┌┘└┤├┬┴┼"),
+    (line::ROUNDED, "│─╮╭╯╰┤├┬┴┼"),
+    (line::DOUBLE, "║═╗╔╝╚╣╠╦╩╬"),
+    (line::THICK, "┃━┓┏┛┗┫┣┳┻╋"),
+    (line::LIGHT_DOUBLE_DASHED, "╎╌┐┌┘└┤├┬┴┼"),
+    (line::LIGHT_TRIPLE_DASHED, "┆┄┐┌┘└┤├┬┴┼"),
+    (line::LIGHT_QUADRUPLE_DASHED, "┊┈┐┌┘└┤├┬┴┼"),
+    (line::HEAVY_DOUBLE_DASHED, "╏╍┓┏┛┗┫┣┳┻╋"),
+    (line::HEAVY_TRIPLE_DASHED, "┇┅┓┏┛┗┫┣┳┻╋"),
+    (line::HEAVY_QUADRUPLE_DASHED, "┋┉┓┏┛┗┫┣┳┻╋"),
+];
+
+/// Borders and their symbols.
+static BORDERS: [(border::Set<'static>, &str); 18] = [
+    (border::PLAIN, "┌┐└┘││──"),
+    (border::ROUNDED, "╭╮╰╯││──"),
+    (border::DOUBLE, "╔╗╚╝║║══"),
+    (border::THICK, "┏┓┗┛┃┃━━"),
+    (border::LIGHT_DOUBLE_DASHED, "┌┐└┘╎╎╌╌"),
+    (border::LIGHT_TRIPLE_DASHED, "┌┐└┘┆┆┄┄"),
+    (border::LIGHT_QUADRUPLE_DASHED, "┌┐└┘┊┊┈┈"),
+    (border::HEAVY_DOUBLE_DASHED, "┏┓┗┛╏╏╍╍"),
+    (border::HEAVY_TRIPLE_DASHED, "┏┓┗┛┇┇┅┅"),
+    (border::HEAVY_QUADRUPLE_DASHED, "┏┓┗┛┋┋┉┉"),
+    (border::QUADRANT_OUTSIDE, "▛▜▙▟▌▐▀▄"),
+    (border::QUADRANT_INSIDE, "▗▖▝▘▐▌▄▀"),
+    (border::ONE_EIGHTH_WIDE, "▁▁▔▔▏▕▁▔"),
+    (border::ONE_EIGHTH_TALL, "▕▏▕▏▕▏▔▁"),
+    (border::PROPORTIONAL_WIDE, "▄▄▀▀██▄▀"),
+    (border::PROPORTIONAL_TALL, "██████▀▄"),
+    (border::FULL, "████████"),
+    (border::EMPTY, "        "),
+];
+
+/// Asserts that each set has the symbols beside it.
+fn all_lines_are(rt: &impl Abort, sets: &[(line::Set<'_>, &str)]) {
+    for (set, expected) in sets {
+        assert!(rt; line_is(set, expected), "{expected}");
+    }
+}
+
+/// Asserts that each border has the symbols beside it.
+fn all_borders_are(rt: &impl Abort, sets: &[(border::Set<'_>, &str)]) {
+    for (set, expected) in sets {
+        assert!(rt; border_is(set, expected), "{expected}");
+    }
+}
+
 #[test]
 fn sets_of_lines(rt: HostRuntime) {
-    assert!(rt; line_is(&line::NORMAL, "│─┐┌┘└┤├┬┴┼"));
-    assert!(rt; line_is(&line::ROUNDED, "│─╮╭╯╰┤├┬┴┼"));
-    assert!(rt; line_is(&line::DOUBLE, "║═╗╔╝╚╣╠╦╩╬"));
-    assert!(rt; line_is(&line::THICK, "┃━┓┏┛┗┫┣┳┻╋"));
+    all_lines_are(&rt, &SETS_OF_LINES);
     assert!(rt; line_is(&line::Set::default(), "│─┐┌┘└┤├┬┴┼"));
 }
 
 #[test]
-fn sets_of_light_dashes(rt: HostRuntime) {
-    assert!(rt; line_is(&line::LIGHT_DOUBLE_DASHED, "╎╌┐┌┘└┤├┬┴┼"));
-    assert!(rt; line_is(&line::LIGHT_TRIPLE_DASHED, "┆┄┐┌┘└┤├┬┴┼"));
-    assert!(rt; line_is(&line::LIGHT_QUADRUPLE_DASHED, "┊┈┐┌┘└┤├┬┴┼"));
-}
-
-#[test]
-fn sets_of_heavy_dashes(rt: HostRuntime) {
-    assert!(rt; line_is(&line::HEAVY_DOUBLE_DASHED, "╏╍┓┏┛┗┫┣┳┻╋"));
-    assert!(rt; line_is(&line::HEAVY_TRIPLE_DASHED, "┇┅┓┏┛┗┫┣┳┻╋"));
-    assert!(rt; line_is(&line::HEAVY_QUADRUPLE_DASHED, "┋┉┓┏┛┗┫┣┳┻╋"));
-}
-
-#[test]
-fn borders_of_lines(rt: HostRuntime) {
-    assert!(rt; border_is(&border::PLAIN, "┌┐└┘││──"));
-    assert!(rt; border_is(&border::ROUNDED, "╭╮╰╯││──"));
-    assert!(rt; border_is(&border::DOUBLE, "╔╗╚╝║║══"));
-    assert!(rt; border_is(&border::THICK, "┏┓┗┛┃┃━━"));
+fn borders(rt: HostRuntime) {
+    all_borders_are(&rt, &BORDERS);
     assert!(rt; border_is(&border::Set::default(), "┌┐└┘││──"));
-}
-
-#[test]
-fn borders_of_light_dashes(rt: HostRuntime) {
-    assert!(rt; border_is(&border::LIGHT_DOUBLE_DASHED, "┌┐└┘╎╎╌╌"));
-    assert!(rt; border_is(&border::LIGHT_TRIPLE_DASHED, "┌┐└┘┆┆┄┄"));
-    assert!(rt; border_is(&border::LIGHT_QUADRUPLE_DASHED, "┌┐└┘┊┊┈┈"));
-}
-
-#[test]
-fn borders_of_heavy_dashes(rt: HostRuntime) {
-    assert!(rt; border_is(&border::HEAVY_DOUBLE_DASHED, "┏┓┗┛╏╏╍╍"));
-    assert!(rt; border_is(&border::HEAVY_TRIPLE_DASHED, "┏┓┗┛┇┇┅┅"));
-    assert!(rt; border_is(&border::HEAVY_QUADRUPLE_DASHED, "┏┓┗┛┋┋┉┉"));
-}
-
-#[test]
-fn borders_of_quadrants_and_eighths(rt: HostRuntime) {
-    assert!(rt; border_is(&border::QUADRANT_OUTSIDE, "▛▜▙▟▌▐▀▄"));
-    assert!(rt; border_is(&border::QUADRANT_INSIDE, "▗▖▝▘▐▌▄▀"));
-    assert!(rt; border_is(&border::ONE_EIGHTH_WIDE, "▁▁▔▔▏▕▁▔"));
-    assert!(rt; border_is(&border::ONE_EIGHTH_TALL, "▕▏▕▏▕▏▔▁"));
-}
-
-#[test]
-fn borders_of_whole_and_half_blocks(rt: HostRuntime) {
-    assert!(rt; border_is(&border::PROPORTIONAL_WIDE, "▄▄▀▀██▄▀"));
-    assert!(rt; border_is(&border::PROPORTIONAL_TALL, "██████▀▄"));
-    assert!(rt; border_is(&border::FULL, "████████"));
-    assert!(rt; border_is(&border::EMPTY, "        "));
 }
 
 #[test]
@@ -333,7 +345,7 @@ fn quadrants_and_halves(rt: HostRuntime) {
 }
 
 /// Markers and their names.
-const NAMES: [(Marker, &str); 9] = [
+static NAMES: [(Marker, &str); 9] = [
     (Marker::Dot, "Dot"),
     (Marker::Block, "Block"),
     (Marker::Bar, "Bar"),
