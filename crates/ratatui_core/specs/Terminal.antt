@@ -5,7 +5,7 @@ pub use Rattle.rtui_viewport.specs.Areas.{KeepsOutside, IsBlankOver, IsBlankBelo
 pub use Rattle.rtui_viewport.specs.Viewports.{IsInline, IsFixed, FitsEdges, rows_in, viewport_text}
 pub use Rattle.rtui_viewport.specs.Placing.{lines_below, inline_top, inline_area, rows_left, PlacesInline, area_in, raised, cursor_found, IsCursorSet, rows_scrolled, EmptiesAllIf, Places}
 pub use Rattle.rtui_viewport.specs.Clearing.{is_emptied, HasPlace, ClearsArea}
-pub use Rattle.rtui_viewport.specs.Left.{blank_at, blanks_left}
+pub use Rattle.rtui_viewport.specs.Remaining.{blank_at, blanks_left}
 pub use Rattle.rtui_terminal.specs.State.{State, IsInPlace, HasAreas, HasRoom, cursor_offset, IsSameTerminal, IsDefaultOver}
 pub use Rattle.rtui_terminal.specs.InStep.{IsInStep, IsSized, IsReady, rows_over}
 pub use Rattle.rtui_terminal.specs.Frames.{IsNewFrame, PaintsFrame, IsDrawFrame, AcceptsFrames, AcceptsNewFrame, paints_on}

@@ -14,7 +14,7 @@ use Rattle.rtui_cell.specs.Grid.{Grid, put, puts}
 use Rattle.rtui_cell.proofs.CellLemmas.{look-empty, width-empty}
 use Rattle.rtui_backend.specs.Screen.{IsWithin}
 use Rattle.rtui_viewport.specs.Areas.{is_within}
-use Rattle.rtui_viewport.specs.Left.{blank_at}
+use Rattle.rtui_viewport.specs.Remaining.{blank_at}
 
 abbrev at : ℕ → ℕ → Position
 at a b = record { x = a; y = b }

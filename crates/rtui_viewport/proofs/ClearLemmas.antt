@@ -17,7 +17,7 @@ use Rattle.rtui_viewport.specs.declared.viewport.Viewport.TheVariants.{Fullscree
 use Rattle.rtui_cell.specs.Look.{Look, empty_look}
 use Rattle.rtui_viewport.specs.Areas.{KeepsFrame, Empties, KeepsOutside, IsBlankOver, IsBlankBelow, is_between, is_within}
 use Rattle.rtui_viewport.specs.Clearing.{ClearsArea, is_emptied}
-use Rattle.rtui_viewport.specs.Left.{blank_at}
+use Rattle.rtui_viewport.specs.Remaining.{blank_at}
 use Rattle.rtui_viewport.proofs.BlankLemmas.{decide_within, blanks_over}
 
 pub frame_same : (s : Screen) → KeepsFrame s s
