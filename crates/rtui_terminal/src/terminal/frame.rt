@@ -1,10 +1,13 @@
-ghost use Rattle.std.specs.Prelude.{◌≡◌, Some};
+ghost use Rattle.std.specs.Prelude.{◌≡◌, Some, OnOk, OnErr};
 ghost use Rattle.std.specs.Borrow.{sem};
+ghost use Rattle.rtui_widgets.specs.Rendering.{ChangesWithin};
 
 use crate::terminal::Terminal;
 use rtui_backend::Backend;
 use rtui_buffer::Buffer;
 use rtui_geometry::{Position, Rect};
+use rtui_widgets::{StatefulWidget, Widget};
+use std::alloc::AllocError;
 
 /// What a closure paints on: the current buffer of a terminal, its area, and where the cursor is to be
 /// afterwards.
@@ -18,6 +21,7 @@ pub struct Frame<'a> {
 
 impl Frame<'_> {
     ghost use Rattle.rtui_terminal.specs.Borrows.{LendsBuffer};
+    ghost use Rattle.rtui_terminal.specs.Frames.{KeepsFrame};
 
     /// The area of the viewport, in columns and rows of the screen.
     pub fn area(&self) -> Rect
@@ -53,6 +57,33 @@ impl Frame<'_> {
         ensures value { result.now ≡ self.old.buffer.now }
     {
         &mut *self.buffer
+    }
+
+    /// Renders a widget over an area of the frame's buffer. It is refused where memory is; then no cell outside the area
+    /// changed.
+    pub fn render_widget<W: Widget>(&mut self, widget: W, area: Rect) -> Result<(), AllocError>
+        requires { W.can_render widget area self.old.buffer.now }
+        ensures keeps { KeepsFrame self.old self.new }
+        ensures ok { OnOk result (W.renders widget area self.old.buffer.now self.new.buffer.now) }
+        ensures err { OnErr result (ChangesWithin (W.reach widget area) self.old.buffer.now self.new.buffer.now) }
+    {
+        widget.render(area, self.buffer)
+    }
+
+    /// Renders a widget over an area of the frame's buffer, from its state on. It is refused where memory is; then no cell
+    /// outside the area changed.
+    pub fn render_stateful_widget<W: StatefulWidget>(
+        &mut self,
+        widget: W,
+        area: Rect,
+        state: &mut W::State,
+    ) -> Result<(), AllocError>
+        requires { W.can_render widget state.old area self.old.buffer.now }
+        ensures keeps { KeepsFrame self.old self.new }
+        ensures ok { OnOk result (W.renders widget state.old state.new area self.old.buffer.now self.new.buffer.now) }
+        ensures err { OnErr result (ChangesWithin (W.reach widget area) self.old.buffer.now self.new.buffer.now) }
+    {
+        widget.render(area, self.buffer, state)
     }
 
     /// How many frames were drawn before this one; it starts again at 0 past the greatest number.
