@@ -1,14 +1,14 @@
 -- Terminals, frames, and what each call does.
 pub use Rattle.rtui_terminal.specs.declared.terminal.error.TerminalError.{TerminalError}
 pub use Rattle.rtui_terminal.specs.declared.terminal.frame.Frame.{Frame}
-pub use Rattle.rtui_viewport.specs.Areas.{KeepsOutside, IsBlankOver, IsBlankBelow, KeepsFrame, Empties, is_between, is_within}
+pub use Rattle.rtui_viewport.specs.Areas.{KeepsOutside, IsBlankOver, IsBlankBelow, KeepsScreen, Empties, is_between, is_within}
 pub use Rattle.rtui_viewport.specs.Viewports.{IsInline, IsFixed, FitsEdges, rows_in, viewport_text}
 pub use Rattle.rtui_viewport.specs.Placing.{lines_below, inline_top, inline_area, rows_left, PlacesInline, area_in, raised, cursor_found, IsCursorSet, rows_scrolled, EmptiesAllIf, Places}
 pub use Rattle.rtui_viewport.specs.Clearing.{is_emptied, HasPlace, ClearsArea}
 pub use Rattle.rtui_viewport.specs.Remaining.{blank_at, blanks_left}
 pub use Rattle.rtui_terminal.specs.State.{State, IsInPlace, HasAreas, HasRoom, cursor_offset, IsSameTerminal, IsDefaultOver}
 pub use Rattle.rtui_terminal.specs.InStep.{IsInStep, IsSized, IsReady, rows_over}
-pub use Rattle.rtui_terminal.specs.Frames.{IsNewFrame, PaintsFrame, IsDrawFrame, AcceptsFrames, AcceptsNewFrame, paints_on}
+pub use Rattle.rtui_terminal.specs.Frames.{IsNewFrame, KeepsFrame, PaintsFrame, IsDrawFrame, AcceptsFrames, AcceptsNewFrame, paints_on}
 pub use Rattle.rtui_terminal.specs.Borrows.{with_buffer, LendsBuffer}
 pub use Rattle.rtui_terminal.specs.Calls.{FaultCounts, Faults, IsBackendFault, FailsOnlyByBackend, StartErr, differing_count, WritesDifferences, cursor_placed, HasDrawn, last_place, known_behind, cursor_behind, cursor_after, IsResized, FlushErr, first_area, first_cursor, Stays, MovesCursor, Clears, Resizes, ResizeErr, Autoresizes, AutoresizeErr, Flushes, Writes, FailsWriting, Applies, FailsFlushing, RefusesArea, FailsApplying, RefusesBy, WritesBy, AppliesBy, Starts, DrawOk, ClosureErr, PaintedErr, DrawErr, DrawsBy, TriesBy}
 pub use Rattle.rtui_terminal.specs.Display.{terminal_error_text}

@@ -55,6 +55,7 @@ pub mod terminal {
 
 /// Texts in styles.
 pub mod text {
+    pub use rtui_to_text::{ToLine, ToSpan, ToText};
     pub use rtui_text::{
         Line, LineGraphemes, Lines, Masked, Span, SpanGraphemes, Spans, StyledGrapheme, Text,
         text_columns,

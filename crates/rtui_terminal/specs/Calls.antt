@@ -12,7 +12,7 @@ use Rattle.rtui_backend.specs.Screen.{Screen, Draws, Scrolls, IsOnScreen, with_v
 use Rattle.rtui_viewport.specs.declared.viewport.Viewport.{Viewport}
 use Rattle.rtui_viewport.specs.declared.viewport.Viewport.TheVariants.{Fullscreen, Inline, Fixed}
 use Rattle.rtui_viewport.specs.Viewports.{IsFixed, IsInline}
-use Rattle.rtui_viewport.specs.Areas.{KeepsFrame, KeepsOutside, IsBlankOver, Empties}
+use Rattle.rtui_viewport.specs.Areas.{KeepsScreen, KeepsOutside, IsBlankOver, Empties}
 use Rattle.rtui_viewport.specs.Placing.{area_in, raised, rows_scrolled}
 use Rattle.rtui_viewport.specs.Clearing.{HasPlace, ClearsArea, is_emptied}
 use Rattle.rtui_terminal.specs.State.{State, HasAreas, cursor_offset}
@@ -127,7 +127,7 @@ module _ {B : Type 0} (screen : B → Screen) where
   pub record Clears (s t : State B) : Type 0 where
     pub rest : t ≡ record s { backend = t.backend; older = t.older }
     pub older : IsEmptied s.older.area t.older
-    pub frame : KeepsFrame (screen s.backend) (screen t.backend)
+    pub frame : KeepsScreen (screen s.backend) (screen t.backend)
     pub cursor : cursor_of (screen t.backend) ≡ cursor_of (screen s.backend)
     pub clears : ClearsArea s.viewport s.viewport_area (screen s.backend) (screen t.backend)
     pub in_step : IsOnScreen s.viewport_area (screen s.backend) → s.older.area ≡ s.viewport_area → IsInStep screen t
@@ -141,7 +141,7 @@ module _ {B : Type 0} (screen : B → Screen) where
     pub older : IsEmptied t.viewport_area t.older
     pub scrolled : Screen
     pub scrolls : Scrolls (screen s.backend) (rows_scrolled s.viewport (cursor_offset s) (screen s.backend)) scrolled
-    pub frame : KeepsFrame scrolled (screen t.backend)
+    pub frame : KeepsScreen scrolled (screen t.backend)
     pub empties : HasPlace s.viewport t.viewport_area scrolled
         → Empties (λ a b. is_emptied s.viewport t.viewport_area scrolled.height a b || nat_lt area.width s.viewport_area.width) scrolled (screen t.backend)
     pub cursor : IsInline s.viewport → cursor_of (screen t.backend) ≡ cursor_of (screen s.backend)

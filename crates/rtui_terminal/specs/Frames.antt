@@ -15,6 +15,14 @@ pub record IsNewFrame (area : Rect) (count : ℕ) (sheet : Sheet) (frame : Frame
   pub numbered : frame.count ≡ count
   pub shows : frame.buffer.now ≡ sheet
 
+-- the frame keeps its buffer reference, the buffer its area, and the frame all else
+pub record KeepsFrame (old new : Frame) : Type 0 where
+  pub same_buffer : new.buffer.ghost_name ≡ old.buffer.ghost_name
+  pub same_area : new.buffer.now.area ≡ old.buffer.now.area
+  pub cursor : new.cursor_position ≡ old.cursor_position
+  pub over : new.viewport_area ≡ old.viewport_area
+  pub numbered : new.count ≡ old.count
+
 -- a call of f at a new frame over a buffer gave an answer and left a frame with this cursor and, if that frame kept its buffer
 -- reference, with this buffer
 pub record PaintsFrame {F R : Type 0} (once : Once F (MutBor Frame × Unit {0}) (R × (MutBor Frame × Unit {0}))) (f : F) (area : Rect) (count : ℕ) (sheet : Sheet) (answer : R) (cursor : Option Position) (painted : Sheet) : Type 0 where

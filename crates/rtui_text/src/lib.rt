@@ -1,8 +1,8 @@
-//! Styled texts as data: a span is a text in a style, and a line is spans in a row.
+//! Styled texts as data: a span is a text in a style, a line is spans in a row, and a text is lines one below the other.
 //!
-//! It stands on `rtui_style`, on `rtui_layout` for the alignment of a line, and on `rtui_cell` for the columns
-//! of a text. For the layers above, a span and a line are seen as their parts (`specs/Text`), and `specs/Widths`
-//! says how many columns they take. A text is borrowed or owned, which makes no difference to its value.
+//! It stands on `rtui_style`, on `rtui_layout` for alignments, and on `rtui_cell` for the columns of a text. For the layers
+//! above, each is seen as its parts (`specs/Text`); `specs/Widths` says how many columns they take, `specs/Graphemes` which
+//! graphemes they have, and `specs/Display` what they print. Content is borrowed or owned, which makes no difference to a value.
 #![tactic(auto)]
 
 mod columns;

@@ -38,7 +38,12 @@ pub(crate) struct LineHead {
     pub(crate) alignment: Option<HorizontalAlignment>,
 }
 
-/// Spans in a row, over which lies the style of the whole.
+/// Spans in a row, with the style of the whole under those of the spans.
+///
+/// ```
+/// let mut line = Line::raw(alloc, "total: ")?.right_aligned();
+/// line.push_span(Span::styled("42", Style::new().fg(Color::Green)))?;
+/// ```
 #[derive(Debug, Drop)]
 pub struct Line<'a> {
     /// The style of the whole line, under those of its spans.

@@ -18,6 +18,11 @@ use std::hash::{Hash, Hasher};
 use std::marker::Model;
 
 /// A text that shows one character for each of its own, as a password is shown. Its `Debug` shows the text itself.
+///
+/// ```
+/// let password = Masked::new("12345", 'x');
+/// let shown = password.value(alloc)?; // xxxxx
+/// ```
 #[derive(Drop)]
 pub struct Masked<'a> {
     inner: CowStr<'a>,

@@ -27,6 +27,12 @@ use std::hash::{Hash, Hasher};
 use std::marker::Model;
 
 /// A text in one style. Whether the text is borrowed or owned makes no difference to its value.
+///
+/// ```
+/// let plain = Span::raw("files");
+/// let warning = Span::styled("no space left", Style::new().fg(Color::Red));
+/// let line = plain.try_add(alloc, warning)?;
+/// ```
 #[derive(Debug, Drop)]
 pub struct Span<'a> {
     /// The style of the text.

@@ -30,6 +30,11 @@ use std::slice;
 use std::vec;
 
 /// Lines one below the other, with the style of the whole under those of the lines.
+///
+/// ```
+/// let mut text = Text::raw(alloc, "first line\nsecond line")?.centered();
+/// text.push_line(Line::raw(alloc, "third line")?)?;
+/// ```
 #[derive(Debug, Drop)]
 pub struct Text<'a> {
     /// Where the lines stand between left and right that don't say so themselves.
@@ -82,7 +87,7 @@ impl<'a> Text<'a> {
         ensures { IfOk result (λ t. t ≡ raw_text content.now) }
     {
         if content.is_empty() {
-            return Text::from_line(alloc, Line::default_in(alloc));
+            return Text::raw(alloc, "");
         }
         let mut lines = Lines::new(alloc);
         for line in content.lines() {

@@ -18,13 +18,13 @@ pub record IsBlankBelow (r : Rect) (s : Screen) : Type 0 where
   pub at : (a b : ℕ) → a < s.width → b < s.height → r.y + r.height ≤ b → s.grid a b ≡ empty_look
 
 -- only the looks, the cursor's place and the count of items may differ
-pub record KeepsFrame (old new : Screen) : Type 0 where
+pub record KeepsScreen (old new : Screen) : Type 0 where
   pub size : KeepsSize old new
   pub visible : new.visible ≡ old.visible
 
 -- the columns that `which` names were emptied, and the others stay
 pub record Empties (which : ℕ → ℕ → Bool) (old new : Screen) : Type 0 where
-  pub frame : KeepsFrame old new
+  pub frame : KeepsScreen old new
   pub grid : (a b : ℕ) → a < old.width → b < old.height → new.grid a b ≡ if which a b then empty_look else old.grid a b
 
 -- the rows from y up to another

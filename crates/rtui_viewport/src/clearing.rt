@@ -2,7 +2,7 @@ ghost use Rattle.std.specs.Prelude.{◌≡◌, ◌≤◌, OnOk};
 ghost use Rattle.rtui_geometry.specs.Rect.{EdgesFit};
 ghost use Rattle.rtui_backend.specs.Failures.{Counts};
 ghost use Rattle.rtui_backend.specs.Screen.{IsOnScreen, cursor_of};
-ghost use Rattle.rtui_viewport.specs.Areas.{KeepsFrame, Empties, is_between, is_within};
+ghost use Rattle.rtui_viewport.specs.Areas.{KeepsScreen, Empties, is_between, is_within};
 ghost use Rattle.rtui_viewport.specs.Clearing.{ClearsArea};
 ghost use Rattle.rtui_viewport.specs.Placing.{IsCursorSet};
 
@@ -16,7 +16,7 @@ use rtui_geometry::{Position, Rect};
 fn clear_rows<B: Backend>(backend: &mut B, top: u16, bottom: u16) -> Result<(), B::Error>
     requires { top ≤ bottom }
     ensures cleared { OnOk result (bottom ≤ (B.screen backend.old).height → Empties (is_between top bottom) (B.screen backend.old) (B.screen backend.new)) }
-    ensures frame { OnOk result (KeepsFrame (B.screen backend.old) (B.screen backend.new)) }
+    ensures frame { OnOk result (KeepsScreen (B.screen backend.old) (B.screen backend.new)) }
     ensures counts { Counts result (B.failures backend.old) (B.failures backend.new) }
 {
     for y in top..bottom {
@@ -30,7 +30,7 @@ fn clear_rows<B: Backend>(backend: &mut B, top: u16, bottom: u16) -> Result<(), 
 fn draw_blanks<B: Backend>(backend: &mut B, area: Rect) -> Result<(), B::Error>
     requires { EdgesFit area }
     ensures cleared { OnOk result (IsOnScreen area (B.screen backend.old) → Empties (is_within area) (B.screen backend.old) (B.screen backend.new)) }
-    ensures frame { OnOk result (KeepsFrame (B.screen backend.old) (B.screen backend.new)) }
+    ensures frame { OnOk result (KeepsScreen (B.screen backend.old) (B.screen backend.new)) }
     ensures counts { Counts result (B.failures backend.old) (B.failures backend.new) }
 {
     let blank = Cell::EMPTY;
@@ -41,7 +41,7 @@ fn draw_blanks<B: Backend>(backend: &mut B, area: Rect) -> Result<(), B::Error>
 fn clear_fixed<B: Backend>(backend: &mut B, area: Rect) -> Result<(), B::Error>
     requires { EdgesFit area }
     ensures cleared { OnOk result (IsOnScreen area (B.screen backend.old) → Empties (is_within area) (B.screen backend.old) (B.screen backend.new)) }
-    ensures frame { OnOk result (KeepsFrame (B.screen backend.old) (B.screen backend.new)) }
+    ensures frame { OnOk result (KeepsScreen (B.screen backend.old) (B.screen backend.new)) }
     ensures counts { Counts result (B.failures backend.old) (B.failures backend.new) }
 {
     if area.is_empty() {
@@ -67,7 +67,7 @@ pub fn clear_area<B: Backend>(
 ) -> Result<(), B::Error>
     requires { EdgesFit area }
     ensures cleared { OnOk result (ClearsArea viewport area (B.screen backend.old) (B.screen backend.new)) }
-    ensures frame { OnOk result (KeepsFrame (B.screen backend.old) (B.screen backend.new)) }
+    ensures frame { OnOk result (KeepsScreen (B.screen backend.old) (B.screen backend.new)) }
     ensures counts { Counts result (B.failures backend.old) (B.failures backend.new) }
 {
     match viewport {
@@ -88,7 +88,7 @@ pub fn clear_viewport<B: Backend>(
 ) -> Result<(), B::Error>
     requires { EdgesFit area }
     ensures cleared { OnOk result (ClearsArea viewport area (B.screen backend.old) (B.screen backend.new)) }
-    ensures frame { OnOk result (KeepsFrame (B.screen backend.old) (B.screen backend.new)) }
+    ensures frame { OnOk result (KeepsScreen (B.screen backend.old) (B.screen backend.new)) }
     ensures cursor { OnOk result (cursor_of (B.screen backend.new) ≡ cursor_of (B.screen backend.old)) }
     ensures counts { Counts result (B.failures backend.old) (B.failures backend.new) }
 {
@@ -106,7 +106,7 @@ pub fn clear_placed<B: Backend>(
 ) -> Result<(), B::Error>
     requires { EdgesFit area }
     ensures cleared { OnOk result (ClearsArea viewport area (B.screen backend.old) (B.screen backend.new)) }
-    ensures frame { OnOk result (KeepsFrame (B.screen backend.old) (B.screen backend.new)) }
+    ensures frame { OnOk result (KeepsScreen (B.screen backend.old) (B.screen backend.new)) }
     ensures cursor { OnOk result (IsCursorSet cursor (B.screen backend.old) (B.screen backend.new)) }
     ensures counts { Counts result (B.failures backend.old) (B.failures backend.new) }
 {

@@ -1,5 +1,6 @@
 ghost use Rattle.std.specs.Prelude.{◌≡◌, Some, OnOk, OnErr};
 ghost use Rattle.std.specs.Borrow.{sem};
+ghost use Rattle.rtui_widgets.specs.Rendering.{ChangesWithin};
 
 use crate::terminal::Terminal;
 use rtui_backend::Backend;
@@ -19,8 +20,8 @@ pub struct Frame<'a> {
 }
 
 impl Frame<'_> {
-    ghost use Rattle.rtui_terminal.specs.Borrows.{LendsBuffer, with_buffer};
-    ghost use Rattle.rtui_widgets.specs.Rendering.{ChangesWithin};
+    ghost use Rattle.rtui_terminal.specs.Borrows.{LendsBuffer};
+    ghost use Rattle.rtui_terminal.specs.Frames.{KeepsFrame};
 
     /// The area of the viewport, in columns and rows of the screen.
     pub fn area(&self) -> Rect
@@ -50,10 +51,19 @@ impl Frame<'_> {
         self.set_cursor_position(Position { x, y });
     }
 
-    /// Renders a widget over an area of the buffer, in columns and rows of the screen; it is refused where memory is.
+    /// The buffer to paint on.
+    pub fn buffer_mut(&mut self) -> &mut Buffer
+        ensures* writes_back { sem 𝓛 (LendsBuffer self.entry result) }
+        ensures value { result.now ≡ self.old.buffer.now }
+    {
+        &mut *self.buffer
+    }
+
+    /// Renders a widget over an area of the frame's buffer. It is refused where memory is; then no cell outside the area
+    /// changed.
     pub fn render_widget<W: Widget>(&mut self, widget: W, area: Rect) -> Result<(), AllocError>
         requires { W.can_render widget area self.old.buffer.now }
-        ensures rest { self.new ≡ with_buffer self.old self.new.buffer.now }
+        ensures keeps { KeepsFrame self.old self.new }
         ensures ok { OnOk result (W.renders widget area self.old.buffer.now self.new.buffer.now) }
         ensures err { let reach = W.reach widget area in
             OnErr result (ChangesWithin reach self.old.buffer.now self.new.buffer.now) }
@@ -61,7 +71,8 @@ impl Frame<'_> {
         widget.render(area, self.buffer)
     }
 
-    /// Renders a widget that keeps a state over an area of the buffer; it is refused where memory is.
+    /// Renders a widget over an area of the frame's buffer, from its state on. It is refused where memory is; then no cell
+    /// outside the area changed.
     pub fn render_stateful_widget<W: StatefulWidget>(
         &mut self,
         widget: W,
@@ -69,21 +80,13 @@ impl Frame<'_> {
         state: &mut W::State,
     ) -> Result<(), AllocError>
         requires { W.can_render widget state.old area self.old.buffer.now }
-        ensures rest { self.new ≡ with_buffer self.old self.new.buffer.now }
+        ensures keeps { KeepsFrame self.old self.new }
         ensures ok { OnOk result (W.renders widget state.old state.new area
             self.old.buffer.now self.new.buffer.now) }
         ensures err { let reach = W.reach widget area in
             OnErr result (ChangesWithin reach self.old.buffer.now self.new.buffer.now) }
     {
         widget.render(area, self.buffer, state)
-    }
-
-    /// The buffer to paint on.
-    pub fn buffer_mut(&mut self) -> &mut Buffer
-        ensures* writes_back { sem 𝓛 (LendsBuffer self.entry result) }
-        ensures value { result.now ≡ self.old.buffer.now }
-    {
-        &mut *self.buffer
     }
 
     /// How many frames were drawn before this one; it starts again at 0 past the greatest number.

@@ -1,6 +1,6 @@
 use Rattle.std.proofs.Common.{◌≡◌, refl, sym, ap, ◌∙◌}
 use Rattle.rtui_buffer.specs.Sheet.{IsEmptied}
-use Rattle.rtui_viewport.specs.Areas.{KeepsFrame}
+use Rattle.rtui_viewport.specs.Areas.{KeepsScreen}
 use Rattle.rtui_viewport.specs.Placing.{Places}
 use Rattle.rtui_viewport.proofs.ClearLemmas.{blank_over, frame_more}
 use Rattle.rtui_terminal.specs.Calls.{IsResized}
@@ -32,7 +32,7 @@ returns-clause-outcome g c =
     let older : IsEmptied next c.reset.new.self = rw older_area at c.reset.ensures.emptied in
     let current : IsResized next s.current c.self-3.inside.current =
         resized_same next c.in-Ok.ensures.current (rw (current_2, current_3) at c.set_area.ensures.current) in
-    let frame : KeepsFrame (screen c.place_viewport.new.backend) (screen c.clear_placed.new.backend) = rw between at cleared.frame in
+    let frame : KeepsScreen (screen c.place_viewport.new.backend) (screen c.clear_placed.new.backend) = rw between at cleared.frame in
     let places = rw (viewport_2, former, c.saturating_sub-offset.ensures, cursor_2, area_2) at found.placed in
     let emptied = emptied_frame _ places.empties in
     let size = emptied.size in

@@ -1,0 +1,70 @@
+//! What can be printed, as a text on the screen.
+//!
+//! It stands on `rtui_text`. Whatever prints is a [`ToSpan`], a [`ToLine`] and a [`ToText`]: its printed text, owned, in the
+//! style that changes nothing. Contracts name that text where the type states what it prints.
+#![tactic(auto)]
+
+ghost use Rattle.std.specs.Prelude.{◌≡◌, ℕ, List, Option, IfOk, IfSome};
+ghost use Rattle.rtui_text.specs.Text.{plain, raw_line, raw_text};
+
+use rtui_text::{Line, Span, Text};
+use std::alloc::{AllocError, Global};
+use std::fmt;
+
+/// What can be made a span.
+///
+/// ```
+/// let span = 42.to_span(alloc)?;
+/// ```
+pub trait ToSpan {
+    // what it prints, where that is stated
+    ghost printed: { Self → Option (List ℕ) };
+
+    /// A span of what it prints; refused where memory is.
+    fn to_span(&self, alloc: Global) -> Result<Span<'static>, AllocError>
+        ensures { IfSome (printed self.now) (λ text. IfOk result (λ span. span ≡ plain text)) };
+}
+
+impl<T: fmt::Display> ToSpan for T {
+    ghost printed = { T.output };
+
+    fn to_span(&self, alloc: Global) -> Result<Span<'static>, AllocError> {
+        Ok(Span::from(self.to_string(alloc)?))
+    }
+}
+
+/// What can be made a line.
+pub trait ToLine {
+    // what it prints, where that is stated
+    ghost printed: { Self → Option (List ℕ) };
+
+    /// A line of what it prints, as `Line::raw_string` makes it; refused where memory is.
+    fn to_line(&self, alloc: Global) -> Result<Line<'static>, AllocError>
+        ensures { IfSome (printed self.now) (λ text. IfOk result (λ line. line ≡ raw_line text)) };
+}
+
+impl<T: fmt::Display> ToLine for T {
+    ghost printed = { T.output };
+
+    fn to_line(&self, alloc: Global) -> Result<Line<'static>, AllocError> {
+        Line::raw_string(alloc, self.to_string(alloc)?)
+    }
+}
+
+/// What can be made a text.
+pub trait ToText {
+    // what it prints, where that is stated
+    ghost printed: { Self → Option (List ℕ) };
+
+    /// A text of what it prints, as `Text::raw_string` makes it; refused where memory is.
+    fn to_text(&self, alloc: Global) -> Result<Text<'static>, AllocError>
+        ensures { IfSome (printed self.now) (λ printed. IfOk result (λ text. text ≡ raw_text printed)) };
+}
+
+impl<T: fmt::Display> ToText for T {
+    ghost printed = { T.output };
+
+    fn to_text(&self, alloc: Global) -> Result<Text<'static>, AllocError> {
+        Text::raw_string(alloc, self.to_string(alloc)?)
+    }
+}
