@@ -227,13 +227,12 @@ fn is_moved_row(
 
 // Whether a blank row equals a blank buffer, and one with a symbol just the buffer that has it too, in the same place.
 fn compares_with_buffers(alloc: Global, backend: &mut TestBackend) -> Result<bool, AllocError> {
-    Ok(
-        is_row(alloc, backend, &[])?
-            && draws_symbol(alloc, backend, 0, "h")?
-            && !is_row(alloc, backend, &[])?
-            && is_row(alloc, backend, &["h"])?
-            && !is_moved_row(alloc, backend, &["h"])?,
-    )
+    let was_blank = is_row(alloc, backend, &[])?;
+    let is_drawn = draws_symbol(alloc, backend, 0, "h")?;
+    let is_blank = is_row(alloc, backend, &[])?;
+    let has_symbol = is_row(alloc, backend, &["h"])?;
+    let is_elsewhere = is_moved_row(alloc, backend, &["h"])?;
+    Ok(was_blank && is_drawn && !is_blank && has_symbol && !is_elsewhere)
 }
 
 fn screen_compares_with_buffers(alloc: Global) -> Result<bool, AllocError> {
@@ -262,7 +261,9 @@ fn draws_both(
     first: &str,
     second: &str,
 ) -> Result<bool, AllocError> {
-    Ok(draws_symbol(alloc, backend, 0, first)? && draws_symbol(alloc, backend, 1, second)?)
+    let is_first = draws_symbol(alloc, backend, 0, first)?;
+    let is_second = draws_symbol(alloc, backend, 1, second)?;
+    Ok(is_first && is_second)
 }
 
 #[test]
@@ -282,10 +283,15 @@ fn shows_no_other_lines(rt: HostRuntime) -> Result<(), Fail> {
     Ok(())
 }
 
+// Whether a screen without cells shows these lines.
+fn empty_shows_lines(alloc: Global, lines: &[&str]) -> Result<bool, AllocError> {
+    let empty = blank(alloc, 0, 0)?;
+    Ok(empty.lines_are(lines))
+}
+
 #[test]
 fn compares_an_empty_screen_with_lines(rt: HostRuntime) -> Result<(), Fail> {
-    let empty = blank(rt.alloc(), 0, 0)?;
-    assert!(rt; empty.lines_are(&[]));
-    assert!(rt; !empty.lines_are(&[""]));
+    assert!(rt; empty_shows_lines(rt.alloc(), &[])?);
+    assert!(rt; !empty_shows_lines(rt.alloc(), &[""])?);
     Ok(())
 }

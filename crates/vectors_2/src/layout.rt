@@ -13,7 +13,7 @@ use std::str::FromStr;
 use std::test::Fail;
 
 /// Texts that are no names.
-const NO_VARIANT: [&str; 5] = ["", "horizontal", "Left ", " Top", "Startx"];
+static NO_VARIANT: [&str; 5] = ["", "horizontal", "Left ", " Top", "Startx"];
 
 /// Whether a value prints this name and is read from it.
 fn is_named<T: Display + FromStr<Err = ParseError> + Copy + PartialEq>(
