@@ -10,8 +10,7 @@ use ratatui_core::buffer::Cell;
 use ratatui_core::layout::{Position, Size};
 use std::alloc::{AllocError, Global};
 use std::error::Error;
-use std::fmt;
-use std::iter;
+use std::{fmt, iter};
 
 /// Memory was refused.
 #[derive(Clone, Copy, Debug, PartialEq, Eq)]

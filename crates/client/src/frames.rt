@@ -24,7 +24,7 @@ pub fn draw_text<B: Backend>(
         IsReady B.screen area terminal.old → IsReady B.screen area terminal.new) }
     ensures shows { OnOk result ((area : Rect) →
         IsReady B.screen area terminal.old → HasPosition area (corner area) → ShowsPieces area (corner area)
-            (pieces_at area area.x 65535 new_style text.now) (B.screen terminal.new.backend).grid) }
+        (pieces_at area area.x 65535 new_style text.now) (B.screen terminal.new.backend).grid) }
 {
     let corner = terminal.viewport_area().as_position();
     draw_label(terminal, corner, text)

@@ -36,7 +36,7 @@ pub fn draw_label<B: Backend>(
         IsReady B.screen area terminal.old → IsReady B.screen area terminal.new) }
     ensures shows { OnOk result ((area : Rect) →
         IsReady B.screen area terminal.old → HasPosition area position → ShowsPieces area position
-            (pieces_at area position.x 65535 new_style text.now) (B.screen terminal.new.backend).grid) }
+        (pieces_at area position.x 65535 new_style text.now) (B.screen terminal.new.backend).grid) }
 {
     terminal.draw(|frame| label(frame.buffer_mut(), position, text))?;
     Ok(())

@@ -55,11 +55,11 @@ pub mod terminal {
 
 /// Texts in styles.
 pub mod text {
-    pub use rtui_to_text::{ToLine, ToSpan, ToText};
     pub use rtui_text::{
         Line, LineGraphemes, Lines, Masked, Span, SpanGraphemes, Spans, StyledGrapheme, Text,
         text_columns,
     };
+    pub use rtui_to_text::{ToLine, ToSpan, ToText};
 }
 
 /// What can be rendered over an area of a buffer.

@@ -86,7 +86,7 @@ fn put_cell(
     ensures unmarked { AreUnmarked cells.old → AreUnmarked cells.new }
     ensures grid { OnOk result ((a b : ℕ) → grid_of size.width cells.new a b
         ≡ put size.width size.height (record { x = x; y = y; cell = cell.now })
-            (grid_of size.width cells.old) a b) }
+        (grid_of size.width cells.old) a b) }
     ensures err { OnErr result (cells.new ≡ cells.old) }
 {
     if x >= size.width || y >= size.height {

@@ -25,12 +25,12 @@ pub fn hashing_names_every_field()
         → ⟦<Cell as Hash>⟧.hash_input a ≡ ⟦<Cell as Hash>⟧.hash_input b }
     ensures fields { (c : Cell) → ⟦<Cell as Hash>⟧.hash_input c
         ≡ ⟦<Color as Hash>⟧.hash_input c.fg
-            ++ (⟦<Color as Hash>⟧.hash_input c.bg
-            ++ (⟦<Color as Hash>⟧.hash_input c.underline_color
-            ++ (⟦<Modifier as Hash>⟧.hash_input c.modifier
-            ++ (⟦<CellDiffOption as Hash>⟧.hash_input c.diff_option
-            ++ (fed.bool c.skip
-            ++ fed.str (symbol_text c.symbol)))))) }
+        ++ (⟦<Color as Hash>⟧.hash_input c.bg
+        ++ (⟦<Color as Hash>⟧.hash_input c.underline_color
+        ++ (⟦<Modifier as Hash>⟧.hash_input c.modifier
+        ++ (⟦<CellDiffOption as Hash>⟧.hash_input c.diff_option
+        ++ (fed.bool c.skip
+        ++ fed.str (symbol_text c.symbol)))))) }
 {}
 
 /// By default a diff treats a cell by its contents.

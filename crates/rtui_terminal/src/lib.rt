@@ -7,8 +7,8 @@
 
 mod terminal;
 
+pub use rtui_viewport::Viewport;
 pub use terminal::Terminal;
 pub use terminal::error::TerminalError;
-pub use rtui_viewport::Viewport;
 pub use terminal::frame::{CompletedFrame, Frame};
 pub use terminal::init::TerminalOptions;

@@ -10,6 +10,7 @@ use std::slice;
 use unicode_segmentation::{Graphemes, UnicodeSegmentation};
 
 const NO_BREAK_SPACE: &str = "\u{A0}";
+
 const ZERO_WIDTH_SPACE: &str = "\u{200B}";
 
 /// A grapheme in a style.

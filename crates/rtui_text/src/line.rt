@@ -25,11 +25,9 @@ use crate::text::Text;
 use rtui_layout::HorizontalAlignment;
 use rtui_style::Style;
 use std::alloc::{AllocError, Global};
-use std::fmt;
 use std::hash::{Hash, Hasher};
 use std::marker::Model;
-use std::slice;
-use std::vec;
+use std::{fmt, slice, vec};
 
 // What a line has besides its spans, and a text besides its lines.
 #[derive(Clone, Copy, PartialEq, Eq, Hash)]
@@ -315,6 +313,7 @@ impl<'a> From<Vec<Span<'a>>> for Line<'a> {
 
 impl<'a> IntoIterator for Line<'a> {
     type Item = Span<'a>;
+
     type IntoIter = vec::IntoIter<Span<'a>>;
 
     ghost into_iter_gives = { λ it items. into_iter_items items ≡ it.spans };
@@ -326,6 +325,7 @@ impl<'a> IntoIterator for Line<'a> {
 
 impl<'b, 'a> IntoIterator for &'b Line<'a> {
     type Item = &'b Span<'a>;
+
     type IntoIter = slice::Iter<'b, Span<'a>>;
 
     ghost into_iter_gives = { λ it items. iter_rest items ≡ it.now.spans };
@@ -337,6 +337,7 @@ impl<'b, 'a> IntoIterator for &'b Line<'a> {
 
 impl<'b, 'a> IntoIterator for &'b mut Line<'a> {
     type Item = &'b mut Span<'a>;
+
     type IntoIter = slice::IterMut<'b, Span<'a>>;
 
     ghost into_iter_gives = { λ it items. iter_mut_rest items ≡ it.now.spans };

@@ -15,8 +15,7 @@ use crate::span::Span;
 use std::alloc::{AllocError, Global};
 use std::hash::{Hash, Hasher};
 use std::marker::Model;
-use std::slice;
-use std::vec;
+use std::{slice, vec};
 
 /// The lines of a text, in order.
 #[derive(Debug, Drop)]
@@ -165,6 +164,7 @@ impl<'a> From<Vec<Line<'a>>> for Lines<'a> {
 
 impl<'a> IntoIterator for Lines<'a> {
     type Item = Line<'a>;
+
     type IntoIter = vec::IntoIter<Line<'a>>;
 
     ghost into_iter_gives = { λ lines it. into_iter_items it ≡ lines };

@@ -13,8 +13,7 @@ use crate::span::Span;
 use std::alloc::{AllocError, Global};
 use std::hash::{Hash, Hasher};
 use std::marker::Model;
-use std::slice;
-use std::vec;
+use std::{slice, vec};
 
 /// The spans of a line, in order.
 #[derive(Debug, Drop)]
@@ -143,6 +142,7 @@ impl<'a> From<Vec<Span<'a>>> for Spans<'a> {
 
 impl<'a> IntoIterator for Spans<'a> {
     type Item = Span<'a>;
+
     type IntoIter = vec::IntoIter<Span<'a>>;
 
     ghost into_iter_gives = { λ spans it. into_iter_items it ≡ spans };

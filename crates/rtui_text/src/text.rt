@@ -23,11 +23,9 @@ use crate::span::Span;
 use rtui_layout::HorizontalAlignment;
 use rtui_style::Style;
 use std::alloc::{AllocError, Global};
-use std::fmt;
 use std::hash::{Hash, Hasher};
 use std::marker::Model;
-use std::slice;
-use std::vec;
+use std::{fmt, slice, vec};
 
 /// Lines one below the other, with the style of the whole under those of the lines.
 ///
@@ -316,6 +314,7 @@ impl<'a> From<Vec<Line<'a>>> for Text<'a> {
 
 impl<'a> IntoIterator for Text<'a> {
     type Item = Line<'a>;
+
     type IntoIter = vec::IntoIter<Line<'a>>;
 
     ghost into_iter_gives = { λ it items. into_iter_items items ≡ it.lines };
@@ -327,6 +326,7 @@ impl<'a> IntoIterator for Text<'a> {
 
 impl<'b, 'a> IntoIterator for &'b Text<'a> {
     type Item = &'b Line<'a>;
+
     type IntoIter = slice::Iter<'b, Line<'a>>;
 
     ghost into_iter_gives = { λ it items. iter_rest items ≡ it.now.lines };
@@ -338,6 +338,7 @@ impl<'b, 'a> IntoIterator for &'b Text<'a> {
 
 impl<'b, 'a> IntoIterator for &'b mut Text<'a> {
     type Item = &'b mut Line<'a>;
+
     type IntoIter = slice::IterMut<'b, Line<'a>>;
 
     ghost into_iter_gives = { λ it items. iter_mut_rest items ≡ it.now.lines };

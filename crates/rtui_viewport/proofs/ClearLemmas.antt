@@ -112,21 +112,27 @@ empties_more {p} {q} {r} {s} {t} first next = record {
 -- where a viewport has its place and lies on the screen, it is blank then
 pub blank_over : (v : Viewport) (r : Rect) {s t : Screen} → IsOnScreen r s → Empties (is_emptied v r s.height) s t → IsBlankOver r t
 blank_over Fullscreen r on p = record { at = λ a b w. p.grid a b (omega (arith, w.right, on.right)) (omega (arith, w.bottom, on.bottom)) }
-blank_over (Inline n) r {s} on p = record { at = λ a b w.
-    let is = p.grid a b (omega (arith, w.right, on.right)) (omega (arith, w.bottom, on.bottom)) in
-    let below : nat_le (min r.y (s.height - 1)) b ≡ true = let top = w.top in grind (arith, nat_tests) in
-    is ∙ rw below refl }
-blank_over (Fixed f) r on p = record { at = λ a b w. elim (decide_within r a b) [
+blank_over (Inline n) r {s} on p = record {
+  at = λ a b w.
+      let is = p.grid a b (omega (arith, w.right, on.right)) (omega (arith, w.bottom, on.bottom)) in
+      let below : nat_le (min r.y (s.height - 1)) b ≡ true = let top = w.top in grind (arith, nat_tests) in
+      is ∙ rw below refl;
+}
+blank_over (Fixed f) r on p = record {
+  at = λ a b w. elim (decide_within r a b) [
     | inl (within, is) ↦ let at = p.grid a b (omega (arith, w.right, on.right)) (omega (arith, w.bottom, on.bottom)) in at ∙ rw is refl
     | inr (out, is) ↦ absurd (out w)
-  ] }
+  ];
+}
 
 -- nothing changes outside a fixed viewport
 pub keeps_outside : (r : Rect) {s t : Screen} → Empties (is_within r) s t → KeepsOutside r s t
-keeps_outside r p = record { at = λ a b a_in b_in out. elim (decide_within r a b) [
+keeps_outside r p = record {
+  at = λ a b a_in b_in out. elim (decide_within r a b) [
     | inl (within, is) ↦ absurd (out within)
     | inr (off, is) ↦ p.grid a b a_in b_in ∙ rw is refl
-  ] }
+  ];
+}
 
 -- the rows above an inline viewport with a row stay, and those below it are blank
 pub keeps_above : (n : ℕ) (r : Rect) {s t : Screen} → IsOnScreen r s → 0 < r.height → Empties (is_emptied (Inline n) r s.height) s t → rows_above t r.y ≡ rows_above s r.y
@@ -136,8 +142,10 @@ keeps_above n r {s} {t} on some p = above_same s t r.y p.frame.size.history p.fr
     p.grid a b a_in b_in ∙ rw above refl)
 
 pub blank_below : (n : ℕ) (r : Rect) {s t : Screen} → Empties (is_emptied (Inline n) r s.height) s t → IsBlankBelow r t
-blank_below n r {s} {t} p = record { at = λ a b a_in b_in low.
-    let width = p.frame.size.width in
-    let height = p.frame.size.height in
-    let below : nat_le (min r.y (s.height - 1)) b ≡ true = grind (arith, nat_tests) in
-    p.grid a b (omega arith) (omega arith) ∙ rw below refl }
+blank_below n r {s} {t} p = record {
+  at = λ a b a_in b_in low.
+      let width = p.frame.size.width in
+      let height = p.frame.size.height in
+      let below : nat_le (min r.y (s.height - 1)) b ≡ true = grind (arith, nat_tests) in
+      p.grid a b (omega arith) (omega arith) ∙ rw below refl;
+}

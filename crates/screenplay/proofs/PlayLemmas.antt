@@ -38,7 +38,7 @@ IsPlaying-started stage b t blank starts =
     let width : (screen_of t.backend).width ≡ stage.width = same.width ∙ blank.width in
     let height : (screen_of t.backend).height ≡ stage.height = same.height ∙ blank.height in
     let empty : IsBlankStage stage (screen_of t.backend).grid = λ a b' a_in b_in.
-        same.grid a b' (omega (arith, blank.width)) (omega (arith, blank.height)) ∙ seen_blank (screen_of b) a b' blank.grid in (
+    same.grid a b' (omega (arith, blank.width)) (omega (arith, blank.height)) ∙ seen_blank (screen_of b) a b' blank.grid in (
       record {
         width = width;
         height = height;

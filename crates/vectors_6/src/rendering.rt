@@ -24,7 +24,14 @@ fn spans(rt: HostRuntime) -> Result<(), Fail> {
     assert!(rt; span_shows(rt.alloc(), "abc", 2, "a|b|")?);
     assert!(rt; span_shows(rt.alloc(), "コン", 3, "コ| | |")?);
     assert!(rt; span_shows(rt.alloc(), "\u{200B}ab", 2, "\u{200B}a|b|")?);
-    assert!(rt; span_shows(rt.alloc(), "\u{200B}\u{200B}xy", 3, "\u{200B}\u{200B}x|y| |")?);
+    assert!(rt;
+        span_shows(
+            rt.alloc(),
+            "\u{200B}\u{200B}xy",
+            3,
+            "\u{200B}\u{200B}x|y| |"
+        )?
+    );
     assert!(rt; span_shows(rt.alloc(), "a\u{200B}b", 3, "a\u{200B}|b| |")?);
     assert!(rt; span_shows(rt.alloc(), "コ\u{200B}x", 4, "コ|\u{200B}|x| |")?);
     assert!(rt; span_shows(rt.alloc(), "a\tb\u{1B}", 3, "a|b| |")?);
@@ -50,8 +57,24 @@ fn line_shows(
 #[test]
 fn lines_that_fit(rt: HostRuntime) -> Result<(), Fail> {
     assert!(rt; line_shows(rt.alloc(), "ab", HorizontalAlignment::Left, 5, "a|b| | | |")?);
-    assert!(rt; line_shows(rt.alloc(), "ab", HorizontalAlignment::Center, 5, " |a|b| | |")?);
-    assert!(rt; line_shows(rt.alloc(), "ab", HorizontalAlignment::Right, 5, " | | |a|b|")?);
+    assert!(rt;
+        line_shows(
+            rt.alloc(),
+            "ab",
+            HorizontalAlignment::Center,
+            5,
+            " |a|b| | |"
+        )?
+    );
+    assert!(rt;
+        line_shows(
+            rt.alloc(),
+            "ab",
+            HorizontalAlignment::Right,
+            5,
+            " | | |a|b|"
+        )?
+    );
     assert!(rt; line_shows(rt.alloc(), "", HorizontalAlignment::Right, 2, " | |")?);
     Ok(())
 }
@@ -60,7 +83,15 @@ fn lines_that_fit(rt: HostRuntime) -> Result<(), Fail> {
 fn lines_that_are_cut(rt: HostRuntime) -> Result<(), Fail> {
     let centre = HorizontalAlignment::Center;
     let right = HorizontalAlignment::Right;
-    assert!(rt; line_shows(rt.alloc(), "hello world", HorizontalAlignment::Left, 5, "h|e|l|l|o|")?);
+    assert!(rt;
+        line_shows(
+            rt.alloc(),
+            "hello world",
+            HorizontalAlignment::Left,
+            5,
+            "h|e|l|l|o|"
+        )?
+    );
     assert!(rt; line_shows(rt.alloc(), "hello world", centre, 5, "l|o| |w|o|")?);
     assert!(rt; line_shows(rt.alloc(), "hello world", right, 5, "w|o|r|l|d|")?);
     assert!(rt; line_shows(rt.alloc(), "コンa", right, 2, " |a|")?);
@@ -97,7 +128,16 @@ fn spans_in_a_line(rt: HostRuntime) -> Result<(), Fail> {
     assert!(rt; two_show(rt.alloc(), "ab", "コ", right, 1, " |")?);
     assert!(rt; two_show(rt.alloc(), "ab", "コ", left, 3, "a|b| |")?);
     assert!(rt; two_show(rt.alloc(), "a", "\u{200B}", left, 3, "a| | |")?);
-    assert!(rt; two_show(rt.alloc(), "\u{FF76}\u{FF9E}", "x", left, 3, "\u{FF76}\u{FF9E}|x| |")?);
+    assert!(rt;
+        two_show(
+            rt.alloc(),
+            "\u{FF76}\u{FF9E}",
+            "x",
+            left,
+            3,
+            "\u{FF76}\u{FF9E}|x| |"
+        )?
+    );
     Ok(())
 }
 
@@ -106,9 +146,21 @@ fn a_line_leaves_what_is_beside_it(rt: HostRuntime) -> Result<(), Fail> {
     let mut buffer = Buffer::empty(rt.alloc(), sized(20, 1))?;
     let line = Line::raw(rt.alloc(), "hello world, just hello")?;
     (&line).render(sized(11, 1), &mut buffer)?;
-    assert!(rt; shows(rt.alloc(), &buffer, "h|e|l|l|o| |w|o|r|l|d| | | | | | | | | |")?);
+    assert!(rt;
+        shows(
+            rt.alloc(),
+            &buffer,
+            "h|e|l|l|o| |w|o|r|l|d| | | | | | | | | |"
+        )?
+    );
     (&line).render(sized(20, 0), &mut buffer)?;
-    assert!(rt; shows(rt.alloc(), &buffer, "h|e|l|l|o| |w|o|r|l|d| | | | | | | | | |")?);
+    assert!(rt;
+        shows(
+            rt.alloc(),
+            &buffer,
+            "h|e|l|l|o| |w|o|r|l|d| | | | | | | | | |"
+        )?
+    );
     Ok(())
 }
 

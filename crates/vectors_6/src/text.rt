@@ -41,11 +41,20 @@ fn prints(alloc: Global, value: &Text<'_>, text: &str) -> Result<bool, AllocErro
 
 #[test]
 fn printed_texts(rt: HostRuntime) -> Result<(), Fail> {
-    assert_eq!(rt; format!(in rt.alloc(); "{}", Span::raw("a\nb"))?.as_str(), "ab");
-    assert_eq!(rt; format!(in rt.alloc(); "{}", Line::raw(rt.alloc(), "a\nb")?)?.as_str(), "ab");
+    assert_eq!(rt;
+        format!(in rt.alloc(); "{}", Span::raw("a\nb"))?.as_str(),
+        "ab"
+    );
+    assert_eq!(rt;
+        format!(in rt.alloc(); "{}", Line::raw(rt.alloc(), "a\nb")?)?.as_str(),
+        "ab"
+    );
     assert!(rt; prints(rt.alloc(), &Text::raw(rt.alloc(), "a\nb")?, "a\nb")?);
     assert!(rt; prints(rt.alloc(), &Text::raw(rt.alloc(), "")?, "")?);
-    assert_eq!(rt; Line::raw(rt.alloc(), "a\nb")?.try_into_string()?.as_str(), "ab");
+    assert_eq!(rt;
+        Line::raw(rt.alloc(), "a\nb")?.try_into_string()?.as_str(),
+        "ab"
+    );
     Ok(())
 }
 
@@ -88,7 +97,10 @@ fn graphemes(rt: HostRuntime) -> Result<(), Fail> {
     assert!(rt; graphemes_are(rt.alloc(), "", &[])?);
     let span = "a".red();
     for grapheme in span.styled_graphemes(Style::new().fg(Color::Blue).bg(Color::Green)) {
-        assert_eq!(rt; grapheme.style, Style::new().fg(Color::Red).bg(Color::Green));
+        assert_eq!(rt;
+            grapheme.style,
+            Style::new().fg(Color::Red).bg(Color::Green)
+        );
     }
     Ok(())
 }
@@ -142,20 +154,42 @@ fn alignments(rt: HostRuntime) -> Result<(), Fail> {
     assert_eq!(rt; line.alignment, Some(HorizontalAlignment::Right));
     let line = Span::raw("a").to_left_aligned_line(rt.alloc())?;
     assert_eq!(rt; line.alignment, Some(HorizontalAlignment::Left));
-    assert_eq!(rt; Text::raw(rt.alloc(), "a")?.centered().alignment, Some(HorizontalAlignment::Center));
+    assert_eq!(rt;
+        Text::raw(rt.alloc(), "a")?.centered().alignment,
+        Some(HorizontalAlignment::Center)
+    );
     Ok(())
 }
 
 #[test]
 fn styles_by_name(rt: HostRuntime) -> Result<(), Fail> {
-    let style = Style::new().fg(Color::Red).bg(Color::White).add_modifier(Modifier::BOLD);
+    let style = Style::new()
+        .fg(Color::Red)
+        .bg(Color::White)
+        .add_modifier(Modifier::BOLD);
     assert!(rt; "text".red().on_white().bold() == Span::styled("text", style));
     let owned = String::from_str(rt.alloc(), "text")?;
     assert!(rt; owned.red().on_white().bold() == Span::styled("text", style));
-    assert_eq!(rt; Line::raw(rt.alloc(), "a")?.red().on_white().bold().style, style);
-    assert_eq!(rt; Text::raw(rt.alloc(), "a")?.red().on_white().bold().style, style);
-    assert_eq!(rt; StyledGrapheme::new("a", Style::new()).red().on_white().bold().style, style);
-    assert_eq!(rt; Span::raw("a").patch_style(style).reset_style().style, style.patch(Style::reset()));
+    assert_eq!(rt;
+        Line::raw(rt.alloc(), "a")?.red().on_white().bold().style,
+        style
+    );
+    assert_eq!(rt;
+        Text::raw(rt.alloc(), "a")?.red().on_white().bold().style,
+        style
+    );
+    assert_eq!(rt;
+        StyledGrapheme::new("a", Style::new())
+            .red()
+            .on_white()
+            .bold()
+            .style,
+        style
+    );
+    assert_eq!(rt;
+        Span::raw("a").patch_style(style).reset_style().style,
+        style.patch(Style::reset())
+    );
     Ok(())
 }
 

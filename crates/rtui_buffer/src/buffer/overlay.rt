@@ -39,7 +39,12 @@ impl Buffer {
         let mut upper = copied(alloc, other.content())?;
         let area = self.area.union(upper_area);
         self.extend(area)?;
-        move_block(self.content.as_mut_slice(), area, upper.as_mut_slice(), upper_area);
+        move_block(
+            self.content.as_mut_slice(),
+            area,
+            upper.as_mut_slice(),
+            upper_area,
+        );
         Ok(())
     }
 
@@ -58,7 +63,12 @@ impl Buffer {
         let room = count.max(self.content.capacity());
         let mut content = Vec::with_capacity(*self.content.allocator(), room)?;
         cut_or_fill(&mut content, count)?;
-        move_block(content.as_mut_slice(), area, self.content.as_mut_slice(), self.area);
+        move_block(
+            content.as_mut_slice(),
+            area,
+            self.content.as_mut_slice(),
+            self.area,
+        );
         self.content = content;
         self.area = area;
         Ok(())
@@ -77,7 +87,13 @@ fn move_block(cells: &mut [Cell], area: Rect, block: &mut [Cell], inner: Rect)
     let left = usize::from(inner.x - area.x);
     let top = usize::from(inner.y - area.y);
     for row in 0..usize::from(inner.height) {
-        swap_cells(cells, (top + row) * width + left, block, row * columns, columns);
+        swap_cells(
+            cells,
+            (top + row) * width + left,
+            block,
+            row * columns,
+            columns,
+        );
     }
 }
 

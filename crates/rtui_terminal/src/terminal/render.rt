@@ -126,8 +126,8 @@ impl<B: Backend> Terminal<B> {
         requires { AcceptsFrames F.FnOnce render_callback self.old }
         ensures* refused { let row = the_row B.row B.Error.row B.Backend B.Error.Debug B.Error.Display in
             sem 𝓛 (RestsIfErr row self.entry (λ frame. frame.terminal.ghost_name) result (λ t.
-                DrawsBy B.screen (paints_on F.FnOnce render_callback) self.old t result
-                × Faults result (B.failures self.old.backend) (B.failures t.backend))) }
+            DrawsBy B.screen (paints_on F.FnOnce render_callback) self.old t result
+            × Faults result (B.failures self.old.backend) (B.failures t.backend))) }
         ensures same_terminal { IfOk result (λ frame. frame.terminal.ghost_name ≡ self.entry.ghost_name) }
         ensures drawn { IfOk result (λ frame. DrawOk B.screen (paints_on F.FnOnce render_callback) self.old frame.terminal.now) }
         ensures in_step { IfOk result (λ frame. IsReady B.screen self.old
@@ -161,8 +161,8 @@ impl<B: Backend> Terminal<B> {
         requires { AcceptsFrames F.FnOnce render_callback self.old }
         ensures* refused { let row = the_row B.row B.Error.row B.Backend B.Error.Debug B.Error.Display in
             sem 𝓛 (RestsIfErr row self.entry (λ frame. frame.terminal.ghost_name) result (λ t.
-                TriesBy B.screen (paints_on F.FnOnce render_callback) self.old t result
-                × Faults result (B.failures self.old.backend) (B.failures t.backend))) }
+            TriesBy B.screen (paints_on F.FnOnce render_callback) self.old t result
+            × Faults result (B.failures self.old.backend) (B.failures t.backend))) }
         ensures same_terminal { IfOk result (λ frame. frame.terminal.ghost_name ≡ self.entry.ghost_name) }
         ensures drawn { IfOk result (λ frame. DrawOk B.screen (paints_on F.FnOnce render_callback) self.old frame.terminal.now) }
         ensures in_step { IfOk result (λ frame. IsReady B.screen self.old
@@ -190,8 +190,8 @@ impl<B: Backend> Terminal<B> {
     pub fn apply_buffer(&mut self) -> Result<CompletedFrame<'_, B>, TerminalError<B::Error>>
         ensures* refused { let row = the_row B.row B.Error.row B.Backend B.Error.Debug B.Error.Display in
             sem 𝓛 (RestsIfErr row self.entry (λ frame. frame.terminal.ghost_name) result (λ t.
-                AppliesBy B.screen None self.old t result
-                × Faults result (B.failures self.old.backend) (B.failures t.backend))) }
+            AppliesBy B.screen None self.old t result
+            × Faults result (B.failures self.old.backend) (B.failures t.backend))) }
         ensures same_terminal { IfOk result (λ frame. frame.terminal.ghost_name ≡ self.entry.ghost_name) }
         ensures applied { IfOk result (λ frame. Applies B.screen None self.old frame.terminal.now) }
         ensures faults { IfOk result (λ frame. B.failures frame.terminal.now.backend
@@ -210,8 +210,8 @@ impl<B: Backend> Terminal<B> {
     ) -> Result<CompletedFrame<'_, B>, TerminalError<B::Error>>
         ensures* refused { let row = the_row B.row B.Error.row B.Backend B.Error.Debug B.Error.Display in
             sem 𝓛 (RestsIfErr row self.entry (λ frame. frame.terminal.ghost_name) result (λ t.
-                AppliesBy B.screen cursor_position self.old t result
-                × Faults result (B.failures self.old.backend) (B.failures t.backend))) }
+            AppliesBy B.screen cursor_position self.old t result
+            × Faults result (B.failures self.old.backend) (B.failures t.backend))) }
         ensures same_terminal { IfOk result (λ frame. frame.terminal.ghost_name ≡ self.entry.ghost_name) }
         ensures applied { IfOk result (λ frame. Applies B.screen cursor_position self.old frame.terminal.now) }
         ensures faults { IfOk result (λ frame. B.failures frame.terminal.now.backend

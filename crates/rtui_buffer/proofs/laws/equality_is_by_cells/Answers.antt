@@ -11,10 +11,11 @@ unfolding is_same
 returns c s t =
     let law = c.equality_is_by_looks.ensures in
     let area = rect_equality.eq-value.it s.area t.area in
-    let cells = pointwise is_same s.cells t.cells in
-    (λ e. record {
-      area = same_rect s.area t.area (first area cells e);
-      count = pointwise-count is_same empty_cell s.cells t.cells (second area cells e);
-      cells = λ k lt. (law _ _).0 (pointwise-at is_same empty_cell s.cells t.cells (second area cells e) k lt);
-    },
-    λ h. both area cells (rect_itself s.area t.area h.area) (pointwise-from is_same empty_cell s.cells t.cells h.count (λ k lt. (law _ _).1 (h.cells k lt))))
+    let cells = pointwise is_same s.cells t.cells in (
+      λ e. record {
+        area = same_rect s.area t.area (first area cells e);
+        count = pointwise-count is_same empty_cell s.cells t.cells (second area cells e);
+        cells = λ k lt. (law _ _).0 (pointwise-at is_same empty_cell s.cells t.cells (second area cells e) k lt);
+      },
+      λ h. both area cells (rect_itself s.area t.area h.area) (pointwise-from is_same empty_cell s.cells t.cells h.count (λ k lt. (law _ _).1 (h.cells k lt))),
+    )

@@ -23,9 +23,9 @@ returns-clause-ok c =
     let count : c.saturating_sub-past.result ≡ past = grind (arith, common_steps, nat_tests) in
     let items : refilled cells new ≡ new = grind (arith, common_steps) in
     let rows : map (λ r. map look_of r.items) c.in_ok-rows.rows.items ≡ map (λ b. map (λ a. look_at cells (b * w + a)) (range_with_len 0 w)) (range_with_len 0 past) =
-        rw (c.content.ensures.cells, c.area-area.ensures.area, count) at c.in_ok-rows.ensures in
+    rw (c.content.ensures.cells, c.area-area.ensures.area, count) at c.in_ok-rows.ensures in
     let moved : (i : ℕ) → cell_at new i ≡ cell_at cells (i + past * w) = λ i.
-        rw (c.cells_mut.ensures.cells, c.from-4.ensures, c.area-area.ensures.area, count) at (c.shift.ensures i) in
+    rw (c.cells_mut.ensures.cells, c.from-4.ensures, c.area-area.ensures.area, count) at (c.shift.ensures i) in
     record {
       scrolled = record {
         history =

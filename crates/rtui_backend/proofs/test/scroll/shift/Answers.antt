@@ -12,7 +12,7 @@ returns c = λ k.
     let count = c.min-count.result in
     let fits : count ≤ length c.blank.new.cells = grind (arith, common_steps) in
     let turned : cell_at c.rotate_left.new.self k ≡ cell_at c.blank.new.cells (k + count) =
-        rw c.rotate_left.ensures.after (rotated c.blank.new.cells count fits (λ j low. c.blank.ensures j ∙ grind (arith, nat_tests)) k) in
+    rw c.rotate_left.ensures.after (rotated c.blank.new.cells count fits (λ j low. c.blank.ensures j ∙ grind (arith, nat_tests)) k) in
     let kept : cell_at c.blank.new.cells (k + count) ≡ cell_at old (k + count) = c.blank.ensures (k + count) ∙ grind (arith, nat_tests) in
     turned ∙ kept ∙ elim (cases_lt (length old) c.args.by) [
       | inl more ↦ let all : count ≡ length old = grind (arith, common_steps) in

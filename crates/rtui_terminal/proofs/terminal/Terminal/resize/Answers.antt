@@ -31,7 +31,7 @@ returns-clause-outcome g c =
     let older_area : c.self-3.inside.older.area ≡ next = ap (λ t. t.older.area) c.self-3.view_is ∙ c.set_area.ensures.older.area_is in
     let older : IsEmptied next c.reset.new.self = rw older_area at c.reset.ensures.emptied in
     let current : IsResized next s.current c.self-3.inside.current =
-        resized_same next c.in-Ok.ensures.current (rw (current_2, current_3) at c.set_area.ensures.current) in
+    resized_same next c.in-Ok.ensures.current (rw (current_2, current_3) at c.set_area.ensures.current) in
     let frame : KeepsScreen (screen c.place_viewport.new.backend) (screen c.clear_placed.new.backend) = rw between at cleared.frame in
     let places = rw (viewport_2, former, c.saturating_sub-offset.ensures, cursor_2, area_2) at found.placed in
     let emptied = emptied_frame _ places.empties in
