@@ -1,11 +1,11 @@
 //! A backend in memory.
 
-ghost use Rattle.std.specs.Prelude.{◌≡◌, ◌↔◌, ℕ, ◌+◌, ◌-◌, ◌*◌, ◌^◌, ◌<◌, ◌≤◌, ◌==◌, ◌&&◌, true, nat_lt, if◌then◌else◌, List, [], ◌∷◌, map, length, Some, IfOk, OnOk, OnErr};
+ghost use Rattle.std.specs.Prelude.{◌≡◌, IsTrue, ◌↔◌, ℕ, ◌+◌, ◌-◌, ◌*◌, ◌^◌, ◌<◌, ◌≤◌, ◌==◌, ◌&&◌, true, nat_lt, if◌then◌else◌, List, [], ◌∷◌, map, length, Some, IfOk, OnOk, OnErr};
 ghost use Rattle.std.specs.Iterator.{IsFinite, Drains};
 ghost use Rattle.rtui_cell.specs.Look.{look_of, empty_look};
 ghost use Rattle.rtui_cell.specs.Cell.{width_of};
 ghost use Rattle.rtui_cell.specs.Grid.{put, update_by};
-ghost use Rattle.rtui_buffer.specs.Sheet.{IsEmptied};
+ghost use Rattle.rtui_buffer.specs.Sheet.{IsEmptied, IsEqualSheet};
 ghost use Rattle.rtui_backend.specs.Screen.{Draws};
 ghost use Rattle.rtui_cell.specs.Cell.{IsUnmarked};
 ghost use Rattle.rtui_backend.specs.CellGrid.{look_at, grid_of, AreUnmarked};
@@ -14,6 +14,7 @@ ghost use Rattle.rtui_backend.specs.Display.{test_error_text};
 
 use crate::backend::{AsCell, Backend, WindowSize};
 use crate::clear_type::ClearType;
+use rtui_buffer::laws::equality_is_by_cells;
 use rtui_buffer::{Buffer, Cell, CellDiffOption, CellWidth};
 use rtui_geometry::{Position, Rect, Size};
 use std::alloc::{AllocError, Global};
@@ -157,10 +158,12 @@ impl TestBackend {
         &self.buffer
     }
 
-    /// Whether the screen, as a buffer with its corner at (0, 0), equals this one.
+    /// Whether the screen, as a buffer with its corner at (0, 0), equals this one: the same size, in each column the
+    /// cell's look, and no cell with an option or the flag.
     pub fn buffer_is(&self, buffer: &Buffer) -> bool
-        ensures { result ≡ ⟦<Buffer as PartialEq>⟧.eq (sheet_of self.now) buffer.now }
+        ensures { IsTrue result ↔ IsEqualSheet (sheet_of self.now) buffer.now }
     {
+        equality_is_by_cells();
         self.buffer == *buffer
     }
 

@@ -57,7 +57,8 @@ impl<B: Backend> Terminal<B> {
         }
     }
 
-    /// A new frame over the current buffer, without a cursor.
+    /// A new frame over the current buffer, without a cursor. To paint outside a draw in a way that a proof sees, use
+    /// `current_buffer_mut`.
     pub fn get_frame(&mut self) -> Frame<'_>
         ensures* writes_back { let row = the_row B.row B.Error.row B.Backend B.Error.Debug B.Error.Display in
             sem 𝓛 (follows row buffer_row self.entry.ghost_name result.buffer.ghost_name (λ sheet.
