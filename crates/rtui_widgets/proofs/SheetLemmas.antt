@@ -14,7 +14,8 @@ use Rattle.rtui_buffer.specs.Sheet.{Sheet, area_size, cell_index, refilled}
 use Rattle.unicode_segmentation.specs.Grapheme.{graphemes}
 use Rattle.rtui_style.specs.declared.Style.{Style}
 use Rattle.rtui_buffer.specs.Painting.{Piece, columns}
-use Rattle.rtui_buffer.specs.PaintedText.{HasRow, room_at, pieces_at, IsSameBeside}
+use Rattle.rtui_buffer.specs.Sheet.{HasRow}
+use Rattle.rtui_buffer.specs.PaintedText.{room_at, pieces_at, IsSameBeside}
 use Rattle.rtui_buffer.proofs.PaintedLemmas.{columns-kept}
 use Rattle.rtui_widgets.specs.Rendering.{clipped, row_of, ChangesWithin, RendersRows, in_first_row, first_row}
 use Rattle.rtui_widgets.specs.Rows.{Rows, place, row_at, IsOutside, KeepsOthers, MakesRows}

@@ -11,5 +11,5 @@ returns-in_err-set_stringn-clause-err c =
     let within : ChangesWithin (first_row c.args.area) c.args.buf.now c.set_stringn.new.self =
     painted-within c.args.area c.args.buf.now c.set_stringn.new.self (pieces_at own c.args.area.x c.args.area.width new_style c.args.self.now)
     (record { top = c.requires.row.top; bottom = c.requires.row.bottom }) c.requires.column (text-narrow c.args.area own new_style c.args.self.now) (text-fits c.args.area own new_style c.args.self.now)
-    (rw (← c.from.ensures, ← c.new.ensures) c.in_err-set_stringn.ensures.err) in
+    (rw (← c.from.ensures, ← c.new.ensures) c.in_err-set_stringn.ensures.paints.err) in
     search rules
