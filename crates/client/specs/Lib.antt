@@ -1,2 +1,1 @@
-pub mod Ready
 pub mod Labels

@@ -1,7 +1,7 @@
 //! A user of the port: it stands on `ratatui_core` alone, and docs/USING.md walks through it.
 //!
-//! [`draw_text`] and [`draw_all`] draw frames on a terminal, [`label`] is a widget over a buffer, and
-//! [`EscapeBackend`] a backend. Each says in its contract what a screen then shows.
+//! [`draw_checked`] draws a frame on a terminal, [`label`] is a widget over a buffer, and [`EscapeBackend`] a
+//! backend.
 #![tactic(auto)]
 
 mod escape;
@@ -9,5 +9,5 @@ mod frames;
 mod labels;
 
 pub use escape::{EscapeBackend, EscapeError};
-pub use frames::{draw_all, draw_checked, draw_text, two_frames};
-pub use labels::{draw_label, label, pieces_stand};
+pub use frames::draw_checked;
+pub use labels::{label, pieces_stand};
