@@ -1,6 +1,6 @@
 //! Texts painted on buffers, by worked values.
 ghost use Rattle.std.specs.Prelude.{◌≡◌, ◌≤◌};
-ghost use Rattle.rtui_buffer.specs.PaintedText.{HasRow};
+ghost use Rattle.rtui_buffer.specs.Sheet.{HasRow};
 
 use crate::sheets::{empty, rect, reds_are, row, shows};
 use rtui_buffer::{Buffer, Cell};
