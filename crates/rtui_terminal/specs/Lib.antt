@@ -3,4 +3,5 @@ pub mod InStep
 pub mod Frames
 pub mod Borrows
 pub mod Calls
+pub mod Insertion
 pub mod Display
