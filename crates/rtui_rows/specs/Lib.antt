@@ -1,3 +1,4 @@
 pub mod Rows
 pub mod Insertion
 pub mod Scrolling
+pub mod Remaining

@@ -2,4 +2,12 @@
 //!
 //! It stands on `rtui_buffer` and `rtui_backend`, on their contracts alone. `specs/Rows` says which rows of looks a
 //! buffer has, and what a drawing of them does to a screen; `specs/Insertion` what comes in above a viewport.
+//! `insert`, `specs/Scrolling` and `proofs/ScrolledLemmas` alone know how the screen is scrolled.
 #![tactic(auto)]
+
+mod draw;
+mod insert;
+mod updates;
+
+pub use draw::draw_rows;
+pub use insert::{insert_rows, scroll_up};
