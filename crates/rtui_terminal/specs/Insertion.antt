@@ -75,7 +75,13 @@ module _ {B : Type 0} (screen : B → Screen) where
     pub left : TakesRows s → IsInStep screen s → IsLeft s t
     pub in_step : TakesRows s → IsInStep screen s → IsSettledSheet inserted → IsInStep screen t
 
-  -- by its answer: `filled` tells of the closure what it answered, and the buffer that it left
+  -- a backend failed, before the viewport moved or behind that; a buffer of its area moved with it
+  pub record StopsInserting (s t : State B) : Type 0 where
+    pub rest : t ≡ record s { backend = t.backend; current = t.current; older = t.older; viewport_area = record s.viewport_area { y = t.viewport_area.y }; known_cursor = t.known_cursor }
+    pub current : Follows s.viewport_area t.viewport_area s.current t.current
+    pub older : Follows s.viewport_area t.viewport_area s.older t.older
+
+  -- by the answer: `filled` tells of the closure what it answered, and the buffer that it left
   module _ (area : Rect) (filled : Result (Unit {0}) AllocError → Sheet → Type 0) where
     -- the closure filled a buffer, whose rows were inserted; where the screen was known to have no rows nothing changed
     pub record InsertOk (s t : State B) : Type 0 where
@@ -85,14 +91,13 @@ module _ {B : Type 0} (screen : B → Screen) where
       pub none : s.known_area.height ≡ 0 → t ≡ s
       pub inserts : 0 < s.known_area.height → Inserts inserted s t
 
-    -- the closure filled a buffer, and then the backend failed, before the viewport moved or behind that
+    -- the closure filled a buffer, and then the backend failed
     pub record FailsInserting (s t : State B) : Type 0 where
       pub inserted : Sheet
       pub closure : filled (Ok tt) inserted
       pub over : inserted.area ≡ area
-      pub rest : t ≡ record s { backend = t.backend; current = t.current; older = t.older; viewport_area = record s.viewport_area { y = t.viewport_area.y }; known_cursor = t.known_cursor }
-      pub current : Follows s.viewport_area t.viewport_area s.current t.current
-      pub older : Follows s.viewport_area t.viewport_area s.older t.older
+      pub known : 0 < s.known_area.height
+      pub stops : StopsInserting s t
 
     -- the closure left a buffer of another area, and nothing changed
     pub record RefusesRows (s t : State B) : Type 0 where
@@ -108,5 +113,6 @@ module _ {B : Type 0} (screen : B → Screen) where
     InsertErr s t Area = RefusesRows s t
     InsertErr s t (Closure error) = ⊥
 
+    -- an insertion by its answer
     abbrev pub InsertsBy : {T E : Type 0} → State B → State B → Result T (TerminalError E) → Type 0
     InsertsBy s t result = MatchResult result (λ _. InsertOk s t) (InsertErr s t)
