@@ -12,6 +12,7 @@ mod cursor;
 pub mod error;
 pub mod frame;
 pub mod init;
+mod insert;
 mod render;
 mod resize;
 
