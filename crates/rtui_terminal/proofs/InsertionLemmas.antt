@@ -1,24 +1,21 @@
 -- Rows that were inserted, and the viewport that was moved and cleared behind that, as one insertion.
-use Rattle.std.proofs.Common.{◌≡◌, ℕ, ◌+◌, ◌-◌, ◌<◌, ◌++◌, min, [], ◌∷◌, refl, sym, ap, ◌∙◌, subst, arith}
+use Rattle.std.proofs.Common.{◌≡◌, ℕ, ◌+◌, ◌-◌, ◌<◌, min, [], ◌∷◌, sym, ap, ◌∙◌, subst, arith}
 use Rattle.rtui_geometry.specs.declared.position.Position.{Position}
 use Rattle.rtui_geometry.specs.declared.rect.Rect.{Rect}
-use Rattle.rtui_geometry.specs.Rect.{EdgesFit}
 use Rattle.rtui_buffer.specs.Sheet.{Sheet, IsEmptied}
-use Rattle.rtui_buffer.specs.Frame.{IsSettledSheet}
-use Rattle.rtui_backend.specs.Screen.{Screen, IsOnScreen, rows_above, screen_area}
+use Rattle.rtui_backend.specs.Screen.{Screen, IsOnScreen, rows_above}
 use Rattle.rtui_viewport.specs.declared.viewport.Viewport.{Viewport}
 use Rattle.rtui_viewport.specs.declared.viewport.Viewport.TheVariants.{Fullscreen, Inline, Fixed}
 use Rattle.rtui_viewport.specs.Viewports.{IsInline}
 use Rattle.rtui_viewport.specs.Areas.{IsBlankBelow}
 use Rattle.rtui_viewport.specs.Clearing.{ClearsArea}
 use Rattle.rtui_viewport.proofs.ClearLemmas.{keeps_above, blank_below}
-use Rattle.rtui_rows.specs.Rows.{rows_of}
 use Rattle.rtui_rows.specs.Insertion.{AppendsRows, KeepsShape, HasPlaceAbove, InsertsRows, AppendsAbove}
 use Rattle.rtui_rows.specs.Scrolling.{cursor_scrolled, rows_past}
 use Rattle.rtui_terminal.specs.State.{State, IsInPlace}
 use Rattle.rtui_terminal.specs.InStep.{IsInStep, rows_over}
 use Rattle.rtui_terminal.specs.Calls.{Clears}
-use Rattle.rtui_terminal.specs.Insertion.{inserted_area, AreaFollows, Follows, TakesRows, Inserts}
+use Rattle.rtui_terminal.specs.Insertion.{inserted_area, Follows, TakesRows, Inserts}
 
 -- an inline viewport stays in column 0
 in_place_moved : (v : Viewport) (r : Rect) (y : ℕ) → IsInPlace v r → IsInPlace v (record r { y = y })

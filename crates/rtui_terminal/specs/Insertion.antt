@@ -1,5 +1,5 @@
 -- What an insertion above an inline viewport does to a terminal.
-use Rattle.std.specs.Prelude.{◌≡◌, ◌⊎◌, ℕ, ◌+◌, ◌-◌, ◌<◌, min, ◌++◌, [], ◌∷◌, Result, Ok, MatchResult}
+use Rattle.std.specs.Prelude.{◌≡◌, ℕ, ◌+◌, ◌-◌, ◌<◌, min, ◌++◌, [], ◌∷◌, Result, Ok, MatchResult}
 use Rattle.std.specs.Borrow.{MutBor}
 use Rattle.std.specs.Fn.{Once, FnOnceReturnsAtMut}
 use Rattle.std.specs.declared.alloc.AllocError.{AllocError}
