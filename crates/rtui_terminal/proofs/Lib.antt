@@ -1,3 +1,5 @@
 pub mod DifferenceLemmas
 pub mod StepLemmas
+pub mod KeepLemmas
 pub mod RenderLemmas
+pub mod HeadlineLemmas
