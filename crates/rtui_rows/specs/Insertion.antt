@@ -1,0 +1,44 @@
+-- Rows that come to those above a viewport, however the screen is scrolled.
+use Rattle.std.specs.Prelude.{◌≡◌, ℕ, ◌+◌, ◌<◌, ◌≤◌, ◌++◌, List, [], ◌∷◌, length, slice_index_or}
+use Rattle.rtui_geometry.specs.declared.rect.Rect.{Rect}
+use Rattle.rtui_cell.specs.Look.{Look}
+use Rattle.rtui_diff.specs.Shows.{RowAgrees}
+use Rattle.rtui_buffer.specs.Sheet.{Sheet}
+use Rattle.rtui_backend.specs.Screen.{Screen, rows_above}
+use Rattle.rtui_rows.specs.Rows.{rows_of}
+
+-- one row for each row of a buffer, in order, that agrees with it
+pub record AreRowsOf (sheet : Sheet) (rows : List (List Look)) : Type 0 where
+  pub count : length rows ≡ sheet.area.height
+  pub agree : (b : ℕ) → b < sheet.area.height → RowAgrees sheet.area.width sheet.cells b (slice_index_or rows b [])
+
+-- the rows of these buffers, one buffer after the other
+abbrev pub AreRowsOfAll : List Sheet → List (List Look) → Type 0
+AreRowsOfAll [] rows = rows ≡ []
+AreRowsOfAll (sheet ∷ sheets) rows = (first : List (List Look)) × (rest : List (List Look)) × (rows ≡ first ++ rest) × AreRowsOf sheet first × AreRowsOfAll sheets rest
+
+-- exactly the rows of these buffers were appended, in order
+pub record AppendsRows (sheets : List Sheet) (old new : List (List Look)) : Type 0 where
+  pub rows : List (List Look)
+  pub appended : new ≡ old ++ rows
+  pub agree : AreRowsOfAll sheets rows
+
+-- the size of a screen stays, and whether its cursor is visible
+pub record KeepsShape (old new : Screen) : Type 0 where
+  pub width : new.width ≡ old.width
+  pub height : new.height ≡ old.height
+  pub visible : new.visible ≡ old.visible
+
+-- a screen of h rows and of the buffer's width, on which a viewport's rows lie
+pub record HasPlaceAbove (s : Sheet) (r : Rect) (h : ℕ) (screen : Screen) : Type 0 where
+  pub width : s.area.width ≡ screen.width
+  pub height : h ≡ screen.height
+  pub viewport : r.y + r.height ≤ h
+
+-- on such a screen all rows of the buffer came to those above the viewport, whose top is row e now: the look of each cell, of skipped ones too
+abbrev pub InsertsRows : Sheet → Rect → ℕ → Screen → Screen → ℕ → Type 0
+InsertsRows s r h old new e = HasPlaceAbove s r h old → rows_above new e ≡ rows_above old r.y ++ rows_of s
+
+-- the same, but that the columns of skipped cells may show anything
+abbrev pub AppendsAbove : Sheet → Rect → ℕ → Screen → Screen → ℕ → Type 0
+AppendsAbove s r h old new e = HasPlaceAbove s r h old → AppendsRows (s ∷ []) (rows_above old r.y) (rows_above new e)

@@ -1,0 +1,112 @@
+-- What an insertion above an inline viewport does to a terminal.
+use Rattle.std.specs.Prelude.{◌≡◌, ◌⊎◌, ℕ, ◌+◌, ◌-◌, ◌<◌, min, ◌++◌, [], ◌∷◌, Result, Ok, MatchResult}
+use Rattle.std.specs.Borrow.{MutBor}
+use Rattle.std.specs.Fn.{Once, FnOnceReturnsAtMut}
+use Rattle.std.specs.declared.alloc.AllocError.{AllocError}
+use Rattle.rtui_geometry.specs.declared.rect.Rect.{Rect}
+use Rattle.rtui_buffer.specs.Sheet.{Sheet, IsEmptied, HasRoomFor}
+use Rattle.rtui_buffer.specs.Frame.{IsSettledSheet}
+use Rattle.rtui_backend.specs.Screen.{Screen, screen_area}
+use Rattle.rtui_viewport.specs.Viewports.{IsInline}
+use Rattle.rtui_viewport.specs.Areas.{IsBlankBelow}
+use Rattle.rtui_rows.specs.Rows.{rows_of}
+use Rattle.rtui_rows.specs.Insertion.{AppendsRows, KeepsShape}
+use Rattle.rtui_rows.specs.Scrolling.{cursor_scrolled, rows_past}
+use Rattle.rtui_terminal.specs.State.{State}
+use Rattle.rtui_terminal.specs.InStep.{IsInStep, rows_over}
+use Rattle.rtui_terminal.specs.declared.terminal.error.TerminalError.{TerminalError}
+use Rattle.rtui_terminal.specs.declared.terminal.error.TerminalError.TheVariants.{Backend, Memory, Area, Closure}
+
+-- the area of a buffer of rows that are to come in above a viewport: as wide as that
+abbrev pub inserted_area : {B : Type 0} → State B → ℕ → Rect
+inserted_area s height = record { x = 0; y = 0; width = s.viewport_area.width; height = height }
+
+-- an empty buffer of an area, with room for its cells
+pub record IsNewSheet (area : Rect) (sheet : Sheet) : Type 0 where
+  pub empty : IsEmptied area sheet
+  pub room : HasRoomFor area sheet
+
+-- f may be called on any such buffer
+abbrev pub AcceptsRows : {F R : Type 0} → Once F (MutBor Sheet × Unit {0}) (R × (MutBor Sheet × Unit {0})) → F → Rect → Type 0
+AcceptsRows once f area = (buffer : MutBor Sheet) → IsNewSheet area buffer.now → once.pre f (buffer, tt)
+
+-- a call of f on such a buffer gave an answer and left this buffer
+pub record FillsRows {F R : Type 0} (once : Once F (MutBor Sheet × Unit {0}) (R × (MutBor Sheet × Unit {0}))) (f : F) (area : Rect) (answer : R) (filled : Sheet) : Type 0 where
+  pub before : Sheet
+  pub new_buffer : IsNewSheet area before
+  pub ran : FnOnceReturnsAtMut once f before answer filled
+
+-- a rectangle that was the viewport's area is its new one, and any other stays
+pub record AreaFollows (former next old new : Rect) : Type 0 where
+  pub moved : old ≡ former → new ≡ next
+  pub stays : (old ≡ former → ⊥) → new ≡ old
+
+-- a buffer of the viewport's area moved with it, and any other stays
+pub record Follows (former next : Rect) (old new : Sheet) : Type 0 where
+  pub area : AreaFollows former next old.area new.area
+  pub rest : new ≡ record old { area = new.area }
+
+module _ {B : Type 0} (screen : B → Screen) where
+  -- rows can be inserted: above an inline viewport with a row, as wide as the screen, which has its last known size
+  pub record TakesRows (s : State B) : Type 0 where
+    pub inline : IsInline s.viewport
+    pub known : screen_area (screen s.backend) ≡ s.known_area
+    pub row : 0 < s.viewport_area.height
+    pub width : s.viewport_area.width ≡ (screen s.backend).width
+
+  -- what an insertion leaves of the older buffer
+  abbrev pub IsLeft : State B → State B → Type 0
+  IsLeft s t = IsEmptied t.viewport_area t.older
+
+  -- the rows of a buffer were appended to those above the viewport, which moved down as far as there was room; both buffers moved with
+  -- it, and it was cleared
+  pub record Inserts (inserted : Sheet) (s t : State B) : Type 0 where
+    pub rest : t ≡ record s { backend = t.backend; current = t.current; older = t.older; viewport_area = record s.viewport_area { y = t.viewport_area.y }; known_cursor = t.known_cursor }
+    pub over : inserted.area ≡ inserted_area s inserted.area.height
+    pub top : t.viewport_area.y ≡ min (s.viewport_area.y + inserted.area.height) (s.known_area.height - s.viewport_area.height)
+    pub known_cursor : t.known_cursor ≡ cursor_scrolled s.known_area.height (rows_past inserted.area.height s.viewport_area s.known_area.height) s.known_cursor
+    pub current : Follows s.viewport_area t.viewport_area s.current t.current
+    pub older : AreaFollows s.viewport_area t.viewport_area s.older.area t.older.area
+    pub emptied : IsEmptied t.older.area t.older
+    pub shape : KeepsShape (screen s.backend) (screen t.backend)
+    pub above : TakesRows s → IsInStep screen s → IsSettledSheet inserted → AppendsRows (inserted ∷ []) (rows_over screen s) (rows_over screen t)
+    pub skipped_too : TakesRows s → IsInStep screen s → rows_over screen t ≡ rows_over screen s ++ rows_of inserted
+    pub below : TakesRows s → IsInStep screen s → IsBlankBelow s.viewport_area (screen s.backend) → IsBlankBelow t.viewport_area (screen t.backend)
+    pub left : TakesRows s → IsInStep screen s → IsLeft s t
+    pub in_step : TakesRows s → IsInStep screen s → IsSettledSheet inserted → IsInStep screen t
+
+  -- by its answer: `filled` tells of the closure what it answered, and the buffer that it left
+  module _ (area : Rect) (filled : Result (Unit {0}) AllocError → Sheet → Type 0) where
+    -- the closure filled a buffer, whose rows were inserted; where the screen was known to have no rows nothing changed
+    pub record InsertOk (s t : State B) : Type 0 where
+      pub inserted : Sheet
+      pub closure : filled (Ok tt) inserted
+      pub over : inserted.area ≡ area
+      pub none : s.known_area.height ≡ 0 → t ≡ s
+      pub inserts : 0 < s.known_area.height → Inserts inserted s t
+
+    -- the closure filled a buffer, and then the backend failed, before the viewport moved or behind that
+    pub record FailsInserting (s t : State B) : Type 0 where
+      pub inserted : Sheet
+      pub closure : filled (Ok tt) inserted
+      pub over : inserted.area ≡ area
+      pub rest : t ≡ record s { backend = t.backend; current = t.current; older = t.older; viewport_area = record s.viewport_area { y = t.viewport_area.y }; known_cursor = t.known_cursor }
+      pub current : Follows s.viewport_area t.viewport_area s.current t.current
+      pub older : Follows s.viewport_area t.viewport_area s.older t.older
+
+    -- the closure left a buffer of another area, and nothing changed
+    pub record RefusesRows (s t : State B) : Type 0 where
+      pub inserted : Sheet
+      pub closure : filled (Ok tt) inserted
+      pub over : inserted.area ≡ area → ⊥
+      pub rest : t ≡ s
+
+    -- memory was refused for the buffer, or by the closure, and nothing changed
+    abbrev pub InsertErr : {E : Type 0} → State B → State B → TerminalError E → Type 0
+    InsertErr s t (Backend error) = FailsInserting s t
+    InsertErr s t Memory = t ≡ s
+    InsertErr s t Area = RefusesRows s t
+    InsertErr s t (Closure error) = ⊥
+
+    abbrev pub InsertsBy : {T E : Type 0} → State B → State B → Result T (TerminalError E) → Type 0
+    InsertsBy s t result = MatchResult result (λ _. InsertOk s t) (InsertErr s t)
