@@ -1,4 +1,6 @@
 pub mod DifferenceLemmas
 pub mod StepLemmas
+pub mod KeepLemmas
 pub mod RenderLemmas
 pub mod InsertionLemmas
+pub mod HeadlineLemmas

@@ -8,6 +8,7 @@ use Rattle.rtui_backend.specs.Screen.{Screen}
 use Rattle.rtui_terminal.specs.State.{State}
 use Rattle.rtui_terminal.specs.InStep.{IsInStep}
 use Rattle.rtui_terminal.specs.Calls.{Applies, AppliesBy, Autoresizes, AutoresizeErr, DrawOk, DrawErr}
+use Rattle.rtui_terminal.proofs.KeepLemmas.{rest_more, autoresized_rest, painted_rest}
 use Rattle.rtui_terminal.specs.declared.terminal.error.TerminalError.{TerminalError}
 use Rattle.rtui_terminal.specs.declared.terminal.error.TerminalError.TheVariants.{Backend, Memory, Area, Closure}
 
@@ -18,12 +19,17 @@ in_step_painted screen s painted at = record { on_screen = at.on_screen; area = 
 module _ {B X : Type 0} (screen : B → Screen) (ran : State B → Result (Unit {0}) X → Option Position → Sheet → Type 0) (s sized t : State B) (autoresized : Autoresizes screen s sized) (cursor : Option Position) (painted : Sheet) (closure : ran sized (Ok tt) cursor painted) where
   drawn_ok : Applies screen cursor (record sized { current = painted }) t → DrawOk screen ran s t
   drawn_ok applied = record {
-    sized = sized;
-    autoresized = autoresized;
-    cursor = cursor;
+    draws = record {
+      sized = sized;
+      autoresized = autoresized;
+      cursor = cursor;
+      applied = subst (λ sheet. Applies screen cursor (record sized { current = sheet }) t) (sym applied.painted) applied;
+      in_step = λ ready settled. applied.in_step (in_step_painted screen sized painted (autoresized.in_step ready)) (subst IsSettledSheet applied.painted settled);
+      keeps = λ step is_sized settled.
+          let after = applied.keeps (in_step_painted screen sized painted (autoresized.in_step (inl step))) (subst IsSettledSheet applied.painted settled) in
+          rest_more screen s sized t (autoresized_rest screen s sized autoresized is_sized) (painted_rest screen sized t painted after);
+    };
     closure = subst (ran sized (Ok tt) cursor) (sym applied.painted) closure;
-    applied = subst (λ sheet. Applies screen cursor (record sized { current = sheet }) t) (sym applied.painted) applied;
-    in_step = λ ready settled. applied.in_step (in_step_painted screen sized painted (autoresized.in_step ready)) (subst IsSettledSheet applied.painted settled);
   }
 
   -- whatever stands where a closure's error is answered

@@ -16,7 +16,7 @@ use Rattle.rtui_viewport.specs.Areas.{KeepsScreen, KeepsOutside, IsBlankOver, Em
 use Rattle.rtui_viewport.specs.Placing.{area_in, raised, rows_scrolled}
 use Rattle.rtui_viewport.specs.Clearing.{HasPlace, ClearsArea, is_emptied}
 use Rattle.rtui_terminal.specs.State.{State, HasAreas, cursor_offset}
-use Rattle.rtui_terminal.specs.InStep.{IsInStep, IsSized, IsReady}
+use Rattle.rtui_terminal.specs.InStep.{IsInStep, IsSized, IsReady, KeepsRest, rows_over}
 use Rattle.rtui_terminal.specs.declared.terminal.error.TerminalError.{TerminalError}
 use Rattle.rtui_terminal.specs.declared.terminal.error.TerminalError.TheVariants.{Backend, Memory, Area, Closure}
 
@@ -131,6 +131,9 @@ module _ {B : Type 0} (screen : B → Screen) where
     pub cursor : cursor_of (screen t.backend) ≡ cursor_of (screen s.backend)
     pub clears : ClearsArea s.viewport s.viewport_area (screen s.backend) (screen t.backend)
     pub in_step : IsOnScreen s.viewport_area (screen s.backend) → s.older.area ≡ s.viewport_area → IsInStep screen t
+    pub above : IsInline s.viewport → IsOnScreen s.viewport_area (screen s.backend) → 0 < s.viewport_area.height
+        → rows_over screen t ≡ rows_over screen s
+    pub keeps : IsFixed s.viewport → IsOnScreen s.viewport_area (screen s.backend) → KeepsRest screen s t
 
   -- a resize to an area: the viewport was placed on it, which may scroll, and cleared, or the whole screen where it became narrower; the
   -- current buffer is cut or filled up, and the older one is empty
@@ -194,6 +197,7 @@ module _ {B : Type 0} (screen : B → Screen) where
     pub rest : t ≡ record s { backend = t.backend; current = t.current; older = t.older; known_cursor = cursor_after cursor s; hidden_cursor = is_none cursor; frame_count = (s.frame_count + 1) % 2 ^ 64 }
     pub drawn : HasDrawn cursor s (screen s.backend) (screen t.backend)
     pub in_step : IsInStep screen s → IsSettledSheet s.current → IsInStep screen t
+    pub keeps : IsInStep screen s → IsSettledSheet s.current → KeepsRest screen s t
 
   -- all was written and the cursor placed, as the terminal then was, and the last flush failed: the buffers are swapped, and the frame
   -- isn't counted
@@ -240,24 +244,33 @@ module _ {B : Type 0} (screen : B → Screen) where
     pub on_screen : (IsFixed viewport → ⊥) → IsOnScreen t.viewport_area (screen t.backend)
     pub in_step : IsOnScreen t.viewport_area (screen t.backend) → IsBlankOver t.viewport_area (screen t.backend) → IsInStep screen t
 
+  -- a draw: the viewport was resized where need be, and the buffer that was painted then was drawn
+  pub record DrawsFrame (s t : State B) : Type 0 where
+    pub sized : State B
+    pub autoresized : Autoresizes s sized
+    pub cursor : Option Position
+    pub applied : Applies cursor (record sized { current = t.older }) t
+    pub in_step : IsReady screen s → IsSettledSheet t.older → IsInStep screen t
+    pub keeps : IsInStep screen s → IsSized screen s → IsSettledSheet t.older → KeepsRest screen s t
+
+  -- a draw that was refused for what its closure answered or left: behind the resize only the current buffer changed
+  pub record RefusesFrame (s t : State B) : Type 0 where
+    pub sized : State B
+    pub autoresized : Autoresizes s sized
+    pub rest : t ≡ record sized { current = t.current }
+
   -- the kinds of draw: `ran` tells of the closure what it answered, where it left the cursor, and the buffer that it painted
   module _ {X : Type 0} (ran : State B → Result (Unit {0}) X → Option Position → Sheet → Type 0) where
-    -- resized if need be, then painted and drawn
+    -- a draw of what the closure painted
     pub record DrawOk (s t : State B) : Type 0 where
-      pub sized : State B
-      pub autoresized : Autoresizes s sized
-      pub cursor : Option Position
-      pub closure : ran sized (Ok tt) cursor t.older
-      pub applied : Applies cursor (record sized { current = t.older }) t
-      pub in_step : IsReady screen s → IsSettledSheet t.older → IsInStep screen t
+      pub draws : DrawsFrame s t
+      pub closure : ran draws.sized (Ok tt) draws.cursor t.older
 
     -- the closure refused, and the current buffer is what it left
     pub record ClosureErr (error : X) (s t : State B) : Type 0 where
-      pub sized : State B
-      pub autoresized : Autoresizes s sized
+      pub refuses : RefusesFrame s t
       pub cursor : Option Position
-      pub closure : ran sized (Err error) cursor t.current
-      pub rest : t ≡ record sized { current = t.current }
+      pub closure : ran refuses.sized (Err error) cursor t.current
 
     -- the closure painted, and what came after was refused
     pub record PaintedErr (after : Option Position → State B → State B → Type 0) (s t : State B) : Type 0 where

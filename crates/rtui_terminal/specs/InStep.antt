@@ -2,8 +2,9 @@
 use Rattle.std.specs.Prelude.{◌≡◌, ◌⊎◌, List}
 use Rattle.rtui_cell.specs.Look.{Look}
 use Rattle.rtui_buffer.specs.Frame.{IsSettledSheet, ShowsSheet}
-use Rattle.rtui_backend.specs.Screen.{Screen, IsOnScreen, screen_area, rows_above}
+use Rattle.rtui_backend.specs.Screen.{Screen, KeepsSize, IsOnScreen, screen_area, rows_above}
 use Rattle.rtui_viewport.specs.Viewports.{IsFixed}
+use Rattle.rtui_viewport.specs.Areas.{KeepsOutside}
 use Rattle.rtui_terminal.specs.State.{State}
 
 module _ {B : Type 0} (screen : B → Screen) where
@@ -25,3 +26,10 @@ module _ {B : Type 0} (screen : B → Screen) where
   -- the rows above an inline viewport: the history, and the screen's rows before the top
   abbrev pub rows_over : State B → List (List Look)
   rows_over s = rows_above (screen s.backend) s.viewport_area.y
+
+  -- the viewport stays, and with it the size, the history, the rows above it and all columns outside it
+  pub record KeepsRest (s t : State B) : Type 0 where
+    pub viewport_area : t.viewport_area ≡ s.viewport_area
+    pub size : KeepsSize (screen s.backend) (screen t.backend)
+    pub above : rows_over t ≡ rows_over s
+    pub outside : KeepsOutside s.viewport_area (screen s.backend) (screen t.backend)

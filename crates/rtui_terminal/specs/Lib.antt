@@ -5,3 +5,4 @@ pub mod Borrows
 pub mod Calls
 pub mod Insertion
 pub mod Display
+pub mod Headline

@@ -18,6 +18,14 @@ mod resize;
 
 /// A terminal over a backend. It keeps the buffer to paint on and the one painted before, so that a draw writes
 /// only what differs. Its drop shows a cursor that it hid.
+///
+/// ```
+/// let mut terminal = Terminal::new(alloc, TestBackend::new(alloc, 80, 24)?)?;
+/// terminal.draw(|frame| {
+///     let area = frame.area();
+///     frame.render_widget("Ready", area)
+/// })?;
+/// ```
 #[derive(Debug)]
 pub struct Terminal<B: Backend> {
     pub(crate) backend: B,

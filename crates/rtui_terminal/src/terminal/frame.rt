@@ -11,6 +11,13 @@ use std::alloc::AllocError;
 
 /// What a closure paints on: the current buffer of a terminal, its area, and where the cursor is to be
 /// afterwards.
+///
+/// ```
+/// let area = frame.area();
+/// frame.buffer_mut().set_style(area, Style::new().bg(Color::Blue));
+/// frame.render_widget("Name: ", area)?;
+/// frame.set_cursor_position(Position::new(area.x + 6, area.y));
+/// ```
 #[derive(Debug, PartialEq, Eq, Hash, Drop)]
 pub struct Frame<'a> {
     pub(crate) cursor_position: Option<Position>,

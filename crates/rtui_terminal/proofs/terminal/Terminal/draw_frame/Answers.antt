@@ -9,9 +9,7 @@ returns-in-Ok-answer-clause-drawn g c =
 pub returns-in-Err-answer-clause-drawn : goal.returns-in-Err-answer-clause-drawn
 returns-in-Err-answer-clause-drawn g c =
     inr (record {
-      sized = _;
-      autoresized = rw (← c.self.view_is) at c.in-Ok.ensures.outcome;
+      refuses = record { sized = _; autoresized = rw (← c.self.view_is) at c.in-Ok.ensures.outcome; rest = refl };
       cursor = c.paint-answer.result.1;
       closure = rw c.in-Err-answer.is at c.paint-answer.ensures;
-      rest = refl;
     })

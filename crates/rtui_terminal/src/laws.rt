@@ -1,0 +1,19 @@
+//! What any list of calls on a terminal leaves on its screen: the headline of `specs/Headline`. Calling one of these
+//! functions costs nothing and tells the caller's proof its law.
+
+ghost use Rattle.rtui_terminal.specs.Headline.{IsHeadline, KeepsRows};
+
+use rtui_backend::Backend;
+
+/// From in step, and while each painted and inserted buffer is settled, every call of a list that answered Ok is
+/// faithful: the screen shows the buffer that it leaves, exactly its rows came to those above an inline viewport,
+/// and nothing changed outside a fixed one.
+pub fn every_call_is_faithful<B: Backend>()
+    ensures { IsHeadline B.screen }
+{}
+
+/// While the size stays, the rows above an inline viewport are those at the start, followed by all that were
+/// inserted since.
+pub fn rows_above_are_those_inserted<B: Backend>()
+    ensures { KeepsRows B.screen }
+{}
