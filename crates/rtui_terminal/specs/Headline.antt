@@ -108,7 +108,7 @@ module _ {B : Type 0} (screen : B → Screen) where
   abbrev pub Leaves : Call → State B → State B → Type 0
   Leaves (Draw painted) s t = t.older ≡ painted
   Leaves (Apply painted) s t = t.older ≡ painted
-  Leaves (Insert inserted) s t = IsLeft s t
+  Leaves (Insert inserted) s t = IsLeft screen s t
   Leaves Clear s t = IsEmptied t.viewport_area t.older
   Leaves (Resize area) s t = IsEmptied t.viewport_area t.older
   Leaves Autoresize s t = IsKeptOrEmptied s t
