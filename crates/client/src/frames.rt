@@ -1,7 +1,8 @@
 //! Frames on a terminal.
 
-ghost use Rattle.std.specs.Prelude.{IfOk, IsTrue};
-ghost use Rattle.ratatui_core.specs.Terminal.{IsInStep, AcceptsFrames};
+ghost use Rattle.std.specs.Prelude.{IfOk, OnOk, IsTrue};
+ghost use Rattle.ratatui_core.specs.Buffer.{IsSettledSheet};
+ghost use Rattle.ratatui_core.specs.Terminal.{IsInStep, DrawsFrame, AcceptsFrames};
 
 use ratatui_core::backend::Backend;
 use ratatui_core::terminal::{Frame, Terminal, TerminalError};
@@ -15,7 +16,9 @@ pub fn draw_checked<B: Backend, F>(
 where
     F: FnOnce(&mut Frame<'_>) -> Result<(), AllocError>,
     requires { AcceptsFrames F.FnOnce paint terminal.old }
-    ensures { IfOk result (λ settled. IsTrue settled →
+    ensures drawn { OnOk result (DrawsFrame B.screen terminal.old terminal.new) }
+    ensures settled { IfOk result (λ settled. IsTrue settled → IsSettledSheet terminal.new.older) }
+    ensures in_step { IfOk result (λ settled. IsTrue settled →
         IsInStep B.screen terminal.old → IsInStep B.screen terminal.new) }
 {
     let frame = terminal.draw(paint)?;

@@ -7,7 +7,9 @@
 mod escape;
 mod frames;
 mod labels;
+mod logging;
 
 pub use escape::{EscapeBackend, EscapeError};
 pub use frames::draw_checked;
 pub use labels::{label, pieces_stand};
+pub use logging::log;
