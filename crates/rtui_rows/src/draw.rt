@@ -20,7 +20,8 @@ pub fn draw_rows<B: Backend>(
 ) -> Result<(), B::Error>
     requires inside { first + count ≤ rows.now.area.height }
     requires bottom { y + count ≤ 65535 }
-    ensures ok { OnOk result (DrawsRows rows.now first count y (B.screen backend.old) (B.screen backend.new)) }
+    ensures ok { OnOk result (DrawsRows rows.now first count y
+        (B.screen backend.old) (B.screen backend.new)) }
     ensures shape { OnOk result (KeepsShape (B.screen backend.old) (B.screen backend.new)) }
     ensures counts { Counts result (B.failures backend.old) (B.failures backend.new) }
 {

@@ -19,8 +19,10 @@ pub fn scroll_up<B: Backend>(
     height: u16,
     lines: u16,
 ) -> Result<(), B::Error>
-    ensures ok { OnOk result (ScrollsBy height lines (B.screen backend.old) (B.screen backend.new)) }
-    ensures cursor { OnOk result (known_cursor.new ≡ cursor_scrolled height lines known_cursor.old) }
+    ensures ok { OnOk result
+        (ScrollsBy height lines (B.screen backend.old) (B.screen backend.new)) }
+    ensures cursor { OnOk result
+        (known_cursor.new ≡ cursor_scrolled height lines known_cursor.old) }
     ensures shape { OnOk result (KeepsShape (B.screen backend.old) (B.screen backend.new)) }
     ensures counts { Counts result (B.failures backend.old) (B.failures backend.new) }
 {
@@ -48,9 +50,12 @@ pub fn insert_rows<B: Backend>(
 ) -> Result<u16, B::Error>
     requires edges { EdgesFit viewport }
     requires high { 0 < height }
-    ensures ok { IfOk result (InsertsRows rows.now viewport height (B.screen backend.old) (B.screen backend.new)) }
-    ensures agrees { IfOk result (AppendsAbove rows.now viewport height (B.screen backend.old) (B.screen backend.new)) }
-    ensures top { IfOk result (λ top. top ≡ min (viewport.y + rows.now.area.height) (height - viewport.height)) }
+    ensures ok { IfOk result (InsertsRows rows.now viewport height
+        (B.screen backend.old) (B.screen backend.new)) }
+    ensures agrees { IfOk result (AppendsAbove rows.now viewport height
+        (B.screen backend.old) (B.screen backend.new)) }
+    ensures top { IfOk result (λ top.
+        top ≡ min (viewport.y + rows.now.area.height) (height - viewport.height)) }
     ensures cursor { let past = rows_past rows.now.area.height viewport height in
         OnOk result (known_cursor.new ≡ cursor_scrolled height past known_cursor.old) }
     ensures shape { OnOk result (KeepsShape (B.screen backend.old) (B.screen backend.new)) }

@@ -115,7 +115,8 @@ impl<B: Backend> Terminal<B> {
     where
         F: FnOnce(&mut Buffer) -> Result<(), AllocError>,
         requires { AcceptsRows F.FnOnce draw_fn (inserted_area self.old height) }
-        ensures other { (IsInline self.old.viewport → ⊥) → (result ≡ Ok tt) × (self.new ≡ self.old) }
+        ensures other { (IsInline self.old.viewport → ⊥) →
+            (result ≡ Ok tt) × (self.new ≡ self.old) }
         ensures outcome { let area = inserted_area self.old height in
             IsInline self.old.viewport →
             InsertsBy B.screen area (FillsRows F.FnOnce draw_fn area) self.old self.new result }
