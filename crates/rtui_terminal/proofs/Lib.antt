@@ -1,3 +1,4 @@
 pub mod DifferenceLemmas
 pub mod StepLemmas
 pub mod RenderLemmas
+pub mod RenderedLemmas

@@ -4,3 +4,4 @@ pub mod Frames
 pub mod Borrows
 pub mod Calls
 pub mod Display
+pub mod Rendered

@@ -5,6 +5,7 @@
 //! step, a draw that answers Ok of a settled buffer leaves the screen showing it, and the terminal in step.
 #![tactic(auto)]
 
+pub mod laws;
 mod terminal;
 
 pub use rtui_viewport::Viewport;
