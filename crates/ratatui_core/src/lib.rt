@@ -49,7 +49,7 @@ pub mod symbols {
 /// Terminals, and the frames that are drawn on them.
 pub mod terminal {
     pub use rtui_terminal::{
-        CompletedFrame, Frame, Terminal, TerminalError, TerminalOptions, Viewport,
+        CompletedFrame, Frame, Terminal, TerminalError, TerminalOptions, Viewport, laws,
     };
 }
 
