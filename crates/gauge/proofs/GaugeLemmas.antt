@@ -1,17 +1,17 @@
 -- What a screen shows of a gauge.
-use Rattle.std.proofs.Common.{◌≡◌, ℕ, ◌+◌, ◌-◌, ◌<◌, ◌≤◌, ⊎_elim, inr, Bool, true, false, cond, List, length, take, min, max, refl, sym, ap, subst, ◌∙◌, arith, Result, Ok, Err, OnOk, IfOk}
+use Rattle.std.proofs.Common.{◌≡◌, ℕ, ◌+◌, ◌-◌, ◌<◌, ◌≤◌, ⊎_elim, inr, Bool, true, false, cond, List, take, min, max, refl, sym, ap, subst, ◌∙◌, arith, Result, Ok, Err, OnOk, IfOk}
 use Rattle.std.specs.Prelude.{nat_lt}
 use Rattle.std.proofs.lemmas.Bool.{cases_lt}
 use Rattle.std.proofs.lemmas.Bool.Decides.{nat_tests}
 use Rattle.ratatui_core.specs.Layout.{Rect, Position, HasPosition, EdgesFit, right_edge, bottom_edge, corner}
 use Rattle.ratatui_core.specs.Style.{Style}
-use Rattle.ratatui_core.specs.Buffer.{Sheet, Grid, Cell, Piece, IsEmptied, IsSettledSheet, ShowsSheet, IsStyled, PaintsColumns, HasRow, cell_in, cell_index, area_size, columns, shown, piece_at, right_by, styled, look_of, empty_cell, is_skipped, position_of}
+use Rattle.ratatui_core.specs.Buffer.{Sheet, Grid, Piece, IsEmptied, IsSettledSheet, ShowsSheet, PaintsColumns, HasRow, cell_in, cell_index, area_size, columns, shown, piece_at, styled, look_of, empty_cell, is_skipped, position_of}
 use Rattle.ratatui_core.specs.Widgets.{clipped}
 use Rattle.ratatui_core.proofs.BufferLemmas.{PaintsColumns-paints, cell-empty, line-ends, shown-look}
 use Rattle.ratatui_core.specs.Backend.{Screen}
 use Rattle.ratatui_core.specs.Terminal.{State, ShowsRendered}
 use Rattle.gauge.specs.declared.bar.Gauge.{Gauge}
-use Rattle.gauge.specs.Gauges.{bar_area, label_pieces, PaintsGauge, RendersGauge, cell_under, ShowsGauge}
+use Rattle.gauge.specs.Gauges.{label_pieces, PaintsGauge, RendersGauge, cell_under, ShowsGauge}
 
 clipped-whole : (r : Rect) → EdgesFit r → clipped r r ≡ r
 clipped-whole r edges =

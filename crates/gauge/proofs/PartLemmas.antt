@@ -1,8 +1,8 @@
 -- A gauge in the part of an area that a buffer has.
-use Rattle.std.proofs.Common.{◌≡◌, ℕ, ◌+◌, ◌-◌, ◌<◌, ◌≤◌, ◌⊎◌, ⊎_elim, inl, inr, List, min, max, sym, ap, subst, ◌∙◌, arith}
+use Rattle.std.proofs.Common.{◌≡◌, ◌+◌, ◌-◌, ◌<◌, ◌≤◌, ⊎_elim, inl, inr, List, min, max, ap, subst, ◌∙◌, arith}
 use Rattle.std.proofs.lemmas.Bool.{cases_lt}
 use Rattle.ratatui_core.specs.Layout.{Rect, Position, HasPosition, corner, right_edge, bottom_edge}
-use Rattle.ratatui_core.specs.Buffer.{Sheet, Piece, IsEmptied, IsSettledSheet, IsPaintable, IsStyled, Paints, IsSameBeside, IsBeside, HasRow, columns}
+use Rattle.ratatui_core.specs.Buffer.{Sheet, Piece, IsSettledSheet, IsPaintable, IsStyled, Paints, IsSameBeside, IsBeside, HasRow, columns}
 use Rattle.ratatui_core.specs.Widgets.{clipped, IsClipped, ChangesWithin}
 use Rattle.ratatui_core.proofs.BufferLemmas.{IsSettledSheet-styled, IsPaintable-styled, same-beside, line-ends, line-keeps}
 use Rattle.gauge.specs.declared.bar.Gauge.{Gauge}

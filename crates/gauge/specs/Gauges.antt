@@ -1,7 +1,7 @@
 -- A gauge: what it makes of a buffer, and what a screen then shows.
 use Rattle.std.specs.Prelude.{◌≡◌, ◌⊎◌, ℕ, ◌+◌, ◌<◌, ◌≤◌, nat_lt, min, if◌then◌else◌, List, length, take}
-use Rattle.ratatui_core.specs.Layout.{Rect, HasPosition, corner}
-use Rattle.ratatui_core.specs.Buffer.{Cell, Sheet, Grid, Piece, IsEmptied, IsSettledSheet, IsStyled, Paints, line_pieces_at, columns, shown, piece_at, right_by, styled, look_of, empty_cell}
+use Rattle.ratatui_core.specs.Layout.{Rect, corner}
+use Rattle.ratatui_core.specs.Buffer.{Cell, Sheet, Grid, Piece, IsEmptied, IsSettledSheet, IsStyled, Paints, line_pieces_at, columns, shown, piece_at, styled, look_of, empty_cell}
 use Rattle.ratatui_core.specs.Widgets.{clipped}
 use Rattle.gauge.specs.declared.bar.Gauge.{Gauge}
 
