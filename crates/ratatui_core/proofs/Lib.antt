@@ -1,2 +1,3 @@
 pub mod BackendLemmas
 pub mod BufferLemmas
+pub mod TerminalLemmas

@@ -1,11 +1,11 @@
 -- What rendering makes of a buffer.
 unfoldable pub use Rattle.rtui_widgets.specs.Span.{showing, those_at, is_behind, columns_from, span_rendered}
-pub use Rattle.rtui_widgets.specs.Span.{goes_to, with_graphemes, column_with}
-unfoldable pub use Rattle.rtui_widgets.specs.Line.{last_fitting, parts, parts_rendered, line_rendered}
-pub use Rattle.rtui_widgets.specs.Line.{Part, end_of, part_of, behind_first, columns_before}
-pub use Rattle.rtui_widgets.specs.Rendering.{clipped, row_of, ChangesWithin, RendersRows, in_first_row, RendersSpan, RendersLine, alignment_or, line_at, text_row, RendersText, first_row, HasFirstRow, PaintsText}
+pub use Rattle.rtui_widgets.specs.Span.{goes_to, with_graphemes, column_with, IsShortSpan}
+unfoldable pub use Rattle.rtui_widgets.specs.Line.{last_fitting, parts, parts_rendered, line_rendered, AreShortParts}
+pub use Rattle.rtui_widgets.specs.Line.{Part, end_of, part_of, behind_first, columns_before, IsShortLine}
+pub use Rattle.rtui_widgets.specs.Rendering.{clipped, area_row, ChangesWithin, RendersRows, in_first_row, RendersSpan, RendersLine, alignment_or, text_line, text_row, RendersText, first_row, HasFirstRow, PaintsText, IsShortRow, RendersShortSpan, RendersShortLine, RendersShortText, PaintsShortText}
 pub use Rattle.rtui_widgets.specs.Clipped.{IsClipped}
 unfoldable pub use Rattle.rtui_widgets.specs.Steps.{with_next, end_of_those}
-pub use Rattle.rtui_widgets.specs.Steps.{with_symbol, with_appended, IsRowWith}
+pub use Rattle.rtui_widgets.specs.Steps.{with_symbol, with_appended, next_symbol, IsRowWith}
 pub use Rattle.rtui_widgets.specs.IsPart.{IsPart}
-pub use Rattle.rtui_widgets.specs.Rows.{Rows, place, row_at, IsOutside, KeepsOthers, MakesRows}
+pub use Rattle.rtui_widgets.specs.Rows.{Rows, rows_from, place, row_at, IsOutside, KeepsOthers, MakesRows}

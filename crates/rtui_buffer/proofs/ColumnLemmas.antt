@@ -11,9 +11,9 @@ use Rattle.rtui_style.specs.declared.Style.{Style}
 use Rattle.rtui_cell.specs.declared.cell.Cell.{Cell}
 use Rattle.rtui_text.specs.Text.{LineData}
 use Rattle.rtui_diff.specs.Cells.{cell}
-use Rattle.rtui_buffer.specs.Sheet.{HasRow, Sheet, cell_index}
+use Rattle.rtui_buffer.specs.Sheet.{HasRow, Sheet, cell_index, cell_in}
 use Rattle.rtui_buffer.specs.Painting.{Piece, columns, IsSameOutside}
-use Rattle.rtui_buffer.specs.PaintedText.{room_at, pieces_at, Paints, right_by, IsBeside, PaintsColumns}
+use Rattle.rtui_buffer.specs.PaintedText.{room_at, pieces_at, Paints, right_by, IsBeside, IsSameBeside, PaintsColumns}
 use Rattle.rtui_buffer.specs.Line.{line_pieces_at}
 use Rattle.rtui_buffer.proofs.PaintedLemmas.{columns-kept}
 use Rattle.rtui_buffer.proofs.LineLemmas.{columns-line}
@@ -23,6 +23,12 @@ text-ends r x max s text = let k = columns-kept s (room_at r x max) (graphemes t
 
 pub line-ends : (r : Rect) (x max : ℕ) (l : LineData) → columns (line_pieces_at r x max l) ≤ r.x + r.width - x
 line-ends r x max l = let k = columns-line (room_at r x max) l.style l.spans in omega arith
+
+pub text-keeps : (r : Rect) (x max : ℕ) (s : Style) (text : List ℕ) → columns (pieces_at r x max s text) ≤ max
+text-keeps r x max s text = let k = columns-kept s (room_at r x max) (graphemes true text) in omega arith
+
+pub line-keeps : (r : Rect) (x max : ℕ) (l : LineData) → columns (line_pieces_at r x max l) ≤ max
+line-keeps r x max l = let k = columns-line (room_at r x max) l.style l.spans in omega arith
 
 -- the place of a position some columns further right
 place-at : (r : Rect) (p : Position) (n : ℕ) → r.x ≤ p.x → cell_index r (right_by n p) ≡ cell_index r p + n
@@ -60,6 +66,11 @@ beside-same r p q n old new row le fits h beside same =
     (λ (none : n ≤ 0). same.behind (cell_index r q) (omega arith))
     (cases_lt 0 n))
     (cases_lt (cell_index r q) (cell_index r p))
+
+-- a refused painting changes nothing beside its columns
+pub same-beside : (p q : Position) (ps : List Piece) (old new : Sheet) → HasRow old.area p.y → old.area.x ≤ p.x → columns ps ≤ old.area.x + old.area.width - p.x
+    → IsSameBeside p ps old new → HasPosition old.area q → IsBeside p (columns ps) q → cell_in new q ≡ cell_in old q
+same-beside p q ps old new row le fits h q_in beside = rw h.area (beside-same old.area p q (columns ps) old.cells new.cells row le fits q_in beside h.cells)
 
 pub PaintsColumns-paints : (p : Position) (ps : List Piece) (old new : Sheet) → HasRow old.area p.y → old.area.x ≤ p.x
     → columns ps ≤ old.area.x + old.area.width - p.x → Paints p ps old new → PaintsColumns p ps old new

@@ -11,3 +11,4 @@ pub mod OverlayLemmas
 pub mod FrontLemmas
 pub mod ColumnLemmas
 pub mod EqualityLemmas
+pub mod ShownLemmas

@@ -1,5 +1,5 @@
 -- Painting lines of spans.
-use Rattle.std.specs.Prelude.{ℕ, ◌-◌, ◌*◌, ◌<◌, ◌≡◌, List, [], ◌∷◌, ◌++◌, length, take, drop, map, max, slice_index_or}
+use Rattle.std.specs.Prelude.{ℕ, ◌-◌, ◌*◌, ◌<◌, ◌≡◌, List, [], ◌∷◌, ◌++◌, length, take, drop, map, slice_index_or}
 use Rattle.std.specs.List.{flat_map}
 use Rattle.std.specs.Borrow.{Bor}
 use Rattle.rtui_geometry.specs.declared.rect.Rect.{Rect}
@@ -7,7 +7,7 @@ use Rattle.rtui_style.specs.declared.Style.{Style}
 use Rattle.rtui_style.specs.Style.{patch}
 use Rattle.rtui_cell.specs.declared.cell.Cell.{Cell}
 use Rattle.rtui_text.specs.Text.{SpanData, LineData, line_of, raw_line}
-use Rattle.rtui_text.specs.Widths.{line_width}
+pub use Rattle.rtui_text.specs.Widths.{widest}
 use Rattle.rtui_buffer.specs.Sheet.{Sheet, empty_cells, row_cells}
 use Rattle.rtui_buffer.specs.Painting.{Piece, text_pieces, columns, painted, IsPainted}
 use Rattle.rtui_buffer.specs.PaintedText.{room_at}
@@ -25,11 +25,6 @@ line_pieces_at r x max l = line_pieces (room_at r x max) l.style l.spans
 -- a row of w cells that shows a line and nothing else
 unfoldable pub line_row : ℕ → LineData → List Cell
 line_row w l = painted 0 (line_pieces w l.style l.spans) (empty_cells w)
-
--- the greatest width of these lines
-abbrev pub widest : List LineData → ℕ
-widest [] = 0
-widest (l ∷ ls) = max (line_width l.spans) (widest ls)
 
 -- rows of w cells that show these lines and nothing else
 abbrev pub line_rows : ℕ → List LineData → List Cell

@@ -1,18 +1,13 @@
 -- Painting pieces of text into a list of cells, one behind the other.
-use Rattle.std.specs.Prelude.{ℕ, Bool, true, ◌+◌, ◌-◌, ◌≡◌, ◌≤◌, ◌<◌, suc, zero, nat_le, nat_lt, List, [], ◌∷◌, length, take, map, filter, sum_by, if◌then◌else◌, Some, slice_index_or, slice_set, chars}
-use Rattle.std.specs.Char.{is_control}
-use Rattle.std.specs.List.{list_any}
+use Rattle.std.specs.Prelude.{ℕ, Bool, true, ◌+◌, ◌-◌, ◌≡◌, ◌≤◌, ◌<◌, suc, zero, nat_le, nat_lt, List, [], ◌∷◌, length, take, map, filter, sum_by, if◌then◌else◌, Some, slice_index_or, slice_set}
 use Rattle.unicode_segmentation.specs.Grapheme.{graphemes}
 use Rattle.rtui_style.specs.declared.Style.{Style}
 use Rattle.rtui_style.specs.Style.{new_style}
 use Rattle.rtui_cell.specs.declared.cell.Cell.{Cell}
 use Rattle.rtui_cell.specs.Cell.{empty_cell, styled}
 use Rattle.rtui_cell.specs.Width.{text_width}
+pub use Rattle.rtui_text.specs.Graphemes.{has_control}
 use Rattle.rtui_diff.specs.Cells.{cell}
-
--- a control character stands in the text
-abbrev pub has_control : List ℕ → Bool
-has_control text = list_any is_control (chars text)
 
 -- the columns in which a grapheme is painted: none if it has a control character
 unfoldable pub painted_width : List ℕ → ℕ

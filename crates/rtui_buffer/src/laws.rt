@@ -1,16 +1,21 @@
 //! Laws of buffers and of painting that are no single call's clause, stated over the definitions of `specs/` alone. Calling
 //! one of these functions costs nothing and tells the caller's proof its law.
 
-ghost use Rattle.std.specs.Prelude.{ℕ, ◌≡◌, ◌+◌, ◌-◌, ◌<◌, ◌≤◌, ◌++◌, ◌↔◌, IsTrue, List, filter, All};
+ghost use Rattle.std.specs.Prelude.{ℕ, false, ◌≡◌, ◌+◌, ◌-◌, ◌<◌, ◌≤◌, ◌++◌, ◌↔◌, IsTrue, List, filter, All};
 ghost use Rattle.std.specs.Hash as fed;
 ghost use Rattle.rtui_geometry.specs.declared.position.Position.{Position};
 ghost use Rattle.rtui_style.specs.declared.Style.{Style};
 ghost use Rattle.rtui_text.specs.Text.{LineData};
 ghost use Rattle.rtui_cell.specs.Width.{text_width};
-ghost use Rattle.rtui_buffer.specs.Sheet.{HasRow, Sheet, IsEmptied, IsEqualSheet};
-ghost use Rattle.rtui_buffer.specs.Frame.{IsSettledSheet, IsAligned, HaveSettledRows};
+ghost use Rattle.rtui_cell.specs.Look.{look_of};
+ghost use Rattle.rtui_cell.specs.Cell.{is_skipped};
+ghost use Rattle.rtui_cell.specs.Grid.{Grid};
+ghost use Rattle.rtui_geometry.specs.declared.rect.Rect.{Rect};
+ghost use Rattle.rtui_geometry.specs.Rect.{HasPosition, EdgesFit};
+ghost use Rattle.rtui_buffer.specs.Sheet.{HasRow, Sheet, IsEmptied, IsEqualSheet, cell_in};
+ghost use Rattle.rtui_buffer.specs.Frame.{IsSettledSheet, ShowsSheet, IsAligned, HaveSettledRows};
 ghost use Rattle.rtui_buffer.specs.Painting.{Piece, is_painted, kept, columns, IsLongestFront};
-ghost use Rattle.rtui_buffer.specs.PaintedText.{pieces_at, IsPaintable, Paints, PaintsColumns};
+ghost use Rattle.rtui_buffer.specs.PaintedText.{pieces_at, IsBeside, IsPaintable, IsSameBeside, IsStyled, Paints, PaintsColumns};
 ghost use Rattle.rtui_buffer.specs.Line.{line_pieces_at};
 
 use crate::buffer::Buffer;
@@ -41,6 +46,22 @@ pub fn empty_buffers_are_settled()
         → IsPaintable p n s }
 {}
 
+/// A screen can show an empty buffer with a style laid over an area of it, and each of its columns may be painted.
+pub fn styled_empty_buffers_are_settled()
+    ensures settled { (r area : Rect) (style : Style) (old new : Sheet) → EdgesFit r → IsEmptied r old
+        → IsStyled area style old new → IsSettledSheet new }
+    ensures paintable { (r area : Rect) (style : Style) (old new : Sheet) (p : Position) (n : ℕ)
+        → EdgesFit r → IsEmptied r old → IsStyled area style old new
+        → HasRow old.area p.y → old.area.x ≤ p.x → p.x + n ≤ old.area.x + old.area.width
+        → IsPaintable p n new }
+{}
+
+/// Where a screen shows a buffer, the column of each unskipped cell has the cell's look.
+pub fn shown_cells_have_their_looks()
+    ensures { (s : Sheet) (g : Grid) (p : Position) → ShowsSheet s g → HasPosition s.area p
+        → is_skipped (cell_in s p) ≡ false → g p.x p.y ≡ look_of (cell_in s p) }
+{}
+
 /// The common rows of two settled buffers are settled in both.
 pub fn common_rows_are_settled()
     ensures { (prev next : Sheet) → IsAligned prev next → IsSettledSheet prev → IsSettledSheet next
@@ -66,9 +87,20 @@ pub fn painting_ends_in_its_row()
         → columns (line_pieces_at r x max l) ≤ r.x + r.width - x }
 {}
 
-/// What is painted within a row of the area, seen by columns.
+/// A text and a line are painted in at most as many columns as they are given.
+pub fn painting_keeps_to_its_columns()
+    ensures text { (r : Rect) (x max : ℕ) (s : Style) (text : List ℕ)
+        → columns (pieces_at r x max s text) ≤ max }
+    ensures line { (r : Rect) (x max : ℕ) (l : LineData) → columns (line_pieces_at r x max l) ≤ max }
+{}
+
+/// What is painted within a row of the area, seen by columns; and what isn't painted where memory is refused.
 pub fn painting_goes_by_columns()
-    ensures { (p : Position) (ps : List Piece) (old new : Sheet)
+    ensures painted { (p : Position) (ps : List Piece) (old new : Sheet)
         → HasRow old.area p.y → old.area.x ≤ p.x → columns ps ≤ old.area.x + old.area.width - p.x
         → Paints p ps old new → PaintsColumns p ps old new }
+    ensures refused { (p q : Position) (ps : List Piece) (old new : Sheet)
+        → HasRow old.area p.y → old.area.x ≤ p.x → columns ps ≤ old.area.x + old.area.width - p.x
+        → IsSameBeside p ps old new → HasPosition old.area q → IsBeside p (columns ps) q
+        → cell_in new q ≡ cell_in old q }
 {}

@@ -4,3 +4,4 @@ pub mod KeepLemmas
 pub mod RenderLemmas
 pub mod InsertionLemmas
 pub mod HeadlineLemmas
+pub mod RenderedLemmas

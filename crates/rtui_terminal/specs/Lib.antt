@@ -6,3 +6,4 @@ pub mod Calls
 pub mod Insertion
 pub mod Display
 pub mod Headline
+pub mod Rendered

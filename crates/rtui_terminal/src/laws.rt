@@ -1,6 +1,9 @@
-//! What any list of calls on a terminal leaves on its screen: the headline of `specs/Headline`. Calling one of these
-//! functions costs nothing and tells the caller's proof its law.
+//! Laws of terminals that are no single call's clause, stated over the definitions of `specs/` alone; above all the
+//! headline of `specs/Headline`. Calling one of these functions costs nothing and tells the caller's proof its law.
 
+ghost use Rattle.rtui_buffer.specs.Sheet.{IsEmptied};
+ghost use Rattle.rtui_terminal.specs.State.{State};
+ghost use Rattle.rtui_terminal.specs.Calls.{Autoresizes};
 ghost use Rattle.rtui_terminal.specs.Headline.{IsHeadline, KeepsRows};
 
 use rtui_backend::Backend;
@@ -16,4 +19,10 @@ pub fn every_call_is_faithful<B: Backend>()
 /// inserted since.
 pub fn rows_above_are_those_inserted<B: Backend>()
     ensures { KeepsRows B.screen }
+{}
+
+/// An empty current buffer is still empty, and covers the viewport, where a draw found another size.
+pub fn empty_buffers_stay_empty<B: Backend>()
+    ensures { (s sized : State B) → Autoresizes B.screen s sized
+        → IsEmptied s.viewport_area s.current → IsEmptied sized.viewport_area sized.current }
 {}

@@ -1,5 +1,5 @@
 -- What the columns of a row hold after one more grapheme.
-use Rattle.std.proofs.Common.{◌≡◌, ◌≢◌, ℕ, ◌+◌, ◌-◌, ◌<◌, ◌≤◌, ◌⊎◌, ⊎_elim, inl, inr, Bool, true, false, cond, List, [], ◌∷◌, ◌++◌, refl, sym, ap, ◌∙◌, arith, append_assoc, ◌^◌}
+use Rattle.std.proofs.Common.{◌≡◌, ◌≢◌, ℕ, ◌+◌, ◌-◌, ◌<◌, ◌≤◌, ◌⊎◌, ⊎_elim, inl, inr, Bool, true, false, cond, List, [], ◌∷◌, ◌++◌, length, length-append, refl, sym, ap, ◌∙◌, arith, append_assoc, ◌^◌}
 use Rattle.std.specs.Prelude.{◌==◌, ◌||◌, ◌&&◌, nat_lt, Some, None, Option}
 use Rattle.std.specs.List.{concat}
 use Rattle.std.specs.Int.RustNames.{bit_and, bit_or}
@@ -46,6 +46,24 @@ pub those_at-append : (k x : ℕ) (gs : List (List ℕ)) (g : List ℕ) → thos
 unfolding those_at end_of_those
 those_at-append k x [] g = refl
 those_at-append k x (h ∷ gs) g = cond-cons-append (goes_to x h == k) h _ _ _ (those_at-append k (x + text_width h) gs g)
+
+-- what goes to a column, of a front of the graphemes and of the others
+pub those_at-both : (k x : ℕ) (gs hs : List (List ℕ)) → those_at k x (gs ++ hs) ≡ those_at k x gs ++ those_at k (end_of_those x gs) hs
+unfolding those_at end_of_those
+those_at-both k x [] hs = refl
+those_at-both k x (g ∷ gs) hs = cond-cons-append (goes_to x g == k) g _ _ _ (those_at-both k (x + text_width g) gs hs)
+
+concat-both : (ts us : List (List ℕ)) → concat (ts ++ us) ≡ concat ts ++ concat us
+concat-both [] us = refl
+concat-both (t ∷ ts) us = ap (λ w. t ++ w) (concat-both ts us) ∙ sym (append_assoc t (concat ts) (concat us))
+
+-- a front puts no longer text into a column than all of them
+pub front-no_longer : (k : ℕ) (gs hs whole : List (List ℕ)) → gs ++ hs ≡ whole → length (concat (those_at k 0 gs)) ≤ length (concat (those_at k 0 whole))
+front-no_longer k gs hs whole e =
+    let both : length (concat (those_at k 0 whole)) ≡ length (concat (those_at k 0 gs)) + length (concat (those_at k (end_of_those 0 gs) hs)) =
+    ap (λ w. length (concat (those_at k 0 w))) (sym e) ∙ ap (λ w. length (concat w)) (those_at-both k 0 gs hs)
+    ∙ ap length (concat-both (those_at k 0 gs) (those_at k (end_of_those 0 gs) hs)) ∙ length-append (concat (those_at k 0 gs)) (concat (those_at k (end_of_those 0 gs) hs)) in
+    omega arith
 
 pub is_behind-append : (k x : ℕ) (gs : List (List ℕ)) (g : List ℕ) → is_behind k x (gs ++ g ∷ []) ≡ (is_behind k x gs || hides k (end_of_those x gs) g)
 unfolding is_behind end_of_those
@@ -156,6 +174,10 @@ or-none : (a b : Bool) → b ≡ false → (a || b) ≡ a
 or-none true b h = refl
 or-none false b h = h
 
+symbol-joined : (s : Style) (ts : List (List ℕ)) (g : List ℕ) (c : Cell) → (with_graphemes s (ts ++ g ∷ []) c).symbol ≡ Some (concat (ts ++ g ∷ []))
+symbol-joined s [] g c = refl
+symbol-joined s (t ∷ ts) g c = refl
+
 behind-or : (b : Bool) (c : Cell) → (b ≡ false → ⊥) → cond b empty_cell c ≡ empty_cell
 behind-or true c h = refl
 behind-or false c h = absurd (h refl)
@@ -188,6 +210,13 @@ module _ (s : Style) (gs : List (List ℕ)) (g : List ℕ) (x k : ℕ) (c : Cell
       let open_ : hides k (end_of_those 0 gs) g ≡ false = rw (← ends) (hides-none k x g (inl le)) in
       let same : (is_behind k 0 gs || hides k (end_of_those 0 gs) g) ≡ is_behind k 0 gs = or-none (is_behind k 0 gs) (hides k (end_of_those 0 gs) g) open_ in
       rw (those_at-append, is_behind-append, yes, same)
+
+  -- the symbol of its own
+  pub symbol-here : k ≡ goes_to x g → (column_with s (gs ++ g ∷ []) k c).symbol ≡ Some (concat (those_at k 0 (gs ++ g ∷ [])))
+  symbol-here is =
+      let yes : (goes_to (end_of_those 0 gs) g == k) ≡ true = grind (arith, nat_tests, ends, is) in
+      let more : those_at k 0 (gs ++ g ∷ []) ≡ those_at k 0 gs ++ g ∷ [] = rw (those_at-append, yes) in
+      rw more (symbol-joined s (those_at k 0 gs) g _)
 
   -- its own, where the graphemes before don't reach
   pub column-set : k ≡ goes_to x g → those_at k 0 gs ≡ [] → is_behind k 0 gs ≡ false → column_with s (gs ++ g ∷ []) k c ≡ with_symbol s g (column_with s gs k c)

@@ -10,9 +10,9 @@ use Rattle.rtui_style.specs.declared.Style.{Style}
 use Rattle.rtui_text.specs.Text.{SpanData, LineData, line_of}
 use Rattle.rtui_cell.specs.Width.{text_columns}
 use Rattle.rtui_text.specs.Widths.{span_width}
-use Rattle.rtui_widgets.specs.Span.{span_rendered}
+use Rattle.rtui_widgets.specs.Span.{span_rendered, IsShortSpan}
 use Rattle.rtui_widgets.proofs.SpanLemmas.{length-span_rendered, rendered-nothing}
-use Rattle.rtui_widgets.specs.Line.{Part, last_fitting, part_of, parts, behind_first, parts_rendered, line_rendered}
+use Rattle.rtui_widgets.specs.Line.{Part, last_fitting, part_of, parts, behind_first, parts_rendered, line_rendered, AreShortParts}
 
 -- ---- the end of a text
 
@@ -89,6 +89,15 @@ drop-none n none e = drop_all n none (omega arith)
 parts-none : (ps : List Part) → parts_rendered ps [] ≡ []
 parts-none [] = parts-done []
 parts-none (p ∷ ps) = rendered-part p ps [] ∙ rw (take-none p.indent [] refl, drop-none p.indent [] refl, span-none p.style p.content, take-none p.width [] refl, drop-none p.width [] refl) (parts-none ps)
+
+-- a part that takes no memory, and the others
+pub short-part : (columns : ℕ) (p : Part) (ps : List Part) → AreShortParts columns (p ∷ ps) → IsShortSpan (columns - p.indent) p.content
+unfolding AreShortParts
+short-part columns p ps short = short.0
+
+pub short-others : (columns : ℕ) (p : Part) (ps : List Part) → AreShortParts columns (p ∷ ps) → AreShortParts (columns - p.indent - p.width) ps
+unfolding AreShortParts
+short-others columns p ps short = short.1
 
 -- where the part's indent takes all columns that are left, nothing of it and of the others shows
 pub parts-past : (p : Part) (ps : List Part) (row : List Cell) (start start1 : ℕ) → start ≤ length row → start1 ≡ start + min p.indent (length row - start) → start1 ≡ length row

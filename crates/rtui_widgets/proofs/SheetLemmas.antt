@@ -17,7 +17,7 @@ use Rattle.rtui_buffer.specs.Painting.{Piece, columns}
 use Rattle.rtui_buffer.specs.Sheet.{HasRow}
 use Rattle.rtui_buffer.specs.PaintedText.{room_at, pieces_at, IsSameBeside}
 use Rattle.rtui_buffer.proofs.PaintedLemmas.{columns-kept}
-use Rattle.rtui_widgets.specs.Rendering.{clipped, row_of, ChangesWithin, RendersRows, in_first_row, first_row}
+use Rattle.rtui_widgets.specs.Rendering.{clipped, area_row, ChangesWithin, RendersRows, in_first_row, first_row}
 use Rattle.rtui_widgets.specs.Rows.{Rows, place, row_at, IsOutside, KeepsOthers, MakesRows}
 use Rattle.rtui_widgets.specs.Clipped.{IsClipped}
 use Rattle.rtui_widgets.proofs.RowLemmas.{length-written, written-before, written-behind, written-there, same-row, rows_before, other}
@@ -173,14 +173,14 @@ module _ (area : Rect) (old : Sheet) (r : Rect) (h : IsClipped area old.area r) 
   pub changes-within : (w : List Cell) → KeepsOthers rows_of old.cells w → ChangesWithin area old (record old { cells = w })
   changes-within w keeps = record { same_area = refl; same_room = refl; outside = λ p in_own off. keeps.others (cell_index own p) (outside-rows p in_own off) }
 
-  rows-made : (f : ℕ → List Cell → List Cell) (w : List Cell) → MakesRows rows_of f old.cells w → (k : ℕ) → k < r.height → row_of r k (record old { cells = w }) ≡ f k (row_of r k old)
+  rows-made : (f : ℕ → List Cell → List Cell) (w : List Cell) → MakesRows rows_of f old.cells w → (k : ℕ) → k < r.height → area_row r k (record old { cells = w }) ≡ f k (area_row r k old)
   rows-made f w made k lt =
       ap (λ at. take r.width (drop at w)) (place-of k) ∙ made.rows k lt ∙ ap (λ at. f k (take r.width (drop at old.cells))) (sym (place-of k))
 
   pub renders-rows : (f : ℕ → List Cell → List Cell) (w : List Cell) → MakesRows rows_of f old.cells w → RendersRows area f old (record old { cells = w })
   renders-rows f w made = record {
     within = changes-within w made.keeps;
-    rows = subst (λ (q : Rect). (k : ℕ) → k < q.height → row_of q k (record old { cells = w }) ≡ f k (row_of q k old)) h.value (rows-made f w made);
+    rows = subst (λ (q : Rect). (k : ℕ) → k < q.height → area_row q k (record old { cells = w }) ≡ f k (area_row q k old)) h.value (rows-made f w made);
   }
 
 -- ---- where the buffer has nothing of the area
@@ -195,7 +195,7 @@ renders-nothing area f s none empty = record {
   rows = λ k lt.
       ⊎_elim
       (λ (w : (clipped area s.area).width ≡ 0).
-      let nil : row_of (clipped area s.area) k s ≡ [] = no-cells _ (length-take _ _ ∙ omega (arith, w)) in
+      let nil : area_row (clipped area s.area) k s ≡ [] = no-cells _ (length-take _ _ ∙ omega (arith, w)) in
       nil ∙ sym (ap (f k) nil ∙ none k))
       (λ (z : (clipped area s.area).height ≡ 0). absurd (omega (arith, z, lt)))
       empty;
@@ -234,6 +234,11 @@ module _ (area : Rect) (old : Sheet) (r : Rect) (h : IsClipped area old.area r) 
   first-changes =
       let keeps = keeps-first at r.width old.area.width r.height old.cells part n (apart-rows area old r h) h.rows width-is first-inside part-count in
       subst (λ w. ChangesWithin area old (record old { cells = w })) (sym written-same) (changes-within area old r h written (subst (λ a. KeepsOthers (record { start = a; width = r.width; stride = old.area.width; count = r.height }) old.cells written) at-is keeps))
+
+-- how many columns the row has
+pub first-columns : (area : Rect) (old : Sheet) (r : Rect) (h : IsClipped area old.area r) (at n : ℕ) → at ≡ cell_index old.area (record { x = r.x; y = r.y }) → n ≡ r.width
+    → length old.cells ≡ area_size old.area → length (take n (drop at old.cells)) ≡ (clipped area old.area).width
+first-columns area old r h at n at-is width-is count = part-count area old r h at n (take n (drop at old.cells)) at-is width-is count refl ∙ ap (λ q. q.width) h.value
 
 -- ---- rows that were lent
 

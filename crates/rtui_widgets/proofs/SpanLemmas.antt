@@ -1,19 +1,21 @@
 -- How rendering goes on, a grapheme at a time.
 use Rattle.std.proofs.Common.{◌≡◌, ◌≢◌, ℕ, suc, zero, ◌+◌, ◌-◌, ◌<◌, ◌≤◌, ◌⊎◌, ⊎_elim, inl, inr, Bool, true, false, cond, List, [], ◌∷◌, ◌++◌, length, get_or, set, refl, sym, ap, ◌∙◌, arith, append_assoc}
-use Rattle.std.specs.Prelude.{◌||◌, ◌&&◌, nat_lt}
+use Rattle.std.specs.Prelude.{◌||◌, ◌&&◌, nat_lt, Some, unwrap_or}
+use Rattle.std.specs.List.{concat}
 use Rattle.std.proofs.lemmas.Bool.{cases_lt}
 use Rattle.std.proofs.lemmas.Bool.Decides.{nat_tests}
 use Rattle.std.proofs.lemmas.List.{append-nil, get_or-set_other, get_or-set_same, length-set, ext_get_or}
 use Rattle.unicode_segmentation.specs.Grapheme.{graphemes}
 use Rattle.rtui_cell.specs.declared.cell.Cell.{Cell}
 use Rattle.rtui_cell.specs.Cell.{empty_cell}
+use Rattle.rtui_cell.specs.Symbol.{appended, IsShort}
 use Rattle.rtui_style.specs.declared.Style.{Style}
 use Rattle.rtui_cell.specs.Width.{text_width}
 use Rattle.rtui_text.specs.Graphemes.{has_control}
 use Rattle.rtui_buffer.specs.Painting.{fitting, emptied}
 use Rattle.rtui_widgets.specs.Span.{showing, goes_to, those_at, is_behind, column_with, columns_from, span_rendered}
-use Rattle.rtui_widgets.specs.Steps.{end_of_those, with_appended, with_symbol, with_next, IsRowWith}
-use Rattle.rtui_widgets.proofs.ColumnLemmas.{end-append, those_at-far, is_behind-far, reached, first_reached, column-behind, column-other, column-set, column-append}
+use Rattle.rtui_widgets.specs.Steps.{end_of_those, with_appended, with_symbol, with_next, next_symbol, IsRowWith}
+use Rattle.rtui_widgets.proofs.ColumnLemmas.{end-append, those_at-far, is_behind-far, reached, first_reached, front-no_longer, symbol-here, column-behind, column-other, column-set, column-append}
 
 pub rendered-nothing : (s : Style) (text : List ℕ) (row : List Cell) → length row ≡ 0 → row ≡ span_rendered s text row
 unfolding span_rendered columns_from
@@ -95,6 +97,10 @@ none_behind k gs e = rw e
 zero_there : (k : ℕ) (gs : List (List ℕ)) → k ≡ 0 → gs ≢ [] → those_at k 0 gs ≢ []
 zero_there k gs z n = rw z (first_reached gs n)
 
+symbol-cases : (s : Style) (g : List ℕ) (c : Cell) (b : Bool) → (cond b (with_symbol s g c) (with_appended s g c)).symbol ≡ Some (cond b g (appended c.symbol g))
+symbol-cases s g c true = refl
+symbol-cases s g c false = refl
+
 in_or_out : (x k w : ℕ) → ((x < k) × (k < x + w)) ⊎ ((k ≤ x) ⊎ (x + w ≤ k))
 in_or_out x k w =
     ⊎_elim (λ (a : x < k). ⊎_elim (λ (b : k < x + w). inl (a, b)) (λ (b : x + w ≤ k). inr (inr b)) (cases_lt k (x + w))) (λ (a : k ≤ x). inr (inl a)) (cases_lt x k)
@@ -142,6 +148,20 @@ module _ (s : Style) (gs : List (List ℕ)) (g : List ℕ) (x : ℕ) (is_first :
       ap (with_appended s g) (h.columns place place-lt)
       ∙ sym (column-append s gs g x place (get_or old place empty_cell) ends refl
       (λ open_. ⊎_elim (λ (z : x ≡ 0). zero_there place gs (zero-place z) (later at.0)) (λ (w : (0 < x) × (text_width g ≡ 0)). reached place 0 gs (omega arith) (near-lt w) open_) at.1))
+
+  -- its column's symbol is what goes there, joined
+  next-is : next_symbol is_first x g row ≡ concat (those_at place 0 (gs ++ g ∷ []))
+  next-is =
+      ap (λ t. unwrap_or t []) (sym (symbol-cases s g (get_or row place empty_cell) is_set) ∙ ap (λ (c : Cell). c.symbol) (own is_set refl)
+      ∙ symbol-here s gs g x place (get_or old place empty_cell) ends refl)
+
+  -- so it is short where each column's join is
+  pub next-short : (rest whole : List (List ℕ)) → (gs ++ g ∷ []) ++ rest ≡ whole → ((k : ℕ) → k < length old → IsShort (concat (those_at k 0 whole)))
+      → IsShort (next_symbol is_first x g row)
+  next-short rest whole e short =
+      let le = front-no_longer place (gs ++ g ∷ []) rest whole e in
+      let all = short place place-lt in
+      rw next-is (omega arith)
 
   pub IsRowWith-turn : IsRowWith s (gs ++ g ∷ []) old (with_next is_first x s g row)
   unfolding with_next

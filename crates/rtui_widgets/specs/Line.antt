@@ -1,5 +1,5 @@
 -- A line in a row of cells.
-use Rattle.std.specs.Prelude.{ℕ, ◌-◌, ◌/◌, ◌==◌, ◌++◌, nat_le, true, List, [], ◌∷◌, Option, Some, None, length, map, take, drop, sum_by, if◌then◌else◌}
+use Rattle.std.specs.Prelude.{ℕ, ⊤, ◌-◌, ◌/◌, ◌==◌, ◌++◌, nat_le, true, List, [], ◌∷◌, Option, Some, None, length, map, take, drop, sum_by, if◌then◌else◌}
 use Rattle.std.specs.List.{concat}
 use Rattle.unicode_segmentation.specs.Grapheme.{graphemes}
 use Rattle.rtui_layout.specs.declared.alignment.HorizontalAlignment.{HorizontalAlignment}
@@ -10,7 +10,7 @@ use Rattle.rtui_cell.specs.Cell.{styled}
 use Rattle.rtui_cell.specs.Width.{text_columns}
 use Rattle.rtui_text.specs.Text.{SpanData, LineData}
 use Rattle.rtui_text.specs.Widths.{span_width, line_width}
-use Rattle.rtui_widgets.specs.Span.{span_rendered}
+use Rattle.rtui_widgets.specs.Span.{span_rendered, IsShortSpan}
 
 -- what shows of a span: behind an indent a text, which takes this many columns
 pub record Part : Type 0 where
@@ -69,3 +69,14 @@ line_rendered alignment line row =
     let columns = length row in
     if columns == 0 then row else if width == 0 then row
     else behind_first (columns_before alignment (columns - width)) (parts_rendered (parts (columns_before alignment (width - columns)) line.spans)) (map (styled line.style) row)
+
+-- no part takes memory in the columns that are left for it
+unfoldable pub AreShortParts : ℕ → List Part → Type 0
+AreShortParts columns [] = ⊤
+AreShortParts columns (p ∷ ps) = IsShortSpan (columns - p.indent) p.content × AreShortParts (columns - p.indent - p.width) ps
+
+-- a line that is aligned so takes no memory in a row of these many columns
+abbrev pub IsShortLine : Option HorizontalAlignment → LineData → ℕ → Type 0
+IsShortLine alignment line columns =
+    let width = line_width line.spans in
+    AreShortParts (columns - columns_before alignment (columns - width)) (parts (columns_before alignment (width - columns)) line.spans)

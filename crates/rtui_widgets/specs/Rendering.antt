@@ -10,17 +10,17 @@ use Rattle.rtui_text.specs.Text.{SpanData, LineData, TextData, line_of}
 use Rattle.rtui_buffer.specs.Sheet.{Sheet, cell_index, cell_in}
 use Rattle.rtui_style.specs.Style.{new_style}
 use Rattle.rtui_buffer.specs.Sheet.{HasRow}
-use Rattle.rtui_buffer.specs.PaintedText.{pieces_at, Paints}
-use Rattle.rtui_widgets.specs.Span.{span_rendered}
-use Rattle.rtui_widgets.specs.Line.{line_rendered}
+use Rattle.rtui_buffer.specs.PaintedText.{pieces_at, AreShort, Paints}
+use Rattle.rtui_widgets.specs.Span.{span_rendered, IsShortSpan}
+use Rattle.rtui_widgets.specs.Line.{line_rendered, IsShortLine}
 
 -- the part of an area that lies in a buffer's
 abbrev pub clipped : Rect → Rect → Rect
 clipped area own = spanning (max area.x own.x) (max area.y own.y) (min (right_edge area) (right_edge own)) (min (bottom_edge area) (bottom_edge own))
 
 -- row k of a rectangle in a buffer, from left to right
-abbrev pub row_of : Rect → ℕ → Sheet → List Cell
-row_of r k s = take r.width (drop (cell_index s.area (record { x = r.x; y = r.y + k })) s.cells)
+abbrev pub area_row : Rect → ℕ → Sheet → List Cell
+area_row r k s = take r.width (drop (cell_index s.area (record { x = r.x; y = r.y + k })) s.cells)
 
 -- no cell outside an area changed
 pub record ChangesWithin (area : Rect) (old new : Sheet) : Type 0 where
@@ -31,7 +31,7 @@ pub record ChangesWithin (area : Rect) (old new : Sheet) : Type 0 where
 -- each row of an area, as far as the buffer has it, is what f makes of it, and nothing else changed
 pub record RendersRows (area : Rect) (f : ℕ → List Cell → List Cell) (old new : Sheet) : Type 0 where
   pub within : ChangesWithin area old new
-  pub rows : (k : ℕ) → k < (clipped area old.area).height → row_of (clipped area old.area) k new ≡ f k (row_of (clipped area old.area) k old)
+  pub rows : (k : ℕ) → k < (clipped area old.area).height → area_row (clipped area old.area) k new ≡ f k (area_row (clipped area old.area) k old)
 
 -- f in the first row, and nothing in the others
 abbrev pub in_first_row : (List Cell → List Cell) → ℕ → List Cell → List Cell
@@ -49,13 +49,13 @@ alignment_or None other = other
 alignment_or (Some alignment) other = Some alignment
 
 -- line k of a text, or one without spans where it has none
-abbrev pub line_at : TextData → ℕ → LineData
-line_at text k = slice_index_or text.lines k (line_of [])
+abbrev pub text_line : TextData → ℕ → LineData
+text_line text k = slice_index_or text.lines k (line_of [])
 
 -- row k of a text: under its line, aligned as the text is where the line doesn't say how, the style of the whole
 abbrev pub text_row : TextData → ℕ → List Cell → List Cell
 text_row text k row =
-    let line = line_at text k in
+    let line = text_line text k in
     line_rendered (alignment_or line.alignment text.alignment) line (map (styled text.style) row)
 
 abbrev pub RendersText : TextData → Rect → Sheet → Sheet → Type 0
@@ -73,3 +73,23 @@ pub record HasFirstRow (area : Rect) (s : Sheet) : Type 0 where
 -- a text painted from the corner of an area on, in at most the area's columns
 abbrev pub PaintsText : List ℕ → Rect → Sheet → Sheet → Type 0
 PaintsText text area old = Paints (record { x = area.x; y = area.y }) (pieces_at old.area area.x area.width new_style text) old
+
+-- row k of a text takes no memory in these many columns
+abbrev pub IsShortRow : TextData → ℕ → ℕ → Type 0
+IsShortRow text columns k =
+    let line = text_line text k in
+    IsShortLine (alignment_or line.alignment text.alignment) line columns
+
+-- What is rendered takes no memory where no symbol does that it puts into a column: of a span, a line or a text in each row of the area,
+-- as far as the buffer has it; of a text that is painted in each piece.
+abbrev pub RendersShortSpan : SpanData → Rect → Sheet → Type 0
+RendersShortSpan span area s = IsShortSpan (clipped area s.area).width span.content
+
+abbrev pub RendersShortLine : LineData → Rect → Sheet → Type 0
+RendersShortLine line area s = IsShortLine line.alignment line (clipped area s.area).width
+
+abbrev pub RendersShortText : TextData → Rect → Sheet → Type 0
+RendersShortText text area s = let r = clipped area s.area in (k : ℕ) → k < r.height → IsShortRow text r.width k
+
+abbrev pub PaintsShortText : List ℕ → Rect → Sheet → Type 0
+PaintsShortText text area s = AreShort (pieces_at s.area area.x area.width new_style text)

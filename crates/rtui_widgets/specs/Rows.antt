@@ -11,6 +11,9 @@ pub record Rows : Type 0 where
   pub stride : ℕ
   pub count : ℕ
 
+abbrev pub rows_from : ℕ → ℕ → ℕ → ℕ → Rows
+rows_from start width stride count = record { start = start; width = width; stride = stride; count = count }
+
 -- the place of a row's first cell
 abbrev pub place : Rows → ℕ → ℕ
 place r k = r.start + k * r.stride

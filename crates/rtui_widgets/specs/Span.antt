@@ -1,10 +1,11 @@
 -- A span in a row of cells, column by column.
-use Rattle.std.specs.Prelude.{ℕ, Bool, true, false, ◌+◌, ◌-◌, ◌==◌, ◌||◌, ◌&&◌, not, nat_lt, List, [], ◌∷◌, length, filter, Some, if◌then◌else◌}
+use Rattle.std.specs.Prelude.{ℕ, Bool, true, false, ◌+◌, ◌-◌, ◌<◌, ◌==◌, ◌||◌, ◌&&◌, not, nat_lt, List, [], ◌∷◌, length, filter, Some, if◌then◌else◌}
 use Rattle.std.specs.List.{concat}
 use Rattle.unicode_segmentation.specs.Grapheme.{graphemes}
 use Rattle.rtui_style.specs.declared.Style.{Style}
 use Rattle.rtui_cell.specs.declared.cell.Cell.{Cell}
 use Rattle.rtui_cell.specs.Cell.{empty_cell, styled}
+use Rattle.rtui_cell.specs.Symbol.{IsShort}
 use Rattle.rtui_cell.specs.Width.{text_width}
 use Rattle.rtui_text.specs.Graphemes.{has_control}
 use Rattle.rtui_buffer.specs.Painting.{fitting}
@@ -44,3 +45,7 @@ columns_from f k (c ∷ cs) = f k c ∷ columns_from f (k + 1) cs
 -- a row with a text in a style, from its first column on
 unfoldable pub span_rendered : Style → List ℕ → List Cell → List Cell
 span_rendered style text row = columns_from (column_with style (showing (length row) (graphemes true text))) 0 row
+
+-- a text takes no memory in a row of these many columns: the graphemes that go to one column, joined, are short
+abbrev pub IsShortSpan : ℕ → List ℕ → Type 0
+IsShortSpan columns text = (k : ℕ) → k < columns → IsShort (concat (those_at k 0 (showing columns (graphemes true text))))

@@ -1,7 +1,7 @@
 //! Spans, lines and texts in a buffer.
 
-ghost use Rattle.std.specs.Prelude.{◌≡◌, ◌⊎◌, MatchOption, OnOk, OnErr};
-ghost use Rattle.rtui_widgets.specs.Rendering.{RendersSpan, RendersLine, RendersText, ChangesWithin, clipped};
+ghost use Rattle.std.specs.Prelude.{◌≡◌, ◌⊎◌, MatchOption, IsOk, OnOk, OnErr};
+ghost use Rattle.rtui_widgets.specs.Rendering.{RendersSpan, RendersLine, RendersText, RendersShortSpan, RendersShortLine, RendersShortText, ChangesWithin, clipped};
 ghost use Rattle.rtui_widgets.specs.Clipped.{IsClipped};
 
 use crate::line::render_line;
@@ -14,7 +14,8 @@ use std::alloc::AllocError;
 
 // The part of an area that a buffer has, if there is one.
 fn clipped(buf: &Buffer, area: Rect) -> Option<Rect>
-    ensures { MatchOption result (((clipped area buf.now.area).width ≡ 0) ⊎ ((clipped area buf.now.area).height ≡ 0)) (IsClipped area buf.now.area) }
+    ensures { let r = clipped area buf.now.area in
+        MatchOption result ((r.width ≡ 0) ⊎ (r.height ≡ 0)) (IsClipped area buf.now.area) }
 {
     let part = area.intersection(*buf.area());
     if part.is_empty() {
@@ -27,6 +28,7 @@ fn clipped(buf: &Buffer, area: Rect) -> Option<Rect>
 pub(crate) fn span_in(span: &Span<'_>, area: Rect, buf: &mut Buffer) -> Result<(), AllocError>
     ensures ok { OnOk result (RendersSpan span.now area buf.old buf.new) }
     ensures err { OnErr result (ChangesWithin area buf.old buf.new) }
+    ensures short { RendersShortSpan span.now area buf.old → IsOk result }
 {
     let Some(part) = clipped(buf, area) else {
         return Ok(());
@@ -42,6 +44,7 @@ pub(crate) fn span_in(span: &Span<'_>, area: Rect, buf: &mut Buffer) -> Result<(
 pub(crate) fn line_in(line: &Line<'_>, area: Rect, buf: &mut Buffer) -> Result<(), AllocError>
     ensures ok { OnOk result (RendersLine line.now area buf.old buf.new) }
     ensures err { OnErr result (ChangesWithin area buf.old buf.new) }
+    ensures short { RendersShortLine line.now area buf.old → IsOk result }
 {
     let Some(part) = clipped(buf, area) else {
         return Ok(());
@@ -57,6 +60,7 @@ pub(crate) fn line_in(line: &Line<'_>, area: Rect, buf: &mut Buffer) -> Result<(
 pub(crate) fn text_in(text: &Text<'_>, area: Rect, buf: &mut Buffer) -> Result<(), AllocError>
     ensures ok { OnOk result (RendersText text.now area buf.old buf.new) }
     ensures err { OnErr result (ChangesWithin area buf.old buf.new) }
+    ensures short { RendersShortText text.now area buf.old → IsOk result }
 {
     let Some(part) = clipped(buf, area) else {
         return Ok(());

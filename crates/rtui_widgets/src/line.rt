@@ -1,13 +1,13 @@
 //! Lines in a row of cells.
 
-ghost use Rattle.std.specs.Prelude.{true, ◌≡◌, ◌+◌, ◌-◌, ◌<◌, ◌≤◌, List, length, map, sum_by, OnOk};
+ghost use Rattle.std.specs.Prelude.{true, ◌≡◌, ◌+◌, ◌-◌, ◌<◌, ◌≤◌, List, length, map, sum_by, IsOk, OnOk};
 ghost use Rattle.std.specs.List.{concat};
 ghost use Rattle.unicode_segmentation.specs.Grapheme.{graphemes};
 ghost use Rattle.rtui_cell.specs.Cell.{styled};
 ghost use Rattle.rtui_cell.specs.Width.{text_columns};
 ghost use Rattle.rtui_text.specs.Widths.{span_width};
 ghost use Rattle.rtui_widgets.specs.IsPart.{IsPart};
-ghost use Rattle.rtui_widgets.specs.Line.{parts, parts_rendered, part_of, columns_before, line_rendered, last_fitting};
+ghost use Rattle.rtui_widgets.specs.Line.{parts, parts_rendered, part_of, columns_before, line_rendered, last_fitting, AreShortParts, IsShortLine};
 
 use crate::span::render_span;
 use rtui_cell::Cell;
@@ -25,7 +25,8 @@ pub(crate) fn render_line(
     line: &Line<'_>,
     alignment: Option<HorizontalAlignment>,
 ) -> Result<(), AllocError>
-    ensures { OnOk result (row.new ≡ line_rendered alignment line.now row.old) }
+    ensures ok { OnOk result (row.new ≡ line_rendered alignment line.now row.old) }
+    ensures short { IsShortLine alignment line.now (length row.old) → IsOk result }
 {
     let columns = row.len();
     if columns == 0 {
@@ -77,7 +78,8 @@ fn render_spans(
     spans: &[Span<'_>],
     skip: usize,
 ) -> Result<(), AllocError>
-    ensures { OnOk result (row.new ≡ parts_rendered (parts skip spans.now) row.old) }
+    ensures ok { OnOk result (row.new ≡ parts_rendered (parts skip spans.now) row.old) }
+    ensures short { AreShortParts (length row.old) (parts skip spans.now) → IsOk result }
 {
     let mut skip = skip;
     let mut start = 0;

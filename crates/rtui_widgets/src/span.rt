@@ -1,10 +1,11 @@
 //! Spans in a row of cells.
 
-ghost use Rattle.std.specs.Prelude.{true, ◌≡◌, ◌+◌, ◌-◌, ◌<◌, ◌≤◌, length, OnOk};
+ghost use Rattle.std.specs.Prelude.{true, ◌≡◌, ◌+◌, ◌-◌, ◌<◌, ◌≤◌, length, IsOk, OnOk};
+ghost use Rattle.rtui_cell.specs.Symbol.{appended, IsShort};
 ghost use Rattle.rtui_cell.specs.Width.{text_width};
 ghost use Rattle.rtui_buffer.specs.Painting.{emptied};
-ghost use Rattle.rtui_widgets.specs.Span.{span_rendered};
-ghost use Rattle.rtui_widgets.specs.Steps.{with_symbol, with_appended, with_next};
+ghost use Rattle.rtui_widgets.specs.Span.{span_rendered, IsShortSpan};
+ghost use Rattle.rtui_widgets.specs.Steps.{with_symbol, with_appended, with_next, next_symbol};
 
 use rtui_cell::{Cell, CellWidth};
 use rtui_style::Style;
@@ -20,7 +21,8 @@ pub(crate) fn render_span(
     text: &str,
     style: Style,
 ) -> Result<(), AllocError>
-    ensures { OnOk result (row.new ≡ span_rendered style text.now row.old) }
+    ensures ok { OnOk result (row.new ≡ span_rendered style text.now row.old) }
+    ensures short { IsShortSpan (length row.old) text.now → IsOk result }
 {
     if row.is_empty() {
         return Ok(());
@@ -55,7 +57,8 @@ fn put_next(
     requires fits { x + text_width grapheme.now ≤ length row.old }
     requires some { 0 < length row.old }
     requires first { is_first ≡ true → x ≡ 0 }
-    ensures { OnOk result (row.new ≡ with_next is_first x style grapheme.now row.old) }
+    ensures ok { OnOk result (row.new ≡ with_next is_first x style grapheme.now row.old) }
+    ensures short { IsShort (next_symbol is_first x grapheme.now row.old) → IsOk result }
 {
     let width = usize::from(grapheme.cell_width());
     if is_first || (x > 0 && width > 0) {
@@ -71,7 +74,8 @@ fn put_next(
 
 // Sets a cell's symbol, in a style.
 fn set(alloc: Global, cell: &mut Cell, symbol: &str, style: Style) -> Result<(), AllocError>
-    ensures { OnOk result (cell.new ≡ with_symbol style symbol.now cell.old) }
+    ensures ok { OnOk result (cell.new ≡ with_symbol style symbol.now cell.old) }
+    ensures short { IsShort symbol.now → IsOk result }
 {
     cell.set_symbol(alloc, symbol)?;
     cell.set_style(style);
@@ -80,7 +84,8 @@ fn set(alloc: Global, cell: &mut Cell, symbol: &str, style: Style) -> Result<(),
 
 // Appends to a cell's symbol, in a style.
 fn append(alloc: Global, cell: &mut Cell, symbol: &str, style: Style) -> Result<(), AllocError>
-    ensures { OnOk result (cell.new ≡ with_appended style symbol.now cell.old) }
+    ensures ok { OnOk result (cell.new ≡ with_appended style symbol.now cell.old) }
+    ensures short { IsShort (appended cell.old.symbol symbol.now) → IsOk result }
 {
     cell.append_symbol(alloc, symbol)?;
     cell.set_style(style);

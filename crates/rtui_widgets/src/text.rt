@@ -1,8 +1,8 @@
 //! Texts in rows of cells.
 
-ghost use Rattle.std.specs.Prelude.{◌≡◌, ℕ, ◌+◌, ◌*◌, ◌<◌, ◌≤◌, length, OnOk, OnErr};
-ghost use Rattle.rtui_widgets.specs.Rendering.{text_row};
-ghost use Rattle.rtui_widgets.specs.Rows.{Rows, KeepsOthers, MakesRows, place};
+ghost use Rattle.std.specs.Prelude.{◌≡◌, ℕ, ◌+◌, ◌*◌, ◌<◌, ◌≤◌, length, IsOk, OnOk, OnErr};
+ghost use Rattle.rtui_widgets.specs.Rendering.{text_row, IsShortRow};
+ghost use Rattle.rtui_widgets.specs.Rows.{rows_from, KeepsOthers, MakesRows};
 
 use crate::line::{lay, render_line};
 use rtui_cell::Cell;
@@ -21,8 +21,11 @@ pub(crate) fn render_rows(
 ) -> Result<(), AllocError>
     requires apart { width ≤ stride }
     requires inside { (k : ℕ) → k < height → start + k * stride + width ≤ length cells.old }
-    ensures ok { OnOk result (MakesRows (record { start = start; width = width; stride = stride; count = height }) (text_row text.now) cells.old cells.new) }
-    ensures err { OnErr result (KeepsOthers (record { start = start; width = width; stride = stride; count = height }) cells.old cells.new) }
+    ensures ok { let rows = rows_from start width stride height in
+        OnOk result (MakesRows rows (text_row text.now) cells.old cells.new) }
+    ensures err { let rows = rows_from start width stride height in
+        OnErr result (KeepsOthers rows cells.old cells.new) }
+    ensures short { ((k : ℕ) → k < height → IsShortRow text.now width k) → IsOk result }
 {
     for k in 0..height {
         let from = start + k * stride;
@@ -33,7 +36,8 @@ pub(crate) fn render_rows(
 
 // Renders row k of a text.
 fn render_row(alloc: Global, row: &mut [Cell], text: &Text<'_>, k: usize) -> Result<(), AllocError>
-    ensures { OnOk result (row.new ≡ text_row text.now k row.old) }
+    ensures ok { OnOk result (row.new ≡ text_row text.now k row.old) }
+    ensures short { IsShortRow text.now (length row.old) k → IsOk result }
 {
     lay(row, text.style);
     match text.lines.as_slice().get(k) {

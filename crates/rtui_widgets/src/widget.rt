@@ -1,4 +1,4 @@
-ghost use Rattle.std.specs.Prelude.{⊤, ◌≡◌, MatchOption, OnOk, OnErr, option_map, unwrap_or};
+ghost use Rattle.std.specs.Prelude.{⊤, ◌≡◌, MatchOption, IsOk, OnOk, OnErr, option_map, unwrap_or};
 ghost use Rattle.rtui_geometry.specs.declared.rect.Rect.{Rect};
 ghost use Rattle.rtui_buffer.specs.Sheet.{Sheet};
 ghost use Rattle.rtui_widgets.specs.Rendering.{ChangesWithin};
@@ -29,12 +29,16 @@ pub trait Widget {
     // the area outside which nothing changes where it is refused: the given one, unless it says otherwise
     ghost reach: { Self → Rect → Rect } = { λ _ area. area };
 
+    // where it takes no memory: nowhere, unless it says otherwise
+    ghost is_short: { Self → Rect → Sheet → Type 0 } = { λ _ _ _. ⊥ };
+
     /// Renders it. It is refused where memory is; then no cell outside the area changed.
     fn render(self, area: Rect, buf: &mut Buffer) -> Result<(), AllocError>
         requires { can_render self area buf.old }
         ensures area { buf.new.area ≡ buf.old.area }
         ensures ok { OnOk result (renders self area buf.old buf.new) }
-        ensures err { OnErr result (ChangesWithin (reach self area) buf.old buf.new) };
+        ensures err { OnErr result (ChangesWithin (reach self area) buf.old buf.new) }
+        ensures short { is_short self area buf.old → IsOk result };
 }
 
 /// What can be rendered over an area of a buffer, and keeps a state from one rendering to the next.
@@ -51,19 +55,25 @@ pub trait StatefulWidget {
     // the area outside which nothing changes where it is refused: the given one, unless it says otherwise
     ghost reach: { Self → Rect → Rect } = { λ _ area. area };
 
+    // where it takes no memory: nowhere, unless it says otherwise
+    ghost is_short: { Self → Self.State → Rect → Sheet → Type 0 } = { λ _ _ _ _. ⊥ };
+
     /// Renders it. It is refused where memory is; then no cell outside the area changed.
     fn render(self, area: Rect, buf: &mut Buffer, state: &mut Self::State) -> Result<(), AllocError>
         requires { can_render self state.old area buf.old }
         ensures area { buf.new.area ≡ buf.old.area }
         ensures ok { OnOk result (renders self state.old state.new area buf.old buf.new) }
-        ensures err { OnErr result (ChangesWithin (reach self area) buf.old buf.new) };
+        ensures err { OnErr result (ChangesWithin (reach self area) buf.old buf.new) }
+        ensures short { is_short self state.old area buf.old → IsOk result };
 }
 
 /// In the first row of the area: each grapheme at the sum of the widths before it, as far as the row goes.
 impl<'b, 'a> Widget for &'b Span<'a> {
-    ghost use Rattle.rtui_widgets.specs.Rendering.{RendersSpan};
+    ghost use Rattle.rtui_widgets.specs.Rendering.{RendersSpan, RendersShortSpan};
 
     ghost renders = { λ span. RendersSpan span.now };
+
+    ghost is_short = { λ span. RendersShortSpan span.now };
 
     fn render(self, area: Rect, buf: &mut Buffer) -> Result<(), AllocError> {
         span_in(self, area, buf)
@@ -71,9 +81,11 @@ impl<'b, 'a> Widget for &'b Span<'a> {
 }
 
 impl<'a> Widget for Span<'a> {
-    ghost use Rattle.rtui_widgets.specs.Rendering.{RendersSpan};
+    ghost use Rattle.rtui_widgets.specs.Rendering.{RendersSpan, RendersShortSpan};
 
     ghost renders = { RendersSpan };
+
+    ghost is_short = { RendersShortSpan };
 
     fn render(self, area: Rect, buf: &mut Buffer) -> Result<(), AllocError> {
         (&self).render(area, buf)
@@ -83,9 +95,11 @@ impl<'a> Widget for Span<'a> {
 /// In the first row of the area, aligned as the line says: its spans one behind the other, under them the line's style over the
 /// whole row. What doesn't fit is cut, at the left where the line isn't aligned to the left.
 impl<'b, 'a> Widget for &'b Line<'a> {
-    ghost use Rattle.rtui_widgets.specs.Rendering.{RendersLine};
+    ghost use Rattle.rtui_widgets.specs.Rendering.{RendersLine, RendersShortLine};
 
     ghost renders = { λ line. RendersLine line.now };
+
+    ghost is_short = { λ line. RendersShortLine line.now };
 
     fn render(self, area: Rect, buf: &mut Buffer) -> Result<(), AllocError> {
         line_in(self, area, buf)
@@ -93,9 +107,11 @@ impl<'b, 'a> Widget for &'b Line<'a> {
 }
 
 impl<'a> Widget for Line<'a> {
-    ghost use Rattle.rtui_widgets.specs.Rendering.{RendersLine};
+    ghost use Rattle.rtui_widgets.specs.Rendering.{RendersLine, RendersShortLine};
 
     ghost renders = { RendersLine };
+
+    ghost is_short = { RendersShortLine };
 
     fn render(self, area: Rect, buf: &mut Buffer) -> Result<(), AllocError> {
         (&self).render(area, buf)
@@ -104,9 +120,11 @@ impl<'a> Widget for Line<'a> {
 
 /// Line by line from the top of the area, each in a row of its own, under them the text's style over the whole area.
 impl<'b, 'a> Widget for &'b Text<'a> {
-    ghost use Rattle.rtui_widgets.specs.Rendering.{RendersText};
+    ghost use Rattle.rtui_widgets.specs.Rendering.{RendersText, RendersShortText};
 
     ghost renders = { λ text. RendersText text.now };
+
+    ghost is_short = { λ text. RendersShortText text.now };
 
     fn render(self, area: Rect, buf: &mut Buffer) -> Result<(), AllocError> {
         text_in(self, area, buf)
@@ -114,9 +132,11 @@ impl<'b, 'a> Widget for &'b Text<'a> {
 }
 
 impl<'a> Widget for Text<'a> {
-    ghost use Rattle.rtui_widgets.specs.Rendering.{RendersText};
+    ghost use Rattle.rtui_widgets.specs.Rendering.{RendersText, RendersShortText};
 
     ghost renders = { RendersText };
+
+    ghost is_short = { RendersShortText };
 
     fn render(self, area: Rect, buf: &mut Buffer) -> Result<(), AllocError> {
         (&self).render(area, buf)
@@ -131,6 +151,8 @@ impl<W: Widget> Widget for Option<W> {
 
     ghost reach = { λ widget area. unwrap_or (option_map (λ w. W.reach w area) widget) area };
 
+    ghost is_short = { λ widget area s. MatchOption widget ⊤ (λ w. W.is_short w area s) };
+
     fn render(self, area: Rect, buf: &mut Buffer) -> Result<(), AllocError> {
         match self {
             Some(widget) => widget.render(area, buf),
@@ -142,13 +164,15 @@ impl<W: Widget> Widget for Option<W> {
 /// Painted from the corner of the area on, in at most its columns. The area's first row has to lie in the buffer, and not to
 /// begin left of it.
 impl<'a> Widget for &'a str {
-    ghost use Rattle.rtui_widgets.specs.Rendering.{HasFirstRow, PaintsText, first_row};
+    ghost use Rattle.rtui_widgets.specs.Rendering.{HasFirstRow, PaintsText, PaintsShortText, first_row};
 
     ghost can_render = { λ _. HasFirstRow };
 
     ghost renders = { λ text. PaintsText text.now };
 
     ghost reach = { λ _. first_row };
+
+    ghost is_short = { λ text. PaintsShortText text.now };
 
     fn render(self, area: Rect, buf: &mut Buffer) -> Result<(), AllocError> {
         buf.set_stringn(area.x, area.y, self, usize::from(area.width), Style::new())?;
@@ -159,13 +183,15 @@ impl<'a> Widget for &'a str {
 /// As a `&str`.
 impl Widget for String {
     ghost use Rattle.std.specs.String.{string_bytes};
-    ghost use Rattle.rtui_widgets.specs.Rendering.{HasFirstRow, PaintsText, first_row};
+    ghost use Rattle.rtui_widgets.specs.Rendering.{HasFirstRow, PaintsText, PaintsShortText, first_row};
 
     ghost can_render = { λ _. HasFirstRow };
 
     ghost renders = { λ text. PaintsText (string_bytes text) };
 
     ghost reach = { λ _. first_row };
+
+    ghost is_short = { λ text. PaintsShortText (string_bytes text) };
 
     fn render(self, area: Rect, buf: &mut Buffer) -> Result<(), AllocError> {
         self.as_str().render(area, buf)

@@ -7,13 +7,14 @@ ghost use Rattle.rtui_cell.specs.Symbol.{IsShort};
 ghost use Rattle.rtui_cell.specs.Cell.{empty_cell, styled};
 ghost use Rattle.rtui_cell.specs.Width.{text_width};
 ghost use Rattle.rtui_buffer.specs.Sheet.{HasRow, cell_index, position_of};
-ghost use Rattle.rtui_buffer.specs.Painting.{has_control, painted_width, piece_of, text_pieces, columns, shown, emptied, with_piece, painted, IsSameOutside, IsPainted};
+ghost use Rattle.rtui_buffer.specs.Painting.{painted_width, piece_of, text_pieces, columns, shown, emptied, with_piece, painted, IsSameOutside, IsPainted};
 ghost use Rattle.rtui_buffer.specs.PaintedText.{room_at, pieces_at, AreShort, PaintsOr, IsStyledPart, IsStyledRows, IsStyled};
 
 use crate::buffer::Buffer;
 use rtui_cell::{Cell, CellWidth};
 use rtui_geometry::Rect;
 use rtui_style::Style;
+use rtui_text::has_control;
 use std::alloc::{AllocError, Global};
 use unicode_segmentation::UnicodeSegmentation;
 
@@ -145,12 +146,6 @@ pub fn painted_width(grapheme: &str) -> u16
         return 0;
     }
     grapheme.cell_width()
-}
-
-fn has_control(text: &str) -> bool
-    ensures { result ≡ has_control text.now }
-{
-    text.chars().any(|c| c.is_control())
 }
 
 // Paints a grapheme of this width.

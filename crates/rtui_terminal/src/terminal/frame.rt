@@ -1,4 +1,4 @@
-ghost use Rattle.std.specs.Prelude.{◌≡◌, Some, OnOk, OnErr};
+ghost use Rattle.std.specs.Prelude.{◌≡◌, Some, IsOk, OnOk, OnErr};
 ghost use Rattle.std.specs.Borrow.{sem};
 ghost use Rattle.rtui_widgets.specs.Rendering.{ChangesWithin};
 
@@ -74,6 +74,7 @@ impl Frame<'_> {
         ensures ok { OnOk result (W.renders widget area self.old.buffer.now self.new.buffer.now) }
         ensures err { let reach = W.reach widget area in
             OnErr result (ChangesWithin reach self.old.buffer.now self.new.buffer.now) }
+        ensures short { W.is_short widget area self.old.buffer.now → IsOk result }
     {
         widget.render(area, self.buffer)
     }
@@ -92,6 +93,7 @@ impl Frame<'_> {
             self.old.buffer.now self.new.buffer.now) }
         ensures err { let reach = W.reach widget area in
             OnErr result (ChangesWithin reach self.old.buffer.now self.new.buffer.now) }
+        ensures short { W.is_short widget state.old area self.old.buffer.now → IsOk result }
     {
         widget.render(area, self.buffer, state)
     }

@@ -1,11 +1,11 @@
-use Rattle.std.proofs.Common.{◌≡◌, ℕ, ◌+◌, ◌-◌, List, length, take, drop, rules, arith, ap}
+use Rattle.std.proofs.Common.{◌≡◌, ℕ, ◌+◌, ◌-◌, List, length, take, drop, rules, arith, ap, sym, subst}
 use Rattle.std.proofs.lemmas.Result.{on_ok_weaker}
 use Rattle.std.specs.Prelude.{OnOk}
 use Rattle.rtui_cell.specs.declared.cell.Cell.{Cell}
-use Rattle.rtui_widgets.specs.Span.{span_rendered}
-use Rattle.rtui_widgets.specs.Rendering.{in_first_row}
+use Rattle.rtui_widgets.specs.Span.{span_rendered, IsShortSpan}
+use Rattle.rtui_widgets.specs.Rendering.{in_first_row, clipped}
 use Rattle.rtui_widgets.proofs.LineLemmas.{span-none}
-use Rattle.rtui_widgets.proofs.SheetLemmas.{renders-nothing, first-none, first-renders, first-changes}
+use Rattle.rtui_widgets.proofs.SheetLemmas.{renders-nothing, first-none, first-renders, first-changes, first-columns}
 use Rattle.rtui_widgets.proofs.buffer.span_in.Goals as goal
 
 pub returns-in_default-clause-ok : goal.returns-in_default-clause-ok
@@ -20,7 +20,7 @@ returns-clause-ok c =
     let row : List Cell = c.render_span.new.row in
     let count : length row ≡ length (take n (drop at c.args.buf.now.cells)) = rw (← value) c.render_span.auto.row in
     let style : c.span.inside.style ≡ c.args.span.now.style = ap (λ s. s.style) c.span.view_is in
-    let ran : OnOk c.render_span.result (row ≡ g (take n (drop at c.args.buf.now.cells))) = rw (← style, ← c.text.ensures, ← value) c.render_span.ensures in
+    let ran : OnOk c.render_span.result (row ≡ g (take n (drop at c.args.buf.now.cells))) = rw (← style, ← c.text.ensures, ← value) c.render_span.ensures.ok in
     rw value (on_ok_weaker c.render_span.result (λ e. first-renders c.args.area c.args.buf.now c.in-Some.part c.in-Some.ensures at n row c.index_of-start.ensures.value (omega (arith, c.from.ensures)) (rw (← value) c.cells_mut-cells.ensures.count) count g e) ran)
 
 pub returns-clause-err : goal.returns-clause-err
@@ -31,3 +31,12 @@ returns-clause-err c =
     let row : List Cell = c.render_span.new.row in
     let count : length row ≡ length (take n (drop at c.args.buf.now.cells)) = rw (← value) c.render_span.auto.row in
     rw value (search (rules, first-changes c.args.area c.args.buf.now c.in-Some.part c.in-Some.ensures at n row c.index_of-start.ensures.value (omega (arith, c.from.ensures)) (rw (← value) c.cells_mut-cells.ensures.count) count))
+
+pub returns-clause-short : goal.returns-clause-short
+returns-clause-short c = λ short.
+    let value = c.cells_mut-cells.ensures.cells in
+    let at : ℕ = c.index_of-start.result in
+    let n : ℕ = at + c.from.result - at in
+    let columns : (clipped c.args.area c.args.buf.now.area).width ≡ length (take n (drop at c.cells_mut-cells.result.now)) =
+    rw value (sym (first-columns c.args.area c.args.buf.now c.in-Some.part c.in-Some.ensures at n c.index_of-start.ensures.value (omega (arith, c.from.ensures)) (rw (← value) c.cells_mut-cells.ensures.count))) in
+    c.render_span.ensures.short (subst (IsShortSpan (length (take n (drop at c.cells_mut-cells.result.now)))) (sym c.text.ensures) (subst (λ m. IsShortSpan m c.args.span.now.content) columns short))

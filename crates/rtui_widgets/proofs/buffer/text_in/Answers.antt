@@ -1,7 +1,7 @@
-use Rattle.std.proofs.Common.{◌≡◌, length, rules, arith, ap, ◌∙◌}
+use Rattle.std.proofs.Common.{◌≡◌, length, rules, arith, ap, sym, subst, ◌∙◌}
 use Rattle.std.proofs.lemmas.Result.{on_ok_weaker, on_err_weaker}
 use Rattle.rtui_buffer.specs.Sheet.{area_size}
-use Rattle.rtui_widgets.specs.Rendering.{text_row}
+use Rattle.rtui_widgets.specs.Rendering.{text_row, clipped, IsShortRow}
 use Rattle.rtui_widgets.proofs.LineLemmas.{line-in_none}
 use Rattle.rtui_widgets.proofs.SheetLemmas.{renders-nothing, rows-inside, lent-renders, lent-changes}
 use Rattle.rtui_widgets.proofs.buffer.text_in.Goals as goal
@@ -29,3 +29,11 @@ returns-clause-err c =
     let value = c.cells_mut.ensures.cells in
     let same : length c.render_rows.new.cells ≡ length c.args.buf.now.cells = rw (← value) c.render_rows.auto.cells in
     on_err_weaker c.render_rows.result (λ keeps. lent-changes c.args.area c.args.buf.now c.in-Some.part c.in-Some.ensures _ _ _ _ c.render_rows.new.cells c.index_of-start.ensures.value c.from.ensures stride c.from-2.ensures same (rw (← value) keeps)) c.render_rows.ensures.err
+
+pub returns-clause-short : goal.returns-clause-short
+returns-clause-short c = λ short.
+    c.render_rows.ensures.short (λ k lt.
+    let r = c.in-Some.ensures.value in
+    let width : (clipped c.args.area c.args.buf.now.area).width ≡ c.from.result = sym (c.from.ensures ∙ ap (λ q. q.width) r) in
+    let height : c.from-2.result ≡ (clipped c.args.area c.args.buf.now.area).height = c.from-2.ensures ∙ ap (λ q. q.height) r in
+    subst (λ n. IsShortRow c.args.text.now n k) width (short k (omega arith)))

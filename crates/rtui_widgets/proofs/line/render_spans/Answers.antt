@@ -1,12 +1,12 @@
-use Rattle.std.proofs.Common.{ℕ, List, ◌≡◌, ◌∷◌, [], ◌++◌, ◌+◌, ◌-◌, ◌<◌, ◌≤◌, length, min, take, drop, slice_index_or, arith, sym, ap, ◌∙◌}
+use Rattle.std.proofs.Common.{ℕ, List, ◌≡◌, false, true, ◌∷◌, [], ◌++◌, ◌+◌, ◌-◌, ◌<◌, ◌≤◌, length, min, take, drop, slice_index_or, arith, sym, ap, subst, ◌∙◌}
 use Rattle.std.proofs.lemmas.List.{drop_more, drop_all, take-append-drop}
 use Rattle.rtui_text.specs.Text.{SpanData}
 use Rattle.rtui_text.specs.Widths.{span_width}
 use Rattle.rtui_cell.specs.declared.cell.Cell.{Cell}
-use Rattle.rtui_widgets.specs.Span.{span_rendered}
+use Rattle.rtui_widgets.specs.Span.{span_rendered, IsShortSpan}
 use Rattle.rtui_widgets.proofs.SpanLemmas.{length-span_rendered}
-use Rattle.rtui_widgets.specs.Line.{Part, part_of, parts, parts_rendered, behind_first}
-use Rattle.rtui_widgets.proofs.LineLemmas.{parts-nil, parts-skip, parts-take, parts-past, part-turn, part-style, length-rest, length-lent}
+use Rattle.rtui_widgets.specs.Line.{Part, part_of, parts, parts_rendered, behind_first, AreShortParts}
+use Rattle.rtui_widgets.proofs.LineLemmas.{parts-nil, parts-skip, parts-take, parts-past, part-turn, part-style, length-rest, length-lent, short-part, short-others}
 use Rattle.rtui_widgets.proofs.line.render_spans.Goals as goal
 
 rest-is : (i : ℕ) (spans : List SpanData) (span : SpanData) → i < length spans → span ≡ slice_index_or spans i span → drop i spans ≡ span ∷ drop (i + 1) spans
@@ -23,10 +23,11 @@ loop-span-preserved-then-width-skip c =
     record {
       within = c.loop-span.invariant.within;
       left = ap (λ ps. behind_first c.loop-span.start (parts_rendered ps) c.loop-span.row) (sym same) ∙ c.loop-span.invariant.left;
+      short = λ short. subst (AreShortParts (length c.loop-span.row - c.loop-span.start)) same (c.loop-span.invariant.short short);
     }
 
-pub returns-then-start-row : goal.returns-then-start-row
-returns-then-start-row c =
+pub returns-then-start-row-clause-ok : goal.returns-then-start-row-clause-ok
+returns-then-start-row-clause-ok c =
     let others : List SpanData = drop (c.loop-span.span-index + 1) c.args.spans.now in
     let rest : drop c.loop-span.span-index c.args.spans.now ≡ c.span-item.result ∷ others = rest-is _ _ _ c.loop-span-test.true c.span-item.is in
     let p : Part = part_of c.loop-span.skip c.span-item.result in
@@ -51,7 +52,7 @@ loop-span-preserved c =
     let within1 : start + c.min-start.result ≤ length row = omega (arith, start1, c.loop-span.invariant.within) in
     let style : c.span.inside.style ≡ p.style = ap (λ s. s.style) c.span.view_is ∙ sym (part-style c.loop-span.skip c.span-item.result) in
     let painted : c.render_span.new.row ≡ span_rendered p.style p.content (take (length row - (start + c.min-start.result)) (drop (start + c.min-start.result) row)) =
-    rw (← style, ← c.part_of-part.ensures.content) c.in_ok-render_span.ensures in
+    rw (← style, ← c.part_of-part.ensures.content) c.in_ok-render_span.ensures.ok in
     let count : length c.render_span.new.row ≡ length row - (start + c.min-start.result) =
     ap length painted ∙ length-span_rendered _ _ _ ∙ length-rest (start + c.min-start.result) row in
     let whole : length (take (start + c.min-start.result) row ++ (c.render_span.new.row ++ drop (length row - (start + c.min-start.result)) (drop (start + c.min-start.result) row))) ≡ length row =
@@ -62,10 +63,33 @@ loop-span-preserved c =
       within = omega (arith, whole, start2);
       left = part-turn p (parts 0 others) row c.render_span.new.row start (start + c.min-start.result) (start + c.min-start.result + c.min-start-in-loop-span.result) c.loop-span.invariant.within start1 painted start2
           ∙ ap (λ ps. behind_first start (parts_rendered ps) row) (sym same) ∙ c.loop-span.invariant.left;
+      short = λ short.
+          let columns : length row - start - p.indent - p.width ≡ length (take (start + c.min-start.result) row ++ (c.render_span.new.row ++ drop (length row - (start + c.min-start.result)) (drop (start + c.min-start.result) row)))
+              - (start + c.min-start.result + c.min-start-in-loop-span.result) = omega (arith, whole, start1, start2, c.loop-span.invariant.within) in
+          subst (λ n. AreShortParts n (parts 0 others)) columns (short-others (length row - start) p (parts 0 others) (subst (AreShortParts (length row - start)) same (c.loop-span.invariant.short short)));
     }
 
-pub returns : goal.returns
-returns c =
+pub returns-in_err-render_span-clause-short : goal.returns-in_err-render_span-clause-short
+returns-in_err-render_span-clause-short c = λ short.
+    let others : List SpanData = drop (c.loop-span.span-index + 1) c.args.spans.now in
+    let rest : drop c.loop-span.span-index c.args.spans.now ≡ c.span-item.result ∷ others = rest-is _ _ _ c.loop-span-test.true c.span-item.is in
+    let p : Part = part_of c.loop-span.skip c.span-item.result in
+    let row : List Cell = c.loop-span.row in
+    let start : ℕ = c.loop-span.start in
+    let same : parts c.loop-span.skip (drop c.loop-span.span-index c.args.spans.now) ≡ p ∷ parts 0 others =
+    ap (parts c.loop-span.skip) rest ∙ parts-take c.loop-span.skip c.span-item.result others (omega (arith, c.if-width-skip.false, c.width-width.ensures)) in
+    let start1 : start + c.min-start.result ≡ start + min p.indent (length row - start) =
+    ap (λ n. start + n) (rw (← c.part_of-part.ensures.indent) c.min-start.ensures) in
+    let columns : length row - start - p.indent ≡ length (take (length row - (start + c.min-start.result)) (drop (start + c.min-start.result) row)) =
+    (let e : length row - start - p.indent ≡ length row - (start + c.min-start.result) = omega (arith, start1, c.loop-span.invariant.within) in e) ∙ sym (length-rest (start + c.min-start.result) row) in
+    let span : IsShortSpan (length row - start - p.indent) p.content =
+    short-part (length row - start) p (parts 0 others) (subst (AreShortParts (length row - start)) same (c.loop-span.invariant.short short)) in
+    let no : false ≡ true =
+    c.in_err-render_span.ensures.short (subst (λ n. IsShortSpan n c.part_of-part.result.content.now) columns (subst (IsShortSpan (length row - start - p.indent)) (sym c.part_of-part.ensures.content) span)) in
+    cc
+
+pub returns-clause-ok : goal.returns-clause-ok
+returns-clause-ok c =
     let none : drop c.loop-span.span-index c.args.spans.now ≡ [] = drop_all c.loop-span.span-index c.args.spans.now c.loop-span-test.false in
     sym (ap (λ spans. behind_first c.loop-span.start (parts_rendered (parts c.loop-span.skip spans)) c.loop-span.row) none
     ∙ ap (λ cells. take c.loop-span.start c.loop-span.row ++ cells) (parts-nil c.loop-span.skip (drop c.loop-span.start c.loop-span.row)) ∙ take-append-drop c.loop-span.start c.loop-span.row)

@@ -5,7 +5,7 @@ use Rattle.unicode_segmentation.specs.Grapheme.{graphemes}
 use Rattle.unicode_segmentation.specs.Iter.{graphemes_left}
 use Rattle.rtui_cell.specs.Width.{text_width}
 use Rattle.rtui_text.specs.Graphemes.{has_control}
-use Rattle.rtui_widgets.proofs.SpanLemmas.{rendered_of, front-skip, front-turn, front-full, front-end, append-some, end-more, end-none, IsRowWith-none, IsRowWith-turn}
+use Rattle.rtui_widgets.proofs.SpanLemmas.{rendered_of, front-skip, front-turn, front-full, front-end, next-short, append-some, end-more, end-none, IsRowWith-none, IsRowWith-turn}
 use Rattle.rtui_widgets.proofs.span.render_span.Goals as goal
 
 pub loop-grapheme-init : goal.loop-grapheme-init
@@ -46,13 +46,26 @@ loop-grapheme-preserved-then-has_control c =
       },
     )
 
-pub returns-then-width-row : goal.returns-then-width-row
-returns-then-width-row c =
+pub returns-then-width-row-clause-ok : goal.returns-then-width-row-clause-ok
+returns-then-width-row-clause-ok c =
     let i = c.loop-grapheme.invariant.1 in
     let is : graphemes_left c.loop-grapheme.grapheme-iterator ≡ c.in-Some.grapheme.now ∷ graphemes_left c.next.new.self = search rules in
     let control : has_control c.in-Some.grapheme.now ≡ false = cc in
     let width : c.from-width.result ≡ text_width c.in-Some.grapheme.now = c.from-width.ensures ∙ c.cell_width.ensures in
     rendered_of _ _ _ _ _ i.row (front-full _ _ _ _ _ _ _ is control width c.if-width-row.true i.front)
+
+pub returns-in_err-put_next-clause-short : goal.returns-in_err-put_next-clause-short
+returns-in_err-put_next-clause-short c = λ short.
+    let i = c.loop-grapheme.invariant.1 in
+    let gs = c.loop-grapheme.invariant.0 in
+    let is : graphemes_left c.loop-grapheme.grapheme-iterator ≡ c.in-Some.grapheme.now ∷ graphemes_left c.next.new.self = search rules in
+    let control : has_control c.in-Some.grapheme.now ≡ false = cc in
+    let width : c.from-width.result ≡ text_width c.in-Some.grapheme.now = c.from-width.ensures ∙ c.cell_width.ensures in
+    let front = front-turn _ _ _ _ _ _ _ _ is control width (omega arith) i.front in
+    let no : false ≡ true =
+    c.in_err-put_next.ensures.short
+    (next-short _ gs c.in-Some.grapheme.now _ c.loop-grapheme.is_first _ _ i.at i.first i.later (omega (arith, i.row.count, width)) (omega (arith, i.row.count)) i.row _ _ front short) in
+    cc
 
 pub loop-grapheme-preserved : goal.loop-grapheme-preserved
 loop-grapheme-preserved c =
@@ -73,11 +86,11 @@ loop-grapheme-preserved c =
         first = λ (h : false ≡ true). cc;
         later = λ _. append-some _ _;
         front = rw same (front-turn _ _ _ _ _ _ _ _ is control width (omega arith) i.front);
-        row = rw c.in_ok-put_next.ensures more;
+        row = rw c.in_ok-put_next.ensures.ok more;
       },
     )
 
-pub returns : goal.returns
-returns c =
+pub returns-clause-ok : goal.returns-clause-ok
+returns-clause-ok c =
     let i = c.loop-grapheme.invariant.1 in
     rendered_of _ _ _ _ _ i.row (front-end _ _ _ _ (search rules) i.front)

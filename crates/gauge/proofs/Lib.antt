@@ -1,0 +1,2 @@
+pub mod GaugeLemmas
+pub mod PartLemmas

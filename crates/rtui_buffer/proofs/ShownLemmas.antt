@@ -1,0 +1,106 @@
+-- Empty buffers with a style, and the looks of shown cells.
+use Rattle.std.proofs.Common.{◌≡◌, ℕ, ◌+◌, ◌-◌, ◌*◌, ◌<◌, ◌≤◌, ◌⊎◌, ⊎_elim, inl, inr, false, refl, sym, ap, ap₂, subst, ◌∙◌, arith}
+use Rattle.std.proofs.lemmas.Bool.{cases_lt}
+use Rattle.rtui_geometry.specs.declared.position.Position.{Position}
+use Rattle.rtui_geometry.specs.declared.rect.Rect.{Rect}
+use Rattle.rtui_geometry.specs.Rect.{HasPosition, EdgesFit, right_edge, bottom_edge}
+use Rattle.rtui_style.specs.declared.Style.{Style}
+use Rattle.rtui_cell.specs.declared.cell.Cell.{Cell}
+use Rattle.rtui_cell.specs.Look.{look_of}
+use Rattle.rtui_cell.specs.Cell.{empty_cell, styled, width_of, is_skipped, IsUnmarked}
+use Rattle.rtui_cell.specs.Grid.{Grid}
+use Rattle.rtui_cell.proofs.CellLemmas.{width-empty}
+use Rattle.rtui_diff.specs.Cells.{cell, cell_at}
+use Rattle.rtui_diff.specs.Settled.{IsSettled}
+use Rattle.rtui_buffer.specs.Sheet.{Sheet, IsEmptied, HasRow, area_size, cell_in, cell_index, position_of}
+use Rattle.rtui_buffer.specs.Frame.{IsSettledSheet, ShowsSheet}
+use Rattle.rtui_buffer.specs.PaintedText.{IsPaintable, IsStyled}
+use Rattle.rtui_buffer.proofs.EmptyLemmas.{cell-empty}
+
+-- a cell that is empty but for a style has one column and no mark
+pub record IsPlainBlank (c : Cell) : Type 0 where
+  pub width : width_of c ≡ 1
+  pub unmarked : IsUnmarked c
+
+blank-empty : IsPlainBlank empty_cell
+blank-empty = record { width = width-empty; unmarked = record { option = refl; flag = refl } }
+
+blank-styled : (s : Style) → IsPlainBlank (styled s empty_cell)
+unfolding width_of
+blank-styled s = record { width = width-empty; unmarked = record { option = refl; flag = refl } }
+
+has-or-not : (r : Rect) (p : Position) → HasPosition r p ⊎ ¬ (HasPosition r p)
+has-or-not r p =
+    ⊎_elim
+    (λ (lt : p.x < r.x). inr (λ h. let l = h.left in absurd (omega arith)))
+    (λ (left : r.x ≤ p.x).
+    ⊎_elim
+    (λ (right : p.x < right_edge r).
+    ⊎_elim
+    (λ (above : p.y < r.y). inr (λ h. let t = h.top in absurd (omega arith)))
+    (λ (top : r.y ≤ p.y).
+    ⊎_elim
+    (λ (bottom : p.y < bottom_edge r). inl (record { left = left; right = right; top = top; bottom = bottom }))
+    (λ (below : bottom_edge r ≤ p.y). inr (λ h. let b = h.bottom in absurd (omega arith)))
+    (cases_lt p.y (bottom_edge r)))
+    (cases_lt p.y r.y))
+    (λ (past : right_edge r ≤ p.x). inr (λ h. let b = h.right in absurd (omega arith)))
+    (cases_lt p.x (right_edge r)))
+    (cases_lt p.x r.x)
+
+index-at : (x y w a b : ℕ) → (y + b - y) * w + (x + a - x) ≡ b * w + a
+index-at x y w a b =
+    let row : y + b - y ≡ b = omega arith in
+    let column : x + a - x ≡ a = omega arith in
+    rw (row, column) refl
+
+module _ (r area : Rect) (s : Style) (old new : Sheet) (edges : EdgesFit r) (emptied : IsEmptied r old) (is : IsStyled area s old new) where
+  own-edges : EdgesFit old.area
+  own-edges = subst EdgesFit (sym emptied.area) edges
+
+  former : (p : Position) → cell_in old p ≡ empty_cell
+  former p = rw emptied.cells (cell-empty (area_size r) (cell_index old.area p))
+
+  here : (p : Position) → HasPosition old.area p → IsPlainBlank (cell_in new p)
+  here p has =
+      ⊎_elim
+      (λ (yes : HasPosition area p). subst IsPlainBlank (sym (is.inside p has yes ∙ ap (styled s) (former p))) (blank-styled s))
+      (λ (no : ¬ (HasPosition area p)). subst IsPlainBlank (sym (is.outside p has no ∙ former p)) blank-empty)
+      (has-or-not area p)
+
+  plain-at : (a b : ℕ) → a < old.area.width → b < old.area.height → IsPlainBlank (cell_at old.area.width new.cells a b)
+  plain-at a b a_in b_in =
+      let e = own-edges in
+      let right = e.right in let bottom = e.bottom in
+      let p : Position = record { x = old.area.x + a; y = old.area.y + b } in
+      let has : HasPosition old.area p = record { left = omega arith; right = omega arith; top = omega arith; bottom = omega arith } in
+      subst (λ i. IsPlainBlank (cell new.cells i)) (index-at old.area.x old.area.y old.area.width a b)
+      (subst (λ q. IsPlainBlank (cell new.cells (cell_index q p))) is.area (here p has))
+
+  pub IsSettledSheet-styled : IsSettledSheet new
+  IsSettledSheet-styled = subst (λ q. IsSettled q.width q.height new.cells) (sym is.area) (record {
+    skipped = λ a b a_in b_in skip. let one = (plain-at a b a_in b_in).width in omega arith;
+    within = λ a b a_in b_in plain. let one = (plain-at a b a_in b_in).width in omega arith;
+    behind = λ a b k a_in b_in plain more less. let one = (plain-at a b a_in b_in).width in absurd (omega arith);
+  })
+
+  pub IsPaintable-styled : (p : Position) (n : ℕ) → HasRow old.area p.y → old.area.x ≤ p.x → p.x + n ≤ old.area.x + old.area.width → IsPaintable p n new
+  IsPaintable-styled p n row le fits =
+      let e = own-edges in
+      let right = e.right in let bottom = e.bottom in
+      let top = row.top in let under = row.bottom in
+      let left : new.area.x ≡ old.area.x = ap (λ q. q.x) is.area in
+      record {
+        unmarked = λ a from to. (here (position_of (a, p.y)) (record { left = omega arith; right = omega arith; top = top; bottom = omega arith })).unmarked;
+        uncovered = λ a from to plain.
+            let one = (here (position_of (a, p.y)) (record { left = omega arith; right = omega arith; top = top; bottom = omega arith })).width in
+            omega arith;
+      }
+
+-- the look in a column of a shown buffer
+pub shown-look : (s : Sheet) (g : Grid) (p : Position) → ShowsSheet s g → HasPosition s.area p → is_skipped (cell_in s p) ≡ false → g p.x p.y ≡ look_of (cell_in s p)
+shown-look s g p shows has plain =
+    let l = has.left in let r = has.right in let t = has.top in let b = has.bottom in
+    let x : s.area.x + (p.x - s.area.x) ≡ p.x = omega arith in
+    let y : s.area.y + (p.y - s.area.y) ≡ p.y = omega arith in
+    ap₂ g (sym x) (sym y) ∙ (shows.at (p.x - s.area.x) (p.y - s.area.y) (omega arith) (omega arith)).look plain

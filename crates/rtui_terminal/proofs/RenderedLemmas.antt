@@ -1,0 +1,50 @@
+-- A draw whose closure only renders over an empty buffer.
+use Rattle.std.proofs.Common.{◌≡◌, ℕ, zero, suc, ◌+◌, ◌-◌, ◌*◌, ◌++◌, ◌⊎◌, ⊎_elim, List, [], ◌∷◌, length, take, refl, sym, ap, ap₂, subst, ◌∙◌, arith, Result, Option, Ok}
+use Rattle.rtui_geometry.specs.declared.position.Position.{Position}
+use Rattle.rtui_geometry.specs.declared.rect.Rect.{Rect}
+use Rattle.rtui_cell.specs.declared.cell.Cell.{Cell}
+use Rattle.rtui_cell.specs.Cell.{empty_cell}
+use Rattle.rtui_buffer.specs.Sheet.{Sheet, IsEmptied, empty_cells, area_size}
+use Rattle.rtui_backend.specs.Screen.{Screen, screen_area}
+use Rattle.rtui_terminal.specs.State.{State}
+use Rattle.rtui_terminal.specs.InStep.{IsReady, IsSized}
+use Rattle.rtui_terminal.specs.Calls.{Autoresizes, Stays, Resizes, IsResized, DrawOk}
+use Rattle.rtui_terminal.specs.Rendered.{OnlyRenders, ShowsRendered}
+
+cut-empty : (m n : ℕ) → take n (empty_cells m) ++ empty_cells (n - length (empty_cells m)) ≡ empty_cells n
+cut-empty zero zero = refl
+cut-empty zero (suc n) = let all : suc n - 0 ≡ suc n = omega arith in rw all refl
+cut-empty (suc m) zero = let none : 0 - length (empty_cells (suc m)) ≡ 0 = omega arith in rw none refl
+cut-empty (suc m) (suc n) =
+    let less : suc n - suc (length (empty_cells m)) ≡ n - length (empty_cells m) = omega arith in
+    ap (λ cells. empty_cell ∷ cells) (rw less (cut-empty m n))
+
+pub resized-empty : (r area : Rect) (old new : Sheet) → IsEmptied r old → IsResized area old new → IsEmptied area new
+resized-empty r area old new empty is = record {
+  area = is.area_is;
+  cells = is.cells ∙ ap (λ cells. take (area_size area) cells ++ empty_cells (area_size area - length cells)) empty.cells ∙ cut-empty (area_size r) (area_size area);
+}
+
+pub sized-empty : {B : Type 0} (screen : B → Screen) (s sized : State B) → Autoresizes screen s sized → IsEmptied s.viewport_area s.current → IsEmptied sized.viewport_area sized.current
+sized-empty {B} screen s sized found empty =
+    ⊎_elim
+    (λ (stays : IsSized screen s × Stays screen s sized).
+    let same = stays.1.rest in
+    subst (λ (t : State B). IsEmptied t.viewport_area t.current) (sym same) empty)
+    (λ (resizes : (IsSized screen s → ⊥) × Resizes screen (screen_area (screen s.backend)) s sized).
+    resized-empty s.viewport_area sized.viewport_area s.current sized.current empty resizes.1.current)
+    found.case
+
+pub shows-rendered : {B X : Type 0} (screen : B → Screen) (ran : State B → Result (Unit {0}) X → Option Position → Sheet → Type 0) (renders : Rect → Sheet → Sheet → Type 0) (s t : State B)
+    → IsReady screen s → IsEmptied s.viewport_area s.current → OnlyRenders ran renders → DrawOk screen ran s t → ShowsRendered screen renders t
+shows-rendered screen ran renders s t ready empty only drawn =
+    let own : t.older.area ≡ drawn.draws.sized.viewport_area = drawn.draws.applied.areas.current in
+    record {
+      area = own ∙ sym (ap (λ q. q.viewport_area) drawn.draws.applied.rest);
+      rendered = record {
+        blank = drawn.draws.sized.current;
+        emptied = subst (λ q. IsEmptied q drawn.draws.sized.current) (sym own) (sized-empty screen s drawn.draws.sized drawn.draws.autoresized empty);
+        rendered = subst (λ q. renders q drawn.draws.sized.current t.older) (sym own) (only drawn.draws.sized drawn.draws.cursor t.older drawn.closure);
+      };
+      shown = λ settled. (drawn.draws.in_step ready settled).shown;
+    }
