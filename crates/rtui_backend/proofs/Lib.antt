@@ -7,3 +7,5 @@ pub mod ShiftLemmas
 pub mod LineLemmas
 pub mod WalkLemmas
 pub mod RowLemmas
+pub mod HistoryLemmas
+pub mod SizeLemmas

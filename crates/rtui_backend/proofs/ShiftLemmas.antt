@@ -1,5 +1,5 @@
 -- Rows of cells that move up, and parts that are emptied.
-use Rattle.std.proofs.Common.{◌≡◌, ℕ, zero, suc, true, false, ◌+◌, ◌-◌, ◌*◌, ◌<◌, ◌≤◌, ◌++◌, ◌&&◌, min, nat_lt, Bool, List, [], ◌∷◌, length, map, get_or, take, drop, set, refl, sym, ap, ◌∙◌, arith, inl, inr, length-drop, length-take, if◌then◌else◌}
+use Rattle.std.proofs.Common.{◌≡◌, ℕ, true, false, ◌+◌, ◌-◌, ◌*◌, ◌<◌, ◌≤◌, ◌++◌, ◌&&◌, min, nat_lt, Bool, List, length, map, take, drop, set, refl, sym, ap, ◌∙◌, arith, inl, inr, length-drop, length-take, if◌then◌else◌}
 use Rattle.std.specs.Prelude.{nat_le, nat_eq}
 use Rattle.std.specs.List.{range_with_len}
 use Rattle.std.proofs.Math.Nat.{mul-le-mul_right}
@@ -10,9 +10,9 @@ use Rattle.std.proofs.lemmas.Bool.{cases_lt}
 use Rattle.std.proofs.lemmas.Bool.Decides.{nat_tests}
 use Rattle.rtui_cell.specs.declared.cell.Cell.{Cell}
 use Rattle.rtui_cell.specs.Cell.{empty_cell}
-use Rattle.rtui_cell.specs.Look.{Look, look_of, empty_look}
+use Rattle.rtui_cell.specs.Look.{look_of, empty_look}
 use Rattle.rtui_cell.proofs.CellLemmas.{look-empty}
-use Rattle.rtui_backend.specs.declared.clear_type.ClearType.TheVariants.{All, AfterCursor, BeforeCursor, CurrentLine, UntilNewLine}
+use Rattle.rtui_backend.specs.declared.clear_type.ClearType.TheVariants.{AfterCursor, BeforeCursor, CurrentLine, UntilNewLine}
 use Rattle.rtui_backend.specs.Clear.{is_cleared}
 use Rattle.rtui_cell.specs.Cell.{IsUnmarked}
 use Rattle.rtui_backend.specs.CellGrid.{cell_at, look_at, grid_of, AreUnmarked}

@@ -1,5 +1,5 @@
 -- The grid that a row-major list of cells stands for.
-use Rattle.std.specs.Prelude.{◌≡◌, false, ℕ, ◌+◌, ◌*◌, nat_lt, if◌then◌else◌, List, map, slice_index_or}
+use Rattle.std.specs.Prelude.{ℕ, ◌+◌, ◌*◌, nat_lt, if◌then◌else◌, List, map, slice_index_or}
 use Rattle.rtui_cell.specs.declared.cell.Cell.{Cell}
 use Rattle.rtui_cell.specs.Cell.{empty_cell, IsUnmarked}
 use Rattle.rtui_cell.specs.Look.{Look, look_of, empty_look}

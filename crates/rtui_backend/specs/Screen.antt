@@ -28,6 +28,12 @@ pub record IsOnGrid (s : Screen) : Type 0 where
   pub cursor_x : s.cursor_x ≤ s.width - 1
   pub cursor_y : s.cursor_y ≤ s.height - 1
 
+abbrev pub cursor_of : Screen → Position
+cursor_of s = record { x = s.cursor_x; y = s.cursor_y }
+
+abbrev pub size_of : Screen → Size
+size_of s = record { width = s.width; height = s.height }
+
 -- what stands in a column of a row; below the last row all is empty
 abbrev pub seen : Screen → ℕ → ℕ → Look
 seen s a b = if nat_lt b s.height then s.grid a b else empty_look
@@ -75,6 +81,15 @@ pub record Clears (old : Screen) (kind : ClearType) (new : Screen) : Type 0 wher
   pub grid : (a b : ℕ) → a < old.width → b < old.height
       → new.grid a b ≡ if is_cleared kind old.cursor_x old.cursor_y a b then empty_look else old.grid a b
 
+-- the screen took another size: rows and columns were cut, or empty ones came in at the right and below; the cursor is kept on the grid
+pub record TakesSize (old : Screen) (given : Size) (new : Screen) : Type 0 where
+  pub history : new.history ≡ old.history
+  pub size : size_of new ≡ given
+  pub grid : (a b : ℕ) → a < given.width → b < given.height → new.grid a b ≡ if nat_lt a old.width then seen old a b else empty_look
+  pub cursor : cursor_of new ≡ record { x = min old.cursor_x (given.width - 1); y = min old.cursor_y (given.height - 1) }
+  pub visible : new.visible ≡ old.visible
+  pub written : new.written ≡ old.written
+
 -- the size and the history stay
 pub record KeepsSize (old new : Screen) : Type 0 where
   pub width : new.width ≡ old.width
@@ -88,12 +103,6 @@ with_visible visible s = record s { visible = visible }
 -- the cursor went to a column and a row, each kept on the grid
 abbrev pub with_cursor : ℕ → ℕ → Screen → Screen
 with_cursor x y s = record s { cursor_x = min x (s.width - 1); cursor_y = min y (s.height - 1) }
-
-abbrev pub cursor_of : Screen → Position
-cursor_of s = record { x = s.cursor_x; y = s.cursor_y }
-
-abbrev pub size_of : Screen → Size
-size_of s = record { width = s.width; height = s.height }
 
 -- the rectangle of the whole screen
 abbrev pub screen_area : Screen → Rect

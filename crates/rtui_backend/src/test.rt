@@ -126,7 +126,7 @@ pub struct TestBackend {
 impl TestBackend {
     ghost use Rattle.std.specs.Prelude.{None};
     ghost use Rattle.rtui_cell.specs.declared.cell.Cell.{Cell};
-    ghost use Rattle.rtui_backend.specs.Screen.{IsBlankScreen, cursor_of};
+    ghost use Rattle.rtui_backend.specs.Screen.{IsBlankScreen, cursor_of, screen_area};
     ghost use Rattle.rtui_backend.specs.TestBackend.{screen_of, sheet_of, failures_of, told_after, TakesTurn, IsSameBackend, DrawsFront};
 
     /// A blank screen of this size in columns and rows, its cursor visible in the corner; refused where memory
@@ -150,8 +150,9 @@ impl TestBackend {
 
     /// What the screen shows, as a buffer with its corner at (0, 0).
     pub fn buffer(&self) -> &Buffer
-        ensures area { result.now.area ≡ record { x = 0; y = 0; width = (screen_of self.now).width; height = (screen_of self.now).height } }
-        ensures shown { (a b : ℕ) → grid_of result.now.area.width result.now.cells a b ≡ (screen_of self.now).grid a b }
+        ensures area { result.now.area ≡ screen_area (screen_of self.now) }
+        ensures shown { (a b : ℕ) → grid_of result.now.area.width result.now.cells a b
+            ≡ (screen_of self.now).grid a b }
         ensures value { result.now ≡ sheet_of self.now }
         ensures plain { AreUnmarked result.now.cells }
     {
@@ -229,7 +230,8 @@ impl TestBackend {
         ensures error { result ≡ error }
         ensures screen { screen_of self.new ≡ screen_of self.old }
         ensures told { told_after self.new ≡ told_after self.old }
-        ensures count { failures_of self.old < 2 ^ 64 - 1 → failures_of self.new ≡ failures_of self.old + 1 }
+        ensures count { failures_of self.old < 2 ^ 64 - 1
+            → failures_of self.new ≡ failures_of self.old + 1 }
     {
         self.failures = self.failures.saturating_add(1);
         error
@@ -237,7 +239,8 @@ impl TestBackend {
 
     // Puts and counts one item.
     fn put(&mut self, x: u16, y: u16, cell: &Cell) -> Result<(), AllocError>
-        ensures ok { OnOk result (Draws (screen_of self.old) (record { x = x; y = y; cell = cell.now } ∷ []) (screen_of self.new)) }
+        ensures ok { OnOk result (Draws (screen_of self.old)
+            (record { x = x; y = y; cell = cell.now } ∷ []) (screen_of self.new)) }
         ensures memory { OnErr result (self.new ≡ self.old) }
         ensures cursor { cursor_of (screen_of self.new) ≡ cursor_of (screen_of self.old) }
         ensures failures { failures_of self.new ≡ failures_of self.old }
@@ -256,8 +259,10 @@ impl TestBackend {
     ) -> Result<(), AllocError>
         requires can { I.can_next content }
         requires finite { IsFinite (I.remaining content) }
-        ensures ok { OnOk result ((items : List (ℕ × ℕ × C)) × Drains I.next_gives content items × Draws (screen_of self.old) (map (update_by C.cell) items) (screen_of self.new)) }
-        ensures memory { OnErr result (DrawsFront I.next_gives content (update_by C.cell) (screen_of self.old) (screen_of self.new)) }
+        ensures ok { OnOk result ((items : List (ℕ × ℕ × C)) × Drains I.next_gives content items
+            × Draws (screen_of self.old) (map (update_by C.cell) items) (screen_of self.new)) }
+        ensures memory { OnErr result (DrawsFront I.next_gives content (update_by C.cell)
+            (screen_of self.old) (screen_of self.new)) }
         ensures cursor { cursor_of (screen_of self.new) ≡ cursor_of (screen_of self.old) }
         ensures failures { failures_of self.new ≡ failures_of self.old }
         ensures told { told_after self.new ≡ told_after self.old }
@@ -289,8 +294,10 @@ impl Backend for TestBackend {
     ) -> Result<(), TestError>
         requires can { I.can_next content }
         requires finite { IsFinite (I.remaining content) }
-        ensures ok { OnOk result ((items : List (ℕ × ℕ × C)) × Drains I.next_gives content items × Draws (screen_of self.old) (map (update_by C.cell) items) (screen_of self.new)) }
-        ensures memory { result ≡ Err TestError.Memory → DrawsFront I.next_gives content (update_by C.cell) (screen_of self.old) (screen_of self.new) }
+        ensures ok { OnOk result ((items : List (ℕ × ℕ × C)) × Drains I.next_gives content items
+            × Draws (screen_of self.old) (map (update_by C.cell) items) (screen_of self.new)) }
+        ensures memory { result ≡ Err TestError.Memory → DrawsFront I.next_gives content
+            (update_by C.cell) (screen_of self.old) (screen_of self.new) }
         ensures cursor { cursor_of (screen_of self.new) ≡ cursor_of (screen_of self.old) }
         ensures counts { Counts result (failures_of self.old) (failures_of self.new) }
         ensures told { (result ≡ Err TestError.Told) ↔ (told_after self.old ≡ Some 0) }
@@ -306,7 +313,8 @@ impl Backend for TestBackend {
 
     fn append_lines(&mut self, n: u16) -> Result<(), TestError>
         ensures ok { OnOk result (Appends (screen_of self.old) n (screen_of self.new)) }
-        ensures column { OnOk result ((screen_of self.new).cursor_x ≡ (screen_of self.old).cursor_x) }
+        ensures column { OnOk result (
+            (screen_of self.new).cursor_x ≡ (screen_of self.old).cursor_x) }
         ensures refused { OnErr result (screen_of self.new ≡ screen_of self.old) }
         ensures counts { Counts result (failures_of self.old) (failures_of self.new) }
         ensures told { (result ≡ Err TestError.Told) ↔ (told_after self.old ≡ Some 0) }
@@ -371,7 +379,8 @@ impl Backend for TestBackend {
     }
 
     fn set_cursor_position(&mut self, position: Position) -> Result<(), TestError>
-        ensures ok { OnOk result (screen_of self.new ≡ with_cursor position.x position.y (screen_of self.old)) }
+        ensures ok { OnOk result (
+            screen_of self.new ≡ with_cursor position.x position.y (screen_of self.old)) }
         ensures counts { Counts result (failures_of self.old) (failures_of self.new) }
         ensures turn { TakesTurn result self.old self.new }
     {

@@ -1,6 +1,6 @@
 //! What a screen shows, as lines of text.
 
-ghost use Rattle.std.specs.Prelude.{◌≡◌, ◌↔◌, ◌+◌, ◌-◌, ◌<◌, ◌≤◌, IsTrue, IfSome, IfOk, length, map};
+ghost use Rattle.std.specs.Prelude.{◌≡◌, ◌↔◌, ℕ, ◌+◌, ◌-◌, ◌<◌, ◌≤◌, IsTrue, IfSome, IfOk, length, map};
 ghost use Rattle.std.specs.Str.Lines.{lines};
 ghost use Rattle.rtui_style.specs.Style.{new_style};
 ghost use Rattle.rtui_cell.specs.Width.{text_width};
@@ -8,12 +8,12 @@ ghost use Rattle.rtui_text.specs.Text.{plain, raw_line};
 ghost use Rattle.rtui_text.specs.Widths.{line_width};
 ghost use Rattle.rtui_buffer.specs.Painting.{text_pieces};
 ghost use Rattle.rtui_buffer.specs.Line.{widest, raw_lines};
-ghost use Rattle.rtui_backend.specs.Lines.{symbols_in, HasLines, IsScreenOf};
+ghost use Rattle.rtui_backend.specs.Lines.{symbol_in, symbols_in, HasLines, HaveLines, HasHistory, IsScreenOf};
 ghost use Rattle.rtui_backend.specs.RowMatch.{are_blank, is_piece, pieces_end, spans_end, is_row_of};
 ghost use Rattle.rtui_backend.specs.TestBackend.{screen_of};
 
 use crate::test::TestBackend;
-use rtui_buffer::{Buffer, painted_width};
+use rtui_buffer::{Buffer, Cell, painted_width};
 use rtui_geometry::Position;
 use rtui_text::text_columns;
 use std::alloc::{AllocError, Global};
@@ -39,6 +39,109 @@ fn widest(lines: &[&str]) -> usize
         width = line_width(line).max(width);
     }
     width
+}
+
+// The symbol at a place of a row.
+#[tactic(auto, using(crate::proofs::LineLemmas::cell_looks), unfolding(rtui_cell::specs::Look::look_of))]
+fn symbol_at(row: &[Cell], x: usize) -> &str
+    requires { x < length row.now }
+    ensures { result.now ≡ symbol_in row.now x }
+{
+    row[x].symbol()
+}
+
+// Whether the columns from one up to another are blank.
+#[tactic(auto, using(crate::proofs::WalkLemmas::blank_steps))]
+fn is_blank(row: &[Cell], from: usize, to: usize) -> bool
+    requires order { from ≤ to }
+    requires columns { to ≤ length row.now }
+    ensures { result ≡ are_blank (symbol_in row.now) from (to - from) }
+{
+    for x in from..to {
+        if symbol_at(row, x) != " " {
+            return false;
+        }
+    }
+    true
+}
+
+// Whether a symbol of this width stands in a column, and blanks behind it.
+#[tactic(auto, unfolding(crate::specs::RowMatch::is_piece))]
+fn is_piece(row: &[Cell], x: usize, width: usize, symbol: &str) -> bool
+    requires width { width ≡ text_width symbol.now }
+    requires wide { 0 < width }
+    requires columns { x + width ≤ length row.now }
+    ensures { result ≡ is_piece (symbol_in row.now) x symbol.now }
+{
+    symbol_at(row, x) == symbol && is_blank(row, x + 1, x + width)
+}
+
+// The column behind a text that stands in a row from a column on, if it does.
+#[tactic(auto, using(crate::proofs::WalkLemmas::piece_steps))]
+fn text_end(row: &[Cell], x: usize, text: &str) -> Option<usize>
+    requires { x ≤ length row.now }
+    ensures within { IfSome result (λ end. end ≤ length row.now) }
+    ensures end { result ≡ pieces_end (symbol_in row.now) x
+        (text_pieces (length row.now - x) new_style text.now) }
+{
+    let mut end = x;
+    for grapheme in text.graphemes(true) {
+        let width = usize::from(painted_width(grapheme));
+        if width == 0 {
+            continue;
+        }
+        if width > row.len() - end {
+            return Some(end);
+        }
+        if !is_piece(row, end, width, grapheme) {
+            return None;
+        }
+        end += width;
+    }
+    Some(end)
+}
+
+// The column behind a line that stands in a row, if it does.
+fn line_end(row: &[Cell], line: &str) -> Option<usize>
+    ensures within { IfSome result (λ end. end ≤ length row.now) }
+    ensures end { result ≡ spans_end (symbol_in row.now) (length row.now) 0
+        (map plain (lines line.now)) }
+{
+    let mut end = Some(0);
+    for text in line.lines() {
+        end = match end {
+            Some(x) => text_end(row, x, text),
+            None => None,
+        };
+    }
+    end
+}
+
+// Whether a row shows a line.
+#[tactic(auto, using(crate::proofs::WalkLemmas::row_steps), unfolding(crate::specs::RowMatch::is_row_of))]
+fn row_is(row: &[Cell], line: &str) -> bool
+    ensures { result ≡ is_row_of (symbol_in row.now) (length row.now) (map plain (lines line.now)) }
+{
+    match line_end(row, line) {
+        Some(end) => is_blank(row, end, row.len()),
+        None => false,
+    }
+}
+
+// Whether rows, each of so many columns, show lines.
+fn rows_are(rows: &[Vec<Cell>], width: usize, lines: &[&str]) -> bool
+    ensures { IsTrue result ↔ HaveLines width (raw_lines lines.now) (map (λ row. row.items) rows.now) }
+{
+    if rows.len() != lines.len() {
+        return false;
+    }
+    for y in 0..rows.len() {
+        let row = rows[y].as_slice();
+        if row.len() != width || !row_is(row, lines[y]) {
+            return false;
+        }
+    }
+    true
 }
 
 impl TestBackend {
@@ -68,98 +171,16 @@ impl TestBackend {
         })
     }
 
-    // The symbol in a column of a row.
-    #[tactic(auto, using(crate::proofs::LineLemmas::cell_looks), unfolding(rtui_cell::specs::Look::look_of))]
-    fn symbol_at(&self, x: u16, y: u16) -> &str
-        requires column { x < (screen_of self.now).width }
-        requires row { y < (screen_of self.now).height }
-        ensures { result.now ≡ symbols_in (screen_of self.now) y x }
+    // The cells of a row.
+    fn row(&self, y: u16) -> &[Cell]
+        requires { y < (screen_of self.now).height }
+        ensures width { length result.now ≡ (screen_of self.now).width }
+        ensures symbols { (a : ℕ) → a < (screen_of self.now).width
+            → symbol_in result.now a ≡ symbols_in (screen_of self.now) y a }
     {
-        let _area = self.buffer.area();
-        self.buffer.get(x, y).symbol()
-    }
-
-    // Whether the columns from one up to another are blank.
-    #[tactic(auto, using(crate::proofs::WalkLemmas::blank_steps))]
-    fn is_blank(&self, from: u16, to: u16, y: u16) -> bool
-        requires order { from ≤ to }
-        requires columns { to ≤ (screen_of self.now).width }
-        requires row { y < (screen_of self.now).height }
-        ensures { result ≡ are_blank (symbols_in (screen_of self.now) y) from (to - from) }
-    {
-        for x in from..to {
-            if self.symbol_at(x, y) != " " {
-                return false;
-            }
-        }
-        true
-    }
-
-    // Whether a symbol of this width stands in a column, and blanks behind it.
-    #[tactic(auto, unfolding(crate::specs::RowMatch::is_piece))]
-    fn is_piece(&self, x: u16, y: u16, width: u16, symbol: &str) -> bool
-        requires width { width ≡ text_width symbol.now }
-        requires wide { 0 < width }
-        requires columns { x + width ≤ (screen_of self.now).width }
-        requires row { y < (screen_of self.now).height }
-        ensures { result ≡ is_piece (symbols_in (screen_of self.now) y) x symbol.now }
-    {
-        let _area = self.buffer.area();
-        self.symbol_at(x, y) == symbol && self.is_blank(x + 1, x + width, y)
-    }
-
-    // The column behind a text that stands in a row from a column on, if it does.
-    #[tactic(auto, using(crate::proofs::WalkLemmas::piece_steps))]
-    fn text_end(&self, x: u16, y: u16, text: &str) -> Option<u16>
-        requires columns { x ≤ (screen_of self.now).width }
-        requires row { y < (screen_of self.now).height }
-        ensures within { IfSome result (λ end. end ≤ (screen_of self.now).width) }
-        ensures end { result ≡ pieces_end (symbols_in (screen_of self.now) y) x (text_pieces ((screen_of self.now).width - x) new_style text.now) }
-    {
-        let columns = self.buffer.area().width;
-        let mut end = x;
-        for grapheme in text.graphemes(true) {
-            let width = painted_width(grapheme);
-            if width == 0 {
-                continue;
-            }
-            if width > columns - end {
-                return Some(end);
-            }
-            if !self.is_piece(end, y, width, grapheme) {
-                return None;
-            }
-            end += width;
-        }
-        Some(end)
-    }
-
-    // The column behind a line that stands in a row, if it does.
-    fn line_end(&self, y: u16, line: &str) -> Option<u16>
-        requires row { y < (screen_of self.now).height }
-        ensures within { IfSome result (λ end. end ≤ (screen_of self.now).width) }
-        ensures end { result ≡ spans_end (symbols_in (screen_of self.now) y) (screen_of self.now).width 0 (map plain (lines line.now)) }
-    {
-        let mut end = Some(0);
-        for text in line.lines() {
-            end = match end {
-                Some(x) => self.text_end(x, y, text),
-                None => None,
-            };
-        }
-        end
-    }
-
-    // Whether a row shows a line.
-    #[tactic(auto, using(crate::proofs::WalkLemmas::row_steps), unfolding(crate::specs::RowMatch::is_row_of))]
-    fn row_is(&self, y: u16, line: &str) -> bool
-        requires row { y < (screen_of self.now).height }
-        ensures { result ≡ is_row_of (symbols_in (screen_of self.now) y) (screen_of self.now).width (map plain (lines line.now)) }
-    {
-        match self.line_end(y, line) {
-            Some(end) => self.is_blank(end, self.buffer.area().width, y),
-            None => false,
-        }
+        let width = usize::from(self.buffer.area().width);
+        let start = usize::from(y) * width;
+        &self.buffer.content()[start..start + width]
     }
 
     /// Whether the screen shows these lines, symbol by symbol, as a buffer made by `Buffer::from_texts` of them does: it
@@ -172,10 +193,18 @@ impl TestBackend {
             return false;
         }
         for y in 0..area.height {
-            if !self.row_is(y, lines[usize::from(y)]) {
+            if !row_is(self.row(y), lines[usize::from(y)]) {
                 return false;
             }
         }
         true
+    }
+
+    /// Whether the rows that scrolled off the screen show these lines, symbol by symbol, as a buffer made by
+    /// `Buffer::from_texts` of them does: there are as many rows as lines, each as wide as the widest of the lines.
+    pub fn scrollback_is(&self, lines: &[&str]) -> bool
+        ensures { IsTrue result ↔ HasHistory (raw_lines lines.now) (screen_of self.now) }
+    {
+        rows_are(self.scrollback.as_slice(), widest(lines), lines)
     }
 }

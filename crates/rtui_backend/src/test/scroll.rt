@@ -1,6 +1,6 @@
 //! Rows that leave the screen, and parts of it that are emptied.
 
-ghost use Rattle.std.specs.Prelude.{◌≡◌, ◌+◌, ◌-◌, ◌*◌, ◌^◌, ◌<◌, ◌≤◌, ◌&&◌, ℕ, nat_lt, nat_le, if◌then◌else◌, length, map, OnOk, OnErr, IfOk};
+ghost use Rattle.std.specs.Prelude.{◌≡◌, ◌+◌, ◌-◌, ◌*◌, ◌^◌, ◌<◌, ◌≤◌, ◌&&◌, min, ℕ, nat_lt, nat_le, if◌then◌else◌, length, map, OnOk, OnErr, IfOk};
 ghost use Rattle.std.specs.List.{range_with_len};
 ghost use Rattle.rtui_cell.specs.Cell.{empty_cell};
 ghost use Rattle.rtui_cell.specs.Look.{look_of};
@@ -9,9 +9,10 @@ ghost use Rattle.rtui_backend.specs.CellGrid.{cell_at, look_at, AreUnmarked};
 
 use crate::clear_type::ClearType;
 use crate::test::TestBackend;
-use rtui_buffer::Cell;
-use rtui_geometry::{Position, Size};
+use rtui_buffer::{Buffer, Cell};
+use rtui_geometry::{Position, Rect, Size};
 use std::alloc::{AllocError, Global};
+use std::mem;
 
 // Empties the cells from one place up to another.
 fn blank(cells: &mut [Cell], from: usize, to: usize)
@@ -41,7 +42,8 @@ fn copied_row(
     width: u16,
 ) -> Result<Vec<Cell>, AllocError>
     requires { start < 2 ^ 63 }
-    ensures { IfOk result (λ row. map look_of row.items ≡ map (λ a. look_at cells.now (start + a)) (range_with_len 0 width)) }
+    ensures { IfOk result (λ row. map look_of row.items
+        ≡ map (λ a. look_at cells.now (start + a)) (range_with_len 0 width)) }
 {
     let mut row = Vec::new(alloc);
     for a in 0..usize::from(width) {
@@ -61,7 +63,8 @@ fn copied_rows(
     width: u16,
     count: u32,
 ) -> Result<Vec<Vec<Cell>>, AllocError>
-    ensures { IfOk result (λ rows. map (λ row. map look_of row.items) rows.items ≡ map (λ b. map (λ a. look_at cells.now (b * width + a)) (range_with_len 0 width)) (range_with_len 0 count)) }
+    ensures { IfOk result (λ rows. map (λ row. map look_of row.items) rows.items
+        ≡ map (λ b. map (λ a. look_at cells.now (b * width + a)) (range_with_len 0 width)) (range_with_len 0 count)) }
 {
     let mut rows = Vec::new(alloc);
     for b in 0..count {
@@ -71,12 +74,44 @@ fn copied_rows(
     Ok(rows)
 }
 
+// Exchanges so many cells of a list, from a place on, with those of another from a place on.
+fn swap_cells(from: &mut [Cell], start: usize, to: &mut [Cell], place: usize, count: usize)
+    requires inside { start + count ≤ length from.old }
+    requires fits { place + count ≤ length to.old }
+    ensures moved { (k : ℕ) → k < count → cell_at to.new (place + k) ≡ cell_at from.old (start + k) }
+    ensures rest { (k : ℕ) → k < place → cell_at to.new k ≡ cell_at to.old k }
+    ensures behind { (k : ℕ) → place + count ≤ k → cell_at to.new k ≡ cell_at to.old k }
+    ensures left { (k : ℕ) → start + count ≤ k → cell_at from.new k ≡ cell_at from.old k }
+    ensures unmarked { AreUnmarked from.old → AreUnmarked to.old → AreUnmarked from.new × AreUnmarked to.new }
+{
+    for k in 0..count {
+        mem::swap(&mut from[start + k], &mut to[place + k]);
+    }
+}
+
+// Moves the cells of the rows and columns that two sizes share to an empty list.
+fn move_rows(from: &mut [Cell], former: Size, to: &mut [Cell], size: Size)
+    requires from_size { length from.old ≡ former.width * former.height }
+    requires to_size { length to.old ≡ size.width * size.height }
+    requires blank { (k : ℕ) → cell_at to.old k ≡ empty_cell }
+    ensures grid { (a b : ℕ) → a < size.width → cell_at to.new (b * size.width + a)
+        ≡ (if nat_lt a former.width && nat_lt b (min former.height size.height) then cell_at from.old (b * former.width + a) else empty_cell) }
+    ensures unmarked { AreUnmarked from.old → AreUnmarked to.new }
+{
+    let width = usize::from(former.width);
+    let new_width = usize::from(size.width);
+    for row in 0..usize::from(former.height.min(size.height)) {
+        swap_cells(from, row * width, to, row * new_width, width.min(new_width));
+    }
+}
+
 // The places that a clear empties, in rows of cells.
 fn cleared_places(size: Size, cursor: Position, clear_type: ClearType) -> (usize, usize)
     requires column { cursor.x ≤ size.width - 1 }
     ensures order { result.0 ≤ result.1 }
     ensures end { result.1 ≤ size.width * size.height }
-    ensures places { (a b : ℕ) → a < size.width → b < size.height → (nat_le result.0 (b * size.width + a) && nat_lt (b * size.width + a) result.1) ≡ is_cleared clear_type cursor.x cursor.y a b }
+    ensures places { (a b : ℕ) → a < size.width → b < size.height
+        → (nat_le result.0 (b * size.width + a) && nat_lt (b * size.width + a) result.1) ≡ is_cleared clear_type cursor.x cursor.y a b }
 {
     let width = usize::from(size.width);
     let count = width * usize::from(size.height);
@@ -93,7 +128,7 @@ fn cleared_places(size: Size, cursor: Position, clear_type: ClearType) -> (usize
 }
 
 impl TestBackend {
-    ghost use Rattle.rtui_backend.specs.Screen.{Appends, Clears};
+    ghost use Rattle.rtui_backend.specs.Screen.{Appends, Clears, TakesSize};
     ghost use Rattle.rtui_backend.specs.TestBackend.{screen_of, failures_of, told_after};
 
     // Moves the cursor's row down, and scrolls what goes past the last one.
@@ -128,5 +163,29 @@ impl TestBackend {
         let size = self.buffer.area().as_size();
         let (from, to) = cleared_places(size, self.cursor, clear_type);
         blank(self.buffer.cells_mut(), from, to);
+    }
+
+    /// Gives the screen another size in columns and rows: rows and columns are cut, or blank ones come in at the right
+    /// and below. The history stays, and the cursor is kept on the screen. Where memory is refused nothing changes.
+    /// This is no call of `Backend`, and `fail_after` doesn't count it.
+    pub fn resize(&mut self, width: u16, height: u16) -> Result<(), AllocError>
+        ensures ok { OnOk result (TakesSize (screen_of self.old)
+            (record { width = width; height = height }) (screen_of self.new)) }
+        ensures refused { OnErr result (self.new ≡ self.old) }
+        ensures failures { failures_of self.new ≡ failures_of self.old }
+        ensures told { told_after self.new ≡ told_after self.old }
+    {
+        let former = self.buffer.area().as_size();
+        let mut buffer = Buffer::empty(self.alloc, Rect::new(0, 0, width, height))?;
+        move_rows(
+            self.buffer.cells_mut(),
+            former,
+            buffer.cells_mut(),
+            Size { width, height },
+        );
+        self.buffer = buffer;
+        self.cursor.x = self.cursor.x.min(width.saturating_sub(1));
+        self.cursor.y = self.cursor.y.min(height.saturating_sub(1));
+        Ok(())
     }
 }

@@ -1,0 +1,66 @@
+-- Rows of cells that have the symbols of lines.
+use Rattle.std.proofs.Common.{◌≡◌, ℕ, ◌+◌, ◌<◌, true, List, [], ◌∷◌, ◌++◌, length, get_or, take, map, refl, sym, ap, ap₂, ◌∙◌, arith}
+use Rattle.std.proofs.lemmas.List.{length-map, append-nil, get_or-map, map_more, ext_get_or}
+use Rattle.rtui_cell.specs.declared.cell.Cell.{Cell}
+use Rattle.rtui_cell.specs.Cell.{empty_cell}
+use Rattle.rtui_cell.specs.Look.{Look, look_of}
+use Rattle.rtui_cell.specs.Symbol.{blank}
+use Rattle.rtui_text.specs.Text.{LineData, line_of, plain}
+use Rattle.rtui_buffer.specs.Line.{line_row}
+use Rattle.rtui_buffer.proofs.RowLemmas.{length-rows}
+use Rattle.rtui_backend.specs.Lines.{symbol_in, symbols_of_line}
+use Rattle.rtui_backend.specs.RowMatch.{is_row_of}
+use Rattle.rtui_backend.proofs.LineLemmas.{look_at-cell}
+use Rattle.rtui_backend.proofs.RowLemmas.{row-tells, row-told}
+
+abbrev pub symbols : List Cell → List (List ℕ)
+symbols cells = map (λ cell. (look_of cell).symbol) cells
+
+symbol-at : (cells : List Cell) (a : ℕ) → a < length cells → get_or (symbols cells) a blank ≡ symbol_in cells a
+symbol-at cells a a_in = get_or-map (λ (cell : Cell). (look_of cell).symbol) cells a empty_cell blank a_in ∙ sym (ap (λ l. l.symbol) (look_at-cell cells a))
+
+count : (cells : List Cell) → length (symbols cells) ≡ length cells
+count cells = length-map cells (λ (cell : Cell). (look_of cell).symbol)
+
+length-row : (w : ℕ) (line : LineData) → length (line_row w line) ≡ w
+length-row w line = ap length (sym (append-nil (line_row w line))) ∙ length-rows w (line ∷ []) ∙ omega arith
+
+module _ (w : ℕ) (ts : List (List ℕ)) (cells : List Cell) where
+  abbrev shown : List Cell
+  shown = line_row w (line_of (map plain ts))
+
+  pub row-shows : length cells ≡ w → is_row_of (symbol_in cells) w (map plain ts) ≡ true → symbols cells ≡ symbols_of_line w (line_of (map plain ts))
+  row-shows wide told =
+      let n = length-row w (line_of (map plain ts)) in
+      ext_get_or blank (symbols cells) (symbols shown) (count cells ∙ wide ∙ sym (count shown ∙ n)) (λ a a_in.
+      let inside : a < w = omega (arith, count cells) in
+      symbol-at cells a (omega arith) ∙ row-tells w ts (symbol_in cells) told a inside ∙ sym (symbol-at shown a (omega arith)))
+
+  pub row-count : symbols cells ≡ symbols_of_line w (line_of (map plain ts)) → length cells ≡ w
+  row-count same = sym (count cells) ∙ ap length same ∙ count shown ∙ length-row w (line_of (map plain ts))
+
+  pub row-shown : symbols cells ≡ symbols_of_line w (line_of (map plain ts)) → is_row_of (symbol_in cells) w (map plain ts) ≡ true
+  row-shown same =
+      let n = length-row w (line_of (map plain ts)) in
+      let m = row-count same in
+      row-told w ts (symbol_in cells) (λ a a_in. sym (symbol-at cells a (omega arith)) ∙ ap (λ xs. get_or xs a blank) same ∙ symbol-at shown a (omega arith))
+
+-- two lists mapped to the same, item by item
+module _ {X Y Z : Type 0} (f : X → Z) (g : Y → Z) (xs : List X) (ys : List Y) (d : X) (e : Y) where
+  pub same-more : (i : ℕ) → i < length xs → i < length ys → map f (take i xs) ≡ map g (take i ys) → f (get_or xs i d) ≡ g (get_or ys i e) → map f (take (i + 1) xs) ≡ map g (take (i + 1) ys)
+  same-more i in_xs in_ys before here = map_more f xs i d in_xs ∙ ap₂ (λ zs z. zs ++ z ∷ []) before here ∙ sym (map_more g ys i e in_ys)
+
+  pub same-at : (i : ℕ) → i < length xs → i < length ys → map f xs ≡ map g ys → f (get_or xs i d) ≡ g (get_or ys i e)
+  same-at i in_xs in_ys same = sym (get_or-map f xs i d (f d) in_xs) ∙ ap (λ zs. get_or zs i (f d)) same ∙ get_or-map g ys i e (f d) in_ys
+
+  pub same-count : map f xs ≡ map g ys → length xs ≡ length ys
+  same-count same = sym (length-map xs f) ∙ ap length same ∙ length-map ys g
+
+-- the symbols of looks of cells
+pub history-symbols : {X : Type 0} (items : X → List Cell) (rows : List X) → map (map (λ look. look.symbol)) (map (λ row. map look_of (items row)) rows) ≡ map symbols (map items rows)
+history-symbols items [] = refl
+history-symbols items (row ∷ rows) = ap₂ (λ x xs. x ∷ xs) (fused (items row)) (history-symbols items rows)
+  where
+    fused : (cells : List Cell) → map (λ (look : Look). look.symbol) (map look_of cells) ≡ symbols cells
+    fused [] = refl
+    fused (c ∷ cs) = ap (λ xs. (look_of c).symbol ∷ xs) (fused cs)
