@@ -55,7 +55,9 @@ impl EscapeBackend {
     }
 
     fn put(&mut self, x: u16, y: u16, cell: &Cell) -> Result<(), EscapeError>
-        ensures ok { OnOk result (Draws (screen_of self.old.shown) (record { x = x; y = y; cell = cell.now } ∷ []) (screen_of self.new.shown)) }
+        ensures ok { OnOk result
+            (Draws (screen_of self.old.shown) (record { x = x; y = y; cell = cell.now } ∷ [])
+            (screen_of self.new.shown)) }
         ensures counts { Counts result self.old.failures self.new.failures }
     {
         match self.send(x, y, cell) {

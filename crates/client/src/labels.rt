@@ -15,7 +15,8 @@ use std::alloc::AllocError;
 pub fn label(buffer: &mut Buffer, position: Position, text: &str) -> Result<(), AllocError>
     ensures painted { HasPosition buffer.old.area position → OnOk result (
         Paints position (pieces_at buffer.old.area position.x 65535 new_style text.now) buffer.old buffer.new) }
-    ensures settled { IsEmptied buffer.old.area buffer.old → OnOk result (IsSettledSheet buffer.new) }
+    ensures settled { IsEmptied buffer.old.area buffer.old
+        → OnOk result (IsSettledSheet buffer.new) }
 {
     if !buffer.area().contains(position) {
         return Ok(());

@@ -7,14 +7,14 @@ use Rattle.std.proofs.lemmas.Nat.{row_fits}
 use Rattle.std.proofs.lemmas.List.{get_or-set_other, get_or-set_same}
 use Rattle.rtui_geometry.specs.declared.position.Position.{Position}
 use Rattle.rtui_geometry.specs.declared.rect.Rect.{Rect}
-use Rattle.rtui_geometry.specs.Rect.{HasPosition, EdgesFit}
+use Rattle.rtui_geometry.specs.Rect.{united, HasPosition, EdgesFit}
 use Rattle.rtui_cell.specs.declared.cell.Cell.{Cell}
 use Rattle.rtui_cell.specs.Cell.{empty_cell}
 use Rattle.rtui_diff.specs.Cells.{cell, cell_at}
 use Rattle.rtui_buffer.specs.Sheet.{Sheet, cell_in, cell_index, empty_cells}
 use Rattle.rtui_buffer.proofs.EmptyLemmas.{cell-empty}
 use Rattle.rtui_buffer.specs.Painting.{IsSameOutside}
-use Rattle.rtui_buffer.specs.Overlay.{IsOverlay, IsExtended, IsAround, is_in_block, IsBlockAt, IsBlockIn, united}
+use Rattle.rtui_buffer.specs.Overlay.{IsOverlay, IsExtended, IsAround, is_in_block, IsBlockAt, IsBlockIn}
 use Rattle.rtui_buffer.proofs.PaintLemmas.{IsSameOutside-set, IsSameOutside-wider}
 
 -- a swap of one more cell

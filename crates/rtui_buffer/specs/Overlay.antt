@@ -1,8 +1,8 @@
 -- One buffer laid over another.
-use Rattle.std.specs.Prelude.{◌≡◌, ℕ, ◌+◌, ◌-◌, ◌<◌, ◌≤◌, Bool, ◌&&◌, nat_le, nat_lt, if◌then◌else◌, min, max, List, length}
+use Rattle.std.specs.Prelude.{◌≡◌, ℕ, ◌+◌, ◌-◌, ◌<◌, ◌≤◌, Bool, ◌&&◌, nat_le, nat_lt, if◌then◌else◌, List, length}
 use Rattle.rtui_geometry.specs.declared.position.Position.{Position}
 use Rattle.rtui_geometry.specs.declared.rect.Rect.{Rect}
-use Rattle.rtui_geometry.specs.Rect.{HasPosition, right_edge, bottom_edge, spanning}
+use Rattle.rtui_geometry.specs.Rect.{HasPosition, united}
 use Rattle.rtui_cell.specs.declared.cell.Cell.{Cell}
 use Rattle.rtui_cell.specs.Cell.{empty_cell}
 use Rattle.rtui_diff.specs.Cells.{cell_at}
@@ -11,10 +11,6 @@ use Rattle.rtui_buffer.specs.Sheet.{Sheet, cell_in}
 -- the empty area in the corner of the grid
 abbrev pub no_area : Rect
 no_area = record { x = 0; y = 0; width = 0; height = 0 }
-
--- the smallest rectangle that spans both
-abbrev pub united : Rect → Rect → Rect
-united a b = spanning (min a.x b.x) (min a.y b.y) (max (right_edge a) (right_edge b)) (max (bottom_edge a) (bottom_edge b))
 
 -- on the union of the areas: the upper buffer's cell where it has one, else the lower one's, else an empty cell
 pub record IsOverlay (lower upper s : Sheet) : Type 0 where

@@ -44,7 +44,8 @@ impl Model for Buffer {
 
     ghost Value = { Sheet };
 
-    ghost view = { λ b. record { area = b.area; cells = b.content.items; room = vec_capacity b.content } };
+    ghost view = { λ b. record
+        { area = b.area; cells = b.content.items; room = vec_capacity b.content } };
 
     ghost invariant = { λ b. IsSheet b.area b.content.items (vec_capacity b.content) };
 }
@@ -153,7 +154,8 @@ impl Buffer {
 
     /// The cell at a position, to be written, if it lies in the area.
     pub fn cell_mut(&mut self, position: Position) -> Option<&mut Cell>
-        ensures* writes_back { sem 𝓛 (LendsIf the_row cell_row self.entry result (with_cell self.old position) self.old) }
+        ensures* writes_back { sem 𝓛 (LendsIf the_row cell_row self.entry result (with_cell self.old position)
+            self.old) }
         ensures inside { IsSome result ↔ HasPosition self.old.area position }
         ensures value { IfSome result (λ cell. cell.now ≡ cell_in self.old position) }
     {

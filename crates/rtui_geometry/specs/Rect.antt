@@ -40,6 +40,13 @@ cut_rect x y w h = record { x = x; y = y; width = min w (65535 - x); height = mi
 abbrev pub spanning : ℕ → ℕ → ℕ → ℕ → Rect
 spanning x y right bottom = record { x = x; y = y; width = right - x; height = bottom - y }
 
+-- the smallest rectangle that spans both, and the one that both have
+abbrev pub united : Rect → Rect → Rect
+united a b = spanning (min a.x b.x) (min a.y b.y) (max (right_edge a) (right_edge b)) (max (bottom_edge a) (bottom_edge b))
+
+abbrev pub intersected : Rect → Rect → Rect
+intersected a b = spanning (max a.x b.x) (max a.y b.y) (min (right_edge a) (right_edge b)) (min (bottom_edge a) (bottom_edge b))
+
 -- each edge of the first lies behind the corner of the second, and the other way round
 pub record Intersects (a b : Rect) : Type 0 where
   pub left : a.x < right_edge b

@@ -48,5 +48,6 @@ pub fn defaults()
     ensures position { (p : Position) → ⟦<Position as Default>⟧.is_default p → p ≡ Position.ORIGIN }
     ensures size { (s : Size) → ⟦<Size as Default>⟧.is_default s → s ≡ Size.ZERO }
     ensures offset { (o : Offset) → ⟦<Offset as Default>⟧.is_default o → o ≡ Offset.ZERO }
-    ensures margin { (m : Margin) → ⟦<Margin as Default>⟧.is_default m → m ≡ record { horizontal = 0; vertical = 0 } }
+    ensures margin { (m : Margin) → ⟦<Margin as Default>⟧.is_default m
+        → m ≡ record { horizontal = 0; vertical = 0 } }
 {}

@@ -1,5 +1,5 @@
 ghost use Rattle.std.specs.Prelude.{◌≡◌, ◌+◌, ◌-◌, ◌*◌, ◌≤◌, ◌<◌, ◌^◌, ◌↔◌, ◌⊎◌, min, max, length, IsTrue, Some};
-ghost use Rattle.rtui_geometry.specs.Rect.{right_edge, bottom_edge, HasPosition, corner, SharePosition, EdgesFit, IsInside, cut_rect, spanning, Intersects, HasRoom, shrunk, grown, KeepsMargin, between};
+ghost use Rattle.rtui_geometry.specs.Rect.{right_edge, bottom_edge, HasPosition, corner, SharePosition, EdgesFit, IsInside, cut_rect, united, intersected, Intersects, HasRoom, shrunk, grown, KeepsMargin, between};
 ghost use Rattle.rtui_geometry.specs.Offset.{moved_rect};
 ghost use Rattle.rtui_geometry.specs.Rows.{rows_of, columns_of, positions_of, ListsRows, ListsColumns, ListsPositions};
 ghost use Rattle.rtui_geometry.specs.Display.{rect_text};
@@ -131,7 +131,8 @@ impl Rect {
     pub fn inner(self, margin: Margin) -> Self
         ensures room { HasRoom self margin → result ≡ shrunk self margin }
         ensures no_room { ¬ (HasRoom self margin) → result ≡ Rect.ZERO }
-        ensures positions { EdgesFit self → (p : Position) → HasPosition result p ↔ KeepsMargin self margin p }
+        ensures positions { EdgesFit self → (p : Position)
+            → HasPosition result p ↔ KeepsMargin self margin p }
         ensures inside { IsInside result self }
     {
         let horizontal = margin.horizontal.saturating_mul(2);
@@ -182,7 +183,7 @@ impl Rect {
 
     /// The smallest rectangle that spans both, also where one of them is empty.
     pub fn union(self, other: Self) -> Self
-        ensures value { result ≡ spanning (min self.x other.x) (min self.y other.y) (max (right_edge self) (right_edge other)) (max (bottom_edge self) (bottom_edge other)) }
+        ensures value { result ≡ united self other }
         ensures fits { EdgesFit result }
         ensures first { IsInside self result }
         ensures second { IsInside other result }
@@ -199,8 +200,9 @@ impl Rect {
 
     /// The rectangle of the positions that both have. Where they have none, it is empty.
     pub fn intersection(self, other: Self) -> Self
-        ensures value { result ≡ spanning (max self.x other.x) (max self.y other.y) (min (right_edge self) (right_edge other)) (min (bottom_edge self) (bottom_edge other)) }
-        ensures positions { (p : Position) → HasPosition result p ↔ (HasPosition self p × HasPosition other p) }
+        ensures value { result ≡ intersected self other }
+        ensures positions { (p : Position)
+            → HasPosition result p ↔ (HasPosition self p × HasPosition other p) }
         ensures fits { EdgesFit result }
     {
         let x = self.x.max(other.x);
@@ -218,7 +220,8 @@ impl Rect {
         ensures value { IsTrue result ↔ Intersects self other }
 
         // Where both have positions, they share one.
-        ensures shared { HasPosition self (corner self) → HasPosition other (corner other) → IsTrue result ↔ SharePosition self other }
+        ensures shared { HasPosition self (corner self) → HasPosition other (corner other)
+            → IsTrue result ↔ SharePosition self other }
     {
         self.x < other.right()
             && self.right() > other.x
@@ -307,7 +310,8 @@ impl Rect {
 }
 
 impl From<(Position, Size)> for Rect {
-    ghost from_gives = { λ pair r. r ≡ record { x = pair.0.x; y = pair.0.y; width = pair.1.width; height = pair.1.height } };
+    ghost from_gives = { λ pair r. r
+        ≡ record { x = pair.0.x; y = pair.0.y; width = pair.1.width; height = pair.1.height } };
 
     fn from((position, size): (Position, Size)) -> Self {
         Rect {

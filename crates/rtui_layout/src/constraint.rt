@@ -82,7 +82,8 @@ impl Constraint {
 
     /// A `Ratio` of each pair, in the order of the slice. Fails where memory runs out.
     pub fn from_ratios(alloc: Global, ratios: &[(u32, u32)]) -> Result<Vec<Self>, AllocError>
-        ensures { IfOk result (λ v. v.items ≡ map (λ pair. Constraint.Ratio pair.0 pair.1) ratios.now) }
+        ensures { IfOk result (λ v.
+            v.items ≡ map (λ pair. Constraint.Ratio pair.0 pair.1) ratios.now) }
     {
         ratios
             .iter()

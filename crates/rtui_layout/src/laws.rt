@@ -16,8 +16,11 @@ pub fn names_read_back()
 
 /// The variants that are defaults: downwards, at the left, at the top, at the start.
 pub fn defaults()
-    ensures direction { (d : Direction) → ⟦<Direction as Default>⟧.is_default d → d ≡ Direction.Vertical }
-    ensures horizontal { (a : HorizontalAlignment) → ⟦<HorizontalAlignment as Default>⟧.is_default a → a ≡ HorizontalAlignment.Left }
-    ensures vertical { (a : VerticalAlignment) → ⟦<VerticalAlignment as Default>⟧.is_default a → a ≡ VerticalAlignment.Top }
+    ensures direction { (d : Direction) → ⟦<Direction as Default>⟧.is_default d
+        → d ≡ Direction.Vertical }
+    ensures horizontal { (a : HorizontalAlignment)
+        → ⟦<HorizontalAlignment as Default>⟧.is_default a → a ≡ HorizontalAlignment.Left }
+    ensures vertical { (a : VerticalAlignment) → ⟦<VerticalAlignment as Default>⟧.is_default a
+        → a ≡ VerticalAlignment.Top }
     ensures flex { (f : Flex) → ⟦<Flex as Default>⟧.is_default f → f ≡ Flex.Start }
 {}

@@ -82,9 +82,21 @@ impl Model for Layout {
 
     ghost Value = { LayoutData };
 
-    ghost view = { λ l. record { direction = l.direction; constraints = l.constraints; margin = l.margin; flex = l.flex; spacing = l.spacing } };
+    ghost view = { λ l. record {
+      direction = l.direction;
+      constraints = l.constraints;
+      margin = l.margin;
+      flex = l.flex;
+      spacing = l.spacing;
+    } };
 
-    ghost inverse = { λ v. record { direction = v.direction; constraints = v.constraints; margin = v.margin; flex = v.flex; spacing = v.spacing } };
+    ghost inverse = { λ v. record {
+      direction = v.direction;
+      constraints = v.constraints;
+      margin = v.margin;
+      flex = v.flex;
+      spacing = v.spacing;
+    } };
 }
 
 impl Layout {
@@ -108,7 +120,8 @@ impl Layout {
         direction: Direction,
         constraints: &[Constraint],
     ) -> Result<Self, AllocError>
-        ensures { IfOk result (λ l. l ≡ record default_layout { direction = direction; constraints = constraints.now }) }
+        ensures { IfOk result (λ l.
+            l ≡ record default_layout { direction = direction; constraints = constraints.now }) }
     {
         Layout::default_in(alloc)
             .direction(direction)
@@ -117,14 +130,18 @@ impl Layout {
 
     /// The layout from top to bottom with these constraints. Fails where memory runs out.
     pub fn vertical(alloc: Global, constraints: &[Constraint]) -> Result<Self, AllocError>
-        ensures { IfOk result (λ l. l ≡ record default_layout { direction = Direction.Vertical; constraints = constraints.now }) }
+        ensures { IfOk result (λ l.
+            l ≡ record default_layout
+            { direction = Direction.Vertical; constraints = constraints.now }) }
     {
         Layout::new(alloc, Direction::Vertical, constraints)
     }
 
     /// The layout from left to right with these constraints. Fails where memory runs out.
     pub fn horizontal(alloc: Global, constraints: &[Constraint]) -> Result<Self, AllocError>
-        ensures { IfOk result (λ l. l ≡ record default_layout { direction = Direction.Horizontal; constraints = constraints.now }) }
+        ensures { IfOk result (λ l.
+            l ≡ record default_layout
+            { direction = Direction.Horizontal; constraints = constraints.now }) }
     {
         Layout::new(alloc, Direction::Horizontal, constraints)
     }
@@ -147,7 +164,8 @@ impl Layout {
 
     /// The layout with the same margin on all sides.
     pub fn margin(mut self, margin: u16) -> Self
-        ensures { result ≡ record self { margin = record { horizontal = margin; vertical = margin } } }
+        ensures { result
+            ≡ record self { margin = record { horizontal = margin; vertical = margin } } }
     {
         self.margin = Margin::from(margin);
         self

@@ -26,5 +26,6 @@ pub fn border_symbols()
 
 /// The default strategy is `Replace`.
 pub fn default_strategy()
-    ensures { (s : MergeStrategy) → ⟦<MergeStrategy as Default>⟧.is_default s → s ≡ MergeStrategy.Replace }
+    ensures { (s : MergeStrategy) → ⟦<MergeStrategy as Default>⟧.is_default s
+        → s ≡ MergeStrategy.Replace }
 {}

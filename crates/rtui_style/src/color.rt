@@ -237,7 +237,8 @@ impl fmt::Display for Color {
 }
 
 impl From<[u8; 3]> for Color {
-    ghost from_gives = { λ parts color. color ≡ Rgb (slice_index parts 0) (slice_index parts 1) (slice_index parts 2) };
+    ghost from_gives = { λ parts color. color
+        ≡ Rgb (slice_index parts 0) (slice_index parts 1) (slice_index parts 2) };
 
     fn from([red, green, blue]: [u8; 3]) -> Color {
         Color::Rgb(red, green, blue)
@@ -254,7 +255,8 @@ impl From<(u8, u8, u8)> for Color {
 
 /// The fourth part doesn't count.
 impl From<[u8; 4]> for Color {
-    ghost from_gives = { λ parts color. color ≡ Rgb (slice_index parts 0) (slice_index parts 1) (slice_index parts 2) };
+    ghost from_gives = { λ parts color. color
+        ≡ Rgb (slice_index parts 0) (slice_index parts 1) (slice_index parts 2) };
 
     fn from([red, green, blue, _]: [u8; 4]) -> Color {
         Color::Rgb(red, green, blue)

@@ -556,7 +556,8 @@ impl From<Modifier> for Style {
 
 /// Modifiers to add, and then modifiers to take away.
 impl From<(Modifier, Modifier)> for Style {
-    ghost from_gives = { λ pair style. style ≡ without_modifier pair.1 (with_modifier pair.0 new_style) };
+    ghost from_gives = { λ pair style. style
+        ≡ without_modifier pair.1 (with_modifier pair.0 new_style) };
 
     fn from((add_modifier, sub_modifier): (Modifier, Modifier)) -> Style {
         Style::new()
@@ -576,7 +577,8 @@ impl From<(Color, Modifier)> for Style {
 
 /// A foreground, a background and modifiers to add.
 impl From<(Color, Color, Modifier)> for Style {
-    ghost from_gives = { λ all style. style ≡ with_modifier all.2 (with_bg all.1 (with_fg all.0 new_style)) };
+    ghost from_gives = { λ all style. style
+        ≡ with_modifier all.2 (with_bg all.1 (with_fg all.0 new_style)) };
 
     fn from((fg, bg, modifier): (Color, Color, Modifier)) -> Style {
         Style::new().fg(fg).bg(bg).add_modifier(modifier)

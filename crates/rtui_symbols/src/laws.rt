@@ -59,7 +59,9 @@ pub fn thick_border() -> (line::Set<'static>, border::Set<'static>)
 
 /// The set of light double dashed lines, and the border that is made of it.
 pub fn light_double_dashed_border() -> (line::Set<'static>, border::Set<'static>)
-    ensures lines { line_texts result.0 ≡ with_dashes line_symbol.LIGHT_DOUBLE_DASH_VERTICAL.now line_symbol.LIGHT_DOUBLE_DASH_HORIZONTAL.now normal_lines }
+    ensures lines { line_texts result.0
+        ≡ with_dashes line_symbol.LIGHT_DOUBLE_DASH_VERTICAL.now
+        line_symbol.LIGHT_DOUBLE_DASH_HORIZONTAL.now normal_lines }
     ensures border { border_texts result.1 ≡ border_of result.0 }
 {
     (line::LIGHT_DOUBLE_DASHED, border::LIGHT_DOUBLE_DASHED)
@@ -67,7 +69,9 @@ pub fn light_double_dashed_border() -> (line::Set<'static>, border::Set<'static>
 
 /// The set of heavy double dashed lines, and the border that is made of it.
 pub fn heavy_double_dashed_border() -> (line::Set<'static>, border::Set<'static>)
-    ensures lines { line_texts result.0 ≡ with_dashes line_symbol.HEAVY_DOUBLE_DASH_VERTICAL.now line_symbol.HEAVY_DOUBLE_DASH_HORIZONTAL.now thick_lines }
+    ensures lines { line_texts result.0
+        ≡ with_dashes line_symbol.HEAVY_DOUBLE_DASH_VERTICAL.now
+        line_symbol.HEAVY_DOUBLE_DASH_HORIZONTAL.now thick_lines }
     ensures border { border_texts result.1 ≡ border_of result.0 }
 {
     (line::HEAVY_DOUBLE_DASHED, border::HEAVY_DOUBLE_DASHED)
@@ -75,7 +79,9 @@ pub fn heavy_double_dashed_border() -> (line::Set<'static>, border::Set<'static>
 
 /// The set of light triple dashed lines, and the border that is made of it.
 pub fn light_triple_dashed_border() -> (line::Set<'static>, border::Set<'static>)
-    ensures lines { line_texts result.0 ≡ with_dashes line_symbol.LIGHT_TRIPLE_DASH_VERTICAL.now line_symbol.LIGHT_TRIPLE_DASH_HORIZONTAL.now normal_lines }
+    ensures lines { line_texts result.0
+        ≡ with_dashes line_symbol.LIGHT_TRIPLE_DASH_VERTICAL.now
+        line_symbol.LIGHT_TRIPLE_DASH_HORIZONTAL.now normal_lines }
     ensures border { border_texts result.1 ≡ border_of result.0 }
 {
     (line::LIGHT_TRIPLE_DASHED, border::LIGHT_TRIPLE_DASHED)
@@ -83,7 +89,9 @@ pub fn light_triple_dashed_border() -> (line::Set<'static>, border::Set<'static>
 
 /// The set of heavy triple dashed lines, and the border that is made of it.
 pub fn heavy_triple_dashed_border() -> (line::Set<'static>, border::Set<'static>)
-    ensures lines { line_texts result.0 ≡ with_dashes line_symbol.HEAVY_TRIPLE_DASH_VERTICAL.now line_symbol.HEAVY_TRIPLE_DASH_HORIZONTAL.now thick_lines }
+    ensures lines { line_texts result.0
+        ≡ with_dashes line_symbol.HEAVY_TRIPLE_DASH_VERTICAL.now
+        line_symbol.HEAVY_TRIPLE_DASH_HORIZONTAL.now thick_lines }
     ensures border { border_texts result.1 ≡ border_of result.0 }
 {
     (line::HEAVY_TRIPLE_DASHED, border::HEAVY_TRIPLE_DASHED)
@@ -91,7 +99,9 @@ pub fn heavy_triple_dashed_border() -> (line::Set<'static>, border::Set<'static>
 
 /// The set of light quadruple dashed lines, and the border that is made of it.
 pub fn light_quadruple_dashed_border() -> (line::Set<'static>, border::Set<'static>)
-    ensures lines { line_texts result.0 ≡ with_dashes line_symbol.LIGHT_QUADRUPLE_DASH_VERTICAL.now line_symbol.LIGHT_QUADRUPLE_DASH_HORIZONTAL.now normal_lines }
+    ensures lines { line_texts result.0
+        ≡ with_dashes line_symbol.LIGHT_QUADRUPLE_DASH_VERTICAL.now
+        line_symbol.LIGHT_QUADRUPLE_DASH_HORIZONTAL.now normal_lines }
     ensures border { border_texts result.1 ≡ border_of result.0 }
 {
     (line::LIGHT_QUADRUPLE_DASHED, border::LIGHT_QUADRUPLE_DASHED)
@@ -99,7 +109,9 @@ pub fn light_quadruple_dashed_border() -> (line::Set<'static>, border::Set<'stat
 
 /// The set of heavy quadruple dashed lines, and the border that is made of it.
 pub fn heavy_quadruple_dashed_border() -> (line::Set<'static>, border::Set<'static>)
-    ensures lines { line_texts result.0 ≡ with_dashes line_symbol.HEAVY_QUADRUPLE_DASH_VERTICAL.now line_symbol.HEAVY_QUADRUPLE_DASH_HORIZONTAL.now thick_lines }
+    ensures lines { line_texts result.0
+        ≡ with_dashes line_symbol.HEAVY_QUADRUPLE_DASH_VERTICAL.now
+        line_symbol.HEAVY_QUADRUPLE_DASH_HORIZONTAL.now thick_lines }
     ensures border { border_texts result.1 ≡ border_of result.0 }
 {
     (line::HEAVY_QUADRUPLE_DASHED, border::HEAVY_QUADRUPLE_DASHED)
@@ -112,5 +124,6 @@ pub fn default_marker()
 
 /// The default scroll bar has no symbols.
 pub fn default_scrollbar()
-    ensures { (s : _) → ⟦<scrollbar::Set<'static> as Default>⟧.is_default s → scrollbar_texts s ≡ [] ∷ [] ∷ [] ∷ [] ∷ [] }
+    ensures { (s : _) → ⟦<scrollbar::Set<'static> as Default>⟧.is_default s
+        → scrollbar_texts s ≡ [] ∷ [] ∷ [] ∷ [] ∷ [] }
 {}

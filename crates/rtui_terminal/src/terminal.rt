@@ -45,7 +45,17 @@ impl<B: Backend> Model for Terminal<B> {
 
     ghost Value = { State B };
 
-    ghost view = { λ t. record { backend = t.backend; current = t.current; older = t.older; viewport = t.viewport; viewport_area = t.viewport_area; known_area = t.known_area; known_cursor = t.known_cursor; hidden_cursor = t.hidden_cursor; frame_count = t.frame_count } };
+    ghost view = { λ t. record {
+      backend = t.backend;
+      current = t.current;
+      older = t.older;
+      viewport = t.viewport;
+      viewport_area = t.viewport_area;
+      known_area = t.known_area;
+      known_cursor = t.known_cursor;
+      hidden_cursor = t.hidden_cursor;
+      frame_count = t.frame_count;
+    } };
 
     ghost invariant = { λ t. EdgesFit t.viewport_area × IsInPlace t.viewport t.viewport_area };
 }

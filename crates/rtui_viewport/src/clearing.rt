@@ -15,7 +15,8 @@ use rtui_geometry::{Position, Rect};
 // Empties the rows from `top` up to `bottom`.
 fn clear_rows<B: Backend>(backend: &mut B, top: u16, bottom: u16) -> Result<(), B::Error>
     requires { top ≤ bottom }
-    ensures cleared { OnOk result (bottom ≤ (B.screen backend.old).height → Empties (is_between top bottom) (B.screen backend.old) (B.screen backend.new)) }
+    ensures cleared { OnOk result (bottom ≤ (B.screen backend.old).height
+        → Empties (is_between top bottom) (B.screen backend.old) (B.screen backend.new)) }
     ensures frame { OnOk result (KeepsScreen (B.screen backend.old) (B.screen backend.new)) }
     ensures counts { Counts result (B.failures backend.old) (B.failures backend.new) }
 {
@@ -29,7 +30,8 @@ fn clear_rows<B: Backend>(backend: &mut B, top: u16, bottom: u16) -> Result<(), 
 // Draws an empty cell at each position of an area.
 fn draw_blanks<B: Backend>(backend: &mut B, area: Rect) -> Result<(), B::Error>
     requires { EdgesFit area }
-    ensures cleared { OnOk result (IsOnScreen area (B.screen backend.old) → Empties (is_within area) (B.screen backend.old) (B.screen backend.new)) }
+    ensures cleared { OnOk result (IsOnScreen area (B.screen backend.old)
+        → Empties (is_within area) (B.screen backend.old) (B.screen backend.new)) }
     ensures frame { OnOk result (KeepsScreen (B.screen backend.old) (B.screen backend.new)) }
     ensures counts { Counts result (B.failures backend.old) (B.failures backend.new) }
 {
@@ -40,7 +42,8 @@ fn draw_blanks<B: Backend>(backend: &mut B, area: Rect) -> Result<(), B::Error>
 // Empties an area and nothing else, by the fewest calls that serve.
 fn clear_fixed<B: Backend>(backend: &mut B, area: Rect) -> Result<(), B::Error>
     requires { EdgesFit area }
-    ensures cleared { OnOk result (IsOnScreen area (B.screen backend.old) → Empties (is_within area) (B.screen backend.old) (B.screen backend.new)) }
+    ensures cleared { OnOk result (IsOnScreen area (B.screen backend.old)
+        → Empties (is_within area) (B.screen backend.old) (B.screen backend.new)) }
     ensures frame { OnOk result (KeepsScreen (B.screen backend.old) (B.screen backend.new)) }
     ensures counts { Counts result (B.failures backend.old) (B.failures backend.new) }
 {
@@ -66,7 +69,8 @@ pub fn clear_area<B: Backend>(
     area: Rect,
 ) -> Result<(), B::Error>
     requires { EdgesFit area }
-    ensures cleared { OnOk result (ClearsArea viewport area (B.screen backend.old) (B.screen backend.new)) }
+    ensures cleared { OnOk result
+        (ClearsArea viewport area (B.screen backend.old) (B.screen backend.new)) }
     ensures frame { OnOk result (KeepsScreen (B.screen backend.old) (B.screen backend.new)) }
     ensures counts { Counts result (B.failures backend.old) (B.failures backend.new) }
 {
@@ -87,9 +91,11 @@ pub fn clear_viewport<B: Backend>(
     area: Rect,
 ) -> Result<(), B::Error>
     requires { EdgesFit area }
-    ensures cleared { OnOk result (ClearsArea viewport area (B.screen backend.old) (B.screen backend.new)) }
+    ensures cleared { OnOk result
+        (ClearsArea viewport area (B.screen backend.old) (B.screen backend.new)) }
     ensures frame { OnOk result (KeepsScreen (B.screen backend.old) (B.screen backend.new)) }
-    ensures cursor { OnOk result (cursor_of (B.screen backend.new) ≡ cursor_of (B.screen backend.old)) }
+    ensures cursor { OnOk result (cursor_of (B.screen backend.new)
+        ≡ cursor_of (B.screen backend.old)) }
     ensures counts { Counts result (B.failures backend.old) (B.failures backend.new) }
 {
     let cursor = backend.get_cursor_position()?;
@@ -105,7 +111,8 @@ pub fn clear_placed<B: Backend>(
     cursor: Option<Position>,
 ) -> Result<(), B::Error>
     requires { EdgesFit area }
-    ensures cleared { OnOk result (ClearsArea viewport area (B.screen backend.old) (B.screen backend.new)) }
+    ensures cleared { OnOk result
+        (ClearsArea viewport area (B.screen backend.old) (B.screen backend.new)) }
     ensures frame { OnOk result (KeepsScreen (B.screen backend.old) (B.screen backend.new)) }
     ensures cursor { OnOk result (IsCursorSet cursor (B.screen backend.old) (B.screen backend.new)) }
     ensures counts { Counts result (B.failures backend.old) (B.failures backend.new) }

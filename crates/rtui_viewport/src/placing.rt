@@ -25,12 +25,15 @@ pub fn place_inline<B: Backend>(
     size: Size,
     offset: u16,
 ) -> Result<(Rect, Position), B::Error>
-    ensures area { IfOk result (λ found. found.0 ≡ inline_area wanted size.width size.height offset (B.screen backend.old).cursor_y) }
+    ensures area { IfOk result (λ found.
+        found.0 ≡ inline_area wanted size.width size.height offset (B.screen backend.old).cursor_y) }
     ensures fits { IfOk result (λ found. EdgesFit found.0) }
     ensures cursor { IfOk result (λ found. found.1 ≡ cursor_of (B.screen backend.old)) }
     ensures on_grid { OnOk result (IsOnGrid (B.screen backend.old)) }
-    ensures appended { OnOk result (Appends (B.screen backend.old) (lines_below wanted offset) (B.screen backend.new)) }
-    ensures placed { IfOk result (λ found. size ≡ size_of (B.screen backend.old) → PlacesInline wanted offset (B.screen backend.old) found.0 (B.screen backend.new)) }
+    ensures appended { OnOk result
+        (Appends (B.screen backend.old) (lines_below wanted offset) (B.screen backend.new)) }
+    ensures placed { IfOk result (λ found. size ≡ size_of (B.screen backend.old)
+        → PlacesInline wanted offset (B.screen backend.old) found.0 (B.screen backend.new)) }
     ensures counts { Counts result (B.failures backend.old) (B.failures backend.new) }
 {
     let cursor = backend.get_cursor_position()?;
@@ -52,7 +55,9 @@ fn raise<B: Backend>(backend: &mut B, area: Rect, former_width: u16) -> Result<R
     requires { EdgesFit area }
     ensures area { IfOk result (λ r. r ≡ raised former_width area) }
     ensures fits { IfOk result EdgesFit }
-    ensures emptied { OnOk result (EmptiesAllIf (nat_lt area.width former_width) (B.screen backend.old) (B.screen backend.new)) }
+    ensures emptied { OnOk result
+        (EmptiesAllIf (nat_lt area.width former_width) (B.screen backend.old)
+        (B.screen backend.new)) }
     ensures counts { Counts result (B.failures backend.old) (B.failures backend.new) }
 {
     if area.width >= former_width {
@@ -72,12 +77,18 @@ pub fn place_viewport<B: Backend>(
     offset: u16,
 ) -> Result<Placed, B::Error>
     requires { EdgesFit area }
-    ensures area { IfOk result (λ placed. placed.area ≡ raised former_width (area_in viewport area offset (B.screen backend.old).cursor_y)) }
+    ensures area { IfOk result (λ placed.
+        placed.area ≡ raised former_width
+        (area_in viewport area offset (B.screen backend.old).cursor_y)) }
     ensures fits { IfOk result (λ placed. EdgesFit placed.area) }
-    ensures cursor { IfOk result (λ placed. placed.cursor ≡ cursor_found viewport (B.screen backend.old)) }
+    ensures cursor { IfOk result (λ placed.
+        placed.cursor ≡ cursor_found viewport (B.screen backend.old)) }
     ensures on_grid { OnOk result (IsInline viewport → IsOnGrid (B.screen backend.old)) }
-    ensures on_screen { IfOk result (λ placed. area ≡ screen_area (B.screen backend.old) → IsOnScreen placed.area (B.screen backend.new)) }
-    ensures placed { OnOk result (Places viewport former_width area.width offset (B.screen backend.old) (B.screen backend.new)) }
+    ensures on_screen { IfOk result (λ placed. area ≡ screen_area (B.screen backend.old)
+        → IsOnScreen placed.area (B.screen backend.new)) }
+    ensures placed { OnOk result
+        (Places viewport former_width area.width offset (B.screen backend.old)
+        (B.screen backend.new)) }
     ensures counts { Counts result (B.failures backend.old) (B.failures backend.new) }
 {
     let (next, cursor) = match viewport {

@@ -84,7 +84,8 @@ impl Eq for Buffer {
 }
 
 impl Hash for Buffer {
-    ghost hash_input = { λ b. ⟦<Rect as Hash>⟧.hash_input b.area ++ fed.slice ⟦<Cell as Hash>⟧.hash_input b.cells };
+    ghost hash_input = { λ b. ⟦<Rect as Hash>⟧.hash_input b.area
+        ++ fed.slice ⟦<Cell as Hash>⟧.hash_input b.cells };
 
     ghost respects_eq = { (and-Alike (on_Alike (λ b. b.area) (record { fed = rect_hashes })) (on_Alike (λ b. b.cells) (items_Alike (record { fed = cell_hashes })))).fed };
 

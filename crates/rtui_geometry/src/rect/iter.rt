@@ -169,7 +169,8 @@ impl Model for Positions {
 
     ghost Value = { List Position };
 
-    ghost view = { λ s. positions_from s.rect s.current.x (numbers s.current.y (bottom_edge s.rect)) };
+    ghost view = { λ s. positions_from s.rect s.current.x
+        (numbers s.current.y (bottom_edge s.rect)) };
 
     ghost invariant = { λ s. IsPlace s.rect s.current };
 }

@@ -27,7 +27,8 @@ fn write_differences<B: Backend>(
 ) -> Result<(), B::Error>
     requires same { current.now.area ≡ older.now.area }
     requires edges { EdgesFit older.now.area }
-    ensures ok { OnOk result (WritesDifferences older.now current.now (B.screen backend.old) (B.screen backend.new)) }
+    ensures ok { OnOk result
+        (WritesDifferences older.now current.now (B.screen backend.old) (B.screen backend.new)) }
     ensures counts { Counts result (B.failures backend.old) (B.failures backend.new) }
 {
     backend.draw(older.diff_iter(current))
@@ -63,7 +64,8 @@ impl<B: Backend> Terminal<B> {
         ensures* writes_back { let row = the_row B.row B.Error.row B.Backend B.Error.Debug B.Error.Display in
             sem 𝓛 (follows row buffer_row self.entry.ghost_name result.buffer.ghost_name (λ sheet.
             record self.entry.now { current = sheet })) }
-        ensures value { IsNewFrame self.old.viewport_area self.old.frame_count self.old.current result }
+        ensures value { IsNewFrame self.old.viewport_area self.old.frame_count self.old.current
+            result }
     {
         let count = self.frame_count;
         let viewport_area = self.viewport_area;
@@ -88,7 +90,8 @@ impl<B: Backend> Terminal<B> {
     /// Writes what differs between the older and the current buffer, and leaves both as they are. Where one of
     /// them hasn't the viewport's area nothing is written, and the answer is `Area`.
     pub fn flush(&mut self) -> Result<(), TerminalError<B::Error>>
-        ensures outcome { MatchResult result (λ _. Flushes B.screen self.old self.new) (FlushErr self.old self.new) }
+        ensures outcome { MatchResult result
+            (λ _. Flushes B.screen self.old self.new) (FlushErr self.old self.new) }
         ensures faults { Faults result (B.failures self.old.backend) (B.failures self.new.backend) }
     {
         let area = self.viewport_area;
@@ -108,7 +111,8 @@ impl<B: Backend> Terminal<B> {
     pub fn swap_buffers(&mut self)
         ensures older { self.new.older ≡ self.old.current }
         ensures current { IsEmptied self.old.older.area self.new.current }
-        ensures rest { self.new ≡ record self.old { current = self.new.current; older = self.new.older } }
+        ensures rest { self.new
+            ≡ record self.old { current = self.new.current; older = self.new.older } }
     {
         self.older.reset();
         mem::swap(&mut self.current, &mut self.older);

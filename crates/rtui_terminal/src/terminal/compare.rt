@@ -46,7 +46,11 @@ impl<B: Backend + Eq> Eq for Terminal<B> {
 }
 
 impl<B: Backend + Hash> Hash for Terminal<B> {
-    ghost hash_input = { λ t. B.hash_input t.backend ++ ⟦<Buffer as Hash>⟧.hash_input t.current ++ ⟦<Buffer as Hash>⟧.hash_input t.older ++ ⟦<Viewport as Hash>⟧.hash_input t.viewport ++ ⟦<Rect as Hash>⟧.hash_input t.viewport_area ++ ⟦<Rect as Hash>⟧.hash_input t.known_area ++ ⟦<Position as Hash>⟧.hash_input t.known_cursor ++ fed.bool t.hidden_cursor ++ fed.usize t.frame_count };
+    ghost hash_input = { λ t. B.hash_input t.backend ++ ⟦<Buffer as Hash>⟧.hash_input t.current
+        ++ ⟦<Buffer as Hash>⟧.hash_input t.older ++ ⟦<Viewport as Hash>⟧.hash_input t.viewport
+        ++ ⟦<Rect as Hash>⟧.hash_input t.viewport_area ++ ⟦<Rect as Hash>⟧.hash_input t.known_area
+        ++ ⟦<Position as Hash>⟧.hash_input t.known_cursor ++ fed.bool t.hidden_cursor
+        ++ fed.usize t.frame_count };
 
     ghost respects_eq = { (and-Alike (and-Alike (and-Alike (and-Alike (and-Alike (and-Alike (and-Alike (and-Alike (on_Alike (λ t. t.backend) (record { fed = B.Hash.respects_eq })) (on_Alike (λ t. t.current) (record { fed = buffer_hashes }))) (on_Alike (λ t. t.older) (record { fed = buffer_hashes }))) (on_Alike (λ t. t.viewport) (record { fed = viewport_hashes }))) (on_Alike (λ t. t.viewport_area) (record { fed = rect_hashes }))) (on_Alike (λ t. t.known_area) (record { fed = rect_hashes }))) (on_Alike (λ t. t.known_cursor) (record { fed = position_hashes }))) (on_Alike (λ t. t.hidden_cursor) (same_Alike fed.bool booleans_Decides))) (on_Alike (λ t. t.frame_count) (same_Alike fed.usize unsigned_Decides))).fed };
 
@@ -78,7 +82,8 @@ impl<B: Backend> Eq for CompletedFrame<'_, B> {
 }
 
 impl<B: Backend> Hash for CompletedFrame<'_, B> {
-    ghost hash_input = { λ f. ⟦<Buffer as Hash>⟧.hash_input f.terminal.now.older ++ ⟦<Rect as Hash>⟧.hash_input f.area ++ fed.usize f.count };
+    ghost hash_input = { λ f. ⟦<Buffer as Hash>⟧.hash_input f.terminal.now.older
+        ++ ⟦<Rect as Hash>⟧.hash_input f.area ++ fed.usize f.count };
 
     ghost respects_eq = { (and-Alike (and-Alike (on_Alike (λ f. f.terminal.now.older) (record { fed = buffer_hashes })) (on_Alike (λ f. f.area) (record { fed = rect_hashes }))) (on_Alike (λ f. f.count) (same_Alike fed.usize unsigned_Decides))).fed };
 

@@ -11,7 +11,9 @@ use rtui_geometry::Position;
 impl<B: Backend> Terminal<B> {
     /// Hides the cursor.
     pub fn hide_cursor(&mut self) -> Result<(), TerminalError<B::Error>>
-        ensures ok { OnOk result (MovesCursor B.screen true self.old.known_cursor (with_visible false) self.old self.new) }
+        ensures ok { OnOk result
+            (MovesCursor B.screen true self.old.known_cursor (with_visible false) self.old
+            self.new) }
         ensures err { OnErr result (self.new ≡ record self.old { backend = self.new.backend }) }
         ensures only { FailsOnlyByBackend result }
         ensures faults { Faults result (B.failures self.old.backend) (B.failures self.new.backend) }
@@ -23,7 +25,9 @@ impl<B: Backend> Terminal<B> {
 
     /// Shows the cursor.
     pub fn show_cursor(&mut self) -> Result<(), TerminalError<B::Error>>
-        ensures ok { OnOk result (MovesCursor B.screen false self.old.known_cursor (with_visible true) self.old self.new) }
+        ensures ok { OnOk result
+            (MovesCursor B.screen false self.old.known_cursor (with_visible true) self.old
+            self.new) }
         ensures err { OnErr result (self.new ≡ record self.old { backend = self.new.backend }) }
         ensures only { FailsOnlyByBackend result }
         ensures faults { Faults result (B.failures self.old.backend) (B.failures self.new.backend) }
@@ -42,7 +46,8 @@ impl<B: Backend> Terminal<B> {
 
     /// The older name of `get_cursor_position`: the column and the row.
     pub fn get_cursor(&mut self) -> Result<(u16, u16), TerminalError<B::Error>>
-        ensures ok { IfOk result (λ place. place ≡ ((B.screen self.old.backend).cursor_x, (B.screen self.old.backend).cursor_y)) }
+        ensures ok { IfOk result (λ place.
+            place ≡ ((B.screen self.old.backend).cursor_x, (B.screen self.old.backend).cursor_y)) }
         ensures stays { OnOk result (Stays B.screen self.old self.new) }
         ensures in_step { OnOk result (IsInStep B.screen self.old → IsInStep B.screen self.new) }
         ensures rest { self.new ≡ record self.old { backend = self.new.backend } }
@@ -55,7 +60,8 @@ impl<B: Backend> Terminal<B> {
 
     /// The older name of `set_cursor_position`.
     pub fn set_cursor(&mut self, x: u16, y: u16) -> Result<(), TerminalError<B::Error>>
-        ensures ok { OnOk result (MovesCursor B.screen self.old.hidden_cursor (record { x = x; y = y })
+        ensures ok { OnOk result
+            (MovesCursor B.screen self.old.hidden_cursor (record { x = x; y = y })
             (with_cursor x y) self.old self.new) }
         ensures err { OnErr result (self.new ≡ record self.old { backend = self.new.backend }) }
         ensures only { FailsOnlyByBackend result }

@@ -24,7 +24,8 @@ fn paint<R, F>(
 where
     F: FnOnce(&mut Frame<'_>) -> R,
     requires { AcceptsNewFrame F.FnOnce render_callback viewport_area count buffer.old }
-    ensures { PaintsFrame F.FnOnce render_callback viewport_area count buffer.old result.0 result.1 buffer.new }
+    ensures { PaintsFrame F.FnOnce render_callback viewport_area count buffer.old result.0 result.1
+        buffer.new }
 {
     let mut frame = Frame {
         cursor_position: None,
@@ -74,7 +75,8 @@ impl<B: Backend> Terminal<B> {
     where
         F: FnOnce(&mut Frame<'_>) -> Result<(), AllocError>,
         requires { AcceptsFrames F.FnOnce render_callback self.old }
-        ensures drawn { DrawsBy B.screen (paints_on F.FnOnce render_callback) self.old self.new result }
+        ensures drawn { DrawsBy B.screen (paints_on F.FnOnce render_callback) self.old self.new
+            result }
         ensures faults { Faults result (B.failures self.old.backend) (B.failures self.new.backend) }
     {
         match self.autoresize() {
@@ -94,7 +96,8 @@ impl<B: Backend> Terminal<B> {
     where
         F: FnOnce(&mut Frame<'_>) -> Result<(), B::Error>,
         requires { AcceptsFrames F.FnOnce render_callback self.old }
-        ensures drawn { TriesBy B.screen (paints_on F.FnOnce render_callback) self.old self.new result }
+        ensures drawn { TriesBy B.screen (paints_on F.FnOnce render_callback) self.old self.new
+            result }
         ensures faults { Faults result (B.failures self.old.backend) (B.failures self.new.backend) }
     {
         match self.autoresize() {
@@ -124,12 +127,15 @@ impl<B: Backend> Terminal<B> {
     where
         F: FnOnce(&mut Frame<'_>) -> Result<(), AllocError>,
         requires { AcceptsFrames F.FnOnce render_callback self.old }
-        ensures* refused { let row = the_row B.row B.Error.row B.Backend B.Error.Debug B.Error.Display in
+        ensures* refused { let row = the_row B.row B.Error.row B.Backend B.Error.Debug
+            B.Error.Display in
             sem 𝓛 (RestsIfErr row self.entry (λ frame. frame.terminal.ghost_name) result (λ t.
             DrawsBy B.screen (paints_on F.FnOnce render_callback) self.old t result
             × Faults result (B.failures self.old.backend) (B.failures t.backend))) }
-        ensures same_terminal { IfOk result (λ frame. frame.terminal.ghost_name ≡ self.entry.ghost_name) }
-        ensures drawn { IfOk result (λ frame. DrawOk B.screen (paints_on F.FnOnce render_callback) self.old frame.terminal.now) }
+        ensures same_terminal { IfOk result (λ frame.
+            frame.terminal.ghost_name ≡ self.entry.ghost_name) }
+        ensures drawn { IfOk result (λ frame.
+            DrawOk B.screen (paints_on F.FnOnce render_callback) self.old frame.terminal.now) }
         ensures in_step { IfOk result (λ frame. IsReady B.screen self.old
             → IsSettledSheet frame.terminal.now.older → IsInStep B.screen frame.terminal.now) }
         ensures faults { IfOk result (λ frame. B.failures frame.terminal.now.backend
@@ -159,12 +165,15 @@ impl<B: Backend> Terminal<B> {
     where
         F: FnOnce(&mut Frame<'_>) -> Result<(), B::Error>,
         requires { AcceptsFrames F.FnOnce render_callback self.old }
-        ensures* refused { let row = the_row B.row B.Error.row B.Backend B.Error.Debug B.Error.Display in
+        ensures* refused { let row = the_row B.row B.Error.row B.Backend B.Error.Debug
+            B.Error.Display in
             sem 𝓛 (RestsIfErr row self.entry (λ frame. frame.terminal.ghost_name) result (λ t.
             TriesBy B.screen (paints_on F.FnOnce render_callback) self.old t result
             × Faults result (B.failures self.old.backend) (B.failures t.backend))) }
-        ensures same_terminal { IfOk result (λ frame. frame.terminal.ghost_name ≡ self.entry.ghost_name) }
-        ensures drawn { IfOk result (λ frame. DrawOk B.screen (paints_on F.FnOnce render_callback) self.old frame.terminal.now) }
+        ensures same_terminal { IfOk result (λ frame.
+            frame.terminal.ghost_name ≡ self.entry.ghost_name) }
+        ensures drawn { IfOk result (λ frame.
+            DrawOk B.screen (paints_on F.FnOnce render_callback) self.old frame.terminal.now) }
         ensures in_step { IfOk result (λ frame. IsReady B.screen self.old
             → IsSettledSheet frame.terminal.now.older → IsInStep B.screen frame.terminal.now) }
         ensures faults { IfOk result (λ frame. B.failures frame.terminal.now.backend
@@ -188,11 +197,13 @@ impl<B: Backend> Terminal<B> {
 
     /// Draws the current buffer as it is, and hides the cursor.
     pub fn apply_buffer(&mut self) -> Result<CompletedFrame<'_, B>, TerminalError<B::Error>>
-        ensures* refused { let row = the_row B.row B.Error.row B.Backend B.Error.Debug B.Error.Display in
+        ensures* refused { let row = the_row B.row B.Error.row B.Backend B.Error.Debug
+            B.Error.Display in
             sem 𝓛 (RestsIfErr row self.entry (λ frame. frame.terminal.ghost_name) result (λ t.
             AppliesBy B.screen None self.old t result
             × Faults result (B.failures self.old.backend) (B.failures t.backend))) }
-        ensures same_terminal { IfOk result (λ frame. frame.terminal.ghost_name ≡ self.entry.ghost_name) }
+        ensures same_terminal { IfOk result (λ frame.
+            frame.terminal.ghost_name ≡ self.entry.ghost_name) }
         ensures applied { IfOk result (λ frame. Applies B.screen None self.old frame.terminal.now) }
         ensures faults { IfOk result (λ frame. B.failures frame.terminal.now.backend
             ≡ B.failures self.old.backend) }
@@ -208,12 +219,15 @@ impl<B: Backend> Terminal<B> {
         &mut self,
         cursor_position: Option<Position>,
     ) -> Result<CompletedFrame<'_, B>, TerminalError<B::Error>>
-        ensures* refused { let row = the_row B.row B.Error.row B.Backend B.Error.Debug B.Error.Display in
+        ensures* refused { let row = the_row B.row B.Error.row B.Backend B.Error.Debug
+            B.Error.Display in
             sem 𝓛 (RestsIfErr row self.entry (λ frame. frame.terminal.ghost_name) result (λ t.
             AppliesBy B.screen cursor_position self.old t result
             × Faults result (B.failures self.old.backend) (B.failures t.backend))) }
-        ensures same_terminal { IfOk result (λ frame. frame.terminal.ghost_name ≡ self.entry.ghost_name) }
-        ensures applied { IfOk result (λ frame. Applies B.screen cursor_position self.old frame.terminal.now) }
+        ensures same_terminal { IfOk result (λ frame.
+            frame.terminal.ghost_name ≡ self.entry.ghost_name) }
+        ensures applied { IfOk result (λ frame.
+            Applies B.screen cursor_position self.old frame.terminal.now) }
         ensures faults { IfOk result (λ frame. B.failures frame.terminal.now.backend
             ≡ B.failures self.old.backend) }
         ensures area { IfOk result (λ frame. frame.area ≡ frame.terminal.now.known_area) }

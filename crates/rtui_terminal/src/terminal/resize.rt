@@ -33,7 +33,8 @@ impl<B: Backend> Terminal<B> {
         requires { EdgesFit area }
         ensures current { IsSameSheet self.old.current self.new.current }
         ensures older { IsSameSheet self.old.older self.new.older }
-        ensures rest { self.new ≡ record self.old { current = self.new.current; older = self.new.older } }
+        ensures rest { self.new
+            ≡ record self.old { current = self.new.current; older = self.new.older } }
         ensures room { OnOk result (HasRoom area self.new) }
     {
         self.current.reserve(area)?;
@@ -47,7 +48,8 @@ impl<B: Backend> Terminal<B> {
         requires room { HasRoom area self.old }
         ensures current { IsResized area self.old.current self.new.current }
         ensures older { IsResized area self.old.older self.new.older }
-        ensures rest { self.new ≡ record self.old { current = self.new.current; older = self.new.older; viewport_area = area } }
+        ensures rest { let t = self.new in
+            t ≡ record self.old { current = t.current; older = t.older; viewport_area = area } }
     {
         let _ = self.current.resize(area);
         let _ = self.older.resize(area);

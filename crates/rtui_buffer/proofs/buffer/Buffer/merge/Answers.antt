@@ -1,7 +1,7 @@
 use Rattle.std.proofs.Common.{◌≡◌, ◌++◌, length, take, drop, refl, ap, sym, ◌∙◌, arith}
 use Rattle.std.proofs.lemmas.Grind.{common_steps}
-use Rattle.rtui_geometry.specs.Rect.{EdgesFit}
-use Rattle.rtui_buffer.specs.Overlay.{IsExtended, IsBlockIn, united}
+use Rattle.rtui_geometry.specs.Rect.{united, EdgesFit}
+use Rattle.rtui_buffer.specs.Overlay.{IsExtended, IsBlockIn}
 use Rattle.rtui_buffer.proofs.OverlayLemmas.{IsOverlay-block}
 use Rattle.rtui_buffer.proofs.buffer.Buffer.merge.Goals as goal
 
