@@ -1,5 +1,7 @@
 pub mod NumberLemmas
 pub mod ScriptLemmas
 pub mod PlayLemmas
+pub mod RunLemmas
+pub mod SceneLemmas
 pub mod PrintLemmas
 pub mod StageLemmas

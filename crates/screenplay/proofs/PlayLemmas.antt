@@ -1,154 +1,437 @@
--- Playing, a scene at a time.
-use Rattle.std.proofs.Common.{◌≡◌, ℕ, ◌+◌, ◌-◌, ◌<◌, List, [], ◌∷◌, ◌++◌, length, take, get_or, Some, None, arith, length-append, inl, inr, refl, sym, ap, ap₂, ◌∙◌, subst}
-use Rattle.std.specs.Prelude.{slice_get}
+-- A terminal in the middle of a play: its start, its sizes, its frames and its clears.
+use Rattle.std.proofs.Common.{◌≡◌, ◌⊎◌, ℕ, zero, suc, ◌+◌, ◌-◌, ◌*◌, ◌<◌, ◌≤◌, min, nat_lt, Bool, true, false, if◌then◌else◌, List, [], ◌∷◌, ◌++◌, length, map, take, replicate, Option, Some, None, refl, sym, ap, ap₂, subst, ◌∙◌, inl, inr, arith}
+use Rattle.std.specs.Prelude.{nat_le, ◌||◌, ◌&&◌, ◌==◌}
+use Rattle.std.proofs.lemmas.List.{length-replicate}
+use Rattle.std.specs.List.{range_with_len}
 use Rattle.std.proofs.lemmas.Bool.{cases_lt}
-use Rattle.std.proofs.lemmas.List.{get_or_append_left, append-nil}
-use Rattle.std.proofs.lemmas.Option.{slice_get-get_or, get_or_from_slice_get, slice_get_within}
-use Rattle.std.proofs.Math.Seq.{get_or-append_seam}
-use Rattle.rtui_diff.specs.Shows.{ShowsColumn}
-use Rattle.rtui_geometry.specs.declared.rect.Rect.{Rect}
-use Rattle.rtui_cell.specs.Look.{empty_look}
-use Rattle.rtui_backend.specs.Screen.{Screen, IsBlankScreen, screen_area, seen, rows_above}
-use Rattle.rtui_viewport.specs.declared.viewport.Viewport.TheVariants.{Fullscreen}
 use Rattle.std.proofs.lemmas.Bool.Decides.{nat_tests}
+use Rattle.rtui_geometry.specs.declared.rect.Rect.{Rect}
+use Rattle.rtui_geometry.specs.declared.size.Size.{Size}
+use Rattle.rtui_cell.specs.declared.cell.Cell.{Cell}
+use Rattle.rtui_cell.specs.Cell.{empty_cell}
+use Rattle.rtui_cell.specs.Look.{Look, empty_look}
+use Rattle.rtui_text.specs.Text.{TextData}
+use Rattle.rtui_buffer.specs.Sheet.{Sheet, IsEmptied, area_size, empty_cells}
+use Rattle.rtui_buffer.specs.Frame.{IsSettledSheet, ShowsSheet}
+use Rattle.rtui_backend.specs.Screen.{Screen, IsBlankScreen, IsOnScreen, IsWithin, KeepsSize, TakesSize, seen, row_of, rows_above, lines_past, screen_area, size_of}
 use Rattle.rtui_backend.specs.TestBackend.{screen_of}
 use Rattle.rtui_backend.specs.declared.test.TestBackend.{TestBackend}
-use Rattle.rtui_terminal.specs.State.{State}
-use Rattle.rtui_terminal.specs.Calls.{Starts, Applies}
-use Rattle.rtui_terminal.specs.InStep.{IsInStep}
-use Rattle.rtui_buffer.specs.Sheet.{Sheet, IsEmptied, IsSameSheet}
-use Rattle.rtui_backend.specs.CellGrid.{grid_of}
-use Rattle.rtui_buffer.specs.Frame.{IsSettledSheet}
-use Rattle.screenplay.specs.Puts.{with_puts}
-use Rattle.screenplay.specs.Run.{stage_area, IsBlankStage, ShowsFrame, IsRun, IsAfter, IsFault, puts_in}
-use Rattle.screenplay.specs.Playing.{IsPlaying, IsSceneOf, IsCause}
+use Rattle.rtui_viewport.specs.declared.viewport.Viewport.{Viewport}
+use Rattle.rtui_viewport.specs.declared.viewport.Viewport.TheVariants.{Fullscreen, Inline, Fixed}
+use Rattle.rtui_viewport.specs.Viewports.{IsFixed, IsInline}
+use Rattle.rtui_viewport.specs.Areas.{KeepsOutside, IsBlankOver, IsBlankBelow, Empties}
+use Rattle.rtui_viewport.specs.Placing.{area_in, raised, inline_area, inline_top, rows_scrolled, lines_below}
+use Rattle.rtui_viewport.specs.Clearing.{HasPlace, ClearsArea, is_emptied}
+use Rattle.rtui_viewport.proofs.ClearLemmas.{blank_over, keeps_outside}
+use Rattle.rtui_terminal.specs.State.{State, cursor_offset}
+use Rattle.rtui_terminal.specs.InStep.{IsInStep, IsSized}
+use Rattle.rtui_terminal.specs.Calls.{Starts, Applies, Clears, Resizes, Autoresizes, IsResized, first_area}
+use Rattle.screenplay.specs.Run.{Sight, plain_screen, at_corner, stage_size, IsGoodViewport, IsGoodStage, IsAcross, MayLie, IsFrame, first_viewport, first_rows, IsStart, KeepsRest, size_after, GoesOn, IsEmptiedView}
+use Rattle.screenplay.specs.Playing.{IsPlaying, sight_in, TakesNewSize, IsSizedFor, ShowsFrame, IsFrameCause, IsCause, Plays}
 use Rattle.screenplay.specs.declared.scene.PlayCause.{PlayCause}
-use Rattle.screenplay.specs.declared.scene.Scene.{Scene}
-use Rattle.std.specs.declared.vec.Vec.{Vec}
-use Rattle.std.specs.declared.alloc.Global.{Global}
+use Rattle.screenplay.specs.declared.scene.PlayCause.TheVariants.{Memory, Unsettled}
 use Rattle.screenplay.specs.declared.scene.Stage.{Stage}
-use Rattle.screenplay.specs.declared.scene.Step.{Step}
+use Rattle.screenplay.specs.declared.scene.Step.TheVariants as steps
 
-pub IsPlaying-started : (stage : Stage) (b : TestBackend) (t : State TestBackend) → IsBlankScreen stage.width stage.height (screen_of b) → Starts screen_of Fullscreen b t
-    → IsPlaying stage t × IsBlankStage stage (screen_of t.backend).grid
-IsPlaying-started stage b t blank starts =
-    let same = starts.scrolls in
-    let over : screen_area (screen_of b) ≡ stage_area stage = rw (blank.width, blank.height) refl in
-    let view : t.viewport_area ≡ stage_area stage = starts.viewport_area ∙ starts.known_area ∙ over in
-    let width : (screen_of t.backend).width ≡ stage.width = same.width ∙ blank.width in
-    let height : (screen_of t.backend).height ≡ stage.height = same.height ∙ blank.height in
-    let empty : IsBlankStage stage (screen_of t.backend).grid = λ a b' a_in b_in.
-    same.grid a b' (omega (arith, blank.width)) (omega (arith, blank.height)) ∙ seen_blank (screen_of b) a b' blank.grid in (
-      record {
-        width = width;
-        height = height;
-        history = same.history ∙ rows_none (screen_of b) ∙ blank.history;
-        viewport = view;
-        in_step = starts.in_step (starts.on_screen (λ x. x)) (rw view (record { at = λ a b' within. empty a b' (omega (arith, within.right)) (omega (arith, within.bottom)) }));
-        current = subst (λ area. IsEmptied area t.current) view starts.current;
-      },
-      empty,
-    )
-  where
-    rows_none : (s : Screen) → rows_above s 0 ≡ s.history
-    rows_none s = append-nil s.history
+-- sizes and areas from columns and rows
+same_size : (r s : Screen) → r.width ≡ s.width → r.height ≡ s.height → size_of r ≡ size_of s
+same_size r s w h = rw (w, h) refl
 
-    seen_blank : (s : Screen) (a b : ℕ) → ((a b : ℕ) → s.grid a b ≡ empty_look) → seen s a (b + 0) ≡ empty_look
-    seen_blank s a b all = elim (cases_lt (b + 0) s.height) [
-      | inl inside ↦ let is = all a (b + 0) in grind (arith, nat_tests)
-      | inr past ↦ grind (arith, nat_tests)
-    ]
+same_area : (r s : Screen) → r.width ≡ s.width → r.height ≡ s.height → screen_area r ≡ screen_area s
+same_area r s w h = rw (w, h) refl
 
--- a settled frame painted on the empty buffer and drawn
-pub IsPlaying-drawn : (stage : Stage) (puts : List (ℕ × ℕ × ℕ)) (frame : Sheet) (s t : State TestBackend) → IsPlaying stage s → frame ≡ with_puts puts s.current → IsSettledSheet frame
-    → Applies screen_of None (record s { current = frame }) t → IsPlaying stage t × ShowsFrame stage puts (screen_of t.backend).grid
-IsPlaying-drawn stage puts frame s t playing painted settled applied =
-    let at = playing.in_step in
-    let drawn = applied.drawn.1.drawn in
-    let placed = applied.drawn.2 in
-    let shown : IsInStep screen_of t = applied.in_step (record { on_screen = at.on_screen; area = at.area; settled = at.settled; shown = at.shown }) settled in (
-      record {
-        width = ap (λ (s : Screen). s.width) placed ∙ drawn.width ∙ playing.width;
-        height = ap (λ (s : Screen). s.height) placed ∙ drawn.height ∙ playing.height;
-        history = ap (λ (s : Screen). s.history) placed ∙ drawn.history ∙ playing.history;
-        viewport = ap (λ t. t.viewport_area) applied.rest ∙ playing.viewport;
-        in_step = shown;
-        current = subst (λ area. IsEmptied area t.current) playing.viewport applied.emptied;
-      },
-      record {
-        frame = t.older;
-        made = record { blank = s.current; emptied = playing.current; painted = applied.painted ∙ painted };
-        settled = shown.settled;
-        shown = shown.shown;
-      },
-    )
+-- a list of one value
+all_same : {X : Type 0} (f : ℕ → X) (x : X) (a n : ℕ) → ((i : ℕ) → a ≤ i → i < a + n → f i ≡ x) → map f (range_with_len a n) ≡ replicate n x
+all_same f x a zero same = refl
+all_same f x a (suc n) same =
+    ap₂ (λ y ys. y ∷ ys) (same a (omega arith) (omega arith)) (all_same f x (a + 1) n (λ i low high. same i (omega arith) (omega arith)))
 
--- a scene made of what the backend's buffer shows
-pub IsSceneOf-made : (stage : Stage) (t : State TestBackend) (buffer copy : Sheet) (scene : Scene)
-    → scene.screen ≡ copy → scene.viewport ≡ t.viewport_area → scene.history.items ≡ []
-    → IsSameSheet buffer copy
-    → buffer.area ≡ record { x = 0; y = 0; width = (screen_of t.backend).width; height = (screen_of t.backend).height }
-    → ((a b : ℕ) → grid_of buffer.area.width buffer.cells a b ≡ (screen_of t.backend).grid a b)
-    → IsPlaying stage t → IsSceneOf stage t scene
-IsSceneOf-made stage t buffer copy scene screen viewport history same area shown playing =
-    let made : scene.screen.area ≡ buffer.area = ap (λ (s : Sheet). s.area) screen ∙ same.area in
-    let cells : scene.screen.cells ≡ buffer.cells = ap (λ (s : Sheet). s.cells) screen ∙ same.cells in
-    record {
-      on_stage = record {
-        screen = made ∙ area ∙ rw (playing.width, playing.height) refl;
-        viewport = viewport ∙ playing.viewport;
-        history = history;
-      };
-      shown = λ a b. ap₂ (λ (r : Rect) cs. grid_of r.width cs a b) made cells ∙ shown a b;
-    }
+-- a viewport that lies where it may is on the screen; a fixed one is where the stage is good
+on_screen : (kind : Viewport) (r : Rect) (s : Screen) → MayLie kind (size_of s) r → IsOnScreen (first_viewport kind (size_of s)) s ⊎ (IsFixed kind → ⊥) → IsOnScreen r s
+on_screen Fullscreen r s lies good = rw lies (record { right = omega arith; bottom = omega arith })
+on_screen (Inline n) r s lies good = record { right = omega (arith, lies.x, lies.width); bottom = lies.bottom }
+on_screen (Fixed f) r s lies good = elim good [
+  | inl is ↦ rw lies is
+  | inr not ↦ absurd (not tt)
+]
 
--- the elements of a list with one more
-get_front : {X : Type 0} (xs : List X) (y x : X) (k : ℕ) → k < length xs → slice_get (xs ++ y ∷ []) k ≡ Some x → slice_get xs k ≡ Some x
-get_front xs y x k lt e =
-    slice_get-get_or xs k x lt ∙ ap Some (sym (get_or_append_left xs (y ∷ []) x k lt) ∙ get_or_from_slice_get (xs ++ y ∷ []) k x x e)
-
-get_last : {X : Type 0} (xs : List X) (y x : X) (k : ℕ) → k ≡ length xs → slice_get (xs ++ y ∷ []) k ≡ Some x → y ≡ x
-get_last xs y x k end e =
-    sym (get_or-append_seam xs y [] x) ∙ ap (λ i. get_or (xs ++ y ∷ []) i x) (sym end) ∙ get_or_from_slice_get (xs ++ y ∷ []) k x x e
-
--- one more step, and the scene after it
-pub IsRun-push : (stage : Stage) (steps : List Step) (step : Step) (scenes : List Scene) (scene : Scene) → IsRun stage steps scenes → IsAfter stage step scene
-    → IsRun stage (steps ++ step ∷ []) (scenes ++ scene ∷ [])
-IsRun-push stage steps step scenes scene run follows =
-    let count = run.count in
-    record {
-      count = omega (arith, length-append steps (step ∷ []), length-append scenes (scene ∷ []));
-      start = λ first e. run.start first (get_front scenes scene first 0 (omega arith) e);
-      after = λ k st sc is_step is_scene. elim (cases_lt k (length steps)) [
-        | inl less ↦ run.after k st sc (get_front steps step st k less is_step) (get_front scenes scene sc (k + 1) (omega arith) is_scene)
-        | inr ge ↦
-            let within : k < length (steps ++ step ∷ []) = slice_get_within (steps ++ step ∷ []) k st is_step in
-            let end : k ≡ length steps = omega (arith, length-append steps (step ∷ [])) in
-            subst (λ s. IsAfter stage s sc) (get_last steps step st k end is_step)
-            (subst (λ s. IsAfter stage step s) (get_last scenes scene sc (k + 1) (omega arith) is_scene) follows)
-      ];
-    }
-
--- a scene that shows a drawn frame follows its step
-pub IsAfter-drawn : (stage : Stage) (step : Step) (t : State TestBackend) (scene : Scene) → ShowsFrame stage (puts_in step) (screen_of t.backend).grid → IsSceneOf stage t scene → IsAfter stage step scene
-IsAfter-drawn stage step t scene shows made = record {
-  on_stage = made.on_stage;
-  shows = record {
-    frame = shows.frame;
-    made = shows.made;
-    settled = shows.settled;
-    shown = record { at = λ a b a_in b_in. subst (ShowsColumn _ _ a b) (sym (made.shown _ _)) (shows.shown.at a b a_in b_in) };
-  };
+-- rows below that nothing touched
+below_kept : (r : Rect) (old new : Screen) → new.width ≡ old.width → new.height ≡ old.height → KeepsOutside r old new → IsBlankBelow r old → IsBlankBelow r new
+below_kept r old new width height kept below = record {
+  at = λ a b a_in b_in under. kept.at a b (omega arith) (omega arith) (λ within. omega (arith, within.bottom, under)) ∙ below.at a b (omega arith) (omega arith) under;
 }
 
--- a fault behind i steps, whose scenes are a run of those
-pub IsFault-at : (stage : Stage) (steps : List Step) (i : ℕ) (step : Step) (cause : PlayCause) (scenes : Vec Scene Global) → i < length steps → step ≡ get_or steps i step
-    → IsRun stage (take i steps) scenes.items → IsCause stage (puts_in step) cause → IsFault stage steps (record { step = i + 1; cause = cause; scenes = scenes })
-IsFault-at stage steps i step cause scenes inside is run why =
-    let back : i + 1 - 1 ≡ i = omega arith in
+sized_kept : (s t : State TestBackend) → t.viewport ≡ s.viewport → t.known_area ≡ s.known_area → (screen_of t.backend).width ≡ (screen_of s.backend).width → (screen_of t.backend).height ≡ (screen_of s.backend).height
+    → IsSized screen_of s → IsSized screen_of t
+sized_kept s t kind known width height sized = elim sized [
+  | inl fixed ↦ inl (subst IsFixed (sym kind) fixed)
+  | inr is ↦ inr (same_area (screen_of t.backend) (screen_of s.backend) width height ∙ is ∙ sym known)
+]
+
+-- the size of an area
+abbrev size_in : Rect → Size
+size_in r = record { width = r.width; height = r.height }
+
+-- the start
+module _ (w h : ℕ) (s : Screen) (blank : IsBlankScreen w h s) where
+  corner_y : s.cursor_y ≡ 0
+  corner_y = ap (λ p. p.y) blank.cursor
+
+  size_is : size_of s ≡ record { width = w; height = h }
+  size_is = rw (blank.width, blank.height) refl
+
+  started_area : (kind : Viewport) → area_in kind (first_area kind s) 0 s.cursor_y ≡ first_viewport kind (size_of s)
+  started_area Fullscreen = refl
+  started_area (Inline n) = ap (λ y. record { x = 0; y = y; width = s.width; height = min n s.height }) (top s.cursor_y corner_y)
+    where
+      top : (r : ℕ) → r ≡ 0 → inline_top n s.height 0 r ≡ 0
+      top r e = omega arith
+  started_area (Fixed r) = refl
+
+  started_rows : (kind : Viewport) → 0 < h → IsGoodViewport kind (record { width = w; height = h }) → rows_scrolled kind 0 s ≡ first_rows kind (record { width = w; height = h })
+  started_rows Fullscreen some good = refl
+  started_rows (Inline n) some good = let e = corner_y in let f = blank.height in grind (arith, nat_tests)
+  started_rows (Fixed r) some good = refl
+
+  seen_blank : (a b : ℕ) → seen s a b ≡ empty_look
+  seen_blank a b = either (nat_lt b s.height)
+    where
+      either : (t : Bool) → (if t then s.grid a b else empty_look) ≡ empty_look
+      either true = blank.grid a b
+      either false = refl
+
+  blank_rows : (k : ℕ) → rows_above s k ≡ replicate k (replicate w empty_look)
+  blank_rows k =
+      ap (λ xs. xs ++ map (row_of s) (range_with_len 0 k)) blank.history
+      ∙ all_same (row_of s) (replicate w empty_look) 0 k (λ b low high. all_same (λ a. seen s a b) empty_look 0 s.width (λ a low high. seen_blank a b) ∙ ap (λ n. replicate n empty_look) blank.width)
+
+first_lies : (kind : Viewport) (size : Size) → MayLie kind size (first_viewport kind size)
+first_lies Fullscreen size = refl
+first_lies (Inline n) size = record { x = refl; width = refl; height = refl; bottom = omega arith }
+first_lies (Fixed r) size = refl
+
+first_good : (kind : Viewport) (size : Size) (s : Screen) → size_of s ≡ size → IsGoodViewport kind size → IsOnScreen (first_viewport kind (size_of s)) s ⊎ (IsFixed kind → ⊥)
+first_good Fullscreen size s is good = inr (λ x. x)
+first_good (Inline n) size s is good = inr (λ x. x)
+first_good (Fixed r) size s is good =
+    let width = ap (λ (z : Size). z.width) is in
+    let height = ap (λ (z : Size). z.height) is in
+    inl (record { right = omega (arith, good.0, width); bottom = omega (arith, good.1, height) })
+
+first_sized : (kind : Viewport) (s t : Screen) (known : Rect) → t.width ≡ s.width → t.height ≡ s.height → known ≡ first_area kind s → IsFixed kind ⊎ (screen_area t ≡ known)
+first_sized Fullscreen s t known w h is = inr (same_area t s w h ∙ sym is)
+first_sized (Inline n) s t known w h is = inr (same_area t s w h ∙ sym is)
+first_sized (Fixed r) s t known w h is = inl tt
+
+pub IsPlaying-started : (stage : Stage) (b : TestBackend) (t : State TestBackend) → IsGoodStage stage → IsBlankScreen stage.width stage.height (screen_of b) → Starts screen_of stage.viewport b t
+    → IsPlaying stage t × IsStart stage (sight_in t)
+IsPlaying-started stage b t good blank starts =
+    let s : Screen = screen_of b in
+    let u : Screen = screen_of t.backend in
+    let kind = stage.viewport in
+    let moved = starts.scrolls in
+    let width : u.width ≡ stage.width = moved.width ∙ blank.width in
+    let height : u.height ≡ stage.height = moved.height ∙ blank.height in
+    let size : size_of u ≡ stage_size stage = rw (width, height) refl in
+    let known = starts.known_area in
+    let view : t.viewport_area ≡ first_viewport kind (size_of u) =
+    starts.viewport_area ∙ ap (λ r. area_in kind r 0 s.cursor_y) known ∙ started_area stage.width stage.height s blank kind ∙ ap (first_viewport kind) (sym (same_size u s moved.width moved.height)) in
+    let lies : MayLie kind (size_of u) t.viewport_area = subst (MayLie kind (size_of u)) (sym view) (first_lies kind (size_of u)) in
+    let empty : (a b' : ℕ) → a < u.width → b' < u.height → u.grid a b' ≡ empty_look = λ a b' a_in b_in.
+    moved.grid a b' (omega (arith, moved.width)) (omega (arith, moved.height)) ∙ seen_blank stage.width stage.height s blank a _ in
+    let on : IsOnScreen t.viewport_area u = on_screen kind t.viewport_area u lies (first_good kind (stage_size stage) u size good.viewport) in (
+      record {
+        kind = starts.kind;
+        sized = subst (λ k. IsFixed k ⊎ (screen_area u ≡ t.known_area)) (sym starts.kind) (first_sized kind s u t.known_area moved.width moved.height known);
+        lies = lies;
+        in_step = starts.in_step on (record { at = λ a b' within. empty a b' (omega (arith, within.right, on.right)) (omega (arith, within.bottom, on.bottom)) });
+        current = starts.current;
+        below = λ inline. record { at = λ a b' a_in b_in under. empty a b' a_in b_in };
+      },
+      record {
+        size = size;
+        viewport = view ∙ ap (first_viewport kind) size;
+        history = moved.history ∙ blank_rows stage.width stage.height s blank _ ∙ ap (λ k. replicate k (replicate stage.width empty_look)) (started_rows stage.width stage.height s blank kind good.height good.viewport);
+        blank = λ a b' a_in b_in. empty a b' (omega arith) (omega arith);
+      },
+    )
+
+-- a settled frame painted on the empty buffer and drawn
+pub IsPlaying-drawn : (stage : Stage) (text : TextData) (puts : List (ℕ × ℕ × ℕ)) (frame : Sheet) (s t : State TestBackend) → IsPlaying stage s → IsFrame s.viewport_area text puts frame → IsSettledSheet frame
+    → Applies screen_of None (record s { current = frame }) t → IsPlaying stage t × ShowsFrame text puts s t
+IsPlaying-drawn stage text puts frame s t playing made settled applied =
+    let old : Screen = screen_of s.backend in
+    let new : Screen = screen_of t.backend in
+    let at = playing.in_step in
+    let wrote = applied.drawn.1 in
+    let placed = applied.drawn.2 in
+    let shown : IsInStep screen_of t = applied.in_step (record { on_screen = at.on_screen; area = at.area; settled = at.settled; shown = at.shown }) settled in
+    let view : t.viewport_area ≡ s.viewport_area = ap (λ t. t.viewport_area) applied.rest in
+    let width : new.width ≡ old.width = ap (λ (x : Screen). x.width) placed ∙ wrote.drawn.width in
+    let height : new.height ≡ old.height = ap (λ (x : Screen). x.height) placed ∙ wrote.drawn.height in
+    let history : new.history ≡ old.history = ap (λ (x : Screen). x.history) placed ∙ wrote.drawn.history in
+    let kept = subst (λ r. KeepsOutside r old applied.drawn.0) at.area (wrote.outside (subst (λ r. IsOnScreen r old) (sym at.area) at.on_screen) at.settled settled) in
+    let outside : KeepsOutside s.viewport_area old new = record { at = λ a b a_in b_in out. ap (λ (x : Screen). x.grid a b) placed ∙ kept.at a b a_in b_in out } in (
+      record {
+        kind = ap (λ t. t.viewport) applied.rest ∙ playing.kind;
+        sized = sized_kept s t (ap (λ t. t.viewport) applied.rest) (ap (λ t. t.known_area) applied.rest) width height playing.sized;
+        lies = subst (MayLie stage.viewport (size_of new)) (sym view) (subst (λ z. MayLie stage.viewport z s.viewport_area) (sym (same_size new old width height)) playing.lies);
+        in_step = shown;
+        current = subst (λ area. IsEmptied area t.current) (sym view) applied.emptied;
+        below = λ inline. subst (λ r. IsBlankBelow r new) (sym view) (below_kept s.viewport_area old new width height outside (playing.below inline));
+      },
+      record {
+        rest = record { viewport = view; size = record { width = width; height = height; history = history }; outside = record { at = outside.at } };
+        frame = frame;
+        made = subst (λ r. IsFrame r text puts frame) (sym view) made;
+        settled = settled;
+        shown = subst (λ f. ShowsSheet f new.grid) applied.painted shown.shown;
+      },
+    )
+
+-- a viewport that became narrower keeps all but its row
+module _ (former : ℕ) (r : Rect) where
+  raised_by : (b : Bool) → ((if b then record r { y = 0 } else r).x ≡ r.x) × ((if b then record r { y = 0 } else r).width ≡ r.width) × ((if b then record r { y = 0 } else r).height ≡ r.height)
+  raised_by true = (refl, refl, refl)
+  raised_by false = (refl, refl, refl)
+
+  raised_same : r.y ≡ 0 → (b : Bool) → (if b then record r { y = 0 } else r) ≡ r
+  raised_same top true = ap (λ y. record r { y = y }) (sym top)
+  raised_same top false = refl
+
+-- where a viewport that isn't fixed lies on a screen that it was placed on
+placed_lies : (kind : Viewport) (former o : ℕ) (b u : Screen) (r : Rect) → (IsFixed kind → ⊥) → u.width ≡ b.width → u.height ≡ b.height
+    → r ≡ raised former (area_in kind (screen_area b) o b.cursor_y) → IsOnScreen r u → MayLie kind (size_of u) r
+placed_lies Fullscreen former o b u r free width height is on = is ∙ raised_same former (screen_area b) refl (nat_lt b.width former) ∙ rw (width, height) refl
+placed_lies (Inline n) former o b u r free width height is on =
+    let same = raised_by former (inline_area n b.width b.height o b.cursor_y) (nat_lt b.width former) in
     record {
-      inside = omega arith;
-      early = λ none. absurd (omega arith);
-      run = λ some. rw back run;
-      unsettled = λ area is_unsettled. (step, rw back (slice_get-get_or steps i step inside ∙ ap Some (sym is)), subst (IsCause stage (puts_in step)) is_unsettled why);
+      x = ap (λ (q : Rect). q.x) is ∙ same.0;
+      width = ap (λ (q : Rect). q.width) is ∙ same.1 ∙ sym width;
+      height = ap (λ (q : Rect). q.height) is ∙ same.2 ∙ ap (min n) (sym height);
+      bottom = on.bottom;
     }
+placed_lies (Fixed f) former o b u r free width height is on = absurd (free tt)
+
+-- empty cells that were cut or filled up
+take_empties : (n m : ℕ) → take n (empty_cells m) ++ empty_cells (n - length (empty_cells m)) ≡ empty_cells n
+take_empties n m = rw (length-replicate m empty_cell) (both n m)
+  where
+    both : (n m : ℕ) → take n (empty_cells m) ++ empty_cells (n - m) ≡ empty_cells n
+    both zero m = let e : zero - m ≡ 0 = omega arith in rw e refl
+    both (suc n) zero = let e : suc n - 0 ≡ suc n = omega arith in rw e refl
+    both (suc n) (suc m) = let e : suc n - suc m ≡ n - m = omega arith in rw e (ap (λ cs. empty_cell ∷ cs) (both n m))
+
+emptied_resized : (former area : Rect) (old new : Sheet) → IsEmptied former old → IsResized area old new → IsEmptied area new
+emptied_resized former area old new empty resized = record {
+  area = resized.area_is;
+  cells = resized.cells ∙ ap (λ cs. take (area_size area) cs ++ empty_cells (area_size area - length cs)) empty.cells ∙ take_empties (area_size area) (area_size former);
+}
+
+-- below an inline viewport that was cleared all is blank
+placed_below : (kind : Viewport) (r : Rect) (more : Bool) (scrolled u : Screen) → IsInline kind → u.width ≡ scrolled.width → u.height ≡ scrolled.height → r.x ≡ 0
+    → (HasPlace kind r scrolled → Empties (λ a b. is_emptied kind r scrolled.height a b || more) scrolled u) → IsBlankBelow r u
+placed_below Fullscreen r more scrolled u inline width height left empties = absurd inline
+placed_below (Inline n) r more scrolled u inline width height left empties = record {
+  at = λ a b a_in b_in under.
+      let is = (empties left).grid a b (omega arith) (omega arith) in
+      let gone : nat_le (min r.y (scrolled.height - 1)) b ≡ true = grind (arith, nat_tests) in
+      is ∙ rw gone refl;
+}
+placed_below (Fixed f) r more scrolled u inline width height left empties = absurd inline
+
+inline_left : (kind : Viewport) (size : Size) (r : Rect) → IsInline kind → MayLie kind size r → r.x ≡ 0
+inline_left Fullscreen size r inline lies = absurd inline
+inline_left (Inline n) size r inline lies = lies.x
+inline_left (Fixed f) size r inline lies = absurd inline
+
+-- the size that a draw gives is taken unless the viewport is fixed
+size_after_free : (kind : Viewport) (given own : Size) → (IsFixed kind → ⊥) → size_after kind (Some given) own ≡ given
+size_after_free Fullscreen given own free = refl
+size_after_free (Inline n) given own free = refl
+size_after_free (Fixed f) given own free = absurd (free tt)
+
+-- a screen took another size, and the terminal found it
+module _ (stage : Stage) (given : Size) (s t : State TestBackend) (free : IsFixed stage.viewport → ⊥) (playing : IsPlaying stage s)
+    (other : size_of (screen_of s.backend) ≡ given → ⊥) (taken : TakesNewSize given s t) where
+  abbrev between : Screen
+  between = screen_of taken.backend
+
+  abbrev new : Screen
+  new = screen_of t.backend
+
+  not_sized : IsSized screen_of (record s { backend = taken.backend }) → ⊥
+  not_sized sized = elim sized [
+    | inl fixed ↦ free (subst IsFixed playing.kind fixed)
+    | inr is ↦ elim playing.sized [
+      | inl fixed ↦ free (subst IsFixed playing.kind fixed)
+      | inr was ↦
+          let same : screen_area between ≡ screen_area (screen_of s.backend) = is ∙ sym was in
+          other (ap size_in (sym same) ∙ taken.takes.size)
+    ]
+  ]
+
+  resized : Resizes screen_of (screen_area between) (record s { backend = taken.backend }) t
+  resized = elim taken.found.case [
+    | inl same ↦ absurd (not_sized same.0)
+    | inr is ↦ is.1
+  ]
+
+  resized_width : new.width ≡ between.width
+  resized_width = resized.frame.size.width ∙ resized.scrolls.width
+
+  resized_height : new.height ≡ between.height
+  resized_height = resized.frame.size.height ∙ resized.scrolls.height
+
+  resized_size : size_of new ≡ given
+  resized_size = same_size new between resized_width resized_height ∙ taken.takes.size
+
+  resized_kind : t.viewport ≡ stage.viewport
+  resized_kind = ap (λ t. t.viewport) resized.rest ∙ playing.kind
+
+  resized_on : IsOnScreen t.viewport_area new
+  resized_on = resized.on_screen refl
+
+  resized_lies : MayLie stage.viewport (size_of new) t.viewport_area
+  resized_lies =
+      placed_lies stage.viewport s.viewport_area.width (cursor_offset s) between new t.viewport_area free resized_width resized_height
+      (subst (λ k. t.viewport_area ≡ raised s.viewport_area.width (area_in k (screen_area between) (cursor_offset s) between.cursor_y)) playing.kind resized.viewport_area) resized_on
+
+  pub IsPlaying-resized : IsPlaying stage t
+  IsPlaying-resized = record {
+    kind = resized_kind;
+    sized = inr (same_area new between resized_width resized_height ∙ sym (ap (λ t. t.known_area) resized.rest));
+    lies = resized_lies;
+    in_step = resized.in_step resized_on;
+    current = emptied_resized s.viewport_area t.viewport_area s.current t.current playing.current resized.current;
+    below = λ inline.
+        placed_below stage.viewport t.viewport_area (nat_lt between.width s.viewport_area.width) resized.scrolled new inline resized.frame.size.width resized.frame.size.height
+        (inline_left stage.viewport (size_of new) t.viewport_area inline resized_lies)
+        (subst (λ k. HasPlace k t.viewport_area resized.scrolled → Empties (λ a b. is_emptied k t.viewport_area resized.scrolled.height a b || nat_lt between.width s.viewport_area.width) resized.scrolled new) playing.kind resized.empties);
+  }
+
+  pub IsSizedFor-resized : IsSizedFor stage (Some given) s t
+  IsSizedFor-resized = record {
+    size = resized_size ∙ sym (size_after_free stage.viewport given (size_of (screen_of s.backend)) free);
+    same = λ e. absurd (other (sym e ∙ resized_size));
+    other = λ _. (
+      map (row_of between) (range_with_len 0 (rows_scrolled s.viewport (cursor_offset s) between)),
+      resized.frame.size.history ∙ resized.scrolls.history ∙ ap (λ h. h ++ map (row_of between) (range_with_len 0 (rows_scrolled s.viewport (cursor_offset s) between))) taken.takes.history,
+    );
+  }
+
+-- a screen that keeps its size
+pub IsSizedFor-same : (stage : Stage) (given : Option Size) (s : State TestBackend) → size_after stage.viewport given (size_of (screen_of s.backend)) ≡ size_of (screen_of s.backend) → IsSizedFor stage given s s
+IsSizedFor-same stage given s same = record { size = sym same; same = λ e. refl; other = λ out. absurd (out refl) }
+
+pub is_free : (kind : Viewport) → ((r : Rect) → kind ≡ Fixed r → ⊥) → IsFixed kind → ⊥
+is_free Fullscreen not fixed = fixed
+is_free (Inline n) not fixed = fixed
+is_free (Fixed r) not fixed = not r refl
+
+pub is_other : (own given : Size) → ((own.width == given.width) && (own.height == given.height)) ≡ false → own ≡ given → ⊥
+is_other own given differs same =
+    let width = ap (λ (z : Size). z.width) same in
+    let height = ap (λ (z : Size). z.height) same in
+    grind (arith, nat_tests)
+
+-- a clear of a viewport that lies where it may changes nothing outside it, and the rows below an inline one stay blank
+cleared_outside : (kind : Viewport) (size : Size) (r : Rect) (old new : Screen) → IsGoodViewport kind size → old.width ≤ 65535 → old.height ≤ 65535 → MayLie kind (size_of old) r → IsOnScreen r old
+    → (IsInline kind → IsBlankBelow r old) → HasPlace kind r old → Empties (is_emptied kind r old.height) old new → KeepsOutside r old new
+cleared_outside Fullscreen size r old new good columns rows lies on below place empties = rw lies (record {
+  at = λ a b a_in b_in out. absurd (out (record { left = omega arith; right = omega arith; top = omega arith; bottom = omega arith }));
+})
+cleared_outside (Inline n) size r old new good columns rows lies on below place empties = record {
+  at = λ a b a_in b_in out.
+      let is = empties.grid a b a_in b_in in
+      let left = lies.x in
+      let width = lies.width in
+      let height = lies.height in
+      let bottom = lies.bottom in
+      elim (cases_lt b r.y) [
+        | inl above ↦
+            let kept : nat_le (min r.y (old.height - 1)) b ≡ false = grind (arith, nat_tests) in
+            is ∙ rw kept refl
+        | inr from ↦ elim (cases_lt b (r.y + r.height)) [
+          | inl within ↦ absurd (out (record { left = omega arith; right = omega arith; top = omega arith; bottom = omega arith }))
+          | inr under ↦
+              let gone : nat_le (min r.y (old.height - 1)) b ≡ true = grind (arith, nat_tests) in
+              is ∙ rw gone (sym ((below tt).at a b a_in b_in under))
+        ]
+      ];
+}
+cleared_outside (Fixed f) size r old new good columns rows lies on below place empties = keeps_outside r empties
+
+cleared_below : (kind : Viewport) (r : Rect) (old new : Screen) → IsInline kind → new.width ≡ old.width → new.height ≡ old.height → Empties (is_emptied kind r old.height) old new → IsBlankBelow r new
+cleared_below Fullscreen r old new inline width height empties = absurd inline
+cleared_below (Inline n) r old new inline width height empties = record {
+  at = λ a b a_in b_in under.
+      let is = empties.grid a b (omega arith) (omega arith) in
+      let gone : nat_le (min r.y (old.height - 1)) b ≡ true = grind (arith, nat_tests) in
+      is ∙ rw gone refl;
+}
+cleared_below (Fixed f) r old new inline width height empties = absurd inline
+
+has_place : (kind : Viewport) (size : Size) (r : Rect) (s : Screen) → MayLie kind size r → IsOnScreen r s → HasPlace kind r s
+has_place Fullscreen size r s lies on = tt
+has_place (Inline n) size r s lies on = lies.x
+has_place (Fixed f) size r s lies on = on
+
+pub Plays-cleared : (stage : Stage) (s t : State TestBackend) → IsGoodStage stage → (screen_of s.backend).width ≤ 65535 → (screen_of s.backend).height ≤ 65535 → IsPlaying stage s → Clears screen_of s t → Plays stage steps.Clear s t
+Plays-cleared stage s t good columns rows playing clears =
+    let old : Screen = screen_of s.backend in
+    let new : Screen = screen_of t.backend in
+    let kind = stage.viewport in
+    let r = s.viewport_area in
+    let at = playing.in_step in
+    let view : t.viewport_area ≡ r = ap (λ t. t.viewport_area) clears.rest in
+    let width = clears.frame.size.width in
+    let height = clears.frame.size.height in
+    let place = has_place kind (size_of old) r old playing.lies at.on_screen in
+    let empties = subst (λ k. ClearsArea k r old new) playing.kind clears.clears place in
+    let outside : KeepsOutside r old new = cleared_outside kind (stage_size stage) r old new good.viewport columns rows playing.lies at.on_screen playing.below place empties in
+    let blank : IsBlankOver r new = blank_over kind r at.on_screen empties in
+    record {
+      playing = record {
+        kind = ap (λ t. t.viewport) clears.rest ∙ playing.kind;
+        sized = sized_kept s t (ap (λ t. t.viewport) clears.rest) (ap (λ t. t.known_area) clears.rest) width height playing.sized;
+        lies = subst (MayLie kind (size_of new)) (sym view) (subst (λ z. MayLie kind z r) (sym (same_size new old width height)) playing.lies);
+        in_step = clears.in_step at.on_screen at.area;
+        current = subst (λ area. IsEmptied area t.current) (sym view) (subst (IsEmptied r) (sym (ap (λ t. t.current) clears.rest)) playing.current);
+        below = λ inline. subst (λ r. IsBlankBelow r new) (sym view) (cleared_below kind r old new inline width height empties);
+      };
+      after = record {
+        rest = record { viewport = view; size = record { width = width; height = height; history = clears.frame.size.history }; outside = record { at = outside.at } };
+        blank = record { at = λ a b within. blank.at a b (subst (λ r. IsWithin r a b) view within) };
+      };
+    }
+
+-- a frame drawn behind its size
+pub Plays-drawn : (stage : Stage) (given : Option Size) (text : TextData) (puts : List (ℕ × ℕ × ℕ)) (s m t : State TestBackend) → IsSizedFor stage given s m → IsPlaying stage t → ShowsFrame text puts m t
+    → Plays stage (steps.Draw given text puts) s t
+Plays-drawn stage given text puts s m t sized playing shows =
+    let size : size_of (screen_of t.backend) ≡ size_of (screen_of m.backend) = same_size (screen_of t.backend) (screen_of m.backend) shows.rest.size.width shows.rest.size.height in
+    record {
+      playing = playing;
+      after = record {
+        size = size ∙ sized.size;
+        frame = shows.frame;
+        made = shows.made;
+        settled = shows.settled;
+        shown = shows.shown;
+        same = λ e. subst (λ x. KeepsRest (sight_in x) (sight_in t)) (sized.same (sym size ∙ e)) shows.rest;
+        other = λ out. let goes = sized.other (λ e. out (size ∙ e)) in (goes.0, shows.rest.size.history ∙ goes.1);
+      };
+    }
+
+-- a frame that isn't settled, behind its size
+pub IsCause-drawn : (stage : Stage) (given : Option Size) (text : TextData) (puts : List (ℕ × ℕ × ℕ)) (s m : State TestBackend) (cause : PlayCause) → IsPlaying stage m → IsSizedFor stage given s m → IsFrameCause text puts m cause
+    → IsCause stage (steps.Draw given text puts) (sight_in s) cause
+IsCause-drawn stage given text puts s m Memory playing sized why = tt
+IsCause-drawn stage given text puts s m (Unsettled area) playing sized why = (
+  record {
+    lies = subst (MayLie stage.viewport _) (sym why.0) (subst (λ z. MayLie stage.viewport z m.viewport_area) sized.size playing.lies);
+    stays = λ e. why.0 ∙ ap (λ (x : State TestBackend). x.viewport_area) (sized.same (sized.size ∙ e));
+  },
+  why.1,
+)

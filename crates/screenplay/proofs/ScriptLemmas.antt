@@ -1,147 +1,178 @@
 -- Reading a script, a line at a time.
-use Rattle.std.proofs.Common.{◌≡◌, ℕ, suc, ◌+◌, ◌-◌, ◌<◌, Bool, true, false, ◌==◌, ◌||◌, List, [], ◌∷◌, ◌++◌, length, take, drop, Option, Some, None, refl, sym, ap, ◌∙◌, arith, add-one, drop-cons}
-use Rattle.std.specs.Prelude.{is_none}
-use Rattle.std.proofs.lemmas.List.{take_all, drop_all, append-nil}
+use Rattle.std.proofs.Common.{◌≡◌, ℕ, zero, suc, ◌+◌, ◌-◌, ◌<◌, ◌≤◌, Bool, true, false, ◌==◌, ◌||◌, List, [], ◌∷◌, ◌++◌, length, take, get_or, Option, Some, None, refl, sym, ap, ap₂, ◌∙◌, subst, arith, inl, inr, append_assoc, length-append, length-take}
+use Rattle.std.proofs.lemmas.List.{append-nil, get_or-take, get_or_append_left, take_all}
 use Rattle.std.proofs.lemmas.List.Elements.{filter_map-append}
-use Rattle.std.proofs.Math.Seq.{take-suc}
-use borrow.Author.Count.{below_more}
-use Rattle.std.proofs.lemmas.Bool.{false≢true}
+use Rattle.std.proofs.Math.Seq.{get_or-append_seam}
+use Rattle.std.proofs.lemmas.Bool.{cases_lt, false≢true}
 use Rattle.screenplay.specs.declared.script.Command.{Command}
-use Rattle.screenplay.specs.declared.script.Command.TheVariants.{Screen, Put, Draw, Show}
+use Rattle.screenplay.specs.declared.script.Command.TheVariants.{SetStage, TakeSize, Put, AddText, Draw, Clear, Show}
+use Rattle.screenplay.specs.declared.script.Waiting.{Waiting}
 use Rattle.screenplay.specs.declared.scene.Stage.{Stage}
 use Rattle.screenplay.specs.declared.scene.Step.{Step}
-use Rattle.screenplay.specs.Script.{command_of, commands_of, is_screen, is_empty, same_flag, may_follow, is_good_line, script_line, AreGood, IsFirstBadLine, stage_of, stage_after, steps_of, shows_of, IsScript}
+use Rattle.screenplay.specs.Script.{command_with, command_of, commands_of, may_stand, is_good_line, script_line, AreGood, IsFirstBadLine, stage_of, stage_after, nothing, steps_of, shows_of, IsScript}
+use Rattle.screenplay.specs.Reading.{HasRead}
+use Rattle.std.specs.Prelude.{if◌then◌else◌}
+use Rattle.std.specs.List.{slice_split, onto_first}
+use Rattle.std.specs.Str.Lines.{lines, lines_of_parts}
 
--- the first i lines are read: what is done so far, continued by what is left, is the whole
-pub record HasRead (all : List (List ℕ)) (i : ℕ) (stage : Option Stage) (steps : List Step) (puts : List (ℕ × ℕ × ℕ)) (shows : List ℕ) : Type 0 where
-  pub good : AreGood i all
-  pub stage_is : stage ≡ stage_of (commands_of (take i all))
-  pub started : is_none stage ≡ is_empty (commands_of (take i all))
-  pub steps_are : steps ++ steps_of puts (commands_of (drop i all)) ≡ steps_of [] (commands_of all)
-  pub shows_are : shows ++ shows_of (length steps) (commands_of (drop i all)) ≡ shows_of 0 (commands_of all)
+pub HasRead-none : HasRead [] None nothing [] []
+HasRead-none = record { good = λ k lt. absurd (omega arith); stage_is = refl; steps_are = λ cs. refl; shows_are = λ cs. refl }
 
-pub HasRead-none : (all : List (List ℕ)) → HasRead all 0 None [] [] []
-HasRead-none all = record { good = λ k lt. absurd (omega arith); stage_is = refl; started = refl; steps_are = refl; shows_are = refl }
+-- a command that may stand behind others leaves the stage that they set, or sets it
+stage_of-some : (c : Command) (stage : Stage) → may_stand (Some stage) c ≡ true → stage_after c (Some stage) ≡ Some stage
+stage_of-some (SetStage other) stage h = absurd (false≢true h)
+stage_of-some (TakeSize size) stage h = refl
+stage_of-some (Put x y ch) stage h = refl
+stage_of-some (AddText text) stage h = refl
+stage_of-some Draw stage h = refl
+stage_of-some Clear stage h = refl
+stage_of-some Show stage h = refl
 
-same_flag-refl : (b : Bool) → same_flag b b ≡ true
-same_flag-refl true = refl
-same_flag-refl false = refl
+stage_of-none : (c : Command) → may_stand None c ≡ true → stage_of (c ∷ []) ≡ stage_after c None
+stage_of-none (SetStage other) h = refl
+stage_of-none (TakeSize size) h = absurd (false≢true h)
+stage_of-none (Put x y ch) h = absurd (false≢true h)
+stage_of-none (AddText text) h = absurd (false≢true h)
+stage_of-none Draw h = absurd (false≢true h)
+stage_of-none Clear h = absurd (false≢true h)
+stage_of-none Show h = absurd (false≢true h)
 
-same_flag-other : (a b : Bool) → (a ≡ b → ⊥) → same_flag a b ≡ false
-same_flag-other true true ne = absurd (ne refl)
-same_flag-other true false ne = refl
-same_flag-other false true ne = refl
-same_flag-other false false ne = absurd (ne refl)
-
--- what stands behind the first command doesn't change the stage
-stage_of-more : (c : Command) (cs ds : List Command) → stage_of (c ∷ cs) ≡ stage_of (c ∷ ds)
-stage_of-more (Screen w h) cs ds = refl
-stage_of-more (Put x y ch) cs ds = refl
-stage_of-more Draw cs ds = refl
-stage_of-more Show cs ds = refl
-
--- another command that isn't `screen` leaves the stage
-stage_after-other : (c : Command) (stage : Option Stage) → is_screen c ≡ false → stage_after c stage ≡ stage
-stage_after-other (Screen w h) stage e = absurd (false≢true (sym e))
-stage_after-other (Put x y ch) stage e = refl
-stage_after-other Draw stage e = refl
-stage_after-other Show stage e = refl
-
--- a first command that is `screen` sets it
-stage_after-first : (c : Command) (stage : Option Stage) → is_screen c ≡ true → (stage_after c stage ≡ stage_of (c ∷ [])) × (is_none (stage_after c stage) ≡ false)
-stage_after-first (Screen w h) stage e = (refl, refl)
-stage_after-first (Put x y ch) stage e = absurd (false≢true e)
-stage_after-first Draw stage e = absurd (false≢true e)
-stage_after-first Show stage e = absurd (false≢true e)
-
-stage_after-more : (cs : List Command) (c : Command) (stage : Option Stage) → stage ≡ stage_of cs → is_none stage ≡ is_empty cs → is_screen c ≡ is_none stage
-    → (stage_after c stage ≡ stage_of (cs ++ c ∷ [])) × (is_none (stage_after c stage) ≡ is_empty (cs ++ c ∷ []))
-stage_after-more [] c stage is started fits = stage_after-first c stage (fits ∙ started)
-stage_after-more (d ∷ ds) c stage is started fits =
-    let same : stage_after c stage ≡ stage = stage_after-other c stage (fits ∙ started) in
-    (same ∙ is ∙ stage_of-more d ds (ds ++ c ∷ []), ap is_none same ∙ started)
-
-commands_of-some : (line : List ℕ) (lines : List (List ℕ)) (c : Command) → command_of line ≡ Some c → commands_of (line ∷ lines) ≡ c ∷ commands_of lines
-commands_of-some line lines c e = rw e refl
-
-commands_of-none : (line : List ℕ) (lines : List (List ℕ)) → command_of line ≡ None → commands_of (line ∷ lines) ≡ commands_of lines
-commands_of-none line lines e = rw e refl
+stage_of-push : (cs : List Command) (c : Command) → may_stand (stage_of cs) c ≡ true → stage_of (cs ++ c ∷ []) ≡ stage_after c (stage_of cs)
+stage_of-push [] c h = stage_of-none c h
+stage_of-push (SetStage stage ∷ cs) c h = sym (stage_of-some c stage h)
+stage_of-push (TakeSize size ∷ cs) c h = stage_of-push cs c h
+stage_of-push (Put x y ch ∷ cs) c h = stage_of-push cs c h
+stage_of-push (AddText text ∷ cs) c h = stage_of-push cs c h
+stage_of-push (Draw ∷ cs) c h = stage_of-push cs c h
+stage_of-push (Clear ∷ cs) c h = stage_of-push cs c h
+stage_of-push (Show ∷ cs) c h = stage_of-push cs c h
 
 command_of-empty : (line : List ℕ) → length line ≡ 0 → command_of line ≡ None
-unfolding command_of
+unfolding command_of command_with
 command_of-empty [] e = refl
 command_of-empty (b ∷ bs) e = absurd (omega arith)
 
-module _ (all : List (List ℕ)) (i : ℕ) (line : List ℕ) (inside : i < length all) (here : script_line all i ≡ line) where
-  took : take (i + 1) all ≡ take i all ++ line ∷ []
-  took = ap (λ n. take n all) (add-one i) ∙ take-suc all i [] inside ∙ ap (λ l. take i all ++ l ∷ []) here
+or_true : (b : Bool) → (b || true) ≡ true
+or_true true = refl
+or_true false = refl
 
-  left : drop i all ≡ line ∷ drop (i + 1) all
-  left = drop-cons all i [] inside ∙ ap (λ l. l ∷ drop (suc i) all) here ∙ ap (λ n. line ∷ drop n all) (sym (add-one i))
+-- the lines before stay good behind one more
+AreGood-push : (done : List (List ℕ)) (line : List ℕ) → AreGood (length done) done → is_good_line done line ≡ true → AreGood (length (done ++ line ∷ [])) (done ++ line ∷ [])
+AreGood-push done line before good k lt = elim (cases_lt k (length done)) [
+  | inl less ↦
+      ap₂ is_good_line (take-front done line k less) (get_or_append_left done (line ∷ []) [] k less) ∙ before k less
+  | inr more ↦
+      let e : k ≡ length done = omega (arith, length-append done (line ∷ [])) in
+      subst (λ i. is_good_line (take i (done ++ line ∷ [])) (get_or (done ++ line ∷ []) i []) ≡ true) (sym e)
+      (ap₂ is_good_line (take-all done line) (get_or-append_seam done line [] []) ∙ good)
+]
+  where
+    take-front : (done : List (List ℕ)) (line : List ℕ) (k : ℕ) → k < length done → take k (done ++ line ∷ []) ≡ take k done
+    take-front [] line k lt = absurd (omega arith)
+    take-front (d ∷ ds) line zero lt = refl
+    take-front (d ∷ ds) line (suc k) lt = ap (λ xs. d ∷ xs) (take-front ds line k (omega arith))
 
-  good_more : is_good_line (take i all) line ≡ true → AreGood i all → AreGood (i + 1) all
-  good_more good before = below_more (λ k. is_good_line (take k all) (script_line all k) ≡ true) i before (rw here good)
+    take-all : (done : List (List ℕ)) (line : List ℕ) → take (length done) (done ++ line ∷ []) ≡ done
+    take-all [] line = refl
+    take-all (d ∷ ds) line = ap (λ xs. d ∷ xs) (take-all ds line)
 
+module _ (done : List (List ℕ)) (line : List ℕ) (stage : Option Stage) (w : Waiting) (steps : List Step) (shows : List ℕ) (h : HasRead done stage w steps shows) where
   -- an empty line is passed over
-  pub HasRead-skip : {stage : Option Stage} {steps : List Step} {puts : List (ℕ × ℕ × ℕ)} {shows : List ℕ} → length line ≡ 0 → HasRead all i stage steps puts shows → HasRead all (i + 1) stage steps puts shows
-  HasRead-skip {stage} {steps} {puts} {shows} empty h =
-      let none = command_of-empty line empty in
-      let before : commands_of (take (i + 1) all) ≡ commands_of (take i all) =
-      ap commands_of took ∙ filter_map-append command_of (take i all) (line ∷ []) ∙ ap (λ cs. commands_of (take i all) ++ cs) (commands_of-none line [] none) ∙ append-nil (commands_of (take i all)) in
-      let behind : commands_of (drop i all) ≡ commands_of (drop (i + 1) all) = ap commands_of left ∙ commands_of-none line (drop (i + 1) all) none in
+  pub HasRead-skip : length line ≡ 0 → HasRead (done ++ line ∷ []) stage w steps shows
+  HasRead-skip empty =
+      let same : commands_of (done ++ line ∷ []) ≡ commands_of done =
+      filter_map-append command_of done (line ∷ []) ∙ ap (λ cs. commands_of done ++ cs) (none line (command_of-empty line empty)) ∙ append-nil (commands_of done) in
       record {
-        good = good_more (rw empty refl) h.good;
-        stage_is = h.stage_is ∙ ap stage_of (sym before);
-        started = h.started ∙ ap is_empty (sym before);
-        steps_are = ap (λ cs. steps ++ steps_of puts cs) (sym behind) ∙ h.steps_are;
-        shows_are = ap (λ cs. shows ++ shows_of (length steps) cs) (sym behind) ∙ h.shows_are;
-      }
-
-  -- a command that may follow is taken
-  pub HasRead-take : {stage : Option Stage} {steps : List Step} {puts : List (ℕ × ℕ × ℕ)} {shows : List ℕ} (c : Command) (stage' : Option Stage) (steps' : List Step) (puts' : List (ℕ × ℕ × ℕ)) (shows' : List ℕ)
-      → command_of line ≡ Some c → is_screen c ≡ is_none stage → stage' ≡ stage_after c stage
-      → ((cs : List Command) → steps' ++ steps_of puts' cs ≡ steps ++ steps_of puts (c ∷ cs))
-      → ((cs : List Command) → shows' ++ shows_of (length steps') cs ≡ shows ++ shows_of (length steps) (c ∷ cs))
-      → HasRead all i stage steps puts shows → HasRead all (i + 1) stage' steps' puts' shows'
-  HasRead-take {stage} {steps} {puts} {shows} c stage' steps' puts' shows' is fits staged stepped showed h =
-      let before : commands_of (take (i + 1) all) ≡ commands_of (take i all) ++ c ∷ [] =
-      ap commands_of took ∙ filter_map-append command_of (take i all) (line ∷ []) ∙ ap (λ cs. commands_of (take i all) ++ cs) (commands_of-some line [] c is) in
-      let behind : commands_of (drop i all) ≡ c ∷ commands_of (drop (i + 1) all) = ap commands_of left ∙ commands_of-some line (drop (i + 1) all) c is in
-      let more = stage_after-more (commands_of (take i all)) c stage h.stage_is h.started fits in
-      let follows : may_follow (commands_of (take i all)) (command_of line) ≡ true =
-      rw (is, fits, h.started) (same_flag-refl (is_empty (commands_of (take i all)))) in
-      record {
-        good = good_more (rw follows (or_true (length line == 0))) h.good;
-        stage_is = staged ∙ more.0 ∙ ap stage_of (sym before);
-        started = ap is_none staged ∙ more.1 ∙ ap is_empty (sym before);
-        steps_are = stepped (commands_of (drop (i + 1) all)) ∙ ap (λ cs. steps ++ steps_of puts cs) (sym behind) ∙ h.steps_are;
-        shows_are = showed (commands_of (drop (i + 1) all)) ∙ ap (λ cs. shows ++ shows_of (length steps) cs) (sym behind) ∙ h.shows_are;
+        good = AreGood-push done line h.good (rw empty refl);
+        stage_is = h.stage_is ∙ ap stage_of (sym same);
+        steps_are = λ cs. h.steps_are cs ∙ ap (λ ds. steps_of nothing (ds ++ cs)) (sym same);
+        shows_are = λ cs. h.shows_are cs ∙ ap (λ ds. shows_of 0 (ds ++ cs)) (sym same);
       }
     where
-      or_true : (b : Bool) → (b || true) ≡ true
-      or_true true = refl
-      or_true false = refl
+      none : (line : List ℕ) → command_of line ≡ None → commands_of (line ∷ []) ≡ []
+      none line e = rw e refl
 
-  -- a line that no command is, or one out of place, is the first bad one
-  first_bad : {stage : Option Stage} {steps : List Step} {puts : List (ℕ × ℕ × ℕ)} {shows : List ℕ} → is_good_line (take i all) line ≡ false → HasRead all i stage steps puts shows → IsFirstBadLine all (i + 1)
-  first_bad bad h =
-      let back : i + 1 - 1 ≡ i = omega arith in
-      record { counted = omega arith; inside = omega arith; bad = rw (back, here) bad; before = rw back h.good }
+  -- a command that may stand there is taken
+  pub HasRead-take : (c : Command) (stage' : Option Stage) (w' : Waiting) (steps' : List Step) (shows' : List ℕ) → command_of line ≡ Some c → may_stand stage c ≡ true → stage' ≡ stage_after c stage
+      → ((cs : List Command) → steps' ++ steps_of w' cs ≡ steps ++ steps_of w (c ∷ cs))
+      → ((cs : List Command) → shows' ++ shows_of (length steps') cs ≡ shows ++ shows_of (length steps) (c ∷ cs))
+      → HasRead (done ++ line ∷ []) stage' w' steps' shows'
+  HasRead-take c stage' w' steps' shows' is fits staged stepped showed =
+      let more : commands_of (done ++ line ∷ []) ≡ commands_of done ++ c ∷ [] =
+      filter_map-append command_of done (line ∷ []) ∙ ap (λ cs. commands_of done ++ cs) (one line c is) in
+      let stands : may_stand (stage_of (commands_of done)) c ≡ true = ap (λ s. may_stand s c) (sym h.stage_is) ∙ fits in
+      let good : is_good_line done line ≡ true = rw is (rw stands (or_true (length line == 0))) in
+      record {
+        good = AreGood-push done line h.good good;
+        stage_is = staged ∙ ap (stage_after c) h.stage_is ∙ sym (stage_of-push (commands_of done) c stands) ∙ ap stage_of (sym more);
+        steps_are = λ cs. stepped cs ∙ h.steps_are (c ∷ cs) ∙ ap (steps_of nothing) (sym (append_assoc (commands_of done) (c ∷ []) cs) ∙ ap (λ ds. ds ++ cs) (sym more));
+        shows_are = λ cs. showed cs ∙ h.shows_are (c ∷ cs) ∙ ap (shows_of 0) (sym (append_assoc (commands_of done) (c ∷ []) cs) ∙ ap (λ ds. ds ++ cs) (sym more));
+      }
+    where
+      one : (line : List ℕ) (c : Command) → command_of line ≡ Some c → commands_of (line ∷ []) ≡ c ∷ []
+      one line c e = rw e refl
 
-  pub first_bad-none : {stage : Option Stage} {steps : List Step} {puts : List (ℕ × ℕ × ℕ)} {shows : List ℕ} → (length line == 0) ≡ false → command_of line ≡ None → HasRead all i stage steps puts shows → IsFirstBadLine all (i + 1)
-  first_bad-none some none h = first_bad (rw (some, none) refl) h
+  -- a line that is no command, or one out of place, is bad
+  pub bad-none : (length line == 0) ≡ false → command_of line ≡ None → is_good_line done line ≡ false
+  bad-none some none = rw (some, none) refl
 
-  pub first_bad-place : {stage : Option Stage} {steps : List Step} {puts : List (ℕ × ℕ × ℕ)} {shows : List ℕ} (c : Command) → (length line == 0) ≡ false → command_of line ≡ Some c → (is_screen c ≡ is_none stage → ⊥) → HasRead all i stage steps puts shows → IsFirstBadLine all (i + 1)
-  first_bad-place c some is ne h =
-      first_bad (rw (some, is) (same_flag-other (is_empty (commands_of (take i all))) (is_screen c) (λ e. ne (sym e ∙ sym h.started)))) h
+  pub bad-place : (c : Command) → (length line == 0) ≡ false → command_of line ≡ Some c → may_stand stage c ≡ false → is_good_line done line ≡ false
+  bad-place c some is out = rw (some, is) (ap (λ s. may_stand s c) (sym h.stage_is) ∙ out)
 
-pub HasRead-all : (all : List (List ℕ)) (i : ℕ) (stage : Option Stage) (steps : List Step) (puts : List (ℕ × ℕ × ℕ)) (shows : List ℕ) → i ≡ length all → HasRead all i stage steps puts shows → IsScript all stage steps shows
-HasRead-all all i stage steps puts shows end h =
-    let whole : take i all ≡ all = take_all i all (omega arith) in
-    let none : drop i all ≡ [] = drop_all i all (omega arith) in
+-- all lines were read
+pub IsScript-read : (all : List (List ℕ)) (stage : Option Stage) (w : Waiting) (steps : List Step) (shows : List ℕ) → HasRead all stage w steps shows → IsScript all stage steps shows
+IsScript-read all stage w steps shows h = record {
+  good = h.good;
+  stage_is = h.stage_is;
+  steps_are = sym (append-nil steps) ∙ h.steps_are [] ∙ ap (steps_of nothing) (append-nil (commands_of all));
+  shows_are = sym (append-nil shows) ∙ h.shows_are [] ∙ ap (shows_of 0) (append-nil (commands_of all));
+}
+
+-- a bad line behind good ones is the first bad one
+pub IsFirstBadLine-read : (all done : List (List ℕ)) (line : List ℕ) (n : ℕ) → done ≡ take n all → length done ≡ n → n < length all → line ≡ get_or all n line → AreGood (length done) done → is_good_line done line ≡ false
+    → IsFirstBadLine all (n + 1)
+IsFirstBadLine-read all done line n front count inside here good bad =
+    let back : n + 1 - 1 ≡ n = omega arith in
     record {
-      good = rw (← end) h.good;
-      stage_is = h.stage_is ∙ ap (λ l. stage_of (commands_of l)) whole;
-      steps_are = sym (append-nil steps) ∙ ap (λ l. steps ++ steps_of puts (commands_of l)) (sym none) ∙ h.steps_are;
-      shows_are = sym (append-nil shows) ∙ ap (λ l. shows ++ shows_of (length steps) (commands_of l)) (sym none) ∙ h.shows_are;
+      counted = omega arith;
+      inside = omega arith;
+      bad = rw back (ap₂ is_good_line (sym front) (default all n line inside ∙ sym here) ∙ bad);
+      before = rw back (λ k lt. ap₂ is_good_line (sym (take-take all n k lt) ∙ ap (take k) (sym front)) (sym (get_or-take n all k [] lt) ∙ ap (λ xs. get_or xs k []) (sym front)) ∙ good k (omega arith));
     }
+  where
+    take-take : (all : List (List ℕ)) (n k : ℕ) → k < n → take k (take n all) ≡ take k all
+    take-take [] n k lt = nil n k
+      where
+        nil : (n k : ℕ) → take k (take {A = List ℕ} n []) ≡ take k []
+        nil zero k = refl
+        nil (suc n) k = refl
+    take-take (x ∷ xs) zero k lt = absurd (omega arith)
+    take-take (x ∷ xs) (suc n) zero lt = refl
+    take-take (x ∷ xs) (suc n) (suc k) lt = ap (λ ys. x ∷ ys) (take-take xs n k (omega arith))
+
+    default : (all : List (List ℕ)) (n : ℕ) (line : List ℕ) → n < length all → get_or all n [] ≡ get_or all n line
+    default [] n line lt = absurd (omega arith)
+    default (x ∷ xs) zero line lt = refl
+    default (x ∷ xs) (suc n) line lt = default xs n line (omega arith)
+
+-- there are no more lines than bytes
+lines_of_parts-end : (qs : List (List ℕ)) → length (lines_of_parts ([] ∷ qs)) ≤ length (lines_of_parts qs) + 1
+lines_of_parts-end [] = omega arith
+lines_of_parts-end (q ∷ qs) = omega arith
+
+one-at-most : (b : Bool) (line : List ℕ) → length (if b then [] else line ∷ []) ≤ 1
+one-at-most true line = omega arith
+one-at-most false line = omega arith
+
+lines_of_parts-first : (x : ℕ) (qs : List (List ℕ)) → length (lines_of_parts (onto_first x qs)) ≤ length (lines_of_parts qs) + 1
+lines_of_parts-first x [] = omega arith
+lines_of_parts-first x (q ∷ []) = let e = one-at-most (length (x ∷ q) == 0) (x ∷ q) in omega (arith, e)
+lines_of_parts-first x (q ∷ r ∷ qs) = omega arith
+
+lines_of_parts-more : (b : Bool) (x : ℕ) (qs : List (List ℕ)) → length (lines_of_parts (if b then [] ∷ qs else onto_first x qs)) ≤ length (lines_of_parts qs) + 1
+lines_of_parts-more true x qs = lines_of_parts-end qs
+lines_of_parts-more false x qs = lines_of_parts-first x qs
+
+pub lines-count : (bs : List ℕ) → length (lines bs) ≤ length bs
+lines-count [] = omega arith
+lines-count (b ∷ bs) = let before = lines-count bs in let more = lines_of_parts-more (b == 10) b (slice_split (λ b. b == 10) bs) in omega (arith, before, more)

@@ -1,31 +1,75 @@
 -- A terminal in the middle of a play.
-use Rattle.std.specs.Prelude.{◌≡◌, ℕ, List, []}
-use Rattle.rtui_buffer.specs.Sheet.{IsEmptied}
+use Rattle.std.specs.Prelude.{◌≡◌, ℕ, List, Option}
+use Rattle.rtui_geometry.specs.declared.rect.Rect.{Rect}
+use Rattle.rtui_geometry.specs.declared.size.Size.{Size}
+use Rattle.rtui_text.specs.Text.{TextData}
+use Rattle.rtui_buffer.specs.Sheet.{Sheet, IsEmptied}
+use Rattle.rtui_buffer.specs.Frame.{IsSettledSheet, ShowsSheet}
+use Rattle.rtui_backend.specs.Screen.{size_of, TakesSize}
 use Rattle.rtui_backend.specs.TestBackend.{screen_of}
 use Rattle.rtui_backend.specs.declared.test.TestBackend.{TestBackend}
+use Rattle.rtui_viewport.specs.Viewports.{IsInline}
+use Rattle.rtui_viewport.specs.Areas.{IsBlankBelow}
 use Rattle.rtui_terminal.specs.State.{State}
-use Rattle.rtui_terminal.specs.InStep.{IsInStep}
-use Rattle.screenplay.specs.Run.{stage_area, IsOnStage, IsUnsettled, scene_grid}
+use Rattle.rtui_terminal.specs.InStep.{IsInStep, IsSized}
+use Rattle.rtui_terminal.specs.Calls.{Autoresizes}
+use Rattle.screenplay.specs.Run.{Sight, plain_screen, sight_of, MayLie, size_after, GoesOn, KeepsRest, IsFrame, IsAtCorner, HasUnsettled, IsUnsettled, IsAfter}
 use Rattle.screenplay.specs.declared.scene.Stage.{Stage}
 use Rattle.screenplay.specs.declared.scene.Scene.{Scene}
+use Rattle.screenplay.specs.declared.scene.Step.{Step}
 use Rattle.screenplay.specs.declared.scene.PlayCause.{PlayCause}
 use Rattle.screenplay.specs.declared.scene.PlayCause.TheVariants.{Memory, Unsettled}
 
--- the terminal is in step over the stage, with an empty buffer to paint on, and nothing scrolled off
+-- the terminal is in step over the stage's kind of viewport and knows the screen's size, its buffer to paint on is empty, and the rows below
+-- an inline viewport are blank
 pub record IsPlaying (stage : Stage) (t : State TestBackend) : Type 0 where
-  pub width : (screen_of t.backend).width ≡ stage.width
-  pub height : (screen_of t.backend).height ≡ stage.height
-  pub history : (screen_of t.backend).history ≡ []
-  pub viewport : t.viewport_area ≡ stage_area stage
+  pub kind : t.viewport ≡ stage.viewport
+  pub sized : IsSized screen_of t
+  pub lies : MayLie stage.viewport (size_of (screen_of t.backend)) t.viewport_area
   pub in_step : IsInStep screen_of t
-  pub current : IsEmptied (stage_area stage) t.current
+  pub current : IsEmptied t.viewport_area t.current
+  pub below : IsInline stage.viewport → IsBlankBelow t.viewport_area (screen_of t.backend)
+
+-- what a terminal's screen shows
+abbrev pub sight_in : State TestBackend → Sight
+sight_in t = record { screen = plain_screen (screen_of t.backend); viewport = t.viewport_area }
 
 -- a scene shows what the terminal's screen shows
-pub record IsSceneOf (stage : Stage) (t : State TestBackend) (scene : Scene) : Type 0 where
-  pub on_stage : IsOnStage stage scene
-  pub shown : (a b : ℕ) → scene_grid scene a b ≡ (screen_of t.backend).grid a b
+pub record IsSceneOf (t : State TestBackend) (scene : Scene) : Type 0 where
+  pub corner : IsAtCorner scene
+  pub shown : sight_of scene ≡ sight_in t
+
+-- the screen took a size, and the terminal found it
+pub record TakesNewSize (size : Size) (s t : State TestBackend) : Type 0 where
+  pub backend : TestBackend
+  pub takes : TakesSize (screen_of s.backend) size (screen_of backend)
+  pub found : Autoresizes screen_of (record s { backend = backend }) t
+
+-- the screen took the size of a draw: where it stays nothing changed, and at another size the history goes on
+pub record IsSizedFor (stage : Stage) (given : Option Size) (s t : State TestBackend) : Type 0 where
+  pub size : size_of (screen_of t.backend) ≡ size_after stage.viewport given (size_of (screen_of s.backend))
+  pub same : size_of (screen_of t.backend) ≡ size_of (screen_of s.backend) → t ≡ s
+  pub other : (size_of (screen_of t.backend) ≡ size_of (screen_of s.backend) → ⊥) → GoesOn (screen_of s.backend).history (screen_of t.backend).history
+
+-- a settled frame over the viewport was drawn, and all else stays
+pub record ShowsFrame (text : TextData) (puts : List (ℕ × ℕ × ℕ)) (s t : State TestBackend) : Type 0 where
+  pub rest : KeepsRest (sight_in s) (sight_in t)
+  pub frame : Sheet
+  pub made : IsFrame t.viewport_area text puts frame
+  pub settled : IsSettledSheet frame
+  pub shown : ShowsSheet frame (screen_of t.backend).grid
 
 -- why a frame wasn't drawn: want of memory, or it is unsettled
-abbrev pub IsCause : Stage → List (ℕ × ℕ × ℕ) → PlayCause → Type 0
-IsCause stage puts Memory = Unit {0}
-IsCause stage puts (Unsettled area) = IsUnsettled stage puts area
+abbrev pub IsFrameCause : TextData → List (ℕ × ℕ × ℕ) → State TestBackend → PlayCause → Type 0
+IsFrameCause text puts s Memory = Unit {0}
+IsFrameCause text puts s (Unsettled area) = (area ≡ s.viewport_area) × HasUnsettled area text puts
+
+-- why a step wasn't played: want of memory, or its frame is unsettled
+abbrev pub IsCause : Stage → Step → Sight → PlayCause → Type 0
+IsCause stage step s Memory = Unit {0}
+IsCause stage step s (Unsettled area) = IsUnsettled stage step s area
+
+-- a step was played
+pub record Plays (stage : Stage) (step : Step) (s t : State TestBackend) : Type 0 where
+  pub playing : IsPlaying stage t
+  pub after : IsAfter stage step (sight_in s) (sight_in t)

@@ -1,87 +1,189 @@
 -- Runs: a scene at the start and one after each step.
-use Rattle.std.specs.Prelude.{◌≡◌, ℕ, ◌+◌, ◌-◌, ◌<◌, ◌≤◌, List, [], length, take, Some, slice_get}
+use Rattle.std.specs.Prelude.{◌≡◌, ℕ, ◌+◌, ◌-◌, ◌<◌, ◌≤◌, min, true, List, [], ◌++◌, map, length, take, replicate, Option, None, Some, slice_get}
 use Rattle.rtui_geometry.specs.declared.rect.Rect.{Rect}
-use Rattle.rtui_cell.specs.Look.{empty_look}
-use Rattle.rtui_cell.specs.Grid.{Grid}
+use Rattle.rtui_geometry.specs.declared.size.Size.{Size}
+use Rattle.rtui_cell.specs.Look.{Look, look_of, empty_look}
+use Rattle.rtui_text.specs.Text.{TextData}
 use Rattle.rtui_buffer.specs.Sheet.{Sheet, IsEmptied}
 use Rattle.rtui_buffer.specs.Frame.{IsSettledSheet, ShowsSheet}
+use Rattle.rtui_widgets.specs.Rendering.{RendersText}
+use Rattle.rtui_backend.specs.Screen.{Screen, KeepsSize, IsOnScreen, size_of, screen_area}
 use Rattle.rtui_backend.specs.CellGrid.{grid_of}
-use Rattle.screenplay.specs.declared.scene.Scene.{Scene}
+use Rattle.rtui_viewport.specs.declared.viewport.Viewport.{Viewport}
+use Rattle.rtui_viewport.specs.declared.viewport.Viewport.TheVariants.{Fullscreen, Inline, Fixed}
+use Rattle.rtui_viewport.specs.Viewports.{IsInline}
+use Rattle.rtui_viewport.specs.Areas.{KeepsOutside, IsBlankOver, IsBlankBelow}
 use Rattle.screenplay.specs.Puts.{with_puts}
+use Rattle.screenplay.specs.declared.scene.Stage.{Stage}
+use Rattle.screenplay.specs.declared.scene.Scene.{Scene}
+use Rattle.screenplay.specs.declared.scene.Step.{Step}
+use Rattle.screenplay.specs.declared.scene.Step.TheVariants.{Draw, Clear}
 use Rattle.screenplay.specs.declared.scene.PlayFault.{PlayFault}
 use Rattle.screenplay.specs.declared.scene.PlayCause.TheVariants.{Memory, Unsettled}
-use Rattle.screenplay.specs.declared.scene.Stage.{Stage}
-use Rattle.screenplay.specs.declared.scene.Step.{Step}
-use Rattle.screenplay.specs.declared.scene.Step.TheVariants.{Draw}
 
--- the frame that the puts make over an area: an empty buffer on which they were set in order
-pub record IsFrame (area : Rect) (puts : List (ℕ × ℕ × ℕ)) (frame : Sheet) : Type 0 where
-  pub blank : Sheet
-  pub emptied : IsEmptied area blank
-  pub painted : frame ≡ with_puts puts blank
+-- a screen, of whose cursor nothing is said, and the viewport on it
+pub record Sight : Type 0 where
+  pub screen : Screen
+  pub viewport : Rect
 
--- a stage has columns and rows
+-- a screen without its cursor and its count of items
+abbrev pub plain_screen : Screen → Screen
+plain_screen s = record s { cursor_x = 0; cursor_y = 0; visible = true; written = 0 }
+
+-- what a scene shows
+abbrev pub sight_of : Scene → Sight
+sight_of scene = record {
+  screen = record {
+    history = map (λ row. map look_of row.items) scene.history.items;
+    width = scene.screen.area.width;
+    height = scene.screen.area.height;
+    grid = grid_of scene.screen.area.width scene.screen.cells;
+    cursor_x = 0;
+    cursor_y = 0;
+    visible = true;
+    written = 0;
+  };
+  viewport = scene.viewport;
+}
+
+abbrev pub sight_size : Sight → Size
+sight_size s = size_of s.screen
+
+abbrev pub at_corner : Size → Rect
+at_corner size = record { x = 0; y = 0; width = size.width; height = size.height }
+
+abbrev pub stage_size : Stage → Size
+stage_size stage = record { width = stage.width; height = stage.height }
+
+-- an inline viewport has rows, and a fixed one lies on the screen
+abbrev pub IsGoodViewport : Viewport → Size → Type 0
+IsGoodViewport Fullscreen size = Unit {0}
+IsGoodViewport (Inline rows) size = 0 < rows
+IsGoodViewport (Fixed r) size = (r.x + r.width ≤ size.width) × (r.y + r.height ≤ size.height)
+
+-- a stage has columns and rows, and a viewport with a place on it
 pub record IsGoodStage (stage : Stage) : Type 0 where
   pub width : 0 < stage.width
   pub height : 0 < stage.height
+  pub viewport : IsGoodViewport stage.viewport (stage_size stage)
 
-abbrev pub stage_area : Stage → Rect
-stage_area stage = record { x = 0; y = 0; width = stage.width; height = stage.height }
+-- an inline viewport takes the full width, and its rows or all that there are
+pub record IsAcross (rows : ℕ) (size : Size) (r : Rect) : Type 0 where
+  pub x : r.x ≡ 0
+  pub width : r.width ≡ size.width
+  pub height : r.height ≡ min rows size.height
+  pub bottom : r.y + r.height ≤ size.height
 
--- what the screen of a scene shows
-abbrev pub scene_grid : Scene → Grid
-scene_grid scene = grid_of scene.screen.area.width scene.screen.cells
+-- where a viewport may lie on a screen
+abbrev pub MayLie : Viewport → Size → Rect → Type 0
+MayLie Fullscreen size r = r ≡ at_corner size
+MayLie (Inline rows) size r = IsAcross rows size r
+MayLie (Fixed f) size r = r ≡ f
 
--- the screen has the stage's size, the viewport is the whole screen, and no row scrolled off
-pub record IsOnStage (stage : Stage) (scene : Scene) : Type 0 where
-  pub screen : scene.screen.area ≡ stage_area stage
-  pub viewport : scene.viewport ≡ stage_area stage
-  pub history : scene.history.items ≡ []
+-- the viewport lies where it may, on the screen, and the rows below an inline one are blank
+pub record IsStaged (stage : Stage) (s : Sight) : Type 0 where
+  pub lies : MayLie stage.viewport (sight_size s) s.viewport
+  pub on_screen : IsOnScreen s.viewport s.screen
+  pub below : IsInline stage.viewport → IsBlankBelow s.viewport s.screen
 
--- each column of the stage has the empty look
-abbrev pub IsBlankStage : Stage → Grid → Type 0
-IsBlankStage stage grid = (a b : ℕ) → a < stage.width → b < stage.height → grid a b ≡ empty_look
+-- the frame of a text and puts over an area: an empty buffer, the text rendered over it, and then the puts set in order
+pub record IsFrame (area : Rect) (text : TextData) (puts : List (ℕ × ℕ × ℕ)) (frame : Sheet) : Type 0 where
+  pub blank : Sheet
+  pub emptied : IsEmptied area blank
+  pub rendered : Sheet
+  pub renders : RendersText text area blank rendered
+  pub painted : frame ≡ with_puts puts rendered
 
--- at the start the screen is blank
-pub record IsStart (stage : Stage) (scene : Scene) : Type 0 where
-  pub on_stage : IsOnStage stage scene
-  pub blank : IsBlankStage stage (scene_grid scene)
+-- where the viewport is at the start
+abbrev pub first_viewport : Viewport → Size → Rect
+first_viewport Fullscreen size = at_corner size
+first_viewport (Inline rows) size = record { x = 0; y = 0; width = size.width; height = min rows size.height }
+first_viewport (Fixed r) size = r
 
--- a grid shows a settled frame of these puts over the stage
-pub record ShowsFrame (stage : Stage) (puts : List (ℕ × ℕ × ℕ)) (grid : Grid) : Type 0 where
+-- how many blank rows scrolled off then: those that an inline viewport wants and the screen hasn't
+abbrev pub first_rows : Viewport → Size → ℕ
+first_rows Fullscreen size = 0
+first_rows (Inline rows) size = rows - size.height
+first_rows (Fixed r) size = 0
+
+-- at the start all is blank
+pub record IsStart (stage : Stage) (s : Sight) : Type 0 where
+  pub size : sight_size s ≡ stage_size stage
+  pub viewport : s.viewport ≡ first_viewport stage.viewport (stage_size stage)
+  pub history : s.screen.history ≡ replicate (first_rows stage.viewport (stage_size stage)) (replicate stage.width empty_look)
+  pub blank : (a b : ℕ) → a < stage.width → b < stage.height → s.screen.grid a b ≡ empty_look
+
+-- the size, the viewport, the history and all columns outside the viewport stay
+pub record KeepsRest (old new : Sight) : Type 0 where
+  pub viewport : new.viewport ≡ old.viewport
+  pub size : KeepsSize old.screen new.screen
+  pub outside : KeepsOutside old.viewport old.screen new.screen
+
+-- the size after a draw: the given one, but the screen of a fixed viewport keeps its own
+abbrev pub size_after : Viewport → Option Size → Size → Size
+size_after kind None own = own
+size_after Fullscreen (Some given) own = given
+size_after (Inline rows) (Some given) own = given
+size_after (Fixed r) (Some given) own = own
+
+-- the second history begins with the first
+abbrev pub GoesOn : List (List Look) → List (List Look) → Type 0
+GoesOn old new = (rows : List (List Look)) × (new ≡ old ++ rows)
+
+-- a draw: the screen has its size and shows the settled frame over the viewport; all else stays where the size does, and at another size
+-- the history goes on
+pub record IsDrawn (stage : Stage) (given : Option Size) (text : TextData) (puts : List (ℕ × ℕ × ℕ)) (old new : Sight) : Type 0 where
+  pub size : sight_size new ≡ size_after stage.viewport given (sight_size old)
   pub frame : Sheet
-  pub made : IsFrame (stage_area stage) puts frame
+  pub made : IsFrame new.viewport text puts frame
   pub settled : IsSettledSheet frame
-  pub shown : ShowsSheet frame grid
+  pub shown : ShowsSheet frame new.screen.grid
+  pub same : sight_size new ≡ sight_size old → KeepsRest old new
+  pub other : (sight_size new ≡ sight_size old → ⊥) → GoesOn old.screen.history new.screen.history
 
--- the frame of these puts over an area can't be shown
-pub record IsUnsettled (stage : Stage) (puts : List (ℕ × ℕ × ℕ)) (area : Rect) : Type 0 where
-  pub over : area ≡ stage_area stage
-  pub frame : Sheet
-  pub made : IsFrame area puts frame
-  pub unsettled : IsSettledSheet frame → ⊥
+-- a clear: the viewport is empty, and all else stays
+pub record IsEmptiedView (old new : Sight) : Type 0 where
+  pub rest : KeepsRest old new
+  pub blank : IsBlankOver new.viewport new.screen
 
--- a draw: the screen shows the frame of its puts
-pub record IsDrawn (stage : Stage) (puts : List (ℕ × ℕ × ℕ)) (scene : Scene) : Type 0 where
-  pub on_stage : IsOnStage stage scene
-  pub shows : ShowsFrame stage puts (scene_grid scene)
+-- what stands after a step
+abbrev pub IsAfter : Stage → Step → Sight → Sight → Type 0
+IsAfter stage (Draw given text puts) old new = IsDrawn stage given text puts old new
+IsAfter stage Clear old new = IsEmptiedView old new
 
--- the puts of a step
-abbrev pub puts_in : Step → List (ℕ × ℕ × ℕ)
-puts_in (Draw puts) = puts
-
-abbrev pub IsAfter : Stage → Step → Scene → Type 0
-IsAfter stage step scene = IsDrawn stage (puts_in step) scene
+-- the screen of a scene has its corner at (0, 0)
+abbrev pub IsAtCorner : Scene → Type 0
+IsAtCorner scene = scene.screen.area ≡ screen_area (sight_of scene).screen
 
 -- the scenes from a start through the steps, one more than those
 pub record IsRun (stage : Stage) (steps : List Step) (scenes : List Scene) : Type 0 where
   pub count : length scenes ≡ length steps + 1
-  pub start : (scene : Scene) → slice_get scenes 0 ≡ Some scene → IsStart stage scene
-  pub after : (k : ℕ) (step : Step) (scene : Scene) → slice_get steps k ≡ Some step → slice_get scenes (k + 1) ≡ Some scene → IsAfter stage step scene
+  pub staged : (k : ℕ) (scene : Scene) → slice_get scenes k ≡ Some scene → IsAtCorner scene × IsStaged stage (sight_of scene)
+  pub start : (scene : Scene) → slice_get scenes 0 ≡ Some scene → IsStart stage (sight_of scene)
+  pub after : (k : ℕ) (step : Step) (old new : Scene) → slice_get steps k ≡ Some step → slice_get scenes k ≡ Some old → slice_get scenes (k + 1) ≡ Some new
+      → IsAfter stage step (sight_of old) (sight_of new)
 
--- a fault at a step: the scenes are a run of the steps before it, and a frame that is called unsettled is
+-- a frame that can't be shown
+pub record HasUnsettled (area : Rect) (text : TextData) (puts : List (ℕ × ℕ × ℕ)) : Type 0 where
+  pub frame : Sheet
+  pub made : IsFrame area text puts frame
+  pub unsettled : IsSettledSheet frame → ⊥
+
+-- a draw's viewport: the former one where the size stays, else anywhere that it may lie
+pub record MayCover (stage : Stage) (size : Size) (s : Sight) (area : Rect) : Type 0 where
+  pub lies : MayLie stage.viewport size area
+  pub stays : size ≡ sight_size s → area ≡ s.viewport
+
+-- the step can't be played: its frame over this viewport can't be shown
+abbrev pub IsUnsettled : Stage → Step → Sight → Rect → Type 0
+IsUnsettled stage (Draw given text puts) s area = MayCover stage (size_after stage.viewport given (sight_size s)) s area × HasUnsettled area text puts
+IsUnsettled stage Clear s area = ⊥
+
+-- a fault at a step: the scenes are a run of the steps before it, and a step that is called unsettled is
 pub record IsFault (stage : Stage) (steps : List Step) (fault : PlayFault) : Type 0 where
   pub inside : fault.step ≤ length steps
   pub early : fault.step ≡ 0 → (fault.scenes.items ≡ []) × (fault.cause ≡ Memory)
   pub run : 0 < fault.step → IsRun stage (take (fault.step - 1) steps) fault.scenes.items
-  pub unsettled : (area : Rect) → fault.cause ≡ Unsettled area → (step : Step) × (slice_get steps (fault.step - 1) ≡ Some step) × IsUnsettled stage (puts_in step) area
+  pub unsettled : (area : Rect) → fault.cause ≡ Unsettled area
+      → (step : Step) × (scene : Scene) × (slice_get steps (fault.step - 1) ≡ Some step) × (slice_get fault.scenes.items (fault.step - 1) ≡ Some scene)
+      × IsUnsettled stage step (sight_of scene) area

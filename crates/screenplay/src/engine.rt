@@ -32,7 +32,7 @@ fn read_bytes<R: Read>(alloc: Global, reader: &mut R) -> Result<Vec<u8>, RunFaul
 }
 
 // The script that these bytes are.
-fn script_of(alloc: Global, bytes: &[u8]) -> Result<Script, RunFault>
+fn script_of(alloc: Global, bytes: &[u8]) -> Result<Script<'_>, RunFault>
     ensures ok { IfOk result (λ s. IsUtf8 bytes.now × IsScript (text_lines bytes.now) s.stage s.steps.items s.shows.items) }
     ensures err { IfErr result (IsRunFault bytes.now) }
     ensures early { IfErr result (λ fault. fault ≡ Write → ⊥) }
@@ -48,7 +48,7 @@ fn script_of(alloc: Global, bytes: &[u8]) -> Result<Script, RunFault>
 }
 
 // The scenes of a script; none where it sets no stage.
-fn scenes_of(alloc: Global, script: &Script) -> Result<Vec<Scene>, PlayFault>
+fn scenes_of(alloc: Global, script: &Script<'_>) -> Result<Vec<Scene>, PlayFault>
     requires { IfSome script.now.stage IsGoodStage }
     ensures ok { IfOk result (λ scenes. IfSome script.now.stage (λ stage. IsRun stage script.now.steps.items scenes.items)) }
     ensures fault { IfErr result (λ fault. (stage : Stage) × (script.now.stage ≡ Some stage) × IsFault stage script.now.steps.items fault) }

@@ -1,19 +1,27 @@
 //! Playing the steps of a script.
 
-ghost use Rattle.std.specs.Prelude.{◌≡◌, ◌↔◌, ℕ, ◌++◌, ◌∷◌, [], IsTrue, IfOk, IfErr, OnOk, OnErr};
-ghost use Rattle.rtui_buffer.specs.Frame.{IsSettledSheet};
+ghost use Rattle.std.specs.Prelude.{◌≡◌, ◌↔◌, ◌++◌, ◌∷◌, [], IsTrue, None, IfOk, IfErr, OnOk, OnErr, map};
 ghost use Rattle.rtui_backend.specs.TestBackend.{screen_of};
+ghost use Rattle.rtui_terminal.specs.Calls.{Applies};
+ghost use Rattle.screenplay.specs.declared.scene.PlayCause.TheVariants.{Memory};
+ghost use Rattle.rtui_buffer.specs.Frame.{IsSettledSheet};
+ghost use Rattle.rtui_buffer.specs.Sheet.{IsEmptied};
 ghost use Rattle.screenplay.specs.Puts.{with_put, with_puts};
-ghost use Rattle.screenplay.specs.Run.{IsGoodStage, ShowsFrame, IsRun, IsFault, IsBlankStage, puts_in};
-ghost use Rattle.screenplay.specs.Playing.{IsPlaying, IsSceneOf, IsCause};
+ghost use Rattle.screenplay.specs.Run.{IsGoodStage, IsFrame, IsRun, IsFault, IsStart};
+ghost use Rattle.screenplay.specs.Playing.{IsPlaying, IsSceneOf, TakesNewSize, IsSizedFor, ShowsFrame, IsFrameCause, IsCause, Plays, sight_in};
 ghost use Rattle.screenplay.specs.declared.scene.Scene.{Scene};
 ghost use Rattle.screenplay.specs.declared.scene.Stage.{Stage};
+ghost use Rattle.screenplay.specs.declared.scene.Step.{Step};
+ghost use Rattle.screenplay.specs.declared.scene.Step.TheVariants.{Draw, Clear};
 
 use crate::scene::{PlayCause, PlayFault, Puts, Scene, Stage, Step};
 use rtui_backend::{TestBackend, TestError};
-use rtui_buffer::Buffer;
-use rtui_geometry::Position;
-use rtui_terminal::{Terminal, TerminalError};
+use rtui_buffer::{Buffer, Cell};
+use rtui_geometry::{Position, Rect, Size};
+use rtui_terminal::{Terminal, TerminalError, TerminalOptions};
+use rtui_text::Text;
+use rtui_viewport::Viewport;
+use rtui_widgets::Widget;
 use std::alloc::{AllocError, Global};
 
 // Sets a character at a place of the screen, where the buffer has it.
@@ -36,40 +44,196 @@ fn set_puts(alloc: Global, buffer: &mut Buffer, puts: &[(u16, u16, char)]) -> Re
     Ok(())
 }
 
-// Paints a frame, and answers whether it is settled.
-fn paint(alloc: Global, frame: &mut Buffer, puts: &Puts) -> Result<bool, AllocError>
-    ensures painted { OnOk result (frame.new ≡ with_puts puts.now frame.old) }
+// Paints a frame on an empty buffer of an area, and answers whether it is settled.
+fn paint(
+    alloc: Global,
+    frame: &mut Buffer,
+    area: Rect,
+    text: &Text<'_>,
+    puts: &Puts,
+) -> Result<bool, AllocError>
+    ensures painted { OnOk result (
+        IsEmptied area frame.old → IsFrame area text.now puts.now frame.new) }
     ensures settled { IfOk result (λ settled. IsTrue settled ↔ IsSettledSheet frame.new) }
 {
+    text.render(area, frame)?;
     set_puts(alloc, frame, puts.as_slice())?;
     Ok(frame.is_settled())
 }
 
 // A terminal over a blank stage.
 fn open(alloc: Global, stage: Stage) -> Result<Terminal<TestBackend>, TerminalError<TestError>>
-    ensures { IfOk result (λ t. IsPlaying stage t × IsBlankStage stage (screen_of t.backend).grid) }
+    requires { IsGoodStage stage }
+    ensures { IfOk result (λ t. IsPlaying stage t × IsStart stage (sight_in t)) }
 {
     let backend = match TestBackend::new(alloc, stage.width, stage.height) {
         Ok(backend) => backend,
         Err(_) => return Err(TerminalError::Memory),
     };
-    Terminal::new(alloc, backend)
+    let options = TerminalOptions {
+        viewport: stage.viewport,
+    };
+    Terminal::with_options(alloc, backend, options)
 }
 
-// Draws the frame of these puts.
-fn draw(alloc: Global, terminal: &mut Terminal<TestBackend>, puts: &Puts) -> Result<(), PlayCause>
-    ensures ok { OnOk result ((stage : Stage) → IsPlaying stage terminal.old → IsPlaying stage terminal.new × ShowsFrame stage puts.now (screen_of terminal.new.backend).grid) }
-    ensures err { IfErr result (λ cause. (stage : Stage) → IsPlaying stage terminal.old → IsCause stage puts.now cause) }
+// Gives the screen another size, and places the viewport on it.
+fn resize(
+    terminal: &mut Terminal<TestBackend>,
+    size: Size,
+) -> Result<(), TerminalError<TestError>>
+    ensures { OnOk result (TakesNewSize size terminal.old terminal.new) }
 {
-    match paint(alloc, terminal.current_buffer_mut(), puts) {
-        Ok(true) => {}
-        Ok(false) => return Err(PlayCause::Unsettled(terminal.viewport_area())),
-        Err(_) => return Err(PlayCause::Memory),
+    match terminal.backend_mut().resize(size.width, size.height) {
+        Ok(()) => {}
+        Err(_) => return Err(TerminalError::Memory),
     }
+    match terminal.autoresize() {
+        Ok(()) => Ok(()),
+        Err(error) => Err(error),
+    }
+}
+
+// Gives the screen a size, if there is one, and the viewport isn't fixed.
+fn take_size(
+    terminal: &mut Terminal<TestBackend>,
+    viewport: Viewport,
+    size: Option<Size>,
+) -> Result<(), TerminalError<TestError>>
+    ensures { OnOk result ((stage : Stage) → stage.viewport ≡ viewport → IsPlaying stage terminal.old
+        → IsPlaying stage terminal.new × IsSizedFor stage size terminal.old terminal.new) }
+{
+    let Some(size) = size else {
+        return Ok(());
+    };
+    if let Viewport::Fixed(_) = viewport {
+        return Ok(());
+    }
+    if terminal.backend().buffer().area().as_size() == size {
+        return Ok(());
+    }
+    resize(terminal, size)
+}
+
+// Draws the current buffer.
+fn apply(terminal: &mut Terminal<TestBackend>) -> Result<(), PlayCause>
+    ensures ok { OnOk result (Applies screen_of None terminal.old terminal.new) }
+    ensures err { IfErr result (λ cause. cause ≡ Memory) }
+{
     match terminal.apply_buffer() {
         Ok(_) => Ok(()),
         Err(_) => Err(PlayCause::Memory),
     }
+}
+
+// Paints a frame of a text and puts, and draws it if it is settled.
+fn draw_frame(
+    alloc: Global,
+    terminal: &mut Terminal<TestBackend>,
+    text: &Text<'_>,
+    puts: &Puts,
+) -> Result<(), PlayCause>
+    ensures ok { OnOk result ((stage : Stage) → IsPlaying stage terminal.old
+        → IsPlaying stage terminal.new × ShowsFrame text.now puts.now terminal.old terminal.new) }
+    ensures err { IfErr result (λ cause. (stage : Stage) → IsPlaying stage terminal.old
+        → IsFrameCause text.now puts.now terminal.old cause) }
+{
+    let area = terminal.viewport_area();
+    match paint(alloc, terminal.current_buffer_mut(), area, text, puts) {
+        Ok(true) => {}
+        Ok(false) => return Err(PlayCause::Unsettled(area)),
+        Err(_) => return Err(PlayCause::Memory),
+    }
+    match apply(terminal) {
+        Ok(()) => Ok(()),
+        Err(cause) => Err(cause),
+    }
+}
+
+// Draws a frame on a screen that takes a size before, if there is one.
+fn draw(
+    alloc: Global,
+    terminal: &mut Terminal<TestBackend>,
+    viewport: Viewport,
+    size: Option<Size>,
+    text: &Text<'_>,
+    puts: &Puts,
+) -> Result<(), PlayCause>
+    ensures ok { OnOk result ((stage : Stage) → stage.viewport ≡ viewport → IsPlaying stage terminal.old
+        → Plays stage (Draw size text.now puts.now) terminal.old terminal.new) }
+    ensures err { IfErr result (λ cause. (stage : Stage) → stage.viewport ≡ viewport → IsPlaying stage terminal.old
+        → IsCause stage (Draw size text.now puts.now) (sight_in terminal.old) cause) }
+{
+    match take_size(terminal, viewport, size) {
+        Ok(()) => {}
+        Err(_) => return Err(PlayCause::Memory),
+    }
+    draw_frame(alloc, terminal, text, puts)
+}
+
+// Empties the viewport.
+fn clear(terminal: &mut Terminal<TestBackend>) -> Result<(), PlayCause>
+    ensures { OnOk result ((stage : Stage) → IsGoodStage stage → IsPlaying stage terminal.old
+        → Plays stage Clear terminal.old terminal.new) }
+{
+    // The screen's edges fit 16 bits.
+    let _area = terminal.backend().buffer().area();
+    match terminal.clear() {
+        Ok(()) => Ok(()),
+        Err(_) => Err(PlayCause::Memory),
+    }
+}
+
+// Plays a step.
+fn play_step(
+    alloc: Global,
+    terminal: &mut Terminal<TestBackend>,
+    viewport: Viewport,
+    step: &Step<'_>,
+) -> Result<(), PlayCause>
+    ensures ok { OnOk result ((stage : Stage) → stage.viewport ≡ viewport → IsGoodStage stage
+        → IsPlaying stage terminal.old → Plays stage step.now terminal.old terminal.new) }
+    ensures err { IfErr result (λ cause. (stage : Stage) → stage.viewport ≡ viewport
+        → IsPlaying stage terminal.old → IsCause stage step.now (sight_in terminal.old) cause) }
+{
+    match step {
+        Step::Draw { size, text, puts } => draw(alloc, terminal, viewport, *size, text, puts),
+        Step::Clear => match clear(terminal) {
+            Ok(()) => Ok(()),
+            Err(_) => Err(PlayCause::Memory),
+        },
+    }
+}
+
+fn copied_row(alloc: Global, row: &[Cell]) -> Result<Vec<Cell>, AllocError>
+    ensures { IfOk result (λ copy. copy.items ≡ row.now) }
+{
+    let mut copy = Vec::new(alloc);
+    for cell in row {
+        copy.push(cell.clone(alloc)?)?;
+    }
+    Ok(copy)
+}
+
+fn copied_rows(alloc: Global, rows: &[Vec<Cell>]) -> Result<Vec<Vec<Cell>>, AllocError>
+    ensures { IfOk result (λ copies. map (λ row. row.items) copies.items ≡ map (λ row. row.items) rows.now) }
+{
+    let mut copies = Vec::new(alloc);
+    for row in rows {
+        copies.push(copied_row(alloc, row.as_slice())?)?;
+    }
+    Ok(copies)
+}
+
+// What a terminal's screen shows.
+fn scene_of(alloc: Global, terminal: &Terminal<TestBackend>) -> Result<Scene, AllocError>
+    ensures { IfOk result (IsSceneOf terminal.now) }
+{
+    let backend = terminal.backend();
+    Ok(Scene {
+        history: copied_rows(alloc, backend.scrollback())?,
+        screen: backend.buffer().clone(alloc)?,
+        viewport: terminal.viewport_area(),
+    })
 }
 
 // Adds what the screen shows to the scenes.
@@ -78,29 +242,17 @@ fn add_scene(
     terminal: &Terminal<TestBackend>,
     scenes: &mut Vec<Scene>,
 ) -> Result<(), AllocError>
-    ensures ok { OnOk result ((scene : Scene) × (scenes.new.items ≡ scenes.old.items ++ scene ∷ []) × ((stage : Stage) → IsPlaying stage terminal.now → IsSceneOf stage terminal.now scene)) }
+    ensures ok { OnOk result ((scene : Scene) × (scenes.new.items ≡ scenes.old.items ++ scene ∷ [])
+        × IsSceneOf terminal.now scene) }
     ensures err { OnErr result (scenes.new.items ≡ scenes.old.items) }
 {
-    let scene = Scene {
-        history: Vec::new(alloc),
-        screen: terminal.backend().buffer().clone(alloc)?,
-        viewport: terminal.viewport_area(),
-    };
-    scenes.push(scene)?;
+    scenes.push(scene_of(alloc, terminal)?)?;
     Ok(())
-}
-
-fn step_puts(step: &Step) -> &Puts
-    ensures { result.now ≡ puts_in step.now }
-{
-    match step {
-        Step::Draw { puts } => puts,
-    }
 }
 
 /// Plays steps on a blank stage: the scene at the start, and one after each step. A fault names the step that
 /// wasn't done, 0 for the start, and keeps the scenes before it.
-pub fn play(alloc: Global, stage: Stage, steps: &[Step]) -> Result<Vec<Scene>, PlayFault>
+pub fn play(alloc: Global, stage: Stage, steps: &[Step<'_>]) -> Result<Vec<Scene>, PlayFault>
     requires { IsGoodStage stage }
     ensures ok { IfOk result (λ scenes. IsRun stage steps.now scenes.items) }
     ensures fault { IfErr result (IsFault stage steps.now) }
@@ -115,7 +267,7 @@ pub fn play(alloc: Global, stage: Stage, steps: &[Step]) -> Result<Vec<Scene>, P
         Err(_) => return Err(fault(0, PlayCause::Memory, scenes)),
     }
     for (index, step) in steps.iter().enumerate() {
-        match draw(alloc, &mut terminal, step_puts(step)) {
+        match play_step(alloc, &mut terminal, stage.viewport, step) {
             Ok(()) => {}
             Err(cause) => return Err(fault(index + 1, cause, scenes)),
         }

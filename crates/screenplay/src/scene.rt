@@ -3,15 +3,18 @@
 ghost use Rattle.std.specs.Prelude.{◌≡◌, ◌++◌, ◌∷◌, [], OnOk, OnErr};
 
 use rtui_buffer::{Buffer, Cell};
-use rtui_geometry::Rect;
+use rtui_geometry::{Rect, Size};
+use rtui_text::Text;
+use rtui_viewport::Viewport;
 use std::alloc::{AllocError, Global};
 use std::marker::Model;
 
-/// The screen that a script is played on, in columns and rows.
+/// The screen that a script is played on, in columns and rows, and the part of it that is drawn on.
 #[derive(Debug, Clone, Copy, PartialEq, Eq, Hash)]
 pub struct Stage {
     pub width: u16,
     pub height: u16,
+    pub viewport: Viewport,
 }
 
 /// Characters to be set, in order: each with its column and its row of the screen.
@@ -74,10 +77,17 @@ impl From<Vec<(u16, u16, char)>> for Puts {
 
 /// One step of a script.
 #[derive(Debug, Drop)]
-pub enum Step {
-    /// A frame: an empty buffer over the viewport on which each put sets its symbol, in order; one outside
-    /// the viewport does nothing.
-    Draw { puts: Puts },
+pub enum Step<'a> {
+    /// A frame, before which a screen whose viewport isn't fixed takes the size, if there is one: the text rendered
+    /// over an empty buffer of the viewport, on which each put then sets its symbol, in order; one outside the viewport
+    /// does nothing.
+    Draw {
+        size: Option<Size>,
+        text: Text<'a>,
+        puts: Puts,
+    },
+    /// An empty viewport.
+    Clear,
 }
 
 /// What a screen shows between two steps.

@@ -1,5 +1,7 @@
 //! Plays of steps, without a script.
 use rtui_geometry::Rect;
+use rtui_text::Text;
+use rtui_viewport::Viewport;
 use screenplay::{PlayCause, PlayFault, Puts, Scene, Stage, Step, play};
 use std::alloc::{AllocError, Global};
 use std::slice;
@@ -16,8 +18,13 @@ fn play_put(
     let stage = Stage {
         width: 2,
         height: 1,
+        viewport: Viewport::Fullscreen,
     };
-    let step = Step::Draw { puts };
+    let step = Step::Draw {
+        size: None,
+        text: Text::default_in(alloc),
+        puts,
+    };
     Ok(play(alloc, stage, slice::from_ref(&step)))
 }
 

@@ -23,6 +23,32 @@ fn prints_what_it_shows(rt: HostRuntime) {
 }
 
 #[test]
+fn prints_texts(rt: HostRuntime) {
+    let wide = "screen 4 1\ntext コx\ndraw\nshow";
+    assert!(rt; prints(rt.alloc(), wide, "|コx \n"));
+    let under_puts = "screen 3 2\nput 1 0 x\ntext abc\ntext\ndraw\nshow";
+    assert!(rt; prints(rt.alloc(), under_puts, "|axc\n|   \n"));
+}
+
+#[test]
+fn draws_on_screens_of_another_size(rt: HostRuntime) {
+    let wider = "screen 3 1\ntext abc\ndraw\nsize 5 1\ntext ab\ndraw\nshow";
+    assert!(rt; prints(rt.alloc(), wider, "|ab   \n"));
+    let same = "inline 3 2 1\ntext ab\ndraw\nsize 9 9\nsize 3 2\ntext cd\ndraw\nshow";
+    assert!(rt; prints(rt.alloc(), same, "|cd \n|   \n"));
+}
+
+#[test]
+fn draws_on_parts_of_screens(rt: HostRuntime) {
+    let fixed = "fixed 4 2 1 0 2 1\ntext ab\ndraw\nshow";
+    assert!(rt; prints(rt.alloc(), fixed, "| ab \n|    \n"));
+    let cleared = "fixed 4 2 1 0 2 1\ntext ab\ndraw\nclear\nshow";
+    assert!(rt; prints(rt.alloc(), cleared, "|    \n|    \n"));
+    let scrolled = "inline 2 1 3\ntext a\ndraw\nshow";
+    assert!(rt; prints(rt.alloc(), scrolled, "^  \n^  \n|a \n"));
+}
+
+#[test]
 fn prints_blanks(rt: HostRuntime) {
     let blank = "screen 1 1\nput 0 0  \ndraw\nshow";
     assert!(rt; prints(rt.alloc(), blank, "| \n"));
@@ -59,7 +85,11 @@ fn fails(alloc: Global, script: &str, text: &str) -> Result<bool, AllocError> {
 }
 
 /// Scripts whose first bad line is the first one.
-static BAD_FIRST_LINES: [&str; 7] = [
+static BAD_FIRST_LINES: [&str; 11] = [
+    "inline 3 1 0",
+    "fixed 4 2 1 0 4 1",
+    "fixed 4 2 1 0 2",
+    "size 3 1",
     "draw",
     "screen 3 0\ndraw",
     "screen 65536 1",
@@ -70,13 +100,17 @@ static BAD_FIRST_LINES: [&str; 7] = [
 ];
 
 /// Scripts whose first bad line is the second one.
-static BAD_SECOND_LINES: [&str; 10] = [
+static BAD_SECOND_LINES: [&str; 14] = [
+    "fixed 4 2 1 0 2 1\nsize 3 1",
+    "screen 3 1\nsize 0 1",
+    "screen 3 1\nfixed 4 2 1 0 2 1",
+    "screen 3 1\ntexts a",
     "screen 3 1\nput 0 0 あ\ndraw",
     "screen 3 1\nput 0 0 あ",
     "screen 3 1\nscreen 3 1",
     "screen 3 1\ndraw ",
     "screen 3 1\nDraw",
-    "screen 3 1\nclear",
+    "screen 3 1\nclear ",
     "screen 3 1\nput 0 0",
     "screen 3 1\nput 0 0 ab",
     "screen 3 1\nput 0 0 \t",
@@ -101,6 +135,15 @@ fn names_the_first_bad_line(rt: HostRuntime) -> Result<(), Fail> {
     all_fail(&rt, rt.alloc(), &BAD_FIRST_LINES, "line 1: bad command")?;
     all_fail(&rt, rt.alloc(), &BAD_SECOND_LINES, "line 2: bad command")?;
     assert!(rt; fails(rt.alloc(), "\n\nshow", "line 3: bad command")?);
+    Ok(())
+}
+
+#[test]
+fn names_a_step_that_is_not_settled(rt: HostRuntime) -> Result<(), Fail> {
+    let covered = "screen 4 1\ntext コ\nput 1 0 x\ndraw";
+    assert!(rt; fails(rt.alloc(), covered, "step 1: unsettled")?);
+    let joined = "screen 4 1\ndraw\ntext コ\u{200B}\ndraw";
+    assert!(rt; fails(rt.alloc(), joined, "step 2: unsettled")?);
     Ok(())
 }
 

@@ -1,8 +1,14 @@
-use Rattle.std.proofs.Common.{rules}
-use Rattle.screenplay.proofs.PlayLemmas.{IsPlaying-drawn}
+use Rattle.std.proofs.lemmas.Result.{on_ok_weaker, IfErr-weaker}
+use Rattle.screenplay.proofs.PlayLemmas.{Plays-drawn, IsCause-drawn}
 use Rattle.screenplay.proofs.playing.draw.Goals as goal
 
-pub returns-in-Ok-clause-ok : goal.returns-in-Ok-clause-ok
-returns-in-Ok-clause-ok c stage playing =
-    let after = IsPlaying-drawn stage c.args.puts.now _ c.args.terminal.now _ playing (rw c.current_buffer_mut.ensures.value at c.in-Ok-true.ensures.painted) (search rules) c.in-Ok.ensures.applied in
-    search (rules, after)
+pub returns-clause-ok : goal.returns-clause-ok
+returns-clause-ok c = on_ok_weaker c.draw_frame.result (λ drawn stage is playing.
+    let sized = c.in-Ok.ensures stage is playing in
+    let after = drawn stage sized.0 in
+    Plays-drawn stage c.args.size c.args.text.now c.args.puts.now c.args.terminal.now _ _ sized.1 after.0 after.1) c.draw_frame.ensures.ok
+
+pub returns-clause-err : goal.returns-clause-err
+returns-clause-err c = IfErr-weaker c.draw_frame.result _ _ (λ cause why stage is playing.
+    let sized = c.in-Ok.ensures stage is playing in
+    IsCause-drawn stage c.args.size c.args.text.now c.args.puts.now c.args.terminal.now _ cause sized.0 sized.1 (why stage sized.0)) c.draw_frame.ensures.err

@@ -1,0 +1,114 @@
+-- A run, a scene at a time.
+use Rattle.std.proofs.Common.{◌≡◌, ℕ, ◌+◌, ◌-◌, ◌<◌, List, [], ◌∷◌, ◌++◌, length, take, get_or, Some, arith, length-append, inl, inr, sym, ap, ◌∙◌, subst}
+use Rattle.std.specs.Prelude.{slice_get}
+use Rattle.std.proofs.lemmas.Bool.{cases_lt}
+use Rattle.std.proofs.lemmas.List.{get_or_append_left}
+use Rattle.std.proofs.lemmas.Option.{slice_get-get_or, get_or_from_slice_get, slice_get_within}
+use Rattle.std.proofs.Math.Seq.{get_or-append_seam}
+use Rattle.std.specs.declared.vec.Vec.{Vec}
+use Rattle.std.specs.declared.alloc.Global.{Global}
+use Rattle.rtui_backend.specs.declared.test.TestBackend.{TestBackend}
+use Rattle.rtui_terminal.specs.State.{State}
+use Rattle.screenplay.specs.Run.{Sight, sight_of, IsAtCorner, IsStaged, IsStart, IsAfter, IsRun, IsFault}
+use Rattle.screenplay.specs.Playing.{IsPlaying, sight_in, IsSceneOf, IsCause, Plays}
+use Rattle.screenplay.specs.declared.scene.PlayCause.{PlayCause}
+use Rattle.screenplay.specs.declared.scene.PlayCause.TheVariants.{Unsettled}
+use Rattle.screenplay.specs.declared.scene.Scene.{Scene}
+use Rattle.screenplay.specs.declared.scene.Stage.{Stage}
+use Rattle.screenplay.specs.declared.scene.Step.{Step}
+
+-- the scene behind n steps shows what the terminal's screen shows
+pub record HasLast (n : ℕ) (scenes : List Scene) (t : State TestBackend) : Type 0 where
+  pub scene : Scene
+  pub here : slice_get scenes n ≡ Some scene
+  pub shown : IsSceneOf t scene
+
+-- the elements of a list with one more
+get_front : {X : Type 0} (xs : List X) (y x : X) (k : ℕ) → k < length xs → slice_get (xs ++ y ∷ []) k ≡ Some x → slice_get xs k ≡ Some x
+get_front xs y x k lt e =
+    slice_get-get_or xs k x lt ∙ ap Some (sym (get_or_append_left xs (y ∷ []) x k lt) ∙ get_or_from_slice_get (xs ++ y ∷ []) k x x e)
+
+get_last : {X : Type 0} (xs : List X) (y x : X) (k : ℕ) → k ≡ length xs → slice_get (xs ++ y ∷ []) k ≡ Some x → y ≡ x
+get_last xs y x k end e =
+    sym (get_or-append_seam xs y [] x) ∙ ap (λ i. get_or (xs ++ y ∷ []) i x) (sym end) ∙ get_or_from_slice_get (xs ++ y ∷ []) k x x e
+
+get_end : {X : Type 0} (xs : List X) (y : X) (k : ℕ) → k ≡ length xs → slice_get (xs ++ y ∷ []) k ≡ Some y
+get_end xs y k end =
+    slice_get-get_or (xs ++ y ∷ []) k y (omega (arith, length-append xs (y ∷ []))) ∙ ap Some (ap (λ i. get_or (xs ++ y ∷ []) i y) end ∙ get_or-append_seam xs y [] y)
+
+one_value : {X : Type 0} (xs : List X) (k : ℕ) (x y : X) → slice_get xs k ≡ Some x → slice_get xs k ≡ Some y → x ≡ y
+one_value xs k x y here there = sym (get_or_from_slice_get xs k x x here) ∙ get_or_from_slice_get xs k y x there
+
+IsStaged-playing : (stage : Stage) (t : State TestBackend) → IsPlaying stage t → IsStaged stage (sight_in t)
+IsStaged-playing stage t playing =
+    let on = playing.in_step.on_screen in
+    record {
+      lies = playing.lies;
+      on_screen = record { right = on.right; bottom = on.bottom };
+      below = λ inline. record { at = (playing.below inline).at };
+    }
+
+pub IsRun-start : (stage : Stage) (t : State TestBackend) (scene : Scene) → IsPlaying stage t → IsStart stage (sight_in t) → IsSceneOf t scene → IsRun stage [] (scene ∷ [])
+IsRun-start stage t scene playing start made = record {
+  count = omega arith;
+  staged = λ k sc is.
+      let within : k < 1 = slice_get_within (scene ∷ []) k sc is in
+      let same : scene ≡ sc = get_last [] scene sc k (omega arith) is in
+      subst (λ x. IsAtCorner x × IsStaged stage (sight_of x)) same (made.corner, subst (IsStaged stage) (sym made.shown) (IsStaged-playing stage t playing));
+  start = λ sc is. subst (λ x. IsStart stage (sight_of x)) (get_last [] scene sc 0 (omega arith) is) (subst (IsStart stage) (sym made.shown) start);
+  after = λ k step old new is. absurd (let within : k < 0 = slice_get_within [] k step is in omega arith);
+}
+
+pub HasLast-start : (t : State TestBackend) (scene : Scene) → IsSceneOf t scene → HasLast 0 (scene ∷ []) t
+HasLast-start t scene made = record { scene = scene; here = get_end [] scene 0 (omega arith); shown = made }
+
+-- one more step, and the scene after it
+module _ (stage : Stage) (steps : List Step) (step : Step) (scenes : List Scene) (scene : Scene) (s t : State TestBackend)
+    (run : IsRun stage steps scenes) (last : HasLast (length steps) scenes s) (plays : Plays stage step s t) (made : IsSceneOf t scene) where
+  pub IsRun-push : IsRun stage (steps ++ step ∷ []) (scenes ++ scene ∷ [])
+  IsRun-push =
+      let count = run.count in
+      let follows : IsAfter stage step (sight_of last.scene) (sight_of scene) =
+      subst (λ x. IsAfter stage step x (sight_of scene)) (sym last.shown.shown) (subst (IsAfter stage step (sight_in s)) (sym made.shown) plays.after) in
+      let fine : IsAtCorner scene × IsStaged stage (sight_of scene) = (made.corner, subst (IsStaged stage) (sym made.shown) (IsStaged-playing stage t plays.playing)) in
+      record {
+        count = omega (arith, length-append steps (step ∷ []), length-append scenes (scene ∷ []));
+        staged = λ k sc is. elim (cases_lt k (length scenes)) [
+          | inl less ↦ run.staged k sc (get_front scenes scene sc k less is)
+          | inr ge ↦
+              let within : k < length (scenes ++ scene ∷ []) = slice_get_within (scenes ++ scene ∷ []) k sc is in
+              subst (λ x. IsAtCorner x × IsStaged stage (sight_of x)) (get_last scenes scene sc k (omega (arith, length-append scenes (scene ∷ []))) is) fine
+        ];
+        start = λ first e. run.start first (get_front scenes scene first 0 (omega arith) e);
+        after = λ k st old new is_step is_old is_new. elim (cases_lt k (length steps)) [
+          | inl less ↦ run.after k st old new (get_front steps step st k less is_step) (get_front scenes scene old k (omega arith) is_old) (get_front scenes scene new (k + 1) (omega arith) is_new)
+          | inr ge ↦
+              let within : k < length (steps ++ step ∷ []) = slice_get_within (steps ++ step ∷ []) k st is_step in
+              let end : k ≡ length steps = omega (arith, length-append steps (step ∷ [])) in
+              let former : slice_get scenes (length steps) ≡ Some old = subst (λ i. slice_get scenes i ≡ Some old) end (get_front scenes scene old k (omega arith) is_old) in
+              subst (λ x. IsAfter stage x (sight_of old) (sight_of new)) (get_last steps step st k end is_step)
+              (subst (λ x. IsAfter stage step x (sight_of new)) (ap sight_of (one_value scenes (length steps) last.scene old last.here former))
+              (subst (λ x. IsAfter stage step (sight_of last.scene) (sight_of x)) (get_last scenes scene new (k + 1) (omega arith) is_new) follows))
+        ];
+      }
+
+  pub HasLast-push : HasLast (length steps + 1) (scenes ++ scene ∷ []) t
+  HasLast-push = let count = run.count in record { scene = scene; here = get_end scenes scene (length steps + 1) (omega arith); shown = made }
+
+-- a fault behind i steps, whose scenes are a run of those
+pub IsFault-at : (stage : Stage) (steps : List Step) (i : ℕ) (step : Step) (cause : PlayCause) (scenes : Vec Scene Global) (s : State TestBackend) → i < length steps → step ≡ get_or steps i step
+    → IsRun stage (take i steps) scenes.items → HasLast i scenes.items s → IsCause stage step (sight_in s) cause → IsFault stage steps (record { step = i + 1; cause = cause; scenes = scenes })
+IsFault-at stage steps i step cause scenes s inside is run last why =
+    let back : i + 1 - 1 ≡ i = omega arith in
+    record {
+      inside = omega arith;
+      early = λ none. absurd (omega arith);
+      run = λ some. rw back run;
+      unsettled = λ area is_unsettled. (
+        step,
+        last.scene,
+        rw back (slice_get-get_or steps i step inside ∙ ap Some (sym is)),
+        rw back last.here,
+        subst (λ x. IsCause stage step x (Unsettled area)) (sym last.shown.shown) (subst (IsCause stage step (sight_in s)) is_unsettled why),
+      );
+    }

@@ -1,0 +1,53 @@
+-- A scene made of what a terminal's screen shows.
+use Rattle.std.proofs.Common.{◌≡◌, List, [], ◌∷◌, map, refl, sym, ap, ap₂, ◌∙◌, true}
+use Rattle.std.specs.declared.vec.Vec.{Vec}
+use Rattle.std.specs.declared.alloc.Global.{Global}
+use Rattle.rtui_geometry.specs.declared.rect.Rect.{Rect}
+use Rattle.rtui_cell.specs.declared.cell.Cell.{Cell}
+use Rattle.rtui_cell.specs.Look.{Look, look_of}
+use Rattle.rtui_buffer.specs.Sheet.{Sheet, IsSameSheet}
+use Rattle.rtui_backend.specs.Screen.{screen_area}
+use Rattle.rtui_backend.specs.CellGrid.{grid_of}
+use Rattle.rtui_backend.specs.TestBackend.{screen_of, sheet_of}
+use Rattle.rtui_backend.specs.declared.test.TestBackend.{TestBackend}
+use Rattle.rtui_terminal.specs.State.{State}
+use Rattle.screenplay.specs.Run.{Sight}
+use Rattle.screenplay.specs.Playing.{IsSceneOf}
+
+abbrev CellRow : Type 0
+CellRow = Vec Cell Global
+
+-- the looks of copied rows
+looks_of : (rows : List CellRow) → map (λ (row : CellRow). map look_of row.items) rows ≡ map (map look_of) (map (λ (row : CellRow). row.items) rows)
+looks_of [] = refl
+looks_of (row ∷ rows) = ap (λ xs. map look_of row.items ∷ xs) (looks_of rows)
+
+-- what stands on a screen with this history, this area and these cells
+abbrev shown_with : Rect → List (List Look) → Rect → List Cell → Sight
+shown_with viewport history area cells = record {
+  screen = record {
+    history = history;
+    width = area.width;
+    height = area.height;
+    grid = grid_of area.width cells;
+    cursor_x = 0;
+    cursor_y = 0;
+    visible = true;
+    written = 0;
+  };
+  viewport = viewport;
+}
+
+pub IsSceneOf-made : (t : State TestBackend) (history : Vec CellRow Global) (rows : List CellRow) (buffer copy : Sheet) → IsSameSheet buffer copy → buffer.area ≡ screen_area (screen_of t.backend) → buffer ≡ sheet_of t.backend
+    → map (λ (row : CellRow). row.items) history.items ≡ map (λ (row : CellRow). row.items) rows → map (λ (row : CellRow). map look_of row.items) rows ≡ (screen_of t.backend).history
+    → IsSceneOf t (record { history = history; screen = copy; viewport = t.viewport_area })
+IsSceneOf-made t history rows buffer copy same corner value copied left =
+    let area : copy.area ≡ (sheet_of t.backend).area = same.area ∙ ap (λ (s : Sheet). s.area) value in
+    let cells : copy.cells ≡ (sheet_of t.backend).cells = same.cells ∙ ap (λ (s : Sheet). s.cells) value in
+    let scrolled = looks_of history.items ∙ ap (map (map look_of)) copied ∙ sym (looks_of rows) ∙ left in
+    record {
+      corner = same.area ∙ corner ∙ ap (λ (r : Rect). record { x = 0; y = 0; width = r.width; height = r.height }) (sym area);
+      shown =
+          ap (λ h. shown_with t.viewport_area h copy.area copy.cells) scrolled
+          ∙ ap₂ (shown_with t.viewport_area (screen_of t.backend).history) area cells;
+    }

@@ -1,0 +1,12 @@
+use Rattle.std.proofs.Common.{sym, ◌∙◌}
+use Rattle.std.proofs.lemmas.Bool.{eqb-true}
+use Rattle.screenplay.proofs.ScriptLemmas.{HasRead-skip, HasRead-take}
+use Rattle.screenplay.proofs.script.take_line.Goals as goal
+
+pub returns-then-is_empty : goal.returns-then-is_empty
+returns-then-is_empty c = λ done before. HasRead-skip done c.args.line.now _ _ _ _ before (eqb-true _ 0 (sym c.if-is_empty.ensures))
+
+pub returns : goal.returns
+returns c = λ done before.
+    HasRead-take done c.args.line.now _ _ _ _ before c.in-Some.command _ _ _ _ (sym c.in-Some.ensures) (sym c.may_stand.ensures ∙ c.if-not-may_stand.false)
+    c.in_ok-take_command.ensures.stage c.in_ok-take_command.ensures.steps c.in_ok-take_command.ensures.shows
