@@ -10,17 +10,9 @@ use Rattle.ratatui_core.specs.Widgets.{clipped}
 use Rattle.ratatui_core.proofs.BufferLemmas.{PaintsColumns-paints, cell-empty, line-ends, shown-look}
 use Rattle.ratatui_core.specs.Backend.{Screen}
 use Rattle.ratatui_core.specs.Terminal.{State, ShowsRendered}
+use Rattle.ratatui_core.proofs.WidgetLemmas.{clipped-whole}
 use Rattle.gauge.specs.declared.bar.Gauge.{Gauge}
 use Rattle.gauge.specs.Gauges.{label_pieces, PaintsGauge, RendersGauge, cell_under, ShowsGauge}
-
-clipped-whole : (r : Rect) → EdgesFit r → clipped r r ≡ r
-clipped-whole r edges =
-    let right = edges.right in let bottom = edges.bottom in
-    let x : max r.x r.x ≡ r.x = omega arith in
-    let y : max r.y r.y ≡ r.y = omega arith in
-    let w : min (right_edge r) (right_edge r) - r.x ≡ r.width = omega arith in
-    let h : min (bottom_edge r) (bottom_edge r) - r.y ≡ r.height = omega arith in
-    rw (x, y, w, h) refl
 
 plain-label : (b : Bool) (s : Style) (p : Piece) → is_skipped (shown p (cond b (styled s empty_cell) empty_cell)) ≡ false
 unfolding is_skipped

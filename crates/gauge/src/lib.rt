@@ -6,6 +6,8 @@
 
 mod bar;
 mod frames;
+#[cfg(test)]
+mod tests;
 
 pub use bar::Gauge;
 pub use frames::{draw_gauge, draw_text, draw_widget};

@@ -1,3 +1,4 @@
 pub mod BackendLemmas
 pub mod BufferLemmas
 pub mod TerminalLemmas
+pub mod WidgetLemmas

@@ -5,3 +5,4 @@ pub mod LineLemmas
 pub mod StyleLemmas
 pub mod RowLemmas
 pub mod SheetLemmas
+pub mod WithinLemmas
