@@ -7,7 +7,7 @@ use Rattle.rtui_cell.specs.Look.{Look, empty_look}
 use Rattle.rtui_diff.specs.Shows.{RowAgrees}
 use Rattle.rtui_buffer.specs.Sheet.{Sheet}
 use Rattle.rtui_backend.specs.Screen.{Screen, seen, row_of, rows_above}
-use Rattle.rtui_rows.specs.Rows.{look_in, looks_in, rows_from, rows_of, RowsFit, WritesRows}
+use Rattle.rtui_rows.specs.Rows.{look_in, looks_in, look_rows_from, look_rows, RowsFit, WritesRows}
 use Rattle.rtui_rows.specs.Insertion.{AreRowsOf, AppendsRows}
 use Rattle.rtui_rows.proofs.RangeLemmas.{range_split, same_places}
 
@@ -24,12 +24,12 @@ module _ {s : Sheet} {i n y : ℕ} {old new : Screen} (drew : WritesRows s i n y
       rw drew.width (same_places (λ a. seen new a b) (λ a. seen old a b) 0 0 old.width
       (λ a a_in. let e : new.grid (0 + a) b ≡ old.grid (0 + a) b = drew.outside (0 + a) b (inl low) in let f : new.height ≡ old.height = drew.height in rw (f, e) refl))
 
-  pub above_drawn : rows_above new (y + n) ≡ rows_above old y ++ rows_from s i n
+  pub above_drawn : rows_above new (y + n) ≡ rows_above old y ++ look_rows_from s i n
   above_drawn =
       ap (λ rows. new.history ++ rows) (range_split (row_of new) 0 y n)
       ∙ ap (λ rows. new.history ++ (rows ++ map (row_of new) (range_with_len (0 + y) n))) (same_places (row_of new) (row_of old) 0 0 y (λ b low. row_before (0 + b) (omega arith)))
       ∙ ap (λ rows. new.history ++ (map (row_of old) (range_with_len 0 y) ++ rows)) (same_places (row_of new) (looks_in s) (0 + y) i n (λ b low. ap (row_of new) (omega arith) ∙ row_drawn b low))
-      ∙ ap (λ rows. rows ++ (map (row_of old) (range_with_len 0 y) ++ rows_from s i n)) drew.history
+      ∙ ap (λ rows. rows ++ (map (row_of old) (range_with_len 0 y) ++ look_rows_from s i n)) drew.history
       ∙ sym (append_assoc old.history _ _)
 
 row_agrees : (s : Sheet) (b : ℕ) → RowAgrees s.area.width s.cells b (looks_in s b)
@@ -39,16 +39,16 @@ row_agrees s b = record {
 }
 
 -- the rows of a buffer agree with it
-rows_agree : (s : Sheet) → AreRowsOf s (rows_of s)
+rows_agree : (s : Sheet) → AreRowsOf s (look_rows s)
 rows_agree s = record {
   count = length-map-range_with_len (looks_in s) 0 s.area.height;
-  agree = λ b low. let e : slice_index_or (rows_of s) b [] ≡ looks_in s b = get_or-map-range_with_len (looks_in s) 0 s.area.height b b [] low (omega arith) in rw e (row_agrees s b);
+  agree = λ b low. let e : slice_index_or (look_rows s) b [] ≡ looks_in s b = get_or-map-range_with_len (looks_in s) 0 s.area.height b b [] low (omega arith) in rw e (row_agrees s b);
 }
 
 -- and a buffer whose rows were appended is appended
-pub AppendsRows-rows : (s : Sheet) (old new : List (List Look)) → new ≡ old ++ rows_of s → AppendsRows (s ∷ []) old new
+pub AppendsRows-rows : (s : Sheet) (old new : List (List Look)) → new ≡ old ++ look_rows s → AppendsRows (s ∷ []) old new
 AppendsRows-rows s old new e = record {
-  rows = rows_of s;
+  rows = look_rows s;
   appended = e;
-  agree = (rows_of s, [], sym (append-nil (rows_of s)), rows_agree s, refl);
+  agree = (look_rows s, [], sym (append-nil (look_rows s)), rows_agree s, refl);
 }

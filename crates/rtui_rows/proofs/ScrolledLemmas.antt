@@ -7,7 +7,7 @@ use Rattle.rtui_cell.specs.Look.{Look}
 use Rattle.rtui_buffer.specs.Sheet.{Sheet}
 use Rattle.rtui_backend.specs.Screen.{Screen, Scrolls, Appends, lines_past, rows_above, with_cursor}
 use Rattle.rtui_backend.proofs.ScrollLemmas.{above_kept}
-use Rattle.rtui_rows.specs.Rows.{looks_in, rows_from, RowsFit, WritesRows}
+use Rattle.rtui_rows.specs.Rows.{looks_in, look_rows_from, RowsFit, WritesRows}
 use Rattle.rtui_rows.specs.Insertion.{KeepsShape, HasPlaceAbove}
 use Rattle.rtui_rows.specs.Scrolling.{ScrollsBy, cursor_scrolled}
 use Rattle.rtui_rows.proofs.AboveLemmas.{above_drawn}
@@ -32,12 +32,12 @@ rows_fit room shape up le = record {
 }
 
 -- one chunk more behind some rows: a scroll by k, and the next rows drawn where the screen's row e went
-pub above_more : {s : Sheet} {e e' k i n j : ℕ} {r t u : Screen} (former : List (List Look)) → rows_above r e ≡ former ++ rows_from s 0 i → Scrolls r k t → k ≤ e
-    → WritesRows s i n (e - k) t u → RowsFit s n (e - k) t → e' ≡ e - k + n → j ≡ i + n → rows_above u e' ≡ former ++ rows_from s 0 j
+pub above_more : {s : Sheet} {e e' k i n j : ℕ} {r t u : Screen} (former : List (List Look)) → rows_above r e ≡ former ++ look_rows_from s 0 i → Scrolls r k t → k ≤ e
+    → WritesRows s i n (e - k) t u → RowsFit s n (e - k) t → e' ≡ e - k + n → j ≡ i + n → rows_above u e' ≡ former ++ look_rows_from s 0 j
 above_more {s} {e} {e'} {k} {i} {n} {j} {r} {t} {u} former before up le drew fit e_is j_is =
     let back : k + (e - k) ≡ e = omega arith in
     ap (rows_above u) e_is
     ∙ above_drawn drew fit
-    ∙ ap (λ rows. rows ++ rows_from s i n) (above_kept up (e - k) ∙ ap (rows_above r) back ∙ before)
+    ∙ ap (λ rows. rows ++ look_rows_from s i n) (above_kept up (e - k) ∙ ap (rows_above r) back ∙ before)
     ∙ append_assoc former _ _
-    ∙ ap (λ rows. former ++ rows) (ap (λ p. rows_from s 0 i ++ rows_from s p n) (omega arith) ∙ sym (range_split (looks_in s) 0 i n) ∙ ap (rows_from s 0) (sym j_is))
+    ∙ ap (λ rows. former ++ rows) (ap (λ p. look_rows_from s 0 i ++ look_rows_from s p n) (omega arith) ∙ sym (range_split (looks_in s) 0 i n) ∙ ap (look_rows_from s 0) (sym j_is))

@@ -5,7 +5,7 @@ use Rattle.rtui_cell.specs.Look.{Look}
 use Rattle.rtui_diff.specs.Shows.{RowAgrees}
 use Rattle.rtui_buffer.specs.Sheet.{Sheet}
 use Rattle.rtui_backend.specs.Screen.{Screen, rows_above}
-use Rattle.rtui_rows.specs.Rows.{rows_of}
+use Rattle.rtui_rows.specs.Rows.{look_rows}
 
 -- one row for each row of a buffer, in order, that agrees with it
 pub record AreRowsOf (sheet : Sheet) (rows : List (List Look)) : Type 0 where
@@ -37,7 +37,7 @@ pub record HasPlaceAbove (s : Sheet) (r : Rect) (h : ℕ) (screen : Screen) : Ty
 
 -- on such a screen all rows of the buffer came to those above the viewport, whose top is row e now: the look of each cell, of skipped ones too
 abbrev pub InsertsRows : Sheet → Rect → ℕ → Screen → Screen → ℕ → Type 0
-InsertsRows s r h old new e = HasPlaceAbove s r h old → rows_above new e ≡ rows_above old r.y ++ rows_of s
+InsertsRows s r h old new e = HasPlaceAbove s r h old → rows_above new e ≡ rows_above old r.y ++ look_rows s
 
 -- the same, but that the columns of skipped cells may show anything
 abbrev pub AppendsAbove : Sheet → Rect → ℕ → Screen → Screen → ℕ → Type 0

@@ -22,12 +22,12 @@ abbrev pub looks_in : Sheet → ℕ → List Look
 looks_in s b = map (λ a. look_in s a b) (range_with_len 0 s.area.width)
 
 -- n rows of a buffer, from row i on
-abbrev pub rows_from : Sheet → ℕ → ℕ → List (List Look)
-rows_from s i n = map (looks_in s) (range_with_len i n)
+abbrev pub look_rows_from : Sheet → ℕ → ℕ → List (List Look)
+look_rows_from s i n = map (looks_in s) (range_with_len i n)
 
 -- all rows of a buffer
-abbrev pub rows_of : Sheet → List (List Look)
-rows_of s = rows_from s 0 s.area.height
+abbrev pub look_rows : Sheet → List (List Look)
+look_rows s = look_rows_from s 0 s.area.height
 
 -- n rows of a buffer fit on a screen at row y: it has the buffer's width, and they end above its bottom
 pub record RowsFit (s : Sheet) (n y : ℕ) (screen : Screen) : Type 0 where

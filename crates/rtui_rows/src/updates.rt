@@ -18,13 +18,13 @@ pub struct RowUpdates<'a> {
 
 impl<'a> RowUpdates<'a> {
     ghost use Rattle.rtui_rows.specs.Rows.{row_updates};
-    ghost use Rattle.rtui_rows.specs.Remaining.{updates_left};
+    ghost use Rattle.rtui_rows.specs.Remaining.{row_updates_left};
 
     // The cells of `height` rows of `width` columns, from row `y` of the screen on.
     pub fn new(cells: &'a [Cell], width: u16, height: u16, y: u16) -> Self
         requires covers { length cells.now ≡ width * height }
         requires bottom { y + height ≤ 65535 }
-        ensures { updates_left result ≡ row_updates width height y cells.now }
+        ensures { row_updates_left result ≡ row_updates width height y cells.now }
     {
         RowUpdates {
             cells,
@@ -39,13 +39,13 @@ impl<'a> RowUpdates<'a> {
 impl<'a> Iterator for RowUpdates<'a> {
     ghost use Rattle.std.specs.Iterator.{YieldsFirstBy, item_count};
     ghost use Rattle.rtui_cell.specs.Grid.{update_by};
-    ghost use Rattle.rtui_rows.specs.Remaining.{updates_left};
+    ghost use Rattle.rtui_rows.specs.Remaining.{row_updates_left};
 
     type Item = (u16, u16, &'a Cell);
 
-    ghost next_gives = { YieldsFirstBy (update_by (λ cell. cell.now)) updates_left };
+    ghost next_gives = { YieldsFirstBy (update_by (λ cell. cell.now)) row_updates_left };
 
-    ghost remaining = { item_count updates_left };
+    ghost remaining = { item_count row_updates_left };
 
     #[tactic(auto, using(crate::proofs::UpdateLemmas::one_more))]
     fn next(&mut self) -> Option<(u16, u16, &'a Cell)> {

@@ -9,7 +9,7 @@ use Rattle.rtui_buffer.specs.Frame.{IsSettledSheet}
 use Rattle.rtui_backend.specs.Screen.{Screen, screen_area}
 use Rattle.rtui_viewport.specs.Viewports.{IsInline}
 use Rattle.rtui_viewport.specs.Areas.{IsBlankBelow}
-use Rattle.rtui_rows.specs.Rows.{rows_of}
+use Rattle.rtui_rows.specs.Rows.{look_rows}
 use Rattle.rtui_rows.specs.Insertion.{AppendsRows, KeepsShape}
 use Rattle.rtui_rows.specs.Scrolling.{cursor_scrolled, rows_past}
 use Rattle.rtui_terminal.specs.State.{State}
@@ -70,7 +70,7 @@ module _ {B : Type 0} (screen : B → Screen) where
     pub emptied : IsEmptied t.older.area t.older
     pub shape : KeepsShape (screen s.backend) (screen t.backend)
     pub above : TakesRows s → IsInStep screen s → IsSettledSheet inserted → AppendsRows (inserted ∷ []) (rows_over screen s) (rows_over screen t)
-    pub skipped_too : TakesRows s → IsInStep screen s → rows_over screen t ≡ rows_over screen s ++ rows_of inserted
+    pub skipped_too : TakesRows s → IsInStep screen s → rows_over screen t ≡ rows_over screen s ++ look_rows inserted
     pub below : TakesRows s → IsInStep screen s → IsBlankBelow s.viewport_area (screen s.backend) → IsBlankBelow t.viewport_area (screen t.backend)
     pub left : TakesRows s → IsInStep screen s → IsLeft s t
     pub in_step : TakesRows s → IsInStep screen s → IsSettledSheet inserted → IsInStep screen t

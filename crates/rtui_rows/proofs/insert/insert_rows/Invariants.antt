@@ -1,6 +1,6 @@
 use Rattle.std.proofs.Common.{◌≡◌, ◌+◌, ◌-◌, ◌<◌, ◌≤◌, ◌++◌, min}
 use Rattle.rtui_backend.specs.Screen.{rows_above}
-use Rattle.rtui_rows.specs.Rows.{rows_from}
+use Rattle.rtui_rows.specs.Rows.{look_rows_from}
 use Rattle.rtui_rows.specs.Insertion.{KeepsShape, HasPlaceAbove}
 use Rattle.rtui_rows.specs.Scrolling.{cursor_scrolled}
 use Rattle.rtui_rows.proofs.insert.insert_rows.Given as goal
@@ -15,7 +15,7 @@ invariant-loop-left g l = record {
   counts : g.B.Backend.failures l.backend ≡ g.B.Backend.failures l.fn.backend;
   shape : KeepsShape (g.B.Backend.screen l.fn.backend) (g.B.Backend.screen l.backend);
   above : HasPlaceAbove l.rows l.fn.viewport l.height (g.B.Backend.screen l.fn.backend)
-      → rows_above (g.B.Backend.screen l.backend) l.drawn ≡ rows_above (g.B.Backend.screen l.fn.backend) l.fn.viewport.y ++ rows_from l.rows 0 (l.inserted - l.left);
+      → rows_above (g.B.Backend.screen l.backend) l.drawn ≡ rows_above (g.B.Backend.screen l.fn.backend) l.fn.viewport.y ++ look_rows_from l.rows 0 (l.inserted - l.left);
 }
 
 abbrev pub decreases-loop-left : goal.decreases-loop-left
