@@ -13,7 +13,7 @@ pub use Rattle.rtui_terminal.specs.Borrows.{with_buffer, LendsBuffer}
 pub use Rattle.rtui_terminal.specs.Calls.{FaultCounts, Faults, IsBackendFault, FailsOnlyByBackend, StartErr, differing_count, WritesDifferences, cursor_placed, HasDrawn, last_place, known_behind, cursor_behind, cursor_after, IsResized, FlushErr, first_area, first_cursor, Stays, MovesCursor, Clears, Resizes, ResizeErr, Autoresizes, AutoresizeErr, Flushes, Writes, FailsWriting, Applies, FailsFlushing, RefusesArea, FailsApplying, RefusesBy, WritesBy, AppliesBy, Starts, DrawsFrame, RefusesFrame, DrawOk, ClosureErr, PaintedErr, DrawErr, DrawsBy, TriesBy}
 pub use Rattle.rtui_terminal.specs.Rendered.{IsRendered, OnlyRenders, ShowsRendered}
 pub use Rattle.rtui_terminal.specs.Display.{terminal_error_text}
-pub use Rattle.rtui_rows.specs.Rows.{row_updates, look_in, looks_in, rows_from, rows_of, RowsFit, WritesRows, DrawsRows}
+pub use Rattle.rtui_rows.specs.Rows.{row_updates, look_in, looks_in, look_rows_from, look_rows, RowsFit, WritesRows, DrawsRows}
 pub use Rattle.rtui_rows.specs.Insertion.{AreRowsOf, AreRowsOfAll, AppendsRows, KeepsShape, HasPlaceAbove, InsertsRows, AppendsAbove}
 pub use Rattle.rtui_rows.specs.Scrolling.{ScrollsBy, cursor_scrolled, rows_past}
 pub use Rattle.rtui_terminal.specs.Insertion.{inserted_area, IsNewSheet, AcceptsRows, FillsRows, AreaFollows, Follows, TakesRows, IsLeft, Inserts, StopsInserting, InsertOk, FailsInserting, RefusesRows, InsertErr, InsertsBy}
