@@ -1,23 +1,17 @@
 -- What a screen shows of a gauge.
-use Rattle.std.proofs.Common.{◌≡◌, ℕ, ◌+◌, ◌-◌, ◌<◌, ◌≤◌, ⊎_elim, inr, Bool, true, false, cond, List, take, min, max, refl, sym, ap, subst, ◌∙◌, arith, Result, Ok, Err, OnOk, IfOk}
+use Rattle.std.proofs.Common.{◌≡◌, ℕ, ◌+◌, ◌-◌, ◌<◌, ◌≤◌, ⊎_elim, inr, Bool, true, false, cond, List, length, take, min, refl, sym, ap, subst, ◌∙◌, arith, Result, Ok, Err, OnOk, IfOk}
 use Rattle.std.specs.Prelude.{nat_lt}
 use Rattle.std.proofs.lemmas.Bool.{cases_lt}
 use Rattle.std.proofs.lemmas.Bool.Decides.{nat_tests}
-use Rattle.ratatui_core.specs.Layout.{Rect, Position, HasPosition, EdgesFit, right_edge, bottom_edge, corner}
+use Rattle.ratatui_core.specs.Layout.{Rect, Position, HasPosition, EdgesFit, corner}
 use Rattle.ratatui_core.specs.Style.{Style}
-use Rattle.ratatui_core.specs.Buffer.{Sheet, Grid, Piece, IsEmptied, IsSettledSheet, ShowsSheet, PaintsColumns, HasRow, cell_in, cell_index, area_size, columns, shown, piece_at, styled, look_of, empty_cell, is_skipped, position_of}
-use Rattle.ratatui_core.specs.Widgets.{clipped}
-use Rattle.ratatui_core.proofs.BufferLemmas.{PaintsColumns-paints, cell-empty, line-ends, shown-look}
+use Rattle.ratatui_core.specs.Buffer.{Sheet, Grid, Piece, IsEmptied, IsSettledSheet, ShowsSheet, HasRow, cell_in, cell_index, area_size, columns, shown, piece_at, styled, look_of, empty_cell, is_skipped, position_of}
 use Rattle.ratatui_core.specs.Backend.{Screen}
 use Rattle.ratatui_core.specs.Terminal.{State, ShowsRendered}
+use Rattle.ratatui_core.proofs.BufferLemmas.{cell-empty, line-ends, look-painted, look-beside}
 use Rattle.ratatui_core.proofs.WidgetLemmas.{clipped-whole}
 use Rattle.gauge.specs.declared.bar.Gauge.{Gauge}
-use Rattle.gauge.specs.Gauges.{label_pieces, PaintsGauge, RendersGauge, cell_under, ShowsGauge}
-
-plain-label : (b : Bool) (s : Style) (p : Piece) → is_skipped (shown p (cond b (styled s empty_cell) empty_cell)) ≡ false
-unfolding is_skipped
-plain-label true s p = refl
-plain-label false s p = refl
+use Rattle.gauge.specs.Gauges.{bar_area, label_pieces, PaintsGauge, RendersGauge, cell_under, ShowsGauge}
 
 plain-under : (b : Bool) (s : Style) → is_skipped (cond b (styled s empty_cell) empty_cell) ≡ false
 unfolding is_skipped
@@ -52,31 +46,41 @@ module _ (gauge : Gauge) (old new : Sheet) (g : Grid) (edges : EdgesFit old.area
       rw no (p.bar.outside q (has a from to) (λ h. let r = h.right in absurd (omega arith)) ∙ blank))
       (cases_lt a (own.x + min gauge.filled own.width))
 
-  by-columns : (p : PaintsGauge gauge own old new) → PaintsColumns (corner own) ps p.under new
-  by-columns p =
-      let row : HasRow p.under.area own.y = rw p.bar.area (record { top = omega arith; bottom = omega arith }) in
-      PaintsColumns-paints (corner own) ps p.under new row (rw p.bar.area (omega arith)) (rw p.bar.area (line-ends own own.x own.width gauge.label)) p.label
+  module _ (a : ℕ) (from : own.x ≤ a) (to : a < own.x + own.width) where
+    p : PaintsGauge gauge own old new
+    p = painted (omega arith)
 
-  look : (p : PaintsGauge gauge own old new) (a : ℕ) → own.x ≤ a → a < own.x + own.width → is_skipped (cell_in new (position_of (a, own.y))) ≡ false
-      → g a own.y ≡ look_of (cell_in new (position_of (a, own.y)))
-  look p a from to plain =
-      shown-look new g (position_of (a, own.y)) (shows (is.settled emptied)) (subst (λ q. HasPosition q (position_of (a, own.y))) (sym (p.label.area ∙ p.bar.area)) (has a from to)) plain
+    row : HasRow p.under.area own.y
+    row = rw p.bar.area (record { top = omega arith; bottom = omega arith })
+
+    left : p.under.area.x ≤ own.x
+    left = rw p.bar.area (omega arith)
+
+    ends : columns ps ≤ p.under.area.x + p.under.area.width - own.x
+    ends = rw p.bar.area (line-ends own own.x own.width gauge.label)
+
+    has-under : HasPosition p.under.area (position_of (a, own.y))
+    has-under = subst (λ q. HasPosition q (position_of (a, own.y))) (sym p.bar.area) (has a from to)
+
+    plain : is_skipped (cell_in p.under (position_of (a, own.y))) ≡ false
+    plain = rw (under-is p a from to) (plain-under (nat_lt a (own.x + min gauge.filled own.width)) gauge.style)
+
+    label-there : (k : ℕ) → k < length ps → a ≡ own.x + columns (take k ps) → g a own.y ≡ look_of (shown (piece_at ps k) (cell_under gauge own a))
+    label-there k k_in e =
+        let at : (b : ℕ) → b ≡ own.x + columns (take k ps) → HasPosition p.under.area (position_of (b, own.y)) → is_skipped (cell_in p.under (position_of (b, own.y))) ≡ false
+        → g b own.y ≡ look_of (shown (piece_at ps k) (cell_in p.under (position_of (b, own.y)))) =
+        λ b e has plain. rw e (look-painted (corner own) ps p.under new g row left ends p.label (shows (is.settled emptied)) k k_in (rw e at has) (rw e at plain)) in
+        at a e has-under plain ∙ ap (λ c. look_of (shown (piece_at ps k) c)) (under-is p a from to)
+
+    bar-there : own.x + columns ps ≤ a → g a own.y ≡ look_of (cell_under gauge own a)
+    bar-there behind =
+        look-beside (corner own) ps p.under new g row left ends p.label (shows (is.settled emptied)) (position_of (a, own.y)) has-under (λ _. inr behind) plain
+        ∙ ap look_of (under-is p a from to)
 
   pub ShowsGauge-rendered : ShowsGauge gauge own g
   ShowsGauge-rendered = record {
-    label = λ k k_in to.
-        let a : ℕ = own.x + columns (take k ps) in
-        let p = painted (omega arith) in
-        let cell : cell_in new (position_of (a, own.y)) ≡ shown (piece_at ps k) (cell_under gauge own a) =
-        (by-columns p).starts k k_in ∙ ap (shown (piece_at ps k)) (under-is p a (omega arith) to) in
-        look p a (omega arith) to (rw cell (plain-label (nat_lt a (own.x + min gauge.filled own.width)) gauge.style (piece_at ps k))) ∙ ap look_of cell;
-    beside = λ a behind to.
-        let p = painted (omega arith) in
-        let from : own.x ≤ a = omega arith in
-        let q_in : HasPosition p.under.area (position_of (a, own.y)) = subst (λ q. HasPosition q (position_of (a, own.y))) (sym p.bar.area) (has a from to) in
-        let cell : cell_in new (position_of (a, own.y)) ≡ cell_under gauge own a =
-        (by-columns p).outside (position_of (a, own.y)) q_in (λ _. inr behind) ∙ under-is p a from to in
-        look p a from to (rw cell (plain-under (nat_lt a (own.x + min gauge.filled own.width)) gauge.style)) ∙ ap look_of cell;
+    label = λ k k_in to. label-there (own.x + columns (take k ps)) (omega arith) to k k_in refl;
+    beside = λ a behind to. bar-there a (omega arith) to behind;
   }
 
 pub shows-gauge : {B E : Type 0} (screen : B → Screen) (gauge : Gauge) (t : State B) (r : Result Rect E) → OnOk r (ShowsRendered screen (RendersGauge gauge) t)

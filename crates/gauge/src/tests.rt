@@ -44,9 +44,11 @@ fn gauge_shows(
         style: Style::new().bg(Color::Green),
     };
     let drawn = draw_gauge(&mut terminal, &gauge);
-    Ok(drawn == Ok(Rect::new(0, 0, 6, 2))
-        && terminal.backend().lines_are(&[row, "      "])
-        && green_cells(&terminal) == green)
+    Ok(
+        drawn == Ok(Rect::new(0, 0, 6, 2))
+            && terminal.backend().lines_are(&[row, "      "])
+            && green_cells(&terminal) == green,
+    )
 }
 
 #[test]

@@ -2,4 +2,4 @@
 pub use Rattle.rtui_buffer.proofs.EmptyLemmas.{IsSettledSheet-empty, IsPaintable-empty, cell-empty}
 pub use Rattle.rtui_buffer.proofs.ColumnLemmas.{PaintsColumns-paints, same-beside, text-ends, line-ends, text-keeps, line-keeps}
 -- so is an empty buffer with a style over an area, and a shown buffer's columns have the looks of its cells.
-pub use Rattle.rtui_buffer.proofs.ShownLemmas.{IsSettledSheet-styled, IsPaintable-styled, shown-look}
+pub use Rattle.rtui_buffer.proofs.ShownLemmas.{IsSettledSheet-styled, IsPaintable-styled, shown-look, look-painted, look-beside}

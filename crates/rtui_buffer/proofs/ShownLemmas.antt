@@ -1,5 +1,5 @@
 -- Empty buffers with a style, and the looks of shown cells.
-use Rattle.std.proofs.Common.{◌≡◌, ℕ, ◌+◌, ◌-◌, ◌*◌, ◌<◌, ◌≤◌, ◌⊎◌, ⊎_elim, inl, inr, false, refl, sym, ap, ap₂, subst, ◌∙◌, arith}
+use Rattle.std.proofs.Common.{◌≡◌, ℕ, ◌+◌, ◌-◌, ◌*◌, ◌<◌, ◌≤◌, ◌⊎◌, ⊎_elim, inl, inr, List, length, take, false, refl, sym, ap, ap₂, subst, ◌∙◌, arith}
 use Rattle.std.proofs.lemmas.Bool.{cases_lt}
 use Rattle.rtui_geometry.specs.declared.position.Position.{Position}
 use Rattle.rtui_geometry.specs.declared.rect.Rect.{Rect}
@@ -14,7 +14,9 @@ use Rattle.rtui_diff.specs.Cells.{cell, cell_at}
 use Rattle.rtui_diff.specs.Settled.{IsSettled}
 use Rattle.rtui_buffer.specs.Sheet.{Sheet, IsEmptied, HasRow, area_size, cell_in, cell_index, position_of}
 use Rattle.rtui_buffer.specs.Frame.{IsSettledSheet, ShowsSheet}
-use Rattle.rtui_buffer.specs.PaintedText.{IsPaintable, IsStyled}
+use Rattle.rtui_buffer.specs.Painting.{Piece, columns, shown, piece_at}
+use Rattle.rtui_buffer.specs.PaintedText.{IsBeside, IsPaintable, IsStyled, Paints, PaintsColumns, right_by}
+use Rattle.rtui_buffer.proofs.ColumnLemmas.{PaintsColumns-paints}
 use Rattle.rtui_buffer.proofs.EmptyLemmas.{cell-empty}
 
 -- a cell that is empty but for a style has one column and no mark
@@ -104,3 +106,25 @@ shown-look s g p shows has plain =
     let x : s.area.x + (p.x - s.area.x) ≡ p.x = omega arith in
     let y : s.area.y + (p.y - s.area.y) ≡ p.y = omega arith in
     ap₂ g (sym x) (sym y) ∙ (shows.at (p.x - s.area.x) (p.y - s.area.y) (omega arith) (omega arith)).look plain
+
+plain-shown : (p : Piece) (c : Cell) → is_skipped c ≡ false → is_skipped (shown p c) ≡ false
+unfolding is_skipped
+plain-shown p c plain = plain
+
+-- pieces painted in a row, on a screen that shows them
+module _ (p : Position) (ps : List Piece) (old new : Sheet) (g : Grid) (row : HasRow old.area p.y) (left : old.area.x ≤ p.x) (fits : columns ps ≤ old.area.x + old.area.width - p.x)
+    (painted : Paints p ps old new) (shows : ShowsSheet new g) where
+  by : PaintsColumns p ps old new
+  by = PaintsColumns-paints p ps old new row left fits painted
+
+  look-at : (q : Position) (c : Cell) → HasPosition old.area q → cell_in new q ≡ c → is_skipped c ≡ false → g q.x q.y ≡ look_of c
+  look-at q c has e plain = shown-look new g q shows (rw painted.area has) (rw e plain) ∙ ap look_of e
+
+  -- each piece has its look over the former cell, in the column where it begins
+  pub look-painted : (k : ℕ) → k < length ps → HasPosition old.area (right_by (columns (take k ps)) p) → is_skipped (cell_in old (right_by (columns (take k ps)) p)) ≡ false
+      → g (p.x + columns (take k ps)) p.y ≡ look_of (shown (piece_at ps k) (cell_in old (right_by (columns (take k ps)) p)))
+  look-painted k k_in has plain = look-at (right_by (columns (take k ps)) p) _ has (by.starts k k_in) (plain-shown (piece_at ps k) _ plain)
+
+  -- and each cell beside them its own
+  pub look-beside : (q : Position) → HasPosition old.area q → IsBeside p (columns ps) q → is_skipped (cell_in old q) ≡ false → g q.x q.y ≡ look_of (cell_in old q)
+  look-beside q has beside plain = look-at q _ has (by.outside q has beside) plain

@@ -184,7 +184,8 @@ impl<'a> Line<'a> {
 
     /// The graphemes without a control character, each in its span's style over the line's over a base style.
     pub fn styled_graphemes<'l>(&'l self, base_style: Style) -> LineGraphemes<'l, 'a>
-        ensures { line_graphemes_left result ≡ line_graphemes (patch base_style self.now.style) self.now.spans }
+        ensures { line_graphemes_left result
+            ≡ line_graphemes (patch base_style self.now.style) self.now.spans }
     {
         LineGraphemes::new(self.spans.as_slice(), base_style.patch(self.style))
     }
@@ -207,8 +208,11 @@ impl<'a> Line<'a> {
     pub fn try_from_iter<I>(alloc: Global, spans: I) -> Result<Line<'a>, AllocError>
     where
         I: IntoIterator<Item = Span<'a>>,
-        requires { (it : I.IntoIter) → I.into_iter_gives spans it → I.IntoIter.can_next it × IsFinite (I.IntoIter.remaining it) }
-        ensures { IfOk result (λ made. (it : I.IntoIter) × (items : List SpanData) × I.into_iter_gives spans it × Drains I.IntoIter.next_gives it items × (made ≡ line_of items)) }
+        requires { (it : I.IntoIter) → I.into_iter_gives spans it
+            → I.IntoIter.can_next it × IsFinite (I.IntoIter.remaining it) }
+        ensures { IfOk result (λ made. (it : I.IntoIter) × (items : List SpanData)
+            × I.into_iter_gives spans it × Drains I.IntoIter.next_gives it items
+            × (made ≡ line_of items)) }
     {
         Ok(Line::from(Vec::from_iter(alloc, spans)?))
     }
@@ -217,8 +221,11 @@ impl<'a> Line<'a> {
     pub fn try_extend<I>(&mut self, spans: I) -> Result<(), AllocError>
     where
         I: IntoIterator<Item = Span<'a>>,
-        requires { (it : I.IntoIter) → I.into_iter_gives spans it → I.IntoIter.can_next it × IsFinite (I.IntoIter.remaining it) }
-        ensures { ExtendsWithItems I.into_iter_gives I.IntoIter.next_gives (λ old more new. new ≡ record old { spans = old.spans ++ more }) spans self.old self.new result }
+        requires { (it : I.IntoIter) → I.into_iter_gives spans it
+            → I.IntoIter.can_next it × IsFinite (I.IntoIter.remaining it) }
+        ensures { ExtendsWithItems I.into_iter_gives I.IntoIter.next_gives
+            (λ old more new. new ≡ record old { spans = old.spans ++ more })
+            spans self.old self.new result }
     {
         self.spans.extend(spans)
     }

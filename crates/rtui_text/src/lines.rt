@@ -134,8 +134,10 @@ impl<'a> Lines<'a> {
 
     /// Puts the lines that an iterator gives below these; where memory is refused those stay that came before.
     pub fn extend<I: IntoIterator<Item = Line<'a>>>(&mut self, lines: I) -> Result<(), AllocError>
-        requires { (it : I.IntoIter) → I.into_iter_gives lines it → I.IntoIter.can_next it × IsFinite (I.IntoIter.remaining it) }
-        ensures { ExtendsWithItems I.into_iter_gives I.IntoIter.next_gives (λ old more new. new ≡ old ++ more) lines self.old self.new result }
+        requires { (it : I.IntoIter) → I.into_iter_gives lines it
+            → I.IntoIter.can_next it × IsFinite (I.IntoIter.remaining it) }
+        ensures { ExtendsWithItems I.into_iter_gives I.IntoIter.next_gives
+            (λ old more new. new ≡ old ++ more) lines self.old self.new result }
     {
         self.items.extend(lines)
     }

@@ -120,42 +120,48 @@ impl<'a> Span<'a> {
 
     /// A line of this span, aligned to the left; refused where memory is.
     pub fn into_left_aligned_line(self, alloc: Global) -> Result<Line<'a>, AllocError>
-        ensures { IfOk result (λ l. l ≡ record (line_of (self.entry ∷ [])) { alignment = Some HorizontalAlignment.Left }) }
+        ensures { let line = line_of (self.entry ∷ []) in
+            IfOk result (λ l. l ≡ record line { alignment = Some HorizontalAlignment.Left }) }
     {
         Ok(Line::from_span(alloc, self)?.left_aligned())
     }
 
     /// The older name of `into_left_aligned_line`.
     pub fn to_left_aligned_line(self, alloc: Global) -> Result<Line<'a>, AllocError>
-        ensures { IfOk result (λ l. l ≡ record (line_of (self.entry ∷ [])) { alignment = Some HorizontalAlignment.Left }) }
+        ensures { let line = line_of (self.entry ∷ []) in
+            IfOk result (λ l. l ≡ record line { alignment = Some HorizontalAlignment.Left }) }
     {
         self.into_left_aligned_line(alloc)
     }
 
     /// A line of this span, centred; refused where memory is.
     pub fn into_centered_line(self, alloc: Global) -> Result<Line<'a>, AllocError>
-        ensures { IfOk result (λ l. l ≡ record (line_of (self.entry ∷ [])) { alignment = Some HorizontalAlignment.Center }) }
+        ensures { let line = line_of (self.entry ∷ []) in
+            IfOk result (λ l. l ≡ record line { alignment = Some HorizontalAlignment.Center }) }
     {
         Ok(Line::from_span(alloc, self)?.centered())
     }
 
     /// The older name of `into_centered_line`.
     pub fn to_centered_line(self, alloc: Global) -> Result<Line<'a>, AllocError>
-        ensures { IfOk result (λ l. l ≡ record (line_of (self.entry ∷ [])) { alignment = Some HorizontalAlignment.Center }) }
+        ensures { let line = line_of (self.entry ∷ []) in
+            IfOk result (λ l. l ≡ record line { alignment = Some HorizontalAlignment.Center }) }
     {
         self.into_centered_line(alloc)
     }
 
     /// A line of this span, aligned to the right; refused where memory is.
     pub fn into_right_aligned_line(self, alloc: Global) -> Result<Line<'a>, AllocError>
-        ensures { IfOk result (λ l. l ≡ record (line_of (self.entry ∷ [])) { alignment = Some HorizontalAlignment.Right }) }
+        ensures { let line = line_of (self.entry ∷ []) in
+            IfOk result (λ l. l ≡ record line { alignment = Some HorizontalAlignment.Right }) }
     {
         Ok(Line::from_span(alloc, self)?.right_aligned())
     }
 
     /// The older name of `into_right_aligned_line`.
     pub fn to_right_aligned_line(self, alloc: Global) -> Result<Line<'a>, AllocError>
-        ensures { IfOk result (λ l. l ≡ record (line_of (self.entry ∷ [])) { alignment = Some HorizontalAlignment.Right }) }
+        ensures { let line = line_of (self.entry ∷ []) in
+            IfOk result (λ l. l ≡ record line { alignment = Some HorizontalAlignment.Right }) }
     {
         self.into_right_aligned_line(alloc)
     }

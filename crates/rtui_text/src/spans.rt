@@ -124,8 +124,10 @@ impl<'a> Spans<'a> {
 
     /// Puts the spans that an iterator gives behind these; where memory is refused those stay that came before.
     pub fn extend<I: IntoIterator<Item = Span<'a>>>(&mut self, spans: I) -> Result<(), AllocError>
-        requires { (it : I.IntoIter) → I.into_iter_gives spans it → I.IntoIter.can_next it × IsFinite (I.IntoIter.remaining it) }
-        ensures { ExtendsWithItems I.into_iter_gives I.IntoIter.next_gives (λ old more new. new ≡ old ++ more) spans self.old self.new result }
+        requires { (it : I.IntoIter) → I.into_iter_gives spans it
+            → I.IntoIter.can_next it × IsFinite (I.IntoIter.remaining it) }
+        ensures { ExtendsWithItems I.into_iter_gives I.IntoIter.next_gives
+            (λ old more new. new ≡ old ++ more) spans self.old self.new result }
     {
         self.items.extend(spans)
     }

@@ -212,8 +212,11 @@ impl<'a> Text<'a> {
     pub fn try_from_iter<I>(alloc: Global, lines: I) -> Result<Text<'a>, AllocError>
     where
         I: IntoIterator<Item = Line<'a>>,
-        requires { (it : I.IntoIter) → I.into_iter_gives lines it → I.IntoIter.can_next it × IsFinite (I.IntoIter.remaining it) }
-        ensures { IfOk result (λ made. (it : I.IntoIter) × (items : List LineData) × I.into_iter_gives lines it × Drains I.IntoIter.next_gives it items × (made ≡ text_of items)) }
+        requires { (it : I.IntoIter) → I.into_iter_gives lines it
+            → I.IntoIter.can_next it × IsFinite (I.IntoIter.remaining it) }
+        ensures { IfOk result (λ made. (it : I.IntoIter) × (items : List LineData)
+            × I.into_iter_gives lines it × Drains I.IntoIter.next_gives it items
+            × (made ≡ text_of items)) }
     {
         Ok(Text::from(Vec::from_iter(alloc, lines)?))
     }
@@ -222,15 +225,19 @@ impl<'a> Text<'a> {
     pub fn try_extend<I>(&mut self, lines: I) -> Result<(), AllocError>
     where
         I: IntoIterator<Item = Line<'a>>,
-        requires { (it : I.IntoIter) → I.into_iter_gives lines it → I.IntoIter.can_next it × IsFinite (I.IntoIter.remaining it) }
-        ensures { ExtendsWithItems I.into_iter_gives I.IntoIter.next_gives (λ old more new. new ≡ record old { lines = old.lines ++ more }) lines self.old self.new result }
+        requires { (it : I.IntoIter) → I.into_iter_gives lines it
+            → I.IntoIter.can_next it × IsFinite (I.IntoIter.remaining it) }
+        ensures { ExtendsWithItems I.into_iter_gives I.IntoIter.next_gives
+            (λ old more new. new ≡ record old { lines = old.lines ++ more })
+            lines self.old self.new result }
     {
         self.lines.extend(lines)
     }
 
     /// Puts a line below the others; where memory is refused nothing changes.
     pub fn push_line(&mut self, line: Line<'a>) -> Result<(), AllocError>
-        ensures ok { OnOk result (self.new ≡ record self.old { lines = self.old.lines ++ line.entry ∷ [] }) }
+        ensures ok { let lines = self.old.lines ++ line.entry ∷ [] in
+            OnOk result (self.new ≡ record self.old { lines = lines }) }
         ensures err { OnErr result (self.new ≡ self.old) }
     {
         self.lines.push(line)
@@ -239,7 +246,8 @@ impl<'a> Text<'a> {
     /// Puts a span at the end of the last line, or into a new line where there is none; where memory is refused
     /// nothing changes.
     pub fn push_span(&mut self, span: Span<'a>) -> Result<(), AllocError>
-        ensures ok { OnOk result (self.new ≡ record self.old { lines = with_last_span span.entry self.old.lines }) }
+        ensures ok { let lines = with_last_span span.entry self.old.lines in
+            OnOk result (self.new ≡ record self.old { lines = lines }) }
         ensures err { OnErr result (self.new ≡ self.old) }
     {
         self.lines.push_span(span)
@@ -247,7 +255,8 @@ impl<'a> Text<'a> {
 
     /// Puts the lines of another text below the others; where memory is refused nothing changes.
     pub fn append(&mut self, text: Text<'a>) -> Result<(), AllocError>
-        ensures ok { OnOk result (self.new ≡ record self.old { lines = self.old.lines ++ text.entry.lines }) }
+        ensures ok { let lines = self.old.lines ++ text.entry.lines in
+            OnOk result (self.new ≡ record self.old { lines = lines }) }
         ensures err { OnErr result (self.new ≡ self.old) }
     {
         self.lines.append(text.lines)
@@ -255,7 +264,8 @@ impl<'a> Text<'a> {
 
     /// The text with a line below the others; refused where memory is.
     pub fn try_add_line(mut self, line: Line<'a>) -> Result<Text<'a>, AllocError>
-        ensures { IfOk result (λ t. t ≡ record self.entry { lines = self.entry.lines ++ line.entry ∷ [] }) }
+        ensures { let lines = self.entry.lines ++ line.entry ∷ [] in
+            IfOk result (λ t. t ≡ record self.entry { lines = lines }) }
     {
         self.push_line(line)?;
         Ok(self)
@@ -263,7 +273,8 @@ impl<'a> Text<'a> {
 
     /// The text with the lines of another one below its own; refused where memory is.
     pub fn try_add(mut self, text: Text<'a>) -> Result<Text<'a>, AllocError>
-        ensures { IfOk result (λ t. t ≡ record self.entry { lines = self.entry.lines ++ text.entry.lines }) }
+        ensures { let lines = self.entry.lines ++ text.entry.lines in
+            IfOk result (λ t. t ≡ record self.entry { lines = lines }) }
     {
         self.append(text)?;
         Ok(self)

@@ -58,7 +58,8 @@ pub trait ToText {
 
     /// A text of what it prints, as `Text::raw_string` makes it; refused where memory is.
     fn to_text(&self, alloc: Global) -> Result<Text<'static>, AllocError>
-        ensures { IfSome (printed self.now) (λ printed. IfOk result (λ text. text ≡ raw_text printed)) };
+        ensures { IfSome (printed self.now)
+            (λ printed. IfOk result (λ text. text ≡ raw_text printed)) };
 }
 
 impl<T: fmt::Display> ToText for T {

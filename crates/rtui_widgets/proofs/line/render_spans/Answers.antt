@@ -65,7 +65,7 @@ loop-span-preserved c =
           ∙ ap (λ ps. behind_first start (parts_rendered ps) row) (sym same) ∙ c.loop-span.invariant.left;
       short = λ short.
           let columns : length row - start - p.indent - p.width ≡ length (take (start + c.min-start.result) row ++ (c.render_span.new.row ++ drop (length row - (start + c.min-start.result)) (drop (start + c.min-start.result) row)))
-              - (start + c.min-start.result + c.min-start-in-loop-span.result) = omega (arith, whole, start1, start2, c.loop-span.invariant.within) in
+          - (start + c.min-start.result + c.min-start-in-loop-span.result) = omega (arith, whole, start1, start2, c.loop-span.invariant.within) in
           subst (λ n. AreShortParts n (parts 0 others)) columns (short-others (length row - start) p (parts 0 others) (subst (AreShortParts (length row - start)) same (c.loop-span.invariant.short short)));
     }
 
