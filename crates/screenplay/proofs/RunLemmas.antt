@@ -9,7 +9,7 @@ use Rattle.std.specs.declared.vec.Vec.{Vec}
 use Rattle.std.specs.declared.alloc.Global.{Global}
 use Rattle.rtui_backend.specs.declared.test.TestBackend.{TestBackend}
 use Rattle.rtui_terminal.specs.State.{State}
-use Rattle.screenplay.specs.Run.{Sight, sight_of, IsAtCorner, IsStaged, IsStart, IsAfter, IsRun, IsFault}
+use Rattle.screenplay.specs.Run.{sight_of, IsAtCorner, IsStaged, IsStart, IsAfter, IsRun, IsFault}
 use Rattle.screenplay.specs.Playing.{IsPlaying, sight_in, IsSceneOf, IsCause, Plays}
 use Rattle.screenplay.specs.declared.scene.PlayCause.{PlayCause}
 use Rattle.screenplay.specs.declared.scene.PlayCause.TheVariants.{Unsettled}

@@ -1,6 +1,6 @@
 -- Reading a script, a line at a time.
-use Rattle.std.proofs.Common.{◌≡◌, ℕ, zero, suc, ◌+◌, ◌-◌, ◌<◌, ◌≤◌, Bool, true, false, ◌==◌, ◌||◌, List, [], ◌∷◌, ◌++◌, length, take, get_or, Option, Some, None, refl, sym, ap, ap₂, ◌∙◌, subst, arith, inl, inr, append_assoc, length-append, length-take}
-use Rattle.std.proofs.lemmas.List.{append-nil, get_or-take, get_or_append_left, take_all}
+use Rattle.std.proofs.Common.{◌≡◌, ℕ, zero, suc, ◌+◌, ◌-◌, ◌<◌, ◌≤◌, Bool, true, false, ◌==◌, ◌||◌, List, [], ◌∷◌, ◌++◌, length, take, get_or, Option, Some, None, refl, sym, ap, ap₂, ◌∙◌, subst, arith, inl, inr, append_assoc, length-append}
+use Rattle.std.proofs.lemmas.List.{append-nil, get_or-take, get_or_append_left}
 use Rattle.std.proofs.lemmas.List.Elements.{filter_map-append}
 use Rattle.std.proofs.Math.Seq.{get_or-append_seam}
 use Rattle.std.proofs.lemmas.Bool.{cases_lt, false≢true}
@@ -9,7 +9,7 @@ use Rattle.screenplay.specs.declared.script.Command.TheVariants.{SetStage, TakeS
 use Rattle.screenplay.specs.declared.script.Waiting.{Waiting}
 use Rattle.screenplay.specs.declared.scene.Stage.{Stage}
 use Rattle.screenplay.specs.declared.scene.Step.{Step}
-use Rattle.screenplay.specs.Script.{command_with, command_of, commands_of, may_stand, is_good_line, script_line, AreGood, IsFirstBadLine, stage_of, stage_after, nothing, steps_of, shows_of, IsScript}
+use Rattle.screenplay.specs.Script.{command_with, command_of, commands_of, may_stand, is_good_line, AreGood, IsFirstBadLine, stage_of, stage_after, nothing, steps_of, shows_of, IsScript}
 use Rattle.screenplay.specs.Reading.{HasRead}
 use Rattle.std.specs.Prelude.{if◌then◌else◌}
 use Rattle.std.specs.List.{slice_split, onto_first}

@@ -20,7 +20,8 @@ use std::str;
 // All that a reader has left.
 fn read_bytes<R: Read>(alloc: Global, reader: &mut R) -> Result<Vec<u8>, RunFault>
     ensures ok { IfOk result (λ bytes. IfSome (R.remaining reader.old) (λ all. bytes.items ≡ all)) }
-    ensures err { IfErr result (λ fault. IfSome (R.remaining reader.old) (λ bytes. IsRunFault bytes fault)) }
+    ensures err { IfErr result (λ fault.
+        IfSome (R.remaining reader.old) (λ bytes. IsRunFault bytes fault)) }
     ensures early { IfErr result (λ fault. fault ≡ Write → ⊥) }
 {
     let mut bytes = Vec::new(alloc);
@@ -33,7 +34,8 @@ fn read_bytes<R: Read>(alloc: Global, reader: &mut R) -> Result<Vec<u8>, RunFaul
 
 // The script that these bytes are.
 fn script_of(alloc: Global, bytes: &[u8]) -> Result<Script<'_>, RunFault>
-    ensures ok { IfOk result (λ s. IsUtf8 bytes.now × IsScript (text_lines bytes.now) s.stage s.steps.items s.shows.items) }
+    ensures ok { IfOk result (λ s. IsUtf8 bytes.now
+        × IsScript (text_lines bytes.now) s.stage s.steps.items s.shows.items) }
     ensures err { IfErr result (IsRunFault bytes.now) }
     ensures early { IfErr result (λ fault. fault ≡ Write → ⊥) }
 {
@@ -50,8 +52,10 @@ fn script_of(alloc: Global, bytes: &[u8]) -> Result<Script<'_>, RunFault>
 // The scenes of a script; none where it sets no stage.
 fn scenes_of(alloc: Global, script: &Script<'_>) -> Result<Vec<Scene>, PlayFault>
     requires { IfSome script.now.stage IsGoodStage }
-    ensures ok { IfOk result (λ scenes. IfSome script.now.stage (λ stage. IsRun stage script.now.steps.items scenes.items)) }
-    ensures fault { IfErr result (λ fault. (stage : Stage) × (script.now.stage ≡ Some stage) × IsFault stage script.now.steps.items fault) }
+    ensures ok { IfOk result (λ scenes. IfSome script.now.stage (λ stage.
+        IsRun stage script.now.steps.items scenes.items)) }
+    ensures fault { IfErr result (λ fault. (stage : Stage) × (script.now.stage ≡ Some stage)
+        × IsFault stage script.now.steps.items fault) }
 {
     match script.stage {
         Some(stage) => play(alloc, stage, script.steps.as_slice()),
@@ -62,9 +66,12 @@ fn scenes_of(alloc: Global, script: &Script<'_>) -> Result<Vec<Scene>, PlayFault
 /// Reads a script to its end, plays it, and writes the scenes that it shows. A fault names the first bad line, the step
 /// that can't be played, or what else failed; only with `Write` can anything have been written.
 pub fn run<R: Read, W: Write>(alloc: Global, reader: &mut R, writer: &mut W) -> Result<(), RunFault>
-    ensures printed { OnOk result (IfSome (R.remaining reader.old) (λ bytes. PrintsRun bytes (W.contents writer.old) (W.contents writer.new))) }
-    ensures fault { IfErr result (λ fault. IfSome (R.remaining reader.old) (λ bytes. IsRunFault bytes fault)) }
-    ensures nothing_written { IfErr result (λ fault. (fault ≡ Write → ⊥) → writer.new ≡ writer.old) }
+    ensures printed { OnOk result (IfSome (R.remaining reader.old) (λ bytes.
+        PrintsRun bytes (W.contents writer.old) (W.contents writer.new))) }
+    ensures fault { IfErr result (λ fault.
+        IfSome (R.remaining reader.old) (λ bytes. IsRunFault bytes fault)) }
+    ensures nothing_written { IfErr result (λ fault.
+        (fault ≡ Write → ⊥) → writer.new ≡ writer.old) }
 {
     let bytes = read_bytes(alloc, reader)?;
     let script = script_of(alloc, bytes.as_slice())?;

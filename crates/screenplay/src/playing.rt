@@ -77,10 +77,7 @@ fn open(alloc: Global, stage: Stage) -> Result<Terminal<TestBackend>, TerminalEr
 }
 
 // Gives the screen another size, and places the viewport on it.
-fn resize(
-    terminal: &mut Terminal<TestBackend>,
-    size: Size,
-) -> Result<(), TerminalError<TestError>>
+fn resize(terminal: &mut Terminal<TestBackend>, size: Size) -> Result<(), TerminalError<TestError>>
     ensures { OnOk result (TakesNewSize size terminal.old terminal.new) }
 {
     match terminal.backend_mut().resize(size.width, size.height) {
@@ -99,7 +96,8 @@ fn take_size(
     viewport: Viewport,
     size: Option<Size>,
 ) -> Result<(), TerminalError<TestError>>
-    ensures { OnOk result ((stage : Stage) → stage.viewport ≡ viewport → IsPlaying stage terminal.old
+    ensures { OnOk result ((stage : Stage) → stage.viewport ≡ viewport
+        → IsPlaying stage terminal.old
         → IsPlaying stage terminal.new × IsSizedFor stage size terminal.old terminal.new) }
 {
     let Some(size) = size else {
@@ -158,9 +156,11 @@ fn draw(
     text: &Text<'_>,
     puts: &Puts,
 ) -> Result<(), PlayCause>
-    ensures ok { OnOk result ((stage : Stage) → stage.viewport ≡ viewport → IsPlaying stage terminal.old
+    ensures ok { OnOk result ((stage : Stage) → stage.viewport ≡ viewport
+        → IsPlaying stage terminal.old
         → Plays stage (Draw size text.now puts.now) terminal.old terminal.new) }
-    ensures err { IfErr result (λ cause. (stage : Stage) → stage.viewport ≡ viewport → IsPlaying stage terminal.old
+    ensures err { IfErr result (λ cause. (stage : Stage) → stage.viewport ≡ viewport
+        → IsPlaying stage terminal.old
         → IsCause stage (Draw size text.now puts.now) (sight_in terminal.old) cause) }
 {
     match take_size(terminal, viewport, size) {
@@ -215,7 +215,8 @@ fn copied_row(alloc: Global, row: &[Cell]) -> Result<Vec<Cell>, AllocError>
 }
 
 fn copied_rows(alloc: Global, rows: &[Vec<Cell>]) -> Result<Vec<Vec<Cell>>, AllocError>
-    ensures { IfOk result (λ copies. map (λ row. row.items) copies.items ≡ map (λ row. row.items) rows.now) }
+    ensures { IfOk result (λ copies. map (λ row. row.items) copies.items
+        ≡ map (λ row. row.items) rows.now) }
 {
     let mut copies = Vec::new(alloc);
     for row in rows {

@@ -12,7 +12,8 @@ use std::io::{self, Write};
 
 // Writes the symbols of a row, without the columns behind a wide one.
 fn write_cells<W: Write>(writer: &mut W, cells: &[Cell]) -> io::Result<()>
-    ensures { OnOk result (Appends (W.contents writer.old) (W.contents writer.new) (row_text 0 cells.now)) }
+    ensures { OnOk result (Appends (W.contents writer.old) (W.contents writer.new)
+        (row_text 0 cells.now)) }
 {
     let mut behind = 0;
     for cell in cells {
@@ -27,7 +28,8 @@ fn write_cells<W: Write>(writer: &mut W, cells: &[Cell]) -> io::Result<()>
 }
 
 fn write_row<W: Write>(writer: &mut W, mark: &str, cells: &[Cell]) -> io::Result<()>
-    ensures { OnOk result (Appends (W.contents writer.old) (W.contents writer.new) (printed_row mark.now cells.now)) }
+    ensures { OnOk result (Appends (W.contents writer.old) (W.contents writer.new)
+        (printed_row mark.now cells.now)) }
 {
     writer.write_all(mark.as_bytes())?;
     write_cells(writer, cells)?;
@@ -35,7 +37,8 @@ fn write_row<W: Write>(writer: &mut W, mark: &str, cells: &[Cell]) -> io::Result
 }
 
 fn write_history<W: Write>(writer: &mut W, history: &[Vec<Cell>]) -> io::Result<()>
-    ensures { OnOk result (Appends (W.contents writer.old) (W.contents writer.new) (flat_map (λ row. printed_row (codes "^") row.items) history.now)) }
+    ensures { OnOk result (Appends (W.contents writer.old) (W.contents writer.new)
+        (flat_map (λ row. printed_row (codes "^") row.items) history.now)) }
 {
     for row in history {
         write_row(writer, "^", row.as_slice())?;
@@ -54,7 +57,9 @@ fn screen_row(screen: &Buffer, b: u16) -> &[Cell]
 }
 
 fn write_screen<W: Write>(writer: &mut W, screen: &Buffer) -> io::Result<()>
-    ensures { OnOk result (Appends (W.contents writer.old) (W.contents writer.new) (flat_map (λ b. printed_row (codes "|") (sheet_row screen.now b)) (range_with_len 0 screen.now.area.height))) }
+    ensures { OnOk result (Appends (W.contents writer.old) (W.contents writer.new)
+        (flat_map (λ b. printed_row (codes "|") (sheet_row screen.now b))
+        (range_with_len 0 screen.now.area.height))) }
 {
     for b in 0..screen.area().height {
         write_row(writer, "|", screen_row(screen, b))?;
@@ -63,7 +68,8 @@ fn write_screen<W: Write>(writer: &mut W, screen: &Buffer) -> io::Result<()>
 }
 
 fn write_scene<W: Write>(writer: &mut W, scene: &Scene) -> io::Result<()>
-    ensures { OnOk result (Appends (W.contents writer.old) (W.contents writer.new) (printed_scene scene.now)) }
+    ensures { OnOk result (Appends (W.contents writer.old) (W.contents writer.new)
+        (printed_scene scene.now)) }
 {
     write_history(writer, scene.history.as_slice())?;
     write_screen(writer, &scene.screen)
@@ -71,7 +77,8 @@ fn write_scene<W: Write>(writer: &mut W, scene: &Scene) -> io::Result<()>
 
 // Writes the scene behind this number of steps, if it is there.
 fn write_shown<W: Write>(writer: &mut W, steps: usize, scenes: &[Scene]) -> io::Result<()>
-    ensures { OnOk result (Appends (W.contents writer.old) (W.contents writer.new) (printed_if (slice_get scenes.now steps))) }
+    ensures { OnOk result (Appends (W.contents writer.old) (W.contents writer.new)
+        (printed_if (slice_get scenes.now steps))) }
 {
     match scenes.get(steps) {
         Some(scene) => write_scene(writer, scene),
@@ -81,7 +88,8 @@ fn write_shown<W: Write>(writer: &mut W, steps: usize, scenes: &[Scene]) -> io::
 
 /// Writes the scenes behind these numbers of steps, in order.
 pub fn write_scenes<W: Write>(writer: &mut W, shows: &[usize], scenes: &[Scene]) -> io::Result<()>
-    ensures { OnOk result (Appends (W.contents writer.old) (W.contents writer.new) (printed shows.now scenes.now)) }
+    ensures { OnOk result (Appends (W.contents writer.old) (W.contents writer.new)
+        (printed shows.now scenes.now)) }
 {
     for steps in shows {
         write_shown(writer, *steps, scenes)?;

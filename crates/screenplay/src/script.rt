@@ -169,7 +169,8 @@ fn read_inline<'a>(arguments: &str) -> Option<Command<'a>>
 
 // Whether a rectangle ends within a size.
 fn lies_within(area: Rect, size: Size) -> bool
-    ensures { result ≡ (nat_le (area.x + area.width) size.width && nat_le (area.y + area.height) size.height) }
+    ensures { result ≡ (nat_le (area.x + area.width) size.width
+        && nat_le (area.y + area.height) size.height) }
 {
     u32::from(area.x) + u32::from(area.width) <= u32::from(size.width)
         && u32::from(area.y) + u32::from(area.height) <= u32::from(size.height)
@@ -317,9 +318,11 @@ fn take_command<'a>(
     command: Command<'a>,
 ) -> Result<(), AllocError>
     ensures stage { OnOk result (script.new.stage ≡ stage_after command.entry script.old.stage) }
-    ensures steps { OnOk result ((cs : List Command) → script.new.steps.items ++ steps_of waiting.new cs
+    ensures steps { OnOk result ((cs : List Command) →
+        script.new.steps.items ++ steps_of waiting.new cs
         ≡ script.old.steps.items ++ steps_of waiting.old (command.entry ∷ cs)) }
-    ensures shows { OnOk result ((cs : List Command) → script.new.shows.items ++ shows_of (length script.new.steps.items) cs
+    ensures shows { OnOk result ((cs : List Command) →
+        script.new.shows.items ++ shows_of (length script.new.steps.items) cs
         ≡ script.old.shows.items ++ shows_of (length script.old.steps.items) (command.entry ∷ cs)) }
 {
     match command {
@@ -366,7 +369,8 @@ fn take_line<'a>(
 ) -> Result<bool, AllocError>
     ensures { IfOk result (λ good. (done : List (List ℕ))
         → HasRead done script.old.stage waiting.old script.old.steps.items script.old.shows.items
-        → TakesLine good done line.now script.new.stage waiting.new script.new.steps.items script.new.shows.items) }
+        → TakesLine good done line.now script.new.stage waiting.new script.new.steps.items
+        script.new.shows.items) }
 {
     if line.is_empty() {
         return Ok(true);
@@ -383,7 +387,8 @@ fn take_line<'a>(
 
 /// Reads a script; it answers the first bad line, or that memory was refused.
 pub fn read_script(alloc: Global, text: &str) -> Result<Script<'_>, ScriptFault>
-    ensures ok { IfOk result (λ s. IsScript (text_lines text.now) s.stage s.steps.items s.shows.items) }
+    ensures ok { IfOk result (λ s.
+        IsScript (text_lines text.now) s.stage s.steps.items s.shows.items) }
     ensures err { IfErr result (IsRefused (text_lines text.now)) }
 {
     let mut script = new_script(alloc);

@@ -1,0 +1,86 @@
+//! A memory backend that takes other sizes, and its history.
+use rtui_backend::{Backend, TestBackend, TestError};
+use rtui_geometry::{Position, Size};
+use std::alloc::{AllocError, Global};
+use std::test::Fail;
+
+// A screen of two rows.
+fn letters(alloc: Global) -> Result<TestBackend, Fail> {
+    Ok(TestBackend::with_lines(alloc, &["abc", "def"])?)
+}
+
+// Whether a screen of two rows, given this size, shows these lines.
+fn resizes_to(alloc: Global, width: u16, height: u16, lines: &[&str]) -> Result<bool, Fail> {
+    let mut backend = letters(alloc)?;
+    backend.resize(width, height)?;
+    Ok(backend.lines_are(lines) && backend.size() == Ok(Size { width, height }))
+}
+
+#[test]
+fn cuts_and_adds_rows_and_columns(rt: HostRuntime) -> Result<(), Fail> {
+    assert!(rt; resizes_to(rt.alloc(), 2, 3, &["ab", "de", "  "])?);
+    assert!(rt; resizes_to(rt.alloc(), 5, 1, &["abc  "])?);
+    assert!(rt; resizes_to(rt.alloc(), 3, 2, &["abc", "def"])?);
+    assert!(rt; resizes_to(rt.alloc(), 4, 3, &["abc ", "def ", "    "])?);
+    assert!(rt; resizes_to(rt.alloc(), 0, 2, &["", ""])?);
+    Ok(())
+}
+
+// Whether the cursor, in the last column of the last row, is then at this place of a screen of this size.
+fn keeps_cursor(alloc: Global, width: u16, height: u16, at: Position) -> Result<bool, Fail> {
+    let mut backend = letters(alloc)?;
+    let corner = backend.set_cursor_position(Position { x: 2, y: 1 });
+    backend.resize(width, height)?;
+    Ok(corner.is_ok() && backend.cursor_position() == at)
+}
+
+#[test]
+fn keeps_the_cursor_on_the_screen(rt: HostRuntime) -> Result<(), Fail> {
+    assert!(rt; keeps_cursor(rt.alloc(), 9, 9, Position { x: 2, y: 1 })?);
+    assert!(rt; keeps_cursor(rt.alloc(), 2, 1, Position { x: 1, y: 0 })?);
+    assert!(rt; keeps_cursor(rt.alloc(), 0, 0, Position { x: 0, y: 0 })?);
+    Ok(())
+}
+
+#[test]
+fn counts_no_size_as_a_call(rt: HostRuntime) -> Result<(), Fail> {
+    let mut backend = letters(rt.alloc())?;
+    backend.fail_after(0);
+    backend.resize(2, 2)?;
+    assert!(rt; backend.lines_are(&["ab", "de"]));
+    assert!(rt; backend.flush() == Err(TestError::Told));
+    assert!(rt; backend.flush() == Ok(()));
+    Ok(())
+}
+
+// A screen whose two rows scrolled off.
+fn scrolled(alloc: Global) -> Result<TestBackend, Fail> {
+    let mut backend = letters(alloc)?;
+    match backend.append_lines(3) {
+        Ok(()) => Ok(backend),
+        Err(_) => Err(Fail::from(AllocError)),
+    }
+}
+
+#[test]
+fn compares_its_history(rt: HostRuntime) -> Result<(), Fail> {
+    let backend = scrolled(rt.alloc())?;
+    assert!(rt; backend.scrollback_is(&["abc", "def"]));
+    assert!(rt; !backend.scrollback_is(&["abc"]));
+    assert!(rt; !backend.scrollback_is(&["def", "abc"]));
+    assert!(rt; !backend.scrollback_is(&["abc", "de"]));
+    assert!(rt; !backend.scrollback_is(&["abc", "defg"]));
+    assert!(rt; letters(rt.alloc())?.scrollback_is(&[]));
+    Ok(())
+}
+
+#[test]
+fn keeps_its_history(rt: HostRuntime) -> Result<(), Fail> {
+    let mut backend = scrolled(rt.alloc())?;
+    backend.resize(2, 1)?;
+    assert!(rt; backend.scrollback_is(&["abc", "def"]));
+    assert!(rt; backend.append_lines(1).is_ok());
+    assert!(rt; !backend.scrollback_is(&["abc", "def", "  "]));
+    assert!(rt; backend.scrollback().len() == 3);
+    Ok(())
+}
