@@ -1,0 +1,229 @@
+//! Rows inserted above an inline viewport, on a screen in memory.
+use rtui_backend::{Backend, TestBackend, TestError};
+use rtui_buffer::Buffer;
+use rtui_cell::Cell;
+use rtui_geometry::{Position, Rect};
+use rtui_terminal::{Terminal, TerminalError, TerminalOptions, Viewport};
+use std::alloc::{AllocError, Global};
+use std::test::Fail;
+
+// A terminal over an inline viewport of so many rows of a blank screen, whose cursor stands in a row.
+fn inline(
+    alloc: Global,
+    width: u16,
+    height: u16,
+    row: u16,
+    wanted: u16,
+) -> Result<Terminal<TestBackend>, Fail> {
+    let mut backend = TestBackend::new(alloc, width, height)?;
+    let _ = backend.set_cursor_position(Position { x: 0, y: row });
+    let viewport = Viewport::Inline(wanted);
+    match Terminal::with_options(alloc, backend, TerminalOptions { viewport }) {
+        Ok(terminal) => Ok(terminal),
+        Err(_) => Err(Fail::from(AllocError)),
+    }
+}
+
+// Sets the characters of a line in a row of a buffer at the screen's left edge.
+fn write_line(alloc: Global, buffer: &mut Buffer, y: u16, line: &str) -> Result<(), AllocError> {
+    for (x, ch) in line.chars().enumerate() {
+        let x = x.min(65535) as u16;
+        if let Some(cell) = buffer.cell_mut(Position { x, y }) {
+            cell.set_char(alloc, ch)?;
+        }
+    }
+    Ok(())
+}
+
+// The same of each line, from the first row on.
+fn write(alloc: Global, buffer: &mut Buffer, lines: &[&str]) -> Result<(), AllocError> {
+    for (y, line) in lines.iter().enumerate() {
+        let y = y.min(65535) as u16;
+        write_line(alloc, buffer, y, line)?;
+    }
+    Ok(())
+}
+
+// Whether rows with these lines are inserted.
+fn inserts(alloc: Global, terminal: &mut Terminal<TestBackend>, lines: &[&str]) -> bool {
+    let count = lines.len().min(65535) as u16;
+    let answer = terminal.insert_before(count, |buffer| write(alloc, buffer, lines));
+    answer.is_ok()
+}
+
+// Whether a frame with a line in the viewport's first row is drawn.
+fn draws(alloc: Global, terminal: &mut Terminal<TestBackend>, line: &str) -> bool {
+    let top = terminal.viewport_area().y;
+    let drawn = terminal.draw(|frame| write_line(alloc, frame.buffer_mut(), top, line));
+    drawn.is_ok()
+}
+
+// Whether a row has these symbols.
+fn has_symbols(row: &[Cell], line: &str) -> bool {
+    let symbols = row.iter().map(|cell| cell.symbol().chars().next());
+    symbols.eq(line.chars().map(|ch| Some(ch)))
+}
+
+// Whether the rows that scrolled off have these lines.
+fn left(terminal: &Terminal<TestBackend>, lines: &[&str]) -> bool {
+    let rows = terminal.backend().scrollback();
+    rows.len() == lines.len()
+        && rows
+            .iter()
+            .zip(lines)
+            .all(|(row, line)| has_symbols(row.as_slice(), line))
+}
+
+// Whether the screen has these lines, and the viewport this top.
+fn shows(terminal: &Terminal<TestBackend>, lines: &[&str], top: u16) -> bool {
+    terminal.backend().lines_are(lines) && terminal.viewport_area().y == top
+}
+
+#[test]
+fn few_rows_push_the_viewport_down(rt: HostRuntime) -> Result<(), Fail> {
+    let mut terminal = inline(rt.alloc(), 4, 4, 0, 2)?;
+    assert!(rt; inserts(rt.alloc(), &mut terminal, &["r0", "r1"]));
+    assert!(rt; shows(&terminal, &["r0  ", "r1  ", "    ", "    "], 2));
+    assert!(rt; left(&terminal, &[]));
+    Ok(())
+}
+
+#[test]
+fn rows_without_room_scroll_off(rt: HostRuntime) -> Result<(), Fail> {
+    let mut terminal = inline(rt.alloc(), 4, 4, 0, 2)?;
+    assert!(rt; inserts(rt.alloc(), &mut terminal, &["r0", "r1", "r2"]));
+    assert!(rt; shows(&terminal, &["r1  ", "r2  ", "    ", "    "], 2));
+    assert!(rt; left(&terminal, &["r0  "]));
+    Ok(())
+}
+
+#[test]
+fn more_rows_than_the_screen_has(rt: HostRuntime) -> Result<(), Fail> {
+    let mut terminal = inline(rt.alloc(), 3, 4, 0, 2)?;
+    assert!(rt; inserts(rt.alloc(), &mut terminal, &["r0", "r1", "r2", "r3", "r4"]));
+    assert!(rt; shows(&terminal, &["r3 ", "r4 ", "   ", "   "], 2));
+    assert!(rt; left(&terminal, &["r0 ", "r1 ", "r2 "]));
+    let rows = ["a", "b", "c", "d", "e", "f", "g", "h", "i", "j"];
+    assert!(rt; inserts(rt.alloc(), &mut terminal, &rows));
+    assert!(rt; shows(&terminal, &["i  ", "j  ", "   ", "   "], 2));
+    assert!(rt; terminal.backend().scrollback().len() == 13);
+    Ok(())
+}
+
+#[test]
+fn a_viewport_over_the_whole_screen_stays(rt: HostRuntime) -> Result<(), Fail> {
+    let mut terminal = inline(rt.alloc(), 2, 2, 0, 2)?;
+    assert!(rt; inserts(rt.alloc(), &mut terminal, &["r0", "r1", "r2"]));
+    assert!(rt; shows(&terminal, &["  ", "  "], 0));
+    assert!(rt; left(&terminal, &["r0", "r1", "r2"]));
+    Ok(())
+}
+
+#[test]
+fn no_rows_empty_the_viewport_alone(rt: HostRuntime) -> Result<(), Fail> {
+    let mut terminal = inline(rt.alloc(), 2, 10, 8, 4)?;
+    assert!(rt; draws(rt.alloc(), &mut terminal, "ab"));
+    assert!(rt; inserts(rt.alloc(), &mut terminal, &[]));
+    assert!(rt; terminal.viewport_area() == Rect::new(0, 6, 2, 4));
+    assert!(rt; left(&terminal, &["  ", "  "]));
+    let cells = terminal.backend().buffer().content().iter();
+    let blank = cells.map(|cell| cell.symbol()).all(|symbol| symbol == " ");
+    assert!(rt; blank);
+    Ok(())
+}
+
+#[test]
+fn a_draw_behind_an_insertion(rt: HostRuntime) -> Result<(), Fail> {
+    let mut terminal = inline(rt.alloc(), 6, 4, 0, 1)?;
+    assert!(rt; draws(rt.alloc(), &mut terminal, "bar"));
+    assert!(rt; inserts(rt.alloc(), &mut terminal, &["one"]));
+    assert!(rt; draws(rt.alloc(), &mut terminal, "bar"));
+    assert!(rt; shows(&terminal, &["one   ", "bar   ", "      ", "      "], 1));
+    Ok(())
+}
+
+// Whether an insertion answers Ok, and its closure is called.
+fn calls(terminal: &mut Terminal<TestBackend>) -> Option<bool> {
+    let mut called = false;
+    let answer = terminal.insert_before(3, |_| {
+        called = true;
+        Ok(())
+    });
+    if answer.is_ok() { Some(called) } else { None }
+}
+
+#[test]
+fn a_screen_without_rows_takes_none(rt: HostRuntime) -> Result<(), Fail> {
+    let mut terminal = inline(rt.alloc(), 4, 0, 0, 3)?;
+    assert!(rt; calls(&mut terminal) == Some(true));
+    assert!(rt; left(&terminal, &[]));
+    assert_eq!(rt; terminal.backend().cells_written(), 0);
+    Ok(())
+}
+
+#[test]
+fn another_viewport_takes_none(rt: HostRuntime) -> Result<(), Fail> {
+    let backend = TestBackend::new(rt.alloc(), 4, 2)?;
+    match Terminal::new(rt.alloc(), backend) {
+        Ok(mut terminal) => {
+            assert!(rt; calls(&mut terminal) == Some(false));
+            assert_eq!(rt; terminal.backend().cells_written(), 0);
+            Ok(())
+        }
+        Err(_) => Err(Fail::from(AllocError)),
+    }
+}
+
+// Whether an insertion whose closure refuses answers so.
+fn refuses(terminal: &mut Terminal<TestBackend>) -> bool {
+    terminal.insert_before(2, |_| Err(AllocError)) == Err(TerminalError::Memory)
+}
+
+// Whether one whose closure makes its buffer narrower is refused.
+fn refuses_area(terminal: &mut Terminal<TestBackend>) -> bool {
+    let answer = terminal.insert_before(2, |buffer| buffer.resize(Rect::new(0, 0, 1, 2)));
+    answer == Err(TerminalError::Area)
+}
+
+#[test]
+fn a_refused_insertion_changes_nothing(rt: HostRuntime) -> Result<(), Fail> {
+    let mut terminal = inline(rt.alloc(), 2, 2, 0, 1)?;
+    assert!(rt; draws(rt.alloc(), &mut terminal, "ab"));
+    assert!(rt; refuses(&mut terminal));
+    assert!(rt; refuses_area(&mut terminal));
+    assert!(rt; shows(&terminal, &["ab", "  "], 0));
+    Ok(())
+}
+
+// Whether an insertion fails at this call of the backend, and a clear mends the terminal.
+fn fails_at(alloc: Global, terminal: &mut Terminal<TestBackend>, call: u64) -> bool {
+    terminal.backend_mut().fail_after(call);
+    let answer = terminal.insert_before(3, |buffer| write_line(alloc, buffer, 0, "r0"));
+    answer == Err(TerminalError::Backend(TestError::Told)) && terminal.clear().is_ok()
+}
+
+#[test]
+fn a_failed_call_refuses_the_insertion(rt: HostRuntime) -> Result<(), Fail> {
+    for call in 0..7 {
+        let mut terminal = inline(rt.alloc(), 2, 3, 0, 1)?;
+        assert!(rt; fails_at(rt.alloc(), &mut terminal, call));
+        assert!(rt; draws(rt.alloc(), &mut terminal, "ab"));
+    }
+    Ok(())
+}
+
+#[test]
+fn wide_and_skipped_cells_are_written(rt: HostRuntime) -> Result<(), Fail> {
+    let mut terminal = inline(rt.alloc(), 4, 2, 0, 1)?;
+    let alloc = rt.alloc();
+    let answer = terminal.insert_before(1, |buffer| {
+        write_line(alloc, buffer, 0, "コ xy")?;
+        if let Some(cell) = buffer.cell_mut(Position { x: 3, y: 0 }) {
+            cell.skip = true;
+        }
+        Ok(())
+    });
+    assert!(rt; answer.is_ok());
+    assert!(rt; shows(&terminal, &["コxy", "    "], 1));
+    Ok(())
+}
