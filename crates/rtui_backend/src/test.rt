@@ -105,6 +105,13 @@ fn put_cell(
 /// A screen in memory, for tests: it keeps the contract of `Backend`, shows what it holds, and fails when it is
 /// told to. A draw leaves the cursor where it is, and where memory is refused it has put the items before. Its
 /// cells have no options and no flags.
+///
+/// ```
+/// let mut backend = TestBackend::new(alloc, 5, 1)?;
+/// let cell = Cell::new(alloc, "x")?;
+/// backend.draw(iter::once((1, 0, &cell)))?;
+/// assert!(rt; backend.lines_are(&[" x   "]));
+/// ```
 #[derive(Debug, Drop, PartialEq, Eq, Hash)]
 pub struct TestBackend {
     buffer: Buffer,
