@@ -14,7 +14,7 @@ use Rattle.rtui_rows.specs.Insertion.{AppendsRows, KeepsShape, HasPlaceAbove, In
 use Rattle.rtui_rows.specs.Scrolling.{cursor_scrolled, rows_past}
 use Rattle.rtui_terminal.specs.State.{State, IsInPlace}
 use Rattle.rtui_terminal.specs.InStep.{IsInStep, rows_over}
-use Rattle.rtui_terminal.specs.Calls.{Clears}
+use Rattle.rtui_terminal.specs.Calls.{ClearsViewport}
 use Rattle.rtui_terminal.specs.Insertion.{inserted_area, Follows, TakesRows, Inserts}
 
 -- an inline viewport stays in column 0
@@ -49,7 +49,7 @@ module _ {B : Type 0} (screen : B → Screen) where
       (appends : AppendsAbove inserted s.viewport_area s.known_area.height (screen s.backend) (screen b) e)
       (with_current : Follows s.viewport_area (record s.viewport_area { y = e }) s.current current)
       (with_older : Follows s.viewport_area (record s.viewport_area { y = e }) s.older older) where
-    module _ (cleared : Clears screen (moved s b current older cursor e) t) where
+    module _ (cleared : ClearsViewport screen (moved s b current older cursor e) t) where
       area : t.viewport_area ≡ record s.viewport_area { y = e }
       area = ap (λ (x : State B). x.viewport_area) cleared.rest
 

@@ -124,7 +124,7 @@ module _ {B : Type 0} (screen : B → Screen) where
     pub in_step : IsInStep screen s → IsInStep screen t
 
   -- a clear: the older buffer is empty, and so is the viewport; the size, the history and the cursor stay
-  pub record Clears (s t : State B) : Type 0 where
+  pub record ClearsViewport (s t : State B) : Type 0 where
     pub rest : t ≡ record s { backend = t.backend; older = t.older }
     pub older : IsEmptied s.older.area t.older
     pub frame : KeepsScreen (screen s.backend) (screen t.backend)

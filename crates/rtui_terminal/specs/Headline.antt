@@ -9,7 +9,7 @@ use Rattle.rtui_viewport.specs.Viewports.{IsFixed, IsInline}
 use Rattle.rtui_rows.specs.Insertion.{AppendsRows}
 use Rattle.rtui_terminal.specs.State.{State}
 use Rattle.rtui_terminal.specs.InStep.{IsInStep, IsSized, KeepsRest, rows_over}
-use Rattle.rtui_terminal.specs.Calls.{Stays, MovesCursor, Clears, Resizes, Autoresizes, Applies, DrawsFrame, RefusesFrame}
+use Rattle.rtui_terminal.specs.Calls.{Stays, MovesCursor, ClearsViewport, Resizes, Autoresizes, Applies, DrawsFrame, RefusesFrame}
 use Rattle.rtui_terminal.specs.Insertion.{TakesRows, IsLeft, Inserts}
 
 -- a call that answered Ok, with what it painted, inserted or was told; Ask is any call that changes nothing, also an insertion that writes
@@ -69,7 +69,7 @@ module _ {B : Type 0} (screen : B → Screen) where
   Does (Draw painted) s t = (t.older ≡ painted) × AtAnySize (DrawsFrame screen) s t
   Does (Apply painted) s t = (s.current ≡ painted) × ((cursor : Option Position) × Applies screen cursor s t)
   Does (Insert inserted) s t = Inserts screen inserted s t
-  Does Clear s t = Clears screen s t
+  Does Clear s t = ClearsViewport screen s t
   Does (Resize area) s t = Resizes screen area s t
   Does Autoresize s t = AtAnySize (Autoresizes screen) s t
   Does HideCursor s t = MovesCursor screen true s.known_cursor (with_visible false) s t

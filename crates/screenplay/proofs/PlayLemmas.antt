@@ -24,7 +24,7 @@ use Rattle.rtui_viewport.specs.Clearing.{HasPlace, ClearsArea, is_emptied}
 use Rattle.rtui_viewport.proofs.ClearLemmas.{blank_over, keeps_outside}
 use Rattle.rtui_terminal.specs.State.{State, cursor_offset}
 use Rattle.rtui_terminal.specs.InStep.{IsInStep, IsSized}
-use Rattle.rtui_terminal.specs.Calls.{Starts, Applies, Clears, Resizes, IsResized, first_area}
+use Rattle.rtui_terminal.specs.Calls.{Starts, Applies, ClearsViewport, Resizes, IsResized, first_area}
 use Rattle.screenplay.specs.Run.{stage_size, IsGoodViewport, IsGoodStage, MayLie, IsFrame, first_viewport, first_rows, IsStart, KeepsRest, size_after}
 use Rattle.screenplay.specs.Playing.{IsPlaying, sight_in, TakesNewSize, IsSizedFor, ShowsFrame, IsFrameCause, IsCause, Plays}
 use Rattle.screenplay.specs.declared.scene.PlayCause.{PlayCause}
@@ -376,7 +376,7 @@ has_place Fullscreen size r s lies on = tt
 has_place (Inline n) size r s lies on = lies.x
 has_place (Fixed f) size r s lies on = on
 
-pub Plays-cleared : (stage : Stage) (s t : State TestBackend) → IsGoodStage stage → (screen_of s.backend).width ≤ 65535 → (screen_of s.backend).height ≤ 65535 → IsPlaying stage s → Clears screen_of s t → Plays stage steps.Clear s t
+pub Plays-cleared : (stage : Stage) (s t : State TestBackend) → IsGoodStage stage → (screen_of s.backend).width ≤ 65535 → (screen_of s.backend).height ≤ 65535 → IsPlaying stage s → ClearsViewport screen_of s t → Plays stage steps.Clear s t
 Plays-cleared stage s t good columns rows playing clears =
     let old : Screen = screen_of s.backend in
     let new : Screen = screen_of t.backend in

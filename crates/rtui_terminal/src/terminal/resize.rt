@@ -2,7 +2,7 @@ ghost use Rattle.std.specs.Prelude.{◌≡◌, OnOk, OnErr, MatchResult};
 ghost use Rattle.rtui_geometry.specs.Rect.{EdgesFit};
 ghost use Rattle.rtui_buffer.specs.Sheet.{IsSameSheet};
 ghost use Rattle.rtui_terminal.specs.State.{HasRoom, IsInPlace};
-ghost use Rattle.rtui_terminal.specs.Calls.{Faults, FailsOnlyByBackend, IsResized, Clears, Resizes, ResizeErr, Autoresizes, AutoresizeErr};
+ghost use Rattle.rtui_terminal.specs.Calls.{Faults, FailsOnlyByBackend, IsResized, ClearsViewport, Resizes, ResizeErr, Autoresizes, AutoresizeErr};
 
 use crate::terminal::Terminal;
 use crate::terminal::error::TerminalError;
@@ -15,7 +15,7 @@ impl<B: Backend> Terminal<B> {
     /// Empties the viewport and the older buffer, so that the next draw writes the whole frame; the current buffer
     /// and the cursor stay. It takes no memory.
     pub fn clear(&mut self) -> Result<(), TerminalError<B::Error>>
-        ensures ok { OnOk result (Clears B.screen self.old self.new) }
+        ensures ok { OnOk result (ClearsViewport B.screen self.old self.new) }
         ensures err { OnErr result (self.new ≡ record self.old { backend = self.new.backend }) }
         ensures only { FailsOnlyByBackend result }
         ensures faults { Faults result (B.failures self.old.backend) (B.failures self.new.backend) }
