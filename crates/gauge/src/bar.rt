@@ -42,7 +42,8 @@ impl<'b, 'a> Widget for &'b Gauge<'a> {
 
     ghost renders = { λ gauge. RendersGauge gauge.now };
 
-    ghost is_short = { λ gauge area s. AreShort (label_pieces gauge.now (clipped area s.area) s.area) };
+    ghost is_short = { λ gauge area s.
+        AreShort (label_pieces gauge.now (clipped area s.area) s.area) };
 
     fn render(self, area: Rect, buf: &mut Buffer) -> Result<(), AllocError> {
         let Some(part) = part_in(buf, area) else {

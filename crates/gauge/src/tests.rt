@@ -20,13 +20,8 @@ fn terminal(alloc: Global) -> Result<Terminal<TestBackend>, Fail> {
 
 // How many cells of the screen are green.
 fn green_cells(terminal: &Terminal<TestBackend>) -> usize {
-    let mut count = 0;
-    for cell in terminal.backend().buffer().content() {
-        if cell.bg == Color::Green {
-            count += 1;
-        }
-    }
-    count
+    let cells = terminal.backend().buffer().content();
+    cells.iter().filter(|cell| cell.bg == Color::Green).count()
 }
 
 // Whether a gauge of this label and width leaves this first row on the screen, and so many cells green.

@@ -64,5 +64,5 @@ pub mod text {
 
 /// What can be rendered over an area of a buffer.
 pub mod widgets {
-    pub use rtui_widgets::{StatefulWidget, Widget};
+    pub use rtui_widgets::{StatefulWidget, Widget, laws};
 }

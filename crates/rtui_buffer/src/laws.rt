@@ -48,8 +48,8 @@ pub fn empty_buffers_are_settled()
 
 /// A screen can show an empty buffer with a style laid over an area of it, and each of its columns may be painted.
 pub fn styled_empty_buffers_are_settled()
-    ensures settled { (r area : Rect) (style : Style) (old new : Sheet) → EdgesFit r → IsEmptied r old
-        → IsStyled area style old new → IsSettledSheet new }
+    ensures settled { (r area : Rect) (style : Style) (old new : Sheet)
+        → EdgesFit r → IsEmptied r old → IsStyled area style old new → IsSettledSheet new }
     ensures paintable { (r area : Rect) (style : Style) (old new : Sheet) (p : Position) (n : ℕ)
         → EdgesFit r → IsEmptied r old → IsStyled area style old new
         → HasRow old.area p.y → old.area.x ≤ p.x → p.x + n ≤ old.area.x + old.area.width
@@ -91,7 +91,8 @@ pub fn painting_ends_in_its_row()
 pub fn painting_keeps_to_its_columns()
     ensures text { (r : Rect) (x max : ℕ) (s : Style) (text : List ℕ)
         → columns (pieces_at r x max s text) ≤ max }
-    ensures line { (r : Rect) (x max : ℕ) (l : LineData) → columns (line_pieces_at r x max l) ≤ max }
+    ensures line { (r : Rect) (x max : ℕ) (l : LineData)
+        → columns (line_pieces_at r x max l) ≤ max }
 {}
 
 /// What is painted within a row of the area, seen by columns; and what isn't painted where memory is refused.

@@ -6,3 +6,4 @@ pub mod StyleLemmas
 pub mod RowLemmas
 pub mod SheetLemmas
 pub mod WithinLemmas
+pub mod ShortLemmas

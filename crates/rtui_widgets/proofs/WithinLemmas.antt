@@ -1,5 +1,5 @@
 -- What the author of a widget cites: the part of an area that a buffer has, and what stays within an area.
-use Rattle.std.proofs.Common.{◌≡◌, ℕ, ◌+◌, ◌-◌, ◌<◌, ◌≤◌, ⊎_elim, inl, inr, List, min, max, refl, ap, ◌∙◌, arith}
+use Rattle.std.proofs.Common.{◌≡◌, ◌+◌, ◌-◌, ◌<◌, ◌≤◌, ⊎_elim, inl, inr, List, min, max, refl, ap, ◌∙◌, arith}
 use Rattle.std.proofs.lemmas.Bool.{cases_lt}
 use Rattle.rtui_geometry.specs.declared.position.Position.{Position}
 use Rattle.rtui_geometry.specs.declared.rect.Rect.{Rect}

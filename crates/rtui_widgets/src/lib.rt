@@ -6,6 +6,7 @@
 #![tactic(auto)]
 
 mod buffer;
+pub mod laws;
 mod line;
 mod span;
 mod text;

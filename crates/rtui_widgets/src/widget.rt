@@ -147,7 +147,8 @@ impl<'a> Widget for Text<'a> {
 impl<W: Widget> Widget for Option<W> {
     ghost can_render = { λ widget area s. MatchOption widget ⊤ (λ w. W.can_render w area s) };
 
-    ghost renders = { λ widget area old new. MatchOption widget (new ≡ old) (λ w. W.renders w area old new) };
+    ghost renders = { λ widget area old new.
+        MatchOption widget (new ≡ old) (λ w. W.renders w area old new) };
 
     ghost reach = { λ widget area. unwrap_or (option_map (λ w. W.reach w area) widget) area };
 
