@@ -1,4 +1,5 @@
 //! What stands where memory is refused; `rt try --test --fail-alloc N` refuses the Nth request.
+use crate::sizes::put;
 use rtui_backend::TestBackend;
 use rtui_buffer::Buffer;
 use rtui_geometry::{Position, Rect};
@@ -49,14 +50,15 @@ fn keeps_all_where_a_draw_is_refused_memory(rt: HostRuntime) -> Result<(), Fail>
 // Whether a refused resize of a screen changed nothing.
 fn resizes_or_keeps(backend: &mut TestBackend) -> bool {
     match backend.resize(5, 2) {
-        Ok(()) => backend.lines_are(&["abc  ", "     "]),
-        Err(AllocError) => backend.lines_are(&["abc"]),
+        Ok(()) => backend.lines_are(&["a    ", "     "]),
+        Err(AllocError) => backend.lines_are(&["a  "]),
     }
 }
 
 #[test]
 fn keeps_a_screen_that_is_refused_memory(rt: HostRuntime) -> Result<(), Fail> {
-    let mut backend = TestBackend::with_lines(rt.alloc(), &["abc"])?;
+    let mut backend = TestBackend::new(rt.alloc(), 3, 1)?;
+    put(rt.alloc(), &mut backend, 0, 0, 'a')?;
     assert!(rt; resizes_or_keeps(&mut backend));
     Ok(())
 }

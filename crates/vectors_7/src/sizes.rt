@@ -1,12 +1,30 @@
 //! A memory backend that takes other sizes, and its history.
 use rtui_backend::{Backend, TestBackend, TestError};
+use rtui_buffer::Cell;
 use rtui_geometry::{Position, Size};
 use std::alloc::{AllocError, Global};
 use std::test::Fail;
 
-// A screen of two rows.
+// Puts a character in a column and a row of a screen.
+pub fn put(alloc: Global, backend: &mut TestBackend, x: u16, y: u16, ch: char) -> Result<(), Fail> {
+    let cell = Cell::from_char(alloc, ch)?;
+    let items = [(x, y, &cell)];
+    match backend.draw(items.iter().copied()) {
+        Ok(()) => Ok(()),
+        Err(_) => Err(Fail::from(AllocError)),
+    }
+}
+
+// A screen of two rows, `abc` and `def`.
 fn letters(alloc: Global) -> Result<TestBackend, Fail> {
-    Ok(TestBackend::with_lines(alloc, &["abc", "def"])?)
+    let mut backend = TestBackend::new(alloc, 3, 2)?;
+    put(alloc, &mut backend, 0, 0, 'a')?;
+    put(alloc, &mut backend, 1, 0, 'b')?;
+    put(alloc, &mut backend, 2, 0, 'c')?;
+    put(alloc, &mut backend, 0, 1, 'd')?;
+    put(alloc, &mut backend, 1, 1, 'e')?;
+    put(alloc, &mut backend, 2, 1, 'f')?;
+    Ok(backend)
 }
 
 // Whether a screen of two rows, given this size, shows these lines.
