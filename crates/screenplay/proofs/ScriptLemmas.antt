@@ -5,7 +5,7 @@ use Rattle.std.proofs.lemmas.List.Elements.{filter_map-append}
 use Rattle.std.proofs.Math.Seq.{get_or-append_seam}
 use Rattle.std.proofs.lemmas.Bool.{cases_lt, false≢true}
 use Rattle.screenplay.specs.declared.script.Command.{Command}
-use Rattle.screenplay.specs.declared.script.Command.TheVariants.{SetStage, TakeSize, Put, AddText, Draw, Clear, Show}
+use Rattle.screenplay.specs.declared.script.Command.TheVariants.{SetStage, TakeSize, Put, AddText, Draw, Insert, Clear, Show}
 use Rattle.screenplay.specs.declared.script.Waiting.{Waiting}
 use Rattle.screenplay.specs.declared.scene.Stage.{Stage}
 use Rattle.screenplay.specs.declared.scene.Step.{Step}
@@ -25,6 +25,7 @@ stage_of-some (TakeSize size) stage h = refl
 stage_of-some (Put x y ch) stage h = refl
 stage_of-some (AddText text) stage h = refl
 stage_of-some Draw stage h = refl
+stage_of-some Insert stage h = refl
 stage_of-some Clear stage h = refl
 stage_of-some Show stage h = refl
 
@@ -34,6 +35,7 @@ stage_of-none (TakeSize size) h = absurd (false≢true h)
 stage_of-none (Put x y ch) h = absurd (false≢true h)
 stage_of-none (AddText text) h = absurd (false≢true h)
 stage_of-none Draw h = absurd (false≢true h)
+stage_of-none Insert h = absurd (false≢true h)
 stage_of-none Clear h = absurd (false≢true h)
 stage_of-none Show h = absurd (false≢true h)
 
@@ -44,6 +46,7 @@ stage_of-push (TakeSize size ∷ cs) c h = stage_of-push cs c h
 stage_of-push (Put x y ch ∷ cs) c h = stage_of-push cs c h
 stage_of-push (AddText text ∷ cs) c h = stage_of-push cs c h
 stage_of-push (Draw ∷ cs) c h = stage_of-push cs c h
+stage_of-push (Insert ∷ cs) c h = stage_of-push cs c h
 stage_of-push (Clear ∷ cs) c h = stage_of-push cs c h
 stage_of-push (Show ∷ cs) c h = stage_of-push cs c h
 
