@@ -27,7 +27,7 @@ use Rattle.rtui_viewport.specs.Clearing.{HasPlace, ClearsArea, is_emptied}
 use Rattle.rtui_viewport.proofs.ClearLemmas.{blank_over, keeps_outside}
 use Rattle.rtui_terminal.specs.State.{State, cursor_offset}
 use Rattle.rtui_terminal.specs.InStep.{IsInStep, IsSized}
-use Rattle.rtui_terminal.specs.Insertion.{inserted_area, Follows, TakesRows, Inserts}
+use Rattle.rtui_terminal.specs.Insertion.{inserted_area, Follows, TakesRows}
 use Rattle.rtui_terminal.specs.Calls.{Starts, Applies, ClearsViewport, Resizes, IsResized, first_area}
 use Rattle.screenplay.specs.Run.{stage_size, IsGoodViewport, IsGoodStage, MayLie, IsFrame, first_viewport, first_rows, IsStart, KeepsRest, size_after, Sight, row_count, text_area, IsInserted, InsertsOn}
 use Rattle.screenplay.specs.Playing.{IsPlaying, sight_in, TakesNewSize, IsSizedFor, ShowsFrame, InsertsBuffer, IsFrameCause, IsCause, Plays}
@@ -441,12 +441,14 @@ IsCause-drawn stage given text puts s m (Unsettled area) playing sized why = (
 
 -- an empty buffer that a screen shows is blank there
 blank_shown : (r : Rect) (sheet : Sheet) (s : Screen) → IsEmptied r sheet → ShowsSheet sheet s.grid → IsBlankOver r s
-blank_shown r sheet s empty shown = subst (λ q. IsBlankOver q s) empty.area (record { at = λ a b within.
-    let x : sheet.area.x + (a - sheet.area.x) ≡ a = omega (arith, within.left) in
-    let y : sheet.area.y + (b - sheet.area.y) ≡ b = omega (arith, within.top) in
-    let column = shown.at (a - sheet.area.x) (b - sheet.area.y) (omega (arith, within.left, within.right)) (omega (arith, within.top, within.bottom)) in
-    let is : cell_at sheet.area.width sheet.cells (a - sheet.area.x) (b - sheet.area.y) ≡ empty_cell = rw empty.cells (cell-empty (area_size r) ((b - sheet.area.y) * sheet.area.width + (a - sheet.area.x))) in
-    sym (ap₂ s.grid x y) ∙ column.look (ap is_skipped is ∙ skipped-empty) ∙ ap look_of is ∙ look-empty })
+blank_shown r sheet s empty shown = subst (λ q. IsBlankOver q s) empty.area (record {
+  at = λ a b within.
+      let x : sheet.area.x + (a - sheet.area.x) ≡ a = omega (arith, within.left) in
+      let y : sheet.area.y + (b - sheet.area.y) ≡ b = omega (arith, within.top) in
+      let column = shown.at (a - sheet.area.x) (b - sheet.area.y) (omega (arith, within.left, within.right)) (omega (arith, within.top, within.bottom)) in
+      let is : cell_at sheet.area.width sheet.cells (a - sheet.area.x) (b - sheet.area.y) ≡ empty_cell = rw empty.cells (cell-empty (area_size r) ((b - sheet.area.y) * sheet.area.width + (a - sheet.area.x))) in
+      sym (ap₂ s.grid x y) ∙ column.look (ap is_skipped is ∙ skipped-empty) ∙ ap look_of is ∙ look-empty;
+})
 
 -- an inline viewport that moved down
 not_both : (kind : Viewport) → IsInline kind → IsFixed kind → ⊥

@@ -171,10 +171,52 @@ abbrev pub may_stand : Option Stage → Command → Bool
 may_stand None c = sets_stage c
 may_stand (Some stage) c = may_stand_on stage c
 
+abbrev pub nothing : Waiting
+nothing = record { size = None; text = text_of []; puts = [] }
+
+-- the draw of what waits
+abbrev pub draw_of : Waiting → Step
+draw_of w = steps.Draw w.size w.text w.puts
+
+-- what waits, but no text
+abbrev pub without_text : Waiting → Waiting
+without_text w = record w { text = text_of [] }
+
+-- a text with one line more
+abbrev pub with_line : List ℕ → TextData → TextData
+with_line line text = record text { lines = text.lines ++ raw_line line ∷ [] }
+
+-- what waits behind a command
+abbrev pub waiting_after : Command → Waiting → Waiting
+waiting_after (SetStage stage) w = w
+waiting_after (TakeSize size) w = record w { size = Some size }
+waiting_after (Put x y c) w = record w { puts = w.puts ++ (x, y, c) ∷ [] }
+waiting_after (AddText text) w = record w { text = with_line text w.text }
+waiting_after Draw w = nothing
+waiting_after Insert w = without_text w
+waiting_after Clear w = w
+waiting_after Show w = w
+
+-- and behind all of some commands
+abbrev pub waiting_behind : List Command → Waiting → Waiting
+waiting_behind [] w = w
+waiting_behind (c ∷ cs) w = waiting_behind cs (waiting_after c w)
+
+-- no more than 65535 texts are inserted
+abbrev pub may_insert : Waiting → Command → Bool
+may_insert w (SetStage stage) = true
+may_insert w (TakeSize size) = true
+may_insert w (Put x y c) = true
+may_insert w (AddText text) = true
+may_insert w Draw = true
+may_insert w Insert = nat_le (length w.text.lines) 65535
+may_insert w Clear = true
+may_insert w Show = true
+
 -- a command may stand behind others
 abbrev pub may_follow : List Command → Option Command → Bool
 may_follow before None = false
-may_follow before (Some c) = may_stand (stage_of before) c
+may_follow before (Some c) = may_stand (stage_of before) c && may_insert (waiting_behind before nothing) c
 
 -- a line is good behind those before it: it is empty, or its command may follow theirs
 abbrev pub is_good_line : List (List ℕ) → List ℕ → Bool
@@ -204,21 +246,6 @@ stage_after Draw former = former
 stage_after Insert former = former
 stage_after Clear former = former
 stage_after Show former = former
-
-abbrev pub nothing : Waiting
-nothing = record { size = None; text = text_of []; puts = [] }
-
--- the draw of what waits
-abbrev pub draw_of : Waiting → Step
-draw_of w = steps.Draw w.size w.text w.puts
-
--- what waits, but no text
-abbrev pub without_text : Waiting → Waiting
-without_text w = record w { text = text_of [] }
-
--- a text with one line more
-abbrev pub with_line : List ℕ → TextData → TextData
-with_line line text = record text { lines = text.lines ++ raw_line line ∷ [] }
 
 -- the steps of the commands, where this waits for the next draw, and its text for the next insertion too
 abbrev pub steps_of : Waiting → List Command → List Step
