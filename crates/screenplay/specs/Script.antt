@@ -204,14 +204,8 @@ waiting_behind (c ∷ cs) w = waiting_behind cs (waiting_after c w)
 
 -- no more than 65535 texts are inserted
 abbrev pub may_insert : Waiting → Command → Bool
-may_insert w (SetStage stage) = true
-may_insert w (TakeSize size) = true
-may_insert w (Put x y c) = true
-may_insert w (AddText text) = true
-may_insert w Draw = true
 may_insert w Insert = nat_le (length w.text.lines) 65535
-may_insert w Clear = true
-may_insert w Show = true
+may_insert w other = true
 
 -- a command may stand behind others
 abbrev pub may_follow : List Command → Option Command → Bool
@@ -247,17 +241,17 @@ stage_after Insert former = former
 stage_after Clear former = former
 stage_after Show former = former
 
--- the steps of the commands, where this waits for the next draw, and its text for the next insertion too
+-- the step that a command makes of what waits, if it makes one
+abbrev pub step_by : Waiting → Command → List Step
+step_by w Draw = draw_of w ∷ []
+step_by w Insert = steps.Insert w.text ∷ []
+step_by w Clear = steps.Clear ∷ []
+step_by w other = []
+
+-- the steps of the commands, where this waits for them
 abbrev pub steps_of : Waiting → List Command → List Step
 steps_of w [] = []
-steps_of w (SetStage stage ∷ cs) = steps_of w cs
-steps_of w (TakeSize size ∷ cs) = steps_of (record w { size = Some size }) cs
-steps_of w (Put x y c ∷ cs) = steps_of (record w { puts = w.puts ++ (x, y, c) ∷ [] }) cs
-steps_of w (AddText text ∷ cs) = steps_of (record w { text = with_line text w.text }) cs
-steps_of w (Draw ∷ cs) = draw_of w ∷ steps_of nothing cs
-steps_of w (Insert ∷ cs) = steps.Insert w.text ∷ steps_of (without_text w) cs
-steps_of w (Clear ∷ cs) = steps.Clear ∷ steps_of w cs
-steps_of w (Show ∷ cs) = steps_of w cs
+steps_of w (c ∷ cs) = step_by w c ++ steps_of (waiting_after c w) cs
 
 -- how many steps stand before each `show`, where n stand before the commands
 abbrev pub shows_of : ℕ → List Command → List ℕ
