@@ -1,5 +1,5 @@
 -- A terminal in the middle of a play: its start, its sizes, its frames and its clears.
-use Rattle.std.proofs.Common.{◌≡◌, ◌⊎◌, ℕ, zero, suc, ◌+◌, ◌-◌, ◌<◌, ◌≤◌, min, nat_lt, Bool, true, false, if◌then◌else◌, List, ◌∷◌, ◌++◌, length, map, take, replicate, Option, Some, None, refl, sym, ap, ap₂, subst, ◌∙◌, inl, inr, arith}
+use Rattle.std.proofs.Common.{◌≡◌, ◌⊎◌, ℕ, zero, suc, ◌+◌, ◌-◌, ◌<◌, ◌≤◌, min, nat_lt, Bool, true, false, if◌then◌else◌, List, [], ◌∷◌, ◌++◌, ◌*◌, length, map, take, replicate, Option, Some, None, refl, sym, ap, ap₂, subst, ◌∙◌, inl, inr, arith}
 use Rattle.std.specs.Prelude.{nat_le, ◌||◌, ◌&&◌, ◌==◌}
 use Rattle.std.proofs.lemmas.List.{length-replicate}
 use Rattle.std.specs.List.{range_with_len}
@@ -7,8 +7,11 @@ use Rattle.std.proofs.lemmas.Bool.{cases_lt}
 use Rattle.std.proofs.lemmas.Bool.Decides.{nat_tests}
 use Rattle.rtui_geometry.specs.declared.rect.Rect.{Rect}
 use Rattle.rtui_geometry.specs.declared.size.Size.{Size}
-use Rattle.rtui_cell.specs.Cell.{empty_cell}
-use Rattle.rtui_cell.specs.Look.{empty_look}
+use Rattle.rtui_cell.specs.Cell.{empty_cell, is_skipped}
+use Rattle.rtui_cell.proofs.CellLemmas.{look-empty, skipped-empty}
+use Rattle.rtui_cell.specs.Look.{empty_look, look_of}
+use Rattle.rtui_diff.specs.Cells.{cell_at}
+use Rattle.rtui_buffer.proofs.EmptyLemmas.{cell-empty}
 use Rattle.rtui_text.specs.Text.{TextData}
 use Rattle.rtui_buffer.specs.Sheet.{Sheet, IsEmptied, area_size, empty_cells}
 use Rattle.rtui_buffer.specs.Frame.{IsSettledSheet, ShowsSheet}
@@ -24,9 +27,10 @@ use Rattle.rtui_viewport.specs.Clearing.{HasPlace, ClearsArea, is_emptied}
 use Rattle.rtui_viewport.proofs.ClearLemmas.{blank_over, keeps_outside}
 use Rattle.rtui_terminal.specs.State.{State, cursor_offset}
 use Rattle.rtui_terminal.specs.InStep.{IsInStep, IsSized}
+use Rattle.rtui_terminal.specs.Insertion.{inserted_area, Follows, TakesRows}
 use Rattle.rtui_terminal.specs.Calls.{Starts, Applies, ClearsViewport, Resizes, IsResized, first_area}
-use Rattle.screenplay.specs.Run.{stage_size, IsGoodViewport, IsGoodStage, MayLie, IsFrame, first_viewport, first_rows, IsStart, KeepsRest, size_after}
-use Rattle.screenplay.specs.Playing.{IsPlaying, sight_in, TakesNewSize, IsSizedFor, ShowsFrame, IsFrameCause, IsCause, Plays}
+use Rattle.screenplay.specs.Run.{stage_size, IsGoodViewport, IsGoodStage, MayLie, IsFrame, first_viewport, first_rows, IsStart, KeepsRest, size_after, Sight, row_count, text_area, IsInserted, InsertsOn}
+use Rattle.screenplay.specs.Playing.{IsPlaying, sight_in, TakesNewSize, IsSizedFor, ShowsFrame, InsertsBuffer, IsFrameCause, IsCause, Plays}
 use Rattle.screenplay.specs.declared.scene.PlayCause.{PlayCause}
 use Rattle.screenplay.specs.declared.scene.PlayCause.TheVariants.{Memory, Unsettled}
 use Rattle.screenplay.specs.declared.scene.Stage.{Stage}
@@ -434,3 +438,160 @@ IsCause-drawn stage given text puts s m (Unsettled area) playing sized why = (
   },
   why.1,
 )
+
+-- an empty buffer that a screen shows is blank there
+blank_shown : (r : Rect) (sheet : Sheet) (s : Screen) → IsEmptied r sheet → ShowsSheet sheet s.grid → IsBlankOver r s
+blank_shown r sheet s empty shown = subst (λ q. IsBlankOver q s) empty.area (record {
+  at = λ a b within.
+      let x : sheet.area.x + (a - sheet.area.x) ≡ a = omega (arith, within.left) in
+      let y : sheet.area.y + (b - sheet.area.y) ≡ b = omega (arith, within.top) in
+      let column = shown.at (a - sheet.area.x) (b - sheet.area.y) (omega (arith, within.left, within.right)) (omega (arith, within.top, within.bottom)) in
+      let is : cell_at sheet.area.width sheet.cells (a - sheet.area.x) (b - sheet.area.y) ≡ empty_cell = rw empty.cells (cell-empty (area_size r) ((b - sheet.area.y) * sheet.area.width + (a - sheet.area.x))) in
+      sym (ap₂ s.grid x y) ∙ column.look (ap is_skipped is ∙ skipped-empty) ∙ ap look_of is ∙ look-empty;
+})
+
+-- an inline viewport that moved down
+not_both : (kind : Viewport) → IsInline kind → IsFixed kind → ⊥
+not_both Fullscreen inline fixed = inline
+not_both (Inline n) inline fixed = fixed
+not_both (Fixed f) inline fixed = inline
+
+inline_width : (kind : Viewport) (size : Size) (r : Rect) → IsInline kind → MayLie kind size r → r.width ≡ size.width
+inline_width Fullscreen size r inline lies = absurd inline
+inline_width (Inline n) size r inline lies = lies.width
+inline_width (Fixed f) size r inline lies = absurd inline
+
+inline_row : (kind : Viewport) (stage size : Size) (r : Rect) → IsInline kind → IsGoodViewport kind stage → MayLie kind size r → 0 < size.height → 0 < r.height
+inline_row Fullscreen stage size r inline good lies some = absurd inline
+inline_row (Inline n) stage size r inline good lies some = omega (arith, good, lies.height, some)
+inline_row (Fixed f) stage size r inline good lies some = absurd inline
+
+inline_moved : (kind : Viewport) (size : Size) (r : Rect) (y : ℕ) → IsInline kind → y + r.height ≤ size.height → MayLie kind size r → MayLie kind size (record r { y = y })
+inline_moved Fullscreen size r y inline bottom lies = absurd inline
+inline_moved (Inline n) size r y inline bottom lies = record { x = lies.x; width = lies.width; height = lies.height; bottom = bottom }
+inline_moved (Fixed f) size r y inline bottom lies = absurd inline
+
+inserts_inline : (kind : Viewport) (text : TextData) (before after : Sight) → IsInline kind → IsInserted text before after → InsertsOn kind text before after
+inserts_inline Fullscreen text before after inline inserted = absurd inline
+inserts_inline (Inline n) text before after inline inserted = inserted
+inserts_inline (Fixed f) text before after inline inserted = absurd inline
+
+emptied_followed : (former next : Rect) (before after : Sheet) → next.width ≡ former.width → next.height ≡ former.height → Follows former next before after → IsEmptied former before → IsEmptied next after
+emptied_followed former next before after width height follows empty = record {
+  area = follows.area.moved empty.area;
+  cells = ap (λ (x : Sheet). x.cells) follows.rest ∙ empty.cells ∙ sym (ap₂ (λ w h. empty_cells (w * h)) width height);
+}
+
+-- the area of the rows of a text
+pub frame_area : (area : Rect) (text : TextData) (rows : Sheet) → IsFrame area text [] rows → rows.area ≡ area
+frame_area area text rows made = ap (λ (x : Sheet). x.area) made.painted ∙ made.renders.within.same_area ∙ made.emptied.area
+
+pub rows_area : (s : State TestBackend) (text : TextData) (rows : Sheet) → IsFrame (text_area s.viewport_area.width text) text [] rows → rows.area ≡ inserted_area s rows.area.height
+rows_area s text rows made =
+    let is = frame_area (text_area s.viewport_area.width text) text rows made in
+    is ∙ ap (λ h. record { x = 0; y = 0; width = s.viewport_area.width; height = h }) (sym (ap (λ (r : Rect). r.height) is))
+
+-- rows of a text that were inserted
+module _ (stage : Stage) (text : TextData) (rows : Sheet) (s t : State TestBackend) (inline : IsInline stage.viewport) (playing : IsPlaying stage s)
+    (made : IsFrame (text_area s.viewport_area.width text) text [] rows) where
+  abbrev screen_before : Screen
+  screen_before = screen_of s.backend
+
+  abbrev screen_after : Screen
+  screen_after = screen_of t.backend
+
+  made_wide : IsFrame (text_area screen_before.width text) text [] rows
+  made_wide = subst (λ w. IsFrame (text_area w text) text [] rows) (inline_width stage.viewport (size_of screen_before) s.viewport_area inline playing.lies) made
+
+  pub IsCause-inserted : (IsSettledSheet rows → ⊥) → IsCause stage (steps.Insert text) (sight_in s) (Unsettled s.viewport_area)
+  IsCause-inserted not = (inline, refl, record { frame = rows; made = made_wide; unsettled = not })
+
+  module _ (good : IsGoodStage stage) (settled : IsSettledSheet rows) (has : InsertsBuffer rows s t) where
+    known : screen_area screen_before ≡ s.known_area
+    known = elim playing.sized [
+      | inl fixed ↦ absurd (not_both stage.viewport inline (subst IsFixed playing.kind fixed))
+      | inr is ↦ is
+    ]
+
+    known_height : screen_before.height ≡ s.known_area.height
+    known_height = ap (λ (r : Rect). r.height) known
+
+    count : rows.area.height ≡ row_count text
+    count = ap (λ (r : Rect). r.height) (frame_area (text_area s.viewport_area.width text) text rows made)
+
+    inserted_none : screen_before.height ≡ 0 → Plays stage (steps.Insert text) s s
+    inserted_none flat =
+        let on = playing.in_step.on_screen in
+        let top : s.viewport_area.y ≡ min (s.viewport_area.y + row_count text) (screen_before.height - s.viewport_area.height) = omega (arith, on.bottom, flat) in
+        record {
+          playing = playing;
+          after = inserts_inline stage.viewport text (sight_in s) (sight_in s) inline (record {
+            size = refl;
+            viewport = ap (λ y. record s.viewport_area { y = y }) top;
+            frame = rows;
+            made = made_wide;
+            settled = settled;
+            above = λ some. absurd (omega (arith, flat, some));
+            blank = record { at = λ a b within. absurd (omega (arith, within.bottom, on.bottom, flat)) };
+            none = λ _. refl;
+          });
+        }
+
+    inserted_some : 0 < screen_before.height → Plays stage (steps.Insert text) s t
+    inserted_some some =
+        let at = playing.in_step in
+        let inserts = has.inserts (omega (arith, some, known_height)) in
+        let kind : t.viewport ≡ s.viewport = ap (λ (x : State TestBackend). x.viewport) inserts.rest in
+        let width = inserts.shape.width in
+        let height = inserts.shape.height in
+        let takes : TakesRows screen_of s = record {
+          inline = subst IsInline (sym playing.kind) inline;
+          known = known;
+          row = inline_row stage.viewport (stage_size stage) (size_of screen_before) s.viewport_area inline good.viewport playing.lies some;
+          width = inline_width stage.viewport (size_of screen_before) s.viewport_area inline playing.lies;
+        } in
+        let view : t.viewport_area ≡ record s.viewport_area { y = t.viewport_area.y } = ap (λ (x : State TestBackend). x.viewport_area) inserts.rest in
+        let top : t.viewport_area.y ≡ min (s.viewport_area.y + row_count text) (screen_before.height - s.viewport_area.height) =
+        inserts.top ∙ ap₂ (λ n h. min (s.viewport_area.y + n) (h - s.viewport_area.height)) count (sym known_height) in
+        let lies : MayLie stage.viewport (size_of screen_after) t.viewport_area =
+        subst (MayLie stage.viewport (size_of screen_after)) (sym view)
+        (inline_moved stage.viewport (size_of screen_after) s.viewport_area t.viewport_area.y inline (omega (arith, top, height, at.on_screen.bottom))
+        (subst (λ z. MayLie stage.viewport z s.viewport_area) (sym (same_size screen_after screen_before width height)) playing.lies)) in
+        let shown = inserts.in_step takes at settled in
+        record {
+          playing = record {
+            kind = kind ∙ playing.kind;
+            sized = sized_kept s t kind (ap (λ (x : State TestBackend). x.known_area) inserts.rest) width height playing.sized;
+            lies = lies;
+            in_step = shown;
+            current = emptied_followed s.viewport_area t.viewport_area s.current t.current (ap (λ (r : Rect). r.width) view) (ap (λ (r : Rect). r.height) view) inserts.current playing.current;
+            below = λ _. inserts.below takes at (playing.below inline);
+          };
+          after = inserts_inline stage.viewport text (sight_in s) (sight_in t) inline (record {
+            size = same_size screen_after screen_before width height;
+            viewport = view ∙ ap (λ y. record s.viewport_area { y = y }) top;
+            frame = rows;
+            made = made_wide;
+            settled = settled;
+            above = λ _. inserts.above takes at settled;
+            blank = record { at = (blank_shown t.viewport_area t.older screen_after (inserts.left takes at) shown.shown).at };
+            none = λ flat. absurd (omega (arith, flat, some));
+          });
+        }
+
+    pub Plays-inserted : Plays stage (steps.Insert text) s t
+    Plays-inserted = elim (cases_lt 0 screen_before.height) [
+      | inl some ↦ inserted_some some
+      | inr none ↦
+          let flat : screen_before.height ≡ 0 = omega (arith, none) in
+          subst (Plays stage (steps.Insert text) s) (sym (has.none (sym known_height ∙ flat))) (inserted_none flat)
+    ]
+
+-- on another viewport nothing changes
+other_stays : (kind : Viewport) (text : TextData) (s : Sight) → (IsInline kind → ⊥) → InsertsOn kind text s s
+other_stays Fullscreen text s other = refl
+other_stays (Inline n) text s other = absurd (other tt)
+other_stays (Fixed f) text s other = refl
+
+pub Plays-other : (stage : Stage) (text : TextData) (s : State TestBackend) → (IsInline stage.viewport → ⊥) → IsPlaying stage s → Plays stage (steps.Insert text) s s
+Plays-other stage text s other playing = record { playing = playing; after = other_stays stage.viewport text (sight_in s) other }

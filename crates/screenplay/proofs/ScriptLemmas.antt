@@ -5,18 +5,18 @@ use Rattle.std.proofs.lemmas.List.Elements.{filter_map-append}
 use Rattle.std.proofs.Math.Seq.{get_or-append_seam}
 use Rattle.std.proofs.lemmas.Bool.{cases_lt, false≢true}
 use Rattle.screenplay.specs.declared.script.Command.{Command}
-use Rattle.screenplay.specs.declared.script.Command.TheVariants.{SetStage, TakeSize, Put, AddText, Draw, Clear, Show}
+use Rattle.screenplay.specs.declared.script.Command.TheVariants.{SetStage, TakeSize, Put, AddText, Draw, Insert, Clear, Show}
 use Rattle.screenplay.specs.declared.script.Waiting.{Waiting}
 use Rattle.screenplay.specs.declared.scene.Stage.{Stage}
 use Rattle.screenplay.specs.declared.scene.Step.{Step}
-use Rattle.screenplay.specs.Script.{command_with, command_of, commands_of, may_stand, is_good_line, AreGood, IsFirstBadLine, stage_of, stage_after, nothing, steps_of, shows_of, IsScript}
+use Rattle.screenplay.specs.Script.{command_with, command_of, commands_of, may_stand, is_good_line, AreGood, IsFirstBadLine, stage_of, stage_after, nothing, waiting_after, waiting_behind, may_insert, steps_of, shows_of, IsScript}
 use Rattle.screenplay.specs.Reading.{HasRead}
 use Rattle.std.specs.Prelude.{if◌then◌else◌}
 use Rattle.std.specs.List.{slice_split, onto_first}
 use Rattle.std.specs.Str.Lines.{lines, lines_of_parts}
 
 pub HasRead-none : HasRead [] None nothing [] []
-HasRead-none = record { good = λ k lt. absurd (omega arith); stage_is = refl; steps_are = λ cs. refl; shows_are = λ cs. refl }
+HasRead-none = record { good = λ k lt. absurd (omega arith); stage_is = refl; waiting_is = refl; steps_are = λ cs. refl; shows_are = λ cs. refl }
 
 -- a command that may stand behind others leaves the stage that they set, or sets it
 stage_of-some : (c : Command) (stage : Stage) → may_stand (Some stage) c ≡ true → stage_after c (Some stage) ≡ Some stage
@@ -25,6 +25,7 @@ stage_of-some (TakeSize size) stage h = refl
 stage_of-some (Put x y ch) stage h = refl
 stage_of-some (AddText text) stage h = refl
 stage_of-some Draw stage h = refl
+stage_of-some Insert stage h = refl
 stage_of-some Clear stage h = refl
 stage_of-some Show stage h = refl
 
@@ -34,6 +35,7 @@ stage_of-none (TakeSize size) h = absurd (false≢true h)
 stage_of-none (Put x y ch) h = absurd (false≢true h)
 stage_of-none (AddText text) h = absurd (false≢true h)
 stage_of-none Draw h = absurd (false≢true h)
+stage_of-none Insert h = absurd (false≢true h)
 stage_of-none Clear h = absurd (false≢true h)
 stage_of-none Show h = absurd (false≢true h)
 
@@ -44,8 +46,13 @@ stage_of-push (TakeSize size ∷ cs) c h = stage_of-push cs c h
 stage_of-push (Put x y ch ∷ cs) c h = stage_of-push cs c h
 stage_of-push (AddText text ∷ cs) c h = stage_of-push cs c h
 stage_of-push (Draw ∷ cs) c h = stage_of-push cs c h
+stage_of-push (Insert ∷ cs) c h = stage_of-push cs c h
 stage_of-push (Clear ∷ cs) c h = stage_of-push cs c h
 stage_of-push (Show ∷ cs) c h = stage_of-push cs c h
+
+waiting_behind-push : (cs : List Command) (c : Command) (w : Waiting) → waiting_behind (cs ++ c ∷ []) w ≡ waiting_after c (waiting_behind cs w)
+waiting_behind-push [] c w = refl
+waiting_behind-push (d ∷ cs) c w = waiting_behind-push cs c (waiting_after d w)
 
 command_of-empty : (line : List ℕ) → length line ≡ 0 → command_of line ≡ None
 unfolding command_of command_with
@@ -85,6 +92,7 @@ module _ (done : List (List ℕ)) (line : List ℕ) (stage : Option Stage) (w : 
       record {
         good = AreGood-push done line h.good (rw empty refl);
         stage_is = h.stage_is ∙ ap stage_of (sym same);
+        waiting_is = h.waiting_is ∙ ap (λ cs. waiting_behind cs nothing) (sym same);
         steps_are = λ cs. h.steps_are cs ∙ ap (λ ds. steps_of nothing (ds ++ cs)) (sym same);
         shows_are = λ cs. h.shows_are cs ∙ ap (λ ds. shows_of 0 (ds ++ cs)) (sym same);
       }
@@ -93,18 +101,20 @@ module _ (done : List (List ℕ)) (line : List ℕ) (stage : Option Stage) (w : 
       none line e = rw e refl
 
   -- a command that may stand there is taken
-  pub HasRead-take : (c : Command) (stage' : Option Stage) (w' : Waiting) (steps' : List Step) (shows' : List ℕ) → command_of line ≡ Some c → may_stand stage c ≡ true → stage' ≡ stage_after c stage
+  pub HasRead-take : (c : Command) (stage' : Option Stage) (w' : Waiting) (steps' : List Step) (shows' : List ℕ) → command_of line ≡ Some c → may_stand stage c ≡ true → may_insert w c ≡ true → stage' ≡ stage_after c stage → w' ≡ waiting_after c w
       → ((cs : List Command) → steps' ++ steps_of w' cs ≡ steps ++ steps_of w (c ∷ cs))
       → ((cs : List Command) → shows' ++ shows_of (length steps') cs ≡ shows ++ shows_of (length steps) (c ∷ cs))
       → HasRead (done ++ line ∷ []) stage' w' steps' shows'
-  HasRead-take c stage' w' steps' shows' is fits staged stepped showed =
+  HasRead-take c stage' w' steps' shows' is fits room staged waited stepped showed =
       let more : commands_of (done ++ line ∷ []) ≡ commands_of done ++ c ∷ [] =
       filter_map-append command_of done (line ∷ []) ∙ ap (λ cs. commands_of done ++ cs) (one line c is) in
       let stands : may_stand (stage_of (commands_of done)) c ≡ true = ap (λ s. may_stand s c) (sym h.stage_is) ∙ fits in
-      let good : is_good_line done line ≡ true = rw is (rw stands (or_true (length line == 0))) in
+      let takes : may_insert (waiting_behind (commands_of done) nothing) c ≡ true = ap (λ x. may_insert x c) (sym h.waiting_is) ∙ room in
+      let good : is_good_line done line ≡ true = rw is (rw (stands, takes) (or_true (length line == 0))) in
       record {
         good = AreGood-push done line h.good good;
         stage_is = staged ∙ ap (stage_after c) h.stage_is ∙ sym (stage_of-push (commands_of done) c stands) ∙ ap stage_of (sym more);
+        waiting_is = waited ∙ ap (waiting_after c) h.waiting_is ∙ sym (waiting_behind-push (commands_of done) c nothing) ∙ ap (λ cs. waiting_behind cs nothing) (sym more);
         steps_are = λ cs. stepped cs ∙ h.steps_are (c ∷ cs) ∙ ap (steps_of nothing) (sym (append_assoc (commands_of done) (c ∷ []) cs) ∙ ap (λ ds. ds ++ cs) (sym more));
         shows_are = λ cs. showed cs ∙ h.shows_are (c ∷ cs) ∙ ap (shows_of 0) (sym (append_assoc (commands_of done) (c ∷ []) cs) ∙ ap (λ ds. ds ++ cs) (sym more));
       }
@@ -117,7 +127,14 @@ module _ (done : List (List ℕ)) (line : List ℕ) (stage : Option Stage) (w : 
   bad-none some none = rw (some, none) refl
 
   pub bad-place : (c : Command) → (length line == 0) ≡ false → command_of line ≡ Some c → may_stand stage c ≡ false → is_good_line done line ≡ false
-  bad-place c some is out = rw (some, is) (ap (λ s. may_stand s c) (sym h.stage_is) ∙ out)
+  bad-place c some is out = let off : may_stand (stage_of (commands_of done)) c ≡ false = ap (λ s. may_stand s c) (sym h.stage_is) ∙ out in rw (some, is, off) refl
+
+  -- and so is one that would insert too many texts
+  pub bad-room : (c : Command) → (length line == 0) ≡ false → command_of line ≡ Some c → may_stand stage c ≡ true → may_insert w c ≡ false → is_good_line done line ≡ false
+  bad-room c some is fits full =
+      let stands : may_stand (stage_of (commands_of done)) c ≡ true = ap (λ s. may_stand s c) (sym h.stage_is) ∙ fits in
+      let off : may_insert (waiting_behind (commands_of done) nothing) c ≡ false = ap (λ x. may_insert x c) (sym h.waiting_is) ∙ full in
+      rw (some, is, stands, off) refl
 
 -- all lines were read
 pub IsScript-read : (all : List (List ℕ)) (stage : Option Stage) (w : Waiting) (steps : List Step) (shows : List ℕ) → HasRead all stage w steps shows → IsScript all stage steps shows

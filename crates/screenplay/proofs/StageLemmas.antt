@@ -7,7 +7,7 @@ use Rattle.rtui_geometry.specs.declared.rect.Rect.{Rect}
 use Rattle.rtui_geometry.specs.declared.size.Size.{Size}
 use Rattle.rtui_viewport.specs.declared.viewport.Viewport.TheVariants.{Inline, Fixed}
 use Rattle.screenplay.specs.declared.script.Command.{Command}
-use Rattle.screenplay.specs.declared.script.Command.TheVariants.{SetStage, TakeSize, Put, AddText, Draw, Clear, Show}
+use Rattle.screenplay.specs.declared.script.Command.TheVariants.{SetStage, TakeSize, Put, AddText, Draw, Insert, Clear, Show}
 use Rattle.screenplay.specs.declared.scene.Stage.{Stage}
 use Rattle.screenplay.specs.declared.scene.Step.{Step}
 use Rattle.screenplay.specs.Run.{IsGoodStage}
@@ -102,8 +102,9 @@ IsGood-command_of : (line : List ℕ) → IsGood (command_of line)
 unfolding command_of
 IsGood-command_of line =
     IsGood-if (bytes_eq line (codes "draw")) _ _ tt
+    (IsGood-if (bytes_eq line (codes "insert")) _ _ tt
     (IsGood-if (bytes_eq line (codes "clear")) _ _ tt
-    (IsGood-if (bytes_eq line (codes "show")) _ _ tt (IsGood-command_with (first_word line) (behind_word line))))
+    (IsGood-if (bytes_eq line (codes "show")) _ _ tt (IsGood-command_with (first_word line) (behind_word line)))))
 
 SetsGood-first : (c : Command) (cs : List Command) → SetsGood (c ∷ []) → SetsGood cs → SetsGood (c ∷ cs)
 SetsGood-first (SetStage stage) cs p q = p
@@ -111,6 +112,7 @@ SetsGood-first (TakeSize size) cs p q = q
 SetsGood-first (Put x y ch) cs p q = q
 SetsGood-first (AddText text) cs p q = q
 SetsGood-first Draw cs p q = q
+SetsGood-first Insert cs p q = q
 SetsGood-first Clear cs p q = q
 SetsGood-first Show cs p q = q
 

@@ -2,6 +2,7 @@ pub mod Script
 pub mod Reading
 pub mod Puts
 pub mod Run
+pub mod Appending
 pub mod Print
 pub mod Playing
 pub mod Engine

@@ -1,5 +1,5 @@
 -- A terminal in the middle of a play.
-use Rattle.std.specs.Prelude.{◌≡◌, ℕ, List, Option}
+use Rattle.std.specs.Prelude.{◌≡◌, ℕ, ◌<◌, List, Option}
 use Rattle.rtui_geometry.specs.declared.size.Size.{Size}
 use Rattle.rtui_text.specs.Text.{TextData}
 use Rattle.rtui_buffer.specs.Sheet.{Sheet, IsEmptied}
@@ -12,6 +12,7 @@ use Rattle.rtui_viewport.specs.Areas.{IsBlankBelow}
 use Rattle.rtui_terminal.specs.State.{State}
 use Rattle.rtui_terminal.specs.InStep.{IsInStep, IsSized}
 use Rattle.rtui_terminal.specs.Calls.{Autoresizes}
+use Rattle.rtui_terminal.specs.Insertion.{inserted_area, Inserts}
 use Rattle.screenplay.specs.Run.{Sight, plain_screen, sight_of, MayLie, size_after, GoesOn, KeepsRest, IsFrame, IsAtCorner, HasUnsettled, IsUnsettled, IsAfter}
 use Rattle.screenplay.specs.declared.scene.Stage.{Stage}
 use Rattle.screenplay.specs.declared.scene.Scene.{Scene}
@@ -57,6 +58,12 @@ pub record ShowsFrame (text : TextData) (puts : List (ℕ × ℕ × ℕ)) (s t :
   pub made : IsFrame t.viewport_area text puts frame
   pub settled : IsSettledSheet frame
   pub shown : ShowsSheet frame (screen_of t.backend).grid
+
+-- the rows of a buffer were inserted above an inline viewport; where the screen was known to have no rows nothing changed
+pub record InsertsBuffer (rows : Sheet) (s t : State TestBackend) : Type 0 where
+  pub over : rows.area ≡ inserted_area s rows.area.height
+  pub none : s.known_area.height ≡ 0 → t ≡ s
+  pub inserts : 0 < s.known_area.height → Inserts screen_of rows s t
 
 -- why a frame wasn't drawn: want of memory, or it is unsettled
 abbrev pub IsFrameCause : TextData → List (ℕ × ℕ × ℕ) → State TestBackend → PlayCause → Type 0

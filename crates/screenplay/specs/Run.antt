@@ -1,5 +1,5 @@
 -- Runs: a scene at the start and one after each step.
-use Rattle.std.specs.Prelude.{◌≡◌, ℕ, ◌+◌, ◌-◌, ◌<◌, ◌≤◌, min, true, List, [], ◌++◌, map, length, take, replicate, Option, None, Some, slice_get}
+use Rattle.std.specs.Prelude.{◌≡◌, ℕ, ◌+◌, ◌-◌, ◌<◌, ◌≤◌, min, true, List, [], ◌∷◌, ◌++◌, map, length, take, replicate, Option, None, Some, slice_get}
 use Rattle.rtui_geometry.specs.declared.rect.Rect.{Rect}
 use Rattle.rtui_geometry.specs.declared.size.Size.{Size}
 use Rattle.rtui_cell.specs.Look.{Look, look_of, empty_look}
@@ -7,17 +7,18 @@ use Rattle.rtui_text.specs.Text.{TextData}
 use Rattle.rtui_buffer.specs.Sheet.{Sheet, IsEmptied}
 use Rattle.rtui_buffer.specs.Frame.{IsSettledSheet, ShowsSheet}
 use Rattle.rtui_widgets.specs.Rendering.{RendersText}
-use Rattle.rtui_backend.specs.Screen.{Screen, KeepsSize, IsOnScreen, size_of, screen_area}
+use Rattle.rtui_backend.specs.Screen.{Screen, KeepsSize, IsOnScreen, size_of, screen_area, rows_above}
 use Rattle.rtui_backend.specs.CellGrid.{grid_of}
 use Rattle.rtui_viewport.specs.declared.viewport.Viewport.{Viewport}
 use Rattle.rtui_viewport.specs.declared.viewport.Viewport.TheVariants.{Fullscreen, Inline, Fixed}
 use Rattle.rtui_viewport.specs.Viewports.{IsInline}
 use Rattle.rtui_viewport.specs.Areas.{KeepsOutside, IsBlankOver, IsBlankBelow}
+use Rattle.rtui_rows.specs.Insertion.{AppendsRows}
 use Rattle.screenplay.specs.Puts.{with_puts}
 use Rattle.screenplay.specs.declared.scene.Stage.{Stage}
 use Rattle.screenplay.specs.declared.scene.Scene.{Scene}
 use Rattle.screenplay.specs.declared.scene.Step.{Step}
-use Rattle.screenplay.specs.declared.scene.Step.TheVariants.{Draw, Clear}
+use Rattle.screenplay.specs.declared.scene.Step.TheVariants.{Draw, Insert, Clear}
 use Rattle.screenplay.specs.declared.scene.PlayFault.{PlayFault}
 use Rattle.screenplay.specs.declared.scene.PlayCause.TheVariants.{Memory, Unsettled}
 
@@ -48,6 +49,10 @@ sight_of scene = record {
 
 abbrev pub sight_size : Sight → Size
 sight_size s = size_of s.screen
+
+-- the rows above the viewport
+abbrev pub rows_over : Sight → List (List Look)
+rows_over s = rows_above s.screen s.viewport.y
 
 abbrev pub at_corner : Size → Rect
 at_corner size = record { x = 0; y = 0; width = size.width; height = size.height }
@@ -146,9 +151,36 @@ pub record IsEmptiedView (old new : Sight) : Type 0 where
   pub rest : KeepsRest old new
   pub blank : IsBlankOver new.viewport new.screen
 
+-- how many rows a text inserts: one for each line, as far as 16 bits count
+abbrev pub row_count : TextData → ℕ
+row_count text = min (length text.lines) 65535
+
+-- the area that such a text is rendered over: as wide as the screen
+abbrev pub text_area : ℕ → TextData → Rect
+text_area width text = record { x = 0; y = 0; width = width; height = row_count text }
+
+-- an insertion: exactly the rows of the settled frame of the text came to those above the viewport, which moved down as far as there was
+-- room, and is empty; on a screen without rows nothing changes
+pub record IsInserted (text : TextData) (old new : Sight) : Type 0 where
+  pub size : sight_size new ≡ sight_size old
+  pub viewport : new.viewport ≡ record old.viewport { y = min (old.viewport.y + row_count text) (old.screen.height - old.viewport.height) }
+  pub frame : Sheet
+  pub made : IsFrame (text_area old.screen.width text) text [] frame
+  pub settled : IsSettledSheet frame
+  pub above : 0 < old.screen.height → AppendsRows (frame ∷ []) (rows_over old) (rows_over new)
+  pub blank : IsBlankOver new.viewport new.screen
+  pub none : old.screen.height ≡ 0 → new ≡ old
+
+-- only an inline viewport has rows above
+abbrev pub InsertsOn : Viewport → TextData → Sight → Sight → Type 0
+InsertsOn Fullscreen text old new = new ≡ old
+InsertsOn (Inline rows) text old new = IsInserted text old new
+InsertsOn (Fixed r) text old new = new ≡ old
+
 -- what stands after a step
 abbrev pub IsAfter : Stage → Step → Sight → Sight → Type 0
 IsAfter stage (Draw given text puts) old new = IsDrawn stage given text puts old new
+IsAfter stage (Insert text) old new = InsertsOn stage.viewport text old new
 IsAfter stage Clear old new = IsEmptiedView old new
 
 -- the screen of a scene has its corner at (0, 0)
@@ -174,9 +206,10 @@ pub record MayCover (stage : Stage) (size : Size) (s : Sight) (area : Rect) : Ty
   pub lies : MayLie stage.viewport size area
   pub stays : size ≡ sight_size s → area ≡ s.viewport
 
--- the step can't be played: its frame over this viewport can't be shown
+-- the step can't be played: its frame over this viewport can't be shown, or what it is to insert above it
 abbrev pub IsUnsettled : Stage → Step → Sight → Rect → Type 0
 IsUnsettled stage (Draw given text puts) s area = MayCover stage (size_after stage.viewport given (sight_size s)) s area × HasUnsettled area text puts
+IsUnsettled stage (Insert text) s area = IsInline stage.viewport × (area ≡ s.viewport) × HasUnsettled (text_area s.screen.width text) text []
 IsUnsettled stage Clear s area = ⊥
 
 -- a fault at a step: the scenes are a run of the steps before it, and a step that is called unsettled is

@@ -11,7 +11,7 @@ use Rattle.rtui_text.specs.Text.{TextData, raw_line, text_of}
 use Rattle.rtui_viewport.specs.declared.viewport.Viewport.{Viewport}
 use Rattle.rtui_viewport.specs.declared.viewport.Viewport.TheVariants.{Fullscreen, Inline, Fixed}
 use Rattle.screenplay.specs.declared.script.Command.{Command}
-use Rattle.screenplay.specs.declared.script.Command.TheVariants.{SetStage, TakeSize, Put, AddText, Draw, Clear, Show}
+use Rattle.screenplay.specs.declared.script.Command.TheVariants.{SetStage, TakeSize, Put, AddText, Draw, Insert, Clear, Show}
 use Rattle.std.specs.Str.Lines.{lines}
 use Rattle.screenplay.specs.declared.script.Waiting.{Waiting}
 use Rattle.screenplay.specs.declared.script.ScriptFault.{ScriptFault}
@@ -119,9 +119,10 @@ command_with word arguments =
 unfoldable pub command_of : List ℕ → Option Command
 command_of line =
     if bytes_eq line (codes "draw") then Some Draw
+    else (if bytes_eq line (codes "insert") then Some Insert
     else (if bytes_eq line (codes "clear") then Some Clear
     else (if bytes_eq line (codes "show") then Some Show
-    else command_with (first_word line) (behind_word line)))
+    else command_with (first_word line) (behind_word line))))
 
 -- the commands of some lines, in order
 abbrev pub commands_of : List (List ℕ) → List Command
@@ -135,6 +136,7 @@ stage_of (TakeSize size ∷ cs) = stage_of cs
 stage_of (Put x y c ∷ cs) = stage_of cs
 stage_of (AddText text ∷ cs) = stage_of cs
 stage_of (Draw ∷ cs) = stage_of cs
+stage_of (Insert ∷ cs) = stage_of cs
 stage_of (Clear ∷ cs) = stage_of cs
 stage_of (Show ∷ cs) = stage_of cs
 
@@ -150,6 +152,7 @@ may_stand_on stage (TakeSize size) = not (is_fixed stage.viewport)
 may_stand_on stage (Put x y c) = true
 may_stand_on stage (AddText text) = true
 may_stand_on stage Draw = true
+may_stand_on stage Insert = true
 may_stand_on stage Clear = true
 may_stand_on stage Show = true
 
@@ -159,6 +162,7 @@ sets_stage (TakeSize size) = false
 sets_stage (Put x y c) = false
 sets_stage (AddText text) = false
 sets_stage Draw = false
+sets_stage Insert = false
 sets_stage Clear = false
 sets_stage Show = false
 
@@ -167,10 +171,46 @@ abbrev pub may_stand : Option Stage → Command → Bool
 may_stand None c = sets_stage c
 may_stand (Some stage) c = may_stand_on stage c
 
+abbrev pub nothing : Waiting
+nothing = record { size = None; text = text_of []; puts = [] }
+
+-- the draw of what waits
+abbrev pub draw_of : Waiting → Step
+draw_of w = steps.Draw w.size w.text w.puts
+
+-- what waits, but no text
+abbrev pub without_text : Waiting → Waiting
+without_text w = record w { text = text_of [] }
+
+-- a text with one line more
+abbrev pub with_line : List ℕ → TextData → TextData
+with_line line text = record text { lines = text.lines ++ raw_line line ∷ [] }
+
+-- what waits behind a command
+abbrev pub waiting_after : Command → Waiting → Waiting
+waiting_after (SetStage stage) w = w
+waiting_after (TakeSize size) w = record w { size = Some size }
+waiting_after (Put x y c) w = record w { puts = w.puts ++ (x, y, c) ∷ [] }
+waiting_after (AddText text) w = record w { text = with_line text w.text }
+waiting_after Draw w = nothing
+waiting_after Insert w = without_text w
+waiting_after Clear w = w
+waiting_after Show w = w
+
+-- and behind all of some commands
+abbrev pub waiting_behind : List Command → Waiting → Waiting
+waiting_behind [] w = w
+waiting_behind (c ∷ cs) w = waiting_behind cs (waiting_after c w)
+
+-- no more than 65535 texts are inserted
+abbrev pub may_insert : Waiting → Command → Bool
+may_insert w Insert = nat_le (length w.text.lines) 65535
+may_insert w other = true
+
 -- a command may stand behind others
 abbrev pub may_follow : List Command → Option Command → Bool
 may_follow before None = false
-may_follow before (Some c) = may_stand (stage_of before) c
+may_follow before (Some c) = may_stand (stage_of before) c && may_insert (waiting_behind before nothing) c
 
 -- a line is good behind those before it: it is empty, or its command may follow theirs
 abbrev pub is_good_line : List (List ℕ) → List ℕ → Bool
@@ -197,30 +237,21 @@ stage_after (TakeSize size) former = former
 stage_after (Put x y c) former = former
 stage_after (AddText text) former = former
 stage_after Draw former = former
+stage_after Insert former = former
 stage_after Clear former = former
 stage_after Show former = former
 
-abbrev pub nothing : Waiting
-nothing = record { size = None; text = text_of []; puts = [] }
+-- the step that a command makes of what waits, if it makes one
+abbrev pub step_by : Waiting → Command → List Step
+step_by w Draw = draw_of w ∷ []
+step_by w Insert = steps.Insert w.text ∷ []
+step_by w Clear = steps.Clear ∷ []
+step_by w other = []
 
--- the draw of what waits
-abbrev pub draw_of : Waiting → Step
-draw_of w = steps.Draw w.size w.text w.puts
-
--- a text with one line more
-abbrev pub with_line : List ℕ → TextData → TextData
-with_line line text = record text { lines = text.lines ++ raw_line line ∷ [] }
-
--- the steps of the commands, where this waits for the next draw
+-- the steps of the commands, where this waits for them
 abbrev pub steps_of : Waiting → List Command → List Step
 steps_of w [] = []
-steps_of w (SetStage stage ∷ cs) = steps_of w cs
-steps_of w (TakeSize size ∷ cs) = steps_of (record w { size = Some size }) cs
-steps_of w (Put x y c ∷ cs) = steps_of (record w { puts = w.puts ++ (x, y, c) ∷ [] }) cs
-steps_of w (AddText text ∷ cs) = steps_of (record w { text = with_line text w.text }) cs
-steps_of w (Draw ∷ cs) = draw_of w ∷ steps_of nothing cs
-steps_of w (Clear ∷ cs) = steps.Clear ∷ steps_of w cs
-steps_of w (Show ∷ cs) = steps_of w cs
+steps_of w (c ∷ cs) = step_by w c ++ steps_of (waiting_after c w) cs
 
 -- how many steps stand before each `show`, where n stand before the commands
 abbrev pub shows_of : ℕ → List Command → List ℕ
@@ -230,6 +261,7 @@ shows_of n (TakeSize size ∷ cs) = shows_of n cs
 shows_of n (Put x y c ∷ cs) = shows_of n cs
 shows_of n (AddText text ∷ cs) = shows_of n cs
 shows_of n (Draw ∷ cs) = shows_of (n + 1) cs
+shows_of n (Insert ∷ cs) = shows_of (n + 1) cs
 shows_of n (Clear ∷ cs) = shows_of (n + 1) cs
 shows_of n (Show ∷ cs) = n ∷ shows_of n cs
 

@@ -1,13 +1,15 @@
 //! A script of frames, played on a screen in memory.
 //!
 //! It stands on `rtui_terminal`, by its contract alone, and on the backend in memory. `specs/Script` is the
-//! grammar of a script, `specs/Run` says what a run of its steps is, `specs/Print` is the text of a scene, and
+//! grammar of a script, `specs/Run` says what a run of its steps is and
+//! `specs/Appending` what rows it leaves above an inline viewport, `specs/Print` is the text of a scene, and
 //! `specs/Engine` joins them. [`play`] gives the scenes of a run; [`run`] reads a script from any reader and writes
 //! the scenes that it shows to any writer.
 #![tactic(auto)]
 
 mod engine;
 mod fault;
+pub mod laws;
 mod playing;
 mod print;
 mod scene;

@@ -2,17 +2,19 @@
 
 ghost use Rattle.std.specs.Prelude.{◌≡◌, ◌↔◌, ◌++◌, ◌∷◌, [], IsTrue, None, IfOk, IfErr, OnOk, OnErr, map};
 ghost use Rattle.rtui_backend.specs.TestBackend.{screen_of};
+ghost use Rattle.rtui_viewport.specs.Viewports.{IsInline};
 ghost use Rattle.rtui_terminal.specs.Calls.{Applies};
+ghost use Rattle.rtui_terminal.specs.Insertion.{inserted_area};
 ghost use Rattle.screenplay.specs.declared.scene.PlayCause.TheVariants.{Memory};
 ghost use Rattle.rtui_buffer.specs.Frame.{IsSettledSheet};
 ghost use Rattle.rtui_buffer.specs.Sheet.{IsEmptied};
 ghost use Rattle.screenplay.specs.Puts.{with_put, with_puts};
-ghost use Rattle.screenplay.specs.Run.{IsGoodStage, IsFrame, IsRun, IsFault, IsStart};
-ghost use Rattle.screenplay.specs.Playing.{IsPlaying, IsSceneOf, TakesNewSize, IsSizedFor, ShowsFrame, IsFrameCause, IsCause, Plays, sight_in};
+ghost use Rattle.screenplay.specs.Run.{IsGoodStage, IsFrame, text_area, IsRun, IsFault, IsStart};
+ghost use Rattle.screenplay.specs.Playing.{IsPlaying, IsSceneOf, TakesNewSize, IsSizedFor, ShowsFrame, InsertsBuffer, IsFrameCause, IsCause, Plays, sight_in};
 ghost use Rattle.screenplay.specs.declared.scene.Scene.{Scene};
 ghost use Rattle.screenplay.specs.declared.scene.Stage.{Stage};
 ghost use Rattle.screenplay.specs.declared.scene.Step.{Step};
-ghost use Rattle.screenplay.specs.declared.scene.Step.TheVariants.{Draw, Clear};
+ghost use Rattle.screenplay.specs.declared.scene.Step.TheVariants.{Draw, Insert, Clear};
 
 use crate::scene::{PlayCause, PlayFault, Puts, Scene, Stage, Step};
 use rtui_backend::{TestBackend, TestError};
@@ -170,6 +172,88 @@ fn draw(
     draw_frame(alloc, terminal, text, puts)
 }
 
+// The rows of a text over this many columns, and whether they are settled.
+fn text_rows(alloc: Global, width: u16, text: &Text<'_>) -> Result<(Buffer, bool), AllocError>
+    ensures made { IfOk result (λ rows. IsFrame (text_area width text.now) text.now [] rows.0) }
+    ensures settled { IfOk result (λ rows. IsTrue rows.1 ↔ IsSettledSheet rows.0) }
+{
+    let height = text.height().min(65535) as u16;
+    let area = Rect {
+        x: 0,
+        y: 0,
+        width,
+        height,
+    };
+    let mut rows = Buffer::empty(alloc, area)?;
+    let settled = paint(alloc, &mut rows, area, text, &Puts::new(alloc))?;
+    Ok((rows, settled))
+}
+
+// Inserts the rows of a buffer above an inline viewport of its width.
+fn insert_rows(terminal: &mut Terminal<TestBackend>, rows: Buffer) -> Result<(), PlayCause>
+    ensures ok { OnOk result (IsInline terminal.old.viewport
+        → rows.area ≡ inserted_area terminal.old rows.area.height
+        → InsertsBuffer rows terminal.old terminal.new) }
+    ensures err { IfErr result (λ cause. cause ≡ Memory) }
+{
+    let height = rows.area().height;
+    let inserted = terminal.insert_before(height, |buffer| {
+        *buffer = rows;
+        Ok(())
+    });
+    match inserted {
+        Ok(()) => Ok(()),
+        Err(_) => Err(PlayCause::Memory),
+    }
+}
+
+// Inserts the rows of a text above an inline viewport, if they are settled.
+fn insert_text(
+    alloc: Global,
+    terminal: &mut Terminal<TestBackend>,
+    text: &Text<'_>,
+) -> Result<(), PlayCause>
+    ensures ok { OnOk result ((stage : Stage) → IsInline stage.viewport → IsGoodStage stage
+        → IsPlaying stage terminal.old
+        → Plays stage (Insert text.now) terminal.old terminal.new) }
+    ensures err { IfErr result (λ cause. (stage : Stage) → IsInline stage.viewport
+        → IsPlaying stage terminal.old
+        → IsCause stage (Insert text.now) (sight_in terminal.old) cause) }
+{
+    let area = terminal.viewport_area();
+    let (rows, settled) = match text_rows(alloc, area.width, text) {
+        Ok(rows) => rows,
+        Err(_) => return Err(PlayCause::Memory),
+    };
+    if !settled {
+        return Err(PlayCause::Unsettled(area));
+    }
+    match insert_rows(terminal, rows) {
+        Ok(()) => Ok(()),
+        Err(cause) => Err(cause),
+    }
+}
+
+// Inserts the rows of a text above an inline viewport; on another nothing changes.
+fn insert(
+    alloc: Global,
+    terminal: &mut Terminal<TestBackend>,
+    viewport: Viewport,
+    text: &Text<'_>,
+) -> Result<(), PlayCause>
+    ensures ok { OnOk result ((stage : Stage) → stage.viewport ≡ viewport → IsGoodStage stage
+        → IsPlaying stage terminal.old
+        → Plays stage (Insert text.now) terminal.old terminal.new) }
+    ensures err { IfErr result (λ cause. (stage : Stage) → stage.viewport ≡ viewport
+        → IsPlaying stage terminal.old
+        → IsCause stage (Insert text.now) (sight_in terminal.old) cause) }
+{
+    match viewport {
+        Viewport::Inline(_) => insert_text(alloc, terminal, text),
+        _ => Ok(()),
+    }
+}
+
 // Empties the viewport.
 fn clear(terminal: &mut Terminal<TestBackend>) -> Result<(), PlayCause>
     ensures { OnOk result ((stage : Stage) → IsGoodStage stage → IsPlaying stage terminal.old
@@ -197,6 +281,7 @@ fn play_step(
 {
     match step {
         Step::Draw { size, text, puts } => draw(alloc, terminal, viewport, *size, text, puts),
+        Step::Insert(text) => insert(alloc, terminal, viewport, text),
         Step::Clear => match clear(terminal) {
             Ok(()) => Ok(()),
             Err(_) => Err(PlayCause::Memory),

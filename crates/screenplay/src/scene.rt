@@ -86,6 +86,10 @@ pub enum Step<'a> {
         text: Text<'a>,
         puts: Puts,
     },
+    /// Rows above an inline viewport, one for each line of the text, at most 65535: the text rendered over an empty
+    /// buffer of the screen's width. The viewport moves down as far as there is room, and is empty; rows that have no
+    /// room scroll off. On another viewport nothing changes.
+    Insert(Text<'a>),
     /// An empty viewport.
     Clear,
 }
@@ -106,7 +110,8 @@ pub struct Scene {
 pub enum PlayCause {
     /// Memory was refused.
     Memory,
-    /// The frame over this area can't be shown as it is; nothing of it was written.
+    /// The frame over this area, or what was to be inserted above it, can't be shown as it is; nothing of it was
+    /// written.
     Unsettled(Rect),
 }
 

@@ -4,7 +4,7 @@ ghost use Rattle.std.specs.Prelude.{◌≡◌, ℕ, ◌+◌, ◌&&◌, nat_le, �
 ghost use Rattle.std.specs.Char.{is_ascii_digit};
 ghost use Rattle.std.specs.List.{list_all};
 ghost use Rattle.rtui_text.specs.Text.{raw_line};
-ghost use Rattle.screenplay.specs.Script.{parsed_number, char_of, first_word, behind_word, size_by, size_of, rect_of, screen_by, inline_of, fixed_of, size_command, put_of, command_with, command_of, may_stand, nothing, draw_of, steps_of, shows_of, stage_after, text_lines, IsScript, IsRefused};
+ghost use Rattle.screenplay.specs.Script.{parsed_number, char_of, first_word, behind_word, size_by, size_of, rect_of, screen_by, inline_of, fixed_of, size_command, put_of, command_with, command_of, may_stand, may_insert, nothing, draw_of, without_text, waiting_after, steps_of, shows_of, stage_after, text_lines, IsScript, IsRefused};
 ghost use Rattle.screenplay.specs.Reading.{HasRead, TakesLine};
 ghost use Rattle.screenplay.specs.declared.script.Command.{Command};
 
@@ -55,9 +55,10 @@ pub enum Command<'a> {
     TakeSize(Size),
     /// A put for the next draw.
     Put(u16, u16, char),
-    /// A line of text for the next draw.
+    /// A line of text for the next draw or insertion.
     AddText(LineRest<'a>),
     Draw,
+    Insert,
     Clear,
     Show,
 }
@@ -239,6 +240,9 @@ fn read_command(line: &str) -> Option<Command<'_>>
     if line == "draw" {
         return Some(Command::Draw);
     }
+    if line == "insert" {
+        return Some(Command::Insert);
+    }
     if line == "clear" {
         return Some(Command::Clear);
     }
@@ -270,7 +274,7 @@ pub struct Script<'a> {
     pub shows: Vec<usize>,
 }
 
-/// What waits for the next draw.
+/// What waits for the next draw, the text for the next insertion too.
 #[derive(Debug, Drop)]
 pub struct Waiting<'a> {
     pub size: Option<Size>,
@@ -298,6 +302,16 @@ impl From<AllocError> for ScriptFault {
     }
 }
 
+// Whether a command may stand where this waits.
+fn may_insert(waiting: &Waiting<'_>, command: &Command<'_>) -> bool
+    ensures { result ≡ may_insert waiting.now command.now }
+{
+    match command {
+        Command::Insert => waiting.text.height() <= 65535,
+        _ => true,
+    }
+}
+
 // Makes a step of what waits, after which nothing does.
 fn take_waiting<'a>(alloc: Global, waiting: &mut Waiting<'a>) -> Step<'a>
     ensures step { result ≡ draw_of waiting.old }
@@ -305,9 +319,17 @@ fn take_waiting<'a>(alloc: Global, waiting: &mut Waiting<'a>) -> Step<'a>
 {
     Step::Draw {
         size: waiting.size.take(),
-        text: mem::replace(&mut waiting.text, Text::default_in(alloc)),
+        text: take_text(alloc, waiting),
         puts: mem::replace(&mut waiting.puts, Puts::new(alloc)),
     }
+}
+
+// Takes the text that waits, after which none does.
+fn take_text<'a>(alloc: Global, waiting: &mut Waiting<'a>) -> Text<'a>
+    ensures text { result ≡ waiting.old.text }
+    ensures rest { waiting.new ≡ without_text waiting.old }
+{
+    mem::replace(&mut waiting.text, Text::default_in(alloc))
 }
 
 // Takes a command into a script, where this waits for the next draw.
@@ -318,6 +340,7 @@ fn take_command<'a>(
     command: Command<'a>,
 ) -> Result<(), AllocError>
     ensures stage { OnOk result (script.new.stage ≡ stage_after command.entry script.old.stage) }
+    ensures waiting { OnOk result (waiting.new ≡ waiting_after command.entry waiting.old) }
     ensures steps { OnOk result ((cs : List Command) →
         script.new.steps.items ++ steps_of waiting.new cs
         ≡ script.old.steps.items ++ steps_of waiting.old (command.entry ∷ cs)) }
@@ -331,6 +354,7 @@ fn take_command<'a>(
         Command::Put(x, y, ch) => waiting.puts.push(x, y, ch)?,
         Command::AddText(text) => waiting.text.push_line(text.to_line(alloc)?)?,
         Command::Draw => script.steps.push(take_waiting(alloc, waiting))?,
+        Command::Insert => script.steps.push(Step::Insert(take_text(alloc, waiting)))?,
         Command::Clear => script.steps.push(Step::Clear)?,
         Command::Show => script.shows.push(script.steps.len())?,
     }
@@ -379,6 +403,9 @@ fn take_line<'a>(
         return Ok(false);
     };
     if !may_stand(script.stage, &command) {
+        return Ok(false);
+    }
+    if !may_insert(waiting, &command) {
         return Ok(false);
     }
     take_command(alloc, script, waiting, command)?;

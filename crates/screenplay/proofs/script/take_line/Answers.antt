@@ -9,4 +9,5 @@ returns-then-is_empty c = λ done before. HasRead-skip done c.args.line.now _ _ 
 pub returns : goal.returns
 returns c = λ done before.
     HasRead-take done c.args.line.now _ _ _ _ before c.in-Some.command _ _ _ _ (sym c.in-Some.ensures) (sym c.may_stand.ensures ∙ c.if-not-may_stand.false)
-    c.in_ok-take_command.ensures.stage c.in_ok-take_command.ensures.steps c.in_ok-take_command.ensures.shows
+    (sym c.may_insert.ensures ∙ c.if-not-may_insert.false)
+    c.in_ok-take_command.ensures.stage c.in_ok-take_command.ensures.waiting c.in_ok-take_command.ensures.steps c.in_ok-take_command.ensures.shows

@@ -1,0 +1,50 @@
+-- The rows above an inline viewport along a run.
+use Rattle.std.specs.Prelude.{◌≡◌, ℕ, zero, suc, ◌+◌, ◌<◌, ◌≤◌, List, [], ◌∷◌, ◌++◌, Option, None, Some, slice_get}
+use Rattle.rtui_geometry.specs.declared.size.Size.{Size}
+use Rattle.rtui_cell.specs.Look.{Look}
+use Rattle.rtui_text.specs.Text.{TextData}
+use Rattle.rtui_buffer.specs.Sheet.{Sheet}
+use Rattle.rtui_rows.specs.Insertion.{AppendsRows}
+use Rattle.screenplay.specs.Run.{sight_of, sight_size, rows_over, text_area, IsFrame}
+use Rattle.screenplay.specs.declared.scene.Scene.{Scene}
+use Rattle.screenplay.specs.declared.scene.Step.{Step}
+use Rattle.screenplay.specs.declared.scene.Step.TheVariants.{Draw, Insert, Clear}
+
+-- a frame of each text, in order, as wide as the screen
+abbrev pub AreFrames : ℕ → List TextData → List Sheet → Type 0
+AreFrames width [] [] = Unit {0}
+AreFrames width [] (frame ∷ frames) = ⊥
+AreFrames width (text ∷ texts) [] = ⊥
+AreFrames width (text ∷ texts) (frame ∷ frames) = IsFrame (text_area width text) text [] frame × AreFrames width texts frames
+
+-- exactly the rows of frames of these texts were appended, in order
+pub record AppendsTexts (width : ℕ) (texts : List TextData) (old new : List (List Look)) : Type 0 where
+  pub frames : List Sheet
+  pub made : AreFrames width texts frames
+  pub appends : AppendsRows frames old new
+
+-- the texts that a step inserts
+abbrev pub inserted_by : Option Step → List TextData
+inserted_by None = []
+inserted_by (Some (Draw given text puts)) = []
+inserted_by (Some (Insert text)) = text ∷ []
+inserted_by (Some Clear) = []
+
+-- and n steps from step i on
+abbrev pub inserted_from : List Step → ℕ → ℕ → List TextData
+inserted_from steps i zero = []
+inserted_from steps i (suc n) = inserted_by (slice_get steps i) ++ inserted_from steps (i + 1) n
+
+abbrev pub scene_size : Scene → Size
+scene_size scene = sight_size (sight_of scene)
+
+-- n scenes behind scene i have its size
+abbrev pub KeepsSizeFor : List Scene → ℕ → ℕ → Size → Type 0
+KeepsSizeFor scenes i n size = (k : ℕ) (scene : Scene) → i ≤ k → k ≤ i + n → slice_get scenes k ≡ Some scene → scene_size scene ≡ size
+
+-- while the size stays, the rows above an inline viewport are the former ones followed by all that were inserted since
+abbrev pub IsAppending : List Step → List Scene → Type 0
+IsAppending steps scenes =
+    (i n : ℕ) (first last : Scene) → slice_get scenes i ≡ Some first → slice_get scenes (i + n) ≡ Some last
+    → 0 < (scene_size first).height → KeepsSizeFor scenes i n (scene_size first)
+    → AppendsTexts (scene_size first).width (inserted_from steps i n) (rows_over (sight_of first)) (rows_over (sight_of last))
