@@ -49,6 +49,40 @@ fn draws_on_parts_of_screens(rt: HostRuntime) {
 }
 
 #[test]
+fn inserts_texts_above_inline_viewports(rt: HostRuntime) {
+    let two = "inline 4 4 2\ntext r0\ntext r1\ninsert\nshow";
+    assert!(rt; prints(rt.alloc(), two, "|r0  \n|r1  \n|    \n|    \n"));
+    let three = "inline 4 4 2\ntext r0\ntext r1\ntext r2\ninsert\nshow";
+    assert!(rt; prints(rt.alloc(), three, "^r0  \n|r1  \n|r2  \n|    \n|    \n"));
+    let five = "inline 10 4 2\ntext r0\ntext r1\ntext r2\ntext r3\ntext r4\ninsert\nshow";
+    let left =
+        "^r0        \n^r1        \n^r2        \n|r3        \n|r4        \n|          \n|          \n";
+    assert!(rt; prints(rt.alloc(), five, left));
+    let wide = "inline 3 2 1\ntext コx\ninsert\ntext\ninsert\nshow";
+    assert!(rt; prints(rt.alloc(), wide, "^コx\n|   \n|   \n"));
+}
+
+#[test]
+fn draws_behind_insertions(rt: HostRuntime) {
+    let between = "inline 6 4 1\ntext bar\ndraw\ntext one\ninsert\ntext bar\ndraw\nshow";
+    assert!(rt; prints(rt.alloc(), between, "|one   \n|bar   \n|      \n|      \n"));
+    let puts_wait = "inline 3 2 1\nput 0 1 x\ntext ab\ninsert\ndraw\nshow";
+    assert!(rt; prints(rt.alloc(), puts_wait, "|ab \n|x  \n"));
+}
+
+#[test]
+fn inserts_nothing_on_other_screens(rt: HostRuntime) {
+    let whole = "screen 4 1\ntext コ\u{200B}\ninsert\nshow";
+    assert!(rt; prints(rt.alloc(), whole, "|    \n"));
+    let used_up = "screen 4 1\ntext ab\ninsert\ndraw\nshow";
+    assert!(rt; prints(rt.alloc(), used_up, "|    \n"));
+    let fixed = "fixed 4 2 1 0 2 1\ntext ab\ndraw\ntext x\ninsert\nclear\nshow";
+    assert!(rt; prints(rt.alloc(), fixed, "|    \n|    \n"));
+    let kept = "fixed 4 2 1 0 2 1\ntext ab\ndraw\ntext x\ninsert\nshow";
+    assert!(rt; prints(rt.alloc(), kept, "| ab \n|    \n"));
+}
+
+#[test]
 fn prints_blanks(rt: HostRuntime) {
     let blank = "screen 1 1\nput 0 0  \ndraw\nshow";
     assert!(rt; prints(rt.alloc(), blank, "| \n"));
@@ -85,12 +119,13 @@ fn fails(alloc: Global, script: &str, text: &str) -> Result<bool, AllocError> {
 }
 
 /// Scripts whose first bad line is the first one.
-static BAD_FIRST_LINES: [&str; 11] = [
+static BAD_FIRST_LINES: [&str; 12] = [
     "inline 3 1 0",
     "fixed 4 2 1 0 4 1",
     "fixed 4 2 1 0 2",
     "size 3 1",
     "draw",
+    "insert",
     "screen 3 0\ndraw",
     "screen 65536 1",
     "screen +3 1",
@@ -100,7 +135,7 @@ static BAD_FIRST_LINES: [&str; 11] = [
 ];
 
 /// Scripts whose first bad line is the second one.
-static BAD_SECOND_LINES: [&str; 14] = [
+static BAD_SECOND_LINES: [&str; 16] = [
     "fixed 4 2 1 0 2 1\nsize 3 1",
     "screen 3 1\nsize 0 1",
     "screen 3 1\nfixed 4 2 1 0 2 1",
@@ -111,6 +146,8 @@ static BAD_SECOND_LINES: [&str; 14] = [
     "screen 3 1\ndraw ",
     "screen 3 1\nDraw",
     "screen 3 1\nclear ",
+    "screen 3 1\ninsert ",
+    "screen 3 1\ninsert x",
     "screen 3 1\nput 0 0",
     "screen 3 1\nput 0 0 ab",
     "screen 3 1\nput 0 0 \t",
@@ -138,12 +175,34 @@ fn names_the_first_bad_line(rt: HostRuntime) -> Result<(), Fail> {
     Ok(())
 }
 
+// A script that inserts so many empty texts.
+fn inserting(alloc: Global, count: usize) -> Result<String, AllocError> {
+    let mut script = String::new(alloc);
+    script.push_str("screen 1 1\n")?;
+    for _ in 0..count {
+        script.push_str("text\n")?;
+    }
+    script.push_str("insert\ninsert")?;
+    Ok(script)
+}
+
+#[test]
+fn takes_only_so_many_texts(rt: HostRuntime) -> Result<(), Fail> {
+    let most = inserting(rt.alloc(), 65535)?;
+    assert!(rt; prints(rt.alloc(), most.as_str(), ""));
+    let more = inserting(rt.alloc(), 65536)?;
+    assert!(rt; fails(rt.alloc(), more.as_str(), "line 65538: bad command")?);
+    Ok(())
+}
+
 #[test]
 fn names_a_step_that_is_not_settled(rt: HostRuntime) -> Result<(), Fail> {
     let covered = "screen 4 1\ntext コ\nput 1 0 x\ndraw";
     assert!(rt; fails(rt.alloc(), covered, "step 1: unsettled")?);
     let joined = "screen 4 1\ndraw\ntext コ\u{200B}\ndraw";
     assert!(rt; fails(rt.alloc(), joined, "step 2: unsettled")?);
+    let inserted = "inline 4 2 1\ntext ab\ninsert\ntext コ\u{200B}\ninsert";
+    assert!(rt; fails(rt.alloc(), inserted, "step 2: unsettled")?);
     Ok(())
 }
 
