@@ -7,3 +7,5 @@ mod failing;
 mod memory;
 #[cfg(test)]
 mod sizes;
+#[cfg(test)]
+mod symbols;

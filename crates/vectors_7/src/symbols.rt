@@ -1,0 +1,52 @@
+//! Symbols that lie in their cell, and longer ones, which take memory; `rt try --test --fail-alloc N` refuses the Nth
+//! request.
+use rtui_buffer::{Buffer, Cell};
+use rtui_geometry::Rect;
+use rtui_style::Style;
+use std::alloc::Global;
+use std::test::Fail;
+
+// A family of three, 18 bytes, and one of four, 25 bytes.
+const FAMILY_OF_THREE: &str = "\u{1F468}\u{200D}\u{1F469}\u{200D}\u{1F467}";
+
+const FAMILY_OF_FOUR: &str = "\u{1F468}\u{200D}\u{1F469}\u{200D}\u{1F467}\u{200D}\u{1F466}";
+
+// Whether an empty cell takes a symbol.
+fn is_taken(alloc: Global, symbol: &str) -> bool {
+    let mut cell = Cell::default();
+    cell.set_symbol(alloc, symbol).is_ok() && cell.symbol() == symbol
+}
+
+#[test]
+fn short_symbols_are_never_refused(rt: HostRuntime) -> Result<(), Fail> {
+    assert!(rt; is_taken(rt.alloc(), FAMILY_OF_THREE));
+    assert!(rt; is_taken(rt.alloc(), "aaaaaaaaaaaaaaaaaaaaaa"));
+    Ok(())
+}
+
+// Whether a cell takes a symbol, or is refused memory and keeps its own.
+fn takes_or_keeps(alloc: Global, symbol: &str) -> bool {
+    let mut cell = Cell::default();
+    if !cell.set_char(alloc, 'x').is_ok() {
+        return false;
+    }
+    match cell.set_symbol(alloc, symbol) {
+        Ok(_) => cell.symbol() == symbol,
+        Err(_) => cell.symbol() == "x",
+    }
+}
+
+#[test]
+fn a_cell_keeps_its_symbol_where_a_longer_one_is_refused(rt: HostRuntime) -> Result<(), Fail> {
+    assert!(rt; takes_or_keeps(rt.alloc(), FAMILY_OF_FOUR));
+    assert!(rt; takes_or_keeps(rt.alloc(), "aaaaaaaaaaaaaaaaaaaaaaa"));
+    Ok(())
+}
+
+#[test]
+fn short_graphemes_are_painted_without_memory(rt: HostRuntime) -> Result<(), Fail> {
+    let mut buffer = Buffer::empty(rt.alloc(), Rect::new(0, 0, 4, 1))?;
+    assert!(rt; buffer.set_string(0, 0, "コン", Style::new()).is_ok());
+    assert!(rt; buffer.content()[2].symbol() == "ン");
+    Ok(())
+}
