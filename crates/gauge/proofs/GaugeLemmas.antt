@@ -9,7 +9,7 @@ use Rattle.ratatui_core.specs.Buffer.{Sheet, Grid, Piece, IsEmptied, IsSettledSh
 use Rattle.ratatui_core.specs.Backend.{Screen}
 use Rattle.ratatui_core.specs.Terminal.{State, ShowsRendered}
 use Rattle.ratatui_core.proofs.BufferLemmas.{cell-empty, line-ends, look-painted, look-beside}
-use Rattle.ratatui_core.proofs.WidgetLemmas.{clipped-whole}
+use Rattle.ratatui_core.proofs.WidgetLemmas.{intersected-whole}
 use Rattle.gauge.specs.declared.bar.Gauge.{Gauge}
 use Rattle.gauge.specs.Gauges.{bar_area, label_pieces, PaintsGauge, RendersGauge, cell_under, ShowsGauge}
 
@@ -27,7 +27,7 @@ module _ (gauge : Gauge) (old new : Sheet) (g : Grid) (edges : EdgesFit old.area
   ps = label_pieces gauge own own
 
   painted : 0 < own.width → PaintsGauge gauge own old new
-  painted wide = subst (λ (q : Rect). 0 < q.width → 0 < q.height → PaintsGauge gauge q old new) (clipped-whole own edges) is.painted wide some
+  painted wide = subst (λ (q : Rect). 0 < q.width → 0 < q.height → PaintsGauge gauge q old new) (intersected-whole own edges) is.painted wide some
 
   has : (a : ℕ) → own.x ≤ a → a < own.x + own.width → HasPosition own (position_of (a, own.y))
   has a from to = let right = edges.right in let bottom = edges.bottom in record { left = from; right = omega arith; top = omega arith; bottom = omega arith }

@@ -1,8 +1,8 @@
 -- A gauge in the part of an area that a buffer has.
 use Rattle.std.proofs.Common.{◌≡◌, ℕ, ◌+◌, ◌-◌, ◌<◌, ◌≤◌, ◌⊎◌, ⊎_elim, min, sym, ap, subst, arith}
-use Rattle.ratatui_core.specs.Layout.{Rect, Position, HasPosition, corner}
+use Rattle.ratatui_core.specs.Layout.{Rect, Position, HasPosition, corner, intersected}
 use Rattle.ratatui_core.specs.Buffer.{Sheet, IsSettledSheet, IsPaintable, IsStyled, Paints, IsSameBeside, columns}
-use Rattle.ratatui_core.specs.Widgets.{clipped, IsClipped, ChangesWithin}
+use Rattle.ratatui_core.specs.Widgets.{IsClipped, ChangesWithin}
 use Rattle.ratatui_core.proofs.BufferLemmas.{IsSettledSheet-styled, IsPaintable-styled, line-ends, line-keeps}
 use Rattle.ratatui_core.proofs.WidgetLemmas.{part-row, part-left, part-starts, within-then, within-styled, within-refused}
 use Rattle.gauge.specs.declared.bar.Gauge.{Gauge}
@@ -17,12 +17,12 @@ module _ (gauge : Gauge) (area part : Rect) (old under new : Sheet) (is : IsClip
 
   pub renders : Paints (corner part) (label_pieces gauge part under.area) under new → keeps_settled under.area → RendersGauge gauge area old new
   renders label keeps =
-      let wide : part.width ≡ (clipped area own).width = ap (λ q. q.width) is.value in
-      let high : part.height ≡ (clipped area own).height = ap (λ q. q.height) is.value in
+      let wide : part.width ≡ (intersected area own).width = ap (λ q. q.width) is.value in
+      let high : part.height ≡ (intersected area own).height = ap (λ q. q.height) is.value in
       let columns_ = is.columns in let rows = is.rows in let starts = part-starts area own part is in
       let ends = line-ends own part.x part.width gauge.label in
       record {
-        nothing = λ none. ⊎_elim (λ (e : (clipped area own).width ≡ 0). absurd (omega arith)) (λ (e : (clipped area own).height ≡ 0). absurd (omega arith)) none;
+        nothing = λ none. ⊎_elim (λ (e : (intersected area own).width ≡ 0). absurd (omega arith)) (λ (e : (intersected area own).height ≡ 0). absurd (omega arith)) none;
         painted = λ _ _. subst (λ q. PaintsGauge gauge q old new) is.value
             (record { under = under; bar = bar; label = subst (λ q. Paints (corner part) (label_pieces gauge part q) under new) bar.area label });
         settled = λ emptied.

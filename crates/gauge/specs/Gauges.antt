@@ -1,8 +1,7 @@
 -- A gauge: what it makes of a buffer, and what a screen then shows.
 use Rattle.std.specs.Prelude.{◌≡◌, ◌⊎◌, ℕ, ◌+◌, ◌<◌, ◌≤◌, nat_lt, min, if◌then◌else◌, List, length, take}
-use Rattle.ratatui_core.specs.Layout.{Rect, corner}
+use Rattle.ratatui_core.specs.Layout.{Rect, corner, intersected}
 use Rattle.ratatui_core.specs.Buffer.{Cell, Sheet, Grid, Piece, IsEmptied, IsSettledSheet, IsStyled, Paints, line_pieces_at, columns, shown, piece_at, styled, look_of, empty_cell}
-use Rattle.ratatui_core.specs.Widgets.{clipped}
 use Rattle.gauge.specs.declared.bar.Gauge.{Gauge}
 
 -- the columns of a row that the bar fills
@@ -21,8 +20,8 @@ pub record PaintsGauge (gauge : Gauge) (area : Rect) (old new : Sheet) : Type 0 
 
 -- a gauge over an area, as far as the buffer has it: there it is painted, and a screen can show it on an empty buffer
 pub record RendersGauge (gauge : Gauge) (area : Rect) (old new : Sheet) : Type 0 where
-  pub nothing : ((clipped area old.area).width ≡ 0) ⊎ ((clipped area old.area).height ≡ 0) → new ≡ old
-  pub painted : 0 < (clipped area old.area).width → 0 < (clipped area old.area).height → PaintsGauge gauge (clipped area old.area) old new
+  pub nothing : ((intersected area old.area).width ≡ 0) ⊎ ((intersected area old.area).height ≡ 0) → new ≡ old
+  pub painted : 0 < (intersected area old.area).width → 0 < (intersected area old.area).height → PaintsGauge gauge (intersected area old.area) old new
   pub settled : IsEmptied old.area old → IsSettledSheet new
 
 -- what stands under the label in a column: an empty cell, in the bar's style as far as the bar goes

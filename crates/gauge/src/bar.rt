@@ -1,7 +1,8 @@
 //! A labelled bar.
 
 ghost use Rattle.std.specs.Prelude.{◌≡◌, ◌⊎◌, MatchOption};
-ghost use Rattle.ratatui_core.specs.Widgets.{clipped, IsClipped};
+ghost use Rattle.ratatui_core.specs.Layout.{intersected};
+ghost use Rattle.ratatui_core.specs.Widgets.{IsClipped};
 
 use ratatui_core::buffer::Buffer;
 use ratatui_core::layout::Rect;
@@ -23,7 +24,7 @@ pub struct Gauge<'a> {
 
 // The part of an area that a buffer has, if there is one.
 fn part_in(buf: &Buffer, area: Rect) -> Option<Rect>
-    ensures { let r = clipped area buf.now.area in
+    ensures { let r = intersected area buf.now.area in
         MatchOption result ((r.width ≡ 0) ⊎ (r.height ≡ 0)) (IsClipped area buf.now.area) }
 {
     let part = area.intersection(*buf.area());
@@ -37,13 +38,12 @@ fn part_in(buf: &Buffer, area: Rect) -> Option<Rect>
 /// the label. What doesn't fit is cut.
 impl<'b, 'a> Widget for &'b Gauge<'a> {
     ghost use Rattle.ratatui_core.specs.Buffer.{AreShort};
-    ghost use Rattle.ratatui_core.specs.Widgets.{clipped};
     ghost use Rattle.gauge.specs.Gauges.{RendersGauge, label_pieces};
 
     ghost renders = { λ gauge. RendersGauge gauge.now };
 
     ghost is_short = { λ gauge area s.
-        AreShort (label_pieces gauge.now (clipped area s.area) s.area) };
+        AreShort (label_pieces gauge.now (intersected area s.area) s.area) };
 
     fn render(self, area: Rect, buf: &mut Buffer) -> Result<(), AllocError> {
         let Some(part) = part_in(buf, area) else {

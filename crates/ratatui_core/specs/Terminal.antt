@@ -6,7 +6,7 @@ pub use Rattle.rtui_viewport.specs.Viewports.{IsInline, IsFixed, FitsEdges, rows
 pub use Rattle.rtui_viewport.specs.Placing.{lines_below, inline_top, inline_area, rows_left, PlacesInline, area_in, raised, cursor_found, IsCursorSet, rows_scrolled, EmptiesAllIf, Places}
 pub use Rattle.rtui_viewport.specs.Clearing.{is_emptied, HasPlace, ClearsArea}
 pub use Rattle.rtui_viewport.specs.Remaining.{blank_at, blanks_left}
-pub use Rattle.rtui_terminal.specs.State.{State, IsInPlace, HasAreas, HasRoom, cursor_offset, IsSameTerminal, IsDefaultOver}
+pub use Rattle.rtui_terminal.specs.State.{State, IsInPlace, HasAreas, HaveRoom, cursor_offset, IsSameTerminal, IsDefaultOver}
 pub use Rattle.rtui_terminal.specs.InStep.{IsInStep, IsSized, IsReady, rows_over, KeepsRest}
 pub use Rattle.rtui_terminal.specs.Frames.{IsNewFrame, KeepsFrame, PaintsFrame, IsDrawFrame, AcceptsFrames, AcceptsNewFrame, paints_on}
 pub use Rattle.rtui_terminal.specs.Borrows.{with_buffer, LendsBuffer}

@@ -15,50 +15,51 @@ use Rattle.rtui_cell.proofs.CellLemmas.{look-empty}
 use Rattle.rtui_backend.specs.declared.clear_type.ClearType.TheVariants.{AfterCursor, BeforeCursor, CurrentLine, UntilNewLine}
 use Rattle.rtui_backend.specs.Clear.{is_cleared}
 use Rattle.rtui_cell.specs.Cell.{IsUnmarked}
-use Rattle.rtui_backend.specs.CellGrid.{cell_at, look_at, grid_of, AreUnmarked}
+use Rattle.rtui_diff.specs.Cells.{cell}
+use Rattle.rtui_backend.specs.CellGrid.{look_at, grid_of, AreUnmarked}
 use Rattle.rtui_backend.proofs.PlainLemmas.{unmarked-empty}
 use Rattle.rtui_backend.proofs.ScrollLemmas.{map_same}
 
-pub cell_at-set : (cells : List Cell) (i j : ℕ) (c : Cell) → i < length cells → cell_at (set cells i c) j ≡ if nat_eq j i then c else cell_at cells j
+pub cell_at-set : (cells : List Cell) (i j : ℕ) (c : Cell) → i < length cells → cell (set cells i c) j ≡ if nat_eq j i then c else cell cells j
 cell_at-set cells i j c inside = grind (arith, common_steps)
 
 -- the look of a cell, and of the empty one past the end
-pub look_at-cell : (cells : List Cell) (k : ℕ) → look_at cells k ≡ look_of (cell_at cells k)
+pub look_at-cell : (cells : List Cell) (k : ℕ) → look_at cells k ≡ look_of (cell cells k)
 look_at-cell cells k = elim (cases_lt k (length cells)) [
   | inl inside ↦ get_or-map look_of cells k empty_cell empty_look inside
   | inr past ↦ get_or_past (map look_of cells) k empty_look (rw length-map past) ∙ sym (ap look_of (get_or_past cells k empty_cell past) ∙ look-empty)
 ]
 
 -- cells that were emptied and moved to the end
-pub rotated : (xs : List Cell) (w : ℕ) → w ≤ length xs → ((j : ℕ) → j < w → cell_at xs j ≡ empty_cell) → (k : ℕ) → cell_at (drop w xs ++ take w xs) k ≡ cell_at xs (k + w)
+pub rotated : (xs : List Cell) (w : ℕ) → w ≤ length xs → ((j : ℕ) → j < w → cell xs j ≡ empty_cell) → (k : ℕ) → cell (drop w xs ++ take w xs) k ≡ cell xs (k + w)
 rotated xs w fits blanked k = elim (cases_lt k (length xs - w)) [
   | inl before ↦
       let len : k < length (drop w xs) = rw length-drop before in
-      get_or_append_left (drop w xs) (take w xs) empty_cell k len ∙ get_or-drop w xs k empty_cell ∙ ap (λ i. cell_at xs i) (omega arith)
+      get_or_append_left (drop w xs) (take w xs) empty_cell k len ∙ get_or-drop w xs k empty_cell ∙ ap (λ i. cell xs i) (omega arith)
   | inr after ↦
       get_or-append_right (drop w xs) (take w xs) (length xs - w) k empty_cell (length-drop w xs) after
       ∙ moved (k - (length xs - w))
       ∙ sym (get_or_past xs (k + w) empty_cell (omega arith))
 ]
   where
-    moved : (j : ℕ) → cell_at (take w xs) j ≡ empty_cell
+    moved : (j : ℕ) → cell (take w xs) j ≡ empty_cell
     moved j = elim (cases_lt j w) [
       | inl inside ↦ get_or-take w xs j empty_cell inside ∙ blanked j inside
       | inr past ↦ get_or_past (take w xs) j empty_cell (simp length-take (omega arith))
     ]
 
 -- past the end all is empty
-pub past_end : (xs : List Cell) (k : ℕ) → length xs ≤ k → cell_at xs k ≡ empty_cell
+pub past_end : (xs : List Cell) (k : ℕ) → length xs ≤ k → cell xs k ≡ empty_cell
 past_end xs k past = get_or_past xs k empty_cell past
 
 -- cells that are old ones or empty are plain
-pub AreUnmarked-moved : (old new : List Cell) (by : ℕ) → ((k : ℕ) → cell_at new k ≡ cell_at old (k + by)) → AreUnmarked old → AreUnmarked new
+pub AreUnmarked-moved : (old new : List Cell) (by : ℕ) → ((k : ℕ) → cell new k ≡ cell old (k + by)) → AreUnmarked old → AreUnmarked new
 AreUnmarked-moved old new by moved plain i = rw (moved i) (plain (i + by))
 
-pub AreUnmarked-blanked : (old new : List Cell) (which : ℕ → Bool) → ((k : ℕ) → cell_at new k ≡ if which k then empty_cell else cell_at old k) → AreUnmarked old → AreUnmarked new
+pub AreUnmarked-blanked : (old new : List Cell) (which : ℕ → Bool) → ((k : ℕ) → cell new k ≡ if which k then empty_cell else cell old k) → AreUnmarked old → AreUnmarked new
 AreUnmarked-blanked old new which blanked plain i = rw (blanked i) (either (which i))
   where
-    either : (b : Bool) → IsUnmarked (if b then empty_cell else cell_at old i)
+    either : (b : Bool) → IsUnmarked (if b then empty_cell else cell old i)
     either true = unmarked-empty
     either false = plain i
 
@@ -119,7 +120,7 @@ module _ (w h : ℕ) (cells : List Cell) (size : length cells ≡ w * h) where
       ≡ map (λ b. map (λ a. if nat_lt b h then grid_of w cells a b else empty_look) (range_with_len 0 w)) (range_with_len 0 count)
   rows_are count = map_same _ _ 0 count (λ b _ _. map_same _ _ 0 w (λ a _ a_in. seen_is a b (omega arith)))
 
-  pub scrolled_grid : (new : List Cell) (k : ℕ) → ((i : ℕ) → cell_at new i ≡ cell_at cells (i + k * w)) → (a b : ℕ) → a < w
+  pub scrolled_grid : (new : List Cell) (k : ℕ) → ((i : ℕ) → cell new i ≡ cell cells (i + k * w)) → (a b : ℕ) → a < w
       → grid_of w new a b ≡ (if nat_lt (b + k) h then grid_of w cells a (b + k) else empty_look)
   scrolled_grid new k moved a b a_in =
       let here : grid_of w new a b ≡ look_at new (b * w + a) = grind (arith, nat_tests) in
@@ -127,14 +128,14 @@ module _ (w h : ℕ) (cells : List Cell) (size : length cells ≡ w * h) where
       ∙ ap (look_at cells) (omega arith) ∙ seen_is a (b + k) a_in
 
 -- what was emptied in a list of cells, on its grid
-pub cleared_grid : (w : ℕ) (old new : List Cell) (which : ℕ → Bool) (is : Bool) → ((k : ℕ) → cell_at new k ≡ if which k then empty_cell else cell_at old k) → (a b : ℕ) → a < w → which (b * w + a) ≡ is
+pub cleared_grid : (w : ℕ) (old new : List Cell) (which : ℕ → Bool) (is : Bool) → ((k : ℕ) → cell new k ≡ if which k then empty_cell else cell old k) → (a b : ℕ) → a < w → which (b * w + a) ≡ is
     → grid_of w new a b ≡ if is then empty_look else grid_of w old a b
 cleared_grid w old new which is blanked a b a_in e =
     let here : grid_of w new a b ≡ look_at new (b * w + a) = grind (arith, nat_tests) in
     let was : grid_of w old a b ≡ look_at old (b * w + a) = grind (arith, nat_tests) in
-    let now : cell_at new (b * w + a) ≡ if is then empty_cell else cell_at old (b * w + a) = rw (← e) (blanked (b * w + a)) in
+    let now : cell new (b * w + a) ≡ if is then empty_cell else cell old (b * w + a) = rw (← e) (blanked (b * w + a)) in
     here ∙ look_at-cell new (b * w + a) ∙ ap look_of now ∙ either is ∙ rw was refl
   where
-    either : (t : Bool) → look_of (if t then empty_cell else cell_at old (b * w + a)) ≡ if t then empty_look else look_at old (b * w + a)
+    either : (t : Bool) → look_of (if t then empty_cell else cell old (b * w + a)) ≡ if t then empty_look else look_at old (b * w + a)
     either true = look-empty
     either false = sym (look_at-cell old (b * w + a))

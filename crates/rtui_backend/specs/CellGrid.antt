@@ -1,13 +1,10 @@
 -- The grid that a row-major list of cells stands for.
 use Rattle.std.specs.Prelude.{ℕ, ◌+◌, ◌*◌, nat_lt, if◌then◌else◌, List, map, slice_index_or}
 use Rattle.rtui_cell.specs.declared.cell.Cell.{Cell}
-use Rattle.rtui_cell.specs.Cell.{empty_cell, IsUnmarked}
+use Rattle.rtui_cell.specs.Cell.{IsUnmarked}
+use Rattle.rtui_diff.specs.Cells.{cell}
 use Rattle.rtui_cell.specs.Look.{Look, look_of, empty_look}
 use Rattle.rtui_cell.specs.Grid.{Grid}
-
--- the cell at a place, and an empty one past the end
-abbrev pub cell_at : List Cell → ℕ → Cell
-cell_at cells i = slice_index_or cells i empty_cell
 
 -- the look at a place, and the empty one past the end
 abbrev pub look_at : List Cell → ℕ → Look
@@ -19,4 +16,4 @@ grid_of w cells a b = if nat_lt a w then look_at cells (b * w + a) else empty_lo
 
 -- no cell has an option or the flag
 abbrev pub AreUnmarked : List Cell → Type 0
-AreUnmarked cells = (i : ℕ) → IsUnmarked (slice_index_or cells i empty_cell)
+AreUnmarked cells = (i : ℕ) → IsUnmarked (cell cells i)

@@ -13,8 +13,8 @@ abbrev pub palettes : List Palette
 palettes = SLATE ∷ GRAY ∷ ZINC ∷ NEUTRAL ∷ STONE ∷ RED ∷ ORANGE ∷ AMBER ∷ YELLOW ∷ LIME ∷ GREEN ∷ EMERALD ∷ TEAL ∷ CYAN ∷ SKY ∷ BLUE ∷ INDIGO ∷ VIOLET ∷ PURPLE ∷ FUCHSIA ∷ PINK ∷ ROSE ∷ []
 
 -- the number of each shade of each palette, as 0xRRGGBB
-abbrev pub numbers : List (List ℕ)
-numbers =
+abbrev pub shade_numbers : List (List ℕ)
+shade_numbers =
     (0xf8fafc ∷ 0xf1f5f9 ∷ 0xe2e8f0 ∷ 0xcbd5e1 ∷ 0x94a3b8 ∷ 0x64748b ∷ 0x475569 ∷ 0x334155 ∷ 0x1e293b ∷ 0x0f172a ∷ 0x020617 ∷ [])
     ∷ (0xf9fafb ∷ 0xf3f4f6 ∷ 0xe5e7eb ∷ 0xd1d5db ∷ 0x9ca3af ∷ 0x6b7280 ∷ 0x4b5563 ∷ 0x374151 ∷ 0x1f2937 ∷ 0x111827 ∷ 0x030712 ∷ [])
     ∷ (0xfafafa ∷ 0xf4f4f5 ∷ 0xe4e4e7 ∷ 0xd4d4d8 ∷ 0xa1a1aa ∷ 0x71717a ∷ 0x52525b ∷ 0x3f3f46 ∷ 0x27272a ∷ 0x18181b ∷ 0x09090b ∷ [])

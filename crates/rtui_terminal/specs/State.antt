@@ -31,7 +31,7 @@ pub record HasAreas {B : Type 0} (s : State B) : Type 0 where
   pub older : s.older.area ≡ s.viewport_area
 
 -- both buffers have room for the cells of an area
-pub record HasRoom {B : Type 0} (area : Rect) (s : State B) : Type 0 where
+pub record HaveRoom {B : Type 0} (area : Rect) (s : State B) : Type 0 where
   pub current : area_size area ≤ s.current.room
   pub older : area_size area ≤ s.older.room
 

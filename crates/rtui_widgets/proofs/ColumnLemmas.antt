@@ -15,7 +15,7 @@ use Rattle.rtui_style.specs.declared.color.Color.{Color}
 use Rattle.rtui_style.specs.Style.{color_after}
 use Rattle.rtui_cell.specs.Width.{text_width}
 use Rattle.rtui_widgets.specs.Span.{goes_to, those_at, is_behind, with_graphemes, column_with}
-use Rattle.rtui_widgets.specs.Steps.{end_of_those, with_appended, with_symbol}
+use Rattle.rtui_widgets.specs.Steps.{end_of_those, with_appended, with_grapheme}
 
 -- ---- the end of the graphemes
 
@@ -163,7 +163,7 @@ with_graphemes-more s (t ∷ ts) g c e =
     ap (λ w. styled s (record c { symbol = Some w })) (concat-more (t ∷ ts) g)
     ∙ sym (styled-twice s (record c { symbol = Some (concat (t ∷ ts)) }) (Some (concat (t ∷ ts) ++ g)))
 
-with_graphemes-one : (s : Style) (g : List ℕ) (c : Cell) → with_graphemes s (g ∷ []) c ≡ with_symbol s g c
+with_graphemes-one : (s : Style) (g : List ℕ) (c : Cell) → with_graphemes s (g ∷ []) c ≡ with_grapheme s g c
 with_graphemes-one s g c = rw append-nil
 
 or-true : (a b : Bool) → b ≡ true → (a || b) ≡ true
@@ -219,7 +219,7 @@ module _ (s : Style) (gs : List (List ℕ)) (g : List ℕ) (x k : ℕ) (c : Cell
       rw more (symbol-joined s (those_at k 0 gs) g _)
 
   -- its own, where the graphemes before don't reach
-  pub column-set : k ≡ goes_to x g → those_at k 0 gs ≡ [] → is_behind k 0 gs ≡ false → column_with s (gs ++ g ∷ []) k c ≡ with_symbol s g (column_with s gs k c)
+  pub column-set : k ≡ goes_to x g → those_at k 0 gs ≡ [] → is_behind k 0 gs ≡ false → column_with s (gs ++ g ∷ []) k c ≡ with_grapheme s g (column_with s gs k c)
   column-set is none open_ =
       column-here is ∙ rw (none, open_) (with_graphemes-one s g c)
 

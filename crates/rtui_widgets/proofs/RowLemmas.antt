@@ -7,7 +7,7 @@ use borrow.Rule.Slice.PartMut.{put_mid}
 use Rattle.rtui_cell.specs.declared.cell.Cell.{Cell}
 use Rattle.rtui_cell.specs.Cell.{empty_cell}
 use Rattle.rtui_diff.specs.Cells.{cell}
-use Rattle.rtui_widgets.specs.Rows.{Rows, row_at, IsOutside, KeepsOthers, MakesRows}
+use Rattle.rtui_widgets.specs.Rows.{Rows, cells_of_row, IsOutside, KeepsOthers, MakesRows}
 
 -- ---- a part of a list that was written
 
@@ -92,13 +92,13 @@ module _ (start width stride : ℕ) (apart : width ≤ stride) where
       others = λ i out. beside i (out k lt) ∙ h.keeps.others i (fewer k all i (omega arith) out);
     }
 
-    before : (j : ℕ) → j < k → row_at (rows (k + 1)) j more ≡ f j (row_at (rows (k + 1)) j old)
+    before : (j : ℕ) → j < k → cells_of_row (rows (k + 1)) j more ≡ f j (cells_of_row (rows (k + 1)) j old)
     before j lt =
         let b = rows_before stride j k lt in
         same-row (start + j * stride) width more now (length-written at n now part fits count) (omega arith) (λ i from to. beside i (other j k i (inl lt) from to))
         ∙ h.rows j lt
 
-    former : row_at (rows (k + 1)) k now ≡ row_at (rows (k + 1)) k old
+    former : cells_of_row (rows (k + 1)) k now ≡ cells_of_row (rows (k + 1)) k old
     former =
         let same = h.keeps.length_stays in
         same-row at width now old same (omega arith) (λ i from to. h.keeps.others i (apart-from k k i (omega arith) from to))
@@ -112,7 +112,7 @@ module _ (start width stride : ℕ) (apart : width ≤ stride) where
           (λ (a : k ≤ j).
           let here : k ≡ j = omega arith in
           let own : take width (drop at more) ≡ part = ap (λ w. take w (drop at more)) (sym width-is) ∙ written-there at n now part fits count in
-          subst (λ m. row_at (rows (k + 1)) m more ≡ f m (row_at (rows (k + 1)) m old)) here (own ∙ is ∙ ap (f k) former))
+          subst (λ m. cells_of_row (rows (k + 1)) m more ≡ f m (cells_of_row (rows (k + 1)) m old)) here (own ∙ is ∙ ap (f k) former))
           (cases_lt j k);
     }
 

@@ -7,7 +7,7 @@ use Rattle.std.proofs.lemmas.List.{take_all, drop_all, append-nil, length-take, 
 use borrow.Rule.Slice.PartMut.{put_mid}
 use Rattle.rtui_geometry.specs.declared.position.Position.{Position}
 use Rattle.rtui_geometry.specs.declared.rect.Rect.{Rect}
-use Rattle.rtui_geometry.specs.Rect.{HasPosition, right_edge, bottom_edge}
+use Rattle.rtui_geometry.specs.Rect.{HasPosition, right_edge, bottom_edge, intersected}
 use Rattle.rtui_cell.specs.declared.cell.Cell.{Cell}
 use Rattle.rtui_diff.specs.Cells.{cell}
 use Rattle.rtui_buffer.specs.Sheet.{Sheet, area_size, cell_index, refilled}
@@ -17,8 +17,8 @@ use Rattle.rtui_buffer.specs.Painting.{Piece, columns}
 use Rattle.rtui_buffer.specs.Sheet.{HasRow}
 use Rattle.rtui_buffer.specs.PaintedText.{room_at, pieces_at, IsSameBeside}
 use Rattle.rtui_buffer.proofs.PaintedLemmas.{columns-kept}
-use Rattle.rtui_widgets.specs.Rendering.{clipped, area_row, ChangesWithin, RendersRows, in_first_row, first_row}
-use Rattle.rtui_widgets.specs.Rows.{Rows, place, row_at, IsOutside, KeepsOthers, MakesRows}
+use Rattle.rtui_widgets.specs.Rendering.{area_row, ChangesWithin, RendersRows, in_first_row, first_row}
+use Rattle.rtui_widgets.specs.Rows.{Rows, place, cells_of_row, IsOutside, KeepsOthers, MakesRows}
 use Rattle.rtui_widgets.specs.Clipped.{IsClipped}
 use Rattle.rtui_widgets.proofs.RowLemmas.{length-written, written-before, written-behind, written-there, same-row, rows_before, other}
 
@@ -53,12 +53,12 @@ module _ (start width stride count : ℕ) (old part : List Cell) (n : ℕ) (apar
   pub keeps-first : KeepsOthers rows_here old more
   keeps-first = record { length_stays = length-written start n old part first-fits first-count; others = λ i out. beside i (out 0 some) }
 
-  row-zero : row_at rows_here 0 more ≡ part
+  row-zero : cells_of_row rows_here 0 more ≡ part
   row-zero =
       let e : start + 0 * stride ≡ start = omega arith in
       ap (λ at. take width (drop at more)) e ∙ ap (λ w. take w (drop start more)) (sym width-is) ∙ written-there start n old part first-fits first-count
 
-  row-more : (j : ℕ) → 0 < j → j < count → row_at rows_here j more ≡ row_at rows_here j old
+  row-more : (j : ℕ) → 0 < j → j < count → cells_of_row rows_here j more ≡ cells_of_row rows_here j old
   row-more j pos lt =
       same-row (start + j * stride) width more old (length-written start n old part first-fits first-count) (inside j lt)
       (λ i from to. beside i (other start width stride apart j 0 i (inr pos) from to))
@@ -74,7 +74,7 @@ module _ (start width stride count : ℕ) (old part : List Cell) (n : ℕ) (apar
         (λ (z : k ≤ 0).
         let e : 0 ≡ k = omega arith in
         let at : start + 0 * stride ≡ start = omega arith in
-        subst (λ m. row_at rows_here m more ≡ in_first_row g m (row_at rows_here m old)) e (row-zero ∙ is ∙ ap (λ a. g (take width (drop a old))) (sym at)))
+        subst (λ m. cells_of_row rows_here m more ≡ in_first_row g m (cells_of_row rows_here m old)) e (row-zero ∙ is ∙ ap (λ a. g (take width (drop a old))) (sym at)))
         (cases_lt 0 k);
   }
 
@@ -189,15 +189,15 @@ no-cells : (xs : List Cell) → length xs ≡ 0 → xs ≡ []
 no-cells [] e = refl
 no-cells (x ∷ xs) e = absurd (omega (arith, e))
 
-pub renders-nothing : (area : Rect) (f : ℕ → List Cell → List Cell) (s : Sheet) → ((k : ℕ) → f k [] ≡ []) → ((clipped area s.area).width ≡ 0) ⊎ ((clipped area s.area).height ≡ 0) → RendersRows area f s s
+pub renders-nothing : (area : Rect) (f : ℕ → List Cell → List Cell) (s : Sheet) → ((k : ℕ) → f k [] ≡ []) → ((intersected area s.area).width ≡ 0) ⊎ ((intersected area s.area).height ≡ 0) → RendersRows area f s s
 renders-nothing area f s none empty = record {
   within = record { same_area = refl; same_room = refl; outside = λ p i o. refl };
   rows = λ k lt.
       ⊎_elim
-      (λ (w : (clipped area s.area).width ≡ 0).
-      let nil : area_row (clipped area s.area) k s ≡ [] = no-cells _ (length-take _ _ ∙ omega (arith, w)) in
+      (λ (w : (intersected area s.area).width ≡ 0).
+      let nil : area_row (intersected area s.area) k s ≡ [] = no-cells _ (length-take _ _ ∙ omega (arith, w)) in
       nil ∙ sym (ap (f k) nil ∙ none k))
-      (λ (z : (clipped area s.area).height ≡ 0). absurd (omega (arith, z, lt)))
+      (λ (z : (intersected area s.area).height ≡ 0). absurd (omega (arith, z, lt)))
       empty;
 }
 
@@ -237,7 +237,7 @@ module _ (area : Rect) (old : Sheet) (r : Rect) (h : IsClipped area old.area r) 
 
 -- how many columns the row has
 pub first-columns : (area : Rect) (old : Sheet) (r : Rect) (h : IsClipped area old.area r) (at n : ℕ) → at ≡ cell_index old.area (record { x = r.x; y = r.y }) → n ≡ r.width
-    → length old.cells ≡ area_size old.area → length (take n (drop at old.cells)) ≡ (clipped area old.area).width
+    → length old.cells ≡ area_size old.area → length (take n (drop at old.cells)) ≡ (intersected area old.area).width
 first-columns area old r h at n at-is width-is count = part-count area old r h at n (take n (drop at old.cells)) at-is width-is count refl ∙ ap (λ q. q.width) h.value
 
 -- ---- rows that were lent

@@ -14,7 +14,7 @@ use Rattle.rtui_cell.specs.Width.{text_width}
 use Rattle.rtui_text.specs.Graphemes.{has_control}
 use Rattle.rtui_buffer.specs.Painting.{fitting, emptied}
 use Rattle.rtui_widgets.specs.Span.{showing, goes_to, those_at, is_behind, column_with, columns_from, span_rendered}
-use Rattle.rtui_widgets.specs.Steps.{end_of_those, with_appended, with_symbol, with_next, next_symbol, IsRowWith}
+use Rattle.rtui_widgets.specs.Steps.{end_of_those, with_appended, with_grapheme, with_next, next_symbol, IsRowWith}
 use Rattle.rtui_widgets.proofs.ColumnLemmas.{end-append, those_at-far, is_behind-far, reached, first_reached, front-no_longer, symbol-here, column-behind, column-other, column-set, column-append}
 
 pub rendered-nothing : (s : Style) (text : List ℕ) (row : List Cell) → length row ≡ 0 → row ≡ span_rendered s text row
@@ -97,7 +97,7 @@ none_behind k gs e = rw e
 zero_there : (k : ℕ) (gs : List (List ℕ)) → k ≡ 0 → gs ≢ [] → those_at k 0 gs ≢ []
 zero_there k gs z n = rw z (first_reached gs n)
 
-symbol-cases : (s : Style) (g : List ℕ) (c : Cell) (b : Bool) → (cond b (with_symbol s g c) (with_appended s g c)).symbol ≡ Some (cond b g (appended c.symbol g))
+symbol-cases : (s : Style) (g : List ℕ) (c : Cell) (b : Bool) → (cond b (with_grapheme s g c) (with_appended s g c)).symbol ≡ Some (cond b g (appended c.symbol g))
 symbol-cases s g c true = refl
 symbol-cases s g c false = refl
 
@@ -137,9 +137,9 @@ module _ (s : Style) (gs : List (List ℕ)) (g : List ℕ) (x : ℕ) (is_first :
   near-lt w = grind (arith, nat_tests, ends, w.0, w.1)
 
   -- the column that it goes to
-  own : (b : Bool) → is_set ≡ b → cond b (with_symbol s g (get_or row place empty_cell)) (with_appended s g (get_or row place empty_cell)) ≡ column_with s (gs ++ g ∷ []) place (get_or old place empty_cell)
+  own : (b : Bool) → is_set ≡ b → cond b (with_grapheme s g (get_or row place empty_cell)) (with_appended s g (get_or row place empty_cell)) ≡ column_with s (gs ++ g ∷ []) place (get_or old place empty_cell)
   own true e =
-      ap (with_symbol s g) (h.columns place place-lt)
+      ap (with_grapheme s g) (h.columns place place-lt)
       ∙ sym (column-set s gs g x place (get_or old place empty_cell) ends refl
       (⊎_elim (λ (f : is_first ≡ true). none_there place gs (first f)) (λ (w : (0 < x) × (0 < text_width g)). those_at-far place 0 gs (far-le w) (far-pos w)) (set-cases is_first x (text_width g) e))
       (⊎_elim (λ (f : is_first ≡ true). none_behind place gs (first f)) (λ (w : (0 < x) × (0 < text_width g)). is_behind-far place 0 gs (far-le w)) (set-cases is_first x (text_width g) e)))
@@ -166,7 +166,7 @@ module _ (s : Style) (gs : List (List ℕ)) (g : List ℕ) (x : ℕ) (is_first :
   pub IsRowWith-turn : IsRowWith s (gs ++ g ∷ []) old (with_next is_first x s g row)
   unfolding with_next
   IsRowWith-turn =
-      let new : Cell = cond is_set (with_symbol s g (get_or row place empty_cell)) (with_appended s g (get_or row place empty_cell)) in
+      let new : Cell = cond is_set (with_grapheme s g (get_or row place empty_cell)) (with_appended s g (get_or row place empty_cell)) in
       let cells : List Cell = set row place new in
       let len : length cells ≡ length old = length-set row place new ∙ h.count in
       let place_lt = place-lt in

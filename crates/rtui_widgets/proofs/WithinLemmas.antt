@@ -3,18 +3,18 @@ use Rattle.std.proofs.Common.{◌≡◌, ◌+◌, ◌-◌, ◌<◌, ◌≤◌, �
 use Rattle.std.proofs.lemmas.Bool.{cases_lt}
 use Rattle.rtui_geometry.specs.declared.position.Position.{Position}
 use Rattle.rtui_geometry.specs.declared.rect.Rect.{Rect}
-use Rattle.rtui_geometry.specs.Rect.{HasPosition, EdgesFit, right_edge, bottom_edge, corner}
+use Rattle.rtui_geometry.specs.Rect.{HasPosition, EdgesFit, right_edge, bottom_edge, corner, intersected}
 use Rattle.rtui_style.specs.declared.Style.{Style}
 use Rattle.rtui_buffer.specs.Sheet.{Sheet, HasRow}
 use Rattle.rtui_buffer.specs.Painting.{Piece, columns}
 use Rattle.rtui_buffer.specs.PaintedText.{IsStyled, IsBeside, IsSameBeside}
 use Rattle.rtui_buffer.proofs.ColumnLemmas.{same-beside}
-use Rattle.rtui_widgets.specs.Rendering.{clipped, ChangesWithin}
+use Rattle.rtui_widgets.specs.Rendering.{ChangesWithin}
 use Rattle.rtui_widgets.specs.Clipped.{IsClipped}
 
 -- a buffer has the whole of its own area
-pub clipped-whole : (r : Rect) → EdgesFit r → clipped r r ≡ r
-clipped-whole r edges =
+pub intersected-whole : (r : Rect) → EdgesFit r → intersected r r ≡ r
+intersected-whole r edges =
     let right = edges.right in let bottom = edges.bottom in
     let x : max r.x r.x ≡ r.x = omega arith in
     let y : max r.y r.y ≡ r.y = omega arith in

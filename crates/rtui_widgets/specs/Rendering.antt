@@ -1,8 +1,8 @@
 -- What rendering spans, lines and texts makes of a buffer.
-use Rattle.std.specs.Prelude.{ℕ, ◌+◌, ◌<◌, ◌≤◌, ◌≡◌, ◌==◌, List, [], Option, Some, None, map, take, drop, min, max, if◌then◌else◌, slice_index_or}
+use Rattle.std.specs.Prelude.{ℕ, ◌+◌, ◌<◌, ◌≤◌, ◌≡◌, ◌==◌, List, [], Option, Some, None, map, take, drop, if◌then◌else◌, slice_index_or}
 use Rattle.rtui_geometry.specs.declared.position.Position.{Position}
 use Rattle.rtui_geometry.specs.declared.rect.Rect.{Rect}
-use Rattle.rtui_geometry.specs.Rect.{HasPosition, right_edge, bottom_edge, spanning}
+use Rattle.rtui_geometry.specs.Rect.{HasPosition, intersected}
 use Rattle.rtui_layout.specs.declared.alignment.HorizontalAlignment.{HorizontalAlignment}
 use Rattle.rtui_cell.specs.declared.cell.Cell.{Cell}
 use Rattle.rtui_cell.specs.Cell.{styled}
@@ -13,10 +13,6 @@ use Rattle.rtui_buffer.specs.Sheet.{HasRow}
 use Rattle.rtui_buffer.specs.PaintedText.{pieces_at, AreShort, Paints}
 use Rattle.rtui_widgets.specs.Span.{span_rendered, IsShortSpan}
 use Rattle.rtui_widgets.specs.Line.{line_rendered, IsShortLine}
-
--- the part of an area that lies in a buffer's
-abbrev pub clipped : Rect → Rect → Rect
-clipped area own = spanning (max area.x own.x) (max area.y own.y) (min (right_edge area) (right_edge own)) (min (bottom_edge area) (bottom_edge own))
 
 -- row k of a rectangle in a buffer, from left to right
 abbrev pub area_row : Rect → ℕ → Sheet → List Cell
@@ -31,7 +27,7 @@ pub record ChangesWithin (area : Rect) (old new : Sheet) : Type 0 where
 -- each row of an area, as far as the buffer has it, is what f makes of it, and nothing else changed
 pub record RendersRows (area : Rect) (f : ℕ → List Cell → List Cell) (old new : Sheet) : Type 0 where
   pub within : ChangesWithin area old new
-  pub rows : (k : ℕ) → k < (clipped area old.area).height → area_row (clipped area old.area) k new ≡ f k (area_row (clipped area old.area) k old)
+  pub rows : (k : ℕ) → k < (intersected area old.area).height → area_row (intersected area old.area) k new ≡ f k (area_row (intersected area old.area) k old)
 
 -- f in the first row, and nothing in the others
 abbrev pub in_first_row : (List Cell → List Cell) → ℕ → List Cell → List Cell
@@ -83,13 +79,13 @@ IsShortRow text columns k =
 -- What is rendered takes no memory where no symbol does that it puts into a column: of a span, a line or a text in each row of the area,
 -- as far as the buffer has it; of a text that is painted in each piece.
 abbrev pub RendersShortSpan : SpanData → Rect → Sheet → Type 0
-RendersShortSpan span area s = IsShortSpan (clipped area s.area).width span.content
+RendersShortSpan span area s = IsShortSpan (intersected area s.area).width span.content
 
 abbrev pub RendersShortLine : LineData → Rect → Sheet → Type 0
-RendersShortLine line area s = IsShortLine line.alignment line (clipped area s.area).width
+RendersShortLine line area s = IsShortLine line.alignment line (intersected area s.area).width
 
 abbrev pub RendersShortText : TextData → Rect → Sheet → Type 0
-RendersShortText text area s = let r = clipped area s.area in (k : ℕ) → k < r.height → IsShortRow text r.width k
+RendersShortText text area s = let r = intersected area s.area in (k : ℕ) → k < r.height → IsShortRow text r.width k
 
 abbrev pub PaintsShortText : List ℕ → Rect → Sheet → Type 0
 PaintsShortText text area s = AreShort (pieces_at s.area area.x area.width new_style text)

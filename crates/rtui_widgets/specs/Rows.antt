@@ -19,8 +19,8 @@ abbrev pub place : Rows → ℕ → ℕ
 place r k = r.start + k * r.stride
 
 -- the cells of a row
-abbrev pub row_at : Rows → ℕ → List Cell → List Cell
-row_at r k cells = take r.width (drop (place r k) cells)
+abbrev pub cells_of_row : Rows → ℕ → List Cell → List Cell
+cells_of_row r k cells = take r.width (drop (place r k) cells)
 
 -- the place is one of no row
 abbrev pub IsOutside : Rows → ℕ → Type 0
@@ -34,4 +34,4 @@ pub record KeepsOthers (r : Rows) (old new : List Cell) : Type 0 where
 -- each row is what f makes of it, and all else is as before
 pub record MakesRows (r : Rows) (f : ℕ → List Cell → List Cell) (old new : List Cell) : Type 0 where
   pub keeps : KeepsOthers r old new
-  pub rows : (k : ℕ) → k < r.count → row_at r k new ≡ f k (row_at r k old)
+  pub rows : (k : ℕ) → k < r.count → cells_of_row r k new ≡ f k (cells_of_row r k old)

@@ -9,8 +9,8 @@ use Rattle.rtui_buffer.specs.Painting.{emptied}
 use Rattle.rtui_widgets.specs.Span.{goes_to, column_with}
 
 -- a cell with a text as its symbol, in a style
-abbrev pub with_symbol : Style → List ℕ → Cell → Cell
-with_symbol style g c = styled style (record c { symbol = Some g })
+abbrev pub with_grapheme : Style → List ℕ → Cell → Cell
+with_grapheme style g c = styled style (record c { symbol = Some g })
 
 -- a cell with a text appended to its symbol, in a style
 abbrev pub with_appended : Style → List ℕ → Cell → Cell
@@ -27,7 +27,7 @@ unfoldable pub with_next : Bool → ℕ → Style → List ℕ → List Cell →
 with_next is_first x style g row =
     let at = goes_to x g in
     let c = slice_index_or row at empty_cell in
-    let new = if is_first || (nat_lt 0 x && nat_lt 0 (text_width g)) then with_symbol style g c else with_appended style g c in
+    let new = if is_first || (nat_lt 0 x && nat_lt 0 (text_width g)) then with_grapheme style g c else with_appended style g c in
     emptied (x + 1) (text_width g - 1) (slice_set row at new)
 
 -- the column behind these graphemes, where the first stands at x

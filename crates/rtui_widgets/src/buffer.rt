@@ -1,7 +1,8 @@
 //! Spans, lines and texts in a buffer.
 
 ghost use Rattle.std.specs.Prelude.{◌≡◌, ◌⊎◌, MatchOption, IsOk, OnOk, OnErr};
-ghost use Rattle.rtui_widgets.specs.Rendering.{RendersSpan, RendersLine, RendersText, RendersShortSpan, RendersShortLine, RendersShortText, ChangesWithin, clipped};
+ghost use Rattle.rtui_geometry.specs.Rect.{intersected};
+ghost use Rattle.rtui_widgets.specs.Rendering.{RendersSpan, RendersLine, RendersText, RendersShortSpan, RendersShortLine, RendersShortText, ChangesWithin};
 ghost use Rattle.rtui_widgets.specs.Clipped.{IsClipped};
 
 use crate::line::render_line;
@@ -13,8 +14,8 @@ use rtui_text::{Line, Span, Text};
 use std::alloc::AllocError;
 
 // The part of an area that a buffer has, if there is one.
-fn clipped(buf: &Buffer, area: Rect) -> Option<Rect>
-    ensures { let r = clipped area buf.now.area in
+fn intersected(buf: &Buffer, area: Rect) -> Option<Rect>
+    ensures { let r = intersected area buf.now.area in
         MatchOption result ((r.width ≡ 0) ⊎ (r.height ≡ 0)) (IsClipped area buf.now.area) }
 {
     let part = area.intersection(*buf.area());
@@ -30,7 +31,7 @@ pub(crate) fn span_in(span: &Span<'_>, area: Rect, buf: &mut Buffer) -> Result<(
     ensures err { OnErr result (ChangesWithin area buf.old buf.new) }
     ensures short { RendersShortSpan span.now area buf.old → IsOk result }
 {
-    let Some(part) = clipped(buf, area) else {
+    let Some(part) = intersected(buf, area) else {
         return Ok(());
     };
     let start = buf.index_of(part.x, part.y);
@@ -46,7 +47,7 @@ pub(crate) fn line_in(line: &Line<'_>, area: Rect, buf: &mut Buffer) -> Result<(
     ensures err { OnErr result (ChangesWithin area buf.old buf.new) }
     ensures short { RendersShortLine line.now area buf.old → IsOk result }
 {
-    let Some(part) = clipped(buf, area) else {
+    let Some(part) = intersected(buf, area) else {
         return Ok(());
     };
     let start = buf.index_of(part.x, part.y);
@@ -62,7 +63,7 @@ pub(crate) fn text_in(text: &Text<'_>, area: Rect, buf: &mut Buffer) -> Result<(
     ensures err { OnErr result (ChangesWithin area buf.old buf.new) }
     ensures short { RendersShortText text.now area buf.old → IsOk result }
 {
-    let Some(part) = clipped(buf, area) else {
+    let Some(part) = intersected(buf, area) else {
         return Ok(());
     };
     let start = buf.index_of(part.x, part.y);

@@ -5,7 +5,7 @@ ghost use Rattle.rtui_cell.specs.Symbol.{appended, IsShort};
 ghost use Rattle.rtui_cell.specs.Width.{text_width};
 ghost use Rattle.rtui_buffer.specs.Painting.{emptied};
 ghost use Rattle.rtui_widgets.specs.Span.{span_rendered, IsShortSpan};
-ghost use Rattle.rtui_widgets.specs.Steps.{with_symbol, with_appended, with_next, next_symbol};
+ghost use Rattle.rtui_widgets.specs.Steps.{with_grapheme, with_appended, with_next, next_symbol};
 
 use rtui_cell::{Cell, CellWidth};
 use rtui_style::Style;
@@ -74,7 +74,7 @@ fn put_next(
 
 // Sets a cell's symbol, in a style.
 fn set(alloc: Global, cell: &mut Cell, symbol: &str, style: Style) -> Result<(), AllocError>
-    ensures ok { OnOk result (cell.new ≡ with_symbol style symbol.now cell.old) }
+    ensures ok { OnOk result (cell.new ≡ with_grapheme style symbol.now cell.old) }
     ensures short { IsShort symbol.now → IsOk result }
 {
     cell.set_symbol(alloc, symbol)?;

@@ -29,7 +29,7 @@ use Rattle.rtui_terminal.specs.State.{State, cursor_offset}
 use Rattle.rtui_terminal.specs.InStep.{IsInStep, IsSized}
 use Rattle.rtui_terminal.specs.Insertion.{inserted_area, Follows, TakesRows}
 use Rattle.rtui_terminal.specs.Calls.{Starts, Applies, ClearsViewport, Resizes, IsResized, first_area}
-use Rattle.screenplay.specs.Run.{stage_size, IsGoodViewport, IsGoodStage, MayLie, IsFrame, first_viewport, first_rows, IsStart, KeepsRest, size_after, Sight, row_count, text_area, IsInserted, InsertsOn}
+use Rattle.screenplay.specs.Run.{stage_size, IsGoodViewport, IsGoodStage, MayLie, IsFrame, first_viewport, first_rows, IsStart, KeepsSurroundings, size_after, Sight, row_count, text_area, IsInserted, InsertsOn}
 use Rattle.screenplay.specs.Playing.{IsPlaying, sight_in, TakesNewSize, IsSizedFor, ShowsFrame, InsertsBuffer, IsFrameCause, IsCause, Plays}
 use Rattle.screenplay.specs.declared.scene.PlayCause.{PlayCause}
 use Rattle.screenplay.specs.declared.scene.PlayCause.TheVariants.{Memory, Unsettled}
@@ -422,7 +422,7 @@ Plays-drawn stage given text puts s m t sized playing shows =
         made = shows.made;
         settled = shows.settled;
         shown = shows.shown;
-        same = λ e. subst (λ x. KeepsRest (sight_in x) (sight_in t)) (sized.same (sym size ∙ e)) shows.rest;
+        same = λ e. subst (λ x. KeepsSurroundings (sight_in x) (sight_in t)) (sized.same (sym size ∙ e)) shows.rest;
         other = λ out. let goes = sized.other (λ e. out (size ∙ e)) in (goes.0, shows.rest.size.history ∙ goes.1);
       };
     }

@@ -11,7 +11,7 @@ use Rattle.screenplay.specs.declared.script.Command.TheVariants.{SetStage, TakeS
 use Rattle.screenplay.specs.declared.scene.Stage.{Stage}
 use Rattle.screenplay.specs.declared.scene.Step.{Step}
 use Rattle.screenplay.specs.Run.{IsGoodStage}
-use Rattle.screenplay.specs.Script.{parsed_number, first_word, behind_word, char_of, size_by, size_of, stage_with, screen_by, inline_by, inline_of, rect_of, fixed_by, fixed_of, size_command, put_by, put_of, command_with, command_of, commands_of, stage_of, IsScript}
+use Rattle.screenplay.specs.Script.{parsed_number, first_word, behind_word, char_of, size_by, parsed_size, stage_with, screen_by, inline_by, inline_of, rect_of, fixed_by, fixed_of, size_command, put_by, put_of, command_with, command_of, commands_of, stage_of, IsScript}
 
 abbrev SetsGood : List Command → Type 0
 SetsGood commands = IfSome (stage_of commands) IsGoodStage
@@ -72,8 +72,8 @@ IsGood-put (Some x) None c = tt
 IsGood-put (Some x) (Some y) None = tt
 IsGood-put (Some x) (Some y) (Some c) = tt
 
-IsGood-screen_of : (arguments : List ℕ) → IsGood (screen_by (size_of arguments))
-unfolding size_of
+IsGood-screen_of : (arguments : List ℕ) → IsGood (screen_by (parsed_size arguments))
+unfolding parsed_size
 IsGood-screen_of arguments = IsGood-screen _ (HasSize-by (parsed_number (first_word arguments)) (parsed_number (behind_word arguments)))
 
 IsGood-inline_of : (arguments : List ℕ) → IsGood (inline_of arguments)
@@ -94,7 +94,7 @@ IsGood-command_with word arguments =
     IsGood-if (bytes_eq word (codes "screen")) _ _ (IsGood-screen_of arguments)
     (IsGood-if (bytes_eq word (codes "inline")) _ _ (IsGood-inline_of arguments)
     (IsGood-if (bytes_eq word (codes "fixed")) _ _ (IsGood-fixed_of arguments)
-    (IsGood-if (bytes_eq word (codes "size")) _ _ (IsGood-size (size_of arguments))
+    (IsGood-if (bytes_eq word (codes "size")) _ _ (IsGood-size (parsed_size arguments))
     (IsGood-if (bytes_eq word (codes "put")) _ _ (IsGood-put_of arguments)
     (IsGood-if (bytes_eq word (codes "text")) _ _ tt tt)))))
 

@@ -5,7 +5,7 @@ use Rattle.rtui_cell.specs.Look.{Look}
 use Rattle.rtui_text.specs.Text.{TextData}
 use Rattle.rtui_buffer.specs.Sheet.{Sheet}
 use Rattle.rtui_rows.specs.Insertion.{AppendsRows}
-use Rattle.screenplay.specs.Run.{sight_of, sight_size, rows_over, text_area, IsFrame}
+use Rattle.screenplay.specs.Run.{sight_of, sight_size, sight_rows_above, text_area, IsFrame}
 use Rattle.screenplay.specs.declared.scene.Scene.{Scene}
 use Rattle.screenplay.specs.declared.scene.Step.{Step}
 use Rattle.screenplay.specs.declared.scene.Step.TheVariants.{Draw, Insert, Clear}
@@ -24,16 +24,16 @@ pub record AppendsTexts (width : ℕ) (texts : List TextData) (old new : List (L
   pub appends : AppendsRows frames old new
 
 -- the texts that a step inserts
-abbrev pub inserted_by : Option Step → List TextData
-inserted_by None = []
-inserted_by (Some (Draw given text puts)) = []
-inserted_by (Some (Insert text)) = text ∷ []
-inserted_by (Some Clear) = []
+abbrev pub texts_inserted_by : Option Step → List TextData
+texts_inserted_by None = []
+texts_inserted_by (Some (Draw given text puts)) = []
+texts_inserted_by (Some (Insert text)) = text ∷ []
+texts_inserted_by (Some Clear) = []
 
 -- and n steps from step i on
 abbrev pub inserted_from : List Step → ℕ → ℕ → List TextData
 inserted_from steps i zero = []
-inserted_from steps i (suc n) = inserted_by (slice_get steps i) ++ inserted_from steps (i + 1) n
+inserted_from steps i (suc n) = texts_inserted_by (slice_get steps i) ++ inserted_from steps (i + 1) n
 
 abbrev pub scene_size : Scene → Size
 scene_size scene = sight_size (sight_of scene)
@@ -47,4 +47,4 @@ abbrev pub IsAppending : List Step → List Scene → Type 0
 IsAppending steps scenes =
     (i n : ℕ) (first last : Scene) → slice_get scenes i ≡ Some first → slice_get scenes (i + n) ≡ Some last
     → 0 < (scene_size first).height → KeepsSizeFor scenes i n (scene_size first)
-    → AppendsTexts (scene_size first).width (inserted_from steps i n) (rows_over (sight_of first)) (rows_over (sight_of last))
+    → AppendsTexts (scene_size first).width (inserted_from steps i n) (sight_rows_above (sight_of first)) (sight_rows_above (sight_of last))

@@ -3,7 +3,7 @@ use Rattle.std.specs.Prelude.{ℕ, List, [], ◌++◌, Option, Some, codes, IfSo
 use Rattle.std.specs.Fmt.{decimal}
 use Rattle.std.specs.Str.{IsUtf8}
 use Rattle.std.specs.Io.KnownBytes.{Appends}
-use Rattle.screenplay.specs.Script.{IsScript, IsFirstBadLine, text_lines}
+use Rattle.screenplay.specs.Script.{IsScript, IsFirstBadLine, script_lines}
 use Rattle.screenplay.specs.Run.{IsRun, IsFault}
 use Rattle.screenplay.specs.Print.{printed}
 use Rattle.screenplay.specs.declared.scene.Scene.{Scene}
@@ -20,7 +20,7 @@ pub record IsPlayed (bytes shows : List ℕ) (scenes : List Scene) : Type 0 wher
   pub stage : Option Stage
   pub steps : List Step
   pub text : IsUtf8 bytes
-  pub script : IsScript (text_lines bytes) stage steps shows
+  pub script : IsScript (script_lines bytes) stage steps shows
   pub run : IfSome stage (λ s. IsRun s steps scenes)
 
 -- the writer took the printed scenes of a run of the script
@@ -36,12 +36,12 @@ pub record HasStepFault (bytes : List ℕ) (fault : PlayFault) : Type 0 where
   pub steps : List Step
   pub shows : List ℕ
   pub text : IsUtf8 bytes
-  pub script : IsScript (text_lines bytes) (Some stage) steps shows
+  pub script : IsScript (script_lines bytes) (Some stage) steps shows
   pub played : IsFault stage steps fault
 
 -- why nothing of these bytes was printed, or with a failed writer a part: they are a script that was played
 abbrev pub IsRunFault : List ℕ → RunFault → Type 0
-IsRunFault bytes (Line n) = IsFirstBadLine (text_lines bytes) n
+IsRunFault bytes (Line n) = IsFirstBadLine (script_lines bytes) n
 IsRunFault bytes (AtStep fault) = HasStepFault bytes fault
 IsRunFault bytes NotText = IsUtf8 bytes → ⊥
 IsRunFault bytes Read = Unit {0}

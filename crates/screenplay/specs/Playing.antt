@@ -13,7 +13,7 @@ use Rattle.rtui_terminal.specs.State.{State}
 use Rattle.rtui_terminal.specs.InStep.{IsInStep, IsSized}
 use Rattle.rtui_terminal.specs.Calls.{Autoresizes}
 use Rattle.rtui_terminal.specs.Insertion.{inserted_area, Inserts}
-use Rattle.screenplay.specs.Run.{Sight, plain_screen, sight_of, MayLie, size_after, GoesOn, KeepsRest, IsFrame, IsAtCorner, HasUnsettled, IsUnsettled, IsAfter}
+use Rattle.screenplay.specs.Run.{Sight, plain_screen, sight_of, MayLie, size_after, GoesOn, KeepsSurroundings, IsFrame, IsAtCorner, HasUnsettled, IsUnsettled, IsAfter}
 use Rattle.screenplay.specs.declared.scene.Stage.{Stage}
 use Rattle.screenplay.specs.declared.scene.Scene.{Scene}
 use Rattle.screenplay.specs.declared.scene.Step.{Step}
@@ -53,7 +53,7 @@ pub record IsSizedFor (stage : Stage) (given : Option Size) (s t : State TestBac
 
 -- a settled frame over the viewport was drawn, and all else stays
 pub record ShowsFrame (text : TextData) (puts : List (ℕ × ℕ × ℕ)) (s t : State TestBackend) : Type 0 where
-  pub rest : KeepsRest (sight_in s) (sight_in t)
+  pub rest : KeepsSurroundings (sight_in s) (sight_in t)
   pub frame : Sheet
   pub made : IsFrame t.viewport_area text puts frame
   pub settled : IsSettledSheet frame

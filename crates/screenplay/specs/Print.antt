@@ -18,14 +18,14 @@ abbrev pub printed_row : List ℕ → List Cell → List ℕ
 printed_row mark cells = mark ++ row_text 0 cells ++ 10 ∷ []
 
 -- row b of a buffer
-abbrev pub sheet_row : Sheet → ℕ → List Cell
-sheet_row s b = take s.area.width (drop (b * s.area.width) s.cells)
+abbrev pub screen_row : Sheet → ℕ → List Cell
+screen_row s b = take s.area.width (drop (b * s.area.width) s.cells)
 
 -- the history behind `^`, then the screen behind `|`
 abbrev pub printed_scene : Scene → List ℕ
 printed_scene scene =
     flat_map (λ row. printed_row (codes "^") row.items) scene.history.items
-    ++ flat_map (λ b. printed_row (codes "|") (sheet_row scene.screen b)) (range_with_len 0 scene.screen.area.height)
+    ++ flat_map (λ b. printed_row (codes "|") (screen_row scene.screen b)) (range_with_len 0 scene.screen.area.height)
 
 abbrev pub printed_if : Option Scene → List ℕ
 printed_if None = []

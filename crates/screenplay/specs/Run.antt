@@ -51,8 +51,8 @@ abbrev pub sight_size : Sight → Size
 sight_size s = size_of s.screen
 
 -- the rows above the viewport
-abbrev pub rows_over : Sight → List (List Look)
-rows_over s = rows_above s.screen s.viewport.y
+abbrev pub sight_rows_above : Sight → List (List Look)
+sight_rows_above s = rows_above s.screen s.viewport.y
 
 abbrev pub at_corner : Size → Rect
 at_corner size = record { x = 0; y = 0; width = size.width; height = size.height }
@@ -119,7 +119,7 @@ pub record IsStart (stage : Stage) (s : Sight) : Type 0 where
   pub blank : (a b : ℕ) → a < stage.width → b < stage.height → s.screen.grid a b ≡ empty_look
 
 -- the size, the viewport, the history and all columns outside the viewport stay
-pub record KeepsRest (old new : Sight) : Type 0 where
+pub record KeepsSurroundings (old new : Sight) : Type 0 where
   pub viewport : new.viewport ≡ old.viewport
   pub size : KeepsSize old.screen new.screen
   pub outside : KeepsOutside old.viewport old.screen new.screen
@@ -143,12 +143,12 @@ pub record IsDrawn (stage : Stage) (given : Option Size) (text : TextData) (puts
   pub made : IsFrame new.viewport text puts frame
   pub settled : IsSettledSheet frame
   pub shown : ShowsSheet frame new.screen.grid
-  pub same : sight_size new ≡ sight_size old → KeepsRest old new
+  pub same : sight_size new ≡ sight_size old → KeepsSurroundings old new
   pub other : (sight_size new ≡ sight_size old → ⊥) → GoesOn old.screen.history new.screen.history
 
 -- a clear: the viewport is empty, and all else stays
 pub record IsEmptiedView (old new : Sight) : Type 0 where
-  pub rest : KeepsRest old new
+  pub rest : KeepsSurroundings old new
   pub blank : IsBlankOver new.viewport new.screen
 
 -- how many rows a text inserts: one for each line, as far as 16 bits count
@@ -167,7 +167,7 @@ pub record IsInserted (text : TextData) (old new : Sight) : Type 0 where
   pub frame : Sheet
   pub made : IsFrame (text_area old.screen.width text) text [] frame
   pub settled : IsSettledSheet frame
-  pub above : 0 < old.screen.height → AppendsRows (frame ∷ []) (rows_over old) (rows_over new)
+  pub above : 0 < old.screen.height → AppendsRows (frame ∷ []) (sight_rows_above old) (sight_rows_above new)
   pub blank : IsBlankOver new.viewport new.screen
   pub none : old.screen.height ≡ 0 → new ≡ old
 

@@ -80,8 +80,8 @@ fixed_by (Some size) (Some r) =
 fixed_by a b = None
 
 -- `W H`
-unfoldable pub size_of : List ℕ → Option Size
-size_of arguments = size_by (parsed_number (first_word arguments)) (parsed_number (behind_word arguments))
+unfoldable pub parsed_size : List ℕ → Option Size
+parsed_size arguments = size_by (parsed_number (first_word arguments)) (parsed_number (behind_word arguments))
 
 -- `W H N`
 unfoldable pub inline_of : List ℕ → Option Command
@@ -107,10 +107,10 @@ put_of arguments =
 -- the command of a line with arguments
 unfoldable pub command_with : List ℕ → List ℕ → Option Command
 command_with word arguments =
-    if bytes_eq word (codes "screen") then screen_by (size_of arguments)
+    if bytes_eq word (codes "screen") then screen_by (parsed_size arguments)
     else (if bytes_eq word (codes "inline") then inline_of arguments
     else (if bytes_eq word (codes "fixed") then fixed_of arguments
-    else (if bytes_eq word (codes "size") then size_command (size_of arguments)
+    else (if bytes_eq word (codes "size") then size_command (parsed_size arguments)
     else (if bytes_eq word (codes "put") then put_of arguments
     else (if bytes_eq word (codes "text") then Some (AddText arguments)
     else None)))))
@@ -278,5 +278,5 @@ IsRefused all (Line n) = IsFirstBadLine all n
 IsRefused all Memory = Unit {0}
 
 -- the lines of a text
-abbrev pub text_lines : List ℕ → List (List ℕ)
-text_lines text = lines text
+abbrev pub script_lines : List ℕ → List (List ℕ)
+script_lines text = lines text

@@ -2,7 +2,7 @@
 
 ghost use Rattle.std.specs.Prelude.{◌≡◌, Some, IfOk, IfErr, IfSome, OnOk};
 ghost use Rattle.std.specs.Str.{IsUtf8};
-ghost use Rattle.screenplay.specs.Script.{IsScript, text_lines};
+ghost use Rattle.screenplay.specs.Script.{IsScript, script_lines};
 ghost use Rattle.screenplay.specs.Run.{IsGoodStage, IsRun, IsFault};
 ghost use Rattle.screenplay.specs.Engine.{IsRunFault, PrintsRun};
 ghost use Rattle.screenplay.specs.declared.scene.Stage.{Stage};
@@ -35,7 +35,7 @@ fn read_bytes<R: Read>(alloc: Global, reader: &mut R) -> Result<Vec<u8>, RunFaul
 // The script that these bytes are.
 fn script_of(alloc: Global, bytes: &[u8]) -> Result<Script<'_>, RunFault>
     ensures ok { IfOk result (λ s. IsUtf8 bytes.now
-        × IsScript (text_lines bytes.now) s.stage s.steps.items s.shows.items) }
+        × IsScript (script_lines bytes.now) s.stage s.steps.items s.shows.items) }
     ensures err { IfErr result (IsRunFault bytes.now) }
     ensures early { IfErr result (λ fault. fault ≡ Write → ⊥) }
 {

@@ -3,7 +3,7 @@
 ghost use Rattle.std.specs.Prelude.{codes, ◌<◌, ◌≡◌, OnOk, slice_get};
 ghost use Rattle.std.specs.List.{flat_map, range_with_len};
 ghost use Rattle.std.specs.Io.KnownBytes.{Appends};
-ghost use Rattle.screenplay.specs.Print.{row_text, printed_row, sheet_row, printed_scene, printed_if, printed};
+ghost use Rattle.screenplay.specs.Print.{row_text, printed_row, screen_row, printed_scene, printed_if, printed};
 
 use crate::scene::Scene;
 use rtui_buffer::Buffer;
@@ -49,7 +49,7 @@ fn write_history<W: Write>(writer: &mut W, history: &[Vec<Cell>]) -> io::Result<
 // Row b of a screen, from the left.
 fn screen_row(screen: &Buffer, b: u16) -> &[Cell]
     requires { b < screen.now.area.height }
-    ensures { result.now ≡ sheet_row screen.now b }
+    ensures { result.now ≡ screen_row screen.now b }
 {
     let width = screen.area().width as usize;
     let start = b as usize * width;
@@ -58,7 +58,7 @@ fn screen_row(screen: &Buffer, b: u16) -> &[Cell]
 
 fn write_screen<W: Write>(writer: &mut W, screen: &Buffer) -> io::Result<()>
     ensures { OnOk result (Appends (W.contents writer.old) (W.contents writer.new)
-        (flat_map (λ b. printed_row (codes "|") (sheet_row screen.now b))
+        (flat_map (λ b. printed_row (codes "|") (screen_row screen.now b))
         (range_with_len 0 screen.now.area.height))) }
 {
     for b in 0..screen.area().height {

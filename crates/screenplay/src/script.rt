@@ -4,7 +4,7 @@ ghost use Rattle.std.specs.Prelude.{◌≡◌, ℕ, ◌+◌, ◌&&◌, nat_le, �
 ghost use Rattle.std.specs.Char.{is_ascii_digit};
 ghost use Rattle.std.specs.List.{list_all};
 ghost use Rattle.rtui_text.specs.Text.{raw_line};
-ghost use Rattle.screenplay.specs.Script.{parsed_number, char_of, first_word, behind_word, size_by, size_of, rect_of, screen_by, inline_of, fixed_of, size_command, put_of, command_with, command_of, may_stand, may_insert, nothing, draw_of, without_text, waiting_after, steps_of, shows_of, stage_after, text_lines, IsScript, IsRefused};
+ghost use Rattle.screenplay.specs.Script.{parsed_number, char_of, first_word, behind_word, size_by, parsed_size, rect_of, screen_by, inline_of, fixed_of, size_command, put_of, command_with, command_of, may_stand, may_insert, nothing, draw_of, without_text, waiting_after, steps_of, shows_of, stage_after, script_lines, IsScript, IsRefused};
 ghost use Rattle.screenplay.specs.Reading.{HasRead, TakesLine};
 ghost use Rattle.screenplay.specs.declared.script.Command.{Command};
 
@@ -116,9 +116,9 @@ fn size_by(width: Option<u16>, height: Option<u16>) -> Option<Size>
     }
 }
 
-#[tactic(auto, unfolding(crate::specs::Script::size_of))]
+#[tactic(auto, unfolding(crate::specs::Script::parsed_size))]
 fn read_size(arguments: &str) -> Option<Size>
-    ensures { result ≡ size_of arguments.now }
+    ensures { result ≡ parsed_size arguments.now }
 {
     let (width, height) = split_word(arguments);
     size_by(read_number(width), read_number(height))
@@ -140,7 +140,7 @@ fn read_rect(arguments: &str) -> Option<Rect>
 }
 
 fn read_screen<'a>(arguments: &str) -> Option<Command<'a>>
-    ensures { result ≡ screen_by (size_of arguments.now) }
+    ensures { result ≡ screen_by (parsed_size arguments.now) }
 {
     let size = read_size(arguments)?;
     Some(Command::SetStage(Stage {
@@ -196,7 +196,7 @@ fn read_fixed<'a>(arguments: &str) -> Option<Command<'a>>
 }
 
 fn read_new_size<'a>(arguments: &str) -> Option<Command<'a>>
-    ensures { result ≡ size_command (size_of arguments.now) }
+    ensures { result ≡ size_command (parsed_size arguments.now) }
 {
     Some(Command::TakeSize(read_size(arguments)?))
 }
@@ -415,8 +415,8 @@ fn take_line<'a>(
 /// Reads a script; it answers the first bad line, or that memory was refused.
 pub fn read_script(alloc: Global, text: &str) -> Result<Script<'_>, ScriptFault>
     ensures ok { IfOk result (λ s.
-        IsScript (text_lines text.now) s.stage s.steps.items s.shows.items) }
-    ensures err { IfErr result (IsRefused (text_lines text.now)) }
+        IsScript (script_lines text.now) s.stage s.steps.items s.shows.items) }
+    ensures err { IfErr result (IsRefused (script_lines text.now)) }
 {
     let mut script = new_script(alloc);
     let mut waiting = nothing_waiting(alloc);

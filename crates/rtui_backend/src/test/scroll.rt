@@ -5,7 +5,8 @@ ghost use Rattle.std.specs.List.{range_with_len};
 ghost use Rattle.rtui_cell.specs.Cell.{empty_cell};
 ghost use Rattle.rtui_cell.specs.Look.{look_of};
 ghost use Rattle.rtui_backend.specs.Clear.{is_cleared};
-ghost use Rattle.rtui_backend.specs.CellGrid.{cell_at, look_at, AreUnmarked};
+ghost use Rattle.rtui_diff.specs.Cells.{cell};
+ghost use Rattle.rtui_backend.specs.CellGrid.{look_at, AreUnmarked};
 
 use crate::clear_type::ClearType;
 use crate::test::TestBackend;
@@ -18,7 +19,7 @@ use std::mem;
 fn blank(cells: &mut [Cell], from: usize, to: usize)
     requires order { from ≤ to }
     requires end { to ≤ length cells.old }
-    ensures { (k : ℕ) → cell_at cells.new k ≡ (if nat_le from k && nat_lt k to then empty_cell else cell_at cells.old k) }
+    ensures { (k : ℕ) → cell cells.new k ≡ (if nat_le from k && nat_lt k to then empty_cell else cell cells.old k) }
 {
     for k in from..to {
         cells[k].reset();
@@ -27,7 +28,7 @@ fn blank(cells: &mut [Cell], from: usize, to: usize)
 
 // Moves the cells up by so many places, and empties those that come free at the end.
 fn shift(cells: &mut [Cell], by: usize)
-    ensures { (k : ℕ) → cell_at cells.new k ≡ cell_at cells.old (k + by) }
+    ensures { (k : ℕ) → cell cells.new k ≡ cell cells.old (k + by) }
 {
     let count = by.min(cells.len());
     blank(cells, 0, count);
@@ -78,10 +79,10 @@ fn copied_rows(
 fn swap_cells(from: &mut [Cell], start: usize, to: &mut [Cell], place: usize, count: usize)
     requires inside { start + count ≤ length from.old }
     requires fits { place + count ≤ length to.old }
-    ensures moved { (k : ℕ) → k < count → cell_at to.new (place + k) ≡ cell_at from.old (start + k) }
-    ensures rest { (k : ℕ) → k < place → cell_at to.new k ≡ cell_at to.old k }
-    ensures behind { (k : ℕ) → place + count ≤ k → cell_at to.new k ≡ cell_at to.old k }
-    ensures left { (k : ℕ) → start + count ≤ k → cell_at from.new k ≡ cell_at from.old k }
+    ensures moved { (k : ℕ) → k < count → cell to.new (place + k) ≡ cell from.old (start + k) }
+    ensures rest { (k : ℕ) → k < place → cell to.new k ≡ cell to.old k }
+    ensures behind { (k : ℕ) → place + count ≤ k → cell to.new k ≡ cell to.old k }
+    ensures left { (k : ℕ) → start + count ≤ k → cell from.new k ≡ cell from.old k }
     ensures unmarked { AreUnmarked from.old → AreUnmarked to.old → AreUnmarked from.new × AreUnmarked to.new }
 {
     for k in 0..count {
@@ -93,9 +94,9 @@ fn swap_cells(from: &mut [Cell], start: usize, to: &mut [Cell], place: usize, co
 fn move_rows(from: &mut [Cell], former: Size, to: &mut [Cell], size: Size)
     requires from_size { length from.old ≡ former.width * former.height }
     requires to_size { length to.old ≡ size.width * size.height }
-    requires blank { (k : ℕ) → cell_at to.old k ≡ empty_cell }
-    ensures grid { (a b : ℕ) → a < size.width → cell_at to.new (b * size.width + a)
-        ≡ (if nat_lt a former.width && nat_lt b (min former.height size.height) then cell_at from.old (b * former.width + a) else empty_cell) }
+    requires blank { (k : ℕ) → cell to.old k ≡ empty_cell }
+    ensures grid { (a b : ℕ) → a < size.width → cell to.new (b * size.width + a)
+        ≡ (if nat_lt a former.width && nat_lt b (min former.height size.height) then cell from.old (b * former.width + a) else empty_cell) }
     ensures unmarked { AreUnmarked from.old → AreUnmarked to.new }
 {
     let width = usize::from(former.width);

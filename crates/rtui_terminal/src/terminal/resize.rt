@@ -1,7 +1,7 @@
 ghost use Rattle.std.specs.Prelude.{◌≡◌, OnOk, OnErr, MatchResult};
 ghost use Rattle.rtui_geometry.specs.Rect.{EdgesFit};
 ghost use Rattle.rtui_buffer.specs.Sheet.{IsSameSheet};
-ghost use Rattle.rtui_terminal.specs.State.{HasRoom, IsInPlace};
+ghost use Rattle.rtui_terminal.specs.State.{HaveRoom, IsInPlace};
 ghost use Rattle.rtui_terminal.specs.Calls.{Faults, FailsOnlyByBackend, IsResized, ClearsViewport, Resizes, ResizeErr, Autoresizes, AutoresizeErr};
 
 use crate::terminal::Terminal;
@@ -35,7 +35,7 @@ impl<B: Backend> Terminal<B> {
         ensures older { IsSameSheet self.old.older self.new.older }
         ensures rest { self.new
             ≡ record self.old { current = self.new.current; older = self.new.older } }
-        ensures room { OnOk result (HasRoom area self.new) }
+        ensures room { OnOk result (HaveRoom area self.new) }
     {
         self.current.reserve(area)?;
         self.older.reserve(area)
@@ -45,7 +45,7 @@ impl<B: Backend> Terminal<B> {
     fn set_area(&mut self, area: Rect)
         requires fits { EdgesFit area }
         requires place { IsInPlace self.old.viewport area }
-        requires room { HasRoom area self.old }
+        requires room { HaveRoom area self.old }
         ensures current { IsResized area self.old.current self.new.current }
         ensures older { IsResized area self.old.older self.new.older }
         ensures rest { let t = self.new in

@@ -3,7 +3,8 @@ use Rattle.std.proofs.lemmas.Result.{on_ok_weaker}
 use Rattle.std.specs.Prelude.{OnOk}
 use Rattle.rtui_cell.specs.declared.cell.Cell.{Cell}
 use Rattle.rtui_widgets.specs.Line.{line_rendered, IsShortLine}
-use Rattle.rtui_widgets.specs.Rendering.{in_first_row, clipped}
+use Rattle.rtui_geometry.specs.Rect.{intersected}
+use Rattle.rtui_widgets.specs.Rendering.{in_first_row}
 use Rattle.rtui_widgets.proofs.LineLemmas.{line-in_none}
 use Rattle.rtui_widgets.proofs.SheetLemmas.{renders-nothing, first-none, first-renders, first-changes, first-columns}
 use Rattle.rtui_widgets.proofs.buffer.line_in.Goals as goal
@@ -38,6 +39,6 @@ returns-clause-short c = λ short.
     let at : ℕ = c.index_of-start.result in
     let n : ℕ = at + c.from.result - at in
     let alignment : c.line.inside.alignment ≡ c.args.line.now.alignment = ap (λ l. l.alignment) c.line.view_is in
-    let columns : (clipped c.args.area c.args.buf.now.area).width ≡ length (take n (drop at c.cells_mut-cells.result.now)) =
+    let columns : (intersected c.args.area c.args.buf.now.area).width ≡ length (take n (drop at c.cells_mut-cells.result.now)) =
     rw value (sym (first-columns c.args.area c.args.buf.now c.in-Some.part c.in-Some.ensures at n c.index_of-start.ensures.value (omega (arith, c.from.ensures)) (rw (← value) c.cells_mut-cells.ensures.count))) in
     c.render_line.ensures.short (subst (λ a. IsShortLine a c.args.line.now (length (take n (drop at c.cells_mut-cells.result.now)))) (sym alignment) (subst (IsShortLine c.args.line.now.alignment c.args.line.now) columns short))

@@ -1,7 +1,8 @@
 use Rattle.std.proofs.Common.{◌≡◌, length, rules, arith, ap, sym, subst, ◌∙◌}
 use Rattle.std.proofs.lemmas.Result.{on_ok_weaker, on_err_weaker}
 use Rattle.rtui_buffer.specs.Sheet.{area_size}
-use Rattle.rtui_widgets.specs.Rendering.{text_row, clipped, IsShortRow}
+use Rattle.rtui_geometry.specs.Rect.{intersected}
+use Rattle.rtui_widgets.specs.Rendering.{text_row, IsShortRow}
 use Rattle.rtui_widgets.proofs.LineLemmas.{line-in_none}
 use Rattle.rtui_widgets.proofs.SheetLemmas.{renders-nothing, rows-inside, lent-renders, lent-changes}
 use Rattle.rtui_widgets.proofs.buffer.text_in.Goals as goal
@@ -34,6 +35,6 @@ pub returns-clause-short : goal.returns-clause-short
 returns-clause-short c = λ short.
     c.render_rows.ensures.short (λ k lt.
     let r = c.in-Some.ensures.value in
-    let width : (clipped c.args.area c.args.buf.now.area).width ≡ c.from.result = sym (c.from.ensures ∙ ap (λ q. q.width) r) in
-    let height : c.from-2.result ≡ (clipped c.args.area c.args.buf.now.area).height = c.from-2.ensures ∙ ap (λ q. q.height) r in
+    let width : (intersected c.args.area c.args.buf.now.area).width ≡ c.from.result = sym (c.from.ensures ∙ ap (λ q. q.width) r) in
+    let height : c.from-2.result ≡ (intersected c.args.area c.args.buf.now.area).height = c.from-2.ensures ∙ ap (λ q. q.height) r in
     subst (λ n. IsShortRow c.args.text.now n k) width (short k (omega arith)))

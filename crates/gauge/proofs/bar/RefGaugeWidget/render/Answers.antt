@@ -1,5 +1,5 @@
 use Rattle.std.proofs.Common.{◌≡◌, ◌⊎◌, ⊎_elim, refl, rules, arith}
-use Rattle.ratatui_core.specs.Widgets.{clipped}
+use Rattle.ratatui_core.specs.Layout.{intersected}
 use Rattle.ratatui_core.proofs.BufferLemmas.{IsSettledSheet-empty}
 use Rattle.gauge.proofs.PartLemmas.{renders, changes-within}
 use Rattle.gauge.proofs.bar.RefGaugeWidget.render.Goals as goal
@@ -7,10 +7,10 @@ use Rattle.gauge.proofs.bar.RefGaugeWidget.render.Goals as goal
 pub returns-in_default-clause-ok : goal.returns-in_default-clause-ok
 returns-in_default-clause-ok c =
     let own = c.args.buf.now.area in
-    let none : ((clipped c.args.area own).width ≡ 0) ⊎ ((clipped c.args.area own).height ≡ 0) = search rules in
+    let none : ((intersected c.args.area own).width ≡ 0) ⊎ ((intersected c.args.area own).height ≡ 0) = search rules in
     record {
       nothing = λ _. refl;
-      painted = λ wide high. ⊎_elim (λ (e : (clipped c.args.area own).width ≡ 0). absurd (omega arith)) (λ (e : (clipped c.args.area own).height ≡ 0). absurd (omega arith)) none;
+      painted = λ wide high. ⊎_elim (λ (e : (intersected c.args.area own).width ≡ 0). absurd (omega arith)) (λ (e : (intersected c.args.area own).height ≡ 0). absurd (omega arith)) none;
       settled = λ emptied. IsSettledSheet-empty _ _ emptied;
     }
 

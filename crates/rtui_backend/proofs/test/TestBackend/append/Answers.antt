@@ -5,7 +5,8 @@ use Rattle.std.proofs.lemmas.Bool.Decides.{nat_tests}
 use Rattle.std.proofs.lemmas.Grind.{common_steps}
 use Rattle.rtui_cell.specs.Look.{look_of}
 use Rattle.rtui_buffer.specs.Sheet.{refilled}
-use Rattle.rtui_backend.specs.CellGrid.{cell_at, look_at}
+use Rattle.rtui_diff.specs.Cells.{cell}
+use Rattle.rtui_backend.specs.CellGrid.{look_at}
 use Rattle.rtui_backend.specs.Screen.{lines_past}
 use Rattle.rtui_backend.specs.TestBackend.{screen_of}
 use Rattle.rtui_backend.proofs.ShiftLemmas.{rows_are, scrolled_grid}
@@ -24,7 +25,7 @@ returns-clause-ok c =
     let items : refilled cells new ≡ new = grind (arith, common_steps) in
     let rows : map (λ r. map look_of r.items) c.in_ok-rows.rows.items ≡ map (λ b. map (λ a. look_at cells (b * w + a)) (range_with_len 0 w)) (range_with_len 0 past) =
     rw (c.content.ensures.cells, c.area-area.ensures.area, count) at c.in_ok-rows.ensures in
-    let moved : (i : ℕ) → cell_at new i ≡ cell_at cells (i + past * w) = λ i.
+    let moved : (i : ℕ) → cell new i ≡ cell cells (i + past * w) = λ i.
     rw (c.cells_mut.ensures.cells, c.from-4.ensures, c.area-area.ensures.area, count) at (c.shift.ensures i) in
     record {
       scrolled = record {

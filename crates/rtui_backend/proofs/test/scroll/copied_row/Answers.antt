@@ -3,7 +3,8 @@ use Rattle.std.proofs.lemmas.List.{map-append}
 use Rattle.std.proofs.lemmas.List.FromFn.{map-range_with_len_more}
 use Rattle.std.proofs.lemmas.Grind.{common_steps}
 use Rattle.rtui_cell.specs.Look.{look_of}
-use Rattle.rtui_backend.specs.CellGrid.{cell_at, look_at}
+use Rattle.rtui_diff.specs.Cells.{cell}
+use Rattle.rtui_backend.specs.CellGrid.{look_at}
 use Rattle.rtui_backend.proofs.ShiftLemmas.{look_at-cell}
 use Rattle.rtui_backend.proofs.test.scroll.copied_row.Goals as goal
 use Rattle.rtui_backend.proofs.test.scroll.copied_row.Goals.{in-Some+in_ok-cell-in-Some, in-None}
@@ -12,7 +13,7 @@ pub loop-a-preserved : goal.loop-a-preserved
 loop-a-preserved c =
     let cells = c.args.cells.now in
     let at = c.args.start + c.loop-a.a in
-    let cell : c.match-get.cell ≡ cell_at cells at = elim c.match-get.branch [
+    let cell : c.match-get.cell ≡ cell cells at = elim c.match-get.branch [
       | in-Some+in_ok-cell-in-Some w ↦ grind (arith, common_steps)
       | in-None w ↦ grind (arith, common_steps)
     ] in
