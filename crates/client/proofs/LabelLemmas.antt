@@ -4,7 +4,7 @@ use Rattle.ratatui_core.specs.Layout.{Position, Rect, HasPosition}
 use Rattle.ratatui_core.specs.Buffer.{look_of, empty_cell, is_skipped, Grid, Sheet, cell_in, cell_index, area_size, ShowsSheet, Piece, columns, shown, piece_at, Paints, right_by, HasRow}
 use Rattle.ratatui_core.proofs.BufferLemmas.{cell-empty}
 use Rattle.ratatui_core.proofs.BufferLemmas.{PaintsColumns-paints}
-use Rattle.client.specs.Labels.{ShowsPieces, StandsAt}
+use Rattle.client.specs.Labels.{ShowsLabel, StandsAt}
 
 skip-shown : (p : Piece) → is_skipped (shown p empty_cell) ≡ false
 unfolding is_skipped
@@ -18,7 +18,7 @@ look-in s g q shows has plain =
     let y : s.area.y + (q.y - s.area.y) ≡ q.y = omega arith in
     ap₂ g (sym x) (sym y) ∙ (shows.at (q.x - s.area.x) (q.y - s.area.y) (omega arith) (omega arith)).look plain
 
-pub stands : (area : Rect) (p : Position) (ps : List Piece) (g : Grid) → HasPosition area p → columns ps ≤ area.x + area.width - p.x → ShowsPieces area p ps g → StandsAt area p ps g
+pub stands : (area : Rect) (p : Position) (ps : List Piece) (g : Grid) → HasPosition area p → columns ps ≤ area.x + area.width - p.x → ShowsLabel area p ps g → StandsAt area p ps g
 stands area p ps g has fits shows =
     let e : shows.blank.area ≡ area = shows.emptied.area in
     let row : HasRow shows.blank.area p.y = rw e (record { top = has.top; bottom = let b = has.bottom in omega arith }) in

@@ -4,7 +4,7 @@ use Rattle.ratatui_core.specs.Layout.{Rect, Position, HasPosition}
 use Rattle.ratatui_core.specs.Buffer.{Grid, Sheet, IsEmptied, ShowsSheet, Paints, right_by, Piece, columns, shown, piece_at, look_of, empty_cell}
 
 -- the grid shows an empty buffer of this area with these pieces painted at a position
-pub record ShowsPieces (area : Rect) (p : Position) (ps : List Piece) (g : Grid) : Type 0 where
+pub record ShowsLabel (area : Rect) (p : Position) (ps : List Piece) (g : Grid) : Type 0 where
   pub blank : Sheet
   pub emptied : IsEmptied area blank
   pub sheet : Sheet

@@ -4,7 +4,7 @@ ghost use Rattle.std.specs.Prelude.{◌≡◌, ◌≤◌, ◌+◌, ◌-◌, List
 ghost use Rattle.ratatui_core.specs.Layout.{Rect, Position, HasPosition};
 ghost use Rattle.ratatui_core.specs.Style.{new_style};
 ghost use Rattle.ratatui_core.specs.Buffer.{Grid, IsEmptied, IsSettledSheet, Paints, Piece, columns, pieces_at};
-ghost use Rattle.client.specs.Labels.{StandsAt, ShowsPieces};
+ghost use Rattle.client.specs.Labels.{StandsAt, ShowsLabel};
 
 use ratatui_core::buffer::Buffer;
 use ratatui_core::layout::Position;
@@ -27,5 +27,5 @@ pub fn label(buffer: &mut Buffer, position: Position, text: &str) -> Result<(), 
 /// What shown pieces are, column by column.
 pub fn pieces_stand()
     ensures { (area : Rect) (p : Position) (ps : List Piece) (g : Grid) → HasPosition area p
-        → columns ps ≤ area.x + area.width - p.x → ShowsPieces area p ps g → StandsAt area p ps g }
+        → columns ps ≤ area.x + area.width - p.x → ShowsLabel area p ps g → StandsAt area p ps g }
 {}

@@ -7,9 +7,11 @@
 mod escape;
 mod frames;
 mod labels;
+mod lines;
 mod logging;
 
 pub use escape::{EscapeBackend, EscapeError};
 pub use frames::draw_checked;
 pub use labels::{label, pieces_stand};
+pub use lines::restyle_first;
 pub use logging::log;

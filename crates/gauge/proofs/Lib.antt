@@ -1,2 +1,1 @@
 pub mod GaugeLemmas
-pub mod PartLemmas

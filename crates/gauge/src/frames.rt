@@ -27,7 +27,7 @@ pub fn draw_widget<B: Backend, W: Widget + Drop>(
         → IsEmptied terminal.old.viewport_area terminal.old.current
         → OnOk result (ShowsRendered B.screen (W.renders widget) terminal.new) }
     ensures area { IfOk result (λ area. area ≡ terminal.new.older.area) }
-    ensures edges { IfOk result EdgesFit }
+    ensures edges { OnOk result (EdgesFit terminal.new.older.area) }
 {
     let frame = terminal.draw(
         |frame: &mut Frame<'_>| -> Result<(), AllocError>
@@ -61,10 +61,11 @@ pub fn draw_gauge<B: Backend>(
     terminal: &mut Terminal<B>,
     gauge: &Gauge<'_>,
 ) -> Result<Rect, TerminalError<B::Error>>
-    ensures { IsReady B.screen terminal.old
+    ensures shown { IsReady B.screen terminal.old
         → IsEmptied terminal.old.viewport_area terminal.old.current
-        → IfOk result (λ area. 0 < area.height
-        → ShowsGauge gauge.now area (B.screen terminal.new.backend).grid) }
+        → OnOk result (0 < terminal.new.older.area.height
+        → ShowsGauge gauge.now terminal.new.older.area (B.screen terminal.new.backend).grid) }
+    ensures area { IfOk result (λ area. area ≡ terminal.new.older.area) }
 {
     draw_widget(terminal, gauge)
 }

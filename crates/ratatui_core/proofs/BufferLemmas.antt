@@ -3,3 +3,5 @@ pub use Rattle.rtui_buffer.proofs.EmptyLemmas.{IsSettledSheet-empty, IsPaintable
 pub use Rattle.rtui_buffer.proofs.ColumnLemmas.{PaintsColumns-paints, same-beside, text-ends, line-ends, text-keeps, line-keeps}
 -- so is an empty buffer with a style over an area, and a shown buffer's columns have the looks of its cells.
 pub use Rattle.rtui_buffer.proofs.ShownLemmas.{IsSettledSheet-styled, IsPaintable-styled, shown-look, look-painted, look-beside}
+-- A screen that shows pieces on a bar.
+pub use Rattle.rtui_buffer.proofs.BarLemmas.{ShowsPieces-bar}

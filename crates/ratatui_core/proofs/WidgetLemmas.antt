@@ -1,2 +1,4 @@
 -- What the author of a widget cites: the part of an area that a buffer has, and what stays within an area.
 pub use Rattle.rtui_widgets.proofs.WithinLemmas.{intersected-whole, part-row, part-left, part-starts, in-first-row, within-then, within-styled, within-refused}
+-- What changes over that part alone, and a line on a bar there.
+pub use Rattle.rtui_widgets.proofs.PartLemmas.{OnPart-none, OnPart-clipped, OnPart-whole, line-on-bar}

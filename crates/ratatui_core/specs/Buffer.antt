@@ -27,6 +27,7 @@ pub use Rattle.rtui_buffer.specs.Frame.{IsSettledSheet, IsShownByRepaint, ShowsS
 unfoldable pub use Rattle.rtui_buffer.specs.Painting.{painted_width, fitting, kept, emptied, with_piece, painted}
 pub use Rattle.rtui_buffer.specs.Painting.{is_painted, IsLongestFront, Piece, piece_of, pieces, text_pieces, piece_width, columns, shown, IsSameOutside, piece_at, place_of, IsPainted}
 pub use Rattle.rtui_buffer.specs.PaintedText.{room_at, pieces_at, Paints, right_by, IsBeside, PaintsColumns, IsSameBeside, AreShort, IsPaintable, PaintsOr, IsStyledPart, IsStyledRows, IsStyled}
+pub use Rattle.rtui_buffer.specs.Bar.{bar_of, PaintsOnBar, ShowsPieces, bar_cell}
 unfoldable pub use Rattle.rtui_buffer.specs.Line.{line_pieces, line_row}
 pub use Rattle.rtui_buffer.specs.Line.{line_pieces_at, line_rows, line_at, ShowsLines, lines_area, IsOfLines, raw_lines}
 pub use Rattle.rtui_buffer.specs.Overlay.{no_area, IsOverlay, IsAround, IsExtended, is_in_block, IsBlockAt, IsBlockIn}

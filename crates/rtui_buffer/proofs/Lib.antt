@@ -12,3 +12,4 @@ pub mod FrontLemmas
 pub mod ColumnLemmas
 pub mod EqualityLemmas
 pub mod ShownLemmas
+pub mod BarLemmas

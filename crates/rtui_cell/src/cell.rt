@@ -95,8 +95,7 @@ impl Cell {
         ensures err { OnErr result (self.new ≡ self.old) }
         ensures short { IsShort symbol.now → IsOk result }
     {
-        self.symbol = Symbol::new(alloc, symbol)?;
-        Ok(())
+        self.symbol.set(alloc, symbol)
     }
 
     /// Puts a text behind the stored one, or in place of an unset one; where memory is refused the cell is as

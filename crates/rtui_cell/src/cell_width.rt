@@ -1,4 +1,5 @@
-ghost use Rattle.std.specs.Prelude.{◌≡◌, ℕ};
+ghost use Rattle.std.specs.Prelude.{◌≡◌, ℕ, false, min, chars};
+ghost use Rattle.unicode_width.specs.Width.{str_width};
 ghost use Rattle.rtui_cell.specs.Width.{text_width};
 
 use crate::cell::{Cell, CellDiffOption};
@@ -23,8 +24,16 @@ impl CellWidth for &str {
         if self.len() == 1 {
             return 1;
         }
-        self.width().min(65535) as u16
+        unicode_columns(self)
     }
+}
+
+// The Unicode width, at most 65535; apart, so that the path of a single byte stays short.
+#[inline(never)]
+fn unicode_columns(text: &str) -> u16
+    ensures { result ≡ min (str_width false (chars text.now)) 65535 }
+{
+    text.width().min(65535) as u16
 }
 
 /// The forced width if there is one, else that of the symbol.

@@ -52,7 +52,7 @@ impl Symbol {
     {
         let text = match ArrayString::from(text) {
             Ok(short) => Text::Short(short),
-            Err(_) => Text::Long(String::from_str(alloc, text)?),
+            Err(_) => Text::Long(copied(alloc, text)?),
         };
         Ok(Symbol { text })
     }
@@ -66,6 +66,22 @@ impl Symbol {
             Text::Short(text) => text.as_str(),
             Text::Long(text) => text.as_str(),
         }
+    }
+
+    /// Sets the text; where memory is refused nothing changes.
+    pub fn set(&mut self, alloc: Global, text: &str) -> Result<(), AllocError>
+        ensures ok { OnOk result (self.new ≡ Some text.now) }
+        ensures err { OnErr result (self.new ≡ self.old) }
+        ensures short { IsShort text.now → IsOk result }
+    {
+        match &mut self.text {
+            Text::Short(stored) if text.len() <= INLINE => {
+                stored.clear();
+                stored.push_str(text);
+            }
+            _ => *self = Symbol::new(alloc, text)?,
+        }
+        Ok(())
     }
 
     /// Puts a text behind the stored one, or in place of an unset symbol; where memory is refused nothing
@@ -125,7 +141,11 @@ impl Symbol {
         ensures err { OnErr result (self.new ≡ self.old) }
         ensures short { IsShort (symbol_text other.now) → IsOk result }
     {
-        *self = other.clone(alloc)?;
+        match &other.text {
+            Text::Unset => self.text = Text::Unset,
+            Text::Short(text) => self.text = Text::Short(*text),
+            Text::Long(_) => *self = other.clone(alloc)?,
+        }
         Ok(())
     }
 
@@ -144,7 +164,16 @@ impl Symbol {
     }
 }
 
+// A copy on the heap; apart, so that the path of a short text stays short.
+#[inline(never)]
+fn copied(alloc: Global, text: &str) -> Result<String, AllocError>
+    ensures { IfOk result (λ copy. string_bytes copy ≡ text.now) }
+{
+    String::from_str(alloc, text)
+}
+
 // Two texts, one behind the other.
+#[inline(never)]
 fn concat(alloc: Global, front: &str, back: &str) -> Result<String, AllocError>
     ensures { IfOk result (λ text. string_bytes text ≡ front.now ++ back.now) }
 {

@@ -20,7 +20,8 @@ use std::{slice, vec};
 /// The lines of a text, in order.
 #[derive(Debug, Drop)]
 pub struct Lines<'a> {
-    items: Vec<Line<'a>>,
+    /// The list itself. What is written through it is known to a caller's proof, as for any `Vec`.
+    pub items: Vec<Line<'a>>,
 }
 
 impl<'a> Model for Lines<'a> {
@@ -67,7 +68,7 @@ impl<'a> Lines<'a> {
         self.items.as_slice()
     }
 
-    /// The lines, in order, to be written.
+    /// The lines, in order, to be written. What is written a caller's proof doesn't see; it does through `items`.
     pub fn as_mut_slice(&mut self) -> &mut [Line<'a>]
         ensures { result.now ≡ self.old }
     {

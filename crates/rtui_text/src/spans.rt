@@ -18,7 +18,8 @@ use std::{slice, vec};
 /// The spans of a line, in order.
 #[derive(Debug, Drop)]
 pub struct Spans<'a> {
-    items: Vec<Span<'a>>,
+    /// The list itself. What is written through it is known to a caller's proof, as for any `Vec`.
+    pub items: Vec<Span<'a>>,
 }
 
 impl<'a> Model for Spans<'a> {
@@ -65,7 +66,7 @@ impl<'a> Spans<'a> {
         self.items.as_slice()
     }
 
-    /// The spans, in order, to be written.
+    /// The spans, in order, to be written. What is written a caller's proof doesn't see; it does through `items`.
     pub fn as_mut_slice(&mut self) -> &mut [Span<'a>]
         ensures { result.now ≡ self.old }
     {

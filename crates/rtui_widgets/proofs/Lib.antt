@@ -6,4 +6,5 @@ pub mod StyleLemmas
 pub mod RowLemmas
 pub mod SheetLemmas
 pub mod WithinLemmas
+pub mod PartLemmas
 pub mod ShortLemmas

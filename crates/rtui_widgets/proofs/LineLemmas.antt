@@ -4,6 +4,9 @@ use Rattle.std.specs.Prelude.{nat_le, Option, ◌==◌}
 use Rattle.rtui_layout.specs.declared.alignment.HorizontalAlignment.{HorizontalAlignment}
 use Rattle.std.proofs.lemmas.Bool.Decides.{nat_tests}
 use Rattle.std.proofs.lemmas.Bool.{cases_lt}
+use Rattle.std.proofs.lemmas.List.Folds.{concat-append}
+use Rattle.std.proofs.lemmas.List.Sums.{sum_by-cons, sum_by-append}
+use Rattle.std.specs.List.{concat}
 use Rattle.std.proofs.lemmas.List.{take_all, drop_all, append-nil, length-drop, length-take, length-append, drop-drop, drop_at, take_at}
 use Rattle.rtui_cell.specs.declared.cell.Cell.{Cell}
 use Rattle.rtui_style.specs.declared.Style.{Style}
@@ -24,6 +27,28 @@ last_fitting-fits room (g ∷ gs) le = let yes : nat_le (sum_by text_columns (g 
 pub last_fitting-drop : (room : ℕ) (g : List ℕ) (gs : List (List ℕ)) → room < sum_by text_columns (g ∷ gs) → last_fitting room (g ∷ gs) ≡ last_fitting room gs
 unfolding last_fitting
 last_fitting-drop room g gs lt = let no : nat_le (sum_by text_columns (g ∷ gs)) room ≡ false = grind (arith, nat_tests, lt) in rw no
+
+-- where a grapheme doesn't fit any more, those behind it are the longest end that does
+pub last_fitting-behind : (room : ℕ) (front : List (List ℕ)) (g : List ℕ) (kept : List (List ℕ)) → sum_by text_columns kept ≤ room → room < text_columns g + sum_by text_columns kept
+    → last_fitting room (front ++ g ∷ kept) ≡ kept
+last_fitting-behind room [] g kept fits over = last_fitting-drop room g kept (omega (arith, over, sum_by-cons text_columns g kept)) ∙ last_fitting-fits room kept fits
+last_fitting-behind room (h ∷ front) g kept fits over =
+    let sum : sum_by text_columns (h ∷ (front ++ g ∷ kept)) ≡ text_columns h + (sum_by text_columns front + (text_columns g + sum_by text_columns kept)) =
+    sum_by-cons text_columns h (front ++ g ∷ kept) ∙ ap (λ n. text_columns h + n) (sum_by-append text_columns front (g ∷ kept) ∙ ap (λ n. sum_by text_columns front + n) (sum_by-cons text_columns g kept)) in
+    last_fitting-drop room h (front ++ g ∷ kept) (omega (arith, over, sum)) ∙ last_fitting-behind room front g kept fits over
+
+-- the last grapheme of those that are left, taken
+pub taken : (front : List (List ℕ)) (g : List ℕ) (kept left : List (List ℕ)) → left ≡ front ++ g ∷ [] → front ++ g ∷ kept ≡ left ++ kept
+taken front g kept left is = sym (append_assoc front (g ∷ []) kept) ∙ ap (λ gs. gs ++ kept) (sym is)
+
+pub kept_behind : (room : ℕ) (left front : List (List ℕ)) (g : List ℕ) (kept all : List (List ℕ)) → left ≡ front ++ g ∷ [] → left ++ kept ≡ all
+    → sum_by text_columns kept ≤ room → room < text_columns g + sum_by text_columns kept → last_fitting room all ≡ kept
+kept_behind room left front g kept all is whole fits over =
+    ap (last_fitting room) (sym (taken front g kept left is ∙ whole)) ∙ last_fitting-behind room front g kept fits over
+
+-- a text that is cut between two graphemes
+pub split-text : (text : List ℕ) (front behind : List (List ℕ)) → concat (front ++ behind) ≡ text → concat front ++ concat behind ≡ text
+split-text text front behind is = sym (concat-append front behind) ∙ is
 
 -- ---- spans
 

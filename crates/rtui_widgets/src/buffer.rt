@@ -14,7 +14,7 @@ use rtui_text::{Line, Span, Text};
 use std::alloc::AllocError;
 
 // The part of an area that a buffer has, if there is one.
-fn intersected(buf: &Buffer, area: Rect) -> Option<Rect>
+fn part_in(buf: &Buffer, area: Rect) -> Option<Rect>
     ensures { let r = intersected area buf.now.area in
         MatchOption result ((r.width ≡ 0) ⊎ (r.height ≡ 0)) (IsClipped area buf.now.area) }
 {
@@ -31,7 +31,7 @@ pub(crate) fn span_in(span: &Span<'_>, area: Rect, buf: &mut Buffer) -> Result<(
     ensures err { OnErr result (ChangesWithin area buf.old buf.new) }
     ensures short { RendersShortSpan span.now area buf.old → IsOk result }
 {
-    let Some(part) = intersected(buf, area) else {
+    let Some(part) = part_in(buf, area) else {
         return Ok(());
     };
     let start = buf.index_of(part.x, part.y);
@@ -47,7 +47,7 @@ pub(crate) fn line_in(line: &Line<'_>, area: Rect, buf: &mut Buffer) -> Result<(
     ensures err { OnErr result (ChangesWithin area buf.old buf.new) }
     ensures short { RendersShortLine line.now area buf.old → IsOk result }
 {
-    let Some(part) = intersected(buf, area) else {
+    let Some(part) = part_in(buf, area) else {
         return Ok(());
     };
     let start = buf.index_of(part.x, part.y);
@@ -63,7 +63,7 @@ pub(crate) fn text_in(text: &Text<'_>, area: Rect, buf: &mut Buffer) -> Result<(
     ensures err { OnErr result (ChangesWithin area buf.old buf.new) }
     ensures short { RendersShortText text.now area buf.old → IsOk result }
 {
-    let Some(part) = intersected(buf, area) else {
+    let Some(part) = part_in(buf, area) else {
         return Ok(());
     };
     let start = buf.index_of(part.x, part.y);

@@ -139,15 +139,16 @@ fn end_of<'a>(text: &'a str, room: usize) -> (&'a str, usize)
     ensures width { result.1 ≡ sum_by text_columns (last_fitting room (graphemes true text.now)) }
     ensures fits { result.1 ≤ room }
 {
-    let mut total = 0;
-    for grapheme in text.graphemes(true) {
-        total += text_columns(grapheme);
-    }
     let mut left = text.graphemes(true);
-    while total > room {
-        if let Some(grapheme) = left.next() {
-            total -= text_columns(grapheme);
+    let mut start = text.len();
+    let mut width = 0;
+    while let Some(grapheme) = left.next_back() {
+        let columns = text_columns(grapheme);
+        if columns > room - width {
+            return (&text[start..], width);
         }
+        width += columns;
+        start = left.as_str().len();
     }
-    (left.as_str(), total)
+    (text, width)
 }

@@ -1,24 +1,16 @@
-use Rattle.std.proofs.Common.{true, ◌≡◌, ◌+◌, ◌*◌, ◌≤◌, length, sum_by}
+use Rattle.std.proofs.Common.{true, ◌≡◌, ◌≤◌, ◌++◌, List, length, sum_by, ℕ}
 use Rattle.std.specs.List.{concat}
+use Rattle.std.specs.Str.{IsCharBoundary}
 use Rattle.unicode_segmentation.specs.Grapheme.{graphemes}
 use Rattle.unicode_segmentation.specs.Iter.{graphemes_left}
 use Rattle.rtui_cell.specs.Width.{text_columns}
-use Rattle.rtui_widgets.specs.Line.{last_fitting}
 use Rattle.rtui_widgets.proofs.line.end_of.Given as goal
 
+-- the graphemes that were taken, and where they begin
 abbrev pub invariant-loop-grapheme : goal.invariant-loop-grapheme
-invariant-loop-grapheme l = record {
-  can : (goal.iterator-loop-grapheme).can_next l.grapheme-iterator;
-  ends : (goal.iterator-loop-grapheme).is_finite l.grapheme-iterator;
-  total : l.total + sum_by text_columns (graphemes_left l.grapheme-iterator) ≡ sum_by text_columns (graphemes true l.text);
-  bound : l.total + 2 * length (concat (graphemes_left l.grapheme-iterator)) ≤ 2 * length (concat (graphemes true l.text));
-}
+invariant-loop-grapheme l = (kept : List (List ℕ)) × (graphemes_left l.left ++ kept ≡ graphemes true l.text)
+    × (l.width ≡ sum_by text_columns kept) × (l.width ≤ l.room)
+    × (l.start ≡ length (concat (graphemes_left l.left))) × IsCharBoundary l.text l.start
 
-abbrev pub invariant-loop-total : goal.invariant-loop-total
-invariant-loop-total l = record {
-  total : l.total ≡ sum_by text_columns (graphemes_left l.left);
-  same : last_fitting l.room (graphemes_left l.left) ≡ last_fitting l.room (graphemes true l.text);
-}
-
-abbrev pub decreases-loop-total : goal.decreases-loop-total
-decreases-loop-total l = length (graphemes_left l.left)
+abbrev pub decreases-loop-grapheme : goal.decreases-loop-grapheme
+decreases-loop-grapheme l = length (graphemes_left l.left)
