@@ -1,5 +1,6 @@
 pub mod Layout
 pub mod Style
+pub mod Palette
 pub mod Symbols
 pub mod Text
 pub mod Buffer

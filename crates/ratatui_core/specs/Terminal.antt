@@ -10,11 +10,11 @@ pub use Rattle.rtui_terminal.specs.State.{State, IsInPlace, HasAreas, HaveRoom, 
 pub use Rattle.rtui_terminal.specs.InStep.{IsInStep, IsSized, IsReady, rows_over, KeepsRest}
 pub use Rattle.rtui_terminal.specs.Frames.{IsNewFrame, KeepsFrame, PaintsFrame, IsDrawFrame, AcceptsFrames, AcceptsNewFrame, paints_on}
 pub use Rattle.rtui_terminal.specs.Borrows.{with_buffer, LendsBuffer}
-pub use Rattle.rtui_terminal.specs.Calls.{FaultCounts, Faults, IsBackendFault, FailsOnlyByBackend, StartErr, differing_count, WritesDifferences, cursor_placed, HasDrawn, last_place, known_behind, cursor_behind, cursor_after, IsResized, FlushErr, first_area, first_cursor, Stays, MovesCursor, ClearsViewport, Resizes, ResizeErr, Autoresizes, AutoresizeErr, Flushes, Writes, FailsWriting, Applies, FailsFlushing, RefusesArea, FailsApplying, RefusesBy, WritesBy, AppliesBy, Starts, DrawsFrame, RefusesFrame, DrawOk, ClosureErr, PaintedErr, DrawErr, DrawsBy, TriesBy}
+pub use Rattle.rtui_terminal.specs.Calls.{FaultCounts, Faults, IsBackendFault, FailsOnlyByBackend, StartErr, differing_count, WritesDifferences, cursor_placed, HasDrawn, last_place, known_behind, cursor_behind, cursor_after, IsResized, LacksRoom, KeepsBuffers, ResizesBuffers, FlushErr, first_area, first_cursor, Stays, MovesCursor, ClearsViewport, Resizes, FailsResizing, ResizeErr, Autoresizes, AutoresizeErr, Flushes, Writes, FailsWriting, Applies, FailsFlushing, RefusesArea, FailsApplying, RefusesBy, WritesBy, AppliesBy, Starts, DrawsFrame, RefusesFrame, DrawOk, ClosureErr, PaintedErr, DrawErr, DrawsBy, TriesBy}
 pub use Rattle.rtui_terminal.specs.Rendered.{IsRendered, OnlyRenders, ShowsRendered}
 pub use Rattle.rtui_terminal.specs.Display.{terminal_error_text}
 pub use Rattle.rtui_rows.specs.Rows.{row_updates, look_in, looks_in, look_rows_from, look_rows, RowsFit, WritesRows, DrawsRows}
 pub use Rattle.rtui_rows.specs.Insertion.{AreRowsOf, AreRowsOfAll, AppendsRows, KeepsShape, HasPlaceAbove, InsertsRows, AppendsAbove}
 pub use Rattle.rtui_rows.specs.Scrolling.{ScrollsBy, cursor_scrolled, rows_past}
-pub use Rattle.rtui_terminal.specs.Insertion.{inserted_area, IsNewSheet, AcceptsRows, FillsRows, AreaFollows, Follows, TakesRows, IsLeft, Inserts, StopsInserting, InsertOk, FailsInserting, RefusesRows, InsertErr, InsertsBy}
+pub use Rattle.rtui_terminal.specs.Insertion.{inserted_area, top_behind, IsNewSheet, AcceptsRows, FillsRows, AreaFollows, Follows, TakesRows, IsLeft, Inserts, StopsInserting, InsertOk, FailsInserting, RefusesRows, RefusesFilling, InsertErr, InsertsBy}
 pub use Rattle.rtui_terminal.specs.Headline.{Call, Draw, Apply, Insert, Clear, Resize, Autoresize, HideCursor, ShowCursor, SetCursor, Ask, Paint, Refuse, Event, Along, last_state, inserted_by, inserted_along, MayTakeSize, AtAnySize, Does, IsFair, HasKnownSize, IsSteady, IsKeptOrEmptied, Leaves, IsResize, IsFaithful, IsHeadline, KeepsRows}

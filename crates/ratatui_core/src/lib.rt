@@ -10,7 +10,21 @@ pub mod backend {
 
 /// Cells, grids of cells, and the differences between two grids.
 pub mod buffer {
-    pub use rtui_buffer::{Buffer, BufferDiff, Cell, CellDiffOption, CellWidth, laws};
+    pub use rtui_buffer::{Buffer, BufferDiff, Cell, CellDiffOption, CellWidth};
+
+    /// Laws of cells and of buffers.
+    pub mod laws {
+        pub use rtui_buffer::laws::{
+            common_rows_are_settled, empty_buffers_are_settled, equality_is_by_cells,
+            hashing_names_area_and_cells, kept_graphemes_take_columns, longest_front_is_kept,
+            painting_ends_in_its_row, painting_goes_by_columns, painting_keeps_to_its_columns,
+            shown_cells_have_their_looks, styled_empty_buffers_are_settled,
+        };
+        pub use rtui_cell::laws::{
+            default_option_is_none, equality_is_by_looks, hashing_names_every_field,
+            set_style_twice_sets_patch,
+        };
+    }
 }
 
 /// Rectangles and positions, and layouts as data.
@@ -20,16 +34,25 @@ pub mod layout {
         Alignment, Constraint, Direction, Flex, HorizontalAlignment, Layout, ParseError, Spacing,
         VerticalAlignment,
     };
+
+    /// Laws of rectangles and of layouts.
+    pub mod laws {
+        pub use rtui_geometry::laws::{
+            defaults as geometry_defaults, offset_constants, position_constants, position_order,
+            rect_constants, size_constants,
+        };
+        pub use rtui_layout::laws::{defaults as layout_defaults, names_read_back};
+    }
 }
 
 /// Colours, modifiers and styles.
 pub mod style {
-    pub use rtui_style::{Color, Modifier, ParseColorError, Style};
+    pub use rtui_style::{Color, Modifier, ParseColorError, Style, laws};
     pub use rtui_stylize::{Styled, Stylize};
 
     /// Colours by name.
     pub mod palette {
-        pub use rtui_palette::{material, tailwind};
+        pub use rtui_palette::{laws, material, tailwind};
     }
 }
 
@@ -37,12 +60,12 @@ pub mod style {
 pub mod symbols {
     pub use rtui_symbols::marker::{DOT, Marker};
     pub use rtui_symbols::{
-        bar, block, border, braille, half_block, line, marker, pixel, scrollbar, shade,
+        bar, block, border, braille, half_block, laws, line, marker, pixel, scrollbar, shade,
     };
 
     /// Joining the symbols of borders.
     pub mod merge {
-        pub use rtui_merge::MergeStrategy;
+        pub use rtui_merge::{MergeStrategy, laws};
     }
 }
 

@@ -51,11 +51,12 @@ impl Model for Buffer {
 }
 
 impl Buffer {
-    /// A buffer of empty cells; refused where memory is.
+    /// A buffer of empty cells; refused where memory is. One without cells takes none.
     pub fn empty(alloc: Global, area: Rect) -> Result<Buffer, AllocError>
         requires { EdgesFit area }
         ensures emptied { IfOk result (IsEmptied area) }
         ensures room { IfOk result (HasRoomFor area) }
+        ensures succeeds { area_size area ≡ 0 → IsOk result }
     {
         let mut content = Vec::new(alloc);
         cut_or_fill(&mut content, area.area() as usize)?;
@@ -223,12 +224,14 @@ impl Buffer {
         Ok(())
     }
 
-    /// Makes room for the cells of an area; where memory is refused nothing changes.
+    /// Makes room for the cells of an area. It takes no memory within the room that is there; where memory is refused
+    /// nothing changes.
     pub fn reserve(&mut self, area: Rect) -> Result<(), AllocError>
         requires { EdgesFit area }
         ensures same { IsSameSheet self.old self.new }
         ensures room { OnOk result (HasRoomFor area self.new) }
         ensures keeps_room { self.old.room ≤ self.new.room }
+        ensures succeeds { HasRoomFor area self.old → IsOk result }
         ensures err { OnErr result (self.new ≡ self.old) }
     {
         let count = area.area() as usize;

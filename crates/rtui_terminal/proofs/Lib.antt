@@ -1,5 +1,6 @@
 pub mod DifferenceLemmas
 pub mod StepLemmas
+pub mod ResizeLemmas
 pub mod KeepLemmas
 pub mod RenderLemmas
 pub mod InsertionLemmas

@@ -81,6 +81,12 @@ emptied_after v r false {s} {m} {t} same clears place =
 pub resized_same : (r : Rect) {a b c : Sheet} → IsSameSheet a b → IsResized r b c → IsResized r a c
 resized_same r p q = record { area_is = q.area_is; cells = rw (← p.cells) q.cells }
 
+-- a fixed viewport isn't inline
+pub not_inline : (v : Viewport) → IsFixed v → IsInline v → ⊥
+not_inline Fullscreen fixed inline = fixed
+not_inline (Inline n) fixed inline = fixed
+not_inline (Fixed r) fixed inline = inline
+
 -- a viewport of no columns can't become narrower
 pub never_raised : (r : Rect) → raised 0 r ≡ r
 never_raised r = let no : nat_lt r.width 0 ≡ false = grind (arith, nat_tests) in rw no refl

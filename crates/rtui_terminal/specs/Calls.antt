@@ -11,11 +11,11 @@ use Rattle.rtui_buffer.specs.Frame.{IsSettledSheet, ShowsSheet, sheet_updates}
 use Rattle.rtui_backend.specs.Screen.{Screen, Draws, Scrolls, IsOnScreen, with_visible, with_cursor, cursor_of, screen_area}
 use Rattle.rtui_viewport.specs.declared.viewport.Viewport.{Viewport}
 use Rattle.rtui_viewport.specs.declared.viewport.Viewport.TheVariants.{Fullscreen, Inline, Fixed}
-use Rattle.rtui_viewport.specs.Viewports.{IsFixed, IsInline}
+use Rattle.rtui_viewport.specs.Viewports.{IsFixed, IsInline, rows_in}
 use Rattle.rtui_viewport.specs.Areas.{KeepsScreen, KeepsOutside, IsBlankOver, Empties}
 use Rattle.rtui_viewport.specs.Placing.{area_in, raised, rows_scrolled}
 use Rattle.rtui_viewport.specs.Clearing.{HasPlace, ClearsArea, is_emptied}
-use Rattle.rtui_terminal.specs.State.{State, HasAreas, cursor_offset}
+use Rattle.rtui_terminal.specs.State.{State, HasAreas, HaveRoom, cursor_offset}
 use Rattle.rtui_terminal.specs.InStep.{IsInStep, IsSized, IsReady, KeepsRest, rows_over}
 use Rattle.rtui_terminal.specs.declared.terminal.error.TerminalError.{TerminalError}
 use Rattle.rtui_terminal.specs.declared.terminal.error.TerminalError.TheVariants.{Backend, Memory, Area, Closure}
@@ -40,13 +40,13 @@ IsBackendFault (Closure error) = ⊥
 abbrev pub FailsOnlyByBackend : {T E : Type 0} → Result T (TerminalError E) → Type 0
 FailsOnlyByBackend result = MatchResult result (λ _. Unit {0}) IsBackendFault
 
--- a start is refused by the backend or for want of memory; the backend was dropped then, so that some backend with such a count of
--- failures is all that is said
-abbrev pub StartErr : {B E : Type 0} → (B → ℕ) → B → TerminalError E → Type 0
-StartErr {B} failures b (Backend error) = (dropped : B) × (failures b < 2 ^ 64 - 1 → failures dropped ≡ failures b + 1)
-StartErr {B} failures b Memory = (dropped : B) × (failures dropped ≡ failures b)
-StartErr failures b Area = ⊥
-StartErr failures b (Closure error) = ⊥
+-- a start is refused for want of memory, or by the backend where the viewport isn't fixed; the backend was dropped then, so that some
+-- backend with such a count of failures is all that is said
+abbrev pub StartErr : {B E : Type 0} → (B → ℕ) → Viewport → B → TerminalError E → Type 0
+StartErr {B} failures viewport b (Backend error) = (IsFixed viewport → ⊥) × ((dropped : B) × (failures b < 2 ^ 64 - 1 → failures dropped ≡ failures b + 1))
+StartErr {B} failures viewport b Memory = (dropped : B) × (failures dropped ≡ failures b)
+StartErr failures viewport b Area = ⊥
+StartErr failures viewport b (Closure error) = ⊥
 
 -- how many unskipped cells of the second buffer differ from the first one's
 abbrev pub differing_count : Sheet → Sheet → ℕ
@@ -91,6 +91,21 @@ cursor_after (Some placed) s = placed
 pub record IsResized (area : Rect) (old new : Sheet) : Type 0 where
   pub area_is : new.area ≡ area
   pub cells : new.cells ≡ take (area_size area) old.cells ++ empty_cells (area_size area - length old.cells)
+
+-- a buffer has no room for the cells that the viewport takes of an area: its columns, and as many rows as it may have
+abbrev pub LacksRoom : {B : Type 0} → Rect → State B → Type 0
+LacksRoom area s = HaveRoom (record { x = 0; y = 0; width = area.width; height = rows_in s.viewport area.height }) s → ⊥
+
+-- the viewport stays, and both buffers but for their room
+pub record KeepsBuffers {B : Type 0} (s t : State B) : Type 0 where
+  pub viewport_area : t.viewport_area ≡ s.viewport_area
+  pub current : IsSameSheet s.current t.current
+  pub older : IsSameSheet s.older t.older
+
+-- both buffers were cut or filled up for the viewport's new area
+pub record ResizesBuffers {B : Type 0} (s t : State B) : Type 0 where
+  pub current : IsResized t.viewport_area s.current t.current
+  pub older : IsResized t.viewport_area s.older t.older
 
 -- a refused flush changed nothing but the backend
 abbrev pub FlushErr : {B E : Type 0} → State B → State B → TerminalError E → Type 0
@@ -151,23 +166,29 @@ module _ {B : Type 0} (screen : B → Screen) where
     pub on_screen : area ≡ screen_area (screen s.backend) → IsOnScreen t.viewport_area (screen t.backend)
     pub in_step : IsOnScreen t.viewport_area (screen t.backend) → IsInStep screen t
 
-  -- a refused resize: for want of memory nothing changed but the room of the buffers; a failed backend leaves buffers that still have the
-  -- viewport's area if they had it before
-  abbrev pub ResizeErr : {E : Type 0} → State B → State B → TerminalError E → Type 0
-  ResizeErr s t (Backend error) = (t ≡ record s { backend = t.backend; current = t.current; older = t.older; viewport_area = t.viewport_area }) × (HasAreas s → HasAreas t)
-  ResizeErr s t Memory = (t ≡ record s { current = t.current; older = t.older }) × IsSameSheet s.current t.current × IsSameSheet s.older t.older
-  ResizeErr s t Area = ⊥
-  ResizeErr s t (Closure error) = ⊥
+  -- a backend failed in a resize, before the viewport and both buffers had got their new area, or behind that; the last known area stays
+  pub record FailsResizing (s t : State B) : Type 0 where
+    pub rest : t ≡ record s { backend = t.backend; current = t.current; older = t.older; viewport_area = t.viewport_area }
+    pub left : KeepsBuffers s t ⊎ ResizesBuffers s t
+    pub areas : HasAreas s → HasAreas t
+
+  -- a refused resize: for want of memory, where a buffer had no room, and then nothing changed but the room of the buffers
+  abbrev pub ResizeErr : {E : Type 0} → Rect → State B → State B → TerminalError E → Type 0
+  ResizeErr area s t (Backend error) = FailsResizing s t
+  ResizeErr area s t Memory = LacksRoom area s × (t ≡ record s { current = t.current; older = t.older }) × IsSameSheet s.current t.current × IsSameSheet s.older t.older
+  ResizeErr area s t Area = ⊥
+  ResizeErr area s t (Closure error) = ⊥
 
   -- a resize to the screen's size where that isn't the last known one and the viewport isn't fixed, and else nothing
   pub record Autoresizes (s t : State B) : Type 0 where
     pub case : (IsSized screen s × Stays s t) ⊎ ((IsSized screen s → ⊥) × Resizes (screen_area (screen s.backend)) s t)
+    pub fixed : IsFixed s.viewport → t ≡ s
     pub in_step : IsReady screen s → IsInStep screen t
 
-  -- a refused autoresize: the screen's size couldn't be asked for, or the resize was refused
+  -- a refused autoresize: the viewport isn't fixed, and the screen's size couldn't be asked for, or the resize was refused
   abbrev pub AutoresizeErr : {E : Type 0} → State B → State B → TerminalError E → Type 0
-  AutoresizeErr s t (Backend error) = (t ≡ record s { backend = t.backend; current = t.current; older = t.older; viewport_area = t.viewport_area }) × (HasAreas s → HasAreas t)
-  AutoresizeErr s t Memory = (IsSized screen s → ⊥) × (t ≡ record s { backend = t.backend; current = t.current; older = t.older }) × (screen t.backend ≡ screen s.backend) × IsSameSheet s.current t.current × IsSameSheet s.older t.older
+  AutoresizeErr s t (Backend error) = (IsFixed s.viewport → ⊥) × FailsResizing s t
+  AutoresizeErr s t Memory = (IsSized screen s → ⊥) × LacksRoom (screen_area (screen s.backend)) s × (t ≡ record s { backend = t.backend; current = t.current; older = t.older }) × (screen t.backend ≡ screen s.backend) × IsSameSheet s.current t.current × IsSameSheet s.older t.older
   AutoresizeErr s t Area = ⊥
   AutoresizeErr s t (Closure error) = ⊥
 
@@ -188,6 +209,7 @@ module _ {B : Type 0} (screen : B → Screen) where
     pub areas : HasAreas s
     pub rest : t ≡ record s { backend = t.backend; known_cursor = t.known_cursor; hidden_cursor = t.hidden_cursor }
     pub hidden : (t.hidden_cursor ≡ s.hidden_cursor) ⊎ (IsSome cursor × (t.hidden_cursor ≡ false))
+    pub known : (t.known_cursor ≡ s.known_cursor) ⊎ (t.known_cursor ≡ cursor_behind s)
 
   -- the current buffer was drawn and is now the older one, the emptied older one is current, and a frame more is counted
   pub record Applies (cursor : Option Position) (s t : State B) : Type 0 where
@@ -241,6 +263,7 @@ module _ {B : Type 0} (screen : B → Screen) where
     pub hidden : t.hidden_cursor ≡ false
     pub count : t.frame_count ≡ 0
     pub scrolls : Scrolls (screen b) (rows_scrolled viewport 0 (screen b)) (screen t.backend)
+    pub fixed : IsFixed viewport → t.backend ≡ b
     pub on_screen : (IsFixed viewport → ⊥) → IsOnScreen t.viewport_area (screen t.backend)
     pub in_step : IsOnScreen t.viewport_area (screen t.backend) → IsBlankOver t.viewport_area (screen t.backend) → IsInStep screen t
 

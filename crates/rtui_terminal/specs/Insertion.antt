@@ -1,10 +1,10 @@
 -- What an insertion above an inline viewport does to a terminal.
-use Rattle.std.specs.Prelude.{◌≡◌, ℕ, ◌+◌, ◌-◌, ◌<◌, min, ◌++◌, [], ◌∷◌, Result, Ok, MatchResult}
+use Rattle.std.specs.Prelude.{◌≡◌, ◌⊎◌, ℕ, ◌+◌, ◌-◌, ◌<◌, min, ◌++◌, [], ◌∷◌, Result, Ok, Err, MatchResult, alloc_error}
 use Rattle.std.specs.Borrow.{MutBor}
 use Rattle.std.specs.Fn.{Once, FnOnceReturnsAtMut}
 use Rattle.std.specs.declared.alloc.AllocError.{AllocError}
 use Rattle.rtui_geometry.specs.declared.rect.Rect.{Rect}
-use Rattle.rtui_buffer.specs.Sheet.{Sheet, IsEmptied, HasRoomFor}
+use Rattle.rtui_buffer.specs.Sheet.{Sheet, IsEmptied, HasRoomFor, area_size}
 use Rattle.rtui_buffer.specs.Frame.{IsSettledSheet}
 use Rattle.rtui_backend.specs.Screen.{Screen, screen_area}
 use Rattle.rtui_viewport.specs.Viewports.{IsInline}
@@ -20,6 +20,10 @@ use Rattle.rtui_terminal.specs.declared.terminal.error.TerminalError.TheVariants
 -- the area of a buffer of rows that are to come in above a viewport: as wide as that
 abbrev pub inserted_area : {B : Type 0} → State B → ℕ → Rect
 inserted_area s height = record { x = 0; y = 0; width = s.viewport_area.width; height = height }
+
+-- the top of an inline viewport behind n rows that came in above it: as far down as there is room
+abbrev pub top_behind : {B : Type 0} → ℕ → State B → ℕ
+top_behind n s = min (s.viewport_area.y + n) (s.known_area.height - s.viewport_area.height)
 
 -- an empty buffer of an area, with room for its cells
 pub record IsNewSheet (area : Rect) (sheet : Sheet) : Type 0 where
@@ -63,7 +67,7 @@ module _ {B : Type 0} (screen : B → Screen) where
   pub record Inserts (inserted : Sheet) (s t : State B) : Type 0 where
     pub rest : t ≡ record s { backend = t.backend; current = t.current; older = t.older; viewport_area = record s.viewport_area { y = t.viewport_area.y }; known_cursor = t.known_cursor }
     pub over : inserted.area ≡ inserted_area s inserted.area.height
-    pub top : t.viewport_area.y ≡ min (s.viewport_area.y + inserted.area.height) (s.known_area.height - s.viewport_area.height)
+    pub top : t.viewport_area.y ≡ top_behind inserted.area.height s
     pub known_cursor : t.known_cursor ≡ cursor_scrolled s.known_area.height (rows_past inserted.area.height s.viewport_area s.known_area.height) s.known_cursor
     pub current : Follows s.viewport_area t.viewport_area s.current t.current
     pub older : AreaFollows s.viewport_area t.viewport_area s.older.area t.older.area
@@ -75,9 +79,10 @@ module _ {B : Type 0} (screen : B → Screen) where
     pub left : TakesRows s → IsInStep screen s → IsLeft s t
     pub in_step : TakesRows s → IsInStep screen s → IsSettledSheet inserted → IsInStep screen t
 
-  -- a backend failed, before the viewport moved or behind that; a buffer of its area moved with it
-  pub record StopsInserting (s t : State B) : Type 0 where
+  -- a backend failed in the insertion of n rows, before the viewport moved or behind that; a buffer of its area moved with it
+  pub record StopsInserting (n : ℕ) (s t : State B) : Type 0 where
     pub rest : t ≡ record s { backend = t.backend; current = t.current; older = t.older; viewport_area = record s.viewport_area { y = t.viewport_area.y }; known_cursor = t.known_cursor }
+    pub top : (t.viewport_area.y ≡ s.viewport_area.y) ⊎ (t.viewport_area.y ≡ top_behind n s)
     pub current : Follows s.viewport_area t.viewport_area s.current t.current
     pub older : Follows s.viewport_area t.viewport_area s.older t.older
 
@@ -97,7 +102,7 @@ module _ {B : Type 0} (screen : B → Screen) where
       pub closure : filled (Ok tt) inserted
       pub over : inserted.area ≡ area
       pub known : 0 < s.known_area.height
-      pub stops : StopsInserting s t
+      pub stops : StopsInserting inserted.area.height s t
 
     -- the closure left a buffer of another area, and nothing changed
     pub record RefusesRows (s t : State B) : Type 0 where
@@ -106,10 +111,15 @@ module _ {B : Type 0} (screen : B → Screen) where
       pub over : inserted.area ≡ area → ⊥
       pub rest : t ≡ s
 
-    -- memory was refused for the buffer, or by the closure, and nothing changed
+    -- the closure was refused memory
+    pub record RefusesFilling : Type 0 where
+      pub inserted : Sheet
+      pub closure : filled (Err alloc_error) inserted
+
+    -- memory was refused for a buffer that has cells, or by the closure, and nothing changed
     abbrev pub InsertErr : {E : Type 0} → State B → State B → TerminalError E → Type 0
     InsertErr s t (Backend error) = FailsInserting s t
-    InsertErr s t Memory = t ≡ s
+    InsertErr s t Memory = (t ≡ s) × ((area_size area ≡ 0 → ⊥) ⊎ RefusesFilling)
     InsertErr s t Area = RefusesRows s t
     InsertErr s t (Closure error) = ⊥
 

@@ -1,6 +1,5 @@
 -- Lines of a text: one span more at the end, and the printed text.
-use Rattle.std.proofs.Common.{◌≡◌, ℕ, ◌+◌, ◌-◌, ◌<◌, List, [], ◌∷◌, ◌++◌, length, refl, sym, ◌∙◌, ap, arith, rules, append_assoc, slice_index_or, slice_set, suc, zero}
-use Rattle.std.proofs.lemmas.Grind.{common_steps}
+use Rattle.std.proofs.Common.{◌≡◌, ℕ, ◌-◌, ◌<◌, List, [], ◌∷◌, ◌++◌, length, refl, ◌∙◌, ap, arith, rules, append_assoc, slice_index_or, slice_set, suc, zero}
 use Rattle.rtui_text.specs.Text.{SpanData, LineData, with_span, with_last_span}
 use Rattle.rtui_text.specs.Display.{printed_spans, broken_lines, printed_lines}
 

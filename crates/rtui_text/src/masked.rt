@@ -145,6 +145,8 @@ impl fmt::Display for Masked<'_> {
 
 /// The text itself.
 impl fmt::Debug for Masked<'_> {
+    ghost debug_output = { λ m. Some m.content };
+
     fn fmt<W: fmt::Write>(&self, f: &mut fmt::Formatter<W>) -> fmt::Result {
         f.write_str(self.inner.as_str())
     }

@@ -1,4 +1,4 @@
-ghost use Rattle.std.specs.Prelude.{◌≡◌, nat_lt, OnOk, IfOk};
+ghost use Rattle.std.specs.Prelude.{◌≡◌, ◌≤◌, nat_lt, OnOk, IfOk, IsOk};
 ghost use Rattle.rtui_geometry.specs.Rect.{EdgesFit};
 ghost use Rattle.rtui_backend.specs.Failures.{Counts};
 ghost use Rattle.rtui_backend.specs.Screen.{Appends, IsOnGrid, IsOnScreen, cursor_of, size_of, screen_area};
@@ -58,6 +58,8 @@ fn raise<B: Backend>(backend: &mut B, area: Rect, former_width: u16) -> Result<R
     ensures emptied { OnOk result
         (EmptiesAllIf (nat_lt area.width former_width) (B.screen backend.old)
         (B.screen backend.new)) }
+    ensures quiet { former_width ≤ area.width
+        → IsOk result × (backend.new ≡ backend.old) }
     ensures counts { Counts result (B.failures backend.old) (B.failures backend.new) }
 {
     if area.width >= former_width {
@@ -68,7 +70,8 @@ fn raise<B: Backend>(backend: &mut B, area: Rect, former_width: u16) -> Result<R
 }
 
 /// Finds where a viewport goes in a new area: an inline one as `place_inline` says, any other takes it as it is.
-/// One that became narrower goes to the top, and the screen is emptied.
+/// One that became narrower goes to the top, and the screen is emptied. For one that isn't inline and didn't become
+/// narrower no call is made.
 pub fn place_viewport<B: Backend>(
     backend: &mut B,
     viewport: Viewport,
@@ -89,6 +92,8 @@ pub fn place_viewport<B: Backend>(
     ensures placed { OnOk result
         (Places viewport former_width area.width offset (B.screen backend.old)
         (B.screen backend.new)) }
+    ensures quiet { (IsInline viewport → ⊥) → former_width ≤ area.width
+        → IsOk result × (backend.new ≡ backend.old) }
     ensures counts { Counts result (B.failures backend.old) (B.failures backend.new) }
 {
     let (next, cursor) = match viewport {

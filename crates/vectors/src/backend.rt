@@ -208,90 +208,78 @@ fn draws_symbol(
     Ok(draws(backend, &[(x, 0, &cell)]))
 }
 
-// Whether the screen is a row of four columns with these symbols.
-fn is_row(alloc: Global, backend: &TestBackend, symbols: &[&str]) -> Result<bool, AllocError> {
-    let buffer = row(alloc, 4, symbols)?;
-    Ok(backend.buffer_is(&buffer))
-}
-
-// Whether the screen is a row of four columns with these symbols that starts in the second column.
-fn is_moved_row(
+// Whether a row of four columns, with a symbol in the first one if there is one, equals a buffer of these symbols, which may
+// start one column to the right.
+fn equals_buffer(
     alloc: Global,
-    backend: &TestBackend,
+    drawn: &str,
     symbols: &[&str],
+    moved: bool,
 ) -> Result<bool, AllocError> {
-    let mut buffer = row(alloc, 4, symbols)?;
-    buffer.move_to(Position { x: 1, y: 0 });
-    Ok(backend.buffer_is(&buffer))
-}
-
-// Whether a blank row equals a blank buffer, and one with a symbol just the buffer that has it too, in the same place.
-fn compares_with_buffers(alloc: Global, backend: &mut TestBackend) -> Result<bool, AllocError> {
-    let was_blank = is_row(alloc, backend, &[])?;
-    let is_drawn = draws_symbol(alloc, backend, 0, "h")?;
-    let is_blank = is_row(alloc, backend, &[])?;
-    let has_symbol = is_row(alloc, backend, &["h"])?;
-    let is_elsewhere = is_moved_row(alloc, backend, &["h"])?;
-    Ok(was_blank && is_drawn && !is_blank && has_symbol && !is_elsewhere)
-}
-
-fn screen_compares_with_buffers(alloc: Global) -> Result<bool, AllocError> {
     let mut backend = blank(alloc, 4, 1)?;
-    compares_with_buffers(alloc, &mut backend)
+    let is_drawn = drawn.is_empty() || draws_symbol(alloc, &mut backend, 0, drawn)?;
+    let mut buffer = row(alloc, 4, symbols)?;
+    if moved {
+        buffer.move_to(Position { x: 1, y: 0 });
+    }
+    Ok(is_drawn && backend.buffer_is(&buffer))
 }
+
+// What is drawn, the symbols of a buffer, whether it is moved, and whether they are equal.
+static BUFFERS: [(&str, &[&str], bool, bool); 4] = [
+    ("", &[], false, true),
+    ("h", &[], false, false),
+    ("h", &["h"], false, true),
+    ("h", &["h"], true, false),
+];
 
 #[test]
 fn compares_its_screen_with_a_buffer(rt: HostRuntime) -> Result<(), Fail> {
-    assert!(rt; screen_compares_with_buffers(rt.alloc())?);
+    for (drawn, symbols, moved, equal) in &BUFFERS {
+        assert!(rt; equals_buffer(rt.alloc(), drawn, symbols, *moved)? == *equal);
+    }
     Ok(())
 }
 
-// Whether the screen of these symbols in the upper of two rows of four columns shows the lines of a text, which has a `|`
-// between two.
-fn shows_lines(alloc: Global, first: &str, second: &str, lines: &str) -> Result<bool, AllocError> {
+// Whether two rows of four columns, with `hi` in the upper one, show the lines of a text, which has a `|` between two.
+fn shows_lines(alloc: Global, lines: &str) -> Result<bool, AllocError> {
     let lines = lines.split('|').collect::<Vec<_>>(alloc)?;
     let mut backend = blank(alloc, 4, 2)?;
-    let is_drawn = draws_both(alloc, &mut backend, first, second)?;
-    Ok(is_drawn && backend.lines_are(lines.as_slice()))
+    let is_drawn = draws_symbol(alloc, &mut backend, 0, "h")?;
+    Ok(
+        is_drawn
+            && draws_symbol(alloc, &mut backend, 1, "i")?
+            && backend.lines_are(lines.as_slice()),
+    )
 }
 
-fn draws_both(
-    alloc: Global,
-    backend: &mut TestBackend,
-    first: &str,
-    second: &str,
-) -> Result<bool, AllocError> {
-    let is_first = draws_symbol(alloc, backend, 0, first)?;
-    let is_second = draws_symbol(alloc, backend, 1, second)?;
-    Ok(is_first && is_second)
-}
+// Lines, and whether they are shown.
+static LINES: [(&str, bool); 7] = [
+    ("hi  |    ", true),
+    ("hi|    ", true),
+    ("hi  |   .", false),
+    ("    |hi  ", false),
+    ("h\u{7}  |    ", false),
+    ("hi  ", false),
+    ("hi   |    ", false),
+];
 
 #[test]
-fn shows_its_lines(rt: HostRuntime) -> Result<(), Fail> {
-    assert!(rt; shows_lines(rt.alloc(), "h", "i", "hi  |    ")?);
-    assert!(rt; shows_lines(rt.alloc(), "h", "i", "hi|    ")?);
+fn shows_its_lines_and_no_others(rt: HostRuntime) -> Result<(), Fail> {
+    for (lines, shown) in &LINES {
+        assert!(rt; shows_lines(rt.alloc(), lines)? == *shown, "{lines}");
+    }
     Ok(())
 }
 
-#[test]
-fn shows_no_other_lines(rt: HostRuntime) -> Result<(), Fail> {
-    assert!(rt; !shows_lines(rt.alloc(), "h", "i", "hi  |   .")?);
-    assert!(rt; !shows_lines(rt.alloc(), "h", "i", "    |hi  ")?);
-    assert!(rt; !shows_lines(rt.alloc(), "h", "i", "h\u{7}  |    ")?);
-    assert!(rt; !shows_lines(rt.alloc(), "h", "i", "hi  ")?);
-    assert!(rt; !shows_lines(rt.alloc(), "h", "i", "hi   |    ")?);
-    Ok(())
-}
-
-// Whether a screen without cells shows these lines.
-fn empty_shows_lines(alloc: Global, lines: &[&str]) -> Result<bool, AllocError> {
+// Whether a screen without cells shows no lines, and not an empty one.
+fn empty_shows_no_line(alloc: Global) -> Result<bool, AllocError> {
     let empty = blank(alloc, 0, 0)?;
-    Ok(empty.lines_are(lines))
+    Ok(empty.lines_are(&[]) && !empty.lines_are(&[""]))
 }
 
 #[test]
 fn compares_an_empty_screen_with_lines(rt: HostRuntime) -> Result<(), Fail> {
-    assert!(rt; empty_shows_lines(rt.alloc(), &[])?);
-    assert!(rt; !empty_shows_lines(rt.alloc(), &[""])?);
+    assert!(rt; empty_shows_no_line(rt.alloc())?);
     Ok(())
 }

@@ -7,64 +7,44 @@ use std::hash::{BuildHasher, BuildHasherDefault, FoldHasher};
 use std::num::NonZeroU16;
 use std::test::Fail;
 
-fn takes(text: &str, width: u16) -> bool {
-    text.cell_width() == width
-}
+// Texts and the columns that they take: narrow and wide symbols, half-width kana, sound marks behind them, behind other letters and
+// alone, and combining marks.
+static WIDTHS: [(&str, u16); 28] = [
+    ("", 0),
+    ("a", 1),
+    ("\u{7}", 1),
+    ("ab", 2),
+    ("コ", 2),
+    ("コンピュータ", 12),
+    ("\u{2328}", 1),
+    ("\u{2328}\u{FE0F}", 2),
+    ("\u{200B}", 0),
+    ("a\u{FF76}\u{FF9E}b", 4),
+    ("\u{3042}\u{FF9E}", 3),
+    ("\u{FF76}\u{FF9E}", 2),
+    ("あ", 2),
+    ("カ", 2),
+    ("\u{FF76}", 1),
+    ("\u{FF9E}", 1),
+    ("\u{FF9F}", 1),
+    ("\u{FF7B}\u{FF9E}", 2),
+    ("\u{FF8A}\u{FF9F}", 2),
+    ("\u{FF8B}\u{FF9F}", 2),
+    ("あ\u{FF76}\u{FF9E}", 4),
+    ("a\u{FF9E}", 2),
+    ("1\u{FF9F}", 2),
+    ("紅\u{FF9E}", 3),
+    ("\u{FF76}\u{3099}", 1),
+    ("\u{30AB}\u{3099}", 2),
+    ("\u{FF8A}\u{309A}", 1),
+    ("\u{30CF}\u{309A}", 2),
+];
 
 #[test]
 fn widths(rt: HostRuntime) {
-    assert!(rt; takes("", 0));
-    assert!(rt; takes("a", 1));
-    assert!(rt; takes("\u{7}", 1));
-    assert!(rt; takes("ab", 2));
-    assert!(rt; takes("コ", 2));
-    assert!(rt; takes("コンピュータ", 12));
-    assert!(rt; takes("\u{2328}", 1));
-    assert!(rt; takes("\u{2328}\u{FE0F}", 2));
-    assert!(rt; takes("\u{200B}", 0));
-}
-
-#[test]
-fn widths_count_sound_marks(rt: HostRuntime) {
-    assert!(rt; takes("a\u{FF76}\u{FF9E}b", 4));
-    assert!(rt; takes("\u{3042}\u{FF9E}", 3));
-    assert!(rt; takes("\u{FF76}\u{FF9E}", 2));
-}
-
-#[test]
-fn widths_of_kana(rt: HostRuntime) {
-    assert!(rt; takes("あ", 2));
-    assert!(rt; takes("カ", 2));
-    assert!(rt; takes("\u{FF76}", 1));
-}
-
-#[test]
-fn widths_of_sound_marks_alone(rt: HostRuntime) {
-    assert!(rt; takes("\u{FF9E}", 1));
-    assert!(rt; takes("\u{FF9F}", 1));
-}
-
-#[test]
-fn widths_of_half_width_kana_with_sound_marks(rt: HostRuntime) {
-    assert!(rt; takes("\u{FF7B}\u{FF9E}", 2));
-    assert!(rt; takes("\u{FF8A}\u{FF9F}", 2));
-    assert!(rt; takes("\u{FF8B}\u{FF9F}", 2));
-    assert!(rt; takes("あ\u{FF76}\u{FF9E}", 4));
-}
-
-#[test]
-fn widths_of_other_letters_with_sound_marks(rt: HostRuntime) {
-    assert!(rt; takes("a\u{FF9E}", 2));
-    assert!(rt; takes("1\u{FF9F}", 2));
-    assert!(rt; takes("紅\u{FF9E}", 3));
-}
-
-#[test]
-fn widths_of_kana_with_combining_marks(rt: HostRuntime) {
-    assert!(rt; takes("\u{FF76}\u{3099}", 1));
-    assert!(rt; takes("\u{30AB}\u{3099}", 2));
-    assert!(rt; takes("\u{FF8A}\u{309A}", 1));
-    assert!(rt; takes("\u{30CF}\u{309A}", 2));
+    for (text, width) in &WIDTHS {
+        assert!(rt; text.cell_width() == *width, "{text}");
+    }
 }
 
 fn cell(alloc: Global, symbol: &str) -> Result<Cell, AllocError> {
@@ -112,30 +92,40 @@ fn is_new_as_set(alloc: Global, symbol: &str) -> Result<bool, AllocError> {
     Ok(made == set && made.symbol() == symbol && set.symbol() == symbol)
 }
 
-#[test]
-fn symbols_of_new_cells(rt: HostRuntime) -> Result<(), Fail> {
-    assert!(rt; shows(&Cell::EMPTY, " "));
-    assert!(rt; shows(&cell(rt.alloc(), "a")?, "a"));
-    assert!(rt; made_of_char(rt.alloc(), 'x', "x")?);
-    Ok(())
+// Whether a symbol, a text behind it, a character in its place and a blank show one after another.
+fn shows_in_turn(alloc: Global) -> Result<bool, AllocError> {
+    let mut cell = cell(alloc, "a")?;
+    Ok(
+        shows(&cell, "a")
+            && appends(alloc, &mut cell, "\u{301}", "a\u{301}")?
+            && sets_char(alloc, &mut cell, 'コ', "コ", 2)?
+            && is_empty_with(alloc, &mut cell, " ")?
+            && appends(alloc, &mut cell, "x", " x")?,
+    )
 }
 
 #[test]
-fn symbols(rt: HostRuntime) -> Result<(), Fail> {
-    let mut cell = cell(rt.alloc(), "a")?;
-    assert!(rt; appends(rt.alloc(), &mut cell, "\u{301}", "a\u{301}")?);
-    assert!(rt; sets_char(rt.alloc(), &mut cell, 'コ', "コ", 2)?);
-    assert!(rt; is_empty_with(rt.alloc(), &mut cell, " ")?);
-    assert!(rt; appends(rt.alloc(), &mut cell, "x", " x")?);
+fn symbols_of_cells(rt: HostRuntime) -> Result<(), Fail> {
+    assert!(rt; shows(&Cell::EMPTY, " "));
+    assert!(rt; made_of_char(rt.alloc(), 'x', "x")?);
+    assert!(rt; shows_in_turn(rt.alloc())?);
     Ok(())
 }
+
+// Whether a text that takes no columns goes behind a symbol that is set.
+fn appends_mark(alloc: Global) -> Result<bool, AllocError> {
+    let mut cell = cell(alloc, "あ")?;
+    appends(alloc, &mut cell, "\u{200B}", "あ\u{200B}")
+}
+
+static SET: [&str; 2] = ["あ", "\u{1F468}\u{1F469}\u{1F467}\u{1F466}"];
 
 #[test]
 fn symbols_that_are_set(rt: HostRuntime) -> Result<(), Fail> {
-    assert!(rt; is_new_as_set(rt.alloc(), "あ")?);
-    assert!(rt; is_new_as_set(rt.alloc(), "\u{1F468}\u{1F469}\u{1F467}\u{1F466}")?);
-    let mut cell = cell(rt.alloc(), "あ")?;
-    assert!(rt; appends(rt.alloc(), &mut cell, "\u{200B}", "あ\u{200B}")?);
+    for symbol in &SET {
+        assert!(rt; is_new_as_set(rt.alloc(), symbol)?, "{symbol}");
+    }
+    assert!(rt; appends_mark(rt.alloc())?);
     Ok(())
 }
 
@@ -176,40 +166,39 @@ fn everything_is_reset(rt: HostRuntime) -> Result<(), Fail> {
     Ok(())
 }
 
-// Whether a text drawn over a cell shows as this symbol.
+// Whether a text drawn over a symbol, or over an unset one, shows as this symbol.
 fn merges(
     alloc: Global,
-    cell: Cell,
     strategy: MergeStrategy,
-    text: &str,
-    symbol: &str,
-) -> Result<bool, AllocError> {
-    let mut cell = cell;
-    cell.merge_symbol(alloc, text, strategy)?;
-    Ok(cell.symbol() == symbol)
-}
-
-// The same over a cell with a symbol.
-fn merges_over(
-    alloc: Global,
-    strategy: MergeStrategy,
-    first: &str,
+    first: Option<&str>,
     second: &str,
     symbol: &str,
 ) -> Result<bool, AllocError> {
-    let cell = Cell::new(alloc, first)?;
-    merges(alloc, cell, strategy, second, symbol)
+    let mut cell = Cell::EMPTY;
+    if let Some(first) = first {
+        cell.set_symbol(alloc, first)?;
+    }
+    cell.merge_symbol(alloc, second, strategy)?;
+    Ok(cell.symbol() == symbol)
 }
+
+static MERGED: [(MergeStrategy, Option<&str>, &str, &str); 6] = [
+    (MergeStrategy::Exact, None, "╠", "╠"),
+    (MergeStrategy::Exact, Some(" "), "╠", " "),
+    (MergeStrategy::Exact, Some("│"), "━", "┿"),
+    (MergeStrategy::Replace, Some("│"), "━", "━"),
+    (MergeStrategy::Fuzzy, Some("┘"), "╭", "┼"),
+    (MergeStrategy::Fuzzy, Some("│"), "a", "a"),
+];
 
 #[test]
 fn merged_symbols(rt: HostRuntime) -> Result<(), Fail> {
-    let exact = MergeStrategy::Exact;
-    assert!(rt; merges(rt.alloc(), Cell::EMPTY, exact, "╠", "╠")?);
-    assert!(rt; merges_over(rt.alloc(), exact, " ", "╠", " ")?);
-    assert!(rt; merges_over(rt.alloc(), exact, "│", "━", "┿")?);
-    assert!(rt; merges_over(rt.alloc(), MergeStrategy::Replace, "│", "━", "━")?);
-    assert!(rt; merges_over(rt.alloc(), MergeStrategy::Fuzzy, "┘", "╭", "┼")?);
-    assert!(rt; merges_over(rt.alloc(), MergeStrategy::Fuzzy, "│", "a", "a")?);
+    for (strategy, first, second, symbol) in &MERGED {
+        assert!(rt;
+            merges(rt.alloc(), *strategy, *first, second, symbol)?,
+            "{second}"
+        );
+    }
     Ok(())
 }
 
@@ -217,15 +206,17 @@ fn hash_of(cell: &Cell) -> u64 {
     BuildHasherDefault::<FoldHasher>::default().hash_one(cell)
 }
 
+// Whether a blank cell equals an empty one, and their hashes, and isn't equal to a blank one with the flag.
+fn blank_is_like_empty(alloc: Global) -> Result<bool, AllocError> {
+    let mut cell = cell(alloc, " ")?;
+    let is_alike = cell == Cell::EMPTY && hash_of(&cell) == hash_of(&Cell::EMPTY);
+    cell.set_skip(true);
+    Ok(is_alike && cell != Cell::EMPTY)
+}
+
 #[test]
 fn equal_cells_have_equal_hashes(rt: HostRuntime) -> Result<(), Fail> {
-    let unset = Cell::EMPTY;
-    let blank = cell(rt.alloc(), " ")?;
-    assert!(rt; unset == blank);
-    assert!(rt; hash_of(&unset) == hash_of(&blank));
-    let mut skipped = cell(rt.alloc(), " ")?;
-    skipped.set_skip(true);
-    assert!(rt; skipped != blank);
+    assert!(rt; blank_is_like_empty(rt.alloc())?);
     Ok(())
 }
 

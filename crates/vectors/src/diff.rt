@@ -11,12 +11,15 @@ use std::alloc::{AllocError, Global};
 use std::num::NonZeroU16;
 use std::test::Fail;
 
-// Whether the updates are these, by column, row and symbol.
+// An update: its column, its row and its symbol.
+type Update = (u16, u16, &'static str);
+
+// Whether the updates are these.
 fn gives(
     alloc: Global,
     prev: &Buffer,
     next: &Buffer,
-    expected: &[(u16, u16, &str)],
+    expected: &[Update],
 ) -> Result<bool, AllocError>
     requires { IsAligned prev.now next.now }
 {
@@ -26,7 +29,7 @@ fn gives(
 }
 
 // Whether the iterator of the updates gives these, one after another.
-fn iterates(prev: &Buffer, next: &Buffer, expected: &[(u16, u16, &str)]) -> bool
+fn iterates(prev: &Buffer, next: &Buffer, expected: &[Update]) -> bool
     requires { IsAligned prev.now next.now }
 {
     let given = prev
@@ -35,278 +38,280 @@ fn iterates(prev: &Buffer, next: &Buffer, expected: &[(u16, u16, &str)]) -> bool
     given.eq(expected.iter().copied())
 }
 
-// The same for two rows of this width.
-fn rows_iterate(
-    alloc: Global,
-    width: u16,
-    prev: &[&str],
-    next: &[&str],
-    expected: &[(u16, u16, &str)],
-) -> Result<bool, AllocError> {
-    let prev = row(alloc, width, prev)?;
-    let next = row(alloc, width, next)?;
-    Ok(iterates(&prev, &next, expected))
-}
+const KEYBOARD: &str = "\u{2328}\u{FE0F}";
 
-#[test]
-fn one_after_another(rt: HostRuntime) -> Result<(), Fail> {
-    let alloc = rt.alloc();
-    let shifted = [(0, 0, "a"), (1, 0, "コ"), (3, 0, "b")];
-    assert!(rt; rows_iterate(alloc, 4, &["コ", "ン"], &["a", "コ", "b"], &shifted)?);
-    assert!(rt; rows_iterate(alloc, 3, &["コ", "a"], &["コ", "a"], &[])?);
-    Ok(())
-}
+// Two rows of a width, and the updates from one to the other.
+static ROWS: [(u16, &[&str], &[&str], &[Update]); 9] = [
+    (2, &["a", "b"], &["コ"], &[(0, 0, "コ")]),
+    (2, &["コ"], &["a", "b"], &[(0, 0, "a"), (1, 0, "b")]),
+    (3, &["a", "b", "c"], &["a", "x", "c"], &[(1, 0, "x")]),
+    (3, &["コ", "a"], &["コ", "a"], &[]),
+    (3, &["コ", "a"], &["コ", "b"], &[(2, 0, "b")]),
+    (
+        4,
+        &["コ", "ン"],
+        &["a", "コ", "b"],
+        &[(0, 0, "a"), (1, 0, "コ"), (3, 0, "b")],
+    ),
+    (
+        2,
+        &["a", "b"],
+        &[KEYBOARD],
+        &[(0, 0, KEYBOARD), (1, 0, " ")],
+    ),
+    (2, &["a", " "], &[KEYBOARD], &[(0, 0, KEYBOARD)]),
+    (
+        6,
+        &["a", "b", "c", "d", "─", "e"],
+        &["a", "称", "─", "─", "e"],
+        &[(1, 0, "称"), (3, 0, "─")],
+    ),
+];
 
-// Whether the updates between two rows of this width are these.
+// Whether the updates between two rows of this width are these, in a list and one after another.
 fn rows_give(
     alloc: Global,
     width: u16,
     prev: &[&str],
     next: &[&str],
-    expected: &[(u16, u16, &str)],
+    expected: &[Update],
 ) -> Result<bool, AllocError> {
     let prev = row(alloc, width, prev)?;
     let next = row(alloc, width, next)?;
-    gives(alloc, &prev, &next, expected)
-}
-
-const KEYBOARD: &str = "\u{2328}\u{FE0F}";
-
-#[test]
-fn narrow_and_wide(rt: HostRuntime) -> Result<(), Fail> {
-    let alloc = rt.alloc();
-    assert!(rt; rows_give(alloc, 2, &["a", "b"], &["コ"], &[(0, 0, "コ")])?);
-    assert!(rt; rows_give(alloc, 2, &["コ"], &["a", "b"], &[(0, 0, "a"), (1, 0, "b")])?);
-    assert!(rt; rows_give(alloc, 3, &["a", "b", "c"], &["a", "x", "c"], &[(1, 0, "x")])?);
-    assert!(rt; rows_give(alloc, 3, &["コ", "a"], &["コ", "a"], &[])?);
-    assert!(rt; rows_give(alloc, 3, &["コ", "a"], &["コ", "b"], &[(2, 0, "b")])?);
-    Ok(())
+    Ok(iterates(&prev, &next, expected) && gives(alloc, &prev, &next, expected)?)
 }
 
 #[test]
-fn shifted_and_cleared(rt: HostRuntime) -> Result<(), Fail> {
-    let alloc = rt.alloc();
-    let shifted = [(0, 0, "a"), (1, 0, "コ"), (3, 0, "b")];
-    assert!(rt; rows_give(alloc, 4, &["コ", "ン"], &["a", "コ", "b"], &shifted)?);
-    let cleared = [(0, 0, KEYBOARD), (1, 0, " ")];
-    assert!(rt; rows_give(alloc, 2, &["a", "b"], &[KEYBOARD], &cleared)?);
-    assert!(rt; rows_give(alloc, 2, &["a", " "], &[KEYBOARD], &[(0, 0, KEYBOARD)])?);
-    Ok(())
-}
-
-#[test]
-fn shifted_into_place(rt: HostRuntime) -> Result<(), Fail> {
-    let alloc = rt.alloc();
-    let prev = ["a", "b", "c", "d", "─", "e"];
-    let next = ["a", "称", "─", "─", "e"];
-    assert!(rt; rows_give(alloc, 6, &prev, &next, &[(1, 0, "称"), (3, 0, "─")])?);
-    Ok(())
-}
-
-// The same where the first cell of the first row has a background.
-fn styled_row_gives(
-    alloc: Global,
-    width: u16,
-    prev: &[&str],
-    background: Color,
-    next: &[&str],
-    expected: &[(u16, u16, &str)],
-) -> Result<bool, AllocError> {
-    let mut prev = row(alloc, width, prev)?;
-    if let Some(cell) = prev.cell_mut(Position::ORIGIN) {
-        cell.bg = background;
+fn rows_of_narrow_and_wide_symbols(rt: HostRuntime) -> Result<(), Fail> {
+    for (width, prev, next, expected) in &ROWS {
+        assert!(rt; rows_give(rt.alloc(), *width, prev, next, expected)?);
     }
-    let next = row(alloc, width, next)?;
-    gives(alloc, &prev, &next, expected)
-}
-
-#[test]
-fn styled_wide_cells(rt: HostRuntime) -> Result<(), Fail> {
-    let alloc = rt.alloc();
-    let both = [(0, 0, "a"), (1, 0, " ")];
-    assert!(rt; styled_row_gives(alloc, 2, &["コ"], Color::Red, &["a", " "], &both)?);
-    assert!(rt; styled_row_gives(alloc, 1, &["コ"], Color::Red, &["a"], &[(0, 0, "a")])?);
     Ok(())
 }
 
-#[test]
-fn a_visited_wide_cell_reaches_past_its_range(rt: HostRuntime) -> Result<(), Fail> {
-    let alloc = rt.alloc();
-    let both = [(0, 0, "a"), (1, 0, "コ")];
-    assert!(rt; styled_row_gives(alloc, 3, &["コ", "x"], Color::Red, &["a", "コ"], &both)?);
-    Ok(())
+// What a cell has besides its symbol.
+#[derive(Clone, Copy)]
+enum Mark {
+    Nothing,
+    Background(Color),
+    Modifier(Modifier),
+    Skip,
+    Always,
+    Forced(u16),
 }
 
-// Whether the updates from a wide cell with this modifier to a narrow one are these.
-fn modified_gives(
-    alloc: Global,
-    modifier: Modifier,
-    expected: &[(u16, u16, &str)],
-) -> Result<bool, AllocError> {
-    let mut prev = row(alloc, 2, &["コ"])?;
-    if let Some(cell) = prev.cell_mut(Position::ORIGIN) {
-        cell.modifier = modifier;
-    }
-    let next = row(alloc, 2, &["a"])?;
-    gives(alloc, &prev, &next, expected)
-}
-
-#[test]
-fn modifiers_that_show_on_a_blank(rt: HostRuntime) -> Result<(), Fail> {
-    let alloc = rt.alloc();
-    let both = [(0, 0, "a"), (1, 0, " ")];
-    assert!(rt; modified_gives(alloc, Modifier::REVERSED, &both)?);
-    assert!(rt; modified_gives(alloc, Modifier::UNDERLINED, &both)?);
-    assert!(rt; modified_gives(alloc, Modifier::SLOW_BLINK, &both)?);
-    assert!(rt; modified_gives(alloc, Modifier::RAPID_BLINK, &both)?);
-    assert!(rt; modified_gives(alloc, Modifier::CROSSED_OUT, &both)?);
-    assert!(rt; modified_gives(alloc, Modifier::BOLD, &[(0, 0, "a")])?);
-    Ok(())
-}
-
-fn set_option(buffer: &mut Buffer, x: u16, diff_option: CellDiffOption)
-    ensures { buffer.new.area ≡ buffer.old.area }
-{
-    if let Some(cell) = buffer.cell_mut(Position { x, y: 0 }) {
-        cell.diff_option = diff_option;
+fn set_mark(cell: &mut Cell, mark: Mark) {
+    match mark {
+        Mark::Nothing => {}
+        Mark::Background(color) => cell.bg = color,
+        Mark::Modifier(modifier) => cell.modifier = modifier,
+        Mark::Skip => cell.diff_option = CellDiffOption::Skip,
+        Mark::Always => cell.diff_option = CellDiffOption::AlwaysUpdate,
+        Mark::Forced(width) => {
+            if let Some(width) = NonZeroU16::new(width) {
+                cell.diff_option = CellDiffOption::ForcedWidth(width);
+            }
+        }
     }
 }
 
-// One row of this width, with an option in a column.
-fn row_with(
-    alloc: Global,
-    width: u16,
-    symbols: &[&str],
-    x: u16,
-    diff_option: CellDiffOption,
-) -> Result<Buffer, AllocError>
+// A row: its symbols, another one for its second column, if there is one, and what the cell in a column has besides.
+type Marked = (&'static [&'static str], &'static str, u16, Mark);
+
+// One row of this width.
+fn marked_row(alloc: Global, width: u16, marked: Marked) -> Result<Buffer, AllocError>
     ensures { IfOk result (λ b. b.area ≡ record { x = 0; y = 0; width = width; height = 1 }) }
 {
+    let (symbols, second, x, mark) = marked;
     let mut buffer = row(alloc, width, symbols)?;
-    set_option(&mut buffer, x, diff_option);
+    if !second.is_empty() {
+        put(alloc, &mut buffer, 1, 0, &[second])?;
+    }
+    if let Some(cell) = buffer.cell_mut(Position { x, y: 0 }) {
+        set_mark(cell, mark);
+    }
     Ok(buffer)
 }
 
-// Whether the updates between two cells of one symbol, with these options, are these.
-fn options_give(
+const A_AND_BLANK: &[Update] = &[(0, 0, "a"), (1, 0, " ")];
+
+// Two such rows of a width, and the updates from one to the other.
+static MARKED_ROWS: [(u16, Marked, Marked, &[Update]); 17] = [
+    (
+        2,
+        (&["コ"], "", 0, Mark::Background(Color::Red)),
+        (&["a", " "], "", 0, Mark::Nothing),
+        A_AND_BLANK,
+    ),
+    (
+        1,
+        (&["コ"], "", 0, Mark::Background(Color::Red)),
+        (&["a"], "", 0, Mark::Nothing),
+        &[(0, 0, "a")],
+    ),
+    (
+        3,
+        (&["コ", "x"], "", 0, Mark::Background(Color::Red)),
+        (&["a", "コ"], "", 0, Mark::Nothing),
+        &[(0, 0, "a"), (1, 0, "コ")],
+    ),
+    (
+        2,
+        (&["コ"], "", 0, Mark::Modifier(Modifier::REVERSED)),
+        (&["a"], "", 0, Mark::Nothing),
+        A_AND_BLANK,
+    ),
+    (
+        2,
+        (&["コ"], "", 0, Mark::Modifier(Modifier::UNDERLINED)),
+        (&["a"], "", 0, Mark::Nothing),
+        A_AND_BLANK,
+    ),
+    (
+        2,
+        (&["コ"], "", 0, Mark::Modifier(Modifier::SLOW_BLINK)),
+        (&["a"], "", 0, Mark::Nothing),
+        A_AND_BLANK,
+    ),
+    (
+        2,
+        (&["コ"], "", 0, Mark::Modifier(Modifier::RAPID_BLINK)),
+        (&["a"], "", 0, Mark::Nothing),
+        A_AND_BLANK,
+    ),
+    (
+        2,
+        (&["コ"], "", 0, Mark::Modifier(Modifier::CROSSED_OUT)),
+        (&["a"], "", 0, Mark::Nothing),
+        A_AND_BLANK,
+    ),
+    (
+        2,
+        (&["コ"], "", 0, Mark::Modifier(Modifier::BOLD)),
+        (&["a"], "", 0, Mark::Nothing),
+        &[(0, 0, "a")],
+    ),
+    (
+        1,
+        (&["x"], "", 0, Mark::Nothing),
+        (&["x"], "", 0, Mark::Skip),
+        &[],
+    ),
+    (
+        1,
+        (&["x"], "", 0, Mark::Skip),
+        (&["x"], "", 0, Mark::Nothing),
+        &[(0, 0, "x")],
+    ),
+    (
+        1,
+        (&["x"], "", 0, Mark::Always),
+        (&["x"], "", 0, Mark::Always),
+        &[(0, 0, "x")],
+    ),
+    (
+        1,
+        (&["x"], "", 0, Mark::Nothing),
+        (&["x"], "", 0, Mark::Nothing),
+        &[],
+    ),
+    (
+        2,
+        (&["b", "c"], "", 0, Mark::Nothing),
+        (&["a"], "", 0, Mark::Forced(2)),
+        &[(0, 0, "a")],
+    ),
+    (
+        2,
+        (&["a", "b"], "", 0, Mark::Nothing),
+        (&[KEYBOARD], "", 1, Mark::Skip),
+        &[(0, 0, KEYBOARD)],
+    ),
+    (
+        2,
+        (&["コ"], "", 0, Mark::Nothing),
+        (&["コ"], "y", 1, Mark::Skip),
+        &[],
+    ),
+    (
+        2,
+        (&["コ"], "x", 0, Mark::Nothing),
+        (&["a", "x"], "", 0, Mark::Nothing),
+        &[(0, 0, "a")],
+    ),
+];
+
+// Whether the updates between two such rows are these.
+fn marked_rows_give(
     alloc: Global,
-    prev: CellDiffOption,
-    next: CellDiffOption,
-    expected: &[(u16, u16, &str)],
+    width: u16,
+    prev: Marked,
+    next: Marked,
+    expected: &[Update],
 ) -> Result<bool, AllocError> {
-    let prev = row_with(alloc, 1, &["x"], 0, prev)?;
-    let next = row_with(alloc, 1, &["x"], 0, next)?;
+    let prev = marked_row(alloc, width, prev)?;
+    let next = marked_row(alloc, width, next)?;
     gives(alloc, &prev, &next, expected)
 }
 
 #[test]
-fn options(rt: HostRuntime) -> Result<(), Fail> {
-    let alloc = rt.alloc();
-    let (none, skip) = (CellDiffOption::None, CellDiffOption::Skip);
-    let always = CellDiffOption::AlwaysUpdate;
-    assert!(rt; options_give(alloc, none, skip, &[])?);
-    assert!(rt; options_give(alloc, skip, none, &[(0, 0, "x")])?);
-    assert!(rt; options_give(alloc, always, always, &[(0, 0, "x")])?);
-    assert!(rt; options_give(alloc, none, none, &[])?);
+fn rows_with_colors_modifiers_and_options(rt: HostRuntime) -> Result<(), Fail> {
+    for (width, prev, next, expected) in &MARKED_ROWS {
+        assert!(rt; marked_rows_give(rt.alloc(), *width, *prev, *next, expected)?);
+    }
     Ok(())
 }
 
-// Whether the updates from a row to one with an option in a column are these.
-fn row_with_gives(
-    alloc: Global,
-    prev: &[&str],
-    next: &[&str],
-    x: u16,
-    diff_option: CellDiffOption,
-    expected: &[(u16, u16, &str)],
-) -> Result<bool, AllocError> {
-    let prev = row(alloc, 2, prev)?;
-    let next = row_with(alloc, 2, next, x, diff_option)?;
-    gives(alloc, &prev, &next, expected)
-}
+// A rectangle, the symbols in it, and the updates from an empty buffer to one with them.
+static SHEETS: [((u16, u16, u16, u16), &[Update], &[Update]); 4] = [
+    ((0, 0, 2, 2), &[], &[]),
+    (
+        (0, 0, 2, 2),
+        &[(0, 0, "x"), (1, 0, "x"), (0, 1, "x"), (1, 1, "x")],
+        &[(0, 0, "x"), (1, 0, "x"), (0, 1, "x"), (1, 1, "x")],
+    ),
+    ((3, 4, 2, 1), &[(4, 4, "z")], &[(4, 4, "z")]),
+    ((0, 0, 2, 2), &[(1, 0, "コ"), (0, 1, "y")], &[(1, 0, "コ")]),
+];
 
-#[test]
-fn forced_widths(rt: HostRuntime) -> Result<(), Fail> {
-    let Some(two) = NonZeroU16::new(2) else {
-        return Err(Fail::new("two is zero"));
-    };
-    let forced = CellDiffOption::ForcedWidth(two);
-    assert!(rt; row_with_gives(rt.alloc(), &["b", "c"], &["a"], 0, forced, &[(0, 0, "a")])?);
-    Ok(())
-}
-
-#[test]
-fn a_column_that_is_skipped_behind_a_wide_cell(rt: HostRuntime) -> Result<(), Fail> {
-    let skip = CellDiffOption::Skip;
-    let wide = [(0, 0, KEYBOARD)];
-    assert!(rt; row_with_gives(rt.alloc(), &["a", "b"], &[KEYBOARD], 1, skip, &wide)?);
-    Ok(())
-}
-
-// Whether nothing is given from a row of a wide symbol to one that has another one behind it, with an option.
-fn covered_gives_nothing(
-    alloc: Global,
-    wide: &str,
-    behind: &str,
-    diff_option: CellDiffOption,
-) -> Result<bool, AllocError> {
-    let prev = row(alloc, 2, &[wide])?;
-    let mut next = row_with(alloc, 2, &[wide], 1, diff_option)?;
-    put(alloc, &mut next, 1, 0, &[behind])?;
-    gives(alloc, &prev, &next, &[])
-}
-
-#[test]
-fn a_symbol_that_is_skipped_behind_a_wide_cell(rt: HostRuntime) -> Result<(), Fail> {
-    assert!(rt; covered_gives_nothing(rt.alloc(), "コ", "y", CellDiffOption::Skip)?);
-    Ok(())
-}
-
-// An empty buffer over this area, with symbols from a place on.
-fn sheet(alloc: Global, area: Rect, x: u16, y: u16, symbols: &[&str]) -> Result<Buffer, AllocError>
+// An empty buffer over this area, with symbols at these places.
+fn sheet(alloc: Global, area: Rect, symbols: &[Update]) -> Result<Buffer, AllocError>
     requires { EdgesFit area }
     ensures { IfOk result (λ b. b.area ≡ area) }
 {
     let mut buffer = Buffer::empty(alloc, area)?;
-    put(alloc, &mut buffer, x, y, symbols)?;
+    for update in symbols {
+        let (x, y, symbol) = *update;
+        put(alloc, &mut buffer, x, y, &[symbol])?;
+    }
     Ok(buffer)
 }
 
-// Whether the updates from an empty buffer of this size to one with a symbol everywhere are these.
-fn full_gives(
+// Whether the updates from an empty buffer over this area to one with symbols are these.
+fn sheet_gives(
     alloc: Global,
-    width: u16,
-    height: u16,
-    symbol: &str,
-    expected: &[(u16, u16, &str)],
+    area: (u16, u16, u16, u16),
+    symbols: &[Update],
+    expected: &[Update],
 ) -> Result<bool, AllocError> {
-    let area = Rect::new(0, 0, width, height);
+    let (x, y, width, height) = area;
+    let area = Rect::new(x, y, width, height);
     let prev = Buffer::empty(alloc, area)?;
-    let next = Buffer::filled(alloc, area, Cell::new(alloc, symbol)?)?;
+    let next = sheet(alloc, area, symbols)?;
     gives(alloc, &prev, &next, expected)
-}
-
-// Whether there are no updates between two empty buffers of this size.
-fn empty_gives_nothing(alloc: Global, width: u16, height: u16) -> Result<bool, AllocError> {
-    let area = Rect::new(0, 0, width, height);
-    let prev = Buffer::empty(alloc, area)?;
-    let next = Buffer::empty(alloc, area)?;
-    gives(alloc, &prev, &next, &[])
 }
 
 #[test]
 fn whole_buffers(rt: HostRuntime) -> Result<(), Fail> {
-    let alloc = rt.alloc();
-    assert!(rt; empty_gives_nothing(alloc, 2, 2)?);
-    let everywhere = [(0, 0, "x"), (1, 0, "x"), (0, 1, "x"), (1, 1, "x")];
-    assert!(rt; full_gives(alloc, 2, 2, "x", &everywhere)?);
+    for (area, symbols, expected) in &SHEETS {
+        assert!(rt; sheet_gives(rt.alloc(), *area, symbols, expected)?);
+    }
     Ok(())
 }
 
 // Whether of a buffer of two rows and one of a single row the first rows are compared alone.
 fn compares_common_rows(alloc: Global) -> Result<bool, AllocError> {
-    let mut prev = sheet(alloc, Rect::new(0, 0, 1, 2), 0, 0, &["a"])?;
-    put(alloc, &mut prev, 0, 1, &["b"])?;
+    let prev = sheet(alloc, Rect::new(0, 0, 1, 2), &[(0, 0, "a"), (0, 1, "b")])?;
     let next = row(alloc, 1, &["x"])?;
     gives(alloc, &prev, &next, &[(0, 0, "x")])
 }
@@ -317,51 +322,25 @@ fn common_rows(rt: HostRuntime) -> Result<(), Fail> {
     Ok(())
 }
 
-// Whether a symbol off the corner of the grid is given where it stands.
-fn gives_off_the_corner(alloc: Global) -> Result<bool, AllocError> {
-    let area = Rect::new(3, 4, 2, 1);
-    let prev = sheet(alloc, area, 3, 4, &[])?;
-    let next = sheet(alloc, area, 4, 4, &["z"])?;
-    gives(alloc, &prev, &next, &[(4, 4, "z")])
-}
+// Rows of a width, and whether they are settled.
+static SETTLED: [(u16, Marked, bool); 6] = [
+    (2, (&["コ"], "", 0, Mark::Nothing), true),
+    (1, (&["コ"], "", 0, Mark::Nothing), false),
+    (2, (&["コ"], "", 0, Mark::Skip), false),
+    (2, (&["コ"], "x", 0, Mark::Nothing), false),
+    (2, (&["コ"], "x", 1, Mark::Skip), true),
+    (2, (&["コ"], "x", 0, Mark::Forced(1)), true),
+];
 
-#[test]
-fn rows_off_the_corner(rt: HostRuntime) -> Result<(), Fail> {
-    assert!(rt; gives_off_the_corner(rt.alloc())?);
-    Ok(())
-}
-
-// Whether a row of this width with a wide symbol that has an option is settled.
-fn wide_is_settled(
-    alloc: Global,
-    width: u16,
-    diff_option: CellDiffOption,
-) -> Result<bool, AllocError> {
-    let wide = row_with(alloc, width, &["コ"], 0, diff_option)?;
-    Ok(wide.is_settled())
-}
-
-// Whether a row is settled where a symbol stands behind a wide one, and these options are theirs.
-fn covered_is_settled(
-    alloc: Global,
-    wide: CellDiffOption,
-    behind: CellDiffOption,
-) -> Result<bool, AllocError> {
-    let mut row = row_with(alloc, 2, &["コ"], 0, wide)?;
-    put(alloc, &mut row, 1, 0, &["x"])?;
-    set_option(&mut row, 1, behind);
+fn is_settled(alloc: Global, width: u16, marked: Marked) -> Result<bool, AllocError> {
+    let row = marked_row(alloc, width, marked)?;
     Ok(row.is_settled())
 }
 
 #[test]
 fn settled(rt: HostRuntime) -> Result<(), Fail> {
-    let (none, skip) = (CellDiffOption::None, CellDiffOption::Skip);
-    let one_wide = CellDiffOption::ForcedWidth(NonZeroU16::MIN);
-    assert!(rt; wide_is_settled(rt.alloc(), 2, none)?);
-    assert!(rt; !wide_is_settled(rt.alloc(), 1, none)?);
-    assert!(rt; !wide_is_settled(rt.alloc(), 2, skip)?);
-    assert!(rt; !covered_is_settled(rt.alloc(), none, none)?);
-    assert!(rt; covered_is_settled(rt.alloc(), none, skip)?);
-    assert!(rt; covered_is_settled(rt.alloc(), one_wide, none)?);
+    for (width, marked, expected) in &SETTLED {
+        assert!(rt; is_settled(rt.alloc(), *width, *marked)? == *expected);
+    }
     Ok(())
 }

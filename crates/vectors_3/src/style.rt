@@ -16,17 +16,19 @@ pub(crate) static MODIFIERS: [(Modifier, u16); 9] = [
     (Modifier::CROSSED_OUT, 256),
 ];
 
+/// Whether a modifier has these bits, and no other one has them.
+fn has_bits(modifier: Modifier, bits: u16) -> bool {
+    modifier.bits() == bits && Modifier::from_bits(bits) == Some(modifier)
+}
+
 /// Asserts that the modifiers have these bits, and that there are no others.
 fn bits_are(rt: &impl Abort, modifiers: &[(Modifier, u16)]) {
     let mut all = Modifier::empty();
-    for (modifier, bit) in modifiers {
-        assert_eq!(rt; modifier.bits(), *bit);
-        assert_eq!(rt; Modifier::from_bits(*bit), Some(*modifier));
+    for (modifier, bits) in modifiers {
+        assert!(rt; has_bits(*modifier, *bits), "{bits}");
         all.insert(*modifier);
     }
-    assert_eq!(rt; all, Modifier::all());
-    assert_eq!(rt; all, Modifier::ALL);
-    assert_eq!(rt; all.bits(), 511);
+    assert!(rt; all == Modifier::all() && has_bits(all, 511) && all == Modifier::ALL);
 }
 
 /// Whether no modifier has these bits, and a set can still keep them.

@@ -44,29 +44,71 @@ fn moves_the_cursor(rt: HostRuntime) -> Result<(), Fail> {
     Ok(())
 }
 
-// Whether the current buffer, drawn as it is, leaves the cursor visible at a place.
-fn applies_with_cursor(terminal: &mut Terminal<TestBackend>, position: Position) -> bool {
-    terminal.apply_buffer_with_cursor(Some(position)).is_ok()
-        && terminal.backend().cursor_position() == position
+// Whether the cursor is hidden and shown when that is asked for.
+fn hides_and_shows_cursor(terminal: &mut Terminal<TestBackend>) -> bool {
+    terminal.hide_cursor().is_ok()
+        && has_cursor(terminal, false)
+        && terminal.show_cursor().is_ok()
         && has_cursor(terminal, true)
+}
+
+#[test]
+fn hides_and_shows_the_cursor(rt: HostRuntime) -> Result<(), Fail> {
+    let mut terminal = terminal(rt.alloc(), 3, 2)?;
+    assert!(rt; hides_and_shows_cursor(&mut terminal));
+    Ok(())
+}
+
+// Paints a text on the current buffer.
+fn paint(
+    alloc: Global,
+    terminal: &mut Terminal<TestBackend>,
+    text: &str,
+) -> Result<(), AllocError> {
+    write(alloc, terminal.current_buffer_mut(), text)
+}
+
+// Whether a text, painted on the current buffer that is drawn as it is, shows these symbols, and leaves the cursor visible at
+// a place.
+fn applies_with_cursor(
+    alloc: Global,
+    terminal: &mut Terminal<TestBackend>,
+    position: Position,
+    symbols: &str,
+) -> Result<bool, AllocError> {
+    paint(alloc, terminal, "abc")?;
+    let applied = terminal.apply_buffer_with_cursor(Some(position)).is_ok();
+    Ok(
+        applied
+            && terminal.backend().cursor_position() == position
+            && has_cursor(terminal, true)
+            && shows(terminal, symbols),
+    )
 }
 
 #[test]
 fn applies_a_buffer_with_a_cursor(rt: HostRuntime) -> Result<(), Fail> {
     let mut terminal = terminal(rt.alloc(), 3, 2)?;
-    write(rt.alloc(), terminal.current_buffer_mut(), "abc")?;
-    assert!(rt; applies_with_cursor(&mut terminal, Position { x: 2, y: 1 }));
-    assert!(rt; shows(&terminal, "abc   "));
+    let corner = Position { x: 2, y: 1 };
+    assert!(rt; applies_with_cursor(rt.alloc(), &mut terminal, corner, "abc   ")?);
     Ok(())
+}
+
+// The same without a cursor, which is then hidden.
+fn applies(
+    alloc: Global,
+    terminal: &mut Terminal<TestBackend>,
+    symbols: &str,
+) -> Result<bool, AllocError> {
+    paint(alloc, terminal, "abc")?;
+    let applied = terminal.apply_buffer().is_ok();
+    Ok(applied && has_cursor(terminal, false) && shows(terminal, symbols))
 }
 
 #[test]
 fn applies_a_buffer(rt: HostRuntime) -> Result<(), Fail> {
     let mut terminal = terminal(rt.alloc(), 3, 1)?;
-    write(rt.alloc(), terminal.current_buffer_mut(), "abc")?;
-    assert!(rt; terminal.apply_buffer().is_ok());
-    assert!(rt; shows(&terminal, "abc"));
-    assert!(rt; has_cursor(&terminal, false));
+    assert!(rt; applies(rt.alloc(), &mut terminal, "abc")?);
     Ok(())
 }
 
@@ -78,7 +120,7 @@ fn paints_on(terminal: &mut Terminal<TestBackend>, buffer: &Buffer) -> bool {
 #[test]
 fn swaps_its_buffers(rt: HostRuntime) -> Result<(), Fail> {
     let mut terminal = terminal(rt.alloc(), 3, 1)?;
-    write(rt.alloc(), terminal.current_buffer_mut(), "abc")?;
+    paint(rt.alloc(), &mut terminal, "abc")?;
     terminal.swap_buffers();
     let empty = row(rt.alloc(), 3, "")?;
     assert!(rt; paints_on(&mut terminal, &empty));

@@ -215,17 +215,31 @@ fn over_refusing(alloc: Global, width: u16, height: u16) -> Result<Terminal<Refu
     }
 }
 
+// Whether a copy is equal to a terminal, and their hashes.
+fn copy_is_alike(alloc: Global, terminal: &Terminal<Refusing>) -> Result<bool, AllocError> {
+    let copy = terminal.clone(alloc)?;
+    Ok(copy == *terminal && hash_of(&copy) == hash_of(terminal))
+}
+
+// Whether a terminal whose backend then refuses a call differs from a copy.
+fn refusal_tells_apart(
+    alloc: Global,
+    terminal: &mut Terminal<Refusing>,
+) -> Result<bool, AllocError> {
+    let copy = terminal.clone(alloc)?;
+    Ok(terminal.hide_cursor().is_err() && terminal.backend().failures == 1 && copy != *terminal)
+}
+
+fn is_default(terminal: &Terminal<Refusing>) -> bool {
+    terminal.viewport_area() == Rect::ZERO && *terminal.backend() == Refusing::default()
+}
+
 #[test]
 fn copies_a_terminal(rt: HostRuntime) -> Result<(), Fail> {
     let mut terminal = Terminal::<Refusing>::default_in(rt.alloc());
-    assert!(rt; terminal.viewport_area() == Rect::ZERO);
-    assert!(rt; *terminal.backend() == Refusing::default());
-    let copy = terminal.clone(rt.alloc())?;
-    assert!(rt; copy == terminal);
-    assert!(rt; hash_of(&copy) == hash_of(&terminal));
-    assert!(rt; terminal.hide_cursor().is_err());
-    assert!(rt; terminal.backend().failures == 1);
-    assert!(rt; copy != terminal);
+    assert!(rt; is_default(&terminal));
+    assert!(rt; copy_is_alike(rt.alloc(), &terminal)?);
+    assert!(rt; refusal_tells_apart(rt.alloc(), &mut terminal)?);
     Ok(())
 }
 
@@ -241,15 +255,19 @@ fn set_corner(
     Ok(())
 }
 
+// Whether a copy differs from a terminal once a character is set in its corner.
+fn corner_tells_apart(alloc: Global, terminal: &Terminal<Refusing>) -> Result<bool, AllocError> {
+    let mut copy = terminal.clone(alloc)?;
+    set_corner(alloc, &mut copy, 'y')?;
+    Ok(copy != *terminal)
+}
+
 #[test]
 fn copies_a_terminal_with_cells(rt: HostRuntime) -> Result<(), Fail> {
     let mut terminal = over_refusing(rt.alloc(), 2, 1)?;
     set_corner(rt.alloc(), &mut terminal, 'x')?;
-    let mut copy = terminal.clone(rt.alloc())?;
-    assert!(rt; copy == terminal);
-    assert!(rt; hash_of(&copy) == hash_of(&terminal));
-    set_corner(rt.alloc(), &mut copy, 'y')?;
-    assert!(rt; copy != terminal);
+    assert!(rt; copy_is_alike(rt.alloc(), &terminal)?);
+    assert!(rt; corner_tells_apart(rt.alloc(), &terminal)?);
     Ok(())
 }
 
@@ -277,15 +295,23 @@ fn draw_alike(one: &mut Terminal<TestBackend>, other: &mut Terminal<TestBackend>
     }
 }
 
+// Whether two terminals are alike until the cursor of one is shown.
+fn are_alike_until_one_is_shown(
+    one: &mut Terminal<TestBackend>,
+    other: &mut Terminal<TestBackend>,
+) -> bool {
+    are_alike(one, other)
+        && draw_alike(one, other)
+        && *one == *other
+        && one.show_cursor().is_ok()
+        && *one != *other
+}
+
 #[test]
 fn compares_terminals(rt: HostRuntime) -> Result<(), Fail> {
     let mut one = terminal(rt.alloc(), 2, 1)?;
     let mut other = terminal(rt.alloc(), 2, 1)?;
-    assert!(rt; are_alike(&one, &other));
-    assert!(rt; draw_alike(&mut one, &mut other));
-    assert!(rt; one == other);
-    assert!(rt; one.show_cursor().is_ok());
-    assert!(rt; one != other);
+    assert!(rt; are_alike_until_one_is_shown(&mut one, &mut other));
     Ok(())
 }
 

@@ -5,6 +5,7 @@ use rtui_buffer::Buffer;
 use rtui_geometry::Position;
 use rtui_terminal::{Terminal, TerminalError};
 use std::alloc::{AllocError, Global};
+use std::process::Abort;
 use std::test::Fail;
 
 // A terminal that drew an empty frame, and so hid its cursor.
@@ -56,126 +57,133 @@ fn goes_on_from(
     Ok(*terminal.current_buffer_mut() == buffer && terminal.get_frame().count() == 1)
 }
 
-#[test]
-fn paints_nothing_where_the_size_is_not_told(rt: HostRuntime) -> Result<(), Fail> {
-    let mut terminal = drawn(rt.alloc())?;
-    assert!(rt; fails_after(rt.alloc(), &mut terminal, "abc", 0));
-    assert!(rt; shows(&terminal, "   ") && terminal.is_cursor_hidden());
-    assert!(rt; goes_on_from(rt.alloc(), &mut terminal, "")?);
-    Ok(())
+// Whether a clear, and a frame that is painted anew, mend a terminal.
+fn is_mended(alloc: Global, terminal: &mut Terminal<TestBackend>) -> bool {
+    let is_cleared = terminal.clear().is_ok();
+    let drawn = terminal.draw(|frame| {
+        frame.buffer_mut().reset();
+        write(alloc, frame.buffer_mut(), "x")
+    });
+    is_cleared && drawn.is_ok() && shows(terminal, "x  ")
+}
+
+// A draw that fails: whether the cursor was shown before, whether the frame sets it, how many calls of the backend answer as
+// usual before one fails; and what is left: what the screen shows, whether the cursor is hidden, and what the next frame is
+// painted on.
+type Fault = (bool, bool, u64, &'static str, bool, &'static str);
+
+// The size isn't told, nothing is written, the cursor isn't hidden, not shown or not placed, and nothing is flushed.
+static FAULTS: [Fault; 6] = [
+    (false, false, 0, "   ", true, ""),
+    (false, false, 1, "   ", true, "abc"),
+    (true, false, 2, "abc", false, "abc"),
+    (false, true, 2, "abc", true, "abc"),
+    (false, true, 3, "abc", false, "abc"),
+    (false, false, 3, "abc", true, ""),
+];
+
+// Whether the draw of a text fails so, and is then mended.
+fn leaves(
+    alloc: Global,
+    terminal: &mut Terminal<TestBackend>,
+    fault: Fault,
+) -> Result<bool, AllocError> {
+    let (shown_before, with_cursor, calls, symbols, hidden, painted) = fault;
+    let is_ready = !shown_before || terminal.show_cursor().is_ok();
+    let fails = if with_cursor {
+        cursor_fails_after(alloc, terminal, "abc", calls)
+    } else {
+        fails_after(alloc, terminal, "abc", calls)
+    };
+    let is_left = shows(terminal, symbols) && terminal.is_cursor_hidden() == hidden;
+    let goes_on = goes_on_from(alloc, terminal, painted)?;
+    Ok(is_ready && fails && is_left && goes_on && is_mended(alloc, terminal))
+}
+
+fn fault_leaves(alloc: Global, fault: Fault) -> Result<bool, Fail> {
+    let mut terminal = drawn(alloc)?;
+    Ok(leaves(alloc, &mut terminal, fault)?)
 }
 
 #[test]
-fn keeps_a_frame_that_is_not_written(rt: HostRuntime) -> Result<(), Fail> {
-    let mut terminal = drawn(rt.alloc())?;
-    assert!(rt; fails_after(rt.alloc(), &mut terminal, "abc", 1));
-    assert!(rt; shows(&terminal, "   ") && terminal.is_cursor_hidden());
-    assert!(rt; goes_on_from(rt.alloc(), &mut terminal, "abc")?);
+fn keeps_what_a_fault_leaves(rt: HostRuntime) -> Result<(), Fail> {
+    for fault in &FAULTS {
+        assert!(rt; fault_leaves(rt.alloc(), *fault)?);
+    }
     Ok(())
+}
+
+// Whether a frame goes on from what was painted before one that was refused and a clear.
+fn goes_on_after_a_clear(alloc: Global, terminal: &mut Terminal<TestBackend>) -> bool {
+    fails_after(alloc, terminal, "abc", 1)
+        && terminal.clear().is_ok()
+        && draw(alloc, terminal, "x").is_ok()
+        && shows(terminal, "xbc")
 }
 
 #[test]
-fn keeps_a_frame_whose_cursor_is_not_hidden(rt: HostRuntime) -> Result<(), Fail> {
-    let mut terminal = drawn(rt.alloc())?;
-    assert!(rt; terminal.show_cursor().is_ok());
-    assert!(rt; fails_after(rt.alloc(), &mut terminal, "abc", 2));
-    assert!(rt; shows(&terminal, "abc") && !terminal.is_cursor_hidden());
-    assert!(rt; goes_on_from(rt.alloc(), &mut terminal, "abc")?);
+fn goes_on_from_a_frame_that_was_refused(rt: HostRuntime) -> Result<(), Fail> {
+    let mut terminal = terminal(rt.alloc(), 3, 1)?;
+    assert!(rt; goes_on_after_a_clear(rt.alloc(), &mut terminal));
     Ok(())
 }
 
-#[test]
-fn keeps_a_frame_whose_cursor_is_not_shown(rt: HostRuntime) -> Result<(), Fail> {
-    let mut terminal = drawn(rt.alloc())?;
-    assert!(rt; cursor_fails_after(rt.alloc(), &mut terminal, "abc", 2));
-    assert!(rt; shows(&terminal, "abc") && terminal.is_cursor_hidden());
-    assert!(rt; goes_on_from(rt.alloc(), &mut terminal, "abc")?);
-    Ok(())
-}
-
-#[test]
-fn keeps_a_frame_whose_cursor_is_not_placed(rt: HostRuntime) -> Result<(), Fail> {
-    let mut terminal = drawn(rt.alloc())?;
-    assert!(rt; cursor_fails_after(rt.alloc(), &mut terminal, "abc", 3));
-    assert!(rt; shows(&terminal, "abc") && !terminal.is_cursor_hidden());
-    assert!(rt; goes_on_from(rt.alloc(), &mut terminal, "abc")?);
-    Ok(())
-}
-
-#[test]
-fn swaps_before_it_flushes(rt: HostRuntime) -> Result<(), Fail> {
-    let mut terminal = drawn(rt.alloc())?;
-    assert!(rt; fails_after(rt.alloc(), &mut terminal, "abc", 3));
-    assert!(rt; shows(&terminal, "abc") && terminal.is_cursor_hidden());
-    assert!(rt; goes_on_from(rt.alloc(), &mut terminal, "")?);
-    Ok(())
-}
-
-/// Ways to draw the current buffer.
+// Ways to draw a frame, or the current buffer.
 #[derive(Clone, Copy)]
 enum Way {
+    Draw,
+    DrawWithCursor,
     Try,
     Apply,
     ApplyWithCursor,
 }
 
-// Why a frame that is drawn in this way is refused, if it is.
-fn refusal(terminal: &mut Terminal<TestBackend>, way: Way) -> Option<TerminalError<TestError>> {
+// Whether a frame that is drawn in this way is answered as told, where so many calls of the backend answer as usual before
+// one fails.
+fn fails_in_way(alloc: Global, terminal: &mut Terminal<TestBackend>, way: Way, calls: u64) -> bool {
+    terminal.backend_mut().fail_after(calls);
     match way {
-        Way::Try => terminal.try_draw(|_| Ok(())).err(),
-        Way::Apply => terminal.apply_buffer().err(),
-        Way::ApplyWithCursor => terminal
-            .apply_buffer_with_cursor(Some(Position::ORIGIN))
-            .err(),
+        Way::Draw => fails_after(alloc, terminal, "abc", calls),
+        Way::DrawWithCursor => cursor_fails_after(alloc, terminal, "abc", calls),
+        Way::Try => is_told(terminal.try_draw(|_| Ok(())).err()),
+        Way::Apply => is_told(terminal.apply_buffer().err()),
+        Way::ApplyWithCursor => {
+            let cursor = Some(Position::ORIGIN);
+            is_told(terminal.apply_buffer_with_cursor(cursor).err())
+        }
     }
 }
 
-// Whether a frame, drawn in this way, is answered as told, where so many calls of the backend answer as usual before one
-// fails.
 fn way_fails_after(alloc: Global, way: Way, calls: u64) -> Result<bool, Fail> {
     let mut terminal = terminal(alloc, 3, 1)?;
-    terminal.backend_mut().fail_after(calls);
-    Ok(is_told(refusal(&mut terminal, way)))
+    Ok(fails_in_way(alloc, &mut terminal, way, calls))
+}
+
+// How many calls of the backend each way makes.
+static WAYS: [(Way, u64); 5] = [
+    (Way::Draw, 4),
+    (Way::DrawWithCursor, 5),
+    (Way::Try, 4),
+    (Way::Apply, 3),
+    (Way::ApplyWithCursor, 4),
+];
+
+// Asserts that just each of so many calls, where it fails, is answered.
+fn way_makes(rt: &impl Abort, alloc: Global, way: Way, count: u64) -> Result<(), Fail> {
+    for calls in 0..6 {
+        assert!(rt;
+            way_fails_after(alloc, way, calls)? == (calls < count),
+            "{calls}"
+        );
+    }
+    Ok(())
 }
 
 #[test]
 fn answers_each_failing_call_of_a_draw(rt: HostRuntime) -> Result<(), Fail> {
-    for calls in 0..4 {
-        assert!(rt; way_fails_after(rt.alloc(), Way::Try, calls)?, "{calls}");
-        assert!(rt;
-            way_fails_after(rt.alloc(), Way::Apply, calls)? == (calls < 3),
-            "{calls}"
-        );
-        assert!(rt;
-            way_fails_after(rt.alloc(), Way::ApplyWithCursor, calls)?,
-            "{calls}"
-        );
+    for (way, count) in &WAYS {
+        way_makes(&rt, rt.alloc(), *way, *count)?;
     }
-    assert!(rt; !way_fails_after(rt.alloc(), Way::Try, 4)?);
-    assert!(rt; !way_fails_after(rt.alloc(), Way::ApplyWithCursor, 4)?);
-    Ok(())
-}
-
-// Whether a draw with a cursor, or without, is answered as told, where so many calls answer as usual before one fails.
-fn draw_fails_after(alloc: Global, with_cursor: bool, calls: u64) -> Result<bool, Fail> {
-    let mut terminal = terminal(alloc, 3, 1)?;
-    Ok(if with_cursor {
-        cursor_fails_after(alloc, &mut terminal, "abc", calls)
-    } else {
-        fails_after(alloc, &mut terminal, "abc", calls)
-    })
-}
-
-#[test]
-fn answers_each_failing_call(rt: HostRuntime) -> Result<(), Fail> {
-    for calls in 0..5 {
-        assert!(rt;
-            draw_fails_after(rt.alloc(), false, calls)? == (calls < 4),
-            "{calls}"
-        );
-        assert!(rt; draw_fails_after(rt.alloc(), true, calls)?, "{calls}");
-    }
-    assert!(rt; !draw_fails_after(rt.alloc(), true, 5)?);
     Ok(())
 }
 

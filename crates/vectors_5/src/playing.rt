@@ -1,5 +1,5 @@
 //! Plays of steps, without a script.
-use rtui_geometry::Rect;
+use rtui_geometry::{Rect, Size};
 use rtui_text::Text;
 use rtui_viewport::Viewport;
 use screenplay::{PlayCause, PlayFault, Puts, Scene, Stage, Step, play};
@@ -80,5 +80,52 @@ fn is_unsettled(alloc: Global, put: (u16, u16, char), area: Rect) -> Result<bool
 fn ends_at_a_frame_that_is_not_settled(rt: HostRuntime) -> Result<(), Fail> {
     let area = Rect::new(0, 0, 2, 1);
     assert!(rt; is_unsettled(rt.alloc(), (1, 0, 'コ'), area)?);
+    Ok(())
+}
+
+// Plays a frame, before which the screen loses its rows, and then an insertion.
+fn play_without_rows(alloc: Global) -> Result<Result<Vec<Scene>, PlayFault>, AllocError> {
+    let frame = Step::Draw {
+        size: Some(Size {
+            width: 2,
+            height: 0,
+        }),
+        text: Text::default_in(alloc),
+        puts: Puts::new(alloc),
+    };
+    let mut steps = Vec::new(alloc);
+    steps.push(frame)?;
+    steps.push(Step::Insert(Text::raw(alloc, "ab")?))?;
+    let stage = Stage {
+        width: 2,
+        height: 1,
+        viewport: Viewport::Inline(1),
+    };
+    Ok(play(alloc, stage, steps.as_slice()))
+}
+
+// Whether these scenes are one of a blank row and two without rows.
+fn lose_their_rows(scenes: &[Scene]) -> bool {
+    let none = Rect::new(0, 0, 2, 0);
+    match scenes {
+        [start, drawn, inserted] => {
+            is_scene(start, Rect::new(0, 0, 2, 1), &[" ", " "])
+                && is_scene(drawn, none, &[])
+                && is_scene(inserted, none, &[])
+        }
+        _ => false,
+    }
+}
+
+fn inserts_nothing_without_rows(alloc: Global) -> Result<bool, AllocError> {
+    match play_without_rows(alloc)? {
+        Ok(scenes) => Ok(lose_their_rows(scenes.as_slice())),
+        Err(_) => Ok(false),
+    }
+}
+
+#[test]
+fn writes_nothing_on_a_screen_without_rows(rt: HostRuntime) -> Result<(), Fail> {
+    assert!(rt; inserts_nothing_without_rows(rt.alloc())?);
     Ok(())
 }

@@ -12,96 +12,97 @@ fn prints(alloc: Global, script: &str, printed: &str) -> bool {
     run(alloc, &mut reader, &mut written).is_ok() && written.as_slice() == printed.as_bytes()
 }
 
+// Scripts and what they print.
+static PRINTED: [(&str, &str); 28] = [
+    (
+        "screen 5 2\nput 1 0 h\nput 2 0 i\ndraw\nshow\n",
+        "| hi  \n|     \n",
+    ),
+    (
+        "screen 3 1\nshow\nput 0 0 a\ndraw\nput 1 0 b\nput 9 9 z\ndraw\nshow",
+        "|   \n| b \n",
+    ),
+    (
+        "screen 4 1\nput 0 0 ┌\nput 3 0 ┐\ndraw\nshow\nshow",
+        "|┌  ┐\n|┌  ┐\n",
+    ),
+    ("screen 4 1\ntext コx\ndraw\nshow", "|コx \n"),
+    (
+        "screen 3 2\nput 1 0 x\ntext abc\ntext\ndraw\nshow",
+        "|axc\n|   \n",
+    ),
+    (
+        "screen 3 1\ntext abc\ndraw\nsize 5 1\ntext ab\ndraw\nshow",
+        "|ab   \n",
+    ),
+    (
+        "inline 3 2 1\ntext ab\ndraw\nsize 9 9\nsize 3 2\ntext cd\ndraw\nshow",
+        "|cd \n|   \n",
+    ),
+    ("fixed 4 2 1 0 2 1\ntext ab\ndraw\nshow", "| ab \n|    \n"),
+    (
+        "fixed 4 2 1 0 2 1\ntext ab\ndraw\nclear\nshow",
+        "|    \n|    \n",
+    ),
+    ("inline 2 1 3\ntext a\ndraw\nshow", "^  \n^  \n|a \n"),
+    (
+        "inline 4 4 2\ntext r0\ntext r1\ninsert\nshow",
+        "|r0  \n|r1  \n|    \n|    \n",
+    ),
+    (
+        "inline 4 4 2\ntext r0\ntext r1\ntext r2\ninsert\nshow",
+        "^r0  \n|r1  \n|r2  \n|    \n|    \n",
+    ),
+    (
+        "inline 10 4 2\ntext r0\ntext r1\ntext r2\ntext r3\ntext r4\ninsert\nshow",
+        "^r0        \n^r1        \n^r2        \n|r3        \n|r4        \n|          \n|          \n",
+    ),
+    (
+        "inline 3 2 1\ntext コx\ninsert\ntext\ninsert\nshow",
+        "^コx\n|   \n|   \n",
+    ),
+    (
+        "inline 6 4 1\ntext bar\ndraw\ntext one\ninsert\ntext bar\ndraw\nshow",
+        "|one   \n|bar   \n|      \n|      \n",
+    ),
+    (
+        "inline 3 2 1\nput 0 1 x\ntext ab\ninsert\ndraw\nshow",
+        "|ab \n|x  \n",
+    ),
+    ("screen 4 1\ntext コ\u{200B}\ninsert\nshow", "|    \n"),
+    ("screen 4 1\ntext ab\ninsert\ndraw\nshow", "|    \n"),
+    (
+        "fixed 4 2 1 0 2 1\ntext ab\ndraw\ntext x\ninsert\nclear\nshow",
+        "|    \n|    \n",
+    ),
+    (
+        "fixed 4 2 1 0 2 1\ntext ab\ndraw\ntext x\ninsert\nshow",
+        "| ab \n|    \n",
+    ),
+    ("screen 1 1\nput 0 0  \ndraw\nshow", "| \n"),
+    ("screen 2 1\r\nshow\r\n", "|  \n"),
+    (
+        "screen 3 2\nput 1 1 x\ntext abc\ndraw\nshow\nclear\nshow\nsize 4 1\ntext de\ninsert\ntext fg\ndraw\nshow",
+        "|abc\n| x \n|   \n|   \n|fg  \n",
+    ),
+    (
+        "inline 4 3 1\ntext top\ninsert\nput 3 1 c\ntext ab\ndraw\nshow\nclear\nshow\ntext x\ntext y\ntext z\ninsert\nshow",
+        "|top \n|ab c\n|    \n|top \n|    \n|    \n^top \n^x   \n|y   \n|z   \n|    \n",
+    ),
+    (
+        "fixed 4 2 1 0 2 2\nput 0 0 o\nput 2 1 d\ntext ab\ndraw\nshow\ntext n\ninsert\nclear\nshow",
+        "| ab \n|  d \n|    \n|    \n",
+    ),
+    ("screen 65535 1\nput 65535 65535 a\ndraw", ""),
+    ("", ""),
+    ("\n\n", ""),
+];
+
 #[test]
 fn prints_what_it_shows(rt: HostRuntime) {
-    let drawn = "screen 5 2\nput 1 0 h\nput 2 0 i\ndraw\nshow\n";
-    assert!(rt; prints(rt.alloc(), drawn, "| hi  \n|     \n"));
-    let off_the_screen = "screen 3 1\nshow\nput 0 0 a\ndraw\nput 1 0 b\nput 9 9 z\ndraw\nshow";
-    assert!(rt; prints(rt.alloc(), off_the_screen, "|   \n| b \n"));
-    let twice = "screen 4 1\nput 0 0 ┌\nput 3 0 ┐\ndraw\nshow\nshow";
-    assert!(rt; prints(rt.alloc(), twice, "|┌  ┐\n|┌  ┐\n"));
-}
-
-#[test]
-fn prints_texts(rt: HostRuntime) {
-    let wide = "screen 4 1\ntext コx\ndraw\nshow";
-    assert!(rt; prints(rt.alloc(), wide, "|コx \n"));
-    let under_puts = "screen 3 2\nput 1 0 x\ntext abc\ntext\ndraw\nshow";
-    assert!(rt; prints(rt.alloc(), under_puts, "|axc\n|   \n"));
-}
-
-#[test]
-fn draws_on_screens_of_another_size(rt: HostRuntime) {
-    let wider = "screen 3 1\ntext abc\ndraw\nsize 5 1\ntext ab\ndraw\nshow";
-    assert!(rt; prints(rt.alloc(), wider, "|ab   \n"));
-    let same = "inline 3 2 1\ntext ab\ndraw\nsize 9 9\nsize 3 2\ntext cd\ndraw\nshow";
-    assert!(rt; prints(rt.alloc(), same, "|cd \n|   \n"));
-}
-
-#[test]
-fn draws_on_parts_of_screens(rt: HostRuntime) {
-    let fixed = "fixed 4 2 1 0 2 1\ntext ab\ndraw\nshow";
-    assert!(rt; prints(rt.alloc(), fixed, "| ab \n|    \n"));
-    let cleared = "fixed 4 2 1 0 2 1\ntext ab\ndraw\nclear\nshow";
-    assert!(rt; prints(rt.alloc(), cleared, "|    \n|    \n"));
-    let scrolled = "inline 2 1 3\ntext a\ndraw\nshow";
-    assert!(rt; prints(rt.alloc(), scrolled, "^  \n^  \n|a \n"));
-}
-
-#[test]
-fn inserts_texts_above_inline_viewports(rt: HostRuntime) {
-    let two = "inline 4 4 2\ntext r0\ntext r1\ninsert\nshow";
-    assert!(rt; prints(rt.alloc(), two, "|r0  \n|r1  \n|    \n|    \n"));
-    let three = "inline 4 4 2\ntext r0\ntext r1\ntext r2\ninsert\nshow";
-    assert!(rt; prints(rt.alloc(), three, "^r0  \n|r1  \n|r2  \n|    \n|    \n"));
-    let five = "inline 10 4 2\ntext r0\ntext r1\ntext r2\ntext r3\ntext r4\ninsert\nshow";
-    let left =
-        "^r0        \n^r1        \n^r2        \n|r3        \n|r4        \n|          \n|          \n";
-    assert!(rt; prints(rt.alloc(), five, left));
-    let wide = "inline 3 2 1\ntext コx\ninsert\ntext\ninsert\nshow";
-    assert!(rt; prints(rt.alloc(), wide, "^コx\n|   \n|   \n"));
-}
-
-#[test]
-fn draws_behind_insertions(rt: HostRuntime) {
-    let between = "inline 6 4 1\ntext bar\ndraw\ntext one\ninsert\ntext bar\ndraw\nshow";
-    assert!(rt; prints(rt.alloc(), between, "|one   \n|bar   \n|      \n|      \n"));
-    let puts_wait = "inline 3 2 1\nput 0 1 x\ntext ab\ninsert\ndraw\nshow";
-    assert!(rt; prints(rt.alloc(), puts_wait, "|ab \n|x  \n"));
-}
-
-#[test]
-fn inserts_nothing_on_other_screens(rt: HostRuntime) {
-    let whole = "screen 4 1\ntext コ\u{200B}\ninsert\nshow";
-    assert!(rt; prints(rt.alloc(), whole, "|    \n"));
-    let used_up = "screen 4 1\ntext ab\ninsert\ndraw\nshow";
-    assert!(rt; prints(rt.alloc(), used_up, "|    \n"));
-    let fixed = "fixed 4 2 1 0 2 1\ntext ab\ndraw\ntext x\ninsert\nclear\nshow";
-    assert!(rt; prints(rt.alloc(), fixed, "|    \n|    \n"));
-    let kept = "fixed 4 2 1 0 2 1\ntext ab\ndraw\ntext x\ninsert\nshow";
-    assert!(rt; prints(rt.alloc(), kept, "| ab \n|    \n"));
-}
-
-#[test]
-fn prints_blanks(rt: HostRuntime) {
-    let blank = "screen 1 1\nput 0 0  \ndraw\nshow";
-    assert!(rt; prints(rt.alloc(), blank, "| \n"));
-    assert!(rt; prints(rt.alloc(), "screen 2 1\r\nshow\r\n", "|  \n"));
-}
-
-/// Scripts that print nothing.
-static SILENT: [&str; 3] = ["screen 65535 1\nput 65535 65535 a\ndraw", "", "\n\n"];
-
-// Asserts that each of these scripts runs and prints nothing.
-fn all_are_silent(rt: &impl Abort, alloc: Global, scripts: &[&str]) {
-    for script in scripts {
-        assert!(rt; prints(alloc, script, ""), "{script}");
+    for (script, printed) in &PRINTED {
+        assert!(rt; prints(rt.alloc(), script, printed), "{script}");
     }
-}
-
-#[test]
-fn prints_nothing_unasked(rt: HostRuntime) {
-    all_are_silent(&rt, rt.alloc(), &SILENT);
 }
 
 fn reads_as(alloc: Global, fault: RunFault, text: &str) -> Result<bool, AllocError> {
@@ -167,11 +168,32 @@ fn all_fail(
     Ok(())
 }
 
+// Scripts that fail, and why.
+static FAILING: [(&str, &str); 4] = [
+    ("\n\nshow", "line 3: bad command"),
+    ("screen 4 1\ntext コ\nput 1 0 x\ndraw", "step 1: unsettled"),
+    (
+        "screen 4 1\ndraw\ntext コ\u{200B}\ndraw",
+        "step 2: unsettled",
+    ),
+    (
+        "inline 4 2 1\ntext ab\ninsert\ntext コ\u{200B}\ninsert",
+        "step 2: unsettled",
+    ),
+];
+
 #[test]
 fn names_the_first_bad_line(rt: HostRuntime) -> Result<(), Fail> {
     all_fail(&rt, rt.alloc(), &BAD_FIRST_LINES, "line 1: bad command")?;
     all_fail(&rt, rt.alloc(), &BAD_SECOND_LINES, "line 2: bad command")?;
-    assert!(rt; fails(rt.alloc(), "\n\nshow", "line 3: bad command")?);
+    Ok(())
+}
+
+#[test]
+fn names_why_it_fails(rt: HostRuntime) -> Result<(), Fail> {
+    for (script, text) in &FAILING {
+        assert!(rt; fails(rt.alloc(), script, text)?, "{script}");
+    }
     Ok(())
 }
 
@@ -186,23 +208,17 @@ fn inserting(alloc: Global, count: usize) -> Result<String, AllocError> {
     Ok(script)
 }
 
-#[test]
-fn takes_only_so_many_texts(rt: HostRuntime) -> Result<(), Fail> {
-    let most = inserting(rt.alloc(), 65535)?;
-    assert!(rt; prints(rt.alloc(), most.as_str(), ""));
-    let more = inserting(rt.alloc(), 65536)?;
-    assert!(rt; fails(rt.alloc(), more.as_str(), "line 65538: bad command")?);
-    Ok(())
+// Whether a script takes 65535 texts, and one more is a bad line.
+fn takes_only_so_many(alloc: Global) -> Result<bool, AllocError> {
+    let most = inserting(alloc, 65535)?;
+    let more = inserting(alloc, 65536)?;
+    let is_refused = fails(alloc, more.as_str(), "line 65538: bad command")?;
+    Ok(is_refused && prints(alloc, most.as_str(), ""))
 }
 
 #[test]
-fn names_a_step_that_is_not_settled(rt: HostRuntime) -> Result<(), Fail> {
-    let covered = "screen 4 1\ntext コ\nput 1 0 x\ndraw";
-    assert!(rt; fails(rt.alloc(), covered, "step 1: unsettled")?);
-    let joined = "screen 4 1\ndraw\ntext コ\u{200B}\ndraw";
-    assert!(rt; fails(rt.alloc(), joined, "step 2: unsettled")?);
-    let inserted = "inline 4 2 1\ntext ab\ninsert\ntext コ\u{200B}\ninsert";
-    assert!(rt; fails(rt.alloc(), inserted, "step 2: unsettled")?);
+fn takes_only_so_many_texts(rt: HostRuntime) -> Result<(), Fail> {
+    assert!(rt; takes_only_so_many(rt.alloc())?);
     Ok(())
 }
 

@@ -7,6 +7,7 @@ use rtui_backend::{Backend, ClearType, TestBackend};
 use rtui_geometry::{Position, Rect};
 use rtui_terminal::{Terminal, TerminalOptions, Viewport};
 use std::alloc::{AllocError, Global};
+use std::process::Abort;
 use std::test::Fail;
 
 // A terminal over a viewport of a blank screen of this size, whose cursor stands in a row.
@@ -54,13 +55,20 @@ fn is_placed(
     )
 }
 
+// The screen's height, the cursor's row, the rows that are wanted; and the viewport's top, its height, and the rows that leave.
+static PLACED: [(u16, u16, u16, u16, u16, usize); 5] = [
+    (10, 8, 4, 6, 4, 2),
+    (3, 0, 10, 0, 3, 7),
+    (10, 0, 4, 0, 4, 0),
+    (10, 6, 4, 6, 4, 0),
+    (0, 0, 3, 0, 0, 0),
+];
+
 #[test]
 fn places_inline_viewports(rt: HostRuntime) -> Result<(), Fail> {
-    assert!(rt; is_placed(rt.alloc(), 10, 8, 4, 6, 4, 2)?);
-    assert!(rt; is_placed(rt.alloc(), 3, 0, 10, 0, 3, 7)?);
-    assert!(rt; is_placed(rt.alloc(), 10, 0, 4, 0, 4, 0)?);
-    assert!(rt; is_placed(rt.alloc(), 10, 6, 4, 6, 4, 0)?);
-    assert!(rt; is_placed(rt.alloc(), 0, 0, 3, 0, 0, 0)?);
+    for (height, row, wanted, top, rows, left) in &PLACED {
+        assert!(rt; is_placed(rt.alloc(), *height, *row, *wanted, *top, *rows, *left)?);
+    }
     Ok(())
 }
 
@@ -160,40 +168,63 @@ fn clear_fails(alloc: Global, viewport: Viewport, calls: u64) -> Result<bool, Fa
     Ok(terminal.clear().is_err())
 }
 
-#[test]
-fn answers_each_failing_call_of_a_clear(rt: HostRuntime) -> Result<(), Fail> {
-    let narrow = Viewport::Fixed(Rect {
-        x: 1,
-        y: 1,
-        width: 2,
-        height: 2,
-    });
-    for calls in 0..3 {
+// Asserts that a clear makes so many calls, each of which can refuse it.
+fn clear_makes(rt: &impl Abort, alloc: Global, viewport: Viewport, count: u64) -> Result<(), Fail>
+    requires { FitsEdges viewport }
+{
+    for calls in 0..5 {
         assert!(rt;
-            clear_fails(rt.alloc(), Viewport::Fullscreen, calls)?,
+            clear_fails(alloc, viewport, calls)? == (calls < count),
             "{calls}"
         );
     }
-    assert!(rt; !clear_fails(rt.alloc(), Viewport::Fullscreen, 3)?);
-    assert!(rt; clear_fails(rt.alloc(), Viewport::Inline(2), 3)?);
-    assert!(rt; !clear_fails(rt.alloc(), Viewport::Inline(2), 4)?);
-    assert!(rt; clear_fails(rt.alloc(), narrow, 3)?);
-    assert!(rt; !clear_fails(rt.alloc(), narrow, 4)?);
     Ok(())
 }
 
 #[test]
+fn answers_each_failing_call_of_a_clear(rt: HostRuntime) -> Result<(), Fail> {
+    let narrow = Rect {
+        x: 1,
+        y: 1,
+        width: 2,
+        height: 2,
+    };
+    clear_makes(&rt, rt.alloc(), Viewport::Fullscreen, 3)?;
+    clear_makes(&rt, rt.alloc(), Viewport::Inline(2), 4)?;
+    clear_makes(&rt, rt.alloc(), Viewport::Fixed(narrow), 4)?;
+    Ok(())
+}
+
+fn prints(alloc: Global, viewport: Viewport, text: &str) -> Result<bool, AllocError> {
+    Ok(viewport.to_string(alloc)?.as_str() == text)
+}
+
+static NAMES: [(Viewport, &str); 3] = [
+    (Viewport::Fullscreen, "Fullscreen"),
+    (Viewport::Inline(3), "Inline(3)"),
+    (
+        Viewport::Fixed(Rect {
+            x: 0,
+            y: 0,
+            width: 5,
+            height: 5,
+        }),
+        "Fixed(5x5+0+0)",
+    ),
+];
+
+#[test]
 fn prints_and_reads_names(rt: HostRuntime) -> Result<(), Fail> {
-    let fixed = Viewport::Fixed(Rect {
-        x: 0,
-        y: 0,
-        width: 5,
-        height: 5,
-    });
-    assert!(rt; format!(in rt.alloc(); "{}", Viewport::Fullscreen)?.as_str() == "Fullscreen");
-    assert!(rt; format!(in rt.alloc(); "{}", Viewport::Inline(3))?.as_str() == "Inline(3)");
-    assert!(rt; format!(in rt.alloc(); "{fixed}")?.as_str() == "Fixed(5x5+0+0)");
+    for (viewport, text) in &NAMES {
+        assert!(rt; prints(rt.alloc(), *viewport, text)?, "{text}");
+    }
     assert!(rt; "AfterCursor".parse() == Ok(ClearType::AfterCursor));
     assert!(rt; "all".parse::<ClearType>().is_err());
     Ok(())
+}
+
+#[test]
+fn the_whole_screen_by_default(rt: HostRuntime) {
+    assert!(rt; Viewport::default() == Viewport::Fullscreen);
+    assert!(rt; TerminalOptions::default().viewport == Viewport::Fullscreen);
 }

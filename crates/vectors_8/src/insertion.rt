@@ -1,10 +1,13 @@
 //! Rows inserted above an inline viewport, on a screen in memory.
+ghost use Rattle.rtui_viewport.specs.Viewports.{FitsEdges};
+
 use rtui_backend::{Backend, TestBackend, TestError};
 use rtui_buffer::Buffer;
 use rtui_cell::Cell;
 use rtui_geometry::{Position, Rect};
 use rtui_terminal::{Terminal, TerminalError, TerminalOptions, Viewport};
 use std::alloc::{AllocError, Global};
+use std::process::Abort;
 use std::test::Fail;
 
 // A terminal over an inline viewport of so many rows of a blank screen, whose cursor stands in a row.
@@ -119,6 +122,8 @@ fn a_viewport_over_the_whole_screen_stays(rt: HostRuntime) -> Result<(), Fail> {
     Ok(())
 }
 
+static BLANK: [&str; 10] = ["  "; 10];
+
 #[test]
 fn no_rows_empty_the_viewport_alone(rt: HostRuntime) -> Result<(), Fail> {
     let mut terminal = inline(rt.alloc(), 2, 10, 8, 4)?;
@@ -126,9 +131,7 @@ fn no_rows_empty_the_viewport_alone(rt: HostRuntime) -> Result<(), Fail> {
     assert!(rt; inserts(rt.alloc(), &mut terminal, &[]));
     assert!(rt; terminal.viewport_area() == Rect::new(0, 6, 2, 4));
     assert!(rt; left(&terminal, &["  ", "  "]));
-    let cells = terminal.backend().buffer().content().iter();
-    let blank = cells.map(|cell| cell.symbol()).all(|symbol| symbol == " ");
-    assert!(rt; blank);
+    assert!(rt; shows(&terminal, &BLANK, 6));
     Ok(())
 }
 
@@ -152,26 +155,59 @@ fn calls(terminal: &mut Terminal<TestBackend>) -> Option<bool> {
     if answer.is_ok() { Some(called) } else { None }
 }
 
+// Whether an insertion on an inline viewport of such a screen answers Ok with its closure called, and nothing is written.
+fn calls_alone(alloc: Global, width: u16, height: u16) -> Result<bool, Fail> {
+    let mut terminal = inline(alloc, width, height, 0, 3)?;
+    let is_drawn = terminal.draw(|_| Ok(())).is_ok();
+    Ok(is_drawn && calls(&mut terminal) == Some(true) && is_untouched(&terminal))
+}
+
+// Whether nothing was written to a screen, and nothing scrolled off it.
+fn is_untouched(terminal: &Terminal<TestBackend>) -> bool {
+    terminal.backend().cells_written() == 0 && terminal.backend().scrollback().is_empty()
+}
+
 #[test]
 fn a_screen_without_rows_takes_none(rt: HostRuntime) -> Result<(), Fail> {
-    let mut terminal = inline(rt.alloc(), 4, 0, 0, 3)?;
-    assert!(rt; calls(&mut terminal) == Some(true));
-    assert!(rt; left(&terminal, &[]));
-    assert_eq!(rt; terminal.backend().cells_written(), 0);
+    assert!(rt; calls_alone(rt.alloc(), 4, 0)?);
+    assert!(rt; calls_alone(rt.alloc(), 0, 0)?);
     Ok(())
 }
 
 #[test]
-fn another_viewport_takes_none(rt: HostRuntime) -> Result<(), Fail> {
-    let backend = TestBackend::new(rt.alloc(), 4, 2)?;
-    match Terminal::new(rt.alloc(), backend) {
-        Ok(mut terminal) => {
-            assert!(rt; calls(&mut terminal) == Some(false));
-            assert_eq!(rt; terminal.backend().cells_written(), 0);
-            Ok(())
-        }
+fn a_screen_without_columns_takes_rows(rt: HostRuntime) -> Result<(), Fail> {
+    let mut terminal = inline(rt.alloc(), 0, 2, 0, 1)?;
+    assert!(rt; calls(&mut terminal) == Some(true));
+    assert!(rt; left(&terminal, &["", ""]));
+    assert!(rt; shows(&terminal, &["", ""], 1));
+    Ok(())
+}
+
+// Whether an insertion above this viewport answers Ok, doesn't call its closure, and nothing is written.
+fn is_passed_over(alloc: Global, viewport: Viewport) -> Result<bool, Fail>
+    requires { FitsEdges viewport }
+{
+    let backend = TestBackend::new(alloc, 4, 2)?;
+    match Terminal::with_options(alloc, backend, TerminalOptions { viewport }) {
+        Ok(mut terminal) => Ok(calls(&mut terminal) == Some(false) && is_untouched(&terminal)),
         Err(_) => Err(Fail::from(AllocError)),
     }
+}
+
+#[test]
+fn another_viewport_takes_none(rt: HostRuntime) -> Result<(), Fail> {
+    assert!(rt; is_passed_over(rt.alloc(), Viewport::Fullscreen)?);
+    assert!(rt; is_passed_over(rt.alloc(), Viewport::Fixed(Rect::new(0, 1, 4, 1)))?);
+    Ok(())
+}
+
+#[test]
+fn as_many_rows_as_can_be(rt: HostRuntime) -> Result<(), Fail> {
+    let mut terminal = inline(rt.alloc(), 1, 1, 0, 1)?;
+    assert!(rt; terminal.insert_before(65535, |_| Ok(())).is_ok());
+    assert!(rt; terminal.backend().scrollback().len() == 65535);
+    assert!(rt; shows(&terminal, &[" "], 0));
+    Ok(())
 }
 
 // Whether an insertion whose closure refuses answers so.
@@ -195,19 +231,69 @@ fn a_refused_insertion_changes_nothing(rt: HostRuntime) -> Result<(), Fail> {
     Ok(())
 }
 
-// Whether an insertion fails at this call of the backend, and a clear mends the terminal.
-fn fails_at(alloc: Global, terminal: &mut Terminal<TestBackend>, call: u64) -> bool {
-    terminal.backend_mut().fail_after(call);
-    let answer = terminal.insert_before(3, |buffer| write_line(alloc, buffer, 0, "r0"));
-    answer == Err(TerminalError::Backend(TestError::Told)) && terminal.clear().is_ok()
+// Screens of so many rows with an inline viewport of so many, how many rows come in, and how many calls of the backend that
+// makes.
+static INSERTIONS: [(u16, u16, u16, u64); 6] = [
+    (3, 1, 3, 8),
+    (4, 2, 0, 4),
+    (4, 2, 1, 6),
+    (4, 2, 2, 6),
+    (4, 2, 4, 8),
+    (4, 2, 12, 16),
+];
+
+// Whether an insertion is answered as told, where so many calls of the backend answer as usual before one fails; a clear
+// and a draw then mend the terminal.
+fn fails_after(
+    alloc: Global,
+    terminal: &mut Terminal<TestBackend>,
+    count: u16,
+    calls: u64,
+) -> bool {
+    terminal.backend_mut().fail_after(calls);
+    let answer = terminal.insert_before(count, |buffer| write_line(alloc, buffer, 0, "r0"));
+    answer == Err(TerminalError::Backend(TestError::Told))
+        && terminal.clear().is_ok()
+        && draws(alloc, terminal, "ab")
+}
+
+fn insertion_fails(
+    alloc: Global,
+    height: u16,
+    wanted: u16,
+    count: u16,
+    calls: u64,
+) -> Result<bool, Fail> {
+    let mut terminal = inline(alloc, 2, height, 0, wanted)?;
+    Ok(fails_after(alloc, &mut terminal, count, calls))
+}
+
+// Asserts that an insertion makes so many calls, each of which can refuse it.
+fn insertion_makes(
+    rt: &impl Abort,
+    alloc: Global,
+    height: u16,
+    wanted: u16,
+    count: u16,
+    made: u64,
+) -> Result<(), Fail> {
+    for calls in 0..made {
+        assert!(rt;
+            insertion_fails(alloc, height, wanted, count, calls)?,
+            "{count} {calls}"
+        );
+    }
+    assert!(rt;
+        !insertion_fails(alloc, height, wanted, count, made)?,
+        "{count}"
+    );
+    Ok(())
 }
 
 #[test]
-fn a_failed_call_refuses_the_insertion(rt: HostRuntime) -> Result<(), Fail> {
-    for call in 0..7 {
-        let mut terminal = inline(rt.alloc(), 2, 3, 0, 1)?;
-        assert!(rt; fails_at(rt.alloc(), &mut terminal, call));
-        assert!(rt; draws(rt.alloc(), &mut terminal, "ab"));
+fn answers_each_failing_call_of_an_insertion(rt: HostRuntime) -> Result<(), Fail> {
+    for (height, wanted, count, made) in &INSERTIONS {
+        insertion_makes(&rt, rt.alloc(), *height, *wanted, *count, *made)?;
     }
     Ok(())
 }

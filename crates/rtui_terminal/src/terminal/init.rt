@@ -1,7 +1,7 @@
-ghost use Rattle.std.specs.Prelude.{◌≡◌, IfOk, OnOk, MatchResult};
+ghost use Rattle.std.specs.Prelude.{◌≡◌, IfOk, IsOk, OnOk, MatchResult};
 ghost use Rattle.rtui_geometry.specs.Rect.{EdgesFit};
 ghost use Rattle.rtui_backend.specs.Failures.{Counts};
-ghost use Rattle.rtui_viewport.specs.Viewports.{FitsEdges};
+ghost use Rattle.rtui_viewport.specs.Viewports.{FitsEdges, IsFixed};
 ghost use Rattle.rtui_viewport.specs.declared.viewport.Viewport.TheVariants.{Fullscreen};
 ghost use Rattle.rtui_terminal.specs.Calls.{Starts, StartErr, first_area};
 
@@ -26,6 +26,7 @@ fn placing_area<B: Backend>(backend: &mut B, viewport: Viewport) -> Result<Rect,
     ensures area { IfOk result (λ area. area ≡ first_area viewport (B.screen backend.old)) }
     ensures fits { IfOk result EdgesFit }
     ensures stays { OnOk result (B.screen backend.new ≡ B.screen backend.old) }
+    ensures fixed { IsFixed viewport → IsOk result × (backend.new ≡ backend.old) }
     ensures counts { Counts result (B.failures backend.old) (B.failures backend.new) }
 {
     if let Viewport::Fixed(area) = viewport {
@@ -40,7 +41,8 @@ impl<B: Backend + Drop> Terminal<B> {
     pub fn new(alloc: Global, backend: B) -> Result<Self, TerminalError<B::Error>>
         ensures starts { IfOk result (Starts B.screen Fullscreen backend) }
         ensures count { IfOk result (λ t. B.failures t.backend ≡ B.failures backend) }
-        ensures refused { MatchResult result (λ _. Unit {0}) (StartErr B.failures backend) }
+        ensures refused { MatchResult result (λ _. Unit {0})
+            (StartErr B.failures Fullscreen backend) }
     {
         let options = TerminalOptions {
             viewport: Viewport::Fullscreen,
@@ -49,8 +51,8 @@ impl<B: Backend + Drop> Terminal<B> {
     }
 
     /// A terminal over a part of a backend's screen, with empty buffers; it is in step where that part is on the
-    /// screen and blank. Where an inline viewport doesn't fit below the cursor the screen scrolls. A refused call
-    /// drops the backend.
+    /// screen and blank. Where an inline viewport doesn't fit below the cursor the screen scrolls. For a fixed one no
+    /// call is made. A refused call drops the backend.
     pub fn with_options(
         alloc: Global,
         mut backend: B,
@@ -59,7 +61,8 @@ impl<B: Backend + Drop> Terminal<B> {
         requires { FitsEdges options.viewport }
         ensures starts { IfOk result (Starts B.screen options.viewport backend) }
         ensures count { IfOk result (λ t. B.failures t.backend ≡ B.failures backend) }
-        ensures refused { MatchResult result (λ _. Unit {0}) (StartErr B.failures backend) }
+        ensures refused { MatchResult result (λ _. Unit {0})
+            (StartErr B.failures options.viewport backend) }
     {
         let viewport = options.viewport;
         let area = match placing_area(&mut backend, viewport) {

@@ -44,7 +44,8 @@ impl<B: Backend> Terminal<B> {
         requires over { rows.now.area ≡ inserted_area self.old rows.now.area.height }
         requires known { 0 < self.old.known_area.height }
         ensures ok { OnOk result (Inserts B.screen rows.now self.old self.new) }
-        ensures err { OnErr result (StopsInserting B.screen self.old self.new) }
+        ensures err { OnErr result
+            (StopsInserting B.screen rows.now.area.height self.old self.new) }
         ensures only { FailsOnlyByBackend result }
         ensures faults { Faults result (B.failures self.old.backend) (B.failures self.new.backend) }
     {
@@ -104,8 +105,8 @@ impl<B: Backend> Terminal<B> {
     /// that have no room scroll off. Where the screen was known to have no rows nothing is written. On another viewport
     /// the closure isn't called, and nothing changes.
     ///
-    /// It answers `Memory` where the buffer was refused memory, in which case the closure isn't called, or where the
-    /// closure did, and `Area` where the closure changed the buffer's area; then nothing changed. After `Backend` the
+    /// It answers `Memory` where the buffer has cells and was refused memory, in which case the closure isn't called, or
+    /// where the closure did, and `Area` where the closure changed the buffer's area; then nothing changed. After `Backend` the
     /// screen may show anything.
     pub fn insert_before<F>(
         &mut self,

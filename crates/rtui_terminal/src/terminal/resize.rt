@@ -36,6 +36,7 @@ impl<B: Backend> Terminal<B> {
         ensures rest { self.new
             ≡ record self.old { current = self.new.current; older = self.new.older } }
         ensures room { OnOk result (HaveRoom area self.new) }
+        ensures lacking { OnErr result (¬ (HaveRoom area self.old)) }
     {
         self.current.reserve(area)?;
         self.older.reserve(area)
@@ -58,11 +59,12 @@ impl<B: Backend> Terminal<B> {
 
     /// Places the viewport on a new area of the screen, in columns and rows, sizes both buffers to it, and empties
     /// it: an inline viewport goes around the cursor, any other takes the area. Where it became narrower it goes to
-    /// the top, and the whole screen is emptied. Memory is taken first: after `Memory` nothing changed.
+    /// the top, and the whole screen is emptied. Memory is taken first, where a buffer has no room for the area: after
+    /// `Memory` nothing changed.
     pub fn resize(&mut self, area: Rect) -> Result<(), TerminalError<B::Error>>
         requires { EdgesFit area }
         ensures outcome { MatchResult result (λ _. Resizes B.screen area self.old self.new)
-            (ResizeErr B.screen self.old self.new) }
+            (ResizeErr B.screen area self.old self.new) }
         ensures faults { Faults result (B.failures self.old.backend) (B.failures self.new.backend) }
     {
         let rows = Rect {

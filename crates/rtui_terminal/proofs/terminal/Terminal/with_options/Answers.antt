@@ -1,8 +1,8 @@
-use Rattle.std.proofs.Common.{◌≡◌, refl, ◌∙◌, sym, subst}
+use Rattle.std.proofs.Common.{◌≡◌, refl, ◌∙◌, sym, subst, arith}
 use Rattle.rtui_buffer.specs.Sheet.{IsEmptied}
 use Rattle.rtui_backend.specs.Screen.{Scrolls}
 use Rattle.rtui_viewport.specs.Placing.{area_in, rows_scrolled}
-use Rattle.rtui_terminal.proofs.StepLemmas.{blank_in_step, never_raised, first_cursor_is, first_area_open, placed_empty, placed_scrolls}
+use Rattle.rtui_terminal.proofs.StepLemmas.{blank_in_step, never_raised, not_inline, first_cursor_is, first_area_open, placed_empty, placed_scrolls}
 use Rattle.rtui_terminal.proofs.terminal.Terminal.with_options.Goals as goal
 
 pub returns-clause-starts : goal.returns-clause-starts
@@ -26,6 +26,7 @@ returns-clause-starts g c =
       hidden = refl;
       count = refl;
       scrolls = placed_scrolls viewport _ 0 (rw stays at placed.placed);
+      fixed = λ fixed. (placed.quiet (not_inline viewport fixed) (omega arith)).1 ∙ (c.in-Ok.ensures.fixed fixed).1;
       on_screen = λ other. placed.on_screen (rw stays (known ∙ first_area_open viewport (screen c.args.backend) other));
       in_step = λ on blank. blank_in_step screen _ placed.fits on blank older;
     }

@@ -1,4 +1,4 @@
-use Rattle.std.proofs.Common.{rules, arith, length}
+use Rattle.std.proofs.Common.{rules}
 use Rattle.std.specs.Vec.{vec_len}
 use Rattle.std.proofs.lemmas.Result.{on_ok_weaker}
 use Rattle.rtui_text.proofs.LineLemmas.{set_last_line}

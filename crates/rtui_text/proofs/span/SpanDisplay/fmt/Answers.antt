@@ -1,4 +1,4 @@
-use Rattle.std.proofs.Common.{rules, map, ap, ◌∙◌}
+use Rattle.std.proofs.Common.{ap, ◌∙◌}
 use Rattle.std.proofs.lemmas.Iterator.Consumers.{YieldsList-end}
 use Rattle.std.proofs.lemmas.Iterator.Splits.{YieldsList-from_lines}
 use Rattle.std.specs.Str.Iter.{lines_rest}
