@@ -1,7 +1,7 @@
 -- A label on an empty buffer, by columns.
-use Rattle.std.proofs.Common.{◌≡◌, ℕ, ◌+◌, ◌-◌, ◌*◌, ◌<◌, ◌≤◌, List, length, take, refl, sym, ap, ap₂, subst, ◌∙◌, arith, false}
+use Rattle.std.proofs.Common.{◌≡◌, ◌+◌, ◌-◌, ◌≤◌, List, take, refl, sym, ap, ap₂, ◌∙◌, arith, false}
 use Rattle.ratatui_core.specs.Layout.{Position, Rect, HasPosition}
-use Rattle.ratatui_core.specs.Buffer.{look_of, empty_cell, is_skipped, Grid, Sheet, cell_in, cell_index, area_size, ShowsSheet, Piece, columns, shown, piece_at, Paints, right_by, HasRow}
+use Rattle.ratatui_core.specs.Buffer.{look_of, empty_cell, is_skipped, Grid, Sheet, cell_in, cell_index, area_size, ShowsSheet, Piece, columns, shown, piece_at, right_by, HasRow}
 use Rattle.ratatui_core.proofs.BufferLemmas.{cell-empty}
 use Rattle.ratatui_core.proofs.BufferLemmas.{PaintsColumns-paints}
 use Rattle.client.specs.Labels.{ShowsLabel, StandsAt}

@@ -1,10 +1,10 @@
 -- An insertion and a draw behind it, as a list of calls.
-use Rattle.std.proofs.Common.{◌≡◌, ◌<◌, [], ◌∷◌, Bool, Result, Ok, Err, IfOk, OnOk, IsTrue, refl, sym, ap, ◌∙◌, subst, inl, inr, arith}
+use Rattle.std.proofs.Common.{◌≡◌, [], ◌∷◌, Bool, Result, Ok, Err, IfOk, OnOk, IsTrue, refl, sym, ap, ◌∙◌, inl, inr, arith}
 use Rattle.std.specs.declared.alloc.AllocError.{AllocError}
 use Rattle.ratatui_core.specs.Layout.{Rect}
 use Rattle.ratatui_core.specs.Buffer.{Sheet, IsSettledSheet}
 use Rattle.ratatui_core.specs.Backend.{Screen, screen_area}
-use Rattle.ratatui_core.specs.Terminal.{State, IsInline, IsInStep, TakesRows, InsertOk, DrawsFrame, KeepsRows, Event, Insert, Draw}
+use Rattle.ratatui_core.specs.Terminal.{State, IsInline, IsInStep, TakesRows, InsertOk, DrawsFrame, KeepsRows, Insert, Draw}
 use Rattle.client.specs.Logging.{Logs}
 
 area_same : (old new : Screen) → new.width ≡ old.width → new.height ≡ old.height → screen_area new ≡ screen_area old

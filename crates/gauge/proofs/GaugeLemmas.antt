@@ -1,7 +1,7 @@
 -- A gauge on the part of an area that a buffer has, and what a screen shows of one.
-use Rattle.std.proofs.Common.{◌<◌, ◌≤◌, sym, subst, arith, Result, Ok, Err, OnOk, OnErr}
+use Rattle.std.proofs.Common.{◌<◌, sym, subst, arith, Result, Ok, Err, OnOk, OnErr}
 use Rattle.ratatui_core.specs.Layout.{Rect, EdgesFit, corner}
-use Rattle.ratatui_core.specs.Buffer.{Sheet, Grid, IsEmptied, IsStyled, PaintsOr, bar_of}
+use Rattle.ratatui_core.specs.Buffer.{Sheet, IsEmptied, IsStyled, PaintsOr, bar_of}
 use Rattle.ratatui_core.specs.Backend.{Screen}
 use Rattle.ratatui_core.specs.Widgets.{IsClipped, ChangesWithin}
 use Rattle.ratatui_core.specs.Terminal.{State, ShowsRendered}

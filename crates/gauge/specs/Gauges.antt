@@ -1,5 +1,5 @@
 -- A gauge: what it makes of a buffer, and what a screen then shows.
-use Rattle.std.specs.Prelude.{◌≡◌, ℕ, ◌+◌, ◌<◌, min, List}
+use Rattle.std.specs.Prelude.{ℕ, ◌+◌, min, List}
 use Rattle.ratatui_core.specs.Layout.{Rect, corner}
 use Rattle.ratatui_core.specs.Buffer.{Sheet, Grid, Piece, IsEmptied, IsSettledSheet, PaintsOnBar, ShowsPieces, bar_of, bar_cell, line_pieces_at}
 use Rattle.ratatui_core.specs.Widgets.{OnPart}

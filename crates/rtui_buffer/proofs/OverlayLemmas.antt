@@ -1,5 +1,5 @@
 -- Blocks of cells in rows of others.
-use Rattle.std.proofs.Common.{◌≡◌, ◌≢◌, ℕ, ◌+◌, ◌-◌, ◌*◌, ◌<◌, ◌≤◌, ⊎_elim, ◌&&◌, nat_le, nat_lt, if◌then◌else◌, List, [], ◌++◌, take, length, set, get_or, refl, sym, ap, subst, ◌∙◌, arith, mul_comm}
+use Rattle.std.proofs.Common.{◌≡◌, ◌≢◌, ℕ, ◌+◌, ◌-◌, ◌*◌, ◌<◌, ◌≤◌, ⊎_elim, if◌then◌else◌, List, [], ◌++◌, take, length, set, refl, sym, ap, subst, ◌∙◌, arith, mul_comm}
 use Rattle.std.proofs.Math.Seq.{take-nil}
 use Rattle.std.proofs.lemmas.Bool.{cases_lt}
 use Rattle.std.proofs.lemmas.Bool.Decides.{nat_tests}
@@ -11,11 +11,10 @@ use Rattle.rtui_geometry.specs.Rect.{united, HasPosition, EdgesFit}
 use Rattle.rtui_cell.specs.declared.cell.Cell.{Cell}
 use Rattle.rtui_cell.specs.Cell.{empty_cell}
 use Rattle.rtui_diff.specs.Cells.{cell, cell_at}
-use Rattle.rtui_buffer.specs.Sheet.{Sheet, cell_in, cell_index, empty_cells}
+use Rattle.rtui_buffer.specs.Sheet.{Sheet, cell_index, empty_cells}
 use Rattle.rtui_buffer.proofs.EmptyLemmas.{cell-empty}
 use Rattle.rtui_buffer.specs.Painting.{IsSameOutside}
 use Rattle.rtui_buffer.specs.Overlay.{IsOverlay, IsExtended, IsAround, is_in_block, IsBlockAt, IsBlockIn}
-use Rattle.rtui_buffer.proofs.PaintLemmas.{IsSameOutside-set, IsSameOutside-wider}
 
 -- a swap of one more cell
 pub moved-more : (to from k : ℕ) (cells : List Cell) (was block former : List Cell) → to + k < length cells

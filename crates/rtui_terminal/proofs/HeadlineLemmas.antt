@@ -1,5 +1,5 @@
 -- Each call that does what its relation says is faithful, and so is a list of them.
-use Rattle.std.proofs.Common.{◌≡◌, ◌⊎◌, ℕ, ◌<◌, Bool, true, false, List, [], ◌∷◌, ◌++◌, Option, refl, sym, ap, ◌∙◌, subst, inl, inr, arith, append_assoc, append-nil}
+use Rattle.std.proofs.Common.{◌≡◌, ◌⊎◌, ℕ, Bool, true, false, List, [], ◌∷◌, ◌++◌, Option, refl, sym, ap, ◌∙◌, subst, inl, inr, append_assoc, append-nil}
 use Rattle.rtui_geometry.specs.declared.position.Position.{Position}
 use Rattle.rtui_geometry.specs.declared.rect.Rect.{Rect}
 use Rattle.rtui_cell.specs.Look.{Look}
@@ -14,7 +14,7 @@ use Rattle.rtui_viewport.specs.declared.viewport.Viewport.TheVariants.{Fullscree
 use Rattle.rtui_rows.specs.Insertion.{AreRowsOfAll, AppendsRows}
 use Rattle.rtui_terminal.specs.State.{State}
 use Rattle.rtui_terminal.specs.InStep.{IsReady, IsInStep, IsSized, KeepsRest, rows_over}
-use Rattle.rtui_terminal.specs.Calls.{Stays, MovesCursor, Resizes, Autoresizes, Applies, HasDrawn, DrawsFrame, RefusesFrame, cursor_placed}
+use Rattle.rtui_terminal.specs.Calls.{Stays, MovesCursor, Resizes, Autoresizes, Applies, HasDrawn, DrawsFrame, cursor_placed}
 use Rattle.rtui_terminal.specs.Headline.{Call, Draw, Apply, Insert, Clear, Resize, Autoresize, HideCursor, ShowCursor, SetCursor, Ask, Paint, Refuse, Event, Along, last_state, inserted_by, inserted_along, MayTakeSize, Does, IsFair, HasKnownSize, IsSteady, IsKeptOrEmptied, Leaves, IsFaithful}
 use Rattle.rtui_terminal.proofs.StepLemmas.{on_same}
 use Rattle.rtui_terminal.proofs.KeepLemmas.{rest_of, size_more, placed_size}

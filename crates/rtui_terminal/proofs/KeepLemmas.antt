@@ -1,12 +1,12 @@
 -- What calls keep of the rows above a viewport and of all columns outside it.
-use Rattle.std.proofs.Common.{◌≡◌, ◌⊎◌, ℕ, ◌<◌, Option, Some, None, refl, sym, ap, ◌∙◌, subst, inl, inr, arith}
+use Rattle.std.proofs.Common.{◌≡◌, ℕ, ◌<◌, Option, Some, None, refl, sym, ap, ◌∙◌, subst, inl, inr, arith}
 use Rattle.rtui_geometry.specs.declared.position.Position.{Position}
 use Rattle.rtui_geometry.specs.declared.rect.Rect.{Rect}
 use Rattle.rtui_buffer.specs.Sheet.{Sheet}
 use Rattle.rtui_buffer.specs.Frame.{IsSettledSheet}
 use Rattle.rtui_backend.specs.Screen.{Screen, KeepsSize, IsOnScreen, IsWithin, rows_above}
 use Rattle.rtui_backend.proofs.ScrollLemmas.{above_same}
-use Rattle.rtui_viewport.specs.Areas.{KeepsScreen, KeepsOutside}
+use Rattle.rtui_viewport.specs.Areas.{KeepsOutside}
 use Rattle.rtui_viewport.specs.Clearing.{ClearsArea}
 use Rattle.rtui_viewport.specs.Viewports.{IsFixed, IsInline}
 use Rattle.rtui_viewport.specs.declared.viewport.Viewport.{Viewport}
@@ -14,7 +14,7 @@ use Rattle.rtui_viewport.specs.declared.viewport.Viewport.TheVariants.{Fullscree
 use Rattle.rtui_viewport.proofs.ClearLemmas.{keeps_outside, keeps_above}
 use Rattle.rtui_terminal.specs.State.{State, IsInPlace}
 use Rattle.rtui_terminal.specs.InStep.{IsInStep, IsSized, KeepsRest, rows_over}
-use Rattle.rtui_terminal.specs.Calls.{HasDrawn, Stays, Applies, Autoresizes, cursor_placed}
+use Rattle.rtui_terminal.specs.Calls.{HasDrawn, Stays, Autoresizes, cursor_placed}
 
 placed_grid : (cursor : Option Position) (s : Screen) (a b : ℕ) → (cursor_placed cursor s).grid a b ≡ s.grid a b
 placed_grid None s a b = refl

@@ -1,8 +1,7 @@
 -- A draw whose closure only renders over an empty buffer.
-use Rattle.std.proofs.Common.{◌≡◌, ℕ, zero, suc, ◌+◌, ◌-◌, ◌*◌, ◌++◌, ◌⊎◌, ⊎_elim, List, [], ◌∷◌, length, take, refl, sym, ap, ap₂, subst, ◌∙◌, arith, Result, Option, Ok}
+use Rattle.std.proofs.Common.{◌≡◌, ℕ, zero, suc, ◌-◌, ◌++◌, ⊎_elim, ◌∷◌, length, take, refl, sym, ap, subst, ◌∙◌, arith, Result, Option}
 use Rattle.rtui_geometry.specs.declared.position.Position.{Position}
 use Rattle.rtui_geometry.specs.declared.rect.Rect.{Rect}
-use Rattle.rtui_cell.specs.declared.cell.Cell.{Cell}
 use Rattle.rtui_cell.specs.Cell.{empty_cell}
 use Rattle.rtui_buffer.specs.Sheet.{Sheet, IsEmptied, empty_cells, area_size}
 use Rattle.rtui_backend.specs.Screen.{Screen, screen_area}

@@ -1,7 +1,6 @@
 -- Emptied columns, and what a clear of a viewport leaves.
-use Rattle.std.proofs.Common.{◌≡◌, ℕ, ◌+◌, ◌-◌, ◌<◌, ◌≤◌, Bool, true, false, List, map, refl, sym, ap, ◌∙◌, arith, inl, inr}
+use Rattle.std.proofs.Common.{◌≡◌, ℕ, ◌+◌, ◌-◌, ◌<◌, ◌≤◌, Bool, true, false, List, map, refl, ap, ◌∙◌, arith, inl, inr}
 use Rattle.std.specs.Prelude.{min, nat_le, ◌||◌, if◌then◌else◌}
-use Rattle.std.proofs.lemmas.Bool.{cases_lt}
 use Rattle.std.proofs.lemmas.Bool.Decides.{nat_tests}
 use Rattle.rtui_geometry.specs.declared.position.Position.{Position}
 use Rattle.rtui_geometry.specs.declared.rect.Rect.{Rect}
@@ -10,7 +9,7 @@ use Rattle.rtui_geometry.specs.Rows.{ListsPositions}
 use Rattle.rtui_backend.specs.declared.clear_type.ClearType.{ClearType}
 use Rattle.rtui_backend.specs.declared.clear_type.ClearType.TheVariants.{All, AfterCursor, CurrentLine}
 use Rattle.rtui_backend.specs.Clear.{is_cleared}
-use Rattle.rtui_backend.specs.Screen.{Screen, KeepsSize, Draws, Clears, IsOnScreen, IsWithin, with_cursor, rows_above}
+use Rattle.rtui_backend.specs.Screen.{Screen, Draws, Clears, IsOnScreen, with_cursor, rows_above}
 use Rattle.rtui_backend.proofs.ScrollLemmas.{above_same}
 use Rattle.rtui_viewport.specs.declared.viewport.Viewport.{Viewport}
 use Rattle.rtui_viewport.specs.declared.viewport.Viewport.TheVariants.{Fullscreen, Inline, Fixed}

@@ -1,7 +1,6 @@
 -- The kinds of viewports.
 use Rattle.std.specs.Prelude.{ℕ, min, List, ◌++◌, codes}
 use Rattle.std.specs.Fmt.{decimal}
-use Rattle.rtui_geometry.specs.declared.rect.Rect.{Rect}
 use Rattle.rtui_geometry.specs.Rect.{EdgesFit}
 use Rattle.rtui_geometry.specs.Display.{rect_text}
 use Rattle.rtui_viewport.specs.declared.viewport.Viewport.{Viewport}

@@ -15,15 +15,21 @@ pub fn put(alloc: Global, backend: &mut TestBackend, x: u16, y: u16, ch: char) -
     }
 }
 
+static LETTERS: [(u16, u16, char); 6] = [
+    (0, 0, 'a'),
+    (1, 0, 'b'),
+    (2, 0, 'c'),
+    (0, 1, 'd'),
+    (1, 1, 'e'),
+    (2, 1, 'f'),
+];
+
 // A screen of two rows, `abc` and `def`.
 fn letters(alloc: Global) -> Result<TestBackend, Fail> {
     let mut backend = TestBackend::new(alloc, 3, 2)?;
-    put(alloc, &mut backend, 0, 0, 'a')?;
-    put(alloc, &mut backend, 1, 0, 'b')?;
-    put(alloc, &mut backend, 2, 0, 'c')?;
-    put(alloc, &mut backend, 0, 1, 'd')?;
-    put(alloc, &mut backend, 1, 1, 'e')?;
-    put(alloc, &mut backend, 2, 1, 'f')?;
+    for (x, y, ch) in &LETTERS {
+        put(alloc, &mut backend, *x, *y, *ch)?;
+    }
     Ok(backend)
 }
 

@@ -1,4 +1,3 @@
-use Rattle.std.proofs.Common.{Ok, Err}
 use Rattle.client.proofs.LogLemmas.{logs_if}
 use Rattle.client.proofs.logging.log.Goals as goal
 

@@ -1,4 +1,3 @@
-use Rattle.std.proofs.Common.{◌≡◌, ℕ, ◌<◌, true, length, slice_index_or}
 use Rattle.std.specs.Cmp.Lexicographic.{pointwise}
 use Rattle.rtui_geometry.specs.contracts.rect.RectPartialEq.TheImpl as rect_equality
 use Rattle.rtui_cell.specs.Cell.{empty_cell}

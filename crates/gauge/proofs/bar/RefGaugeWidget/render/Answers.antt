@@ -1,4 +1,4 @@
-use Rattle.std.proofs.Common.{rules, Ok, Err}
+use Rattle.std.proofs.Common.{rules}
 use Rattle.ratatui_core.proofs.BufferLemmas.{IsSettledSheet-empty}
 use Rattle.ratatui_core.proofs.WidgetLemmas.{OnPart-none}
 use Rattle.gauge.specs.Gauges.{PaintsGauge}

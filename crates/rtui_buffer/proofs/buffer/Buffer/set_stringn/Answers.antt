@@ -1,4 +1,4 @@
-use Rattle.std.proofs.Common.{◌≡◌, rules, ap, refl, sym, length, ◌∙◌}
+use Rattle.std.proofs.Common.{◌≡◌, rules, ap, sym, length, ◌∙◌}
 use Rattle.rtui_buffer.specs.Painting.{text_pieces}
 use Rattle.rtui_buffer.specs.PaintedText.{room_at, pieces_at}
 use Rattle.rtui_buffer.proofs.TextLemmas.{IsPainted-written, IsSettled-written, text-fits}

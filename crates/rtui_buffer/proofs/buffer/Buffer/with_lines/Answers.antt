@@ -1,5 +1,4 @@
-use Rattle.std.proofs.Common.{arith, refl, subst, ap, ◌∙◌}
-use Rattle.rtui_buffer.specs.Line.{line_rows, ShowsLines}
+use Rattle.std.proofs.Common.{arith, refl}
 use Rattle.rtui_buffer.proofs.RowLemmas.{IsSettled-rows, length-rows, ShowsLines-rows}
 use Rattle.rtui_buffer.proofs.buffer.Buffer.with_lines.Goals as goal
 

@@ -1,6 +1,5 @@
-use Rattle.std.proofs.Common.{◌≡◌, ℕ, ◌+◌, ◌-◌, ◌*◌, ◌≤◌, length, ◌∙◌, arith}
-use Rattle.rtui_diff.specs.Cells.{cell}
-use Rattle.rtui_buffer.proofs.OverlayLemmas.{IsBlockAt-more, row_ends, block_ends}
+use Rattle.std.proofs.Common.{◌+◌, ◌-◌, ◌*◌, ◌≤◌, ◌∙◌, arith}
+use Rattle.rtui_buffer.proofs.OverlayLemmas.{IsBlockAt-more, row_ends}
 use Rattle.rtui_buffer.proofs.buffer.overlay.move_block.Goals as goal
 
 pub swap_cells-requires-clause-inside : goal.swap_cells-requires-clause-inside

@@ -1,4 +1,4 @@
-use Rattle.std.proofs.Common.{◌≡◌, ◌+◌, ◌≤◌, replicate, vec_len}
+use Rattle.std.proofs.Common.{◌≡◌, replicate, vec_len}
 use Rattle.std.specs.Vec.{vec_capacity}
 use Rattle.rtui_buffer.proofs.buffer.sized.copies.Given as goal
 

@@ -1,4 +1,4 @@
-use Rattle.std.proofs.Common.{◌≡◌, take, length}
+use Rattle.std.proofs.Common.{◌≡◌, take}
 use Rattle.rtui_buffer.proofs.buffer.sized.copy_all.Given as goal
 
 abbrev pub invariant-loop-i : goal.invariant-loop-i

@@ -1,4 +1,4 @@
-use Rattle.std.proofs.Common.{◌≡◌, rules, refl, inr}
+use Rattle.std.proofs.Common.{◌≡◌, rules, inr}
 use Rattle.rtui_terminal.specs.Calls.{HasDrawn}
 use Rattle.rtui_terminal.proofs.KeepLemmas.{drawn_rest}
 use Rattle.rtui_terminal.proofs.terminal.Terminal.apply.Goals as goal

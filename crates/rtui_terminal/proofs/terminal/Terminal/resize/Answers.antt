@@ -1,7 +1,6 @@
 use Rattle.std.proofs.Common.{◌≡◌, refl, sym, ap, ◌∙◌}
 use Rattle.rtui_buffer.specs.Sheet.{IsEmptied}
 use Rattle.rtui_viewport.specs.Areas.{KeepsScreen}
-use Rattle.rtui_viewport.specs.Placing.{Places}
 use Rattle.rtui_viewport.proofs.ClearLemmas.{blank_over, frame_more}
 use Rattle.rtui_terminal.specs.Calls.{IsResized}
 use Rattle.rtui_terminal.proofs.StepLemmas.{blank_in_step, on_same, has_place, emptied_frame, emptied_after, resized_same, cursor_back}

@@ -1,7 +1,6 @@
-use Rattle.std.proofs.Common.{◌≡◌, refl, ◌∙◌, sym, subst, arith}
+use Rattle.std.proofs.Common.{◌≡◌, refl, ◌∙◌, arith}
 use Rattle.rtui_buffer.specs.Sheet.{IsEmptied}
-use Rattle.rtui_backend.specs.Screen.{Scrolls}
-use Rattle.rtui_viewport.specs.Placing.{area_in, rows_scrolled}
+use Rattle.rtui_viewport.specs.Placing.{area_in}
 use Rattle.rtui_terminal.proofs.StepLemmas.{blank_in_step, never_raised, not_inline, first_cursor_is, first_area_open, placed_empty, placed_scrolls}
 use Rattle.rtui_terminal.proofs.terminal.Terminal.with_options.Goals as goal
 
