@@ -23,14 +23,21 @@ fn mark(alloc: Global, buffer: &mut Buffer) -> Result<(), AllocError> {
     }
 }
 
-// Whether a refused draw was refused memory, and changed neither the screen nor the viewport; an accepted one shows its
-// frame.
+// Whether a refused draw was refused memory, didn't call its closure, and changed neither the screen nor the viewport; an
+// accepted one shows its frame.
 fn draws_or_keeps(alloc: Global, terminal: &mut Terminal<TestBackend>) -> bool {
-    let error = terminal.draw(|frame| mark(alloc, frame.buffer_mut())).err();
+    let mut is_called = false;
+    let error = terminal
+        .draw(|frame| {
+            is_called = true;
+            mark(alloc, frame.buffer_mut())
+        })
+        .err();
     match error {
-        None => terminal.backend().lines_are(&["x    ", "     "]),
+        None => is_called && terminal.backend().lines_are(&["x    ", "     "]),
         Some(TerminalError::Memory) => {
-            terminal.backend().lines_are(&["     ", "     "])
+            !is_called
+                && terminal.backend().lines_are(&["     ", "     "])
                 && terminal.viewport_area() == Rect::new(0, 0, 3, 1)
         }
         Some(_) => false,
