@@ -14,7 +14,8 @@ use std::alloc::AllocError;
 /// Paints a text at a position, where the buffer has it.
 pub fn label(buffer: &mut Buffer, position: Position, text: &str) -> Result<(), AllocError>
     ensures painted { HasPosition buffer.old.area position → OnOk result (
-        Paints position (pieces_at buffer.old.area position.x 65535 new_style text.now) buffer.old buffer.new) }
+        Paints position (pieces_at buffer.old.area position.x 65535 new_style text.now)
+        buffer.old buffer.new) }
     ensures settled { IsEmptied buffer.old.area buffer.old
         → OnOk result (IsSettledSheet buffer.new) }
 {

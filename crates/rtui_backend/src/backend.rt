@@ -54,7 +54,8 @@ pub trait Backend {
     ) -> Result<(), Self::Error>
         requires can { I.can_next content }
         requires finite { IsFinite (I.remaining content) }
-        ensures ok { OnOk result ((items : List (ℕ × ℕ × C)) × Drains I.next_gives content items × Draws (screen self.old) (map (update_by C.cell) items) (screen self.new)) }
+        ensures ok { OnOk result ((items : List (ℕ × ℕ × C)) × Drains I.next_gives content items
+            × Draws (screen self.old) (map (update_by C.cell) items) (screen self.new)) }
         ensures counts { Counts result (failures self.old) (failures self.new) };
 
     /// Moves the cursor's row down by `n`. What goes past the last row scrolls: the rows that leave at the top go
@@ -83,12 +84,14 @@ pub trait Backend {
 
     /// Moves the cursor; its column and its row are each kept on the screen.
     fn set_cursor_position(&mut self, position: Position) -> Result<(), Self::Error>
-        ensures ok { OnOk result (screen self.new ≡ with_cursor position.x position.y (screen self.old)) }
+        ensures ok { OnOk result (screen self.new
+            ≡ with_cursor position.x position.y (screen self.old)) }
         ensures counts { Counts result (failures self.old) (failures self.new) };
 
     /// The older name of `get_cursor_position`: the column and the row.
     fn get_cursor(&mut self) -> Result<(u16, u16), Self::Error>
-        ensures ok { IfOk result (λ place. (place.0 ≡ (screen self.old).cursor_x) × (place.1 ≡ (screen self.old).cursor_y)) }
+        ensures ok { IfOk result (λ place. (place.0 ≡ (screen self.old).cursor_x)
+            × (place.1 ≡ (screen self.old).cursor_y)) }
         ensures on_grid { OnOk result (IsOnGrid (screen self.old)) }
         ensures stays { OnOk result (screen self.new ≡ screen self.old) }
         ensures counts { Counts result (failures self.old) (failures self.new) }

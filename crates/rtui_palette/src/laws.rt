@@ -9,7 +9,8 @@ ghost use Rattle.rtui_palette.specs.declared.tailwind.TheConstants as tailwind_c
 
 /// Each shade of each palette of Tailwind CSS is the colour of its number.
 pub fn tailwind_shades_are_their_numbers()
-    ensures { map tailwind.shades tailwind.palettes ≡ map (map color_of_number) tailwind.shade_numbers }
+    ensures { map tailwind.shades tailwind.palettes
+        ≡ map (map color_of_number) tailwind.shade_numbers }
 {}
 
 /// Each palette of Material Design is made of its numbers.

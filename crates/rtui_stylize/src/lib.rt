@@ -311,7 +311,8 @@ pub trait Stylize: Styled + Sized {
 
     /// With the modifier bold taken away.
     final fn not_bold(self) -> Self::Item
-        ensures { result ≡ Self.with_style self (without_modifier Modifier.BOLD (Self.style_of self)) }
+        ensures { result
+            ≡ Self.with_style self (without_modifier Modifier.BOLD (Self.style_of self)) }
     {
         self.remove_modifier(Modifier::BOLD)
     }
@@ -325,105 +326,120 @@ pub trait Stylize: Styled + Sized {
 
     /// With the modifier dim taken away.
     final fn not_dim(self) -> Self::Item
-        ensures { result ≡ Self.with_style self (without_modifier Modifier.DIM (Self.style_of self)) }
+        ensures { result
+            ≡ Self.with_style self (without_modifier Modifier.DIM (Self.style_of self)) }
     {
         self.remove_modifier(Modifier::DIM)
     }
 
     /// With the modifier italic added.
     final fn italic(self) -> Self::Item
-        ensures { result ≡ Self.with_style self (with_modifier Modifier.ITALIC (Self.style_of self)) }
+        ensures { result
+            ≡ Self.with_style self (with_modifier Modifier.ITALIC (Self.style_of self)) }
     {
         self.add_modifier(Modifier::ITALIC)
     }
 
     /// With the modifier italic taken away.
     final fn not_italic(self) -> Self::Item
-        ensures { result ≡ Self.with_style self (without_modifier Modifier.ITALIC (Self.style_of self)) }
+        ensures { result
+            ≡ Self.with_style self (without_modifier Modifier.ITALIC (Self.style_of self)) }
     {
         self.remove_modifier(Modifier::ITALIC)
     }
 
     /// With the modifier underlined added.
     final fn underlined(self) -> Self::Item
-        ensures { result ≡ Self.with_style self (with_modifier Modifier.UNDERLINED (Self.style_of self)) }
+        ensures { result
+            ≡ Self.with_style self (with_modifier Modifier.UNDERLINED (Self.style_of self)) }
     {
         self.add_modifier(Modifier::UNDERLINED)
     }
 
     /// With the modifier underlined taken away.
     final fn not_underlined(self) -> Self::Item
-        ensures { result ≡ Self.with_style self (without_modifier Modifier.UNDERLINED (Self.style_of self)) }
+        ensures { result
+            ≡ Self.with_style self (without_modifier Modifier.UNDERLINED (Self.style_of self)) }
     {
         self.remove_modifier(Modifier::UNDERLINED)
     }
 
     /// With the modifier slow blink added.
     final fn slow_blink(self) -> Self::Item
-        ensures { result ≡ Self.with_style self (with_modifier Modifier.SLOW_BLINK (Self.style_of self)) }
+        ensures { result
+            ≡ Self.with_style self (with_modifier Modifier.SLOW_BLINK (Self.style_of self)) }
     {
         self.add_modifier(Modifier::SLOW_BLINK)
     }
 
     /// With the modifier slow blink taken away.
     final fn not_slow_blink(self) -> Self::Item
-        ensures { result ≡ Self.with_style self (without_modifier Modifier.SLOW_BLINK (Self.style_of self)) }
+        ensures { result
+            ≡ Self.with_style self (without_modifier Modifier.SLOW_BLINK (Self.style_of self)) }
     {
         self.remove_modifier(Modifier::SLOW_BLINK)
     }
 
     /// With the modifier rapid blink added.
     final fn rapid_blink(self) -> Self::Item
-        ensures { result ≡ Self.with_style self (with_modifier Modifier.RAPID_BLINK (Self.style_of self)) }
+        ensures { result
+            ≡ Self.with_style self (with_modifier Modifier.RAPID_BLINK (Self.style_of self)) }
     {
         self.add_modifier(Modifier::RAPID_BLINK)
     }
 
     /// With the modifier rapid blink taken away.
     final fn not_rapid_blink(self) -> Self::Item
-        ensures { result ≡ Self.with_style self (without_modifier Modifier.RAPID_BLINK (Self.style_of self)) }
+        ensures { result
+            ≡ Self.with_style self (without_modifier Modifier.RAPID_BLINK (Self.style_of self)) }
     {
         self.remove_modifier(Modifier::RAPID_BLINK)
     }
 
     /// With the modifier reversed added.
     final fn reversed(self) -> Self::Item
-        ensures { result ≡ Self.with_style self (with_modifier Modifier.REVERSED (Self.style_of self)) }
+        ensures { result
+            ≡ Self.with_style self (with_modifier Modifier.REVERSED (Self.style_of self)) }
     {
         self.add_modifier(Modifier::REVERSED)
     }
 
     /// With the modifier reversed taken away.
     final fn not_reversed(self) -> Self::Item
-        ensures { result ≡ Self.with_style self (without_modifier Modifier.REVERSED (Self.style_of self)) }
+        ensures { result
+            ≡ Self.with_style self (without_modifier Modifier.REVERSED (Self.style_of self)) }
     {
         self.remove_modifier(Modifier::REVERSED)
     }
 
     /// With the modifier hidden added.
     final fn hidden(self) -> Self::Item
-        ensures { result ≡ Self.with_style self (with_modifier Modifier.HIDDEN (Self.style_of self)) }
+        ensures { result
+            ≡ Self.with_style self (with_modifier Modifier.HIDDEN (Self.style_of self)) }
     {
         self.add_modifier(Modifier::HIDDEN)
     }
 
     /// With the modifier hidden taken away.
     final fn not_hidden(self) -> Self::Item
-        ensures { result ≡ Self.with_style self (without_modifier Modifier.HIDDEN (Self.style_of self)) }
+        ensures { result
+            ≡ Self.with_style self (without_modifier Modifier.HIDDEN (Self.style_of self)) }
     {
         self.remove_modifier(Modifier::HIDDEN)
     }
 
     /// With the modifier crossed out added.
     final fn crossed_out(self) -> Self::Item
-        ensures { result ≡ Self.with_style self (with_modifier Modifier.CROSSED_OUT (Self.style_of self)) }
+        ensures { result
+            ≡ Self.with_style self (with_modifier Modifier.CROSSED_OUT (Self.style_of self)) }
     {
         self.add_modifier(Modifier::CROSSED_OUT)
     }
 
     /// With the modifier crossed out taken away.
     final fn not_crossed_out(self) -> Self::Item
-        ensures { result ≡ Self.with_style self (without_modifier Modifier.CROSSED_OUT (Self.style_of self)) }
+        ensures { result
+            ≡ Self.with_style self (without_modifier Modifier.CROSSED_OUT (Self.style_of self)) }
     {
         self.remove_modifier(Modifier::CROSSED_OUT)
     }

@@ -114,7 +114,8 @@ pub fn clear_placed<B: Backend>(
     ensures cleared { OnOk result
         (ClearsArea viewport area (B.screen backend.old) (B.screen backend.new)) }
     ensures frame { OnOk result (KeepsScreen (B.screen backend.old) (B.screen backend.new)) }
-    ensures cursor { OnOk result (IsCursorSet cursor (B.screen backend.old) (B.screen backend.new)) }
+    ensures cursor { OnOk result
+        (IsCursorSet cursor (B.screen backend.old) (B.screen backend.new)) }
     ensures counts { Counts result (B.failures backend.old) (B.failures backend.new) }
 {
     clear_area(backend, viewport, area)?;

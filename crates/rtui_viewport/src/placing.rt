@@ -26,7 +26,8 @@ pub fn place_inline<B: Backend>(
     offset: u16,
 ) -> Result<(Rect, Position), B::Error>
     ensures area { IfOk result (λ found.
-        found.0 ≡ inline_area wanted size.width size.height offset (B.screen backend.old).cursor_y) }
+        found.0 ≡ inline_area wanted size.width size.height offset
+        (B.screen backend.old).cursor_y) }
     ensures fits { IfOk result (λ found. EdgesFit found.0) }
     ensures cursor { IfOk result (λ found. found.1 ≡ cursor_of (B.screen backend.old)) }
     ensures on_grid { OnOk result (IsOnGrid (B.screen backend.old)) }

@@ -7,5 +7,6 @@ ghost use Rattle.rtui_widgets.specs.Span.{IsShortSpan};
 
 /// A text of at most 22 bytes takes no memory, in however many columns it is rendered.
 pub fn short_texts_take_no_memory()
-    ensures { (columns : ℕ) (text : List ℕ) → IsUtf8 text → length text ≤ 22 → IsShortSpan columns text }
+    ensures { (columns : ℕ) (text : List ℕ) → IsUtf8 text → length text ≤ 22
+        → IsShortSpan columns text }
 {}

@@ -130,7 +130,8 @@ fn row_is(row: &[Cell], line: &str) -> bool
 
 // Whether rows, each of so many columns, show lines.
 fn rows_are(rows: &[Vec<Cell>], width: usize, lines: &[&str]) -> bool
-    ensures { IsTrue result ↔ HaveLines width (raw_lines lines.now) (map (λ row. row.items) rows.now) }
+    ensures { IsTrue result ↔ HaveLines width (raw_lines lines.now) (map
+        (λ row. row.items) rows.now) }
 {
     if rows.len() != lines.len() {
         return false;

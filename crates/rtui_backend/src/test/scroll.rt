@@ -83,7 +83,8 @@ fn swap_cells(from: &mut [Cell], start: usize, to: &mut [Cell], place: usize, co
     ensures rest { (k : ℕ) → k < place → cell to.new k ≡ cell to.old k }
     ensures behind { (k : ℕ) → place + count ≤ k → cell to.new k ≡ cell to.old k }
     ensures left { (k : ℕ) → start + count ≤ k → cell from.new k ≡ cell from.old k }
-    ensures unmarked { AreUnmarked from.old → AreUnmarked to.old → AreUnmarked from.new × AreUnmarked to.new }
+    ensures unmarked { AreUnmarked from.old → AreUnmarked to.old
+        → AreUnmarked from.new × AreUnmarked to.new }
 {
     for k in 0..count {
         mem::swap(&mut from[start + k], &mut to[place + k]);
@@ -112,7 +113,8 @@ fn cleared_places(size: Size, cursor: Position, clear_type: ClearType) -> (usize
     ensures order { result.0 ≤ result.1 }
     ensures end { result.1 ≤ size.width * size.height }
     ensures places { (a b : ℕ) → a < size.width → b < size.height
-        → (nat_le result.0 (b * size.width + a) && nat_lt (b * size.width + a) result.1) ≡ is_cleared clear_type cursor.x cursor.y a b }
+        → (nat_le result.0 (b * size.width + a) && nat_lt (b * size.width + a) result.1)
+        ≡ is_cleared clear_type cursor.x cursor.y a b }
 {
     let width = usize::from(size.width);
     let count = width * usize::from(size.height);
