@@ -105,7 +105,8 @@ impl Buffer {
 
     /// The cells, row by row, to be written.
     pub fn cells_mut(&mut self) -> &mut [Cell]
-        ensures* writes_back { sem 𝓛 (Lends the_row (Array cell_row 0) self.entry result (with_cells self.old)) }
+        ensures* writes_back { sem 𝓛 (Lends the_row (Array cell_row 0) self.entry result
+            (with_cells self.old)) }
         ensures cells { result.now ≡ self.old.cells }
         ensures count { length result.now ≡ area_size self.old.area }
     {
@@ -155,8 +156,8 @@ impl Buffer {
 
     /// The cell at a position, to be written, if it lies in the area.
     pub fn cell_mut(&mut self, position: Position) -> Option<&mut Cell>
-        ensures* writes_back { sem 𝓛 (LendsIf the_row cell_row self.entry result (with_cell self.old position)
-            self.old) }
+        ensures* writes_back { sem 𝓛 (LendsIf the_row cell_row self.entry result
+            (with_cell self.old position) self.old) }
         ensures inside { IsSome result ↔ HasPosition self.old.area position }
         ensures value { IfSome result (λ cell. cell.now ≡ cell_in self.old position) }
     {

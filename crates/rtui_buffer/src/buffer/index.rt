@@ -38,7 +38,8 @@ impl Index<Position> for Buffer {
 impl IndexMut<Position> for Buffer {
     fn index_mut(&mut self, position: Position) -> &mut Cell
         requires { HasPosition self.old.area position }
-        ensures* writes_back { sem 𝓛 (Lends the_row cell_row self.entry result (with_cell self.old position)) }
+        ensures* writes_back { sem 𝓛 (Lends the_row cell_row self.entry result
+            (with_cell self.old position)) }
         ensures value { result.now ≡ cell_in self.old position }
     {
         self.get_mut(position.x, position.y)

@@ -20,7 +20,8 @@ impl<B: Backend> Terminal<B> {
 
     /// The backend, to be written; what is changed on its screen the terminal doesn't know.
     pub fn backend_mut(&mut self) -> &mut B
-        ensures* writes_back { let row = the_row B.row B.Error.row B.Backend B.Error.Debug B.Error.Display in
+        ensures* writes_back { let row = the_row B.row B.Error.row B.Backend
+            B.Error.Debug B.Error.Display in
             sem 𝓛 (Lends row B.row self.entry result (λ b. record self.entry.now { backend = b })) }
         ensures value { result.now ≡ self.old.backend }
     {

@@ -61,7 +61,8 @@ impl<B: Backend> Terminal<B> {
     /// A new frame over the current buffer, without a cursor. To paint outside a draw in a way that a proof sees, use
     /// `current_buffer_mut`.
     pub fn get_frame(&mut self) -> Frame<'_>
-        ensures* writes_back { let row = the_row B.row B.Error.row B.Backend B.Error.Debug B.Error.Display in
+        ensures* writes_back { let row = the_row B.row B.Error.row B.Backend
+            B.Error.Debug B.Error.Display in
             sem 𝓛 (follows row buffer_row self.entry.ghost_name result.buffer.ghost_name (λ sheet.
             record self.entry.now { current = sheet })) }
         ensures value { IsNewFrame self.old.viewport_area self.old.frame_count self.old.current
@@ -79,7 +80,8 @@ impl<B: Backend> Terminal<B> {
 
     /// The buffer to paint on.
     pub fn current_buffer_mut(&mut self) -> &mut Buffer
-        ensures* writes_back { let row = the_row B.row B.Error.row B.Backend B.Error.Debug B.Error.Display in
+        ensures* writes_back { let row = the_row B.row B.Error.row B.Backend
+            B.Error.Debug B.Error.Display in
             sem 𝓛 (Lends row buffer_row self.entry result (λ sheet.
             record self.entry.now { current = sheet })) }
         ensures value { result.now ≡ self.old.current }
