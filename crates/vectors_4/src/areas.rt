@@ -1,6 +1,6 @@
 //! Buffers made of a cell, of lines or of texts, and given other areas.
-use crate::sheets::{filled, is_of, rect, sheet};
-use rtui_buffer::{Buffer, Cell};
+use crate::sheets::{filled, has, is_of, rect, reds_are, sheet};
+use rtui_buffer::{Buffer, Cell, lines_width};
 use rtui_geometry::{Position, Rect};
 use rtui_style::{Color, Style};
 use rtui_text::{Line, Span, Spans};
@@ -26,29 +26,12 @@ fn copy_is_equal(alloc: Global, buffer: &Buffer) -> Result<bool, AllocError> {
     Ok(buffer.clone(alloc)? == *buffer)
 }
 
-// Whether four cells are filled with a red symbol, in their area.
-fn fills(alloc: Global, area: Rect, symbols: &str) -> Result<bool, AllocError> {
-    let buffer = four_reds(alloc)?;
-    Ok(is_of(&buffer, area, symbols) && buffer.content().iter().all(|cell| cell.fg == Color::Red))
-}
-
-// Whether the last of four cells has its index.
-fn is_last_indexed(alloc: Global) -> Result<bool, AllocError> {
-    let buffer = four_reds(alloc)?;
-    Ok(is_indexed(&buffer, 2, 3, 3))
-}
-
-// Whether a copy of four cells equals them.
-fn copies(alloc: Global) -> Result<bool, AllocError> {
-    let buffer = four_reds(alloc)?;
-    copy_is_equal(alloc, &buffer)
-}
-
 #[test]
 fn made_and_filled(rt: HostRuntime) -> Result<(), Fail> {
-    assert!(rt; fills(rt.alloc(), rect(1, 2, 2, 2), "x|x|x|x")?);
-    assert!(rt; is_last_indexed(rt.alloc())?);
-    assert!(rt; copies(rt.alloc())?);
+    let buffer = four_reds(rt.alloc())?;
+    assert!(rt; is_of(&buffer, rect(1, 2, 2, 2), "x|x|x|x") && reds_are(&buffer, "rrrr"));
+    assert!(rt; is_indexed(&buffer, 2, 3, 3));
+    assert!(rt; copy_is_equal(rt.alloc(), &buffer)?);
     Ok(())
 }
 
@@ -94,14 +77,10 @@ fn shows_in_areas(buffer: &mut Buffer) -> Result<bool, AllocError> {
     )
 }
 
-fn sheet_shows_in_areas(alloc: Global) -> Result<bool, Fail> {
-    let mut buffer = sheet(alloc, &["ab", "cd"])?;
-    Ok(shows_in_areas(&mut buffer)?)
-}
-
 #[test]
 fn resized(rt: HostRuntime) -> Result<(), Fail> {
-    assert!(rt; sheet_shows_in_areas(rt.alloc())?);
+    let mut buffer = sheet(rt.alloc(), &["ab", "cd"])?;
+    assert!(rt; shows_in_areas(&mut buffer)?);
     Ok(())
 }
 
@@ -112,14 +91,10 @@ fn takes_reserved(buffer: &mut Buffer, area: Rect, symbols: &str) -> Result<bool
     Ok(buffer.resize(area).is_ok() && is_of(buffer, area, symbols))
 }
 
-fn sheet_takes_reserved(alloc: Global, area: Rect, symbols: &str) -> Result<bool, Fail> {
-    let mut buffer = sheet(alloc, &["ab", "cd"])?;
-    Ok(takes_reserved(&mut buffer, area, symbols)?)
-}
-
 #[test]
 fn resized_within_its_room(rt: HostRuntime) -> Result<(), Fail> {
-    assert!(rt; sheet_takes_reserved(rt.alloc(), rect(0, 0, 5, 1), "a|b|c|d| ")?);
+    let mut buffer = sheet(rt.alloc(), &["ab", "cd"])?;
+    assert!(rt; takes_reserved(&mut buffer, rect(0, 0, 5, 1), "a|b|c|d| ")?);
     Ok(())
 }
 
@@ -131,33 +106,28 @@ fn colored(alloc: Global) -> Result<Line<'static>, AllocError> {
     Ok(Line::from(spans))
 }
 
-// A buffer of two lines.
-fn two_rows(alloc: Global, upper: Line<'_>, lower: Line<'_>) -> Result<Buffer, Fail> {
-    if upper.width() > 65535 || lower.width() > 65535 {
+// A buffer of these lines.
+fn rows_of(alloc: Global, lines: &[Line<'_>]) -> Result<Buffer, Fail> {
+    if lines.len() > 65535 || lines_width(lines) > 65535 {
         return Err(Fail::new("too wide for a buffer"));
     }
-    Ok(Buffer::with_lines(alloc, &[upper, lower])?)
-}
-
-// Whether the cell at this place has these colours.
-fn has_colors(buffer: &Buffer, x: u16, y: u16, fg: Color, bg: Color) -> bool {
-    let cell = buffer.cell(Position { x, y });
-    cell.map(|cell| (cell.fg, cell.bg)) == Some((fg, bg))
+    Ok(Buffer::with_lines(alloc, lines)?)
 }
 
 // A buffer of the line above and of a plain `c`.
 fn colored_rows(alloc: Global) -> Result<Buffer, Fail> {
-    let upper = colored(alloc)?;
-    let lower = Line::raw(alloc, "c")?;
-    two_rows(alloc, upper, lower)
+    let mut lines = Vec::new(alloc);
+    lines.push(colored(alloc)?)?;
+    lines.push(Line::raw(alloc, "c")?)?;
+    rows_of(alloc, lines.as_slice())
 }
 
 // Whether the colours of a buffer of four cells are those of the lines above.
 fn has_their_colors(buffer: &Buffer) -> bool {
-    has_colors(buffer, 0, 0, Color::Red, Color::Reset)
-        && has_colors(buffer, 1, 0, Color::Reset, Color::Blue)
-        && has_colors(buffer, 0, 1, Color::Reset, Color::Reset)
-        && has_colors(buffer, 1, 1, Color::Reset, Color::Reset)
+    has(buffer, 0, 0, "a", Color::Red, Color::Reset)
+        && has(buffer, 1, 0, "b", Color::Reset, Color::Blue)
+        && has(buffer, 0, 1, "c", Color::Reset, Color::Reset)
+        && has(buffer, 1, 1, " ", Color::Reset, Color::Reset)
 }
 
 #[test]

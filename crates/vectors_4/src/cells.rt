@@ -1,10 +1,9 @@
 //! The cells of a buffer by position, and equal buffers.
-use crate::sheets::{empty, rect, reds_are, sheet};
+use crate::sheets::{are_alike, empty, rect, reds_are, sheet};
 use rtui_buffer::Buffer;
 use rtui_geometry::{Position, Rect};
 use rtui_style::{Color, Modifier};
 use std::alloc::{AllocError, Global};
-use std::hash::{BuildHasher, BuildHasherDefault, FoldHasher};
 use std::test::Fail;
 
 // Whether each call that reads the cell at a place of the area gives one with this symbol.
@@ -16,8 +15,10 @@ fn reads(buffer: &Buffer, x: u16, y: u16, symbol: &str) -> bool {
     let got = buffer.get(x, y).symbol() == symbol;
     let at_position = buffer[position].symbol() == symbol;
     let at_pair = buffer[(x, y)].symbol() == symbol;
-    let found = buffer.cell(position).map(|cell| cell.symbol()) == Some(symbol);
-    got && at_position && at_pair && found
+    let Some(found) = buffer.cell(position) else {
+        return false;
+    };
+    got && at_position && at_pair && found.symbol() == symbol
 }
 
 #[test]
@@ -57,14 +58,10 @@ fn writes_two(buffer: &mut Buffer) -> bool {
         && reds_are(buffer, ".rr.")
 }
 
-fn sheet_writes_two(alloc: Global, area: Rect) -> Result<bool, AllocError> {
-    let mut buffer = empty(alloc, area)?;
-    Ok(writes_two(&mut buffer))
-}
-
 #[test]
 fn writes_cells(rt: HostRuntime) -> Result<(), Fail> {
-    assert!(rt; sheet_writes_two(rt.alloc(), rect(1, 2, 2, 2))?);
+    let mut buffer = empty(rt.alloc(), rect(1, 2, 2, 2))?;
+    assert!(rt; writes_two(&mut buffer));
     Ok(())
 }
 
@@ -85,14 +82,6 @@ fn outside_is_no_cell(rt: HostRuntime) -> Result<(), Fail> {
     assert!(rt; is_outside(rt.alloc(), area, 3, 2)?);
     assert!(rt; is_outside(rt.alloc(), area, 1, 4)?);
     Ok(())
-}
-
-fn hash_of(buffer: &Buffer) -> u64 {
-    BuildHasherDefault::<FoldHasher>::default().hash_one(buffer)
-}
-
-fn are_alike(one: &Buffer, other: &Buffer) -> bool {
-    one == other && hash_of(one) == hash_of(other)
 }
 
 // Whether buffers of these texts are equal, and their hashes.

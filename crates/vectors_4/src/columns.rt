@@ -6,20 +6,23 @@ fn takes(text: &str, columns: usize) -> bool {
     text_columns(text) == columns && Span::raw(text).width() == columns
 }
 
-#[test]
-fn columns(rt: HostRuntime) {
-    assert!(rt; takes("", 0));
-    assert!(rt; takes("ab", 2));
-    assert!(rt; takes("コンピュータ", 12));
-    assert!(rt; takes("\u{2328}", 1));
-    assert!(rt; takes("\u{2328}\u{FE0F}", 2));
-    assert!(rt; takes("\u{200B}", 0));
-}
+// Texts and their columns; the sound marks of the last four take none.
+static COLUMNS: [(&str, usize); 10] = [
+    ("", 0),
+    ("ab", 2),
+    ("コンピュータ", 12),
+    ("\u{2328}", 1),
+    ("\u{2328}\u{FE0F}", 2),
+    ("\u{200B}", 0),
+    ("a\u{FF76}\u{FF9E}b", 3),
+    ("\u{3042}\u{FF9E}", 2),
+    ("\u{FF8A}\u{FF9F}", 1),
+    ("\u{FF9E}", 0),
+];
 
 #[test]
-fn columns_leave_sound_marks_out(rt: HostRuntime) {
-    assert!(rt; takes("a\u{FF76}\u{FF9E}b", 3));
-    assert!(rt; takes("\u{3042}\u{FF9E}", 2));
-    assert!(rt; takes("\u{FF8A}\u{FF9F}", 1));
-    assert!(rt; takes("\u{FF9E}", 0));
+fn columns(rt: HostRuntime) {
+    for (text, columns) in &COLUMNS {
+        assert!(rt; takes(text, *columns), "{text}");
+    }
 }

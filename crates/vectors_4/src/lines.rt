@@ -1,9 +1,10 @@
 //! Lines and lists of spans: the lines of a text, styles, equality and hash, and copies.
+use crate::sheets;
+use crate::sheets::hash_of;
 use rtui_layout::Alignment;
 use rtui_style::{Color, Style};
 use rtui_text::{Line, Span, Spans};
 use std::alloc::{AllocError, Global};
-use std::hash::{BuildHasher, BuildHasherDefault, FoldHasher, Hash};
 use std::slice;
 use std::test::Fail;
 
@@ -34,41 +35,35 @@ fn reads_as(alloc: Global, text: &str, texts: &[&str]) -> Result<bool, AllocErro
     Ok(is_plain(&line, texts))
 }
 
+// Texts and the texts of the spans that they make.
+static READ: [(&str, &[&str]); 4] = [
+    ("", &[]),
+    ("a\nb\r\nc", &["a", "b", "c"]),
+    ("a\n", &["a"]),
+    ("\n\na", &["", "", "a"]),
+];
+
 #[test]
 fn raw_makes_a_span_of_each_line(rt: HostRuntime) -> Result<(), Fail> {
-    assert!(rt; reads_as(rt.alloc(), "", &[])?);
-    assert!(rt; reads_as(rt.alloc(), "a\nb\r\nc", &["a", "b", "c"])?);
-    assert!(rt; reads_as(rt.alloc(), "a\n", &["a"])?);
-    assert!(rt; reads_as(rt.alloc(), "\n\na", &["", "", "a"])?);
+    for (text, texts) in &READ {
+        assert!(rt; reads_as(rt.alloc(), text, texts)?, "{text}");
+    }
     assert!(rt; is_plain(&Line::default_in(rt.alloc()), &[]));
     Ok(())
 }
 
-// Whether the style of a line made of a text is none of its spans.
-fn styles_no_span(
-    alloc: Global,
-    text: &str,
-    style: Style,
-    texts: &[&str],
-) -> Result<bool, AllocError> {
-    let line = Line::styled(alloc, text, style)?;
-    let is_outside = line.style == style && line.alignment.is_none();
-    Ok(is_outside && are_plain(line.spans.as_slice(), texts))
-}
-
 #[test]
 fn a_style_of_the_line_is_none_of_its_spans(rt: HostRuntime) -> Result<(), Fail> {
-    assert!(rt; styles_no_span(rt.alloc(), "a\nb", Style::new().fg(Color::Red), &["a", "b"])?);
+    let red = Style::new().fg(Color::Red);
+    let line = Line::styled(rt.alloc(), "a\nb", red)?;
+    assert!(rt; line.style == red && line.alignment.is_none());
+    assert!(rt; are_plain(line.spans.as_slice(), &["a", "b"]));
     Ok(())
-}
-
-fn hash_of<T: Hash>(value: &T) -> u64 {
-    BuildHasherDefault::<FoldHasher>::default().hash_one(value)
 }
 
 // Whether two lines are equal, and their hashes, and the hashes of their spans.
 fn are_alike(one: &Line<'_>, other: &Line<'_>) -> bool {
-    one == other && hash_of(one) == hash_of(other) && hash_of(&one.spans) == hash_of(&other.spans)
+    sheets::are_alike(one, other) && hash_of(&one.spans) == hash_of(&other.spans)
 }
 
 fn differ(one: &Line<'_>, other: &Line<'_>) -> bool {
@@ -120,21 +115,11 @@ fn copy_is_alike(alloc: Global, line: &Line<'_>) -> Result<bool, AllocError> {
     Ok(are_alike(&copy, line))
 }
 
-// Whether a copy of a line with this style and alignment is like it.
-fn copies(
-    alloc: Global,
-    text: &str,
-    style: Style,
-    alignment: Option<Alignment>,
-) -> Result<bool, AllocError> {
-    let line = line_of(alloc, text, style, alignment)?;
-    copy_is_alike(alloc, &line)
-}
-
 #[test]
 fn copies_are_equal(rt: HostRuntime) -> Result<(), Fail> {
     let red = Style::new().fg(Color::Red);
-    assert!(rt; copies(rt.alloc(), "ab\nc", red, Some(Alignment::Right))?);
+    let line = line_of(rt.alloc(), "ab\nc", red, Some(Alignment::Right))?;
+    assert!(rt; copy_is_alike(rt.alloc(), &line)?);
     Ok(())
 }
 

@@ -31,15 +31,10 @@ fn merges(
 }
 
 #[test]
-fn areas_apart(rt: HostRuntime) -> Result<(), Fail> {
+fn areas_apart_and_in_common(rt: HostRuntime) -> Result<(), Fail> {
     let (corner, right, all) = (rect(0, 0, 1, 1), rect(2, 1, 1, 1), rect(0, 0, 3, 2));
     assert!(rt; merges(rt.alloc(), corner, right, all, "a| | | | |z")?);
     assert!(rt; merges(rt.alloc(), right, corner, all, "z| | | | |a")?);
-    Ok(())
-}
-
-#[test]
-fn the_upper_cell_wins(rt: HostRuntime) -> Result<(), Fail> {
     let (lower, upper, all) = (rect(1, 1, 2, 2), rect(0, 0, 2, 2), rect(0, 0, 3, 3));
     assert!(rt; merges(rt.alloc(), lower, upper, all, "z|z| |z|z|a| |a|a")?);
     let (row, column) = (rect(0, 0, 3, 1), rect(1, 0, 1, 1));
@@ -94,19 +89,10 @@ fn is_kept_over(alloc: Global, upper: Cell, lower: Cell) -> Result<bool, AllocEr
     becomes(&mut buffer, &other)
 }
 
-fn marked_is_kept(alloc: Global) -> Result<bool, AllocError> {
-    let upper = marked(alloc)?;
-    is_kept_over(alloc, upper, Cell::EMPTY)
-}
-
-fn plain_is_kept(alloc: Global) -> Result<bool, AllocError> {
-    let lower = marked(alloc)?;
-    is_kept_over(alloc, Cell::EMPTY, lower)
-}
-
 #[test]
 fn the_upper_cell_keeps_style_flag_and_option(rt: HostRuntime) -> Result<(), Fail> {
-    assert!(rt; marked_is_kept(rt.alloc())?);
-    assert!(rt; plain_is_kept(rt.alloc())?);
+    assert!(rt; is_kept_over(rt.alloc(), marked(rt.alloc())?, Cell::EMPTY)?);
+    let lower = marked(rt.alloc())?;
+    assert!(rt; is_kept_over(rt.alloc(), Cell::EMPTY, lower)?);
     Ok(())
 }

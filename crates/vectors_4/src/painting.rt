@@ -2,7 +2,7 @@
 ghost use Rattle.std.specs.Prelude.{◌≡◌, ◌≤◌};
 ghost use Rattle.rtui_buffer.specs.Sheet.{HasRow};
 
-use crate::sheets::{empty, rect, reds_are, row, shows};
+use crate::sheets::{empty, has, rect, reds_are, row, shows};
 use rtui_buffer::{Buffer, Cell};
 use rtui_geometry::{Position, Rect};
 use rtui_style::{Color, Modifier, Style};
@@ -24,63 +24,42 @@ fn paints(
     Ok(place == (end, 0) && shows(&buffer, symbols) && buffer.is_settled())
 }
 
-#[test]
-fn the_front_that_fits(rt: HostRuntime) -> Result<(), Fail> {
-    assert!(rt; paints(rt.alloc(), 4, "aaaa", 2, 2, "a|a| | ")?);
-    assert!(rt; paints(rt.alloc(), 2, "abc", 9, 2, "a|b")?);
-    assert!(rt; paints(rt.alloc(), 2, "", 9, 0, " | ")?);
-    assert!(rt; paints(rt.alloc(), 2, "ab", 0, 0, " | ")?);
-    assert!(rt; paints(rt.alloc(), 4, "コン", 3, 2, "コ| | | ")?);
-    assert!(rt; paints(rt.alloc(), 5, "コンピ", 9, 4, "コ| |ン| | ")?);
-    Ok(())
-}
+// The width of a row, a text, how many columns it may take, the column where it ends, and the symbols of the row: the
+// front that fits, graphemes of no column and of several characters, emoji presentations and control characters.
+static PAINTED: [(u16, &str, usize, u16, &str); 14] = [
+    (4, "aaaa", 2, 2, "a|a| | "),
+    (2, "abc", 9, 2, "a|b"),
+    (2, "", 9, 0, " | "),
+    (2, "ab", 0, 0, " | "),
+    (4, "コン", 3, 2, "コ| | | "),
+    (5, "コンピ", 9, 4, "コ| |ン| | "),
+    (4, "a\tb", 9, 2, "a|b| | "),
+    (3, "\u{1B}[0mx", 9, 3, "[|0|m"),
+    (1, "\u{200B}a", 9, 1, "a"),
+    (2, "a\u{200B}b", 9, 2, "a|b"),
+    (3, "e\u{301}x", 9, 2, "e\u{301}|x| "),
+    (4, "\u{FF76}\u{FF9E}x", 9, 3, "\u{FF76}\u{FF9E}| |x| "),
+    (4, "\u{2328}\u{FE0F}x", 9, 3, "\u{2328}\u{FE0F}| |x| "),
+    (2, "a\u{7F}\u{85}\u{9F}b", 9, 2, "a|b"),
+];
 
 #[test]
-fn graphemes_of_no_column_and_of_several_characters(rt: HostRuntime) -> Result<(), Fail> {
-    assert!(rt; paints(rt.alloc(), 4, "a\tb", 9, 2, "a|b| | ")?);
-    assert!(rt; paints(rt.alloc(), 3, "\u{1B}[0mx", 9, 3, "[|0|m")?);
-    assert!(rt; paints(rt.alloc(), 1, "\u{200B}a", 9, 1, "a")?);
-    assert!(rt; paints(rt.alloc(), 2, "a\u{200B}b", 9, 2, "a|b")?);
-    assert!(rt; paints(rt.alloc(), 3, "e\u{301}x", 9, 2, "e\u{301}|x| ")?);
-    assert!(rt;
-        paints(
-            rt.alloc(),
-            4,
-            "\u{FF76}\u{FF9E}x",
-            9,
-            3,
-            "\u{FF76}\u{FF9E}| |x| "
-        )?
-    );
+fn texts_on_empty_rows(rt: HostRuntime) -> Result<(), Fail> {
+    for (width, text, max, end, symbols) in &PAINTED {
+        assert!(rt;
+            paints(rt.alloc(), *width, text, *max, *end, symbols)?,
+            "{text}"
+        );
+    }
     Ok(())
-}
-
-#[test]
-fn emoji_presentations_and_control_characters(rt: HostRuntime) -> Result<(), Fail> {
-    assert!(rt;
-        paints(
-            rt.alloc(),
-            4,
-            "\u{2328}\u{FE0F}x",
-            9,
-            3,
-            "\u{2328}\u{FE0F}| |x| "
-        )?
-    );
-    assert!(rt; paints(rt.alloc(), 2, "a\u{7F}\u{85}\u{9F}b", 9, 2, "a|b")?);
-    Ok(())
-}
-
-// Whether the cell in this column of the upper row has this symbol in these colours.
-fn has(buffer: &Buffer, x: u16, symbol: &str, fg: Color, bg: Color) -> bool {
-    let cell = buffer.cell(Position { x, y: 0 });
-    cell.map(|cell| (cell.symbol(), cell.fg, cell.bg)) == Some((symbol, fg, bg))
 }
 
 // Whether the cell in this column of the upper row is an empty one.
 fn is_empty_at(buffer: &Buffer, x: u16) -> bool {
-    let cell = buffer.cell(Position { x, y: 0 });
-    cell.map(|cell| *cell == Cell::EMPTY) == Some(true)
+    let Some(cell) = buffer.cell(Position { x, y: 0 }) else {
+        return false;
+    };
+    *cell == Cell::EMPTY
 }
 
 // Whether a text painted on red, whose second grapheme has no room, leaves all behind the first one empty.
@@ -91,21 +70,17 @@ fn leaves_room(buffer: &mut Buffer) -> Result<bool, AllocError>
     let end = buffer.set_stringn(0, 0, "コン", 3, Style::new().bg(Color::Red))?;
     Ok(
         end == (2, 0)
-            && has(buffer, 0, "コ", Color::Reset, Color::Red)
+            && has(buffer, 0, 0, "コ", Color::Reset, Color::Red)
             && is_empty_at(buffer, 1)
             && is_empty_at(buffer, 2)
             && is_empty_at(buffer, 3),
     )
 }
 
-fn row_leaves_room(alloc: Global) -> Result<bool, AllocError> {
-    let mut buffer = row(alloc, 4)?;
-    leaves_room(&mut buffer)
-}
-
 #[test]
 fn a_wide_grapheme_without_room(rt: HostRuntime) -> Result<(), Fail> {
-    assert!(rt; row_leaves_room(rt.alloc())?);
+    let mut buffer = row(rt.alloc(), 4)?;
+    assert!(rt; leaves_room(&mut buffer)?);
     Ok(())
 }
 
@@ -117,21 +92,17 @@ fn paints_over(buffer: &mut Buffer) -> Result<bool, AllocError>
     buffer.set_string(0, 0, "abcd", Style::new().bg(Color::Blue))?;
     buffer.set_string(1, 0, "コ", Style::new().fg(Color::Red))?;
     Ok(
-        has(buffer, 0, "a", Color::Reset, Color::Blue)
-            && has(buffer, 1, "コ", Color::Red, Color::Blue)
-            && has(buffer, 2, " ", Color::Reset, Color::Reset)
-            && has(buffer, 3, "d", Color::Reset, Color::Blue),
+        has(buffer, 0, 0, "a", Color::Reset, Color::Blue)
+            && has(buffer, 1, 0, "コ", Color::Red, Color::Blue)
+            && has(buffer, 2, 0, " ", Color::Reset, Color::Reset)
+            && has(buffer, 3, 0, "d", Color::Reset, Color::Blue),
     )
-}
-
-fn row_paints_over(alloc: Global) -> Result<bool, AllocError> {
-    let mut buffer = row(alloc, 4)?;
-    paints_over(&mut buffer)
 }
 
 #[test]
 fn over_former_cells(rt: HostRuntime) -> Result<(), Fail> {
-    assert!(rt; row_paints_over(rt.alloc())?);
+    let mut buffer = row(rt.alloc(), 4)?;
+    assert!(rt; paints_over(&mut buffer)?);
     Ok(())
 }
 
@@ -145,20 +116,16 @@ fn paints_corner(buffer: &mut Buffer) -> Result<bool, AllocError>
     Ok(end == (65535, 65534) && past == (65535, 65534) && shows(buffer, "a"))
 }
 
-fn cell_paints_corner(alloc: Global) -> Result<bool, AllocError> {
+#[test]
+fn at_the_greatest_corner(rt: HostRuntime) -> Result<(), Fail> {
     let area = Rect {
         x: 65534,
         y: 65534,
         width: 1,
         height: 1,
     };
-    let mut buffer = Buffer::empty(alloc, area)?;
-    paints_corner(&mut buffer)
-}
-
-#[test]
-fn at_the_greatest_corner(rt: HostRuntime) -> Result<(), Fail> {
-    assert!(rt; cell_paints_corner(rt.alloc())?);
+    let mut buffer = Buffer::empty(rt.alloc(), area)?;
+    assert!(rt; paints_corner(&mut buffer)?);
     Ok(())
 }
 
@@ -186,28 +153,24 @@ fn on_blue(alloc: Global) -> Result<Line<'static>, AllocError> {
 }
 
 // Whether the line above, cut before its last column, is painted in its styles.
-fn paints_line(buffer: &mut Buffer, line: &Line<'_>) -> Result<bool, AllocError>
+fn paints_line(alloc: Global, buffer: &mut Buffer) -> Result<bool, AllocError>
     requires row { HasRow buffer.old.area 0 }
     requires column { buffer.old.area.x ≡ 0 }
 {
-    let is_cut = line_ends_at(buffer, line, 3, 3)?;
+    let line = on_blue(alloc)?;
+    let is_cut = line_ends_at(buffer, &line, 3, 3)?;
     Ok(
         is_cut
-            && has(buffer, 0, "コ", Color::Reset, Color::Blue)
-            && has(buffer, 2, "x", Color::Red, Color::Blue)
-            && has(buffer, 3, " ", Color::Reset, Color::Reset),
+            && has(buffer, 0, 0, "コ", Color::Reset, Color::Blue)
+            && has(buffer, 2, 0, "x", Color::Red, Color::Blue)
+            && has(buffer, 3, 0, " ", Color::Reset, Color::Reset),
     )
-}
-
-fn row_paints_line(alloc: Global) -> Result<bool, AllocError> {
-    let mut buffer = row(alloc, 4)?;
-    let line = on_blue(alloc)?;
-    paints_line(&mut buffer, &line)
 }
 
 #[test]
 fn styles_of_a_line(rt: HostRuntime) -> Result<(), Fail> {
-    assert!(rt; row_paints_line(rt.alloc())?);
+    let mut buffer = row(rt.alloc(), 4)?;
+    assert!(rt; paints_line(rt.alloc(), &mut buffer)?);
     Ok(())
 }
 
@@ -250,19 +213,15 @@ fn paints_edge(buffer: &mut Buffer, text: &str) -> Result<bool, AllocError>
     let end = buffer.set_span(1, 0, &span, 9)?;
     Ok(
         end == (2, 0)
-            && has(buffer, 0, " ", Color::Reset, Color::Reset)
-            && has(buffer, 1, "a", Color::Red, Color::Reset),
+            && has(buffer, 0, 0, " ", Color::Reset, Color::Reset)
+            && has(buffer, 1, 0, "a", Color::Red, Color::Reset),
     )
-}
-
-fn row_paints_edge(alloc: Global) -> Result<bool, AllocError> {
-    let mut buffer = row(alloc, 2)?;
-    paints_edge(&mut buffer, "ab")
 }
 
 #[test]
 fn a_span_at_the_right_edge(rt: HostRuntime) -> Result<(), Fail> {
-    assert!(rt; row_paints_edge(rt.alloc())?);
+    let mut buffer = row(rt.alloc(), 2)?;
+    assert!(rt; paints_edge(&mut buffer, "ab")?);
     Ok(())
 }
 
@@ -287,7 +246,10 @@ fn styles_of_a_part(rt: HostRuntime) -> Result<(), Fail> {
 fn modifies(alloc: Global, style: Style, modifier: Modifier) -> Result<bool, AllocError> {
     let mut buffer = row(alloc, 1)?;
     buffer.set_style(Rect::new(0, 0, 1, 1), style);
-    Ok(buffer.cell(Position::ORIGIN).map(|cell| cell.modifier) == Some(modifier))
+    let Some(cell) = buffer.cell(Position::ORIGIN) else {
+        return Ok(false);
+    };
+    Ok(cell.modifier == modifier)
 }
 
 #[test]

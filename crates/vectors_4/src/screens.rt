@@ -1,13 +1,14 @@
 //! Screens of lines.
-use crate::sheets::{sheet, widest};
+use crate::sheets::sheet;
 use rtui_backend::TestBackend;
+use rtui_buffer::texts_width;
 use rtui_geometry::Position;
 use std::alloc::Global;
 use std::test::Fail;
 
 // A screen that shows these lines.
 fn screen(alloc: Global, lines: &[&str]) -> Result<TestBackend, Fail> {
-    if lines.len() > 65535 || widest(alloc, lines)? > 65535 {
+    if lines.len() > 65535 || texts_width(lines) > 65535 {
         return Err(Fail::new("too wide for a screen"));
     }
     Ok(TestBackend::with_lines(alloc, lines)?)

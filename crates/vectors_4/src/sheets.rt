@@ -1,12 +1,11 @@
-//! Buffers for tests, and what a buffer shows.
-ghost use Rattle.std.specs.Prelude.{◌≡◌, ◌≤◌, IfOk};
-ghost use Rattle.rtui_buffer.specs.Line.{widest, raw_lines};
+//! Buffers for tests, what a buffer shows, and equal values with equal hashes.
+ghost use Rattle.std.specs.Prelude.{◌≡◌, IfOk};
 
-use rtui_buffer::{Buffer, Cell};
-use rtui_geometry::Rect;
+use rtui_buffer::{Buffer, Cell, texts_width};
+use rtui_geometry::{Position, Rect};
 use rtui_style::Color;
-use rtui_text::Line;
 use std::alloc::{AllocError, Global};
+use std::hash::{BuildHasher, BuildHasherDefault, FoldHasher, Hash};
 use std::test::Fail;
 
 /// One empty row of this width.
@@ -39,20 +38,9 @@ pub fn filled(alloc: Global, area: Rect, cell: Cell) -> Result<Buffer, AllocErro
     Buffer::filled(alloc, area, cell)
 }
 
-/// The width of the widest of these texts.
-pub fn widest(alloc: Global, texts: &[&str]) -> Result<usize, AllocError>
-    ensures { IfOk result (λ width. width ≡ widest (raw_lines texts.now)) }
-{
-    let mut width = 0;
-    for text in texts {
-        width = Line::raw(alloc, text)?.width().max(width);
-    }
-    Ok(width)
-}
-
 /// A buffer with a line for each of these texts.
 pub fn sheet(alloc: Global, texts: &[&str]) -> Result<Buffer, Fail> {
-    if texts.len() > 65535 || widest(alloc, texts)? > 65535 {
+    if texts.len() > 65535 || texts_width(texts) > 65535 {
         return Err(Fail::new("too wide for a buffer"));
     }
     Ok(Buffer::from_texts(alloc, texts)?)
@@ -69,8 +57,29 @@ pub fn is_of(buffer: &Buffer, area: Rect, symbols: &str) -> bool {
     *buffer.area() == area && shows(buffer, symbols)
 }
 
-/// Whether the red cells are those with an `r` in this text, row by row.
+/// Whether the cells, row by row, are those of this text, which has an `r` for a red one and a `.` for any other.
 pub fn reds_are(buffer: &Buffer, reds: &str) -> bool {
-    let red = buffer.content().iter().map(|cell| cell.fg == Color::Red);
-    red.eq(reds.chars().map(|ch| ch == 'r'))
+    let marks = buffer
+        .content()
+        .iter()
+        .map(|cell| if cell.fg == Color::Red { 'r' } else { '.' });
+    marks.eq(reds.chars())
+}
+
+/// Whether the cell at this place has this symbol in these colours.
+pub fn has(buffer: &Buffer, x: u16, y: u16, symbol: &str, fg: Color, bg: Color) -> bool {
+    let Some(cell) = buffer.cell(Position { x, y }) else {
+        return false;
+    };
+    cell.symbol() == symbol && cell.fg == fg && cell.bg == bg
+}
+
+/// The hash of a value.
+pub fn hash_of<T: Hash>(value: &T) -> u64 {
+    BuildHasherDefault::<FoldHasher>::default().hash_one(value)
+}
+
+/// Whether two values are equal, and their hashes.
+pub fn are_alike<T: PartialEq + Hash>(one: &T, other: &T) -> bool {
+    one == other && hash_of(one) == hash_of(other)
 }

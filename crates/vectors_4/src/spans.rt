@@ -1,9 +1,9 @@
 //! Spans by themselves: what they are made of, equality and hash, and copies.
+use crate::sheets::are_alike;
 use rtui_style::{Color, Style};
 use rtui_text::Span;
 use std::alloc::{AllocError, Global};
 use std::borrow::CowStr;
-use std::hash::{BuildHasher, BuildHasherDefault, FoldHasher};
 use std::test::Fail;
 
 // Whether a span has this text and style.
@@ -31,15 +31,6 @@ fn made_of_a_text(rt: HostRuntime) {
     assert!(rt; keeps("a", Style::new().fg(Color::Red)));
     assert!(rt; keeps_plain("a"));
     assert!(rt; default_is_empty());
-}
-
-fn hash_of(span: &Span<'_>) -> u64 {
-    BuildHasherDefault::<FoldHasher>::default().hash_one(span)
-}
-
-// Whether two spans are equal, and their hashes.
-fn are_alike(one: &Span<'_>, other: &Span<'_>) -> bool {
-    one == other && hash_of(one) == hash_of(other)
 }
 
 // Whether spans of these texts in these styles differ.

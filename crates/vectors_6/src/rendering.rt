@@ -10,6 +10,18 @@ use rtui_widgets::Widget;
 use std::alloc::{AllocError, Global};
 use std::test::Fail;
 
+// Spans, the widths of empty rows, and the symbols that the rows show then.
+static SPANS: [(&str, u16, &str); 8] = [
+    ("abc", 4, "a|b|c| |"),
+    ("abc", 2, "a|b|"),
+    ("コン", 3, "コ| | |"),
+    ("\u{200B}ab", 2, "\u{200B}a|b|"),
+    ("\u{200B}\u{200B}xy", 3, "\u{200B}\u{200B}x|y| |"),
+    ("a\u{200B}b", 3, "a\u{200B}|b| |"),
+    ("コ\u{200B}x", 4, "コ|\u{200B}|x| |"),
+    ("a\tb\u{1B}", 3, "a|b| |"),
+];
+
 // Whether a span shows these symbols in an empty row of this width.
 fn span_shows(alloc: Global, text: &str, width: u16, symbols: &str) -> Result<bool, AllocError> {
     let area = sized(width, 1);
@@ -20,179 +32,175 @@ fn span_shows(alloc: Global, text: &str, width: u16, symbols: &str) -> Result<bo
 
 #[test]
 fn spans(rt: HostRuntime) -> Result<(), Fail> {
-    assert!(rt; span_shows(rt.alloc(), "abc", 4, "a|b|c| |")?);
-    assert!(rt; span_shows(rt.alloc(), "abc", 2, "a|b|")?);
-    assert!(rt; span_shows(rt.alloc(), "コン", 3, "コ| | |")?);
-    assert!(rt; span_shows(rt.alloc(), "\u{200B}ab", 2, "\u{200B}a|b|")?);
-    assert!(rt;
-        span_shows(
-            rt.alloc(),
-            "\u{200B}\u{200B}xy",
-            3,
-            "\u{200B}\u{200B}x|y| |"
-        )?
-    );
-    assert!(rt; span_shows(rt.alloc(), "a\u{200B}b", 3, "a\u{200B}|b| |")?);
-    assert!(rt; span_shows(rt.alloc(), "コ\u{200B}x", 4, "コ|\u{200B}|x| |")?);
-    assert!(rt; span_shows(rt.alloc(), "a\tb\u{1B}", 3, "a|b| |")?);
+    for (text, width, symbols) in &SPANS {
+        assert!(rt; span_shows(rt.alloc(), text, *width, symbols)?, "{text}");
+    }
     Ok(())
 }
 
-// Whether a line that is aligned so shows these symbols in an empty row of this width.
+// Lines, where they are aligned, the widths of empty rows, and the symbols that the rows show then.
+static LINES: [(&str, HorizontalAlignment, u16, &str); 11] = [
+    ("ab", HorizontalAlignment::Left, 5, "a|b| | | |"),
+    ("ab", HorizontalAlignment::Center, 5, " |a|b| | |"),
+    ("ab", HorizontalAlignment::Right, 5, " | | |a|b|"),
+    ("", HorizontalAlignment::Right, 2, " | |"),
+    ("hello world", HorizontalAlignment::Left, 5, "h|e|l|l|o|"),
+    ("hello world", HorizontalAlignment::Center, 5, "l|o| |w|o|"),
+    ("hello world", HorizontalAlignment::Right, 5, "w|o|r|l|d|"),
+    ("コンa", HorizontalAlignment::Right, 2, " |a|"),
+    ("コンa", HorizontalAlignment::Right, 3, "ン| |a|"),
+    ("aコンa", HorizontalAlignment::Center, 4, "コ| |ン| |"),
+    ("abコン", HorizontalAlignment::Center, 3, "b|コ| |"),
+];
+
+// Whether a line shows these symbols in an empty row of this width.
 fn line_shows(
     alloc: Global,
-    text: &str,
-    alignment: HorizontalAlignment,
+    line: Line<'_>,
     width: u16,
     symbols: &str,
 ) -> Result<bool, AllocError> {
     let area = sized(width, 1);
     let mut buffer = Buffer::empty(alloc, area)?;
-    Line::raw(alloc, text)?
-        .alignment(alignment)
-        .render(area, &mut buffer)?;
+    line.render(area, &mut buffer)?;
     shows(alloc, &buffer, symbols)
 }
 
 #[test]
-fn lines_that_fit(rt: HostRuntime) -> Result<(), Fail> {
-    assert!(rt; line_shows(rt.alloc(), "ab", HorizontalAlignment::Left, 5, "a|b| | | |")?);
-    assert!(rt;
-        line_shows(
-            rt.alloc(),
-            "ab",
-            HorizontalAlignment::Center,
-            5,
-            " |a|b| | |"
-        )?
-    );
-    assert!(rt;
-        line_shows(
-            rt.alloc(),
-            "ab",
-            HorizontalAlignment::Right,
-            5,
-            " | | |a|b|"
-        )?
-    );
-    assert!(rt; line_shows(rt.alloc(), "", HorizontalAlignment::Right, 2, " | |")?);
+fn lines(rt: HostRuntime) -> Result<(), Fail> {
+    for (text, alignment, width, symbols) in &LINES {
+        let line = Line::raw(rt.alloc(), text)?.alignment(*alignment);
+        assert!(rt; line_shows(rt.alloc(), line, *width, symbols)?, "{text}");
+    }
     Ok(())
 }
 
-#[test]
-fn lines_that_are_cut(rt: HostRuntime) -> Result<(), Fail> {
-    let centre = HorizontalAlignment::Center;
-    let right = HorizontalAlignment::Right;
-    assert!(rt;
-        line_shows(
-            rt.alloc(),
-            "hello world",
-            HorizontalAlignment::Left,
-            5,
-            "h|e|l|l|o|"
-        )?
-    );
-    assert!(rt; line_shows(rt.alloc(), "hello world", centre, 5, "l|o| |w|o|")?);
-    assert!(rt; line_shows(rt.alloc(), "hello world", right, 5, "w|o|r|l|d|")?);
-    assert!(rt; line_shows(rt.alloc(), "コンa", right, 2, " |a|")?);
-    assert!(rt; line_shows(rt.alloc(), "コンa", right, 3, "ン| |a|")?);
-    assert!(rt; line_shows(rt.alloc(), "aコンa", centre, 4, "コ| |ン| |")?);
-    assert!(rt; line_shows(rt.alloc(), "abコン", centre, 3, "b|コ| |")?);
-    Ok(())
-}
+// Two spans, where the line of them is aligned, the widths of empty rows, and the symbols that the rows show then.
+static TWO_SPANS: [(&str, &str, HorizontalAlignment, u16, &str); 6] = [
+    ("ab", "cd", HorizontalAlignment::Left, 5, "a|b|c|d| |"),
+    ("ab", "cd", HorizontalAlignment::Right, 3, "b|c|d|"),
+    ("ab", "コ", HorizontalAlignment::Right, 1, " |"),
+    ("ab", "コ", HorizontalAlignment::Left, 3, "a|b| |"),
+    ("a", "\u{200B}", HorizontalAlignment::Left, 3, "a| | |"),
+    (
+        "\u{FF76}\u{FF9E}",
+        "x",
+        HorizontalAlignment::Left,
+        3,
+        "\u{FF76}\u{FF9E}|x| |",
+    ),
+];
 
-// Whether a line of two spans shows these symbols in an empty row of this width.
-fn two_show(
+// A line of two spans.
+fn two_spans(
     alloc: Global,
-    first: &str,
-    second: &str,
-    alignment: HorizontalAlignment,
-    width: u16,
-    symbols: &str,
-) -> Result<bool, AllocError> {
-    let area = sized(width, 1);
-    let mut buffer = Buffer::empty(alloc, area)?;
-    Span::raw(first)
-        .try_add(alloc, Span::raw(second))?
-        .alignment(alignment)
-        .render(area, &mut buffer)?;
-    shows(alloc, &buffer, symbols)
+    first: &'static str,
+    second: &'static str,
+) -> Result<Line<'static>, AllocError> {
+    Span::raw(first).try_add(alloc, Span::raw(second))
 }
 
 #[test]
 fn spans_in_a_line(rt: HostRuntime) -> Result<(), Fail> {
-    let left = HorizontalAlignment::Left;
-    let right = HorizontalAlignment::Right;
-    assert!(rt; two_show(rt.alloc(), "ab", "cd", left, 5, "a|b|c|d| |")?);
-    assert!(rt; two_show(rt.alloc(), "ab", "cd", right, 3, "b|c|d|")?);
-    assert!(rt; two_show(rt.alloc(), "ab", "コ", right, 1, " |")?);
-    assert!(rt; two_show(rt.alloc(), "ab", "コ", left, 3, "a|b| |")?);
-    assert!(rt; two_show(rt.alloc(), "a", "\u{200B}", left, 3, "a| | |")?);
-    assert!(rt;
-        two_show(
-            rt.alloc(),
-            "\u{FF76}\u{FF9E}",
-            "x",
-            left,
-            3,
-            "\u{FF76}\u{FF9E}|x| |"
-        )?
-    );
+    for (first, second, alignment, width, symbols) in &TWO_SPANS {
+        let line = two_spans(rt.alloc(), first, second)?.alignment(*alignment);
+        assert!(rt; line_shows(rt.alloc(), line, *width, symbols)?, "{first}");
+    }
     Ok(())
+}
+
+// Whether a row of twenty columns shows these symbols once a line of it is rendered in this area.
+fn area_shows(
+    alloc: Global,
+    buffer: &mut Buffer,
+    area: Rect,
+    symbols: &str,
+) -> Result<bool, AllocError> {
+    let line = Line::raw(alloc, "hello world, just hello")?;
+    (&line).render(area, buffer)?;
+    shows(alloc, buffer, symbols)
 }
 
 #[test]
 fn a_line_leaves_what_is_beside_it(rt: HostRuntime) -> Result<(), Fail> {
+    let symbols = "h|e|l|l|o| |w|o|r|l|d| | | | | | | | | |";
     let mut buffer = Buffer::empty(rt.alloc(), sized(20, 1))?;
-    let line = Line::raw(rt.alloc(), "hello world, just hello")?;
-    (&line).render(sized(11, 1), &mut buffer)?;
-    assert!(rt;
-        shows(
-            rt.alloc(),
-            &buffer,
-            "h|e|l|l|o| |w|o|r|l|d| | | | | | | | | |"
-        )?
-    );
-    (&line).render(sized(20, 0), &mut buffer)?;
-    assert!(rt;
-        shows(
-            rt.alloc(),
-            &buffer,
-            "h|e|l|l|o| |w|o|r|l|d| | | | | | | | | |"
-        )?
-    );
+    assert!(rt; area_shows(rt.alloc(), &mut buffer, sized(11, 1), symbols)?);
+    assert!(rt; area_shows(rt.alloc(), &mut buffer, sized(20, 0), symbols)?);
     Ok(())
 }
 
-#[test]
-fn styles(rt: HostRuntime) -> Result<(), Fail> {
+// A row of four columns with a blue line of `a` and a red `b`.
+fn styled_row(alloc: Global) -> Result<Buffer, AllocError> {
     let area = sized(4, 1);
-    let mut buffer = Buffer::empty(rt.alloc(), area)?;
-    let mut line = Line::raw(rt.alloc(), "a")?.on_blue();
+    let mut buffer = Buffer::empty(alloc, area)?;
+    let mut line = Line::raw(alloc, "a")?.on_blue();
     line.push_span("b".red())?;
     (&line).render(area, &mut buffer)?;
+    Ok(buffer)
+}
+
+// Whether each cell of a buffer has this background.
+fn all_on(buffer: &Buffer, color: Color) -> bool {
+    let mut all = true;
     for cell in buffer.content() {
-        assert_eq!(rt; cell.bg, Color::Blue);
+        all = all && cell.bg == color;
     }
+    all
+}
+
+// A row of two columns with a line of no width in a style.
+fn row_of_no_width(alloc: Global) -> Result<Buffer, AllocError> {
+    let area = sized(2, 1);
+    let mut buffer = Buffer::empty(alloc, area)?;
+    Line::raw(alloc, "\u{200B}")?
+        .style(Style::new().bg(Color::Red))
+        .render(area, &mut buffer)?;
+    Ok(buffer)
+}
+
+#[test]
+fn styles_of_lines(rt: HostRuntime) -> Result<(), Fail> {
+    assert!(rt; all_on(&row_of_no_width(rt.alloc())?, Color::Reset));
+    let buffer = styled_row(rt.alloc())?;
+    assert!(rt; all_on(&buffer, Color::Blue));
     if let [a, b, c, _] = buffer.content() {
-        assert_eq!(rt; a.fg, Color::Reset);
-        assert_eq!(rt; b.fg, Color::Red);
-        assert_eq!(rt; c.fg, Color::Reset);
+        assert!(rt; a.fg == Color::Reset);
+        assert!(rt; b.fg == Color::Red);
+        assert!(rt; c.fg == Color::Reset);
     }
     Ok(())
 }
 
-#[test]
-fn a_line_of_no_width_paints_no_style(rt: HostRuntime) -> Result<(), Fail> {
-    let area = sized(2, 1);
-    let mut buffer = Buffer::empty(rt.alloc(), area)?;
-    Line::raw(rt.alloc(), "\u{200B}")?
-        .style(Style::new().bg(Color::Red))
-        .render(area, &mut buffer)?;
-    for cell in buffer.content() {
-        assert_eq!(rt; cell.bg, Color::Reset);
-    }
-    Ok(())
+// Texts, where they are aligned, the widths and heights of empty buffers, and the symbols that the buffers show then.
+static TEXTS: [(&str, Option<HorizontalAlignment>, u16, u16, &str); 3] = [
+    ("a\nbc\nd", None, 3, 2, "a| | |b|c| |"),
+    (
+        "a\nbc",
+        Some(HorizontalAlignment::Right),
+        3,
+        3,
+        " | |a| |b|c| | | |",
+    ),
+    ("", None, 1, 1, " |"),
+];
+
+// A text that is aligned so.
+fn aligned(
+    alloc: Global,
+    text: &'static str,
+    alignment: Option<HorizontalAlignment>,
+) -> Result<Text<'static>, AllocError> {
+    let mut text = Text::raw(alloc, text)?;
+    text.alignment = alignment;
+    Ok(text)
+}
+
+// A line at the right by its text, and one that is at the left by itself.
+fn right_and_left(alloc: Global) -> Result<Text<'static>, AllocError> {
+    let mut text = Text::raw(alloc, "a")?.right_aligned();
+    text.push_line(Line::raw(alloc, "b")?.left_aligned())?;
+    Ok(text)
 }
 
 // Whether a text shows these symbols in an empty buffer.
@@ -211,46 +219,57 @@ fn text_shows(
 
 #[test]
 fn texts(rt: HostRuntime) -> Result<(), Fail> {
-    let text = Text::raw(rt.alloc(), "a\nbc\nd")?;
-    assert!(rt; text_shows(rt.alloc(), text, 3, 2, "a| | |b|c| |")?);
-    let text = Text::raw(rt.alloc(), "a\nbc")?.right_aligned();
-    assert!(rt; text_shows(rt.alloc(), text, 3, 3, " | |a| |b|c| | | |")?);
-    let mut text = Text::raw(rt.alloc(), "a")?.right_aligned();
-    text.push_line(Line::raw(rt.alloc(), "b")?.left_aligned())?;
+    for (text, alignment, width, height, symbols) in &TEXTS {
+        let text = aligned(rt.alloc(), text, *alignment)?;
+        assert!(rt;
+            text_shows(rt.alloc(), text, *width, *height, symbols)?,
+            "{symbols}"
+        );
+    }
+    let text = right_and_left(rt.alloc())?;
     assert!(rt; text_shows(rt.alloc(), text, 2, 2, " |a|b| |")?);
-    let text = Text::raw(rt.alloc(), "")?;
-    assert!(rt; text_shows(rt.alloc(), text, 1, 1, " |")?);
     Ok(())
 }
 
-#[test]
-fn a_style_of_a_text_lies_over_its_area(rt: HostRuntime) -> Result<(), Fail> {
-    let mut buffer = Buffer::empty(rt.alloc(), sized(3, 3))?;
+// A buffer with a green text in its lower right corner.
+fn green_corner(alloc: Global) -> Result<Buffer, AllocError> {
+    let mut buffer = Buffer::empty(alloc, sized(3, 3))?;
     let area = Rect {
         x: 1,
         y: 1,
         width: 9,
         height: 9,
     };
-    let text = Text::styled(rt.alloc(), "ab", Style::new().bg(Color::Green))?;
+    let text = Text::styled(alloc, "ab", Style::new().bg(Color::Green))?;
     text.render(area, &mut buffer)?;
-    assert!(rt; shows(rt.alloc(), &buffer, " | | | |a|b| | | |")?);
+    Ok(buffer)
+}
+
+// How many cells of a buffer are green.
+fn green_cells(buffer: &Buffer) -> u8 {
     let mut green = 0u8;
     for cell in buffer.content() {
         if cell.bg == Color::Green {
             green = green.saturating_add(1);
         }
     }
-    assert_eq!(rt; green, 4);
-    Ok(())
+    green
+}
+
+// A row with a widget that is there, and none over it.
+fn optional_widgets(alloc: Global) -> Result<Buffer, AllocError> {
+    let area = sized(3, 1);
+    let mut buffer = Buffer::empty(alloc, area)?;
+    Some(Span::raw("ab")).render(area, &mut buffer)?;
+    None::<Span<'_>>.render(area, &mut buffer)?;
+    Ok(buffer)
 }
 
 #[test]
-fn other_widgets(rt: HostRuntime) -> Result<(), Fail> {
-    let area = sized(3, 1);
-    let mut buffer = Buffer::empty(rt.alloc(), area)?;
-    Some(Span::raw("ab")).render(area, &mut buffer)?;
-    None::<Span<'_>>.render(area, &mut buffer)?;
-    assert!(rt; shows(rt.alloc(), &buffer, "a|b| |")?);
+fn texts_in_a_corner_and_optional_widgets(rt: HostRuntime) -> Result<(), Fail> {
+    let buffer = green_corner(rt.alloc())?;
+    assert!(rt; shows(rt.alloc(), &buffer, " | | | |a|b| | | |")?);
+    assert!(rt; green_cells(&buffer) == 4);
+    assert!(rt; shows(rt.alloc(), &optional_widgets(rt.alloc())?, "a|b| |")?);
     Ok(())
 }

@@ -5,205 +5,296 @@ use rtui_stylize::{Styled, Stylize};
 use rtui_text::{Line, Masked, Span, StyledGrapheme, Text};
 use std::alloc::{AllocError, Global};
 use std::borrow::CowStr;
+use std::fmt::Display;
 use std::test::Fail;
 
-// The height of a text.
-fn height(alloc: Global, text: &str) -> Result<usize, AllocError> {
-    Ok(Text::raw(alloc, text)?.height())
+// Whether a value prints this text.
+fn prints<T: Display>(alloc: Global, value: &T, text: &str) -> Result<bool, AllocError> {
+    Ok(value.to_string(alloc)?.as_str() == text)
+}
+
+// Texts, their heights and their widths, what they print as one line, and what they print.
+static TEXTS: [(&str, usize, usize, &str, &str); 5] = [
+    ("", 1, 0, "", ""),
+    ("\n", 1, 0, "", ""),
+    ("a\nb", 2, 1, "ab", "a\nb"),
+    ("a\n\nb", 3, 1, "ab", "a\n\nb"),
+    ("a\nコン\nbc", 3, 4, "aコンbc", "a\nコン\nbc"),
+];
+
+// Whether a text has this height and this width, and prints this.
+fn text_is(
+    alloc: Global,
+    text: &str,
+    height: usize,
+    width: usize,
+    printed: &str,
+) -> Result<bool, AllocError> {
+    let text = Text::raw(alloc, text)?;
+    Ok(text.height() == height && text.width() == width && prints(alloc, &text, printed)?)
+}
+
+// Whether a text prints this as a span and as a line.
+fn prints_in_one_line(alloc: Global, text: &str, printed: &str) -> Result<bool, AllocError> {
+    Ok(
+        prints(alloc, &Span::raw(text), printed)?
+            && prints(alloc, &Line::raw(alloc, text)?, printed)?
+            && Line::raw(alloc, text)?.try_into_string()?.as_str() == printed,
+    )
 }
 
 #[test]
-fn heights_and_widths(rt: HostRuntime) -> Result<(), Fail> {
-    assert_eq!(rt; height(rt.alloc(), "")?, 1);
-    assert_eq!(rt; height(rt.alloc(), "\n")?, 1);
-    assert_eq!(rt; height(rt.alloc(), "a\n\nb")?, 3);
-    assert_eq!(rt; Text::default_in(rt.alloc()).height(), 0);
-    assert_eq!(rt; Text::raw(rt.alloc(), "a\nコン\nbc")?.width(), 4);
+fn sizes_and_printed_texts(rt: HostRuntime) -> Result<(), Fail> {
+    for (text, height, width, in_one_line, printed) in &TEXTS {
+        assert!(rt;
+            text_is(rt.alloc(), text, *height, *width, printed)?,
+            "{text}"
+        );
+        assert!(rt;
+            prints_in_one_line(rt.alloc(), text, in_one_line)?,
+            "{text}"
+        );
+    }
+    assert!(rt; Text::default_in(rt.alloc()).height() == 0);
     Ok(())
+}
+
+// Whether an owned text is equal to one that is borrowed, as a text and as a line.
+fn owned_is_equal(alloc: Global, text: &str) -> Result<bool, AllocError> {
+    Ok(
+        Text::raw_string(alloc, String::from_str(alloc, text)?)? == Text::raw(alloc, text)?
+            && Line::raw_string(alloc, String::from_str(alloc, text)?)? == Line::raw(alloc, text)?,
+    )
 }
 
 #[test]
 fn borrowed_and_owned_texts_are_equal(rt: HostRuntime) -> Result<(), Fail> {
-    let owned = String::from_str(rt.alloc(), "a\nb")?;
-    assert!(rt; Text::raw_string(rt.alloc(), owned)? == Text::raw(rt.alloc(), "a\nb")?);
-    let owned = String::from_str(rt.alloc(), "a\nb")?;
-    assert!(rt; Line::raw_string(rt.alloc(), owned)? == Line::raw(rt.alloc(), "a\nb")?);
-    let owned = String::from_str(rt.alloc(), "ab")?;
-    assert!(rt; Span::from(owned) == Span::from("ab"));
+    assert!(rt; owned_is_equal(rt.alloc(), "a\nb")?);
+    assert!(rt; Span::from(String::from_str(rt.alloc(), "ab")?) == Span::from("ab"));
     assert!(rt; Span::from(CowStr::Borrowed("ab")) == Span::raw("ab"));
     Ok(())
 }
 
-// Whether a value prints this text.
-fn prints(alloc: Global, value: &Text<'_>, text: &str) -> Result<bool, AllocError> {
-    Ok(format!(in alloc; "{value}")?.as_str() == text)
+// Whether a text is shown as `x` five times, and printed for a programmer as it is.
+fn is_masked(alloc: Global, masked: &Masked<'_>) -> Result<bool, AllocError> {
+    Ok(
+        masked.value(alloc)?.as_str() == "xxxxx"
+            && prints(alloc, masked, "xxxxx")?
+            && format!(in alloc; "{masked:?}")?.as_str() == "12345",
+    )
 }
 
-#[test]
-fn printed_texts(rt: HostRuntime) -> Result<(), Fail> {
-    assert_eq!(rt;
-        format!(in rt.alloc(); "{}", Span::raw("a\nb"))?.as_str(),
-        "ab"
-    );
-    assert_eq!(rt;
-        format!(in rt.alloc(); "{}", Line::raw(rt.alloc(), "a\nb")?)?.as_str(),
-        "ab"
-    );
-    assert!(rt; prints(rt.alloc(), &Text::raw(rt.alloc(), "a\nb")?, "a\nb")?);
-    assert!(rt; prints(rt.alloc(), &Text::raw(rt.alloc(), "")?, "")?);
-    assert_eq!(rt;
-        Line::raw(rt.alloc(), "a\nb")?.try_into_string()?.as_str(),
-        "ab"
-    );
-    Ok(())
+// Whether a masked text is equal to its copy.
+fn copies(alloc: Global, masked: &Masked<'_>) -> Result<bool, AllocError> {
+    Ok(masked.clone(alloc)? == *masked)
+}
+
+// Whether a masked text is this text.
+fn becomes<'a>(alloc: Global, masked: &Masked<'a>, text: &'a str) -> Result<bool, AllocError> {
+    Ok(masked.to_text(alloc)? == Text::raw(alloc, text)?)
 }
 
 #[test]
 fn masked(rt: HostRuntime) -> Result<(), Fail> {
     let masked = Masked::new("12345", 'x');
-    assert_eq!(rt; masked.value(rt.alloc())?.as_str(), "xxxxx");
-    assert_eq!(rt; masked.mask_char(), 'x');
-    assert_eq!(rt; format!(in rt.alloc(); "{masked}")?.as_str(), "xxxxx");
-    assert_eq!(rt; format!(in rt.alloc(); "{masked:?}")?.as_str(), "12345");
-    assert!(rt; masked.to_text(rt.alloc())? == Text::raw(rt.alloc(), "xxxxx")?);
+    assert!(rt; is_masked(rt.alloc(), &masked)?);
+    assert!(rt; masked.mask_char() == 'x');
+    assert!(rt; becomes(rt.alloc(), &masked, "xxxxx")?);
     let owned = Masked::from_string(String::from_str(rt.alloc(), "12345")?, 'x');
     assert!(rt; owned == masked);
-    assert!(rt; owned.clone(rt.alloc())? == owned);
+    assert!(rt; copies(rt.alloc(), &owned)?);
     assert!(rt; Masked::default() == Masked::new("", '\0'));
     Ok(())
 }
 
-#[test]
-fn white_space(rt: HostRuntime) {
-    let style = Style::new();
-    assert!(rt; StyledGrapheme::new("\u{200B}", style).is_whitespace());
-    assert!(rt; !StyledGrapheme::new("\u{A0}", style).is_whitespace());
-    assert!(rt; StyledGrapheme::new("", style).is_whitespace());
-    assert!(rt; StyledGrapheme::new(" ", style).is_whitespace());
-    assert!(rt; !StyledGrapheme::new("a", style).is_whitespace());
-}
+// Graphemes, and whether they are white space.
+static WHITE_SPACE: [(&str, bool); 5] = [
+    ("\u{200B}", true),
+    ("\u{A0}", false),
+    ("", true),
+    (" ", true),
+    ("a", false),
+];
 
-// Whether the graphemes of a line are these, one behind the other.
-fn graphemes_are(alloc: Global, text: &str, graphemes: &[&str]) -> Result<bool, AllocError> {
+// Texts, and their graphemes with a bar behind each.
+static GRAPHEMES: [(&str, &str); 3] = [
+    ("a\nb", "a|b|"),
+    ("a\tコ\u{200B}", "a|コ|\u{200B}|"),
+    ("", ""),
+];
+
+// Whether the graphemes of a line are these, a bar behind each.
+fn graphemes_are(alloc: Global, text: &str, graphemes: &str) -> Result<bool, AllocError> {
     let line = Line::raw(alloc, text)?;
-    let symbols = line.styled_graphemes(Style::new()).map(|g| g.symbol);
-    Ok(symbols.eq(graphemes.iter().copied()))
+    let mut shown = String::new(alloc);
+    for grapheme in line.styled_graphemes(Style::new()) {
+        shown.push_str(grapheme.symbol)?;
+        shown.push_str("|")?;
+    }
+    Ok(shown.as_str() == graphemes)
 }
 
 #[test]
 fn graphemes(rt: HostRuntime) -> Result<(), Fail> {
-    assert!(rt; graphemes_are(rt.alloc(), "a\nb", &["a", "b"])?);
-    assert!(rt; graphemes_are(rt.alloc(), "a\tコ\u{200B}", &["a", "コ", "\u{200B}"])?);
-    assert!(rt; graphemes_are(rt.alloc(), "", &[])?);
-    let span = "a".red();
-    for grapheme in span.styled_graphemes(Style::new().fg(Color::Blue).bg(Color::Green)) {
-        assert_eq!(rt;
-            grapheme.style,
-            Style::new().fg(Color::Red).bg(Color::Green)
-        );
+    for (symbol, white) in &WHITE_SPACE {
+        assert!(rt; StyledGrapheme::new(symbol, Style::new()).is_whitespace() == *white);
+    }
+    for (text, graphemes) in &GRAPHEMES {
+        assert!(rt; graphemes_are(rt.alloc(), text, graphemes)?, "{text}");
     }
     Ok(())
 }
 
 #[test]
-fn lines_grow(rt: HostRuntime) -> Result<(), Fail> {
-    let mut line = Line::from_span(rt.alloc(), Span::raw("a"))?;
+fn graphemes_lie_on_the_style_of_their_span(rt: HostRuntime) {
+    let span = "a".red();
+    for grapheme in span.styled_graphemes(Style::new().fg(Color::Blue).bg(Color::Green)) {
+        assert!(rt; grapheme.style == Style::new().fg(Color::Red).bg(Color::Green));
+    }
+}
+
+// A line of five spans, each put in by another call.
+fn grown_line(alloc: Global) -> Result<Line<'static>, AllocError> {
+    let mut line = Line::from_span(alloc, Span::raw("a"))?;
     line.push_span(Span::raw("b"))?;
-    line.try_extend(Line::raw(rt.alloc(), "c\nd")?)?;
-    let line = line.try_add(Span::raw("e"))?;
-    assert_eq!(rt; line.width(), 5);
-    assert!(rt; line == Line::raw(rt.alloc(), "a\nb\nc\nd\ne")?);
-    assert!(rt; Line::try_from_iter(rt.alloc(), line.clone(rt.alloc())?)? == line);
-    let shorter = line.spans(&[Span::raw("f")])?;
-    assert!(rt; shorter == Line::raw(rt.alloc(), "f")?);
+    line.try_extend(Line::raw(alloc, "c\nd")?)?;
+    line.try_add(Span::raw("e"))
+}
+
+// Whether a line is this text, a span a line.
+fn line_is(alloc: Global, line: &Line<'_>, text: &str) -> Result<bool, AllocError> {
+    Ok(*line == Line::raw(alloc, text)?)
+}
+
+// Whether a line is equal to the one of its spans.
+fn is_line_of_its_spans(alloc: Global, line: &Line<'_>) -> Result<bool, AllocError> {
+    Ok(Line::try_from_iter(alloc, line.clone(alloc)?)? == *line)
+}
+
+#[test]
+fn lines_grow(rt: HostRuntime) -> Result<(), Fail> {
+    let line = grown_line(rt.alloc())?;
+    assert!(rt; line.width() == 5);
+    assert!(rt; line_is(rt.alloc(), &line, "a\nb\nc\nd\ne")?);
+    assert!(rt; is_line_of_its_spans(rt.alloc(), &line)?);
+    let span = Span::raw("f");
+    assert!(rt; line_is(rt.alloc(), &line.spans(std::slice::from_ref(&span))?, "f")?);
     Ok(())
+}
+
+// A text of one line, of spans that are put in.
+fn text_of_spans(alloc: Global) -> Result<Text<'static>, AllocError> {
+    let mut text = Text::default_in(alloc);
+    text.push_span(Span::raw("a"))?;
+    text.push_span(Span::raw("b"))?;
+    Ok(text)
+}
+
+// A text with five lines more, each put in by another call.
+fn grown_text(alloc: Global, mut text: Text<'static>) -> Result<Text<'static>, AllocError> {
+    text.push_line(Line::raw(alloc, "c")?)?;
+    text.append(Text::raw(alloc, "d\ne")?)?;
+    text.try_extend(Text::raw(alloc, "f")?)?;
+    Ok(text)
+}
+
+// A text with two lines more.
+fn with_text_and_line(alloc: Global, text: Text<'static>) -> Result<Text<'static>, AllocError> {
+    text.try_add(Text::from_span(alloc, Span::raw("g"))?)?
+        .try_add_line(Line::raw(alloc, "h")?)
+}
+
+// Whether a text is equal to its copy, and to those of its lines.
+fn is_text_of_its_lines(alloc: Global, text: &Text<'_>) -> Result<bool, AllocError> {
+    Ok(
+        Text::from_slice(alloc, text.lines.as_slice())? == *text
+            && text.clone(alloc)? == *text
+            && Text::try_from_iter(alloc, text.clone(alloc)?)? == *text,
+    )
 }
 
 #[test]
 fn texts_grow(rt: HostRuntime) -> Result<(), Fail> {
-    let mut text = Text::default_in(rt.alloc());
-    text.push_span(Span::raw("a"))?;
-    text.push_span(Span::raw("b"))?;
-    assert_eq!(rt; text.height(), 1);
-    text.push_line(Line::raw(rt.alloc(), "c")?)?;
-    text.append(Text::raw(rt.alloc(), "d\ne")?)?;
-    text.try_extend(Text::raw(rt.alloc(), "f")?)?;
-    let text = text.try_add(Text::from_span(rt.alloc(), Span::raw("g"))?)?;
-    let text = text.try_add_line(Line::raw(rt.alloc(), "h")?)?;
+    let text = text_of_spans(rt.alloc())?;
+    assert!(rt; text.height() == 1);
+    let text = with_text_and_line(rt.alloc(), grown_text(rt.alloc(), text)?)?;
     assert!(rt; prints(rt.alloc(), &text, "ab\nc\nd\ne\nf\ng\nh")?);
-    assert!(rt; Text::from_slice(rt.alloc(), text.lines.as_slice())? == text);
-    assert!(rt; text.clone(rt.alloc())? == text);
-    assert!(rt; Text::try_from_iter(rt.alloc(), text.clone(rt.alloc())?)? == text);
+    assert!(rt; is_text_of_its_lines(rt.alloc(), &text)?);
     Ok(())
 }
 
 #[test]
 fn texts_of_two(rt: HostRuntime) -> Result<(), Fail> {
     let line = Span::raw("a").try_add(rt.alloc(), Span::raw("b"))?;
-    assert!(rt; line == Line::raw(rt.alloc(), "a\nb")?);
+    assert!(rt; line_is(rt.alloc(), &line, "a\nb")?);
     let text = line.try_add_line(Line::raw(rt.alloc(), "c")?)?;
     assert!(rt; prints(rt.alloc(), &text, "ab\nc")?);
     Ok(())
 }
 
+// Whether a line is aligned so.
+fn is_aligned(line: Line<'_>, alignment: HorizontalAlignment) -> bool {
+    line.alignment == Some(alignment)
+}
+
 #[test]
 fn alignments(rt: HostRuntime) -> Result<(), Fail> {
     let line = Span::raw("a").into_centered_line(rt.alloc())?;
-    assert_eq!(rt; line.alignment, Some(HorizontalAlignment::Center));
+    assert!(rt; is_aligned(line, HorizontalAlignment::Center));
     let line = Span::raw("a").into_right_aligned_line(rt.alloc())?;
-    assert_eq!(rt; line.alignment, Some(HorizontalAlignment::Right));
+    assert!(rt; is_aligned(line, HorizontalAlignment::Right));
     let line = Span::raw("a").to_left_aligned_line(rt.alloc())?;
-    assert_eq!(rt; line.alignment, Some(HorizontalAlignment::Left));
-    assert_eq!(rt;
-        Text::raw(rt.alloc(), "a")?.centered().alignment,
-        Some(HorizontalAlignment::Center)
-    );
+    assert!(rt; is_aligned(line, HorizontalAlignment::Left));
+    let text = Text::raw(rt.alloc(), "a")?.centered();
+    assert!(rt; text.alignment == Some(HorizontalAlignment::Center));
     Ok(())
+}
+
+// The style that these tests say by name.
+fn named_style() -> Style {
+    Style::new()
+        .fg(Color::Red)
+        .bg(Color::White)
+        .add_modifier(Modifier::BOLD)
 }
 
 #[test]
 fn styles_by_name(rt: HostRuntime) -> Result<(), Fail> {
-    let style = Style::new()
-        .fg(Color::Red)
-        .bg(Color::White)
-        .add_modifier(Modifier::BOLD);
-    assert!(rt; "text".red().on_white().bold() == Span::styled("text", style));
+    let style = named_style();
     let owned = String::from_str(rt.alloc(), "text")?;
     assert!(rt; owned.red().on_white().bold() == Span::styled("text", style));
-    assert_eq!(rt;
-        Line::raw(rt.alloc(), "a")?.red().on_white().bold().style,
-        style
-    );
-    assert_eq!(rt;
-        Text::raw(rt.alloc(), "a")?.red().on_white().bold().style,
-        style
-    );
-    assert_eq!(rt;
-        StyledGrapheme::new("a", Style::new())
-            .red()
-            .on_white()
-            .bold()
-            .style,
-        style
-    );
-    assert_eq!(rt;
-        Span::raw("a").patch_style(style).reset_style().style,
-        style.patch(Style::reset())
-    );
+    assert!(rt; Line::raw(rt.alloc(), "a")?.red().on_white().bold().style == style);
+    assert!(rt; Text::raw(rt.alloc(), "a")?.red().on_white().bold().style == style);
     Ok(())
 }
 
 #[test]
-fn styles_are_written_through(rt: HostRuntime) -> Result<(), Fail> {
-    let mut text = Text::raw(rt.alloc(), "a\nb")?;
+fn styles_by_name_without_memory(rt: HostRuntime) {
+    let style = named_style();
+    assert!(rt; "text".red().on_white().bold() == Span::styled("text", style));
+    let grapheme = StyledGrapheme::new("a", Style::new());
+    assert!(rt; grapheme.red().on_white().bold().style == style);
+    let span = Span::raw("a").patch_style(style).reset_style();
+    assert!(rt; span.style == style.patch(Style::reset()));
+}
+
+// A text whose spans are all red, written through.
+fn red_text(alloc: Global) -> Result<Text<'static>, AllocError> {
+    let mut text = Text::raw(alloc, "a\nb")?;
     for line in text.iter_mut() {
         for span in line.iter_mut() {
             span.style = Style::new().fg(Color::Red);
         }
     }
+    Ok(text)
+}
+
+#[test]
+fn styles_are_written_through(rt: HostRuntime) -> Result<(), Fail> {
+    let text = red_text(rt.alloc())?;
     for line in &text {
         for span in line {
-            assert_eq!(rt; span.style, Style::new().fg(Color::Red));
+            assert!(rt; span.style == Style::new().fg(Color::Red));
         }
     }
     Ok(())
