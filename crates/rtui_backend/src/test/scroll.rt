@@ -19,7 +19,8 @@ use std::mem;
 fn blank(cells: &mut [Cell], from: usize, to: usize)
     requires order { from ≤ to }
     requires end { to ≤ length cells.old }
-    ensures { (k : ℕ) → cell cells.new k ≡ (if nat_le from k && nat_lt k to then empty_cell else cell cells.old k) }
+    ensures { (k : ℕ) → cell cells.new k
+        ≡ (if nat_le from k && nat_lt k to then empty_cell else cell cells.old k) }
 {
     for k in from..to {
         cells[k].reset();
@@ -97,7 +98,8 @@ fn move_rows(from: &mut [Cell], former: Size, to: &mut [Cell], size: Size)
     requires to_size { length to.old ≡ size.width * size.height }
     requires blank { (k : ℕ) → cell to.old k ≡ empty_cell }
     ensures grid { (a b : ℕ) → a < size.width → cell to.new (b * size.width + a)
-        ≡ (if nat_lt a former.width && nat_lt b (min former.height size.height) then cell from.old (b * former.width + a) else empty_cell) }
+        ≡ (if nat_lt a former.width && nat_lt b (min former.height size.height)
+        then cell from.old (b * former.width + a) else empty_cell) }
     ensures unmarked { AreUnmarked from.old → AreUnmarked to.new }
 {
     let width = usize::from(former.width);
