@@ -3,6 +3,7 @@ pub use Rattle.rtui_terminal.specs.declared.terminal.error.TerminalError.{Termin
 pub use Rattle.rtui_terminal.specs.declared.terminal.frame.Frame.{Frame}
 pub use Rattle.rtui_viewport.specs.Areas.{KeepsOutside, IsBlankOver, IsBlankBelow, KeepsScreen, Empties, is_between, is_within}
 pub use Rattle.rtui_viewport.specs.Viewports.{IsInline, IsFixed, FitsEdges, rows_in, viewport_text}
+pub use Rattle.rtui_viewport.specs.Sizing.{first_area, IsSizeKnown, IsAreaChange}
 pub use Rattle.rtui_viewport.specs.Placing.{lines_below, inline_top, inline_area, rows_left, PlacesInline, area_in, raised, cursor_found, IsCursorSet, rows_scrolled, EmptiesAllIf, Places}
 pub use Rattle.rtui_viewport.specs.Clearing.{is_emptied, HasPlace, ClearsArea}
 pub use Rattle.rtui_viewport.specs.Remaining.{blank_at, blanks_left}
@@ -10,11 +11,13 @@ pub use Rattle.rtui_terminal.specs.State.{State, IsInPlace, HasAreas, HaveRoom, 
 pub use Rattle.rtui_terminal.specs.InStep.{IsInStep, IsSized, IsReady, rows_over, KeepsRest}
 pub use Rattle.rtui_terminal.specs.Frames.{IsNewFrame, KeepsFrame, PaintsFrame, IsDrawFrame, AcceptsFrames, AcceptsNewFrame, paints_on}
 pub use Rattle.rtui_terminal.specs.Borrows.{with_buffer, LendsBuffer}
-pub use Rattle.rtui_terminal.specs.Calls.{FaultCounts, Faults, IsBackendFault, FailsOnlyByBackend, StartErr, differing_count, WritesDifferences, cursor_placed, HasDrawn, last_place, known_behind, cursor_behind, cursor_after, IsResized, LacksRoom, KeepsBuffers, ResizesBuffers, FlushErr, first_area, first_cursor, Stays, MovesCursor, ClearsViewport, Resizes, FailsResizing, ResizeErr, Autoresizes, AutoresizeErr, Flushes, Writes, FailsWriting, Applies, FailsFlushing, RefusesArea, FailsApplying, RefusesBy, WritesBy, AppliesBy, Starts, DrawsFrame, RefusesFrame, DrawOk, ClosureErr, PaintedErr, DrawErr, DrawsBy, TriesBy}
+pub use Rattle.rtui_terminal.specs.Calls.{FaultCounts, Faults, IsBackendFault, FailsOnlyByBackend, unplaced_area, StartErr, differing_count, WritesDifferences, cursor_placed, HasDrawn, last_place, known_behind, cursor_behind, cursor_after, IsResized, LacksRoom, KeepsBuffers, ResizesBuffers, FlushErr, first_cursor, Stays, MovesCursor, ClearsViewport, Resizes, FailsResizing, ResizeErr, Autoresizes, AutoresizeErr, Flushes, Writes, FailsWriting, Applies, FailsFlushing, RefusesArea, FailsApplying, RefusesBy, WritesBy, AppliesBy, Starts, DrawsFrame, RefusesFrame, DrawOk, ClosureErr, PaintedErr, DrawErr, DrawsBy, TriesBy}
 pub use Rattle.rtui_terminal.specs.Rendered.{IsRendered, OnlyRenders, ShowsRendered}
 pub use Rattle.rtui_terminal.specs.Display.{terminal_error_text}
+pub use Rattle.rtui_rows.specs.Filling.{IsNewSheet, AcceptsRows, FillsRows, RefusesFilling}
 pub use Rattle.rtui_rows.specs.Rows.{row_updates, look_in, looks_in, look_rows_from, look_rows, RowsFit, WritesRows, DrawsRows}
 pub use Rattle.rtui_rows.specs.Insertion.{AreRowsOf, AreRowsOfAll, AppendsRows, KeepsShape, HasPlaceAbove, InsertsRows, AppendsAbove}
+pub use Rattle.rtui_rows.specs.Following.{AreaFollows, Follows}
 pub use Rattle.rtui_rows.specs.Scrolling.{ScrollsBy, cursor_scrolled, rows_past}
-pub use Rattle.rtui_terminal.specs.Insertion.{inserted_area, top_behind, IsNewSheet, AcceptsRows, FillsRows, AreaFollows, Follows, TakesRows, IsLeft, Inserts, StopsInserting, InsertOk, FailsInserting, RefusesRows, RefusesFilling, InsertErr, InsertsBy}
+pub use Rattle.rtui_terminal.specs.Insertion.{inserted_area, top_behind, TakesRows, IsLeft, Inserts, StopsInserting, InsertOk, FailsInserting, RefusesRows, InsertErr, InsertsBy}
 pub use Rattle.rtui_terminal.specs.Headline.{Call, Draw, Apply, Insert, Clear, Resize, Autoresize, HideCursor, ShowCursor, SetCursor, Ask, Paint, Refuse, Event, Along, last_state, inserted_by, inserted_along, MayTakeSize, AtAnySize, Does, IsFair, HasKnownSize, IsSteady, IsKeptOrEmptied, Leaves, IsResize, IsFaithful, IsHeadline, KeepsRows}

@@ -1,16 +1,15 @@
 //! Laws of cells that are no single call's clause, stated over the definitions of `specs/` alone. Calling one of these
 //! functions costs nothing and tells the caller's proof its law.
 
-ghost use Rattle.std.specs.Prelude.{◌≡◌, ◌<◌, ◌^◌, ◌++◌, ◌↔◌, IsTrue};
+ghost use Rattle.std.specs.Prelude.{◌≡◌, ◌++◌, ◌↔◌, IsTrue};
 ghost use Rattle.std.specs.Hash as fed;
-ghost use Rattle.rtui_style.specs.Modifier.{bits_of};
 ghost use Rattle.rtui_style.specs.Style.{patch};
 ghost use Rattle.rtui_cell.specs.Symbol.{symbol_text};
 ghost use Rattle.rtui_cell.specs.Cell.{styled};
 ghost use Rattle.rtui_cell.specs.Equality.{is_same, IsEqual};
 
 use crate::cell::{Cell, CellDiffOption};
-use rtui_style::laws::styling_twice_is_patching;
+use rtui_style::laws::{modifiers_have_sixteen_bits, styling_twice_is_patching};
 use rtui_style::{Color, Modifier, Style};
 use std::hash::Hash;
 
@@ -40,9 +39,9 @@ pub fn default_option_is_none()
 {}
 
 /// Setting one style and then another is setting the second laid over the first.
-pub fn set_style_twice_sets_patch(first: Style, second: Style)
-    ensures { (c : Cell) → bits_of c.modifier < 2 ^ 16
-        → styled second (styled first c) ≡ styled (patch first second) c }
+pub fn set_style_twice_sets_patch(cell: &Cell, first: Style, second: Style)
+    ensures { styled second (styled first cell.now) ≡ styled (patch first second) cell.now }
 {
+    modifiers_have_sixteen_bits(cell.style());
     styling_twice_is_patching(first, second);
 }

@@ -1,4 +1,6 @@
+pub mod Filling
 pub mod Rows
 pub mod Insertion
+pub mod Following
 pub mod Scrolling
 pub mod Remaining

@@ -1,5 +1,7 @@
--- Rows that were inserted, and the viewport that was moved and cleared behind that, as one insertion.
+-- Rows that were inserted, and the viewport that was moved and cleared behind that, as one insertion; that insertion by its answer.
 use Rattle.std.proofs.Common.{◌≡◌, ℕ, ◌+◌, ◌-◌, ◌<◌, min, [], ◌∷◌, sym, ap, ◌∙◌, subst, arith}
+use Rattle.std.specs.Prelude.{Result, Ok, Err, OnOk, OnErr}
+use Rattle.std.specs.declared.alloc.AllocError.{AllocError}
 use Rattle.rtui_geometry.specs.declared.position.Position.{Position}
 use Rattle.rtui_geometry.specs.declared.rect.Rect.{Rect}
 use Rattle.rtui_buffer.specs.Sheet.{Sheet, IsEmptied}
@@ -11,11 +13,14 @@ use Rattle.rtui_viewport.specs.Areas.{IsBlankBelow}
 use Rattle.rtui_viewport.specs.Clearing.{ClearsArea}
 use Rattle.rtui_viewport.proofs.ClearLemmas.{keeps_above, blank_below}
 use Rattle.rtui_rows.specs.Insertion.{AppendsRows, KeepsShape, HasPlaceAbove, InsertsRows, AppendsAbove}
+use Rattle.rtui_rows.specs.Following.{Follows}
 use Rattle.rtui_rows.specs.Scrolling.{cursor_scrolled, rows_past}
 use Rattle.rtui_terminal.specs.State.{State, IsInPlace}
 use Rattle.rtui_terminal.specs.InStep.{IsInStep, rows_over}
-use Rattle.rtui_terminal.specs.Calls.{ClearsViewport}
-use Rattle.rtui_terminal.specs.Insertion.{inserted_area, Follows, TakesRows, Inserts}
+use Rattle.rtui_terminal.specs.Calls.{ClearsViewport, FailsOnlyByBackend}
+use Rattle.rtui_terminal.specs.Insertion.{inserted_area, TakesRows, Inserts, StopsInserting, InsertsBy}
+use Rattle.rtui_terminal.specs.declared.terminal.error.TerminalError.{TerminalError}
+use Rattle.rtui_terminal.specs.declared.terminal.error.TerminalError.TheVariants.{Backend, Memory, Area, Closure}
 
 -- an inline viewport stays in column 0
 in_place_moved : (v : Viewport) (r : Rect) (y : ℕ) → IsInPlace v r → IsInPlace v (record r { y = y })
@@ -108,3 +113,16 @@ module _ {B : Type 0} (screen : B → Screen) where
         left = λ takes step. subst (λ (r : Rect). IsEmptied r t.older) (older_moved step ∙ sym area) cleared.older;
         in_step = λ takes step settled. cleared.in_step (on takes step) (older_moved step);
       }
+
+  -- rows that a closure filled were inserted, or a backend failed on the way
+  pub inserted_by : {T E : Type 0} (result : Result T (TerminalError E)) (area : Rect) (filled : Result (Unit {0}) AllocError → Sheet → Type 0) (inserted : Sheet) (s t : State B)
+      → filled (Ok tt) inserted → inserted.area ≡ area → 0 < s.known_area.height
+      → OnOk result (Inserts screen inserted s t) → OnErr result (StopsInserting screen inserted.area.height s t) → FailsOnlyByBackend result
+      → InsertsBy screen area filled s t result
+  inserted_by (Ok answer) area filled inserted s t closure over known ok err only =
+      record { inserted = inserted; closure = closure; over = over; none = λ zero. absurd (omega (arith, known, zero)); inserts = λ more. ok }
+  inserted_by (Err (Backend error)) area filled inserted s t closure over known ok err only =
+      record { inserted = inserted; closure = closure; over = over; known = known; stops = err }
+  inserted_by (Err Memory) area filled inserted s t closure over known ok err only = absurd only
+  inserted_by (Err Area) area filled inserted s t closure over known ok err only = absurd only
+  inserted_by (Err (Closure error)) area filled inserted s t closure over known ok err only = absurd only

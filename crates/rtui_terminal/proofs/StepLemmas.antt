@@ -11,6 +11,7 @@ use Rattle.rtui_buffer.specs.Sheet.{Sheet, IsEmptied, IsSameSheet}
 use Rattle.rtui_buffer.proofs.EmptyLemmas.{IsSettledSheet-empty, ShowsSheet-empty}
 use Rattle.rtui_backend.specs.Screen.{Screen, Scrolls, IsOnGrid, IsOnScreen, screen_area, cursor_of}
 use Rattle.rtui_viewport.specs.Areas.{KeepsScreen, Empties, IsBlankOver}
+use Rattle.rtui_viewport.specs.Sizing.{first_area}
 use Rattle.rtui_viewport.specs.Placing.{raised, area_in, cursor_found, IsCursorSet, EmptiesAllIf, Places, rows_scrolled}
 use Rattle.rtui_viewport.specs.Clearing.{HasPlace, ClearsArea, is_emptied}
 use Rattle.rtui_viewport.specs.Viewports.{IsFixed, IsInline, rows_in}
@@ -19,7 +20,7 @@ use Rattle.rtui_viewport.specs.declared.viewport.Viewport.TheVariants.{Fullscree
 use Rattle.rtui_viewport.proofs.ClearLemmas.{empties_more, frame_same}
 use Rattle.rtui_terminal.specs.State.{State, IsInPlace}
 use Rattle.rtui_terminal.specs.InStep.{IsInStep}
-use Rattle.rtui_terminal.specs.Calls.{IsResized, first_area, first_cursor}
+use Rattle.rtui_terminal.specs.Calls.{IsResized, first_cursor}
 
 pub blank_in_step : {B : Type 0} (screen : B → Screen) (t : State B) → EdgesFit t.viewport_area → IsOnScreen t.viewport_area (screen t.backend) → IsBlankOver t.viewport_area (screen t.backend)
     → IsEmptied t.viewport_area t.older → IsInStep screen t

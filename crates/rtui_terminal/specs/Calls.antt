@@ -13,6 +13,7 @@ use Rattle.rtui_viewport.specs.declared.viewport.Viewport.{Viewport}
 use Rattle.rtui_viewport.specs.declared.viewport.Viewport.TheVariants.{Fullscreen, Inline, Fixed}
 use Rattle.rtui_viewport.specs.Viewports.{IsFixed, IsInline, rows_in}
 use Rattle.rtui_viewport.specs.Areas.{KeepsScreen, KeepsOutside, IsBlankOver, Empties}
+use Rattle.rtui_viewport.specs.Sizing.{first_area}
 use Rattle.rtui_viewport.specs.Placing.{area_in, raised, rows_scrolled}
 use Rattle.rtui_viewport.specs.Clearing.{HasPlace, ClearsArea, is_emptied}
 use Rattle.rtui_terminal.specs.State.{State, HasAreas, HaveRoom, cursor_offset}
@@ -40,13 +41,17 @@ IsBackendFault (Closure error) = ⊥
 abbrev pub FailsOnlyByBackend : {T E : Type 0} → Result T (TerminalError E) → Type 0
 FailsOnlyByBackend result = MatchResult result (λ _. Unit {0}) IsBackendFault
 
--- a start is refused for want of memory, or by the backend where the viewport isn't fixed; the backend was dropped then, so that some
--- backend with such a count of failures is all that is said
-abbrev pub StartErr : {B E : Type 0} → (B → ℕ) → Viewport → B → TerminalError E → Type 0
-StartErr {B} failures viewport b (Backend error) = (IsFixed viewport → ⊥) × ((dropped : B) × (failures b < 2 ^ 64 - 1 → failures dropped ≡ failures b + 1))
-StartErr {B} failures viewport b Memory = (dropped : B) × (failures dropped ≡ failures b)
-StartErr failures viewport b Area = ⊥
-StartErr failures viewport b (Closure error) = ⊥
+-- what a viewport takes of an area, before it is placed: its columns, and as many rows as it may have
+abbrev pub unplaced_area : Viewport → Rect → Rect
+unplaced_area viewport area = record { x = 0; y = 0; width = area.width; height = rows_in viewport area.height }
+
+-- a start is refused for want of memory where the viewport has cells, or by the backend where it isn't fixed; the backend was dropped then,
+-- so that some backend with such a count of failures is all that is said
+abbrev pub StartErr : {B E : Type 0} → (B → Screen) → (B → ℕ) → Viewport → B → TerminalError E → Type 0
+StartErr {B} screen failures viewport b (Backend error) = (IsFixed viewport → ⊥) × ((dropped : B) × (failures b < 2 ^ 64 - 1 → failures dropped ≡ failures b + 1))
+StartErr {B} screen failures viewport b Memory = (area_size (unplaced_area viewport (first_area viewport (screen b))) ≡ 0 → ⊥) × ((dropped : B) × (failures dropped ≡ failures b))
+StartErr screen failures viewport b Area = ⊥
+StartErr screen failures viewport b (Closure error) = ⊥
 
 -- how many unskipped cells of the second buffer differ from the first one's
 abbrev pub differing_count : Sheet → Sheet → ℕ
@@ -92,9 +97,9 @@ pub record IsResized (area : Rect) (old new : Sheet) : Type 0 where
   pub area_is : new.area ≡ area
   pub cells : new.cells ≡ take (area_size area) old.cells ++ empty_cells (area_size area - length old.cells)
 
--- a buffer has no room for the cells that the viewport takes of an area: its columns, and as many rows as it may have
+-- a buffer has no room for the cells that the viewport takes of an area
 abbrev pub LacksRoom : {B : Type 0} → Rect → State B → Type 0
-LacksRoom area s = HaveRoom (record { x = 0; y = 0; width = area.width; height = rows_in s.viewport area.height }) s → ⊥
+LacksRoom area s = HaveRoom (unplaced_area s.viewport area) s → ⊥
 
 -- the viewport stays, and both buffers but for their room
 pub record KeepsBuffers {B : Type 0} (s t : State B) : Type 0 where
@@ -113,12 +118,6 @@ FlushErr s t (Backend error) = HasAreas s × (t ≡ record s { backend = t.backe
 FlushErr s t Memory = ⊥
 FlushErr s t Area = (t ≡ s) × (HasAreas s → ⊥)
 FlushErr s t (Closure error) = ⊥
-
--- the area that is known at the start: a fixed viewport's own, else the screen's
-abbrev pub first_area : Viewport → Screen → Rect
-first_area Fullscreen s = screen_area s
-first_area (Inline rows) s = screen_area s
-first_area (Fixed r) s = r
 
 -- the cursor that is known at the start: for an inline viewport the screen's
 abbrev pub first_cursor : Viewport → Screen → Position

@@ -2,8 +2,8 @@
 use Rattle.std.specs.Prelude.{◌≡◌, ◌⊎◌, List}
 use Rattle.rtui_cell.specs.Look.{Look}
 use Rattle.rtui_buffer.specs.Frame.{IsSettledSheet, ShowsSheet}
-use Rattle.rtui_backend.specs.Screen.{Screen, KeepsSize, IsOnScreen, screen_area, rows_above}
-use Rattle.rtui_viewport.specs.Viewports.{IsFixed}
+use Rattle.rtui_backend.specs.Screen.{Screen, KeepsSize, IsOnScreen, rows_above}
+use Rattle.rtui_viewport.specs.Sizing.{IsSizeKnown}
 use Rattle.rtui_viewport.specs.Areas.{KeepsOutside}
 use Rattle.rtui_terminal.specs.State.{State}
 
@@ -17,7 +17,7 @@ module _ {B : Type 0} (screen : B → Screen) where
 
   -- the viewport is fixed, or the screen has its last known size: a draw won't resize
   abbrev pub IsSized : State B → Type 0
-  IsSized s = IsFixed s.viewport ⊎ (screen_area (screen s.backend) ≡ s.known_area)
+  IsSized s = IsSizeKnown s.viewport s.known_area (screen s.backend)
 
   -- in step, or a draw will resize
   abbrev pub IsReady : State B → Type 0

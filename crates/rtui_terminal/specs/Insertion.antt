@@ -1,16 +1,16 @@
 -- What an insertion above an inline viewport does to a terminal.
-use Rattle.std.specs.Prelude.{◌≡◌, ◌⊎◌, ℕ, ◌+◌, ◌-◌, ◌<◌, min, ◌++◌, [], ◌∷◌, Result, Ok, Err, MatchResult, alloc_error}
-use Rattle.std.specs.Borrow.{MutBor}
-use Rattle.std.specs.Fn.{Once, FnOnceReturnsAtMut}
+use Rattle.std.specs.Prelude.{◌≡◌, ◌⊎◌, ℕ, ◌+◌, ◌-◌, ◌<◌, min, ◌++◌, [], ◌∷◌, Result, Ok, MatchResult}
 use Rattle.std.specs.declared.alloc.AllocError.{AllocError}
 use Rattle.rtui_geometry.specs.declared.rect.Rect.{Rect}
-use Rattle.rtui_buffer.specs.Sheet.{Sheet, IsEmptied, HasRoomFor, area_size}
+use Rattle.rtui_buffer.specs.Sheet.{Sheet, IsEmptied, area_size}
 use Rattle.rtui_buffer.specs.Frame.{IsSettledSheet}
 use Rattle.rtui_backend.specs.Screen.{Screen, screen_area}
 use Rattle.rtui_viewport.specs.Viewports.{IsInline}
 use Rattle.rtui_viewport.specs.Areas.{IsBlankBelow}
+use Rattle.rtui_rows.specs.Filling.{RefusesFilling}
 use Rattle.rtui_rows.specs.Rows.{look_rows}
 use Rattle.rtui_rows.specs.Insertion.{AppendsRows, KeepsShape}
+use Rattle.rtui_rows.specs.Following.{AreaFollows, Follows}
 use Rattle.rtui_rows.specs.Scrolling.{cursor_scrolled, rows_past}
 use Rattle.rtui_terminal.specs.State.{State}
 use Rattle.rtui_terminal.specs.InStep.{IsInStep, rows_over}
@@ -24,31 +24,6 @@ inserted_area s height = record { x = 0; y = 0; width = s.viewport_area.width; h
 -- the top of an inline viewport behind n rows that came in above it: as far down as there is room
 abbrev pub top_behind : {B : Type 0} → ℕ → State B → ℕ
 top_behind n s = min (s.viewport_area.y + n) (s.known_area.height - s.viewport_area.height)
-
--- an empty buffer of an area, with room for its cells
-pub record IsNewSheet (area : Rect) (sheet : Sheet) : Type 0 where
-  pub empty : IsEmptied area sheet
-  pub room : HasRoomFor area sheet
-
--- f may be called on any such buffer
-abbrev pub AcceptsRows : {F R : Type 0} → Once F (MutBor Sheet × Unit {0}) (R × (MutBor Sheet × Unit {0})) → F → Rect → Type 0
-AcceptsRows once f area = (buffer : MutBor Sheet) → IsNewSheet area buffer.now → once.pre f (buffer, tt)
-
--- a call of f on such a buffer gave an answer and left this buffer
-pub record FillsRows {F R : Type 0} (once : Once F (MutBor Sheet × Unit {0}) (R × (MutBor Sheet × Unit {0}))) (f : F) (area : Rect) (answer : R) (filled : Sheet) : Type 0 where
-  pub before : Sheet
-  pub new_buffer : IsNewSheet area before
-  pub ran : FnOnceReturnsAtMut once f before answer filled
-
--- a rectangle that was the viewport's area is its new one, and any other stays
-pub record AreaFollows (former next old new : Rect) : Type 0 where
-  pub moved : old ≡ former → new ≡ next
-  pub stays : (old ≡ former → ⊥) → new ≡ old
-
--- a buffer of the viewport's area moved with it, and any other stays
-pub record Follows (former next : Rect) (old new : Sheet) : Type 0 where
-  pub area : AreaFollows former next old.area new.area
-  pub rest : new ≡ record old { area = new.area }
 
 module _ {B : Type 0} (screen : B → Screen) where
   -- rows can be inserted: above an inline viewport with a row, as wide as the screen, which has its last known size
@@ -111,15 +86,10 @@ module _ {B : Type 0} (screen : B → Screen) where
       pub over : inserted.area ≡ area → ⊥
       pub rest : t ≡ s
 
-    -- the closure was refused memory
-    pub record RefusesFilling : Type 0 where
-      pub inserted : Sheet
-      pub closure : filled (Err alloc_error) inserted
-
     -- memory was refused for a buffer that has cells, or by the closure, and nothing changed
     abbrev pub InsertErr : {E : Type 0} → State B → State B → TerminalError E → Type 0
     InsertErr s t (Backend error) = FailsInserting s t
-    InsertErr s t Memory = (t ≡ s) × ((area_size area ≡ 0 → ⊥) ⊎ RefusesFilling)
+    InsertErr s t Memory = (t ≡ s) × ((area_size area ≡ 0 → ⊥) ⊎ RefusesFilling filled)
     InsertErr s t Area = RefusesRows s t
     InsertErr s t (Closure error) = ⊥
 

@@ -84,25 +84,6 @@ pub fn clear_area<B: Backend>(
     }
 }
 
-/// Empties a viewport's area, and puts the cursor back.
-pub fn clear_viewport<B: Backend>(
-    backend: &mut B,
-    viewport: Viewport,
-    area: Rect,
-) -> Result<(), B::Error>
-    requires { EdgesFit area }
-    ensures cleared { OnOk result
-        (ClearsArea viewport area (B.screen backend.old) (B.screen backend.new)) }
-    ensures frame { OnOk result (KeepsScreen (B.screen backend.old) (B.screen backend.new)) }
-    ensures cursor { OnOk result (cursor_of (B.screen backend.new)
-        ≡ cursor_of (B.screen backend.old)) }
-    ensures counts { Counts result (B.failures backend.old) (B.failures backend.new) }
-{
-    let cursor = backend.get_cursor_position()?;
-    clear_area(backend, viewport, area)?;
-    backend.set_cursor_position(cursor)
-}
-
 /// Empties a viewport's area, and sets the cursor where one is given.
 pub fn clear_placed<B: Backend>(
     backend: &mut B,
@@ -123,4 +104,22 @@ pub fn clear_placed<B: Backend>(
         backend.set_cursor_position(position)?;
     }
     Ok(())
+}
+
+/// Empties a viewport's area, and puts the cursor back.
+pub fn clear_viewport<B: Backend>(
+    backend: &mut B,
+    viewport: Viewport,
+    area: Rect,
+) -> Result<(), B::Error>
+    requires { EdgesFit area }
+    ensures cleared { OnOk result
+        (ClearsArea viewport area (B.screen backend.old) (B.screen backend.new)) }
+    ensures frame { OnOk result (KeepsScreen (B.screen backend.old) (B.screen backend.new)) }
+    ensures cursor { OnOk result (cursor_of (B.screen backend.new)
+        ≡ cursor_of (B.screen backend.old)) }
+    ensures counts { Counts result (B.failures backend.old) (B.failures backend.new) }
+{
+    let cursor = backend.get_cursor_position()?;
+    clear_placed(backend, viewport, area, Some(cursor))
 }

@@ -36,23 +36,23 @@ pub(crate) fn render_line(
     if width == 0 {
         return Ok(());
     }
-    lay(row, line.style);
+    lay_row(row, line.style);
     let indent = columns_before(alignment, columns.saturating_sub(width));
     let skip = columns_before(alignment, width.saturating_sub(columns));
     render_spans(alloc, &mut row[indent..], line.spans.as_slice(), skip)
 }
 
 // Lays a style over a row.
-pub(crate) fn lay(row: &mut [Cell], style: Style)
+pub(crate) fn lay_row(row: &mut [Cell], style: Style)
     ensures { row.new ≡ map (styled style) row.old }
 {
     for cell in row.iter_mut() {
-        patch(cell, style);
+        lay(cell, style);
     }
 }
 
 // Lays a style over a cell.
-fn patch(cell: &mut Cell, style: Style)
+fn lay(cell: &mut Cell, style: Style)
     ensures { cell.new ≡ styled style cell.old }
 {
     cell.set_style(style);

@@ -4,7 +4,7 @@ ghost use Rattle.std.specs.Prelude.{◌≡◌, ℕ, ◌+◌, ◌*◌, ◌<◌, �
 ghost use Rattle.rtui_widgets.specs.Rendering.{text_row, IsShortRow};
 ghost use Rattle.rtui_widgets.specs.Rows.{rows_from, KeepsOthers, MakesRows};
 
-use crate::line::{lay, render_line};
+use crate::line::{lay_row, render_line};
 use rtui_cell::Cell;
 use rtui_text::Text;
 use std::alloc::{AllocError, Global};
@@ -39,7 +39,7 @@ fn render_row(alloc: Global, row: &mut [Cell], text: &Text<'_>, k: usize) -> Res
     ensures ok { OnOk result (row.new ≡ text_row text.now k row.old) }
     ensures short { IsShortRow text.now (length row.old) k → IsOk result }
 {
-    lay(row, text.style);
+    lay_row(row, text.style);
     match text.lines.as_slice().get(k) {
         Some(line) => render_line(alloc, row, line, line.alignment.or(text.alignment)),
         None => Ok(()),

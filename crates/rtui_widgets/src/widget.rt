@@ -32,7 +32,8 @@ pub trait Widget {
     // where it takes no memory: nowhere, unless it says otherwise
     ghost is_short: { Self → Rect → Sheet → Type 0 } = { λ _ _ _. ⊥ };
 
-    /// Renders it. It is refused where memory is; then no cell outside the area changed.
+    /// Renders it. It is refused where memory is; then no cell outside its reach changed, which is the area unless the
+    /// widget says otherwise.
     fn render(self, area: Rect, buf: &mut Buffer) -> Result<(), AllocError>
         requires { can_render self area buf.old }
         ensures area { buf.new.area ≡ buf.old.area }
@@ -58,7 +59,8 @@ pub trait StatefulWidget {
     // where it takes no memory: nowhere, unless it says otherwise
     ghost is_short: { Self → Self.State → Rect → Sheet → Type 0 } = { λ _ _ _ _. ⊥ };
 
-    /// Renders it. It is refused where memory is; then no cell outside the area changed.
+    /// Renders it. It is refused where memory is; then no cell outside its reach changed, which is the area unless the
+    /// widget says otherwise.
     fn render(self, area: Rect, buf: &mut Buffer, state: &mut Self::State) -> Result<(), AllocError>
         requires { can_render self state.old area buf.old }
         ensures area { buf.new.area ≡ buf.old.area }

@@ -22,13 +22,15 @@ use Rattle.rtui_viewport.specs.declared.viewport.Viewport.{Viewport}
 use Rattle.rtui_viewport.specs.declared.viewport.Viewport.TheVariants.{Fullscreen, Inline, Fixed}
 use Rattle.rtui_viewport.specs.Viewports.{IsFixed, IsInline}
 use Rattle.rtui_viewport.specs.Areas.{KeepsOutside, IsBlankOver, IsBlankBelow, Empties}
+use Rattle.rtui_viewport.specs.Sizing.{first_area}
 use Rattle.rtui_viewport.specs.Placing.{area_in, raised, inline_area, inline_top, rows_scrolled}
 use Rattle.rtui_viewport.specs.Clearing.{HasPlace, ClearsArea, is_emptied}
 use Rattle.rtui_viewport.proofs.ClearLemmas.{blank_over, keeps_outside}
+use Rattle.rtui_rows.specs.Following.{Follows}
 use Rattle.rtui_terminal.specs.State.{State, cursor_offset}
 use Rattle.rtui_terminal.specs.InStep.{IsInStep, IsSized}
-use Rattle.rtui_terminal.specs.Insertion.{inserted_area, Follows, TakesRows}
-use Rattle.rtui_terminal.specs.Calls.{Starts, Applies, ClearsViewport, Resizes, IsResized, first_area}
+use Rattle.rtui_terminal.specs.Insertion.{inserted_area, TakesRows}
+use Rattle.rtui_terminal.specs.Calls.{Starts, Applies, ClearsViewport, Resizes, IsResized}
 use Rattle.screenplay.specs.Run.{stage_size, IsGoodViewport, IsGoodStage, MayLie, IsFrame, first_viewport, first_rows, IsStart, KeepsSurroundings, size_after, Sight, row_count, text_area, IsInserted, InsertsOn}
 use Rattle.screenplay.specs.Playing.{IsPlaying, sight_in, TakesNewSize, IsSizedFor, ShowsFrame, InsertsBuffer, IsFrameCause, IsCause, Plays}
 use Rattle.screenplay.specs.declared.scene.PlayCause.{PlayCause}

@@ -41,7 +41,7 @@ pub record HasStepFault (bytes : List ℕ) (fault : PlayFault) : Type 0 where
 
 -- why nothing of these bytes was printed, or with a failed writer a part: they are a script that was played
 abbrev pub IsRunFault : List ℕ → RunFault → Type 0
-IsRunFault bytes (Line n) = IsFirstBadLine (script_lines bytes) n
+IsRunFault bytes (Line n) = IsUtf8 bytes × IsFirstBadLine (script_lines bytes) n
 IsRunFault bytes (AtStep fault) = HasStepFault bytes fault
 IsRunFault bytes NotText = IsUtf8 bytes → ⊥
 IsRunFault bytes Read = Unit {0}

@@ -86,10 +86,8 @@ fn resize(terminal: &mut Terminal<TestBackend>, size: Size) -> Result<(), Termin
         Ok(()) => {}
         Err(_) => return Err(TerminalError::Memory),
     }
-    match terminal.autoresize() {
-        Ok(()) => Ok(()),
-        Err(error) => Err(error),
-    }
+    terminal.autoresize()?;
+    Ok(())
 }
 
 // Gives the screen a size, if there is one, and the viewport isn't fixed.

@@ -4,8 +4,7 @@ ghost use Rattle.std.specs.Prelude.{◌≡◌, ◌↔◌, ℕ, ◌+◌, ◌-◌,
 ghost use Rattle.std.specs.Str.Lines.{lines};
 ghost use Rattle.rtui_style.specs.Style.{new_style};
 ghost use Rattle.rtui_cell.specs.Width.{text_width};
-ghost use Rattle.rtui_text.specs.Text.{plain, raw_line};
-ghost use Rattle.rtui_text.specs.Widths.{line_width};
+ghost use Rattle.rtui_text.specs.Text.{plain};
 ghost use Rattle.rtui_buffer.specs.Painting.{text_pieces};
 ghost use Rattle.rtui_buffer.specs.Line.{widest, raw_lines};
 ghost use Rattle.rtui_backend.specs.Lines.{symbol_in, symbols_in, HasLines, HaveLines, HasHistory, IsScreenOf};
@@ -13,33 +12,10 @@ ghost use Rattle.rtui_backend.specs.RowMatch.{are_blank, is_piece, pieces_end, s
 ghost use Rattle.rtui_backend.specs.TestBackend.{screen_of};
 
 use crate::test::TestBackend;
-use rtui_buffer::{Buffer, Cell, painted_width};
+use rtui_buffer::{Buffer, Cell, painted_width, texts_width};
 use rtui_geometry::Position;
-use rtui_text::text_columns;
 use std::alloc::{AllocError, Global};
 use unicode_segmentation::UnicodeSegmentation;
-
-// How many columns the lines of a text take behind one another.
-fn line_width(line: &str) -> usize
-    ensures { result ≡ line_width (map plain (lines line.now)) }
-{
-    let mut width = 0usize;
-    for text in line.lines() {
-        width = width.saturating_add(text_columns(text));
-    }
-    width
-}
-
-// The greatest width of these lines.
-fn widest(lines: &[&str]) -> usize
-    ensures { result ≡ widest (raw_lines lines.now) }
-{
-    let mut width = 0;
-    for line in lines {
-        width = line_width(line).max(width);
-    }
-    width
-}
 
 // The symbol at a place of a row.
 #[tactic(auto, using(crate::proofs::LineLemmas::cell_looks), unfolding(rtui_cell::specs::Look::look_of))]
@@ -190,7 +166,7 @@ impl TestBackend {
         ensures { IsTrue result ↔ HasLines (raw_lines lines.now) (screen_of self.now) }
     {
         let area = *self.buffer.area();
-        if lines.len() != usize::from(area.height) || widest(lines) != usize::from(area.width) {
+        if lines.len() != usize::from(area.height) || texts_width(lines) != usize::from(area.width) {
             return false;
         }
         for y in 0..area.height {
@@ -206,6 +182,6 @@ impl TestBackend {
     pub fn scrollback_is(&self, lines: &[&str]) -> bool
         ensures { IsTrue result ↔ HasHistory (raw_lines lines.now) (screen_of self.now) }
     {
-        rows_are(self.scrollback.as_slice(), widest(lines), lines)
+        rows_are(self.scrollback.as_slice(), texts_width(lines), lines)
     }
 }

@@ -66,8 +66,8 @@ impl Frame<'_> {
         &mut *self.buffer
     }
 
-    /// Renders a widget over an area of the frame's buffer. It is refused where memory is; then no cell outside the area
-    /// changed.
+    /// Renders a widget over an area of the frame's buffer. It is refused where memory is; then no cell outside the
+    /// widget's reach changed, which is the area unless the widget says otherwise.
     pub fn render_widget<W: Widget>(&mut self, widget: W, area: Rect) -> Result<(), AllocError>
         requires { W.can_render widget area self.old.buffer.now }
         ensures keeps { KeepsFrame self.old self.new }
@@ -80,7 +80,7 @@ impl Frame<'_> {
     }
 
     /// Renders a widget over an area of the frame's buffer, from its state on. It is refused where memory is; then no cell
-    /// outside the area changed.
+    /// outside the widget's reach changed, which is the area unless the widget says otherwise.
     pub fn render_stateful_widget<W: StatefulWidget>(
         &mut self,
         widget: W,

@@ -1,16 +1,14 @@
-ghost use Rattle.std.specs.Prelude.{◌≡◌, IfOk, IsOk, OnOk, MatchResult};
-ghost use Rattle.rtui_geometry.specs.Rect.{EdgesFit};
-ghost use Rattle.rtui_backend.specs.Failures.{Counts};
-ghost use Rattle.rtui_viewport.specs.Viewports.{FitsEdges, IsFixed};
+ghost use Rattle.std.specs.Prelude.{◌≡◌, IfOk, MatchResult};
+ghost use Rattle.rtui_viewport.specs.Viewports.{FitsEdges};
 ghost use Rattle.rtui_viewport.specs.declared.viewport.Viewport.TheVariants.{Fullscreen};
-ghost use Rattle.rtui_terminal.specs.Calls.{Starts, StartErr, first_area};
+ghost use Rattle.rtui_terminal.specs.Calls.{Starts, StartErr};
 
 use crate::terminal::Terminal;
 use crate::terminal::error::TerminalError;
 use rtui_backend::Backend;
 use rtui_buffer::Buffer;
 use rtui_geometry::Rect;
-use rtui_viewport::{Viewport, place_viewport};
+use rtui_viewport::{Viewport, first_area, place_viewport};
 use std::alloc::Global;
 
 /// How a terminal is made.
@@ -20,29 +18,14 @@ pub struct TerminalOptions {
     pub viewport: Viewport,
 }
 
-// The area that a viewport is placed on: a fixed one's own, else the screen.
-fn placing_area<B: Backend>(backend: &mut B, viewport: Viewport) -> Result<Rect, B::Error>
-    requires { FitsEdges viewport }
-    ensures area { IfOk result (λ area. area ≡ first_area viewport (B.screen backend.old)) }
-    ensures fits { IfOk result EdgesFit }
-    ensures stays { OnOk result (B.screen backend.new ≡ B.screen backend.old) }
-    ensures fixed { IsFixed viewport → IsOk result × (backend.new ≡ backend.old) }
-    ensures counts { Counts result (B.failures backend.old) (B.failures backend.new) }
-{
-    if let Viewport::Fixed(area) = viewport {
-        return Ok(area);
-    }
-    Ok(Rect::from(backend.size()?))
-}
-
 impl<B: Backend + Drop> Terminal<B> {
     /// A terminal over the whole screen of a backend, with empty buffers; it is in step where the screen is
-    /// blank. A refused call drops the backend.
+    /// blank. It answers `Memory` only where the screen has cells; a refused call drops the backend.
     pub fn new(alloc: Global, backend: B) -> Result<Self, TerminalError<B::Error>>
         ensures starts { IfOk result (Starts B.screen Fullscreen backend) }
         ensures count { IfOk result (λ t. B.failures t.backend ≡ B.failures backend) }
         ensures refused { MatchResult result (λ _. Unit {0})
-            (StartErr B.failures Fullscreen backend) }
+            (StartErr B.screen B.failures Fullscreen backend) }
     {
         let options = TerminalOptions {
             viewport: Viewport::Fullscreen,
@@ -52,7 +35,7 @@ impl<B: Backend + Drop> Terminal<B> {
 
     /// A terminal over a part of a backend's screen, with empty buffers; it is in step where that part is on the
     /// screen and blank. Where an inline viewport doesn't fit below the cursor the screen scrolls. For a fixed one no
-    /// call is made. A refused call drops the backend.
+    /// call is made. It answers `Memory` only where the viewport has cells; a refused call drops the backend.
     pub fn with_options(
         alloc: Global,
         mut backend: B,
@@ -62,10 +45,10 @@ impl<B: Backend + Drop> Terminal<B> {
         ensures starts { IfOk result (Starts B.screen options.viewport backend) }
         ensures count { IfOk result (λ t. B.failures t.backend ≡ B.failures backend) }
         ensures refused { MatchResult result (λ _. Unit {0})
-            (StartErr B.failures options.viewport backend) }
+            (StartErr B.screen B.failures options.viewport backend) }
     {
         let viewport = options.viewport;
-        let area = match placing_area(&mut backend, viewport) {
+        let area = match first_area(&mut backend, viewport) {
             Ok(area) => area,
             Err(error) => return Err(TerminalError::Backend(error)),
         };

@@ -1,41 +1,17 @@
 ghost use Rattle.std.specs.Prelude.{◌≡◌, ◌<◌, Ok, OnOk, OnErr};
-ghost use Rattle.rtui_geometry.specs.Rect.{EdgesFit};
 ghost use Rattle.rtui_viewport.specs.Viewports.{IsInline};
+ghost use Rattle.rtui_rows.specs.Filling.{AcceptsRows, FillsRows};
 ghost use Rattle.rtui_terminal.specs.Calls.{Faults, FailsOnlyByBackend};
-ghost use Rattle.rtui_terminal.specs.Insertion.{inserted_area, IsNewSheet, AcceptsRows, FillsRows, Follows, Inserts, StopsInserting, InsertsBy};
+ghost use Rattle.rtui_terminal.specs.Insertion.{inserted_area, Inserts, StopsInserting, InsertsBy};
 
 use crate::terminal::Terminal;
 use crate::terminal::error::TerminalError;
 use rtui_backend::Backend;
 use rtui_buffer::Buffer;
-use rtui_geometry::{Position, Rect};
-use rtui_rows::insert_rows;
+use rtui_geometry::Rect;
+use rtui_rows::{fill_rows, follow_viewport, insert_rows};
 use rtui_viewport::Viewport;
 use std::alloc::AllocError;
-
-// Calls a closure on an empty buffer of an area.
-fn fill<F>(buffer: &mut Buffer, area: Rect, draw_fn: F) -> Result<(), AllocError>
-where
-    F: FnOnce(&mut Buffer) -> Result<(), AllocError>,
-    requires accepts { AcceptsRows F.FnOnce draw_fn area }
-    requires empty { IsNewSheet area buffer.old }
-    ensures { FillsRows F.FnOnce draw_fn area result buffer.new }
-{
-    draw_fn(buffer)
-}
-
-// Moves a buffer of the viewport's former area to its new top.
-fn follow(buffer: &mut Buffer, former: Rect, top: u16)
-    requires { EdgesFit (record former { y = top }) }
-    ensures { Follows former (record former { y = top }) buffer.old buffer.new }
-{
-    if *buffer.area() == former {
-        buffer.move_to(Position {
-            x: former.x,
-            y: top,
-        });
-    }
-}
 
 impl<B: Backend> Terminal<B> {
     // Inserts the rows of a buffer above an inline viewport, which moves down as far as there is room, and clears it.
@@ -61,8 +37,8 @@ impl<B: Backend> Terminal<B> {
             Ok(top) => top,
             Err(error) => return Err(TerminalError::Backend(error)),
         };
-        follow(&mut self.current, former, top);
-        follow(&mut self.older, former, top);
+        follow_viewport(&mut self.current, former, top);
+        follow_viewport(&mut self.older, former, top);
         self.viewport_area = Rect { y: top, ..former };
         self.clear()
     }
@@ -83,14 +59,10 @@ impl<B: Backend> Terminal<B> {
             width: self.viewport_area.width,
             height,
         };
-        let mut rows = match Buffer::empty(self.current.allocator(), area) {
-            Ok(buffer) => buffer,
+        let rows = match fill_rows(self.current.allocator(), area, draw_fn) {
+            Ok(rows) => rows,
             Err(_) => return Err(TerminalError::Memory),
         };
-        match fill(&mut rows, area, draw_fn) {
-            Ok(()) => {}
-            Err(_) => return Err(TerminalError::Memory),
-        }
         if *rows.area() != area {
             return Err(TerminalError::Area);
         }
@@ -102,7 +74,8 @@ impl<B: Backend> Terminal<B> {
 
     /// Inserts `height` rows above an inline viewport: the closure fills an empty buffer at (0, 0) of the viewport's
     /// width, its rows come to those above the viewport, which moves down as far as there is room and is cleared; rows
-    /// that have no room scroll off. Where the screen was known to have no rows nothing is written. On another viewport
+    /// that have no room scroll off. Of a viewport without rows, or of another width than the screen's, nothing is promised
+    /// of the rows above. Where the screen was known to have no rows nothing is written. On another viewport
     /// the closure isn't called, and nothing changes.
     ///
     /// It answers `Memory` where the buffer has cells and was refused memory, in which case the closure isn't called, or

@@ -79,10 +79,7 @@ impl<B: Backend> Terminal<B> {
             result }
         ensures faults { Faults result (B.failures self.old.backend) (B.failures self.new.backend) }
     {
-        match self.autoresize() {
-            Ok(()) => {}
-            Err(error) => return Err(error),
-        }
+        self.autoresize()?;
         let area = self.viewport_area;
         let count = self.frame_count;
         let (answer, cursor) = paint(&mut self.current, area, count, render_callback);
@@ -100,10 +97,7 @@ impl<B: Backend> Terminal<B> {
             result }
         ensures faults { Faults result (B.failures self.old.backend) (B.failures self.new.backend) }
     {
-        match self.autoresize() {
-            Ok(()) => {}
-            Err(error) => return Err(error),
-        }
+        self.autoresize()?;
         let area = self.viewport_area;
         let count = self.frame_count;
         let (answer, cursor) = paint(&mut self.current, area, count, render_callback);
@@ -144,17 +138,13 @@ impl<B: Backend> Terminal<B> {
         ensures count { IfOk result (λ frame. frame.count ≡ self.old.frame_count) }
     {
         let count = self.frame_count;
-        match self.draw_frame(render_callback) {
-            Ok(()) => {
-                let area = self.known_area;
-                Ok(CompletedFrame {
-                    terminal: self,
-                    area,
-                    count,
-                })
-            }
-            Err(error) => Err(error),
-        }
+        self.draw_frame(render_callback)?;
+        let area = self.known_area;
+        Ok(CompletedFrame {
+            terminal: self,
+            area,
+            count,
+        })
     }
 
     /// The same as `draw` with a closure that answers the backend's error, which is given back as `Closure`.
@@ -182,17 +172,13 @@ impl<B: Backend> Terminal<B> {
         ensures count { IfOk result (λ frame. frame.count ≡ self.old.frame_count) }
     {
         let count = self.frame_count;
-        match self.try_draw_frame(render_callback) {
-            Ok(()) => {
-                let area = self.known_area;
-                Ok(CompletedFrame {
-                    terminal: self,
-                    area,
-                    count,
-                })
-            }
-            Err(error) => Err(error),
-        }
+        self.try_draw_frame(render_callback)?;
+        let area = self.known_area;
+        Ok(CompletedFrame {
+            terminal: self,
+            area,
+            count,
+        })
     }
 
     /// Draws the current buffer as it is, and hides the cursor.
@@ -234,16 +220,12 @@ impl<B: Backend> Terminal<B> {
         ensures count { IfOk result (λ frame. frame.count ≡ self.old.frame_count) }
     {
         let count = self.frame_count;
-        match self.apply(cursor_position) {
-            Ok(()) => {
-                let area = self.known_area;
-                Ok(CompletedFrame {
-                    terminal: self,
-                    area,
-                    count,
-                })
-            }
-            Err(error) => Err(error),
-        }
+        self.apply(cursor_position)?;
+        let area = self.known_area;
+        Ok(CompletedFrame {
+            terminal: self,
+            area,
+            count,
+        })
     }
 }

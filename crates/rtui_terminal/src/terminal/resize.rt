@@ -8,12 +8,13 @@ use crate::terminal::Terminal;
 use crate::terminal::error::TerminalError;
 use rtui_backend::Backend;
 use rtui_geometry::Rect;
-use rtui_viewport::{Viewport, clear_placed, clear_viewport, place_viewport};
+use rtui_viewport::{changed_area, clear_placed, clear_viewport, place_viewport};
 use std::alloc::AllocError;
 
 impl<B: Backend> Terminal<B> {
     /// Empties the viewport and the older buffer, so that the next draw writes the whole frame; the current buffer
-    /// and the cursor stay. It takes no memory.
+    /// and the cursor stay. The terminal is in step then, where the viewport is on the screen and the older buffer has
+    /// its area. It takes no memory.
     pub fn clear(&mut self) -> Result<(), TerminalError<B::Error>>
         ensures ok { OnOk result (ClearsViewport B.screen self.old self.new) }
         ensures err { OnErr result (self.new ≡ record self.old { backend = self.new.backend }) }
@@ -59,7 +60,8 @@ impl<B: Backend> Terminal<B> {
 
     /// Places the viewport on a new area of the screen, in columns and rows, sizes both buffers to it, and empties
     /// it: an inline viewport goes around the cursor, any other takes the area. Where it became narrower it goes to
-    /// the top, and the whole screen is emptied. Memory is taken first, where a buffer has no room for the area: after
+    /// the top, and the whole screen is emptied. The terminal is in step then, where the viewport is on the screen, as it
+    /// is where the area is the screen's own. Memory is taken first, where a buffer has no room for the area: after
     /// `Memory` nothing changed.
     pub fn resize(&mut self, area: Rect) -> Result<(), TerminalError<B::Error>>
         requires { EdgesFit area }
@@ -105,17 +107,10 @@ impl<B: Backend> Terminal<B> {
             (AutoresizeErr B.screen self.old self.new) }
         ensures faults { Faults result (B.failures self.old.backend) (B.failures self.new.backend) }
     {
-        if let Viewport::Fixed(_) = self.viewport {
-            return Ok(());
+        match changed_area(&mut self.backend, self.viewport, self.known_area) {
+            Ok(Some(area)) => self.resize(area),
+            Ok(None) => Ok(()),
+            Err(error) => Err(TerminalError::Backend(error)),
         }
-        let size = match self.backend.size() {
-            Ok(size) => size,
-            Err(error) => return Err(TerminalError::Backend(error)),
-        };
-        let area = Rect::from(size);
-        if area == self.known_area {
-            return Ok(());
-        }
-        self.resize(area)
     }
 }

@@ -1,15 +1,10 @@
-use Rattle.std.proofs.Common.{rules, ◌≡◌}
-use Rattle.rtui_backend.specs.Screen.{screen_area}
+use Rattle.std.proofs.Common.{inl}
 use Rattle.rtui_terminal.proofs.ResizeLemmas.{resized_by}
 use Rattle.rtui_terminal.proofs.terminal.Terminal.autoresize.Goals as goal
 
-pub returns : goal.returns
-returns g c =
-    let screen = g.B.Backend.screen in
-    let area : c.from-area.result ≡ screen_area (screen c.self.inside.backend) = search rules in
+pub returns-in-Ok-Some-clause-outcome : goal.returns-in-Ok-Some-clause-outcome
+returns-in-Ok-Some-clause-outcome g c =
+    let change = rw c.in-Ok-Some.field-0-is at c.in-Ok-Some.ensures.area in
     rw (← c.self.view_is)
-    (record {
-      outcome = resized_by screen _ c.size.new.self c.resize.new.self c.resize.result (search rules) (search rules) c.in-Ok.ensures.stays
-          (rw area at c.resize.ensures.outcome);
-      faults = search rules;
-    })
+    (resized_by g.B.Backend.screen _ c.changed_area.new.backend c.resize.new.self c.resize.result (λ fixed. change.0 (inl fixed)) change.0
+    c.in-Ok-Some.ensures.stays (rw change.1 at c.resize.ensures.outcome))

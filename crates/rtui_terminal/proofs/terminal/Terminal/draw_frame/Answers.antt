@@ -2,14 +2,14 @@ use Rattle.std.proofs.Common.{refl, inr}
 use Rattle.rtui_terminal.proofs.RenderLemmas.{draws_on}
 use Rattle.rtui_terminal.proofs.terminal.Terminal.draw_frame.Goals as goal
 
-pub returns-in-Ok-answer-clause-drawn : goal.returns-in-Ok-answer-clause-drawn
-returns-in-Ok-answer-clause-drawn g c =
-    draws_on _ _ _ _ _ (rw (← c.self.view_is) at c.in-Ok.ensures.outcome) _ _ (rw c.in-Ok-answer.is at c.paint-answer.ensures) _ _ c.apply.result c.apply.ensures.outcome
+pub returns-in-Ok-clause-drawn : goal.returns-in-Ok-clause-drawn
+returns-in-Ok-clause-drawn g c =
+    draws_on _ _ _ _ _ (rw (← c.self.view_is) at c.in_ok-autoresize.ensures.outcome) _ _ (rw c.in-Ok.is at c.paint-answer.ensures) _ _ c.apply.result c.apply.ensures.outcome
 
-pub returns-in-Err-answer-clause-drawn : goal.returns-in-Err-answer-clause-drawn
-returns-in-Err-answer-clause-drawn g c =
+pub returns-in-Err-clause-drawn : goal.returns-in-Err-clause-drawn
+returns-in-Err-clause-drawn g c =
     inr (record {
-      refuses = record { sized = _; autoresized = rw (← c.self.view_is) at c.in-Ok.ensures.outcome; rest = refl };
+      refuses = record { sized = _; autoresized = rw (← c.self.view_is) at c.in_ok-autoresize.ensures.outcome; rest = refl };
       cursor = c.paint-answer.result.1;
-      closure = rw c.in-Err-answer.is at c.paint-answer.ensures;
+      closure = rw c.in-Err.is at c.paint-answer.ensures;
     })

@@ -1,6 +1,6 @@
 use Rattle.std.proofs.Common.{ℕ, ◌≡◌, ◌<◌, ◌≤◌, get_or}
 use Rattle.rtui_cell.specs.Cell.{styled, empty_cell}
-use Rattle.rtui_widgets.proofs.line.lay.Given as goal
+use Rattle.rtui_widgets.proofs.line.lay_row.Given as goal
 
 abbrev pub invariant-loop-cell : goal.invariant-loop-cell
 invariant-loop-cell l = record {

@@ -1,0 +1,46 @@
+ghost use Rattle.std.specs.Prelude.{◌≡◌, OnOk, IfOk, IsOk};
+ghost use Rattle.rtui_geometry.specs.Rect.{EdgesFit};
+ghost use Rattle.rtui_backend.specs.Failures.{Counts};
+ghost use Rattle.rtui_viewport.specs.Viewports.{FitsEdges, IsFixed};
+ghost use Rattle.rtui_viewport.specs.Sizing.{first_area, IsAreaChange};
+
+use crate::viewport::Viewport;
+use rtui_backend::Backend;
+use rtui_geometry::Rect;
+
+/// The area that a new viewport is placed on: a fixed one's own, for which no call is made, else the whole screen.
+pub fn first_area<B: Backend>(backend: &mut B, viewport: Viewport) -> Result<Rect, B::Error>
+    requires { FitsEdges viewport }
+    ensures area { IfOk result (λ area. area ≡ first_area viewport (B.screen backend.old)) }
+    ensures fits { IfOk result EdgesFit }
+    ensures stays { OnOk result (B.screen backend.new ≡ B.screen backend.old) }
+    ensures fixed { IsFixed viewport → IsOk result × (backend.new ≡ backend.old) }
+    ensures counts { Counts result (B.failures backend.old) (B.failures backend.new) }
+{
+    if let Viewport::Fixed(area) = viewport {
+        return Ok(area);
+    }
+    Ok(Rect::from(backend.size()?))
+}
+
+/// The area that a viewport must be placed on anew: the whole screen, where that isn't the last known one. A fixed
+/// viewport stays, and no call is made for it.
+pub fn changed_area<B: Backend>(
+    backend: &mut B,
+    viewport: Viewport,
+    known_area: Rect,
+) -> Result<Option<Rect>, B::Error>
+    ensures area { IfOk result (IsAreaChange viewport known_area (B.screen backend.old)) }
+    ensures stays { OnOk result (B.screen backend.new ≡ B.screen backend.old) }
+    ensures fixed { IsFixed viewport → IsOk result × (backend.new ≡ backend.old) }
+    ensures counts { Counts result (B.failures backend.old) (B.failures backend.new) }
+{
+    if let Viewport::Fixed(_) = viewport {
+        return Ok(None);
+    }
+    let area = Rect::from(backend.size()?);
+    if area == known_area {
+        return Ok(None);
+    }
+    Ok(Some(area))
+}
