@@ -9,6 +9,9 @@ mod frames;
 mod labels;
 mod lines;
 mod logging;
+mod sequences;
+#[cfg(test)]
+mod tests;
 
 pub use escape::{EscapeBackend, EscapeError};
 pub use frames::draw_checked;

@@ -95,10 +95,12 @@ fn put_cell(
     }
     let row = usize::from(y) * usize::from(size.width);
     let column = usize::from(x);
-    let behind = column + usize::from(cell.cell_width());
-    let end = behind.max(column + 1).min(usize::from(size.width));
     copy_look(alloc, &mut cells[row + column], cell)?;
-    empty_behind(cells, row + column, row + end);
+    if !cell.is_single_byte() {
+        let behind = column + usize::from(cell.cell_width());
+        let end = behind.max(column + 1).min(usize::from(size.width));
+        empty_behind(cells, row + column, row + end);
+    }
     Ok(())
 }
 

@@ -1,2 +1,3 @@
 pub mod DerivedLemmas
 pub mod CellLemmas
+pub mod WidthLemmas

@@ -228,10 +228,17 @@ impl Cell {
     pub fn reset(&mut self)
         ensures { self.new ≡ empty_cell }
     {
-        *self = Cell::EMPTY;
+        self.symbol.unset();
+        self.fg = Color::Reset;
+        self.bg = Color::Reset;
+        self.underline_color = Color::Reset;
+        self.modifier = Modifier::NONE;
+        self.diff_option = CellDiffOption::None;
+        self.skip = false;
     }
 
     /// Makes the cell equal to another one; where memory is refused it is as it was.
+    #[inline(always)]
     pub fn clone_from(&mut self, alloc: Global, other: &Cell) -> Result<(), AllocError>
         ensures ok { OnOk result (self.new ≡ other.now) }
         ensures err { OnErr result (self.new ≡ self.old) }

@@ -1,9 +1,9 @@
-ghost use Rattle.std.specs.Prelude.{◌≡◌, ℕ, false, min, chars};
+ghost use Rattle.std.specs.Prelude.{◌≡◌, ℕ, ◌<◌, false, min, chars, [], ◌∷◌};
 ghost use Rattle.unicode_width.specs.Width.{str_width};
 ghost use Rattle.rtui_cell.specs.Width.{text_width};
 
 use crate::cell::{Cell, CellDiffOption};
-use unicode_width::UnicodeWidthStr;
+use unicode_width::{UnicodeWidthChar, UnicodeWidthStr};
 
 /// How many columns of a terminal something takes.
 pub trait CellWidth {
@@ -19,12 +19,32 @@ pub trait CellWidth {
 impl CellWidth for &str {
     ghost columns = { λ text. text_width text.now };
 
-    #[tactic(auto, unfolding(crate::specs::Width::text_width))]
+    #[tactic(auto, using(crate::proofs::WidthLemmas::one_character), unfolding(crate::specs::Width::text_width))]
     fn cell_width(&self) -> u16 {
         if self.len() == 1 {
             return 1;
         }
+        // nearly all other texts are one character; the control characters end below U+00A1
+        let mut rest = self.chars();
+        if let Some(first) = rest.next()
+            && first > '\u{A0}'
+            && rest.as_str().is_empty()
+        {
+            return character_columns(first);
+        }
         unicode_columns(self)
+    }
+}
+
+// The Unicode width of a text of this character alone.
+#[tactic(auto, using(crate::proofs::WidthLemmas::one_character))]
+fn character_columns(character: char) -> u16
+    requires { 0xA0 < character }
+    ensures { result ≡ min (str_width false (character ∷ [])) 65535 }
+{
+    match character.width() {
+        Some(columns) => columns as u16,
+        None => 0,
     }
 }
 

@@ -10,17 +10,31 @@ ghost use Rattle.rtui_cell.specs.Symbol.{symbol_text, appended, joined, IsShort}
 use arrayvec::ArrayString;
 use rtui_merge::MergeStrategy;
 use std::alloc::{AllocError, Global};
+use std::fmt;
 use std::hash::{Hash, Hasher};
 use std::marker::Model;
 
 // The bytes of a text that are kept in the symbol itself.
 const INLINE: usize = 22;
 
-#[derive(Debug, Drop)]
+#[derive(Drop)]
 enum Text {
     Unset,
+    // unset again, in the room of a short text, so that taking texts away and setting them writes little
+    Cleared(ArrayString<INLINE>),
     Short(ArrayString<INLINE>),
     Long(String),
+}
+
+// A text that was taken away prints as an unset one.
+impl fmt::Debug for Text {
+    fn fmt<W: fmt::Write>(&self, f: &mut fmt::Formatter<W>) -> fmt::Result {
+        match self {
+            Text::Unset | Text::Cleared(_) => f.write_str("Unset"),
+            Text::Short(text) => f.debug_tuple("Short").field(text).finish(),
+            Text::Long(text) => f.debug_tuple("Long").field(text).finish(),
+        }
+    }
 }
 
 /// The text of a cell, or none yet. An unset symbol reads as one blank and equals one. A text of at most 22
@@ -62,7 +76,7 @@ impl Symbol {
         ensures { result.now ≡ symbol_text self.now }
     {
         match &self.text {
-            Text::Unset => " ",
+            Text::Unset | Text::Cleared(_) => " ",
             Text::Short(text) => text.as_str(),
             Text::Long(text) => text.as_str(),
         }
@@ -74,6 +88,11 @@ impl Symbol {
         ensures err { OnErr result (self.new ≡ self.old) }
         ensures short { IsShort text.now → IsOk result }
     {
+        // the room of a text that was taken away is there to be filled
+        match &self.text {
+            Text::Cleared(room) if text.len() <= INLINE => self.text = Text::Short(*room),
+            _ => {}
+        }
         match &mut self.text {
             Text::Short(stored) if text.len() <= INLINE => {
                 stored.clear();
@@ -84,6 +103,28 @@ impl Symbol {
         Ok(())
     }
 
+    // Puts a text in place of any other; apart, so that the path of a short one stays short.
+    #[inline(never)]
+    fn replace(&mut self, alloc: Global, text: &str) -> Result<(), AllocError>
+        ensures ok { OnOk result (self.new ≡ Some text.now) }
+        ensures err { OnErr result (self.new ≡ self.old) }
+        ensures short { IsShort text.now → IsOk result }
+    {
+        *self = Symbol::new(alloc, text)?;
+        Ok(())
+    }
+
+    // Takes the text away.
+    pub(crate) fn unset(&mut self)
+        ensures { self.new ≡ None }
+    {
+        match &self.text {
+            Text::Unset | Text::Cleared(_) => {}
+            Text::Short(text) => self.text = Text::Cleared(*text),
+            Text::Long(_) => self.text = Text::Unset,
+        }
+    }
+
     /// Puts a text behind the stored one, or in place of an unset symbol; where memory is refused nothing
     /// changes.
     pub fn append(&mut self, alloc: Global, text: &str) -> Result<(), AllocError>
@@ -92,7 +133,7 @@ impl Symbol {
         ensures short { IsShort (appended self.old text.now) → IsOk result }
     {
         match &mut self.text {
-            Text::Unset => *self = Symbol::new(alloc, text)?,
+            Text::Unset | Text::Cleared(_) => *self = Symbol::new(alloc, text)?,
             Text::Short(stored) => {
                 if stored.try_push_str(text).is_err() {
                     self.text = Text::Long(concat(alloc, stored.as_str(), text)?);
@@ -116,7 +157,7 @@ impl Symbol {
         ensures short { IsShort (joined strategy self.old text.now) → IsOk result }
     {
         let joined = match &self.text {
-            Text::Unset => text,
+            Text::Unset | Text::Cleared(_) => text,
             Text::Short(stored) => strategy.merge(stored.as_str(), text),
             Text::Long(stored) => strategy.merge(stored.as_str(), text),
         };
@@ -129,22 +170,27 @@ impl Symbol {
         ensures { result ≡ (length (symbol_text self.now) == 1) }
     {
         match &self.text {
-            Text::Unset => true,
+            Text::Unset | Text::Cleared(_) => true,
             Text::Short(text) => text.len() == 1,
             Text::Long(_) => false,
         }
     }
 
     /// Makes the symbol equal to another one; where memory is refused it is as it was.
+    #[inline(always)]
     pub fn clone_from(&mut self, alloc: Global, other: &Symbol) -> Result<(), AllocError>
         ensures ok { OnOk result (self.new ≡ other.now) }
         ensures err { OnErr result (self.new ≡ self.old) }
         ensures short { IsShort (symbol_text other.now) → IsOk result }
     {
         match &other.text {
-            Text::Unset => self.text = Text::Unset,
-            Text::Short(text) => self.text = Text::Short(*text),
-            Text::Long(_) => *self = other.clone(alloc)?,
+            Text::Unset | Text::Cleared(_) => self.unset(),
+            Text::Short(text) => match &mut self.text {
+                Text::Short(stored) => *stored = *text,
+                Text::Long(_) => self.replace(alloc, text.as_str())?,
+                _ => self.text = Text::Short(*text),
+            },
+            Text::Long(text) => self.replace(alloc, text.as_str())?,
         }
         Ok(())
     }
@@ -155,7 +201,7 @@ impl Symbol {
         ensures short { IsShort (symbol_text self.now) → IsOk result }
     {
         match &self.text {
-            Text::Unset => Ok(Symbol::UNSET),
+            Text::Unset | Text::Cleared(_) => Ok(Symbol::UNSET),
             Text::Short(text) => Ok(Symbol {
                 text: Text::Short(*text),
             }),
@@ -183,13 +229,30 @@ fn concat(alloc: Global, front: &str, back: &str) -> Result<String, AllocError>
     Ok(text)
 }
 
+// Whether two short texts are the same, where single bytes are compared at once.
+fn is_same_short(a: &ArrayString<INLINE>, b: &ArrayString<INLINE>) -> bool
+    ensures { result ≡ pointwise nat_eq a.now.bytes b.now.bytes }
+{
+    if a.len() != b.len() {
+        false
+    } else if a.len() == 1 {
+        a.as_str().as_bytes()[0] == b.as_str().as_bytes()[0]
+    } else {
+        a == b
+    }
+}
+
 impl PartialEq for Symbol {
     ghost eq = { on symbol_text (pointwise nat_eq) };
 
     ghost laws = { Prim.search (comparing, rules) };
 
     fn eq(&self, other: &Symbol) -> bool {
-        self.as_str() == other.as_str()
+        match (&self.text, &other.text) {
+            (Text::Short(a), Text::Short(b)) => is_same_short(a, b),
+            (Text::Unset | Text::Cleared(_), Text::Unset | Text::Cleared(_)) => true,
+            _ => self.as_str() == other.as_str(),
+        }
     }
 }
 

@@ -1,15 +1,11 @@
 -- The walk in steps of a whole cell, as the code takes them.
 use Rattle.std.proofs.lemmas.List.{get_or_default}
 use Rattle.std.specs.Prelude.{max}
-use Rattle.std.proofs.Common.{◌≡◌, ℕ, zero, suc, ◌+◌, ◌-◌, ◌<◌, ◌≤◌, Bool, true, false, ◌&&◌, ◌||◌, not, List, [], map, length, get_or, refl, sym, ap, ◌∙◌, arith}
+use Rattle.std.proofs.Common.{◌≡◌, ℕ, zero, suc, ◌+◌, ◌-◌, ◌<◌, ◌≤◌, Bool, false, List, [], map, length, get_or, refl, sym, ap, ◌∙◌, arith}
 use Rattle.rtui_cell.specs.declared.cell.Cell.{Cell}
-use Rattle.rtui_cell.specs.declared.cell.CellDiffOption.{CellDiffOption}
-use Rattle.rtui_cell.specs.declared.cell.CellDiffOption.TheVariants as DiffOption
-use Rattle.rtui_cell.specs.Cell.{width_of, is_skipped, empty_cell, has_no_option, is_single_byte}
-use Rattle.rtui_cell.specs.Equality.{is_same}
-use Rattle.rtui_cell.proofs.CellLemmas.{single_byte_width, single_byte_option}
+use Rattle.rtui_cell.specs.Cell.{width_of, empty_cell}
 use Rattle.std.proofs.lemmas.Bool.{false≢true}
-use Rattle.rtui_diff.specs.Cells.{cell, is_always, is_always_by}
+use Rattle.rtui_diff.specs.Cells.{cell}
 use Rattle.rtui_diff.specs.DiffRule.{Walk, start, gives_plain, gives_visited, step_plain, give, given}
 use Rattle.rtui_diff.specs.Updates.{update_at}
 use Rattle.rtui_diff.specs.Remaining.{updates_left}
@@ -87,30 +83,11 @@ read-plain ps ns len at end over left force g f d e lt hp hn past is turns =
     given-plain ps ns len at end force (record { over = over; left = left; force = f }) lt past (turns ∙ rw (p, n) refl)
     ∙ ap (λ g. give g at (given ps ns (len - (at + 1 + over)) (record { over = 0; left = at + 1 + left - (at + 1 + over); force = f }) (at + 1 + over))) (sym (is ∙ rw (p, n) refl))
 
-plain_always : (o : CellDiffOption) → has_no_option o ≡ true → is_always_by o ≡ false
-plain_always DiffOption.None e = refl
-plain_always DiffOption.Skip e = refl
-plain_always DiffOption.AlwaysUpdate e = absurd (false≢true e)
-plain_always (DiffOption.ForcedWidth forced) e = refl
-
-not_given_by : (skipped always same : Bool) → always ≡ false → same ≡ true → (not skipped && (always || not same)) ≡ false
-not_given_by true always same a s = refl
-not_given_by false true same a s = absurd (false≢true (sym a))
-not_given_by false false true a s = refl
-not_given_by false false false a s = absurd (false≢true s)
-
--- the same cell of a single byte is not given, and nothing follows it
-same_byte_not_given : (p n : Cell) → is_same p n ≡ true → is_single_byte n ≡ true → gives_plain p n ≡ false
-unfolding is_always
-same_byte_not_given p n same byte =
-    not_given_by (is_skipped n) (is_always_by n.diff_option) (is_same p n) (plain_always n.diff_option (single_byte_option n byte)) same
-
-same_byte_step : (p n : Cell) → is_same p n ≡ true → is_single_byte n ≡ true → start ≡ step_plain p n
-same_byte_step p n same byte =
-    let none = same_byte_not_given p n same byte in
-    let narrow = single_byte_width n byte in
-    sym (step_cases (λ s. s ≡ start) p n (λ _. refl) (λ _. rw narrow refl) (λ _ _ given _ _. absurd (false≢true (sym none ∙ given)))
-    (λ _ given _ _. absurd (false≢true (sym none ∙ given))) (λ _ _. refl))
+-- nothing follows a cell of one column where there was one of one column
+narrow_step : (p n : Cell) → width_of p ≡ 1 → width_of n ≡ 1 → start ≡ step_plain p n
+narrow_step p n former narrow =
+    sym (step_cases (λ s. s ≡ start) p n (λ _. refl) (λ _. rw narrow refl) (λ _ _ _ _ _. rw narrow refl)
+    (λ _ _ _ wider. absurd (false≢true (rw (former, narrow) at wider))) (λ _ _. refl))
 
 -- whether cells are forced is of no account outside a visited range
 given-unvisited : (ps ns : List Cell) (k : ℕ) (force other : Bool) (i : ℕ) →
@@ -118,14 +95,13 @@ given-unvisited : (ps ns : List Cell) (k : ℕ) (force other : Bool) (i : ℕ) �
 given-unvisited ps ns zero force other i = given-none ps ns _ i ∙ sym (given-none ps ns _ i)
 given-unvisited ps ns (suc k) force other i = given-step ps ns k _ i ∙ sym (given-step ps ns k (record { over = 0; left = 0; force = other }) i)
 
-pub read-same_byte : (ps ns : List Cell) (len at end : ℕ) (force : Bool) (d e : Cell) → at < len → len ≤ length ps → len ≤ length ns → end ≤ at →
-    is_same (get_or ps at d) (get_or ns at e) ≡ true → is_single_byte (get_or ns at e) ≡ true →
+pub read-narrow : (ps ns : List Cell) (len at end : ℕ) (force g : Bool) (d e : Cell) → at < len → len ≤ length ps → len ≤ length ns → end ≤ at →
+    g ≡ gives_plain (get_or ps at d) (get_or ns at e) → width_of (get_or ps at d) ≡ 1 → width_of (get_or ns at e) ≡ 1 →
     given ps ns (len - at) (record { over = 0; left = end - at; force = force }) at
-    ≡ given ps ns (len - (at + 1)) (record { over = 0; left = end - (at + 1); force = force }) (at + 1)
-read-same_byte ps ns len at end force d e lt hp hn past same byte =
+    ≡ give g at (given ps ns (len - (at + 1)) (record { over = 0; left = end - (at + 1); force = force }) (at + 1))
+read-narrow ps ns len at end force g d e lt hp hn past is former narrow =
     let none : at + 1 + 0 - (at + 1 + 0) ≡ 0 = omega arith in
     let past_too : end - (at + 1) ≡ 0 = omega arith in
     let on : at + 1 + 0 ≡ at + 1 = omega arith in
-    read-plain ps ns len at end 0 0 force false false d e lt hp hn past
-    (sym (same_byte_not_given _ _ same byte)) (same_byte_step _ _ same byte)
-    ∙ rw (none, past_too, on) (given-unvisited ps ns (len - (at + 1)) false force (at + 1))
+    read-plain ps ns len at end 0 0 force g false d e lt hp hn past is (narrow_step _ _ former narrow)
+    ∙ rw (none, past_too, on) (ap (give g at) (given-unvisited ps ns (len - (at + 1)) false force (at + 1)))

@@ -3,8 +3,11 @@ use Rattle.std.proofs.Common.{◌≡◌, ℕ, zero, suc, ◌+◌, ◌-◌, ◌&&
 use Rattle.std.specs.Prelude.{if◌then◌else◌, nat_lt}
 use Rattle.std.proofs.lemmas.Bool.{false≢true}
 use Rattle.rtui_cell.specs.declared.cell.Cell.{Cell}
-use Rattle.rtui_cell.specs.Cell.{width_of, is_skipped}
-use Rattle.rtui_diff.specs.Cells.{has_fe0f, is_forced, is_always, shows_on_blank, cell}
+use Rattle.rtui_cell.specs.declared.cell.CellDiffOption.{CellDiffOption}
+use Rattle.rtui_cell.specs.declared.cell.CellDiffOption.TheVariants as DiffOption
+use Rattle.rtui_cell.specs.Cell.{width_of, is_skipped, has_no_option, is_single_byte}
+use Rattle.rtui_cell.proofs.CellLemmas.{single_byte_option}
+use Rattle.rtui_diff.specs.Cells.{has_fe0f, is_forced, is_always, is_always_by, shows_on_blank, cell}
 use Rattle.rtui_cell.specs.Equality.{is_same}
 use Rattle.rtui_diff.specs.DiffRule.{Walk, start, gives, gives_plain, step, step_plain, give, given}
 
@@ -64,3 +67,14 @@ pub unskipped : (over left : ℕ) (force : Bool) (p n : Cell) → gives (record 
 unskipped (suc over) left force p n e = absurd (false≢true e)
 unskipped zero (suc left) force p n e = unskipped_by (is_skipped n) _ e
 unskipped zero zero force p n e = unskipped_by (is_skipped n) _ e
+
+plain_always : (o : CellDiffOption) → has_no_option o ≡ true → is_always_by o ≡ false
+plain_always DiffOption.None e = refl
+plain_always DiffOption.Skip e = refl
+plain_always DiffOption.AlwaysUpdate e = absurd (false≢true e)
+plain_always (DiffOption.ForcedWidth forced) e = refl
+
+-- a cell of a single byte is not drawn each time
+pub single_byte_always : (n : Cell) → is_single_byte n ≡ true → is_always n ≡ false
+unfolding is_always
+single_byte_always n e = plain_always n.diff_option (single_byte_option n e)

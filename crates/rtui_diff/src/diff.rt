@@ -1,11 +1,11 @@
 //! The updates between two frames.
 
-ghost use Rattle.std.specs.Prelude.{◌≡◌, ◌+◌, ◌*◌, ◌<◌, ◌≤◌, length};
+ghost use Rattle.std.specs.Prelude.{◌≡◌, ◌+◌, ◌*◌, ◌^◌, ◌<◌, ◌≤◌, length};
 ghost use Rattle.rtui_cell.specs.Grid.{update_by};
 ghost use Rattle.rtui_diff.specs.Diff.{IsDiff};
 
 use crate::cells::is_same;
-use crate::step::{is_given, is_given_when_visited, step_after};
+use crate::step::{is_given, is_given_when_visited, is_single_byte_given, step_after};
 use rtui_cell::{Cell, CellWidth};
 use std::marker::Model;
 
@@ -139,13 +139,13 @@ impl<'prev, 'next> DiffWalk<'prev, 'next> {
             return is_given_when_visited(self.force, prev, next);
         }
         let same = is_same(prev, next);
-        if same && next.is_single_byte() {
+        if next.is_single_byte() && (same || prev.is_single_byte()) {
             self.pos = at + 1;
-            return false;
+            return is_single_byte_given(next, same);
         }
         let given = is_given(next, same);
         let step = step_after(prev, next, given);
-        self.pos = at + 1 + usize::from(step.over);
+        self.pos = place_behind(at, step.over);
         self.end = at + 1 + usize::from(step.left);
         self.force = step.force;
         given
@@ -164,5 +164,18 @@ impl<'prev, 'next> DiffWalk<'prev, 'next> {
             self.y + (at / width) as u16,
             &next[at],
         )
+    }
+}
+
+// The place behind a cell and the columns that are stepped over. The usual steps stand apart, so that a processor
+// that foresees them reads on before the width is known.
+fn place_behind(at: usize, over: u16) -> usize
+    requires { at + 65536 < 2 ^ 64 }
+    ensures { result ≡ at + 1 + over }
+{
+    match over {
+        0 => at + 1,
+        1 => at + 2,
+        _ => at + 1 + usize::from(over),
     }
 }

@@ -1,7 +1,7 @@
 //! What the walk does at one cell.
 
-ghost use Rattle.std.specs.Prelude.{◌≡◌, ◌&&◌, ◌||◌, not};
-ghost use Rattle.rtui_cell.specs.Cell.{is_skipped};
+ghost use Rattle.std.specs.Prelude.{◌≡◌, ◌&&◌, ◌||◌, not, IsTrue};
+ghost use Rattle.rtui_cell.specs.Cell.{is_skipped, is_single_byte};
 ghost use Rattle.rtui_diff.specs.Cells.{is_always};
 ghost use Rattle.rtui_diff.specs.DiffRule.{gives_visited, gives_plain, step_plain};
 ghost use Rattle.rtui_diff.specs.Step.{walk_of};
@@ -29,6 +29,15 @@ pub fn is_given(next: &Cell, same: bool) -> bool
     ensures { result ≡ (not (is_skipped next.now) && (is_always next.now || not same)) }
 {
     !next.is_skipped() && (is_always(next) || !same)
+}
+
+// The same for a cell of a single byte, which has no option.
+#[tactic(auto, using(crate::proofs::WalkLemmas::single_byte_always))]
+pub fn is_single_byte_given(next: &Cell, same: bool) -> bool
+    requires { IsTrue (is_single_byte next.now) }
+    ensures { result ≡ (not (is_skipped next.now) && (is_always next.now || not same)) }
+{
+    !same && !next.is_skipped()
 }
 
 // What follows a cell that is given or not.

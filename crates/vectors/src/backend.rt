@@ -1,5 +1,5 @@
 //! The backend in memory.
-use crate::sheets::{put, row};
+use crate::rows::{put, row};
 use rtui_backend::{Backend, TestBackend, TestError, WindowSize};
 use rtui_cell::{Cell, CellDiffOption};
 use rtui_geometry::{Position, Size};

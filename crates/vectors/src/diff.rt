@@ -3,7 +3,7 @@ ghost use Rattle.std.specs.Prelude.{◌≡◌, IfOk};
 ghost use Rattle.rtui_geometry.specs.Rect.{EdgesFit};
 ghost use Rattle.rtui_buffer.specs.Frame.{IsAligned};
 
-use crate::sheets::{put, row};
+use crate::rows::{put, row};
 use rtui_buffer::{Buffer, Cell, CellDiffOption};
 use rtui_geometry::{Position, Rect};
 use rtui_style::{Color, Modifier};

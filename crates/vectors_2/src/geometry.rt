@@ -1,6 +1,7 @@
 //! Rectangles and the small types beside them.
 use crate::texts::prints;
 use rtui_geometry::{Columns, Margin, Offset, Position, Positions, Rect, Rows, Size};
+use std::alloc::{AllocError, Global};
 use std::test::Fail;
 
 /// The rectangle at this position, cut at the last column and row.
@@ -58,8 +59,8 @@ fn edges_are_cut(rt: HostRuntime) {
 #[test]
 fn edges_of_fields_are_not_cut(rt: HostRuntime) {
     let fields = uncut(65530, 0, 100, 1);
-    assert_eq!(rt; fields.right(), 65535);
-    assert_eq!(rt; Rect::from((position(65530, 0), size(100, 1))), fields);
+    assert!(rt; fields.right() == 65535);
+    assert!(rt; Rect::from((position(65530, 0), size(100, 1))) == fields);
 }
 
 /// Whether a rectangle has this area and is empty or not.
@@ -226,7 +227,7 @@ fn offsets_of_rectangles(rt: HostRuntime) {
     assert!(rt; rect_moves(area, offset(-1, -2), rect(2, 2, 5, 6), rect(4, 6, 5, 6)));
     assert!(rt; rect_moves(area, Offset::MIN, first, last));
     assert!(rt; rect_moves(area, Offset::MAX, last, first));
-    assert_eq!(rt; area - (-Offset::MAX), last);
+    assert!(rt; area - (-Offset::MAX) == last);
 }
 
 /// Whether each call that adds an offset to a position gives the first result,
@@ -257,7 +258,7 @@ fn offsets_of_positions(rt: HostRuntime) {
     assert!(rt; position_moves(ten, offset(5, 20), position(15, 30), position(5, 0)));
     assert!(rt; position_moves(ten, Offset::MAX, Position::MAX, Position::ORIGIN));
     assert!(rt; position_moves(ten, Offset::MIN, Position::MIN, Position::MAX));
-    assert_eq!(rt; -Offset::new(3, -4), offset(-3, 4));
+    assert!(rt; -Offset::new(3, -4) == offset(-3, 4));
 }
 
 /// Whether so many rows are left and the next from the front is this.
@@ -369,44 +370,52 @@ fn counts_of_positions(rt: HostRuntime) {
     assert!(rt; position_count_is(rect(0, 0, 300, 300), 90000));
 }
 
-#[test]
-fn walks_agree(rt: HostRuntime) -> Result<(), Fail> {
-    let area = rect(3, 2, 3, 2);
-    let mut seen = Vec::new(rt.alloc());
+/// The positions of each row in turn.
+fn walked_by_rows(alloc: Global, area: Rect) -> Result<Vec<Position>, AllocError> {
+    let mut seen = Vec::new(alloc);
     for row in area.rows() {
         for position in row.positions() {
             seen.push(position)?;
         }
     }
-    let positions = area.positions().collect::<Vec<_>>(rt.alloc())?;
-    assert_eq!(rt; seen, positions);
-    assert_eq!(rt; positions.len(), 6);
-    assert!(rt; positions.iter().all(|p| area.contains(*p)));
+    Ok(seen)
+}
+
+/// Whether so many positions are walked by rows and at once, all in the rectangle.
+fn walks_agree(alloc: Global, area: Rect, count: usize) -> Result<bool, AllocError> {
+    let seen = walked_by_rows(alloc, area)?;
+    let positions = area.positions().collect::<Vec<_>>(alloc)?;
+    Ok(seen == positions && positions.len() == count && positions.iter().all(|p| area.contains(*p)))
+}
+
+#[test]
+fn walks(rt: HostRuntime) -> Result<(), Fail> {
+    assert!(rt; walks_agree(rt.alloc(), rect(3, 2, 3, 2), 6)?);
     Ok(())
 }
 
 #[test]
 fn constant_rectangles(rt: HostRuntime) {
-    assert_eq!(rt; Rect::ZERO, rect(0, 0, 0, 0));
-    assert_eq!(rt; Rect::MIN, rect(u16::MIN, u16::MIN, u16::MIN, u16::MIN));
-    assert_eq!(rt; Rect::MAX, rect(0, 0, u16::MAX, u16::MAX));
-    assert_eq!(rt; Rect::default(), Rect::ZERO);
+    assert!(rt; Rect::ZERO == rect(0, 0, 0, 0));
+    assert!(rt; Rect::MIN == rect(u16::MIN, u16::MIN, u16::MIN, u16::MIN));
+    assert!(rt; Rect::MAX == rect(0, 0, u16::MAX, u16::MAX));
+    assert!(rt; Rect::default() == Rect::ZERO);
 }
 
 #[test]
 fn constant_positions(rt: HostRuntime) {
-    assert_eq!(rt; Position::ORIGIN, position(0, 0));
-    assert_eq!(rt; Position::MIN, position(u16::MIN, u16::MIN));
-    assert_eq!(rt; Position::MAX, position(u16::MAX, u16::MAX));
-    assert_eq!(rt; Position::default(), Position::ORIGIN);
+    assert!(rt; Position::ORIGIN == position(0, 0));
+    assert!(rt; Position::MIN == position(u16::MIN, u16::MIN));
+    assert!(rt; Position::MAX == position(u16::MAX, u16::MAX));
+    assert!(rt; Position::default() == Position::ORIGIN);
 }
 
 #[test]
 fn constant_offsets(rt: HostRuntime) {
-    assert_eq!(rt; Offset::ZERO, offset(0, 0));
-    assert_eq!(rt; Offset::MIN, offset(i32::MIN, i32::MIN));
-    assert_eq!(rt; Offset::MAX, offset(i32::MAX, i32::MAX));
-    assert_eq!(rt; Offset::default(), Offset::ZERO);
+    assert!(rt; Offset::ZERO == offset(0, 0));
+    assert!(rt; Offset::MIN == offset(i32::MIN, i32::MIN));
+    assert!(rt; Offset::MAX == offset(i32::MAX, i32::MAX));
+    assert!(rt; Offset::default() == Offset::ZERO);
 }
 
 /// Whether this is the area of a size.
@@ -416,12 +425,12 @@ fn size_area_is(size: Size, area: u32) -> bool {
 
 #[test]
 fn constant_sizes_and_margins(rt: HostRuntime) {
-    assert_eq!(rt; Size::ZERO, size(0, 0));
-    assert_eq!(rt; Size::MIN, size(u16::MIN, u16::MIN));
-    assert_eq!(rt; Size::MAX, size(u16::MAX, u16::MAX));
+    assert!(rt; Size::ZERO == size(0, 0));
+    assert!(rt; Size::MIN == size(u16::MIN, u16::MIN));
+    assert!(rt; Size::MAX == size(u16::MAX, u16::MAX));
     assert!(rt; size_area_is(Size::MAX, 4294836225));
-    assert_eq!(rt; Size::default(), Size::ZERO);
-    assert_eq!(rt; Margin::default(), margin(0, 0));
+    assert!(rt; Size::default() == Size::ZERO);
+    assert!(rt; Margin::default() == margin(0, 0));
 }
 
 /// Whether a rectangle has this corner and this size, and is made of them.
@@ -453,14 +462,14 @@ fn conversions(rt: HostRuntime) {
     assert!(rt; position_of_pair_is((1, 2), corner));
     assert!(rt; size_of_pair_is((3, 4), extent));
     assert!(rt; is_made_of(rect(1, 2, 3, 4), corner, extent));
-    assert_eq!(rt; Rect::from(size(3, 4)), rect(0, 0, 3, 4));
-    assert_eq!(rt; Offset::from(position(4, 9)), Offset { x: 4, y: 9 });
-    assert_eq!(rt;
-        Margin::from(5),
-        Margin {
-            horizontal: 5,
-            vertical: 5
-        }
+    assert!(rt; Rect::from(size(3, 4)) == rect(0, 0, 3, 4));
+    assert!(rt; Offset::from(position(4, 9)) == Offset { x: 4, y: 9 });
+    assert!(rt;
+        Margin::from(5)
+            == Margin {
+                horizontal: 5,
+                vertical: 5
+            }
     );
 }
 

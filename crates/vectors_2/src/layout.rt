@@ -58,25 +58,16 @@ fn alignment_names(rt: HostRuntime) -> Result<(), Fail> {
     Ok(())
 }
 
-#[test]
-fn flex_names(rt: HostRuntime) -> Result<(), Fail> {
-    assert!(rt; is_named(rt.alloc(), Flex::Legacy, "Legacy")?);
-    assert!(rt; is_named(rt.alloc(), Flex::Start, "Start")?);
-    assert!(rt; is_named(rt.alloc(), Flex::End, "End")?);
-    assert!(rt; is_named(rt.alloc(), Flex::Center, "Center")?);
-    assert!(rt; is_named(rt.alloc(), Flex::SpaceBetween, "SpaceBetween")?);
-    assert!(rt; is_named(rt.alloc(), Flex::SpaceEvenly, "SpaceEvenly")?);
-    assert!(rt; is_named(rt.alloc(), Flex::SpaceAround, "SpaceAround")?);
-    assert!(rt; refuses::<Flex>(&NO_VARIANT));
-    assert!(rt;
-        prints(
-            rt.alloc(),
-            &ParseError::VariantNotFound,
-            "Matching variant not found"
-        )?
-    );
-    Ok(())
-}
+/// Kinds of flex, in the order of the questions about them, and their names.
+static FLEXES: [(Flex, &str); 7] = [
+    (Flex::Legacy, "Legacy"),
+    (Flex::Start, "Start"),
+    (Flex::End, "End"),
+    (Flex::Center, "Center"),
+    (Flex::SpaceBetween, "SpaceBetween"),
+    (Flex::SpaceEvenly, "SpaceEvenly"),
+    (Flex::SpaceAround, "SpaceAround"),
+];
 
 /// Whether the question at this place, and no other, is answered with yes.
 fn flex_is(flex: Flex, place: usize) -> bool {
@@ -93,38 +84,43 @@ fn flex_is(flex: Flex, place: usize) -> bool {
 }
 
 #[test]
-fn flex_kinds(rt: HostRuntime) {
-    assert!(rt; flex_is(Flex::Legacy, 0));
-    assert!(rt; flex_is(Flex::Start, 1));
-    assert!(rt; flex_is(Flex::End, 2));
-    assert!(rt; flex_is(Flex::Center, 3));
-    assert!(rt; flex_is(Flex::SpaceBetween, 4));
-    assert!(rt; flex_is(Flex::SpaceEvenly, 5));
-    assert!(rt; flex_is(Flex::SpaceAround, 6));
+fn flex_names_and_kinds(rt: HostRuntime) -> Result<(), Fail> {
+    for (place, (flex, name)) in FLEXES.iter().enumerate() {
+        assert!(rt; is_named(rt.alloc(), *flex, name)?, "{name}");
+        assert!(rt; flex_is(*flex, place), "{name}");
+    }
+    assert!(rt; refuses::<Flex>(&NO_VARIANT));
+    Ok(())
+}
+
+#[test]
+fn refusal_has_its_text(rt: HostRuntime) -> Result<(), Fail> {
+    let refusal = ParseError::VariantNotFound;
+    assert!(rt; prints(rt.alloc(), &refusal, "Matching variant not found")?);
+    Ok(())
 }
 
 #[test]
 fn defaults(rt: HostRuntime) {
-    assert_eq!(rt; Direction::default(), Direction::Vertical);
-    assert_eq!(rt; Alignment::default(), Alignment::Left);
-    assert_eq!(rt; VerticalAlignment::default(), VerticalAlignment::Top);
-    assert_eq!(rt; Flex::default(), Flex::Start);
-    assert_eq!(rt; Constraint::default(), Constraint::Percentage(100));
-    assert_eq!(rt; Spacing::default(), Spacing::Space(0));
-    assert_eq!(rt; Direction::Horizontal.perpendicular(), Direction::Vertical);
-    assert_eq!(rt; Direction::Vertical.perpendicular(), Direction::Horizontal);
+    assert!(rt; Direction::default() == Direction::Vertical);
+    assert!(rt; Alignment::default() == Alignment::Left);
+    assert!(rt; VerticalAlignment::default() == VerticalAlignment::Top);
+    assert!(rt; Flex::default() == Flex::Start);
+    assert!(rt; Constraint::default() == Constraint::Percentage(100));
+    assert!(rt; Spacing::default() == Spacing::Space(0));
+    assert!(rt; Direction::Horizontal.perpendicular() == Direction::Vertical);
+    assert!(rt; Direction::Vertical.perpendicular() == Direction::Horizontal);
 }
 
-#[test]
-fn constraint_texts(rt: HostRuntime) -> Result<(), Fail> {
-    assert!(rt; prints(rt.alloc(), &Constraint::Min(10), "Min(10)")?);
-    assert!(rt; prints(rt.alloc(), &Constraint::Max(10), "Max(10)")?);
-    assert!(rt; prints(rt.alloc(), &Constraint::Length(10), "Length(10)")?);
-    assert!(rt; prints(rt.alloc(), &Constraint::Percentage(50), "Percentage(50)")?);
-    assert!(rt; prints(rt.alloc(), &Constraint::Ratio(1, 2), "Ratio(1, 2)")?);
-    assert!(rt; prints(rt.alloc(), &Constraint::Fill(65535), "Fill(65535)")?);
-    Ok(())
-}
+/// Constraints, in the order of the questions about them, and what they print.
+static CONSTRAINTS: [(Constraint, &str); 6] = [
+    (Constraint::Min(10), "Min(10)"),
+    (Constraint::Max(10), "Max(10)"),
+    (Constraint::Length(10), "Length(10)"),
+    (Constraint::Percentage(50), "Percentage(50)"),
+    (Constraint::Ratio(1, 2), "Ratio(1, 2)"),
+    (Constraint::Fill(65535), "Fill(65535)"),
+];
 
 /// Whether the question at this place, and no other, is answered with yes.
 fn constraint_is(constraint: Constraint, place: usize) -> bool {
@@ -139,16 +135,6 @@ fn constraint_is(constraint: Constraint, place: usize) -> bool {
     is_only(&answers, place)
 }
 
-#[test]
-fn constraint_kinds(rt: HostRuntime) {
-    assert!(rt; constraint_is(Constraint::Min(10), 0));
-    assert!(rt; constraint_is(Constraint::Max(10), 1));
-    assert!(rt; constraint_is(Constraint::Length(10), 2));
-    assert!(rt; constraint_is(Constraint::Percentage(50), 3));
-    assert!(rt; constraint_is(Constraint::Ratio(1, 2), 4));
-    assert!(rt; constraint_is(Constraint::Fill(65535), 5));
-}
-
 /// Whether a constraint lent or copied by a conversion stays the same.
 fn converts_to_itself(constraint: Constraint) -> bool {
     let lent: &Constraint = constraint.as_ref();
@@ -156,38 +142,56 @@ fn converts_to_itself(constraint: Constraint) -> bool {
 }
 
 #[test]
-fn constraint_conversions(rt: HostRuntime) {
-    assert!(rt; converts_to_itself(Constraint::Min(10)));
-    assert!(rt; converts_to_itself(Constraint::Max(10)));
-    assert!(rt; converts_to_itself(Constraint::Length(10)));
-    assert!(rt; converts_to_itself(Constraint::Percentage(50)));
-    assert!(rt; converts_to_itself(Constraint::Ratio(1, 2)));
-    assert!(rt; converts_to_itself(Constraint::Fill(65535)));
-    assert_eq!(rt; Constraint::from(7), Constraint::Length(7));
+fn constraints(rt: HostRuntime) -> Result<(), Fail> {
+    for (place, (constraint, text)) in CONSTRAINTS.iter().enumerate() {
+        assert!(rt; prints(rt.alloc(), constraint, text)?, "{text}");
+        assert!(rt; constraint_is(*constraint, place), "{text}");
+        assert!(rt; converts_to_itself(*constraint), "{text}");
+    }
+    assert!(rt; Constraint::from(7) == Constraint::Length(7));
+    Ok(())
 }
 
-fn lengths_are(alloc: Global, numbers: &[u16], wanted: &[Constraint]) -> Result<bool, AllocError> {
-    Ok(Constraint::from_lengths(alloc, numbers)?.as_slice() == wanted)
+/// Constraints of one, two and three, in the order of `all_of`.
+static LISTS: [[Constraint; 3]; 5] = [
+    [
+        Constraint::Length(1),
+        Constraint::Length(2),
+        Constraint::Length(3),
+    ],
+    [Constraint::Max(1), Constraint::Max(2), Constraint::Max(3)],
+    [Constraint::Min(1), Constraint::Min(2), Constraint::Min(3)],
+    [
+        Constraint::Percentage(1),
+        Constraint::Percentage(2),
+        Constraint::Percentage(3),
+    ],
+    [
+        Constraint::Fill(1),
+        Constraint::Fill(2),
+        Constraint::Fill(3),
+    ],
+];
+
+/// Constraints of these numbers: lengths, maxima, minima, percentages or fills.
+fn all_of(alloc: Global, place: usize, numbers: &[u16]) -> Result<Vec<Constraint>, AllocError> {
+    match place {
+        0 => Constraint::from_lengths(alloc, numbers),
+        1 => Constraint::from_maxes(alloc, numbers),
+        2 => Constraint::from_mins(alloc, numbers),
+        3 => Constraint::from_percentages(alloc, numbers),
+        _ => Constraint::from_fills(alloc, numbers),
+    }
 }
 
-fn percentages_are(
+/// Whether constraints of these numbers are these.
+fn list_is(
     alloc: Global,
+    place: usize,
     numbers: &[u16],
     wanted: &[Constraint],
 ) -> Result<bool, AllocError> {
-    Ok(Constraint::from_percentages(alloc, numbers)?.as_slice() == wanted)
-}
-
-fn maxes_are(alloc: Global, numbers: &[u16], wanted: &[Constraint]) -> Result<bool, AllocError> {
-    Ok(Constraint::from_maxes(alloc, numbers)?.as_slice() == wanted)
-}
-
-fn mins_are(alloc: Global, numbers: &[u16], wanted: &[Constraint]) -> Result<bool, AllocError> {
-    Ok(Constraint::from_mins(alloc, numbers)?.as_slice() == wanted)
-}
-
-fn fills_are(alloc: Global, numbers: &[u16], wanted: &[Constraint]) -> Result<bool, AllocError> {
-    Ok(Constraint::from_fills(alloc, numbers)?.as_slice() == wanted)
+    Ok(all_of(alloc, place, numbers)?.as_slice() == wanted)
 }
 
 fn ratios_are(
@@ -198,42 +202,20 @@ fn ratios_are(
     Ok(Constraint::from_ratios(alloc, ratios)?.as_slice() == wanted)
 }
 
-#[test]
-fn lists_of_fixed_constraints(rt: HostRuntime) -> Result<(), Fail> {
-    let lengths = [
-        Constraint::Length(1),
-        Constraint::Length(2),
-        Constraint::Length(3),
-    ];
-    assert!(rt; lengths_are(rt.alloc(), &[1, 2, 3], &lengths)?);
-    assert!(rt; lengths_are(rt.alloc(), &[], &[])?);
-    let maxes = [Constraint::Max(1), Constraint::Max(2), Constraint::Max(3)];
-    assert!(rt; maxes_are(rt.alloc(), &[1, 2, 3], &maxes)?);
-    let mins = [Constraint::Min(1), Constraint::Min(2), Constraint::Min(3)];
-    assert!(rt; mins_are(rt.alloc(), &[1, 2, 3], &mins)?);
-    Ok(())
-}
+/// Constraints by ratios.
+static RATIOS: [Constraint; 3] = [
+    Constraint::Ratio(1, 4),
+    Constraint::Ratio(1, 2),
+    Constraint::Ratio(3, 4),
+];
 
 #[test]
-fn lists_of_relative_constraints(rt: HostRuntime) -> Result<(), Fail> {
-    let percentages = [
-        Constraint::Percentage(1),
-        Constraint::Percentage(2),
-        Constraint::Percentage(3),
-    ];
-    assert!(rt; percentages_are(rt.alloc(), &[1, 2, 3], &percentages)?);
-    let fills = [
-        Constraint::Fill(1),
-        Constraint::Fill(2),
-        Constraint::Fill(3),
-    ];
-    assert!(rt; fills_are(rt.alloc(), &[1, 2, 3], &fills)?);
-    let ratios = [
-        Constraint::Ratio(1, 4),
-        Constraint::Ratio(1, 2),
-        Constraint::Ratio(3, 4),
-    ];
-    assert!(rt; ratios_are(rt.alloc(), &[(1, 4), (1, 2), (3, 4)], &ratios)?);
+fn lists_of_constraints(rt: HostRuntime) -> Result<(), Fail> {
+    for (place, wanted) in LISTS.iter().enumerate() {
+        assert!(rt; list_is(rt.alloc(), place, &[1, 2, 3], wanted)?, "{place}");
+    }
+    assert!(rt; list_is(rt.alloc(), 0, &[], &[])?);
+    assert!(rt; ratios_are(rt.alloc(), &[(1, 4), (1, 2), (3, 4)], &RATIOS)?);
     Ok(())
 }
 
@@ -257,7 +239,7 @@ fn spacing_from_numbers(rt: HostRuntime) {
     assert!(rt; wide_spacing_is(-70000, Spacing::Overlap(32768)));
     assert!(rt; wide_spacing_is(70000, Spacing::Space(32767)));
     assert!(rt; wide_spacing_is(i32::MIN, Spacing::Overlap(32768)));
-    assert_eq!(rt; Spacing::from(65535u16), Spacing::Space(65535));
+    assert!(rt; Spacing::from(65535u16) == Spacing::Space(65535));
 }
 
 /// Whether a layout has these parts.
@@ -312,7 +294,7 @@ fn builders_change_their_own_part(rt: HostRuntime) -> Result<(), Fail> {
 
     let constraints = [Constraint::Length(3), Constraint::Min(0)];
     let layout = in_a_row(layout, &constraints)?;
-    assert_eq!(rt; layout.margin_of(), Margin::new(2, 2));
+    assert!(rt; layout.margin_of() == Margin::new(2, 2));
 
     let layout = spaced(layout);
     let margin = Margin::new(3, 4);
@@ -354,29 +336,40 @@ fn copies(rt: HostRuntime) -> Result<(), Fail> {
     Ok(())
 }
 
-/// Whether `new` makes this layout.
+/// Whether `new` makes this layout, of these constraints.
 fn is_new(
-    layout: &Layout,
     alloc: Global,
+    layout: &Layout,
     direction: Direction,
     constraints: &[Constraint],
 ) -> Result<bool, AllocError> {
-    Ok(*layout == Layout::new(alloc, direction, constraints)?)
+    Ok(
+        *layout == Layout::new(alloc, direction, constraints)?
+            && layout.constraints_of() == constraints,
+    )
 }
 
-/// Whether layouts differ, and no more once the first is turned.
-fn differ_by_direction(vertical: Layout, horizontal: &Layout) -> bool {
-    vertical != *horizontal && vertical.direction(Direction::Horizontal) == *horizontal
+/// Whether layouts in a column and in a row are new ones.
+fn are_new(alloc: Global, constraints: &[Constraint]) -> Result<bool, AllocError> {
+    let vertical = Layout::vertical(alloc, constraints)?;
+    let horizontal = Layout::horizontal(alloc, constraints)?;
+    Ok(
+        is_new(alloc, &vertical, Direction::Vertical, constraints)?
+            && is_new(alloc, &horizontal, Direction::Horizontal, constraints)?,
+    )
+}
+
+/// Whether such layouts differ, and no more once the first is turned.
+fn differ_by_direction(alloc: Global, constraints: &[Constraint]) -> Result<bool, AllocError> {
+    let vertical = Layout::vertical(alloc, constraints)?;
+    let horizontal = Layout::horizontal(alloc, constraints)?;
+    Ok(vertical != horizontal && vertical.direction(Direction::Horizontal) == horizontal)
 }
 
 #[test]
 fn layouts_with_constraints(rt: HostRuntime) -> Result<(), Fail> {
     let constraints = [Constraint::Max(9), Constraint::Ratio(1, 3)];
-    let vertical = Layout::vertical(rt.alloc(), &constraints)?;
-    assert!(rt; is_new(&vertical, rt.alloc(), Direction::Vertical, &constraints)?);
-    let horizontal = Layout::horizontal(rt.alloc(), &constraints)?;
-    assert!(rt; is_new(&horizontal, rt.alloc(), Direction::Horizontal, &constraints)?);
-    assert_eq!(rt; horizontal.constraints_of(), constraints.as_slice());
-    assert!(rt; differ_by_direction(vertical.clone(rt.alloc())?, &horizontal));
+    assert!(rt; are_new(rt.alloc(), &constraints)?);
+    assert!(rt; differ_by_direction(rt.alloc(), &constraints)?);
     Ok(())
 }

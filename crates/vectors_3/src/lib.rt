@@ -1,17 +1,26 @@
-//! Tests of styles, colours, palettes, symbol tables and border merging: worked values, printed text, and each call once.
+//! Tests of terminals and scripts: worked values, printed text, rows inserted above a viewport, viewports that are cleared,
+//! drawn on or given another size, each call that takes memory once, refused memory, and each backend call failing in turn.
 #![tactic(auto)]
 
 #[cfg(test)]
-mod color;
+mod calls;
 #[cfg(test)]
-mod merge;
+mod compared;
 #[cfg(test)]
-mod palette;
+mod failing;
 #[cfg(test)]
-mod style;
+mod failing_viewports;
 #[cfg(test)]
-mod stylize;
+mod insertion;
 #[cfg(test)]
-mod symbols;
+mod marked;
 #[cfg(test)]
-mod texts;
+mod memory;
+#[cfg(test)]
+mod playing;
+#[cfg(test)]
+mod script;
+#[cfg(test)]
+mod terminal;
+#[cfg(test)]
+mod viewports;

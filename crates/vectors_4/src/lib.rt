@@ -1,22 +1,11 @@
-//! Tests of spans and lines, and of buffers: columns of texts, what buffers are made of, their cells by position, painting,
-//! one laid over another, and each call that takes memory; and of screens of lines.
+//! Tests of texts as data, what prints as texts, texts in styles, and texts on a buffer.
 #![tactic(auto)]
 
 #[cfg(test)]
-mod areas;
+mod printed;
 #[cfg(test)]
-mod cells;
-#[cfg(test)]
-mod columns;
-#[cfg(test)]
-mod lines;
-#[cfg(test)]
-mod overlay;
-#[cfg(test)]
-mod painting;
-#[cfg(test)]
-mod screens;
+mod rendering;
 #[cfg(test)]
 mod sheets;
 #[cfg(test)]
-mod spans;
+mod text;

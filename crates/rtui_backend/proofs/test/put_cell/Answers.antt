@@ -5,11 +5,21 @@ use Rattle.rtui_backend.proofs.LookLemmas.{look_at-set}
 use Rattle.rtui_backend.proofs.PutLemmas.{put_shows}
 use Rattle.rtui_backend.proofs.test.put_cell.Goals as goal
 
-pub returns-clause-grid : goal.returns-clause-grid
-returns-clause-grid c =
+pub returns-then-not-is_single_byte-clause-grid : goal.returns-then-not-is_single_byte-clause-grid
+returns-then-not-is_single_byte-clause-grid c =
     put_shows c.args.size.width c.args.size.height _ _ _ (omega arith) (omega arith)
     (λ k.
-    let behind = simp (c.from.ensures, c.from-2.ensures, c.from-column.ensures, c.cell_width.ensures, c.from-3.ensures, c.from-4.ensures, c.max.ensures, c.min-end.ensures) at (c.empty_behind.ensures.looks k) in
+    let behind = simp (c.from.ensures, c.from-2.ensures, c.from-column.ensures, c.cell_width.ensures, c.from-then-not-is_single_byte.ensures, c.from-then-not-is_single_byte-2.ensures, c.max.ensures, c.min-end.ensures) at (c.empty_behind.ensures.looks k) in
     let inside : c.args.y * c.args.size.width + c.args.x < length c.args.cells.now = grind (arith, common_steps) in
     let copied = look_at-set c.args.cells.now (c.args.y * c.args.size.width + c.args.x) k c.copy_look.new.to inside in
     rw (behind, copied, c.copy_look.ensures.look) (grind (arith, nat_tests)))
+
+pub returns-else-not-is_single_byte-clause-grid : goal.returns-else-not-is_single_byte-clause-grid
+returns-else-not-is_single_byte-clause-grid c =
+    let narrow = c.is_single_byte.ensures.narrow c.if-not-is_single_byte.false in
+    rw (c.from.ensures, c.from-2.ensures, c.from-column.ensures)
+    (put_shows c.args.size.width c.args.size.height _ _ _ (omega arith) (omega arith)
+    (λ k.
+    let inside : c.args.y * c.args.size.width + c.args.x < length c.args.cells.now = grind (arith, common_steps) in
+    let copied = look_at-set c.args.cells.now (c.args.y * c.args.size.width + c.args.x) k c.copy_look.new.to inside in
+    rw (copied, c.copy_look.ensures.look, narrow) (grind (arith, nat_tests))))

@@ -1,6 +1,8 @@
 use Rattle.std.proofs.Common.{◌+◌, sym, ◌∙◌, arith}
-use Rattle.rtui_diff.proofs.DiffLemmas.{read-visited, read-plain, read-same_byte}
+use Rattle.rtui_diff.proofs.DiffLemmas.{read-visited, read-plain, read-narrow}
+use Rattle.rtui_cell.proofs.CellLemmas.{same_width}
 use Rattle.rtui_diff.proofs.diff.DiffWalk.advance.Goals as goal
+use Rattle.rtui_diff.proofs.diff.DiffWalk.advance.Goals.{then-same, else-same}
 
 pub returns-then-at-self-clause-gives : goal.returns-then-at-self-clause-gives
 returns-then-at-self-clause-gives c =
@@ -8,16 +10,22 @@ returns-then-at-self-clause-gives c =
     read-visited s.prev.now s.next.now s.len s.pos s.end (s.pos + c.from.result) c.cell_width.result s.force c.is_given_when_visited.result _ _
     (omega arith) (omega arith) (omega arith) (omega arith) c.is_given_when_visited.ensures c.cell_width.ensures (omega arith)
 
-pub returns-then-is_single_byte-clause-gives : goal.returns-then-is_single_byte-clause-gives
-returns-then-is_single_byte-clause-gives c =
+pub returns-then-is_single_byte-2-clause-gives : goal.returns-then-is_single_byte-2-clause-gives
+returns-then-is_single_byte-2-clause-gives c =
     let s = c.args.self.now in
-    read-same_byte s.prev.now s.next.now s.len s.pos s.end s.force _ _ (omega arith) (omega arith) (omega arith) (omega arith)
-    (sym c.is_same-same.ensures ∙ c.if-same.true) (sym c.is_single_byte.ensures.value ∙ c.if-is_single_byte.true)
+    let narrow = c.is_single_byte.ensures.narrow c.if-is_single_byte.true in
+    read-narrow s.prev.now s.next.now s.len s.pos s.end s.force c.is_single_byte_given.result _ _
+    (omega arith) (omega arith) (omega arith) (omega arith) (rw c.is_same-same.ensures at c.is_single_byte_given.ensures)
+    (elim c.if-same.branch [
+      | then-same w ↦ same_width _ _ (sym c.is_same-same.ensures ∙ w.if-same.true) ∙ narrow
+      | else-same w ↦ w.is_single_byte-else-same.ensures.narrow (sym w.value-is ∙ c.if-is_single_byte-2.true)
+    ])
+    narrow
 
 pub returns-clause-gives : goal.returns-clause-gives
 returns-clause-gives c =
     let s = c.args.self.now in
     let t = c.step_after-step.result in
-    rw (c.from-2.ensures, c.from-3.ensures)
+    rw (c.place_behind-self.ensures, c.from-2.ensures)
     (read-plain s.prev.now s.next.now s.len s.pos s.end t.over t.left s.force c.is_given-given.result t.force _ _
     (omega arith) (omega arith) (omega arith) (omega arith) (rw c.is_same-same.ensures at c.is_given-given.ensures) c.step_after-step.ensures)

@@ -2,16 +2,14 @@
 ghost use Rattle.rtui_viewport.specs.Viewports.{FitsEdges};
 ghost use Rattle.rtui_geometry.specs.Rect.{EdgesFit};
 
-use rtui_backend::{TestBackend, TestError};
+use crate::failing::is_told;
+use crate::viewports::terminal_over;
+use rtui_backend::TestBackend;
 use rtui_geometry::Rect;
-use rtui_terminal::{Terminal, TerminalError, TerminalOptions, Viewport};
-use std::alloc::{AllocError, Global};
+use rtui_terminal::{Terminal, TerminalOptions, Viewport};
+use std::alloc::Global;
 use std::process::Abort;
 use std::test::Fail;
-
-fn is_told(error: Option<TerminalError<TestError>>) -> bool {
-    error == Some(TerminalError::Backend(TestError::Told))
-}
 
 // Whether a terminal is refused, where so many calls of the backend answer as usual before one fails.
 fn start_fails(alloc: Global, viewport: Viewport, calls: u64) -> Result<bool, Fail>
@@ -54,23 +52,12 @@ fn answers_each_failing_call_of_a_start(rt: HostRuntime) -> Result<(), Fail> {
     Ok(())
 }
 
-// A terminal over a viewport of a blank screen.
-fn terminal_over(alloc: Global, viewport: Viewport) -> Result<Terminal<TestBackend>, Fail>
-    requires { FitsEdges viewport }
-{
-    let backend = TestBackend::new(alloc, 6, 4)?;
-    match Terminal::with_options(alloc, backend, TerminalOptions { viewport }) {
-        Ok(terminal) => Ok(terminal),
-        Err(_) => Err(Fail::from(AllocError)),
-    }
-}
-
 // Whether a resize is refused, where so many calls of the backend answer as usual before one fails.
 fn resize_fails(alloc: Global, viewport: Viewport, area: Rect, calls: u64) -> Result<bool, Fail>
     requires viewport { FitsEdges viewport }
     requires area { EdgesFit area }
 {
-    let mut terminal = terminal_over(alloc, viewport)?;
+    let mut terminal = terminal_over(alloc, 6, 4, 0, viewport)?;
     terminal.backend_mut().fail_after(calls);
     Ok(is_told(terminal.resize(area).err()))
 }
@@ -117,7 +104,7 @@ fn answers_each_failing_call_of_a_resize(rt: HostRuntime) -> Result<(), Fail> {
 fn draw_fails(alloc: Global, viewport: Viewport, calls: u64) -> Result<bool, Fail>
     requires { FitsEdges viewport }
 {
-    let mut terminal = terminal_over(alloc, viewport)?;
+    let mut terminal = terminal_over(alloc, 6, 4, 0, viewport)?;
     terminal.backend_mut().resize(7, 5)?;
     terminal.backend_mut().fail_after(calls);
     Ok(is_told(terminal.draw(|_| Ok(())).err()))

@@ -1,7 +1,9 @@
 //! Rows inserted above an inline viewport, on a screen in memory.
 ghost use Rattle.rtui_viewport.specs.Viewports.{FitsEdges};
 
-use rtui_backend::{Backend, TestBackend, TestError};
+use crate::terminal::write_row;
+use crate::viewports::terminal_over;
+use rtui_backend::{TestBackend, TestError};
 use rtui_buffer::Buffer;
 use rtui_cell::Cell;
 use rtui_geometry::{Position, Rect};
@@ -18,31 +20,14 @@ fn inline(
     row: u16,
     wanted: u16,
 ) -> Result<Terminal<TestBackend>, Fail> {
-    let mut backend = TestBackend::new(alloc, width, height)?;
-    let _ = backend.set_cursor_position(Position { x: 0, y: row });
-    let viewport = Viewport::Inline(wanted);
-    match Terminal::with_options(alloc, backend, TerminalOptions { viewport }) {
-        Ok(terminal) => Ok(terminal),
-        Err(_) => Err(Fail::from(AllocError)),
-    }
+    terminal_over(alloc, width, height, row, Viewport::Inline(wanted))
 }
 
-// Sets the characters of a line in a row of a buffer at the screen's left edge.
-fn write_line(alloc: Global, buffer: &mut Buffer, y: u16, line: &str) -> Result<(), AllocError> {
-    for (x, ch) in line.chars().enumerate() {
-        let x = x.min(65535) as u16;
-        if let Some(cell) = buffer.cell_mut(Position { x, y }) {
-            cell.set_char(alloc, ch)?;
-        }
-    }
-    Ok(())
-}
-
-// The same of each line, from the first row on.
+// Sets the characters of each line in its row, from the first one on.
 fn write(alloc: Global, buffer: &mut Buffer, lines: &[&str]) -> Result<(), AllocError> {
     for (y, line) in lines.iter().enumerate() {
         let y = y.min(65535) as u16;
-        write_line(alloc, buffer, y, line)?;
+        write_row(alloc, buffer, y, line)?;
     }
     Ok(())
 }
@@ -57,7 +42,7 @@ fn inserts(alloc: Global, terminal: &mut Terminal<TestBackend>, lines: &[&str]) 
 // Whether a frame with a line in the viewport's first row is drawn.
 fn draws(alloc: Global, terminal: &mut Terminal<TestBackend>, line: &str) -> bool {
     let top = terminal.viewport_area().y;
-    let drawn = terminal.draw(|frame| write_line(alloc, frame.buffer_mut(), top, line));
+    let drawn = terminal.draw(|frame| write_row(alloc, frame.buffer_mut(), top, line));
     drawn.is_ok()
 }
 
@@ -82,21 +67,57 @@ fn shows(terminal: &Terminal<TestBackend>, lines: &[&str], top: u16) -> bool {
     terminal.backend().lines_are(lines) && terminal.viewport_area().y == top
 }
 
-#[test]
-fn few_rows_push_the_viewport_down(rt: HostRuntime) -> Result<(), Fail> {
-    let mut terminal = inline(rt.alloc(), 4, 4, 0, 2)?;
-    assert!(rt; inserts(rt.alloc(), &mut terminal, &["r0", "r1"]));
-    assert!(rt; shows(&terminal, &["r0  ", "r1  ", "    ", "    "], 2));
-    assert!(rt; left(&terminal, &[]));
-    Ok(())
+// A screen's width and height, the rows of its inline viewport, and the lines that come in above; and the lines that are then
+// shown, the viewport's top, and the lines that scrolled off.
+type Inserted = (
+    (u16, u16),
+    u16,
+    &'static [&'static str],
+    &'static [&'static str],
+    u16,
+    &'static [&'static str],
+);
+
+// Few rows push the viewport down; rows without room scroll off; a viewport over the whole screen stays.
+static INSERTED: [Inserted; 3] = [
+    (
+        (4, 4),
+        2,
+        &["r0", "r1"],
+        &["r0  ", "r1  ", "    ", "    "],
+        2,
+        &[],
+    ),
+    (
+        (4, 4),
+        2,
+        &["r0", "r1", "r2"],
+        &["r1  ", "r2  ", "    ", "    "],
+        2,
+        &["r0  "],
+    ),
+    (
+        (2, 2),
+        2,
+        &["r0", "r1", "r2"],
+        &["  ", "  "],
+        0,
+        &["r0", "r1", "r2"],
+    ),
+];
+
+// Whether an insertion leaves so.
+fn insertion_leaves(alloc: Global, inserted: &Inserted) -> Result<bool, Fail> {
+    let ((width, height), wanted, lines, shown, top, off) = *inserted;
+    let mut terminal = inline(alloc, width, height, 0, wanted)?;
+    Ok(inserts(alloc, &mut terminal, lines) && shows(&terminal, shown, top) && left(&terminal, off))
 }
 
 #[test]
-fn rows_without_room_scroll_off(rt: HostRuntime) -> Result<(), Fail> {
-    let mut terminal = inline(rt.alloc(), 4, 4, 0, 2)?;
-    assert!(rt; inserts(rt.alloc(), &mut terminal, &["r0", "r1", "r2"]));
-    assert!(rt; shows(&terminal, &["r1  ", "r2  ", "    ", "    "], 2));
-    assert!(rt; left(&terminal, &["r0  "]));
+fn rows_come_in_above_a_viewport(rt: HostRuntime) -> Result<(), Fail> {
+    for inserted in &INSERTED {
+        assert!(rt; insertion_leaves(rt.alloc(), inserted)?);
+    }
     Ok(())
 }
 
@@ -110,15 +131,6 @@ fn more_rows_than_the_screen_has(rt: HostRuntime) -> Result<(), Fail> {
     assert!(rt; inserts(rt.alloc(), &mut terminal, &rows));
     assert!(rt; shows(&terminal, &["i  ", "j  ", "   ", "   "], 2));
     assert!(rt; terminal.backend().scrollback().len() == 13);
-    Ok(())
-}
-
-#[test]
-fn a_viewport_over_the_whole_screen_stays(rt: HostRuntime) -> Result<(), Fail> {
-    let mut terminal = inline(rt.alloc(), 2, 2, 0, 2)?;
-    assert!(rt; inserts(rt.alloc(), &mut terminal, &["r0", "r1", "r2"]));
-    assert!(rt; shows(&terminal, &["  ", "  "], 0));
-    assert!(rt; left(&terminal, &["r0", "r1", "r2"]));
     Ok(())
 }
 
@@ -251,7 +263,7 @@ fn fails_after(
     calls: u64,
 ) -> bool {
     terminal.backend_mut().fail_after(calls);
-    let answer = terminal.insert_before(count, |buffer| write_line(alloc, buffer, 0, "r0"));
+    let answer = terminal.insert_before(count, |buffer| write_row(alloc, buffer, 0, "r0"));
     answer == Err(TerminalError::Backend(TestError::Told))
         && terminal.clear().is_ok()
         && draws(alloc, terminal, "ab")
@@ -303,7 +315,7 @@ fn wide_and_skipped_cells_are_written(rt: HostRuntime) -> Result<(), Fail> {
     let mut terminal = inline(rt.alloc(), 4, 2, 0, 1)?;
     let alloc = rt.alloc();
     let answer = terminal.insert_before(1, |buffer| {
-        write_line(alloc, buffer, 0, "コ xy")?;
+        write_row(alloc, buffer, 0, "コ xy")?;
         if let Some(cell) = buffer.cell_mut(Position { x: 3, y: 0 }) {
             cell.skip = true;
         }

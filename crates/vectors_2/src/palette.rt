@@ -16,7 +16,7 @@ fn shades_are(rt: &impl Abort, shades: &[Color], numbers: &str) {
         assert!(rt; shade_is(number, *shade), "{number}");
         count = count.saturating_add(1);
     }
-    assert_eq!(rt; count, shades.len());
+    assert!(rt; count == shades.len());
 }
 
 /// Asserts that the shades of a palette are these numbers, split by blanks.
@@ -289,12 +289,12 @@ fn non_accented_palettes(rt: HostRuntime) {
 
 #[test]
 fn worked_values(rt: HostRuntime) {
-    assert_eq!(rt; tailwind::SLATE.c500, Color::Rgb(100, 116, 139));
-    assert_eq!(rt; material::RED.a700, Color::Rgb(213, 0, 0));
-    assert_eq!(rt; tailwind::BLACK, Color::Rgb(0, 0, 0));
-    assert_eq!(rt; tailwind::WHITE, Color::Rgb(255, 255, 255));
-    assert_eq!(rt; material::BLACK, Color::Rgb(0, 0, 0));
-    assert_eq!(rt; material::WHITE, Color::Rgb(255, 255, 255));
+    assert!(rt; tailwind::SLATE.c500 == Color::Rgb(100, 116, 139));
+    assert!(rt; material::RED.a700 == Color::Rgb(213, 0, 0));
+    assert!(rt; tailwind::BLACK == Color::Rgb(0, 0, 0));
+    assert!(rt; tailwind::WHITE == Color::Rgb(255, 255, 255));
+    assert!(rt; material::BLACK == Color::Rgb(0, 0, 0));
+    assert!(rt; material::WHITE == Color::Rgb(255, 255, 255));
 }
 
 /// Asserts that the palette of these numbers has them as shades.

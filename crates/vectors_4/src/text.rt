@@ -232,6 +232,14 @@ fn texts_of_two(rt: HostRuntime) -> Result<(), Fail> {
     Ok(())
 }
 
+#[test]
+fn texts_of_one_line(rt: HostRuntime) -> Result<(), Fail> {
+    let text = Text::from_line(rt.alloc(), Line::raw(rt.alloc(), "a\nb")?)?;
+    assert!(rt; text.height() == 1);
+    assert!(rt; prints(rt.alloc(), &text, "ab")?);
+    Ok(())
+}
+
 // Whether a line is aligned so.
 fn is_aligned(line: Line<'_>, alignment: HorizontalAlignment) -> bool {
     line.alignment == Some(alignment)
@@ -247,6 +255,17 @@ fn alignments(rt: HostRuntime) -> Result<(), Fail> {
     assert!(rt; is_aligned(line, HorizontalAlignment::Left));
     let text = Text::raw(rt.alloc(), "a")?.centered();
     assert!(rt; text.alignment == Some(HorizontalAlignment::Center));
+    Ok(())
+}
+
+#[test]
+fn alignments_by_other_names(rt: HostRuntime) -> Result<(), Fail> {
+    let line = Span::raw("a").to_centered_line(rt.alloc())?;
+    assert!(rt; is_aligned(line, HorizontalAlignment::Center));
+    let line = Span::raw("a").to_right_aligned_line(rt.alloc())?;
+    assert!(rt; is_aligned(line, HorizontalAlignment::Right));
+    let line = Span::raw("a").into_left_aligned_line(rt.alloc())?;
+    assert!(rt; is_aligned(line, HorizontalAlignment::Left));
     Ok(())
 }
 

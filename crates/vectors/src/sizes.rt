@@ -1,4 +1,4 @@
-//! A memory backend that takes other sizes, and its history.
+//! A memory backend that takes other sizes, also where memory is refused, and its history.
 use rtui_backend::{Backend, TestBackend, TestError};
 use rtui_buffer::Cell;
 use rtui_geometry::{Position, Size};
@@ -6,7 +6,7 @@ use std::alloc::{AllocError, Global};
 use std::test::Fail;
 
 // Puts a character in a column and a row of a screen.
-pub fn put(alloc: Global, backend: &mut TestBackend, x: u16, y: u16, ch: char) -> Result<(), Fail> {
+fn put(alloc: Global, backend: &mut TestBackend, x: u16, y: u16, ch: char) -> Result<(), Fail> {
     let cell = Cell::from_char(alloc, ch)?;
     let items = [(x, y, &cell)];
     match backend.draw(items.iter().copied()) {
@@ -106,5 +106,21 @@ fn keeps_its_history(rt: HostRuntime) -> Result<(), Fail> {
     assert!(rt; backend.append_lines(1).is_ok());
     assert!(rt; !backend.scrollback_is(&["abc", "def", "  "]));
     assert!(rt; backend.scrollback().len() == 3);
+    Ok(())
+}
+
+// Whether a refused resize of a screen changed nothing.
+fn resizes_or_keeps(backend: &mut TestBackend) -> bool {
+    match backend.resize(5, 2) {
+        Ok(()) => backend.lines_are(&["a    ", "     "]),
+        Err(AllocError) => backend.lines_are(&["a  "]),
+    }
+}
+
+#[test]
+fn keeps_a_screen_that_is_refused_memory(rt: HostRuntime) -> Result<(), Fail> {
+    let mut backend = TestBackend::new(rt.alloc(), 3, 1)?;
+    put(rt.alloc(), &mut backend, 0, 0, 'a')?;
+    assert!(rt; resizes_or_keeps(&mut backend));
     Ok(())
 }

@@ -130,6 +130,43 @@ fn a_line_leaves_what_is_beside_it(rt: HostRuntime) -> Result<(), Fail> {
     Ok(())
 }
 
+// Whether an empty row of this width shows these symbols once a text is painted in so many of its columns.
+fn painted_shows(
+    alloc: Global,
+    text: &str,
+    width: u16,
+    columns: u16,
+    symbols: &str,
+) -> Result<bool, AllocError> {
+    let mut buffer = Buffer::empty(alloc, sized(width, 1))?;
+    text.render(sized(columns, 1), &mut buffer)?;
+    shows(alloc, &buffer, symbols)
+}
+
+// Texts, the widths of empty rows, in how many columns they are painted, and the symbols that the rows show then.
+static PAINTED: [(&str, u16, u16, &str); 4] = [
+    (
+        "hello world, just hello",
+        20,
+        11,
+        "h|e|l|l|o| |w|o|r|l|d| | | | | | | | | |",
+    ),
+    ("abc", 2, 9, "a|b|"),
+    ("aコンb", 5, 4, "a|コ| | | |"),
+    ("", 2, 2, " | |"),
+];
+
+#[test]
+fn painted_texts(rt: HostRuntime) -> Result<(), Fail> {
+    for (text, width, columns, symbols) in &PAINTED {
+        assert!(rt;
+            painted_shows(rt.alloc(), text, *width, *columns, symbols)?,
+            "{text}"
+        );
+    }
+    Ok(())
+}
+
 // A row of four columns with a blue line of `a` and a red `b`.
 fn styled_row(alloc: Global) -> Result<Buffer, AllocError> {
     let area = sized(4, 1);
@@ -263,6 +300,39 @@ fn optional_widgets(alloc: Global) -> Result<Buffer, AllocError> {
     Some(Span::raw("ab")).render(area, &mut buffer)?;
     None::<Span<'_>>.render(area, &mut buffer)?;
     Ok(buffer)
+}
+
+// A row with an owned text.
+fn row_of_owned_text(alloc: Global, text: &str) -> Result<Buffer, AllocError> {
+    let mut buffer = Buffer::empty(alloc, sized(3, 1))?;
+    String::from_str(alloc, text)?.render(sized(2, 1), &mut buffer)?;
+    Ok(buffer)
+}
+
+// A row with an owned text that is there.
+fn row_of_optional_owned_text(alloc: Global, text: &str) -> Result<Buffer, AllocError> {
+    let mut buffer = Buffer::empty(alloc, sized(3, 1))?;
+    Some(String::from_str(alloc, text)?).render(sized(2, 1), &mut buffer)?;
+    Ok(buffer)
+}
+
+// A row with a text that is there, and none over it.
+fn row_of_optional_texts(alloc: Global) -> Result<Buffer, AllocError> {
+    let mut buffer = Buffer::empty(alloc, sized(3, 1))?;
+    Some("ab").render(sized(3, 1), &mut buffer)?;
+    None::<&str>.render(sized(3, 1), &mut buffer)?;
+    Ok(buffer)
+}
+
+#[test]
+fn owned_and_optional_texts(rt: HostRuntime) -> Result<(), Fail> {
+    let buffer = row_of_owned_text(rt.alloc(), "abc")?;
+    assert!(rt; shows(rt.alloc(), &buffer, "a|b| |")?);
+    let buffer = row_of_optional_owned_text(rt.alloc(), "abc")?;
+    assert!(rt; shows(rt.alloc(), &buffer, "a|b| |")?);
+    let buffer = row_of_optional_texts(rt.alloc())?;
+    assert!(rt; shows(rt.alloc(), &buffer, "a|b| |")?);
+    Ok(())
 }
 
 #[test]

@@ -239,8 +239,8 @@ fn worked_pairs(rt: HostRuntime) {
     for (prev, next, exact, fuzzy) in &PAIRS {
         assert!(rt; pair_gives(prev, next, exact, fuzzy), "{prev} {next}");
     }
-    assert_eq!(rt; MergeStrategy::Replace.merge("╠", "a"), "a");
-    assert_eq!(rt; MergeStrategy::default(), MergeStrategy::Replace);
+    assert!(rt; MergeStrategy::Replace.merge("╠", "a") == "a");
+    assert!(rt; MergeStrategy::default() == MergeStrategy::Replace);
 }
 
 /// The symbol and the arms of a line of the table above, or no texts where there aren't four arms.
@@ -276,7 +276,7 @@ fn all_pairs(rt: HostRuntime) {
             pairs = pairs.wrapping_add(1);
         }
     }
-    assert_eq!(rt; pairs, 15625);
+    assert!(rt; pairs == 15625);
 }
 
 /// Whether a symbol over itself stays.
@@ -307,5 +307,5 @@ fn all_symbols(rt: HostRuntime) {
             rebuilt = rebuilt.wrapping_add(1);
         }
     }
-    assert_eq!(rt; rebuilt, 80);
+    assert!(rt; rebuilt == 80);
 }

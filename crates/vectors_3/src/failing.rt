@@ -17,7 +17,8 @@ fn drawn(alloc: Global) -> Result<Terminal<TestBackend>, Fail> {
     }
 }
 
-fn is_told(error: Option<TerminalError<TestError>>) -> bool {
+/// Whether a call is refused as the backend was told.
+pub fn is_told(error: Option<TerminalError<TestError>>) -> bool {
     error == Some(TerminalError::Backend(TestError::Told))
 }
 

@@ -10,8 +10,8 @@ use std::alloc::{AllocError, Global};
 use std::process::Abort;
 use std::test::Fail;
 
-// A terminal over a viewport of a blank screen of this size, whose cursor stands in a row.
-fn terminal_over(
+/// A terminal over a viewport of a blank screen of this size, whose cursor stands in a row.
+pub fn terminal_over(
     alloc: Global,
     width: u16,
     height: u16,

@@ -15,15 +15,20 @@ pub fn terminal(alloc: Global, width: u16, height: u16) -> Result<Terminal<TestB
     }
 }
 
-/// Sets the characters of a text in the first row.
-pub fn write(alloc: Global, buffer: &mut Buffer, text: &str) -> Result<(), AllocError> {
+/// Sets the characters of a text in a row, from the screen's left edge on.
+pub fn write_row(alloc: Global, buffer: &mut Buffer, y: u16, text: &str) -> Result<(), AllocError> {
     for (x, ch) in text.chars().enumerate() {
         let x = x.min(65535) as u16;
-        if let Some(cell) = buffer.cell_mut(Position { x, y: 0 }) {
+        if let Some(cell) = buffer.cell_mut(Position { x, y }) {
             cell.set_char(alloc, ch)?;
         }
     }
     Ok(())
+}
+
+/// The same in the first row.
+pub fn write(alloc: Global, buffer: &mut Buffer, text: &str) -> Result<(), AllocError> {
+    write_row(alloc, buffer, 0, text)
 }
 
 /// A buffer of one row with a text.

@@ -1,0 +1,38 @@
+-- The width of a text of one character.
+use Rattle.std.proofs.Common.{◌≡◌, ℕ, ◌+◌, ◌<◌, Bool, true, false, ◌&&◌, ◌==◌, nat_lt, nat_le, List, [], ◌∷◌, refl, sym, ap, ◌∙◌, arith}
+use Rattle.std.specs.Prelude.{Some, if◌then◌else◌, length, min, chars}
+use Rattle.std.proofs.lemmas.Bool.{false≢true}
+use Rattle.std.proofs.lemmas.Bool.Decides.{nat_tests}
+use Rattle.rtui_cell.specs.Width.{text_width}
+use Rattle.unicode_width.specs.Width.{str_width, char_width, alone, step, past_emoji, plain, added}
+
+third : {A : Type 0} (f g h : Bool) (w x y z : A) → f ≡ false → g ≡ false → h ≡ false → (if f then w else if g then x else if h then y else z) ≡ z
+third false false false w x y z e k l = refl
+third true g h w x y z e k l = absurd (false≢true (sym e))
+third false true h w x y z e k l = absurd (false≢true (sym k))
+third false false true w x y z e k l = absurd (false≢true (sym l))
+
+second : {A : Type 0} (f g : Bool) (x y z : A) → f ≡ false → g ≡ true → (if f then x else if g then y else z) ≡ y
+second f g x y z e k = rw (e, k) refl
+
+one_step : (c : ℕ) → 0xA0 < c → step false c (0, plain) ≡ added 0 (alone false c)
+unfolding step past_emoji
+one_step c above =
+    let line : (c == 0x0A) ≡ false = grind (arith, nat_tests) in
+    let back : (c == 0x0D) ≡ false = grind (arith, nat_tests) in
+    let low : nat_le c 0xA0 ≡ false = grind (arith, nat_tests) in
+    third (c == 0x0A) ((c == 0x0D) && false) (nat_le c 0xA0) _ _ _ _ line (rw back refl) low
+
+-- above U+00A0 it is the character's
+pub one_character : (c : ℕ) → 0xA0 < c → char_width false c ≡ Some (str_width false (c ∷ []))
+unfolding char_width str_width
+one_character c above =
+    let small : nat_lt c 0x7F ≡ false = grind (arith, nat_tests) in
+    let large : nat_le 0xA0 c ≡ true = grind (arith, nat_tests) in
+    let none : (alone false c).0 ≡ 0 + (alone false c).0 = omega arith in
+    second (nat_lt c 0x7F) (nat_le 0xA0 c) _ _ _ small large ∙ ap (λ n. Some n) none ∙ ap (λ r. Some r.0) (sym (one_step c above))
+
+-- a text that is more than a byte, by its characters
+pub width_of_characters : (text cs : List ℕ) → (length text == 1) ≡ false → cs ≡ chars text → min (str_width false cs) 65535 ≡ text_width text
+unfolding text_width
+width_of_characters text cs longer spelled = ap (λ ds. min (str_width false ds) 65535) spelled ∙ rw longer refl
