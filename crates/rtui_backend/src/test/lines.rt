@@ -166,7 +166,9 @@ impl TestBackend {
         ensures { IsTrue result ↔ HasLines (raw_lines lines.now) (screen_of self.now) }
     {
         let area = *self.buffer.area();
-        if lines.len() != usize::from(area.height) || texts_width(lines) != usize::from(area.width) {
+        if lines.len() != usize::from(area.height)
+            || texts_width(lines) != usize::from(area.width)
+        {
             return false;
         }
         for y in 0..area.height {
