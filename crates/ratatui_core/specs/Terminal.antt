@@ -15,9 +15,9 @@ pub use Rattle.rtui_terminal.specs.Calls.{FaultCounts, Faults, IsBackendFault, F
 pub use Rattle.rtui_terminal.specs.Rendered.{IsRendered, OnlyRenders, ShowsRendered}
 pub use Rattle.rtui_terminal.specs.Display.{terminal_error_text}
 pub use Rattle.rtui_rows.specs.Filling.{IsNewSheet, AcceptsRows, FillsRows, RefusesFilling}
-pub use Rattle.rtui_rows.specs.Rows.{row_updates, look_in, looks_in, look_rows_from, look_rows, RowsFit, WritesRows, DrawsRows}
-pub use Rattle.rtui_rows.specs.Insertion.{AreRowsOf, AreRowsOfAll, AppendsRows, KeepsShape, HasPlaceAbove, InsertsRows, AppendsAbove}
+pub use Rattle.rtui_rows.specs.Rows.{lowered_update, DrawsRows, IsUnknownRow, DrawsFirstRow, RowsFit, ShowsFirst, CanShowRows, ShowsRows, IsBlankAt, is_nonempty, nonempty_cells, IsNarrowSheet, WritesAtMost}
+pub use Rattle.rtui_rows.specs.Insertion.{AreRowsOf, AreRowsOfAll, AppendsRows, KeepsShape, HasPlaceAbove, ArePartOf, AppendsPart}
+pub use Rattle.rtui_rows.specs.Scrolling.{HasPushed, HasRaised, HasLowered, rows_down, PushesRows, InsertsDown, InsertsUp}
 pub use Rattle.rtui_rows.specs.Following.{AreaFollows, Follows}
-pub use Rattle.rtui_rows.specs.Scrolling.{ScrollsBy, cursor_scrolled, rows_past}
-pub use Rattle.rtui_terminal.specs.Insertion.{inserted_area, top_behind, TakesRows, IsLeft, Inserts, StopsInserting, InsertOk, FailsInserting, RefusesRows, InsertErr, InsertsBy}
+pub use Rattle.rtui_terminal.specs.Insertion.{inserted_area, top_behind, cells_to_insert, TakesRows, IsLeft, Inserts, StopsInserting, InsertOk, FailsInserting, RefusesRows, InsertErr, InsertsBy}
 pub use Rattle.rtui_terminal.specs.Headline.{Call, Draw, Apply, Insert, Clear, Resize, Autoresize, HideCursor, ShowCursor, SetCursor, Ask, Paint, Refuse, Event, Along, last_state, inserted_by, inserted_along, MayTakeSize, AtAnySize, Does, IsFair, HasKnownSize, IsSteady, IsKeptOrEmptied, Leaves, IsResize, IsFaithful, IsHeadline, KeepsRows}

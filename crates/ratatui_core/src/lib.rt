@@ -11,7 +11,7 @@ pub mod backend {
 /// Cells, grids of cells, and the differences between two grids.
 pub mod buffer {
     pub use rtui_buffer::{
-        Buffer, BufferDiff, Cell, CellDiffOption, CellWidth, lines_width, texts_width,
+        Buffer, BufferDiff, Cell, CellDiffOption, CellWidth, diff_rows, lines_width, texts_width,
     };
 
     /// Laws of cells and of buffers.

@@ -9,3 +9,4 @@ pub mod WalkLemmas
 pub mod RowLemmas
 pub mod HistoryLemmas
 pub mod SizeLemmas
+pub mod RegionLemmas

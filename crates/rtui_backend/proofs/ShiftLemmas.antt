@@ -1,5 +1,5 @@
 -- Rows of cells that move up, and parts that are emptied.
-use Rattle.std.proofs.Common.{◌≡◌, ℕ, true, false, ◌+◌, ◌-◌, ◌*◌, ◌<◌, ◌≤◌, ◌++◌, ◌&&◌, min, nat_lt, Bool, List, length, map, take, drop, set, refl, sym, ap, ◌∙◌, arith, inl, inr, length-drop, length-take, if◌then◌else◌}
+use Rattle.std.proofs.Common.{◌≡◌, ℕ, true, false, ◌+◌, ◌-◌, ◌*◌, ◌<◌, ◌≤◌, ◌++◌, ◌&&◌, min, nat_lt, Bool, List, [], append-nil, length, map, take, drop, set, refl, sym, ap, ◌∙◌, arith, inl, inr, length-drop, length-take, if◌then◌else◌}
 use Rattle.std.specs.Prelude.{nat_le, nat_eq}
 use Rattle.std.specs.List.{range_with_len}
 use Rattle.std.proofs.Math.Nat.{mul-le-mul_right}
@@ -62,6 +62,15 @@ AreUnmarked-blanked old new which blanked plain i = rw (blanked i) (either (whic
     either : (b : Bool) → IsUnmarked (if b then empty_cell else cell old i)
     either true = unmarked-empty
     either false = plain i
+
+pub AreUnmarked-chosen : (old new : List Cell) (inside kept : ℕ → Bool) (place : ℕ → ℕ)
+    → ((k : ℕ) → cell new k ≡ if inside k then (if kept k then cell old (place k) else empty_cell) else cell old k) → AreUnmarked old → AreUnmarked new
+AreUnmarked-chosen old new inside kept place chosen plain i = rw (chosen i) (either (inside i) (kept i))
+  where
+    either : (s t : Bool) → IsUnmarked (if s then (if t then cell old (place i) else empty_cell) else cell old i)
+    either true true = plain (place i)
+    either true false = unmarked-empty
+    either false t = plain i
 
 -- rows do not overlap
 row_below : (w b y : ℕ) → b < y → b * w + w ≤ y * w
@@ -139,3 +148,82 @@ cleared_grid w old new which is blanked a b a_in e =
     either : (t : Bool) → look_of (if t then empty_cell else cell old (b * w + a)) ≡ if t then empty_look else look_at old (b * w + a)
     either true = look-empty
     either false = sym (look_at-cell old (b * w + a))
+
+-- rows of a region that moved
+module _ (w x : ℕ) (x_in : x < w) where
+  place_before : (y e : ℕ) → nat_lt (y * w + x) (e * w) ≡ nat_lt y e
+  place_before y e = elim (cases_lt y e) [
+    | inl above ↦ let p = row_below w y e above in grind (arith, nat_tests)
+    | inr past ↦ let p : e * w ≤ y * w = mul-le-mul_right w past in grind (arith, nat_tests)
+  ]
+
+  place_from : (y e : ℕ) → nat_le (e * w) (y * w + x) ≡ nat_le e y
+  place_from y e = elim (cases_lt y e) [
+    | inl above ↦ let p = row_below w y e above in grind (arith, nat_tests)
+    | inr past ↦ let p : e * w ≤ y * w = mul-le-mul_right w past in grind (arith, nat_tests)
+  ]
+
+  at_place : (cells : List Cell) (y : ℕ) → grid_of w cells x y ≡ look_of (cell cells (y * w + x))
+  at_place cells y = let here : grid_of w cells x y ≡ look_at cells (y * w + x) = grind (arith, nat_tests) in here ∙ look_at-cell cells (y * w + x)
+
+  looks_chosen : (s t : Bool) (p q : Cell) → look_of (if s then (if t then p else empty_cell) else q) ≡ if s then (if t then look_of p else empty_look) else look_of q
+  looks_chosen true true p q = refl
+  looks_chosen true false p q = look-empty
+  looks_chosen false t p q = refl
+
+  module _ (old new : List Cell) (a e n : ℕ) where
+    pub grid_moved_up : ((k : ℕ) → cell new k ≡ if nat_le (a * w) k && nat_lt k (e * w) then (if nat_lt (k + n * w) (e * w) then cell old (k + n * w) else empty_cell) else cell old k)
+        → (y : ℕ) → grid_of w new x y ≡ if nat_le a y && nat_lt y e then (if nat_lt (y + n) e then grid_of w old x (y + n) else empty_look) else grid_of w old x y
+    grid_moved_up moved y =
+        let next : y * w + x + n * w ≡ (y + n) * w + x = grind arith in
+        let now : cell new (y * w + x) ≡ if nat_le a y && nat_lt y e then (if nat_lt (y + n) e then cell old ((y + n) * w + x) else empty_cell) else cell old (y * w + x) =
+        rw (next, place_before (y + n) e, place_before y e, place_from y a) at (moved (y * w + x)) in
+        at_place new y ∙ ap look_of now
+        ∙ looks_chosen (nat_le a y && nat_lt y e) (nat_lt (y + n) e) (cell old ((y + n) * w + x)) (cell old (y * w + x)) ∙ rw (at_place old y, at_place old (y + n)) refl
+
+    by_both : (d : ℕ) → d * w + n * w ≡ (d + n) * w
+    by_both d = grind arith
+
+    pub grid_moved_down : ((k : ℕ) → cell new k ≡ if nat_le (a * w) k && nat_lt k (e * w) then (if nat_le (a * w + n * w) k then cell old (k - n * w) else empty_cell) else cell old k)
+        → (y : ℕ) → grid_of w new x y ≡ if nat_le a y && nat_lt y e then (if nat_le (a + n) y then grid_of w old x (y - n) else empty_look) else grid_of w old x y
+    grid_moved_down moved y = elim (cases_lt y (a + n)) [
+      | inl above ↦
+          let p : (y + 1) * w ≤ (a + n) * w = mul-le-mul_right w (omega arith) in
+          let no : nat_le (a * w + n * w) (y * w + x) ≡ nat_le (a + n) y = grind (arith, nat_tests) in
+          let none : nat_le (a + n) y ≡ false = grind (arith, nat_tests) in
+          let now : cell new (y * w + x) ≡ if nat_le a y && nat_lt y e then empty_cell else cell old (y * w + x) = rw (no, none, place_before y e, place_from y a) at (moved (y * w + x)) in
+          rw none (at_place new y ∙ ap look_of now ∙ looks_chosen (nat_le a y && nat_lt y e) false (cell old 0) (cell old (y * w + x)) ∙ rw (at_place old y) refl)
+      | inr past ↦
+          let p : (a + n) * w ≤ y * w = mul-le-mul_right w past in
+          let yes : nat_le (a * w + n * w) (y * w + x) ≡ nat_le (a + n) y = grind (arith, nat_tests) in
+          let whole : y - n + n ≡ y = omega arith in
+          let q : (y - n) * w + n * w ≡ y * w = by_both (y - n) ∙ ap (λ m. m * w) whole in
+          let back : y * w + x - n * w ≡ (y - n) * w + x = omega (arith, q) in
+          let now : cell new (y * w + x) ≡ if nat_le a y && nat_lt y e then (if nat_le (a + n) y then cell old ((y - n) * w + x) else empty_cell) else cell old (y * w + x) =
+          rw (yes, back, place_before y e, place_from y a) at (moved (y * w + x)) in
+          at_place new y ∙ ap look_of now
+          ∙ looks_chosen (nat_le a y && nat_lt y e) (nat_le (a + n) y) (cell old ((y - n) * w + x)) (cell old (y * w + x)) ∙ rw (at_place old y, at_place old (y - n)) refl
+    ]
+
+-- the history, with rows that left behind it where there are such
+pub history_left : {X : Type 0} (former : List X) (t s : Bool) {xs ys : List X} → s ≡ true → xs ≡ ys → former ++ (if t then xs else []) ≡ if t && s then former ++ ys else former
+history_left former true s some eq = rw (some, eq) refl
+history_left former false s some eq = append-nil former
+
+-- the rows that leave a region of e rows at the top, as rows of its grid
+module _ (w h e : ℕ) (cells : List Cell) (size : length cells ≡ w * h) (inside : e ≤ h) where
+  left_look : (a b : ℕ) → a < w → look_at (take (e * w) cells) (b * w + a) ≡ (if nat_lt b e then grid_of w cells a b else empty_look)
+  left_look a b a_in = elim (cases_lt b e) [
+    | inl above ↦
+        let p = row_below w b e above in
+        let at : look_at (take (e * w) cells) (b * w + a) ≡ look_of (cell cells (b * w + a)) = look_at-cell (take (e * w) cells) (b * w + a) ∙ ap look_of (get_or-take (e * w) cells (b * w + a) empty_cell (omega arith)) in
+        at ∙ sym (at_place w a a_in cells b) ∙ grind (arith, nat_tests)
+    | inr past ↦
+        let p : e * w ≤ b * w = mul-le-mul_right w past in
+        let short : length (take (e * w) cells) ≤ b * w + a = simp length-take (omega arith) in
+        look_at-cell (take (e * w) cells) (b * w + a) ∙ ap look_of (past_end (take (e * w) cells) (b * w + a) short) ∙ look-empty ∙ grind (arith, nat_tests)
+  ]
+
+  pub rows_left : (count : ℕ) → map (λ b. map (λ a. look_at (take (e * w) cells) (b * w + a)) (range_with_len 0 w)) (range_with_len 0 count)
+      ≡ map (λ b. map (λ a. if nat_lt b e then grid_of w cells a b else empty_look) (range_with_len 0 w)) (range_with_len 0 count)
+  rows_left count = map_same _ _ 0 count (λ b _ _. map_same _ _ 0 w (λ a _ a_in. left_look a b (omega arith)))

@@ -1,5 +1,5 @@
 -- What a screen is, and what each call of a backend does to it.
-use Rattle.std.specs.Prelude.{◌≡◌, ℕ, ◌+◌, ◌-◌, ◌^◌, ◌<◌, ◌≤◌, min, Bool, ◌++◌, map, nat_lt, if◌then◌else◌, true, List, [], length}
+use Rattle.std.specs.Prelude.{◌≡◌, ℕ, ◌+◌, ◌-◌, ◌^◌, ◌<◌, ◌≤◌, min, Bool, ◌++◌, ◌&&◌, ◌==◌, nat_le, map, nat_lt, if◌then◌else◌, true, List, [], length}
 use Rattle.std.specs.List.{range_with_len}
 use Rattle.rtui_geometry.specs.declared.position.Position.{Position}
 use Rattle.rtui_geometry.specs.declared.rect.Rect.{Rect}
@@ -74,6 +74,38 @@ pub record Appends (old : Screen) (n : ℕ) (new : Screen) : Type 0 where
   pub scrolled : Scrolls old (lines_past old n) new
   pub row : new.cursor_y ≡ min (old.cursor_y + n) (old.height - 1)
   pub no_rows : old.height ≡ 0 → new.cursor_x ≡ old.cursor_x
+
+-- the screen's rows before row b alone, the history with them
+abbrev pub upper_part : ℕ → Screen → Screen
+upper_part b s = record s { height = min b s.height }
+
+-- a row lies in the region of rows from a up to b
+abbrev pub is_in_region : ℕ → ℕ → ℕ → Bool
+is_in_region a b y = nat_le a y && nat_lt y b
+
+-- the rows of the region from a up to b, cut at the screen's end, moved up by n, and blank rows came in below; where the region begins with
+-- the first row, n rows went to the history, in order, blank ones behind those that the region has. All other rows stay, the cursor may be
+-- anywhere, and where the region has no rows nothing changed
+pub record ScrollsUp (a b n : ℕ) (old new : Screen) : Type 0 where
+  pub history : new.history ≡ if a == 0 && nat_lt 0 (min b old.height) then rows_above (upper_part b old) n else old.history
+  pub width : new.width ≡ old.width
+  pub height : new.height ≡ old.height
+  pub grid : (x y : ℕ) → x < old.width → y < old.height
+      → new.grid x y ≡ if is_in_region a b y then seen (upper_part b old) x (y + n) else old.grid x y
+  pub visible : new.visible ≡ old.visible
+  pub written : new.written ≡ old.written
+  pub no_rows : min b old.height ≤ a → new ≡ old
+
+-- the rows of such a region moved down by n, blank rows came in above, and those that left are lost; all other rows and the history stay
+pub record ScrollsDown (a b n : ℕ) (old new : Screen) : Type 0 where
+  pub history : new.history ≡ old.history
+  pub width : new.width ≡ old.width
+  pub height : new.height ≡ old.height
+  pub grid : (x y : ℕ) → x < old.width → y < old.height
+      → new.grid x y ≡ if is_in_region a b y then (if nat_le (a + n) y then old.grid x (y - n) else empty_look) else old.grid x y
+  pub visible : new.visible ≡ old.visible
+  pub written : new.written ≡ old.written
+  pub no_rows : min b old.height ≤ a → new ≡ old
 
 -- a part of the screen was emptied, by where the cursor is, and all else stays
 pub record Clears (old : Screen) (kind : ClearType) (new : Screen) : Type 0 where

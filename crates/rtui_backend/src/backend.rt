@@ -2,7 +2,7 @@ ghost use Rattle.std.specs.Prelude.{◌≡◌, ℕ, List, map, true, false, IfOk
 ghost use Rattle.std.specs.Iterator.{IsFinite, Drains};
 ghost use Rattle.rtui_cell.specs.declared.cell.Cell.{Cell};
 ghost use Rattle.rtui_cell.specs.Grid.{update_by};
-ghost use Rattle.rtui_backend.specs.Screen.{Screen, IsOnGrid, Draws, Appends, Clears, with_visible, with_cursor, cursor_of, size_of};
+ghost use Rattle.rtui_backend.specs.Screen.{Screen, IsOnGrid, Draws, Appends, Clears, ScrollsUp, ScrollsDown, with_visible, with_cursor, cursor_of, size_of};
 ghost use Rattle.rtui_backend.specs.declared.clear_type.ClearType.TheVariants.{All};
 ghost use Rattle.rtui_backend.specs.Failures.{Counts};
 
@@ -10,6 +10,7 @@ use crate::clear_type::ClearType;
 use rtui_buffer::Cell;
 use rtui_geometry::{Position, Size};
 use std::error::Error;
+use std::ops::Range;
 
 /// The size of a terminal's window.
 #[derive(Debug, Clone, Copy, PartialEq, Eq, Hash)]
@@ -63,6 +64,23 @@ pub trait Backend {
     /// has no rows nothing changes.
     fn append_lines(&mut self, n: u16) -> Result<(), Self::Error>
         ensures ok { OnOk result (Appends (screen self.old) n (screen self.new)) }
+        ensures counts { Counts result (failures self.old) (failures self.new) };
+
+    /// Moves the rows of a region up by `n`, blank rows come in below. The region ends at the screen's last row at the
+    /// latest; rows outside it stay. Of a region that begins with the first row `n` rows go to the history, in order:
+    /// those that leave, and blank ones where the region has fewer. The cursor may end anywhere. Where the region has no
+    /// rows nothing changes.
+    fn scroll_region_up(&mut self, region: Range<u16>, n: u16) -> Result<(), Self::Error>
+        ensures ok { OnOk result
+            (ScrollsUp region.start region.end n (screen self.old) (screen self.new)) }
+        ensures counts { Counts result (failures self.old) (failures self.new) };
+
+    /// Moves the rows of a region down by `n`, blank rows come in above, and the rows that leave are lost. The region
+    /// ends at the screen's last row at the latest; rows outside it and the history stay. The cursor may end anywhere.
+    /// Where the region has no rows nothing changes.
+    fn scroll_region_down(&mut self, region: Range<u16>, n: u16) -> Result<(), Self::Error>
+        ensures ok { OnOk result
+            (ScrollsDown region.start region.end n (screen self.old) (screen self.new)) }
         ensures counts { Counts result (failures self.old) (failures self.new) };
 
     /// Hides the cursor.

@@ -20,6 +20,7 @@ use rtui_geometry::{Position, Rect, Size};
 use std::alloc::{AllocError, Global};
 use std::error::Error;
 use std::fmt;
+use std::ops::Range;
 
 mod lines;
 mod scroll;
@@ -286,7 +287,7 @@ impl TestBackend {
 impl Backend for TestBackend {
     ghost use Rattle.std.specs.Prelude.{true, false};
     ghost use Rattle.rtui_backend.specs.declared.clear_type.ClearType.TheVariants.{All};
-    ghost use Rattle.rtui_backend.specs.Screen.{Appends, Clears};
+    ghost use Rattle.rtui_backend.specs.Screen.{Appends, Clears, ScrollsUp, ScrollsDown};
     ghost use Rattle.rtui_geometry.specs.declared.size.Size.{Size};
     ghost use Rattle.rtui_backend.specs.Screen.{IsOnGrid, with_visible, with_cursor, cursor_of, size_of};
     ghost use Rattle.rtui_backend.specs.TestBackend.{screen_of, failures_of, told_after, one_call_less, TakesTurn, DrawsFront};
@@ -334,6 +335,34 @@ impl Backend for TestBackend {
             Ok(()) => Ok(()),
             Err(_) => Err(self.failed(TestError::Memory)),
         }
+    }
+
+    fn scroll_region_up(&mut self, region: Range<u16>, n: u16) -> Result<(), TestError>
+        ensures ok { OnOk result (ScrollsUp region.start region.end n
+            (screen_of self.old) (screen_of self.new)) }
+        ensures cursor { cursor_of (screen_of self.new) ≡ cursor_of (screen_of self.old) }
+        ensures refused { OnErr result (screen_of self.new ≡ screen_of self.old) }
+        ensures counts { Counts result (failures_of self.old) (failures_of self.new) }
+        ensures told { (result ≡ Err TestError.Told) ↔ (told_after self.old ≡ Some 0) }
+        ensures left { told_after self.new ≡ one_call_less (told_after self.old) }
+    {
+        self.begin()?;
+        match self.scroll_up(region, n) {
+            Ok(()) => Ok(()),
+            Err(_) => Err(self.failed(TestError::Memory)),
+        }
+    }
+
+    fn scroll_region_down(&mut self, region: Range<u16>, n: u16) -> Result<(), TestError>
+        ensures ok { OnOk result (ScrollsDown region.start region.end n
+            (screen_of self.old) (screen_of self.new)) }
+        ensures cursor { cursor_of (screen_of self.new) ≡ cursor_of (screen_of self.old) }
+        ensures counts { Counts result (failures_of self.old) (failures_of self.new) }
+        ensures turn { TakesTurn result self.old self.new }
+    {
+        self.begin()?;
+        self.scroll_down(region, n);
+        Ok(())
     }
 
     fn clear(&mut self) -> Result<(), TestError>

@@ -13,3 +13,4 @@ pub mod ColumnLemmas
 pub mod EqualityLemmas
 pub mod ShownLemmas
 pub mod BarLemmas
+pub mod RowsDiffLemmas

@@ -5,3 +5,4 @@ pub mod PaintedText
 pub mod Bar
 pub mod Line
 pub mod Overlay
+pub mod RowsDiff

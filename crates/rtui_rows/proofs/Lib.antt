@@ -1,5 +1,6 @@
-pub mod UpdateLemmas
 pub mod DrawnLemmas
 pub mod RangeLemmas
-pub mod AboveLemmas
-pub mod ScrolledLemmas
+pub mod ShownLemmas
+pub mod CountLemmas
+pub mod MarkLemmas
+pub mod PushLemmas

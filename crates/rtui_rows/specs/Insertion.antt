@@ -4,8 +4,18 @@ use Rattle.rtui_geometry.specs.declared.rect.Rect.{Rect}
 use Rattle.rtui_cell.specs.Look.{Look}
 use Rattle.rtui_diff.specs.Shows.{RowAgrees}
 use Rattle.rtui_buffer.specs.Sheet.{Sheet}
-use Rattle.rtui_backend.specs.Screen.{Screen, rows_above}
-use Rattle.rtui_rows.specs.Rows.{look_rows}
+use Rattle.rtui_backend.specs.Screen.{Screen}
+
+-- one row for each of n rows of a buffer, from row i on, that agrees with it
+pub record ArePartOf (s : Sheet) (i n : ℕ) (rows : List (List Look)) : Type 0 where
+  pub count : length rows ≡ n
+  pub agree : (b : ℕ) → b < n → RowAgrees s.area.width s.cells (i + b) (slice_index_or rows b [])
+
+-- exactly n rows of a buffer, from row i on, were appended, in order
+pub record AppendsPart (s : Sheet) (i n : ℕ) (old new : List (List Look)) : Type 0 where
+  pub rows : List (List Look)
+  pub appended : new ≡ old ++ rows
+  pub agree : ArePartOf s i n rows
 
 -- one row for each row of a buffer, in order, that agrees with it
 pub record AreRowsOf (sheet : Sheet) (rows : List (List Look)) : Type 0 where
@@ -34,11 +44,3 @@ pub record HasPlaceAbove (s : Sheet) (r : Rect) (h : ℕ) (screen : Screen) : Ty
   pub width : s.area.width ≡ screen.width
   pub height : h ≡ screen.height
   pub viewport : r.y + r.height ≤ h
-
--- on such a screen all rows of the buffer came to those above the viewport, whose top is row e now: the look of each cell, of skipped ones too
-abbrev pub InsertsRows : Sheet → Rect → ℕ → Screen → Screen → ℕ → Type 0
-InsertsRows s r h old new e = HasPlaceAbove s r h old → rows_above new e ≡ rows_above old r.y ++ look_rows s
-
--- the same, but that the columns of skipped cells may show anything
-abbrev pub AppendsAbove : Sheet → Rect → ℕ → Screen → Screen → ℕ → Type 0
-AppendsAbove s r h old new e = HasPlaceAbove s r h old → AppendsRows (s ∷ []) (rows_above old r.y) (rows_above new e)

@@ -1,9 +1,11 @@
--- What a walk over rows has still to give.
-use Rattle.std.specs.Prelude.{List, ◌-◌, length, map}
-use Rattle.std.specs.List.{range_with_len}
+-- What a walk over lowered updates has still to give.
+use Rattle.std.specs.Prelude.{ℕ, List, map}
 use Rattle.rtui_cell.specs.Grid.{Update}
-use Rattle.rtui_diff.specs.Updates.{update_at}
-use Rattle.rtui_rows.specs.declared.updates.RowUpdates.{RowUpdates}
+use Rattle.rtui_rows.specs.Rows.{lowered_update}
+use Rattle.rtui_rows.specs.declared.updates.LoweredUpdates.{LoweredUpdates}
 
-abbrev pub row_updates_left : RowUpdates → List Update
-row_updates_left p = map (update_at 0 p.y p.width p.cells.now) (range_with_len p.at (length p.cells.now - p.at))
+abbrev pub lowered_by : ℕ → List Update → List Update
+lowered_by by us = map (lowered_update by) us
+
+abbrev pub lowered_left : LoweredUpdates → List Update
+lowered_left l = lowered_by l.by l.updates

@@ -1,48 +1,84 @@
--- Rows of a buffer as rows of looks, and what a drawing of them does to a screen.
-use Rattle.std.specs.Prelude.{◌≡◌, ◌⊎◌, ℕ, ◌+◌, ◌*◌, ◌<◌, ◌≤◌, List, map}
-use Rattle.std.specs.List.{range_with_len}
+-- Rows of a buffer, and what a drawing of them does to a screen.
+use Rattle.std.specs.Prelude.{◌≡◌, ◌⊎◌, ℕ, ◌+◌, ◌-◌, ◌^◌, ◌<◌, ◌≤◌, min, true, false, ◌&&◌, Bool, not, List, map, count_by}
 use Rattle.rtui_cell.specs.declared.cell.Cell.{Cell}
-use Rattle.rtui_cell.specs.Look.{Look, look_of}
+use Rattle.rtui_cell.specs.Cell.{empty_cell, width_of, is_skipped}
+use Rattle.rtui_cell.specs.Equality.{is_same}
+use Rattle.rtui_cell.specs.Look.{empty_look}
 use Rattle.rtui_cell.specs.Grid.{Update}
-use Rattle.rtui_diff.specs.Cells.{cell_at}
-use Rattle.rtui_diff.specs.Updates.{update_at}
+use Rattle.rtui_diff.specs.Cells.{is_always, cell, cell_at}
+use Rattle.rtui_diff.specs.Settled.{IsSettled}
+use Rattle.rtui_diff.specs.Shows.{Shows, ShowsColumn}
 use Rattle.rtui_buffer.specs.Sheet.{Sheet}
-use Rattle.rtui_backend.specs.Screen.{Screen}
+use Rattle.rtui_buffer.specs.Frame.{IsSettledSheet}
+use Rattle.rtui_buffer.specs.RowsDiff.{part_cells, IsRowsDiff}
+use Rattle.rtui_backend.specs.Screen.{Screen, Draws}
 
--- every cell of n rows of w columns, skipped ones too, at its place from row y of a screen on
-abbrev pub row_updates : ℕ → ℕ → ℕ → List Cell → List Update
-row_updates w n y cells = map (update_at 0 y w cells) (range_with_len 0 (w * n))
+-- an update so many rows further down, at most in the last row that there can be
+abbrev pub lowered_update : ℕ → Update → Update
+lowered_update by u = record u { y = min (u.y + by) 65535 }
 
--- the look of the cell in column a of row b of a buffer
-abbrev pub look_in : Sheet → ℕ → ℕ → Look
-look_in s a b = look_of (cell_at s.area.width s.cells a b)
+-- what differs from the first n rows of a former buffer to n rows of the next one, from row i on, was drawn at row y
+pub record DrawsRows (former next : Sheet) (i n y : ℕ) (old new : Screen) : Type 0 where
+  pub updates : List Update
+  pub diff : IsRowsDiff former 0 next i n updates
+  pub drawn : Draws old (map (lowered_update y) updates) new
 
--- row b of a buffer: the look of each of its cells, of skipped ones too
-abbrev pub looks_in : Sheet → ℕ → List Look
-looks_in s b = map (λ a. look_in s a b) (range_with_len 0 s.area.width)
+-- the cells of a buffer's first row are skipped, so that any screen shows it
+pub record IsUnknownRow (s : Sheet) : Type 0 where
+  pub row : 1 ≤ s.area.height
+  pub skipped : (a : ℕ) → a < s.area.width → is_skipped (cell_at s.area.width s.cells a 0) ≡ true
+  pub narrow : (a : ℕ) → a < s.area.width → width_of (cell_at s.area.width s.cells a 0) ≤ 1
 
--- n rows of a buffer, from row i on
-abbrev pub look_rows_from : Sheet → ℕ → ℕ → List (List Look)
-look_rows_from s i n = map (looks_in s) (range_with_len i n)
-
--- all rows of a buffer
-abbrev pub look_rows : Sheet → List (List Look)
-look_rows s = look_rows_from s 0 s.area.height
+-- a buffer's first row was drawn on the screen's first one, whatever stood there
+pub record DrawsFirstRow (s : Sheet) (old new : Screen) : Type 0 where
+  pub former : Sheet
+  pub unknown : IsUnknownRow former
+  pub width : s.area.width ≡ former.area.width
+  pub drawn : DrawsRows former s 0 1 0 old new
 
 -- n rows of a buffer fit on a screen at row y: it has the buffer's width, and they end above its bottom
 pub record RowsFit (s : Sheet) (n y : ℕ) (screen : Screen) : Type 0 where
   pub width : s.area.width ≡ screen.width
   pub bottom : y + n ≤ screen.height
 
--- n rows of a buffer, from row i on, stand at row y, the look of each cell in its column, and all else is as before
-pub record WritesRows (s : Sheet) (i n y : ℕ) (old new : Screen) : Type 0 where
+-- the first n rows of a buffer are settled, and a screen shows them at row y
+pub record ShowsFirst (s : Sheet) (n y : ℕ) (screen : Screen) : Type 0 where
+  pub settled : IsSettled s.area.width n (part_cells s 0 n)
+  pub shown : Shows 0 y s.area.width n (part_cells s 0 n) screen.grid
+
+-- n rows of a settled buffer, from row i on, can be drawn over the first n rows of a former one
+pub record CanShowRows (former s : Sheet) (i n y : ℕ) (screen : Screen) : Type 0 where
+  pub fit : RowsFit s n y screen
+  pub inside : i + n ≤ s.area.height
+  pub settled : IsSettledSheet s
+  pub shown : ShowsFirst former n y screen
+
+-- n rows of a buffer, from row i on, are shown at row y, and all else is as before
+pub record ShowsRows (s : Sheet) (i n y : ℕ) (old new : Screen) : Type 0 where
   pub history : new.history ≡ old.history
   pub width : new.width ≡ old.width
   pub height : new.height ≡ old.height
-  pub rows : (a b : ℕ) → a < s.area.width → b < n → new.grid a (y + b) ≡ look_in s a (i + b)
-  pub outside : (a b : ℕ) → (b < y) ⊎ (y + n ≤ b) → new.grid a b ≡ old.grid a b
   pub visible : new.visible ≡ old.visible
+  pub shown : (a b : ℕ) → a < s.area.width → b < n → ShowsColumn s.area.width s.cells a (i + b) (new.grid a (y + b))
+  pub outside : (a b : ℕ) → (b < y) ⊎ (y + n ≤ b) → new.grid a b ≡ old.grid a b
 
--- rows that fit were drawn
-abbrev pub DrawsRows : Sheet → ℕ → ℕ → ℕ → Screen → Screen → Type 0
-DrawsRows s i n y old new = RowsFit s n y old → WritesRows s i n y old new
+-- n rows of the screen from row y on are blank
+pub record IsBlankAt (n y : ℕ) (s : Screen) : Type 0 where
+  pub at : (a b : ℕ) → a < s.width → b < n → s.grid a (y + b) ≡ empty_look
+
+-- a cell that is neither skipped nor empty
+abbrev pub is_nonempty : Cell → Bool
+is_nonempty c = not (is_skipped c) && not (is_same empty_cell c)
+
+-- how many such cells n rows of a buffer have, from row i on
+abbrev pub nonempty_cells : Sheet → ℕ → ℕ → ℕ
+nonempty_cells s i n = count_by is_nonempty (part_cells s i n)
+
+-- no cell of a buffer is wide, and none is drawn each time
+pub record IsNarrowSheet (s : Sheet) : Type 0 where
+  pub narrow : (k : ℕ) → width_of (cell s.cells k) ≤ 1
+  pub changing : (k : ℕ) → is_always (cell s.cells k) ≡ false
+
+-- at most n items were drawn, as far as they are counted
+abbrev pub WritesAtMost : ℕ → Screen → Screen → Type 0
+WritesAtMost n old new = old.written + n < 2 ^ 64 - 1 → new.written ≤ old.written + n

@@ -1,17 +1,50 @@
--- Scrolling the whole screen.
-use Rattle.std.specs.Prelude.{◌≡◌, ℕ, ◌+◌, ◌-◌, ◌<◌, ◌==◌, if◌then◌else◌}
-use Rattle.rtui_geometry.specs.declared.position.Position.{Position}
+-- Rows that come in above a viewport, part of the screen after part being scrolled for them.
+use Rattle.std.specs.Prelude.{◌≡◌, ℕ, ◌+◌, ◌-◌, ◌*◌, ◌<◌, ◌≤◌, min}
 use Rattle.rtui_geometry.specs.declared.rect.Rect.{Rect}
-use Rattle.rtui_backend.specs.Screen.{Screen, Scrolls}
+use Rattle.rtui_buffer.specs.Sheet.{Sheet}
+use Rattle.rtui_buffer.specs.Frame.{IsSettledSheet}
+use Rattle.rtui_backend.specs.Screen.{Screen, rows_above}
+use Rattle.rtui_rows.specs.Rows.{RowsFit, IsBlankAt, IsNarrowSheet, nonempty_cells, WritesAtMost}
+use Rattle.rtui_rows.specs.Insertion.{KeepsShape, HasPlaceAbove, AppendsPart}
 
--- a screen of h rows, at least one, was scrolled up by k
-abbrev pub ScrollsBy : ℕ → ℕ → Screen → Screen → Type 0
-ScrollsBy h k old new = 0 < h → h ≡ old.height → Scrolls old k new
+-- the first k rows of a buffer were scrolled off from the screen's first row, which is blank behind them, and all rows below it are as before;
+-- of a narrow buffer, one whole row at most was written, and else what isn't blank
+pub record HasPushed (s : Sheet) (k : ℕ) (old new : Screen) : Type 0 where
+  pub shape : KeepsShape old new
+  pub above : AppendsPart s 0 k (rows_above old 0) (rows_above new 0)
+  pub blank : 0 < k → IsBlankAt 1 0 new
+  pub below : (a b : ℕ) → a < old.width → b < old.height → 0 < b → new.grid a b ≡ old.grid a b
+  pub few : IsNarrowSheet s → WritesAtMost (min k 1 * s.area.width + nonempty_cells s 0 k) old new
 
--- the place that the cursor was set to last: the start of the last row where there was something to scroll
-abbrev pub cursor_scrolled : ℕ → ℕ → Position → Position
-cursor_scrolled h k cursor = if k == 0 then cursor else record { x = 0; y = h - 1 }
+-- n rows of a buffer, from row i on, came to those above row d, and the screen's rows from row d on are as before; of a narrow buffer, at most
+-- what isn't blank was written
+pub record HasRaised (s : Sheet) (i n d : ℕ) (old new : Screen) : Type 0 where
+  pub shape : KeepsShape old new
+  pub above : AppendsPart s i n (rows_above old d) (rows_above new d)
+  pub below : (a b : ℕ) → a < old.width → b < old.height → d ≤ b → new.grid a b ≡ old.grid a b
+  pub few : IsNarrowSheet s → WritesAtMost (nonempty_cells s i n) old new
 
--- how many rows go past the bottom of a screen of h rows where n come in above a viewport
-abbrev pub rows_past : ℕ → Rect → ℕ → ℕ
-rows_past n r h = r.y + n + r.height - h
+-- the first n rows of a buffer came in at a viewport's top, and its rows moved down by n; the rows below those are as before; of a narrow
+-- buffer, at most what isn't blank was written
+pub record HasLowered (s : Sheet) (n : ℕ) (r : Rect) (old new : Screen) : Type 0 where
+  pub shape : KeepsShape old new
+  pub above : AppendsPart s 0 n (rows_above old r.y) (rows_above new (r.y + n))
+  pub moved : (a b : ℕ) → a < old.width → b < r.height → new.grid a (r.y + n + b) ≡ old.grid a (r.y + b)
+  pub below : (a b : ℕ) → a < old.width → b < old.height → r.y + n + r.height ≤ b → new.grid a b ≡ old.grid a b
+  pub few : IsNarrowSheet s → WritesAtMost (nonempty_cells s 0 n) old new
+
+-- how many of n rows push a viewport down on a screen of h rows
+abbrev pub rows_down : ℕ → Rect → ℕ → ℕ
+rows_down n r h = min n (h - (r.y + r.height))
+
+-- all rows of a settled buffer of the screen's width were pushed off from the first row
+abbrev pub PushesRows : Sheet → Screen → Screen → Type 0
+PushesRows s old new = RowsFit s 1 0 old → IsSettledSheet s → HasPushed s s.area.height old new
+
+-- n rows of a settled buffer came in at the viewport's top
+abbrev pub InsertsDown : Sheet → Rect → ℕ → Screen → Screen → ℕ → Type 0
+InsertsDown s r h old new n = HasPlaceAbove s r h old → IsSettledSheet s → HasLowered s n r old new
+
+-- the rows of a settled buffer from row i on came to those above row d
+abbrev pub InsertsUp : Sheet → ℕ → ℕ → Screen → Screen → Type 0
+InsertsUp s i d old new = s.area.width ≡ old.width → d ≤ old.height → IsSettledSheet s → HasRaised s i (s.area.height - i) d old new

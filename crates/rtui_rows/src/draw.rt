@@ -1,36 +1,58 @@
 //! Rows of a buffer, drawn on a screen.
 
-ghost use Rattle.std.specs.Prelude.{◌≡◌, ◌+◌, ◌≤◌, OnOk};
+ghost use Rattle.std.specs.Prelude.{◌≡◌, ◌+◌, ◌<◌, ◌≤◌, OnOk};
+ghost use Rattle.rtui_buffer.specs.Sheet.{IsEmptied};
 ghost use Rattle.rtui_backend.specs.Failures.{Counts};
+ghost use Rattle.rtui_rows.specs.Rows.{DrawsRows, DrawsFirstRow};
 ghost use Rattle.rtui_rows.specs.Insertion.{KeepsShape};
-ghost use Rattle.rtui_rows.specs.Rows.{DrawsRows};
 
-use crate::updates::RowUpdates;
+use crate::marks::{empty_front, skip_front};
+use crate::updates::LoweredUpdates;
 use rtui_backend::Backend;
-use rtui_buffer::Buffer;
+use rtui_buffer::{Buffer, diff_rows};
 
-/// Draws `count` rows of a buffer, from its row `first` on, at row `y` of a screen of the buffer's
-/// width: every cell, skipped ones too. Nothing is drawn or flushed where there are no rows.
+/// Draws `count` rows of a buffer, from its row `first` on, at row `y` of a screen: what differs in them from the first
+/// `count` rows of a former buffer, which the screen shows there. A flush follows.
 pub fn draw_rows<B: Backend>(
     backend: &mut B,
+    former: &Buffer,
     rows: &Buffer,
     first: u16,
     count: u16,
     y: u16,
 ) -> Result<(), B::Error>
+    requires width { rows.now.area.width ≡ former.now.area.width }
+    requires former { count ≤ former.now.area.height }
     requires inside { first + count ≤ rows.now.area.height }
     requires bottom { y + count ≤ 65535 }
-    ensures ok { OnOk result (DrawsRows rows.now first count y
+    ensures ok { OnOk result (DrawsRows former.now rows.now first count y
         (B.screen backend.old) (B.screen backend.new)) }
     ensures shape { OnOk result (KeepsShape (B.screen backend.old) (B.screen backend.new)) }
     ensures counts { Counts result (B.failures backend.old) (B.failures backend.new) }
 {
-    if count == 0 {
-        return Ok(());
-    }
-    let width = rows.area().width;
-    let start = usize::from(first) * usize::from(width);
-    let end = (usize::from(first) + usize::from(count)) * usize::from(width);
-    backend.draw(RowUpdates::new(&rows.content()[start..end], width, count, y))?;
+    let updates = diff_rows(former, 0, rows, first, count);
+    backend.draw(LoweredUpdates::new(updates, y))?;
     backend.flush()
+}
+
+/// Draws the first row of a buffer on the screen's first row, whatever stands there: each cell but skipped ones and
+/// those that a wide one covers. An empty buffer of the same area is written to meanwhile.
+pub fn draw_first_row<B: Backend>(
+    backend: &mut B,
+    blank: &mut Buffer,
+    rows: &Buffer,
+) -> Result<(), B::Error>
+    requires blank { IsEmptied rows.now.area blank.old }
+    requires row { 0 < rows.now.area.height }
+    ensures ok { OnOk result
+        (DrawsFirstRow rows.now (B.screen backend.old) (B.screen backend.new)) }
+    ensures blank { IsEmptied rows.now.area blank.new }
+    ensures shape { OnOk result (KeepsShape (B.screen backend.old) (B.screen backend.new)) }
+    ensures counts { Counts result (B.failures backend.old) (B.failures backend.new) }
+{
+    let columns = usize::from(rows.area().width);
+    skip_front(blank.cells_mut(), columns);
+    let drawn = draw_rows(backend, blank, rows, 0, 1, 0);
+    empty_front(blank.cells_mut(), columns);
+    drawn
 }

@@ -1,82 +1,92 @@
-//! Rows that come in above a viewport, by scrolling the whole screen.
+//! Rows that come in above a viewport, by scrolling parts of the screen.
 
 ghost use Rattle.std.specs.Prelude.{◌≡◌, ◌+◌, ◌-◌, ◌<◌, ◌≤◌, min, IfOk, OnOk};
 ghost use Rattle.rtui_geometry.specs.Rect.{EdgesFit};
+ghost use Rattle.rtui_buffer.specs.Sheet.{IsEmptied};
 ghost use Rattle.rtui_backend.specs.Failures.{Counts};
-ghost use Rattle.rtui_rows.specs.Insertion.{KeepsShape, InsertsRows, AppendsAbove};
-ghost use Rattle.rtui_rows.specs.Scrolling.{ScrollsBy, cursor_scrolled, rows_past};
+ghost use Rattle.rtui_rows.specs.Insertion.{KeepsShape};
+ghost use Rattle.rtui_rows.specs.Scrolling.{PushesRows, InsertsDown, InsertsUp, rows_down};
 
-use crate::draw::draw_rows;
+use crate::draw::{draw_first_row, draw_rows};
 use rtui_backend::Backend;
 use rtui_buffer::Buffer;
-use rtui_geometry::{Position, Rect};
+use rtui_geometry::Rect;
 
-/// Scrolls a screen of `height` rows up by `lines` rows, from a cursor in its last row. The last known place of the
-/// cursor changes where it was set; where there is nothing to scroll nothing is called.
-pub fn scroll_up<B: Backend>(
+/// Puts the rows of a buffer on the screen's first row, one after the other, and scrolls each off from there. The first row
+/// is blank behind that, and all rows below it are as before.
+pub fn push_rows<B: Backend>(
     backend: &mut B,
-    known_cursor: &mut Position,
-    height: u16,
-    lines: u16,
+    blank: &mut Buffer,
+    rows: &Buffer,
 ) -> Result<(), B::Error>
-    ensures ok { OnOk result
-        (ScrollsBy height lines (B.screen backend.old) (B.screen backend.new)) }
-    ensures cursor { OnOk result
-        (known_cursor.new ≡ cursor_scrolled height lines known_cursor.old) }
+    requires blank { IsEmptied rows.now.area blank.old }
+    ensures blank { IsEmptied rows.now.area blank.new }
+    ensures ok { OnOk result (PushesRows rows.now (B.screen backend.old) (B.screen backend.new)) }
     ensures shape { OnOk result (KeepsShape (B.screen backend.old) (B.screen backend.new)) }
     ensures counts { Counts result (B.failures backend.old) (B.failures backend.new) }
 {
-    if lines == 0 {
-        return Ok(());
+    for row in 0..rows.area().height {
+        if row == 0 {
+            draw_first_row(backend, blank, rows)?;
+        } else {
+            draw_rows(backend, blank, rows, row, 1, 0)?;
+        }
+        backend.scroll_region_up(0..1, 1)?;
     }
-    let place = Position {
-        x: 0,
-        y: height.saturating_sub(1),
-    };
-    backend.set_cursor_position(place)?;
-    *known_cursor = place;
-    backend.append_lines(lines)
+    Ok(())
 }
 
-/// Inserts the rows of a buffer above a viewport, on a screen of `height` rows, and answers the viewport's new top:
-/// as far down as the rows push it and the screen has room. Rows that have no room scroll off. What is left of the
-/// viewport on the screen isn't cleared.
-pub fn insert_rows<B: Backend>(
+/// Moves a viewport down by as many rows as there are and the screen of `height` rows has room for, and draws the first
+/// rows of a buffer where it stood. Answers how many.
+pub fn insert_down<B: Backend>(
     backend: &mut B,
-    known_cursor: &mut Position,
+    blank: &Buffer,
     rows: &Buffer,
     viewport: Rect,
     height: u16,
 ) -> Result<u16, B::Error>
+    requires blank { IsEmptied rows.now.area blank.now }
     requires edges { EdgesFit viewport }
-    requires high { 0 < height }
-    ensures ok { IfOk result (InsertsRows rows.now viewport height
+    ensures ok { IfOk result (InsertsDown rows.now viewport height
         (B.screen backend.old) (B.screen backend.new)) }
-    ensures agrees { IfOk result (AppendsAbove rows.now viewport height
-        (B.screen backend.old) (B.screen backend.new)) }
-    ensures top { IfOk result (λ top.
-        top ≡ min (viewport.y + rows.now.area.height) (height - viewport.height)) }
-    ensures cursor { let past = rows_past rows.now.area.height viewport height in
-        OnOk result (known_cursor.new ≡ cursor_scrolled height past known_cursor.old) }
+    ensures count { IfOk result (λ n. n ≡ rows_down rows.now.area.height viewport height) }
     ensures shape { OnOk result (KeepsShape (B.screen backend.old) (B.screen backend.new)) }
     ensures counts { Counts result (B.failures backend.old) (B.failures backend.new) }
 {
-    let screen = u32::from(height);
-    let below = u32::from(viewport.height);
-    let inserted = rows.area().height;
-    let mut drawn = u32::from(viewport.y);
-    let mut left = inserted;
-    while left > 0 && u32::from(left) + below > screen {
-        let count = left.min(height);
-        let up = (drawn + u32::from(count)).saturating_sub(screen);
-        scroll_up(backend, known_cursor, height, up as u16)?;
-        draw_rows(backend, rows, inserted - left, count, (drawn - up) as u16)?;
-        drawn = drawn + u32::from(count) - up;
-        left -= count;
+    let bottom = viewport.y + viewport.height;
+    if bottom >= height {
+        return Ok(0);
     }
-    let up = (drawn + u32::from(left) + below).saturating_sub(screen);
-    scroll_up(backend, known_cursor, height, up as u16)?;
-    let at = drawn.saturating_sub(up) as u16;
-    draw_rows(backend, rows, inserted - left, left, at)?;
-    Ok(at + left)
+    let count = rows.area().height.min(height - bottom);
+    backend.scroll_region_down(viewport.y..bottom + count, count)?;
+    draw_rows(backend, blank, rows, 0, count, viewport.y)?;
+    Ok(count)
+}
+
+/// Scrolls the rows above row `top` up, as far as there are any at a time, and draws the rows of a buffer from row `first`
+/// on above `top`. The screen's rows from `top` on are as before.
+pub fn insert_up<B: Backend>(
+    backend: &mut B,
+    blank: &Buffer,
+    rows: &Buffer,
+    first: u16,
+    top: u16,
+) -> Result<(), B::Error>
+    requires blank { IsEmptied rows.now.area blank.now }
+    requires first { first ≤ rows.now.area.height }
+    requires room { first < rows.now.area.height → 0 < top }
+    ensures ok { OnOk result (InsertsUp rows.now first top
+        (B.screen backend.old) (B.screen backend.new)) }
+    ensures shape { OnOk result (KeepsShape (B.screen backend.old) (B.screen backend.new)) }
+    ensures counts { Counts result (B.failures backend.old) (B.failures backend.new) }
+{
+    let height = rows.area().height;
+    let mut done = first;
+    while done < height {
+        let count = (height - done).min(top);
+        backend.scroll_region_up(0..top, count)?;
+        draw_rows(backend, blank, rows, done, count, top - count)?;
+        done += count;
+    }
+    Ok(())
 }

@@ -1,65 +1,41 @@
-//! The cells of some rows, each at its place on a screen.
+//! The updates between rows, at their place on a screen.
 
-ghost use Rattle.std.specs.Prelude.{◌≡◌, ◌+◌, ◌*◌, ◌≤◌, length};
+ghost use Rattle.std.specs.Prelude.{◌≡◌};
 
-use rtui_buffer::Cell;
+use rtui_buffer::{BufferDiff, Cell};
 
-// Every cell of some rows, skipped ones too, from the screen's first column on and row by row.
+// Updates, each so many rows further down, at most in row 65535.
 #[derive(Drop)]
-pub struct RowUpdates<'a> {
-    cells: &'a [Cell],
-    width: u16,
-    height: u16,
-    y: u16,
-    at: usize,
-    ghost covers: { length cells.now ≡ width * height },
-    ghost bottom: { y + height ≤ 65535 },
+pub struct LoweredUpdates<'prev, 'next> {
+    updates: BufferDiff<'prev, 'next>,
+    by: u16,
 }
 
-impl<'a> RowUpdates<'a> {
-    ghost use Rattle.rtui_rows.specs.Rows.{row_updates};
-    ghost use Rattle.rtui_rows.specs.Remaining.{row_updates_left};
+impl<'prev, 'next> LoweredUpdates<'prev, 'next> {
+    ghost use Rattle.rtui_rows.specs.Remaining.{lowered_left, lowered_by};
 
-    // The cells of `height` rows of `width` columns, from row `y` of the screen on.
-    pub fn new(cells: &'a [Cell], width: u16, height: u16, y: u16) -> Self
-        requires covers { length cells.now ≡ width * height }
-        requires bottom { y + height ≤ 65535 }
-        ensures { row_updates_left result ≡ row_updates width height y cells.now }
+    pub fn new(updates: BufferDiff<'prev, 'next>, by: u16) -> Self
+        ensures { lowered_left result ≡ lowered_by by updates.entry }
     {
-        RowUpdates {
-            cells,
-            width,
-            height,
-            y,
-            at: 0,
-        }
+        LoweredUpdates { updates, by }
     }
 }
 
-impl<'a> Iterator for RowUpdates<'a> {
+impl<'prev, 'next> Iterator for LoweredUpdates<'prev, 'next> {
     ghost use Rattle.std.specs.Iterator.{YieldsFirstBy, item_count};
     ghost use Rattle.rtui_cell.specs.Grid.{update_by};
-    ghost use Rattle.rtui_rows.specs.Remaining.{row_updates_left};
+    ghost use Rattle.rtui_rows.specs.Remaining.{lowered_left};
 
-    type Item = (u16, u16, &'a Cell);
+    type Item = (u16, u16, &'next Cell);
 
-    ghost next_gives = { YieldsFirstBy (update_by (λ cell. cell.now)) row_updates_left };
+    ghost next_gives = { YieldsFirstBy (update_by (λ cell. cell.now)) lowered_left };
 
-    ghost remaining = { item_count row_updates_left };
+    ghost remaining = { item_count lowered_left };
 
-    #[tactic(auto, using(crate::proofs::UpdateLemmas::one_more))]
-    fn next(&mut self) -> Option<(u16, u16, &'a Cell)> {
-        let cells = self.cells;
-        let at = self.at;
-        if at < cells.len() {
-            self.at += 1;
-            let width = usize::from(self.width);
-            return Some((
-                (at % width) as u16,
-                self.y + (at / width) as u16,
-                &cells[at],
-            ));
+    fn next(&mut self) -> Option<(u16, u16, &'next Cell)> {
+        match self.updates.next() {
+            Some((x, y, cell)) => Some((x, y.saturating_add(self.by), cell)),
+            None => None,
         }
-        None
     }
 }

@@ -1,128 +1,253 @@
--- Rows that were inserted, and the viewport that was moved and cleared behind that, as one insertion; that insertion by its answer.
-use Rattle.std.proofs.Common.{◌≡◌, ℕ, ◌+◌, ◌-◌, ◌<◌, min, [], ◌∷◌, sym, ap, ◌∙◌, subst, arith}
-use Rattle.std.specs.Prelude.{Result, Ok, Err, OnOk, OnErr}
-use Rattle.std.specs.declared.alloc.AllocError.{AllocError}
-use Rattle.rtui_geometry.specs.declared.position.Position.{Position}
+-- Rows that were scrolled in above a viewport, as one insertion.
+use Rattle.std.proofs.Common.{◌≡◌, ℕ, zero, suc, ◌+◌, ◌-◌, ◌*◌, ◌^◌, ◌<◌, ◌≤◌, ◌++◌, min, nat_lt, if◌then◌else◌, List, [], ◌∷◌, slice_index_or, refl, sym, ap, ◌∙◌, subst, arith, append-nil, inl, inr}
+use Rattle.std.proofs.lemmas.Bool.{cases_lt}
+use Rattle.std.proofs.lemmas.Bool.Decides.{nat_tests}
 use Rattle.rtui_geometry.specs.declared.rect.Rect.{Rect}
+use Rattle.rtui_cell.specs.Look.{Look}
+use Rattle.rtui_diff.specs.Shows.{ShowsColumn, RowAgrees}
 use Rattle.rtui_buffer.specs.Sheet.{Sheet, IsEmptied}
+use Rattle.rtui_buffer.specs.Frame.{IsSettledSheet, ShowsSheet}
 use Rattle.rtui_backend.specs.Screen.{Screen, IsOnScreen, rows_above}
-use Rattle.rtui_viewport.specs.declared.viewport.Viewport.{Viewport}
-use Rattle.rtui_viewport.specs.declared.viewport.Viewport.TheVariants.{Fullscreen, Inline, Fixed}
-use Rattle.rtui_viewport.specs.Viewports.{IsInline}
 use Rattle.rtui_viewport.specs.Areas.{IsBlankBelow}
-use Rattle.rtui_viewport.specs.Clearing.{ClearsArea}
-use Rattle.rtui_viewport.proofs.ClearLemmas.{keeps_above, blank_below}
-use Rattle.rtui_rows.specs.Insertion.{AppendsRows, KeepsShape, HasPlaceAbove, InsertsRows, AppendsAbove}
-use Rattle.rtui_rows.specs.Following.{Follows}
-use Rattle.rtui_rows.specs.Scrolling.{cursor_scrolled, rows_past}
-use Rattle.rtui_terminal.specs.State.{State, IsInPlace}
-use Rattle.rtui_terminal.specs.InStep.{IsInStep, rows_over}
-use Rattle.rtui_terminal.specs.Calls.{ClearsViewport, FailsOnlyByBackend}
-use Rattle.rtui_terminal.specs.Insertion.{inserted_area, TakesRows, Inserts, StopsInserting, InsertsBy}
+use Rattle.std.specs.Prelude.{◌⊎◌, Result, Ok, Err, OnOk, OnErr}
+use Rattle.std.specs.declared.alloc.AllocError.{AllocError}
+use Rattle.rtui_terminal.specs.Calls.{FailsOnlyByBackend}
 use Rattle.rtui_terminal.specs.declared.terminal.error.TerminalError.{TerminalError}
 use Rattle.rtui_terminal.specs.declared.terminal.error.TerminalError.TheVariants.{Backend, Memory, Area, Closure}
+use Rattle.rtui_rows.specs.Rows.{DrawsRows, RowsFit, CanShowRows, ShowsRows, IsNarrowSheet, nonempty_cells, WritesAtMost}
+use Rattle.rtui_rows.specs.Insertion.{AppendsRows, KeepsShape, HasPlaceAbove, AppendsPart}
+use Rattle.rtui_rows.specs.Scrolling.{HasPushed, HasRaised, HasLowered, PushesRows, InsertsDown, InsertsUp, rows_down}
+use Rattle.rtui_rows.specs.Following.{AreaFollows, Follows}
+use Rattle.rtui_terminal.specs.State.{State}
+use Rattle.rtui_terminal.specs.InStep.{IsInStep, rows_over}
+use Rattle.rtui_terminal.specs.Insertion.{inserted_area, TakesRows}
+use Rattle.rtui_rows.proofs.ShownLemmas.{parts_join, rows_shown, blank_first}
+use Rattle.rtui_rows.proofs.CountLemmas.{writes_rows, nonempty_parts}
+use Rattle.rtui_rows.proofs.PushLemmas.{no_part, own_area}
+use Rattle.rtui_terminal.specs.Insertion.{top_behind, IsLeft, Inserts, StopsInserting, InsertsBy}
 
--- an inline viewport stays in column 0
-in_place_moved : (v : Viewport) (r : Rect) (y : ℕ) → IsInPlace v r → IsInPlace v (record r { y = y })
-in_place_moved Fullscreen r y place = tt
-in_place_moved (Inline n) r y place = place
-in_place_moved (Fixed f) r y place = tt
+-- all rows of a buffer were appended
+pub AppendsRows-part : (s : Sheet) (n : ℕ) (old new : List (List Look)) → n ≡ s.area.height → AppendsPart s 0 n old new → AppendsRows (s ∷ []) old new
+AppendsRows-part s n old new all part = record {
+  rows = part.rows;
+  appended = part.appended;
+  agree = (part.rows, [], sym (append-nil part.rows), record {
+    count = part.agree.count ∙ all;
+    agree = λ b low. let none : 0 + b ≡ b = omega arith in subst (λ k. RowAgrees s.area.width s.cells k (slice_index_or part.rows b [])) none (part.agree.agree b (omega (arith, all)));
+  }, refl);
+}
 
--- what stands above an inline viewport that is cleared, and below it
-above_cleared : (v : Viewport) (r : Rect) {s t : Screen} → IsInline v → IsInPlace v r → IsOnScreen r s → 0 < r.height → ClearsArea v r s t → rows_above t r.y ≡ rows_above s r.y
-above_cleared Fullscreen r inline place on row clears = absurd inline
-above_cleared (Inline n) r inline place on row clears = keeps_above n r on row (clears place)
-above_cleared (Fixed f) r inline place on row clears = absurd inline
+-- a buffer that nothing moves
+stays_put : (r : Rect) (s : Sheet) → Follows r r s s
+stays_put r s = record { area = record { moved = λ is. is; stays = λ no. refl }; rest = refl }
 
-below_cleared : (v : Viewport) (r : Rect) {s t : Screen} → IsInline v → IsInPlace v r → ClearsArea v r s t → IsBlankBelow r t
-below_cleared Fullscreen r inline place clears = absurd inline
-below_cleared (Inline n) r inline place clears = blank_below n r (clears place)
-below_cleared (Fixed f) r inline place clears = absurd inline
+-- a buffer's cells, shown further down
+shows_moved : (s : Sheet) (y : ℕ) (old new : Screen) → ShowsSheet s old.grid → ((a b : ℕ) → a < s.area.width → b < s.area.height → new.grid (s.area.x + a) (y + b) ≡ old.grid (s.area.x + a) (s.area.y + b))
+    → ShowsSheet (record s { area = record s.area { y = y } }) new.grid
+shows_moved s y old new shown same = record { at = λ a b a_in b_in. subst (ShowsColumn s.area.width s.cells a b) (sym (same a b a_in b_in)) (shown.at a b a_in b_in) }
+
+module _ {B : Type 0} (screen : B → Screen) (s : State B) (inserted : Sheet) (over : inserted.area ≡ inserted_area s inserted.area.height) (known : 0 < s.known_area.height) where
+  same_height : TakesRows screen s → s.known_area.height ≡ (screen s.backend).height
+  same_height takes = sym (ap (λ (r : Rect). r.height) takes.known)
+
+  wide : TakesRows screen s → inserted.area.width ≡ (screen s.backend).width
+  wide takes = ap (λ (r : Rect). r.width) over ∙ takes.width
+
+  has_place : TakesRows screen s → IsInStep screen s → HasPlaceAbove inserted s.viewport_area s.known_area.height (screen s.backend)
+  has_place takes step = record {
+    width = wide takes;
+    height = same_height takes;
+    viewport = omega (arith, step.on_screen.bottom, same_height takes);
+  }
+
+  -- above a viewport that covers the screen
+  module _ (covers : s.known_area.height ≤ s.viewport_area.height) (some : 0 < inserted.area.height) (mid b : B)
+      (shape_mid : KeepsShape (screen s.backend) (screen mid)) (shape : KeepsShape (screen mid) (screen b))
+      (pushed : PushesRows inserted (screen s.backend) (screen mid))
+      (blank : Sheet) (emptied : IsEmptied inserted.area blank) (redrawn : s.older.area ≡ s.viewport_area → DrawsRows blank s.older 0 1 0 (screen mid) (screen b)) where
+    abbrev pub covered : State B
+    covered = record s { backend = b }
+
+    at_top : TakesRows screen s → IsInStep screen s → s.viewport_area.y ≡ 0
+    at_top takes step = omega (arith, step.on_screen.bottom, same_height takes)
+
+    has_pushed : TakesRows screen s → IsSettledSheet inserted → HasPushed inserted inserted.area.height (screen s.backend) (screen mid)
+    has_pushed takes settled = pushed (record { width = wide takes; bottom = omega (arith, same_height takes) }) settled
+
+    shown : TakesRows screen s → IsInStep screen s → IsSettledSheet inserted → ShowsRows s.older 0 1 0 (screen mid) (screen b)
+    shown takes step settled =
+        let width : s.older.area.width ≡ s.viewport_area.width = ap (λ (r : Rect). r.width) step.area in
+        let height : s.older.area.height ≡ s.viewport_area.height = ap (λ (r : Rect). r.height) step.area in
+        let columns : blank.area.width ≡ s.viewport_area.width = ap (λ (r : Rect). r.width) (emptied.area ∙ over) in
+        rows_shown blank s.older (width ∙ sym columns) 0 1 0 (omega arith) (redrawn step.area) (record {
+          fit = record { width = width ∙ takes.width ∙ sym shape_mid.width; bottom = omega (arith, shape_mid.height, same_height takes) };
+          inside = omega (arith, height);
+          settled = step.settled;
+          shown = blank_first blank 1 0 (screen mid) (own_area emptied) (columns ∙ takes.width ∙ sym shape_mid.width) ((has_pushed takes settled).blank some);
+        })
+
+    -- each column of the viewport shows what it did
+    shown_again : TakesRows screen s → IsInStep screen s → IsSettledSheet inserted → ShowsSheet s.older (screen b).grid
+    shown_again takes step settled = record {
+      at = λ x y x_in y_in.
+          let top : s.older.area.y ≡ 0 = ap (λ (r : Rect). r.y) step.area ∙ at_top takes step in
+          let left : s.older.area.x ≡ s.viewport_area.x = ap (λ (r : Rect). r.x) step.area in
+          let width : s.older.area.width ≡ s.viewport_area.width = ap (λ (r : Rect). r.width) step.area in
+          let height : s.older.area.height ≡ s.viewport_area.height = ap (λ (r : Rect). r.height) step.area in
+          let corner : s.older.area.x ≡ 0 = omega (arith, left, step.on_screen.right, takes.width) in
+          let column : s.older.area.x + x ≡ x = omega (arith, corner) in
+          let row : s.older.area.y + y ≡ y = omega (arith, top) in
+          elim (cases_lt 0 y) [
+            | inl low ↦
+                let same : (screen b).grid x y ≡ (screen s.backend).grid x y =
+                    (shown takes step settled).outside x y (inr (omega arith))
+                    ∙ (has_pushed takes settled).below x y (omega (arith, width, takes.width)) (omega (arith, height, step.on_screen.bottom)) low in
+                rw (column, row) (subst (ShowsColumn s.older.area.width s.older.cells x y) (sym same) (rw (column, row) at (step.shown.at x y x_in y_in)))
+            | inr first ↦
+                let zero_row : y ≡ 0 = omega arith in
+                rw (column, row, zero_row) ((shown takes step settled).shown x 0 x_in (omega arith))
+          ];
+    }
+
+    pub inserted_covered : Inserts screen inserted s covered
+    inserted_covered = record {
+      rest = refl;
+      over = over;
+      top = omega arith;
+      current = stays_put s.viewport_area s.current;
+      older = stays_put s.viewport_area s.older;
+      shape = record { width = shape.width ∙ shape_mid.width; height = shape.height ∙ shape_mid.height; visible = shape.visible ∙ shape_mid.visible };
+      above = λ takes step settled.
+          let top = at_top takes step in
+          let part = (has_pushed takes settled).above in
+          let here : rows_above (screen b) 0 ≡ rows_above (screen mid) 0 = ap (λ h. h ++ []) (shown takes step settled).history in
+          rw top (AppendsRows-part inserted inserted.area.height (rows_above (screen s.backend) 0) (rows_above (screen b) 0) refl
+          (subst (AppendsPart inserted 0 inserted.area.height (rows_above (screen s.backend) 0)) (sym here) part));
+      below = λ takes step settled blank. record { at = λ x y x_in y_in past. absurd (omega (arith, shape.height, shape_mid.height, same_height takes)) };
+      left = λ takes step. ap (λ r. record s.older { area = r }) step.area;
+      in_step = λ takes step settled. record {
+        on_screen = record { right = omega (arith, step.on_screen.right, shape.width, shape_mid.width); bottom = omega (arith, step.on_screen.bottom, shape.height, shape_mid.height) };
+        area = step.area;
+        settled = step.settled;
+        shown = shown_again takes step settled;
+      };
+      few = λ takes step settled narrow room.
+          let covered : (if nat_lt s.viewport_area.height s.known_area.height then 0 else 2 * inserted.area.width) ≡ 2 * inserted.area.width = grind (arith, nat_tests) in
+          let once : min inserted.area.height 1 * inserted.area.width ≡ inserted.area.width = ap (λ m. m * inserted.area.width) (let one : min inserted.area.height 1 ≡ 1 = omega arith in one) ∙ omega arith in
+          let columns : blank.area.width * 1 ≡ inserted.area.width = omega (arith, ap (λ (r : Rect). r.width) emptied.area) in
+          let pushes : (screen mid).written ≤ (screen s.backend).written + (min inserted.area.height 1 * inserted.area.width + nonempty_cells inserted 0 inserted.area.height) =
+              (has_pushed takes settled).few narrow (omega (arith, covered, once, room)) in
+          let repairs : (screen b).written ≤ (screen mid).written + blank.area.width * 1 = writes_rows (redrawn step.area) (omega (arith, covered, once, columns, pushes, room)) in
+          omega (arith, covered, once, columns, pushes, repairs);
+    }
+
+  -- above one that doesn't: first it moves down, then the rows above it move up
+  module _ (n : ℕ) (n_is : n ≡ rows_down inserted.area.height s.viewport_area s.known_area.height) (mid b : B) (current older : Sheet)
+      (shape_mid : KeepsShape (screen s.backend) (screen mid)) (shape : KeepsShape (screen mid) (screen b))
+      (down : InsertsDown inserted s.viewport_area s.known_area.height (screen s.backend) (screen mid) n)
+      (up : InsertsUp inserted n (s.viewport_area.y + n) (screen mid) (screen b))
+      (with_current : Follows s.viewport_area (record s.viewport_area { y = s.viewport_area.y + n }) s.current current)
+      (with_older : Follows s.viewport_area (record s.viewport_area { y = s.viewport_area.y + n }) s.older older) where
+    abbrev pub moved : State B
+    moved = record s { backend = b; current = current; older = older; viewport_area = record s.viewport_area { y = s.viewport_area.y + n } }
+
+    fits : TakesRows screen s → IsInStep screen s → s.viewport_area.y + n + s.viewport_area.height ≤ (screen s.backend).height
+    fits takes step = omega (arith, n_is, step.on_screen.bottom, same_height takes)
+
+    lowered : TakesRows screen s → IsInStep screen s → IsSettledSheet inserted → HasLowered inserted n s.viewport_area (screen s.backend) (screen mid)
+    lowered takes step settled = down (has_place takes step) settled
+
+    raised : TakesRows screen s → IsInStep screen s → IsSettledSheet inserted → HasRaised inserted n (inserted.area.height - n) (s.viewport_area.y + n) (screen mid) (screen b)
+    raised takes step settled = up (wide takes ∙ sym shape_mid.width) (omega (arith, fits takes step, shape_mid.height)) settled
+
+    left_older : TakesRows screen s → IsInStep screen s → older ≡ record s.older { area = record s.viewport_area { y = s.viewport_area.y + n } }
+    left_older takes step = with_older.rest ∙ ap (λ r. record s.older { area = r }) (with_older.area.moved step.area)
+
+    -- a row of the viewport, and of what lies below, is where it went
+    viewport_moved : TakesRows screen s → IsInStep screen s → IsSettledSheet inserted → (x y : ℕ) → x < (screen s.backend).width → y < s.viewport_area.height
+        → (screen b).grid x (s.viewport_area.y + n + y) ≡ (screen s.backend).grid x (s.viewport_area.y + y)
+    viewport_moved takes step settled x y x_in y_in =
+        (raised takes step settled).below x (s.viewport_area.y + n + y) (omega (arith, shape_mid.width)) (omega (arith, shape_mid.height, fits takes step)) (omega arith)
+        ∙ (lowered takes step settled).moved x y x_in y_in
+
+    pub inserted_moved : Inserts screen inserted s moved
+    inserted_moved = record {
+      rest = refl;
+      over = over;
+      top = ap (λ k. s.viewport_area.y + k) n_is;
+      current = with_current;
+      older = with_older;
+      shape = record { width = shape.width ∙ shape_mid.width; height = shape.height ∙ shape_mid.height; visible = shape.visible ∙ shape_mid.visible };
+      above = λ takes step settled.
+          AppendsRows-part inserted inserted.area.height _ _ refl
+          (parts_join (lowered takes step settled).above (raised takes step settled).above (omega arith) (omega (arith, n_is)));
+      below = λ takes step settled blank. record {
+        at = λ x y x_in y_in past.
+            (raised takes step settled).below x y (omega (arith, shape.width)) (omega (arith, shape.height)) (omega arith)
+            ∙ (lowered takes step settled).below x y (omega (arith, shape.width, shape_mid.width)) (omega (arith, shape.height, shape_mid.height)) (omega arith)
+            ∙ blank.at x y (omega (arith, shape.width, shape_mid.width)) (omega (arith, shape.height, shape_mid.height)) (omega arith);
+      };
+      left = λ takes step. left_older takes step;
+      in_step = λ takes step settled.
+          let e = left_older takes step in
+          let x : s.older.area.x ≡ s.viewport_area.x = ap (λ (r : Rect). r.x) step.area in
+          let y : s.older.area.y ≡ s.viewport_area.y = ap (λ (r : Rect). r.y) step.area in
+          let width : s.older.area.width ≡ s.viewport_area.width = ap (λ (r : Rect). r.width) step.area in
+          let height : s.older.area.height ≡ s.viewport_area.height = ap (λ (r : Rect). r.height) step.area in
+          let shown : ShowsSheet (record s.older { area = record s.older.area { y = s.viewport_area.y + n } }) (screen b).grid =
+              shows_moved s.older (s.viewport_area.y + n) (screen s.backend) (screen b) step.shown (λ a r a_in r_in.
+              viewport_moved takes step settled (s.older.area.x + a) r (omega (arith, x, width, step.on_screen.right)) (omega (arith, height))
+              ∙ ap (λ k. (screen s.backend).grid (s.older.area.x + a) (k + r)) (sym y)) in
+          let whole : ShowsSheet (record s.older { area = record s.viewport_area { y = s.viewport_area.y + n } }) (screen b).grid = rw step.area at shown in
+          record {
+            on_screen = record { right = omega (arith, step.on_screen.right, shape.width, shape_mid.width); bottom = omega (arith, fits takes step, shape.height, shape_mid.height) };
+            area = ap (λ (o : Sheet). o.area) e;
+            settled = subst IsSettledSheet (sym e) (rw step.area at step.settled);
+            shown = subst (λ o. ShowsSheet o (screen b).grid) (sym e) whole;
+          };
+      few = λ takes step settled narrow room.
+          let place : 0 + n ≡ n = omega arith in
+          let all : n + (inserted.area.height - n) ≡ inserted.area.height = omega (arith, n_is) in
+          let parts : nonempty_cells inserted 0 inserted.area.height ≡ nonempty_cells inserted 0 n + nonempty_cells inserted n (inserted.area.height - n) =
+              ap (nonempty_cells inserted 0) (sym all) ∙ nonempty_parts inserted 0 n (inserted.area.height - n) ∙ ap (λ k. nonempty_cells inserted 0 n + nonempty_cells inserted k (inserted.area.height - n)) place in
+          let first : (screen mid).written ≤ (screen s.backend).written + nonempty_cells inserted 0 n = (lowered takes step settled).few narrow (omega (arith, parts, room)) in
+          let rest : (screen b).written ≤ (screen mid).written + nonempty_cells inserted n (inserted.area.height - n) = (raised takes step settled).few narrow (omega (arith, parts, first, room)) in
+          omega (arith, parts, first, rest);
+    }
 
 module _ {B : Type 0} (screen : B → Screen) where
-  -- the terminal right before its clear
-  abbrev pub moved : State B → B → Sheet → Sheet → Position → ℕ → State B
-  moved s b current older cursor e = record s { backend = b; current = current; older = older; viewport_area = record s.viewport_area { y = e }; known_cursor = cursor }
-
-  module _ (s t : State B) (b : B) (current older : Sheet) (cursor : Position) (inserted : Sheet) (e : ℕ)
-      (place : IsInPlace s.viewport s.viewport_area)
-      (over : inserted.area ≡ inserted_area s inserted.area.height)
-      (top : e ≡ min (s.viewport_area.y + inserted.area.height) (s.known_area.height - s.viewport_area.height))
-      (known : cursor ≡ cursor_scrolled s.known_area.height (rows_past inserted.area.height s.viewport_area s.known_area.height) s.known_cursor)
-      (shape : KeepsShape (screen s.backend) (screen b))
-      (inserts : InsertsRows inserted s.viewport_area s.known_area.height (screen s.backend) (screen b) e)
-      (appends : AppendsAbove inserted s.viewport_area s.known_area.height (screen s.backend) (screen b) e)
-      (with_current : Follows s.viewport_area (record s.viewport_area { y = e }) s.current current)
-      (with_older : Follows s.viewport_area (record s.viewport_area { y = e }) s.older older) where
-    module _ (cleared : ClearsViewport screen (moved s b current older cursor e) t) where
-      area : t.viewport_area ≡ record s.viewport_area { y = e }
-      area = ap (λ (x : State B). x.viewport_area) cleared.rest
-
-      same_current : t.current ≡ current
-      same_current = ap (λ (x : State B). x.current) cleared.rest
-
-      rest : t ≡ record s { backend = t.backend; current = t.current; older = t.older; viewport_area = record s.viewport_area { y = t.viewport_area.y }; known_cursor = t.known_cursor }
-      rest = cleared.rest
-          ∙ sym (ap (λ (x : State B). record s { backend = t.backend; current = x.current; older = t.older; viewport_area = record s.viewport_area { y = x.viewport_area.y }; known_cursor = x.known_cursor }) cleared.rest)
-
-      same_height : TakesRows screen s → s.known_area.height ≡ (screen s.backend).height
-      same_height takes = sym (ap (λ (r : Rect). r.height) takes.known)
-
-      has_place : TakesRows screen s → IsInStep screen s → HasPlaceAbove inserted s.viewport_area s.known_area.height (screen s.backend)
-      has_place takes step = record {
-        width = ap (λ (r : Rect). r.width) over ∙ takes.width;
-        height = same_height takes;
-        viewport = omega (arith, step.on_screen.bottom, same_height takes);
+  -- no rows
+  pub inserted_none : (s : State B) (inserted : Sheet) (height : ℕ) → inserted.area ≡ inserted_area s height → height ≡ 0 → Inserts screen inserted s s
+  inserted_none s inserted height over none =
+      let same : inserted.area.height ≡ height = ap (λ (r : Rect). r.height) over in
+      let flat : inserted.area.height ≡ 0 = same ∙ none in
+      record {
+        rest = refl;
+        over = over ∙ ap (inserted_area s) (sym same);
+        top = omega (arith, flat);
+        current = stays_put s.viewport_area s.current;
+        older = stays_put s.viewport_area s.older;
+        shape = record { width = refl; height = refl; visible = refl };
+        above = λ takes step settled. AppendsRows-part inserted 0 _ _ (sym flat) (no_part inserted 0 (rows_over screen s));
+        below = λ takes step settled blank. blank;
+        left = λ takes step. ap (λ r. record s.older { area = r }) step.area;
+        in_step = λ takes step settled. step;
+        few = λ takes step settled narrow room. omega arith;
       }
 
-      on : TakesRows screen s → IsInStep screen s → IsOnScreen (record s.viewport_area { y = e }) (screen b)
-      on takes step = record {
-        right = omega (arith, step.on_screen.right, shape.width);
-        bottom = omega (arith, step.on_screen.bottom, shape.height, same_height takes, top);
-      }
-
-      above_kept : TakesRows screen s → IsInStep screen s → rows_over screen t ≡ rows_above (screen b) e
-      above_kept takes step =
-          ap (λ (r : Rect). rows_above (screen t.backend) r.y) area
-          ∙ above_cleared s.viewport (record s.viewport_area { y = e }) takes.inline (in_place_moved s.viewport s.viewport_area e place) (on takes step) takes.row cleared.clears
-
-      older_area : t.older.area ≡ older.area
-      older_area = cleared.older.area
-
-      older_moved : IsInStep screen s → older.area ≡ record s.viewport_area { y = e }
-      older_moved step = with_older.area.moved step.area
-
-      pub inserted_whole : Inserts screen inserted s t
-      inserted_whole = record {
-        rest = rest;
-        over = over;
-        top = ap (λ (r : Rect). r.y) area ∙ top;
-        known_cursor = ap (λ (x : State B). x.known_cursor) cleared.rest ∙ known;
-        current = rw (area, same_current) with_current;
-        older = rw (area, older_area) with_older.area;
-        emptied = subst (λ (r : Rect). IsEmptied r t.older) (sym older_area) cleared.older;
-        shape = record {
-          width = cleared.frame.size.width ∙ shape.width;
-          height = cleared.frame.size.height ∙ shape.height;
-          visible = cleared.frame.visible ∙ shape.visible;
-        };
-        above = λ takes step settled. subst (AppendsRows (inserted ∷ []) (rows_over screen s)) (sym (above_kept takes step)) (appends (has_place takes step));
-        skipped_too = λ takes step. above_kept takes step ∙ inserts (has_place takes step);
-        below = λ takes step blank. subst (λ (r : Rect). IsBlankBelow r (screen t.backend)) (sym area)
-            (below_cleared s.viewport (record s.viewport_area { y = e }) takes.inline (in_place_moved s.viewport s.viewport_area e place) cleared.clears);
-        left = λ takes step. subst (λ (r : Rect). IsEmptied r t.older) (older_moved step ∙ sym area) cleared.older;
-        in_step = λ takes step settled. cleared.in_step (on takes step) (older_moved step);
-      }
+  nothing : {s t : State B} {h k : ℕ} → 0 < h → 0 < k → (h ≡ 0) ⊎ (k ≡ 0) → t ≡ s
+  nothing low some (inl none) = absurd (omega (arith, low, none))
+  nothing low some (inr none) = absurd (omega (arith, some, none))
 
   -- rows that a closure filled were inserted, or a backend failed on the way
   pub inserted_by : {T E : Type 0} (result : Result T (TerminalError E)) (area : Rect) (filled : Result (Unit {0}) AllocError → Sheet → Type 0) (inserted : Sheet) (s t : State B)
-      → filled (Ok tt) inserted → inserted.area ≡ area → 0 < s.known_area.height
+      → filled (Ok tt) inserted → inserted.area ≡ area → 0 < s.known_area.height → 0 < area.height
       → OnOk result (Inserts screen inserted s t) → OnErr result (StopsInserting screen inserted.area.height s t) → FailsOnlyByBackend result
       → InsertsBy screen area filled s t result
-  inserted_by (Ok answer) area filled inserted s t closure over known ok err only =
-      record { inserted = inserted; closure = closure; over = over; none = λ zero. absurd (omega (arith, known, zero)); inserts = λ more. ok }
-  inserted_by (Err (Backend error)) area filled inserted s t closure over known ok err only =
+  inserted_by (Ok answer) area filled inserted s t closure over known some ok err only =
+      record { inserted = inserted; closure = closure; over = over; none = nothing known some; inserts = λ more. ok }
+  inserted_by (Err (Backend error)) area filled inserted s t closure over known some ok err only =
       record { inserted = inserted; closure = closure; over = over; known = known; stops = err }
-  inserted_by (Err Memory) area filled inserted s t closure over known ok err only = absurd only
-  inserted_by (Err Area) area filled inserted s t closure over known ok err only = absurd only
-  inserted_by (Err (Closure error)) area filled inserted s t closure over known ok err only = absurd only
+  inserted_by (Err Memory) area filled inserted s t closure over known some ok err only = absurd only
+  inserted_by (Err Area) area filled inserted s t closure over known some ok err only = absurd only
+  inserted_by (Err (Closure error)) area filled inserted s t closure over known some ok err only = absurd only

@@ -1,17 +1,16 @@
 -- What an insertion above an inline viewport does to a terminal.
-use Rattle.std.specs.Prelude.{◌≡◌, ◌⊎◌, ℕ, ◌+◌, ◌-◌, ◌<◌, min, ◌++◌, [], ◌∷◌, Result, Ok, MatchResult}
+use Rattle.std.specs.Prelude.{◌≡◌, ◌⊎◌, ℕ, ◌+◌, ◌-◌, ◌*◌, ◌<◌, min, nat_lt, if◌then◌else◌, ◌++◌, [], ◌∷◌, Result, Ok, MatchResult}
 use Rattle.std.specs.declared.alloc.AllocError.{AllocError}
 use Rattle.rtui_geometry.specs.declared.rect.Rect.{Rect}
-use Rattle.rtui_buffer.specs.Sheet.{Sheet, IsEmptied, area_size}
+use Rattle.rtui_buffer.specs.Sheet.{Sheet, area_size}
 use Rattle.rtui_buffer.specs.Frame.{IsSettledSheet}
 use Rattle.rtui_backend.specs.Screen.{Screen, screen_area}
 use Rattle.rtui_viewport.specs.Viewports.{IsInline}
 use Rattle.rtui_viewport.specs.Areas.{IsBlankBelow}
 use Rattle.rtui_rows.specs.Filling.{RefusesFilling}
-use Rattle.rtui_rows.specs.Rows.{look_rows}
+use Rattle.rtui_rows.specs.Rows.{nonempty_cells, IsNarrowSheet, WritesAtMost}
 use Rattle.rtui_rows.specs.Insertion.{AppendsRows, KeepsShape}
-use Rattle.rtui_rows.specs.Following.{AreaFollows, Follows}
-use Rattle.rtui_rows.specs.Scrolling.{cursor_scrolled, rows_past}
+use Rattle.rtui_rows.specs.Following.{Follows}
 use Rattle.rtui_terminal.specs.State.{State}
 use Rattle.rtui_terminal.specs.InStep.{IsInStep, rows_over}
 use Rattle.rtui_terminal.specs.declared.terminal.error.TerminalError.{TerminalError}
@@ -23,7 +22,12 @@ inserted_area s height = record { x = 0; y = 0; width = s.viewport_area.width; h
 
 -- the top of an inline viewport behind n rows that came in above it: as far down as there is room
 abbrev pub top_behind : {B : Type 0} → ℕ → State B → ℕ
-top_behind n s = min (s.viewport_area.y + n) (s.known_area.height - s.viewport_area.height)
+top_behind n s = s.viewport_area.y + min n (s.known_area.height - (s.viewport_area.y + s.viewport_area.height))
+
+-- how many cells an insertion writes at most: those of the rows that aren't blank, and, above a viewport as high as the screen, the screen's
+-- first row twice
+abbrev pub cells_to_insert : {B : Type 0} → Sheet → State B → ℕ
+cells_to_insert inserted s = nonempty_cells inserted 0 inserted.area.height + (if nat_lt s.viewport_area.height s.known_area.height then 0 else 2 * inserted.area.width)
 
 module _ {B : Type 0} (screen : B → Screen) where
   -- rows can be inserted: above an inline viewport with a row, as wide as the screen, which has its last known size
@@ -33,42 +37,40 @@ module _ {B : Type 0} (screen : B → Screen) where
     pub row : 0 < s.viewport_area.height
     pub width : s.viewport_area.width ≡ (screen s.backend).width
 
-  -- what an insertion leaves of the older buffer
+  -- what an insertion leaves of the older buffer: its cells, moved with the viewport
   abbrev pub IsLeft : State B → State B → Type 0
-  IsLeft s t = IsEmptied t.viewport_area t.older
+  IsLeft s t = t.older ≡ record s.older { area = t.viewport_area }
 
-  -- the rows of a buffer were appended to those above the viewport, which moved down as far as there was room; both buffers moved with
-  -- it, and it was cleared
+  -- the rows of a buffer were appended to those above the viewport, which moved down as far as there was room and goes on showing what it did;
+  -- both buffers moved with it
   pub record Inserts (inserted : Sheet) (s t : State B) : Type 0 where
-    pub rest : t ≡ record s { backend = t.backend; current = t.current; older = t.older; viewport_area = record s.viewport_area { y = t.viewport_area.y }; known_cursor = t.known_cursor }
+    pub rest : t ≡ record s { backend = t.backend; current = t.current; older = t.older; viewport_area = record s.viewport_area { y = t.viewport_area.y } }
     pub over : inserted.area ≡ inserted_area s inserted.area.height
     pub top : t.viewport_area.y ≡ top_behind inserted.area.height s
-    pub known_cursor : t.known_cursor ≡ cursor_scrolled s.known_area.height (rows_past inserted.area.height s.viewport_area s.known_area.height) s.known_cursor
     pub current : Follows s.viewport_area t.viewport_area s.current t.current
-    pub older : AreaFollows s.viewport_area t.viewport_area s.older.area t.older.area
-    pub emptied : IsEmptied t.older.area t.older
+    pub older : Follows s.viewport_area t.viewport_area s.older t.older
     pub shape : KeepsShape (screen s.backend) (screen t.backend)
     pub above : TakesRows s → IsInStep screen s → IsSettledSheet inserted → AppendsRows (inserted ∷ []) (rows_over screen s) (rows_over screen t)
-    pub skipped_too : TakesRows s → IsInStep screen s → rows_over screen t ≡ rows_over screen s ++ look_rows inserted
-    pub below : TakesRows s → IsInStep screen s → IsBlankBelow s.viewport_area (screen s.backend) → IsBlankBelow t.viewport_area (screen t.backend)
+    pub below : TakesRows s → IsInStep screen s → IsSettledSheet inserted → IsBlankBelow s.viewport_area (screen s.backend) → IsBlankBelow t.viewport_area (screen t.backend)
     pub left : TakesRows s → IsInStep screen s → IsLeft s t
     pub in_step : TakesRows s → IsInStep screen s → IsSettledSheet inserted → IsInStep screen t
+    pub few : TakesRows s → IsInStep screen s → IsSettledSheet inserted → IsNarrowSheet inserted → WritesAtMost (cells_to_insert inserted s) (screen s.backend) (screen t.backend)
 
   -- a backend failed in the insertion of n rows, before the viewport moved or behind that; a buffer of its area moved with it
   pub record StopsInserting (n : ℕ) (s t : State B) : Type 0 where
-    pub rest : t ≡ record s { backend = t.backend; current = t.current; older = t.older; viewport_area = record s.viewport_area { y = t.viewport_area.y }; known_cursor = t.known_cursor }
+    pub rest : t ≡ record s { backend = t.backend; current = t.current; older = t.older; viewport_area = record s.viewport_area { y = t.viewport_area.y } }
     pub top : (t.viewport_area.y ≡ s.viewport_area.y) ⊎ (t.viewport_area.y ≡ top_behind n s)
     pub current : Follows s.viewport_area t.viewport_area s.current t.current
     pub older : Follows s.viewport_area t.viewport_area s.older t.older
 
   -- by the answer: `filled` tells of the closure what it answered, and the buffer that it left
   module _ (area : Rect) (filled : Result (Unit {0}) AllocError → Sheet → Type 0) where
-    -- the closure filled a buffer, whose rows were inserted; where the screen was known to have no rows nothing changed
+    -- the closure filled a buffer, whose rows were inserted; where there are none, or the screen was known to have none, nothing changed
     pub record InsertOk (s t : State B) : Type 0 where
       pub inserted : Sheet
       pub closure : filled (Ok tt) inserted
       pub over : inserted.area ≡ area
-      pub none : s.known_area.height ≡ 0 → t ≡ s
+      pub none : (s.known_area.height ≡ 0) ⊎ (area.height ≡ 0) → t ≡ s
       pub inserts : 0 < s.known_area.height → Inserts inserted s t
 
     -- the closure filled a buffer, and then the backend failed

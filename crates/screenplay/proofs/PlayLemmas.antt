@@ -534,7 +534,7 @@ module _ (stage : Stage) (text : TextData) (rows : Sheet) (s t : State TestBacke
             made = made_wide;
             settled = settled;
             above = λ some. absurd (omega (arith, flat, some));
-            blank = record { at = λ a b within. absurd (omega (arith, within.bottom, on.bottom, flat)) };
+            shown = record { last = s.older; over = playing.in_step.area; settled = playing.in_step.settled; before = playing.in_step.shown; after = rw playing.in_step.area at playing.in_step.shown };
             none = λ _. refl;
           });
         }
@@ -554,7 +554,7 @@ module _ (stage : Stage) (text : TextData) (rows : Sheet) (s t : State TestBacke
         } in
         let view : t.viewport_area ≡ record s.viewport_area { y = t.viewport_area.y } = ap (λ (x : State TestBackend). x.viewport_area) inserts.rest in
         let top : t.viewport_area.y ≡ min (s.viewport_area.y + row_count text) (screen_before.height - s.viewport_area.height) =
-        inserts.top ∙ ap₂ (λ n h. min (s.viewport_area.y + n) (h - s.viewport_area.height)) count (sym known_height) in
+        omega (arith, inserts.top, count, known_height, at.on_screen.bottom) in
         let lies : MayLie stage.viewport (size_of screen_after) t.viewport_area =
         subst (MayLie stage.viewport (size_of screen_after)) (sym view)
         (inline_moved stage.viewport (size_of screen_after) s.viewport_area t.viewport_area.y inline (omega (arith, top, height, at.on_screen.bottom))
@@ -567,7 +567,7 @@ module _ (stage : Stage) (text : TextData) (rows : Sheet) (s t : State TestBacke
             lies = lies;
             in_step = shown;
             current = emptied_followed s.viewport_area t.viewport_area s.current t.current (ap (λ (r : Rect). r.width) view) (ap (λ (r : Rect). r.height) view) inserts.current playing.current;
-            below = λ _. inserts.below takes at (playing.below inline);
+            below = λ _. inserts.below takes at settled (playing.below inline);
           };
           after = inserts_inline stage.viewport text (sight_in s) (sight_in t) inline (record {
             size = same_size screen_after screen_before width height;
@@ -576,7 +576,7 @@ module _ (stage : Stage) (text : TextData) (rows : Sheet) (s t : State TestBacke
             made = made_wide;
             settled = settled;
             above = λ _. inserts.above takes at settled;
-            blank = record { at = (blank_shown t.viewport_area t.older screen_after (inserts.left takes at) shown.shown).at };
+            shown = record { last = s.older; over = at.area; settled = at.settled; before = at.shown; after = subst (λ o. ShowsSheet o screen_after.grid) (inserts.left takes at) shown.shown };
             none = λ flat. absurd (omega (arith, flat, some));
           });
         }

@@ -159,8 +159,16 @@ row_count text = min (length text.lines) 65535
 abbrev pub text_area : ℕ → TextData → Rect
 text_area width text = record { x = 0; y = 0; width = width; height = row_count text }
 
+-- a settled frame that the screen showed over the viewport is shown over it where it is now
+pub record ShowsAgain (old new : Sight) : Type 0 where
+  pub last : Sheet
+  pub over : last.area ≡ old.viewport
+  pub settled : IsSettledSheet last
+  pub before : ShowsSheet last old.screen.grid
+  pub after : ShowsSheet (record last { area = new.viewport }) new.screen.grid
+
 -- an insertion: exactly the rows of the settled frame of the text came to those above the viewport, which moved down as far as there was
--- room, and is empty; on a screen without rows nothing changes
+-- room, and shows what it did; on a screen without rows nothing changes
 pub record IsInserted (text : TextData) (old new : Sight) : Type 0 where
   pub size : sight_size new ≡ sight_size old
   pub viewport : new.viewport ≡ record old.viewport { y = min (old.viewport.y + row_count text) (old.screen.height - old.viewport.height) }
@@ -168,7 +176,7 @@ pub record IsInserted (text : TextData) (old new : Sight) : Type 0 where
   pub made : IsFrame (text_area old.screen.width text) text [] frame
   pub settled : IsSettledSheet frame
   pub above : 0 < old.screen.height → AppendsRows (frame ∷ []) (sight_rows_above old) (sight_rows_above new)
-  pub blank : IsBlankOver new.viewport new.screen
+  pub shown : ShowsAgain old new
   pub none : old.screen.height ≡ 0 → new ≡ old
 
 -- only an inline viewport has rows above

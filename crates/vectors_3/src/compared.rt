@@ -6,6 +6,7 @@ use crate::terminal::terminal;
 use rtui_backend::{AsCell, Backend, ClearType, TestBackend, TestError, WindowSize};
 use rtui_geometry::{Position, Rect, Size};
 use rtui_terminal::{CompletedFrame, Terminal, TerminalError};
+use std::ops::Range;
 use std::alloc::{AllocError, Global};
 use std::hash::{DefaultHasher, Hash, Hasher};
 use std::test::Fail;
@@ -42,6 +43,16 @@ impl Backend for CursorOnly<'_> {
     }
 
     fn append_lines(&mut self, _n: u16) -> Result<(), TestError> {
+        self.failures = self.failures.saturating_add(1);
+        Err(TestError::Told)
+    }
+
+    fn scroll_region_up(&mut self, _region: Range<u16>, _n: u16) -> Result<(), TestError> {
+        self.failures = self.failures.saturating_add(1);
+        Err(TestError::Told)
+    }
+
+    fn scroll_region_down(&mut self, _region: Range<u16>, _n: u16) -> Result<(), TestError> {
         self.failures = self.failures.saturating_add(1);
         Err(TestError::Told)
     }
@@ -151,6 +162,16 @@ impl Backend for Refusing {
     }
 
     fn append_lines(&mut self, _n: u16) -> Result<(), TestError> {
+        self.failures = self.failures.saturating_add(1);
+        Err(TestError::Told)
+    }
+
+    fn scroll_region_up(&mut self, _region: Range<u16>, _n: u16) -> Result<(), TestError> {
+        self.failures = self.failures.saturating_add(1);
+        Err(TestError::Told)
+    }
+
+    fn scroll_region_down(&mut self, _region: Range<u16>, _n: u16) -> Result<(), TestError> {
         self.failures = self.failures.saturating_add(1);
         Err(TestError::Told)
     }

@@ -1,6 +1,6 @@
 //! Rows that leave the screen, and parts of it that are emptied.
 
-ghost use Rattle.std.specs.Prelude.{◌≡◌, ◌+◌, ◌-◌, ◌*◌, ◌^◌, ◌<◌, ◌≤◌, ◌&&◌, min, ℕ, nat_lt, nat_le, if◌then◌else◌, length, map, OnOk, OnErr, IfOk};
+ghost use Rattle.std.specs.Prelude.{◌≡◌, ◌+◌, ◌-◌, ◌*◌, ◌^◌, ◌<◌, ◌≤◌, ◌&&◌, min, ℕ, nat_lt, nat_le, ◌==◌, if◌then◌else◌, length, [], map, OnOk, OnErr, IfOk};
 ghost use Rattle.std.specs.List.{range_with_len};
 ghost use Rattle.rtui_cell.specs.Cell.{empty_cell};
 ghost use Rattle.rtui_cell.specs.Look.{look_of};
@@ -14,6 +14,7 @@ use rtui_buffer::{Buffer, Cell};
 use rtui_geometry::{Position, Rect, Size};
 use std::alloc::{AllocError, Global};
 use std::mem;
+use std::ops::Range;
 
 // Empties the cells from one place up to another.
 fn blank(cells: &mut [Cell], from: usize, to: usize)
@@ -34,6 +35,43 @@ fn shift(cells: &mut [Cell], by: usize)
     let count = by.min(cells.len());
     blank(cells, 0, count);
     cells.rotate_left(count);
+}
+
+// Moves the cells from one place up to another up by so many places, and empties those that come free.
+fn shift_part(cells: &mut [Cell], from: usize, to: usize, by: usize)
+    requires order { from ≤ to }
+    requires end { to ≤ length cells.old }
+    ensures length { length cells.new ≡ length cells.old }
+    ensures moved { (k : ℕ) → cell cells.new k ≡ (if nat_le from k && nat_lt k to
+        then (if nat_lt (k + by) to then cell cells.old (k + by) else empty_cell)
+        else cell cells.old k) }
+    ensures unmarked { AreUnmarked cells.old → AreUnmarked cells.new }
+{
+    shift(&mut cells[from..to], by);
+}
+
+// Moves the cells from one place up to another down by so many places, and empties those that come free.
+fn shift_part_down(cells: &mut [Cell], from: usize, to: usize, by: usize)
+    requires order { from ≤ to }
+    requires end { to ≤ length cells.old }
+    ensures length { length cells.new ≡ length cells.old }
+    ensures moved { (k : ℕ) → cell cells.new k ≡ (if nat_le from k && nat_lt k to
+        then (if nat_le (from + by) k then cell cells.old (k - by) else empty_cell)
+        else cell cells.old k) }
+    ensures unmarked { AreUnmarked cells.old → AreUnmarked cells.new }
+{
+    shift_down(&mut cells[from..to], by);
+}
+
+// Moves the cells down by so many places, and empties those that come free at the start.
+fn shift_down(cells: &mut [Cell], by: usize)
+    ensures length { length cells.new ≡ length cells.old }
+    ensures moved { (k : ℕ) → cell cells.new k ≡ (if nat_lt k (length cells.old)
+        then (if nat_le by k then cell cells.old (k - by) else empty_cell) else empty_cell) }
+{
+    let count = by.min(cells.len());
+    cells.rotate_right(count);
+    blank(cells, 0, count);
 }
 
 // Copies of so many cells, with empty ones past the end.
@@ -74,6 +112,26 @@ fn copied_rows(
         rows.push(copied_row(alloc, cells, start, width)?)?;
     }
     Ok(rows)
+}
+
+// Copies of the rows that leave a region which begins with this row, with empty ones past its end: of one at the top
+// alone.
+fn leaving_rows(
+    alloc: Global,
+    cells: &[Cell],
+    width: u16,
+    start: u16,
+    count: u16,
+) -> Result<Vec<Vec<Cell>>, AllocError>
+    ensures { IfOk result (λ rows. map (λ row. map look_of row.items) rows.items
+        ≡ (if start == 0 then map (λ b. map (λ a. look_at cells.now (b * width + a))
+        (range_with_len 0 width)) (range_with_len 0 count) else [])) }
+{
+    if start == 0 {
+        copied_rows(alloc, cells, width, u32::from(count))
+    } else {
+        Ok(Vec::new(alloc))
+    }
 }
 
 // Exchanges so many cells of a list, from a place on, with those of another from a place on.
@@ -133,7 +191,7 @@ fn cleared_places(size: Size, cursor: Position, clear_type: ClearType) -> (usize
 }
 
 impl TestBackend {
-    ghost use Rattle.rtui_backend.specs.Screen.{Appends, Clears, TakesSize};
+    ghost use Rattle.rtui_backend.specs.Screen.{Appends, Clears, ScrollsUp, ScrollsDown, TakesSize, cursor_of};
     ghost use Rattle.rtui_backend.specs.TestBackend.{screen_of, failures_of, told_after};
 
     // Moves the cursor's row down, and scrolls what goes past the last one.
@@ -157,6 +215,49 @@ impl TestBackend {
         shift(self.buffer.cells_mut(), places);
         self.cursor.y = self.cursor.y.saturating_add(n).min(last);
         Ok(())
+    }
+
+    // Moves the rows of a region up, those of one at the top to the history.
+    pub fn scroll_up(&mut self, region: Range<u16>, n: u16) -> Result<(), AllocError>
+        ensures ok { OnOk result
+            (ScrollsUp region.start region.end n (screen_of self.old) (screen_of self.new)) }
+        ensures cursor { cursor_of (screen_of self.new) ≡ cursor_of (screen_of self.old) }
+        ensures memory { OnErr result (screen_of self.new ≡ screen_of self.old) }
+        ensures failures { failures_of self.new ≡ failures_of self.old }
+        ensures told { told_after self.new ≡ told_after self.old }
+    {
+        let area = *self.buffer.area();
+        let end = region.end.min(area.height);
+        if region.start >= end {
+            return Ok(());
+        }
+        let width = usize::from(area.width);
+        let to = usize::from(end) * width;
+        let cells = &self.buffer.content()[..to];
+        let mut rows = leaving_rows(self.alloc, cells, area.width, region.start, n)?;
+        self.scrollback.append(&mut rows)?;
+        let from = usize::from(region.start) * width;
+        shift_part(self.buffer.cells_mut(), from, to, usize::from(n) * width);
+        Ok(())
+    }
+
+    // Moves the rows of a region down.
+    pub fn scroll_down(&mut self, region: Range<u16>, n: u16)
+        ensures scrolled { ScrollsDown region.start region.end n
+            (screen_of self.old) (screen_of self.new) }
+        ensures cursor { cursor_of (screen_of self.new) ≡ cursor_of (screen_of self.old) }
+        ensures failures { failures_of self.new ≡ failures_of self.old }
+        ensures told { told_after self.new ≡ told_after self.old }
+    {
+        let area = *self.buffer.area();
+        let end = region.end.min(area.height);
+        if region.start >= end {
+            return;
+        }
+        let width = usize::from(area.width);
+        let from = usize::from(region.start) * width;
+        let to = usize::from(end) * width;
+        shift_part_down(self.buffer.cells_mut(), from, to, usize::from(n) * width);
     }
 
     // Empties a part of the screen.

@@ -1,4 +1,5 @@
-ghost use Rattle.std.specs.Prelude.{◌≡◌, ◌<◌, Ok, OnOk, OnErr};
+ghost use Rattle.std.specs.Prelude.{◌≡◌, ◌<◌, ◌≤◌, Ok, OnOk, OnErr};
+ghost use Rattle.rtui_buffer.specs.Sheet.{IsEmptied};
 ghost use Rattle.rtui_viewport.specs.Viewports.{IsInline};
 ghost use Rattle.rtui_rows.specs.Filling.{AcceptsRows, FillsRows};
 ghost use Rattle.rtui_terminal.specs.Calls.{Faults, FailsOnlyByBackend};
@@ -9,15 +10,51 @@ use crate::terminal::error::TerminalError;
 use rtui_backend::Backend;
 use rtui_buffer::Buffer;
 use rtui_geometry::Rect;
-use rtui_rows::{fill_rows, follow_viewport, insert_rows};
+use rtui_rows::{draw_rows, fill_rows, follow_viewport, insert_down, insert_up, push_rows};
 use rtui_viewport::Viewport;
 use std::alloc::AllocError;
 
 impl<B: Backend> Terminal<B> {
-    // Inserts the rows of a buffer above an inline viewport, which moves down as far as there is room, and clears it.
-    fn insert_filled(&mut self, rows: &Buffer) -> Result<(), TerminalError<B::Error>>
-        requires inline { IsInline self.old.viewport }
+    // Inserts the rows of a buffer above an inline viewport that covers the screen: each is scrolled off from the first
+    // row, which shows the older buffer's first row again behind that.
+    fn insert_covered(
+        &mut self,
+        blank: &mut Buffer,
+        rows: &Buffer,
+    ) -> Result<(), TerminalError<B::Error>>
         requires over { rows.now.area ≡ inserted_area self.old rows.now.area.height }
+        requires blank { IsEmptied rows.now.area blank.old }
+        requires some { 0 < rows.now.area.height }
+        requires known { 0 < self.old.known_area.height }
+        requires covers { self.old.known_area.height ≤ self.old.viewport_area.height }
+        ensures ok { OnOk result (Inserts B.screen rows.now self.old self.new) }
+        ensures err { OnErr result
+            (StopsInserting B.screen rows.now.area.height self.old self.new) }
+        ensures only { FailsOnlyByBackend result }
+        ensures faults { Faults result (B.failures self.old.backend) (B.failures self.new.backend) }
+    {
+        match push_rows(&mut self.backend, blank, rows) {
+            Ok(()) => {}
+            Err(error) => return Err(TerminalError::Backend(error)),
+        }
+        if *self.older.area() != self.viewport_area {
+            return Ok(());
+        }
+        match draw_rows(&mut self.backend, blank, &self.older, 0, 1, 0) {
+            Ok(()) => Ok(()),
+            Err(error) => Err(TerminalError::Backend(error)),
+        }
+    }
+
+    // Inserts the rows of a buffer above an inline viewport, which moves down as far as there is room.
+    fn insert_filled(
+        &mut self,
+        blank: &mut Buffer,
+        rows: &Buffer,
+    ) -> Result<(), TerminalError<B::Error>>
+        requires over { rows.now.area ≡ inserted_area self.old rows.now.area.height }
+        requires blank { IsEmptied rows.now.area blank.old }
+        requires some { 0 < rows.now.area.height }
         requires known { 0 < self.old.known_area.height }
         ensures ok { OnOk result (Inserts B.screen rows.now self.old self.new) }
         ensures err { OnErr result
@@ -27,20 +64,21 @@ impl<B: Backend> Terminal<B> {
     {
         let former = self.viewport_area;
         let height = self.known_area.height;
-        let top = match insert_rows(
-            &mut self.backend,
-            &mut self.known_cursor,
-            rows,
-            former,
-            height,
-        ) {
-            Ok(top) => top,
+        if former.height >= height {
+            return self.insert_covered(blank, rows);
+        }
+        let down = match insert_down(&mut self.backend, blank, rows, former, height) {
+            Ok(down) => down,
             Err(error) => return Err(TerminalError::Backend(error)),
         };
+        let top = former.y + down;
         follow_viewport(&mut self.current, former, top);
         follow_viewport(&mut self.older, former, top);
         self.viewport_area = Rect { y: top, ..former };
-        self.clear()
+        match insert_up(&mut self.backend, blank, rows, down, top) {
+            Ok(()) => Ok(()),
+            Err(error) => Err(TerminalError::Backend(error)),
+        }
     }
 
     // Fills a buffer, and inserts its rows above an inline viewport.
@@ -59,28 +97,37 @@ impl<B: Backend> Terminal<B> {
             width: self.viewport_area.width,
             height,
         };
-        let rows = match fill_rows(self.current.allocator(), area, draw_fn) {
+        let known = self.known_area.height;
+        let alloc = self.current.allocator();
+        // An empty buffer of the rows' area, of no rows where none are drawn.
+        let blank_area = if known == 0 { Rect::ZERO } else { area };
+        let mut blank = match Buffer::empty(alloc, blank_area) {
+            Ok(blank) => blank,
+            Err(_) => return Err(TerminalError::Memory),
+        };
+        let rows = match fill_rows(alloc, area, draw_fn) {
             Ok(rows) => rows,
             Err(_) => return Err(TerminalError::Memory),
         };
         if *rows.area() != area {
             return Err(TerminalError::Area);
         }
-        if self.known_area.height == 0 {
+        if known == 0 || height == 0 {
             return Ok(());
         }
-        self.insert_filled(&rows)
+        self.insert_filled(&mut blank, &rows)
     }
 
     /// Inserts `height` rows above an inline viewport: the closure fills an empty buffer at (0, 0) of the viewport's
-    /// width, its rows come to those above the viewport, which moves down as far as there is room and is cleared; rows
-    /// that have no room scroll off. Of a viewport without rows, or of another width than the screen's, nothing is promised
-    /// of the rows above. Where the screen was known to have no rows nothing is written. On another viewport
-    /// the closure isn't called, and nothing changes.
+    /// width, its rows come to those above the viewport, which moves down as far as there is room and goes on showing the
+    /// last frame; rows that have no room scroll off. Only what isn't blank in the rows is written, and where the viewport
+    /// is as high as the screen its first row, too. Of a viewport without rows, or of another width than the screen's,
+    /// nothing is promised of the rows above. Where the screen was known to have no rows nothing is written. On another
+    /// viewport the closure isn't called, and nothing changes.
     ///
-    /// It answers `Memory` where the buffer has cells and was refused memory, in which case the closure isn't called, or
-    /// where the closure did, and `Area` where the closure changed the buffer's area; then nothing changed. After `Backend` the
-    /// screen may show anything.
+    /// It answers `Memory` where the buffer has cells and memory was refused, in which case the closure isn't called, or
+    /// where the closure did, and `Area` where the closure changed the buffer's area; then nothing changed. After `Backend`
+    /// the screen may show anything, and the viewport may have moved.
     pub fn insert_before<F>(
         &mut self,
         height: u16,
@@ -88,7 +135,8 @@ impl<B: Backend> Terminal<B> {
     ) -> Result<(), TerminalError<B::Error>>
     where
         F: FnOnce(&mut Buffer) -> Result<(), AllocError>,
-        requires { AcceptsRows F.FnOnce draw_fn (inserted_area self.old height) }
+        requires { IsInline self.old.viewport →
+            AcceptsRows F.FnOnce draw_fn (inserted_area self.old height) }
         ensures other { (IsInline self.old.viewport → ⊥) →
             (result ≡ Ok tt) × (self.new ≡ self.old) }
         ensures outcome { let area = inserted_area self.old height in

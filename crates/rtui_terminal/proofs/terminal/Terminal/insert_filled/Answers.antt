@@ -1,11 +1,15 @@
-use Rattle.std.proofs.lemmas.Result.{on_ok_weaker}
-use Rattle.rtui_terminal.proofs.InsertionLemmas.{inserted_whole}
+use Rattle.rtui_terminal.proofs.InsertionLemmas.{inserted_moved}
 use Rattle.rtui_terminal.proofs.terminal.Terminal.insert_filled.Goals as goal
+use Rattle.rtui_terminal.proofs.terminal.Terminal.insert_filled.Goals.{in-Ok-insert_up, in-Err-insert_up}
 
 pub returns-clause-ok : goal.returns-clause-ok
 returns-clause-ok g c =
-    let rows = c.in-Ok.ensures in
-    on_ok_weaker c.clear.result
-    (λ cleared. rw (← c.self.view_is) (inserted_whole g.B.Backend.screen _ c.clear.new.self _ _ _ _ c.args.rows.now c.in-Ok.top
-    c.self.invariant.1 (rw (← c.self.view_is) at c.requires.over) rows.top rows.cursor rows.shape rows.ok rows.agrees c.follow_viewport.ensures.follows c.follow_viewport-2.ensures.follows cleared))
-    c.clear.ensures.ok
+    let down = c.in-Ok.ensures in
+    elim c.match-insert_up.branch [
+      | in-Ok-insert_up w ↦
+          let up = w.in-Ok-insert_up.ensures in
+          rw w.result-is (rw (← c.self.view_is)
+          (inserted_moved g.B.Backend.screen _ c.args.rows.now (rw (← c.self.view_is) at c.requires.over) (rw (← c.self.view_is) at c.requires.known) c.in-Ok.down down.count
+          c.insert_down.new.backend c.insert_up.new.backend c.follow_viewport.new.buffer c.follow_viewport-2.new.buffer down.shape up.shape down.ok up.ok c.follow_viewport.ensures.follows c.follow_viewport-2.ensures.follows))
+      | in-Err-insert_up w ↦ rw w.result-is tt
+    ]

@@ -1,0 +1,31 @@
+use Rattle.std.proofs.Common.{◌≡◌, ℕ, ◌+◌, ◌-◌, ◌*◌, ◌&&◌, min, nat_lt, length, if◌then◌else◌, refl, ap, ◌∙◌, arith}
+use Rattle.std.specs.Prelude.{nat_le}
+use Rattle.std.proofs.lemmas.Bool.Decides.{nat_tests}
+use Rattle.std.proofs.lemmas.Grind.{common_steps}
+use Rattle.rtui_cell.specs.Cell.{empty_cell}
+use Rattle.rtui_buffer.specs.Sheet.{refilled}
+use Rattle.rtui_diff.specs.Cells.{cell}
+use Rattle.rtui_backend.proofs.ShiftLemmas.{grid_moved_down}
+use Rattle.rtui_backend.proofs.test.TestBackend.scroll_down.Goals as goal
+
+pub returns-clause-scrolled : goal.returns-clause-scrolled
+returns-clause-scrolled c =
+    let s = c.args.self.now in
+    let w = s.buffer.area.width in
+    let cells = s.buffer.cells in
+    let new = c.shift_part_down.new.cells in
+    let a = c.args.region.start in
+    let e = min c.args.region.end s.buffer.area.height in
+    let items : refilled cells new ≡ new = grind (arith, common_steps) in
+    let end : c.min-end.result ≡ e = grind (arith, common_steps) in
+    let moved : (k : ℕ) → cell new k ≡ if nat_le (a * w) k && nat_lt k (e * w) then (if nat_le (a * w + c.args.n * w) k then cell cells (k - c.args.n * w) else empty_cell) else cell cells k = λ k.
+    rw (c.cells_mut.ensures.cells, c.from-3.ensures, c.from-2.ensures, c.from.ensures, c.from-width.ensures, end, c.area-area.ensures.area) at (c.shift_part_down.ensures.moved k) in
+    record {
+      history = refl;
+      width = refl;
+      height = refl;
+      grid = λ x y x_in y_in. let cut : nat_lt y e ≡ nat_lt y c.args.region.end = grind (arith, nat_tests) in rw items (grid_moved_down w x x_in cells new a e c.args.n moved y ∙ rw cut refl);
+      visible = refl;
+      written = refl;
+      no_rows = λ none. absurd (omega (arith, end));
+    }

@@ -1,0 +1,46 @@
+use Rattle.std.proofs.Common.{◌≡◌, ◌⊎◌, ℕ, ◌+◌, ◌-◌, ◌*◌, ◌<◌, ◌&&◌, ◌++◌, ◌==◌, true, min, nat_lt, length, take, map, [], if◌then◌else◌, refl, ap, ◌∙◌, arith}
+use Rattle.std.specs.Prelude.{nat_le}
+use Rattle.std.specs.List.{range_with_len}
+use Rattle.std.proofs.lemmas.List.{map-append}
+use Rattle.std.proofs.lemmas.Bool.Decides.{nat_tests}
+use Rattle.std.proofs.lemmas.Grind.{common_steps}
+use Rattle.rtui_cell.specs.Cell.{empty_cell}
+use Rattle.rtui_cell.specs.Look.{look_of}
+use Rattle.rtui_buffer.specs.Sheet.{refilled}
+use Rattle.rtui_diff.specs.Cells.{cell}
+use Rattle.rtui_backend.specs.CellGrid.{look_at}
+use Rattle.rtui_backend.specs.TestBackend.{screen_of}
+use Rattle.rtui_backend.proofs.ShiftLemmas.{grid_moved_up, rows_left, history_left}
+use Rattle.rtui_backend.proofs.test.TestBackend.scroll_up.Goals as goal
+
+pub returns-clause-ok : goal.returns-clause-ok
+returns-clause-ok c =
+    let s = c.args.self.now in
+    let w = s.buffer.area.width in
+    let h = s.buffer.area.height in
+    let cells = s.buffer.cells in
+    let new = c.shift_part.new.cells in
+    let a = c.args.region.start in
+    let b = c.args.region.end in
+    let e = min b h in
+    let size : length cells ≡ w * h = grind (arith, common_steps) in
+    let items : refilled cells new ≡ new = grind (arith, common_steps) in
+    let end : c.min-end.result ≡ e = grind (arith, common_steps) in
+    let moved : (k : ℕ) → cell new k ≡ if nat_le (a * w) k && nat_lt k (e * w) then (if nat_lt (k + c.args.n * w) (e * w) then cell cells (k + c.args.n * w) else empty_cell) else cell cells k = λ k.
+    rw (c.cells_mut.ensures.cells, c.from-3.ensures, c.from-2.ensures, c.from.ensures, c.from-width.ensures, end, c.area-area.ensures.area) at (c.shift_part.ensures.moved k) in
+    let some : nat_lt 0 e ≡ true = grind (arith, nat_tests) in
+    let rows : map (λ r. map look_of r.items) c.in_ok-rows.rows.items ≡ (if a == 0 then map (λ y. map (λ x. look_at (take (e * w) cells) (y * w + x)) (range_with_len 0 w)) (range_with_len 0 c.args.n) else []) =
+    rw (c.content.ensures.cells, c.from.ensures, c.from-width.ensures, end, c.area-area.ensures.area) at c.in_ok-rows.ensures in
+    record {
+      history =
+          ap (map (λ r. map look_of r.items)) c.in_ok-append.ensures.items
+          ∙ map-append (λ r. map look_of r.items) s.scrollback.items c.in_ok-rows.rows.items
+          ∙ ap (λ rs. map (λ r. map look_of r.items) s.scrollback.items ++ rs) rows
+          ∙ history_left (map (λ r. map look_of r.items) s.scrollback.items) (a == 0) (nat_lt 0 e) some (rows_left w h e cells size (omega arith) c.args.n);
+      width = refl;
+      height = refl;
+      grid = λ x y x_in y_in. let cut : nat_lt y e ≡ nat_lt y b = grind (arith, nat_tests) in rw items (grid_moved_up w x x_in cells new a e c.args.n moved y ∙ rw cut refl);
+      visible = refl;
+      written = refl;
+      no_rows = λ none. absurd (omega (arith, end));
+    }
