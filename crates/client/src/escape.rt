@@ -6,13 +6,15 @@ ghost use Rattle.ratatui_core.specs.Buffer.{update_by};
 ghost use Rattle.ratatui_core.specs.Backend.{Draws, Counts, IsBlankScreen, screen_of};
 
 use crate::sequences::{
-    HIDE_CURSOR, OWN_LOOK, SHOW_CURSOR, START, clear, line_feeds, move_to, set_look,
+    HIDE_CURSOR, OWN_LOOK, SHOW_CURSOR, START, clear, line_feeds, move_to, scroll_down, scroll_up,
+    set_look,
 };
 use ratatui_core::backend::{AsCell, Backend, ClearType, TestBackend, WindowSize};
 use ratatui_core::buffer::Cell;
 use ratatui_core::layout::{Position, Size};
 use std::alloc::{AllocError, Global};
 use std::error::Error;
+use std::ops::Range;
 use std::{fmt, iter};
 
 /// Memory was refused.
@@ -152,6 +154,26 @@ impl Backend for EscapeBackend {
         self.counted(answer)?;
         let answer = self.model.append_lines(n);
         self.counted(answer)
+    }
+
+    fn scroll_region_up(&mut self, region: Range<u16>, n: u16) -> Result<(), EscapeError> {
+        self.send(OWN_LOOK)?;
+        let end = region.end.min(self.model.buffer().area().height);
+        let answer = scroll_up(&mut self.sent, region.start..end, n);
+        self.counted(answer)?;
+        let answer = self.model.scroll_region_up(region, n);
+        self.counted(answer)?;
+        self.restore()
+    }
+
+    fn scroll_region_down(&mut self, region: Range<u16>, n: u16) -> Result<(), EscapeError> {
+        self.send(OWN_LOOK)?;
+        let end = region.end.min(self.model.buffer().area().height);
+        let answer = scroll_down(&mut self.sent, region.start..end, n);
+        self.counted(answer)?;
+        let answer = self.model.scroll_region_down(region, n);
+        self.counted(answer)?;
+        self.restore()
     }
 
     fn clear(&mut self) -> Result<(), EscapeError> {

@@ -4,6 +4,7 @@ use ratatui_core::backend::ClearType;
 use ratatui_core::buffer::Cell;
 use ratatui_core::style::{Color, Modifier};
 use std::alloc::AllocError;
+use std::ops::Range;
 
 /// Empties the whole screen, and shows the cursor in its corner.
 pub static START: &str = "\u{1b}[0m\u{1b}[2J\u{1b}[H\u{1b}[?25h";
@@ -39,6 +40,36 @@ pub fn line_feeds(out: &mut String, n: u16) -> Result<(), AllocError> {
         out.push_str("\n")?;
     }
     Ok(())
+}
+
+// Sets the margins around a region, scrolls it, and gives the margins back, with the cursor in the corner. Margins enclose at
+// least two rows, so that of a single row nothing but the row itself is emptied.
+fn scroll(
+    out: &mut String,
+    region: Range<u16>,
+    n: u16,
+    direction: char,
+) -> Result<(), AllocError> {
+    if n == 0 || region.start >= region.end {
+        return Ok(());
+    }
+    if region.end - region.start == 1 {
+        move_to(out, 0, region.start)?;
+        return out.push_str(clear(ClearType::CurrentLine));
+    }
+    let top = u32::from(region.start) + 1;
+    let bottom = region.end;
+    write!(out, "\u{1b}[{top};{bottom}r\u{1b}[{n}{direction}\u{1b}[r")
+}
+
+/// Moves the rows of a region up by `n`; blank rows come in below. The cursor may end anywhere.
+pub fn scroll_up(out: &mut String, region: Range<u16>, n: u16) -> Result<(), AllocError> {
+    scroll(out, region, n, 'S')
+}
+
+/// Moves the rows of a region down by `n`; blank rows come in above. The cursor may end anywhere.
+pub fn scroll_down(out: &mut String, region: Range<u16>, n: u16) -> Result<(), AllocError> {
+    scroll(out, region, n, 'T')
 }
 
 // The modifiers, and the number that sets each.

@@ -13,6 +13,7 @@ use ratatui_core::terminal::{Terminal, TerminalOptions, Viewport};
 use ratatui_core::text::{Line, Span};
 use std::alloc::{AllocError, Global};
 use std::iter;
+use std::ops::Range;
 use std::test::Fail;
 
 // A terminal over the whole screen of a backend.
@@ -137,10 +138,10 @@ fn a_logged_row_is_sent(rt: HostRuntime) -> Result<(), Fail> {
     let mut terminal = inline(rt.alloc(), escapes(rt.alloc())?)?;
     assert!(rt; logs(&mut terminal, "r0", "f0"));
     let placed = "^[0m^[1;1H";
-    let row = "^[1;1H^[0mr^[1;2H^[0m0^[1;3H^[0m ^[0m^[1;1H";
-    let cleared = "^[0m^[2;1H^[0m^[2;1H^[J^[0m^[1;1H";
+    let lowered = "^[0m^[1;2r^[1T^[r^[0m^[1;1H";
+    let row = "^[1;1H^[0mr^[1;2H^[0m0^[0m^[1;1H";
     let frame = "^[2;1H^[0mf^[2;2H^[0m0^[0m^[1;1H^[?25l";
-    let sequences = format!(in rt.alloc(); "{placed}{row}{cleared}{frame}")?;
+    let sequences = format!(in rt.alloc(); "{placed}{lowered}{row}{frame}")?;
     assert!(rt; sent(rt.alloc(), terminal.backend(), sequences.as_str())?);
     Ok(())
 }
@@ -233,5 +234,33 @@ fn nothing_is_sent_for_an_answer(rt: HostRuntime) -> Result<(), Fail> {
     );
     assert!(rt; backend.flush() == Ok(()));
     assert!(rt; sent(rt.alloc(), &backend, "")?);
+    Ok(())
+}
+
+// Whether scrolling this region, up or down, sends these sequences.
+fn scroll_is_sent(
+    alloc: Global,
+    up: bool,
+    region: Range<u16>,
+    n: u16,
+    sequences: &str,
+) -> Result<bool, AllocError> {
+    let mut backend = escapes(alloc)?;
+    let scrolled = if up {
+        backend.scroll_region_up(region, n)
+    } else {
+        backend.scroll_region_down(region, n)
+    };
+    Ok(scrolled.is_ok() && sent(alloc, &backend, sequences)?)
+}
+
+#[test]
+fn regions_are_sent(rt: HostRuntime) -> Result<(), Fail> {
+    let alloc = rt.alloc();
+    assert!(rt; scroll_is_sent(alloc, true, 0..2, 1, "^[0m^[1;2r^[1S^[r^[0m^[1;1H")?);
+    assert!(rt; scroll_is_sent(alloc, false, 0..9, 3, "^[0m^[1;2r^[3T^[r^[0m^[1;1H")?);
+    assert!(rt; scroll_is_sent(alloc, true, 1..2, 1, "^[0m^[2;1H^[2K^[0m^[1;1H")?);
+    assert!(rt; scroll_is_sent(alloc, true, 1..1, 1, "^[0m^[0m^[1;1H")?);
+    assert!(rt; scroll_is_sent(alloc, false, 0..2, 0, "^[0m^[0m^[1;1H")?);
     Ok(())
 }

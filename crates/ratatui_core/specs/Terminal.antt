@@ -11,7 +11,14 @@ pub use Rattle.rtui_terminal.specs.State.{State, IsInPlace, HasAreas, HaveRoom, 
 pub use Rattle.rtui_terminal.specs.InStep.{IsInStep, IsSized, IsReady, rows_over, KeepsRest}
 pub use Rattle.rtui_terminal.specs.Frames.{IsNewFrame, KeepsFrame, PaintsFrame, IsDrawFrame, AcceptsFrames, AcceptsNewFrame, paints_on}
 pub use Rattle.rtui_terminal.specs.Borrows.{with_buffer, LendsBuffer}
-pub use Rattle.rtui_terminal.specs.Calls.{FaultCounts, Faults, IsBackendFault, FailsOnlyByBackend, unplaced_area, StartErr, differing_count, WritesDifferences, cursor_placed, HasDrawn, last_place, known_behind, cursor_behind, cursor_after, IsResized, LacksRoom, KeepsBuffers, ResizesBuffers, FlushErr, first_cursor, Stays, MovesCursor, ClearsViewport, Resizes, FailsResizing, ResizeErr, Autoresizes, AutoresizeErr, Flushes, Writes, FailsWriting, Applies, FailsFlushing, RefusesArea, FailsApplying, RefusesBy, WritesBy, AppliesBy, Starts, DrawsFrame, RefusesFrame, DrawOk, ClosureErr, PaintedErr, DrawErr, DrawsBy, TriesBy}
+pub use Rattle.rtui_terminal.specs.Faults.{FaultCounts, Faults, IsBackendFault, FailsOnlyByBackend}
+pub use Rattle.rtui_viewport.specs.Placing.{unplaced_area}
+pub use Rattle.rtui_terminal.specs.Starting.{StartErr, first_cursor, Starts}
+pub use Rattle.rtui_terminal.specs.Writing.{differing_count, WritesDifferences, cursor_placed, HasDrawn, last_place, known_behind, cursor_behind, cursor_after, FlushErr, Flushes, Writes, FailsWriting, Applies, FailsFlushing, RefusesArea}
+pub use Rattle.rtui_terminal.specs.Resizing.{IsResized, LacksRoom, KeepsBuffers, ResizesBuffers, Resizes, FailsResizing, ResizeErr, Autoresizes, AutoresizeErr}
+pub use Rattle.rtui_terminal.specs.Cursor.{Stays, MovesCursor}
+pub use Rattle.rtui_terminal.specs.Clearing.{ClearsViewport}
+pub use Rattle.rtui_terminal.specs.Drawing.{DrawsFrame, RefusesFrame, DrawOk, ClosureErr, PaintedErr, DrawErr}
 pub use Rattle.rtui_terminal.specs.Rendered.{IsRendered, OnlyRenders, ShowsRendered}
 pub use Rattle.rtui_terminal.specs.Display.{terminal_error_text}
 pub use Rattle.rtui_rows.specs.Filling.{IsNewSheet, AcceptsRows, FillsRows, RefusesFilling}

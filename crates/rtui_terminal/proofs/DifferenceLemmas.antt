@@ -12,7 +12,7 @@ use Rattle.rtui_diff.specs.Completeness.{AreNarrow, differing}
 use Rattle.rtui_buffer.specs.Sheet.{Sheet}
 use Rattle.rtui_buffer.specs.Frame.{IsSettledSheet, common_rows, sheet_updates}
 use Rattle.rtui_backend.specs.Screen.{Screen, Draws, IsWithin}
-use Rattle.rtui_terminal.specs.Calls.{WritesDifferences, differing_count}
+use Rattle.rtui_terminal.specs.Writing.{WritesDifferences, differing_count}
 
 -- a column that isn't in a rectangle lies on one side of it
 beside : (r : Rect) (a b : ℕ) → EdgesFit r → (IsWithin r a b → ⊥) → (a < r.x) ⊎ (r.x + r.width ≤ a) ⊎ (b < r.y) ⊎ (r.y + r.height ≤ b)

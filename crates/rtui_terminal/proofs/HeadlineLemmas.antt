@@ -14,7 +14,10 @@ use Rattle.rtui_viewport.specs.declared.viewport.Viewport.TheVariants.{Fullscree
 use Rattle.rtui_rows.specs.Insertion.{AreRowsOfAll, AppendsRows}
 use Rattle.rtui_terminal.specs.State.{State}
 use Rattle.rtui_terminal.specs.InStep.{IsReady, IsInStep, IsSized, KeepsRest, rows_over}
-use Rattle.rtui_terminal.specs.Calls.{Stays, MovesCursor, Resizes, Autoresizes, Applies, HasDrawn, DrawsFrame, cursor_placed}
+use Rattle.rtui_terminal.specs.Cursor.{Stays, MovesCursor}
+use Rattle.rtui_terminal.specs.Resizing.{Resizes, Autoresizes}
+use Rattle.rtui_terminal.specs.Writing.{Applies, HasDrawn, cursor_placed}
+use Rattle.rtui_terminal.specs.Drawing.{DrawsFrame}
 use Rattle.rtui_terminal.specs.Headline.{Call, Draw, Apply, Insert, Clear, Resize, Autoresize, HideCursor, ShowCursor, SetCursor, Ask, Paint, Refuse, Event, Along, last_state, inserted_by, inserted_along, MayTakeSize, Does, IsFair, HasKnownSize, IsSteady, IsKeptOrEmptied, Leaves, IsFaithful}
 use Rattle.rtui_terminal.proofs.StepLemmas.{on_same}
 use Rattle.rtui_terminal.proofs.KeepLemmas.{rest_of, size_more, placed_size}

@@ -11,7 +11,7 @@ use Rattle.rtui_backend.specs.Screen.{Screen, IsOnScreen, rows_above}
 use Rattle.rtui_viewport.specs.Areas.{IsBlankBelow}
 use Rattle.std.specs.Prelude.{◌⊎◌, Result, Ok, Err, OnOk, OnErr}
 use Rattle.std.specs.declared.alloc.AllocError.{AllocError}
-use Rattle.rtui_terminal.specs.Calls.{FailsOnlyByBackend}
+use Rattle.rtui_terminal.specs.Faults.{FailsOnlyByBackend}
 use Rattle.rtui_terminal.specs.declared.terminal.error.TerminalError.{TerminalError}
 use Rattle.rtui_terminal.specs.declared.terminal.error.TerminalError.TheVariants.{Backend, Memory, Area, Closure}
 use Rattle.rtui_rows.specs.Rows.{DrawsRows, RowsFit, CanShowRows, ShowsRows, IsNarrowSheet, nonempty_cells, WritesAtMost}

@@ -14,7 +14,9 @@ use Rattle.rtui_viewport.specs.declared.viewport.Viewport.TheVariants.{Fullscree
 use Rattle.rtui_viewport.proofs.ClearLemmas.{keeps_outside, keeps_above}
 use Rattle.rtui_terminal.specs.State.{State, IsInPlace}
 use Rattle.rtui_terminal.specs.InStep.{IsInStep, IsSized, KeepsRest, rows_over}
-use Rattle.rtui_terminal.specs.Calls.{HasDrawn, Stays, Autoresizes, cursor_placed}
+use Rattle.rtui_terminal.specs.Writing.{HasDrawn, cursor_placed}
+use Rattle.rtui_terminal.specs.Cursor.{Stays}
+use Rattle.rtui_terminal.specs.Resizing.{Autoresizes}
 
 placed_grid : (cursor : Option Position) (s : Screen) (a b : ℕ) → (cursor_placed cursor s).grid a b ≡ s.grid a b
 placed_grid None s a b = refl

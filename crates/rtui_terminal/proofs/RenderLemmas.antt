@@ -1,13 +1,16 @@
 -- A closure's call, and what came before and after, as one draw.
 use Rattle.std.proofs.Common.{Option, Result, Ok, Err, sym, subst, inl, inr}
 use Rattle.std.specs.Prelude.{MatchResult}
+use Rattle.std.specs.declared.alloc.AllocError.{AllocError}
 use Rattle.rtui_geometry.specs.declared.position.Position.{Position}
 use Rattle.rtui_buffer.specs.Sheet.{Sheet}
 use Rattle.rtui_buffer.specs.Frame.{IsSettledSheet}
 use Rattle.rtui_backend.specs.Screen.{Screen}
 use Rattle.rtui_terminal.specs.State.{State}
 use Rattle.rtui_terminal.specs.InStep.{IsInStep}
-use Rattle.rtui_terminal.specs.Calls.{Applies, AppliesBy, Autoresizes, AutoresizeErr, DrawOk, DrawErr}
+use Rattle.rtui_terminal.specs.Writing.{Applies, ApplyErr}
+use Rattle.rtui_terminal.specs.Resizing.{Autoresizes, AutoresizeErr}
+use Rattle.rtui_terminal.specs.Drawing.{DrawOk, FrameErr, DrawErr, TryDrawErr}
 use Rattle.rtui_terminal.proofs.KeepLemmas.{rest_more, autoresized_rest, painted_rest}
 use Rattle.rtui_terminal.specs.declared.terminal.error.TerminalError.{TerminalError}
 use Rattle.rtui_terminal.specs.declared.terminal.error.TerminalError.TheVariants.{Backend, Memory, Area, Closure}
@@ -32,19 +35,32 @@ module _ {B X : Type 0} (screen : B → Screen) (ran : State B → Result (Unit 
     closure = subst (ran sized (Ok tt) cursor) (sym applied.painted) closure;
   }
 
-  -- whatever stands where a closure's error is answered
-  pub draws_on : {T E : Type 0} (memory : Type 0) (refused : E → Type 0) (result : Result T (TerminalError E)) → AppliesBy screen cursor (record sized { current = painted }) t result
-      → MatchResult result (λ _. DrawOk screen ran s t) (DrawErr screen ran memory refused s t)
-  draws_on memory refused (Ok x) applied = drawn_ok applied
-  draws_on memory refused (Err (Backend e)) left = inr (record { sized = sized; autoresized = autoresized; cursor = cursor; painted = painted; closure = closure; left = left })
-  draws_on memory refused (Err Memory) left = absurd left
-  draws_on memory refused (Err Area) left = record { sized = sized; autoresized = autoresized; cursor = cursor; painted = painted; closure = closure; left = left }
-  draws_on memory refused (Err (Closure e)) left = absurd left
+  -- what an apply answers
+  pub draws_on : {T E : Type 0} (result : Result T (TerminalError E)) → MatchResult result (λ _. Applies screen cursor (record sized { current = painted }) t) (ApplyErr screen cursor (record sized { current = painted }) t)
+      → MatchResult result (λ _. DrawOk screen ran s t) (FrameErr screen ran s t)
+  draws_on (Ok x) applied = drawn_ok applied
+  draws_on (Err (Backend e)) left = inr (record { sized = sized; autoresized = autoresized; cursor = cursor; painted = painted; closure = closure; left = left })
+  draws_on (Err Memory) left = absurd left
+  draws_on (Err Area) left = record { sized = sized; autoresized = autoresized; cursor = cursor; painted = painted; closure = closure; left = left }
+  draws_on (Err (Closure e)) left = absurd left
 
--- a refused autoresize refuses the draw
-pub refused_before : {B X E : Type 0} (screen : B → Screen) (ran : State B → Result (Unit {0}) X → Option Position → Sheet → Type 0) (s t : State B) (memory : Type 0) (refused : E → Type 0) (error : TerminalError E)
-    → AutoresizeErr screen s t error → DrawErr screen ran memory refused s t error
-refused_before screen ran s t memory refused (Backend e) left = inl left
-refused_before screen ran s t memory refused Memory left = inl left
-refused_before screen ran s t memory refused Area left = absurd left
-refused_before screen ran s t memory refused (Closure e) left = absurd left
+-- a refused autoresize refuses the frame
+pub refused_before : {B X E : Type 0} (screen : B → Screen) (ran : State B → Result (Unit {0}) X → Option Position → Sheet → Type 0) (s t : State B) (error : TerminalError E) → AutoresizeErr screen s t error → FrameErr screen ran s t error
+refused_before screen ran s t (Backend e) left = inl left
+refused_before screen ran s t Memory left = left
+refused_before screen ran s t Area left = absurd left
+refused_before screen ran s t (Closure e) left = absurd left
+
+-- a refused frame refuses the draw
+module _ {B E : Type 0} (screen : B → Screen) (s t : State B) where
+  pub draw_refused : (ran : State B → Result (Unit {0}) AllocError → Option Position → Sheet → Type 0) (error : TerminalError E) → FrameErr screen ran s t error → DrawErr screen ran s t error
+  draw_refused ran (Backend e) left = left
+  draw_refused ran Memory left = inl left
+  draw_refused ran Area left = left
+  draw_refused ran (Closure e) left = absurd left
+
+  pub try_refused : (ran : State B → Result (Unit {0}) E → Option Position → Sheet → Type 0) (error : TerminalError E) → FrameErr screen ran s t error → TryDrawErr screen ran s t error
+  try_refused ran (Backend e) left = left
+  try_refused ran Memory left = left
+  try_refused ran Area left = left
+  try_refused ran (Closure e) left = absurd left

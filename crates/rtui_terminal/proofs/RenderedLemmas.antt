@@ -7,7 +7,9 @@ use Rattle.rtui_buffer.specs.Sheet.{Sheet, IsEmptied, empty_cells, area_size}
 use Rattle.rtui_backend.specs.Screen.{Screen, screen_area}
 use Rattle.rtui_terminal.specs.State.{State}
 use Rattle.rtui_terminal.specs.InStep.{IsReady, IsSized}
-use Rattle.rtui_terminal.specs.Calls.{Autoresizes, Stays, Resizes, IsResized, DrawOk}
+use Rattle.rtui_terminal.specs.Resizing.{Autoresizes, Resizes, IsResized}
+use Rattle.rtui_terminal.specs.Cursor.{Stays}
+use Rattle.rtui_terminal.specs.Drawing.{DrawOk}
 use Rattle.rtui_terminal.specs.Rendered.{OnlyRenders, ShowsRendered}
 
 cut-empty : (m n : ℕ) → take n (empty_cells m) ++ empty_cells (n - length (empty_cells m)) ≡ empty_cells n

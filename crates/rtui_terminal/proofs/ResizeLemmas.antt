@@ -6,7 +6,7 @@ use Rattle.rtui_backend.specs.Screen.{Screen, screen_area}
 use Rattle.rtui_viewport.specs.Viewports.{IsFixed}
 use Rattle.rtui_terminal.specs.State.{State}
 use Rattle.rtui_terminal.specs.InStep.{IsSized}
-use Rattle.rtui_terminal.specs.Calls.{Resizes, ResizeErr, Autoresizes, AutoresizeErr, KeepsBuffers, ResizesBuffers}
+use Rattle.rtui_terminal.specs.Resizing.{Resizes, ResizeErr, Autoresizes, AutoresizeErr, KeepsBuffers, ResizesBuffers}
 use Rattle.rtui_terminal.specs.declared.terminal.error.TerminalError.{TerminalError}
 use Rattle.rtui_terminal.specs.declared.terminal.error.TerminalError.TheVariants.{Backend, Memory, Area, Closure}
 
@@ -23,6 +23,7 @@ module _ {B : Type 0} (screen : B → Screen) (s : State B) (b : B) (t : State B
     frame = r.frame;
     empties = r.empties;
     cursor = rw same at r.cursor;
+    written = r.written;
     on_screen = rw same at r.on_screen;
     in_step = r.in_step;
   }

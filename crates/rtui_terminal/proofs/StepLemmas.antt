@@ -1,5 +1,5 @@
 -- An emptied viewport is in step with an emptied buffer.
-use Rattle.std.proofs.Common.{◌≡◌, ◌∙◌, ℕ, Option, Bool, true, false, refl, subst, arith}
+use Rattle.std.proofs.Common.{◌≡◌, ◌∙◌, ℕ, Option, Bool, true, false, refl, ap, subst, arith}
 use Rattle.std.specs.Prelude.{nat_lt, min, ◌-◌, ◌||◌, if◌then◌else◌}
 use Rattle.std.specs.Option.{unwrap_or}
 use Rattle.std.proofs.lemmas.Bool.Decides.{nat_tests}
@@ -9,10 +9,10 @@ use Rattle.rtui_geometry.specs.Rect.{corner, EdgesFit}
 use Rattle.rtui_cell.specs.Look.{Look, empty_look}
 use Rattle.rtui_buffer.specs.Sheet.{Sheet, IsEmptied, IsSameSheet}
 use Rattle.rtui_buffer.proofs.EmptyLemmas.{IsSettledSheet-empty, ShowsSheet-empty}
-use Rattle.rtui_backend.specs.Screen.{Screen, Scrolls, IsOnGrid, IsOnScreen, screen_area, cursor_of}
+use Rattle.rtui_backend.specs.Screen.{Screen, Scrolls, IsOnGrid, IsOnScreen, screen_area, cursor_of, with_cursor}
 use Rattle.rtui_viewport.specs.Areas.{KeepsScreen, Empties, IsBlankOver}
 use Rattle.rtui_viewport.specs.Sizing.{first_area}
-use Rattle.rtui_viewport.specs.Placing.{raised, area_in, cursor_found, IsCursorSet, EmptiesAllIf, Places, rows_scrolled}
+use Rattle.rtui_viewport.specs.Placing.{raised, area_in, cursor_found, cursor_restored, EmptiesAllIf, Places, rows_scrolled}
 use Rattle.rtui_viewport.specs.Clearing.{HasPlace, ClearsArea, is_emptied}
 use Rattle.rtui_viewport.specs.Viewports.{IsFixed, IsInline, rows_in}
 use Rattle.rtui_viewport.specs.declared.viewport.Viewport.{Viewport}
@@ -20,7 +20,8 @@ use Rattle.rtui_viewport.specs.declared.viewport.Viewport.TheVariants.{Fullscree
 use Rattle.rtui_viewport.proofs.ClearLemmas.{empties_more, frame_same}
 use Rattle.rtui_terminal.specs.State.{State, IsInPlace}
 use Rattle.rtui_terminal.specs.InStep.{IsInStep}
-use Rattle.rtui_terminal.specs.Calls.{IsResized, first_cursor}
+use Rattle.rtui_terminal.specs.Resizing.{IsResized}
+use Rattle.rtui_terminal.specs.Starting.{first_cursor}
 
 pub blank_in_step : {B : Type 0} (screen : B → Screen) (t : State B) → EdgesFit t.viewport_area → IsOnScreen t.viewport_area (screen t.backend) → IsBlankOver t.viewport_area (screen t.backend)
     → IsEmptied t.viewport_area t.older → IsInStep screen t
@@ -111,16 +112,21 @@ placed_empty Fullscreen r o row next a b is empty moved = rw (moved, empty.area,
 placed_empty (Inline n) r o row next a b is empty moved = rw (moved, empty.area, is) (record { area = refl; cells = empty.cells })
 placed_empty (Fixed f) r o row next a b is empty moved = rw (moved, empty.area, is) (record { area = refl; cells = empty.cells })
 
+-- a cursor that was found on the grid and set back
+pub cursor_kept : (s m t : Screen) (at : Position) → at ≡ cursor_of s → IsOnGrid s → m.width ≡ s.width → m.height ≡ s.height → t ≡ with_cursor at.x at.y m → cursor_of t ≡ cursor_of s
+cursor_kept s m t at is on width height restored =
+    let column : min s.cursor_x (m.width - 1) ≡ s.cursor_x = omega (arith, on.cursor_x) in
+    let row : min s.cursor_y (m.height - 1) ≡ s.cursor_y = omega (arith, on.cursor_y) in
+    ap cursor_of (restored ∙ ap (λ p. with_cursor p.x p.y m) is) ∙ rw (column, row) refl
+
 -- the cursor that was found is where it was
-pub cursor_back : (v : Viewport) (s m t : Screen) (found : Option Position) → found ≡ cursor_found v s → (IsInline v → IsOnGrid s) → m.width ≡ s.width → m.height ≡ s.height
-    → IsCursorSet found m t → IsInline v → cursor_of t ≡ cursor_of s
-cursor_back Fullscreen s m t found is on width height set inline = absurd inline
-cursor_back (Inline n) s m t found is on width height set inline =
-    let there = on inline in
-    let column : min s.cursor_x (m.width - 1) ≡ s.cursor_x = omega (arith, there.cursor_x) in
-    let row : min s.cursor_y (m.height - 1) ≡ s.cursor_y = omega (arith, there.cursor_y) in
-    rw (is, column, row) at set
-cursor_back (Fixed f) s m t found is on width height set inline = absurd inline
+pub cursor_back : (v : Viewport) (s m r t : Screen) (found : Option Position) → found ≡ cursor_found v s → (IsInline v → IsOnGrid s) → r.width ≡ s.width → r.height ≡ s.height
+    → ((IsInline v → ⊥) → cursor_of m ≡ cursor_of s) → (v ≡ Fullscreen → cursor_of r ≡ cursor_of m) → t ≡ cursor_restored found r → (IsFixed v → ⊥) → cursor_of t ≡ cursor_of s
+cursor_back Fullscreen s m r t found is on width height placed cleared restored free =
+    ap cursor_of (restored ∙ ap (λ f. cursor_restored f r) is) ∙ cleared refl ∙ placed (λ none. none)
+cursor_back (Inline n) s m r t found is on width height placed cleared restored free =
+    cursor_kept s r t (cursor_of s) refl (on tt) width height (restored ∙ ap (λ f. cursor_restored f r) is)
+cursor_back (Fixed f) s m r t found is on width height placed cleared restored free = absurd (free tt)
 
 -- a viewport that was placed at the start never became narrower
 pub placed_scrolls : (v : Viewport) (width o : ℕ) {s t : Screen} → Places v 0 width o s t → Scrolls s (rows_scrolled v o s) t

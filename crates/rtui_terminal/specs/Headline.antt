@@ -9,7 +9,11 @@ use Rattle.rtui_viewport.specs.Viewports.{IsFixed, IsInline}
 use Rattle.rtui_rows.specs.Insertion.{AppendsRows}
 use Rattle.rtui_terminal.specs.State.{State}
 use Rattle.rtui_terminal.specs.InStep.{IsInStep, IsSized, KeepsRest, rows_over}
-use Rattle.rtui_terminal.specs.Calls.{Stays, MovesCursor, ClearsViewport, Resizes, Autoresizes, Applies, DrawsFrame, RefusesFrame}
+use Rattle.rtui_terminal.specs.Cursor.{Stays, MovesCursor}
+use Rattle.rtui_terminal.specs.Clearing.{ClearsViewport}
+use Rattle.rtui_terminal.specs.Resizing.{Resizes, Autoresizes}
+use Rattle.rtui_terminal.specs.Writing.{Applies}
+use Rattle.rtui_terminal.specs.Drawing.{DrawsFrame, RefusesFrame}
 use Rattle.rtui_terminal.specs.Insertion.{TakesRows, IsLeft, Inserts}
 
 -- a call that answered Ok, with what it painted, inserted or was told; Ask is any call that changes nothing, also an insertion that writes

@@ -2,7 +2,13 @@ pub mod State
 pub mod InStep
 pub mod Frames
 pub mod Borrows
-pub mod Calls
+pub mod Faults
+pub mod Cursor
+pub mod Starting
+pub mod Writing
+pub mod Resizing
+pub mod Clearing
+pub mod Drawing
 pub mod Insertion
 pub mod Display
 pub mod Headline

@@ -3,7 +3,7 @@
 
 ghost use Rattle.rtui_buffer.specs.Sheet.{IsEmptied};
 ghost use Rattle.rtui_terminal.specs.State.{State};
-ghost use Rattle.rtui_terminal.specs.Calls.{Autoresizes};
+ghost use Rattle.rtui_terminal.specs.Resizing.{Autoresizes};
 ghost use Rattle.rtui_terminal.specs.Headline.{IsHeadline, KeepsRows};
 
 use rtui_backend::Backend;

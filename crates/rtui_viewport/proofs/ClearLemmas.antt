@@ -1,5 +1,5 @@
 -- Emptied columns, and what a clear of a viewport leaves.
-use Rattle.std.proofs.Common.{◌≡◌, ℕ, ◌+◌, ◌-◌, ◌<◌, ◌≤◌, Bool, true, false, List, map, refl, ap, ◌∙◌, arith, inl, inr}
+use Rattle.std.proofs.Common.{◌≡◌, ◌⊎◌, ◌==◌, ◌&&◌, ℕ, ◌+◌, ◌-◌, ◌*◌, ◌<◌, ◌≤◌, Bool, true, false, List, map, Option, None, Some, refl, sym, subst, ap, ◌∙◌, arith, inl, inr}
 use Rattle.std.specs.Prelude.{min, nat_le, ◌||◌, if◌then◌else◌}
 use Rattle.std.proofs.lemmas.Bool.Decides.{nat_tests}
 use Rattle.rtui_geometry.specs.declared.position.Position.{Position}
@@ -15,7 +15,8 @@ use Rattle.rtui_viewport.specs.declared.viewport.Viewport.{Viewport}
 use Rattle.rtui_viewport.specs.declared.viewport.Viewport.TheVariants.{Fullscreen, Inline, Fixed}
 use Rattle.rtui_cell.specs.Look.{Look, empty_look}
 use Rattle.rtui_viewport.specs.Areas.{KeepsScreen, Empties, KeepsOutside, IsBlankOver, IsBlankBelow, is_between, is_within}
-use Rattle.rtui_viewport.specs.Clearing.{ClearsArea, is_emptied}
+use Rattle.rtui_viewport.specs.Clearing.{ClearsArea, is_emptied, blanks_needed, WritesItems, WritesBlanks}
+use Rattle.rtui_viewport.specs.Placing.{cursor_restored}
 use Rattle.rtui_viewport.specs.Remaining.{blank_at}
 use Rattle.rtui_viewport.proofs.BlankLemmas.{decide_within, blanks_over}
 
@@ -43,6 +44,18 @@ frame_cleared_at x y kind p = record {
 
 pub frame_drawn : {s t : Screen} {us : List _} → Draws s us t → KeepsScreen s t
 frame_drawn d = record { size = record { width = d.width; height = d.height; history = d.history }; visible = d.visible }
+
+-- an empty rectangle needs no blanks
+pub none_needed : (r : Rect) (s : Screen) → (r.width ≡ 0) ⊎ (r.height ≡ 0) → blanks_needed r s ≡ 0
+none_needed r s empty = either (r.x == 0 && r.width == s.width) (flat empty)
+  where
+    flat : (r.width ≡ 0) ⊎ (r.height ≡ 0) → r.width * r.height ≡ 0
+    flat (inl none) = rw none (omega arith)
+    flat (inr none) = rw none (omega arith)
+
+    either : (wide : Bool) → r.width * r.height ≡ 0 → (if wide then 0 else r.width * r.height) ≡ 0
+    either true none = refl
+    either false none = none
 
 -- nothing was emptied
 pub empties_none : (s : Screen) (which : ℕ → ℕ → Bool) → ((a b : ℕ) → which a b ≡ false) → Empties which s s
@@ -148,3 +161,41 @@ blank_below n r {s} {t} p = record {
       let below : nat_le (min r.y (s.height - 1)) b ≡ true = grind (arith, nat_tests) in
       p.grid a b (omega arith) (omega arith) ∙ rw below refl;
 }
+
+-- a clear, behind which the cursor was set back
+module _ (found : Option Position) {r s t : Screen} (restored : t ≡ cursor_restored found s) where
+  pub frame_restored : KeepsScreen r s → KeepsScreen r t
+  frame_restored p = subst (KeepsScreen r) (sym restored) (either found)
+    where
+      either : (f : Option Position) → KeepsScreen r (cursor_restored f s)
+      either None = p
+      either (Some at) = record { size = record { width = p.size.width; height = p.size.height; history = p.size.history }; visible = p.visible }
+
+  pub empties_restored : {which : ℕ → ℕ → Bool} → Empties which r s → Empties which r t
+  empties_restored {which} p = subst (Empties which r) (sym restored) (either found)
+    where
+      either : (f : Option Position) → Empties which r (cursor_restored f s)
+      either None = p
+      either (Some at) = empties_set at.x at.y p
+
+pub clears_restored : (v : Viewport) (area : Rect) (found : Option Position) {r s t : Screen} → t ≡ cursor_restored found s → ClearsArea v area r s → ClearsArea v area r t
+clears_restored v area found restored p place = empties_restored found restored (p place)
+
+-- the blanks that it drew, from a screen of the same width where as many items were counted
+pub written_restored : (v : Viewport) (area : Rect) (found : Option Position) (q r s t : Screen) → r.written ≡ q.written → r.width ≡ q.width → t ≡ cursor_restored found s → WritesBlanks v area r s → WritesBlanks v area q t
+written_restored v area found q r s t same wide restored p = either v area p
+  where
+    behind : (f : Option Position) → (cursor_restored f s).written ≡ s.written
+    behind None = refl
+    behind (Some at) = refl
+
+    whole : t.written ≡ s.written
+    whole = ap (λ k. k.written) restored ∙ behind found
+
+    items : (n m : ℕ) → m ≡ n → WritesItems n r s → WritesItems m q t
+    items n m number p room = let is = p (omega (arith, same, number)) in omega (arith, same, number, whole, is)
+
+    either : (v : Viewport) (area : Rect) → WritesBlanks v area r s → WritesBlanks v area q t
+    either Fullscreen area p = items 0 0 refl p
+    either (Inline n) area p = items 0 0 refl p
+    either (Fixed f) area p = items (blanks_needed area r) (blanks_needed area q) (ap (λ w. if area.x == 0 && area.width == w then 0 else area.width * area.height) (sym wide)) p

@@ -1,5 +1,5 @@
 -- What a clear of a viewport does to a screen.
-use Rattle.std.specs.Prelude.{◌≡◌, ℕ, ◌-◌, Bool, true, min, nat_le}
+use Rattle.std.specs.Prelude.{◌≡◌, ℕ, ◌+◌, ◌-◌, ◌*◌, ◌^◌, ◌<◌, ◌==◌, ◌&&◌, Bool, true, min, nat_le, if◌then◌else◌}
 use Rattle.rtui_geometry.specs.declared.rect.Rect.{Rect}
 use Rattle.rtui_backend.specs.Screen.{Screen, IsOnScreen}
 use Rattle.rtui_viewport.specs.declared.viewport.Viewport.{Viewport}
@@ -21,3 +21,17 @@ HasPlace (Fixed f) r s = IsOnScreen r s
 -- a viewport that has its place was emptied
 abbrev pub ClearsArea : Viewport → Rect → Screen → Screen → Type 0
 ClearsArea v r old new = HasPlace v r old → Empties (is_emptied v r old.height) old new
+
+-- n items were drawn, as far as they are counted
+abbrev pub WritesItems : ℕ → Screen → Screen → Type 0
+WritesItems n old new = old.written + n < 2 ^ 64 - 1 → new.written ≡ old.written + n
+
+-- how many blanks a clear of a rectangle draws: none where it is as wide as the screen, else one for each position
+abbrev pub blanks_needed : Rect → Screen → ℕ
+blanks_needed r s = if r.x == 0 && r.width == s.width then 0 else r.width * r.height
+
+-- a clear draws them only over a fixed viewport
+abbrev pub WritesBlanks : Viewport → Rect → Screen → Screen → Type 0
+WritesBlanks Fullscreen r old new = WritesItems 0 old new
+WritesBlanks (Inline n) r old new = WritesItems 0 old new
+WritesBlanks (Fixed f) r old new = WritesItems (blanks_needed r old) old new

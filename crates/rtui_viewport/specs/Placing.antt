@@ -1,8 +1,9 @@
 -- Where a viewport goes on a screen.
-use Rattle.std.specs.Prelude.{◌≡◌, Bool, true, false, ℕ, ◌-◌, min, max, nat_lt, if◌then◌else◌, Option, None, Some}
+use Rattle.std.specs.Prelude.{◌≡◌, Bool, true, false, ℕ, ◌+◌, ◌-◌, min, max, nat_lt, if◌then◌else◌, Option, None, Some}
 use Rattle.rtui_geometry.specs.declared.position.Position.{Position}
 use Rattle.rtui_geometry.specs.declared.rect.Rect.{Rect}
 use Rattle.rtui_backend.specs.Screen.{Screen, Scrolls, IsOnScreen, rows_above, lines_past, cursor_of, with_cursor}
+use Rattle.rtui_viewport.specs.Viewports.{IsInline, rows_in}
 use Rattle.rtui_viewport.specs.Areas.{Empties}
 use Rattle.rtui_viewport.specs.declared.viewport.Viewport.{Viewport}
 use Rattle.rtui_viewport.specs.declared.viewport.Viewport.TheVariants.{Fullscreen, Inline, Fixed}
@@ -30,6 +31,16 @@ pub record PlacesInline (n o : ℕ) (old : Screen) (placed : Rect) (new : Screen
   pub on_screen : IsOnScreen placed new
   pub above : rows_above new placed.y ≡ rows_above old (rows_left n o old)
 
+-- what a viewport takes of an area, before it is placed: its columns, and as many rows as it may have
+abbrev pub unplaced_area : Viewport → Rect → Rect
+unplaced_area viewport area = record { x = 0; y = 0; width = area.width; height = rows_in viewport area.height }
+
+-- the row that the cursor comes to where a viewport gets its rows, o of them above it: an inline one asks for those below
+abbrev pub cursor_row_behind : Viewport → ℕ → Screen → ℕ
+cursor_row_behind Fullscreen o s = s.cursor_y
+cursor_row_behind (Inline n) o s = min (s.cursor_y + lines_below n o) (s.height - 1)
+cursor_row_behind (Fixed f) o s = s.cursor_y
+
 -- where a viewport goes in an area, for a cursor in row r
 abbrev pub area_in : Viewport → Rect → ℕ → ℕ → Rect
 area_in Fullscreen area o r = area
@@ -46,10 +57,10 @@ cursor_found Fullscreen s = None
 cursor_found (Inline n) s = Some (cursor_of s)
 cursor_found (Fixed f) s = None
 
--- the cursor was set to a place, if there is one, on a screen of the former size
-abbrev pub IsCursorSet : Option Position → Screen → Screen → Type 0
-IsCursorSet None old new = Unit {0}
-IsCursorSet (Some p) old new = cursor_of new ≡ cursor_of (with_cursor p.x p.y old)
+-- the cursor set to a place, if there is one
+abbrev pub cursor_restored : Option Position → Screen → Screen
+cursor_restored None s = s
+cursor_restored (Some p) s = with_cursor p.x p.y s
 
 -- how many rows leave the screen, so that an inline viewport has its rows where o of them lie above the cursor's row
 abbrev pub rows_scrolled : Viewport → ℕ → Screen → ℕ
@@ -62,8 +73,11 @@ abbrev pub EmptiesAllIf : Bool → Screen → Screen → Type 0
 EmptiesAllIf true old new = Empties (λ a b. true) old new
 EmptiesAllIf false old new = new ≡ old
 
--- a viewport was placed: these rows left the screen, and where it became narrower the whole screen was emptied then
+-- a viewport was placed: these rows left the screen, and where it became narrower the whole screen was emptied then; nothing was drawn
 pub record Places (v : Viewport) (former width o : ℕ) (old new : Screen) : Type 0 where
   pub scrolled : Screen
   pub scrolls : Scrolls old (rows_scrolled v o old) scrolled
   pub empties : EmptiesAllIf (nat_lt width former) scrolled new
+  pub cursor_row : new.cursor_y ≡ cursor_row_behind v o old
+  pub cursor : (IsInline v → ⊥) → cursor_of new ≡ cursor_of old
+  pub written : new.written ≡ scrolled.written

@@ -1,10 +1,11 @@
-ghost use Rattle.std.specs.Prelude.{◌≡◌, ◌≤◌, OnOk};
+ghost use Rattle.std.specs.Prelude.{◌≡◌, ◌*◌, ◌≤◌, OnOk};
 ghost use Rattle.rtui_geometry.specs.Rect.{EdgesFit};
 ghost use Rattle.rtui_backend.specs.Failures.{Counts};
 ghost use Rattle.rtui_backend.specs.Screen.{IsOnScreen, cursor_of};
 ghost use Rattle.rtui_viewport.specs.Areas.{KeepsScreen, Empties, is_between, is_within};
-ghost use Rattle.rtui_viewport.specs.Clearing.{ClearsArea};
-ghost use Rattle.rtui_viewport.specs.Placing.{IsCursorSet};
+ghost use Rattle.rtui_viewport.specs.Clearing.{ClearsArea, WritesItems, WritesBlanks, blanks_needed};
+ghost use Rattle.rtui_viewport.specs.declared.viewport.Viewport.TheVariants.{Fullscreen};
+ghost use Rattle.rtui_viewport.specs.Placing.{cursor_restored};
 
 use crate::blanks::Blanks;
 use crate::viewport::Viewport;
@@ -12,9 +13,11 @@ use rtui_backend::{Backend, ClearType};
 use rtui_cell::Cell;
 use rtui_geometry::{Position, Rect};
 
-// Empties the rows from `top` up to `bottom`.
+// Empties the rows from `top` up to `bottom`, and draws nothing.
 fn clear_rows<B: Backend>(backend: &mut B, top: u16, bottom: u16) -> Result<(), B::Error>
     requires { top ≤ bottom }
+    ensures written { OnOk result
+        ((B.screen backend.new).written ≡ (B.screen backend.old).written) }
     ensures cleared { OnOk result (bottom ≤ (B.screen backend.old).height
         → Empties (is_between top bottom) (B.screen backend.old) (B.screen backend.new)) }
     ensures frame { OnOk result (KeepsScreen (B.screen backend.old) (B.screen backend.new)) }
@@ -33,6 +36,8 @@ fn draw_blanks<B: Backend>(backend: &mut B, area: Rect) -> Result<(), B::Error>
     ensures cleared { OnOk result (IsOnScreen area (B.screen backend.old)
         → Empties (is_within area) (B.screen backend.old) (B.screen backend.new)) }
     ensures frame { OnOk result (KeepsScreen (B.screen backend.old) (B.screen backend.new)) }
+    ensures written { OnOk result
+        (WritesItems (area.width * area.height) (B.screen backend.old) (B.screen backend.new)) }
     ensures counts { Counts result (B.failures backend.old) (B.failures backend.new) }
 {
     let blank = Cell::EMPTY;
@@ -45,6 +50,8 @@ fn clear_fixed<B: Backend>(backend: &mut B, area: Rect) -> Result<(), B::Error>
     ensures cleared { OnOk result (IsOnScreen area (B.screen backend.old)
         → Empties (is_within area) (B.screen backend.old) (B.screen backend.new)) }
     ensures frame { OnOk result (KeepsScreen (B.screen backend.old) (B.screen backend.new)) }
+    ensures written { OnOk result (WritesItems (blanks_needed area (B.screen backend.old))
+        (B.screen backend.old) (B.screen backend.new)) }
     ensures counts { Counts result (B.failures backend.old) (B.failures backend.new) }
 {
     if area.is_empty() {
@@ -61,8 +68,9 @@ fn clear_fixed<B: Backend>(backend: &mut B, area: Rect) -> Result<(), B::Error>
     backend.clear_region(ClearType::AfterCursor)
 }
 
-/// Empties a viewport's area; the cursor may end anywhere. An inline viewport is emptied with all rows below it,
-/// a fixed one alone, and for a fullscreen one the whole screen is.
+/// Empties a viewport's area. An inline viewport is emptied with all rows below it, a fixed one alone, and for a
+/// fullscreen one the whole screen is. Blanks are drawn only over a fixed one that isn't as wide as the screen. The
+/// cursor may end anywhere, but of a fullscreen one it stays.
 pub fn clear_area<B: Backend>(
     backend: &mut B,
     viewport: Viewport,
@@ -72,6 +80,10 @@ pub fn clear_area<B: Backend>(
     ensures cleared { OnOk result
         (ClearsArea viewport area (B.screen backend.old) (B.screen backend.new)) }
     ensures frame { OnOk result (KeepsScreen (B.screen backend.old) (B.screen backend.new)) }
+    ensures cursor { OnOk result (viewport ≡ Fullscreen
+        → cursor_of (B.screen backend.new) ≡ cursor_of (B.screen backend.old)) }
+    ensures written { OnOk result
+        (WritesBlanks viewport area (B.screen backend.old) (B.screen backend.new)) }
     ensures counts { Counts result (B.failures backend.old) (B.failures backend.new) }
 {
     match viewport {
@@ -84,42 +96,17 @@ pub fn clear_area<B: Backend>(
     }
 }
 
-/// Empties a viewport's area, and sets the cursor where one is given.
-pub fn clear_placed<B: Backend>(
+/// Sets the cursor back to a place, where there is one.
+pub fn restore_cursor<B: Backend>(
     backend: &mut B,
-    viewport: Viewport,
-    area: Rect,
     cursor: Option<Position>,
 ) -> Result<(), B::Error>
-    requires { EdgesFit area }
-    ensures cleared { OnOk result
-        (ClearsArea viewport area (B.screen backend.old) (B.screen backend.new)) }
-    ensures frame { OnOk result (KeepsScreen (B.screen backend.old) (B.screen backend.new)) }
-    ensures cursor { OnOk result
-        (IsCursorSet cursor (B.screen backend.old) (B.screen backend.new)) }
+    ensures restored { OnOk result
+        (B.screen backend.new ≡ cursor_restored cursor (B.screen backend.old)) }
     ensures counts { Counts result (B.failures backend.old) (B.failures backend.new) }
 {
-    clear_area(backend, viewport, area)?;
     if let Some(position) = cursor {
         backend.set_cursor_position(position)?;
     }
     Ok(())
-}
-
-/// Empties a viewport's area, and puts the cursor back.
-pub fn clear_viewport<B: Backend>(
-    backend: &mut B,
-    viewport: Viewport,
-    area: Rect,
-) -> Result<(), B::Error>
-    requires { EdgesFit area }
-    ensures cleared { OnOk result
-        (ClearsArea viewport area (B.screen backend.old) (B.screen backend.new)) }
-    ensures frame { OnOk result (KeepsScreen (B.screen backend.old) (B.screen backend.new)) }
-    ensures cursor { OnOk result (cursor_of (B.screen backend.new)
-        ≡ cursor_of (B.screen backend.old)) }
-    ensures counts { Counts result (B.failures backend.old) (B.failures backend.new) }
-{
-    let cursor = backend.get_cursor_position()?;
-    clear_placed(backend, viewport, area, Some(cursor))
 }

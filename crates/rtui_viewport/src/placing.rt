@@ -59,6 +59,8 @@ fn raise<B: Backend>(backend: &mut B, area: Rect, former_width: u16) -> Result<R
     ensures emptied { OnOk result
         (EmptiesAllIf (nat_lt area.width former_width) (B.screen backend.old)
         (B.screen backend.new)) }
+    ensures rest { OnOk result (B.screen backend.new
+        ≡ record (B.screen backend.old) { grid = (B.screen backend.new).grid }) }
     ensures quiet { former_width ≤ area.width
         → IsOk result × (backend.new ≡ backend.old) }
     ensures counts { Counts result (B.failures backend.old) (B.failures backend.new) }

@@ -2,7 +2,8 @@ ghost use Rattle.std.specs.Prelude.{◌≡◌, OnOk, IfOk};
 ghost use Rattle.std.specs.Borrow.{sem, Lends};
 ghost use Rattle.rtui_backend.specs.Screen.{size_of};
 ghost use Rattle.rtui_terminal.specs.InStep.{IsInStep};
-ghost use Rattle.rtui_terminal.specs.Calls.{Faults, FailsOnlyByBackend, Stays};
+ghost use Rattle.rtui_terminal.specs.Faults.{Faults, FailsOnlyByBackend};
+ghost use Rattle.rtui_terminal.specs.Cursor.{Stays};
 ghost use Rattle.rtui_terminal.specs.contracts.terminal.Terminal.{the_row};
 
 use crate::terminal::Terminal;

@@ -6,7 +6,8 @@ ghost use Rattle.rtui_buffer.specs.contracts.buffer.Buffer.{the_row as buffer_ro
 ghost use Rattle.rtui_backend.specs.Failures.{Counts};
 ghost use Rattle.rtui_buffer.specs.Frame.{sheet_updates};
 ghost use Rattle.rtui_terminal.specs.State.{HasAreas};
-ghost use Rattle.rtui_terminal.specs.Calls.{Faults, WritesDifferences, Flushes, FlushErr, last_place, cursor_behind};
+ghost use Rattle.rtui_terminal.specs.Faults.{Faults};
+ghost use Rattle.rtui_terminal.specs.Writing.{WritesDifferences, Flushes, FlushErr, last_place, cursor_behind};
 ghost use Rattle.rtui_terminal.specs.Frames.{IsNewFrame};
 ghost use Rattle.rtui_terminal.specs.contracts.terminal.Terminal.{the_row};
 

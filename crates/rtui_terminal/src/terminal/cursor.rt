@@ -1,7 +1,8 @@
 ghost use Rattle.std.specs.Prelude.{◌≡◌, true, false, OnOk, OnErr, IfOk};
 ghost use Rattle.rtui_backend.specs.Screen.{with_visible, with_cursor, cursor_of};
 ghost use Rattle.rtui_terminal.specs.InStep.{IsInStep};
-ghost use Rattle.rtui_terminal.specs.Calls.{Faults, FailsOnlyByBackend, Stays, MovesCursor};
+ghost use Rattle.rtui_terminal.specs.Faults.{Faults, FailsOnlyByBackend};
+ghost use Rattle.rtui_terminal.specs.Cursor.{Stays, MovesCursor};
 
 use crate::terminal::Terminal;
 use crate::terminal::error::TerminalError;

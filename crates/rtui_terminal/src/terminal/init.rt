@@ -1,7 +1,7 @@
 ghost use Rattle.std.specs.Prelude.{◌≡◌, IfOk, MatchResult};
 ghost use Rattle.rtui_viewport.specs.Viewports.{FitsEdges};
 ghost use Rattle.rtui_viewport.specs.declared.viewport.Viewport.TheVariants.{Fullscreen};
-ghost use Rattle.rtui_terminal.specs.Calls.{Starts, StartErr};
+ghost use Rattle.rtui_terminal.specs.Starting.{Starts, StartErr};
 
 use crate::terminal::Terminal;
 use crate::terminal::error::TerminalError;

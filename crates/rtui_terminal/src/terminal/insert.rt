@@ -2,7 +2,7 @@ ghost use Rattle.std.specs.Prelude.{◌≡◌, ◌<◌, ◌≤◌, Ok, OnOk, OnE
 ghost use Rattle.rtui_buffer.specs.Sheet.{IsEmptied};
 ghost use Rattle.rtui_viewport.specs.Viewports.{IsInline};
 ghost use Rattle.rtui_rows.specs.Filling.{AcceptsRows, FillsRows};
-ghost use Rattle.rtui_terminal.specs.Calls.{Faults, FailsOnlyByBackend};
+ghost use Rattle.rtui_terminal.specs.Faults.{Faults, FailsOnlyByBackend};
 ghost use Rattle.rtui_terminal.specs.Insertion.{inserted_area, Inserts, StopsInserting, InsertsBy};
 
 use crate::terminal::Terminal;

@@ -1,9 +1,11 @@
-ghost use Rattle.std.specs.Prelude.{◌≡◌, ◌+◌, ◌%◌, ◌^◌, None, Ok, Err, IfOk, MatchResult};
+ghost use Rattle.std.specs.Prelude.{◌≡◌, ◌+◌, ◌%◌, ◌^◌, None, Ok, Err, IfOk, IfErr, MatchResult};
 ghost use Rattle.std.specs.Borrow.{sem, RestsIfErr};
 ghost use Rattle.rtui_buffer.specs.Frame.{IsSettledSheet};
 ghost use Rattle.rtui_terminal.specs.InStep.{IsInStep, IsReady};
 ghost use Rattle.rtui_terminal.specs.Frames.{PaintsFrame, AcceptsNewFrame, AcceptsFrames, paints_on};
-ghost use Rattle.rtui_terminal.specs.Calls.{Faults, WritesBy, Applies, AppliesBy, DrawOk, DrawsBy, TriesBy};
+ghost use Rattle.rtui_terminal.specs.Faults.{Faults};
+ghost use Rattle.rtui_terminal.specs.Writing.{Writes, WriteErr, Applies, ApplyErr};
+ghost use Rattle.rtui_terminal.specs.Drawing.{CompletesFrame, DrawOk, FrameOk, FrameErr, DrawErr, TryDrawErr};
 ghost use Rattle.rtui_terminal.specs.contracts.terminal.Terminal.{the_row};
 
 use crate::terminal::Terminal;
@@ -40,7 +42,8 @@ where
 impl<B: Backend> Terminal<B> {
     // Writes what differs, and leaves the cursor at its place.
     fn write_frame(&mut self, cursor: Option<Position>) -> Result<(), TerminalError<B::Error>>
-        ensures outcome { WritesBy B.screen cursor self.old self.new result }
+        ensures outcome { MatchResult result (λ _. Writes B.screen cursor self.old self.new)
+            (WriteErr B.screen cursor self.old self.new) }
         ensures faults { Faults result (B.failures self.old.backend) (B.failures self.new.backend) }
     {
         self.flush()?;
@@ -56,7 +59,8 @@ impl<B: Backend> Terminal<B> {
 
     // Draws the current buffer, and leaves the cursor at its place.
     fn apply(&mut self, cursor: Option<Position>) -> Result<(), TerminalError<B::Error>>
-        ensures outcome { AppliesBy B.screen cursor self.old self.new result }
+        ensures outcome { MatchResult result (λ _. Applies B.screen cursor self.old self.new)
+            (ApplyErr B.screen cursor self.old self.new) }
         ensures faults { Faults result (B.failures self.old.backend) (B.failures self.new.backend) }
     {
         self.write_frame(cursor)?;
@@ -71,38 +75,61 @@ impl<B: Backend> Terminal<B> {
 }
 
 impl<B: Backend> Terminal<B> {
+    // Draws what a closure paints, or answers what the closure refused with.
+    #[tactic(auto, using(crate::proofs::RenderLemmas::refused_before))]
+    fn paint_and_apply<X, F>(
+        &mut self,
+        render_callback: F,
+    ) -> Result<Result<(), X>, TerminalError<B::Error>>
+    where
+        F: FnOnce(&mut Frame<'_>) -> Result<(), X>,
+        requires { AcceptsFrames F.FnOnce render_callback self.old }
+        ensures drawn { let ran = paints_on F.FnOnce render_callback in
+            MatchResult result (FrameOk B.screen ran self.old self.new)
+            (FrameErr B.screen ran self.old self.new) }
+        ensures faults { Faults result (B.failures self.old.backend) (B.failures self.new.backend) }
+    {
+        self.autoresize()?;
+        let area = self.viewport_area;
+        let count = self.frame_count;
+        let (answer, cursor) = paint(&mut self.current, area, count, render_callback);
+        match answer {
+            Ok(()) => match self.apply(cursor) {
+                Ok(()) => Ok(Ok(())),
+                Err(error) => Err(error),
+            },
+            Err(error) => Ok(Err(error)),
+        }
+    }
+
+    #[tactic(auto, using(crate::proofs::RenderLemmas::draw_refused))]
     fn draw_frame<F>(&mut self, render_callback: F) -> Result<(), TerminalError<B::Error>>
     where
         F: FnOnce(&mut Frame<'_>) -> Result<(), AllocError>,
         requires { AcceptsFrames F.FnOnce render_callback self.old }
-        ensures drawn { DrawsBy B.screen (paints_on F.FnOnce render_callback) self.old self.new
-            result }
+        ensures drawn { let ran = paints_on F.FnOnce render_callback in
+            MatchResult result (λ _. DrawOk B.screen ran self.old self.new)
+            (DrawErr B.screen ran self.old self.new) }
         ensures faults { Faults result (B.failures self.old.backend) (B.failures self.new.backend) }
     {
-        self.autoresize()?;
-        let area = self.viewport_area;
-        let count = self.frame_count;
-        let (answer, cursor) = paint(&mut self.current, area, count, render_callback);
-        match answer {
-            Ok(()) => self.apply(cursor),
+        match self.paint_and_apply(render_callback)? {
+            Ok(()) => Ok(()),
             Err(_) => Err(TerminalError::Memory),
         }
     }
 
+    #[tactic(auto, using(crate::proofs::RenderLemmas::try_refused))]
     fn try_draw_frame<F>(&mut self, render_callback: F) -> Result<(), TerminalError<B::Error>>
     where
         F: FnOnce(&mut Frame<'_>) -> Result<(), B::Error>,
         requires { AcceptsFrames F.FnOnce render_callback self.old }
-        ensures drawn { TriesBy B.screen (paints_on F.FnOnce render_callback) self.old self.new
-            result }
+        ensures drawn { let ran = paints_on F.FnOnce render_callback in
+            MatchResult result (λ _. DrawOk B.screen ran self.old self.new)
+            (TryDrawErr B.screen ran self.old self.new) }
         ensures faults { Faults result (B.failures self.old.backend) (B.failures self.new.backend) }
     {
-        self.autoresize()?;
-        let area = self.viewport_area;
-        let count = self.frame_count;
-        let (answer, cursor) = paint(&mut self.current, area, count, render_callback);
-        match answer {
-            Ok(()) => self.apply(cursor),
+        match self.paint_and_apply(render_callback)? {
+            Ok(()) => Ok(()),
             Err(error) => Err(TerminalError::Closure(error)),
         }
     }
@@ -124,7 +151,7 @@ impl<B: Backend> Terminal<B> {
         ensures* refused { let row = the_row B.row B.Error.row B.Backend B.Error.Debug
             B.Error.Display in
             sem 𝓛 (RestsIfErr row self.entry (λ frame. frame.terminal.ghost_name) result (λ t.
-            DrawsBy B.screen (paints_on F.FnOnce render_callback) self.old t result
+            IfErr result (DrawErr B.screen (paints_on F.FnOnce render_callback) self.old t)
             × Faults result (B.failures self.old.backend) (B.failures t.backend))) }
         ensures same_terminal { IfOk result (λ frame.
             frame.terminal.ghost_name ≡ self.entry.ghost_name) }
@@ -132,10 +159,8 @@ impl<B: Backend> Terminal<B> {
             DrawOk B.screen (paints_on F.FnOnce render_callback) self.old frame.terminal.now) }
         ensures in_step { IfOk result (λ frame. IsReady B.screen self.old
             → IsSettledSheet frame.terminal.now.older → IsInStep B.screen frame.terminal.now) }
-        ensures faults { IfOk result (λ frame. B.failures frame.terminal.now.backend
-            ≡ B.failures self.old.backend) }
-        ensures area { IfOk result (λ frame. frame.area ≡ frame.terminal.now.known_area) }
-        ensures count { IfOk result (λ frame. frame.count ≡ self.old.frame_count) }
+        ensures frame { IfOk result (λ frame. CompletesFrame B.failures self.old
+            frame.terminal.now frame.area frame.count) }
     {
         let count = self.frame_count;
         self.draw_frame(render_callback)?;
@@ -158,7 +183,7 @@ impl<B: Backend> Terminal<B> {
         ensures* refused { let row = the_row B.row B.Error.row B.Backend B.Error.Debug
             B.Error.Display in
             sem 𝓛 (RestsIfErr row self.entry (λ frame. frame.terminal.ghost_name) result (λ t.
-            TriesBy B.screen (paints_on F.FnOnce render_callback) self.old t result
+            IfErr result (TryDrawErr B.screen (paints_on F.FnOnce render_callback) self.old t)
             × Faults result (B.failures self.old.backend) (B.failures t.backend))) }
         ensures same_terminal { IfOk result (λ frame.
             frame.terminal.ghost_name ≡ self.entry.ghost_name) }
@@ -166,10 +191,8 @@ impl<B: Backend> Terminal<B> {
             DrawOk B.screen (paints_on F.FnOnce render_callback) self.old frame.terminal.now) }
         ensures in_step { IfOk result (λ frame. IsReady B.screen self.old
             → IsSettledSheet frame.terminal.now.older → IsInStep B.screen frame.terminal.now) }
-        ensures faults { IfOk result (λ frame. B.failures frame.terminal.now.backend
-            ≡ B.failures self.old.backend) }
-        ensures area { IfOk result (λ frame. frame.area ≡ frame.terminal.now.known_area) }
-        ensures count { IfOk result (λ frame. frame.count ≡ self.old.frame_count) }
+        ensures frame { IfOk result (λ frame. CompletesFrame B.failures self.old
+            frame.terminal.now frame.area frame.count) }
     {
         let count = self.frame_count;
         self.try_draw_frame(render_callback)?;
@@ -186,15 +209,13 @@ impl<B: Backend> Terminal<B> {
         ensures* refused { let row = the_row B.row B.Error.row B.Backend B.Error.Debug
             B.Error.Display in
             sem 𝓛 (RestsIfErr row self.entry (λ frame. frame.terminal.ghost_name) result (λ t.
-            AppliesBy B.screen None self.old t result
+            IfErr result (ApplyErr B.screen None self.old t)
             × Faults result (B.failures self.old.backend) (B.failures t.backend))) }
         ensures same_terminal { IfOk result (λ frame.
             frame.terminal.ghost_name ≡ self.entry.ghost_name) }
         ensures applied { IfOk result (λ frame. Applies B.screen None self.old frame.terminal.now) }
-        ensures faults { IfOk result (λ frame. B.failures frame.terminal.now.backend
-            ≡ B.failures self.old.backend) }
-        ensures area { IfOk result (λ frame. frame.area ≡ frame.terminal.now.known_area) }
-        ensures count { IfOk result (λ frame. frame.count ≡ self.old.frame_count) }
+        ensures frame { IfOk result (λ frame. CompletesFrame B.failures self.old
+            frame.terminal.now frame.area frame.count) }
     {
         self.apply_buffer_with_cursor(None)
     }
@@ -208,16 +229,14 @@ impl<B: Backend> Terminal<B> {
         ensures* refused { let row = the_row B.row B.Error.row B.Backend B.Error.Debug
             B.Error.Display in
             sem 𝓛 (RestsIfErr row self.entry (λ frame. frame.terminal.ghost_name) result (λ t.
-            AppliesBy B.screen cursor_position self.old t result
+            IfErr result (ApplyErr B.screen cursor_position self.old t)
             × Faults result (B.failures self.old.backend) (B.failures t.backend))) }
         ensures same_terminal { IfOk result (λ frame.
             frame.terminal.ghost_name ≡ self.entry.ghost_name) }
         ensures applied { IfOk result (λ frame.
             Applies B.screen cursor_position self.old frame.terminal.now) }
-        ensures faults { IfOk result (λ frame. B.failures frame.terminal.now.backend
-            ≡ B.failures self.old.backend) }
-        ensures area { IfOk result (λ frame. frame.area ≡ frame.terminal.now.known_area) }
-        ensures count { IfOk result (λ frame. frame.count ≡ self.old.frame_count) }
+        ensures frame { IfOk result (λ frame. CompletesFrame B.failures self.old
+            frame.terminal.now frame.area frame.count) }
     {
         let count = self.frame_count;
         self.apply(cursor_position)?;

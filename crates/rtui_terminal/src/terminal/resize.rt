@@ -2,13 +2,15 @@ ghost use Rattle.std.specs.Prelude.{◌≡◌, OnOk, OnErr, MatchResult};
 ghost use Rattle.rtui_geometry.specs.Rect.{EdgesFit};
 ghost use Rattle.rtui_buffer.specs.Sheet.{IsSameSheet};
 ghost use Rattle.rtui_terminal.specs.State.{HaveRoom, IsInPlace};
-ghost use Rattle.rtui_terminal.specs.Calls.{Faults, FailsOnlyByBackend, IsResized, ClearsViewport, Resizes, ResizeErr, Autoresizes, AutoresizeErr};
+ghost use Rattle.rtui_terminal.specs.Faults.{Faults, FailsOnlyByBackend};
+ghost use Rattle.rtui_terminal.specs.Resizing.{IsResized, Resizes, ResizeErr, Autoresizes, AutoresizeErr};
+ghost use Rattle.rtui_terminal.specs.Clearing.{ClearsViewport, FailsClearing};
 
 use crate::terminal::Terminal;
 use crate::terminal::error::TerminalError;
 use rtui_backend::Backend;
 use rtui_geometry::Rect;
-use rtui_viewport::{changed_area, clear_placed, clear_viewport, place_viewport};
+use rtui_viewport::{changed_area, clear_area, place_viewport, restore_cursor};
 use std::alloc::AllocError;
 
 impl<B: Backend> Terminal<B> {
@@ -17,16 +19,23 @@ impl<B: Backend> Terminal<B> {
     /// its area. It takes no memory.
     pub fn clear(&mut self) -> Result<(), TerminalError<B::Error>>
         ensures ok { OnOk result (ClearsViewport B.screen self.old self.new) }
-        ensures err { OnErr result (self.new ≡ record self.old { backend = self.new.backend }) }
+        ensures err { OnErr result (FailsClearing self.old self.new) }
         ensures only { FailsOnlyByBackend result }
         ensures faults { Faults result (B.failures self.old.backend) (B.failures self.new.backend) }
     {
-        match clear_viewport(&mut self.backend, self.viewport, self.viewport_area) {
+        let cursor = match self.backend.get_cursor_position() {
+            Ok(cursor) => cursor,
+            Err(error) => return Err(TerminalError::Backend(error)),
+        };
+        match clear_area(&mut self.backend, self.viewport, self.viewport_area) {
             Ok(()) => {}
             Err(error) => return Err(TerminalError::Backend(error)),
         }
         self.older.reset();
-        Ok(())
+        match restore_cursor(&mut self.backend, Some(cursor)) {
+            Ok(()) => Ok(()),
+            Err(error) => Err(TerminalError::Backend(error)),
+        }
     }
 
     // Makes room in both buffers for the cells of an area.
@@ -92,11 +101,15 @@ impl<B: Backend> Terminal<B> {
             Err(error) => return Err(TerminalError::Backend(error)),
         };
         self.set_area(placed.area);
-        match clear_placed(&mut self.backend, self.viewport, placed.area, placed.cursor) {
+        match clear_area(&mut self.backend, self.viewport, placed.area) {
             Ok(()) => {}
             Err(error) => return Err(TerminalError::Backend(error)),
         }
         self.older.reset();
+        match restore_cursor(&mut self.backend, placed.cursor) {
+            Ok(()) => {}
+            Err(error) => return Err(TerminalError::Backend(error)),
+        }
         self.known_area = area;
         Ok(())
     }

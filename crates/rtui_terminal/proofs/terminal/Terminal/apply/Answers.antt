@@ -1,5 +1,5 @@
 use Rattle.std.proofs.Common.{◌≡◌, rules, inr}
-use Rattle.rtui_terminal.specs.Calls.{HasDrawn}
+use Rattle.rtui_terminal.specs.Writing.{HasDrawn}
 use Rattle.rtui_terminal.proofs.KeepLemmas.{drawn_rest}
 use Rattle.rtui_terminal.proofs.terminal.Terminal.apply.Goals as goal
 

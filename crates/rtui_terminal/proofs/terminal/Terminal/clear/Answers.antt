@@ -1,22 +1,37 @@
-use Rattle.std.proofs.Common.{refl}
-use Rattle.rtui_viewport.proofs.ClearLemmas.{blank_over}
-use Rattle.rtui_terminal.proofs.StepLemmas.{blank_in_step, on_same, has_place}
+use Rattle.std.proofs.Common.{◌≡◌, Option, Some, refl, ap, sym, ◌∙◌}
+use Rattle.rtui_geometry.specs.declared.position.Position.{Position}
+use Rattle.rtui_backend.specs.Screen.{Screen, cursor_of, with_cursor}
+use Rattle.rtui_viewport.specs.Areas.{KeepsScreen}
+use Rattle.rtui_viewport.specs.Clearing.{ClearsArea, WritesBlanks}
+use Rattle.rtui_viewport.proofs.ClearLemmas.{blank_over, frame_restored, clears_restored, written_restored}
+use Rattle.rtui_terminal.proofs.StepLemmas.{blank_in_step, on_same, has_place, cursor_kept}
 use Rattle.rtui_terminal.proofs.KeepLemmas.{above_cleared, outside_cleared, rest_of}
 use Rattle.rtui_terminal.proofs.terminal.Terminal.clear.Goals as goal
+use Rattle.rtui_terminal.proofs.terminal.Terminal.clear.Goals.{in-Ok-restore_cursor, in-Err-restore_cursor}
 
 pub returns-clause-ok : goal.returns-clause-ok
-returns-clause-ok g c =
-    let frame = c.in-Ok.ensures.frame in
-    rw (← c.self.view_is)
-    (record {
-      rest = refl;
-      older = c.reset.ensures.emptied;
-      frame = frame;
-      cursor = c.in-Ok.ensures.cursor;
-      clears = c.in-Ok.ensures.cleared;
-      in_step = λ on area.
-          let emptied = c.in-Ok.ensures.cleared (has_place _ _ _ c.self.invariant.1 on) in
-          blank_in_step g.B.Backend.screen _ c.self.invariant.0 (on_same _ _ _ frame.size.width frame.size.height on) (blank_over _ _ on emptied) (rw area at c.reset.ensures.emptied);
-      above = above_cleared _ _ c.self.invariant.1 c.in-Ok.ensures.cleared;
-      keeps = λ fixed on. rest_of g.B.Backend.screen _ _ refl frame.size (outside_cleared _ _ c.in-Ok.ensures.cleared fixed on);
-    })
+returns-clause-ok g c = elim c.match-restore_cursor.branch [
+  | in-Ok-restore_cursor w ↦
+      let screen = g.B.Backend.screen in
+      let start = screen c.self.inside.backend in
+      let stays : screen c.get_cursor_position.new.self ≡ start = c.in-Ok.ensures.stays in
+      let found : Option Position = Some c.in-Ok.cursor in
+      let restored = w.in-Ok-restore_cursor.ensures.restored in
+      let middle : KeepsScreen start (screen c.clear_area.new.backend) = rw stays at c.in-Ok-clear_area.ensures.frame in
+      let frame : KeepsScreen start (screen c.restore_cursor.new.backend) = frame_restored found restored middle in
+      let cleared : ClearsArea c.self.inside.viewport c.self.inside.viewport_area start (screen c.restore_cursor.new.backend) =
+          clears_restored c.self.inside.viewport c.self.inside.viewport_area found restored (rw stays at c.in-Ok-clear_area.ensures.cleared) in
+      rw w.result-is (rw (← c.self.view_is) (record {
+        rest = refl;
+        older = c.reset.ensures.emptied;
+        frame = frame;
+        cursor = cursor_kept start (screen c.clear_area.new.backend) (screen c.restore_cursor.new.backend) c.in-Ok.cursor c.in-Ok.ensures.ok c.in-Ok.ensures.on_grid middle.size.width middle.size.height restored;
+        clears = cleared;
+        written = written_restored c.self.inside.viewport c.self.inside.viewport_area found start start _ _ refl refl restored (rw stays at c.in-Ok-clear_area.ensures.written);
+        in_step = λ on area.
+            blank_in_step screen _ c.self.invariant.0 (on_same _ _ _ frame.size.width frame.size.height on) (blank_over _ _ on (cleared (has_place _ _ _ c.self.invariant.1 on))) (rw area at c.reset.ensures.emptied);
+        above = above_cleared _ _ c.self.invariant.1 cleared;
+        keeps = λ fixed on. rest_of screen _ _ refl frame.size (outside_cleared _ _ cleared fixed on);
+      }))
+  | in-Err-restore_cursor w ↦ rw w.result-is tt
+]

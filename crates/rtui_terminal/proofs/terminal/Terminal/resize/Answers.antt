@@ -1,8 +1,8 @@
 use Rattle.std.proofs.Common.{◌≡◌, refl, sym, ap, ◌∙◌}
 use Rattle.rtui_buffer.specs.Sheet.{IsEmptied}
 use Rattle.rtui_viewport.specs.Areas.{KeepsScreen}
-use Rattle.rtui_viewport.proofs.ClearLemmas.{blank_over, frame_more}
-use Rattle.rtui_terminal.specs.Calls.{IsResized}
+use Rattle.rtui_viewport.proofs.ClearLemmas.{blank_over, frame_more, frame_restored, clears_restored, written_restored}
+use Rattle.rtui_terminal.specs.Resizing.{IsResized}
 use Rattle.rtui_terminal.proofs.StepLemmas.{blank_in_step, on_same, has_place, emptied_frame, emptied_after, resized_same, cursor_back}
 use Rattle.rtui_terminal.proofs.terminal.Terminal.resize.Goals as goal
 
@@ -12,7 +12,8 @@ returns-clause-outcome g c =
     let s = c.args.self.now in
     let next = c.in-Ok-place_viewport.placed.area in
     let found = c.in-Ok-place_viewport.ensures in
-    let cleared = c.in-Ok-clear_placed.ensures in
+    let cleared = c.in-Ok-clear_area.ensures in
+    let restored = c.in-Ok-restore_cursor.ensures.restored in
     let reserved = c.self-2.view_is ∙ c.in-Ok.ensures.rest in
     let set = c.self-3.view_is ∙ c.set_area.ensures.rest in
     let former : c.self-2.inside.backend ≡ s.backend = ap (λ t. t.backend) reserved in
@@ -31,12 +32,13 @@ returns-clause-outcome g c =
     let older : IsEmptied next c.reset.new.self = rw older_area at c.reset.ensures.emptied in
     let current : IsResized next s.current c.self-3.inside.current =
     resized_same next c.in-Ok.ensures.current (rw (current_2, current_3) at c.set_area.ensures.current) in
-    let frame : KeepsScreen (screen c.place_viewport.new.backend) (screen c.clear_placed.new.backend) = rw between at cleared.frame in
+    let middle : KeepsScreen (screen c.place_viewport.new.backend) (screen c.clear_area.new.backend) = rw between at cleared.frame in
+    let frame : KeepsScreen (screen c.place_viewport.new.backend) (screen c.restore_cursor.new.backend) = frame_restored c.in-Ok-place_viewport.placed.cursor restored middle in
     let places = rw (viewport_2, former, c.saturating_sub-offset.ensures, cursor_2, area_2) at found.placed in
     let emptied = emptied_frame _ places.empties in
     let size = emptied.size in
     let whole = places.scrolls in
-    let clears = rw (viewport, between) at cleared.cleared in
+    let clears = clears_restored s.viewport next c.in-Ok-place_viewport.placed.cursor restored (rw (viewport, between) at cleared.cleared) in
     rw (area, viewport, cursor, hidden, count)
     (record {
       rest = refl;
@@ -47,8 +49,9 @@ returns-clause-outcome g c =
       scrolls = places.scrolls;
       frame = frame_more emptied frame;
       empties = λ place. emptied_after s.viewport next _ places.empties clears place;
-      cursor = cursor_back s.viewport (screen s.backend) (screen c.place_viewport.new.backend) _ _ (rw (viewport_2, former) at found.cursor) (rw (viewport_2, former) at found.on_grid)
-          (size.width ∙ whole.width) (size.height ∙ whole.height) (rw between at cleared.cursor);
+      cursor = cursor_back s.viewport (screen s.backend) (screen c.place_viewport.new.backend) (screen c.clear_area.new.backend) _ _ (rw (viewport_2, former) at found.cursor) (rw (viewport_2, former) at found.on_grid)
+          (middle.size.width ∙ size.width ∙ whole.width) (middle.size.height ∙ size.height ∙ whole.height) (places.cursor) (rw (viewport, between) at cleared.cursor) restored;
+      written = written_restored s.viewport next c.in-Ok-place_viewport.placed.cursor places.scrolled (screen c.place_viewport.new.backend) _ _ places.written size.width restored (rw (viewport, between) at cleared.written);
       on_screen = λ known. on_same _ _ _ frame.size.width frame.size.height (found.on_screen (rw former known));
       in_step = λ on.
           let back = on_same next _ (screen c.place_viewport.new.backend) (sym frame.size.width) (sym frame.size.height) on in

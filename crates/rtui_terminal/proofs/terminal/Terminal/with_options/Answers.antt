@@ -1,4 +1,4 @@
-use Rattle.std.proofs.Common.{◌≡◌, refl, ◌∙◌, arith}
+use Rattle.std.proofs.Common.{◌≡◌, refl, ap, ◌∙◌, arith}
 use Rattle.rtui_buffer.specs.Sheet.{IsEmptied}
 use Rattle.rtui_viewport.specs.Placing.{area_in}
 use Rattle.rtui_terminal.proofs.StepLemmas.{blank_in_step, never_raised, not_inline, first_cursor_is, first_area_open, placed_empty, placed_scrolls}
@@ -25,6 +25,8 @@ returns-clause-starts g c =
       hidden = refl;
       count = refl;
       scrolls = placed_scrolls viewport _ 0 (rw stays at placed.placed);
+      cursor_row = rw stays at placed.placed.cursor_row;
+      untouched = λ other. ap screen (placed.quiet other (omega arith)).1 ∙ stays;
       fixed = λ fixed. (placed.quiet (not_inline viewport fixed) (omega arith)).1 ∙ (c.in-Ok.ensures.fixed fixed).1;
       on_screen = λ other. placed.on_screen (rw stays (known ∙ first_area_open viewport (screen c.args.backend) other));
       in_step = λ on blank. blank_in_step screen _ placed.fits on blank older;

@@ -1,5 +1,5 @@
 use Rattle.std.proofs.Common.{◌≡◌}
-use Rattle.rtui_terminal.specs.Calls.{last_place}
+use Rattle.rtui_terminal.specs.Writing.{last_place}
 use Rattle.rtui_buffer.specs.Frame.{sheet_updates}
 use Rattle.rtui_terminal.proofs.terminal.buffers.last_update.Given as goal
 
