@@ -1,11 +1,12 @@
 -- Rows of cells that move up, and parts that are emptied.
-use Rattle.std.proofs.Common.{◌≡◌, ℕ, true, false, ◌+◌, ◌-◌, ◌*◌, ◌<◌, ◌≤◌, ◌++◌, ◌&&◌, min, nat_lt, Bool, List, [], append-nil, length, map, take, drop, set, refl, sym, ap, ◌∙◌, arith, inl, inr, length-drop, length-take, if◌then◌else◌}
+use Rattle.std.proofs.Common.{◌≡◌, ◌∷◌, zero, suc, ℕ, true, false, ◌+◌, ◌-◌, ◌*◌, ◌<◌, ◌≤◌, ◌++◌, ◌&&◌, min, nat_lt, Bool, List, [], append-nil, length, map, take, drop, set, refl, sym, ap, ◌∙◌, arith, inl, inr, length-drop, length-take, if◌then◌else◌}
 use Rattle.std.specs.Prelude.{nat_le, nat_eq}
 use Rattle.std.specs.List.{range_with_len}
 use Rattle.std.proofs.Math.Nat.{mul-le-mul_right}
 use Rattle.std.proofs.lemmas.Nat.{mul-add-lt}
 use Rattle.std.proofs.lemmas.Grind.{common_steps}
-use Rattle.std.proofs.lemmas.List.{length-map, get_or_append_left, get_or-append_right, get_or-take, get_or-drop, get_or_past, get_or-map}
+use Rattle.std.proofs.lemmas.List.Elements.{All-append}
+use Rattle.std.proofs.lemmas.List.{map-append, length-map, get_or_append_left, get_or-append_right, get_or-take, get_or-drop, get_or_past, get_or-map}
 use Rattle.std.proofs.lemmas.Bool.{cases_lt}
 use Rattle.std.proofs.lemmas.Bool.Decides.{nat_tests}
 use Rattle.rtui_cell.specs.declared.cell.Cell.{Cell}
@@ -16,7 +17,7 @@ use Rattle.rtui_backend.specs.declared.clear_type.ClearType.TheVariants.{AfterCu
 use Rattle.rtui_backend.specs.Clear.{is_cleared}
 use Rattle.rtui_cell.specs.Cell.{IsUnmarked}
 use Rattle.rtui_diff.specs.Cells.{cell}
-use Rattle.rtui_backend.specs.CellGrid.{look_at, grid_of, AreUnmarked}
+use Rattle.rtui_backend.specs.CellGrid.{look_at, grid_of, AreUnmarked, AreUnmarkedRows}
 use Rattle.rtui_backend.proofs.PlainLemmas.{unmarked-empty}
 use Rattle.rtui_backend.proofs.ScrollLemmas.{map_same}
 
@@ -227,3 +228,21 @@ module _ (w h e : ℕ) (cells : List Cell) (size : length cells ≡ w * h) (insi
   pub rows_left : (count : ℕ) → map (λ b. map (λ a. look_at (take (e * w) cells) (b * w + a)) (range_with_len 0 w)) (range_with_len 0 count)
       ≡ map (λ b. map (λ a. if nat_lt b e then grid_of w cells a b else empty_look) (range_with_len 0 w)) (range_with_len 0 count)
   rows_left count = map_same _ _ 0 count (λ b _ _. map_same _ _ 0 w (λ a _ a_in. left_look a b (omega arith)))
+
+-- one more unmarked cell
+pub unmarked_more : (cells : List Cell) (c : Cell) → AreUnmarked cells → IsUnmarked c → AreUnmarked (cells ++ (c ∷ []))
+unmarked_more [] c plain last zero = last
+unmarked_more [] c plain last (suc i) = record { option = refl; flag = refl }
+unmarked_more (x ∷ xs) c plain last zero = plain 0
+unmarked_more (x ∷ xs) c plain last (suc i) = unmarked_more xs c (λ j. plain (suc j)) last i
+
+-- the first of unmarked cells
+pub unmarked_front : (n : ℕ) (cells : List Cell) → AreUnmarked cells → AreUnmarked (take n cells)
+unmarked_front zero cells plain i = unmarked-empty
+unmarked_front (suc n) [] plain i = unmarked-empty
+unmarked_front (suc n) (c ∷ cells) plain zero = plain 0
+unmarked_front (suc n) (c ∷ cells) plain (suc i) = unmarked_front n cells (λ j. plain (suc j)) i
+
+-- rows of unmarked cells behind others
+pub unmarked_rows : {R : Type 0} (items : R → List Cell) (old more : List R) → AreUnmarkedRows (map items old) → AreUnmarkedRows (map items more) → AreUnmarkedRows (map items (old ++ more))
+unmarked_rows items old more p q = rw (map-append items old more) (All-append AreUnmarked (map items old) (map items more) p q)

@@ -1,5 +1,5 @@
 -- The grid that a row-major list of cells stands for.
-use Rattle.std.specs.Prelude.{ℕ, ◌+◌, ◌*◌, nat_lt, if◌then◌else◌, List, map, slice_index_or}
+use Rattle.std.specs.Prelude.{ℕ, ◌+◌, ◌*◌, nat_lt, if◌then◌else◌, List, map, All, slice_index_or}
 use Rattle.rtui_cell.specs.declared.cell.Cell.{Cell}
 use Rattle.rtui_cell.specs.Cell.{IsUnmarked}
 use Rattle.rtui_diff.specs.Cells.{cell}
@@ -17,3 +17,7 @@ grid_of w cells a b = if nat_lt a w then look_at cells (b * w + a) else empty_lo
 -- no cell has an option or the flag
 abbrev pub AreUnmarked : List Cell → Type 0
 AreUnmarked cells = (i : ℕ) → IsUnmarked (cell cells i)
+
+-- nor any cell of these rows
+abbrev pub AreUnmarkedRows : List (List Cell) → Type 0
+AreUnmarkedRows rows = All AreUnmarked rows

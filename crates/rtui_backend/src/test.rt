@@ -8,7 +8,7 @@ ghost use Rattle.rtui_cell.specs.Grid.{put, update_by};
 ghost use Rattle.rtui_buffer.specs.Sheet.{IsEmptied, IsEqualSheet};
 ghost use Rattle.rtui_backend.specs.Screen.{Draws};
 ghost use Rattle.rtui_cell.specs.Cell.{IsUnmarked};
-ghost use Rattle.rtui_backend.specs.CellGrid.{look_at, grid_of, AreUnmarked};
+ghost use Rattle.rtui_backend.specs.CellGrid.{look_at, grid_of, AreUnmarked, AreUnmarkedRows};
 ghost use Rattle.rtui_backend.specs.Failures.{Counts};
 ghost use Rattle.rtui_backend.specs.Display.{test_error_text};
 
@@ -131,6 +131,7 @@ pub struct TestBackend {
     ghost column: { cursor.x ≤ buffer.area.width - 1 },
     ghost row: { cursor.y ≤ buffer.area.height - 1 },
     ghost plain: { AreUnmarked buffer.cells },
+    ghost plain_history: { AreUnmarkedRows (map (λ row. row.items) scrollback.items) },
 }
 
 impl TestBackend {
@@ -178,9 +179,12 @@ impl TestBackend {
         self.buffer == *buffer
     }
 
-    /// The rows that scrolled off the screen, in order, each as wide as the screen was then.
+    /// The rows that scrolled off the screen, in order, each as wide as the screen was then. Their cells have no
+    /// options and no flags.
     pub fn scrollback(&self) -> &[Vec<Cell>]
-        ensures { map (λ row. map look_of row.items) result.now ≡ (screen_of self.now).history }
+        ensures looks { map (λ row. map look_of row.items) result.now
+            ≡ (screen_of self.now).history }
+        ensures unmarked { AreUnmarkedRows (map (λ row. row.items) result.now) }
     {
         self.scrollback.as_slice()
     }
@@ -414,6 +418,26 @@ impl Backend for TestBackend {
         // The area's edges fit 16 bits, and so does the cursor's place.
         let _area = self.buffer.area();
         Ok(self.cursor)
+    }
+
+    fn get_cursor(&mut self) -> Result<(u16, u16), TestError>
+        ensures ok { IfOk result (λ place. (place.0 ≡ (screen_of self.old).cursor_x)
+            × (place.1 ≡ (screen_of self.old).cursor_y)) }
+        ensures on_grid { OnOk result (IsOnGrid (screen_of self.old)) }
+        ensures stays { OnOk result (screen_of self.new ≡ screen_of self.old) }
+        ensures counts { Counts result (failures_of self.old) (failures_of self.new) }
+        ensures turn { TakesTurn result self.old self.new }
+    {
+        let position = self.get_cursor_position()?;
+        Ok((position.x, position.y))
+    }
+
+    fn set_cursor(&mut self, x: u16, y: u16) -> Result<(), TestError>
+        ensures ok { OnOk result (screen_of self.new ≡ with_cursor x y (screen_of self.old)) }
+        ensures counts { Counts result (failures_of self.old) (failures_of self.new) }
+        ensures turn { TakesTurn result self.old self.new }
+    {
+        self.set_cursor_position(Position { x, y })
     }
 
     fn set_cursor_position(&mut self, position: Position) -> Result<(), TestError>

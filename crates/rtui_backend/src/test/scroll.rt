@@ -6,7 +6,7 @@ ghost use Rattle.rtui_cell.specs.Cell.{empty_cell};
 ghost use Rattle.rtui_cell.specs.Look.{look_of};
 ghost use Rattle.rtui_backend.specs.Clear.{is_cleared};
 ghost use Rattle.rtui_diff.specs.Cells.{cell};
-ghost use Rattle.rtui_backend.specs.CellGrid.{look_at, AreUnmarked};
+ghost use Rattle.rtui_backend.specs.CellGrid.{look_at, AreUnmarked, AreUnmarkedRows};
 
 use crate::clear_type::ClearType;
 use crate::test::TestBackend;
@@ -82,10 +82,11 @@ fn copied_row(
     width: u16,
 ) -> Result<Vec<Cell>, AllocError>
     requires { start < 2 ^ 63 }
-    ensures { IfOk result (λ row. map look_of row.items
+    ensures looks { IfOk result (λ row. map look_of row.items
         ≡ map (λ a. look_at cells.now (start + a)) (range_with_len 0 width)) }
+    ensures unmarked { AreUnmarked cells.now → IfOk result (λ row. AreUnmarked row.items) }
 {
-    let mut row = Vec::new(alloc);
+    let mut row = Vec::with_capacity(alloc, usize::from(width))?;
     for a in 0..usize::from(width) {
         let cell = match cells.get(start + a) {
             Some(cell) => cell.clone(alloc)?,
@@ -103,8 +104,11 @@ fn copied_rows(
     width: u16,
     count: u32,
 ) -> Result<Vec<Vec<Cell>>, AllocError>
-    ensures { IfOk result (λ rows. map (λ row. map look_of row.items) rows.items
-        ≡ map (λ b. map (λ a. look_at cells.now (b * width + a)) (range_with_len 0 width)) (range_with_len 0 count)) }
+    ensures looks { IfOk result (λ rows. map (λ row. map look_of row.items) rows.items
+        ≡ map (λ b. map (λ a. look_at cells.now (b * width + a)) (range_with_len 0 width))
+        (range_with_len 0 count)) }
+    ensures unmarked { AreUnmarked cells.now → IfOk result (λ rows.
+        AreUnmarkedRows (map (λ row. row.items) rows.items)) }
 {
     let mut rows = Vec::new(alloc);
     for b in 0..count {
@@ -123,9 +127,11 @@ fn leaving_rows(
     start: u16,
     count: u16,
 ) -> Result<Vec<Vec<Cell>>, AllocError>
-    ensures { IfOk result (λ rows. map (λ row. map look_of row.items) rows.items
+    ensures looks { IfOk result (λ rows. map (λ row. map look_of row.items) rows.items
         ≡ (if start == 0 then map (λ b. map (λ a. look_at cells.now (b * width + a))
         (range_with_len 0 width)) (range_with_len 0 count) else [])) }
+    ensures unmarked { AreUnmarked cells.now → IfOk result (λ rows.
+        AreUnmarkedRows (map (λ row. row.items) rows.items)) }
 {
     if start == 0 {
         copied_rows(alloc, cells, width, u32::from(count))

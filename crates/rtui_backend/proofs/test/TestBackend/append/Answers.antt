@@ -9,7 +9,7 @@ use Rattle.rtui_diff.specs.Cells.{cell}
 use Rattle.rtui_backend.specs.CellGrid.{look_at}
 use Rattle.rtui_backend.specs.Screen.{lines_past}
 use Rattle.rtui_backend.specs.TestBackend.{screen_of}
-use Rattle.rtui_backend.proofs.ShiftLemmas.{rows_are, scrolled_grid}
+use Rattle.rtui_backend.proofs.ShiftLemmas.{unmarked_rows, rows_are, scrolled_grid}
 use Rattle.rtui_backend.proofs.test.TestBackend.append.Goals as goal
 
 pub returns-clause-ok : goal.returns-clause-ok
@@ -24,7 +24,7 @@ returns-clause-ok c =
     let count : c.saturating_sub-past.result ≡ past = grind (arith, common_steps, nat_tests) in
     let items : refilled cells new ≡ new = grind (arith, common_steps) in
     let rows : map (λ r. map look_of r.items) c.in_ok-rows.rows.items ≡ map (λ b. map (λ a. look_at cells (b * w + a)) (range_with_len 0 w)) (range_with_len 0 past) =
-    rw (c.content.ensures.cells, c.area-area.ensures.area, count) at c.in_ok-rows.ensures in
+    rw (c.content.ensures.cells, c.area-area.ensures.area, count) at c.in_ok-rows.ensures.looks in
     let moved : (i : ℕ) → cell new i ≡ cell cells (i + past * w) = λ i.
     rw (c.cells_mut.ensures.cells, c.from-4.ensures, c.area-area.ensures.area, count) at (c.shift.ensures i) in
     record {
@@ -42,3 +42,15 @@ returns-clause-ok c =
       row = grind (arith, common_steps, nat_tests);
       no_rows = λ none. refl;
     }
+
+pub invariant_of-self-2-clause-plain_history : goal.invariant_of-self-2-clause-plain_history
+invariant_of-self-2-clause-plain_history c =
+    rw c.in_ok-append.ensures.items
+    (unmarked_rows (λ r. r.items) c.args.self.now.scrollback.items c.in_ok-rows.rows.items c.args.self.now.plain_history (c.in_ok-rows.ensures.unmarked (rw c.content.ensures.cells c.args.self.now.plain)))
+
+pub invariant_of-self-2-clause-plain : goal.invariant_of-self-2-clause-plain
+invariant_of-self-2-clause-plain c =
+    let cells = c.args.self.now.buffer.cells in
+    let new = c.shift.new.cells in
+    let items : refilled cells new ≡ new = grind (arith, common_steps) in
+    λ i. rw (items, c.shift.ensures i, c.cells_mut.ensures.cells) (c.args.self.now.plain _)

@@ -10,7 +10,7 @@ use Rattle.rtui_buffer.specs.Sheet.{refilled}
 use Rattle.rtui_diff.specs.Cells.{cell}
 use Rattle.rtui_backend.specs.CellGrid.{look_at}
 use Rattle.rtui_backend.specs.TestBackend.{screen_of}
-use Rattle.rtui_backend.proofs.ShiftLemmas.{grid_moved_up, rows_left, history_left}
+use Rattle.rtui_backend.proofs.ShiftLemmas.{unmarked_rows, unmarked_front, grid_moved_up, rows_left, history_left}
 use Rattle.rtui_backend.proofs.test.TestBackend.scroll_up.Goals as goal
 
 pub returns-clause-ok : goal.returns-clause-ok
@@ -30,7 +30,7 @@ returns-clause-ok c =
     rw (c.cells_mut.ensures.cells, c.from-3.ensures, c.from-2.ensures, c.from.ensures, c.from-width.ensures, end, c.area-area.ensures.area) at (c.shift_part.ensures.moved k) in
     let some : nat_lt 0 e ≡ true = grind (arith, nat_tests) in
     let rows : map (λ r. map look_of r.items) c.in_ok-rows.rows.items ≡ (if a == 0 then map (λ y. map (λ x. look_at (take (e * w) cells) (y * w + x)) (range_with_len 0 w)) (range_with_len 0 c.args.n) else []) =
-    rw (c.content.ensures.cells, c.from.ensures, c.from-width.ensures, end, c.area-area.ensures.area) at c.in_ok-rows.ensures in
+    rw (c.content.ensures.cells, c.from.ensures, c.from-width.ensures, end, c.area-area.ensures.area) at c.in_ok-rows.ensures.looks in
     record {
       history =
           ap (map (λ r. map look_of r.items)) c.in_ok-append.ensures.items
@@ -44,3 +44,15 @@ returns-clause-ok c =
       written = refl;
       no_rows = λ none. absurd (omega (arith, end));
     }
+
+pub invariant_of-self-2-clause-plain_history : goal.invariant_of-self-2-clause-plain_history
+invariant_of-self-2-clause-plain_history c =
+    rw c.in_ok-append.ensures.items
+    (unmarked_rows (λ r. r.items) c.args.self.now.scrollback.items c.in_ok-rows.rows.items c.args.self.now.plain_history (c.in_ok-rows.ensures.unmarked (unmarked_front (c.from.result * c.from-width.result) c.content.result.now (rw c.content.ensures.cells c.args.self.now.plain))))
+
+pub invariant_of-self-2-clause-plain : goal.invariant_of-self-2-clause-plain
+invariant_of-self-2-clause-plain c =
+    let cells = c.args.self.now.buffer.cells in
+    let new = c.shift_part.new.cells in
+    let items : refilled cells new ≡ new = grind (arith, common_steps) in
+    rw items (c.shift_part.ensures.unmarked (rw c.cells_mut.ensures.cells c.args.self.now.plain))
