@@ -4,7 +4,8 @@ use Rattle.std.specs.declared.alloc.AllocError.{AllocError}
 use Rattle.ratatui_core.specs.Layout.{Rect}
 use Rattle.ratatui_core.specs.Buffer.{Sheet, IsSettledSheet}
 use Rattle.ratatui_core.specs.Backend.{Screen, screen_area}
-use Rattle.ratatui_core.specs.Terminal.{State, IsInline, IsInStep, TakesRows, InsertOk, DrawsFrame, KeepsRows, Insert, Draw}
+use Rattle.ratatui_core.specs.Terminal.{State, IsInline, IsInStep, TakesRows, InsertOk, DrawsFrame}
+use Rattle.ratatui_core.specs.Headline.{KeepsRows, Insert, Draw}
 use Rattle.client.specs.Logging.{Logs}
 
 area_same : (old new : Screen) → new.width ≡ old.width → new.height ≡ old.height → screen_area new ≡ screen_area old

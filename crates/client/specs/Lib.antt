@@ -1,3 +1,4 @@
 pub mod Labels
 pub mod Logging
 pub mod Restyling
+pub mod Renewing

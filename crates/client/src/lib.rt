@@ -9,6 +9,7 @@ mod frames;
 mod labels;
 mod lines;
 mod logging;
+mod renewing;
 mod sequences;
 #[cfg(test)]
 mod tests;
@@ -18,3 +19,4 @@ pub use frames::draw_checked;
 pub use labels::{label, pieces_stand};
 pub use lines::restyle_first;
 pub use logging::log;
+pub use renewing::renew;

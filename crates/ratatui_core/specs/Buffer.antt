@@ -7,7 +7,7 @@ pub use Rattle.rtui_cell.specs.Width.{is_sound_mark}
 unfoldable pub use Rattle.rtui_cell.specs.Look.{look_of}
 pub use Rattle.rtui_cell.specs.Look.{Look, empty_look}
 unfoldable pub use Rattle.rtui_cell.specs.Cell.{width_of, is_single_byte, is_skipped}
-pub use Rattle.rtui_cell.specs.Cell.{empty_cell, cell_of, with_symbol, styled, style_of, width_by, has_no_option, is_skipped_by, IsUnmarked, IsNarrow}
+pub use Rattle.rtui_cell.specs.Cell.{empty_cell, cell_of, with_symbol, styled, style_of, width_by, has_no_option, is_skipped_by, IsUnmarked}
 unfoldable pub use Rattle.rtui_cell.specs.Equality.{is_same, is_same_symbol}
 pub use Rattle.rtui_cell.specs.Equality.{IsEqual}
 pub use Rattle.rtui_cell.specs.Grid.{Grid, Update, update_by, put, puts}
@@ -18,7 +18,7 @@ pub use Rattle.rtui_diff.specs.Shows.{ShowsColumn, Shows, RowAgrees, is_plain, r
 pub use Rattle.rtui_diff.specs.Updates.{update_at, updates, RisesFrom, IsBefore, Rises, IsCellOfNext}
 unfoldable pub use Rattle.rtui_diff.specs.DiffRule.{given}
 pub use Rattle.rtui_diff.specs.DiffRule.{Walk, start, gives_visited, gives_plain, gives_at, step_plain, step_at, gives, step, give}
-pub use Rattle.rtui_diff.specs.Completeness.{differing, AreNarrow, IsGiven, Repeats, Uncovers, IsMinimal, IsFree, IsDark, IsComplete}
+pub use Rattle.rtui_diff.specs.Completeness.{differing, AreNarrow, IsGiven, Repeats, Uncovers, IsInFrame, CoversColumn, IsUnchanged, IsMinimal, IsFree, IsDark, Varies, Bares, IsComplete}
 pub use Rattle.rtui_diff.specs.Remaining.{places_left, updates_left, IsSameBut}
 pub use Rattle.rtui_diff.specs.Step.{walk_of}
 pub use Rattle.rtui_diff.specs.Diff.{IsDiff}
@@ -26,7 +26,7 @@ pub use Rattle.rtui_buffer.specs.Sheet.{Sheet, area_size, IsSheet, HasRoomFor, p
 pub use Rattle.rtui_buffer.specs.Frame.{IsSettledSheet, IsShownByRepaint, ShowsSheet, IsAligned, common_rows, sheet_updates, IsSheetDiff, HaveSettledRows, listed}
 unfoldable pub use Rattle.rtui_buffer.specs.Painting.{painted_width, fitting, kept, emptied, with_piece, painted}
 pub use Rattle.rtui_buffer.specs.Painting.{is_painted, IsLongestFront, Piece, piece_of, pieces, text_pieces, piece_width, columns, shown, IsSameOutside, piece_at, place_of, IsPainted}
-pub use Rattle.rtui_buffer.specs.PaintedText.{room_at, pieces_at, Paints, right_by, IsBeside, PaintsColumns, IsSameBeside, AreShort, IsPaintable, PaintsOr, IsStyledPart, IsStyledRows, IsStyled}
+pub use Rattle.rtui_buffer.specs.PaintedText.{room_at, pieces_at, Paints, right_by, IsBeside, PaintsColumns, IsSameBeside, AreShort, IsPaintable, PaintsOr, IsStyledPart, IsStyledRows, IsStyled, HasShortGraphemes, HaveShortGraphemes}
 pub use Rattle.rtui_buffer.specs.Bar.{bar_of, PaintsOnBar, ShowsPieces, bar_cell}
 unfoldable pub use Rattle.rtui_buffer.specs.Line.{line_pieces, line_row}
 pub use Rattle.rtui_buffer.specs.Line.{line_pieces_at, line_rows, line_at, ShowsLines, lines_area, IsOfLines, raw_lines}

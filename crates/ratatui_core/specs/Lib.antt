@@ -7,3 +7,4 @@ pub mod Buffer
 pub mod Widgets
 pub mod Backend
 pub mod Terminal
+pub mod Headline

@@ -17,14 +17,15 @@ pub mod buffer {
     /// Laws of cells and of buffers.
     pub mod laws {
         pub use rtui_buffer::laws::{
-            common_rows_are_settled, empty_buffers_are_settled, equality_is_by_cells,
-            hashing_names_area_and_cells, kept_graphemes_take_columns, longest_front_is_kept,
-            painting_ends_in_its_row, painting_goes_by_columns, painting_keeps_to_its_columns,
+            ascii_graphemes_are_short, common_rows_are_settled, empty_buffers_are_settled,
+            equality_is_by_cells, hashing_names_area_and_cells, kept_graphemes_take_columns,
+            longest_front_is_kept, painting_ends_in_its_row, painting_goes_by_columns,
+            painting_keeps_to_its_columns, short_graphemes_are_painted_short,
             shown_cells_have_their_looks, styled_empty_buffers_are_settled,
         };
         pub use rtui_cell::laws::{
             default_option_is_none, equality_is_by_looks, hashing_names_every_field,
-            set_style_twice_sets_patch,
+            set_style_twice_sets_patch, width_is_columns_and_sound_marks,
         };
     }
 }

@@ -123,7 +123,7 @@ pub record TakesSize (old : Screen) (given : Size) (new : Screen) : Type 0 where
   pub written : new.written ≡ old.written
 
 -- the size and the history stay
-pub record KeepsSize (old new : Screen) : Type 0 where
+pub record KeepsSizeAndHistory (old new : Screen) : Type 0 where
   pub width : new.width ≡ old.width
   pub height : new.height ≡ old.height
   pub history : new.history ≡ old.history

@@ -1,11 +1,13 @@
 pub mod FrameLemmas
 pub mod EmptyLemmas
 pub mod PaintLemmas
+pub mod PrintableLemmas
 pub mod PaintedLemmas
 pub mod SettledLemmas
 pub mod TextLemmas
 pub mod StyleLemmas
 pub mod LineLemmas
+pub mod ShortLemmas
 pub mod RowLemmas
 pub mod OverlayLemmas
 pub mod FrontLemmas

@@ -1,6 +1,8 @@
 -- Painting into a buffer, from a position on.
-use Rattle.std.specs.Prelude.{ℕ, ◌+◌, ◌-◌, ◌≡◌, ◌⊎◌, ◌≤◌, ◌<◌, ◌&&◌, nat_le, nat_lt, if◌then◌else◌, min, false, List, length, take, All, Result, IsOk, OnOk, OnErr}
+use Rattle.std.specs.Prelude.{ℕ, ◌+◌, ◌-◌, ◌≡◌, ◌⊎◌, ◌≤◌, ◌<◌, ◌&&◌, nat_le, nat_lt, if◌then◌else◌, min, true, false, List, length, take, All, Result, IsOk, OnOk, OnErr}
 use Rattle.std.specs.declared.alloc.AllocError.{AllocError}
+use Rattle.unicode_segmentation.specs.Grapheme.{graphemes}
+use Rattle.rtui_text.specs.Text.{SpanData}
 use Rattle.rtui_geometry.specs.declared.position.Position.{Position}
 use Rattle.rtui_geometry.specs.declared.rect.Rect.{Rect}
 use Rattle.rtui_style.specs.declared.Style.{Style}
@@ -83,3 +85,11 @@ pub record IsStyled (r : Rect) (s : Style) (old new : Sheet) : Type 0 where
   pub room : new.room ≡ old.room
   pub inside : (p : Position) → HasPosition old.area p → HasPosition r p → cell_in new p ≡ styled s (cell_in old p)
   pub outside : (p : Position) → HasPosition old.area p → ¬ (HasPosition r p) → cell_in new p ≡ cell_in old p
+
+-- each grapheme of a text takes no memory
+abbrev pub HasShortGraphemes : List ℕ → Type 0
+HasShortGraphemes text = All IsShort (graphemes true text)
+
+-- each grapheme of each span
+abbrev pub HaveShortGraphemes : List SpanData → Type 0
+HaveShortGraphemes spans = All (λ span. HasShortGraphemes span.content) spans

@@ -19,7 +19,7 @@ mod painting;
 mod sized;
 
 pub use lines::{lines_width, texts_width};
-pub use painting::painted_width;
+pub use painting::{paint_printable, painted_width};
 use sized::{copied, copies, cut_or_fill, empty_all};
 
 /// A grid of cells over an area of a screen, row by row. There are always as many cells as the area has, and

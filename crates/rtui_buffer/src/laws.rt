@@ -3,9 +3,10 @@
 
 ghost use Rattle.std.specs.Prelude.{ℕ, false, ◌≡◌, ◌+◌, ◌-◌, ◌<◌, ◌≤◌, ◌++◌, ◌↔◌, IsTrue, List, filter, All};
 ghost use Rattle.std.specs.Hash as fed;
+ghost use Rattle.std.specs.Str.{IsAscii};
 ghost use Rattle.rtui_geometry.specs.declared.position.Position.{Position};
 ghost use Rattle.rtui_style.specs.declared.Style.{Style};
-ghost use Rattle.rtui_text.specs.Text.{LineData};
+ghost use Rattle.rtui_text.specs.Text.{SpanData, LineData};
 ghost use Rattle.rtui_cell.specs.Width.{text_width};
 ghost use Rattle.rtui_cell.specs.Look.{look_of};
 ghost use Rattle.rtui_cell.specs.Cell.{is_skipped};
@@ -14,9 +15,9 @@ ghost use Rattle.rtui_geometry.specs.declared.rect.Rect.{Rect};
 ghost use Rattle.rtui_geometry.specs.Rect.{HasPosition, EdgesFit};
 ghost use Rattle.rtui_buffer.specs.Sheet.{HasRow, Sheet, IsEmptied, IsEqualSheet, cell_in};
 ghost use Rattle.rtui_buffer.specs.Frame.{IsSettledSheet, ShowsSheet, IsAligned, HaveSettledRows};
-ghost use Rattle.rtui_buffer.specs.Painting.{Piece, is_painted, kept, columns, IsLongestFront};
-ghost use Rattle.rtui_buffer.specs.PaintedText.{pieces_at, IsBeside, IsPaintable, IsSameBeside, IsStyled, Paints, PaintsColumns};
-ghost use Rattle.rtui_buffer.specs.Line.{line_pieces_at};
+ghost use Rattle.rtui_buffer.specs.Painting.{Piece, is_painted, kept, text_pieces, columns, IsLongestFront};
+ghost use Rattle.rtui_buffer.specs.PaintedText.{pieces_at, AreShort, HasShortGraphemes, HaveShortGraphemes, IsBeside, IsPaintable, IsSameBeside, IsStyled, Paints, PaintsColumns};
+ghost use Rattle.rtui_buffer.specs.Line.{line_pieces, line_pieces_at};
 
 use crate::buffer::Buffer;
 use rtui_cell::Cell;
@@ -93,6 +94,19 @@ pub fn painting_keeps_to_its_columns()
         → columns (pieces_at r x max s text) ≤ max }
     ensures line { (r : Rect) (x max : ℕ) (l : LineData)
         → columns (line_pieces_at r x max l) ≤ max }
+{}
+
+/// What is painted of a text whose graphemes are short takes no memory, and of a line of such texts.
+pub fn short_graphemes_are_painted_short()
+    ensures text { (room : ℕ) (style : Style) (text : List ℕ) → HasShortGraphemes text
+        → AreShort (text_pieces room style text) }
+    ensures line { (room : ℕ) (base : Style) (spans : List SpanData) → HaveShortGraphemes spans
+        → AreShort (line_pieces room base spans) }
+{}
+
+/// The graphemes of a text of ASCII are short.
+pub fn ascii_graphemes_are_short()
+    ensures { (text : List ℕ) → IsAscii text → HasShortGraphemes text }
 {}
 
 /// What is painted within a row of the area, seen by columns; and what isn't painted where memory is refused.

@@ -1,3 +1,4 @@
 pub mod DerivedLemmas
 pub mod CellLemmas
 pub mod WidthLemmas
+pub mod MarkLemmas

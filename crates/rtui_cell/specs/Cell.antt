@@ -1,5 +1,5 @@
 -- Cells: the empty one, a style laid over one, its width, and whether it is skipped.
-use Rattle.std.specs.Prelude.{◌≡◌, ℕ, Bool, true, false, ◌&&◌, ◌==◌, ◌≤◌, List, length, Some, None}
+use Rattle.std.specs.Prelude.{◌≡◌, ℕ, Bool, true, false, ◌&&◌, ◌==◌, List, length, Some, None}
 use Rattle.std.specs.Int.NonZero.{non_zero_u16_get}
 use Rattle.rtui_style.specs.declared.color.Color.TheVariants.{Reset}
 use Rattle.rtui_style.specs.declared.Style.{Style}
@@ -87,7 +87,3 @@ is_skipped c = is_skipped_by c.diff_option c.skip
 pub record IsUnmarked (c : Cell) : Type 0 where
   pub option : c.diff_option ≡ DiffOption.None
   pub flag : c.skip ≡ false
-
--- a cell of at most one column
-abbrev pub IsNarrow : Cell → Type 0
-IsNarrow c = width_of c ≤ 1

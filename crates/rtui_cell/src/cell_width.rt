@@ -64,6 +64,9 @@ impl CellWidth for Cell {
 
     #[tactic(auto, unfolding(crate::specs::Cell::width_of))]
     fn cell_width(&self) -> u16 {
+        if self.is_single_byte() {
+            return 1;
+        }
         match self.diff_option {
             CellDiffOption::ForcedWidth(width) => width.get(),
             _ => self.symbol().cell_width(),

@@ -1,11 +1,12 @@
 //! Laws of cells that are no single call's clause, stated over the definitions of `specs/` alone. Calling one of these
 //! functions costs nothing and tells the caller's proof its law.
 
-ghost use Rattle.std.specs.Prelude.{◌≡◌, ◌++◌, ◌↔◌, IsTrue};
+ghost use Rattle.std.specs.Prelude.{◌≡◌, ◌≢◌, ℕ, ◌+◌, ◌++◌, ◌↔◌, List, length, min, count_by, chars, IsTrue};
 ghost use Rattle.std.specs.Hash as fed;
 ghost use Rattle.rtui_style.specs.Style.{patch};
 ghost use Rattle.rtui_cell.specs.Symbol.{symbol_text};
 ghost use Rattle.rtui_cell.specs.Cell.{styled};
+ghost use Rattle.rtui_cell.specs.Width.{text_width, text_columns, is_sound_mark};
 ghost use Rattle.rtui_cell.specs.Equality.{is_same, IsEqual};
 
 use crate::cell::{Cell, CellDiffOption};
@@ -45,3 +46,10 @@ pub fn set_style_twice_sets_patch(cell: &Cell, first: Style, second: Style)
     modifiers_have_sixteen_bits(cell.style());
     styling_twice_is_patching(first, second);
 }
+
+/// What a text of more than one byte takes in a cell are its columns in a line and one for each half-width sound mark, at most
+/// 65535.
+pub fn width_is_columns_and_sound_marks()
+    ensures { (text : List ℕ) → length text ≢ 1 → text_width text
+        ≡ min (text_columns text + count_by is_sound_mark (chars text)) 65535 }
+{}

@@ -26,20 +26,9 @@ enum Text {
     Long(String),
 }
 
-// A text that was taken away prints as an unset one.
-impl fmt::Debug for Text {
-    fn fmt<W: fmt::Write>(&self, f: &mut fmt::Formatter<W>) -> fmt::Result {
-        match self {
-            Text::Unset | Text::Cleared(_) => f.write_str("Unset"),
-            Text::Short(text) => f.debug_tuple("Short").field(text).finish(),
-            Text::Long(text) => f.debug_tuple("Long").field(text).finish(),
-        }
-    }
-}
-
 /// The text of a cell, or none yet. An unset symbol reads as one blank and equals one. A text of at most 22
-/// bytes takes no memory.
-#[derive(Debug, Drop)]
+/// bytes takes no memory. Its `Debug` shows the text, one blank where there is none.
+#[derive(Drop)]
 pub struct Symbol {
     text: Text,
 }
@@ -239,6 +228,14 @@ fn is_same_short(a: &ArrayString<INLINE>, b: &ArrayString<INLINE>) -> bool
         a.as_str().as_bytes()[0] == b.as_str().as_bytes()[0]
     } else {
         a == b
+    }
+}
+
+impl fmt::Debug for Symbol {
+    ghost debug_output = { λ s. Some (symbol_text s) };
+
+    fn fmt<W: fmt::Write>(&self, f: &mut fmt::Formatter<W>) -> fmt::Result {
+        f.write_str(self.as_str())
     }
 }
 

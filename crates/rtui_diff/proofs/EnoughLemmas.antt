@@ -269,25 +269,28 @@ free_flat w h cells a b st a_in b_in free x =
     let q = same_row w h cells a b x.j st a_in b_in x.before x.plain x.covers in
     let here : x.j ≡ b * w + x.j % w = sym q.0 in
     let covers : a < x.j % w + width_of (cell cells x.j) = (let c = x.covers in omega arith) in
-    free.free (x.j % w) q.1 (subst (λ k. is_skipped (cell cells k) ≡ false) here x.plain) (subst (λ k. a < x.j % w + width_of (cell cells k)) here covers)
+    free.free (x.j % w)
+    (record { before = q.1; plain = subst (λ k. is_skipped (cell cells k) ≡ false) here x.plain; reaches = subst (λ k. a < x.j % w + width_of (cell cells k)) here covers })
 
 dark_flat : (w h : ℕ) (cells : List Cell) (a b : ℕ) → IsSettled w h cells → a < w → b < h → IsDark w cells a b → Shone cells (b * w + a) → ⊥
 dark_flat w h cells a b st a_in b_in dark x =
     let q = same_row w h cells a b x.k st a_in b_in x.before x.plain x.covers in
     let here : x.k ≡ b * w + x.k % w = sym q.0 in
     let covers : a < x.k % w + width_of (cell cells x.k) = (let c = x.covers in omega arith) in
-    dark.dark (x.k % w) q.1 (subst (λ k. is_skipped (cell cells k) ≡ false) here x.plain) (subst (λ k. a < x.k % w + width_of (cell cells k)) here covers) (subst (λ k. shows_on_blank (cell cells k) ≡ true) here x.visible)
+    dark.dark (x.k % w)
+    (record { before = q.1; plain = subst (λ k. is_skipped (cell cells k) ≡ false) here x.plain; reaches = subst (λ k. a < x.k % w + width_of (cell cells k)) here covers })
+    (subst (λ k. shows_on_blank (cell cells k) ≡ true) here x.visible)
 
 pub gives_enough : (x0 y0 w h : ℕ) (ps ns : List Cell) → IsSettled w h ps → IsSettled w h ns → IsComplete x0 y0 w h ps ns (updates x0 y0 w h ps ns)
 gives_enough x0 y0 w h ps ns sp st = record {
-  blanks = λ a b j a_in b_in less is plain covers unforced variation dark plain_here other.
-      let end : b * w + w ≤ w * h = row_end w h b b_in in
-      given_at x0 y0 w h ps ns (given ps ns (w * h) start 0) a b a_in
-      (blanked (w * h) ps ns (b * w + j) (b * w + a) (settled_flat w h ps sp) (settled_flat w h ns st) (place_at x0 y0 w h ps ns (given ps ns (w * h) start 0) j b is) (omega arith) (omega arith)
-      plain (omega arith) unforced variation (λ x. dark_flat w h ps j b sp (omega arith) b_in dark x) plain_here other);
-  refreshes = λ a b j a_in b_in less is former covers visible unforced narrow first plain free.
-      let end : b * w + w ≤ w * h = row_end w h b b_in in
-      given_at x0 y0 w h ps ns (given ps ns (w * h) start 0) a b a_in
-      (refreshed (w * h) ps ns (b * w + j) (b * w + a) (settled_flat w h ps sp) (settled_flat w h ns st) (place_at x0 y0 w h ps ns (given ps ns (w * h) start 0) j b is) (omega arith) (omega arith)
-      former (omega arith) visible unforced narrow (λ x. free_flat w h ns j b st (omega arith) b_in first x) plain (λ x. free_flat w h ns a b st a_in b_in free x));
+  blanks = λ a b j inside varies plain_here other.
+      let end : b * w + w ≤ w * h = row_end w h b inside.row in
+      given_at x0 y0 w h ps ns (given ps ns (w * h) start 0) a b inside.column
+      (blanked (w * h) ps ns (b * w + j) (b * w + a) (settled_flat w h ps sp) (settled_flat w h ns st) (place_at x0 y0 w h ps ns (given ps ns (w * h) start 0) j b varies.given) (omega arith) (omega arith)
+      varies.covers.plain (omega arith) varies.unforced varies.variation (λ x. dark_flat w h ps j b sp (omega arith) inside.row varies.dark x) plain_here other);
+  refreshes = λ a b j inside bares plain free.
+      let end : b * w + w ≤ w * h = row_end w h b inside.row in
+      given_at x0 y0 w h ps ns (given ps ns (w * h) start 0) a b inside.column
+      (refreshed (w * h) ps ns (b * w + j) (b * w + a) (settled_flat w h ps sp) (settled_flat w h ns st) (place_at x0 y0 w h ps ns (given ps ns (w * h) start 0) j b bares.given) (omega arith) (omega arith)
+      bares.covers.plain (omega arith) bares.visible bares.unforced bares.narrow (λ x. free_flat w h ns j b st (omega arith) inside.row bares.free x) plain (λ x. free_flat w h ns a b st inside.column inside.row free x));
 }

@@ -1,12 +1,14 @@
 -- From places of a list to columns and rows of a screen.
-use Rattle.std.proofs.Common.{◌≡◌, ◌⊎◌, ℕ, zero, suc, ◌+◌, ◌-◌, ◌*◌, ◌/◌, ◌%◌, ◌<◌, ◌≤◌, true, false, List, [], ◌∷◌, map, All, refl, sym, ap, subst, ◌∙◌, arith, inl, inr, mul_comm}
+use Rattle.std.proofs.Common.{◌≡◌, ◌⊎◌, ℕ, zero, suc, ◌+◌, ◌-◌, ◌*◌, ◌/◌, ◌%◌, ◌<◌, ◌≤◌, true, false, List, [], ◌∷◌, map, All, refl, sym, ap, subst, ◌∙◌, arith, inl, inr, mul_comm, add-one, length, get_or}
 use Rattle.std.proofs.lemmas.Nat.{div_below, mod_below, div-add-mod', row_fits}
+use Rattle.std.proofs.Math.Nat.{add-mul-mod_self_right, add-mul-div_right, mod-eq_of_lt, div-eq_of_lt, mul-le-mul_left, mul-le-mul_right}
 use Rattle.std.proofs.lemmas.Bool.{cases_lt}
 use Rattle.std.proofs.lemmas.Bool.Decides.{nat_tests}
 use Rattle.std.proofs.lemmas.List.Elements.{All-head, All-tail}
 use Rattle.rtui_cell.specs.declared.cell.Cell.{Cell}
 use Rattle.rtui_cell.specs.Look.{Look}
-use Rattle.rtui_cell.specs.Cell.{width_of, is_skipped}
+use Rattle.std.proofs.lemmas.List.{get_or_default}
+use Rattle.rtui_cell.specs.Cell.{empty_cell, width_of, is_skipped}
 use Rattle.rtui_diff.specs.Cells.{cell, cell_at}
 use Rattle.rtui_cell.specs.Grid.{Grid, put, puts}
 use Rattle.rtui_diff.specs.Updates.{update_at}
@@ -125,3 +127,42 @@ module _ (w h : ℕ) where
         puts W H (map (update_at x0 y0 w ns) is) g a b ≡ g a b
     puts_outside [] a b g all out = refl
     puts_outside (i ∷ is) a b g all out = puts_outside is a b (put W H (update_at x0 y0 w ns i) g) (All-tail (Fits ns) i is all) out ∙ put_outside i a b g (All-head (Fits ns) i is all) out
+
+-- ---- rows that are counted as a walk comes to them
+
+row_below : (i j w : ℕ) → i * w < w * j → i < j
+row_below i j w lt = elim (cases_lt i j) [
+  | inl below ↦ below
+  | inr past ↦ let e : w * j ≡ j * w = mul_comm w j in let f : j * w ≤ i * w = mul-le-mul_right w past in absurd (omega arith)
+]
+
+-- the next row's place
+pub next_row : (start i w at : ℕ) → start ≡ i * w → start + w ≤ at → at < w * 65536 → (start + w ≡ (i + 1) * w) × (i + 1 < 65536)
+next_row start i w at e le lt =
+    let next : (i + 1) * w ≡ i * w + w = (let one : suc i * w ≡ i * w + w = omega arith in rw add-one one) in
+    (omega arith, row_below (i + 1) 65536 w (omega arith))
+
+-- a place by its row
+pub by_row : (start i w at : ℕ) → start ≡ i * w → start ≤ at → at < start + w → (at % w ≡ at - start) × (at / w ≡ i)
+by_row start i w at e le lt =
+    let inside : at - start < w = omega arith in
+    let some : 0 < w = omega arith in
+    let whole : at ≡ at - start + i * w = omega arith in
+    (ap (λ n. n % w) whole ∙ add-mul-mod_self_right (at - start) i w ∙ mod-eq_of_lt inside,
+     ap (λ n. n / w) whole ∙ add-mul-div_right (at - start) i some ∙ ap (λ q. q + i) (div-eq_of_lt inside) ∙ (let z : 0 + i ≡ i = omega arith in z))
+
+pub row_in_frame : (start i w h at : ℕ) → start ≡ i * w → start ≤ at → at < w * h → i < h
+row_in_frame start i w h at e le lt = row_below i h w (omega arith)
+
+pub in_many_rows : (w h at : ℕ) → h ≤ 65536 → at < w * h → at < w * 65536
+in_many_rows w h at le lt = let f : w * h ≤ w * 65536 = mul-le-mul_left w le in omega arith
+
+pub ruleset row_rules = (next_row, by_row, row_in_frame, in_many_rows)
+
+-- the update at a place, by its row
+pub update_by_row : (x0 y0 w start i at : ℕ) (ns : List Cell) (c d : Cell) → start ≡ i * w → start ≤ at → at < start + w → at < length ns → c ≡ get_or ns at d
+    → record { x = x0 + (at - start); y = y0 + i; cell = c } ≡ update_at x0 y0 w ns at
+update_by_row x0 y0 w start i at ns c d e le lt inside is =
+    let by = by_row start i w at e le lt in
+    let same : c ≡ cell ns at = is ∙ get_or_default ns at d empty_cell inside in
+    rw (by.0, by.1, same) refl

@@ -277,10 +277,10 @@ module _ (x0 y0 w h : ℕ) (ps ns : List Cell) where
 
   pub gives_little : IsSettled w h ps → IsSettled w h ns → IsMinimal x0 y0 w h ps ns (updates x0 y0 w h ps ns)
   gives_little sp st = record {
-    behind = λ a b j a_in b_in is less plain covers.
-        let q = (at a b is).behind (b * w + j) (omega arith) plain (omega arith) in
+    behind = λ a b j inside is covers.
+        let q = (at a b is).behind (b * w + j) (omega arith) covers.plain (omega arith) in
         record { given = given_at places j b (omega arith) q.0; unforced = q.1; variation = q.2; filled = q.3 };
-    same = λ a b a_in b_in is same changing. row a b a_in b_in ((at a b is).same same changing);
+    same = λ a b inside is unchanged. row a b inside.column inside.row ((at a b is).same unchanged.same unchanged.changing);
   }
     where
       places : List ℕ

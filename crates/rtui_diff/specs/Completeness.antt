@@ -41,26 +41,56 @@ pub record Uncovers (x0 y0 w : ℕ) (ps ns : List Cell) (us : List Update) (a b 
   pub given : IsGiven x0 y0 us j b
   pub narrow : width_of (cell_at w ns j b) ≤ 1
 
+-- column a of row b lies in a frame
+pub record IsInFrame (w h a b : ℕ) : Type 0 where
+  pub column : a < w
+  pub row : b < h
+
+-- the unskipped cell in column j of row b covers column a behind it
+pub record CoversColumn (w : ℕ) (cells : List Cell) (j a b : ℕ) : Type 0 where
+  pub before : j < a
+  pub plain : is_skipped (cell_at w cells j b) ≡ false
+  pub reaches : a < j + width_of (cell_at w cells j b)
+
+-- the cell in column a of row b is the former one, and isn't always given
+pub record IsUnchanged (w : ℕ) (ps ns : List Cell) (a b : ℕ) : Type 0 where
+  pub same : is_same (cell_at w ps a b) (cell_at w ns a b) ≡ true
+  pub changing : is_always (cell_at w ns a b) ≡ false
+
 -- nothing is given that a screen has no need of
 pub record IsMinimal (x0 y0 w h : ℕ) (ps ns : List Cell) (us : List Update) : Type 0 where
-  pub behind : (a b j : ℕ) → a < w → b < h → IsGiven x0 y0 us a b → j < a → is_skipped (cell_at w ns j b) ≡ false → a < j + width_of (cell_at w ns j b) → Repeats x0 y0 w ps ns us j a b
-  pub same : (a b : ℕ) → a < w → b < h → IsGiven x0 y0 us a b → is_same (cell_at w ps a b) (cell_at w ns a b) ≡ true → is_always (cell_at w ns a b) ≡ false → Uncovers x0 y0 w ps ns us a b
+  pub behind : (a b j : ℕ) → IsInFrame w h a b → IsGiven x0 y0 us a b → CoversColumn w ns j a b → Repeats x0 y0 w ps ns us j a b
+  pub same : (a b : ℕ) → IsInFrame w h a b → IsGiven x0 y0 us a b → IsUnchanged w ps ns a b → Uncovers x0 y0 w ps ns us a b
 
 -- no unskipped wide cell covers column a from before
 pub record IsFree (w : ℕ) (cells : List Cell) (a b : ℕ) : Type 0 where
-  pub free : (k : ℕ) → k < a → is_skipped (cell_at w cells k b) ≡ false → a < k + width_of (cell_at w cells k b) → ⊥
+  pub free : (k : ℕ) → CoversColumn w cells k a b → ⊥
 
 -- nor one with a style that shows on blanks
 pub record IsDark (w : ℕ) (cells : List Cell) (a b : ℕ) : Type 0 where
-  pub dark : (k : ℕ) → k < a → is_skipped (cell_at w cells k b) ≡ false → a < k + width_of (cell_at w cells k b) → shows_on_blank (cell_at w cells k b) ≡ true → ⊥
+  pub dark : (k : ℕ) → CoversColumn w cells k a b → shows_on_blank (cell_at w cells k b) ≡ true → ⊥
+
+-- a given wide cell with U+FE0F in column j covers column a
+pub record Varies (x0 y0 w : ℕ) (ps ns : List Cell) (us : List Update) (j a b : ℕ) : Type 0 where
+  pub given : IsGiven x0 y0 us j b
+  pub covers : CoversColumn w ns j a b
+  pub unforced : is_forced (cell_at w ns j b) ≡ false
+  pub variation : has_fe0f (cell_at w ns j b) ≡ true
+  pub dark : IsDark w ps j b
+
+-- a former wide cell with a visible style, where a cell that isn't wide is given in column j, covers column a
+pub record Bares (x0 y0 w : ℕ) (ps ns : List Cell) (us : List Update) (j a b : ℕ) : Type 0 where
+  pub given : IsGiven x0 y0 us j b
+  pub covers : CoversColumn w ps j a b
+  pub visible : shows_on_blank (cell_at w ps j b) ≡ true
+  pub unforced : is_forced (cell_at w ns j b) ≡ false
+  pub narrow : width_of (cell_at w ns j b) ≤ 1
+  pub free : IsFree w ns j b
 
 -- what screens may leave behind is given anew: behind a given wide cell with U+FE0F each unskipped column where something else stood,
 -- and under a former wide cell with a visible style each unskipped column
 pub record IsComplete (x0 y0 w h : ℕ) (ps ns : List Cell) (us : List Update) : Type 0 where
-  pub blanks : (a b j : ℕ) → a < w → b < h → j < a → IsGiven x0 y0 us j b →
-      is_skipped (cell_at w ns j b) ≡ false → a < j + width_of (cell_at w ns j b) → is_forced (cell_at w ns j b) ≡ false → has_fe0f (cell_at w ns j b) ≡ true → IsDark w ps j b →
-      is_skipped (cell_at w ns a b) ≡ false → is_same_symbol (cell_at w ps a b) (cell_at w ns a b) ≡ false → IsGiven x0 y0 us a b
-  pub refreshes : (a b j : ℕ) → a < w → b < h → j < a → IsGiven x0 y0 us j b →
-      is_skipped (cell_at w ps j b) ≡ false → a < j + width_of (cell_at w ps j b) → shows_on_blank (cell_at w ps j b) ≡ true →
-      is_forced (cell_at w ns j b) ≡ false → width_of (cell_at w ns j b) ≤ 1 → IsFree w ns j b →
-      is_skipped (cell_at w ns a b) ≡ false → IsFree w ns a b → IsGiven x0 y0 us a b
+  pub blanks : (a b j : ℕ) → IsInFrame w h a b → Varies x0 y0 w ps ns us j a b
+      → is_skipped (cell_at w ns a b) ≡ false → is_same_symbol (cell_at w ps a b) (cell_at w ns a b) ≡ false → IsGiven x0 y0 us a b
+  pub refreshes : (a b j : ℕ) → IsInFrame w h a b → Bares x0 y0 w ps ns us j a b
+      → is_skipped (cell_at w ns a b) ≡ false → IsFree w ns a b → IsGiven x0 y0 us a b

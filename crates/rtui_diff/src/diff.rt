@@ -84,11 +84,22 @@ struct DiffWalk<'prev, 'next> {
     pos: usize,
     end: usize,
     force: bool,
+    // a row that doesn't begin behind the next place
+    row: Row,
     ghost prev_covers: { len ≤ length prev.now },
     ghost next_covers: { len ≤ length next.now },
     ghost count: { len ≡ width * height },
     ghost right: { x + width ≤ 65535 },
     ghost bottom: { y + height ≤ 65535 },
+    ghost row_start: { row.start ≡ row.index * width },
+    ghost row_begun: { row.start ≤ pos },
+}
+
+// A row of a frame: how many stand above it, and the place of its first cell.
+#[derive(Debug, Clone, Copy)]
+struct Row {
+    index: u16,
+    start: usize,
 }
 
 impl<'prev, 'next> DiffWalk<'prev, 'next> {
@@ -121,6 +132,7 @@ impl<'prev, 'next> DiffWalk<'prev, 'next> {
             pos: 0,
             end: 0,
             force: false,
+            row: Row { index: 0, start: 0 },
         }
     }
 
@@ -129,6 +141,7 @@ impl<'prev, 'next> DiffWalk<'prev, 'next> {
         requires more { self.old.pos < self.old.len }
         ensures gives { places_left self.old ≡ give result self.old.pos (places_left self.new) }
         ensures further { self.old.pos < self.new.pos }
+        ensures row { self.new.row ≡ self.old.row }
         ensures same { IsSameBut self.old self.new }
     {
         let at = self.pos;
@@ -151,20 +164,46 @@ impl<'prev, 'next> DiffWalk<'prev, 'next> {
         given
     }
 
-    // The update at a place.
-    fn item(&self, at: usize) -> (u16, u16, &'next Cell)
-        requires inside { at < self.now.len }
-        ensures { let d = self.now in
+    // The update at a place that the walk has come past.
+    #[tactic(auto, using(crate::proofs::FrameLemmas::row_rules))]
+    fn item(&mut self, at: usize) -> (u16, u16, &'next Cell)
+        requires inside { at < self.old.len }
+        requires begun { self.old.row.start ≤ at }
+        requires past { at < self.old.pos }
+        ensures update { let d = self.old in
             update_by (λ cell. cell.now) result ≡ update_at d.x d.y d.width d.next.now at }
+        ensures left { places_left self.new ≡ places_left self.old }
+        ensures same { IsSameBut self.old self.new }
     {
-        let width = usize::from(self.width);
+        self.row = row_with(self.row, usize::from(self.width), at);
         let next = self.next;
         (
-            self.x + (at % width) as u16,
-            self.y + (at / width) as u16,
+            self.x + (at - self.row.start) as u16,
+            self.y + self.row.index,
             &next[at],
         )
     }
+}
+
+// The row that has a place, from one that doesn't begin behind it. A walk comes to few rows anew, so that it counts them where
+// a division would be taken for each place.
+#[tactic(auto, using(crate::proofs::FrameLemmas::row_rules))]
+fn row_with(from: Row, width: usize, at: usize) -> Row
+    requires start { from.start ≡ from.index * width }
+    requires begun { from.start ≤ at }
+    requires inside { at < width * 65536 }
+    ensures start { result.start ≡ result.index * width }
+    ensures begun { result.start ≤ at }
+    ensures inside { at < result.start + width }
+{
+    let mut row = from;
+    while at - row.start >= width {
+        row = Row {
+            index: row.index + 1,
+            start: row.start + width,
+        };
+    }
+    row
 }
 
 // The place behind a cell and the columns that are stepped over. The usual steps stand apart, so that a processor

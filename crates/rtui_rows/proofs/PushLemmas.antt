@@ -6,7 +6,7 @@ use Rattle.rtui_buffer.specs.Sheet.{Sheet, IsEmptied, empty_cells, area_size}
 use Rattle.rtui_buffer.specs.Frame.{IsSettledSheet}
 use Rattle.rtui_backend.specs.Screen.{Screen, rows_above}
 use Rattle.rtui_rows.specs.Rows.{DrawsRows, DrawsFirstRow, RowsFit, ShowsRows, IsNarrowSheet, nonempty_cells, WritesAtMost}
-use Rattle.rtui_rows.specs.Insertion.{KeepsShape, AppendsPart}
+use Rattle.rtui_rows.specs.Insertion.{KeepsSizeAndVisibility, AppendsPart}
 use Rattle.rtui_rows.specs.Scrolling.{HasPushed, HasRaised, HasLowered}
 use Rattle.rtui_backend.specs.Screen.{ScrollsUp, ScrollsDown}
 use Rattle.rtui_backend.proofs.RegionLemmas.{above_scrolled, blank_scrolled, below_scrolled, above_lowered, blank_lowered, moved_lowered, below_lowered}
@@ -14,7 +14,7 @@ use Rattle.rtui_rows.proofs.ShownLemmas.{above_grown, parts_join, rows_shown, bl
 use Rattle.rtui_rows.proofs.CountLemmas.{writes_rows, writes_nonempty, nonempty_parts}
 use Rattle.rtui_backend.proofs.ScrollLemmas.{above_same}
 
-same_shape : (s : Screen) → KeepsShape s s
+same_shape : (s : Screen) → KeepsSizeAndVisibility s s
 same_shape s = record { width = refl; height = refl; visible = refl }
 
 pub no_part : (s : Sheet) (i : ℕ) (rows : List (List Look)) → AppendsPart s i 0 rows rows

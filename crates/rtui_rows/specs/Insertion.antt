@@ -34,7 +34,7 @@ pub record AppendsRows (sheets : List Sheet) (old new : List (List Look)) : Type
   pub agree : AreRowsOfAll sheets rows
 
 -- the size of a screen stays, and whether its cursor is visible
-pub record KeepsShape (old new : Screen) : Type 0 where
+pub record KeepsSizeAndVisibility (old new : Screen) : Type 0 where
   pub width : new.width ≡ old.width
   pub height : new.height ≡ old.height
   pub visible : new.visible ≡ old.visible

@@ -5,12 +5,12 @@ use Rattle.rtui_buffer.specs.Sheet.{Sheet}
 use Rattle.rtui_buffer.specs.Frame.{IsSettledSheet}
 use Rattle.rtui_backend.specs.Screen.{Screen, rows_above}
 use Rattle.rtui_rows.specs.Rows.{RowsFit, IsBlankAt, IsNarrowSheet, nonempty_cells, WritesAtMost}
-use Rattle.rtui_rows.specs.Insertion.{KeepsShape, HasPlaceAbove, AppendsPart}
+use Rattle.rtui_rows.specs.Insertion.{KeepsSizeAndVisibility, HasPlaceAbove, AppendsPart}
 
 -- the first k rows of a buffer were scrolled off from the screen's first row, which is blank behind them, and all rows below it are as before;
 -- of a narrow buffer, one whole row at most was written, and else what isn't blank
 pub record HasPushed (s : Sheet) (k : ℕ) (old new : Screen) : Type 0 where
-  pub shape : KeepsShape old new
+  pub shape : KeepsSizeAndVisibility old new
   pub above : AppendsPart s 0 k (rows_above old 0) (rows_above new 0)
   pub blank : 0 < k → IsBlankAt 1 0 new
   pub below : (a b : ℕ) → a < old.width → b < old.height → 0 < b → new.grid a b ≡ old.grid a b
@@ -19,7 +19,7 @@ pub record HasPushed (s : Sheet) (k : ℕ) (old new : Screen) : Type 0 where
 -- n rows of a buffer, from row i on, came to those above row d, and the screen's rows from row d on are as before; of a narrow buffer, at most
 -- what isn't blank was written
 pub record HasRaised (s : Sheet) (i n d : ℕ) (old new : Screen) : Type 0 where
-  pub shape : KeepsShape old new
+  pub shape : KeepsSizeAndVisibility old new
   pub above : AppendsPart s i n (rows_above old d) (rows_above new d)
   pub below : (a b : ℕ) → a < old.width → b < old.height → d ≤ b → new.grid a b ≡ old.grid a b
   pub few : IsNarrowSheet s → WritesAtMost (nonempty_cells s i n) old new
@@ -27,7 +27,7 @@ pub record HasRaised (s : Sheet) (i n d : ℕ) (old new : Screen) : Type 0 where
 -- the first n rows of a buffer came in at a viewport's top, and its rows moved down by n; the rows below those are as before; of a narrow
 -- buffer, at most what isn't blank was written
 pub record HasLowered (s : Sheet) (n : ℕ) (r : Rect) (old new : Screen) : Type 0 where
-  pub shape : KeepsShape old new
+  pub shape : KeepsSizeAndVisibility old new
   pub above : AppendsPart s 0 n (rows_above old r.y) (rows_above new (r.y + n))
   pub moved : (a b : ℕ) → a < old.width → b < r.height → new.grid a (r.y + n + b) ≡ old.grid a (r.y + b)
   pub below : (a b : ℕ) → a < old.width → b < old.height → r.y + n + r.height ≤ b → new.grid a b ≡ old.grid a b

@@ -4,7 +4,7 @@ ghost use Rattle.std.specs.Prelude.{◌≡◌, ◌+◌, ◌<◌, ◌≤◌, OnOk
 ghost use Rattle.rtui_buffer.specs.Sheet.{IsEmptied};
 ghost use Rattle.rtui_backend.specs.Failures.{Counts};
 ghost use Rattle.rtui_rows.specs.Rows.{DrawsRows, DrawsFirstRow};
-ghost use Rattle.rtui_rows.specs.Insertion.{KeepsShape};
+ghost use Rattle.rtui_rows.specs.Insertion.{KeepsSizeAndVisibility};
 
 use crate::marks::{empty_front, skip_front};
 use crate::updates::LoweredUpdates;
@@ -27,7 +27,7 @@ pub fn draw_rows<B: Backend>(
     requires bottom { y + count ≤ 65535 }
     ensures ok { OnOk result (DrawsRows former.now rows.now first count y
         (B.screen backend.old) (B.screen backend.new)) }
-    ensures shape { OnOk result (KeepsShape (B.screen backend.old) (B.screen backend.new)) }
+    ensures shape { OnOk result (KeepsSizeAndVisibility (B.screen backend.old) (B.screen backend.new)) }
     ensures counts { Counts result (B.failures backend.old) (B.failures backend.new) }
 {
     let updates = diff_rows(former, 0, rows, first, count);
@@ -47,7 +47,7 @@ pub fn draw_first_row<B: Backend>(
     ensures ok { OnOk result
         (DrawsFirstRow rows.now (B.screen backend.old) (B.screen backend.new)) }
     ensures blank { IsEmptied rows.now.area blank.new }
-    ensures shape { OnOk result (KeepsShape (B.screen backend.old) (B.screen backend.new)) }
+    ensures shape { OnOk result (KeepsSizeAndVisibility (B.screen backend.old) (B.screen backend.new)) }
     ensures counts { Counts result (B.failures backend.old) (B.failures backend.new) }
 {
     let columns = usize::from(rows.area().width);

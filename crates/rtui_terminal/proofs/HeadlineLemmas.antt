@@ -7,13 +7,13 @@ use Rattle.rtui_cell.specs.Grid.{Grid}
 use Rattle.rtui_diff.specs.Shows.{ShowsColumn}
 use Rattle.rtui_buffer.specs.Sheet.{Sheet, IsEmptied}
 use Rattle.rtui_buffer.specs.Frame.{IsSettledSheet, ShowsSheet}
-use Rattle.rtui_backend.specs.Screen.{Screen, KeepsSize, IsOnScreen, screen_area, with_visible, with_cursor}
+use Rattle.rtui_backend.specs.Screen.{Screen, KeepsSizeAndHistory, IsOnScreen, screen_area, with_visible, with_cursor}
 use Rattle.rtui_viewport.specs.Viewports.{IsFixed, IsInline}
 use Rattle.rtui_viewport.specs.declared.viewport.Viewport.{Viewport}
 use Rattle.rtui_viewport.specs.declared.viewport.Viewport.TheVariants.{Fullscreen, Inline, Fixed}
 use Rattle.rtui_rows.specs.Insertion.{AreRowsOfAll, AppendsRows}
 use Rattle.rtui_terminal.specs.State.{State}
-use Rattle.rtui_terminal.specs.InStep.{IsReady, IsInStep, IsSized, KeepsRest, rows_over}
+use Rattle.rtui_terminal.specs.InStep.{IsReady, IsInStep, IsSized, KeepsAroundViewport, rows_over}
 use Rattle.rtui_terminal.specs.Cursor.{Stays, MovesCursor}
 use Rattle.rtui_terminal.specs.Resizing.{Resizes, Autoresizes}
 use Rattle.rtui_terminal.specs.Writing.{Applies, HasDrawn, cursor_placed}
@@ -42,7 +42,7 @@ not_both Fullscreen inline fixed = inline
 not_both (Inline n) inline fixed = fixed
 not_both (Fixed r) inline fixed = inline
 
-area_same : (old new : Screen) → KeepsSize old new → screen_area new ≡ screen_area old
+area_same : (old new : Screen) → KeepsSizeAndHistory old new → screen_area new ≡ screen_area old
 area_same old new size = rw (size.width, size.height) refl
 
 shows_same : (sheet : Sheet) (g h : Grid) → ((a b : ℕ) → h a b ≡ g a b) → ShowsSheet sheet g → ShowsSheet sheet h
@@ -54,7 +54,7 @@ module _ {B : Type 0} (screen : B → Screen) where
     pub kind : t.viewport ≡ s.viewport
     pub view : t.viewport_area ≡ s.viewport_area
     pub older : t.older ≡ s.older
-    pub size : KeepsSize (screen s.backend) (screen t.backend)
+    pub size : KeepsSizeAndHistory (screen s.backend) (screen t.backend)
     pub grid : (a b : ℕ) → (screen t.backend).grid a b ≡ (screen s.backend).grid a b
 
   kept_step : (s t : State B) → Keeps s t → IsInStep screen s → IsInStep screen t
@@ -65,7 +65,7 @@ module _ {B : Type 0} (screen : B → Screen) where
     shown = subst (λ sheet. ShowsSheet sheet (screen t.backend).grid) (sym k.older) (shows_same s.older (screen s.backend).grid (screen t.backend).grid k.grid step.shown);
   }
 
-  kept_rest : (s t : State B) → Keeps s t → KeepsRest screen s t
+  kept_rest : (s t : State B) → Keeps s t → KeepsAroundViewport screen s t
   kept_rest s t k = rest_of screen s t k.view k.size (record { at = λ a b _ _ _. k.grid a b })
 
   keeps_more : (s t u : State B) → Keeps s t → Keeps t u → Keeps s u
@@ -91,12 +91,12 @@ module _ {B : Type 0} (screen : B → Screen) where
 
   -- a moved cursor keeps all that the headline speaks of
   keeps_cursor : (hidden : Bool) (known : Position) (cursor : Screen → Screen) (s t : State B) → MovesCursor screen hidden known cursor s t
-      → KeepsSize (screen s.backend) (cursor (screen s.backend)) → ((a b : ℕ) → (cursor (screen s.backend)).grid a b ≡ (screen s.backend).grid a b) → Keeps s t
+      → KeepsSizeAndHistory (screen s.backend) (cursor (screen s.backend)) → ((a b : ℕ) → (cursor (screen s.backend)).grid a b ≡ (screen s.backend).grid a b) → Keeps s t
   keeps_cursor hidden known cursor s t m size grid = record {
     kind = ap (λ (x : State B). x.viewport) m.rest;
     view = ap (λ (x : State B). x.viewport_area) m.rest;
     older = ap (λ (x : State B). x.older) m.rest;
-    size = subst (KeepsSize (screen s.backend)) (sym m.screen_cursor) size;
+    size = subst (KeepsSizeAndHistory (screen s.backend)) (sym m.screen_cursor) size;
     grid = λ a b. ap (λ (x : Screen). x.grid a b) m.screen_cursor ∙ grid a b;
   }
 
@@ -154,10 +154,10 @@ module _ {B : Type 0} (screen : B → Screen) where
     drawn_size : screen_area (screen t.backend) ≡ screen_area (screen u.backend)
     drawn_size = drawn_area d.cursor (record (d.sized) { current = t.older }) (screen d.sized.backend) (screen t.backend) d.applied.drawn ∙ autoresized_area u d.sized d.autoresized
 
-    untaken_rest : IsFixed s.viewport ⊎ (screen_area (screen u.backend) ≡ s.known_area) → IsInStep screen s → IsSettledSheet t.older → KeepsRest screen s t
+    untaken_rest : IsFixed s.viewport ⊎ (screen_area (screen u.backend) ≡ s.known_area) → IsInStep screen s → IsSettledSheet t.older → KeepsAroundViewport screen s t
     untaken_rest why step settled =
         let p = untaken s u taken why in
-        subst (λ x. KeepsRest screen x t) p.0 (d.keeps (subst (IsInStep screen) (sym p.0) step) p.1 settled)
+        subst (λ x. KeepsAroundViewport screen x t) p.0 (d.keeps (subst (IsInStep screen) (sym p.0) step) p.1 settled)
 
     drawn_faithful : IsInStep screen s → IsSettledSheet painted → IsFaithful screen (Draw painted) s t
     drawn_faithful step fair =

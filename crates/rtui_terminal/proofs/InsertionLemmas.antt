@@ -15,7 +15,7 @@ use Rattle.rtui_terminal.specs.Faults.{FailsOnlyByBackend}
 use Rattle.rtui_terminal.specs.declared.terminal.error.TerminalError.{TerminalError}
 use Rattle.rtui_terminal.specs.declared.terminal.error.TerminalError.TheVariants.{Backend, Memory, Area, Closure}
 use Rattle.rtui_rows.specs.Rows.{DrawsRows, RowsFit, CanShowRows, ShowsRows, IsNarrowSheet, nonempty_cells, WritesAtMost}
-use Rattle.rtui_rows.specs.Insertion.{AppendsRows, KeepsShape, HasPlaceAbove, AppendsPart}
+use Rattle.rtui_rows.specs.Insertion.{AppendsRows, KeepsSizeAndVisibility, HasPlaceAbove, AppendsPart}
 use Rattle.rtui_rows.specs.Scrolling.{HasPushed, HasRaised, HasLowered, PushesRows, InsertsDown, InsertsUp, rows_down}
 use Rattle.rtui_rows.specs.Following.{AreaFollows, Follows}
 use Rattle.rtui_terminal.specs.State.{State}
@@ -62,7 +62,7 @@ module _ {B : Type 0} (screen : B → Screen) (s : State B) (inserted : Sheet) (
 
   -- above a viewport that covers the screen
   module _ (covers : s.known_area.height ≤ s.viewport_area.height) (some : 0 < inserted.area.height) (mid b : B)
-      (shape_mid : KeepsShape (screen s.backend) (screen mid)) (shape : KeepsShape (screen mid) (screen b))
+      (shape_mid : KeepsSizeAndVisibility (screen s.backend) (screen mid)) (shape : KeepsSizeAndVisibility (screen mid) (screen b))
       (pushed : PushesRows inserted (screen s.backend) (screen mid))
       (blank : Sheet) (emptied : IsEmptied inserted.area blank) (redrawn : s.older.area ≡ s.viewport_area → DrawsRows blank s.older 0 1 0 (screen mid) (screen b)) where
     abbrev pub covered : State B
@@ -143,7 +143,7 @@ module _ {B : Type 0} (screen : B → Screen) (s : State B) (inserted : Sheet) (
 
   -- above one that doesn't: first it moves down, then the rows above it move up
   module _ (n : ℕ) (n_is : n ≡ rows_down inserted.area.height s.viewport_area s.known_area.height) (mid b : B) (current older : Sheet)
-      (shape_mid : KeepsShape (screen s.backend) (screen mid)) (shape : KeepsShape (screen mid) (screen b))
+      (shape_mid : KeepsSizeAndVisibility (screen s.backend) (screen mid)) (shape : KeepsSizeAndVisibility (screen mid) (screen b))
       (down : InsertsDown inserted s.viewport_area s.known_area.height (screen s.backend) (screen mid) n)
       (up : InsertsUp inserted n (s.viewport_area.y + n) (screen mid) (screen b))
       (with_current : Follows s.viewport_area (record s.viewport_area { y = s.viewport_area.y + n }) s.current current)

@@ -4,7 +4,7 @@ use Rattle.rtui_geometry.specs.declared.position.Position.{Position}
 use Rattle.rtui_geometry.specs.declared.rect.Rect.{Rect}
 use Rattle.rtui_buffer.specs.Sheet.{Sheet}
 use Rattle.rtui_buffer.specs.Frame.{IsSettledSheet}
-use Rattle.rtui_backend.specs.Screen.{Screen, KeepsSize, IsOnScreen, IsWithin, rows_above}
+use Rattle.rtui_backend.specs.Screen.{Screen, KeepsSizeAndHistory, IsOnScreen, IsWithin, rows_above}
 use Rattle.rtui_backend.proofs.ScrollLemmas.{above_same}
 use Rattle.rtui_viewport.specs.Areas.{KeepsOutside}
 use Rattle.rtui_viewport.specs.Clearing.{ClearsArea}
@@ -13,7 +13,7 @@ use Rattle.rtui_viewport.specs.declared.viewport.Viewport.{Viewport}
 use Rattle.rtui_viewport.specs.declared.viewport.Viewport.TheVariants.{Fullscreen, Inline, Fixed}
 use Rattle.rtui_viewport.proofs.ClearLemmas.{keeps_outside, keeps_above}
 use Rattle.rtui_terminal.specs.State.{State, IsInPlace}
-use Rattle.rtui_terminal.specs.InStep.{IsInStep, IsSized, KeepsRest, rows_over}
+use Rattle.rtui_terminal.specs.InStep.{IsInStep, IsSized, KeepsAroundViewport, rows_over}
 use Rattle.rtui_terminal.specs.Writing.{HasDrawn, cursor_placed}
 use Rattle.rtui_terminal.specs.Cursor.{Stays}
 use Rattle.rtui_terminal.specs.Resizing.{Autoresizes}
@@ -22,11 +22,11 @@ placed_grid : (cursor : Option Position) (s : Screen) (a b : ℕ) → (cursor_pl
 placed_grid None s a b = refl
 placed_grid (Some p) s a b = refl
 
-pub placed_size : (cursor : Option Position) (s : Screen) → KeepsSize s (cursor_placed cursor s)
+pub placed_size : (cursor : Option Position) (s : Screen) → KeepsSizeAndHistory s (cursor_placed cursor s)
 placed_size None s = record { width = refl; height = refl; history = refl }
 placed_size (Some p) s = record { width = refl; height = refl; history = refl }
 
-pub size_more : {r s t : Screen} → KeepsSize r s → KeepsSize s t → KeepsSize r t
+pub size_more : {r s t : Screen} → KeepsSizeAndHistory r s → KeepsSizeAndHistory s t → KeepsSizeAndHistory r t
 size_more p q = record { width = q.width ∙ p.width; height = q.height ∙ p.height; history = q.history ∙ p.history }
 
 -- the rows above an inline viewport with a row stay where it is cleared
@@ -43,8 +43,8 @@ outside_cleared (Fixed f) r clears fixed on = keeps_outside r (clears on)
 
 module _ {B : Type 0} (screen : B → Screen) where
   -- what stays outside a viewport stays above it
-  pub rest_of : (s t : State B) → t.viewport_area ≡ s.viewport_area → KeepsSize (screen s.backend) (screen t.backend)
-      → KeepsOutside s.viewport_area (screen s.backend) (screen t.backend) → KeepsRest screen s t
+  pub rest_of : (s t : State B) → t.viewport_area ≡ s.viewport_area → KeepsSizeAndHistory (screen s.backend) (screen t.backend)
+      → KeepsOutside s.viewport_area (screen s.backend) (screen t.backend) → KeepsAroundViewport screen s t
   rest_of s t view size outside = record {
     viewport_area = view;
     size = size;
@@ -55,7 +55,7 @@ module _ {B : Type 0} (screen : B → Screen) where
     outside = outside;
   }
 
-  pub rest_more : (r s t : State B) → KeepsRest screen r s → KeepsRest screen s t → KeepsRest screen r t
+  pub rest_more : (r s t : State B) → KeepsAroundViewport screen r s → KeepsAroundViewport screen s t → KeepsAroundViewport screen r t
   rest_more r s t p q = record {
     viewport_area = q.viewport_area ∙ p.viewport_area;
     size = size_more p.size q.size;
@@ -68,28 +68,28 @@ module _ {B : Type 0} (screen : B → Screen) where
     };
   }
 
-  pub stays_rest : (s t : State B) → Stays screen s t → KeepsRest screen s t
+  pub stays_rest : (s t : State B) → Stays screen s t → KeepsAroundViewport screen s t
   stays_rest s t stays = rest_of s t (ap (λ (x : State B). x.viewport_area) stays.rest)
       (record { width = ap (λ (x : Screen). x.width) stays.screen_stays; height = ap (λ (x : Screen). x.height) stays.screen_stays; history = ap (λ (x : Screen). x.history) stays.screen_stays })
       (record { at = λ a b _ _ _. ap (λ (x : Screen). x.grid a b) stays.screen_stays })
 
   -- a drawing of a settled buffer changes nothing outside
   pub drawn_rest : (cursor : Option Position) (s t : State B) → t.viewport_area ≡ s.viewport_area → HasDrawn cursor s (screen s.backend) (screen t.backend)
-      → IsInStep screen s → IsSettledSheet s.current → KeepsRest screen s t
+      → IsInStep screen s → IsSettledSheet s.current → KeepsAroundViewport screen s t
   drawn_rest cursor s t view (between, writes, is) step settled =
       let placed = placed_size cursor between in
       let on : IsOnScreen s.older.area (screen s.backend) = subst (λ r. IsOnScreen r (screen s.backend)) (sym step.area) step.on_screen in
       let outside : KeepsOutside s.viewport_area (screen s.backend) between = subst (λ r. KeepsOutside r (screen s.backend) between) step.area (writes.outside on step.settled settled) in
       rest_of s t view
-      (subst (λ new. KeepsSize (screen s.backend) new) (sym is) (record { width = placed.width ∙ writes.drawn.width; height = placed.height ∙ writes.drawn.height; history = placed.history ∙ writes.drawn.history }))
+      (subst (λ new. KeepsSizeAndHistory (screen s.backend) new) (sym is) (record { width = placed.width ∙ writes.drawn.width; height = placed.height ∙ writes.drawn.height; history = placed.history ∙ writes.drawn.history }))
       (record { at = λ a b a_in b_in out. ap (λ (x : Screen). x.grid a b) is ∙ placed_grid cursor between a b ∙ outside.at a b a_in b_in out })
 
   -- from in step at the known size a resizing does nothing
-  pub autoresized_rest : (s t : State B) → Autoresizes screen s t → IsSized screen s → KeepsRest screen s t
+  pub autoresized_rest : (s t : State B) → Autoresizes screen s t → IsSized screen s → KeepsAroundViewport screen s t
   autoresized_rest s t resizes sized = elim (resizes.case) [
     | inl same ↦ stays_rest s t same.1
     | inr other ↦ absurd (other.0 sized)
   ]
 
-  pub painted_rest : (s t : State B) (painted : Sheet) → KeepsRest screen (record s { current = painted }) t → KeepsRest screen s t
+  pub painted_rest : (s t : State B) (painted : Sheet) → KeepsAroundViewport screen (record s { current = painted }) t → KeepsAroundViewport screen s t
   painted_rest s t painted keeps = record { viewport_area = keeps.viewport_area; size = keeps.size; above = keeps.above; outside = keeps.outside }

@@ -10,7 +10,7 @@ use Rattle.rtui_cell.specs.Look.{Look, empty_look}
 use Rattle.rtui_buffer.specs.Sheet.{Sheet, IsEmptied, IsSameSheet}
 use Rattle.rtui_buffer.proofs.EmptyLemmas.{IsSettledSheet-empty, ShowsSheet-empty}
 use Rattle.rtui_backend.specs.Screen.{Screen, Scrolls, IsOnGrid, IsOnScreen, screen_area, cursor_of, with_cursor}
-use Rattle.rtui_viewport.specs.Areas.{KeepsScreen, Empties, IsBlankOver}
+use Rattle.rtui_viewport.specs.Areas.{KeepsAllButLooks, Empties, IsBlankOver}
 use Rattle.rtui_viewport.specs.Sizing.{first_area}
 use Rattle.rtui_viewport.specs.Placing.{raised, area_in, cursor_found, cursor_restored, EmptiesAllIf, Places, rows_scrolled}
 use Rattle.rtui_viewport.specs.Clearing.{HasPlace, ClearsArea, is_emptied}
@@ -61,7 +61,7 @@ placed_in_place (Inline n) w area o row = raised_x w (area_in (Inline n) area o 
 placed_in_place (Fixed f) w area o row = tt
 
 -- an emptied screen, or an untouched one
-pub emptied_frame : (narrow : Bool) {s m : Screen} → EmptiesAllIf narrow s m → KeepsScreen s m
+pub emptied_frame : (narrow : Bool) {s m : Screen} → EmptiesAllIf narrow s m → KeepsAllButLooks s m
 emptied_frame true p = p.frame
 emptied_frame false {s} same = rw same (frame_same s)
 

@@ -3,10 +3,10 @@ use Rattle.std.specs.Prelude.{◌≡◌, ◌⊎◌, ◌<◌}
 use Rattle.rtui_buffer.specs.Sheet.{IsEmptied}
 use Rattle.rtui_backend.specs.Screen.{IsOnScreen, Screen, cursor_of}
 use Rattle.rtui_viewport.specs.Viewports.{IsFixed, IsInline}
-use Rattle.rtui_viewport.specs.Areas.{KeepsScreen}
+use Rattle.rtui_viewport.specs.Areas.{KeepsAllButLooks}
 use Rattle.rtui_viewport.specs.Clearing.{ClearsArea, WritesBlanks}
 use Rattle.rtui_terminal.specs.State.{State}
-use Rattle.rtui_terminal.specs.InStep.{IsInStep, KeepsRest, rows_over}
+use Rattle.rtui_terminal.specs.InStep.{IsInStep, KeepsAroundViewport, rows_over}
 
 -- a backend failed in a clear; where only the cursor wasn't set back, the older buffer is empty
 pub record FailsClearing {B : Type 0} (s t : State B) : Type 0 where
@@ -18,11 +18,11 @@ module _ {B : Type 0} (screen : B → Screen) where
   pub record ClearsViewport (s t : State B) : Type 0 where
     pub rest : t ≡ record s { backend = t.backend; older = t.older }
     pub older : IsEmptied s.older.area t.older
-    pub frame : KeepsScreen (screen s.backend) (screen t.backend)
+    pub frame : KeepsAllButLooks (screen s.backend) (screen t.backend)
     pub cursor : cursor_of (screen t.backend) ≡ cursor_of (screen s.backend)
     pub clears : ClearsArea s.viewport s.viewport_area (screen s.backend) (screen t.backend)
     pub written : WritesBlanks s.viewport s.viewport_area (screen s.backend) (screen t.backend)
     pub in_step : IsOnScreen s.viewport_area (screen s.backend) → s.older.area ≡ s.viewport_area → IsInStep screen t
     pub above : IsInline s.viewport → IsOnScreen s.viewport_area (screen s.backend) → 0 < s.viewport_area.height
         → rows_over screen t ≡ rows_over screen s
-    pub keeps : IsFixed s.viewport → IsOnScreen s.viewport_area (screen s.backend) → KeepsRest screen s t
+    pub keeps : IsFixed s.viewport → IsOnScreen s.viewport_area (screen s.backend) → KeepsAroundViewport screen s t

@@ -7,7 +7,7 @@ use Rattle.rtui_buffer.specs.Sheet.{Sheet}
 use Rattle.rtui_buffer.specs.Frame.{IsSettledSheet}
 use Rattle.rtui_backend.specs.Screen.{Screen}
 use Rattle.rtui_terminal.specs.State.{State}
-use Rattle.rtui_terminal.specs.InStep.{IsInStep, IsReady, IsSized, KeepsRest}
+use Rattle.rtui_terminal.specs.InStep.{IsInStep, IsReady, IsSized, KeepsAroundViewport}
 use Rattle.rtui_terminal.specs.declared.terminal.error.TerminalError.{TerminalError}
 use Rattle.rtui_terminal.specs.declared.terminal.error.TerminalError.TheVariants.{Area, Backend, Closure, Memory}
 use Rattle.rtui_terminal.specs.Writing.{Applies, ApplyErr, RefusesArea}
@@ -27,7 +27,7 @@ module _ {B : Type 0} (screen : B → Screen) where
     pub cursor : Option Position
     pub applied : Applies screen cursor (record sized { current = t.older }) t
     pub in_step : IsReady screen s → IsSettledSheet t.older → IsInStep screen t
-    pub keeps : IsInStep screen s → IsSized screen s → IsSettledSheet t.older → KeepsRest screen s t
+    pub keeps : IsInStep screen s → IsSized screen s → IsSettledSheet t.older → KeepsAroundViewport screen s t
 
   -- a draw that was refused for what its closure answered or left: behind the resize only the current buffer changed
   pub record RefusesFrame (s t : State B) : Type 0 where

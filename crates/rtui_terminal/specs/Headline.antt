@@ -8,7 +8,7 @@ use Rattle.rtui_backend.specs.Screen.{Screen, IsOnScreen, screen_area, with_visi
 use Rattle.rtui_viewport.specs.Viewports.{IsFixed, IsInline}
 use Rattle.rtui_rows.specs.Insertion.{AppendsRows}
 use Rattle.rtui_terminal.specs.State.{State}
-use Rattle.rtui_terminal.specs.InStep.{IsInStep, IsSized, KeepsRest, rows_over}
+use Rattle.rtui_terminal.specs.InStep.{IsInStep, IsSized, KeepsAroundViewport, rows_over}
 use Rattle.rtui_terminal.specs.Cursor.{Stays, MovesCursor}
 use Rattle.rtui_terminal.specs.Clearing.{ClearsViewport}
 use Rattle.rtui_terminal.specs.Resizing.{Resizes, Autoresizes}
@@ -129,7 +129,7 @@ module _ {B : Type 0} (screen : B → Screen) where
     pub in_step : IsInStep screen t
     pub leaves : Leaves call s t
     pub above : IsInline s.viewport → IsSteady call s t → AppendsRows (inserted_by call) (rows_over screen s) (rows_over screen t)
-    pub outside : IsFixed s.viewport → (IsResize call → ⊥) → KeepsRest screen s t
+    pub outside : IsFixed s.viewport → (IsResize call → ⊥) → KeepsAroundViewport screen s t
 
   -- from in step each call is faithful
   abbrev pub IsHeadline : Type 0

@@ -2,7 +2,7 @@
 use Rattle.std.specs.Prelude.{◌≡◌, ◌⊎◌, List}
 use Rattle.rtui_cell.specs.Look.{Look}
 use Rattle.rtui_buffer.specs.Frame.{IsSettledSheet, ShowsSheet}
-use Rattle.rtui_backend.specs.Screen.{Screen, KeepsSize, IsOnScreen, rows_above}
+use Rattle.rtui_backend.specs.Screen.{Screen, KeepsSizeAndHistory, IsOnScreen, rows_above}
 use Rattle.rtui_viewport.specs.Sizing.{IsSizeKnown}
 use Rattle.rtui_viewport.specs.Areas.{KeepsOutside}
 use Rattle.rtui_terminal.specs.State.{State}
@@ -28,8 +28,8 @@ module _ {B : Type 0} (screen : B → Screen) where
   rows_over s = rows_above (screen s.backend) s.viewport_area.y
 
   -- the viewport stays, and with it the size, the history, the rows above it and all columns outside it
-  pub record KeepsRest (s t : State B) : Type 0 where
+  pub record KeepsAroundViewport (s t : State B) : Type 0 where
     pub viewport_area : t.viewport_area ≡ s.viewport_area
-    pub size : KeepsSize (screen s.backend) (screen t.backend)
+    pub size : KeepsSizeAndHistory (screen s.backend) (screen t.backend)
     pub above : rows_over t ≡ rows_over s
     pub outside : KeepsOutside s.viewport_area (screen s.backend) (screen t.backend)

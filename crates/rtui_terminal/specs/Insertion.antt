@@ -9,7 +9,7 @@ use Rattle.rtui_viewport.specs.Viewports.{IsInline}
 use Rattle.rtui_viewport.specs.Areas.{IsBlankBelow}
 use Rattle.rtui_rows.specs.Filling.{RefusesFilling}
 use Rattle.rtui_rows.specs.Rows.{nonempty_cells, IsNarrowSheet, WritesAtMost}
-use Rattle.rtui_rows.specs.Insertion.{AppendsRows, KeepsShape}
+use Rattle.rtui_rows.specs.Insertion.{AppendsRows, KeepsSizeAndVisibility}
 use Rattle.rtui_rows.specs.Following.{Follows}
 use Rattle.rtui_terminal.specs.State.{State}
 use Rattle.rtui_terminal.specs.InStep.{IsInStep, rows_over}
@@ -49,7 +49,7 @@ module _ {B : Type 0} (screen : B → Screen) where
     pub top : t.viewport_area.y ≡ top_behind inserted.area.height s
     pub current : Follows s.viewport_area t.viewport_area s.current t.current
     pub older : Follows s.viewport_area t.viewport_area s.older t.older
-    pub shape : KeepsShape (screen s.backend) (screen t.backend)
+    pub shape : KeepsSizeAndVisibility (screen s.backend) (screen t.backend)
     pub above : TakesRows s → IsInStep screen s → IsSettledSheet inserted → AppendsRows (inserted ∷ []) (rows_over screen s) (rows_over screen t)
     pub below : TakesRows s → IsInStep screen s → IsSettledSheet inserted → IsBlankBelow s.viewport_area (screen s.backend) → IsBlankBelow t.viewport_area (screen t.backend)
     pub left : TakesRows s → IsInStep screen s → IsLeft s t

@@ -4,7 +4,7 @@ use Rattle.rtui_geometry.specs.declared.rect.Rect.{Rect}
 use Rattle.rtui_buffer.specs.Sheet.{IsEmptied, IsSameSheet, Sheet, area_size, empty_cells}
 use Rattle.rtui_backend.specs.Screen.{IsOnScreen, Screen, Scrolls, cursor_of, screen_area}
 use Rattle.rtui_viewport.specs.Viewports.{IsFixed}
-use Rattle.rtui_viewport.specs.Areas.{Empties, KeepsScreen}
+use Rattle.rtui_viewport.specs.Areas.{Empties, KeepsAllButLooks}
 use Rattle.rtui_viewport.specs.Placing.{area_in, raised, rows_scrolled, unplaced_area}
 use Rattle.rtui_viewport.specs.Clearing.{HasPlace, WritesBlanks, is_emptied}
 use Rattle.rtui_terminal.specs.State.{HasAreas, HaveRoom, State, cursor_offset}
@@ -43,7 +43,7 @@ module _ {B : Type 0} (screen : B → Screen) where
     pub older : IsEmptied t.viewport_area t.older
     pub scrolled : Screen
     pub scrolls : Scrolls (screen s.backend) (rows_scrolled s.viewport (cursor_offset s) (screen s.backend)) scrolled
-    pub frame : KeepsScreen scrolled (screen t.backend)
+    pub frame : KeepsAllButLooks scrolled (screen t.backend)
     pub empties : HasPlace s.viewport t.viewport_area scrolled
         → Empties (λ a b. is_emptied s.viewport t.viewport_area scrolled.height a b || nat_lt area.width s.viewport_area.width) scrolled (screen t.backend)
     pub cursor : (IsFixed s.viewport → ⊥) → cursor_of (screen t.backend) ≡ cursor_of (screen s.backend)

@@ -10,7 +10,7 @@ use Rattle.rtui_viewport.specs.declared.viewport.Viewport.{Viewport}
 use Rattle.rtui_viewport.specs.declared.viewport.Viewport.TheVariants.{Fixed, Fullscreen, Inline}
 use Rattle.rtui_viewport.specs.Areas.{KeepsOutside}
 use Rattle.rtui_terminal.specs.State.{HasAreas, State}
-use Rattle.rtui_terminal.specs.InStep.{IsInStep, KeepsRest}
+use Rattle.rtui_terminal.specs.InStep.{IsInStep, KeepsAroundViewport}
 use Rattle.rtui_terminal.specs.declared.terminal.error.TerminalError.{TerminalError}
 use Rattle.rtui_terminal.specs.declared.terminal.error.TerminalError.TheVariants.{Area, Backend, Closure, Memory}
 
@@ -99,7 +99,7 @@ module _ {B : Type 0} (screen : B → Screen) where
     pub rest : t ≡ record s { backend = t.backend; current = t.current; older = t.older; known_cursor = cursor_after cursor s; hidden_cursor = is_none cursor; frame_count = (s.frame_count + 1) % 2 ^ 64 }
     pub drawn : HasDrawn cursor s (screen s.backend) (screen t.backend)
     pub in_step : IsInStep screen s → IsSettledSheet s.current → IsInStep screen t
-    pub keeps : IsInStep screen s → IsSettledSheet s.current → KeepsRest screen s t
+    pub keeps : IsInStep screen s → IsSettledSheet s.current → KeepsAroundViewport screen s t
 
   -- all was written and the cursor placed, as the terminal then was, and the last flush failed: the buffers are swapped, and the frame
   -- isn't counted

@@ -1,2 +1,3 @@
 pub mod GraphemeLemmas
+pub mod PrintableLemmas
 pub mod LineLemmas

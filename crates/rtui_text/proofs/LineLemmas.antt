@@ -1,7 +1,12 @@
 -- Lines of a text: one span more at the end, and the printed text.
 use Rattle.std.proofs.Common.{◌≡◌, ℕ, ◌-◌, ◌<◌, List, [], ◌∷◌, ◌++◌, length, refl, ◌∙◌, ap, arith, rules, append_assoc, slice_index_or, slice_set, suc, zero}
 use Rattle.rtui_text.specs.Text.{SpanData, LineData, with_span, with_last_span}
-use Rattle.rtui_text.specs.Display.{printed_spans, broken_lines, printed_lines}
+use Rattle.rtui_text.specs.Display.{printed_spans, printed_lines}
+use Rattle.std.specs.List.{flat_map}
+
+-- the lines, each with a line break behind it
+abbrev pub broken_lines : List LineData → List ℕ
+broken_lines ls = flat_map (λ line. printed_spans line.spans ++ 10 ∷ []) ls
 
 -- the last line is written anew
 set_last : (span : SpanData) (ls : List LineData) (old new : LineData) (n : ℕ) → length ls ≡ suc n → old ≡ slice_index_or ls n old → new ≡ with_span span old → slice_set ls n new ≡ with_last_span span ls

@@ -16,10 +16,6 @@ printed_spans spans = flat_map printed_span spans
 abbrev pub line_content : List SpanData → List ℕ
 line_content spans = flat_map (λ span. span.content) spans
 
--- the lines, each with a line break behind it
-abbrev pub broken_lines : List LineData → List ℕ
-broken_lines ls = flat_map (λ line. printed_spans line.spans ++ 10 ∷ []) ls
-
 -- the lines with a line break between each two
 abbrev pub printed_lines : List LineData → List ℕ
 printed_lines [] = []

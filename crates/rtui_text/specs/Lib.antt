@@ -1,5 +1,6 @@
 pub mod Text
 pub mod Widths
+pub mod Printable
 pub mod Graphemes
 pub mod Display
 pub mod Masked

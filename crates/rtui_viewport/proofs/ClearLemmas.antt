@@ -14,35 +14,35 @@ use Rattle.rtui_backend.proofs.ScrollLemmas.{above_same}
 use Rattle.rtui_viewport.specs.declared.viewport.Viewport.{Viewport}
 use Rattle.rtui_viewport.specs.declared.viewport.Viewport.TheVariants.{Fullscreen, Inline, Fixed}
 use Rattle.rtui_cell.specs.Look.{Look, empty_look}
-use Rattle.rtui_viewport.specs.Areas.{KeepsScreen, Empties, KeepsOutside, IsBlankOver, IsBlankBelow, is_between, is_within}
+use Rattle.rtui_viewport.specs.Areas.{KeepsAllButLooks, Empties, KeepsOutside, IsBlankOver, IsBlankBelow, is_between, is_within}
 use Rattle.rtui_viewport.specs.Clearing.{ClearsArea, is_emptied, blanks_needed, WritesItems, WritesBlanks}
 use Rattle.rtui_viewport.specs.Placing.{cursor_restored}
 use Rattle.rtui_viewport.specs.Remaining.{blank_at}
 use Rattle.rtui_viewport.proofs.BlankLemmas.{decide_within, blanks_over}
 
-pub frame_same : (s : Screen) → KeepsScreen s s
+pub frame_same : (s : Screen) → KeepsAllButLooks s s
 frame_same s = record { size = record { width = refl; height = refl; history = refl }; visible = refl }
 
-pub frame_more : {r s t : Screen} → KeepsScreen r s → KeepsScreen s t → KeepsScreen r t
+pub frame_more : {r s t : Screen} → KeepsAllButLooks r s → KeepsAllButLooks s t → KeepsAllButLooks r t
 frame_more p q = record {
   size = record { width = q.size.width ∙ p.size.width; height = q.size.height ∙ p.size.height; history = q.size.history ∙ p.size.history };
   visible = q.visible ∙ p.visible;
 }
 
 -- a clear, with the cursor where it is or elsewhere
-pub frame_cleared : {s t : Screen} (kind : ClearType) → Clears s kind t → KeepsScreen s t
+pub frame_cleared : {s t : Screen} (kind : ClearType) → Clears s kind t → KeepsAllButLooks s t
 frame_cleared kind p = record {
   size = record { width = ap (λ s. s.width) p.rest; height = ap (λ s. s.height) p.rest; history = ap (λ s. s.history) p.rest };
   visible = ap (λ s. s.visible) p.rest;
 }
 
-pub frame_cleared_at : (x y : ℕ) {s t : Screen} (kind : ClearType) → Clears (with_cursor x y s) kind t → KeepsScreen s t
+pub frame_cleared_at : (x y : ℕ) {s t : Screen} (kind : ClearType) → Clears (with_cursor x y s) kind t → KeepsAllButLooks s t
 frame_cleared_at x y kind p = record {
   size = record { width = ap (λ s. s.width) p.rest; height = ap (λ s. s.height) p.rest; history = ap (λ s. s.history) p.rest };
   visible = ap (λ s. s.visible) p.rest;
 }
 
-pub frame_drawn : {s t : Screen} {us : List _} → Draws s us t → KeepsScreen s t
+pub frame_drawn : {s t : Screen} {us : List _} → Draws s us t → KeepsAllButLooks s t
 frame_drawn d = record { size = record { width = d.width; height = d.height; history = d.history }; visible = d.visible }
 
 -- an empty rectangle needs no blanks
@@ -164,10 +164,10 @@ blank_below n r {s} {t} p = record {
 
 -- a clear, behind which the cursor was set back
 module _ (found : Option Position) {r s t : Screen} (restored : t ≡ cursor_restored found s) where
-  pub frame_restored : KeepsScreen r s → KeepsScreen r t
-  frame_restored p = subst (KeepsScreen r) (sym restored) (either found)
+  pub frame_restored : KeepsAllButLooks r s → KeepsAllButLooks r t
+  frame_restored p = subst (KeepsAllButLooks r) (sym restored) (either found)
     where
-      either : (f : Option Position) → KeepsScreen r (cursor_restored f s)
+      either : (f : Option Position) → KeepsAllButLooks r (cursor_restored f s)
       either None = p
       either (Some at) = record { size = record { width = p.size.width; height = p.size.height; history = p.size.history }; visible = p.visible }
 

@@ -3,7 +3,7 @@ use Rattle.std.specs.Prelude.{◌≡◌, ℕ, ◌+◌, ◌<◌, ◌≤◌, Bool,
 use Rattle.rtui_geometry.specs.declared.rect.Rect.{Rect}
 use Rattle.rtui_geometry.specs.Rect.{right_edge, bottom_edge}
 use Rattle.rtui_cell.specs.Look.{empty_look}
-use Rattle.rtui_backend.specs.Screen.{Screen, KeepsSize, IsWithin}
+use Rattle.rtui_backend.specs.Screen.{Screen, KeepsSizeAndHistory, IsWithin}
 
 -- nothing changed outside a rectangle
 pub record KeepsOutside (r : Rect) (old new : Screen) : Type 0 where
@@ -18,13 +18,13 @@ pub record IsBlankBelow (r : Rect) (s : Screen) : Type 0 where
   pub at : (a b : ℕ) → a < s.width → b < s.height → r.y + r.height ≤ b → s.grid a b ≡ empty_look
 
 -- only the looks, the cursor's place and the count of items may differ
-pub record KeepsScreen (old new : Screen) : Type 0 where
-  pub size : KeepsSize old new
+pub record KeepsAllButLooks (old new : Screen) : Type 0 where
+  pub size : KeepsSizeAndHistory old new
   pub visible : new.visible ≡ old.visible
 
 -- the columns that `which` names were emptied, and the others stay
 pub record Empties (which : ℕ → ℕ → Bool) (old new : Screen) : Type 0 where
-  pub frame : KeepsScreen old new
+  pub frame : KeepsAllButLooks old new
   pub grid : (a b : ℕ) → a < old.width → b < old.height → new.grid a b ≡ if which a b then empty_look else old.grid a b
 
 -- the rows from y up to another

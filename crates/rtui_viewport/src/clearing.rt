@@ -2,7 +2,7 @@ ghost use Rattle.std.specs.Prelude.{◌≡◌, ◌*◌, ◌≤◌, OnOk};
 ghost use Rattle.rtui_geometry.specs.Rect.{EdgesFit};
 ghost use Rattle.rtui_backend.specs.Failures.{Counts};
 ghost use Rattle.rtui_backend.specs.Screen.{IsOnScreen, cursor_of};
-ghost use Rattle.rtui_viewport.specs.Areas.{KeepsScreen, Empties, is_between, is_within};
+ghost use Rattle.rtui_viewport.specs.Areas.{KeepsAllButLooks, Empties, is_between, is_within};
 ghost use Rattle.rtui_viewport.specs.Clearing.{ClearsArea, WritesItems, WritesBlanks, blanks_needed};
 ghost use Rattle.rtui_viewport.specs.declared.viewport.Viewport.TheVariants.{Fullscreen};
 ghost use Rattle.rtui_viewport.specs.Placing.{cursor_restored};
@@ -20,7 +20,7 @@ fn clear_rows<B: Backend>(backend: &mut B, top: u16, bottom: u16) -> Result<(), 
         ((B.screen backend.new).written ≡ (B.screen backend.old).written) }
     ensures cleared { OnOk result (bottom ≤ (B.screen backend.old).height
         → Empties (is_between top bottom) (B.screen backend.old) (B.screen backend.new)) }
-    ensures frame { OnOk result (KeepsScreen (B.screen backend.old) (B.screen backend.new)) }
+    ensures frame { OnOk result (KeepsAllButLooks (B.screen backend.old) (B.screen backend.new)) }
     ensures counts { Counts result (B.failures backend.old) (B.failures backend.new) }
 {
     for y in top..bottom {
@@ -35,7 +35,7 @@ fn draw_blanks<B: Backend>(backend: &mut B, area: Rect) -> Result<(), B::Error>
     requires { EdgesFit area }
     ensures cleared { OnOk result (IsOnScreen area (B.screen backend.old)
         → Empties (is_within area) (B.screen backend.old) (B.screen backend.new)) }
-    ensures frame { OnOk result (KeepsScreen (B.screen backend.old) (B.screen backend.new)) }
+    ensures frame { OnOk result (KeepsAllButLooks (B.screen backend.old) (B.screen backend.new)) }
     ensures written { OnOk result
         (WritesItems (area.width * area.height) (B.screen backend.old) (B.screen backend.new)) }
     ensures counts { Counts result (B.failures backend.old) (B.failures backend.new) }
@@ -49,7 +49,7 @@ fn clear_fixed<B: Backend>(backend: &mut B, area: Rect) -> Result<(), B::Error>
     requires { EdgesFit area }
     ensures cleared { OnOk result (IsOnScreen area (B.screen backend.old)
         → Empties (is_within area) (B.screen backend.old) (B.screen backend.new)) }
-    ensures frame { OnOk result (KeepsScreen (B.screen backend.old) (B.screen backend.new)) }
+    ensures frame { OnOk result (KeepsAllButLooks (B.screen backend.old) (B.screen backend.new)) }
     ensures written { OnOk result (WritesItems (blanks_needed area (B.screen backend.old))
         (B.screen backend.old) (B.screen backend.new)) }
     ensures counts { Counts result (B.failures backend.old) (B.failures backend.new) }
@@ -79,7 +79,7 @@ pub fn clear_area<B: Backend>(
     requires { EdgesFit area }
     ensures cleared { OnOk result
         (ClearsArea viewport area (B.screen backend.old) (B.screen backend.new)) }
-    ensures frame { OnOk result (KeepsScreen (B.screen backend.old) (B.screen backend.new)) }
+    ensures frame { OnOk result (KeepsAllButLooks (B.screen backend.old) (B.screen backend.new)) }
     ensures cursor { OnOk result (viewport ≡ Fullscreen
         → cursor_of (B.screen backend.new) ≡ cursor_of (B.screen backend.old)) }
     ensures written { OnOk result

@@ -1,5 +1,6 @@
 pub mod ColumnLemmas
 pub mod SpanLemmas
+pub mod PrintableLemmas
 pub mod EmptyLemmas
 pub mod LineLemmas
 pub mod StyleLemmas
@@ -8,3 +9,5 @@ pub mod SheetLemmas
 pub mod WithinLemmas
 pub mod PartLemmas
 pub mod ShortLemmas
+pub mod AsciiLemmas
+pub mod RowWith

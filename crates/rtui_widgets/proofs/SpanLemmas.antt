@@ -14,7 +14,8 @@ use Rattle.rtui_cell.specs.Width.{text_width}
 use Rattle.rtui_text.specs.Graphemes.{has_control}
 use Rattle.rtui_buffer.specs.Painting.{fitting, emptied}
 use Rattle.rtui_widgets.specs.Span.{showing, goes_to, those_at, is_behind, column_with, columns_from, span_rendered}
-use Rattle.rtui_widgets.specs.Steps.{end_of_those, with_appended, with_grapheme, with_next, next_symbol, IsRowWith}
+use Rattle.rtui_widgets.specs.Steps.{with_appended, with_grapheme, with_next, next_symbol}
+use Rattle.rtui_widgets.proofs.RowWith.{end_of_those, IsRowWith}
 use Rattle.rtui_widgets.proofs.ColumnLemmas.{end-append, those_at-far, is_behind-far, reached, first_reached, front-no_longer, symbol-here, column-behind, column-other, column-set, column-append}
 
 pub rendered-nothing : (s : Style) (text : List ℕ) (row : List Cell) → length row ≡ 0 → row ≡ span_rendered s text row

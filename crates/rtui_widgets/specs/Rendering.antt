@@ -1,5 +1,6 @@
 -- What rendering spans, lines and texts makes of a buffer.
-use Rattle.std.specs.Prelude.{ℕ, ◌+◌, ◌<◌, ◌≤◌, ◌≡◌, ◌==◌, List, [], Option, Some, None, map, take, drop, if◌then◌else◌, slice_index_or}
+use Rattle.std.specs.Prelude.{ℕ, ◌+◌, ◌<◌, ◌≤◌, ◌≡◌, ◌==◌, List, [], Option, Some, None, map, take, drop, if◌then◌else◌, slice_index_or, All}
+use Rattle.std.specs.Str.{IsAscii}
 use Rattle.rtui_geometry.specs.declared.position.Position.{Position}
 use Rattle.rtui_geometry.specs.declared.rect.Rect.{Rect}
 use Rattle.rtui_geometry.specs.Rect.{HasPosition, intersected}
@@ -89,3 +90,7 @@ RendersShortText text area s = let r = intersected area s.area in (k : ℕ) → 
 
 abbrev pub PaintsShortText : List ℕ → Rect → Sheet → Type 0
 PaintsShortText text area s = AreShort (pieces_at s.area area.x area.width new_style text)
+
+-- each span is a text of ASCII
+abbrev pub AreAscii : List SpanData → Type 0
+AreAscii spans = All (λ span. IsAscii span.content) spans

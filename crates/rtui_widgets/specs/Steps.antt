@@ -1,12 +1,12 @@
 -- What single steps of rendering do to a row of cells.
-use Rattle.std.specs.Prelude.{ℕ, Bool, ◌+◌, ◌-◌, ◌<◌, ◌≡◌, ◌||◌, ◌&&◌, nat_lt, List, [], ◌∷◌, length, Some, if◌then◌else◌, slice_index_or, slice_set}
+use Rattle.std.specs.Prelude.{ℕ, Bool, ◌+◌, ◌-◌, ◌||◌, ◌&&◌, nat_lt, List, Some, if◌then◌else◌, slice_index_or, slice_set}
 use Rattle.rtui_style.specs.declared.Style.{Style}
 use Rattle.rtui_cell.specs.declared.cell.Cell.{Cell}
 use Rattle.rtui_cell.specs.Cell.{empty_cell, styled}
 use Rattle.rtui_cell.specs.Symbol.{appended}
 use Rattle.rtui_cell.specs.Width.{text_width}
 use Rattle.rtui_buffer.specs.Painting.{emptied}
-use Rattle.rtui_widgets.specs.Span.{goes_to, column_with}
+use Rattle.rtui_widgets.specs.Span.{goes_to}
 
 -- a cell with a text as its symbol, in a style
 abbrev pub with_grapheme : Style → List ℕ → Cell → Cell
@@ -29,13 +29,3 @@ with_next is_first x style g row =
     let c = slice_index_or row at empty_cell in
     let new = if is_first || (nat_lt 0 x && nat_lt 0 (text_width g)) then with_grapheme style g c else with_appended style g c in
     emptied (x + 1) (text_width g - 1) (slice_set row at new)
-
--- the column behind these graphemes, where the first stands at x
-unfoldable pub end_of_those : ℕ → List (List ℕ) → ℕ
-end_of_those x [] = x
-end_of_those x (g ∷ gs) = end_of_those (x + text_width g) gs
-
--- the row with these graphemes, column by column
-pub record IsRowWith (style : Style) (gs : List (List ℕ)) (old new : List Cell) : Type 0 where
-  pub count : length new ≡ length old
-  pub columns : (k : ℕ) → k < length old → slice_index_or new k empty_cell ≡ column_with style gs k (slice_index_or old k empty_cell)

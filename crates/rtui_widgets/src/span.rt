@@ -7,13 +7,15 @@ ghost use Rattle.rtui_buffer.specs.Painting.{emptied};
 ghost use Rattle.rtui_widgets.specs.Span.{span_rendered, IsShortSpan};
 ghost use Rattle.rtui_widgets.specs.Steps.{with_grapheme, with_appended, with_next, next_symbol};
 
+use rtui_buffer::paint_printable;
 use rtui_cell::{Cell, CellWidth};
 use rtui_style::Style;
-use rtui_text::has_control;
+use rtui_text::{has_control, printable_front};
 use std::alloc::{AllocError, Global};
 use unicode_segmentation::UnicodeSegmentation;
 
-// Renders a text in a style from the first column of a row on.
+// Renders a text in a style from the first column of a row on: printable characters of ASCII at its start a byte at a time, and
+// behind them grapheme by grapheme.
 #[tactic(auto, using(crate::proofs::SpanLemmas::span_steps))]
 pub(crate) fn render_span(
     alloc: Global,
@@ -27,9 +29,11 @@ pub(crate) fn render_span(
     if row.is_empty() {
         return Ok(());
     }
-    let mut x = 0;
-    let mut is_first = true;
-    for grapheme in text.graphemes(true) {
+    let front = printable_front(text, row.len());
+    paint_printable(alloc, row, 0, &text.as_bytes()[..front], style)?;
+    let mut x = front;
+    let mut is_first = front == 0;
+    for grapheme in text[front..].graphemes(true) {
         if has_control(grapheme) {
             continue;
         }
@@ -37,14 +41,14 @@ pub(crate) fn render_span(
         if width > row.len() - x {
             return Ok(());
         }
-        put_next(alloc, row, x, is_first, grapheme, style)?;
+        put_next(alloc, row, x, is_first, grapheme, width, style)?;
         x += width;
         is_first = false;
     }
     Ok(())
 }
 
-// Puts the next grapheme, which stands at column x.
+// Puts the next grapheme, of this width, which stands at column x.
 #[tactic(auto, unfolding(crate::specs::Steps::with_next))]
 fn put_next(
     alloc: Global,
@@ -52,15 +56,16 @@ fn put_next(
     x: usize,
     is_first: bool,
     grapheme: &str,
+    width: usize,
     style: Style,
 ) -> Result<(), AllocError>
+    requires width { width ≡ text_width grapheme.now }
     requires fits { x + text_width grapheme.now ≤ length row.old }
     requires some { 0 < length row.old }
     requires first { is_first ≡ true → x ≡ 0 }
     ensures ok { OnOk result (row.new ≡ with_next is_first x style grapheme.now row.old) }
     ensures short { IsShort (next_symbol is_first x grapheme.now row.old) → IsOk result }
 {
-    let width = usize::from(grapheme.cell_width());
     if is_first || (x > 0 && width > 0) {
         set(alloc, &mut row[x], grapheme, style)?;
     } else if width == 0 && x > 0 {

@@ -30,9 +30,13 @@ use Rattle.rtui_rows.specs.Following.{Follows}
 use Rattle.rtui_terminal.specs.State.{State, cursor_offset}
 use Rattle.rtui_terminal.specs.InStep.{IsInStep, IsSized}
 use Rattle.rtui_terminal.specs.Insertion.{inserted_area, TakesRows}
-use Rattle.rtui_terminal.specs.Calls.{Starts, Applies, ClearsViewport, Resizes, IsResized}
+use Rattle.rtui_terminal.specs.Starting.{Starts}
+use Rattle.rtui_terminal.specs.Writing.{Applies}
+use Rattle.rtui_terminal.specs.Clearing.{ClearsViewport}
+use Rattle.rtui_terminal.specs.Resizing.{Resizes, IsResized}
 use Rattle.screenplay.specs.Run.{stage_size, IsGoodViewport, IsGoodStage, MayLie, IsFrame, first_viewport, first_rows, IsStart, KeepsSurroundings, size_after, Sight, row_count, text_area, IsInserted, InsertsOn}
-use Rattle.screenplay.specs.Playing.{IsPlaying, sight_in, TakesNewSize, IsSizedFor, ShowsFrame, InsertsBuffer, IsFrameCause, IsCause, Plays}
+use Rattle.screenplay.proofs.FrameLemmas.{plain-emptied, plain-frame, shown-again}
+use Rattle.screenplay.specs.Playing.{IsPlainSheet, IsPlaying, sight_in, TakesNewSize, IsSizedFor, ShowsFrame, InsertsBuffer, IsFrameCause, IsCause, Plays}
 use Rattle.screenplay.specs.declared.scene.PlayCause.{PlayCause}
 use Rattle.screenplay.specs.declared.scene.PlayCause.TheVariants.{Memory, Unsettled}
 use Rattle.screenplay.specs.declared.scene.Stage.{Stage}
@@ -150,6 +154,7 @@ IsPlaying-started stage b t good blank starts =
         sized = subst (λ k. IsFixed k ⊎ (screen_area u ≡ t.known_area)) (sym starts.kind) (first_sized kind s u t.known_area moved.width moved.height known);
         lies = lies;
         in_step = starts.in_step on (record { at = λ a b' within. empty a b' (omega (arith, within.right, on.right)) (omega (arith, within.bottom, on.bottom)) });
+        plain = plain-emptied t.viewport_area t.older starts.older;
         current = starts.current;
         below = λ inline. record { at = λ a b' a_in b_in under. empty a b' a_in b_in };
       },
@@ -182,6 +187,7 @@ IsPlaying-drawn stage text puts frame s t playing made settled applied =
         sized = sized_kept s t (ap (λ t. t.viewport) applied.rest) (ap (λ t. t.known_area) applied.rest) width height playing.sized;
         lies = subst (MayLie stage.viewport (size_of new)) (sym view) (subst (λ z. MayLie stage.viewport z s.viewport_area) (sym (same_size new old width height)) playing.lies);
         in_step = shown;
+        plain = subst IsPlainSheet (sym applied.painted) (plain-frame s.viewport_area text puts frame made);
         current = subst (λ area. IsEmptied area t.current) (sym view) applied.emptied;
         below = λ inline. subst (λ r. IsBlankBelow r new) (sym view) (below_kept s.viewport_area old new width height outside (playing.below inline));
       },
@@ -308,6 +314,7 @@ module _ (stage : Stage) (given : Size) (s t : State TestBackend) (free : IsFixe
     sized = inr (same_area new between resized_width resized_height ∙ sym (ap (λ t. t.known_area) resized.rest));
     lies = resized_lies;
     in_step = resized.in_step resized_on;
+    plain = plain-emptied t.viewport_area t.older resized.older;
     current = emptied_resized s.viewport_area t.viewport_area s.current t.current playing.current resized.current;
     below = λ inline.
         placed_below stage.viewport t.viewport_area (nat_lt between.width s.viewport_area.width) resized.scrolled new inline resized.frame.size.width resized.frame.size.height
@@ -402,6 +409,7 @@ Plays-cleared stage s t good columns rows playing clears =
         sized = sized_kept s t (ap (λ t. t.viewport) clears.rest) (ap (λ t. t.known_area) clears.rest) width height playing.sized;
         lies = subst (MayLie kind (size_of new)) (sym view) (subst (λ z. MayLie kind z r) (sym (same_size new old width height)) playing.lies);
         in_step = clears.in_step at.on_screen at.area;
+        plain = plain-emptied s.older.area t.older clears.older;
         current = subst (λ area. IsEmptied area t.current) (sym view) (subst (IsEmptied r) (sym (ap (λ t. t.current) clears.rest)) playing.current);
         below = λ inline. subst (λ r. IsBlankBelow r new) (sym view) (cleared_below kind r old new inline width height empties);
       };
@@ -440,17 +448,6 @@ IsCause-drawn stage given text puts s m (Unsettled area) playing sized why = (
   },
   why.1,
 )
-
--- an empty buffer that a screen shows is blank there
-blank_shown : (r : Rect) (sheet : Sheet) (s : Screen) → IsEmptied r sheet → ShowsSheet sheet s.grid → IsBlankOver r s
-blank_shown r sheet s empty shown = subst (λ q. IsBlankOver q s) empty.area (record {
-  at = λ a b within.
-      let x : sheet.area.x + (a - sheet.area.x) ≡ a = omega (arith, within.left) in
-      let y : sheet.area.y + (b - sheet.area.y) ≡ b = omega (arith, within.top) in
-      let column = shown.at (a - sheet.area.x) (b - sheet.area.y) (omega (arith, within.left, within.right)) (omega (arith, within.top, within.bottom)) in
-      let is : cell_at sheet.area.width sheet.cells (a - sheet.area.x) (b - sheet.area.y) ≡ empty_cell = rw empty.cells (cell-empty (area_size r) ((b - sheet.area.y) * sheet.area.width + (a - sheet.area.x))) in
-      sym (ap₂ s.grid x y) ∙ column.look (ap is_skipped is ∙ skipped-empty) ∙ ap look_of is ∙ look-empty;
-})
 
 -- an inline viewport that moved down
 not_both : (kind : Viewport) → IsInline kind → IsFixed kind → ⊥
@@ -493,6 +490,13 @@ rows_area s text rows made =
     let is = frame_area (text_area s.viewport_area.width text) text rows made in
     is ∙ ap (λ h. record { x = 0; y = 0; width = s.viewport_area.width; height = h }) (sym (ap (λ (r : Rect). r.height) is))
 
+-- a plain buffer over another area of its size
+plain_moved : (last : Sheet) (q : Rect) {r : Rect} → last.area ≡ r → q.width ≡ r.width → q.height ≡ r.height → IsPlainSheet last → IsPlainSheet (record last { area = q })
+plain_moved last q at width height plain a b a_in b_in =
+    let w : q.width ≡ last.area.width = width ∙ sym (ap (λ (r : Rect). r.width) at) in
+    let h : q.height ≡ last.area.height = height ∙ sym (ap (λ (r : Rect). r.height) at) in
+    ap (λ n. is_skipped (cell_at n last.cells a b)) w ∙ plain a b (omega (arith, a_in, w)) (omega (arith, b_in, h))
+
 -- rows of a text that were inserted
 module _ (stage : Stage) (text : TextData) (rows : Sheet) (s t : State TestBackend) (inline : IsInline stage.viewport) (playing : IsPlaying stage s)
     (made : IsFrame (text_area s.viewport_area.width text) text [] rows) where
@@ -534,7 +538,7 @@ module _ (stage : Stage) (text : TextData) (rows : Sheet) (s t : State TestBacke
             made = made_wide;
             settled = settled;
             above = λ some. absurd (omega (arith, flat, some));
-            shown = record { last = s.older; over = playing.in_step.area; settled = playing.in_step.settled; before = playing.in_step.shown; after = rw playing.in_step.area at playing.in_step.shown };
+            shown = λ a b a_in b_in. refl;
             none = λ _. refl;
           });
         }
@@ -566,6 +570,7 @@ module _ (stage : Stage) (text : TextData) (rows : Sheet) (s t : State TestBacke
             sized = sized_kept s t kind (ap (λ (x : State TestBackend). x.known_area) inserts.rest) width height playing.sized;
             lies = lies;
             in_step = shown;
+            plain = subst IsPlainSheet (sym (inserts.left takes at)) (plain_moved s.older t.viewport_area at.area (ap (λ (r : Rect). r.width) view) (ap (λ (r : Rect). r.height) view) playing.plain);
             current = emptied_followed s.viewport_area t.viewport_area s.current t.current (ap (λ (r : Rect). r.width) view) (ap (λ (r : Rect). r.height) view) inserts.current playing.current;
             below = λ _. inserts.below takes at settled (playing.below inline);
           };
@@ -576,7 +581,9 @@ module _ (stage : Stage) (text : TextData) (rows : Sheet) (s t : State TestBacke
             made = made_wide;
             settled = settled;
             above = λ _. inserts.above takes at settled;
-            shown = record { last = s.older; over = at.area; settled = at.settled; before = at.shown; after = subst (λ o. ShowsSheet o screen_after.grid) (inserts.left takes at) shown.shown };
+            shown =
+                shown-again s.older s.viewport_area t.viewport_area screen_before.grid screen_after.grid at.area (ap (λ (r : Rect). r.width) view) (ap (λ (r : Rect). r.height) view) playing.plain at.shown
+                (subst (λ o. ShowsSheet o screen_after.grid) (inserts.left takes at) shown.shown);
             none = λ flat. absurd (omega (arith, flat, some));
           });
         }

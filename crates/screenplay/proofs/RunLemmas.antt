@@ -5,11 +5,9 @@ use Rattle.std.proofs.lemmas.Bool.{cases_lt}
 use Rattle.std.proofs.lemmas.List.{get_or_append_left}
 use Rattle.std.proofs.lemmas.Option.{slice_get-get_or, get_or_from_slice_get, slice_get_within}
 use Rattle.std.proofs.Math.Seq.{get_or-append_seam}
-use Rattle.std.specs.declared.vec.Vec.{Vec}
-use Rattle.std.specs.declared.alloc.Global.{Global}
 use Rattle.rtui_backend.specs.declared.test.TestBackend.{TestBackend}
 use Rattle.rtui_terminal.specs.State.{State}
-use Rattle.screenplay.specs.Run.{sight_of, IsAtCorner, IsStaged, IsStart, IsAfter, IsRun, IsFault}
+use Rattle.screenplay.specs.Run.{sight_of, IsAtCorner, IsStaged, IsStart, IsAfter, IsRun, StopsBehind}
 use Rattle.screenplay.specs.Playing.{IsPlaying, sight_in, IsSceneOf, IsCause, Plays}
 use Rattle.screenplay.specs.declared.scene.PlayCause.{PlayCause}
 use Rattle.screenplay.specs.declared.scene.PlayCause.TheVariants.{Unsettled}
@@ -32,7 +30,7 @@ get_last : {X : Type 0} (xs : List X) (y x : X) (k : ℕ) → k ≡ length xs �
 get_last xs y x k end e =
     sym (get_or-append_seam xs y [] x) ∙ ap (λ i. get_or (xs ++ y ∷ []) i x) (sym end) ∙ get_or_from_slice_get (xs ++ y ∷ []) k x x e
 
-get_end : {X : Type 0} (xs : List X) (y : X) (k : ℕ) → k ≡ length xs → slice_get (xs ++ y ∷ []) k ≡ Some y
+pub get_end : {X : Type 0} (xs : List X) (y : X) (k : ℕ) → k ≡ length xs → slice_get (xs ++ y ∷ []) k ≡ Some y
 get_end xs y k end =
     slice_get-get_or (xs ++ y ∷ []) k y (omega (arith, length-append xs (y ∷ []))) ∙ ap Some (ap (λ i. get_or (xs ++ y ∷ []) i y) end ∙ get_or-append_seam xs y [] y)
 
@@ -96,9 +94,9 @@ module _ (stage : Stage) (steps : List Step) (step : Step) (scenes : List Scene)
   HasLast-push = let count = run.count in record { scene = scene; here = get_end scenes scene (length steps + 1) (omega arith); shown = made }
 
 -- a fault behind i steps, whose scenes are a run of those
-pub IsFault-at : (stage : Stage) (steps : List Step) (i : ℕ) (step : Step) (cause : PlayCause) (scenes : Vec Scene Global) (s : State TestBackend) → i < length steps → step ≡ get_or steps i step
-    → IsRun stage (take i steps) scenes.items → HasLast i scenes.items s → IsCause stage step (sight_in s) cause → IsFault stage steps (record { step = i + 1; cause = cause; scenes = scenes })
-IsFault-at stage steps i step cause scenes s inside is run last why =
+pub StopsBehind-at : (stage : Stage) (steps : List Step) (i : ℕ) (step : Step) (cause : PlayCause) (scenes : List Scene) (s : State TestBackend) → i < length steps → step ≡ get_or steps i step
+    → IsRun stage (take i steps) scenes → HasLast i scenes s → IsCause stage step (sight_in s) cause → StopsBehind stage steps scenes (record { step = i + 1; cause = cause })
+StopsBehind-at stage steps i step cause scenes s inside is run last why =
     let back : i + 1 - 1 ≡ i = omega arith in
     record {
       inside = omega arith;

@@ -12,7 +12,7 @@ use Rattle.rtui_backend.specs.TestBackend.{screen_of, sheet_of}
 use Rattle.rtui_backend.specs.declared.test.TestBackend.{TestBackend}
 use Rattle.rtui_terminal.specs.State.{State}
 use Rattle.screenplay.specs.Run.{Sight}
-use Rattle.screenplay.specs.Playing.{IsSceneOf}
+use Rattle.screenplay.specs.Playing.{IsSceneOf, scene_in}
 
 abbrev CellRow : Type 0
 CellRow = Vec Cell Global
@@ -36,6 +36,13 @@ shown_with viewport history area cells = record {
     written = 0;
   };
   viewport = viewport;
+}
+
+-- what the terminal's screen shows, as a scene
+pub IsSceneOf-in : (t : State TestBackend) → IsSceneOf t (scene_in t)
+IsSceneOf-in t = record {
+  corner = ap₂ (λ x y. record { x = x; y = y; width = t.backend.buffer.area.width; height = t.backend.buffer.area.height }) t.backend.corner_x t.backend.corner_y;
+  shown = refl;
 }
 
 pub IsSceneOf-made : (t : State TestBackend) (history : Vec CellRow Global) (rows : List CellRow) (buffer copy : Sheet) → IsSameSheet buffer copy → buffer.area ≡ screen_area (screen_of t.backend) → buffer ≡ sheet_of t.backend

@@ -6,17 +6,18 @@ use Rattle.std.proofs.Math.Seq.{get_or-append_seam}
 use Rattle.std.proofs.lemmas.Bool.{cases_lt, false≢true}
 use Rattle.screenplay.specs.declared.script.Command.{Command}
 use Rattle.screenplay.specs.declared.script.Command.TheVariants.{SetStage, TakeSize, Put, AddText, Draw, Insert, Clear, Show}
-use Rattle.screenplay.specs.declared.script.Waiting.{Waiting}
+use Rattle.screenplay.specs.declared.waiting.Waiting.{Waiting}
 use Rattle.screenplay.specs.declared.scene.Stage.{Stage}
-use Rattle.screenplay.specs.declared.scene.Step.{Step}
 use Rattle.screenplay.specs.Script.{command_with, command_of, commands_of, may_stand, is_good_line, AreGood, IsFirstBadLine, stage_of, stage_after, nothing, waiting_after, waiting_behind, may_insert, steps_of, shows_of, IsScript}
-use Rattle.screenplay.specs.Reading.{HasRead}
-use Rattle.std.specs.Prelude.{if◌then◌else◌}
+use Rattle.rtui_text.specs.Text.{raw_line}
+use Rattle.screenplay.specs.Reading.{CountsTexts, HasRead}
+use Rattle.std.specs.Prelude.{if◌then◌else◌, nat_le, ◌^◌, min}
+use Rattle.std.proofs.lemmas.Bool.Decides.{nat_tests}
 use Rattle.std.specs.List.{slice_split, onto_first}
 use Rattle.std.specs.Str.Lines.{lines, lines_of_parts}
 
-pub HasRead-none : HasRead [] None nothing [] []
-HasRead-none = record { good = λ k lt. absurd (omega arith); stage_is = refl; waiting_is = refl; steps_are = λ cs. refl; shows_are = λ cs. refl }
+pub HasRead-none : HasRead [] None 0 []
+HasRead-none = record { good = λ k lt. absurd (omega arith); stage_is = refl; waiting = refl; commands_are = refl }
 
 -- a command that may stand behind others leaves the stage that they set, or sets it
 stage_of-some : (c : Command) (stage : Stage) → may_stand (Some stage) c ≡ true → stage_after c (Some stage) ≡ Some stage
@@ -50,7 +51,7 @@ stage_of-push (Insert ∷ cs) c h = stage_of-push cs c h
 stage_of-push (Clear ∷ cs) c h = stage_of-push cs c h
 stage_of-push (Show ∷ cs) c h = stage_of-push cs c h
 
-waiting_behind-push : (cs : List Command) (c : Command) (w : Waiting) → waiting_behind (cs ++ c ∷ []) w ≡ waiting_after c (waiting_behind cs w)
+pub waiting_behind-push : (cs : List Command) (c : Command) (w : Waiting) → waiting_behind (cs ++ c ∷ []) w ≡ waiting_after c (waiting_behind cs w)
 waiting_behind-push [] c w = refl
 waiting_behind-push (d ∷ cs) c w = waiting_behind-push cs c (waiting_after d w)
 
@@ -83,40 +84,47 @@ AreGood-push done line before good k lt = elim (cases_lt k (length done)) [
     take-all [] line = refl
     take-all (d ∷ ds) line = ap (λ xs. d ∷ xs) (take-all ds line)
 
-module _ (done : List (List ℕ)) (line : List ℕ) (stage : Option Stage) (w : Waiting) (steps : List Step) (shows : List ℕ) (h : HasRead done stage w steps shows) where
+-- the texts that wait are at most 65535 exactly where their count is
+pub may_insert-counted : (w : Waiting) (n : ℕ) → CountsTexts w n → nat_le n 65535 ≡ may_insert w Insert
+may_insert-counted w n counts = let is : n ≡ min (length w.text.lines) (2 ^ 64 - 1) = counts in grind (arith, nat_tests)
+
+pub CountsTexts-more : (w : Waiting) (text : List ℕ) (n m : ℕ) → CountsTexts w n → m ≡ min (n + 1) (2 ^ 64 - 1) → CountsTexts (waiting_after (AddText text) w) m
+CountsTexts-more w text n m counts more = omega (arith, counts, more, length-append w.text.lines (raw_line text ∷ []))
+
+module _ (done : List (List ℕ)) (line : List ℕ) (stage : Option Stage) (texts : ℕ) (commands : List Command) (h : HasRead done stage texts commands) where
+  abbrev waits : Waiting
+  waits = waiting_behind (commands_of done) nothing
+
   -- an empty line is passed over
-  pub HasRead-skip : length line ≡ 0 → HasRead (done ++ line ∷ []) stage w steps shows
+  pub HasRead-skip : length line ≡ 0 → HasRead (done ++ line ∷ []) stage texts commands
   HasRead-skip empty =
       let same : commands_of (done ++ line ∷ []) ≡ commands_of done =
       filter_map-append command_of done (line ∷ []) ∙ ap (λ cs. commands_of done ++ cs) (none line (command_of-empty line empty)) ∙ append-nil (commands_of done) in
       record {
         good = AreGood-push done line h.good (rw empty refl);
         stage_is = h.stage_is ∙ ap stage_of (sym same);
-        waiting_is = h.waiting_is ∙ ap (λ cs. waiting_behind cs nothing) (sym same);
-        steps_are = λ cs. h.steps_are cs ∙ ap (λ ds. steps_of nothing (ds ++ cs)) (sym same);
-        shows_are = λ cs. h.shows_are cs ∙ ap (λ ds. shows_of 0 (ds ++ cs)) (sym same);
+        waiting = subst (λ cs. CountsTexts (waiting_behind cs nothing) texts) (sym same) h.waiting;
+        commands_are = h.commands_are ∙ sym same;
       }
     where
       none : (line : List ℕ) → command_of line ≡ None → commands_of (line ∷ []) ≡ []
       none line e = rw e refl
 
   -- a command that may stand there is taken
-  pub HasRead-take : (c : Command) (stage' : Option Stage) (w' : Waiting) (steps' : List Step) (shows' : List ℕ) → command_of line ≡ Some c → may_stand stage c ≡ true → may_insert w c ≡ true → stage' ≡ stage_after c stage → w' ≡ waiting_after c w
-      → ((cs : List Command) → steps' ++ steps_of w' cs ≡ steps ++ steps_of w (c ∷ cs))
-      → ((cs : List Command) → shows' ++ shows_of (length steps') cs ≡ shows ++ shows_of (length steps) (c ∷ cs))
-      → HasRead (done ++ line ∷ []) stage' w' steps' shows'
-  HasRead-take c stage' w' steps' shows' is fits room staged waited stepped showed =
+  pub HasRead-take : (c : Command) (stage' : Option Stage) (texts' : ℕ) (commands' : List Command) → command_of line ≡ Some c → may_stand stage c ≡ true → may_insert waits c ≡ true → stage' ≡ stage_after c stage
+      → CountsTexts (waiting_after c waits) texts' → commands' ≡ commands ++ c ∷ [] → HasRead (done ++ line ∷ []) stage' texts' commands'
+  HasRead-take c stage' texts' commands' is fits takes staged counts pushed =
       let more : commands_of (done ++ line ∷ []) ≡ commands_of done ++ c ∷ [] =
       filter_map-append command_of done (line ∷ []) ∙ ap (λ cs. commands_of done ++ cs) (one line c is) in
       let stands : may_stand (stage_of (commands_of done)) c ≡ true = ap (λ s. may_stand s c) (sym h.stage_is) ∙ fits in
-      let takes : may_insert (waiting_behind (commands_of done) nothing) c ≡ true = ap (λ x. may_insert x c) (sym h.waiting_is) ∙ room in
       let good : is_good_line done line ≡ true = rw is (rw (stands, takes) (or_true (length line == 0))) in
       record {
         good = AreGood-push done line h.good good;
         stage_is = staged ∙ ap (stage_after c) h.stage_is ∙ sym (stage_of-push (commands_of done) c stands) ∙ ap stage_of (sym more);
-        waiting_is = waited ∙ ap (waiting_after c) h.waiting_is ∙ sym (waiting_behind-push (commands_of done) c nothing) ∙ ap (λ cs. waiting_behind cs nothing) (sym more);
-        steps_are = λ cs. stepped cs ∙ h.steps_are (c ∷ cs) ∙ ap (steps_of nothing) (sym (append_assoc (commands_of done) (c ∷ []) cs) ∙ ap (λ ds. ds ++ cs) (sym more));
-        shows_are = λ cs. showed cs ∙ h.shows_are (c ∷ cs) ∙ ap (shows_of 0) (sym (append_assoc (commands_of done) (c ∷ []) cs) ∙ ap (λ ds. ds ++ cs) (sym more));
+        waiting =
+            subst (λ cs. CountsTexts (waiting_behind cs nothing) texts') (sym more)
+            (subst (λ w. CountsTexts w texts') (sym (waiting_behind-push (commands_of done) c nothing)) counts);
+        commands_are = pushed ∙ ap (λ cs. cs ++ c ∷ []) h.commands_are ∙ sym more;
       }
     where
       one : (line : List ℕ) (c : Command) → command_of line ≡ Some c → commands_of (line ∷ []) ≡ c ∷ []
@@ -130,19 +138,18 @@ module _ (done : List (List ℕ)) (line : List ℕ) (stage : Option Stage) (w : 
   bad-place c some is out = let off : may_stand (stage_of (commands_of done)) c ≡ false = ap (λ s. may_stand s c) (sym h.stage_is) ∙ out in rw (some, is, off) refl
 
   -- and so is one that would insert too many texts
-  pub bad-room : (c : Command) → (length line == 0) ≡ false → command_of line ≡ Some c → may_stand stage c ≡ true → may_insert w c ≡ false → is_good_line done line ≡ false
+  pub bad-room : (c : Command) → (length line == 0) ≡ false → command_of line ≡ Some c → may_stand stage c ≡ true → may_insert waits c ≡ false → is_good_line done line ≡ false
   bad-room c some is fits full =
       let stands : may_stand (stage_of (commands_of done)) c ≡ true = ap (λ s. may_stand s c) (sym h.stage_is) ∙ fits in
-      let off : may_insert (waiting_behind (commands_of done) nothing) c ≡ false = ap (λ x. may_insert x c) (sym h.waiting_is) ∙ full in
-      rw (some, is, stands, off) refl
+      rw (some, is, stands, full) refl
 
 -- all lines were read
-pub IsScript-read : (all : List (List ℕ)) (stage : Option Stage) (w : Waiting) (steps : List Step) (shows : List ℕ) → HasRead all stage w steps shows → IsScript all stage steps shows
-IsScript-read all stage w steps shows h = record {
+pub IsScript-read : (all : List (List ℕ)) (stage : Option Stage) (texts : ℕ) (commands : List Command) → HasRead all stage texts commands → IsScript all stage (steps_of nothing commands) (shows_of 0 commands)
+IsScript-read all stage texts commands h = record {
   good = h.good;
   stage_is = h.stage_is;
-  steps_are = sym (append-nil steps) ∙ h.steps_are [] ∙ ap (steps_of nothing) (append-nil (commands_of all));
-  shows_are = sym (append-nil shows) ∙ h.shows_are [] ∙ ap (shows_of 0) (append-nil (commands_of all));
+  steps_are = ap (steps_of nothing) h.commands_are;
+  shows_are = ap (shows_of 0) h.commands_are;
 }
 
 -- a bad line behind good ones is the first bad one

@@ -1,15 +1,20 @@
 -- From the bytes of a script to what is printed, or to a fault.
-use Rattle.std.specs.Prelude.{ℕ, List, [], ◌++◌, Option, Some, codes, IfSome}
+use Rattle.std.specs.Prelude.{◌≡◌, ℕ, List, [], ◌++◌, Option, Some, codes, IfSome}
 use Rattle.std.specs.Fmt.{decimal}
 use Rattle.std.specs.Str.{IsUtf8}
 use Rattle.std.specs.Io.KnownBytes.{Appends}
-use Rattle.screenplay.specs.Script.{IsScript, IsFirstBadLine, script_lines}
-use Rattle.screenplay.specs.Run.{IsRun, IsFault}
-use Rattle.screenplay.specs.Print.{printed}
+use Rattle.rtui_backend.specs.declared.test.TestBackend.{TestBackend}
+use Rattle.rtui_terminal.specs.State.{State}
+use Rattle.screenplay.specs.Script.{IsScript, IsFirstBadLine, nothing, script_lines, shows_of, steps_of}
+use Rattle.screenplay.specs.Run.{IsRun, StopsBehind}
+use Rattle.screenplay.specs.Print.{printed, printed_scene}
+use Rattle.screenplay.specs.Playing.{scene_in}
+use Rattle.screenplay.specs.declared.script.Command.{Command}
+use Rattle.screenplay.specs.declared.script.Command.TheVariants.{SetStage, TakeSize, Put, AddText, Draw, Insert, Clear, Show}
 use Rattle.screenplay.specs.declared.scene.Scene.{Scene}
 use Rattle.screenplay.specs.declared.scene.Stage.{Stage}
 use Rattle.screenplay.specs.declared.scene.Step.{Step}
-use Rattle.screenplay.specs.declared.scene.PlayFault.{PlayFault}
+use Rattle.screenplay.specs.declared.scene.StepFault.{StepFault}
 use Rattle.screenplay.specs.declared.scene.PlayCause.{PlayCause}
 use Rattle.screenplay.specs.declared.scene.PlayCause.TheVariants as cause
 use Rattle.screenplay.specs.declared.fault.RunFault.{RunFault}
@@ -30,14 +35,22 @@ pub record PrintsRun (bytes : List ℕ) (old new : Option (List ℕ)) : Type 0 w
   pub played : IsPlayed bytes shows scenes
   pub written : Appends old new (printed shows scenes)
 
+-- the printed scenes of a run of the script that the bytes are
+pub record IsTextOf (bytes text : List ℕ) : Type 0 where
+  pub shows : List ℕ
+  pub scenes : List Scene
+  pub played : IsPlayed bytes shows scenes
+  pub text_is : text ≡ printed shows scenes
+
 -- the bytes are a script with a step that can't be played
-pub record HasStepFault (bytes : List ℕ) (fault : PlayFault) : Type 0 where
+pub record HasStepFault (bytes : List ℕ) (fault : StepFault) : Type 0 where
   pub stage : Stage
   pub steps : List Step
   pub shows : List ℕ
+  pub scenes : List Scene
   pub text : IsUtf8 bytes
   pub script : IsScript (script_lines bytes) (Some stage) steps shows
-  pub played : IsFault stage steps fault
+  pub played : StopsBehind stage steps scenes fault
 
 -- why nothing of these bytes was printed, or with a failed writer a part: they are a script that was played
 abbrev pub IsRunFault : List ℕ → RunFault → Type 0
@@ -47,6 +60,27 @@ IsRunFault bytes NotText = IsUtf8 bytes → ⊥
 IsRunFault bytes Read = Unit {0}
 IsRunFault bytes Memory = Unit {0}
 IsRunFault bytes Write = (shows : List ℕ) × (scenes : List Scene) × IsPlayed bytes shows scenes
+
+-- the text that a command shows of a terminal's screen
+abbrev pub text_shown_by : Command → State TestBackend → List ℕ
+text_shown_by (SetStage stage) t = []
+text_shown_by (TakeSize size) t = []
+text_shown_by (Put x y c) t = []
+text_shown_by (AddText text) t = []
+text_shown_by Draw t = []
+text_shown_by Insert t = []
+text_shown_by Clear t = []
+text_shown_by Show t = printed_scene (scene_in t)
+
+-- the printed scenes of a run of the commands' steps
+abbrev pub IsShownText : Stage → List Command → List ℕ → Type 0
+IsShownText stage commands text = (scenes : List Scene) × IsRun stage (steps_of nothing commands) scenes × (text ≡ printed (shows_of 0 commands) scenes)
+
+-- a step of the commands can't be played, or memory was refused
+abbrev pub StopsAtStep : Stage → List Command → RunFault → Type 0
+StopsAtStep stage commands (AtStep fault) = (scenes : List Scene) × StopsBehind stage (steps_of nothing commands) scenes fault
+StopsAtStep stage commands Memory = Unit {0}
+StopsAtStep stage commands other = ⊥
 
 abbrev pub cause_text : PlayCause → List ℕ
 cause_text cause.Memory = codes "memory"

@@ -1,17 +1,19 @@
 -- A terminal in the middle of a play.
-use Rattle.std.specs.Prelude.{◌≡◌, ℕ, ◌<◌, List, Option}
+use Rattle.std.specs.Prelude.{◌≡◌, ℕ, ◌<◌, false, List, Option, None, Some}
 use Rattle.rtui_geometry.specs.declared.size.Size.{Size}
+use Rattle.rtui_cell.specs.Cell.{is_skipped}
+use Rattle.rtui_diff.specs.Cells.{cell_at}
 use Rattle.rtui_text.specs.Text.{TextData}
 use Rattle.rtui_buffer.specs.Sheet.{Sheet, IsEmptied}
 use Rattle.rtui_buffer.specs.Frame.{IsSettledSheet, ShowsSheet}
 use Rattle.rtui_backend.specs.Screen.{size_of, TakesSize}
-use Rattle.rtui_backend.specs.TestBackend.{screen_of}
+use Rattle.rtui_backend.specs.TestBackend.{screen_of, sheet_of}
 use Rattle.rtui_backend.specs.declared.test.TestBackend.{TestBackend}
 use Rattle.rtui_viewport.specs.Viewports.{IsInline}
 use Rattle.rtui_viewport.specs.Areas.{IsBlankBelow}
 use Rattle.rtui_terminal.specs.State.{State}
 use Rattle.rtui_terminal.specs.InStep.{IsInStep, IsSized}
-use Rattle.rtui_terminal.specs.Calls.{Autoresizes}
+use Rattle.rtui_terminal.specs.Resizing.{Autoresizes}
 use Rattle.rtui_terminal.specs.Insertion.{inserted_area, Inserts}
 use Rattle.screenplay.specs.Run.{Sight, plain_screen, sight_of, MayLie, size_after, GoesOn, KeepsSurroundings, IsFrame, IsAtCorner, HasUnsettled, IsUnsettled, IsAfter}
 use Rattle.screenplay.specs.declared.scene.Stage.{Stage}
@@ -20,19 +22,28 @@ use Rattle.screenplay.specs.declared.scene.Step.{Step}
 use Rattle.screenplay.specs.declared.scene.PlayCause.{PlayCause}
 use Rattle.screenplay.specs.declared.scene.PlayCause.TheVariants.{Memory, Unsettled}
 
--- the terminal is in step over the stage's kind of viewport and knows the screen's size, its buffer to paint on is empty, and the rows below
--- an inline viewport are blank
+-- no cell of a buffer is skipped
+abbrev pub IsPlainSheet : Sheet → Type 0
+IsPlainSheet s = (a b : ℕ) → a < s.area.width → b < s.area.height → is_skipped (cell_at s.area.width s.cells a b) ≡ false
+
+-- the terminal is in step over the stage's kind of viewport and knows the screen's size, no cell of the last frame is skipped, its buffer to
+-- paint on is empty, and the rows below an inline viewport are blank
 pub record IsPlaying (stage : Stage) (t : State TestBackend) : Type 0 where
   pub kind : t.viewport ≡ stage.viewport
   pub sized : IsSized screen_of t
   pub lies : MayLie stage.viewport (size_of (screen_of t.backend)) t.viewport_area
   pub in_step : IsInStep screen_of t
+  pub plain : IsPlainSheet t.older
   pub current : IsEmptied t.viewport_area t.current
   pub below : IsInline stage.viewport → IsBlankBelow t.viewport_area (screen_of t.backend)
 
 -- what a terminal's screen shows
 abbrev pub sight_in : State TestBackend → Sight
 sight_in t = record { screen = plain_screen (screen_of t.backend); viewport = t.viewport_area }
+
+-- and as a scene
+abbrev pub scene_in : State TestBackend → Scene
+scene_in t = record { history = t.backend.scrollback; screen = sheet_of t.backend; viewport = t.viewport_area }
 
 -- a scene shows what the terminal's screen shows
 pub record IsSceneOf (t : State TestBackend) (scene : Scene) : Type 0 where
@@ -79,3 +90,13 @@ IsCause stage step s (Unsettled area) = IsUnsettled stage step s area
 pub record Plays (stage : Stage) (step : Step) (s t : State TestBackend) : Type 0 where
   pub playing : IsPlaying stage t
   pub after : IsAfter stage step (sight_in s) (sight_in t)
+
+-- a step was played, if there is one
+abbrev pub PlaysAny : Stage → Option Step → State TestBackend → State TestBackend → Type 0
+PlaysAny stage None s t = t ≡ s
+PlaysAny stage (Some step) s t = Plays stage step s t
+
+-- why it wasn't
+abbrev pub IsCauseAny : Stage → Option Step → Sight → PlayCause → Type 0
+IsCauseAny stage None s cause = ⊥
+IsCauseAny stage (Some step) s cause = IsCause stage step s cause

@@ -2,12 +2,13 @@
 use Rattle.std.specs.Prelude.{◌≡◌, ℕ, ◌+◌, ◌-◌, ◌<◌, ◌≤◌, min, true, List, [], ◌∷◌, ◌++◌, map, length, take, replicate, Option, None, Some, slice_get}
 use Rattle.rtui_geometry.specs.declared.rect.Rect.{Rect}
 use Rattle.rtui_geometry.specs.declared.size.Size.{Size}
+use Rattle.rtui_geometry.specs.Rect.{EdgesFit}
 use Rattle.rtui_cell.specs.Look.{Look, look_of, empty_look}
 use Rattle.rtui_text.specs.Text.{TextData}
 use Rattle.rtui_buffer.specs.Sheet.{Sheet, IsEmptied}
 use Rattle.rtui_buffer.specs.Frame.{IsSettledSheet, ShowsSheet}
 use Rattle.rtui_widgets.specs.Rendering.{RendersText}
-use Rattle.rtui_backend.specs.Screen.{Screen, KeepsSize, IsOnScreen, size_of, screen_area, rows_above}
+use Rattle.rtui_backend.specs.Screen.{Screen, KeepsSizeAndHistory, IsOnScreen, size_of, screen_area, rows_above}
 use Rattle.rtui_backend.specs.CellGrid.{grid_of}
 use Rattle.rtui_viewport.specs.declared.viewport.Viewport.{Viewport}
 use Rattle.rtui_viewport.specs.declared.viewport.Viewport.TheVariants.{Fullscreen, Inline, Fixed}
@@ -20,6 +21,7 @@ use Rattle.screenplay.specs.declared.scene.Scene.{Scene}
 use Rattle.screenplay.specs.declared.scene.Step.{Step}
 use Rattle.screenplay.specs.declared.scene.Step.TheVariants.{Draw, Insert, Clear}
 use Rattle.screenplay.specs.declared.scene.PlayFault.{PlayFault}
+use Rattle.screenplay.specs.declared.scene.StepFault.{StepFault}
 use Rattle.screenplay.specs.declared.scene.PlayCause.TheVariants.{Memory, Unsettled}
 
 -- a screen, of whose cursor nothing is said, and the viewport on it
@@ -93,6 +95,7 @@ pub record IsStaged (stage : Stage) (s : Sight) : Type 0 where
 
 -- the frame of a text and puts over an area: an empty buffer, the text rendered over it, and then the puts set in order
 pub record IsFrame (area : Rect) (text : TextData) (puts : List (ℕ × ℕ × ℕ)) (frame : Sheet) : Type 0 where
+  pub edges : EdgesFit area
   pub blank : Sheet
   pub emptied : IsEmptied area blank
   pub rendered : Sheet
@@ -121,7 +124,7 @@ pub record IsStart (stage : Stage) (s : Sight) : Type 0 where
 -- the size, the viewport, the history and all columns outside the viewport stay
 pub record KeepsSurroundings (old new : Sight) : Type 0 where
   pub viewport : new.viewport ≡ old.viewport
-  pub size : KeepsSize old.screen new.screen
+  pub size : KeepsSizeAndHistory old.screen new.screen
   pub outside : KeepsOutside old.viewport old.screen new.screen
 
 -- the size after a draw: the given one, but the screen of a fixed viewport keeps its own
@@ -159,13 +162,11 @@ row_count text = min (length text.lines) 65535
 abbrev pub text_area : ℕ → TextData → Rect
 text_area width text = record { x = 0; y = 0; width = width; height = row_count text }
 
--- a settled frame that the screen showed over the viewport is shown over it where it is now
-pub record ShowsAgain (old new : Sight) : Type 0 where
-  pub last : Sheet
-  pub over : last.area ≡ old.viewport
-  pub settled : IsSettledSheet last
-  pub before : ShowsSheet last old.screen.grid
-  pub after : ShowsSheet (record last { area = new.viewport }) new.screen.grid
+-- each column of the viewport shows what it did
+abbrev pub ShowsAgain : Sight → Sight → Type 0
+ShowsAgain old new =
+    (a b : ℕ) → a < old.viewport.width → b < old.viewport.height
+    → new.screen.grid (new.viewport.x + a) (new.viewport.y + b) ≡ old.screen.grid (old.viewport.x + a) (old.viewport.y + b)
 
 -- an insertion: exactly the rows of the settled frame of the text came to those above the viewport, which moved down as far as there was
 -- room, and shows what it did; on a screen without rows nothing changes
@@ -220,11 +221,15 @@ IsUnsettled stage (Draw given text puts) s area = MayCover stage (size_after sta
 IsUnsettled stage (Insert text) s area = IsInline stage.viewport × (area ≡ s.viewport) × HasUnsettled (text_area s.screen.width text) text []
 IsUnsettled stage Clear s area = ⊥
 
--- a fault at a step: the scenes are a run of the steps before it, and a step that is called unsettled is
-pub record IsFault (stage : Stage) (steps : List Step) (fault : PlayFault) : Type 0 where
+-- a play stopped at a step, of which these are the scenes: they are a run of the steps before it, and a step that is called unsettled is
+pub record StopsBehind (stage : Stage) (steps : List Step) (scenes : List Scene) (fault : StepFault) : Type 0 where
   pub inside : fault.step ≤ length steps
-  pub early : fault.step ≡ 0 → (fault.scenes.items ≡ []) × (fault.cause ≡ Memory)
-  pub run : 0 < fault.step → IsRun stage (take (fault.step - 1) steps) fault.scenes.items
+  pub early : fault.step ≡ 0 → (scenes ≡ []) × (fault.cause ≡ Memory)
+  pub run : 0 < fault.step → IsRun stage (take (fault.step - 1) steps) scenes
   pub unsettled : (area : Rect) → fault.cause ≡ Unsettled area
-      → (step : Step) × (scene : Scene) × (slice_get steps (fault.step - 1) ≡ Some step) × (slice_get fault.scenes.items (fault.step - 1) ≡ Some scene)
+      → (step : Step) × (scene : Scene) × (slice_get steps (fault.step - 1) ≡ Some step) × (slice_get scenes (fault.step - 1) ≡ Some scene)
       × IsUnsettled stage step (sight_of scene) area
+
+-- the same of a fault that has the scenes
+abbrev pub IsFault : Stage → List Step → PlayFault → Type 0
+IsFault stage steps fault = StopsBehind stage steps fault.scenes.items (record { step = fault.step; cause = fault.cause })

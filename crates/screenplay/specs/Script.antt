@@ -13,7 +13,7 @@ use Rattle.rtui_viewport.specs.declared.viewport.Viewport.TheVariants.{Fullscree
 use Rattle.screenplay.specs.declared.script.Command.{Command}
 use Rattle.screenplay.specs.declared.script.Command.TheVariants.{SetStage, TakeSize, Put, AddText, Draw, Insert, Clear, Show}
 use Rattle.std.specs.Str.Lines.{lines}
-use Rattle.screenplay.specs.declared.script.Waiting.{Waiting}
+use Rattle.screenplay.specs.declared.waiting.Waiting.{Waiting}
 use Rattle.screenplay.specs.declared.script.ScriptFault.{ScriptFault}
 use Rattle.screenplay.specs.declared.script.ScriptFault.TheVariants.{Line, Memory}
 use Rattle.screenplay.specs.declared.scene.Stage.{Stage}

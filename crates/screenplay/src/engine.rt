@@ -1,18 +1,23 @@
 //! The engine: from the bytes of a script to its printed scenes.
 
-ghost use Rattle.std.specs.Prelude.{◌≡◌, Some, IfOk, IfErr, IfSome, OnOk};
+ghost use Rattle.std.specs.Prelude.{◌≡◌, ◌++◌, length, IfOk, IfErr, IfSome, OnOk};
 ghost use Rattle.std.specs.Str.{IsUtf8};
-ghost use Rattle.screenplay.specs.Script.{IsScript, script_lines};
-ghost use Rattle.screenplay.specs.Run.{IsGoodStage, IsRun, IsFault};
-ghost use Rattle.screenplay.specs.Engine.{IsRunFault, PrintsRun};
-ghost use Rattle.screenplay.specs.declared.scene.Stage.{Stage};
-ghost use Rattle.screenplay.specs.declared.fault.RunFault.TheVariants.{Read, Memory, Write};
+ghost use Rattle.screenplay.specs.Script.{IsScript, nothing, script_lines, shows_of, steps_of};
+ghost use Rattle.screenplay.specs.Run.{IsGoodStage};
+ghost use Rattle.screenplay.specs.Engine.{IsRunFault, IsShownText, IsTextOf, PrintsRun, StopsAtStep, text_shown_by};
+ghost use Rattle.screenplay.specs.Playing.{IsCauseAny, IsPlaying, PlaysAny, sight_in};
+ghost use Rattle.screenplay.specs.Reading.{as_list};
+ghost use Rattle.screenplay.specs.declared.fault.RunFault.TheVariants.{Step as AtStep, Read, Memory, Write};
 
 use crate::fault::RunFault;
-use crate::playing::play;
-use crate::print::write_scenes;
-use crate::scene::{PlayFault, Scene};
-use crate::script::{Script, ScriptFault, read_script};
+use crate::playing::{open, play_step};
+use crate::print::write_sight;
+use crate::scene::{PlayCause, Stage, Step, StepFault};
+use crate::script::{Command, Script, ScriptFault, read_script};
+use crate::waiting::{nothing_waiting, take_command};
+use rtui_backend::TestBackend;
+use rtui_terminal::Terminal;
+use rtui_viewport::Viewport;
 use std::alloc::Global;
 use std::io::{ErrorKind, Read, Write};
 use std::str;
@@ -34,8 +39,8 @@ fn read_bytes<R: Read>(alloc: Global, reader: &mut R) -> Result<Vec<u8>, RunFaul
 
 // The script that these bytes are.
 fn script_of(alloc: Global, bytes: &[u8]) -> Result<Script<'_>, RunFault>
-    ensures ok { IfOk result (λ s. IsUtf8 bytes.now
-        × IsScript (script_lines bytes.now) s.stage s.steps.items s.shows.items) }
+    ensures ok { IfOk result (λ s. IsUtf8 bytes.now × IsScript (script_lines bytes.now) s.stage
+        (steps_of nothing s.commands.items) (shows_of 0 s.commands.items)) }
     ensures err { IfErr result (IsRunFault bytes.now) }
     ensures early { IfErr result (λ fault. fault ≡ Write → ⊥) }
 {
@@ -49,22 +54,102 @@ fn script_of(alloc: Global, bytes: &[u8]) -> Result<Script<'_>, RunFault>
     }
 }
 
-// The scenes of a script; none where it sets no stage.
-fn scenes_of(alloc: Global, script: &Script<'_>) -> Result<Vec<Scene>, PlayFault>
-    requires { IfSome script.now.stage IsGoodStage }
-    ensures ok { IfOk result (λ scenes. IfSome script.now.stage (λ stage.
-        IsRun stage script.now.steps.items scenes.items)) }
-    ensures fault { IfErr result (λ fault. (stage : Stage) × (script.now.stage ≡ Some stage)
-        × IsFault stage script.now.steps.items fault) }
+// Writes what the screen shows behind a text, where a command says so.
+fn show(
+    text: &mut Vec<u8>,
+    terminal: &Terminal<TestBackend>,
+    command: &Command<'_>,
+) -> Result<(), RunFault>
+    ensures ok { OnOk result (text.new.items
+        ≡ text.old.items ++ text_shown_by command.now terminal.now) }
+    ensures err { IfErr result (λ fault. fault ≡ Memory) }
 {
+    match command {
+        Command::Show => match write_sight(text, terminal) {
+            Ok(()) => Ok(()),
+            Err(_) => Err(RunFault::Memory),
+        },
+        _ => Ok(()),
+    }
+}
+
+fn step_fault(step: usize, cause: PlayCause) -> RunFault
+    ensures { result ≡ AtStep (record { step = step; cause = cause }) }
+{
+    RunFault::Step(StepFault { step, cause })
+}
+
+// Plays a step, if there is one, and answers how many steps that is.
+fn play_taken(
+    alloc: Global,
+    terminal: &mut Terminal<TestBackend>,
+    viewport: Viewport,
+    taken: Option<Step<'_>>,
+) -> Result<usize, PlayCause>
+    ensures count { IfOk result (λ count. count ≡ length (as_list taken.entry)) }
+    ensures ok { OnOk result ((stage : Stage) → stage.viewport ≡ viewport → IsGoodStage stage
+        → IsPlaying stage terminal.old → PlaysAny stage taken.entry terminal.old terminal.new) }
+    ensures err { IfErr result (λ cause. (stage : Stage) → stage.viewport ≡ viewport
+        → IsPlaying stage terminal.old
+        → IsCauseAny stage taken.entry (sight_in terminal.old) cause) }
+{
+    let Some(step) = taken else {
+        return Ok(0);
+    };
+    match play_step(alloc, terminal, viewport, &step) {
+        Ok(()) => Ok(1),
+        Err(cause) => Err(cause),
+    }
+}
+
+// Plays the commands of a script on its stage, step by step, and gives the text of what they show.
+fn play_commands(
+    alloc: Global,
+    stage: Stage,
+    commands: &[Command<'_>],
+) -> Result<Vec<u8>, RunFault>
+    requires { IsGoodStage stage }
+    ensures ok { IfOk result (λ text. IsShownText stage commands.now text.items) }
+    ensures fault { IfErr result (StopsAtStep stage commands.now) }
+{
+    let mut text = Vec::new(alloc);
+    let mut waiting = nothing_waiting(alloc);
+    let mut steps = 0usize;
+    let mut terminal = match open(alloc, stage) {
+        Ok(terminal) => terminal,
+        Err(_) => return Err(step_fault(0, PlayCause::Memory)),
+    };
+    for command in commands {
+        let taken = match take_command(alloc, &mut waiting, command) {
+            Ok(taken) => taken,
+            Err(_) => return Err(RunFault::Memory),
+        };
+        match play_taken(alloc, &mut terminal, stage.viewport, taken) {
+            Ok(count) => steps += count,
+            Err(cause) => return Err(step_fault(steps + 1, cause)),
+        }
+        show(&mut text, &terminal, command)?;
+    }
+    Ok(text)
+}
+
+// The text that a script shows.
+fn text_shown(alloc: Global, bytes: &[u8]) -> Result<Vec<u8>, RunFault>
+    ensures ok { IfOk result (λ text. IsTextOf bytes.now text.items) }
+    ensures err { IfErr result (IsRunFault bytes.now) }
+    ensures early { IfErr result (λ fault. fault ≡ Write → ⊥) }
+{
+    let script = script_of(alloc, bytes)?;
     match script.stage {
-        Some(stage) => play(alloc, stage, script.steps.as_slice()),
+        Some(stage) => play_commands(alloc, stage, script.commands.as_slice()),
         None => Ok(Vec::new(alloc)),
     }
 }
 
 /// Reads a script to its end, plays it, and writes the scenes that it shows. A fault names the first bad line, the step
 /// that can't be played, or what else failed; only with `Write` can anything have been written.
+///
+/// The text to be written is kept until the last step is played, and no scene is.
 pub fn run<R: Read, W: Write>(alloc: Global, reader: &mut R, writer: &mut W) -> Result<(), RunFault>
     ensures printed { OnOk result (IfSome (R.remaining reader.old) (λ bytes.
         PrintsRun bytes (W.contents writer.old) (W.contents writer.new))) }
@@ -74,12 +159,8 @@ pub fn run<R: Read, W: Write>(alloc: Global, reader: &mut R, writer: &mut W) -> 
         (fault ≡ Write → ⊥) → writer.new ≡ writer.old) }
 {
     let bytes = read_bytes(alloc, reader)?;
-    let script = script_of(alloc, bytes.as_slice())?;
-    let scenes = match scenes_of(alloc, &script) {
-        Ok(scenes) => scenes,
-        Err(fault) => return Err(RunFault::Step(fault)),
-    };
-    match write_scenes(writer, script.shows.as_slice(), scenes.as_slice()) {
+    let text = text_shown(alloc, bytes.as_slice())?;
+    match writer.write_all(text.as_slice()) {
         Ok(()) => {}
         Err(_) => return Err(RunFault::Write),
     }

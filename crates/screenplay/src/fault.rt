@@ -1,6 +1,6 @@
 //! Why a script isn't printed.
 
-use crate::scene::{PlayCause, PlayFault};
+use crate::scene::{PlayCause, StepFault};
 use std::fmt;
 
 /// Why a script wasn't read, played or printed. With any but `Write`, nothing was written.
@@ -9,12 +9,12 @@ pub enum RunFault {
     /// The line of this number, counted from 1, is the first bad one.
     Line(usize),
     /// A step couldn't be played.
-    Step(PlayFault),
+    Step(StepFault),
     /// The bytes aren't UTF-8.
     NotText,
     /// The reader failed.
     Read,
-    /// Memory was refused while the script was read or taken apart.
+    /// Memory was refused while the script was read or taken apart, or for its text.
     Memory,
     /// The writer failed.
     Write,

@@ -14,8 +14,9 @@ mod playing;
 mod print;
 mod scene;
 mod script;
+mod waiting;
 
 pub use engine::run;
 pub use fault::RunFault;
 pub use playing::play;
-pub use scene::{PlayCause, PlayFault, Puts, Scene, Stage, Step};
+pub use scene::{PlayCause, PlayFault, Puts, Scene, Stage, Step, StepFault};

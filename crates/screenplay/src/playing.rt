@@ -3,7 +3,7 @@
 ghost use Rattle.std.specs.Prelude.{◌≡◌, ◌↔◌, ◌++◌, ◌∷◌, [], IsTrue, None, IfOk, IfErr, OnOk, OnErr, map};
 ghost use Rattle.rtui_backend.specs.TestBackend.{screen_of};
 ghost use Rattle.rtui_viewport.specs.Viewports.{IsInline};
-ghost use Rattle.rtui_terminal.specs.Calls.{Applies};
+ghost use Rattle.rtui_terminal.specs.Writing.{Applies};
 ghost use Rattle.rtui_terminal.specs.Insertion.{inserted_area};
 ghost use Rattle.screenplay.specs.declared.scene.PlayCause.TheVariants.{Memory};
 ghost use Rattle.rtui_buffer.specs.Frame.{IsSettledSheet};
@@ -11,6 +11,7 @@ ghost use Rattle.rtui_buffer.specs.Sheet.{IsEmptied};
 ghost use Rattle.screenplay.specs.Puts.{with_put, with_puts};
 ghost use Rattle.screenplay.specs.Run.{IsGoodStage, IsFrame, text_area, IsRun, IsFault, IsStart};
 ghost use Rattle.screenplay.specs.Playing.{IsPlaying, IsSceneOf, TakesNewSize, IsSizedFor, ShowsFrame, InsertsBuffer, IsFrameCause, IsCause, Plays, sight_in};
+ghost use Rattle.rtui_geometry.specs.declared.rect.Rect.{Rect};
 ghost use Rattle.screenplay.specs.declared.scene.Scene.{Scene};
 ghost use Rattle.screenplay.specs.declared.scene.Stage.{Stage};
 ghost use Rattle.screenplay.specs.declared.scene.Step.{Step};
@@ -46,25 +47,25 @@ fn set_puts(alloc: Global, buffer: &mut Buffer, puts: &[(u16, u16, char)]) -> Re
     Ok(())
 }
 
-// Paints a frame on an empty buffer of an area, and answers whether it is settled.
+// Paints a frame on an empty buffer, and answers whether it is settled.
 fn paint(
     alloc: Global,
     frame: &mut Buffer,
-    area: Rect,
     text: &Text<'_>,
     puts: &Puts,
 ) -> Result<bool, AllocError>
-    ensures painted { OnOk result (
-        IsEmptied area frame.old → IsFrame area text.now puts.now frame.new) }
+    ensures painted { OnOk result ((area : Rect)
+        → IsEmptied area frame.old → IsFrame area text.now puts.now frame.new) }
     ensures settled { IfOk result (λ settled. IsTrue settled ↔ IsSettledSheet frame.new) }
 {
+    let area = *frame.area();
     text.render(area, frame)?;
     set_puts(alloc, frame, puts.as_slice())?;
     Ok(frame.is_settled())
 }
 
-// A terminal over a blank stage.
-fn open(alloc: Global, stage: Stage) -> Result<Terminal<TestBackend>, TerminalError<TestError>>
+/// A terminal over a blank stage.
+pub fn open(alloc: Global, stage: Stage) -> Result<Terminal<TestBackend>, TerminalError<TestError>>
     requires { IsGoodStage stage }
     ensures { IfOk result (λ t. IsPlaying stage t × IsStart stage (sight_in t)) }
 {
@@ -136,7 +137,7 @@ fn draw_frame(
         → IsFrameCause text.now puts.now terminal.old cause) }
 {
     let area = terminal.viewport_area();
-    match paint(alloc, terminal.current_buffer_mut(), area, text, puts) {
+    match paint(alloc, terminal.current_buffer_mut(), text, puts) {
         Ok(true) => {}
         Ok(false) => return Err(PlayCause::Unsettled(area)),
         Err(_) => return Err(PlayCause::Memory),
@@ -183,7 +184,7 @@ fn text_rows(alloc: Global, width: u16, text: &Text<'_>) -> Result<(Buffer, bool
         height,
     };
     let mut rows = Buffer::empty(alloc, area)?;
-    let settled = paint(alloc, &mut rows, area, text, &Puts::new(alloc))?;
+    let settled = paint(alloc, &mut rows, text, &Puts::new(alloc))?;
     Ok((rows, settled))
 }
 
@@ -265,8 +266,8 @@ fn clear(terminal: &mut Terminal<TestBackend>) -> Result<(), PlayCause>
     }
 }
 
-// Plays a step.
-fn play_step(
+/// Plays a step.
+pub fn play_step(
     alloc: Global,
     terminal: &mut Terminal<TestBackend>,
     viewport: Viewport,

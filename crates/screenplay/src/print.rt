@@ -1,13 +1,15 @@
-//! Printing the scenes of a script.
+//! Printing what a screen shows.
 
-ghost use Rattle.std.specs.Prelude.{codes, ◌<◌, ◌≡◌, OnOk, slice_get};
+ghost use Rattle.std.specs.Prelude.{codes, ◌<◌, ◌≡◌, OnOk};
 ghost use Rattle.std.specs.List.{flat_map, range_with_len};
 ghost use Rattle.std.specs.Io.KnownBytes.{Appends};
-ghost use Rattle.screenplay.specs.Print.{row_text, printed_row, screen_row, printed_scene, printed_if, printed};
+ghost use Rattle.screenplay.specs.Print.{row_text, printed_row, screen_row, printed_scene};
+ghost use Rattle.screenplay.specs.Playing.{scene_in};
 
-use crate::scene::Scene;
+use rtui_backend::TestBackend;
 use rtui_buffer::Buffer;
 use rtui_cell::{Cell, CellWidth};
+use rtui_terminal::Terminal;
 use std::io::{self, Write};
 
 // Writes the symbols of a row, without the columns behind a wide one.
@@ -67,32 +69,12 @@ fn write_screen<W: Write>(writer: &mut W, screen: &Buffer) -> io::Result<()>
     Ok(())
 }
 
-fn write_scene<W: Write>(writer: &mut W, scene: &Scene) -> io::Result<()>
+/// Writes what a terminal's screen shows: the rows that scrolled off, and those of the screen.
+pub fn write_sight<W: Write>(writer: &mut W, terminal: &Terminal<TestBackend>) -> io::Result<()>
     ensures { OnOk result (Appends (W.contents writer.old) (W.contents writer.new)
-        (printed_scene scene.now)) }
+        (printed_scene (scene_in terminal.now))) }
 {
-    write_history(writer, scene.history.as_slice())?;
-    write_screen(writer, &scene.screen)
-}
-
-// Writes the scene behind this number of steps, if it is there.
-fn write_shown<W: Write>(writer: &mut W, steps: usize, scenes: &[Scene]) -> io::Result<()>
-    ensures { OnOk result (Appends (W.contents writer.old) (W.contents writer.new)
-        (printed_if (slice_get scenes.now steps))) }
-{
-    match scenes.get(steps) {
-        Some(scene) => write_scene(writer, scene),
-        None => Ok(()),
-    }
-}
-
-/// Writes the scenes behind these numbers of steps, in order.
-pub fn write_scenes<W: Write>(writer: &mut W, shows: &[usize], scenes: &[Scene]) -> io::Result<()>
-    ensures { OnOk result (Appends (W.contents writer.old) (W.contents writer.new)
-        (printed shows.now scenes.now)) }
-{
-    for steps in shows {
-        write_shown(writer, *steps, scenes)?;
-    }
-    Ok(())
+    let backend = terminal.backend();
+    write_history(writer, backend.scrollback())?;
+    write_screen(writer, backend.buffer())
 }

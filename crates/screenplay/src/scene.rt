@@ -115,6 +115,13 @@ pub enum PlayCause {
     Unsettled(Rect),
 }
 
+/// A step that couldn't be played, by its number, counted from 1, or 0 for the start.
+#[derive(Debug, Clone, Copy, PartialEq, Eq)]
+pub struct StepFault {
+    pub step: usize,
+    pub cause: PlayCause,
+}
+
 /// A play that ended early: before the step of this number, counted from 1, was done, or at 0 before the start.
 #[derive(Debug, Drop)]
 pub struct PlayFault {

@@ -1,21 +1,20 @@
 //! Reading a script.
 
-ghost use Rattle.std.specs.Prelude.{◌≡◌, ℕ, ◌+◌, ◌&&◌, nat_le, ◌∷◌, ◌++◌, [], List, length, None, IfOk, IfErr, OnOk};
+ghost use Rattle.std.specs.Prelude.{◌≡◌, ℕ, ◌+◌, ◌&&◌, nat_le, List, IfOk, IfErr};
 ghost use Rattle.std.specs.Char.{is_ascii_digit};
 ghost use Rattle.std.specs.List.{list_all};
 ghost use Rattle.rtui_text.specs.Text.{raw_line};
-ghost use Rattle.screenplay.specs.Script.{parsed_number, char_of, first_word, behind_word, size_by, parsed_size, rect_of, screen_by, inline_of, fixed_of, size_command, put_of, command_with, command_of, may_stand, may_insert, nothing, draw_of, without_text, waiting_after, steps_of, shows_of, stage_after, script_lines, IsScript, IsRefused};
-ghost use Rattle.screenplay.specs.Reading.{HasRead, TakesLine};
-ghost use Rattle.screenplay.specs.declared.script.Command.{Command};
+ghost use Rattle.screenplay.specs.Script.{parsed_number, char_of, first_word, behind_word, size_by, parsed_size, rect_of, screen_by, inline_of, fixed_of, size_command, put_of, command_with, command_of, may_stand, may_insert, nothing, stage_after, waiting_after, steps_of, shows_of, script_lines, IsScript, IsRefused};
+ghost use Rattle.screenplay.specs.Reading.{CountsTexts, HasRead, TakesLine};
+ghost use Rattle.screenplay.specs.declared.waiting.Waiting.{Waiting};
 
-use crate::scene::{Puts, Stage, Step};
+use crate::scene::Stage;
 use rtui_cell::CellWidth;
 use rtui_geometry::{Rect, Size};
-use rtui_text::{Line, Text};
+use rtui_text::Line;
 use rtui_viewport::Viewport;
 use std::alloc::{AllocError, Global};
 use std::marker::Model;
-use std::mem;
 
 /// The rest of a line.
 #[derive(Debug, Drop)]
@@ -38,8 +37,8 @@ impl<'a> LineRest<'a> {
         LineRest { text }
     }
 
-    // A line of this text.
-    fn to_line(&self, alloc: Global) -> Result<Line<'a>, AllocError>
+    /// A line of this text.
+    pub fn to_line(&self, alloc: Global) -> Result<Line<'a>, AllocError>
         ensures { IfOk result (λ line. line ≡ raw_line self.now) }
     {
         Line::raw(alloc, self.text)
@@ -266,20 +265,11 @@ fn may_stand(stage: Option<Stage>, command: &Command<'_>) -> bool
     }
 }
 
-/// What a script says: its stage, its steps, and behind how many steps a scene is shown, in order.
+/// A script: the stage that it sets, and all its commands in order.
 #[derive(Debug, Drop)]
 pub struct Script<'a> {
     pub stage: Option<Stage>,
-    pub steps: Vec<Step<'a>>,
-    pub shows: Vec<usize>,
-}
-
-/// What waits for the next draw, the text for the next insertion too.
-#[derive(Debug, Drop)]
-pub struct Waiting<'a> {
-    pub size: Option<Size>,
-    pub text: Text<'a>,
-    pub puts: Puts,
+    pub commands: Vec<Command<'a>>,
 }
 
 /// Why a script wasn't read.
@@ -302,99 +292,47 @@ impl From<AllocError> for ScriptFault {
     }
 }
 
-// Whether a command may stand where this waits.
-fn may_insert(waiting: &Waiting<'_>, command: &Command<'_>) -> bool
-    ensures { result ≡ may_insert waiting.now command.now }
+// Whether a command may stand where so many texts wait.
+fn may_insert(texts: usize, command: &Command<'_>) -> bool
+    ensures { (w : Waiting) → CountsTexts w texts → result ≡ may_insert w command.now }
 {
     match command {
-        Command::Insert => waiting.text.height() <= 65535,
+        Command::Insert => texts <= 65535,
         _ => true,
     }
 }
 
-// Makes a step of what waits, after which nothing does.
-fn take_waiting<'a>(alloc: Global, waiting: &mut Waiting<'a>) -> Step<'a>
-    ensures step { result ≡ draw_of waiting.old }
-    ensures rest { waiting.new ≡ nothing }
-{
-    Step::Draw {
-        size: waiting.size.take(),
-        text: take_text(alloc, waiting),
-        puts: mem::replace(&mut waiting.puts, Puts::new(alloc)),
-    }
-}
-
-// Takes the text that waits, after which none does.
-fn take_text<'a>(alloc: Global, waiting: &mut Waiting<'a>) -> Text<'a>
-    ensures text { result ≡ waiting.old.text }
-    ensures rest { waiting.new ≡ without_text waiting.old }
-{
-    mem::replace(&mut waiting.text, Text::default_in(alloc))
-}
-
-// Takes a command into a script, where this waits for the next draw.
-fn take_command<'a>(
-    alloc: Global,
-    script: &mut Script<'a>,
-    waiting: &mut Waiting<'a>,
-    command: Command<'a>,
-) -> Result<(), AllocError>
-    ensures stage { OnOk result (script.new.stage ≡ stage_after command.entry script.old.stage) }
-    ensures waiting { OnOk result (waiting.new ≡ waiting_after command.entry waiting.old) }
-    ensures steps { OnOk result ((cs : List Command) →
-        script.new.steps.items ++ steps_of waiting.new cs
-        ≡ script.old.steps.items ++ steps_of waiting.old (command.entry ∷ cs)) }
-    ensures shows { OnOk result ((cs : List Command) →
-        script.new.shows.items ++ shows_of (length script.new.steps.items) cs
-        ≡ script.old.shows.items ++ shows_of (length script.old.steps.items) (command.entry ∷ cs)) }
+// How many texts wait behind a command.
+fn texts_after(texts: usize, command: &Command<'_>) -> usize
+    ensures { (w : Waiting) → CountsTexts w texts
+        → CountsTexts (waiting_after command.now w) result }
 {
     match command {
-        Command::SetStage(stage) => script.stage = Some(stage),
-        Command::TakeSize(size) => waiting.size = Some(size),
-        Command::Put(x, y, ch) => waiting.puts.push(x, y, ch)?,
-        Command::AddText(text) => waiting.text.push_line(text.to_line(alloc)?)?,
-        Command::Draw => script.steps.push(take_waiting(alloc, waiting))?,
-        Command::Insert => script.steps.push(Step::Insert(take_text(alloc, waiting)))?,
-        Command::Clear => script.steps.push(Step::Clear)?,
-        Command::Show => script.shows.push(script.steps.len())?,
+        Command::AddText(_) => texts.saturating_add(1),
+        Command::Draw | Command::Insert => 0,
+        _ => texts,
     }
-    Ok(())
 }
 
-// An empty script.
-fn new_script<'a>(alloc: Global) -> Script<'a>
-    ensures stage { result.stage ≡ None }
-    ensures steps { result.steps.items ≡ [] }
-    ensures shows { result.shows.items ≡ [] }
+// The stage behind a command.
+fn stage_after(former: Option<Stage>, command: &Command<'_>) -> Option<Stage>
+    ensures { result ≡ stage_after command.now former }
 {
-    Script {
-        stage: None,
-        steps: Vec::new(alloc),
-        shows: Vec::new(alloc),
+    match command {
+        Command::SetStage(stage) => Some(*stage),
+        _ => former,
     }
 }
 
-fn nothing_waiting<'a>(alloc: Global) -> Waiting<'a>
-    ensures { result ≡ nothing }
-{
-    Waiting {
-        size: None,
-        text: Text::default_in(alloc),
-        puts: Puts::new(alloc),
-    }
-}
-
-// Takes a line into a script; it answers whether it is good.
+// Takes a line into a script behind which so many texts wait; it answers whether it is good.
 fn take_line<'a>(
-    alloc: Global,
     script: &mut Script<'a>,
-    waiting: &mut Waiting<'a>,
+    texts: &mut usize,
     line: &'a str,
 ) -> Result<bool, AllocError>
     ensures { IfOk result (λ good. (done : List (List ℕ))
-        → HasRead done script.old.stage waiting.old script.old.steps.items script.old.shows.items
-        → TakesLine good done line.now script.new.stage waiting.new script.new.steps.items
-        script.new.shows.items) }
+        → HasRead done script.old.stage texts.old script.old.commands.items
+        → TakesLine good done line.now script.new.stage texts.new script.new.commands.items) }
 {
     if line.is_empty() {
         return Ok(true);
@@ -405,25 +343,30 @@ fn take_line<'a>(
     if !may_stand(script.stage, &command) {
         return Ok(false);
     }
-    if !may_insert(waiting, &command) {
+    if !may_insert(*texts, &command) {
         return Ok(false);
     }
-    take_command(alloc, script, waiting, command)?;
+    *texts = texts_after(*texts, &command);
+    script.stage = stage_after(script.stage, &command);
+    script.commands.push(command)?;
     Ok(true)
 }
 
 /// Reads a script; it answers the first bad line, or that memory was refused.
 pub fn read_script(alloc: Global, text: &str) -> Result<Script<'_>, ScriptFault>
-    ensures ok { IfOk result (λ s.
-        IsScript (script_lines text.now) s.stage s.steps.items s.shows.items) }
+    ensures ok { IfOk result (λ s. IsScript (script_lines text.now) s.stage
+        (steps_of nothing s.commands.items) (shows_of 0 s.commands.items)) }
     ensures err { IfErr result (IsRefused (script_lines text.now)) }
 {
-    let mut script = new_script(alloc);
-    let mut waiting = nothing_waiting(alloc);
+    let mut script = Script {
+        stage: None,
+        commands: Vec::new(alloc),
+    };
+    let mut texts = 0usize;
     let mut number = 0usize;
     for line in text.lines() {
         number += 1;
-        if !take_line(alloc, &mut script, &mut waiting, line)? {
+        if !take_line(&mut script, &mut texts, line)? {
             return Err(ScriptFault::Line(number));
         }
     }

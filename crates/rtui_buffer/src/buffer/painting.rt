@@ -1,20 +1,21 @@
 //! Painting texts and styles.
 
-ghost use Rattle.std.specs.Prelude.{true, ◌≡◌, ◌+◌, ◌-◌, ◌*◌, ◌<◌, ◌≤◌, length, IsOk, OnOk, OnErr, IfOk};
+ghost use Rattle.std.specs.Prelude.{true, ◌≡◌, ◌+◌, ◌-◌, ◌*◌, ◌<◌, ◌≤◌, [], ◌∷◌, length, IsOk, OnOk, OnErr, IfOk};
 ghost use Rattle.unicode_segmentation.specs.Grapheme.{graphemes};
 ghost use Rattle.rtui_geometry.specs.Rect.{EdgesFit};
 ghost use Rattle.rtui_cell.specs.Symbol.{IsShort};
 ghost use Rattle.rtui_cell.specs.Cell.{empty_cell, styled};
 ghost use Rattle.rtui_cell.specs.Width.{text_width};
+ghost use Rattle.rtui_text.specs.Printable.{ArePrintable, singles};
 ghost use Rattle.rtui_buffer.specs.Sheet.{HasRow, cell_index, position_of};
-ghost use Rattle.rtui_buffer.specs.Painting.{painted_width, piece_of, text_pieces, columns, shown, emptied, with_piece, painted, IsSameOutside, IsPainted};
+ghost use Rattle.rtui_buffer.specs.Painting.{painted_width, piece_of, pieces, text_pieces, columns, shown, emptied, with_piece, painted, IsSameOutside, IsPainted};
 ghost use Rattle.rtui_buffer.specs.PaintedText.{room_at, pieces_at, AreShort, PaintsOr, IsStyledPart, IsStyledRows, IsStyled};
 
 use crate::buffer::Buffer;
 use rtui_cell::{Cell, CellWidth};
 use rtui_geometry::Rect;
 use rtui_style::Style;
-use rtui_text::has_control;
+use rtui_text::{has_control, printable_front};
 use std::alloc::{AllocError, Global};
 use unicode_segmentation::UnicodeSegmentation;
 
@@ -94,9 +95,70 @@ pub fn room_at(area: Rect, x: u16, max: usize) -> u16
     max.min(65535).min(left) as u16
 }
 
+// Paints the graphemes of a text that fit the room, and says how many columns they take: printable characters of ASCII at
+// its start a byte at a time, and behind them grapheme by grapheme.
+pub fn paint_text(
+    alloc: Global,
+    cells: &mut [Cell],
+    start: usize,
+    room: u16,
+    text: &str,
+    style: Style,
+) -> Result<u16, AllocError>
+    requires inside { start + room ≤ length cells.old }
+    ensures fits { IfOk result (λ n. n ≤ room) }
+    ensures columns { IfOk result (λ n. n ≡ columns (text_pieces room style text.now)) }
+    ensures ok { let ps = text_pieces room style text.now in
+        OnOk result (cells.new ≡ painted start ps cells.old) }
+    ensures shown { let ps = text_pieces room style text.now in
+        OnOk result (IsPainted start ps cells.old cells.new) }
+    ensures err { let ps = text_pieces room style text.now in
+        OnErr result (IsSameOutside start (start + columns ps) cells.old cells.new) }
+    ensures short { AreShort (text_pieces room style text.now) → IsOk result }
+{
+    let front = printable_front(text, usize::from(room));
+    paint_printable(alloc, cells, start, &text.as_bytes()[..front], style)?;
+    let used = front as u16;
+    let rest = &text[front..];
+    let more = paint_graphemes(alloc, cells, start + front, room - used, rest, style)?;
+    Ok(used + more)
+}
+
+/// Paints printable characters of ASCII in a style, one in each cell from a place on.
+#[tactic(auto, using(crate::proofs::PrintableLemmas::byte_steps))]
+pub fn paint_printable(
+    alloc: Global,
+    cells: &mut [Cell],
+    start: usize,
+    bytes: &[u8],
+    style: Style,
+) -> Result<(), AllocError>
+    requires inside { start + length bytes.now ≤ length cells.old }
+    requires printable { ArePrintable bytes.now }
+    ensures painted { cells.new ≡ painted start (pieces style (singles bytes.now)) cells.old }
+    ensures succeeds { IsOk result }
+{
+    for i in 0..bytes.len() {
+        show_byte(alloc, &mut cells[start + i], bytes[i], style)?;
+    }
+    Ok(())
+}
+
+// Shows a character of ASCII in a cell, in a style.
+#[tactic(auto, using(crate::proofs::PrintableLemmas::ascii_steps))]
+fn show_byte(alloc: Global, cell: &mut Cell, byte: u8, style: Style) -> Result<(), AllocError>
+    requires { byte < 128 }
+    ensures shown { cell.new ≡ shown (piece_of style (byte ∷ [])) cell.old }
+    ensures succeeds { IsOk result }
+{
+    cell.set_char(alloc, char::from(byte))?;
+    cell.set_style(style);
+    Ok(())
+}
+
 // Paints the graphemes of a text that fit the room, and says how many columns they take.
 #[tactic(auto, using(crate::proofs::PaintLemmas::paint_steps, crate::proofs::PaintedLemmas::shown_steps))]
-pub fn paint_text(
+fn paint_graphemes(
     alloc: Global,
     cells: &mut [Cell],
     start: usize,

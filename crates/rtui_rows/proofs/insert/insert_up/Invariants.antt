@@ -1,6 +1,6 @@
 use Rattle.std.proofs.Common.{◌≡◌, ◌-◌, ◌≤◌}
 use Rattle.rtui_buffer.specs.Frame.{IsSettledSheet}
-use Rattle.rtui_rows.specs.Insertion.{KeepsShape}
+use Rattle.rtui_rows.specs.Insertion.{KeepsSizeAndVisibility}
 use Rattle.rtui_rows.specs.Scrolling.{HasRaised}
 use Rattle.rtui_rows.proofs.insert.insert_up.Given as goal
 
@@ -10,7 +10,7 @@ invariant-loop-done g l = record {
   done : l.done ≤ l.height;
   first : l.fn.first ≤ l.done;
   counts : g.B.Backend.failures l.backend ≡ g.B.Backend.failures l.fn.backend;
-  shape : KeepsShape (g.B.Backend.screen l.fn.backend) (g.B.Backend.screen l.backend);
+  shape : KeepsSizeAndVisibility (g.B.Backend.screen l.fn.backend) (g.B.Backend.screen l.backend);
   raised : l.rows.area.width ≡ (g.B.Backend.screen l.fn.backend).width → l.fn.top ≤ (g.B.Backend.screen l.fn.backend).height → IsSettledSheet l.rows
       → HasRaised l.rows l.fn.first (l.done - l.fn.first) l.fn.top (g.B.Backend.screen l.fn.backend) (g.B.Backend.screen l.backend);
 }

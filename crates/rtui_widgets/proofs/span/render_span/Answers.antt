@@ -1,29 +1,41 @@
-use Rattle.std.proofs.Common.{◌≡◌, ◌∷◌, [], ◌++◌, ◌-◌, ◌<◌, true, false, length, refl, rules, arith, ◌∙◌}
+use Rattle.std.proofs.Common.{◌≡◌, ◌∷◌, [], ◌++◌, ◌<◌, true, false, length, rules, arith, ◌∙◌, take, drop, ◌≤◌}
 use Rattle.std.proofs.lemmas.Grind.{common_steps}
 use Rattle.std.proofs.lemmas.Bool.Decides.{nat_tests}
 use Rattle.unicode_segmentation.specs.Grapheme.{graphemes}
 use Rattle.unicode_segmentation.specs.Iter.{graphemes_left}
 use Rattle.rtui_cell.specs.Width.{text_width}
+use Rattle.rtui_text.specs.Printable.{singles}
+use Rattle.rtui_buffer.specs.Painting.{pieces, painted}
+use Rattle.rtui_widgets.proofs.PrintableLemmas.{front-at, front-first, front-later, front-shows, front-row}
 use Rattle.rtui_text.specs.Graphemes.{has_control}
-use Rattle.rtui_widgets.proofs.SpanLemmas.{rendered_of, front-skip, front-turn, front-full, front-end, next-short, append-some, end-more, end-none, IsRowWith-none, IsRowWith-turn}
+use Rattle.rtui_widgets.proofs.SpanLemmas.{rendered_of, front-skip, front-turn, front-full, front-end, next-short, append-some, end-more, IsRowWith-turn}
 use Rattle.rtui_widgets.proofs.span.render_span.Goals as goal
 
 pub loop-grapheme-init : goal.loop-grapheme-init
 loop-grapheme-init c =
-    let some_ : 0 < length c.args.row.now = grind (arith, nat_tests, common_steps) in
-    let left : graphemes_left c.into_iter-grapheme-iterator.result ≡ graphemes true c.args.text.now = cc in
-    let all : length c.args.row.now - 0 ≡ length c.args.row.now = omega arith in (
-      [],
+    let text = c.args.text.now in
+    let n = c.printable_front-front.result in
+    let old = c.args.row.now in
+    let row = c.paint_printable.new.cells in
+    let h = c.printable_front-front.ensures.front in
+    let some_ : 0 < length old = grind (arith, nat_tests, common_steps) in
+    let fits : n ≤ length old = c.printable_front-front.ensures.max in
+    let count : length row ≡ length old = search rules in
+    let tail : c.range_from.result.now ≡ drop n text = search rules in
+    let left : graphemes_left c.into_iter-grapheme-iterator.result ≡ graphemes true c.range_from.result.now = cc in
+    let is : row ≡ painted 0 (pieces c.args.style (singles (take n text))) old = search rules in
+    let shows = front-shows text c.range_from.result.now n c.args.style old row h fits tail is in (
+      singles (take n text),
       record {
         can = search rules;
         ends = search rules;
-        some = some_;
+        some = omega arith;
         within = omega arith;
-        at = end-none;
-        first = λ _. refl;
-        later = λ (h : true ≡ false). cc;
-        front = rw (left, all);
-        row = IsRowWith-none _ _;
+        at = front-at text c.range_from.result.now n c.args.style old row h fits tail is;
+        first = λ e. front-first text c.range_from.result.now n c.args.style old row h fits tail is e;
+        later = λ e. front-later text c.range_from.result.now n c.args.style old row h fits tail is e;
+        front = rw (left, count) shows;
+        row = front-row text c.range_from.result.now n c.args.style old row h fits tail is;
       },
     )
 

@@ -2,7 +2,7 @@ use Rattle.std.proofs.Common.{ℕ, List, [], true, false, ◌≡◌, ◌≢◌, 
 use Rattle.unicode_segmentation.specs.Grapheme.{graphemes}
 use Rattle.unicode_segmentation.specs.Iter.{graphemes_left}
 use Rattle.rtui_widgets.specs.Span.{showing}
-use Rattle.rtui_widgets.specs.Steps.{end_of_those, IsRowWith}
+use Rattle.rtui_widgets.proofs.RowWith.{end_of_those, IsRowWith}
 use Rattle.rtui_widgets.proofs.span.render_span.Given as goal
 
 abbrev pub invariant-loop-grapheme : goal.invariant-loop-grapheme
@@ -14,6 +14,6 @@ invariant-loop-grapheme l = (gs : List (List ℕ)) × record {
   at : l.x ≡ end_of_those 0 gs;
   first : l.is_first ≡ true → gs ≡ [];
   later : l.is_first ≡ false → gs ≢ [];
-  front : gs ++ showing (length l.row - l.x) (graphemes_left l.grapheme-iterator) ≡ showing (length l.initial.row) (graphemes true l.text);
-  row : IsRowWith l.style gs l.initial.row l.row;
+  front : gs ++ showing (length l.row - l.x) (graphemes_left l.grapheme-iterator) ≡ showing (length l.fn.row) (graphemes true l.text);
+  row : IsRowWith l.style gs l.fn.row l.row;
 }

@@ -6,7 +6,7 @@ use Rattle.std.proofs.lemmas.Iterator.Splits.{YieldsList-from_lines}
 use Rattle.std.specs.Borrow.{Bor}
 use Rattle.std.specs.Str.Iter.{lines_rest}
 use Rattle.std.specs.Str.Lines.{lines}
-use Rattle.screenplay.proofs.ScriptLemmas.{HasRead-none, IsScript-read, IsFirstBadLine-read, lines-count}
+use Rattle.screenplay.proofs.ScriptLemmas.{IsScript-read, IsFirstBadLine-read, lines-count}
 use Rattle.screenplay.proofs.script.read_script.Goals as goal
 
 pub overflow_add-number : goal.overflow_add-number
@@ -16,12 +16,6 @@ overflow_add-number c =
     let count = lines-count c.args.text.now in
     let number = c.loop-line.invariant.count in
     omega (arith, turn.0, count, number)
-
-pub loop-line-init : goal.loop-line-init
-loop-line-init c = record {
-  count = refl;
-  read = rw (c.new_script-script.ensures.stage, c.new_script-script.ensures.steps, c.new_script-script.ensures.shows, c.nothing_waiting-waiting.ensures) HasRead-none;
-}
 
 pub loop-line-preserved : goal.loop-line-preserved
 loop-line-preserved c = record {
@@ -43,4 +37,4 @@ pub returns-clause-ok : goal.returns-clause-ok
 returns-clause-ok c =
     let road = YieldsList-from_lines c.args.text.now (ap lines_rest c.into_iter-line-iterator.ensures.into_iter_gives ∙ c.lines-line-items.ensures.rest) in
     let end = YieldsList-end road c.loop-line.yielded _ c.loop-line.yielded_by _ _ c.in-None.is c.next.ensures.steps in
-    IsScript-read _ _ _ _ _ (rw end.0 at c.loop-line.invariant.read)
+    IsScript-read _ _ _ _ (rw end.0 at c.loop-line.invariant.read)

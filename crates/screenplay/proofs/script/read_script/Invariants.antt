@@ -5,5 +5,5 @@ use Rattle.screenplay.proofs.script.read_script.Given as goal
 abbrev pub invariant-loop-line : goal.invariant-loop-line
 invariant-loop-line l = record {
   count : l.number ≡ length l.yielded;
-  read : HasRead (map (λ line. line.now) l.yielded) l.script.stage l.waiting l.script.steps.items l.script.shows.items;
+  read : HasRead (map (λ line. line.now) l.yielded) l.script.stage l.texts l.script.commands.items;
 }

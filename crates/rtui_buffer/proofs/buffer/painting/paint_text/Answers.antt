@@ -1,25 +1,45 @@
+use Rattle.std.proofs.Common.{◌≡◌, take, drop, rules, arith}
 use Rattle.std.proofs.lemmas.Bool.{false≢true}
-use Rattle.std.proofs.Common.{◌≡◌, ◌∷◌, rules, arith}
-use Rattle.unicode_segmentation.specs.Iter.{graphemes_left}
-use Rattle.rtui_buffer.proofs.PaintLemmas.{painted-turn, columns-turn, outside-turn, short-turn}
+use Rattle.rtui_text.specs.Printable.{singles}
+use Rattle.rtui_buffer.specs.Painting.{pieces, painted}
+use Rattle.rtui_buffer.proofs.PrintableLemmas.{columns-split, painted-split, shown-split, outside-split, short-split}
 use Rattle.rtui_buffer.proofs.buffer.painting.paint_text.Goals as goal
 
-pub loop-grapheme-preserved : goal.loop-grapheme-preserved
-loop-grapheme-preserved c =
-    let i = c.loop-grapheme.invariant in
-    let is : graphemes_left c.loop-grapheme.grapheme-iterator ≡ c.in-Some.grapheme.now ∷ graphemes_left c.next.new.self = search rules in
-    record {
-      can = search rules;
-      ends = search rules;
-      within = omega arith;
-      columns = columns-turn _ _ _ _ _ _ _ _ is c.painted_width-width.ensures (omega arith) (omega arith) i.columns;
-      cells = painted-turn _ _ _ _ _ _ _ _ _ _ _ is c.painted_width-width.ensures (omega arith) (omega arith) c.in_ok-put_piece.ensures.ok i.cells;
-      short = λ all. (short-turn _ _ _ _ _ _ _ is c.painted_width-width.ensures (omega arith) (omega arith) (i.short all)).1;
-      outside = outside-turn _ _ _ _ _ _ _ _ c.painted_width-width.ensures (omega arith) c.in_ok-put_piece.ensures.ok i.outside;
-    }
+pub returns-in_err-more-clause-err : goal.returns-in_err-more-clause-err
+returns-in_err-more-clause-err c =
+    let a = c.args in
+    let n = c.printable_front-front.result in
+    let behind : c.range_from-rest.result.now ≡ drop n a.text.now = search rules in
+    let mid : c.paint_printable.new.cells ≡ painted a.start (pieces a.style (singles (take n a.text.now))) a.cells.now = search rules in
+    let o = outside-split a.text.now _ n a.room a.style c.printable_front-front.ensures.front (omega arith) behind a.start a.cells.now _ _ mid c.in_err-more.ensures.err in
+    search (rules, o)
 
-pub returns-in_err-put_piece-clause-short : goal.returns-in_err-put_piece-clause-short
-returns-in_err-put_piece-clause-short c = λ all.
-    let is : graphemes_left c.loop-grapheme.grapheme-iterator ≡ c.in-Some.grapheme.now ∷ graphemes_left c.next.new.self = search rules in
-    let short = short-turn c.args.style c.loop-grapheme.used c.args.room c.painted_width-width.result _ _ _ is c.painted_width-width.ensures (omega arith) (omega arith) (c.loop-grapheme.invariant.short all) in
-    absurd (false≢true (c.in_err-put_piece.ensures.short short.0))
+pub returns-in_err-more-clause-short : goal.returns-in_err-more-clause-short
+returns-in_err-more-clause-short c = λ short.
+    let a = c.args in
+    let n = c.printable_front-front.result in
+    let behind : c.range_from-rest.result.now ≡ drop n a.text.now = search rules in
+    absurd (false≢true (c.in_err-more.ensures.short (short-split a.text.now _ n a.room a.style c.printable_front-front.ensures.front (omega arith) behind short)))
+
+pub returns-clause-columns : goal.returns-clause-columns
+returns-clause-columns c =
+    let a = c.args in
+    let n = c.printable_front-front.result in
+    let behind : c.range_from-rest.result.now ≡ drop n a.text.now = search rules in
+    omega (arith, columns-split a.text.now _ n a.room a.style c.printable_front-front.ensures.front (omega arith) behind, c.in_ok-more.ensures.columns)
+
+pub returns-clause-ok : goal.returns-clause-ok
+returns-clause-ok c =
+    let a = c.args in
+    let n = c.printable_front-front.result in
+    let behind : c.range_from-rest.result.now ≡ drop n a.text.now = search rules in
+    let mid : c.paint_printable.new.cells ≡ painted a.start (pieces a.style (singles (take n a.text.now))) a.cells.now = search rules in
+    painted-split a.text.now _ n a.room a.style c.printable_front-front.ensures.front (omega arith) behind a.start a.cells.now _ _ mid c.in_ok-more.ensures.ok
+
+pub returns-clause-shown : goal.returns-clause-shown
+returns-clause-shown c =
+    let a = c.args in
+    let n = c.printable_front-front.result in
+    let behind : c.range_from-rest.result.now ≡ drop n a.text.now = search rules in
+    let mid : c.paint_printable.new.cells ≡ painted a.start (pieces a.style (singles (take n a.text.now))) a.cells.now = search rules in
+    shown-split a.text.now _ n a.room a.style c.printable_front-front.ensures.front (omega arith) behind a.start a.cells.now _ _ mid c.in_ok-more.ensures.ok c.requires.inside

@@ -1,7 +1,7 @@
 use Rattle.std.proofs.Common.{◌≡◌, Option, Some, refl, ap, sym, ◌∙◌}
 use Rattle.rtui_geometry.specs.declared.position.Position.{Position}
 use Rattle.rtui_backend.specs.Screen.{Screen, cursor_of, with_cursor}
-use Rattle.rtui_viewport.specs.Areas.{KeepsScreen}
+use Rattle.rtui_viewport.specs.Areas.{KeepsAllButLooks}
 use Rattle.rtui_viewport.specs.Clearing.{ClearsArea, WritesBlanks}
 use Rattle.rtui_viewport.proofs.ClearLemmas.{blank_over, frame_restored, clears_restored, written_restored}
 use Rattle.rtui_terminal.proofs.StepLemmas.{blank_in_step, on_same, has_place, cursor_kept}
@@ -17,8 +17,8 @@ returns-clause-ok g c = elim c.match-restore_cursor.branch [
       let stays : screen c.get_cursor_position.new.self ≡ start = c.in-Ok.ensures.stays in
       let found : Option Position = Some c.in-Ok.cursor in
       let restored = w.in-Ok-restore_cursor.ensures.restored in
-      let middle : KeepsScreen start (screen c.clear_area.new.backend) = rw stays at c.in-Ok-clear_area.ensures.frame in
-      let frame : KeepsScreen start (screen c.restore_cursor.new.backend) = frame_restored found restored middle in
+      let middle : KeepsAllButLooks start (screen c.clear_area.new.backend) = rw stays at c.in-Ok-clear_area.ensures.frame in
+      let frame : KeepsAllButLooks start (screen c.restore_cursor.new.backend) = frame_restored found restored middle in
       let cleared : ClearsArea c.self.inside.viewport c.self.inside.viewport_area start (screen c.restore_cursor.new.backend) =
           clears_restored c.self.inside.viewport c.self.inside.viewport_area found restored (rw stays at c.in-Ok-clear_area.ensures.cleared) in
       rw w.result-is (rw (← c.self.view_is) (record {

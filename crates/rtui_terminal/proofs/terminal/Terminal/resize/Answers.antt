@@ -1,6 +1,6 @@
 use Rattle.std.proofs.Common.{◌≡◌, refl, sym, ap, ◌∙◌}
 use Rattle.rtui_buffer.specs.Sheet.{IsEmptied}
-use Rattle.rtui_viewport.specs.Areas.{KeepsScreen}
+use Rattle.rtui_viewport.specs.Areas.{KeepsAllButLooks}
 use Rattle.rtui_viewport.proofs.ClearLemmas.{blank_over, frame_more, frame_restored, clears_restored, written_restored}
 use Rattle.rtui_terminal.specs.Resizing.{IsResized}
 use Rattle.rtui_terminal.proofs.StepLemmas.{blank_in_step, on_same, has_place, emptied_frame, emptied_after, resized_same, cursor_back}
@@ -32,8 +32,8 @@ returns-clause-outcome g c =
     let older : IsEmptied next c.reset.new.self = rw older_area at c.reset.ensures.emptied in
     let current : IsResized next s.current c.self-3.inside.current =
     resized_same next c.in-Ok.ensures.current (rw (current_2, current_3) at c.set_area.ensures.current) in
-    let middle : KeepsScreen (screen c.place_viewport.new.backend) (screen c.clear_area.new.backend) = rw between at cleared.frame in
-    let frame : KeepsScreen (screen c.place_viewport.new.backend) (screen c.restore_cursor.new.backend) = frame_restored c.in-Ok-place_viewport.placed.cursor restored middle in
+    let middle : KeepsAllButLooks (screen c.place_viewport.new.backend) (screen c.clear_area.new.backend) = rw between at cleared.frame in
+    let frame : KeepsAllButLooks (screen c.place_viewport.new.backend) (screen c.restore_cursor.new.backend) = frame_restored c.in-Ok-place_viewport.placed.cursor restored middle in
     let places = rw (viewport_2, former, c.saturating_sub-offset.ensures, cursor_2, area_2) at found.placed in
     let emptied = emptied_frame _ places.empties in
     let size = emptied.size in

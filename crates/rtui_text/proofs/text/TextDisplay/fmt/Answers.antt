@@ -1,8 +1,8 @@
 use Rattle.std.proofs.Common.{◌≡◌, ◌++◌, ◌∷◌, [], rules, arith, sym, take}
 use Rattle.std.proofs.lemmas.Grind.{common_steps}
 use Rattle.std.proofs.Output.{has_written_of_eq, has_written_append}
-use Rattle.rtui_text.specs.Display.{printed_spans, broken_lines, printed_lines}
-use Rattle.rtui_text.proofs.LineLemmas.{printed_lines-last}
+use Rattle.rtui_text.specs.Display.{printed_spans, printed_lines}
+use Rattle.rtui_text.proofs.LineLemmas.{broken_lines, printed_lines-last}
 use Rattle.rtui_text.proofs.text.TextDisplay.fmt.Goals as goal
 
 pub returns-in_ok-write-clause-writes : goal.returns-in_ok-write-clause-writes

@@ -1,6 +1,6 @@
 use Rattle.std.proofs.Common.{take}
 use Rattle.std.specs.Fmt.{HasWritten, IsPlainFormatter}
-use Rattle.rtui_text.specs.Display.{broken_lines}
+use Rattle.rtui_text.proofs.LineLemmas.{broken_lines}
 use Rattle.rtui_text.proofs.text.TextDisplay.fmt.Given as goal
 
 abbrev pub invariant-loop-line : goal.invariant-loop-line

@@ -2,7 +2,7 @@ use Rattle.std.proofs.Common.{◌≡◌, ◌+◌, ◌-◌, ◌≤◌}
 use Rattle.unicode_segmentation.specs.Iter.{graphemes_left}
 use Rattle.rtui_buffer.specs.Painting.{kept, pieces, text_pieces, columns, painted, IsSameOutside}
 use Rattle.rtui_buffer.specs.PaintedText.{AreShort}
-use Rattle.rtui_buffer.proofs.buffer.painting.paint_text.Given as goal
+use Rattle.rtui_buffer.proofs.buffer.painting.paint_graphemes.Given as goal
 
 abbrev pub invariant-loop-grapheme : goal.invariant-loop-grapheme
 invariant-loop-grapheme l = record {

@@ -1,0 +1,18 @@
+-- A frame, a clear, a resize and rows above the viewport, as one list of calls.
+use Rattle.std.specs.Prelude.{◌∷◌, [], Result, Ok}
+use Rattle.std.specs.declared.alloc.AllocError.{AllocError}
+use Rattle.ratatui_core.specs.Layout.{Rect}
+use Rattle.ratatui_core.specs.Buffer.{Sheet, IsSettledSheet}
+use Rattle.ratatui_core.specs.Backend.{Screen, IsOnScreen}
+use Rattle.ratatui_core.specs.Terminal.{State, IsInline, TakesRows}
+use Rattle.ratatui_core.specs.Headline.{Draw, Clear, Resize, Insert, Along, IsFaithful}
+
+-- the states behind the first three calls, and that above an inline viewport each of the four was faithful, if the rows that were filled are
+-- settled and had their place, and the viewport lay on the screen
+pub record Renews {B : Type 0} (screen : B → Screen) (area : Rect) (filled : State B → Result (Unit {0}) AllocError → Sheet → Type 0) (s t : State B) : Type 0 where
+  pub drawn : State B
+  pub cleared : State B
+  pub resized : State B
+  pub faithful : TakesRows screen resized → IsOnScreen resized.viewport_area (screen resized.backend)
+      → (rows : Sheet) × filled resized (Ok tt) rows × (IsSettledSheet rows → Along (IsFaithful screen) s (
+        record { call = Draw drawn.older; after = drawn } ∷ record { call = Clear; after = cleared } ∷ record { call = Resize area; after = resized } ∷ record { call = Insert rows; after = t } ∷ []))

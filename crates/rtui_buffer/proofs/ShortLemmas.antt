@@ -1,0 +1,49 @@
+-- Short graphemes make short pieces.
+use Rattle.std.proofs.Common.{◌≡◌, ℕ, ◌-◌, ◌≤◌, Bool, true, false, cond, List, [], ◌∷◌, ◌++◌, length, All, arith}
+use Rattle.std.specs.Prelude.{nat_le}
+use Rattle.std.specs.Str.{IsAscii}
+use Rattle.std.proofs.lemmas.List.Elements.{All-nil, All-cons, All-head, All-tail, All-append, All-filter, All-map, All-weaker}
+use Rattle.unicode_segmentation.specs.Grapheme.{graphemes}
+use Rattle.rtui_style.specs.declared.Style.{Style}
+use Rattle.rtui_style.specs.Style.{patch}
+use Rattle.rtui_cell.specs.Symbol.{IsShort}
+use Rattle.rtui_cell.specs.Width.{text_width}
+use Rattle.rtui_text.specs.Text.{SpanData}
+use Rattle.rtui_text.proofs.PrintableLemmas.{IsAsciiPiece, ascii-graphemes}
+use Rattle.rtui_buffer.specs.Painting.{is_painted, fitting, kept, Piece, piece_of, pieces, text_pieces, columns}
+use Rattle.rtui_buffer.specs.PaintedText.{AreShort, HasShortGraphemes, HaveShortGraphemes}
+use Rattle.rtui_buffer.specs.Line.{line_pieces}
+
+either : (P : List ℕ → Type 0) (b : Bool) (g : List ℕ) (gs : List (List ℕ)) → P g → All P gs → All P (cond b (g ∷ gs) [])
+either P true g gs first rest = All-cons P g gs first rest
+either P false g gs first rest = All-nil P
+
+-- what holds of each grapheme holds of those that fit
+pub All-fitting : (P : List ℕ → Type 0) (room : ℕ) (gs : List (List ℕ)) → All P gs → All P (fitting room gs)
+unfolding fitting
+All-fitting P room [] all = All-nil P
+All-fitting P room (g ∷ gs) all =
+    either P (nat_le (text_width g) room) g (fitting (room - text_width g) gs) (All-head P g gs all) (All-fitting P (room - text_width g) gs (All-tail P g gs all))
+
+All-kept : (P : List ℕ → Type 0) (room : ℕ) (gs : List (List ℕ)) → All P gs → All P (kept room gs)
+unfolding kept
+All-kept P room gs all = All-fitting P room _ (All-filter is_painted P gs all)
+
+pub text-short : (room : ℕ) (style : Style) (text : List ℕ) → HasShortGraphemes text → AreShort (text_pieces room style text)
+text-short room style text all =
+    All-map (λ (p : Piece). IsShort p.symbol) (piece_of style) (kept room (graphemes true text)) (All-kept IsShort room (graphemes true text) all)
+
+pub line-short : (room : ℕ) (base : Style) (spans : List SpanData) → HaveShortGraphemes spans → AreShort (line_pieces room base spans)
+unfolding line_pieces
+line-short room base [] all = All-nil (λ (p : Piece). IsShort p.symbol)
+line-short room base (s ∷ ss) all =
+    let ps = text_pieces room (patch base s.style) s.content in
+    All-append (λ (p : Piece). IsShort p.symbol) ps (line_pieces (room - columns ps) base ss)
+    (text-short room (patch base s.style) s.content (All-head (λ (s : SpanData). HasShortGraphemes s.content) s ss all))
+    (line-short (room - columns ps) base ss (All-tail (λ (s : SpanData). HasShortGraphemes s.content) s ss all))
+
+short_piece : (g : List ℕ) → IsAsciiPiece g → IsShort g
+short_piece g h = omega (arith, h.few)
+
+pub ascii-short : (text : List ℕ) → IsAscii text → HasShortGraphemes text
+ascii-short text ascii = All-weaker IsAsciiPiece IsShort short_piece (graphemes true text) (ascii-graphemes text ascii)
