@@ -1,6 +1,9 @@
 -- Terminals, frames, and what each call does.
 pub use Rattle.rtui_terminal.specs.declared.terminal.error.TerminalError.{TerminalError}
+pub use Rattle.rtui_terminal.specs.declared.terminal.error.TerminalError.TheVariants.{Backend, Memory, Area, Closure}
 pub use Rattle.rtui_terminal.specs.declared.terminal.frame.Frame.{Frame}
+pub use Rattle.rtui_viewport.specs.declared.viewport.Viewport.{Viewport}
+pub use Rattle.rtui_viewport.specs.declared.viewport.Viewport.TheVariants.{Fullscreen, Inline, Fixed}
 pub use Rattle.rtui_viewport.specs.Areas.{KeepsOutside, IsBlankOver, IsBlankBelow, KeepsAllButLooks, Empties, is_between, is_within}
 pub use Rattle.rtui_viewport.specs.Viewports.{IsInline, IsFixed, FitsEdges, rows_in, viewport_text}
 pub use Rattle.rtui_viewport.specs.Sizing.{first_area, IsSizeKnown, IsAreaChange}

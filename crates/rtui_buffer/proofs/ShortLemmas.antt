@@ -1,5 +1,5 @@
 -- Short graphemes make short pieces.
-use Rattle.std.proofs.Common.{◌≡◌, ℕ, ◌-◌, ◌≤◌, Bool, true, false, cond, List, [], ◌∷◌, ◌++◌, length, All, arith}
+use Rattle.std.proofs.Common.{ℕ, ◌-◌, Bool, true, false, cond, List, [], ◌∷◌, All, arith}
 use Rattle.std.specs.Prelude.{nat_le}
 use Rattle.std.specs.Str.{IsAscii}
 use Rattle.std.proofs.lemmas.List.Elements.{All-nil, All-cons, All-head, All-tail, All-append, All-filter, All-map, All-weaker}
@@ -10,7 +10,7 @@ use Rattle.rtui_cell.specs.Symbol.{IsShort}
 use Rattle.rtui_cell.specs.Width.{text_width}
 use Rattle.rtui_text.specs.Text.{SpanData}
 use Rattle.rtui_text.proofs.PrintableLemmas.{IsAsciiPiece, ascii-graphemes}
-use Rattle.rtui_buffer.specs.Painting.{is_painted, fitting, kept, Piece, piece_of, pieces, text_pieces, columns}
+use Rattle.rtui_buffer.specs.Painting.{is_painted, fitting, kept, Piece, piece_of, text_pieces, columns}
 use Rattle.rtui_buffer.specs.PaintedText.{AreShort, HasShortGraphemes, HaveShortGraphemes}
 use Rattle.rtui_buffer.specs.Line.{line_pieces}
 

@@ -147,9 +147,10 @@ pub by_row : (start i w at : ℕ) → start ≡ i * w → start ≤ at → at < 
 by_row start i w at e le lt =
     let inside : at - start < w = omega arith in
     let some : 0 < w = omega arith in
-    let whole : at ≡ at - start + i * w = omega arith in
-    (ap (λ n. n % w) whole ∙ add-mul-mod_self_right (at - start) i w ∙ mod-eq_of_lt inside,
-     ap (λ n. n / w) whole ∙ add-mul-div_right (at - start) i some ∙ ap (λ q. q + i) (div-eq_of_lt inside) ∙ (let z : 0 + i ≡ i = omega arith in z))
+    let whole : at ≡ at - start + i * w = omega arith in (
+      ap (λ n. n % w) whole ∙ add-mul-mod_self_right (at - start) i w ∙ mod-eq_of_lt inside,
+      ap (λ n. n / w) whole ∙ add-mul-div_right (at - start) i some ∙ ap (λ q. q + i) (div-eq_of_lt inside) ∙ (let z : 0 + i ≡ i = omega arith in z),
+    )
 
 pub row_in_frame : (start i w h at : ℕ) → start ≡ i * w → start ≤ at → at < w * h → i < h
 row_in_frame start i w h at e le lt = row_below i h w (omega arith)

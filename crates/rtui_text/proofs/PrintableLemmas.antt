@@ -1,5 +1,5 @@
 -- A printable character of ASCII before another character of ASCII is a grapheme of its own.
-use Rattle.std.proofs.Common.{◌≡◌, ℕ, zero, suc, ◌-◌, ◌<◌, ◌≤◌, Bool, true, false, cond, not, ◌&&◌, ◌||◌, ◌==◌, nat_le, nat_lt, List, [], ◌∷◌, ◌++◌, map, length, unwrap_or, refl, sym, ap, ap₂, ◌∙◌, arith, append-nil, eqb-true, ◌⊎◌, ⊎_elim, inl, inr, take, drop, slice_index, subst, add-one, count_by}
+use Rattle.std.proofs.Common.{◌≡◌, ℕ, zero, suc, ◌-◌, ◌<◌, ◌≤◌, Bool, true, false, cond, not, ◌&&◌, ◌||◌, ◌==◌, nat_le, nat_lt, List, [], ◌∷◌, ◌++◌, map, length, unwrap_or, refl, sym, ap, ◌∙◌, arith, append-nil, eqb-true, ◌⊎◌, ⊎_elim, inl, inr, take, drop, slice_index, subst, add-one, count_by}
 use Rattle.std.proofs.lemmas.Bool.{false≢true, cases_lt}
 use Rattle.std.proofs.lemmas.Bool.Decides.{nat_tests}
 use Rattle.std.proofs.lemmas.Str.{encode_ascii, chars-nil, chars-IsAscii, IsCharBoundary-start}
@@ -22,9 +22,9 @@ use Rattle.ucd_derived.proofs.IndicConjunctBreakLemmas.{indic_conjunct_break_ste
 use Rattle.ucd_emoji.specs.Binary.{is_extended_pictographic}
 use Rattle.ucd_emoji.proofs.Computing.{ucd_emoji}
 use Rattle.ucd_emoji.proofs.BinaryLemmas.{is_extended_pictographic_stepped}
-use Rattle.unicode_segmentation.specs.Segments.{Rule, prepend, cut, segments}
+use Rattle.unicode_segmentation.specs.Segments.{prepend, cut, segments}
 use Rattle.unicode_segmentation.proofs.SegmentsLemmas.{AllPieces}
-use Rattle.unicode_segmentation.specs.Grapheme.{break_by_pair, ends_in_linker, is_consonant, joins_conjunct, is_extend, is_zwj, is_regional, ends_in_pictograph, joins_emoji, ends_in_half_flag, joins_flag, is_grapheme_break, graphemes}
+use Rattle.unicode_segmentation.specs.Grapheme.{break_by_pair, ends_in_linker, joins_conjunct, is_extend, is_zwj, is_regional, ends_in_pictograph, joins_emoji, ends_in_half_flag, joins_flag, is_grapheme_break, graphemes}
 use Rattle.unicode_width.specs.declared.state.State.{State}
 use Rattle.unicode_width.specs.Width.{str_width, read_before, step, past_emoji, plain}
 use Rattle.rtui_cell.specs.Width.{is_sound_mark, text_columns, text_width}
@@ -266,6 +266,7 @@ columns-printable text all = rw (width-printable text all, chars-printable text 
 pub ruleset front_rules = (front-boundary, graphemes-front)
 
 pub ruleset longest_rules = (longest-front, longest-front_cut)
+
 pub ruleset columns_rules = (columns-printable)
 
 take-printable : (text : List ℕ) (n : ℕ) → n ≤ length text → ((k : ℕ) → k < n → IsPrintable (slice_index text k)) → (k : ℕ) → k < length (take n text) → IsPrintable (slice_index (take n text) k)
@@ -437,4 +438,3 @@ ascii-chars (c ∷ cs) low = chars-ascii c low.0 cs ∙ ap (λ t. c ∷ t) (asci
 
 pub piece-printable : (g : List ℕ) → AreAsciiChars g → has_control g ≡ false → ArePrintable g
 piece-printable g low plain = plain-printable g low (ap (list_any is_control) (sym (ascii-chars g low)) ∙ plain)
-

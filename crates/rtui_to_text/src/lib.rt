@@ -1,7 +1,8 @@
 //! What can be printed, as a text on the screen.
 //!
 //! It stands on `rtui_text`. Whatever prints is a [`ToSpan`], a [`ToLine`] and a [`ToText`]: its printed text, owned, in the
-//! style that changes nothing. Contracts name that text where the type states what it prints.
+//! style that changes nothing. Contracts name that text where the type states what it prints; where it doesn't, they say
+//! that it is some text, made so.
 #![tactic(auto)]
 
 ghost use Rattle.std.specs.Prelude.{◌≡◌, ℕ, List, Option, IfOk, IfSome};
@@ -22,7 +23,8 @@ pub trait ToSpan {
 
     /// A span of what it prints; refused where memory is.
     fn to_span(&self, alloc: Global) -> Result<Span<'static>, AllocError>
-        ensures { IfSome (printed self.now) (λ text. IfOk result (λ span. span ≡ plain text)) };
+        ensures printed { IfSome (printed self.now) (λ text. IfOk result (λ span. span ≡ plain text)) }
+        ensures of_text { IfOk result (λ span. (text : List ℕ) × (span ≡ plain text)) };
 }
 
 impl<T: fmt::Display> ToSpan for T {
@@ -40,7 +42,9 @@ pub trait ToLine {
 
     /// A line of what it prints, as `Line::raw_string` makes it; refused where memory is.
     fn to_line(&self, alloc: Global) -> Result<Line<'static>, AllocError>
-        ensures { IfSome (printed self.now) (λ text. IfOk result (λ line. line ≡ raw_line text)) };
+        ensures printed { IfSome (printed self.now)
+            (λ text. IfOk result (λ line. line ≡ raw_line text)) }
+        ensures of_text { IfOk result (λ line. (text : List ℕ) × (line ≡ raw_line text)) };
 }
 
 impl<T: fmt::Display> ToLine for T {
@@ -58,8 +62,9 @@ pub trait ToText {
 
     /// A text of what it prints, as `Text::raw_string` makes it; refused where memory is.
     fn to_text(&self, alloc: Global) -> Result<Text<'static>, AllocError>
-        ensures { IfSome (printed self.now)
-            (λ printed. IfOk result (λ text. text ≡ raw_text printed)) };
+        ensures printed { IfSome (printed self.now)
+            (λ printed. IfOk result (λ text. text ≡ raw_text printed)) }
+        ensures of_text { IfOk result (λ text. (printed : List ℕ) × (text ≡ raw_text printed)) };
 }
 
 impl<T: fmt::Display> ToText for T {

@@ -172,10 +172,12 @@ module _ (stage : Stage) (done : List Command) (w : Waiting) (n : ℕ) (s : Stat
       let at : get_or (steps_of nothing done ++ step ∷ behind) n step ≡ step =
       ap (λ k. get_or (steps_of nothing done ++ step ∷ behind) k step) h.count ∙ get_or-append_seam (steps_of nothing done) step behind step in
       let front : take n (steps_of nothing done ++ step ∷ behind) ≡ steps_of nothing done =
-      ap (λ k. take k (steps_of nothing done ++ step ∷ behind)) h.count ∙ take-append_seam (steps_of nothing done) (step ∷ behind) in
-      (h.scenes, subst (λ xs. StopsBehind stage xs h.scenes (record { step = n + 1; cause = cause })) (sym all)
-      (StopsBehind-at stage (steps_of nothing done ++ step ∷ behind) n step cause h.scenes s (omega (arith, h.count, length-append (steps_of nothing done) (step ∷ behind))) (sym at)
-      (subst (λ xs. IsRun stage xs h.scenes) (sym front) h.run) last_at why))
+      ap (λ k. take k (steps_of nothing done ++ step ∷ behind)) h.count ∙ take-append_seam (steps_of nothing done) (step ∷ behind) in (
+        h.scenes,
+        subst (λ xs. StopsBehind stage xs h.scenes (record { step = n + 1; cause = cause })) (sym all)
+            (StopsBehind-at stage (steps_of nothing done ++ step ∷ behind) n step cause h.scenes s (omega (arith, h.count, length-append (steps_of nothing done) (step ∷ behind))) (sym at)
+            (subst (λ xs. IsRun stage xs h.scenes) (sym front) h.run) last_at why),
+      )
 
 -- a step of the next command that can't be played
 pub StopsBehind-any : (stage : Stage) (done : List Command) (w : Waiting) (n : ℕ) (s : State TestBackend) (text : List ℕ) → HasPlayed stage done w n s text → (c : Command) (rest : List Command) (cause : PlayCause)

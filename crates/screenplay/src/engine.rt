@@ -103,11 +103,7 @@ fn play_taken(
 }
 
 // Plays the commands of a script on its stage, step by step, and gives the text of what they show.
-fn play_commands(
-    alloc: Global,
-    stage: Stage,
-    commands: &[Command<'_>],
-) -> Result<Vec<u8>, RunFault>
+fn play_commands(alloc: Global, stage: Stage, commands: &[Command<'_>]) -> Result<Vec<u8>, RunFault>
     requires { IsGoodStage stage }
     ensures ok { IfOk result (λ text. IsShownText stage commands.now text.items) }
     ensures fault { IfErr result (StopsAtStep stage commands.now) }

@@ -87,8 +87,8 @@ pub enum Step<'a> {
         puts: Puts,
     },
     /// Rows above an inline viewport, one for each line of the text, at most 65535: the text rendered over an empty
-    /// buffer of the screen's width. The viewport moves down as far as there is room, and is empty; rows that have no
-    /// room scroll off. On another viewport nothing changes.
+    /// buffer of the screen's width. The viewport moves down as far as there is room, and shows what it did; rows that have
+    /// no room scroll off. On another viewport nothing changes.
     Insert(Text<'a>),
     /// An empty viewport.
     Clear,

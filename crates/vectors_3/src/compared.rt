@@ -6,9 +6,9 @@ use crate::terminal::terminal;
 use rtui_backend::{AsCell, Backend, ClearType, TestBackend, TestError, WindowSize};
 use rtui_geometry::{Position, Rect, Size};
 use rtui_terminal::{CompletedFrame, Terminal, TerminalError};
-use std::ops::Range;
 use std::alloc::{AllocError, Global};
 use std::hash::{DefaultHasher, Hash, Hasher};
+use std::ops::Range;
 use std::test::Fail;
 
 // A screen without columns and rows over a cursor that is lent; it can't be drawn on.

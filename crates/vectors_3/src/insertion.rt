@@ -6,7 +6,7 @@ use crate::viewports::terminal_over;
 use rtui_backend::{TestBackend, TestError};
 use rtui_buffer::Buffer;
 use rtui_cell::Cell;
-use rtui_geometry::{Position, Rect};
+use rtui_geometry::Rect;
 use rtui_terminal::{Terminal, TerminalError, TerminalOptions, Viewport};
 use std::alloc::{AllocError, Global};
 use std::process::Abort;
@@ -134,16 +134,13 @@ fn more_rows_than_the_screen_has(rt: HostRuntime) -> Result<(), Fail> {
     Ok(())
 }
 
-static BLANK: [&str; 10] = ["  "; 10];
-
 #[test]
-fn no_rows_empty_the_viewport_alone(rt: HostRuntime) -> Result<(), Fail> {
-    let mut terminal = inline(rt.alloc(), 2, 10, 8, 4)?;
+fn no_rows_change_nothing(rt: HostRuntime) -> Result<(), Fail> {
+    let mut terminal = inline(rt.alloc(), 2, 4, 3, 2)?;
     assert!(rt; draws(rt.alloc(), &mut terminal, "ab"));
     assert!(rt; inserts(rt.alloc(), &mut terminal, &[]));
-    assert!(rt; terminal.viewport_area() == Rect::new(0, 6, 2, 4));
-    assert!(rt; left(&terminal, &["  ", "  "]));
-    assert!(rt; shows(&terminal, &BLANK, 6));
+    assert!(rt; left(&terminal, &["  "]));
+    assert!(rt; shows(&terminal, &["  ", "  ", "ab", "  "], 2));
     Ok(())
 }
 
@@ -246,12 +243,12 @@ fn a_refused_insertion_changes_nothing(rt: HostRuntime) -> Result<(), Fail> {
 // Screens of so many rows with an inline viewport of so many, how many rows come in, and how many calls of the backend that
 // makes.
 static INSERTIONS: [(u16, u16, u16, u64); 6] = [
-    (3, 1, 3, 8),
-    (4, 2, 0, 4),
-    (4, 2, 1, 6),
-    (4, 2, 2, 6),
-    (4, 2, 4, 8),
-    (4, 2, 12, 16),
+    (3, 1, 3, 6),
+    (4, 2, 0, 0),
+    (4, 2, 1, 3),
+    (4, 2, 4, 6),
+    (4, 2, 12, 18),
+    (2, 2, 3, 11),
 ];
 
 // Whether an insertion is answered as told, where so many calls of the backend answer as usual before one fails; a clear
@@ -310,18 +307,20 @@ fn answers_each_failing_call_of_an_insertion(rt: HostRuntime) -> Result<(), Fail
     Ok(())
 }
 
+// Whether a row with wide symbols at both edges comes in, in a place above a viewport of so many rows.
+fn inserts_wide(alloc: Global, wanted: u16, shown: &[&str], off: &[&str]) -> Result<bool, Fail> {
+    let mut terminal = inline(alloc, 5, 2, 0, wanted)?;
+    Ok(
+        draws(alloc, &mut terminal, "あ zい ")
+            && inserts(alloc, &mut terminal, &["コ xコ "])
+            && terminal.backend().lines_are(shown)
+            && terminal.backend().scrollback().len() == off.len(),
+    )
+}
+
 #[test]
-fn wide_and_skipped_cells_are_written(rt: HostRuntime) -> Result<(), Fail> {
-    let mut terminal = inline(rt.alloc(), 4, 2, 0, 1)?;
-    let alloc = rt.alloc();
-    let answer = terminal.insert_before(1, |buffer| {
-        write_row(alloc, buffer, 0, "コ xy")?;
-        if let Some(cell) = buffer.cell_mut(Position { x: 3, y: 0 }) {
-            cell.skip = true;
-        }
-        Ok(())
-    });
-    assert!(rt; answer.is_ok());
-    assert!(rt; shows(&terminal, &["コxy", "    "], 1));
+fn wide_cells_are_written_at_both_edges(rt: HostRuntime) -> Result<(), Fail> {
+    assert!(rt; inserts_wide(rt.alloc(), 1, &["コxコ", "あzい"], &[])?);
+    assert!(rt; inserts_wide(rt.alloc(), 2, &["あzい", "     "], &["コxコ"])?);
     Ok(())
 }

@@ -13,7 +13,7 @@ fn prints(alloc: Global, script: &str, printed: &str) -> bool {
 }
 
 // Scripts and what they print.
-static PRINTED: [(&str, &str); 28] = [
+static PRINTED: [(&str, &str); 32] = [
     (
         "screen 5 2\nput 1 0 h\nput 2 0 i\ndraw\nshow\n",
         "| hi  \n|     \n",
@@ -64,6 +64,22 @@ static PRINTED: [(&str, &str); 28] = [
     (
         "inline 6 4 1\ntext bar\ndraw\ntext one\ninsert\ntext bar\ndraw\nshow",
         "|one   \n|bar   \n|      \n|      \n",
+    ),
+    (
+        "inline 6 4 1\ntext bar\ndraw\ntext one\ninsert\nshow",
+        "|one   \n|bar   \n|      \n|      \n",
+    ),
+    (
+        "inline 3 2 2\ntext ab\ntext cd\ndraw\ntext x\ntext y\ninsert\nshow",
+        "^x  \n^y  \n|ab \n|cd \n",
+    ),
+    (
+        "inline 4 3 1\ntext コab\ndraw\ntext xxコ\ninsert\nclear\ntext y\ninsert\nshow",
+        "|xxコ\n|y   \n|    \n",
+    ),
+    (
+        "inline 4 2 2\ntext コab\ntext cdコ\ndraw\ntext xxコ\ninsert\nsize 4 3\ntext e\ndraw\ntext f\ninsert\nshow",
+        "^xxコ\n|f   \n|e   \n|    \n",
     ),
     (
         "inline 3 2 1\nput 0 1 x\ntext ab\ninsert\ndraw\nshow",
@@ -222,6 +238,35 @@ fn takes_only_so_many_texts(rt: HostRuntime) -> Result<(), Fail> {
     Ok(())
 }
 
+// A script that inserts so many rows, one by one, and then shows the screen.
+fn inserting_one_by_one(alloc: Global, count: usize) -> Result<String, AllocError> {
+    let mut script = String::new(alloc);
+    script.push_str("inline 80 24 4\n")?;
+    for _ in 0..count {
+        script.push_str("text row\ninsert\n")?;
+    }
+    script.push_str("show")?;
+    Ok(script)
+}
+
+// How many rows have left the screen in what a script prints.
+fn rows_off(alloc: Global, script: &str) -> Option<usize> {
+    let mut written = Vec::new(alloc);
+    let mut reader = script.as_bytes();
+    match run(alloc, &mut reader, &mut written) {
+        Ok(()) => Some(written.iter().filter(|byte| **byte == b'^').count()),
+        Err(_) => None,
+    }
+}
+
+// A scene kept for each step would take gigabytes here.
+#[test]
+fn keeps_no_scene_of_two_thousand_insertions(rt: HostRuntime) -> Result<(), Fail> {
+    let script = inserting_one_by_one(rt.alloc(), 2000)?;
+    assert!(rt; rows_off(rt.alloc(), script.as_str()) == Some(1980));
+    Ok(())
+}
+
 // Whether these bytes are refused as no text, and nothing is printed.
 fn is_no_text(alloc: Global, bytes: &[u8]) -> bool {
     let mut written = Vec::new(alloc);
@@ -235,6 +280,7 @@ fn is_no_text(alloc: Global, bytes: &[u8]) -> bool {
 #[test]
 fn refuses_bytes_that_are_no_text(rt: HostRuntime) {
     assert!(rt; is_no_text(rt.alloc(), b"screen 3 1\n\xff"));
+    assert!(rt; is_no_text(rt.alloc(), b"\xff"));
 }
 
 // A reader that fails.
@@ -245,6 +291,64 @@ impl Read for Broken {
     fn read(&mut self, _buf: &mut [u8]) -> io::Result<usize> {
         Err(io::Error::from(io::ErrorKind::NotFound))
     }
+}
+
+// A reader that gives a stage at its first read, and then fails.
+#[derive(Drop)]
+struct Breaking {
+    is_broken: bool,
+}
+
+impl Read for Breaking {
+    fn read(&mut self, buf: &mut [u8]) -> io::Result<usize> {
+        if self.is_broken || buf.is_empty() {
+            return Err(io::Error::from(io::ErrorKind::NotFound));
+        }
+        self.is_broken = true;
+        buf[0] = b'\n';
+        Ok(1)
+    }
+}
+
+// A writer that takes a byte at a time, so many of them, and then fails.
+#[derive(Drop)]
+struct Narrow {
+    left: usize,
+}
+
+impl io::Write for Narrow {
+    fn write(&mut self, buf: &[u8]) -> io::Result<usize> {
+        if self.left == 0 {
+            return Err(io::Error::from(io::ErrorKind::NotFound));
+        }
+        self.left -= 1;
+        Ok(buf.len().min(1))
+    }
+
+    fn flush(&mut self) -> io::Result<()> {
+        Ok(())
+    }
+}
+
+// Whether the run of a script fails at the write behind so many.
+fn fails_behind(alloc: Global, script: &str, writes: usize) -> bool {
+    let mut reader = script.as_bytes();
+    let mut writer = Narrow { left: writes };
+    match run(alloc, &mut reader, &mut writer) {
+        Err(RunFault::Write) => true,
+        _ => false,
+    }
+}
+
+#[test]
+fn answers_each_failing_write(rt: HostRuntime) {
+    for writes in 0..5 {
+        assert!(rt;
+            fails_behind(rt.alloc(), "screen 3 1\nshow", writes),
+            "{writes}"
+        );
+    }
+    assert!(rt; !fails_behind(rt.alloc(), "screen 3 1\nshow", 5));
 }
 
 // A writer that takes nothing.
@@ -326,6 +430,21 @@ fn names_a_failed_read(rt: HostRuntime) -> Result<(), Fail> {
         Ok(()) => assert!(rt; false),
         Err(fault) => assert!(rt; reads_as(rt.alloc(), fault, "input: read failed")?),
     }
+    Ok(())
+}
+
+// Whether a run over a reader that fails at its second read answers so, and writes nothing.
+fn fails_to_read_on(alloc: Global) -> Result<bool, AllocError> {
+    let mut written = Vec::new(alloc);
+    match run(alloc, &mut Breaking { is_broken: false }, &mut written) {
+        Err(RunFault::Read) => Ok(written.is_empty()),
+        _ => Ok(false),
+    }
+}
+
+#[test]
+fn names_a_read_that_fails_later(rt: HostRuntime) -> Result<(), Fail> {
+    assert!(rt; fails_to_read_on(rt.alloc())?);
     Ok(())
 }
 

@@ -1,0 +1,123 @@
+-- A view of the lines of a log, from its start on.
+use Rattle.std.proofs.Common.{◌≡◌, ℕ, ◌+◌, ◌-◌, ◌<◌, ◌≤◌, ◌^◌, ◌&&◌, Bool, true, false, min, nat_lt, List, [], ◌∷◌, ◌++◌, length, length-append, get_or, drop, Option, Some, None, IfSome, Result, Ok, Err, IfOk, if◌then◌else◌, refl, sym, ap, ap₂, subst, ◌∙◌, arith}
+use Rattle.std.specs.Prelude.{◌==◌}
+use Rattle.std.specs.Result.{result_ok}
+use Rattle.std.specs.List.{before_first, after_first}
+use Rattle.std.proofs.lemmas.Grind.{common_steps}
+use Rattle.ratatui_core.specs.Layout.{Rect, Size}
+use Rattle.ratatui_core.specs.Buffer.{Look, empty_look}
+use Rattle.ratatui_core.specs.Backend.{Screen, IsBlankScreen, size_of, rows_above, TestBackend, screen_of}
+use Rattle.ratatui_core.specs.Terminal.{IsBlankBelow}
+use Rattle.logview.specs.Rows.{counted, status_text, row_area, IsPaintedText, IsRowOf, AreRowsOfLines, IsBlank}
+use Rattle.logview.specs.Size.{parsed_number, size_by, parsed_size}
+use Rattle.logview.specs.Views.{lines_shown, StartsView, PushesLine, IsViewOf}
+use Rattle.logview.specs.Engine.{ShowsLog, IsLogView, PrintsLog, size_of_log}
+use Rattle.logview.specs.Print.{printed_screen}
+use Rattle.std.specs.Str.{IsUtf8}
+use Rattle.std.specs.Str.Lines.{lines}
+use Rattle.std.specs.Io.KnownBytes.{Appends}
+use Rattle.logview.specs.declared.view.LogView.{LogView}
+use Rattle.logview.proofs.RowLemmas.{rows_more}
+
+pub blank_screen : (w h : ℕ) (s : Screen) → IsBlankScreen w h s → IsBlank s
+blank_screen w h s blank = record { at = λ a b a_in b_in. blank.grid a b }
+
+module _ {B E : Type 0} (screen : B → Screen) where
+  -- the start on a new screen
+  pub view_none : (size : Size) (b : B) (v : LogView B E) → IsBlankScreen size.width size.height (screen b) → v.count ≡ 0 → StartsView screen b v → IsViewOf screen size [] v
+  view_none size b v blank count starts =
+      let row : (screen b).cursor_y ≡ 0 = ap (λ p. p.y) blank.cursor in
+      record {
+        following = starts.following;
+        status = starts.status;
+        count = count;
+        size_is = starts.size ∙ ap₂ (λ w h. record { width = w; height = h }) blank.width blank.height;
+        top = starts.top ∙ row ∙ omega arith;
+        above = subst (AreRowsOfLines size.width []) (sym (starts.above ∙ ap (rows_above (screen b)) row ∙ ap (λ h. h ++ []) blank.history)) tt;
+        below = starts.below;
+      }
+
+  -- one more line
+  pub view_more : (size : Size) (lines : List (List ℕ)) (line : List ℕ) (v w : LogView B E) → IsViewOf screen size lines v → w.count ≡ counted (v.count + 1) → PushesLine screen line v w → IsViewOf screen size (lines ++ line ∷ []) w
+  view_more size lines line v w is count pushes =
+      let ins = pushes.inserts in
+      let more : length (lines ++ line ∷ []) ≡ length lines + 1 = length-append lines (line ∷ []) in
+      let wide : (screen v.terminal.backend).width ≡ size.width = ap (λ (s : Size). s.width) is.size_is in
+      let high : (screen v.terminal.backend).height ≡ size.height = ap (λ (s : Size). s.height) is.size_is in
+      let painted : IsRowOf size.width line ins.row = subst (λ n. IsRowOf n line ins.row) wide ins.painted in
+      record {
+        following = ins.following;
+        status = pushes.status;
+        count = (let c = is.count in omega arith);
+        size_is = ins.size ∙ is.size_is;
+        top = (let t = ins.top in let f = is.top in omega arith);
+        above = subst (AreRowsOfLines size.width (lines ++ line ∷ [])) (sym ins.above) (rows_more size.width line ins.row lines (lines_shown screen v) is.above painted);
+        below = ins.below is.below;
+      }
+
+  -- what its screen shows
+  pub shows_log : (size : Size) (lines : List (List ℕ)) (v : LogView B E) → IsViewOf screen size lines v → ShowsLog size lines (screen v.terminal.backend)
+  shows_log size lines v is =
+      let wide : (screen v.terminal.backend).width ≡ size.width = ap (λ (s : Size). s.width) is.size_is in
+      let place : v.terminal.viewport_area ≡ row_area size.width v.terminal.viewport_area.y = is.following.row ∙ ap (λ n. row_area n v.terminal.viewport_area.y) wide in
+      record {
+        size_is = is.size_is;
+        top = v.terminal.viewport_area.y;
+        top_is = is.top;
+        above = is.above;
+        status = record {
+          sheet = is.status.sheet;
+          over = is.status.over ∙ place;
+          painted = subst (λ n. IsPaintedText (status_text n) is.status.sheet) is.count is.status.painted;
+          shown = is.status.shown;
+        };
+        below = subst (λ (r : Rect). IsBlankBelow r (screen v.terminal.backend)) place is.below;
+      }
+
+-- a size has columns and rows
+abbrev HasSize : Option Size → Type 0
+HasSize o = IfSome o (λ size. (0 < size.width) × (0 < size.height))
+
+HasSize-if : (w h : ℕ) (a b : Bool) → (a ≡ true → 0 < w) → (b ≡ true → 0 < h) → HasSize (if a && b then Some (record { width = w; height = h }) else None)
+HasSize-if w h true true p q = (p refl, q refl)
+HasSize-if w h true false p q = tt
+HasSize-if w h false b p q = tt
+
+HasSize-by : (a b : Option ℕ) → HasSize (size_by a b)
+HasSize-by None b = tt
+HasSize-by (Some w) None = tt
+HasSize-by (Some w) (Some h) = HasSize-if w h (nat_lt 0 w) (nat_lt 0 h) (λ e. grind (arith, common_steps)) (λ e. grind (arith, common_steps))
+
+HasSize-parsed : (line : List ℕ) → HasSize (parsed_size line)
+unfolding parsed_size
+HasSize-parsed line = HasSize-by (parsed_number (before_first (λ c. c == 32) line)) (parsed_number (after_first (λ c. c == 32) line))
+
+pub HasSize-log : (lines : List (List ℕ)) (size : Size) → size_of_log lines ≡ Some size → 0 < size.height
+HasSize-log [] size e = absurd (cc)
+HasSize-log (line ∷ lines) size e = (subst HasSize e (HasSize-parsed line)).1
+
+-- by the answer of the start
+pub view_opened : {T E : Type 0} {B : Type 0} (screen : B → Screen) (size : Size) (b : B) (result : Result (LogView B E) T) → IsBlankScreen size.width size.height (screen b) → 0 < size.height
+    → IfOk result (λ v. v.count ≡ 0) → (IsBlank (screen b) → 0 < (screen b).height → IfOk result (StartsView screen b)) → IfSome (result_ok result) (IsViewOf screen size [])
+view_opened screen size b (Ok v) blank some count starts =
+    let high : (screen b).height ≡ size.height = blank.height in
+    view_none screen size b v blank count (starts (blank_screen size.width size.height (screen b) blank) (omega arith))
+view_opened screen size b (Err e) blank some count starts = tt
+
+pub if_ok : {T E : Type 0} (P : T → Type 0) (r : Result T E) (b : T) → result_ok r ≡ Some b → IfOk r P → P b
+if_ok P (Ok x) b e p = let same : x ≡ b = cc in subst P same p
+if_ok P (Err x) b e p = absurd (cc)
+
+-- the first line says the size
+pub first_line : (log : List (List ℕ)) (line : List ℕ) → 0 < length log → line ≡ get_or log 0 line → parsed_size line ≡ size_of_log log
+first_line [] line some is = absurd (omega arith)
+first_line (first ∷ rest) line some is = ap parsed_size is
+
+-- what was printed of the bytes that were read
+pub prints_log : {E : Type 0} (read : Option (List ℕ)) (bytes : List ℕ) (v : LogView TestBackend E) (old new : Option (List ℕ)) → IfSome read (λ all. bytes ≡ all) → IsUtf8 bytes × IsLogView (lines bytes) v
+    → Appends old new (printed_screen (screen_of v.terminal.backend)) → IfSome read (λ all. PrintsLog all old new)
+prints_log None bytes v old new e is written = tt
+prints_log (Some all) bytes v old new e is written =
+    let log = is.1 in
+    subst (λ bs. PrintsLog bs old new) e
+    (record { size = log.size; is = record { text = is.0; first = log.first }; screen = screen_of v.terminal.backend; shown = shows_log screen_of log.size (drop 1 (lines bytes)) v log.shown; written = written })

@@ -1,0 +1,31 @@
+use Rattle.std.proofs.Common.{List, ℕ, length, map, drop, refl, arith, length-drop}
+use Rattle.std.proofs.lemmas.Grind.{common_steps}
+use Rattle.std.proofs.lemmas.List.{map-append}
+use Rattle.std.proofs.lemmas.Iterator.Consumers.{YieldsList-turn, YieldsList-end}
+use Rattle.std.proofs.lemmas.Iterator.Adapters.{YieldsList-from_skip}
+use Rattle.std.proofs.lemmas.Iterator.Splits.{YieldsList-from_lines}
+use Rattle.std.specs.Str.Lines.{lines}
+use Rattle.ratatui_core.specs.Backend.{screen_of}
+use Rattle.logview.proofs.LogLemmas.{view_more}
+use Rattle.logview.proofs.engine.push_lines.Goals as goal
+
+pub loop-line-preserved : goal.loop-line-preserved
+loop-line-preserved c = record {
+  count = grind (arith, common_steps);
+  view = λ size start.
+      let before = c.loop-line.invariant.view size start in
+      rw map-append (view_more screen_of size _ c.in-Some.line.now c.loop-line.view c.push.new.self before c.in-Ok.ensures.count (c.in-Ok.ensures.pushed before.following));
+}
+
+pub returns-in-Err-clause-high : goal.returns-in-Err-clause-high
+returns-in-Err-clause-high c =
+    let road = YieldsList-from_skip {s = c.into_iter-line-iterator.result} 1 (YieldsList-from_lines c.args.text.now (cc)) (cc) in
+    let turn = YieldsList-turn road c.loop-line.yielded _ c.loop-line.yielded_by c.next.result _ c.in-Some.line c.in-Some.is c.next.ensures.steps in
+    let count = c.loop-line.invariant.count in
+    omega (arith, turn.0, count, length-drop 1 (lines c.args.text.now))
+
+pub returns-clause-ok : goal.returns-clause-ok
+returns-clause-ok c = λ size start.
+    let road = YieldsList-from_skip {s = c.into_iter-line-iterator.result} 1 (YieldsList-from_lines c.args.text.now (cc)) (cc) in
+    let end = YieldsList-end road c.loop-line.yielded _ c.loop-line.yielded_by _ _ c.in-None.is c.next.ensures.steps in
+    rw end.0 at (c.loop-line.invariant.view size start)

@@ -1,0 +1,68 @@
+-- From the bytes of a log to what is printed, or to a fault.
+use Rattle.std.specs.Prelude.{◌≡◌, ℕ, ◌-◌, ◌≤◌, min, List, [], ◌∷◌, ◌++◌, length, drop, Option, None, Some, codes}
+use Rattle.std.specs.Fmt.{decimal}
+use Rattle.std.specs.Str.{IsUtf8}
+use Rattle.std.specs.Str.Lines.{lines}
+use Rattle.std.specs.Io.KnownBytes.{Appends}
+use Rattle.ratatui_core.specs.Layout.{Size}
+use Rattle.ratatui_core.specs.Backend.{Screen, TestBackend, screen_of, size_of, rows_above}
+use Rattle.ratatui_core.specs.Terminal.{IsBlankBelow}
+use Rattle.logview.specs.Rows.{counted, status_text, row_area, AreRowsOfLines, ShowsText}
+use Rattle.logview.specs.Views.{IsViewOf}
+use Rattle.logview.specs.declared.view.LogView.{LogView}
+use Rattle.logview.specs.Size.{parsed_size}
+use Rattle.logview.specs.Print.{printed_screen}
+use Rattle.logview.specs.declared.fault.LogFault.{LogFault}
+use Rattle.logview.specs.declared.fault.LogFault.TheVariants as fault
+
+-- the screen of a log from a blank one on: a row for each line, those that have no room scrolled off, behind them the status line, and blank
+-- rows below it
+pub record ShowsLog (size : Size) (log : List (List ℕ)) (s : Screen) : Type 0 where
+  pub size_is : size_of s ≡ size
+  pub top : ℕ
+  pub top_is : top ≡ min (length log) (size.height - 1)
+  pub above : AreRowsOfLines size.width log (rows_above s top)
+  pub status : ShowsText (status_text (counted (length log))) (row_area size.width top) s.grid
+  pub below : IsBlankBelow (row_area size.width top) s
+
+-- the size that the first line says, if it does
+abbrev pub size_of_log : List (List ℕ) → Option Size
+size_of_log [] = None
+size_of_log (first ∷ rest) = parsed_size first
+
+-- the view shows the lines of a log behind the first one, on a screen of the size that that one says
+pub record IsLogView {E : Type 0} (log : List (List ℕ)) (v : LogView TestBackend E) : Type 0 where
+  pub size : Size
+  pub first : size_of_log log ≡ Some size
+  pub shown : IsViewOf screen_of size (drop 1 log) v
+
+-- the bytes are a log of this size
+pub record IsLog (bytes : List ℕ) (size : Size) : Type 0 where
+  pub text : IsUtf8 bytes
+  pub first : size_of_log (lines bytes) ≡ Some size
+
+-- the writer took the printed screen of the log: of a blank screen of its size, and of its lines behind the first one
+pub record PrintsLog (bytes : List ℕ) (old new : Option (List ℕ)) : Type 0 where
+  pub size : Size
+  pub is : IsLog bytes size
+  pub screen : Screen
+  pub shown : ShowsLog size (drop 1 (lines bytes)) screen
+  pub written : Appends old new (printed_screen screen)
+
+-- why nothing of these bytes was printed, or with a failed writer a part
+abbrev pub IsLogFault : List ℕ → LogFault → Type 0
+IsLogFault bytes fault.Size = IsUtf8 bytes × (size_of_log (lines bytes) ≡ None)
+IsLogFault bytes (fault.Refused n) = ((size : Size) × IsLog bytes size) × (1 ≤ n) × (n ≤ length (lines bytes))
+IsLogFault bytes fault.NotText = IsUtf8 bytes → ⊥
+IsLogFault bytes fault.Read = Unit {0}
+IsLogFault bytes fault.Memory = Unit {0}
+IsLogFault bytes fault.Write = (size : Size) × IsLog bytes size
+
+-- the line for standard error
+abbrev pub fault_text : LogFault → List ℕ
+fault_text fault.Size = codes "line 1: bad size"
+fault_text (fault.Refused n) = codes "line " ++ decimal n ++ codes ": memory"
+fault_text fault.NotText = codes "input: not text"
+fault_text fault.Read = codes "input: read failed"
+fault_text fault.Memory = codes "input: no memory"
+fault_text fault.Write = []

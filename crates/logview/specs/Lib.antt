@@ -1,0 +1,5 @@
+pub mod Rows
+pub mod Views
+pub mod Size
+pub mod Print
+pub mod Engine

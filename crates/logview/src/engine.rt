@@ -1,0 +1,129 @@
+//! The engine: from the bytes of a log to the printed screen.
+
+ghost use Rattle.std.specs.Prelude.{◌≡◌, ℕ, ◌<◌, ◌≤◌, [], length, drop, Some, IfOk, IfErr, IfSome, OnOk};
+ghost use Rattle.std.specs.Io.KnownBytes.{Appends};
+ghost use Rattle.std.specs.Str.{IsUtf8};
+ghost use Rattle.std.specs.Str.Lines.{lines};
+ghost use Rattle.ratatui_core.specs.Layout.{Size};
+ghost use Rattle.ratatui_core.specs.Backend.{screen_of};
+ghost use Rattle.logview.specs.Print.{printed_screen};
+ghost use Rattle.logview.specs.Views.{IsViewOf};
+ghost use Rattle.logview.specs.Engine.{size_of_log, IsLogView, IsLogFault, PrintsLog};
+ghost use Rattle.logview.specs.declared.fault.LogFault.TheVariants.{Write};
+
+use crate::fault::LogFault;
+use crate::print::write_screen;
+use crate::size::read_size;
+use crate::view::LogView;
+use ratatui_core::backend::TestBackend;
+use ratatui_core::layout::Size;
+use std::alloc::Global;
+use std::io::{self, ErrorKind, Read, Write};
+use std::str;
+
+// All that a reader has left.
+fn read_bytes<R: Read>(alloc: Global, reader: &mut R) -> Result<Vec<u8>, LogFault>
+    ensures ok { IfOk result (λ bytes. IfSome (R.remaining reader.old) (λ all. bytes.items ≡ all)) }
+    ensures err { IfErr result (λ fault.
+        IfSome (R.remaining reader.old) (λ bytes. IsLogFault bytes fault)) }
+    ensures early { IfErr result (λ fault. fault ≡ Write → ⊥) }
+{
+    let mut bytes = Vec::new(alloc);
+    match reader.read_to_end(&mut bytes) {
+        Ok(_) => Ok(bytes),
+        Err(error) if error.kind() == ErrorKind::OutOfMemory => Err(LogFault::Memory),
+        Err(_) => Err(LogFault::Read),
+    }
+}
+
+// The size that the first line of a text says.
+fn first_size(text: &str) -> Option<Size>
+    ensures { result ≡ size_of_log (lines text.now) }
+{
+    let first = text.lines().next()?;
+    read_size(first)
+}
+
+// A view over a blank screen in memory.
+fn open(alloc: Global, size: Size) -> Option<LogView<TestBackend>>
+    ensures { 0 < size.height → IfSome result (IsViewOf screen_of size []) }
+{
+    let backend = TestBackend::new(alloc, size.width, size.height).ok()?;
+    LogView::new(alloc, backend).ok()
+}
+
+// Pushes the lines of a text but the first; it answers the number of the line that was refused, if one was.
+fn push_lines(view: &mut LogView<TestBackend>, text: &str) -> Result<(), usize>
+    ensures ok { OnOk result ((size : Size) → IsViewOf screen_of size [] view.old
+        → IsViewOf screen_of size (drop 1 (lines text.now)) view.new) }
+    ensures low { IfErr result (λ number. 1 ≤ number) }
+    ensures high { IfErr result (λ number. number ≤ length (lines text.now)) }
+{
+    let mut number = 1usize;
+    for line in text.lines().skip(1) {
+        number += 1;
+        match view.push(line) {
+            Ok(()) => {}
+            Err(_) => return Err(number),
+        }
+    }
+    Ok(())
+}
+
+// The view of a log: its size, and then its lines.
+fn view_of(alloc: Global, text: &str) -> Result<LogView<TestBackend>, LogFault>
+    ensures ok { IfOk result (IsLogView (lines text.now)) }
+    ensures err { IfErr result (IsLogFault text.now) }
+    ensures early { IfErr result (λ fault. fault ≡ Write → ⊥) }
+{
+    let Some(size) = first_size(text) else {
+        return Err(LogFault::Size);
+    };
+    let Some(mut view) = open(alloc, size) else {
+        return Err(LogFault::Refused(1));
+    };
+    match push_lines(&mut view, text) {
+        Ok(()) => Ok(view),
+        Err(number) => Err(LogFault::Refused(number)),
+    }
+}
+
+// The view of the log that these bytes are.
+fn view_of_bytes(alloc: Global, bytes: &[u8]) -> Result<LogView<TestBackend>, LogFault>
+    ensures ok { IfOk result (λ view. IsUtf8 bytes.now × IsLogView (lines bytes.now) view) }
+    ensures err { IfErr result (IsLogFault bytes.now) }
+    ensures early { IfErr result (λ fault. fault ≡ Write → ⊥) }
+{
+    let Ok(text) = str::from_utf8(bytes) else {
+        return Err(LogFault::NotText);
+    };
+    view_of(alloc, text)
+}
+
+// Writes what the screen of a view shows, and flushes it.
+fn write_view<W: Write>(writer: &mut W, view: &LogView<TestBackend>) -> io::Result<()>
+    ensures { OnOk result (Appends (W.contents writer.old) (W.contents writer.new)
+        (printed_screen (screen_of view.now.terminal.backend))) }
+{
+    write_screen(writer, view.terminal().backend())?;
+    writer.flush()
+}
+
+/// Reads a log to its end: a line `W H` of columns and rows, both from 1 to 65535, and then any lines. It shows them on a
+/// screen of that size, and writes the rows that scrolled off, each behind `^`, and those of the screen, each behind `|`.
+/// With any fault but `Write` nothing was written.
+pub fn run<R: Read, W: Write>(alloc: Global, reader: &mut R, writer: &mut W) -> Result<(), LogFault>
+    ensures printed { OnOk result (IfSome (R.remaining reader.old) (λ bytes.
+        PrintsLog bytes (W.contents writer.old) (W.contents writer.new))) }
+    ensures fault { IfErr result (λ fault.
+        IfSome (R.remaining reader.old) (λ bytes. IsLogFault bytes fault)) }
+    ensures nothing_written { IfErr result (λ fault.
+        (fault ≡ Write → ⊥) → writer.new ≡ writer.old) }
+{
+    let bytes = read_bytes(alloc, reader)?;
+    let view = view_of_bytes(alloc, bytes.as_slice())?;
+    match write_view(writer, &view) {
+        Ok(()) => Ok(()),
+        Err(_) => Err(LogFault::Write),
+    }
+}

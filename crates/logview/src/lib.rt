@@ -1,0 +1,19 @@
+//! A log viewer: lines that scroll by above a status line, which says how many there were.
+//!
+//! It stands on `ratatui_core`, on its contracts alone. [`LogView`] keeps a terminal over one row; [`LogView::push`] inserts a
+//! line above it. `specs/Rows` says what a line's row is, `specs/Views` what a push does. [`run`] reads a log from any reader,
+//! shows it on a screen in memory, and writes what that screen shows to any writer; `specs/Engine` says what it writes.
+#![tactic(auto)]
+
+mod engine;
+mod fault;
+mod print;
+mod size;
+mod status;
+#[cfg(test)]
+mod tests;
+mod view;
+
+pub use engine::run;
+pub use fault::LogFault;
+pub use view::LogView;

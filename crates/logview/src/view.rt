@@ -1,0 +1,137 @@
+//! Lines above a status line.
+
+ghost use Rattle.std.specs.Prelude.{◌≡◌, ◌+◌, ◌<◌, IfOk, IfErr, IsOk, OnOk};
+ghost use Rattle.ratatui_core.specs.Terminal.{Faults, IsBackendFault, KeepsFrame};
+ghost use Rattle.ratatui_core.specs.Widgets.{HasFirstRow, PaintsText, PaintsShortText};
+ghost use Rattle.logview.specs.Rows.{counted, IsBlank};
+ghost use Rattle.logview.specs.Views.{IsFollowing, DrawsStatus, StartsView, InsertsLine, PushesLine, RefusesLine, RefusesPush};
+
+use crate::status::status_text;
+use ratatui_core::backend::Backend;
+use ratatui_core::buffer::Buffer;
+use ratatui_core::layout::Rect;
+use ratatui_core::terminal::{Frame, Terminal, TerminalError, TerminalOptions, Viewport};
+use ratatui_core::widgets::Widget;
+use std::alloc::{AllocError, Global};
+
+// Renders a text in the first row of an area, where the buffer has that row.
+fn render_row(text: &str, area: Rect, buffer: &mut Buffer) -> Result<(), AllocError>
+    ensures area { buffer.new.area ≡ buffer.old.area }
+    ensures ok { HasFirstRow area buffer.old
+        → OnOk result (PaintsText text.now area buffer.old buffer.new) }
+    ensures short { PaintsShortText text.now area buffer.old → IsOk result }
+{
+    let own = *buffer.area();
+    if area.x < own.x || area.y < own.y || own.bottom() <= area.y {
+        return Ok(());
+    }
+    text.render(area, buffer)
+}
+
+// Renders a text in the first row of a frame.
+fn render_frame(text: &str, frame: &mut Frame<'_>) -> Result<(), AllocError>
+    ensures keeps { KeepsFrame frame.old frame.new }
+    ensures ok { HasFirstRow frame.old.viewport_area frame.old.buffer.now
+        → OnOk result (PaintsText text.now frame.old.viewport_area
+        frame.old.buffer.now frame.new.buffer.now) }
+    ensures short { PaintsShortText text.now frame.old.viewport_area frame.old.buffer.now
+        → IsOk result }
+{
+    let area = frame.area();
+    render_row(text, area, frame.buffer_mut())
+}
+
+/// A terminal over one row, the status line, below the lines that were pushed, of which it keeps the number.
+///
+/// ```
+/// let mut view = LogView::new(alloc, TestBackend::new(alloc, 8, 3)?)?;
+/// view.push("one")?;
+/// assert!(rt; view.terminal().backend().lines_are(&["one     ", "lines: 1", "        "]));
+/// ```
+#[derive(Debug, Drop)]
+pub struct LogView<B: Backend> {
+    terminal: Terminal<B>,
+    count: u64,
+}
+
+impl<B: Backend + Drop> LogView<B> {
+    /// A view without lines: its status line stands in the cursor's row, or in the last one. It is refused where the terminal
+    /// or its first frame is; then the backend is dropped.
+    pub fn new(alloc: Global, backend: B) -> Result<LogView<B>, TerminalError<B::Error>>
+        ensures started { IsBlank (B.screen backend) → 0 < (B.screen backend).height
+            → IfOk result (StartsView B.screen backend) }
+        ensures count { IfOk result (λ v. v.count ≡ 0) }
+        ensures calls { IfOk result (λ v.
+            B.failures v.terminal.backend ≡ B.failures backend) }
+    {
+        let options = TerminalOptions {
+            viewport: Viewport::Inline(1),
+        };
+        let terminal = Terminal::with_options(alloc, backend, options)?;
+        let mut view = LogView { terminal, count: 0 };
+        view.draw_status()?;
+        Ok(view)
+    }
+}
+
+impl<B: Backend> LogView<B> {
+    // Draws the status line.
+    fn draw_status(&mut self) -> Result<(), TerminalError<B::Error>>
+        ensures count { self.new.count ≡ self.old.count }
+        ensures ok { IsFollowing B.screen self.old
+            → OnOk result (DrawsStatus B.screen self.old self.new) }
+        ensures err { IsFollowing B.screen self.old → IfErr result IsBackendFault }
+        ensures faults { Faults result (B.failures self.old.terminal.backend)
+            (B.failures self.new.terminal.backend) }
+    {
+        let text = status_text(self.count);
+        self.terminal.draw(|frame| render_frame(text.as_str(), frame))?;
+        Ok(())
+    }
+
+    // Inserts a line above the status line.
+    fn insert_line(&mut self, line: &str) -> Result<(), TerminalError<B::Error>>
+        ensures count { self.new.count ≡ self.old.count }
+        ensures ok { IsFollowing B.screen self.old
+            → OnOk result (InsertsLine B.screen line.now self.old self.new) }
+        ensures err { IsFollowing B.screen self.old
+            → IfErr result (RefusesLine self.old self.new) }
+        ensures faults { Faults result (B.failures self.old.terminal.backend)
+            (B.failures self.new.terminal.backend) }
+    {
+        self.terminal.insert_before(1, |buffer| {
+            let area = *buffer.area();
+            render_row(line, area, buffer)
+        })
+    }
+
+    /// Appends a line: a row of the screen's width with as much of it as fits. It is refused where memory is, which
+    /// changes nothing, or by the backend, after which the screen may show anything.
+    pub fn push(&mut self, line: &str) -> Result<(), TerminalError<B::Error>>
+        ensures pushed { IsFollowing B.screen self.old
+            → OnOk result (PushesLine B.screen line.now self.old self.new) }
+        ensures count { OnOk result (self.new.count ≡ counted (self.old.count + 1)) }
+        ensures refused { IsFollowing B.screen self.old
+            → IfErr result (RefusesPush self.old self.new) }
+        ensures faults { Faults result (B.failures self.old.terminal.backend)
+            (B.failures self.new.terminal.backend) }
+    {
+        self.insert_line(line)?;
+        self.count = self.count.saturating_add(1);
+        self.draw_status()
+    }
+
+    /// How many lines were pushed; it stays at the greatest number.
+    pub fn count(&self) -> u64
+        ensures { result ≡ self.now.count }
+    {
+        self.count
+    }
+
+    /// The terminal that shows them.
+    pub fn terminal(&self) -> &Terminal<B>
+        ensures { result.now ≡ self.now.terminal }
+    {
+        &self.terminal
+    }
+}
