@@ -18,9 +18,12 @@ renews screen area over filled s drawn cleared resized t law step draw settled c
   faithful = λ takes on.
       let height : (screen resized.backend).height ≡ resized.known_area.height = ap (λ (r : Rect). r.height) takes.known in
       let rows = insert takes.inline in
-      let some : 0 < resized.known_area.height = omega (arith, takes.row, on.bottom, height) in
-      (rows.inserted, rows.closure, λ fair.
-          law s (record { call = Draw drawn.older; after = drawn } ∷ record { call = Clear; after = cleared } ∷ record { call = Resize area; after = resized } ∷ record { call = Insert rows.inserted; after = t } ∷ []) step
-          ((refl, record { before = s; taken = inl refl; then = draw }), (clear, (resize, (rows.inserts some, tt))))
-          (settled, (tt, (on, ((fair, takes), tt)))));
+      let some : 0 < resized.known_area.height = omega (arith, takes.row, on.bottom, height) in (
+        rows.inserted,
+        rows.closure,
+        λ fair.
+            law s (record { call = Draw drawn.older; after = drawn } ∷ record { call = Clear; after = cleared } ∷ record { call = Resize area; after = resized } ∷ record { call = Insert rows.inserted; after = t } ∷ []) step
+            ((refl, record { before = s; taken = inl refl; then = draw }), (clear, (resize, (rows.inserts some, tt))))
+            (settled, (tt, (on, ((fair, takes), tt)))),
+      );
 }

@@ -15,4 +15,4 @@ pub record Renews {B : Type 0} (screen : B → Screen) (area : Rect) (filled : S
   pub resized : State B
   pub faithful : TakesRows screen resized → IsOnScreen resized.viewport_area (screen resized.backend)
       → (rows : Sheet) × filled resized (Ok tt) rows × (IsSettledSheet rows → Along (IsFaithful screen) s (
-        record { call = Draw drawn.older; after = drawn } ∷ record { call = Clear; after = cleared } ∷ record { call = Resize area; after = resized } ∷ record { call = Insert rows; after = t } ∷ []))
+      record { call = Draw drawn.older; after = drawn } ∷ record { call = Clear; after = cleared } ∷ record { call = Resize area; after = resized } ∷ record { call = Insert rows; after = t } ∷ []))

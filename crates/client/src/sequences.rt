@@ -44,12 +44,7 @@ pub fn line_feeds(out: &mut String, n: u16) -> Result<(), AllocError> {
 
 // Sets the margins around a region, scrolls it, and gives the margins back, with the cursor in the corner. Margins enclose at
 // least two rows, so that of a single row nothing but the row itself is emptied.
-fn scroll(
-    out: &mut String,
-    region: Range<u16>,
-    n: u16,
-    direction: char,
-) -> Result<(), AllocError> {
+fn scroll(out: &mut String, region: Range<u16>, n: u16, direction: char) -> Result<(), AllocError> {
     if n == 0 || region.start >= region.end {
         return Ok(());
     }

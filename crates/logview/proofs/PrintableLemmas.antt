@@ -195,7 +195,6 @@ pub graphemes-front : (text : List ℕ) (n : ℕ) → IsPrintableFront text n �
 graphemes-front text zero h = front-graphemes text 0 h.within h.printable (inr refl)
 graphemes-front text (suc n) h = front-graphemes text (suc n) h.within h.printable (inl (begins_at text (suc n) h.within (λ lt. h.followed (omega arith) lt)))
 
-
 -- ---- all of a printable text
 
 all-front : (text : List ℕ) → ArePrintable text → IsPrintableFront text (length text)

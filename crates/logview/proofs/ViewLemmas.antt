@@ -6,7 +6,7 @@ use Rattle.ratatui_core.specs.Layout.{Rect, Position}
 use Rattle.ratatui_core.specs.Buffer.{Sheet, Look, IsEmptied, IsSettledSheet, area_size}
 use Rattle.ratatui_core.specs.Backend.{Screen, screen_area, size_of, KeepsSizeAndHistory, rows_above}
 use Rattle.ratatui_core.specs.Widgets.{PaintsText, HasFirstRow}
-use Rattle.ratatui_core.specs.Terminal.{State, IsInline, IsInStep, IsSized, IsBlankBelow, IsBlankOver, Inline, Starts, KeepsOutside, KeepsAroundViewport, rows_over, inserted_area, TakesRows, InsertOk, Inserts, DrawOk, DrawsFrame, Autoresizes, Stays, Resizes, OnlyRenders, ShowsRendered, IsRendered, InsertsBy, DrawsBy, IsBackendFault, TerminalError, Backend, Memory, Area, Closure}
+use Rattle.ratatui_core.specs.Terminal.{State, IsInline, IsInStep, IsSized, IsBlankBelow, IsBlankOver, Inline, Starts, KeepsOutside, KeepsAroundViewport, rows_over, inserted_area, TakesRows, InsertOk, Inserts, DrawOk, DrawsFrame, Autoresizes, Stays, Resizes, OnlyRenders, ShowsRendered, IsRendered, InsertsBy, DrawErr, IsBackendFault, TerminalError, Backend, Memory, Area, Closure}
 use Rattle.ratatui_core.proofs.TerminalLemmas.{shows-rendered}
 use Rattle.logview.specs.Rows.{row_area, IsPaintedText, status_text, IsBlank}
 use Rattle.logview.specs.Views.{screen_in, status_row, lines_shown, IsFollowing, ShowsStatus, DrawsStatus, InsertsLine, PushesLine, StartsView}
@@ -85,7 +85,7 @@ module _ {B E : Type 0} (screen : B → Screen) where
       let kept = inserts.rest in
       let area : t.viewport_area ≡ record s.viewport_area { y = t.viewport_area.y } = ap (λ (x : State B). x.viewport_area) kept in
       let here : t.viewport_area ≡ row_area (screen t.backend).width t.viewport_area.y =
-          area ∙ ap (λ (r : Rect). record r { y = t.viewport_area.y }) is.row ∙ ap (λ w. row_area w t.viewport_area.y) (sym inserts.shape.width) in
+      area ∙ ap (λ (r : Rect). record r { y = t.viewport_area.y }) is.row ∙ ap (λ w. row_area w t.viewport_area.y) (sym inserts.shape.width) in
       let one : sheet.area.height ≡ 1 = ap (λ (r : Rect). r.height) over in
       record {
         following = record {
@@ -151,7 +151,7 @@ module _ {B E : Type 0} (screen : B → Screen) where
   pub refused_by_backend : {T F : Type 0} (v : LogView B E) (t : State B) (ran : State B → Result (Unit {0}) AllocError → Option Position → Sheet → Type 0) (result : Result T (TerminalError F)) → IsFollowing screen v
       → ((s : State B) (cursor : Option Position) (painted : Sheet) → ran s (Err alloc_error) cursor painted → ⊥)
       → ((s : State B) (cursor : Option Position) (painted : Sheet) → ran s (Ok tt) cursor painted → painted.area ≡ s.current.area)
-      → DrawsBy screen ran v.terminal t result → IfErr result IsBackendFault
+      → IfErr result (DrawErr screen ran v.terminal t) → IfErr result IsBackendFault
   refused_by_backend v t ran (Ok x) is never keeps by = tt
   refused_by_backend v t ran (Err (Backend error)) is never keeps by = tt
   refused_by_backend v t ran (Err Memory) is never keeps by =
@@ -172,7 +172,7 @@ module _ {B E : Type 0} (screen : B → Screen) where
   pub refused_if : {T F : Type 0} (X : Type 0) (v : LogView B E) (t : State B) (ran : State B → Result (Unit {0}) AllocError → Option Position → Sheet → Type 0) (result : Result T (TerminalError F)) → IsFollowing screen v
       → ((s : State B) (cursor : Option Position) (painted : Sheet) → ran s (Err alloc_error) cursor painted → ⊥)
       → ((s : State B) (cursor : Option Position) (painted : Sheet) → ran s (Ok tt) cursor painted → painted.area ≡ s.current.area)
-      → OnErr result (DrawsBy screen ran v.terminal t result × X) → IfErr result IsBackendFault
+      → OnErr result (IfErr result (DrawErr screen ran v.terminal t) × X) → IfErr result IsBackendFault
   refused_if {T} X v t ran (Ok x) is never keeps by = tt
   refused_if {T} X v t ran (Err e) is never keeps by = refused_by_backend {T = T} v t ran (Err e) is never keeps by.0
 

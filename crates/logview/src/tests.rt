@@ -49,12 +49,7 @@ fn prints_what_it_shows(rt: HostRuntime) {
 }
 
 // A text, and then another one so many times.
-fn repeated(
-    alloc: Global,
-    first: &str,
-    text: &str,
-    count: usize,
-) -> Result<String, AllocError> {
+fn repeated(alloc: Global, first: &str, text: &str, count: usize) -> Result<String, AllocError> {
     let mut all = String::from_str(alloc, first)?;
     for _ in 0..count {
         all.push_str(text)?;
@@ -92,24 +87,16 @@ fn fails(alloc: Global, log: &[u8], text: &str) -> Result<bool, AllocError> {
 
 // First lines that are no size.
 static NO_SIZES: [&str; 12] = [
-    "",
-    "\n8 3",
-    "8",
-    "8 ",
-    "8  3",
-    "8 3 1",
-    "8 3 ",
-    "+8 3",
-    "8 -3",
-    "2 0",
-    "0 3",
-    "8 65536",
+    "", "\n8 3", "8", "8 ", "8  3", "8 3 1", "8 3 ", "+8 3", "8 -3", "2 0", "0 3", "8 65536",
 ];
 
 #[test]
 fn refuses_what_is_no_size(rt: HostRuntime) -> Result<(), Fail> {
     for log in &NO_SIZES {
-        assert!(rt; fails(rt.alloc(), log.as_bytes(), "line 1: bad size")?, "{log}");
+        assert!(rt;
+            fails(rt.alloc(), log.as_bytes(), "line 1: bad size")?,
+            "{log}"
+        );
     }
     Ok(())
 }
@@ -193,7 +180,11 @@ fn says_nothing_of_a_failed_write(rt: HostRuntime) -> Result<(), Fail> {
     Ok(())
 }
 
-fn error_of(alloc: Global, backend: TestBackend, lines: &[&str]) -> Option<TerminalError<TestError>> {
+fn error_of(
+    alloc: Global,
+    backend: TestBackend,
+    lines: &[&str],
+) -> Option<TerminalError<TestError>> {
     let mut view = match LogView::new(alloc, backend) {
         Ok(view) => view,
         Err(error) => return Some(error),
@@ -254,7 +245,8 @@ fn shows(view: &LogView<TestBackend>, rows: &[&str], y: u16) -> bool {
 fn pushes_or_keeps(view: &mut LogView<TestBackend>, line: &str, rows: &[&str]) -> bool {
     match view.push(line) {
         Ok(()) => view.count() == 1 && shows(view, rows, 1),
-        Err(TerminalError::Memory) => view.count() == 0 && shows(view, &["lines: 0", "        ", "        "], 0),
+        Err(TerminalError::Memory) => view.count() == 0
+            && shows(view, &["lines: 0", "        ", "        "], 0),
         Err(_) => true,
     }
 }

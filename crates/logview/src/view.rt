@@ -85,7 +85,8 @@ impl<B: Backend> LogView<B> {
             (B.failures self.new.terminal.backend) }
     {
         let text = status_text(self.count);
-        self.terminal.draw(|frame| render_frame(text.as_str(), frame))?;
+        self.terminal
+            .draw(|frame| render_frame(text.as_str(), frame))?;
         Ok(())
     }
 

@@ -31,10 +31,16 @@ pub AppendsRows-part : (s : Sheet) (n : ℕ) (old new : List (List Look)) → n 
 AppendsRows-part s n old new all part = record {
   rows = part.rows;
   appended = part.appended;
-  agree = (part.rows, [], sym (append-nil part.rows), record {
-    count = part.agree.count ∙ all;
-    agree = λ b low. let none : 0 + b ≡ b = omega arith in subst (λ k. RowAgrees s.area.width s.cells k (slice_index_or part.rows b [])) none (part.agree.agree b (omega (arith, all)));
-  }, refl);
+  agree = (
+    part.rows,
+    [],
+    sym (append-nil part.rows),
+    record {
+      count = part.agree.count ∙ all;
+      agree = λ b low. let none : 0 + b ≡ b = omega arith in subst (λ k. RowAgrees s.area.width s.cells k (slice_index_or part.rows b [])) none (part.agree.agree b (omega (arith, all)));
+    },
+    refl,
+  );
 }
 
 -- a buffer that nothing moves
@@ -100,8 +106,8 @@ module _ {B : Type 0} (screen : B → Screen) (s : State B) (inserted : Sheet) (
           elim (cases_lt 0 y) [
             | inl low ↦
                 let same : (screen b).grid x y ≡ (screen s.backend).grid x y =
-                    (shown takes step settled).outside x y (inr (omega arith))
-                    ∙ (has_pushed takes settled).below x y (omega (arith, width, takes.width)) (omega (arith, height, step.on_screen.bottom)) low in
+                (shown takes step settled).outside x y (inr (omega arith))
+                ∙ (has_pushed takes settled).below x y (omega (arith, width, takes.width)) (omega (arith, height, step.on_screen.bottom)) low in
                 rw (column, row) (subst (ShowsColumn s.older.area.width s.older.cells x y) (sym same) (rw (column, row) at (step.shown.at x y x_in y_in)))
             | inr first ↦
                 let zero_row : y ≡ 0 = omega arith in
@@ -136,7 +142,7 @@ module _ {B : Type 0} (screen : B → Screen) (s : State B) (inserted : Sheet) (
           let once : min inserted.area.height 1 * inserted.area.width ≡ inserted.area.width = ap (λ m. m * inserted.area.width) (let one : min inserted.area.height 1 ≡ 1 = omega arith in one) ∙ omega arith in
           let columns : blank.area.width * 1 ≡ inserted.area.width = omega (arith, ap (λ (r : Rect). r.width) emptied.area) in
           let pushes : (screen mid).written ≤ (screen s.backend).written + (min inserted.area.height 1 * inserted.area.width + nonempty_cells inserted 0 inserted.area.height) =
-              (has_pushed takes settled).few narrow (omega (arith, covered, once, room)) in
+          (has_pushed takes settled).few narrow (omega (arith, covered, once, room)) in
           let repairs : (screen b).written ≤ (screen mid).written + blank.area.width * 1 = writes_rows (redrawn step.area) (omega (arith, covered, once, columns, pushes, room)) in
           omega (arith, covered, once, columns, pushes, repairs);
     }
@@ -195,9 +201,9 @@ module _ {B : Type 0} (screen : B → Screen) (s : State B) (inserted : Sheet) (
           let width : s.older.area.width ≡ s.viewport_area.width = ap (λ (r : Rect). r.width) step.area in
           let height : s.older.area.height ≡ s.viewport_area.height = ap (λ (r : Rect). r.height) step.area in
           let shown : ShowsSheet (record s.older { area = record s.older.area { y = s.viewport_area.y + n } }) (screen b).grid =
-              shows_moved s.older (s.viewport_area.y + n) (screen s.backend) (screen b) step.shown (λ a r a_in r_in.
-              viewport_moved takes step settled (s.older.area.x + a) r (omega (arith, x, width, step.on_screen.right)) (omega (arith, height))
-              ∙ ap (λ k. (screen s.backend).grid (s.older.area.x + a) (k + r)) (sym y)) in
+          shows_moved s.older (s.viewport_area.y + n) (screen s.backend) (screen b) step.shown (λ a r a_in r_in.
+          viewport_moved takes step settled (s.older.area.x + a) r (omega (arith, x, width, step.on_screen.right)) (omega (arith, height))
+          ∙ ap (λ k. (screen s.backend).grid (s.older.area.x + a) (k + r)) (sym y)) in
           let whole : ShowsSheet (record s.older { area = record s.viewport_area { y = s.viewport_area.y + n } }) (screen b).grid = rw step.area at shown in
           record {
             on_screen = record { right = omega (arith, step.on_screen.right, shape.width, shape_mid.width); bottom = omega (arith, fits takes step, shape.height, shape_mid.height) };
@@ -209,7 +215,7 @@ module _ {B : Type 0} (screen : B → Screen) (s : State B) (inserted : Sheet) (
           let place : 0 + n ≡ n = omega arith in
           let all : n + (inserted.area.height - n) ≡ inserted.area.height = omega (arith, n_is) in
           let parts : nonempty_cells inserted 0 inserted.area.height ≡ nonempty_cells inserted 0 n + nonempty_cells inserted n (inserted.area.height - n) =
-              ap (nonempty_cells inserted 0) (sym all) ∙ nonempty_parts inserted 0 n (inserted.area.height - n) ∙ ap (λ k. nonempty_cells inserted 0 n + nonempty_cells inserted k (inserted.area.height - n)) place in
+          ap (nonempty_cells inserted 0) (sym all) ∙ nonempty_parts inserted 0 n (inserted.area.height - n) ∙ ap (λ k. nonempty_cells inserted 0 n + nonempty_cells inserted k (inserted.area.height - n)) place in
           let first : (screen mid).written ≤ (screen s.backend).written + nonempty_cells inserted 0 n = (lowered takes step settled).few narrow (omega (arith, parts, room)) in
           let rest : (screen b).written ≤ (screen mid).written + nonempty_cells inserted n (inserted.area.height - n) = (raised takes step settled).few narrow (omega (arith, parts, first, room)) in
           omega (arith, parts, first, rest);

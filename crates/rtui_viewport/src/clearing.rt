@@ -97,10 +97,7 @@ pub fn clear_area<B: Backend>(
 }
 
 /// Sets the cursor back to a place, where there is one.
-pub fn restore_cursor<B: Backend>(
-    backend: &mut B,
-    cursor: Option<Position>,
-) -> Result<(), B::Error>
+pub fn restore_cursor<B: Backend>(backend: &mut B, cursor: Option<Position>) -> Result<(), B::Error>
     ensures restored { OnOk result
         (B.screen backend.new ≡ cursor_restored cursor (B.screen backend.old)) }
     ensures counts { Counts result (B.failures backend.old) (B.failures backend.new) }

@@ -16,9 +16,9 @@ pub returns-in_err-self-clause-err : goal.returns-in_err-self-clause-err
 returns-in_err-self-clause-err g c = λ is.
     let text = c.status_text-text in
     let by =
-        refused_if g.B.Backend.screen _ c.args.self.now c.draw.follows.lender-at-none _ c.draw.result is
-        (λ s cursor painted ran.
-        let frame = ran.before in
-        let short : PaintsShortText text.result.bytes frame.viewport_area frame.buffer.now = rw text.ensures (short-status c.args.self.now.count (omega arith) frame.viewport_area frame.buffer.now) in
-        search rules) (λ s cursor painted ran. search rules) c.draw.follows.holds-at-none in
+    refused_if g.B.Backend.screen _ c.args.self.now c.draw.follows.lender-at-none _ c.draw.result is
+    (λ s cursor painted ran.
+    let frame = ran.before in
+    let short : PaintsShortText text.result.bytes frame.viewport_area frame.buffer.now = rw text.ensures (short-status c.args.self.now.count (omega arith) frame.viewport_area frame.buffer.now) in
+    search rules) (λ s cursor painted ran. search rules) c.draw.follows.holds-at-none in
     search rules

@@ -19,10 +19,10 @@ loop-a-preserved c =
     ] in
     record {
       looks =
-    ap (map look_of) c.in_ok-push.ensures.items
-    ∙ map-append look_of c.loop-a.row.items (c.match-get.cell ∷ [])
-    ∙ ap (λ x. map look_of c.loop-a.row.items ++ x ∷ []) (ap look_of cell ∙ sym (look_at-cell cells at))
-    ∙ ap (λ xs. xs ++ look_at cells at ∷ []) c.loop-a.invariant.looks
-    ∙ sym (map-range_with_len_more (λ a. look_at cells (c.args.start + a)) 0 c.loop-a.a c.loop-a.a (omega arith));
+          ap (map look_of) c.in_ok-push.ensures.items
+          ∙ map-append look_of c.loop-a.row.items (c.match-get.cell ∷ [])
+          ∙ ap (λ x. map look_of c.loop-a.row.items ++ x ∷ []) (ap look_of cell ∙ sym (look_at-cell cells at))
+          ∙ ap (λ xs. xs ++ look_at cells at ∷ []) c.loop-a.invariant.looks
+          ∙ sym (map-range_with_len_more (λ a. look_at cells (c.args.start + a)) 0 c.loop-a.a c.loop-a.a (omega arith));
       unmarked = λ plain. rw c.in_ok-push.ensures.items (unmarked_more c.loop-a.row.items c.match-get.cell (c.loop-a.invariant.unmarked plain) (rw cell (plain at)));
     }

@@ -20,7 +20,7 @@ returns-clause-ok g c = elim c.match-restore_cursor.branch [
       let middle : KeepsAllButLooks start (screen c.clear_area.new.backend) = rw stays at c.in-Ok-clear_area.ensures.frame in
       let frame : KeepsAllButLooks start (screen c.restore_cursor.new.backend) = frame_restored found restored middle in
       let cleared : ClearsArea c.self.inside.viewport c.self.inside.viewport_area start (screen c.restore_cursor.new.backend) =
-          clears_restored c.self.inside.viewport c.self.inside.viewport_area found restored (rw stays at c.in-Ok-clear_area.ensures.cleared) in
+      clears_restored c.self.inside.viewport c.self.inside.viewport_area found restored (rw stays at c.in-Ok-clear_area.ensures.cleared) in
       rw w.result-is (rw (← c.self.view_is) (record {
         rest = refl;
         older = c.reset.ensures.emptied;

@@ -14,8 +14,13 @@ returns-then-known-eq0-2-clause-outcome g c = elim c.then-known-eq0-2.branch [
   | then-known-eq0-2-via-then-known-eq0-2 w ↦ rw (← c.self.view_is)
       (record { inserted = c.in-Ok-fill_rows.rows; closure = c.in-Ok-fill_rows.ensures.filled; over = search rules; none = λ zero. refl; inserts = λ more. absurd (omega (arith, more, w.if-known-eq0-2.true)) })
   | then-known-eq0-2-via-else-known-eq0-2+then-height-eq0 w ↦ rw (← c.self.view_is)
-      (record { inserted = c.in-Ok-fill_rows.rows; closure = c.in-Ok-fill_rows.ensures.filled; over = search rules; none = λ zero. refl;
-        inserts = λ more. inserted_none g.B.Backend.screen _ c.in-Ok-fill_rows.rows _ (search rules) w.if-height-eq0.true })
+      (record {
+        inserted = c.in-Ok-fill_rows.rows;
+        closure = c.in-Ok-fill_rows.ensures.filled;
+        over = search rules;
+        none = λ zero. refl;
+        inserts = λ more. inserted_none g.B.Backend.screen _ c.in-Ok-fill_rows.rows _ (search rules) w.if-height-eq0.true;
+      })
 ]
 
 pub returns-clause-outcome : goal.returns-clause-outcome

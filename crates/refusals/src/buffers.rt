@@ -1,0 +1,113 @@
+//! Buffers made, joined and given another area.
+use crate::outcome::{LONG, Outcome, judged};
+use rtui_buffer::{Buffer, lines_width, texts_width};
+use rtui_geometry::Rect;
+use rtui_text::Line;
+use std::alloc::{AllocError, Global};
+use std::slice;
+
+/// A buffer of texts that fit 16 bits, a row each.
+pub fn rows(alloc: Global, texts: &[&str]) -> Result<Buffer, AllocError> {
+    if texts.len() > 65535 || texts_width(texts) > 65535 {
+        return Err(AllocError);
+    }
+    Buffer::from_texts(alloc, texts)
+}
+
+// The same of lines.
+fn line_rows(alloc: Global, lines: &[Line<'_>]) -> Result<Buffer, AllocError> {
+    if lines.len() > 65535 || lines_width(lines) > 65535 {
+        return Err(AllocError);
+    }
+    Buffer::with_lines(alloc, lines)
+}
+
+// A buffer of two rows, one of whose symbols takes memory.
+fn long_rows(alloc: Global) -> Result<Buffer, AllocError> {
+    let mut buffer = rows(alloc, &["abcd", "efgh"])?;
+    if let Some(cell) = buffer.cells_mut().first_mut() {
+        cell.set_symbol(alloc, LONG)?;
+    }
+    Ok(buffer)
+}
+
+// A buffer made of a line with a long symbol.
+fn made_of_lines(alloc: Global) -> Result<Outcome, AllocError> {
+    let line = Line::raw(alloc, LONG)?;
+    let is_refused = line_rows(alloc, slice::from_ref(&line)).is_err();
+    let again = line_rows(alloc, slice::from_ref(&line))?;
+    let is_right = *again.area() == Rect::new(0, 0, 2, 1);
+    Ok(judged(is_refused, true, is_right))
+}
+
+fn made_of_texts(alloc: Global) -> Result<Outcome, AllocError> {
+    let is_refused = rows(alloc, &[LONG, "c"]).is_err();
+    let again = rows(alloc, &[LONG, "c"])?;
+    let is_right = *again.area() == Rect::new(0, 0, 2, 2);
+    Ok(judged(is_refused, true, is_right))
+}
+
+// A buffer over an area of the first row, whose first symbol takes memory.
+fn long_part(alloc: Global, x: u16) -> Result<Buffer, AllocError> {
+    let area = Rect::new(x, 0, 2, 1);
+    let mut buffer = Buffer::empty(alloc, area)?;
+    if let Some(cell) = buffer.cells_mut().first_mut() {
+        cell.set_symbol(alloc, LONG)?;
+    }
+    Ok(buffer)
+}
+
+// A buffer with another laid over it, which begins in this column.
+fn merged(alloc: Global, x: u16, area: Rect) -> Result<Outcome, AllocError> {
+    let mut buffer = rows(alloc, &["wxyz", "stuv"])?;
+    let before = buffer.clone(alloc)?;
+    let over = long_part(alloc, x)?;
+    let is_refused = buffer.merge(&over).is_err();
+    let is_left = !is_refused || buffer == before;
+    let is_again = !is_refused || buffer.merge(&over).is_ok();
+    let is_right = is_again && *buffer.area() == area;
+    Ok(judged(is_refused, is_left, is_right))
+}
+
+// A buffer that takes a larger area, or room for one.
+fn grown(alloc: Global, is_resized: bool) -> Result<Outcome, AllocError> {
+    let area = Rect {
+        x: 1,
+        y: 2,
+        width: 30,
+        height: 40,
+    };
+    let mut buffer = long_rows(alloc)?;
+    let before = buffer.clone(alloc)?;
+    let is_refused = if is_resized {
+        buffer.resize(area).is_err()
+    } else {
+        buffer.reserve(area).is_err()
+    };
+    let is_left = !is_refused || buffer == before;
+    let is_again = if is_resized {
+        buffer.resize(area).is_ok() && *buffer.area() == area
+    } else {
+        buffer.reserve(area).is_ok() && buffer == before
+    };
+    Ok(judged(is_refused, is_left, is_again))
+}
+
+fn cloned(alloc: Global) -> Result<Outcome, AllocError> {
+    let buffer = long_rows(alloc)?;
+    let is_refused = buffer.clone(alloc).is_err();
+    let again = buffer.clone(alloc)?;
+    Ok(judged(is_refused, true, again == buffer))
+}
+
+pub fn outcome_of(alloc: Global, number: usize) -> Result<Outcome, AllocError> {
+    match number {
+        0 => made_of_lines(alloc),
+        1 => made_of_texts(alloc),
+        2 => merged(alloc, 1, Rect::new(0, 0, 4, 2)),
+        3 => merged(alloc, 5, Rect::new(0, 0, 7, 2)),
+        4 => grown(alloc, true),
+        5 => grown(alloc, false),
+        _ => cloned(alloc),
+    }
+}

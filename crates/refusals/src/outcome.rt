@@ -1,0 +1,37 @@
+//! What comes of a case.
+use std::fmt;
+
+/// What came of a call to which memory may be refused.
+#[derive(Debug, Clone, Copy, PartialEq, Eq)]
+pub enum Outcome {
+    /// It was accepted.
+    Accepted,
+    /// Memory was refused to it, what it must leave stands, and the same call was then accepted.
+    Held,
+    /// Something else stands than should.
+    Broken,
+}
+
+impl fmt::Display for Outcome {
+    fn fmt<W: fmt::Write>(&self, f: &mut fmt::Formatter<W>) -> fmt::Result {
+        f.write_str(match self {
+            Outcome::Accepted => "accepted",
+            Outcome::Held => "refused, and as it was",
+            Outcome::Broken => "broken",
+        })
+    }
+}
+
+/// What came of a call that was refused or not, left what it should or not, and was right when it was made again or not.
+pub fn judged(is_refused: bool, is_left: bool, is_right: bool) -> Outcome {
+    if !is_left || !is_right {
+        Outcome::Broken
+    } else if is_refused {
+        Outcome::Held
+    } else {
+        Outcome::Accepted
+    }
+}
+
+/// A symbol of 25 bytes, which takes memory.
+pub const LONG: &str = "\u{1F468}\u{200D}\u{1F469}\u{200D}\u{1F467}\u{200D}\u{1F466}";
