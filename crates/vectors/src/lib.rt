@@ -22,6 +22,8 @@ mod painting;
 #[cfg(test)]
 mod positions;
 #[cfg(test)]
+mod regions;
+#[cfg(test)]
 mod rows;
 #[cfg(test)]
 mod screens;

@@ -7,7 +7,7 @@ use std::alloc::Global;
 use std::test::Fail;
 
 // A screen that shows these lines.
-fn screen(alloc: Global, lines: &[&str]) -> Result<TestBackend, Fail> {
+pub fn screen(alloc: Global, lines: &[&str]) -> Result<TestBackend, Fail> {
     if lines.len() > 65535 || texts_width(lines) > 65535 {
         return Err(Fail::new("too wide for a screen"));
     }
