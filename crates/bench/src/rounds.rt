@@ -1,4 +1,5 @@
 //! The workloads.
+use crate::inline;
 use crate::painting::{dot, fill, letter, lines, texts, touch};
 use crate::sheets::{ascii, sum, updates, wide};
 use ratatui_core::backend::TestBackend;
@@ -32,7 +33,7 @@ fn paint(
         Kind::Fill => fill(alloc, buffer, letter(round)),
         Kind::Dots => dot(alloc, buffer, round),
         Kind::Nothing => Ok(()),
-        Kind::Texts => texts(buffer, text),
+        Kind::Texts => texts(buffer, text, Style::new()),
     }
 }
 
@@ -71,7 +72,7 @@ fn texts_of(alloc: Global, width: u16, height: u16, count: u64, text: &str) -> D
     let mut buffer = Buffer::empty(alloc, Rect::new(0, 0, width, height))?;
     for round in 0..count {
         touch(&mut buffer, round);
-        texts(&mut buffer, text)?;
+        texts(&mut buffer, text, Style::new())?;
     }
     Ok((count, sum(&buffer)))
 }
@@ -118,7 +119,7 @@ fn equal_empty(alloc: Global, width: u16, height: u16, count: u64) -> Done {
 fn equal_wide(alloc: Global, width: u16, height: u16, count: u64) -> Done {
     let mut buffer = Buffer::empty(alloc, Rect::new(0, 0, width, height))?;
     let text = wide(alloc, 0)?;
-    texts(&mut buffer, text.as_str())?;
+    texts(&mut buffer, text.as_str(), Style::new())?;
     let other = buffer.clone(alloc)?;
     diffs(buffer, other, count)
 }
@@ -241,6 +242,12 @@ pub fn run(
         "draw_dots" => draws(alloc, width, height, count, Kind::Dots)?,
         "draw_none" => draws(alloc, width, height, count, Kind::Nothing)?,
         "draw_wide" => draws(alloc, width, height, count, Kind::Texts)?,
+        "inline_all" => inline::frames(alloc, width, height, count, false)?,
+        "inline_few" => inline::frames(alloc, width, height, count, true)?,
+        "insert_kept" => inline::inserts(alloc, width, height, count, 1, false)?,
+        "insert_1" => inline::inserts(alloc, width, height, count, 1, true)?,
+        "insert_10" => inline::inserts(alloc, width, height, count, 10, true)?,
+        "insert_1000" => inline::inserts(alloc, width, height, count, 1000, true)?,
         "text_ascii" => texts_of(alloc, width, height, count, ascii(alloc)?.as_str())?,
         "text_wide" => texts_of(alloc, width, height, count, wide(alloc, 0)?.as_str())?,
         "line_ascii" => lines_of(alloc, width, height, count, ascii(alloc)?.as_str())?,

@@ -3,7 +3,7 @@ use Rattle.std.proofs.Common.{◌≡◌, ◌+◌, ◌-◌, ◌≤◌, List, take
 use Rattle.ratatui_core.specs.Layout.{Position, Rect, HasPosition}
 use Rattle.ratatui_core.specs.Buffer.{look_of, empty_cell, is_skipped, Grid, Sheet, cell_in, cell_index, area_size, ShowsSheet, Piece, columns, shown, piece_at, right_by, HasRow}
 use Rattle.ratatui_core.proofs.BufferLemmas.{cell-empty}
-use Rattle.ratatui_core.proofs.BufferLemmas.{PaintsColumns-paints}
+use Rattle.ratatui_core.proofs.BufferLemmas.{PaintsByColumns-paints}
 use Rattle.client.specs.Labels.{ShowsLabel, StandsAt}
 
 skip-shown : (p : Piece) → is_skipped (shown p empty_cell) ≡ false
@@ -22,7 +22,7 @@ pub stands : (area : Rect) (p : Position) (ps : List Piece) (g : Grid) → HasPo
 stands area p ps g has fits shows =
     let e : shows.blank.area ≡ area = shows.emptied.area in
     let row : HasRow shows.blank.area p.y = rw e (record { top = has.top; bottom = let b = has.bottom in omega arith }) in
-    let by = PaintsColumns-paints p ps shows.blank shows.sheet row (rw e has.left) (rw e fits) shows.painted in
+    let by = PaintsByColumns-paints p ps shows.blank shows.sheet row (rw e has.left) (rw e fits) shows.painted in
     record {
       looks = λ k k_in inside.
           let q = right_by (columns (take k ps)) p in

@@ -1,7 +1,7 @@
 -- A gauge on the part of an area that a buffer has, and what a screen shows of one.
 use Rattle.std.proofs.Common.{◌<◌, sym, subst, arith, Result, Ok, Err, OnOk, OnErr}
 use Rattle.ratatui_core.specs.Layout.{Rect, EdgesFit, corner}
-use Rattle.ratatui_core.specs.Buffer.{Sheet, IsEmptied, IsStyled, PaintsOr, bar_of}
+use Rattle.ratatui_core.specs.Buffer.{Sheet, IsEmptied, IsStyled, PaintsOrRefuses, bar_of}
 use Rattle.ratatui_core.specs.Backend.{Screen}
 use Rattle.ratatui_core.specs.Widgets.{IsClipped, ChangesWithin}
 use Rattle.ratatui_core.specs.Terminal.{State, ShowsRendered}
@@ -12,7 +12,7 @@ use Rattle.gauge.specs.declared.bar.Gauge.{Gauge}
 use Rattle.gauge.specs.Gauges.{filled_of, label_pieces, PaintsGauge, RendersGauge, ShowsGauge}
 
 pub renders-gauge : {A : Type 0} (gauge : Gauge) (area part : Rect) (old under new : Sheet) (r : Result A AllocError) → IsClipped area old.area part → IsStyled (bar_of (filled_of gauge part) part) gauge.style old under
-    → PaintsOr (corner part) (label_pieces gauge part under.area) r under new → OnOk r (RendersGauge gauge area old new) × OnErr r (ChangesWithin area old new)
+    → PaintsOrRefuses (corner part) (label_pieces gauge part under.area) r under new → OnOk r (RendersGauge gauge area old new) × OnErr r (ChangesWithin area old new)
 renders-gauge gauge area part old under new (Ok x) is bar paints =
     let by = (line-on-bar area part (filled_of gauge part) gauge.style gauge.label old under new is bar (Ok x) (omega arith) paints).0 in
     (record { painted = OnPart-clipped (PaintsGauge gauge) area part old new is by.0; settled = by.1 }, tt)

@@ -1,12 +1,5 @@
 pub mod RowLemmas
-pub mod PortLemmas
 pub mod ViewLemmas
-pub mod Printable
-pub mod PrintableLemmas
-pub mod ShortLemmas
 pub mod StatusLemmas
 pub mod LogLemmas
-pub mod PrintLemmas
 pub mod NumberLemmas
-pub mod CountLemmas
-pub mod PortRowLemmas

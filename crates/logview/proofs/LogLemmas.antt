@@ -1,18 +1,16 @@
 -- A view of the lines of a log, from its start on.
-use Rattle.std.proofs.Common.{◌≡◌, ℕ, ◌+◌, ◌-◌, ◌<◌, ◌≤◌, ◌^◌, ◌&&◌, Bool, true, false, min, nat_lt, List, [], ◌∷◌, ◌++◌, length, length-append, get_or, drop, Option, Some, None, IfSome, Result, Ok, Err, IfOk, if◌then◌else◌, refl, sym, ap, ap₂, subst, ◌∙◌, arith}
+use Rattle.std.proofs.Common.{◌≡◌, ℕ, ◌+◌, ◌<◌, ◌&&◌, Bool, true, false, nat_lt, List, [], ◌∷◌, ◌++◌, length, length-append, get_or, drop, Option, Some, None, IfSome, Result, Ok, Err, IfOk, if◌then◌else◌, refl, sym, ap, ap₂, subst, ◌∙◌, arith}
 use Rattle.std.specs.Prelude.{◌==◌}
 use Rattle.std.specs.Result.{result_ok}
 use Rattle.std.specs.List.{before_first, after_first}
 use Rattle.std.proofs.lemmas.Grind.{common_steps}
 use Rattle.ratatui_core.specs.Layout.{Rect, Size}
-use Rattle.ratatui_core.specs.Buffer.{Look, empty_look}
-use Rattle.ratatui_core.specs.Backend.{Screen, IsBlankScreen, size_of, rows_above, TestBackend, screen_of}
-use Rattle.ratatui_core.specs.Terminal.{IsBlankBelow}
-use Rattle.logview.specs.Rows.{counted, status_text, row_area, IsPaintedText, IsRowOf, AreRowsOfLines, IsBlank}
+use Rattle.ratatui_core.specs.Backend.{Screen, IsBlankScreen, rows_above, TestBackend, screen_of, printed_screen}
+use Rattle.ratatui_core.specs.Terminal.{IsBlank, IsBlankBelow}
+use Rattle.logview.specs.Rows.{counted, status_text, row_area, IsPaintedText, IsRowOf, AreRowsOfLines}
 use Rattle.logview.specs.Size.{parsed_number, size_by, parsed_size}
 use Rattle.logview.specs.Views.{lines_shown, StartsView, PushesLine, IsViewOf}
 use Rattle.logview.specs.Engine.{ShowsLog, IsLogView, PrintsLog, size_of_log}
-use Rattle.logview.specs.Print.{printed_screen}
 use Rattle.std.specs.Str.{IsUtf8}
 use Rattle.std.specs.Str.Lines.{lines}
 use Rattle.std.specs.Io.KnownBytes.{Appends}

@@ -1,5 +1,5 @@
 -- A line's row, and the rows of lines.
-use Rattle.std.proofs.Common.{◌≡◌, ℕ, ◌+◌, ◌<◌, List, [], ◌∷◌, ◌++◌, length, get_or, refl, sym, ap, subst, ◌∙◌, arith, append-nil}
+use Rattle.std.proofs.Common.{◌≡◌, ℕ, List, [], ◌∷◌, ◌++◌, length, refl, ap, subst, ◌∙◌, arith, append-nil}
 use Rattle.std.specs.Prelude.{slice_index_or}
 use Rattle.ratatui_core.specs.Layout.{Rect}
 use Rattle.ratatui_core.specs.Buffer.{Sheet, Look, RowAgrees}

@@ -1,17 +1,16 @@
 -- From the bytes of a log to what is printed, or to a fault.
-use Rattle.std.specs.Prelude.{◌≡◌, ℕ, ◌-◌, ◌≤◌, min, List, [], ◌∷◌, ◌++◌, length, drop, Option, None, Some, codes}
+use Rattle.std.specs.Prelude.{◌≡◌, ◌⊎◌, ℕ, ◌-◌, ◌<◌, ◌≤◌, min, List, [], ◌∷◌, ◌++◌, length, take, drop, Option, None, Some, codes}
 use Rattle.std.specs.Fmt.{decimal}
 use Rattle.std.specs.Str.{IsUtf8}
 use Rattle.std.specs.Str.Lines.{lines}
 use Rattle.std.specs.Io.KnownBytes.{Appends}
 use Rattle.ratatui_core.specs.Layout.{Size}
-use Rattle.ratatui_core.specs.Backend.{Screen, TestBackend, screen_of, size_of, rows_above}
-use Rattle.ratatui_core.specs.Terminal.{IsBlankBelow}
+use Rattle.ratatui_core.specs.Backend.{Screen, TestBackend, TestError, screen_of, size_of, rows_above, printed_screen}
+use Rattle.ratatui_core.specs.Terminal.{IsBlankBelow, TerminalError}
 use Rattle.logview.specs.Rows.{counted, status_text, row_area, AreRowsOfLines, ShowsText}
-use Rattle.logview.specs.Views.{IsViewOf}
+use Rattle.logview.specs.Views.{IsViewOf, RefusesPush}
 use Rattle.logview.specs.declared.view.LogView.{LogView}
 use Rattle.logview.specs.Size.{parsed_size}
-use Rattle.logview.specs.Print.{printed_screen}
 use Rattle.logview.specs.declared.fault.LogFault.{LogFault}
 use Rattle.logview.specs.declared.fault.LogFault.TheVariants as fault
 
@@ -49,10 +48,20 @@ pub record PrintsLog (bytes : List ℕ) (old new : Option (List ℕ)) : Type 0 w
   pub shown : ShowsLog size (drop 1 (lines bytes)) screen
   pub written : Appends old new (printed_screen screen)
 
--- why nothing of these bytes was printed, or with a failed writer a part
+-- the push of line n of a log was refused, behind all lines between the first one and it, on a screen of this size
+pub record StopsAtLine (size : Size) (log : List (List ℕ)) (n : ℕ) : Type 0 where
+  pub behind : 1 < n
+  pub within : n ≤ length log
+  pub old : LogView TestBackend TestError
+  pub new : LogView TestBackend TestError
+  pub error : TerminalError TestError
+  pub shown : IsViewOf screen_of size (take (n - 2) (drop 1 log)) old
+  pub refused : RefusesPush old new error
+
+-- why nothing of these bytes was printed, or with a failed writer a part; at 1 the view itself was refused
 abbrev pub IsLogFault : List ℕ → LogFault → Type 0
 IsLogFault bytes fault.Size = IsUtf8 bytes × (size_of_log (lines bytes) ≡ None)
-IsLogFault bytes (fault.Refused n) = ((size : Size) × IsLog bytes size) × (1 ≤ n) × (n ≤ length (lines bytes))
+IsLogFault bytes (fault.Refused n) = (size : Size) × IsLog bytes size × ((n ≡ 1) ⊎ StopsAtLine size (lines bytes) n)
 IsLogFault bytes fault.NotText = IsUtf8 bytes → ⊥
 IsLogFault bytes fault.Read = Unit {0}
 IsLogFault bytes fault.Memory = Unit {0}

@@ -1,10 +1,9 @@
 -- Lines and status lines, as rows of a screen.
-use Rattle.std.specs.Prelude.{◌≡◌, ℕ, ◌^◌, ◌-◌, ◌<◌, min, List, [], ◌∷◌, ◌++◌, codes}
+use Rattle.std.specs.Prelude.{◌≡◌, ℕ, ◌^◌, ◌-◌, min, List, [], ◌∷◌, ◌++◌, codes}
 use Rattle.std.specs.Fmt.{decimal}
 use Rattle.ratatui_core.specs.Layout.{Rect}
-use Rattle.ratatui_core.specs.Buffer.{Sheet, Grid, Look, empty_look, RowAgrees, ShowsSheet}
-use Rattle.ratatui_core.specs.Backend.{Screen}
-use Rattle.ratatui_core.specs.Widgets.{PaintsText}
+use Rattle.ratatui_core.specs.Buffer.{Sheet, Grid, Look, RowAgrees, ShowsSheet}
+use Rattle.ratatui_core.specs.Widgets.{RendersStr}
 use Rattle.ratatui_core.specs.Terminal.{IsRendered}
 
 -- a count, which stays at the greatest number
@@ -21,7 +20,7 @@ row_area width y = record { x = 0; y = y; width = width; height = 1 }
 
 -- the buffer is an empty one on which a text was painted
 abbrev pub IsPaintedText : List ℕ → Sheet → Type 0
-IsPaintedText text = IsRendered (PaintsText text)
+IsPaintedText text = IsRendered (RendersStr text)
 
 -- a row of looks that agrees with a line painted on an empty row
 pub record IsRowOf (width : ℕ) (line : List ℕ) (row : List Look) : Type 0 where
@@ -43,7 +42,3 @@ pub record ShowsText (text : List ℕ) (area : Rect) (g : Grid) : Type 0 where
   pub over : sheet.area ≡ area
   pub painted : IsPaintedText text sheet
   pub shown : ShowsSheet sheet g
-
--- each column of each row of a screen is empty
-pub record IsBlank (s : Screen) : Type 0 where
-  pub at : (a b : ℕ) → a < s.width → b < s.height → s.grid a b ≡ empty_look

@@ -1,9 +1,9 @@
 -- Views of a log, and what a push does to them.
 use Rattle.std.specs.Prelude.{◌≡◌, ◌⊎◌, ℕ, ◌+◌, ◌-◌, min, List, [], ◌∷◌, ◌++◌, length}
 use Rattle.ratatui_core.specs.Layout.{Size}
-use Rattle.ratatui_core.specs.Buffer.{Look, IsEmptied, empty_look}
+use Rattle.ratatui_core.specs.Buffer.{Look, IsEmptied}
 use Rattle.ratatui_core.specs.Backend.{Screen, size_of, screen_area, rows_above}
-use Rattle.ratatui_core.specs.Terminal.{State, IsInline, IsInStep, IsBlankBelow, IsBlankOver, KeepsAroundViewport, rows_over, TerminalError, Backend, Memory, Area, Closure}
+use Rattle.ratatui_core.specs.Terminal.{IsInline, IsInStep, IsBlankBelow, KeepsAroundViewport, rows_over, TerminalError, Backend, Memory, Area, Closure}
 use Rattle.logview.specs.Rows.{counted, status_text, row_area, IsRowOf, AreRowsOfLines, ShowsText}
 use Rattle.logview.specs.declared.view.LogView.{LogView}
 

@@ -1,18 +1,16 @@
 //! The engine: from the bytes of a log to the printed screen.
 
-ghost use Rattle.std.specs.Prelude.{◌≡◌, ℕ, ◌<◌, ◌≤◌, [], length, drop, Some, IfOk, IfErr, IfSome, OnOk};
+ghost use Rattle.std.specs.Prelude.{◌≡◌, ℕ, ◌<◌, [], drop, IfOk, IfErr, IfSome, OnOk};
 ghost use Rattle.std.specs.Io.KnownBytes.{Appends};
 ghost use Rattle.std.specs.Str.{IsUtf8};
 ghost use Rattle.std.specs.Str.Lines.{lines};
 ghost use Rattle.ratatui_core.specs.Layout.{Size};
-ghost use Rattle.ratatui_core.specs.Backend.{screen_of};
-ghost use Rattle.logview.specs.Print.{printed_screen};
+ghost use Rattle.ratatui_core.specs.Backend.{screen_of, printed_screen};
 ghost use Rattle.logview.specs.Views.{IsViewOf};
-ghost use Rattle.logview.specs.Engine.{size_of_log, IsLogView, IsLogFault, PrintsLog};
+ghost use Rattle.logview.specs.Engine.{size_of_log, IsLogView, IsLogFault, PrintsLog, StopsAtLine};
 ghost use Rattle.logview.specs.declared.fault.LogFault.TheVariants.{Write};
 
 use crate::fault::LogFault;
-use crate::print::write_screen;
 use crate::size::read_size;
 use crate::view::LogView;
 use ratatui_core::backend::TestBackend;
@@ -23,7 +21,8 @@ use std::str;
 
 // All that a reader has left.
 fn read_bytes<R: Read>(alloc: Global, reader: &mut R) -> Result<Vec<u8>, LogFault>
-    ensures ok { IfOk result (λ bytes. IfSome (R.remaining reader.old) (λ all. bytes.items ≡ all)) }
+    ensures ok { IfOk result (λ bytes.
+        IfSome (R.remaining reader.old) (λ all. bytes.items ≡ all)) }
     ensures err { IfErr result (λ fault.
         IfSome (R.remaining reader.old) (λ bytes. IsLogFault bytes fault)) }
     ensures early { IfErr result (λ fault. fault ≡ Write → ⊥) }
@@ -56,8 +55,8 @@ fn open(alloc: Global, size: Size) -> Option<LogView<TestBackend>>
 fn push_lines(view: &mut LogView<TestBackend>, text: &str) -> Result<(), usize>
     ensures ok { OnOk result ((size : Size) → IsViewOf screen_of size [] view.old
         → IsViewOf screen_of size (drop 1 (lines text.now)) view.new) }
-    ensures low { IfErr result (λ number. 1 ≤ number) }
-    ensures high { IfErr result (λ number. number ≤ length (lines text.now)) }
+    ensures err { IfErr result (λ number. (size : Size) → IsViewOf screen_of size [] view.old
+        → StopsAtLine size (lines text.now) number) }
 {
     let mut number = 1usize;
     for line in text.lines().skip(1) {
@@ -105,7 +104,7 @@ fn write_view<W: Write>(writer: &mut W, view: &LogView<TestBackend>) -> io::Resu
     ensures { OnOk result (Appends (W.contents writer.old) (W.contents writer.new)
         (printed_screen (screen_of view.now.terminal.backend))) }
 {
-    write_screen(writer, view.terminal().backend())?;
+    view.terminal().backend().write_to(writer)?;
     writer.flush()
 }
 

@@ -7,7 +7,6 @@
 
 mod engine;
 mod fault;
-mod print;
 mod size;
 mod status;
 #[cfg(test)]

@@ -18,7 +18,7 @@ fn prints(alloc: Global, log: &str, printed: &str) -> bool {
 }
 
 // Logs and what they print.
-static PRINTED: [(&str, &str); 14] = [
+static PRINTED: [(&str, &str); 17] = [
     (
         "8 3\none\ntwo\nthree",
         "^one     \n|two     \n|three   \n|lines: 3\n",
@@ -32,6 +32,9 @@ static PRINTED: [(&str, &str); 14] = [
     ("3 2\naコb", "|aコ\n|lin\n"),
     ("3 2\nabe\u{301}x", "|abe\u{301}\n|lin\n"),
     ("3 2\n\u{200B}a\u{200B}b", "|ab \n|lin\n"),
+    ("3 2\nabc\u{200B}d", "|abc\n|lin\n"),
+    ("3 2\nabcd\u{301}", "|abc\n|lin\n"),
+    ("1 2\nコ", "| \n|l\n"),
     ("3 2\n\ta\u{1b}[b", "|a[b\n|lin\n"),
     ("3 2\na longer line", "|a l\n|lin\n"),
     ("3 2\na\n\n\nb", "^a  \n^   \n^   \n|b  \n|lin\n"),
@@ -132,14 +135,19 @@ impl Read for Broken {
     }
 }
 
+// Whether a run fails at such a reader, names the read and prints nothing.
+fn fails_to_read(alloc: Global, is_started: bool) -> Result<bool, AllocError> {
+    let mut written = Vec::new(alloc);
+    match run(alloc, &mut Broken { is_started }, &mut written) {
+        Ok(()) => Ok(false),
+        Err(fault) => Ok(reads_as(alloc, fault, "input: read failed")? && written.is_empty()),
+    }
+}
+
 #[test]
 fn names_a_failed_read(rt: HostRuntime) -> Result<(), Fail> {
-    let mut written = Vec::new(rt.alloc());
-    match run(rt.alloc(), &mut Broken { is_started: false }, &mut written) {
-        Ok(()) => assert!(rt; false),
-        Err(fault) => assert!(rt; reads_as(rt.alloc(), fault, "input: read failed")?),
-    }
-    assert!(rt; written.is_empty());
+    assert!(rt; fails_to_read(rt.alloc(), false)?);
+    assert!(rt; fails_to_read(rt.alloc(), true)?);
     Ok(())
 }
 

@@ -1,9 +1,9 @@
 //! Lines above a status line.
 
 ghost use Rattle.std.specs.Prelude.{◌≡◌, ◌+◌, ◌<◌, IfOk, IfErr, IsOk, OnOk};
-ghost use Rattle.ratatui_core.specs.Terminal.{Faults, IsBackendFault, KeepsFrame};
-ghost use Rattle.ratatui_core.specs.Widgets.{HasFirstRow, PaintsText, PaintsShortText};
-ghost use Rattle.logview.specs.Rows.{counted, IsBlank};
+ghost use Rattle.ratatui_core.specs.Terminal.{Faults, HasAreas, Inline, IsBackendFault, IsBlank, IsSized, KeepsFrame, StartErr};
+ghost use Rattle.ratatui_core.specs.Widgets.{HasFirstRow, RendersStr, RendersShortStr};
+ghost use Rattle.logview.specs.Rows.{counted};
 ghost use Rattle.logview.specs.Views.{IsFollowing, DrawsStatus, StartsView, InsertsLine, PushesLine, RefusesLine, RefusesPush};
 
 use crate::status::status_text;
@@ -12,14 +12,15 @@ use ratatui_core::buffer::Buffer;
 use ratatui_core::layout::Rect;
 use ratatui_core::terminal::{Frame, Terminal, TerminalError, TerminalOptions, Viewport};
 use ratatui_core::widgets::Widget;
+use ratatui_core::widgets::laws::ascii_texts_take_no_memory;
 use std::alloc::{AllocError, Global};
 
 // Renders a text in the first row of an area, where the buffer has that row.
 fn render_row(text: &str, area: Rect, buffer: &mut Buffer) -> Result<(), AllocError>
     ensures area { buffer.new.area ≡ buffer.old.area }
     ensures ok { HasFirstRow area buffer.old
-        → OnOk result (PaintsText text.now area buffer.old buffer.new) }
-    ensures short { PaintsShortText text.now area buffer.old → IsOk result }
+        → OnOk result (RendersStr text.now area buffer.old buffer.new) }
+    ensures short { RendersShortStr text.now area buffer.old → IsOk result }
 {
     let own = *buffer.area();
     if area.x < own.x || area.y < own.y || own.bottom() <= area.y {
@@ -32,9 +33,9 @@ fn render_row(text: &str, area: Rect, buffer: &mut Buffer) -> Result<(), AllocEr
 fn render_frame(text: &str, frame: &mut Frame<'_>) -> Result<(), AllocError>
     ensures keeps { KeepsFrame frame.old frame.new }
     ensures ok { HasFirstRow frame.old.viewport_area frame.old.buffer.now
-        → OnOk result (PaintsText text.now frame.old.viewport_area
+        → OnOk result (RendersStr text.now frame.old.viewport_area
         frame.old.buffer.now frame.new.buffer.now) }
-    ensures short { PaintsShortText text.now frame.old.viewport_area frame.old.buffer.now
+    ensures short { RendersShortStr text.now frame.old.viewport_area frame.old.buffer.now
         → IsOk result }
 {
     let area = frame.area();
@@ -55,22 +56,25 @@ pub struct LogView<B: Backend> {
 }
 
 impl<B: Backend + Drop> LogView<B> {
-    /// A view without lines: its status line stands in the cursor's row, or in the last one. It is refused where the terminal
-    /// or its first frame is; then the backend is dropped.
+    /// A view without lines: its status line stands in the cursor's row, or in the last one. It is refused as the start of a
+    /// terminal is: for want of memory, where the screen has cells, or by the backend; then the backend is dropped.
     pub fn new(alloc: Global, backend: B) -> Result<LogView<B>, TerminalError<B::Error>>
         ensures started { IsBlank (B.screen backend) → 0 < (B.screen backend).height
             → IfOk result (StartsView B.screen backend) }
         ensures count { IfOk result (λ v. v.count ≡ 0) }
         ensures calls { IfOk result (λ v.
             B.failures v.terminal.backend ≡ B.failures backend) }
+        ensures refused { IfErr result (StartErr B.screen B.failures (Inline 1) backend) }
     {
         let options = TerminalOptions {
             viewport: Viewport::Inline(1),
         };
         let terminal = Terminal::with_options(alloc, backend, options)?;
         let mut view = LogView { terminal, count: 0 };
-        view.draw_status()?;
-        Ok(view)
+        match view.draw_status() {
+            Ok(()) => Ok(view),
+            Err(error) => Err(error),
+        }
     }
 }
 
@@ -80,10 +84,12 @@ impl<B: Backend> LogView<B> {
         ensures count { self.new.count ≡ self.old.count }
         ensures ok { IsFollowing B.screen self.old
             → OnOk result (DrawsStatus B.screen self.old self.new) }
-        ensures err { IsFollowing B.screen self.old → IfErr result IsBackendFault }
+        ensures err { HasAreas self.old.terminal → IsSized B.screen self.old.terminal
+            → IfErr result IsBackendFault }
         ensures faults { Faults result (B.failures self.old.terminal.backend)
             (B.failures self.new.terminal.backend) }
     {
+        ascii_texts_take_no_memory();
         let text = status_text(self.count);
         self.terminal
             .draw(|frame| render_frame(text.as_str(), frame))?;

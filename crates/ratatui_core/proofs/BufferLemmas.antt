@@ -1,6 +1,6 @@
 -- What the author of a widget cites: an empty buffer is settled, may be painted anywhere and has empty cells, and painting is painting by columns.
 pub use Rattle.rtui_buffer.proofs.EmptyLemmas.{IsSettledSheet-empty, IsPaintable-empty, cell-empty}
-pub use Rattle.rtui_buffer.proofs.ColumnLemmas.{PaintsColumns-paints, same-beside, text-ends, line-ends, text-keeps, line-keeps}
+pub use Rattle.rtui_buffer.proofs.ColumnLemmas.{PaintsByColumns-paints, same-beside, text-ends, line-ends, text-keeps, line-keeps}
 -- so is an empty buffer with a style over an area, and a shown buffer's columns have the looks of its cells.
 pub use Rattle.rtui_buffer.proofs.ShownLemmas.{IsSettledSheet-styled, IsPaintable-styled, shown-look, look-painted, look-beside}
 -- A screen that shows pieces on a bar.

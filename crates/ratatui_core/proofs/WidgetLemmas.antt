@@ -2,3 +2,5 @@
 pub use Rattle.rtui_widgets.proofs.WithinLemmas.{intersected-whole, part-row, part-left, part-starts, in-first-row, within-then, within-styled, within-refused}
 -- What changes over that part alone, and a line on a bar there.
 pub use Rattle.rtui_widgets.proofs.PartLemmas.{OnPart-none, OnPart-clipped, OnPart-whole, line-on-bar}
+-- A text on an empty buffer, which has a first row and stays settled.
+pub use Rattle.rtui_widgets.proofs.SettledLemmas.{has-first-row, text-settled}

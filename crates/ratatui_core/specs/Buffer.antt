@@ -25,8 +25,8 @@ pub use Rattle.rtui_diff.specs.Diff.{IsDiff}
 pub use Rattle.rtui_buffer.specs.Sheet.{Sheet, area_size, IsSheet, HasRoomFor, position_of, cell_index, place_position, cell_in, with_cell, refilled, with_cells, moved_to, row_cells, sheet_row, HasRow, empty_cells, resized, IsEmptied, IsSameSheet, IsEqualSheet}
 pub use Rattle.rtui_buffer.specs.Frame.{IsSettledSheet, IsShownByRepaint, ShowsSheet, IsAligned, common_rows, sheet_updates, IsSheetDiff, HaveSettledRows, listed}
 unfoldable pub use Rattle.rtui_buffer.specs.Painting.{painted_width, fitting, kept, emptied, with_piece, painted}
-pub use Rattle.rtui_buffer.specs.Painting.{is_painted, IsLongestFront, Piece, piece_of, pieces, text_pieces, piece_width, columns, shown, IsSameOutside, piece_at, place_of, IsPainted}
-pub use Rattle.rtui_buffer.specs.PaintedText.{room_at, pieces_at, Paints, right_by, IsBeside, PaintsColumns, IsSameBeside, AreShort, IsPaintable, PaintsOr, IsStyledPart, IsStyledRows, IsStyled, HasShortGraphemes, HaveShortGraphemes}
+pub use Rattle.rtui_buffer.specs.Painting.{has_painted_width, IsLongestFront, Piece, piece_of, pieces, text_pieces, piece_width, columns, shown, IsSameOutside, piece_at, place_of, HasPieces}
+pub use Rattle.rtui_buffer.specs.PaintedText.{room_at, pieces_at, PaintsPieces, right_by, IsBeside, PaintsByColumns, IsSameBeside, AreShort, IsPaintable, PaintsOrRefuses, IsStyledPart, IsStyledRows, IsStyled, HasShortGraphemes, HaveShortGraphemes}
 pub use Rattle.rtui_buffer.specs.Bar.{bar_of, PaintsOnBar, ShowsPieces, bar_cell}
 unfoldable pub use Rattle.rtui_buffer.specs.Line.{line_pieces, line_row}
 pub use Rattle.rtui_buffer.specs.Line.{line_pieces_at, line_rows, line_at, ShowsLines, lines_area, IsOfLines, raw_lines}

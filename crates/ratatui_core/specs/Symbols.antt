@@ -1,6 +1,6 @@
 -- Tables of symbols, and how border symbols are joined.
 pub use Rattle.rtui_symbols.specs.Marker.{marker_name, ReadsMarker}
-pub use Rattle.rtui_symbols.specs.Pixels.{counted, dots_of, braille_of, named_at, filled, older_sextants, older_octants}
+pub use Rattle.rtui_symbols.specs.Pixels.{dots_of, braille_of, named_at, filled, older_sextants, older_octants}
 pub use Rattle.rtui_symbols.specs.Sets.{bar_texts, block_texts, line_texts, border_texts, scrollbar_texts, bar_levels, block_levels, normal_lines, thick_lines, double_lines, with_corners, with_dashes, rounded_lines, border_of, plain_border}
 unfoldable pub use Rattle.rtui_merge.specs.Arms.{same_style, contains, is_straight, bends, is_corner, replace}
 pub use Rattle.rtui_merge.specs.Arms.{style_number, is_nothing, same_arms, each_arm, replace_style, solid}

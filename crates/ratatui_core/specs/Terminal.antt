@@ -12,10 +12,10 @@ pub use Rattle.rtui_viewport.specs.Clearing.{is_emptied, HasPlace, ClearsArea, W
 pub use Rattle.rtui_viewport.specs.Remaining.{blank_at, blanks_left}
 pub use Rattle.rtui_terminal.specs.State.{State, IsInPlace, HasAreas, HaveRoom, cursor_offset, IsSameTerminal, IsDefaultOver}
 pub use Rattle.rtui_terminal.specs.InStep.{IsInStep, IsSized, IsReady, rows_over, KeepsAroundViewport}
-pub use Rattle.rtui_terminal.specs.Frames.{IsNewFrame, KeepsFrame, PaintsFrame, IsDrawFrame, AcceptsFrames, AcceptsNewFrame, paints_on}
+pub use Rattle.rtui_terminal.specs.Frames.{IsNewFrame, KeepsFrame, PaintsFrame, IsDrawFrame, AcceptsFrames, AcceptsNewFrame, PaintsCurrent}
 pub use Rattle.rtui_terminal.specs.Borrows.{with_buffer, LendsBuffer}
 pub use Rattle.rtui_terminal.specs.Faults.{FaultCounts, Faults, IsBackendFault, FailsOnlyByBackend}
-pub use Rattle.rtui_terminal.specs.Starting.{StartErr, first_cursor, Starts}
+pub use Rattle.rtui_terminal.specs.Starting.{IsBlank, StartErr, first_cursor, Starts, StartsInRow}
 pub use Rattle.rtui_terminal.specs.Writing.{differing_count, WritesDifferences, cursor_placed, HasDrawn, last_place, known_behind, cursor_behind, cursor_after, FlushErr, Flushes, Writes, FailsWriting, WriteErr, Applies, FailsFlushing, ApplyErr, RefusesArea}
 pub use Rattle.rtui_terminal.specs.Resizing.{IsResized, LacksRoom, KeepsBuffers, ResizesBuffers, Resizes, FailsResizing, ResizeErr, Autoresizes, AutoresizeErr}
 pub use Rattle.rtui_terminal.specs.Cursor.{Stays, MovesCursor}

@@ -4,12 +4,25 @@ use rtui_cell::Cell;
 use rtui_merge::MergeStrategy;
 use std::alloc::{AllocError, Global};
 
+// The shortest text that takes memory, of 23 bytes.
+const SHORTEST: &str = "aaaaaaaaaaaaaaaaaaaaaaa";
+
 // Gives a cell a long symbol, or one joined of its own and another.
 fn set(alloc: Global, cell: &mut Cell, number: usize) -> Result<(), AllocError> {
     match number {
         0 => cell.set_symbol(alloc, LONG),
         1 => cell.append_symbol(alloc, LONG),
+        2 => cell.set_symbol(alloc, SHORTEST),
         _ => cell.merge_symbol(alloc, LONG, MergeStrategy::Replace),
+    }
+}
+
+// How many bytes the symbol then has.
+fn length(number: usize) -> usize {
+    match number {
+        1 => 26,
+        2 => 23,
+        _ => 25,
     }
 }
 
@@ -18,19 +31,26 @@ fn symbol_set(alloc: Global, number: usize) -> Result<Outcome, AllocError> {
     let is_refused = set(alloc, &mut cell, number).is_err();
     let is_left = !is_refused || cell.symbol() == "a";
     let is_right = !is_refused || set(alloc, &mut cell, number).is_ok();
-    let is_long = cell.symbol().len() == if number == 1 { 26 } else { 25 };
-    Ok(judged(is_refused, is_left, is_right && is_long))
+    Ok(judged(
+        is_refused,
+        is_left,
+        is_right && cell.symbol().len() == length(number),
+    ))
 }
 
 fn cloned(alloc: Global) -> Result<Outcome, AllocError> {
     let cell = Cell::new(alloc, LONG)?;
-    let is_refused = cell.clone(alloc).is_err();
-    let again = cell.clone(alloc)?;
-    Ok(judged(is_refused, cell.symbol() == LONG, again == cell))
+    match cell.clone(alloc) {
+        Ok(copy) => Ok(judged(false, true, copy == cell)),
+        Err(_) => {
+            let again = cell.clone(alloc)?;
+            Ok(judged(true, cell.symbol() == LONG, again == cell))
+        }
+    }
 }
 
 pub fn outcome_of(alloc: Global, number: usize) -> Result<Outcome, AllocError> {
-    if number < 3 {
+    if number < 4 {
         symbol_set(alloc, number)
     } else {
         cloned(alloc)

@@ -1,13 +1,16 @@
-//! The program `refusals`: makes calls that take memory, each in a case of its own, and says how it went.
+//! The program `refusals`: makes calls that take memory, each in a case of its own, and says how each went.
 //!
-//! `refusals NUMBER` runs one case and prints its name and what came of it: `accepted`; `refused, and as it was` where memory was
-//! refused to the call, what it must leave stands, and the same call was then accepted; `not ready` where memory was refused
-//! before the call; and else `broken`. Without a number it runs all of them. `tools/refusals` refuses each request in turn.
+//! It prints the name of each case and what came of it: `accepted`; `refused, and as it was` where memory was refused to the call,
+//! what it must leave stands, and the same call was then accepted; `not ready` where memory was refused before the call; and else
+//! `broken`. `refusals REQUEST` first makes so many requests of its own that the one of number `LAST` is that request of the cases,
+//! counted from the start of the program, and says where it was refused in front of them or behind them. `tools/refusals` has each
+//! request refused in turn.
 #![tactic(auto)]
 
 mod backends;
 mod buffers;
 mod cells;
+mod made;
 mod outcome;
 mod painting;
 mod scripts;
@@ -19,8 +22,11 @@ use std::alloc::{AllocError, Global};
 use std::process::ExitCode;
 use std::{env, io};
 
+// The request that is refused.
+const LAST: usize = 1500;
+
 // The cases by name, a group for each module.
-static NAMES: [&str; 36] = [
+static NAMES: [&str; 70] = [
     "set_string",
     "set_stringn",
     "set_span",
@@ -39,20 +45,54 @@ static NAMES: [&str; 36] = [
     "clone of a buffer",
     "set_symbol",
     "append_symbol",
+    "set_symbol of 23 bytes",
     "merge_symbol",
     "clone of a cell",
     "push_span of a line",
-    "try_extend of a line",
     "push_line of a text",
     "push_span of a text",
-    "try_extend of a text",
     "append of a text",
+    "into_left_aligned_line",
+    "into_centered_line",
+    "into_right_aligned_line",
+    "to_left_aligned_line",
+    "to_centered_line",
+    "to_right_aligned_line",
+    "from_span of a line",
+    "from_slice of a line",
+    "spans of a line",
+    "try_add of a span",
+    "raw of a line",
+    "styled of a line",
+    "raw_string of a line",
+    "try_add of a line",
+    "clone of a line",
+    "to_line",
+    "from_line of a text",
+    "from_slice of a text",
+    "try_add_line of a line",
+    "try_add_line of a text",
+    "raw of a text",
+    "styled of a text",
+    "try_add of a text",
+    "clone of a text",
+    "raw_string of a text",
+    "from_span of a text",
+    "to_text of a masked text",
+    "to_text",
+    "to_span",
+    "clone of a span",
+    "clone and value of a masked text",
+    "try_into_string",
     "draw of a long symbol",
     "append_lines",
     "scroll_region_up",
     "resize of a backend",
     "start of a terminal",
+    "start of an inline viewport",
+    "start of a fixed viewport",
     "draw at a new size",
+    "draw of an inline viewport at a new size",
     "insert_before of a row",
     "insert_before of more rows than the screen has",
     "play",
@@ -63,11 +103,12 @@ fn outcome_of(alloc: Global, number: usize) -> Result<Outcome, AllocError> {
     match number {
         0..=8 => painting::outcome_of(alloc, number),
         9..=15 => buffers::outcome_of(alloc, number - 9),
-        16..=19 => cells::outcome_of(alloc, number - 16),
-        20..=25 => texts::outcome_of(alloc, number - 20),
-        26..=29 => backends::outcome_of(alloc, number - 26),
-        30..=33 => terminals::outcome_of(alloc, number - 30),
-        34 => scripts::played(alloc),
+        16..=20 => cells::outcome_of(alloc, number - 16),
+        21..=24 => texts::outcome_of(alloc, number - 21),
+        25..=56 => made::outcome_of(alloc, number - 25),
+        57..=60 => backends::outcome_of(alloc, number - 57),
+        61..=67 => terminals::outcome_of(alloc, number - 61),
+        68 => scripts::played(alloc),
         _ => scripts::run_over_memory(alloc),
     }
 }
@@ -80,22 +121,50 @@ fn report(rt: &HostRuntime, number: usize, name: &str) -> io::Result<()> {
     }
 }
 
-// The number of a case, if one is asked for.
+// Prints what came of each case.
+fn report_all(rt: &HostRuntime) -> io::Result<()> {
+    for (number, name) in NAMES.iter().enumerate() {
+        report(rt, number, name)?;
+    }
+    Ok(())
+}
+
+// Makes so many requests; how many of them were refused.
+fn request(alloc: Global, count: usize) -> usize {
+    let mut refused = 0usize;
+    for _ in 0..count {
+        if String::from_str(alloc, "request").is_err() {
+            refused = refused.saturating_add(1);
+        }
+    }
+    refused
+}
+
+// The request that is asked for, if one is.
 fn asked(rt: &HostRuntime) -> Option<usize> {
     let mut words = env::args(rt).ok()?;
     let _program = words.next()?;
     words.next()?.as_str().parse::<usize>().ok()
 }
 
-fn main(rt: HostRuntime) -> ExitCode {
-    let asked = asked(&rt);
-    for (number, name) in NAMES.iter().enumerate() {
-        if asked.is_some() && asked != Some(number) {
-            continue;
-        }
-        if report(&rt, number, name).is_err() {
-            return ExitCode::FAILURE;
-        }
+// Runs the cases behind and in front of requests of its own.
+fn run(rt: &HostRuntime) -> io::Result<()> {
+    let Some(number) = asked(rt) else {
+        return report_all(rt);
+    };
+    if request(rt.alloc(), LAST.saturating_sub(number)) > 0 {
+        return println!(rt; "in front of the cases");
     }
-    ExitCode::SUCCESS
+    report_all(rt)?;
+    if request(rt.alloc(), number) > 0 {
+        return println!(rt; "behind the cases");
+    }
+    Ok(())
+}
+
+fn main(rt: HostRuntime) -> ExitCode {
+    match run(&rt) {
+        Ok(()) => ExitCode::SUCCESS,
+        Err(_) => ExitCode::FAILURE,
+    }
 }

@@ -1,5 +1,5 @@
 //! Texts painted and rendered on a buffer.
-use crate::buffers::rows;
+use crate::buffers::letters;
 use crate::outcome::{LONG, Outcome, judged};
 use rtui_buffer::Buffer;
 use rtui_geometry::Rect;
@@ -90,8 +90,8 @@ fn has_symbol(buffer: &Buffer) -> bool {
 
 pub fn outcome_of(alloc: Global, number: usize) -> Result<Outcome, AllocError> {
     let painted = painted_by(alloc, number)?;
-    let mut buffer = rows(alloc, &["xyzuvw", "second"])?;
-    let before = buffer.clone(alloc)?;
+    let mut buffer = letters(alloc, 6, 2)?;
+    let before = letters(alloc, 6, 2)?;
     let is_refused = paint(&mut buffer, &painted).is_err();
     let is_left = is_kept_outside(&before, &buffer);
     let is_right = (!is_refused || paint(&mut buffer, &painted).is_ok())

@@ -1,122 +1,188 @@
 //! Terminals over a backend in memory.
-use crate::outcome::{Outcome, judged};
-use rtui_backend::{TestBackend, TestError};
+//!
+//! A terminal is compared with a twin, to which the same was done but for the refused call. Both backends count their calls
+//! down, so that the two are equal only where the refused call made just those that the twin made by hand.
+ghost use Rattle.rtui_viewport.specs.Viewports.{FitsEdges};
+
+use crate::outcome::{LONG, Outcome, judged};
+use rtui_backend::{Backend, TestBackend, TestError};
 use rtui_buffer::Buffer;
 use rtui_geometry::{Position, Rect};
 use rtui_terminal::{Terminal, TerminalError, TerminalOptions, Viewport};
 use std::alloc::{AllocError, Global};
 
-// A terminal of three columns and two rows over an inline viewport of one row.
-fn started(alloc: Global) -> Result<Terminal<TestBackend>, AllocError> {
-    let backend = TestBackend::new(alloc, 3, 2)?;
-    let options = TerminalOptions {
-        viewport: Viewport::Inline(1),
-    };
-    match Terminal::with_options(alloc, backend, options) {
-        Ok(terminal) => Ok(terminal),
+// A screen of three columns and two rows, whose cursor stands in the last row.
+fn screen(alloc: Global) -> Result<TestBackend, AllocError> {
+    let mut backend = TestBackend::new(alloc, 3, 2)?;
+    let _ = backend.set_cursor_position(Position { x: 0, y: 1 });
+    Ok(backend)
+}
+
+// A terminal over a viewport of it, whose backend counts down.
+fn started(alloc: Global, viewport: Viewport) -> Result<Terminal<TestBackend>, AllocError>
+    requires { FitsEdges viewport }
+{
+    let backend = screen(alloc)?;
+    match Terminal::with_options(alloc, backend, TerminalOptions { viewport }) {
+        Ok(mut terminal) => {
+            terminal.backend_mut().fail_after(10000);
+            Ok(terminal)
+        }
         Err(_) => Err(AllocError),
     }
 }
 
-// A start that is refused memory for its buffers answers so.
-fn start(alloc: Global) -> Result<Outcome, AllocError> {
-    let backend = TestBackend::new(alloc, 3, 2)?;
-    let again = TestBackend::new(alloc, 3, 2)?;
-    let answer = Terminal::new(alloc, backend).err();
-    let is_left = answer.is_none() || answer == Some(TerminalError::Memory);
-    let is_right = answer.is_none() || Terminal::new(alloc, again).is_ok();
+// A start that is refused memory for its buffers, or for rows that scroll off, answers so.
+fn start(alloc: Global, viewport: Viewport) -> Result<Outcome, AllocError>
+    requires { FitsEdges viewport }
+{
+    let backend = screen(alloc)?;
+    let again = screen(alloc)?;
+    let answer = Terminal::with_options(alloc, backend, TerminalOptions { viewport }).err();
+    let is_left = match answer {
+        None | Some(TerminalError::Memory) => true,
+        Some(other) => {
+            viewport == Viewport::Inline(2) && other == TerminalError::Backend(TestError::Memory)
+        }
+    };
+    let is_right = answer.is_none()
+        || Terminal::with_options(alloc, again, TerminalOptions { viewport }).is_ok();
     Ok(judged(answer.is_some(), is_left, is_right))
 }
 
-// Sets a letter in the corner of a buffer.
-fn set_letter(alloc: Global, buffer: &mut Buffer) -> Result<(), AllocError> {
+// Sets a symbol in the corner of a buffer.
+fn set_corner(alloc: Global, buffer: &mut Buffer, symbol: &str) -> Result<(), AllocError> {
     let corner = Position {
         x: buffer.area().x,
         y: buffer.area().y,
     };
-    if let Some(cell) = buffer.cell_mut(corner) {
-        cell.set_char(alloc, 'a')?;
+    match buffer.cell_mut(corner) {
+        Some(cell) => cell.set_symbol(alloc, symbol),
+        None => Ok(()),
     }
-    Ok(())
 }
 
-// Draws a frame; the answer says what it was refused for, and whether the closure was called.
-fn draw(
-    alloc: Global,
-    terminal: &mut Terminal<TestBackend>,
-) -> (Option<TerminalError<TestError>>, bool) {
+// What came of a call that takes a closure: what it was refused for, whether the closure was called, and whether that was
+// refused memory.
+type Answer = (Option<TerminalError<TestError>>, bool, bool);
+
+// Draws a frame with a symbol in its corner.
+fn draw(alloc: Global, terminal: &mut Terminal<TestBackend>, symbol: &str) -> Answer {
     let mut is_called = false;
+    let mut is_refused = false;
     let error = terminal
         .draw(|frame| {
             is_called = true;
-            set_letter(alloc, frame.buffer_mut())
+            let set = set_corner(alloc, frame.buffer_mut(), symbol);
+            is_refused = set.is_err();
+            set
         })
         .err();
-    (error, is_called)
+    (error, is_called, is_refused)
 }
 
-// A draw on a screen of another size: what is refused to the terminal changes nothing, what is refused to the backend is
-// told as the backend's.
-fn drawn(alloc: Global) -> Result<Outcome, AllocError> {
-    let mut terminal = started(alloc)?;
-    terminal.backend_mut().resize(40, 30)?;
-    let area = terminal.viewport_area();
-    let written = terminal.backend().cells_written();
-    let (error, is_called) = draw(alloc, &mut terminal);
-    let is_left = match error {
-        None => is_called,
-        Some(TerminalError::Memory) => {
-            !is_called
-                && terminal.viewport_area() == area
-                && terminal.backend().cells_written() == written
-        }
-        Some(other) => other == TerminalError::Backend(TestError::Memory),
-    };
-    let is_mended = error.is_none()
-        || (terminal.clear().is_ok() && draw(alloc, &mut terminal).0.is_none());
-    Ok(judged(error.is_some(), is_left, is_mended))
-}
-
-// Inserts rows with a letter; the answer says what it was refused for, and whether the closure was called.
-fn insert(
-    alloc: Global,
-    terminal: &mut Terminal<TestBackend>,
-    count: u16,
-) -> (Option<TerminalError<TestError>>, bool) {
+// Inserts rows with a symbol in their corner.
+fn insert(alloc: Global, terminal: &mut Terminal<TestBackend>, count: u16) -> Answer {
     let mut is_called = false;
+    let mut is_refused = false;
     let error = terminal
         .insert_before(count, |rows| {
             is_called = true;
-            set_letter(alloc, rows)
+            let set = set_corner(alloc, rows, LONG);
+            is_refused = set.is_err();
+            set
         })
         .err();
-    (error, is_called)
+    (error, is_called, is_refused)
 }
 
-// An insertion: what is refused to the terminal, or by the closure, changes nothing.
-fn inserted(alloc: Global, count: u16) -> Result<Outcome, AllocError> {
-    let mut terminal = started(alloc)?;
-    let (error, is_called) = insert(alloc, &mut terminal, count);
+// Whether the screens of two terminals show the same, and the same scrolled off them.
+fn show_alike(one: &Terminal<TestBackend>, other: &Terminal<TestBackend>) -> bool {
+    one.backend().buffer() == other.backend().buffer()
+        && one.backend().scrollback() == other.backend().scrollback()
+}
+
+// Whether a frame that is drawn on both shows the same.
+fn draw_alike(
+    alloc: Global,
+    one: &mut Terminal<TestBackend>,
+    other: &mut Terminal<TestBackend>,
+) -> Result<bool, AllocError> {
+    if draw(alloc, other, "z").0.is_some() {
+        return Err(AllocError);
+    }
+    Ok(draw(alloc, one, "z").0.is_none() && show_alike(one, other))
+}
+
+// A draw on a screen of another size. What is refused to the terminal made one call of the backend, for its size, and
+// changed nothing, so that the next frame is shown; what is refused to the backend is told as the backend's.
+fn drawn(alloc: Global, viewport: Viewport) -> Result<Outcome, AllocError>
+    requires { FitsEdges viewport }
+{
+    let mut terminal = started(alloc, viewport)?;
+    let mut twin = started(alloc, viewport)?;
+    if draw(alloc, &mut terminal, "y").0.is_some() || draw(alloc, &mut twin, "y").0.is_some() {
+        return Err(AllocError);
+    }
+    terminal.backend_mut().resize(40, 30)?;
+    twin.backend_mut().resize(40, 30)?;
+    let (error, is_called, _) = draw(alloc, &mut terminal, "x");
     let is_left = match error {
         None => is_called,
         Some(TerminalError::Memory) => {
-            !is_called
-                && terminal.viewport_area() == Rect::new(0, 0, 3, 1)
-                && terminal.backend().lines_are(&["   ", "   "])
-                && terminal.backend().scrollback().is_empty()
+            let _ = twin.size();
+            !is_called && terminal == twin
         }
-        Some(other) => is_called && other == TerminalError::Backend(TestError::Memory),
+        Some(other) => {
+            other == TerminalError::Backend(TestError::Memory) && terminal.clear().is_ok()
+        }
     };
-    let is_mended = error.is_none()
-        || (terminal.clear().is_ok() && insert(alloc, &mut terminal, count).0.is_none());
-    Ok(judged(error.is_some(), is_left, is_mended))
+    let is_right = draw_alike(alloc, &mut terminal, &mut twin)?;
+    Ok(judged(error.is_some(), is_left, is_right))
+}
+
+// An insertion: what is refused to the terminal, or by the closure, made no call of the backend and changed nothing.
+fn inserted(alloc: Global, count: u16) -> Result<Outcome, AllocError> {
+    let mut terminal = started(alloc, Viewport::Inline(1))?;
+    let mut twin = started(alloc, Viewport::Inline(1))?;
+    if draw(alloc, &mut terminal, "y").0.is_some() || draw(alloc, &mut twin, "y").0.is_some() {
+        return Err(AllocError);
+    }
+    let (error, is_called, is_refused) = insert(alloc, &mut terminal, count);
+    let (is_left, is_right) = match error {
+        None => (is_called && !is_refused, true),
+        Some(TerminalError::Memory) => {
+            let is_left = is_called == is_refused && terminal == twin;
+            let is_drawn = draw_alike(alloc, &mut terminal, &mut twin)?;
+            let is_inserted = insert(alloc, &mut terminal, count).0.is_none()
+                && insert(alloc, &mut twin, count).0.is_none();
+            (
+                is_left,
+                is_drawn && is_inserted && show_alike(&terminal, &twin),
+            )
+        }
+        Some(other) => {
+            let is_told = is_called && other == TerminalError::Backend(TestError::Memory);
+            let is_cleared = terminal.clear().is_ok()
+                && draw(alloc, &mut terminal, "z").0.is_none();
+            (
+                is_told,
+                is_cleared && insert(alloc, &mut terminal, count).0.is_none(),
+            )
+        }
+    };
+    Ok(judged(error.is_some(), is_left, is_right))
 }
 
 pub fn outcome_of(alloc: Global, number: usize) -> Result<Outcome, AllocError> {
+    let fixed = Viewport::Fixed(Rect::new(1, 0, 2, 2));
     match number {
-        0 => start(alloc),
-        1 => drawn(alloc),
-        2 => inserted(alloc, 1),
+        0 => start(alloc, Viewport::Fullscreen),
+        1 => start(alloc, Viewport::Inline(2)),
+        2 => start(alloc, fixed),
+        3 => drawn(alloc, Viewport::Fullscreen),
+        4 => drawn(alloc, Viewport::Inline(2)),
+        5 => inserted(alloc, 1),
         _ => inserted(alloc, 7),
     }
 }

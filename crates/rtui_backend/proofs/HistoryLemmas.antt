@@ -8,8 +8,8 @@ use Rattle.rtui_cell.specs.Symbol.{blank}
 use Rattle.rtui_text.specs.Text.{LineData, line_of, plain}
 use Rattle.rtui_buffer.specs.Line.{line_row}
 use Rattle.rtui_buffer.proofs.RowLemmas.{length-rows}
-use Rattle.rtui_backend.specs.Lines.{symbol_in, symbols_of_line}
-use Rattle.rtui_backend.specs.RowMatch.{is_row_of}
+use Rattle.rtui_backend.specs.ScreenLines.{symbol_in, symbols_of_line}
+use Rattle.rtui_backend.specs.RowPieces.{is_row_of}
 use Rattle.rtui_backend.proofs.LineLemmas.{look_at-cell}
 use Rattle.rtui_backend.proofs.RowLemmas.{row-tells, row-told}
 

@@ -10,3 +10,5 @@ pub mod RowLemmas
 pub mod HistoryLemmas
 pub mod SizeLemmas
 pub mod RegionLemmas
+pub mod PrintLemmas
+pub mod LookRowLemmas

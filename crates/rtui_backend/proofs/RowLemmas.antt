@@ -15,13 +15,13 @@ use Rattle.rtui_cell.specs.Cell.{empty_cell}
 use Rattle.rtui_cell.proofs.CellLemmas.{look-empty}
 use Rattle.rtui_text.specs.Text.{line_of, plain}
 use Rattle.rtui_buffer.specs.Sheet.{empty_cells}
-use Rattle.rtui_buffer.specs.Painting.{Piece, piece_width, piece_at, place_of, columns, text_pieces, shown, painted, IsPainted}
+use Rattle.rtui_buffer.specs.Painting.{Piece, piece_width, piece_at, place_of, columns, text_pieces, shown, painted, HasPieces}
 use Rattle.rtui_buffer.specs.Line.{line_pieces, line_row}
 use Rattle.rtui_buffer.proofs.EmptyLemmas.{cell-empty}
-use Rattle.rtui_buffer.proofs.PaintedLemmas.{AreWide, IsPainted-painted}
+use Rattle.rtui_buffer.proofs.PaintedLemmas.{AreWide, HasPieces-painted}
 use Rattle.rtui_buffer.proofs.LineLemmas.{columns-line, columns-append, AreWide-line, line_pieces-nil, line_pieces-cons}
 use Rattle.rtui_backend.specs.CellGrid.{look_at}
-use Rattle.rtui_backend.specs.RowMatch.{are_blank, is_piece, are_pieces, pieces_end, at_end, spans_end, is_blank_from, is_row_of}
+use Rattle.rtui_backend.specs.RowPieces.{are_blank, is_piece, are_pieces, pieces_end, at_end, spans_end, is_blank_from, is_row_of}
 use Rattle.rtui_backend.proofs.LineLemmas.{look_at-cell}
 use Rattle.rtui_backend.proofs.WalkLemmas.{pieces_end-nil}
 
@@ -183,20 +183,20 @@ module _ (w : ℕ) (ts : List (List ℕ)) where
   unfolding line_row
   shows a = ap (λ l. l.symbol) (look_at-cell cells a)
 
-  is_painted : IsPainted 0 line (empty_cells w) cells
-  is_painted = let le = columns-line w new_style (map plain ts) in IsPainted-painted 0 line (empty_cells w) (AreWide-line w new_style (map plain ts)) (omega (arith, length-replicate w empty_cell))
+  has_painted_width : HasPieces 0 line (empty_cells w) cells
+  has_painted_width = let le = columns-line w new_style (map plain ts) in HasPieces-painted 0 line (empty_cells w) (AreWide-line w new_style (map plain ts)) (omega (arith, length-replicate w empty_cell))
 
   blank-at : (a : ℕ) → slice_index_or cells a empty_cell ≡ empty_cell → line_symbols w ts a ≡ blank
   blank-at a e = shows a ∙ ap (λ c. (look_of c).symbol) e ∙ ap (λ l. l.symbol) look-empty
 
   line-stands : Stand (line_symbols w ts) 0 line
   line-stands = record {
-    starts = λ k lt. shows (place_of 0 line k) ∙ ap (λ c. (look_of c).symbol) (is_painted.starts k lt) ∙ shown-symbol (piece_at line k) (slice_index_or (empty_cells w) (place_of 0 line k) empty_cell);
-    behind = λ k j lt q r. blank-at (place_of 0 line k + j) (is_painted.behind k j lt q r);
+    starts = λ k lt. shows (place_of 0 line k) ∙ ap (λ c. (look_of c).symbol) (has_painted_width.starts k lt) ∙ shown-symbol (piece_at line k) (slice_index_or (empty_cells w) (place_of 0 line k) empty_cell);
+    behind = λ k j lt q r. blank-at (place_of 0 line k + j) (has_painted_width.behind k j lt q r);
   }
 
   line-blank : (c : ℕ) → columns line ≤ c → line_symbols w ts c ≡ blank
-  line-blank c le = blank-at c (is_painted.outside.behind c (omega arith) ∙ cell-empty w c)
+  line-blank c le = blank-at c (has_painted_width.outside.behind c (omega arith) ∙ cell-empty w c)
 
   itself : (are_pieces (line_symbols w ts) 0 line && are_blank (line_symbols w ts) (columns line) (w - columns line)) ≡ true
   itself = both_true (pieces-stand (line_symbols w ts) line 0 (AreWide-line w new_style (map plain ts)) line-stands) (blank-stands (line_symbols w ts) (w - columns line) (columns line) (λ c le lt. line-blank c le))

@@ -11,7 +11,7 @@ use Rattle.rtui_cell.specs.Width.{text_width}
 use Rattle.rtui_text.specs.Text.{SpanData, plain}
 use Rattle.rtui_buffer.specs.Painting.{painted_width, kept, Piece, piece_of, pieces, piece_width, columns, text_pieces}
 use Rattle.rtui_buffer.proofs.PaintLemmas.{painted_width-painted, kept-nil, kept-skip, kept-take, kept-full}
-use Rattle.rtui_backend.specs.RowMatch.{are_blank, is_piece, are_pieces, pieces_end, at_end, spans_end}
+use Rattle.rtui_backend.specs.RowPieces.{are_blank, is_piece, are_pieces, pieces_end, at_end, spans_end}
 
 module _ (row : ℕ → List ℕ) where
   pub are_blank-end : (a b : ℕ) → b ≤ a → are_blank row a (b - a) ≡ true

@@ -4,5 +4,6 @@ pub mod Failures
 pub mod CellGrid
 pub mod TestBackend
 pub mod Display
-pub mod Lines
-pub mod RowMatch
+pub mod ScreenLines
+pub mod RowPieces
+pub mod Print

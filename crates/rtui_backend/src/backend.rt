@@ -55,7 +55,8 @@ pub trait Backend {
     ) -> Result<(), Self::Error>
         requires can { I.can_next content }
         requires finite { IsFinite (I.remaining content) }
-        ensures ok { OnOk result ((items : List (ℕ × ℕ × C)) × Drains I.next_gives content items
+        ensures ok { OnOk result (
+            (items : List (ℕ × ℕ × C)) × Drains I.next_gives content items
             × Draws (screen self.old) (map (update_by C.cell) items) (screen self.new)) }
         ensures counts { Counts result (failures self.old) (failures self.new) };
 

@@ -5,7 +5,7 @@ ghost use Rattle.std.specs.Iterator.{IsFinite, Drains};
 ghost use Rattle.rtui_cell.specs.Look.{look_of, empty_look};
 ghost use Rattle.rtui_cell.specs.Cell.{width_of};
 ghost use Rattle.rtui_cell.specs.Grid.{put, update_by};
-ghost use Rattle.rtui_buffer.specs.Sheet.{IsEmptied, IsEqualSheet};
+ghost use Rattle.rtui_buffer.specs.Sheet.{IsEmptied, IsEqualSheet, sheet_row};
 ghost use Rattle.rtui_backend.specs.Screen.{Draws};
 ghost use Rattle.rtui_cell.specs.Cell.{IsUnmarked};
 ghost use Rattle.rtui_backend.specs.CellGrid.{look_at, grid_of, AreUnmarked, AreUnmarkedRows};
@@ -23,6 +23,7 @@ use std::fmt;
 use std::ops::Range;
 
 mod lines;
+mod print;
 mod scroll;
 
 /// Why a call of a `TestBackend` failed.
@@ -137,7 +138,7 @@ pub struct TestBackend {
 impl TestBackend {
     ghost use Rattle.std.specs.Prelude.{None};
     ghost use Rattle.rtui_cell.specs.declared.cell.Cell.{Cell};
-    ghost use Rattle.rtui_backend.specs.Screen.{IsBlankScreen, cursor_of, screen_area};
+    ghost use Rattle.rtui_backend.specs.Screen.{IsBlankScreen, cursor_of, row_of, screen_area};
     ghost use Rattle.rtui_backend.specs.TestBackend.{screen_of, sheet_of, failures_of, told_after, TakesTurn, IsSameBackend, DrawsFront};
 
     /// A blank screen of this size in columns and rows, its cursor visible in the corner; refused where memory
@@ -164,9 +165,13 @@ impl TestBackend {
         ensures area { result.now.area ≡ screen_area (screen_of self.now) }
         ensures shown { (a b : ℕ) → grid_of result.now.area.width result.now.cells a b
             ≡ (screen_of self.now).grid a b }
+        ensures rows { (b : ℕ) → b < (screen_of self.now).height
+            → map look_of (sheet_row result.now b) ≡ row_of (screen_of self.now) b }
         ensures value { result.now ≡ sheet_of self.now }
         ensures plain { AreUnmarked result.now.cells }
     {
+        // It has as many cells as its area.
+        let _cells = self.buffer.content();
         &self.buffer
     }
 
@@ -273,7 +278,8 @@ impl TestBackend {
     ) -> Result<(), AllocError>
         requires can { I.can_next content }
         requires finite { IsFinite (I.remaining content) }
-        ensures ok { OnOk result ((items : List (ℕ × ℕ × C)) × Drains I.next_gives content items
+        ensures ok { OnOk result (
+            (items : List (ℕ × ℕ × C)) × Drains I.next_gives content items
             × Draws (screen_of self.old) (map (update_by C.cell) items) (screen_of self.new)) }
         ensures memory { OnErr result (DrawsFront I.next_gives content (update_by C.cell)
             (screen_of self.old) (screen_of self.new)) }
@@ -308,7 +314,8 @@ impl Backend for TestBackend {
     ) -> Result<(), TestError>
         requires can { I.can_next content }
         requires finite { IsFinite (I.remaining content) }
-        ensures ok { OnOk result ((items : List (ℕ × ℕ × C)) × Drains I.next_gives content items
+        ensures ok { OnOk result (
+            (items : List (ℕ × ℕ × C)) × Drains I.next_gives content items
             × Draws (screen_of self.old) (map (update_by C.cell) items) (screen_of self.new)) }
         ensures memory { result ≡ Err TestError.Memory → DrawsFront I.next_gives content
             (update_by C.cell) (screen_of self.old) (screen_of self.new) }

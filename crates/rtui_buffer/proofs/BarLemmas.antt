@@ -13,14 +13,14 @@ use Rattle.rtui_cell.specs.Grid.{Grid}
 use Rattle.rtui_buffer.specs.Sheet.{Sheet, IsEmptied, HasRow, cell_in, cell_index, area_size, position_of}
 use Rattle.rtui_buffer.specs.Frame.{ShowsSheet}
 use Rattle.rtui_buffer.specs.Painting.{Piece, columns, shown, piece_at}
-use Rattle.rtui_buffer.specs.PaintedText.{IsStyled, Paints}
+use Rattle.rtui_buffer.specs.PaintedText.{IsStyled, PaintsPieces}
 use Rattle.rtui_buffer.specs.Bar.{PaintsOnBar, ShowsPieces, bar_of, bar_cell}
 use Rattle.rtui_buffer.proofs.EmptyLemmas.{cell-empty}
 use Rattle.rtui_buffer.proofs.ShownLemmas.{look-painted, look-beside}
 
 -- the bar takes n columns
 module _ (r : Rect) (n : ℕ) (style : Style) (ps : List Piece) (old under new : Sheet) (g : Grid) (edges : EdgesFit r) (some : 0 < r.height) (emptied : IsEmptied r old)
-    (fits : columns ps ≤ r.width) (bar : IsStyled (bar_of n r) style old under) (painted : Paints (corner r) ps under new) (shows : ShowsSheet new g) where
+    (fits : columns ps ≤ r.width) (bar : IsStyled (bar_of n r) style old under) (painted : PaintsPieces (corner r) ps under new) (shows : ShowsSheet new g) where
   area-is : under.area ≡ r
   area-is = bar.area ∙ emptied.area
 
@@ -91,7 +91,7 @@ pub ShowsPieces-bar : (r : Rect) (n : ℕ) (style : Style) (pieces : Rect → Li
 ShowsPieces-bar r n style pieces old new g edges some emptied fits paints shows =
     let by : 0 < r.width → ShowsPieces (corner r) r.width (pieces r) (bar_cell style (r.x + n)) g = λ wide.
     let p = paints wide in
-    shows-there r n style (pieces r) old p.under new g edges some emptied fits p.laid (subst (λ q. Paints (corner r) (pieces q) p.under new) (p.laid.area ∙ emptied.area) p.painted) shows in
+    shows-there r n style (pieces r) old p.under new g edges some emptied fits p.laid (subst (λ q. PaintsPieces (corner r) (pieces q) p.under new) (p.laid.area ∙ emptied.area) p.painted) shows in
     record {
       pieces = λ k k_in to. (by (omega arith)).pieces k k_in to;
       beside = λ a behind to. (by (omega arith)).beside a behind to;

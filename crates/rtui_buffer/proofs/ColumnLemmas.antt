@@ -13,7 +13,7 @@ use Rattle.rtui_text.specs.Text.{LineData}
 use Rattle.rtui_diff.specs.Cells.{cell}
 use Rattle.rtui_buffer.specs.Sheet.{HasRow, Sheet, cell_index, cell_in}
 use Rattle.rtui_buffer.specs.Painting.{Piece, columns, IsSameOutside}
-use Rattle.rtui_buffer.specs.PaintedText.{room_at, pieces_at, Paints, right_by, IsBeside, IsSameBeside, PaintsColumns}
+use Rattle.rtui_buffer.specs.PaintedText.{room_at, pieces_at, PaintsPieces, right_by, IsBeside, IsSameBeside, PaintsByColumns}
 use Rattle.rtui_buffer.specs.Line.{line_pieces_at}
 use Rattle.rtui_buffer.proofs.PaintedLemmas.{columns-kept}
 use Rattle.rtui_buffer.proofs.LineLemmas.{columns-line}
@@ -72,9 +72,9 @@ pub same-beside : (p q : Position) (ps : List Piece) (old new : Sheet) → HasRo
     → IsSameBeside p ps old new → HasPosition old.area q → IsBeside p (columns ps) q → cell_in new q ≡ cell_in old q
 same-beside p q ps old new row le fits h q_in beside = rw h.area (beside-same old.area p q (columns ps) old.cells new.cells row le fits q_in beside h.cells)
 
-pub PaintsColumns-paints : (p : Position) (ps : List Piece) (old new : Sheet) → HasRow old.area p.y → old.area.x ≤ p.x
-    → columns ps ≤ old.area.x + old.area.width - p.x → Paints p ps old new → PaintsColumns p ps old new
-PaintsColumns-paints p ps old new row le fits h = record {
+pub PaintsByColumns-paints : (p : Position) (ps : List Piece) (old new : Sheet) → HasRow old.area p.y → old.area.x ≤ p.x
+    → columns ps ≤ old.area.x + old.area.width - p.x → PaintsPieces p ps old new → PaintsByColumns p ps old new
+PaintsByColumns-paints p ps old new row le fits h = record {
   starts = λ k k_in. rw (h.area, place-at old.area p (columns (take k ps)) le) (h.cells.starts k k_in);
   behind = λ k j k_in some j_in. rw (h.area, place-right old.area p (columns (take k ps)) j le) (h.cells.behind k j k_in some j_in);
   outside = λ q q_in beside. rw h.area (beside-same old.area p q (columns ps) old.cells new.cells row le fits q_in beside h.cells.outside);

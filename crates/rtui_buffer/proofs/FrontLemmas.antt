@@ -5,7 +5,7 @@ use Rattle.std.proofs.lemmas.Bool.{cases_lt}
 use Rattle.std.proofs.lemmas.Bool.Decides.{nat_tests}
 use Rattle.std.proofs.lemmas.List.Sums.{sum_by-cons}
 use Rattle.rtui_cell.specs.Width.{text_width}
-use Rattle.rtui_buffer.specs.Painting.{is_painted, fitting, kept, IsLongestFront}
+use Rattle.rtui_buffer.specs.Painting.{has_painted_width, fitting, kept, IsLongestFront}
 
 fitting-nil : (room : ℕ) → fitting room [] ≡ []
 unfolding fitting
@@ -44,6 +44,6 @@ IsLongestFront-fitting (g ∷ gs) room =
     }))
     (cases_lt room (text_width g))
 
-pub IsLongestFront-kept : (room : ℕ) (gs : List (List ℕ)) → IsLongestFront room (filter is_painted gs) (kept room gs)
+pub IsLongestFront-kept : (room : ℕ) (gs : List (List ℕ)) → IsLongestFront room (filter has_painted_width gs) (kept room gs)
 unfolding kept
-IsLongestFront-kept room gs = IsLongestFront-fitting (filter is_painted gs) room
+IsLongestFront-kept room gs = IsLongestFront-fitting (filter has_painted_width gs) room

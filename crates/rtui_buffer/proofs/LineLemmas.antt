@@ -8,14 +8,14 @@ use Rattle.rtui_style.specs.declared.Style.{Style}
 use Rattle.rtui_style.specs.Style.{patch}
 use Rattle.rtui_cell.specs.declared.cell.Cell.{Cell}
 use Rattle.rtui_text.specs.Text.{SpanData}
-use Rattle.rtui_buffer.specs.Painting.{Piece, piece_width, text_pieces, columns, with_piece, painted, IsSameOutside, IsPainted}
+use Rattle.rtui_buffer.specs.Painting.{Piece, piece_width, text_pieces, columns, with_piece, painted, IsSameOutside, HasPieces}
 use Rattle.rtui_cell.specs.Symbol.{IsShort}
 use Rattle.std.proofs.lemmas.List.Elements.{All-nil, All-cons, All-head, All-tail}
 use Rattle.rtui_buffer.specs.PaintedText.{room_at, AreShort}
 use Rattle.rtui_buffer.specs.Line.{line_pieces}
 use Rattle.rtui_buffer.proofs.PaintLemmas.{painted-nil, painted-cons, IsSameOutside-refl, IsSameOutside-wider, IsSameOutside-then}
-use Rattle.rtui_buffer.proofs.PaintedLemmas.{AreWide, AreWide-kept, columns-kept, IsPainted-painted}
-use Rattle.rtui_buffer.proofs.TextLemmas.{text_pieces-none, columns-none, Paints-none}
+use Rattle.rtui_buffer.proofs.PaintedLemmas.{AreWide, AreWide-kept, columns-kept, HasPieces-painted}
+use Rattle.rtui_buffer.proofs.TextLemmas.{text_pieces-none, columns-none, PaintsPieces-none}
 
 pub columns-append : (ps qs : List Piece) → columns (ps ++ qs) ≡ columns ps + columns qs
 columns-append ps qs = sum_by-append piece_width ps qs
@@ -60,11 +60,11 @@ AreWide-line room base (s ∷ ss) =
     let ps : List Piece = text_pieces room (patch base s.style) s.content in
     rw line_pieces-cons (AreWide-append ps (line_pieces (room - columns ps) base ss) (AreWide-kept (patch base s.style) room (graphemes true s.content)) (AreWide-line (room - columns ps) base ss))
 
-pub IsPainted-line : (at room : ℕ) (base : Style) (ss : List SpanData) (cells new : List Cell) → new ≡ painted at (line_pieces room base ss) cells → at + room ≤ length cells
-    → IsPainted at (line_pieces room base ss) cells new
-IsPainted-line at room base ss cells new e fits =
+pub HasPieces-line : (at room : ℕ) (base : Style) (ss : List SpanData) (cells new : List Cell) → new ≡ painted at (line_pieces room base ss) cells → at + room ≤ length cells
+    → HasPieces at (line_pieces room base ss) cells new
+HasPieces-line at room base ss cells new e fits =
     let le = columns-line room base ss in
-    rw e (IsPainted-painted at (line_pieces room base ss) cells (AreWide-line room base ss) (omega arith))
+    rw e (HasPieces-painted at (line_pieces room base ss) cells (AreWide-line room base ss) (omega arith))
 
 pub line-fits : (r : Rect) (x max room : ℕ) (base : Style) (ss : List SpanData) → room ≡ room_at r x max → room ≢ 0 → x + columns (line_pieces room base ss) ≤ r.x + r.width
 line-fits r x max room base ss e some = let k = columns-line room base ss in omega arith
@@ -134,6 +134,6 @@ line_pieces-end room i base ss le = ap (line_pieces room base) (drop_all i ss le
 pub spans-more : (ss : List SpanData) (i : ℕ) (d : SpanData) → i < length ss → drop i ss ≡ get_or ss i d ∷ drop (i + 1) ss
 spans-more ss i d lt = rw (add-one, drop-cons ss i d)
 
-pub ruleset line_steps = (IsPainted-line, IsSameOutside-refl)
+pub ruleset line_steps = (HasPieces-line, IsSameOutside-refl)
 
-pub ruleset no_line_steps = (line_pieces-none, columns-none, Paints-none)
+pub ruleset no_line_steps = (line_pieces-none, columns-none, PaintsPieces-none)

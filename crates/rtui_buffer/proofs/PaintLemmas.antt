@@ -10,7 +10,7 @@ use Rattle.rtui_cell.specs.Width.{text_width}
 use Rattle.std.proofs.lemmas.List.Elements.{All-head, All-tail}
 use Rattle.rtui_cell.specs.Symbol.{IsShort}
 use Rattle.rtui_buffer.specs.PaintedText.{AreShort}
-use Rattle.rtui_buffer.specs.Painting.{has_control, painted_width, is_painted, fitting, kept, Piece, piece_of, pieces, piece_width, columns, emptied, with_piece, painted, IsSameOutside}
+use Rattle.rtui_buffer.specs.Painting.{has_control, painted_width, has_painted_width, fitting, kept, Piece, piece_of, pieces, piece_width, columns, emptied, with_piece, painted, IsSameOutside}
 
 painted_width-cases : (g : List ℕ) (b : Bool) → has_control g ≡ b → 0 < painted_width g → painted_width g ≡ text_width g
 unfolding painted_width
@@ -31,11 +31,11 @@ kept-skip room g gs h = rw h
 
 pub kept-take : (room : ℕ) (g : List ℕ) (gs : List (List ℕ)) → 0 < painted_width g → text_width g ≤ room → kept room (g ∷ gs) ≡ g ∷ kept (room - text_width g) gs
 unfolding kept fitting
-kept-take room g gs h le = let p : is_painted g ≡ true = grind (arith, nat_tests) in rw p (grind (arith, nat_tests))
+kept-take room g gs h le = let p : has_painted_width g ≡ true = grind (arith, nat_tests) in rw p (grind (arith, nat_tests))
 
 pub kept-full : (room : ℕ) (g : List ℕ) (gs : List (List ℕ)) → 0 < painted_width g → room < text_width g → kept room (g ∷ gs) ≡ []
 unfolding kept fitting
-kept-full room g gs h lt = let p : is_painted g ≡ true = grind (arith, nat_tests) in rw p (grind (arith, nat_tests))
+kept-full room g gs h lt = let p : has_painted_width g ≡ true = grind (arith, nat_tests) in rw p (grind (arith, nat_tests))
 
 pub painted-nil : (at : ℕ) (cells : List Cell) → painted at [] cells ≡ cells
 unfolding painted

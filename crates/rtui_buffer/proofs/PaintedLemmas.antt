@@ -9,7 +9,7 @@ use Rattle.rtui_cell.specs.declared.cell.Cell.{Cell}
 use Rattle.rtui_cell.specs.Cell.{empty_cell}
 use Rattle.rtui_cell.specs.Width.{text_width}
 use Rattle.rtui_diff.specs.Cells.{cell}
-use Rattle.rtui_buffer.specs.Painting.{painted_width, kept, Piece, piece_of, pieces, piece_width, columns, shown, emptied, with_piece, painted, piece_at, place_of, IsSameOutside, IsPainted}
+use Rattle.rtui_buffer.specs.Painting.{painted_width, kept, Piece, piece_of, pieces, piece_width, columns, shown, emptied, with_piece, painted, piece_at, place_of, IsSameOutside, HasPieces}
 use Rattle.rtui_buffer.proofs.PaintLemmas.{painted_width-painted, kept-nil, kept-skip, kept-take, kept-full, IsSameOutside-refl, IsSameOutside-emptied, IsSameOutside-put, IsSameOutside-then}
 
 -- every piece takes a column
@@ -47,12 +47,12 @@ with_piece-behind at j p cells pos lt fits =
     let len : length (set cells at c) ≡ length cells = length-set cells at c in
     emptied-inside (at + 1) (piece_width p - 1) (at + j) (set cells at c) (omega arith) (omega arith) (omega arith)
 
-IsPainted-cons : (at : ℕ) (p : Piece) (ps : List Piece) (cells more new : List Cell) → 0 < piece_width p
+HasPieces-cons : (at : ℕ) (p : Piece) (ps : List Piece) (cells more new : List Cell) → 0 < piece_width p
     → IsSameOutside at (at + piece_width p) cells more
     → cell more at ≡ shown p (cell cells at)
     → ((j : ℕ) → 0 < j → j < piece_width p → cell more (at + j) ≡ empty_cell)
-    → IsPainted (at + piece_width p) ps more new → IsPainted at (p ∷ ps) cells new
-IsPainted-cons at p ps cells more new pos put first behind rest = record {
+    → HasPieces (at + piece_width p) ps more new → HasPieces at (p ∷ ps) cells new
+HasPieces-cons at p ps cells more new pos put first behind rest = record {
   starts = λ k lt. starts_at k lt;
   behind = λ k j lt q r. behind_at k j lt q r;
   outside = let sum : columns (p ∷ ps) ≡ piece_width p + columns ps = sum_by-cons piece_width p ps in
@@ -75,24 +75,24 @@ IsPainted-cons at p ps cells more new pos put first behind rest = record {
       rw here (rest.outside.before (at + j) (omega arith) ∙ behind j q r)
   behind_at (suc k) j lt q r = rw (next_place k) (rest.behind k j (omega arith) q r)
 
-pub IsPainted-none : (at : ℕ) (cells : List Cell) → IsPainted at [] cells cells
-IsPainted-none at cells = record {
+pub HasPieces-none : (at : ℕ) (cells : List Cell) → HasPieces at [] cells cells
+HasPieces-none at cells = record {
   starts = λ k lt. absurd (omega arith);
   behind = λ k j lt. absurd (omega arith);
   outside = IsSameOutside-refl at (at + 0) cells;
 }
 
-pub IsPainted-painted : (at : ℕ) (ps : List Piece) (cells : List Cell) → AreWide ps → at + columns ps ≤ length cells → IsPainted at ps cells (painted at ps cells)
+pub HasPieces-painted : (at : ℕ) (ps : List Piece) (cells : List Cell) → AreWide ps → at + columns ps ≤ length cells → HasPieces at ps cells (painted at ps cells)
 unfolding painted
-IsPainted-painted at [] cells wide fits = IsPainted-none at cells
-IsPainted-painted at (p ∷ ps) cells wide fits =
+HasPieces-painted at [] cells wide fits = HasPieces-none at cells
+HasPieces-painted at (p ∷ ps) cells wide fits =
     let pos : 0 < piece_width p = wide.0 in
     let sum : columns (p ∷ ps) ≡ piece_width p + columns ps = sum_by-cons piece_width p ps in
     let more : List Cell = with_piece at p cells in
     let put : IsSameOutside at (at + piece_width p) cells more = IsSameOutside-put at at p cells cells (omega arith) pos (IsSameOutside-refl at at cells) in
     let len : length more ≡ length cells = put.count in
-    let rest : IsPainted (at + piece_width p) ps more (painted (at + piece_width p) ps more) = IsPainted-painted (at + piece_width p) ps more wide.1 (omega arith) in
-    IsPainted-cons at p ps cells more (painted (at + piece_width p) ps more) pos put (with_piece-first at p cells (omega arith)) (λ j q lt. with_piece-behind at j p cells q lt (omega arith)) rest
+    let rest : HasPieces (at + piece_width p) ps more (painted (at + piece_width p) ps more) = HasPieces-painted (at + piece_width p) ps more wide.1 (omega arith) in
+    HasPieces-cons at p ps cells more (painted (at + piece_width p) ps more) pos put (with_piece-first at p cells (omega arith)) (λ j q lt. with_piece-behind at j p cells q lt (omega arith)) rest
 
 -- what holds of no graphemes, and with one more of some width, holds of the kept ones
 kept-step : (P : ℕ → List (List ℕ) → Type 0) → ((room : ℕ) → P room [])
@@ -128,10 +128,10 @@ columns-kept s room gs = kept-ind (λ r ks. columns (pieces s ks) ≤ r) (λ r. 
 pub kept-none : (gs : List (List ℕ)) → kept 0 gs ≡ []
 kept-none gs = kept-ind (λ r ks. r ≡ 0 → ks ≡ []) (λ r e. refl) (λ r g ks pos le h e. absurd (omega arith)) gs 0 refl
 
-pub IsPainted-kept : (s : Style) (at room : ℕ) (gs : List (List ℕ)) (cells new : List Cell) → new ≡ painted at (pieces s (kept room gs)) cells → at + room ≤ length cells
-    → IsPainted at (pieces s (kept room gs)) cells new
-IsPainted-kept s at room gs cells new e fits =
+pub HasPieces-kept : (s : Style) (at room : ℕ) (gs : List (List ℕ)) (cells new : List Cell) → new ≡ painted at (pieces s (kept room gs)) cells → at + room ≤ length cells
+    → HasPieces at (pieces s (kept room gs)) cells new
+HasPieces-kept s at room gs cells new e fits =
     let le = columns-kept s room gs in
-    rw e (IsPainted-painted at (pieces s (kept room gs)) cells (AreWide-kept s room gs) (omega arith))
+    rw e (HasPieces-painted at (pieces s (kept room gs)) cells (AreWide-kept s room gs) (omega arith))
 
-pub ruleset shown_steps = (IsPainted-kept)
+pub ruleset shown_steps = (HasPieces-kept)

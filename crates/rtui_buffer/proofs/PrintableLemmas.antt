@@ -14,9 +14,9 @@ use Rattle.rtui_text.specs.Printable.{IsPrintable, ArePrintable, IsPrintableFron
 use Rattle.rtui_text.proofs.PrintableLemmas.{printable-plain, graphemes-front, front-bytes}
 use Rattle.rtui_diff.specs.Cells.{cell}
 use Rattle.rtui_buffer.specs.PaintedText.{AreShort}
-use Rattle.rtui_buffer.specs.Painting.{painted_width, kept, Piece, piece_of, pieces, piece_width, columns, shown, emptied, with_piece, painted, text_pieces, IsSameOutside, IsPainted}
+use Rattle.rtui_buffer.specs.Painting.{painted_width, kept, Piece, piece_of, pieces, piece_width, columns, shown, emptied, with_piece, painted, text_pieces, IsSameOutside, HasPieces}
 use Rattle.rtui_buffer.proofs.PaintLemmas.{kept-take, painted-nil, painted-cons, IsSameOutside-refl, IsSameOutside-put, IsSameOutside-then}
-use Rattle.rtui_buffer.proofs.PaintedLemmas.{IsPainted-kept}
+use Rattle.rtui_buffer.proofs.PaintedLemmas.{HasPieces-kept}
 
 -- the width of a byte
 pub one_column : (b : ℕ) → text_width (b ∷ []) ≡ 1
@@ -131,8 +131,8 @@ module _ (text tail : List ℕ) (n room : ℕ) (s : Style) (h : IsPrintableFront
       ∙ sym (rw pieces-split (painted-append start first rest cells ∙ rw (columns-singles s (take n text), front-count) refl))
 
   pub shown-split : (start : ℕ) (cells mid new : List Cell) → mid ≡ painted start first cells → new ≡ painted (start + n) rest mid → start + room ≤ length cells
-      → IsPainted start (text_pieces room s text) cells new
-  shown-split start cells mid new m e fits = IsPainted-kept s start room (graphemes true text) cells new (painted-split start cells mid new m e) fits
+      → HasPieces start (text_pieces room s text) cells new
+  shown-split start cells mid new m e fits = HasPieces-kept s start room (graphemes true text) cells new (painted-split start cells mid new m e) fits
 
   pub outside-split : (start : ℕ) (cells mid new : List Cell) → mid ≡ painted start first cells → IsSameOutside (start + n) (start + n + columns rest) mid new
       → IsSameOutside start (start + columns (text_pieces room s text)) cells new

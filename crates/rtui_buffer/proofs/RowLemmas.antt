@@ -10,14 +10,14 @@ use Rattle.rtui_diff.specs.Cells.{cell, cell_at}
 use Rattle.rtui_diff.specs.Settled.{IsSettled, IsBlankOrSkipped}
 use Rattle.rtui_text.specs.Text.{LineData}
 use Rattle.rtui_buffer.specs.Sheet.{empty_cells}
-use Rattle.rtui_buffer.specs.Painting.{Piece, piece_width, columns, shown, emptied, with_piece, painted, IsPainted}
+use Rattle.rtui_buffer.specs.Painting.{Piece, piece_width, columns, shown, emptied, with_piece, painted, HasPieces}
 use Rattle.rtui_buffer.specs.Line.{line_pieces, line_row, line_rows, line_at, ShowsLines}
 use Rattle.rtui_buffer.specs.Sheet.{row_cells}
 use Rattle.rtui_buffer.proofs.EmptyLemmas.{cell-empty}
 use Rattle.rtui_buffer.proofs.PaintLemmas.{painted-nil, painted-cons, IsSameOutside-refl, IsSameOutside-put}
 use Rattle.rtui_buffer.proofs.PaintedLemmas.{AreWide}
 use Rattle.rtui_buffer.proofs.SettledLemmas.{IsSettled-empty, IsSettled-painted, unmarked_empty}
-use Rattle.rtui_buffer.proofs.LineLemmas.{columns-line, AreWide-line, IsPainted-line}
+use Rattle.rtui_buffer.proofs.LineLemmas.{columns-line, AreWide-line, HasPieces-line}
 
 -- painting behind a front leaves it
 module _ (front : List Cell) where
@@ -71,16 +71,16 @@ module _ (others : List Cell) where
       let len : length (with_piece at p cells) ≡ length cells = (IsSameOutside-put at at p cells cells (omega arith) pos (IsSameOutside-refl at at cells)).count in
       rw (painted-cons at p ps (cells ++ others), painted-cons at p ps cells, with_piece-others at p cells pos (omega arith)) (painted-others (at + piece_width p) ps (with_piece at p cells) wide.1 (omega arith))
 
-pub IsPainted-row : (w : ℕ) (l : LineData) → IsPainted 0 (line_pieces w l.style l.spans) (empty_cells w) (line_row w l)
+pub HasPieces-row : (w : ℕ) (l : LineData) → HasPieces 0 (line_pieces w l.style l.spans) (empty_cells w) (line_row w l)
 unfolding line_row
-IsPainted-row w l = IsPainted-line 0 w l.style l.spans (empty_cells w) _ refl (let len : length (empty_cells w) ≡ w = length-replicate w empty_cell in omega arith)
+HasPieces-row w l = HasPieces-line 0 w l.style l.spans (empty_cells w) _ refl (let len : length (empty_cells w) ≡ w = length-replicate w empty_cell in omega arith)
 
 row-is : (w : ℕ) (l : LineData) → painted 0 (line_pieces w l.style l.spans) (empty_cells w) ≡ line_row w l
 unfolding line_row
 row-is w l = refl
 
 length-row : (w : ℕ) (l : LineData) → length (line_row w l) ≡ w
-length-row w l = (IsPainted-row w l).outside.count ∙ length-replicate w empty_cell
+length-row w l = (HasPieces-row w l).outside.count ∙ length-replicate w empty_cell
 
 pub length-rows : (w : ℕ) (ls : List LineData) → length (line_rows w ls) ≡ w * length ls
 length-rows w [] = omega arith
@@ -148,7 +148,7 @@ row-settled w l =
     let le : columns (line_pieces w l.style l.spans) ≤ w = columns-line w l.style l.spans in
     let here : 0 ≡ 0 * w + 0 = omega arith in
     IsSettled-painted w 1 0 0 (line_pieces w l.style l.spans) (empty_cells w) (line_row w l)
-    (subst (λ n. IsPainted n (line_pieces w l.style l.spans) (empty_cells w) (line_row w l)) here (IsPainted-row w l))
+    (subst (λ n. HasPieces n (line_pieces w l.style l.spans) (empty_cells w) (line_row w l)) here (HasPieces-row w l))
     (IsSettled-empty w 1 (empty_cells w) (cell-empty w)) (λ a le lt. unmarked_empty (cell-empty w (0 * w + a))) (λ a lt. absurd (omega arith)) (omega arith) (omega arith)
 
 pub IsSettled-rows : (w : ℕ) (ls : List LineData) → IsSettled w (length ls) (line_rows w ls)
@@ -173,5 +173,5 @@ row-at w (l ∷ ls) (suc k) lt =
 pub ShowsLines-rows : (w : ℕ) (ls : List LineData) → ShowsLines w ls (line_rows w ls)
 ShowsLines-rows w ls = record {
   count = length-rows w ls;
-  row = λ k lt. subst (λ r. IsPainted 0 (line_pieces w (line_at ls k).style (line_at ls k).spans) (empty_cells w) r) (sym (row-at w ls k lt)) (IsPainted-row w (line_at ls k));
+  row = λ k lt. subst (λ r. HasPieces 0 (line_pieces w (line_at ls k).style (line_at ls k).spans) (empty_cells w) r) (sym (row-at w ls k lt)) (HasPieces-row w (line_at ls k));
 }

@@ -11,7 +11,7 @@ use Rattle.rtui_diff.specs.Cells.{cell, cell_at}
 use Rattle.rtui_diff.specs.Settled.{IsSettled, IsSettledAt, IsBlankOrSkipped}
 use Rattle.rtui_diff.proofs.FrameLemmas.{column_in, row_start}
 use Rattle.rtui_diff.proofs.SettledLemmas.{settled_at, settled_from}
-use Rattle.rtui_buffer.specs.Painting.{Piece, piece_width, columns, shown, piece_at, place_of, IsPainted}
+use Rattle.rtui_buffer.specs.Painting.{Piece, piece_width, columns, shown, piece_at, place_of, HasPieces}
 
 same-empty : is_same empty_cell empty_cell ≡ true
 unfolding is_same
@@ -64,7 +64,7 @@ settled_at-empty w h i cells lt e =
 pub IsSettled-empty : (w h : ℕ) (cells : List Cell) → ((i : ℕ) → cell cells i ≡ empty_cell) → IsSettled w h cells
 IsSettled-empty w h cells empty = settled_from w h cells (λ i lt. settled_at-empty w h i cells lt (empty i))
 
-module _ (w h x y : ℕ) (ps : List Piece) (old new : List Cell) (is : IsPainted (y * w + x) ps old new) (was : IsSettled w h old)
+module _ (w h x y : ℕ) (ps : List Piece) (old new : List Cell) (is : HasPieces (y * w + x) ps old new) (was : IsSettled w h old)
     (unmarked : (a : ℕ) → x ≤ a → a < x + columns ps → IsUnmarked (cell_at w old a y))
     (uncovered : (a : ℕ) → a < x → is_skipped (cell_at w old a y) ≡ false → a + width_of (cell_at w old a y) ≤ x)
     (fits : x + columns ps ≤ w) (started : x ≤ w) where

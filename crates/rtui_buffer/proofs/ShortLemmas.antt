@@ -10,7 +10,7 @@ use Rattle.rtui_cell.specs.Symbol.{IsShort}
 use Rattle.rtui_cell.specs.Width.{text_width}
 use Rattle.rtui_text.specs.Text.{SpanData}
 use Rattle.rtui_text.proofs.PrintableLemmas.{IsAsciiPiece, ascii-graphemes}
-use Rattle.rtui_buffer.specs.Painting.{is_painted, fitting, kept, Piece, piece_of, text_pieces, columns}
+use Rattle.rtui_buffer.specs.Painting.{has_painted_width, fitting, kept, Piece, piece_of, text_pieces, columns}
 use Rattle.rtui_buffer.specs.PaintedText.{AreShort, HasShortGraphemes, HaveShortGraphemes}
 use Rattle.rtui_buffer.specs.Line.{line_pieces}
 
@@ -27,7 +27,7 @@ All-fitting P room (g ∷ gs) all =
 
 All-kept : (P : List ℕ → Type 0) (room : ℕ) (gs : List (List ℕ)) → All P gs → All P (kept room gs)
 unfolding kept
-All-kept P room gs all = All-fitting P room _ (All-filter is_painted P gs all)
+All-kept P room gs all = All-fitting P room _ (All-filter has_painted_width P gs all)
 
 pub text-short : (room : ℕ) (style : Style) (text : List ℕ) → HasShortGraphemes text → AreShort (text_pieces room style text)
 text-short room style text all =

@@ -15,8 +15,8 @@ use Rattle.rtui_diff.specs.Settled.{IsSettled}
 use Rattle.rtui_buffer.specs.Sheet.{Sheet, IsEmptied, HasRow, area_size, cell_in, cell_index, position_of}
 use Rattle.rtui_buffer.specs.Frame.{IsSettledSheet, ShowsSheet}
 use Rattle.rtui_buffer.specs.Painting.{Piece, columns, shown, piece_at}
-use Rattle.rtui_buffer.specs.PaintedText.{IsBeside, IsPaintable, IsStyled, Paints, PaintsColumns, right_by}
-use Rattle.rtui_buffer.proofs.ColumnLemmas.{PaintsColumns-paints}
+use Rattle.rtui_buffer.specs.PaintedText.{IsBeside, IsPaintable, IsStyled, PaintsPieces, PaintsByColumns, right_by}
+use Rattle.rtui_buffer.proofs.ColumnLemmas.{PaintsByColumns-paints}
 use Rattle.rtui_buffer.proofs.EmptyLemmas.{cell-empty}
 
 -- a cell that is empty but for a style has one column and no mark
@@ -113,9 +113,9 @@ plain-shown p c plain = plain
 
 -- pieces painted in a row, on a screen that shows them
 module _ (p : Position) (ps : List Piece) (old new : Sheet) (g : Grid) (row : HasRow old.area p.y) (left : old.area.x ≤ p.x) (fits : columns ps ≤ old.area.x + old.area.width - p.x)
-    (painted : Paints p ps old new) (shows : ShowsSheet new g) where
-  by : PaintsColumns p ps old new
-  by = PaintsColumns-paints p ps old new row left fits painted
+    (painted : PaintsPieces p ps old new) (shows : ShowsSheet new g) where
+  by : PaintsByColumns p ps old new
+  by = PaintsByColumns-paints p ps old new row left fits painted
 
   look-at : (q : Position) (c : Cell) → HasPosition old.area q → cell_in new q ≡ c → is_skipped c ≡ false → g q.x q.y ≡ look_of c
   look-at q c has e plain = shown-look new g q shows (rw painted.area has) (rw e plain) ∙ ap look_of e

@@ -12,9 +12,9 @@ use Rattle.rtui_diff.specs.Cells.{cell}
 use Rattle.rtui_diff.specs.Settled.{IsSettled}
 use Rattle.rtui_buffer.specs.Sheet.{Sheet, cell_index, position_of}
 use Rattle.rtui_buffer.specs.Frame.{IsSettledSheet}
-use Rattle.rtui_buffer.specs.Painting.{Piece, pieces, text_pieces, columns, IsPainted}
-use Rattle.rtui_buffer.specs.PaintedText.{room_at, Paints, IsPaintable}
-use Rattle.rtui_buffer.proofs.PaintedLemmas.{kept-none, columns-kept, IsPainted-none}
+use Rattle.rtui_buffer.specs.Painting.{Piece, pieces, text_pieces, columns, HasPieces}
+use Rattle.rtui_buffer.specs.PaintedText.{room_at, PaintsPieces, IsPaintable}
+use Rattle.rtui_buffer.proofs.PaintedLemmas.{kept-none, columns-kept, HasPieces-none}
 use Rattle.rtui_buffer.proofs.SettledLemmas.{IsSettled-painted}
 
 pub text_pieces-none : (room : ℕ) (s : Style) (text : List ℕ) → room ≡ 0 → text_pieces room s text ≡ []
@@ -23,11 +23,11 @@ text_pieces-none room s text e = ap (λ n. text_pieces n s text) e ∙ ap (piece
 pub columns-none : (ps : List Piece) → ps ≡ [] → columns ps ≡ 0
 columns-none ps e = ap columns e
 
-pub Paints-none : (p : Position) (ps : List Piece) (s : Sheet) → ps ≡ [] → Paints p ps s s
-Paints-none p ps s e = record { area = refl; room = refl; cells = subst (λ qs. IsPainted (cell_index s.area p) qs s.cells s.cells) (sym e) (IsPainted-none (cell_index s.area p) s.cells) }
+pub PaintsPieces-none : (p : Position) (ps : List Piece) (s : Sheet) → ps ≡ [] → PaintsPieces p ps s s
+PaintsPieces-none p ps s e = record { area = refl; room = refl; cells = subst (λ qs. HasPieces (cell_index s.area p) qs s.cells s.cells) (sym e) (HasPieces-none (cell_index s.area p) s.cells) }
 
 -- what is painted within a row keeps a buffer settled
-pub IsSettled-row : (s : Sheet) (x y : ℕ) (ps : List Piece) (new : List Cell) → IsPainted (cell_index s.area (position_of (x, y))) ps s.cells new
+pub IsSettled-row : (s : Sheet) (x y : ℕ) (ps : List Piece) (new : List Cell) → HasPieces (cell_index s.area (position_of (x, y))) ps s.cells new
     → IsSettledSheet s → IsPaintable (position_of (x, y)) (columns ps) s → s.area.x ≤ x → x + columns ps ≤ s.area.x + s.area.width → IsSettled s.area.width s.area.height new
 IsSettled-row s x y ps new is was may le fits =
     let r = s.area in
@@ -46,16 +46,16 @@ text-fits r x max room s text e some = let k = columns-kept s room (graphemes tr
 
 -- what is painted on a buffer's cells, which are then written back whole
 module _ (s : Sheet) (x y start : ℕ) (ps qs : List Piece) (old items more : List Cell) (n : ℕ) (cells : items ≡ s.cells) (same : old ≡ items) (len : n ≡ length old)
-    (is : IsPainted start ps old more) (place : start ≡ cell_index s.area (position_of (x, y))) (pieces_same : ps ≡ qs) where
+    (is : HasPieces start ps old more) (place : start ≡ cell_index s.area (position_of (x, y))) (pieces_same : ps ≡ qs) where
   all : take n (more ++ drop (length more) items) ≡ more
   all = let count : length more ≡ length old = is.outside.count in
       let e : n ≡ length more = omega arith in rw e (take-append_seam more (drop (length more) items))
 
-  pub IsPainted-written : IsPainted (cell_index s.area (position_of (x, y))) qs s.cells (take n (more ++ drop (length more) items))
-  IsPainted-written = rw all (rw (place, same ∙ cells, pieces_same) at is)
+  pub HasPieces-written : HasPieces (cell_index s.area (position_of (x, y))) qs s.cells (take n (more ++ drop (length more) items))
+  HasPieces-written = rw all (rw (place, same ∙ cells, pieces_same) at is)
 
   pub IsSettled-written : (r : Rect) → r ≡ s.area → s.area.x ≤ x → x + columns ps ≤ s.area.x + s.area.width → IsSettledSheet s → IsPaintable (position_of (x, y)) (columns qs) s
       → IsSettled r.width r.height (take n (more ++ drop (length more) items))
-  IsSettled-written r area le fits was may = rw area (IsSettled-row s x y qs _ IsPainted-written was may le (rw pieces_same at fits))
+  IsSettled-written r area le fits was may = rw area (IsSettled-row s x y qs _ HasPieces-written was may le (rw pieces_same at fits))
 
-pub ruleset none_steps = (text_pieces-none, columns-none, Paints-none)
+pub ruleset none_steps = (text_pieces-none, columns-none, PaintsPieces-none)

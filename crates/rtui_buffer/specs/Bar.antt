@@ -9,7 +9,7 @@ use Rattle.rtui_cell.specs.Cell.{empty_cell, styled}
 use Rattle.rtui_cell.specs.Grid.{Grid}
 use Rattle.rtui_buffer.specs.Sheet.{Sheet}
 use Rattle.rtui_buffer.specs.Painting.{Piece, columns, shown, piece_at}
-use Rattle.rtui_buffer.specs.PaintedText.{IsStyled, Paints}
+use Rattle.rtui_buffer.specs.PaintedText.{IsStyled, PaintsPieces}
 
 -- the first n columns of the first row of an area
 abbrev pub bar_of : ℕ → Rect → Rect
@@ -19,7 +19,7 @@ bar_of n area = record area { width = n; height = 1 }
 pub record PaintsOnBar (bar : Rect) (style : Style) (p : Position) (pieces : Rect → List Piece) (old new : Sheet) : Type 0 where
   pub under : Sheet
   pub laid : IsStyled bar style old under
-  pub painted : Paints p (pieces under.area) under new
+  pub painted : PaintsPieces p (pieces under.area) under new
 
 -- the grid shows pieces one behind the other, in at most n columns from a position on: each has its look over the cell that lies under it,
 -- and where no piece stands these cells show

@@ -13,7 +13,7 @@ use Rattle.rtui_cell.specs.Cell.{empty_cell, styled, width_of, is_skipped, IsUnm
 use Rattle.rtui_diff.specs.Cells.{cell, cell_at}
 use Rattle.rtui_buffer.specs.Sheet.{Sheet, cell_index, cell_in, position_of}
 use Rattle.rtui_buffer.specs.Frame.{IsSettledSheet}
-use Rattle.rtui_buffer.specs.Painting.{Piece, text_pieces, piece_width, piece_at, columns, shown, IsSameOutside, IsPainted}
+use Rattle.rtui_buffer.specs.Painting.{Piece, text_pieces, piece_width, piece_at, columns, shown, IsSameOutside, HasPieces}
 
 -- the columns from x to the area's right edge, at most max and 65535
 abbrev pub room_at : Rect → ℕ → ℕ → ℕ
@@ -24,10 +24,10 @@ abbrev pub pieces_at : Rect → ℕ → ℕ → Style → List ℕ → List Piec
 pieces_at r x max s text = text_pieces (room_at r x max) s text
 
 -- the buffer with the pieces painted from a position on
-pub record Paints (p : Position) (ps : List Piece) (old new : Sheet) : Type 0 where
+pub record PaintsPieces (p : Position) (ps : List Piece) (old new : Sheet) : Type 0 where
   pub area : new.area ≡ old.area
   pub room : new.room ≡ old.room
-  pub cells : IsPainted (cell_index old.area p) ps old.cells new.cells
+  pub cells : HasPieces (cell_index old.area p) ps old.cells new.cells
 
 -- the position some columns further right
 abbrev pub right_by : ℕ → Position → Position
@@ -39,7 +39,7 @@ IsBeside p n q = q.y ≡ p.y → (q.x < p.x) ⊎ (p.x + n ≤ q.x)
 
 -- The same by columns: each piece stands in the column at the sum of the widths before it, its symbol and its style over the former
 -- cell; the other columns that it takes are empty; each position beside them is as before.
-pub record PaintsColumns (p : Position) (ps : List Piece) (old new : Sheet) : Type 0 where
+pub record PaintsByColumns (p : Position) (ps : List Piece) (old new : Sheet) : Type 0 where
   pub starts : (k : ℕ) → k < length ps → cell_in new (right_by (columns (take k ps)) p) ≡ shown (piece_at ps k) (cell_in old (right_by (columns (take k ps)) p))
   pub behind : (k j : ℕ) → k < length ps → 0 < j → j < piece_width (piece_at ps k) → cell_in new (right_by (columns (take k ps) + j) p) ≡ empty_cell
   pub outside : (q : Position) → HasPosition old.area q → IsBeside p (columns ps) q → cell_in new q ≡ cell_in old q
@@ -63,8 +63,8 @@ pub record IsPaintable (p : Position) (n : ℕ) (s : Sheet) : Type 0 where
 
 -- What a call does that paints pieces from a position on. Ok, they are painted, and a settled buffer is still settled where their
 -- columns may be painted; where memory is refused, at most their columns differ. Short symbols are never refused.
-pub record PaintsOr {A : Type 0} (p : Position) (ps : List Piece) (result : Result A AllocError) (old new : Sheet) : Type 0 where
-  pub ok : OnOk result (Paints p ps old new)
+pub record PaintsOrRefuses {A : Type 0} (p : Position) (ps : List Piece) (result : Result A AllocError) (old new : Sheet) : Type 0 where
+  pub ok : OnOk result (PaintsPieces p ps old new)
   pub settled : IsSettledSheet old → IsPaintable p (columns ps) old → OnOk result (IsSettledSheet new)
   pub err : OnErr result (IsSameBeside p ps old new)
   pub short : AreShort ps → IsOk result

@@ -14,8 +14,8 @@ unfoldable pub painted_width : List ℕ → ℕ
 painted_width text = if has_control text then 0 else text_width text
 
 -- a grapheme that is painted: no control character, and some column
-abbrev pub is_painted : List ℕ → Bool
-is_painted text = nat_lt 0 (painted_width text)
+abbrev pub has_painted_width : List ℕ → Bool
+has_painted_width text = nat_lt 0 (painted_width text)
 
 -- the graphemes from the first on, as far as there is room
 unfoldable pub fitting : ℕ → List (List ℕ) → List (List ℕ)
@@ -24,7 +24,7 @@ fitting room (g ∷ gs) = if nat_le (text_width g) room then g ∷ fitting (room
 
 -- the graphemes of a list that are painted in this room
 unfoldable pub kept : ℕ → List (List ℕ) → List (List ℕ)
-kept room gs = fitting room (filter is_painted gs)
+kept room gs = fitting room (filter has_painted_width gs)
 
 -- of these graphemes, the longest front whose widths sum to at most the room
 pub record IsLongestFront (room : ℕ) (gs front : List (List ℕ)) : Type 0 where
@@ -88,7 +88,7 @@ place_of at ps k = at + columns (take k ps)
 
 -- What painting means, column by column: each piece stands at the sum of the widths before it, its symbol and its style over the
 -- former cell; the other columns that it takes are empty; all else is as before.
-pub record IsPainted (at : ℕ) (ps : List Piece) (old new : List Cell) : Type 0 where
+pub record HasPieces (at : ℕ) (ps : List Piece) (old new : List Cell) : Type 0 where
   pub starts : (k : ℕ) → k < length ps → cell new (place_of at ps k) ≡ shown (piece_at ps k) (cell old (place_of at ps k))
   pub behind : (k j : ℕ) → k < length ps → 0 < j → j < piece_width (piece_at ps k) → cell new (place_of at ps k + j) ≡ empty_cell
   pub outside : IsSameOutside at (at + columns ps) old new

@@ -15,8 +15,8 @@ ghost use Rattle.rtui_geometry.specs.declared.rect.Rect.{Rect};
 ghost use Rattle.rtui_geometry.specs.Rect.{HasPosition, EdgesFit};
 ghost use Rattle.rtui_buffer.specs.Sheet.{HasRow, Sheet, IsEmptied, IsEqualSheet, cell_in};
 ghost use Rattle.rtui_buffer.specs.Frame.{IsSettledSheet, ShowsSheet, IsAligned, HaveSettledRows};
-ghost use Rattle.rtui_buffer.specs.Painting.{Piece, is_painted, kept, text_pieces, columns, IsLongestFront};
-ghost use Rattle.rtui_buffer.specs.PaintedText.{pieces_at, AreShort, HasShortGraphemes, HaveShortGraphemes, IsBeside, IsPaintable, IsSameBeside, IsStyled, Paints, PaintsColumns};
+ghost use Rattle.rtui_buffer.specs.Painting.{Piece, has_painted_width, kept, text_pieces, columns, IsLongestFront};
+ghost use Rattle.rtui_buffer.specs.PaintedText.{pieces_at, AreShort, HasShortGraphemes, HaveShortGraphemes, IsBeside, IsPaintable, IsSameBeside, IsStyled, PaintsPieces, PaintsByColumns};
 ghost use Rattle.rtui_buffer.specs.Line.{line_pieces, line_pieces_at};
 
 use crate::buffer::Buffer;
@@ -77,7 +77,7 @@ pub fn kept_graphemes_take_columns()
 /// Of the graphemes without control characters that have a column, the longest front that fits the room is painted.
 pub fn longest_front_is_kept()
     ensures { (room : ℕ) (gs : List (List ℕ))
-        → IsLongestFront room (filter is_painted gs) (kept room gs) }
+        → IsLongestFront room (filter has_painted_width gs) (kept room gs) }
 {}
 
 /// A text and a line are painted up to the right edge of the area and no further.
@@ -113,7 +113,7 @@ pub fn ascii_graphemes_are_short()
 pub fn painting_goes_by_columns()
     ensures painted { (p : Position) (ps : List Piece) (old new : Sheet)
         → HasRow old.area p.y → old.area.x ≤ p.x → columns ps ≤ old.area.x + old.area.width - p.x
-        → Paints p ps old new → PaintsColumns p ps old new }
+        → PaintsPieces p ps old new → PaintsByColumns p ps old new }
     ensures refused { (p q : Position) (ps : List Piece) (old new : Sheet)
         → HasRow old.area p.y → old.area.x ≤ p.x → columns ps ≤ old.area.x + old.area.width - p.x
         → IsSameBeside p ps old new → HasPosition old.area q → IsBeside p (columns ps) q

@@ -27,7 +27,8 @@ pub fn draw_rows<B: Backend>(
     requires bottom { y + count ≤ 65535 }
     ensures ok { OnOk result (DrawsRows former.now rows.now first count y
         (B.screen backend.old) (B.screen backend.new)) }
-    ensures shape { OnOk result (KeepsSizeAndVisibility (B.screen backend.old) (B.screen backend.new)) }
+    ensures shape { OnOk result
+        (KeepsSizeAndVisibility (B.screen backend.old) (B.screen backend.new)) }
     ensures counts { Counts result (B.failures backend.old) (B.failures backend.new) }
 {
     let updates = diff_rows(former, 0, rows, first, count);
@@ -47,7 +48,8 @@ pub fn draw_first_row<B: Backend>(
     ensures ok { OnOk result
         (DrawsFirstRow rows.now (B.screen backend.old) (B.screen backend.new)) }
     ensures blank { IsEmptied rows.now.area blank.new }
-    ensures shape { OnOk result (KeepsSizeAndVisibility (B.screen backend.old) (B.screen backend.new)) }
+    ensures shape { OnOk result
+        (KeepsSizeAndVisibility (B.screen backend.old) (B.screen backend.new)) }
     ensures counts { Counts result (B.failures backend.old) (B.failures backend.new) }
 {
     let columns = usize::from(rows.area().width);

@@ -22,7 +22,8 @@ pub fn push_rows<B: Backend>(
     requires blank { IsEmptied rows.now.area blank.old }
     ensures blank { IsEmptied rows.now.area blank.new }
     ensures ok { OnOk result (PushesRows rows.now (B.screen backend.old) (B.screen backend.new)) }
-    ensures shape { OnOk result (KeepsSizeAndVisibility (B.screen backend.old) (B.screen backend.new)) }
+    ensures shape { OnOk result
+        (KeepsSizeAndVisibility (B.screen backend.old) (B.screen backend.new)) }
     ensures counts { Counts result (B.failures backend.old) (B.failures backend.new) }
 {
     for row in 0..rows.area().height {
@@ -50,7 +51,8 @@ pub fn insert_down<B: Backend>(
     ensures ok { IfOk result (InsertsDown rows.now viewport height
         (B.screen backend.old) (B.screen backend.new)) }
     ensures count { IfOk result (λ n. n ≡ rows_down rows.now.area.height viewport height) }
-    ensures shape { OnOk result (KeepsSizeAndVisibility (B.screen backend.old) (B.screen backend.new)) }
+    ensures shape { OnOk result
+        (KeepsSizeAndVisibility (B.screen backend.old) (B.screen backend.new)) }
     ensures counts { Counts result (B.failures backend.old) (B.failures backend.new) }
 {
     let bottom = viewport.y + viewport.height;
@@ -77,7 +79,8 @@ pub fn insert_up<B: Backend>(
     requires room { first < rows.now.area.height → 0 < top }
     ensures ok { OnOk result (InsertsUp rows.now first top
         (B.screen backend.old) (B.screen backend.new)) }
-    ensures shape { OnOk result (KeepsSizeAndVisibility (B.screen backend.old) (B.screen backend.new)) }
+    ensures shape { OnOk result
+        (KeepsSizeAndVisibility (B.screen backend.old) (B.screen backend.new)) }
     ensures counts { Counts result (B.failures backend.old) (B.failures backend.new) }
 {
     let height = rows.area().height;

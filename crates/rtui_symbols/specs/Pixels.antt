@@ -2,11 +2,6 @@
 use Rattle.std.specs.Prelude.{ℕ, ◌+◌, ◌*◌, ◌/◌, ◌%◌, ◌==◌, List, [], ◌∷◌, Option, Some, None, option_map, find}
 use Prim.Native.Nat.{zero, suc}
 
--- the numbers from n on, this many
-abbrev pub counted : ℕ → ℕ → List ℕ
-counted zero n = []
-counted (suc k) n = n ∷ counted k (n + 1)
-
 -- the dots of a set: each bit of it, from the lowest on, stands for the next of these dots
 abbrev pub dots_of : List ℕ → ℕ → ℕ
 dots_of [] set = 0

@@ -1,7 +1,8 @@
 //! The rules by which tables are made, each over the whole table.
 
 ghost use Rattle.std.specs.Prelude.{◌≡◌, [], ◌∷◌, map};
-ghost use Rattle.rtui_symbols.specs.Pixels.{braille_of, counted, filled, older_octants, older_sextants};
+ghost use Rattle.std.specs.List.{range_with_len};
+ghost use Rattle.rtui_symbols.specs.Pixels.{braille_of, filled, older_octants, older_sextants};
 ghost use Rattle.rtui_symbols.specs.Sets.{border_of, border_texts, double_lines, line_texts, normal_lines, rounded_lines, scrollbar_texts, thick_lines, with_dashes};
 ghost use Rattle.rtui_symbols.specs.declared.line.TheConstants as line_symbol;
 ghost use Rattle.rtui_symbols.specs.declared.braille.TheConstants.{BRAILLE};
@@ -12,7 +13,7 @@ use crate::{border, line, scrollbar};
 
 /// Each Braille pattern has the dots of its place.
 pub fn braille_patterns_have_their_dots()
-    ensures { BRAILLE ≡ map braille_of (counted 256 0) }
+    ensures { BRAILLE ≡ map braille_of (range_with_len 0 256) }
 {}
 
 /// The sextants stand in the order of their characters, but for the four that are older.

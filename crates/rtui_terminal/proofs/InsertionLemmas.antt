@@ -5,7 +5,7 @@ use Rattle.std.proofs.lemmas.Bool.Decides.{nat_tests}
 use Rattle.rtui_geometry.specs.declared.rect.Rect.{Rect}
 use Rattle.rtui_cell.specs.Look.{Look}
 use Rattle.rtui_diff.specs.Shows.{ShowsColumn, RowAgrees}
-use Rattle.rtui_buffer.specs.Sheet.{Sheet, IsEmptied}
+use Rattle.rtui_buffer.specs.Sheet.{Sheet, IsEmptied, area_size, empty_cells}
 use Rattle.rtui_buffer.specs.Frame.{IsSettledSheet, ShowsSheet}
 use Rattle.rtui_backend.specs.Screen.{Screen, IsOnScreen, rows_above}
 use Rattle.rtui_viewport.specs.Areas.{IsBlankBelow}
@@ -257,3 +257,12 @@ module _ {B : Type 0} (screen : B → Screen) where
   inserted_by (Err Memory) area filled inserted s t closure over known some ok err only = absurd only
   inserted_by (Err Area) area filled inserted s t closure over known some ok err only = absurd only
   inserted_by (Err (Closure error)) area filled inserted s t closure over known some ok err only = absurd only
+
+-- an empty current buffer moves with the viewport
+pub emptied-moved : {B : Type 0} (screen : B → Screen) (inserted : Sheet) (s t : State B) → Inserts screen inserted s t → IsEmptied s.viewport_area s.current → IsEmptied t.viewport_area t.current
+emptied-moved {B} screen inserted s t inserts empty =
+    let area : t.viewport_area ≡ record s.viewport_area { y = t.viewport_area.y } = ap (λ (x : State B). x.viewport_area) inserts.rest in
+    record {
+      area = inserts.current.area.moved empty.area;
+      cells = ap (λ (x : Sheet). x.cells) inserts.current.rest ∙ empty.cells ∙ ap empty_cells (sym (ap area_size area));
+    }

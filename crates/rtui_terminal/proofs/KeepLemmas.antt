@@ -1,12 +1,12 @@
 -- What calls keep of the rows above a viewport and of all columns outside it.
-use Rattle.std.proofs.Common.{◌≡◌, ℕ, ◌<◌, Option, Some, None, refl, sym, ap, ◌∙◌, subst, inl, inr, arith}
+use Rattle.std.proofs.Common.{◌≡◌, ℕ, ◌+◌, ◌<◌, Option, Some, None, refl, sym, ap, ◌∙◌, subst, inl, inr, arith}
 use Rattle.rtui_geometry.specs.declared.position.Position.{Position}
 use Rattle.rtui_geometry.specs.declared.rect.Rect.{Rect}
 use Rattle.rtui_buffer.specs.Sheet.{Sheet}
 use Rattle.rtui_buffer.specs.Frame.{IsSettledSheet}
 use Rattle.rtui_backend.specs.Screen.{Screen, KeepsSizeAndHistory, IsOnScreen, IsWithin, rows_above}
 use Rattle.rtui_backend.proofs.ScrollLemmas.{above_same}
-use Rattle.rtui_viewport.specs.Areas.{KeepsOutside}
+use Rattle.rtui_viewport.specs.Areas.{KeepsOutside, IsBlankBelow}
 use Rattle.rtui_viewport.specs.Clearing.{ClearsArea}
 use Rattle.rtui_viewport.specs.Viewports.{IsFixed, IsInline}
 use Rattle.rtui_viewport.specs.declared.viewport.Viewport.{Viewport}
@@ -93,3 +93,13 @@ module _ {B : Type 0} (screen : B → Screen) where
 
   pub painted_rest : (s t : State B) (painted : Sheet) → KeepsAroundViewport screen (record s { current = painted }) t → KeepsAroundViewport screen s t
   painted_rest s t painted keeps = record { viewport_area = keeps.viewport_area; size = keeps.size; above = keeps.above; outside = keeps.outside }
+
+-- blank rows below a viewport, all around which stays
+pub below-kept : {B : Type 0} (screen : B → Screen) (s t : State B) → KeepsAroundViewport screen s t → IsBlankBelow s.viewport_area (screen s.backend) → IsBlankBelow t.viewport_area (screen t.backend)
+below-kept screen s t keeps blank = record {
+  at = λ a b a_in b_in low.
+      let bottom : t.viewport_area.y + t.viewport_area.height ≡ s.viewport_area.y + s.viewport_area.height = ap (λ (r : Rect). r.y + r.height) keeps.viewport_area in
+      let wide = keeps.size.width in
+      let high = keeps.size.height in
+      keeps.outside.at a b (omega arith) (omega arith) (λ within. let h = within.bottom in omega arith) ∙ blank.at a b (omega arith) (omega arith) (omega arith);
+}

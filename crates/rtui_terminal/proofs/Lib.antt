@@ -6,3 +6,4 @@ pub mod RenderLemmas
 pub mod InsertionLemmas
 pub mod HeadlineLemmas
 pub mod RenderedLemmas
+pub mod StartLemmas

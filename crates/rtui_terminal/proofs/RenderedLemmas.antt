@@ -1,15 +1,20 @@
 -- A draw whose closure only renders over an empty buffer.
-use Rattle.std.proofs.Common.{◌≡◌, ℕ, zero, suc, ◌-◌, ◌++◌, ⊎_elim, ◌∷◌, length, take, refl, sym, ap, subst, ◌∙◌, arith, Result, Option}
+use Rattle.std.proofs.Common.{◌≡◌, ℕ, zero, suc, ◌-◌, ◌++◌, ⊎_elim, ◌∷◌, length, take, refl, sym, ap, subst, ◌∙◌, arith, Result, Ok, Err, Option, inl, inr}
+use Rattle.std.specs.Prelude.{alloc_error}
+use Rattle.std.specs.declared.alloc.AllocError.{AllocError}
 use Rattle.rtui_geometry.specs.declared.position.Position.{Position}
 use Rattle.rtui_geometry.specs.declared.rect.Rect.{Rect}
 use Rattle.rtui_cell.specs.Cell.{empty_cell}
 use Rattle.rtui_buffer.specs.Sheet.{Sheet, IsEmptied, empty_cells, area_size}
 use Rattle.rtui_backend.specs.Screen.{Screen, screen_area}
-use Rattle.rtui_terminal.specs.State.{State}
+use Rattle.rtui_terminal.specs.State.{HasAreas, State}
 use Rattle.rtui_terminal.specs.InStep.{IsReady, IsSized}
+use Rattle.rtui_terminal.specs.Faults.{IsBackendFault}
+use Rattle.rtui_terminal.specs.declared.terminal.error.TerminalError.{TerminalError}
+use Rattle.rtui_terminal.specs.declared.terminal.error.TerminalError.TheVariants.{Backend, Memory, Area, Closure}
 use Rattle.rtui_terminal.specs.Resizing.{Autoresizes, Resizes, IsResized}
 use Rattle.rtui_terminal.specs.Cursor.{Stays}
-use Rattle.rtui_terminal.specs.Drawing.{DrawOk}
+use Rattle.rtui_terminal.specs.Drawing.{DrawOk, DrawErr}
 use Rattle.rtui_terminal.specs.Rendered.{OnlyRenders, ShowsRendered}
 
 cut-empty : (m n : ℕ) → take n (empty_cells m) ++ empty_cells (n - length (empty_cells m)) ≡ empty_cells n
@@ -49,3 +54,32 @@ shows-rendered screen ran renders s t ready empty only drawn =
       };
       shown = λ settled. (drawn.draws.in_step ready settled).shown;
     }
+
+-- a draw that finds the last known size changes nothing before its closure is called
+pub sized-stays : {B : Type 0} (screen : B → Screen) (s sized : State B) → IsSized screen s → Autoresizes screen s sized → Stays screen s sized
+sized-stays {B} screen s sized known found =
+    ⊎_elim
+    (λ (stays : IsSized screen s × Stays screen s sized). stays.1)
+    (λ (resizes : (IsSized screen s → ⊥) × Resizes screen (screen_area (screen s.backend)) s sized). absurd (resizes.0 known))
+    found.case
+
+-- a draw that finds that size, over buffers of the viewport's area, and whose closure takes no memory and keeps that area is refused by the
+-- backend alone
+pub refused-by-backend : {B E : Type 0} (screen : B → Screen) (ran : State B → Result (Unit {0}) AllocError → Option Position → Sheet → Type 0) (s t : State B) (error : TerminalError E) → IsSized screen s → HasAreas s
+    → ((r : State B) (cursor : Option Position) (painted : Sheet) → ran r (Err alloc_error) cursor painted → ⊥)
+    → ((r : State B) (cursor : Option Position) (painted : Sheet) → ran r (Ok tt) cursor painted → painted.area ≡ r.current.area)
+    → DrawErr screen ran s t error → IsBackendFault error
+refused-by-backend screen ran s t (Backend error) known areas never keeps by = tt
+refused-by-backend screen ran s t Memory known areas never keeps by =
+    elim by [
+      | inl resize ↦ absurd (resize.0 known)
+      | inr closure ↦ absurd (never closure.refuses.sized closure.cursor t.current closure.closure)
+    ]
+refused-by-backend {B} screen ran s t Area known areas never keeps by =
+    let stays = sized-stays screen s by.sized known by.autoresized in
+    let place : by.sized.viewport_area ≡ s.viewport_area = ap (λ (x : State B). x.viewport_area) stays.rest in
+    absurd (by.left.1 (record {
+      current = keeps by.sized by.cursor by.painted by.closure ∙ ap (λ (x : State B). x.current.area) stays.rest ∙ areas.current ∙ sym place;
+      older = ap (λ (x : State B). x.older.area) stays.rest ∙ areas.older ∙ sym place;
+    }))
+refused-by-backend screen ran s t (Closure error) known areas never keeps by = by

@@ -47,5 +47,5 @@ abbrev pub AcceptsNewFrame : {F R : Type 0} → Once F (MutBor Frame × Unit {0}
 AcceptsNewFrame once f area count sheet = (frame : MutBor Frame) → IsNewFrame area count sheet frame.now → once.pre f (frame, tt)
 
 -- such a call on the current buffer of a terminal
-abbrev pub paints_on : {B F R : Type 0} → Once F (MutBor Frame × Unit {0}) (R × (MutBor Frame × Unit {0})) → F → State B → R → Option Position → Sheet → Type 0
-paints_on once f s answer cursor painted = PaintsFrame once f s.viewport_area s.frame_count s.current answer cursor painted
+abbrev pub PaintsCurrent : {B F R : Type 0} → Once F (MutBor Frame × Unit {0}) (R × (MutBor Frame × Unit {0})) → F → State B → R → Option Position → Sheet → Type 0
+PaintsCurrent once f s answer cursor painted = PaintsFrame once f s.viewport_area s.frame_count s.current answer cursor painted

@@ -2,8 +2,9 @@
 use Rattle.std.specs.Prelude.{ℕ, ◌≡◌, ◌+◌, ◌-◌, ◌^◌, ◌<◌, false}
 use Rattle.rtui_geometry.specs.declared.position.Position.{Position}
 use Rattle.rtui_geometry.specs.Rect.{corner}
+use Rattle.rtui_cell.specs.Look.{empty_look}
 use Rattle.rtui_buffer.specs.Sheet.{IsEmptied, area_size}
-use Rattle.rtui_backend.specs.Screen.{IsOnScreen, Screen, Scrolls, cursor_of}
+use Rattle.rtui_backend.specs.Screen.{IsOnScreen, KeepsSizeAndHistory, Screen, Scrolls, cursor_of, rows_above}
 use Rattle.rtui_viewport.specs.declared.viewport.Viewport.{Viewport}
 use Rattle.rtui_viewport.specs.declared.viewport.Viewport.TheVariants.{Fixed, Fullscreen, Inline}
 use Rattle.rtui_viewport.specs.Viewports.{IsFixed, IsInline}
@@ -11,9 +12,13 @@ use Rattle.rtui_viewport.specs.Areas.{IsBlankOver}
 use Rattle.rtui_viewport.specs.Sizing.{first_area}
 use Rattle.rtui_viewport.specs.Placing.{area_in, cursor_row_behind, rows_scrolled, unplaced_area}
 use Rattle.rtui_terminal.specs.State.{State}
-use Rattle.rtui_terminal.specs.InStep.{IsInStep}
+use Rattle.rtui_terminal.specs.InStep.{IsInStep, rows_over}
 use Rattle.rtui_terminal.specs.declared.terminal.error.TerminalError.{TerminalError}
 use Rattle.rtui_terminal.specs.declared.terminal.error.TerminalError.TheVariants.{Area, Backend, Closure, Memory}
+
+-- each column of each row of a screen is empty
+pub record IsBlank (s : Screen) : Type 0 where
+  pub at : (a b : ℕ) → a < s.width → b < s.height → s.grid a b ≡ empty_look
 
 -- the cursor that is known at the start: for an inline viewport the screen's
 abbrev pub first_cursor : Viewport → Screen → Position
@@ -47,3 +52,10 @@ module _ {B : Type 0} (screen : B → Screen) where
     pub fixed : IsFixed viewport → t.backend ≡ b
     pub on_screen : (IsFixed viewport → ⊥) → IsOnScreen t.viewport_area (screen t.backend)
     pub in_step : IsOnScreen t.viewport_area (screen t.backend) → IsBlankOver t.viewport_area (screen t.backend) → IsInStep screen t
+
+  -- a new terminal over one row: that of the cursor, on a screen whose rows are as they were
+  pub record StartsInRow (b : B) (t : State B) : Type 0 where
+    pub viewport_area : t.viewport_area ≡ record { x = 0; y = (screen b).cursor_y; width = (screen b).width; height = 1 }
+    pub size : KeepsSizeAndHistory (screen b) (screen t.backend)
+    pub above : rows_over screen t ≡ rows_above (screen b) (screen b).cursor_y
+    pub grid : (a c : ℕ) → a < (screen b).width → c < (screen b).height → (screen t.backend).grid a c ≡ (screen b).grid a c

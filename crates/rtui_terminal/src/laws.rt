@@ -1,8 +1,17 @@
 //! Laws of terminals that are no single call's clause, stated over the definitions of `specs/` alone; above all the
 //! headline of `specs/Headline`. Calling one of these functions costs nothing and tells the caller's proof its law.
 
-ghost use Rattle.rtui_buffer.specs.Sheet.{IsEmptied};
+ghost use Rattle.std.specs.Prelude.{ℕ, ◌<◌};
+ghost use Rattle.rtui_buffer.specs.Sheet.{Sheet, IsEmptied};
+ghost use Rattle.rtui_backend.specs.Screen.{IsOnScreen};
+ghost use Rattle.rtui_viewport.specs.declared.viewport.Viewport.{Viewport};
+ghost use Rattle.rtui_viewport.specs.declared.viewport.Viewport.TheVariants.{Inline};
+ghost use Rattle.rtui_viewport.specs.Areas.{IsBlankBelow};
 ghost use Rattle.rtui_terminal.specs.State.{State};
+ghost use Rattle.rtui_terminal.specs.InStep.{IsInStep, IsSized, KeepsAroundViewport};
+ghost use Rattle.rtui_terminal.specs.Starting.{IsBlank, Starts, StartsInRow};
+ghost use Rattle.rtui_terminal.specs.Insertion.{Inserts};
+ghost use Rattle.rtui_terminal.specs.Cursor.{Stays};
 ghost use Rattle.rtui_terminal.specs.Resizing.{Autoresizes};
 ghost use Rattle.rtui_terminal.specs.Headline.{IsHeadline, KeepsRows};
 
@@ -25,4 +34,38 @@ pub fn rows_above_are_those_inserted<B: Backend>()
 pub fn empty_buffers_stay_empty<B: Backend>()
     ensures { (s sized : State B) → Autoresizes B.screen s sized
         → IsEmptied s.viewport_area s.current → IsEmptied sized.viewport_area sized.current }
+{}
+
+/// An empty current buffer is still empty, and covers the viewport, where rows came in above that.
+pub fn empty_buffers_move_with_an_insertion<B: Backend>()
+    ensures { (inserted : Sheet) (s t : State B) → Inserts B.screen inserted s t
+        → IsEmptied s.viewport_area s.current → IsEmptied t.viewport_area t.current }
+{}
+
+/// On a screen with rows a viewport of one row starts in the cursor's, and the screen stays as it was.
+pub fn one_row_starts_at_the_cursor<B: Backend>()
+    ensures { (b : B) (t : State B) → 0 < (B.screen b).height → Starts B.screen (Inline 1) b t
+        → StartsInRow B.screen b t }
+{}
+
+/// On a blank screen a terminal starts in step where its viewport lies on the screen, which is blank still.
+pub fn blank_screens_start_in_step<B: Backend>()
+    ensures in_step { (v : Viewport) (b : B) (t : State B) → Starts B.screen v b t
+        → IsOnScreen t.viewport_area (B.screen t.backend) → IsBlank (B.screen b)
+        → IsInStep B.screen t }
+    ensures blank { (v : Viewport) (b : B) (t : State B) → Starts B.screen v b t
+        → IsBlank (B.screen b) → IsBlank (B.screen t.backend) }
+{}
+
+/// Where a viewport stays and all around it, blank rows below it stay blank.
+pub fn blank_rows_below_stay<B: Backend>()
+    ensures { (s t : State B) → KeepsAroundViewport B.screen s t
+        → IsBlankBelow s.viewport_area (B.screen s.backend)
+        → IsBlankBelow t.viewport_area (B.screen t.backend) }
+{}
+
+/// A draw that finds the last known size changes nothing before its closure is called.
+pub fn known_sizes_stay<B: Backend>()
+    ensures { (s sized : State B) → IsSized B.screen s → Autoresizes B.screen s sized
+        → Stays B.screen s sized }
 {}

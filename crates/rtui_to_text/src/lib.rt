@@ -19,16 +19,17 @@ use std::fmt;
 /// ```
 pub trait ToSpan {
     // what it prints, where that is stated
-    ghost printed: { Self → Option (List ℕ) };
+    ghost printed_text: { Self → Option (List ℕ) };
 
     /// A span of what it prints; refused where memory is.
     fn to_span(&self, alloc: Global) -> Result<Span<'static>, AllocError>
-        ensures printed { IfSome (printed self.now) (λ text. IfOk result (λ span. span ≡ plain text)) }
+        ensures printed { IfSome (printed_text self.now)
+            (λ text. IfOk result (λ span. span ≡ plain text)) }
         ensures of_text { IfOk result (λ span. (text : List ℕ) × (span ≡ plain text)) };
 }
 
 impl<T: fmt::Display> ToSpan for T {
-    ghost printed = { T.output };
+    ghost printed_text = { T.output };
 
     fn to_span(&self, alloc: Global) -> Result<Span<'static>, AllocError> {
         Ok(Span::from(self.to_string(alloc)?))
@@ -38,17 +39,17 @@ impl<T: fmt::Display> ToSpan for T {
 /// What can be made a line.
 pub trait ToLine {
     // what it prints, where that is stated
-    ghost printed: { Self → Option (List ℕ) };
+    ghost printed_text: { Self → Option (List ℕ) };
 
     /// A line of what it prints, as `Line::raw_string` makes it; refused where memory is.
     fn to_line(&self, alloc: Global) -> Result<Line<'static>, AllocError>
-        ensures printed { IfSome (printed self.now)
+        ensures printed { IfSome (printed_text self.now)
             (λ text. IfOk result (λ line. line ≡ raw_line text)) }
         ensures of_text { IfOk result (λ line. (text : List ℕ) × (line ≡ raw_line text)) };
 }
 
 impl<T: fmt::Display> ToLine for T {
-    ghost printed = { T.output };
+    ghost printed_text = { T.output };
 
     fn to_line(&self, alloc: Global) -> Result<Line<'static>, AllocError> {
         Line::raw_string(alloc, self.to_string(alloc)?)
@@ -58,17 +59,17 @@ impl<T: fmt::Display> ToLine for T {
 /// What can be made a text.
 pub trait ToText {
     // what it prints, where that is stated
-    ghost printed: { Self → Option (List ℕ) };
+    ghost printed_text: { Self → Option (List ℕ) };
 
     /// A text of what it prints, as `Text::raw_string` makes it; refused where memory is.
     fn to_text(&self, alloc: Global) -> Result<Text<'static>, AllocError>
-        ensures printed { IfSome (printed self.now)
+        ensures printed { IfSome (printed_text self.now)
             (λ printed. IfOk result (λ text. text ≡ raw_text printed)) }
         ensures of_text { IfOk result (λ text. (printed : List ℕ) × (text ≡ raw_text printed)) };
 }
 
 impl<T: fmt::Display> ToText for T {
-    ghost printed = { T.output };
+    ghost printed_text = { T.output };
 
     fn to_text(&self, alloc: Global) -> Result<Text<'static>, AllocError> {
         Text::raw_string(alloc, self.to_string(alloc)?)

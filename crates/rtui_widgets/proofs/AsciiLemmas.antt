@@ -21,7 +21,7 @@ use Rattle.rtui_style.specs.Style.{new_style}
 use Rattle.rtui_buffer.specs.Sheet.{Sheet}
 use Rattle.rtui_buffer.proofs.ShortLemmas.{All-fitting, text-short, ascii-short}
 use Rattle.rtui_widgets.specs.Span.{goes_to, those_at, showing, IsShortSpan}
-use Rattle.rtui_widgets.specs.Rendering.{AreAscii, text_line, RendersShortText, PaintsShortText}
+use Rattle.rtui_widgets.specs.Rendering.{AreAscii, text_line, RendersShortText, RendersShortStr}
 use Rattle.rtui_widgets.specs.Line.{Part, last_fitting, end_of, part_of, parts, AreShortParts, IsShortLine}
 
 -- a grapheme that takes a column of its own and no memory
@@ -136,5 +136,5 @@ text-ascii text area s all = λ k k_in. line-ascii _ (text_line text k) _ (line_
     line_at (l ∷ ls) zero all = All-head (λ (line : LineData). AreAscii line.spans) l ls all
     line_at (l ∷ ls) (suc k) all = line_at ls k (All-tail (λ (line : LineData). AreAscii line.spans) l ls all)
 
-pub painted-ascii : (text : List ℕ) (area : Rect) (s : Sheet) → IsAscii text → PaintsShortText text area s
+pub painted-ascii : (text : List ℕ) (area : Rect) (s : Sheet) → IsAscii text → RendersShortStr text area s
 painted-ascii text area s ascii = text-short _ new_style text (ascii-short text ascii)

@@ -11,3 +11,4 @@ pub mod PartLemmas
 pub mod ShortLemmas
 pub mod AsciiLemmas
 pub mod RowWith
+pub mod SettledLemmas

@@ -9,7 +9,7 @@ use Rattle.rtui_text.specs.Text.{LineData}
 use Rattle.rtui_buffer.specs.Sheet.{Sheet, IsEmptied}
 use Rattle.rtui_buffer.specs.Frame.{IsSettledSheet}
 use Rattle.rtui_buffer.specs.Painting.{Piece, columns}
-use Rattle.rtui_buffer.specs.PaintedText.{IsStyled, IsPaintable, IsSameBeside, PaintsOr}
+use Rattle.rtui_buffer.specs.PaintedText.{IsStyled, IsPaintable, IsSameBeside, PaintsOrRefuses}
 use Rattle.rtui_buffer.specs.Bar.{bar_of, PaintsOnBar}
 use Rattle.rtui_buffer.specs.Line.{line_pieces_at}
 use Rattle.rtui_buffer.proofs.ColumnLemmas.{line-ends, line-keeps}
@@ -69,7 +69,7 @@ module _ (area part : Rect) (n : ℕ) (style : Style) (line : LineData) (old und
       (within-refused area part under new ps (subst (λ q. IsClipped area q part) (sym bar.area) is) (line-keeps under.area part.x part.width line) (line-ends under.area part.x part.width line) refused)
 
   -- Ok, the line stands on the bar, and of an empty buffer came a settled one; refused, nothing outside the area changed
-  pub line-on-bar : {A : Type 0} (r : Result A AllocError) → n ≤ part.width → PaintsOr (corner part) ps r under new
+  pub line-on-bar : {A : Type 0} (r : Result A AllocError) → n ≤ part.width → PaintsOrRefuses (corner part) ps r under new
       → OnOk r (PaintsOnBar (bar_of n part) style (corner part) (λ q. line_pieces_at q part.x part.width line) old new × (IsEmptied own old → IsSettledSheet new)) × OnErr r (ChangesWithin area old new)
   line-on-bar (Ok x) narrow paints = ((record { under = under; laid = bar; painted = paints.ok }, settled paints.settled), tt)
   line-on-bar (Err e) narrow paints = (tt, within narrow paints.err)

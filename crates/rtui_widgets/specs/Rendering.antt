@@ -11,7 +11,7 @@ use Rattle.rtui_text.specs.Text.{SpanData, LineData, TextData, line_of}
 use Rattle.rtui_buffer.specs.Sheet.{Sheet, cell_index, cell_in}
 use Rattle.rtui_style.specs.Style.{new_style}
 use Rattle.rtui_buffer.specs.Sheet.{HasRow}
-use Rattle.rtui_buffer.specs.PaintedText.{pieces_at, AreShort, Paints}
+use Rattle.rtui_buffer.specs.PaintedText.{pieces_at, AreShort, PaintsPieces}
 use Rattle.rtui_widgets.specs.Span.{span_rendered, IsShortSpan}
 use Rattle.rtui_widgets.specs.Line.{line_rendered, IsShortLine}
 
@@ -68,8 +68,8 @@ pub record HasFirstRow (area : Rect) (s : Sheet) : Type 0 where
   pub column : s.area.x ≤ area.x
 
 -- a text painted from the corner of an area on, in at most the area's columns
-abbrev pub PaintsText : List ℕ → Rect → Sheet → Sheet → Type 0
-PaintsText text area old = Paints (record { x = area.x; y = area.y }) (pieces_at old.area area.x area.width new_style text) old
+abbrev pub RendersStr : List ℕ → Rect → Sheet → Sheet → Type 0
+RendersStr text area old = PaintsPieces (record { x = area.x; y = area.y }) (pieces_at old.area area.x area.width new_style text) old
 
 -- row k of a text takes no memory in these many columns
 abbrev pub IsShortRow : TextData → ℕ → ℕ → Type 0
@@ -88,8 +88,8 @@ RendersShortLine line area s = IsShortLine line.alignment line (intersected area
 abbrev pub RendersShortText : TextData → Rect → Sheet → Type 0
 RendersShortText text area s = let r = intersected area s.area in (k : ℕ) → k < r.height → IsShortRow text r.width k
 
-abbrev pub PaintsShortText : List ℕ → Rect → Sheet → Type 0
-PaintsShortText text area s = AreShort (pieces_at s.area area.x area.width new_style text)
+abbrev pub RendersShortStr : List ℕ → Rect → Sheet → Type 0
+RendersShortStr text area s = AreShort (pieces_at s.area area.x area.width new_style text)
 
 -- each span is a text of ASCII
 abbrev pub AreAscii : List SpanData → Type 0

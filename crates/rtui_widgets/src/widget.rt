@@ -167,15 +167,15 @@ impl<W: Widget> Widget for Option<W> {
 /// Painted from the corner of the area on, in at most its columns. The area's first row has to lie in the buffer, and not to
 /// begin left of it.
 impl<'a> Widget for &'a str {
-    ghost use Rattle.rtui_widgets.specs.Rendering.{HasFirstRow, PaintsText, PaintsShortText, first_row};
+    ghost use Rattle.rtui_widgets.specs.Rendering.{HasFirstRow, RendersStr, RendersShortStr, first_row};
 
     ghost can_render = { λ _. HasFirstRow };
 
-    ghost renders = { λ text. PaintsText text.now };
+    ghost renders = { λ text. RendersStr text.now };
 
     ghost reach = { λ _. first_row };
 
-    ghost is_short = { λ text. PaintsShortText text.now };
+    ghost is_short = { λ text. RendersShortStr text.now };
 
     fn render(self, area: Rect, buf: &mut Buffer) -> Result<(), AllocError> {
         buf.set_stringn(area.x, area.y, self, usize::from(area.width), Style::new())?;
@@ -186,15 +186,15 @@ impl<'a> Widget for &'a str {
 /// As a `&str`.
 impl Widget for String {
     ghost use Rattle.std.specs.String.{string_bytes};
-    ghost use Rattle.rtui_widgets.specs.Rendering.{HasFirstRow, PaintsText, PaintsShortText, first_row};
+    ghost use Rattle.rtui_widgets.specs.Rendering.{HasFirstRow, RendersStr, RendersShortStr, first_row};
 
     ghost can_render = { λ _. HasFirstRow };
 
-    ghost renders = { λ text. PaintsText (string_bytes text) };
+    ghost renders = { λ text. RendersStr (string_bytes text) };
 
     ghost reach = { λ _. first_row };
 
-    ghost is_short = { λ text. PaintsShortText (string_bytes text) };
+    ghost is_short = { λ text. RendersShortStr (string_bytes text) };
 
     fn render(self, area: Rect, buf: &mut Buffer) -> Result<(), AllocError> {
         self.as_str().render(area, buf)

@@ -11,8 +11,8 @@ use Rattle.rtui_terminal.specs.State.{State}
 use Rattle.screenplay.specs.Script.{IsScript, nothing, draw_of, waiting_after, waiting_behind, script_lines, step_by, steps_of, shows_of}
 use Rattle.screenplay.specs.Reading.{as_list, step_made}
 use Rattle.screenplay.specs.Run.{IsRun, IsStart, StopsBehind}
-use Rattle.screenplay.specs.Playing.{IsPlaying, sight_in, scene_in, IsSceneOf, IsCause, IsCauseAny, PlaysAny}
-use Rattle.screenplay.specs.Print.{printed_if, printed}
+use Rattle.screenplay.specs.Playing.{IsPlaying, sight_in, scene_in, IsSceneOf, IsCauseOfStep, IsCauseOfAnyStep, PlaysAny}
+use Rattle.screenplay.specs.Print.{printed_if, printed_scenes}
 use Rattle.std.specs.Str.{IsUtf8}
 use Rattle.screenplay.specs.Engine.{text_shown_by, IsShownText, IsTextOf, IsRunFault, StopsAtStep}
 use Rattle.screenplay.specs.declared.fault.RunFault.{RunFault}
@@ -63,7 +63,7 @@ get_left xs ys k x is =
 
 -- what a command shows behind n steps is the printed scene there
 shown_by : (c : Command) (taken : Option Step) (w : Waiting) (n n' : ℕ) (t : State TestBackend) (scenes more : List Scene) → as_list taken ≡ step_by w c → n' ≡ n + length (as_list taken)
-    → slice_get scenes n' ≡ Some (scene_in t) → printed (shows_of n (c ∷ [])) (scenes ++ more) ≡ text_shown_by c t
+    → slice_get scenes n' ≡ Some (scene_in t) → printed_scenes (shows_of n (c ∷ [])) (scenes ++ more) ≡ text_shown_by c t
 shown_by (SetStage stage) taken w n n' t scenes more made count here = refl
 shown_by (TakeSize size) taken w n n' t scenes more made count here = refl
 shown_by (Put x y ch) taken w n n' t scenes more made count here = refl
@@ -93,7 +93,7 @@ pub record HasPlayed (stage : Stage) (done : List Command) (w : Waiting) (n : �
   pub scenes : List Scene
   pub run : IsRun stage (steps_of nothing done) scenes
   pub here : slice_get scenes n ≡ Some (scene_in t)
-  pub shown : (more : List Scene) → text ≡ printed (shows_of 0 done) (scenes ++ more)
+  pub shown : (more : List Scene) → text ≡ printed_scenes (shows_of 0 done) (scenes ++ more)
 
 pub HasPlayed-none : (stage : Stage) (t : State TestBackend) → IsPlaying stage t → IsStart stage (sight_in t) → HasPlayed stage [] nothing 0 t []
 HasPlayed-none stage t playing start = record {
@@ -112,14 +112,14 @@ module _ (stage : Stage) (done : List Command) (w : Waiting) (n : ℕ) (s : Stat
 
   -- the text behind one more command
   text_next : (c : Command) (taken : Option Step) (t : State TestBackend) (n' : ℕ) (extra more : List Scene) (text' : List ℕ) → as_list taken ≡ step_by w c → n' ≡ n + length (as_list taken)
-      → slice_get (h.scenes ++ extra) n' ≡ Some (scene_in t) → text' ≡ text ++ text_shown_by c t → text' ≡ printed (shows_of 0 (done ++ c ∷ [])) ((h.scenes ++ extra) ++ more)
+      → slice_get (h.scenes ++ extra) n' ≡ Some (scene_in t) → text' ≡ text ++ text_shown_by c t → text' ≡ printed_scenes (shows_of 0 (done ++ c ∷ [])) ((h.scenes ++ extra) ++ more)
   text_next c taken t n' extra more text' made count here is =
       let scenes : List Scene = (h.scenes ++ extra) ++ more in
-      let before : text ≡ printed (shows_of 0 done) scenes = h.shown (extra ++ more) ∙ ap (printed (shows_of 0 done)) (sym (append_assoc h.scenes extra more)) in
-      let now : printed (shows_of n (c ∷ [])) scenes ≡ text_shown_by c t = shown_by c taken w n n' t (h.scenes ++ extra) more made count here in
+      let before : text ≡ printed_scenes (shows_of 0 done) scenes = h.shown (extra ++ more) ∙ ap (printed_scenes (shows_of 0 done)) (sym (append_assoc h.scenes extra more)) in
+      let now : printed_scenes (shows_of n (c ∷ [])) scenes ≡ text_shown_by c t = shown_by c taken w n n' t (h.scenes ++ extra) more made count here in
       let shows : shows_of 0 (done ++ c ∷ []) ≡ shows_of 0 done ++ shows_of n (c ∷ []) =
       shows_of-push done c 0 nothing ∙ ap (λ k. shows_of 0 done ++ shows_of k (c ∷ [])) (from_none n (length (steps_of nothing done)) h.count) in
-      is ∙ ap₂ (λ xs ys. xs ++ ys) before (sym now) ∙ sym (flat_map-append (λ k. printed_if (slice_get scenes k)) (shows_of 0 done) (shows_of n (c ∷ []))) ∙ ap (λ xs. printed xs scenes) (sym shows)
+      is ∙ ap₂ (λ xs ys. xs ++ ys) before (sym now) ∙ sym (flat_map-append (λ k. printed_if (slice_get scenes k)) (shows_of 0 done) (shows_of n (c ∷ []))) ∙ ap (λ xs. printed_scenes xs scenes) (sym shows)
 
   steps_next : (c : Command) (taken : Option Step) → as_list taken ≡ step_by w c → steps_of nothing (done ++ c ∷ []) ≡ steps_of nothing done ++ as_list taken
   steps_next c taken made = steps_of-push nothing done c ∙ ap (λ xs. steps_of nothing done ++ xs) (sym (made ∙ ap (λ x. step_by x c) h.waiting))
@@ -140,7 +140,7 @@ module _ (stage : Stage) (done : List Command) (w : Waiting) (n : ℕ) (s : Stat
         here = here;
         shown = λ more.
             text_next c None t n' [] more text' made count (ap (λ xs. slice_get xs n') (append-nil h.scenes) ∙ here) shows
-            ∙ ap (λ xs. printed (shows_of 0 (done ++ c ∷ [])) (xs ++ more)) (append-nil h.scenes);
+            ∙ ap (λ xs. printed_scenes (shows_of 0 (done ++ c ∷ [])) (xs ++ more)) (append-nil h.scenes);
       }
   HasPlayed-next c (Some step) w' n' t text' made waits count plays shows =
       let steps : steps_of nothing (done ++ c ∷ []) ≡ steps_of nothing done ++ step ∷ [] = steps_next c (Some step) made in
@@ -159,10 +159,10 @@ module _ (stage : Stage) (done : List Command) (w : Waiting) (n : ℕ) (s : Stat
 
   -- all commands were played
   pub IsShownText-all : IsShownText stage done text
-  IsShownText-all = (h.scenes, h.run, h.shown [] ∙ ap (printed (shows_of 0 done)) (append-nil h.scenes))
+  IsShownText-all = (h.scenes, h.run, h.shown [] ∙ ap (printed_scenes (shows_of 0 done)) (append-nil h.scenes))
 
   -- the next command makes a step that can't be played
-  StopsBehind-next : (c : Command) (rest : List Command) (step : Step) (cause : PlayCause) → step ∷ [] ≡ step_by w c → IsCause stage step (sight_in s) cause
+  StopsBehind-next : (c : Command) (rest : List Command) (step : Step) (cause : PlayCause) → step ∷ [] ≡ step_by w c → IsCauseOfStep stage step (sight_in s) cause
       → (scenes : List Scene) × StopsBehind stage (steps_of nothing (done ++ c ∷ rest)) scenes (record { step = n + 1; cause = cause })
   StopsBehind-next c rest step cause made why =
       let here : step_by (waiting_behind done nothing) c ≡ step ∷ [] = sym (made ∙ ap (λ x. step_by x c) h.waiting) in
@@ -181,7 +181,7 @@ module _ (stage : Stage) (done : List Command) (w : Waiting) (n : ℕ) (s : Stat
 
 -- a step of the next command that can't be played
 pub StopsBehind-any : (stage : Stage) (done : List Command) (w : Waiting) (n : ℕ) (s : State TestBackend) (text : List ℕ) → HasPlayed stage done w n s text → (c : Command) (rest : List Command) (cause : PlayCause)
-    → IsCauseAny stage (step_made w c) (sight_in s) cause → (scenes : List Scene) × StopsBehind stage (steps_of nothing (done ++ c ∷ rest)) scenes (record { step = n + 1; cause = cause })
+    → IsCauseOfAnyStep stage (step_made w c) (sight_in s) cause → (scenes : List Scene) × StopsBehind stage (steps_of nothing (done ++ c ∷ rest)) scenes (record { step = n + 1; cause = cause })
 StopsBehind-any stage done w n s text h (SetStage other) rest cause why = absurd why
 StopsBehind-any stage done w n s text h (TakeSize size) rest cause why = absurd why
 StopsBehind-any stage done w n s text h (Put x y ch) rest cause why = absurd why
@@ -209,7 +209,7 @@ module _ (bytes : List ℕ) (commands : List Command) (is_text : IsUtf8 bytes) w
     text_is = none (shows_of 0 commands);
   }
     where
-      none : (shows : List ℕ) → [] ≡ printed shows []
+      none : (shows : List ℕ) → [] ≡ printed_scenes shows []
       none [] = refl
       none (k ∷ shows) = none shows
 

@@ -18,7 +18,7 @@ use Rattle.rtui_terminal.specs.State.{State}
 use Rattle.screenplay.specs.Script.{nothing, waiting_after, step_by}
 use Rattle.screenplay.specs.Reading.{as_list, step_made, kept_text, kept_waiting, kept_after}
 use Rattle.screenplay.specs.Run.{Sight, IsFrame, IsDrawn, IsInserted, InsertsOn, row_count, text_area, HasUnsettled}
-use Rattle.screenplay.specs.Playing.{PlaysAny, IsCauseAny}
+use Rattle.screenplay.specs.Playing.{PlaysAny, IsCauseOfAnyStep}
 use Rattle.screenplay.specs.declared.script.Command.{Command}
 use Rattle.screenplay.specs.declared.script.Command.TheVariants.{SetStage, TakeSize, Put, AddText, Draw, Insert, Clear, Show}
 use Rattle.screenplay.specs.declared.waiting.Waiting.{Waiting}
@@ -145,7 +145,7 @@ plays_kept stage Insert w s t plays = record { playing = plays.playing; after = 
 plays_kept stage Clear w s t plays = plays
 plays_kept stage Show w s t plays = plays
 
-pub cause_kept : (stage : Stage) (c : Command) (w : Waiting) (s : Sight) (cause : PlayCause) → IsCauseAny stage (step_made (kept_waiting w) c) s cause → IsCauseAny stage (step_made w c) s cause
+pub cause_kept : (stage : Stage) (c : Command) (w : Waiting) (s : Sight) (cause : PlayCause) → IsCauseOfAnyStep stage (step_made (kept_waiting w) c) s cause → IsCauseOfAnyStep stage (step_made w c) s cause
 cause_kept stage (SetStage other) w s cause why = why
 cause_kept stage (TakeSize size) w s cause why = why
 cause_kept stage (Put x y ch) w s cause why = why

@@ -5,7 +5,6 @@ pub mod PlayLemmas
 pub mod RunLemmas
 pub mod AppendLemmas
 pub mod SceneLemmas
-pub mod PrintLemmas
 pub mod StageLemmas
 pub mod CommandLemmas
 pub mod KeptLemmas

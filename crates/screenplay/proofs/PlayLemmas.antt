@@ -36,7 +36,7 @@ use Rattle.rtui_terminal.specs.Clearing.{ClearsViewport}
 use Rattle.rtui_terminal.specs.Resizing.{Resizes, IsResized}
 use Rattle.screenplay.specs.Run.{stage_size, IsGoodViewport, IsGoodStage, MayLie, IsFrame, first_viewport, first_rows, IsStart, KeepsSurroundings, size_after, Sight, row_count, text_area, IsInserted, InsertsOn}
 use Rattle.screenplay.proofs.FrameLemmas.{plain-emptied, plain-frame, shown-again}
-use Rattle.screenplay.specs.Playing.{IsPlainSheet, IsPlaying, sight_in, TakesNewSize, IsSizedFor, ShowsFrame, InsertsBuffer, IsFrameCause, IsCause, Plays}
+use Rattle.screenplay.specs.Playing.{IsPlainSheet, IsPlaying, sight_in, TakesNewSize, IsSizedFor, ShowsFrame, InsertsBuffer, IsCauseOfFrame, IsCauseOfStep, Plays}
 use Rattle.screenplay.specs.declared.scene.PlayCause.{PlayCause}
 use Rattle.screenplay.specs.declared.scene.PlayCause.TheVariants.{Memory, Unsettled}
 use Rattle.screenplay.specs.declared.scene.Stage.{Stage}
@@ -438,10 +438,10 @@ Plays-drawn stage given text puts s m t sized playing shows =
     }
 
 -- a frame that isn't settled, behind its size
-pub IsCause-drawn : (stage : Stage) (given : Option Size) (text : TextData) (puts : List (ℕ × ℕ × ℕ)) (s m : State TestBackend) (cause : PlayCause) → IsPlaying stage m → IsSizedFor stage given s m → IsFrameCause text puts m cause
-    → IsCause stage (steps.Draw given text puts) (sight_in s) cause
-IsCause-drawn stage given text puts s m Memory playing sized why = tt
-IsCause-drawn stage given text puts s m (Unsettled area) playing sized why = (
+pub IsCauseOfStep-drawn : (stage : Stage) (given : Option Size) (text : TextData) (puts : List (ℕ × ℕ × ℕ)) (s m : State TestBackend) (cause : PlayCause) → IsPlaying stage m → IsSizedFor stage given s m → IsCauseOfFrame text puts m cause
+    → IsCauseOfStep stage (steps.Draw given text puts) (sight_in s) cause
+IsCauseOfStep-drawn stage given text puts s m Memory playing sized why = tt
+IsCauseOfStep-drawn stage given text puts s m (Unsettled area) playing sized why = (
   record {
     lies = subst (MayLie stage.viewport _) (sym why.0) (subst (λ z. MayLie stage.viewport z m.viewport_area) sized.size playing.lies);
     stays = λ e. why.0 ∙ ap (λ (x : State TestBackend). x.viewport_area) (sized.same (sized.size ∙ e));
@@ -509,8 +509,8 @@ module _ (stage : Stage) (text : TextData) (rows : Sheet) (s t : State TestBacke
   made_wide : IsFrame (text_area screen_before.width text) text [] rows
   made_wide = subst (λ w. IsFrame (text_area w text) text [] rows) (inline_width stage.viewport (size_of screen_before) s.viewport_area inline playing.lies) made
 
-  pub IsCause-inserted : (IsSettledSheet rows → ⊥) → IsCause stage (steps.Insert text) (sight_in s) (Unsettled s.viewport_area)
-  IsCause-inserted not = (inline, refl, record { frame = rows; made = made_wide; unsettled = not })
+  pub IsCauseOfStep-inserted : (IsSettledSheet rows → ⊥) → IsCauseOfStep stage (steps.Insert text) (sight_in s) (Unsettled s.viewport_area)
+  IsCauseOfStep-inserted not = (inline, refl, record { frame = rows; made = made_wide; unsettled = not })
 
   module _ (good : IsGoodStage stage) (settled : IsSettledSheet rows) (has : InsertsBuffer rows s t) where
     known : screen_area screen_before ≡ s.known_area

@@ -8,7 +8,7 @@ use Rattle.std.proofs.Math.Seq.{get_or-append_seam}
 use Rattle.rtui_backend.specs.declared.test.TestBackend.{TestBackend}
 use Rattle.rtui_terminal.specs.State.{State}
 use Rattle.screenplay.specs.Run.{sight_of, IsAtCorner, IsStaged, IsStart, IsAfter, IsRun, StopsBehind}
-use Rattle.screenplay.specs.Playing.{IsPlaying, sight_in, IsSceneOf, IsCause, Plays}
+use Rattle.screenplay.specs.Playing.{IsPlaying, sight_in, IsSceneOf, IsCauseOfStep, Plays}
 use Rattle.screenplay.specs.declared.scene.PlayCause.{PlayCause}
 use Rattle.screenplay.specs.declared.scene.PlayCause.TheVariants.{Unsettled}
 use Rattle.screenplay.specs.declared.scene.Scene.{Scene}
@@ -95,7 +95,7 @@ module _ (stage : Stage) (steps : List Step) (step : Step) (scenes : List Scene)
 
 -- a fault behind i steps, whose scenes are a run of those
 pub StopsBehind-at : (stage : Stage) (steps : List Step) (i : ℕ) (step : Step) (cause : PlayCause) (scenes : List Scene) (s : State TestBackend) → i < length steps → step ≡ get_or steps i step
-    → IsRun stage (take i steps) scenes → HasLast i scenes s → IsCause stage step (sight_in s) cause → StopsBehind stage steps scenes (record { step = i + 1; cause = cause })
+    → IsRun stage (take i steps) scenes → HasLast i scenes s → IsCauseOfStep stage step (sight_in s) cause → StopsBehind stage steps scenes (record { step = i + 1; cause = cause })
 StopsBehind-at stage steps i step cause scenes s inside is run last why =
     let back : i + 1 - 1 ≡ i = omega arith in
     record {
@@ -107,6 +107,6 @@ StopsBehind-at stage steps i step cause scenes s inside is run last why =
         last.scene,
         rw back (slice_get-get_or steps i step inside ∙ ap Some (sym is)),
         rw back last.here,
-        subst (λ x. IsCause stage step x (Unsettled area)) (sym last.shown.shown) (subst (IsCause stage step (sight_in s)) is_unsettled why),
+        subst (λ x. IsCauseOfStep stage step x (Unsettled area)) (sym last.shown.shown) (subst (IsCauseOfStep stage step (sight_in s)) is_unsettled why),
       );
     }

@@ -7,7 +7,7 @@ use Rattle.rtui_backend.specs.declared.test.TestBackend.{TestBackend}
 use Rattle.rtui_terminal.specs.State.{State}
 use Rattle.screenplay.specs.Script.{IsScript, IsFirstBadLine, nothing, script_lines, shows_of, steps_of}
 use Rattle.screenplay.specs.Run.{IsRun, StopsBehind}
-use Rattle.screenplay.specs.Print.{printed, printed_scene}
+use Rattle.screenplay.specs.Print.{printed_scenes, printed_scene}
 use Rattle.screenplay.specs.Playing.{scene_in}
 use Rattle.screenplay.specs.declared.script.Command.{Command}
 use Rattle.screenplay.specs.declared.script.Command.TheVariants.{SetStage, TakeSize, Put, AddText, Draw, Insert, Clear, Show}
@@ -33,14 +33,14 @@ pub record PrintsRun (bytes : List ℕ) (old new : Option (List ℕ)) : Type 0 w
   pub shows : List ℕ
   pub scenes : List Scene
   pub played : IsPlayed bytes shows scenes
-  pub written : Appends old new (printed shows scenes)
+  pub written : Appends old new (printed_scenes shows scenes)
 
 -- the printed scenes of a run of the script that the bytes are
 pub record IsTextOf (bytes text : List ℕ) : Type 0 where
   pub shows : List ℕ
   pub scenes : List Scene
   pub played : IsPlayed bytes shows scenes
-  pub text_is : text ≡ printed shows scenes
+  pub text_is : text ≡ printed_scenes shows scenes
 
 -- the bytes are a script with a step that can't be played
 pub record HasStepFault (bytes : List ℕ) (fault : StepFault) : Type 0 where
@@ -74,7 +74,7 @@ text_shown_by Show t = printed_scene (scene_in t)
 
 -- the printed scenes of a run of the commands' steps
 abbrev pub IsShownText : Stage → List Command → List ℕ → Type 0
-IsShownText stage commands text = (scenes : List Scene) × IsRun stage (steps_of nothing commands) scenes × (text ≡ printed (shows_of 0 commands) scenes)
+IsShownText stage commands text = (scenes : List Scene) × IsRun stage (steps_of nothing commands) scenes × (text ≡ printed_scenes (shows_of 0 commands) scenes)
 
 -- a step of the commands can't be played, or memory was refused
 abbrev pub StopsAtStep : Stage → List Command → RunFault → Type 0

@@ -15,7 +15,7 @@ use Rattle.rtui_terminal.specs.State.{State}
 use Rattle.rtui_terminal.specs.InStep.{IsInStep, IsSized}
 use Rattle.rtui_terminal.specs.Resizing.{Autoresizes}
 use Rattle.rtui_terminal.specs.Insertion.{inserted_area, Inserts}
-use Rattle.screenplay.specs.Run.{Sight, plain_screen, sight_of, MayLie, size_after, GoesOn, KeepsSurroundings, IsFrame, IsAtCorner, HasUnsettled, IsUnsettled, IsAfter}
+use Rattle.screenplay.specs.Run.{Sight, plain_screen, sight_of, MayLie, size_after, GoesOn, KeepsSurroundings, IsFrame, IsAtCorner, HasUnsettled, IsUnsettledStep, IsAfter}
 use Rattle.screenplay.specs.declared.scene.Stage.{Stage}
 use Rattle.screenplay.specs.declared.scene.Scene.{Scene}
 use Rattle.screenplay.specs.declared.scene.Step.{Step}
@@ -77,14 +77,14 @@ pub record InsertsBuffer (rows : Sheet) (s t : State TestBackend) : Type 0 where
   pub inserts : 0 < s.known_area.height → Inserts screen_of rows s t
 
 -- why a frame wasn't drawn: want of memory, or it is unsettled
-abbrev pub IsFrameCause : TextData → List (ℕ × ℕ × ℕ) → State TestBackend → PlayCause → Type 0
-IsFrameCause text puts s Memory = Unit {0}
-IsFrameCause text puts s (Unsettled area) = (area ≡ s.viewport_area) × HasUnsettled area text puts
+abbrev pub IsCauseOfFrame : TextData → List (ℕ × ℕ × ℕ) → State TestBackend → PlayCause → Type 0
+IsCauseOfFrame text puts s Memory = Unit {0}
+IsCauseOfFrame text puts s (Unsettled area) = (area ≡ s.viewport_area) × HasUnsettled area text puts
 
 -- why a step wasn't played: want of memory, or its frame is unsettled
-abbrev pub IsCause : Stage → Step → Sight → PlayCause → Type 0
-IsCause stage step s Memory = Unit {0}
-IsCause stage step s (Unsettled area) = IsUnsettled stage step s area
+abbrev pub IsCauseOfStep : Stage → Step → Sight → PlayCause → Type 0
+IsCauseOfStep stage step s Memory = Unit {0}
+IsCauseOfStep stage step s (Unsettled area) = IsUnsettledStep stage step s area
 
 -- a step was played
 pub record Plays (stage : Stage) (step : Step) (s t : State TestBackend) : Type 0 where
@@ -97,6 +97,6 @@ PlaysAny stage None s t = t ≡ s
 PlaysAny stage (Some step) s t = Plays stage step s t
 
 -- why it wasn't
-abbrev pub IsCauseAny : Stage → Option Step → Sight → PlayCause → Type 0
-IsCauseAny stage None s cause = ⊥
-IsCauseAny stage (Some step) s cause = IsCause stage step s cause
+abbrev pub IsCauseOfAnyStep : Stage → Option Step → Sight → PlayCause → Type 0
+IsCauseOfAnyStep stage None s cause = ⊥
+IsCauseOfAnyStep stage (Some step) s cause = IsCauseOfStep stage step s cause

@@ -216,10 +216,10 @@ pub record MayCover (stage : Stage) (size : Size) (s : Sight) (area : Rect) : Ty
   pub stays : size ≡ sight_size s → area ≡ s.viewport
 
 -- the step can't be played: its frame over this viewport can't be shown, or what it is to insert above it
-abbrev pub IsUnsettled : Stage → Step → Sight → Rect → Type 0
-IsUnsettled stage (Draw given text puts) s area = MayCover stage (size_after stage.viewport given (sight_size s)) s area × HasUnsettled area text puts
-IsUnsettled stage (Insert text) s area = IsInline stage.viewport × (area ≡ s.viewport) × HasUnsettled (text_area s.screen.width text) text []
-IsUnsettled stage Clear s area = ⊥
+abbrev pub IsUnsettledStep : Stage → Step → Sight → Rect → Type 0
+IsUnsettledStep stage (Draw given text puts) s area = MayCover stage (size_after stage.viewport given (sight_size s)) s area × HasUnsettled area text puts
+IsUnsettledStep stage (Insert text) s area = IsInline stage.viewport × (area ≡ s.viewport) × HasUnsettled (text_area s.screen.width text) text []
+IsUnsettledStep stage Clear s area = ⊥
 
 -- a play stopped at a step, of which these are the scenes: they are a run of the steps before it, and a step that is called unsettled is
 pub record StopsBehind (stage : Stage) (steps : List Step) (scenes : List Scene) (fault : StepFault) : Type 0 where
@@ -228,7 +228,7 @@ pub record StopsBehind (stage : Stage) (steps : List Step) (scenes : List Scene)
   pub run : 0 < fault.step → IsRun stage (take (fault.step - 1) steps) scenes
   pub unsettled : (area : Rect) → fault.cause ≡ Unsettled area
       → (step : Step) × (scene : Scene) × (slice_get steps (fault.step - 1) ≡ Some step) × (slice_get scenes (fault.step - 1) ≡ Some scene)
-      × IsUnsettled stage step (sight_of scene) area
+      × IsUnsettledStep stage step (sight_of scene) area
 
 -- the same of a fault that has the scenes
 abbrev pub IsFault : Stage → List Step → PlayFault → Type 0

@@ -5,7 +5,7 @@ ghost use Rattle.std.specs.Str.{IsUtf8};
 ghost use Rattle.screenplay.specs.Script.{IsScript, nothing, script_lines, shows_of, steps_of};
 ghost use Rattle.screenplay.specs.Run.{IsGoodStage};
 ghost use Rattle.screenplay.specs.Engine.{IsRunFault, IsShownText, IsTextOf, PrintsRun, StopsAtStep, text_shown_by};
-ghost use Rattle.screenplay.specs.Playing.{IsCauseAny, IsPlaying, PlaysAny, sight_in};
+ghost use Rattle.screenplay.specs.Playing.{IsCauseOfAnyStep, IsPlaying, PlaysAny, sight_in};
 ghost use Rattle.screenplay.specs.Reading.{as_list};
 ghost use Rattle.screenplay.specs.declared.fault.RunFault.TheVariants.{Step as AtStep, Read, Memory, Write};
 
@@ -91,7 +91,7 @@ fn play_taken(
         → IsPlaying stage terminal.old → PlaysAny stage taken.entry terminal.old terminal.new) }
     ensures err { IfErr result (λ cause. (stage : Stage) → stage.viewport ≡ viewport
         → IsPlaying stage terminal.old
-        → IsCauseAny stage taken.entry (sight_in terminal.old) cause) }
+        → IsCauseOfAnyStep stage taken.entry (sight_in terminal.old) cause) }
 {
     let Some(step) = taken else {
         return Ok(0);

@@ -10,7 +10,7 @@ ghost use Rattle.rtui_buffer.specs.Frame.{IsSettledSheet};
 ghost use Rattle.rtui_buffer.specs.Sheet.{IsEmptied};
 ghost use Rattle.screenplay.specs.Puts.{with_put, with_puts};
 ghost use Rattle.screenplay.specs.Run.{IsGoodStage, IsFrame, text_area, IsRun, IsFault, IsStart};
-ghost use Rattle.screenplay.specs.Playing.{IsPlaying, IsSceneOf, TakesNewSize, IsSizedFor, ShowsFrame, InsertsBuffer, IsFrameCause, IsCause, Plays, sight_in};
+ghost use Rattle.screenplay.specs.Playing.{IsPlaying, IsSceneOf, TakesNewSize, IsSizedFor, ShowsFrame, InsertsBuffer, IsCauseOfFrame, IsCauseOfStep, Plays, sight_in};
 ghost use Rattle.rtui_geometry.specs.declared.rect.Rect.{Rect};
 ghost use Rattle.screenplay.specs.declared.scene.Scene.{Scene};
 ghost use Rattle.screenplay.specs.declared.scene.Stage.{Stage};
@@ -134,7 +134,7 @@ fn draw_frame(
     ensures ok { OnOk result ((stage : Stage) → IsPlaying stage terminal.old
         → IsPlaying stage terminal.new × ShowsFrame text.now puts.now terminal.old terminal.new) }
     ensures err { IfErr result (λ cause. (stage : Stage) → IsPlaying stage terminal.old
-        → IsFrameCause text.now puts.now terminal.old cause) }
+        → IsCauseOfFrame text.now puts.now terminal.old cause) }
 {
     let area = terminal.viewport_area();
     match paint(alloc, terminal.current_buffer_mut(), text, puts) {
@@ -162,7 +162,7 @@ fn draw(
         → Plays stage (Draw size text.now puts.now) terminal.old terminal.new) }
     ensures err { IfErr result (λ cause. (stage : Stage) → stage.viewport ≡ viewport
         → IsPlaying stage terminal.old
-        → IsCause stage (Draw size text.now puts.now) (sight_in terminal.old) cause) }
+        → IsCauseOfStep stage (Draw size text.now puts.now) (sight_in terminal.old) cause) }
 {
     match take_size(terminal, viewport, size) {
         Ok(()) => {}
@@ -217,7 +217,7 @@ fn insert_text(
         → Plays stage (Insert text.now) terminal.old terminal.new) }
     ensures err { IfErr result (λ cause. (stage : Stage) → IsInline stage.viewport
         → IsPlaying stage terminal.old
-        → IsCause stage (Insert text.now) (sight_in terminal.old) cause) }
+        → IsCauseOfStep stage (Insert text.now) (sight_in terminal.old) cause) }
 {
     let area = terminal.viewport_area();
     let (rows, settled) = match text_rows(alloc, area.width, text) {
@@ -245,7 +245,7 @@ fn insert(
         → Plays stage (Insert text.now) terminal.old terminal.new) }
     ensures err { IfErr result (λ cause. (stage : Stage) → stage.viewport ≡ viewport
         → IsPlaying stage terminal.old
-        → IsCause stage (Insert text.now) (sight_in terminal.old) cause) }
+        → IsCauseOfStep stage (Insert text.now) (sight_in terminal.old) cause) }
 {
     match viewport {
         Viewport::Inline(_) => insert_text(alloc, terminal, text),
@@ -276,7 +276,8 @@ pub fn play_step(
     ensures ok { OnOk result ((stage : Stage) → stage.viewport ≡ viewport → IsGoodStage stage
         → IsPlaying stage terminal.old → Plays stage step.now terminal.old terminal.new) }
     ensures err { IfErr result (λ cause. (stage : Stage) → stage.viewport ≡ viewport
-        → IsPlaying stage terminal.old → IsCause stage step.now (sight_in terminal.old) cause) }
+        → IsPlaying stage terminal.old
+        → IsCauseOfStep stage step.now (sight_in terminal.old) cause) }
 {
     match step {
         Step::Draw { size, text, puts } => draw(alloc, terminal, viewport, *size, text, puts),

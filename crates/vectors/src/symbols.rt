@@ -24,23 +24,18 @@ fn short_symbols_are_never_refused(rt: HostRuntime) -> Result<(), Fail> {
     Ok(())
 }
 
-// Whether a cell takes a symbol, or is refused memory and keeps its own.
-fn takes_or_keeps(alloc: Global, symbol: &str) -> bool {
+// Whether a cell takes a symbol in place of its own.
+fn takes(alloc: Global, symbol: &str) -> bool {
     let mut cell = Cell::default();
-    if !cell.set_char(alloc, 'x').is_ok() {
-        return false;
-    }
-    match cell.set_symbol(alloc, symbol) {
-        Ok(_) => cell.symbol() == symbol,
-        Err(_) => cell.symbol() == "x",
-    }
+    cell.set_char(alloc, 'x').is_ok()
+        && cell.set_symbol(alloc, symbol).is_ok()
+        && cell.symbol() == symbol
 }
 
 #[test]
-fn a_cell_keeps_its_symbol_where_a_longer_one_is_refused(rt: HostRuntime) -> Result<(), Fail> {
-    assert!(rt; takes_or_keeps(rt.alloc(), FAMILY_OF_FOUR));
-    assert!(rt; takes_or_keeps(rt.alloc(), "aaaaaaaaaaaaaaaaaaaaaaa"));
-    Ok(())
+fn a_cell_takes_a_long_symbol(rt: HostRuntime) {
+    assert!(rt; takes(rt.alloc(), FAMILY_OF_FOUR));
+    assert!(rt; takes(rt.alloc(), "aaaaaaaaaaaaaaaaaaaaaaa"));
 }
 
 #[test]

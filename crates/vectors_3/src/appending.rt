@@ -1,10 +1,9 @@
 //! What insertions append to the rows above an inline viewport, and that the viewport goes on showing its frame.
-use crate::terminal::write_row;
-use crate::viewports::terminal_over;
+use crate::steps::{Kind, started, write_line};
 use rtui_backend::TestBackend;
 use rtui_buffer::Buffer;
 use rtui_cell::Cell;
-use rtui_terminal::{Terminal, Viewport};
+use rtui_terminal::Terminal;
 use std::alloc::{AllocError, Global};
 use std::process::Abort;
 use std::test::Fail;
@@ -33,7 +32,7 @@ fn rows_above(alloc: Global, terminal: &Terminal<TestBackend>) -> Result<String,
 // A letter in each row of a buffer.
 fn letter_rows(alloc: Global, buffer: &mut Buffer) -> Result<(), AllocError> {
     for y in 0..buffer.area().height {
-        write_row(alloc, buffer, y, if y % 2 == 0 { "a" } else { "b" })?;
+        write_line(alloc, buffer, 0, y, if y % 2 == 0 { "a" } else { "b" })?;
     }
     Ok(())
 }
@@ -50,7 +49,7 @@ fn letters(alloc: Global, count: u16) -> Result<String, AllocError> {
 // Draws a frame with a letter in its first row; whether that is Ok.
 fn draws(alloc: Global, terminal: &mut Terminal<TestBackend>) -> bool {
     let top = terminal.viewport_area().y;
-    let drawn = terminal.draw(|frame| write_row(alloc, frame.buffer_mut(), top, "v"));
+    let drawn = terminal.draw(|frame| write_line(alloc, frame.buffer_mut(), 0, top, "v"));
     drawn.is_ok()
 }
 
@@ -90,7 +89,7 @@ fn appends(
 
 // The same above a viewport of so many rows of a screen of four, whose cursor stood in a row, twice.
 fn appends_above(alloc: Global, wanted: u16, row: u16, count: u16) -> Result<bool, Fail> {
-    let mut terminal = terminal_over(alloc, 1, 4, row, Viewport::Inline(wanted))?;
+    let mut terminal = started(alloc, (1, 4, row, false, Kind::Inline(wanted)))?;
     Ok(
         draws(alloc, &mut terminal)
             && appends(alloc, &mut terminal, count)?

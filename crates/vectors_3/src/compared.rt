@@ -2,7 +2,7 @@
 ghost use Rattle.std.specs.Prelude.{true, []};
 ghost use Rattle.rtui_cell.specs.Look.{empty_look};
 
-use crate::terminal::terminal;
+use crate::steps::terminal;
 use rtui_backend::{AsCell, Backend, ClearType, TestBackend, TestError, WindowSize};
 use rtui_geometry::{Position, Rect, Size};
 use rtui_terminal::{CompletedFrame, Terminal, TerminalError};

@@ -9,20 +9,14 @@ mod calls;
 #[cfg(test)]
 mod compared;
 #[cfg(test)]
-mod failing;
+mod faults;
 #[cfg(test)]
-mod failing_viewports;
-#[cfg(test)]
-mod insertion;
-#[cfg(test)]
-mod marked;
-#[cfg(test)]
-mod memory;
+mod placed;
 #[cfg(test)]
 mod playing;
 #[cfg(test)]
 mod script;
 #[cfg(test)]
-mod terminal;
+mod steps;
 #[cfg(test)]
-mod viewports;
+mod worked;

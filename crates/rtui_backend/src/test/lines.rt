@@ -7,8 +7,8 @@ ghost use Rattle.rtui_cell.specs.Width.{text_width};
 ghost use Rattle.rtui_text.specs.Text.{plain};
 ghost use Rattle.rtui_buffer.specs.Painting.{text_pieces};
 ghost use Rattle.rtui_buffer.specs.Line.{widest, raw_lines};
-ghost use Rattle.rtui_backend.specs.Lines.{symbol_in, symbols_in, HasLines, HaveLines, HasHistory, IsScreenOf};
-ghost use Rattle.rtui_backend.specs.RowMatch.{are_blank, is_piece, pieces_end, spans_end, is_row_of};
+ghost use Rattle.rtui_backend.specs.ScreenLines.{symbol_in, symbols_in, ScreenHasLines, RowsHaveLines, HistoryHasLines, IsScreenOf};
+ghost use Rattle.rtui_backend.specs.RowPieces.{are_blank, is_piece, pieces_end, spans_end, is_row_of};
 ghost use Rattle.rtui_backend.specs.TestBackend.{screen_of};
 
 use crate::test::TestBackend;
@@ -42,7 +42,7 @@ fn is_blank(row: &[Cell], from: usize, to: usize) -> bool
 }
 
 // Whether a symbol of this width stands in a column, and blanks behind it.
-#[tactic(auto, unfolding(crate::specs::RowMatch::is_piece))]
+#[tactic(auto, unfolding(crate::specs::RowPieces::is_piece))]
 fn is_piece(row: &[Cell], x: usize, width: usize, symbol: &str) -> bool
     requires width { width ≡ text_width symbol.now }
     requires wide { 0 < width }
@@ -94,7 +94,7 @@ fn line_end(row: &[Cell], line: &str) -> Option<usize>
 }
 
 // Whether a row shows a line.
-#[tactic(auto, using(crate::proofs::WalkLemmas::row_steps), unfolding(crate::specs::RowMatch::is_row_of))]
+#[tactic(auto, using(crate::proofs::WalkLemmas::row_steps), unfolding(crate::specs::RowPieces::is_row_of))]
 fn row_is(row: &[Cell], line: &str) -> bool
     ensures { result ≡ is_row_of (symbol_in row.now) (length row.now) (map plain (lines line.now)) }
 {
@@ -106,7 +106,7 @@ fn row_is(row: &[Cell], line: &str) -> bool
 
 // Whether rows, each of so many columns, show lines.
 fn rows_are(rows: &[Vec<Cell>], width: usize, lines: &[&str]) -> bool
-    ensures { IsTrue result ↔ HaveLines width (raw_lines lines.now) (map
+    ensures { IsTrue result ↔ RowsHaveLines width (raw_lines lines.now) (map
         (λ row. row.items) rows.now) }
 {
     if rows.len() != lines.len() {
@@ -163,7 +163,7 @@ impl TestBackend {
     /// Whether the screen shows these lines, symbol by symbol, as a buffer made by `Buffer::from_texts` of them does: it
     /// has as many rows as there are lines and as many columns as the widest of them.
     pub fn lines_are(&self, lines: &[&str]) -> bool
-        ensures { IsTrue result ↔ HasLines (raw_lines lines.now) (screen_of self.now) }
+        ensures { IsTrue result ↔ ScreenHasLines (raw_lines lines.now) (screen_of self.now) }
     {
         let area = *self.buffer.area();
         if lines.len() != usize::from(area.height)
@@ -182,7 +182,7 @@ impl TestBackend {
     /// Whether the rows that scrolled off the screen show these lines, symbol by symbol, as a buffer made by
     /// `Buffer::from_texts` of them does: there are as many rows as lines, each as wide as the widest of the lines.
     pub fn scrollback_is(&self, lines: &[&str]) -> bool
-        ensures { IsTrue result ↔ HasHistory (raw_lines lines.now) (screen_of self.now) }
+        ensures { IsTrue result ↔ HistoryHasLines (raw_lines lines.now) (screen_of self.now) }
     {
         rows_are(self.scrollback.as_slice(), texts_width(lines), lines)
     }

@@ -7,8 +7,8 @@ ghost use Rattle.rtui_text.specs.Text.{raw_line};
 ghost use Rattle.rtui_text.specs.Widths.{line_width};
 ghost use Rattle.rtui_buffer.specs.Sheet.{HasRow, position_of, empty_cells, HasRoomFor};
 ghost use Rattle.rtui_buffer.specs.Frame.{IsSettledSheet};
-ghost use Rattle.rtui_buffer.specs.Painting.{text_pieces, columns, painted, IsSameOutside, IsPainted};
-ghost use Rattle.rtui_buffer.specs.PaintedText.{room_at, pieces_at, AreShort, PaintsOr};
+ghost use Rattle.rtui_buffer.specs.Painting.{text_pieces, columns, painted, IsSameOutside, HasPieces};
+ghost use Rattle.rtui_buffer.specs.PaintedText.{room_at, pieces_at, AreShort, PaintsOrRefuses};
 ghost use Rattle.rtui_buffer.specs.Line.{line_pieces, line_pieces_at, widest, lines_area, line_rows, IsOfLines, raw_lines};
 
 use super::painting::{paint_text, room_at};
@@ -32,7 +32,7 @@ impl Buffer {
         requires row { HasRow self.old.area y }
         requires column { self.old.area.x ≤ x }
         ensures paints { let ps = pieces_at self.old.area x max span.now.style span.now.content in
-            PaintsOr (position_of (x, y)) ps result self.old self.new }
+            PaintsOrRefuses (position_of (x, y)) ps result self.old self.new }
         ensures place { let ps = pieces_at self.old.area x max span.now.style span.now.content in
             IfOk result (λ end. end ≡ (x + columns ps, y)) }
     {
@@ -54,7 +54,7 @@ impl Buffer {
         requires row { HasRow self.old.area y }
         requires column { self.old.area.x ≤ x }
         ensures paints { let ps = line_pieces_at self.old.area x max line.now in
-            PaintsOr (position_of (x, y)) ps result self.old self.new }
+            PaintsOrRefuses (position_of (x, y)) ps result self.old self.new }
         ensures place { let ps = line_pieces_at self.old.area x max line.now in
             IfOk result (λ end. end ≡ (x + columns ps, y)) }
     {
@@ -199,7 +199,7 @@ fn paint_spans(
     ensures ok { let ps = line_pieces room base spans.now in
         OnOk result (cells.new ≡ painted start ps cells.old) }
     ensures shown { let ps = line_pieces room base spans.now in
-        OnOk result (IsPainted start ps cells.old cells.new) }
+        OnOk result (HasPieces start ps cells.old cells.new) }
     ensures err { let ps = line_pieces room base spans.now in
         OnErr result (IsSameOutside start (start + columns ps) cells.old cells.new) }
     ensures short { AreShort (line_pieces room base spans.now) → IsOk result }

@@ -8,8 +8,8 @@ ghost use Rattle.rtui_cell.specs.Cell.{empty_cell, styled};
 ghost use Rattle.rtui_cell.specs.Width.{text_width};
 ghost use Rattle.rtui_text.specs.Printable.{ArePrintable, singles};
 ghost use Rattle.rtui_buffer.specs.Sheet.{HasRow, cell_index, position_of};
-ghost use Rattle.rtui_buffer.specs.Painting.{painted_width, piece_of, pieces, text_pieces, columns, shown, emptied, with_piece, painted, IsSameOutside, IsPainted};
-ghost use Rattle.rtui_buffer.specs.PaintedText.{room_at, pieces_at, AreShort, PaintsOr, IsStyledPart, IsStyledRows, IsStyled};
+ghost use Rattle.rtui_buffer.specs.Painting.{painted_width, piece_of, pieces, text_pieces, columns, shown, emptied, with_piece, painted, IsSameOutside, HasPieces};
+ghost use Rattle.rtui_buffer.specs.PaintedText.{room_at, pieces_at, AreShort, PaintsOrRefuses, IsStyledPart, IsStyledRows, IsStyled};
 
 use crate::buffer::Buffer;
 use rtui_cell::{Cell, CellWidth};
@@ -36,7 +36,7 @@ impl Buffer {
         requires row { HasRow self.old.area y }
         requires column { self.old.area.x ≤ x }
         ensures paints { let ps = pieces_at self.old.area x max style text.now in
-            PaintsOr (position_of (x, y)) ps result self.old self.new }
+            PaintsOrRefuses (position_of (x, y)) ps result self.old self.new }
         ensures place { let ps = pieces_at self.old.area x max style text.now in
             IfOk result (λ end. end ≡ (x + columns ps, y)) }
     {
@@ -55,7 +55,7 @@ impl Buffer {
         requires row { HasRow self.old.area y }
         requires column { self.old.area.x ≤ x }
         ensures { let ps = pieces_at self.old.area x 65535 style text.now in
-            PaintsOr (position_of (x, y)) ps result self.old self.new }
+            PaintsOrRefuses (position_of (x, y)) ps result self.old self.new }
     {
         self.set_stringn(x, y, text, usize::MAX, style)?;
         Ok(())
@@ -111,7 +111,7 @@ pub fn paint_text(
     ensures ok { let ps = text_pieces room style text.now in
         OnOk result (cells.new ≡ painted start ps cells.old) }
     ensures shown { let ps = text_pieces room style text.now in
-        OnOk result (IsPainted start ps cells.old cells.new) }
+        OnOk result (HasPieces start ps cells.old cells.new) }
     ensures err { let ps = text_pieces room style text.now in
         OnErr result (IsSameOutside start (start + columns ps) cells.old cells.new) }
     ensures short { AreShort (text_pieces room style text.now) → IsOk result }
@@ -172,7 +172,7 @@ fn paint_graphemes(
     ensures ok { let ps = text_pieces room style text.now in
         OnOk result (cells.new ≡ painted start ps cells.old) }
     ensures shown { let ps = text_pieces room style text.now in
-        OnOk result (IsPainted start ps cells.old cells.new) }
+        OnOk result (HasPieces start ps cells.old cells.new) }
     ensures err { let ps = text_pieces room style text.now in
         OnErr result (IsSameOutside start (start + columns ps) cells.old cells.new) }
     ensures short { AreShort (text_pieces room style text.now) → IsOk result }

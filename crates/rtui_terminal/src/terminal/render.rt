@@ -2,7 +2,7 @@ ghost use Rattle.std.specs.Prelude.{◌≡◌, ◌+◌, ◌%◌, ◌^◌, None, 
 ghost use Rattle.std.specs.Borrow.{sem, RestsIfErr};
 ghost use Rattle.rtui_buffer.specs.Frame.{IsSettledSheet};
 ghost use Rattle.rtui_terminal.specs.InStep.{IsInStep, IsReady};
-ghost use Rattle.rtui_terminal.specs.Frames.{PaintsFrame, AcceptsNewFrame, AcceptsFrames, paints_on};
+ghost use Rattle.rtui_terminal.specs.Frames.{PaintsFrame, AcceptsNewFrame, AcceptsFrames, PaintsCurrent};
 ghost use Rattle.rtui_terminal.specs.Faults.{Faults};
 ghost use Rattle.rtui_terminal.specs.Writing.{Writes, WriteErr, Applies, ApplyErr};
 ghost use Rattle.rtui_terminal.specs.Drawing.{CompletesFrame, DrawOk, FrameOk, FrameErr, DrawErr, TryDrawErr};
@@ -84,7 +84,7 @@ impl<B: Backend> Terminal<B> {
     where
         F: FnOnce(&mut Frame<'_>) -> Result<(), X>,
         requires { AcceptsFrames F.FnOnce render_callback self.old }
-        ensures drawn { let ran = paints_on F.FnOnce render_callback in
+        ensures drawn { let ran = PaintsCurrent F.FnOnce render_callback in
             MatchResult result (FrameOk B.screen ran self.old self.new)
             (FrameErr B.screen ran self.old self.new) }
         ensures faults { Faults result (B.failures self.old.backend) (B.failures self.new.backend) }
@@ -107,7 +107,7 @@ impl<B: Backend> Terminal<B> {
     where
         F: FnOnce(&mut Frame<'_>) -> Result<(), AllocError>,
         requires { AcceptsFrames F.FnOnce render_callback self.old }
-        ensures drawn { let ran = paints_on F.FnOnce render_callback in
+        ensures drawn { let ran = PaintsCurrent F.FnOnce render_callback in
             MatchResult result (λ _. DrawOk B.screen ran self.old self.new)
             (DrawErr B.screen ran self.old self.new) }
         ensures faults { Faults result (B.failures self.old.backend) (B.failures self.new.backend) }
@@ -123,7 +123,7 @@ impl<B: Backend> Terminal<B> {
     where
         F: FnOnce(&mut Frame<'_>) -> Result<(), B::Error>,
         requires { AcceptsFrames F.FnOnce render_callback self.old }
-        ensures drawn { let ran = paints_on F.FnOnce render_callback in
+        ensures drawn { let ran = PaintsCurrent F.FnOnce render_callback in
             MatchResult result (λ _. DrawOk B.screen ran self.old self.new)
             (TryDrawErr B.screen ran self.old self.new) }
         ensures faults { Faults result (B.failures self.old.backend) (B.failures self.new.backend) }
@@ -151,12 +151,12 @@ impl<B: Backend> Terminal<B> {
         ensures* refused { let row = the_row B.row B.Error.row B.Backend B.Error.Debug
             B.Error.Display in
             sem 𝓛 (RestsIfErr row self.entry (λ frame. frame.terminal.ghost_name) result (λ t.
-            IfErr result (DrawErr B.screen (paints_on F.FnOnce render_callback) self.old t)
+            IfErr result (DrawErr B.screen (PaintsCurrent F.FnOnce render_callback) self.old t)
             × Faults result (B.failures self.old.backend) (B.failures t.backend))) }
         ensures same_terminal { IfOk result (λ frame.
             frame.terminal.ghost_name ≡ self.entry.ghost_name) }
         ensures drawn { IfOk result (λ frame.
-            DrawOk B.screen (paints_on F.FnOnce render_callback) self.old frame.terminal.now) }
+            DrawOk B.screen (PaintsCurrent F.FnOnce render_callback) self.old frame.terminal.now) }
         ensures in_step { IfOk result (λ frame. IsReady B.screen self.old
             → IsSettledSheet frame.terminal.now.older → IsInStep B.screen frame.terminal.now) }
         ensures frame { IfOk result (λ frame. CompletesFrame B.failures self.old
@@ -183,12 +183,12 @@ impl<B: Backend> Terminal<B> {
         ensures* refused { let row = the_row B.row B.Error.row B.Backend B.Error.Debug
             B.Error.Display in
             sem 𝓛 (RestsIfErr row self.entry (λ frame. frame.terminal.ghost_name) result (λ t.
-            IfErr result (TryDrawErr B.screen (paints_on F.FnOnce render_callback) self.old t)
+            IfErr result (TryDrawErr B.screen (PaintsCurrent F.FnOnce render_callback) self.old t)
             × Faults result (B.failures self.old.backend) (B.failures t.backend))) }
         ensures same_terminal { IfOk result (λ frame.
             frame.terminal.ghost_name ≡ self.entry.ghost_name) }
         ensures drawn { IfOk result (λ frame.
-            DrawOk B.screen (paints_on F.FnOnce render_callback) self.old frame.terminal.now) }
+            DrawOk B.screen (PaintsCurrent F.FnOnce render_callback) self.old frame.terminal.now) }
         ensures in_step { IfOk result (λ frame. IsReady B.screen self.old
             → IsSettledSheet frame.terminal.now.older → IsInStep B.screen frame.terminal.now) }
         ensures frame { IfOk result (λ frame. CompletesFrame B.failures self.old

@@ -1,11 +1,12 @@
-use Rattle.std.proofs.Common.{List, ℕ, length, map, drop, refl, arith, length-drop}
+use Rattle.std.proofs.Common.{◌≡◌, ◌+◌, ◌-◌, length, take, drop, ap, subst, ◌∙◌, arith, length-drop}
 use Rattle.std.proofs.lemmas.Grind.{common_steps}
 use Rattle.std.proofs.lemmas.List.{map-append}
-use Rattle.std.proofs.lemmas.Iterator.Consumers.{YieldsList-turn, YieldsList-end}
+use Rattle.std.proofs.lemmas.Iterator.Consumers.{YieldsList-so_far, YieldsList-turn, YieldsList-end}
 use Rattle.std.proofs.lemmas.Iterator.Adapters.{YieldsList-from_skip}
 use Rattle.std.proofs.lemmas.Iterator.Splits.{YieldsList-from_lines}
 use Rattle.std.specs.Str.Lines.{lines}
 use Rattle.ratatui_core.specs.Backend.{screen_of}
+use Rattle.logview.specs.Views.{IsViewOf}
 use Rattle.logview.proofs.LogLemmas.{view_more}
 use Rattle.logview.proofs.engine.push_lines.Goals as goal
 
@@ -17,12 +18,24 @@ loop-line-preserved c = record {
       rw map-append (view_more screen_of size _ c.in-Some.line.now c.loop-line.view c.push.new.self before c.in-Ok.ensures.count (c.in-Ok.ensures.pushed before.following));
 }
 
-pub returns-in-Err-clause-high : goal.returns-in-Err-clause-high
-returns-in-Err-clause-high c =
+pub returns-in-Err-clause-err : goal.returns-in-Err-clause-err
+returns-in-Err-clause-err c = λ size start.
     let road = YieldsList-from_skip {s = c.into_iter-line-iterator.result} 1 (YieldsList-from_lines c.args.text.now (cc)) (cc) in
     let turn = YieldsList-turn road c.loop-line.yielded _ c.loop-line.yielded_by c.next.result _ c.in-Some.line c.in-Some.is c.next.ensures.steps in
+    let so_far = YieldsList-so_far road c.loop-line.yielded _ c.loop-line.yielded_by in
     let count = c.loop-line.invariant.count in
-    omega (arith, turn.0, count, length-drop 1 (lines c.args.text.now))
+    let before = c.loop-line.invariant.view size start in
+    let all = length-drop 1 (lines c.args.text.now) in
+    let place : length c.loop-line.yielded ≡ c.loop-line.number + 1 - 2 = omega (arith, count) in
+    record {
+      behind = omega (arith, count);
+      within = omega (arith, turn.0, count, all);
+      old = c.loop-line.view;
+      new = c.push.new.self;
+      error = c.in-Err.field-0;
+      shown = subst (λ pushed. IsViewOf screen_of size pushed c.loop-line.view) (so_far ∙ ap (λ n. take n (drop 1 (lines c.args.text.now))) place) before;
+      refused = c.in-Err.ensures.refused before.following;
+    }
 
 pub returns-clause-ok : goal.returns-clause-ok
 returns-clause-ok c = λ size start.

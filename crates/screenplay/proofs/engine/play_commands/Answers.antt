@@ -2,7 +2,7 @@ use Rattle.std.proofs.Common.{◌≡◌, ◌+◌, take, drop, length, suc, refl,
 use Rattle.std.proofs.Math.Seq.{take-suc, take-length}
 use Rattle.screenplay.specs.Script.{nothing, waiting_after}
 use Rattle.screenplay.specs.Reading.{as_list, kept_after, step_made}
-use Rattle.screenplay.specs.Playing.{IsCauseAny, PlaysAny, sight_in}
+use Rattle.screenplay.specs.Playing.{IsCauseOfAnyStep, PlaysAny, sight_in}
 use Rattle.screenplay.proofs.CommandLemmas.{few_of, HasPlayed-none, HasPlayed-next, IsShownText-all, split_at, StopsBehind-any}
 use Rattle.screenplay.proofs.KeptLemmas.{made_list, made_count, kept_next, plays_kept, cause_kept}
 use Rattle.screenplay.proofs.engine.play_commands.Goals as goal
@@ -47,7 +47,7 @@ returns-in-Err-play_taken-clause-fault c =
     let i = c.loop-command.command-index in
     let command = c.command-item.result in
     let made = c.in-Ok-take_command.ensures.step ∙ ap (λ w. step_made w command) before.kept in
-    let why = cause_kept c.args.stage command before.whole _ _ (subst (λ o. IsCauseAny c.args.stage o (sight_in c.loop-command.terminal) c.in-Err-play_taken.cause) made (c.in-Err-play_taken.ensures.err c.args.stage refl before.played.playing)) in
+    let why = cause_kept c.args.stage command before.whole _ _ (subst (λ o. IsCauseOfAnyStep c.args.stage o (sight_in c.loop-command.terminal) c.in-Err-play_taken.cause) made (c.in-Err-play_taken.ensures.err c.args.stage refl before.played.playing)) in
     rw c.step_fault-in-Err-play_taken.ensures
     (rw (split_at c.args.commands.now i c.command-item.result c.loop-command-test.true c.command-item.is) at
     (StopsBehind-any c.args.stage (take i c.args.commands.now) before.whole c.loop-command.steps c.loop-command.terminal c.loop-command.text.items before.played c.command-item.result

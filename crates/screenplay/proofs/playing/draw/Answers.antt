@@ -1,5 +1,5 @@
 use Rattle.std.proofs.lemmas.Result.{on_ok_weaker, IfErr-weaker}
-use Rattle.screenplay.proofs.PlayLemmas.{Plays-drawn, IsCause-drawn}
+use Rattle.screenplay.proofs.PlayLemmas.{Plays-drawn, IsCauseOfStep-drawn}
 use Rattle.screenplay.proofs.playing.draw.Goals as goal
 
 pub returns-clause-ok : goal.returns-clause-ok
@@ -11,4 +11,4 @@ returns-clause-ok c = on_ok_weaker c.draw_frame.result (λ drawn stage is playin
 pub returns-clause-err : goal.returns-clause-err
 returns-clause-err c = IfErr-weaker c.draw_frame.result _ _ (λ cause why stage is playing.
     let sized = c.in-Ok.ensures stage is playing in
-    IsCause-drawn stage c.args.size c.args.text.now c.args.puts.now c.args.terminal.now _ cause sized.0 sized.1 (why stage sized.0)) c.draw_frame.ensures.err
+    IsCauseOfStep-drawn stage c.args.size c.args.text.now c.args.puts.now c.args.terminal.now _ cause sized.0 sized.1 (why stage sized.0)) c.draw_frame.ensures.err

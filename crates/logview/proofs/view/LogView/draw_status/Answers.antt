@@ -1,8 +1,8 @@
 use Rattle.std.proofs.Common.{rules, refl, subst, arith}
-use Rattle.ratatui_core.specs.Widgets.{PaintsShortText}
+use Rattle.ratatui_core.specs.Widgets.{RendersShortStr}
 use Rattle.logview.specs.Views.{DrawsStatus}
+use Rattle.logview.proofs.StatusLemmas.{ascii-status}
 use Rattle.logview.proofs.ViewLemmas.{draws_status, refused_if}
-use Rattle.logview.proofs.PortLemmas.{short-status}
 use Rattle.logview.proofs.view.LogView.draw_status.Goals as goal
 
 pub returns-clause-ok : goal.returns-clause-ok
@@ -13,12 +13,13 @@ returns-clause-ok g c = λ is.
     (draws_status g.B.Backend.screen v (record { terminal = frame; count = v.count }) _ is refl (λ s cursor painted ran has. search rules) c.in_ok-self.ensures.drawn)
 
 pub returns-in_err-self-clause-err : goal.returns-in_err-self-clause-err
-returns-in_err-self-clause-err g c = λ is.
+returns-in_err-self-clause-err g c = λ areas sized.
     let text = c.status_text-text in
     let by =
-    refused_if g.B.Backend.screen _ c.args.self.now c.draw.follows.lender-at-none _ c.draw.result is
+    refused_if g.B.Backend.screen _ c.args.self.now.terminal c.draw.follows.lender-at-none _ c.draw.result sized areas
     (λ s cursor painted ran.
     let frame = ran.before in
-    let short : PaintsShortText text.result.bytes frame.viewport_area frame.buffer.now = rw text.ensures (short-status c.args.self.now.count (omega arith) frame.viewport_area frame.buffer.now) in
+    let short : RendersShortStr text.result.bytes frame.viewport_area frame.buffer.now =
+    rw text.ensures (c.ascii_texts_take_no_memory.ensures.painted _ frame.viewport_area frame.buffer.now (ascii-status c.args.self.now.count (omega arith))) in
     search rules) (λ s cursor painted ran. search rules) c.draw.follows.holds-at-none in
     search rules

@@ -3,7 +3,7 @@ use Rattle.std.proofs.lemmas.Grind.{common_steps}
 use Rattle.std.specs.Borrow.{Bor}
 use Rattle.std.specs.Str.Lines.{lines}
 use Rattle.rtui_text.specs.Text.{raw_line}
-use Rattle.rtui_backend.specs.Lines.{symbol_in}
+use Rattle.rtui_backend.specs.ScreenLines.{symbol_in}
 use Rattle.rtui_backend.proofs.LineLemmas.{item-map, below-more}
 use Rattle.rtui_backend.proofs.RowLemmas.{row-tells, row-told}
 use Rattle.rtui_backend.proofs.test.TestBackend.lines_are.Goals as goal

@@ -1,6 +1,6 @@
 use Rattle.std.proofs.Common.{◌≡◌, ◌-◌}
-use Rattle.rtui_backend.specs.Lines.{symbol_in}
-use Rattle.rtui_backend.specs.RowMatch.{are_blank}
+use Rattle.rtui_backend.specs.ScreenLines.{symbol_in}
+use Rattle.rtui_backend.specs.RowPieces.{are_blank}
 use Rattle.rtui_backend.proofs.test.lines.is_blank.Given as goal
 
 abbrev pub invariant-loop-x : goal.invariant-loop-x

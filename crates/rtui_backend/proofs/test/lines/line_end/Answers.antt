@@ -3,8 +3,8 @@ use Rattle.std.proofs.lemmas.Iterator.Consumers.{YieldsList-end}
 use Rattle.std.proofs.lemmas.Iterator.Splits.{YieldsList-from_lines}
 use Rattle.std.specs.Str.Iter.{lines_rest}
 use Rattle.rtui_text.specs.Text.{plain}
-use Rattle.rtui_backend.specs.Lines.{symbol_in}
-use Rattle.rtui_backend.specs.RowMatch.{spans_end}
+use Rattle.rtui_backend.specs.ScreenLines.{symbol_in}
+use Rattle.rtui_backend.specs.RowPieces.{spans_end}
 use Rattle.rtui_backend.proofs.WalkLemmas.{spans_end-nil, line-turn, line-over}
 use Rattle.rtui_backend.proofs.test.lines.line_end.Goals as goal
 

@@ -1,8 +1,8 @@
 use Rattle.std.proofs.Common.{length, ◌≡◌, ◌≤◌, map}
 use Rattle.std.specs.Prelude.{IfSome}
 use Rattle.rtui_text.specs.Text.{plain}
-use Rattle.rtui_backend.specs.Lines.{symbol_in}
-use Rattle.rtui_backend.specs.RowMatch.{spans_end}
+use Rattle.rtui_backend.specs.ScreenLines.{symbol_in}
+use Rattle.rtui_backend.specs.RowPieces.{spans_end}
 use Rattle.rtui_backend.proofs.test.lines.line_end.Given as goal
 
 abbrev pub invariant-loop-text : goal.invariant-loop-text

@@ -6,8 +6,8 @@ use Rattle.std.proofs.lemmas.Grind.{common_steps}
 use Rattle.std.proofs.lemmas.List.{length-map, get_or-map}
 use Rattle.rtui_text.specs.Text.{plain, raw_line}
 use Rattle.rtui_buffer.specs.Line.{raw_lines}
-use Rattle.rtui_backend.specs.Lines.{symbol_in, symbols_of_line}
-use Rattle.rtui_backend.specs.RowMatch.{is_row_of}
+use Rattle.rtui_backend.specs.ScreenLines.{symbol_in, symbols_of_line}
+use Rattle.rtui_backend.specs.RowPieces.{is_row_of}
 use Rattle.rtui_backend.proofs.HistoryLemmas.{symbols, row-shows, row-count, row-shown, same-more, same-at}
 use Rattle.rtui_backend.proofs.LineLemmas.{item-map}
 use Rattle.rtui_backend.proofs.test.lines.rows_are.Goals as goal

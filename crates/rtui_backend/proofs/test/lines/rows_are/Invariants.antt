@@ -1,6 +1,6 @@
 use Rattle.std.proofs.Common.{◌≡◌, map, take}
 use Rattle.rtui_buffer.specs.Line.{raw_lines}
-use Rattle.rtui_backend.specs.Lines.{symbols_of_line}
+use Rattle.rtui_backend.specs.ScreenLines.{symbols_of_line}
 use Rattle.rtui_backend.proofs.HistoryLemmas.{symbols}
 use Rattle.rtui_backend.proofs.test.lines.rows_are.Given as goal
 

@@ -2,8 +2,8 @@ use Rattle.std.proofs.Common.{length, ◌≡◌, ◌-◌, ◌≤◌}
 use Rattle.unicode_segmentation.specs.Iter.{graphemes_left}
 use Rattle.rtui_style.specs.Style.{new_style}
 use Rattle.rtui_buffer.specs.Painting.{kept, pieces, text_pieces}
-use Rattle.rtui_backend.specs.Lines.{symbol_in}
-use Rattle.rtui_backend.specs.RowMatch.{pieces_end}
+use Rattle.rtui_backend.specs.ScreenLines.{symbol_in}
+use Rattle.rtui_backend.specs.RowPieces.{pieces_end}
 use Rattle.rtui_backend.proofs.test.lines.text_end.Given as goal
 
 abbrev pub invariant-loop-grapheme : goal.invariant-loop-grapheme

@@ -1,7 +1,7 @@
 use Rattle.std.proofs.Common.{◌≡◌, rules, ap, refl, sym, length, ◌∙◌}
 use Rattle.rtui_buffer.specs.PaintedText.{room_at}
 use Rattle.rtui_buffer.specs.Line.{line_pieces, line_pieces_at}
-use Rattle.rtui_buffer.proofs.TextLemmas.{IsPainted-written, IsSettled-written}
+use Rattle.rtui_buffer.proofs.TextLemmas.{HasPieces-written, IsSettled-written}
 use Rattle.rtui_buffer.proofs.LineLemmas.{line-fits}
 use Rattle.rtui_buffer.proofs.buffer.Buffer.set_line.Goals as goal
 
@@ -17,7 +17,7 @@ returns-clause-paints c =
       ok = record {
         area = ap (λ s. s.area) c.self.view_is;
         room = ap (λ s. s.room) c.self.view_is;
-        cells = IsPainted-written c.args.self.now c.args.x c.args.y _ _ _ _ _ _ _ cells c.as_mut_slice.ensures.value len shown place pieces;
+        cells = HasPieces-written c.args.self.now c.args.x c.args.y _ _ _ _ _ _ _ cells c.as_mut_slice.ensures.value len shown place pieces;
       };
       settled = λ was may.
           IsSettled-written c.args.self.now c.args.x c.args.y _ _ _ _ _ _ _ cells c.as_mut_slice.ensures.value len shown place pieces c.self.inside.area (ap (λ s. s.area) c.self.view_is)

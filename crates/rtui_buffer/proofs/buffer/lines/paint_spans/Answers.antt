@@ -1,7 +1,7 @@
 use Rattle.std.proofs.lemmas.Bool.{false≢true}
 use Rattle.std.proofs.Common.{◌≡◌, ◌∷◌, ◌+◌, rules, arith, drop, ap, ◌∙◌, sym, refl}
 use Rattle.rtui_style.specs.Style.{patch}
-use Rattle.rtui_buffer.proofs.LineLemmas.{span-columns, span-first, span-painted, span-outside, span-refused, span-short, columns-done, painted-done, line_pieces-none, line_pieces-end, spans-more, IsPainted-line}
+use Rattle.rtui_buffer.proofs.LineLemmas.{span-columns, span-first, span-painted, span-outside, span-refused, span-short, columns-done, painted-done, line_pieces-none, line_pieces-end, spans-more, HasPieces-line}
 use Rattle.rtui_buffer.proofs.buffer.lines.paint_spans.Goals as goal
 
 pub loop-span-preserved : goal.loop-span-preserved
@@ -50,7 +50,7 @@ returns-then-used-room-clause-ok c =
 
 pub returns-then-used-room-clause-shown : goal.returns-then-used-room-clause-shown
 returns-then-used-room-clause-shown c =
-    IsPainted-line _ _ _ _ _ _ (painted-done _ _ _ _ (line_pieces-none _ _ _ (omega arith)) c.loop-span.invariant.cells) c.requires.inside
+    HasPieces-line _ _ _ _ _ _ (painted-done _ _ _ _ (line_pieces-none _ _ _ (omega arith)) c.loop-span.invariant.cells) c.requires.inside
 
 pub returns-clause-columns : goal.returns-clause-columns
 returns-clause-columns c =
@@ -62,4 +62,4 @@ returns-clause-ok c =
 
 pub returns-clause-shown : goal.returns-clause-shown
 returns-clause-shown c =
-    IsPainted-line _ _ _ _ _ _ (painted-done _ _ _ _ (line_pieces-end _ _ _ _ c.loop-span-test.false) c.loop-span.invariant.cells) c.requires.inside
+    HasPieces-line _ _ _ _ _ _ (painted-done _ _ _ _ (line_pieces-end _ _ _ _ c.loop-span-test.false) c.loop-span.invariant.cells) c.requires.inside

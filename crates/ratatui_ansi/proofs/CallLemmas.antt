@@ -1,0 +1,118 @@
+-- Moves of the cursor, its visibility, and the screen emptied.
+use Rattle.std.proofs.Common.{◌≡◌, ℕ, ◌-◌, ◌<◌, ◌||◌, min, nat_lt, if◌then◌else◌, Bool, true, false, refl, sym, ap, ap₂, ◌∙◌, arith}
+use Rattle.std.proofs.lemmas.Bool.Decides.{nat_tests}
+use Rattle.rtui_backend.specs.Screen.{Clears, with_cursor, with_visible}
+use Rattle.rtui_backend.specs.declared.clear_type.ClearType.TheVariants.{All}
+use Rattle.ratatui_ansi.specs.Columns.{Column, Columns, Area, look_in, is_known, is_met, blank_column, overwritten}
+use Rattle.ratatui_ansi.specs.Columns.Column.{Shows, Unknown}
+use Rattle.ratatui_ansi.specs.declared.part.Part.TheVariants.{Before}
+use Rattle.ratatui_ansi.specs.Terminal.{Terminal, moved, erased, part_at}
+use Rattle.ratatui_ansi.specs.Terminal as terminal
+use Rattle.ratatui_ansi.specs.Screens.{screen_of, IsKnown, IsWhole, IsWholeAt, IsBlankBeyond}
+use Rattle.ratatui_ansi.proofs.ScrollLemmas.{KeepsReady, blank-whole}
+use Rattle.ratatui_ansi.proofs.RegionLemmas.{none_range, ready-columns, keeps-along, moved-placed}
+
+pub cursor-moved : (w h x y : ℕ) → 0 < w → 0 < h → KeepsReady w h (moved x y) (λ s t. t ≡ with_cursor x y s)
+cursor-moved w h x y wide high s ready =
+    let width : s.width ≡ w = ready.width in
+    let height : s.height ≡ h = ready.height in
+    let kept : min (min x (s.width - 1)) (s.width - 1) ≡ min x (s.width - 1) = omega arith in (
+      record {
+        phase = ready.phase;
+        text = ready.text;
+        width = width;
+        height = height;
+        pen = ready.pen;
+        top = ready.top;
+        bottom = ready.bottom;
+        row = omega arith;
+        sure = ready.sure;
+        known = ready.known;
+        whole = ready.whole;
+        beyond = ready.beyond;
+      },
+      λ written. ap (λ k. record (screen_of written s) { cursor_x = k; cursor_y = min y (s.height - 1) }) kept,
+    )
+
+pub cursor-visible : (w h : ℕ) (visible : Bool) → KeepsReady w h (terminal.with_visible visible) (λ s t. t ≡ with_visible visible s)
+cursor-visible w h visible s ready = (
+  record {
+    phase = ready.phase;
+    text = ready.text;
+    width = ready.width;
+    height = ready.height;
+    pen = ready.pen;
+    top = ready.top;
+    bottom = ready.bottom;
+    row = ready.row;
+    sure = ready.sure;
+    known = ready.known;
+    whole = ready.whole;
+    beyond = ready.beyond;
+  },
+  λ written. refl,
+)
+
+-- ---- the screen emptied
+
+-- the screen's rows are blank, and those below it as they were
+abbrev pub emptied : ℕ → Columns → Columns
+emptied h c a b = if nat_lt b h then blank_column else c a b
+
+emptied-whole : (h : ℕ) (c : Columns) → IsWhole c → IsWhole (emptied h c)
+emptied-whole h c whole a b = elim (nat_lt b h) as (λ p. IsWholeAt (λ k. if p then blank_column else c k b) a (if p then blank_column else c a b)) [ true ↦ blank-whole a | false ↦ whole a b ]
+
+emptied-known : (h : ℕ) (c : Columns) → IsKnown c → IsKnown (emptied h c)
+emptied-known h c known a b = elim (nat_lt b h) as (λ p. is_known (if p then blank_column else c a b) ≡ true) [ true ↦ refl | false ↦ known a b ]
+
+emptied-beyond : (w h : ℕ) (c : Columns) → IsBlankBeyond w c → IsBlankBeyond w (emptied h c)
+emptied-beyond w h c beyond a b out = rw (beyond a b out) (elim (nat_lt b h) as (λ p. (if p then blank_column else blank_column) ≡ blank_column) [ true ↦ refl | false ↦ refl ])
+
+-- no symbol of a row is met by an area that has nothing of the row
+pub not_met : (area : Area) (a b : ℕ) (c : Column) → ((k : ℕ) → area k b ≡ false) → is_met area a b c ≡ false
+not_met area a b (Shows look index count) e = none_range (λ k. area k b) e (a - index) count
+not_met area a b Unknown e = refl
+
+right-end : (p : Bool) → (if p then blank_column else (if p || false then Unknown else blank_column)) ≡ blank_column
+right-end true = refl
+right-end false = refl
+
+erased-emptied : (w h : ℕ) (c : Columns) → 0 < w → 0 < h → IsBlankBeyond w c → (a b : ℕ) → overwritten (part_at Before (w - 1) (h - 1)) (λ i j. blank_column) c a b ≡ emptied h c a b
+erased-emptied w h c wide high beyond a b =
+    let area = part_at Before (w - 1) (h - 1) in
+    elim (nat_lt b h) as (λ p. nat_lt b h ≡ p → (if area a b then blank_column else (if is_met area a b (c a b) then Unknown else c a b)) ≡ (if p then blank_column else c a b)) [
+      | true ↦ λ inside. elim (nat_lt a w) as (λ q. nat_lt a w ≡ q → (if area a b then blank_column else (if is_met area a b (c a b) then Unknown else c a b)) ≡ blank_column) [
+        | true ↦ λ left. let e : area a b ≡ true = grind (arith, nat_tests) in rw e refl
+        | false ↦ λ right.
+            let blank : c a b ≡ blank_column = beyond a b (grind (arith, nat_tests)) in
+            let here : a - 0 ≡ a = omega arith in
+            rw (blank, here) (right-end (area a b))
+      ] refl
+      | false ↦ λ below.
+          let none : (k : ℕ) → area k b ≡ false = λ k. grind (arith, nat_tests) in
+          rw (none a, not_met area a b (c a b) none) refl
+    ] refl
+
+pub screen-emptied : (w h x y : ℕ) → 0 < w → 0 < h → KeepsReady w h (λ t. moved x y (erased Before (moved (w - 1) (h - 1) t))) (λ s t. s.cursor_x ≡ x → s.cursor_y ≡ y → Clears s All t)
+screen-emptied w h x y wide high = keeps-along w h (λ t. moved x y (erased Before (moved (w - 1) (h - 1) t))) (λ t. moved x y (erased Before (record t { x = w - 1; y = h - 1 })))
+    (λ s t. s.cursor_x ≡ x → s.cursor_y ≡ y → Clears s All t)
+    (λ s ready. let width : s.width ≡ w = ready.width in let height : s.height ≡ h = ready.height in
+    ap (λ t. moved x y (erased Before t)) (moved-placed (w - 1) (h - 1) s (omega arith) (omega arith)))
+    (λ s ready.
+    let width : s.width ≡ w = ready.width in
+    let height : s.height ≡ h = ready.height in
+    let u : Terminal = moved x y (erased Before (record s { x = w - 1; y = h - 1 })) in
+    let same : (a b : ℕ) → u.columns a b ≡ emptied h s.columns a b = erased-emptied w h s.columns wide high ready.beyond in
+    let x_in : nat_lt (w - 1) s.width ≡ true = grind (arith, nat_tests) in
+    let sure : u.sure ≡ true = rw (ready.sure, ready.pen, x_in) refl in (
+      ready-columns w h s u (emptied h s.columns) ready ready.phase ready.text refl refl ready.pen ready.top (ready.bottom ∙ sym height) (omega arith) sure same
+          (emptied-known h s.columns ready.known) (emptied-whole h s.columns ready.whole) (emptied-beyond w h s.columns ready.beyond),
+      λ written at_x at_y.
+          let cursor_x : min (min x (s.width - 1)) (s.width - 1) ≡ min s.x (s.width - 1) = omega arith in
+          let row : s.y < h = ready.row in
+          let cursor_y : min y (s.height - 1) ≡ s.y = omega arith in
+          record {
+            rest = ap₂ (λ i j. record (screen_of written s) { grid = λ a b. look_in (u.columns a b); cursor_x = i; cursor_y = j }) cursor_x cursor_y;
+            grid = λ a b a_in b_in. ap look_in (same a b) ∙ (let inside : nat_lt b h ≡ true = grind (arith, nat_tests) in rw inside refl);
+          },
+    ))

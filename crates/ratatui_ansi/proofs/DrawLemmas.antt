@@ -1,0 +1,209 @@
+-- What a sent symbol leaves on a terminal.
+use Rattle.std.proofs.Common.{◌≡◌, ℕ, ◌+◌, ◌-◌, ◌<◌, ◌&&◌, ◌||◌, not, min, Bool, List, [], ◌∷◌, ◌++◌, ◌==◌, length, IsTrue, IsUtf8, chars, true, false, refl, sym, ap, ap₂, ◌∙◌, arith, append-nil, if◌then◌else◌, subst}
+use lib.Utf8.{encode, encodes}
+use Rattle.std.specs.List.{list_all}
+use Rattle.std.specs.Str.{is_utf8}
+use Rattle.std.proofs.lemmas.Bool.Decides.{nat_tests}
+use Rattle.std.proofs.lemmas.List.Folds.{list_all-append}
+use Rattle.std.proofs.lemmas.Str.{chars-nil, chars-append, encodes-chars, IsUtf8-append, IsUtf8-nil, IsUtf8-from_is_utf8}
+use Rattle.rtui_cell.specs.Width.{text_width}
+use Rattle.ratatui_ansi.specs.declared.pen.Pen.{Pen}
+use Rattle.ratatui_ansi.specs.declared.drawing.Brush.{Brush}
+use Rattle.ratatui_ansi.specs.Terminal.{Terminal, settled, rested, printed, prints, types, moved, with_pen, is_plain, is_symbol, begins_anew}
+use Rattle.ratatui_ansi.specs.Terminal.Phase.{Ground}
+use Rattle.ratatui_ansi.specs.Sequences.{feed}
+use Rattle.ratatui_ansi.specs.Sends.{Sends, Does, typed}
+use Rattle.ratatui_ansi.specs.Drawing.{is_one_plain, is_printed, columns_of, IsDrawnBy, drawn_at, Changes, Prints}
+use Rattle.ratatui_ansi.specs.Drawing.Changes.{Stays, Sets}
+use Rattle.ratatui_ansi.proofs.ReadLemmas.{Sends-then}
+use Rattle.ratatui_ansi.proofs.RegionLemmas.{Does-then}
+use Rattle.ratatui_ansi.proofs.TextLemmas.{and-both}
+
+-- how plain characters are printed one after the other
+types-append : (xs ys : List ℕ) (t : Terminal) → types (xs ++ ys) t ≡ types ys (types xs t)
+types-append [] ys t = refl
+types-append (x ∷ xs) ys t = types-append xs ys (prints (encode x) 1 t)
+
+types-text : (xs text : List ℕ) (t : Terminal) → types xs (record t { text = text }) ≡ record (types xs t) { text = text }
+types-text [] text t = refl
+types-text (x ∷ xs) text t = types-text xs text (prints (encode x) 1 t)
+
+printed-plain : (xs : List ℕ) (t : Terminal) → list_all is_plain (chars xs) ≡ true → printed xs t ≡ types (chars xs) t
+printed-plain [] t e = ap (λ cs. types cs t) (sym chars-nil)
+printed-plain (x ∷ xs) t e = rw e refl
+
+and-true : (b : Bool) → (b && true) ≡ b
+and-true true = refl
+and-true false = refl
+
+-- a text of one plain character
+one-char : (cs : List ℕ) → is_one_plain cs ≡ true → (c : ℕ) × ((cs ≡ c ∷ []) × (is_plain c ≡ true))
+one-char [] e = let h : ⊥ = cc in absurd h
+one-char (c ∷ []) e = (c, (refl, sym (and-true (is_plain c)) ∙ e))
+one-char (c ∷ d ∷ cs) e =
+    let two : (length (c ∷ d ∷ cs) == 1) ≡ false = grind (arith, nat_tests) in
+    let h : ⊥ = cc in
+    absurd h
+
+-- a symbol is text in UTF-8
+symbol-utf8 : (symbol : List ℕ) → is_symbol symbol ≡ true → IsUtf8 symbol
+symbol-utf8 symbol is = IsUtf8-from_is_utf8 symbol (and-both (is_utf8 symbol) _ (and-both _ (begins_anew (chars symbol)) is).0).0
+
+one-encoded : (symbol : List ℕ) (c : ℕ) → IsUtf8 symbol → chars symbol ≡ c ∷ [] → encode c ≡ symbol
+one-encoded symbol c utf8 e = sym (append-nil (encode c)) ∙ ap encodes (sym e) ∙ encodes-chars symbol utf8
+
+-- a plain character behind plain text is printed behind it
+pub behind-settled : (symbol : List ℕ) (t : Terminal) → is_symbol symbol ≡ true → is_one_plain (chars symbol) ≡ true → IsUtf8 t.text → list_all is_plain (chars t.text) ≡ true
+    → settled (typed symbol t) ≡ prints symbol 1 (settled t)
+behind-settled symbol t is one utf8 plain =
+    let found = one-char (chars symbol) one in
+    let c = found.0 in
+    let e : chars symbol ≡ c ∷ [] = found.1.0 in
+    let text = t.text ++ symbol in
+    let all_chars : chars text ≡ chars t.text ++ c ∷ [] = chars-append t.text symbol utf8 ∙ ap (λ cs. chars t.text ++ cs) e in
+    let all : list_all is_plain (chars text) ≡ true = ap (list_all is_plain) all_chars ∙ list_all-append is_plain (chars t.text) (c ∷ []) ∙ rw (plain, found.1.1) refl in
+    ap (λ (v : Terminal). record v { text = [] }) (printed-plain text (typed symbol t) all ∙ ap (λ cs. types cs (typed symbol t)) all_chars
+    ∙ types-append (chars t.text) (c ∷ []) (typed symbol t) ∙ ap (prints (encode c) 1) (types-text (chars t.text) text t))
+    ∙ ap (λ (v : Terminal). prints (encode c) 1 (record v { text = [] })) (sym (printed-plain t.text t plain))
+    ∙ ap (λ bs. prints bs 1 (settled t)) (one-encoded symbol c (symbol-utf8 symbol is) e)
+
+flip : (b : Bool) → not b ≡ true → b ≡ false
+flip true e = let h : ⊥ = cc in absurd h
+flip false e = refl
+
+printed-other : (symbol : List ℕ) (t : Terminal) → is_symbol symbol ≡ true → list_all is_plain (chars symbol) ≡ false → printed symbol t ≡ prints symbol (text_width symbol) t
+printed-other [] t is other =
+    let e : list_all is_plain (chars []) ≡ true = ap (list_all is_plain) chars-nil in
+    let h : ⊥ = cc in
+    absurd h
+printed-other (b ∷ bs) t is other =
+    let u : Terminal = prints (b ∷ bs) (text_width (b ∷ bs)) t in
+    rw other (ap (λ v. record u { sure = v }) (ap (λ v. u.sure && v) is ∙ and-true u.sure))
+
+-- a symbol that stands alone between two sequences
+pub alone-settled : (symbol : List ℕ) (t : Terminal) → is_printed symbol ≡ true → t.text ≡ [] → settled (typed symbol t) ≡ prints symbol (columns_of symbol) (settled t)
+alone-settled symbol t is none =
+    let both = and-both (is_symbol symbol) (is_one_plain (chars symbol) || not (list_all is_plain (chars symbol))) is in
+    elim (is_one_plain (chars symbol)) as (λ v. is_one_plain (chars symbol) ≡ v → settled (typed symbol t) ≡ prints symbol (if v then 1 else text_width symbol) (settled t)) [
+      | true ↦ λ one. behind-settled symbol t both.0 one (rw none IsUtf8-nil) (rw none (ap (list_all is_plain) chars-nil))
+      | false ↦ λ many.
+          let not_plain : not (list_all is_plain (chars symbol)) ≡ true = rw many at both.1 in
+          let other : list_all is_plain (chars symbol) ≡ false = flip (list_all is_plain (chars symbol)) not_plain in
+          let text : t.text ++ symbol ≡ symbol = ap (λ xs. xs ++ symbol) none in
+          ap (λ xs. record (printed xs (record t { text = xs })) { text = [] }) text
+          ∙ ap (λ (v : Terminal). record v { text = [] }) (printed-other symbol (record t { text = symbol }) both.0 other)
+          ∙ sym (ap (λ xs. prints symbol (text_width symbol) (record (printed xs t) { text = [] })) none)
+    ] refl
+
+-- ---- a symbol in its place
+
+-- behind a symbol that was printed the terminal is drawn as the brush says
+drawn-behind : (x y : ℕ) (pen : Pen) (symbol : List ℕ) (after : Brush) (t u : Terminal) → u.phase ≡ Ground → after.pen ≡ pen → after.x ≡ x + 1 → after.y ≡ y
+    → rested u ≡ prints symbol (columns_of symbol) (drawn_at x y pen t)
+    → (IsTrue after.is_placed → IsUtf8 u.text × (list_all is_plain (chars u.text) ≡ true) × (is_one_plain (chars symbol) ≡ true))
+    → IsDrawnBy after u
+drawn-behind x y pen symbol after t u ground same column row e placed = record {
+  phase = ground;
+  pen = ap (λ (v : Terminal). v.pen) e ∙ sym same;
+  placed = λ known.
+      let p = placed known in
+      let one : columns_of symbol ≡ 1 = rw p.2 refl in
+      record {
+        utf8 = p.0;
+        plain = p.1;
+        column = ap (λ (v : Terminal). v.x) e ∙ ap (λ k. x + k) one ∙ sym column;
+        row = ap (λ (v : Terminal). v.y) e ∙ sym row;
+      };
+}
+
+-- one plain character is plain text
+one-plain : (cs : List ℕ) → is_one_plain cs ≡ true → list_all is_plain cs ≡ true
+one-plain cs e = (and-both (length cs == 1) (list_all is_plain cs) e).1
+
+more-plain : (xs ys : List ℕ) → IsUtf8 xs → list_all is_plain (chars xs) ≡ true → list_all is_plain (chars ys) ≡ true → list_all is_plain (chars (xs ++ ys)) ≡ true
+more-plain xs ys utf8 e f = ap (list_all is_plain) (chars-append xs ys utf8) ∙ list_all-append is_plain (chars xs) (chars ys) ∙ rw (e, f) refl
+
+-- what a symbol's bytes do to a terminal that has its cursor and its pen
+at-drawn : (x y : ℕ) (pen : Pen) (t : Terminal) → t.x ≡ x → t.y ≡ y → t.pen ≡ pen → t ≡ drawn_at x y pen t
+at-drawn x y pen t ex ey ep = rw (← ex, ← ey, ← ep) refl
+
+-- the cursor and the pen are all that a move changes
+moved-drawn : (x y : ℕ) (pen : Pen) (t : Terminal) → drawn_at x y pen (moved x y t) ≡ drawn_at x y pen t
+moved-drawn x y pen t = refl
+
+-- a symbol behind a sequence
+put-sent : (w h : ℕ) (before : Brush) (x y : ℕ) (pen : Pen) (symbol old new : List ℕ) (action : Terminal → Terminal) → Sends old new (λ t. typed symbol (action (rested t))) → is_printed symbol ≡ true
+    → (after : Brush) → after.pen ≡ pen → after.x ≡ x + 1 → after.y ≡ y → (IsTrue after.is_placed → is_one_plain (chars symbol) ≡ true)
+    → ((t : Terminal) → rested (action (rested t)) ≡ action (rested t))
+    → ((t : Terminal) → (rested t).width ≡ w → (rested t).height ≡ h → IsDrawnBy before t → action (rested t) ≡ drawn_at x y pen (rested t))
+    → Prints w h old before x y pen symbol new after
+put-sent w h before x y pen symbol old new action sends is after same column row single stays drawn_there =
+    let text = (and-both (is_symbol symbol) (is_one_plain (chars symbol) || not (list_all is_plain (chars symbol))) is).0 in
+    let empty : (t : Terminal) → (action (rested t)).text ≡ [] = λ t. ap (λ (v : Terminal). v.text) (sym (stays t)) in
+    let ground : (t : Terminal) → (action (rested t)).phase ≡ Ground = λ t. ap (λ (v : Terminal). v.phase) (sym (stays t)) in
+    let shown : (t : Terminal) → (rested t).width ≡ w → (rested t).height ≡ h → IsDrawnBy before t → rested (feed sends.bytes t) ≡ prints symbol (columns_of symbol) (drawn_at x y pen (rested t))
+    = λ t wide high drawn. ap rested (sends.read t drawn.phase) ∙ ap (λ (v : Terminal). record v { phase = Ground }) (alone-settled symbol (action (rested t)) is (empty t))
+    ∙ ap (prints symbol (columns_of symbol)) (stays t ∙ drawn_there t wide high drawn) in
+    record {
+      bytes = sends.bytes;
+      appended = sends.appended;
+      drawn = λ t wide high drawn.
+          let e : feed sends.bytes t ≡ typed symbol (action (rested t)) = sends.read t drawn.phase in
+          let only : (feed sends.bytes t).text ≡ symbol = ap (λ (v : Terminal). v.text) e ∙ ap (λ xs. xs ++ symbol) (empty t) in
+          drawn-behind x y pen symbol after (rested t) (feed sends.bytes t) (ap (λ (v : Terminal). v.phase) e ∙ ground t) same column row (shown t wide high drawn)
+          (λ known. (subst IsUtf8 (sym only) (symbol-utf8 symbol text), ap (λ xs. list_all is_plain (chars xs)) only ∙ one-plain (chars symbol) (single known), single known));
+      printed = shown;
+    }
+
+-- a plain character where the cursor is
+pub put-here : (w h : ℕ) (before : Brush) (pen : Pen) (symbol old mid new : List ℕ) → Changes before.pen pen old mid → Sends mid new (typed symbol) → IsTrue (is_printed symbol) → IsTrue (is_one_plain (chars symbol))
+    → IsTrue before.is_placed → Prints w h old before before.x before.y pen symbol new (record { pen = pen; is_placed = true; x = before.x + 1; y = before.y })
+put-here w h before pen symbol old mid new changes sends printed one placed =
+    let is : is_printed symbol ≡ true = grind (arith, nat_tests) in
+    let single : is_one_plain (chars symbol) ≡ true = grind (arith, nat_tests) in
+    let text = (and-both (is_symbol symbol) (is_one_plain (chars symbol) || not (list_all is_plain (chars symbol))) is).0 in
+    let utf8 = symbol-utf8 symbol text in
+    let after : Brush = record { pen = pen; is_placed = true; x = before.x + 1; y = before.y } in
+    let columns : 1 ≡ columns_of symbol = rw single refl in
+    elim changes [
+      | Stays same none ↦
+          let shown : (t : Terminal) → IsDrawnBy before t → rested (feed sends.bytes t) ≡ prints symbol (columns_of symbol) (drawn_at before.x before.y pen (rested t)) = λ t drawn.
+          let here = drawn.placed placed in
+          ap rested (sends.read t drawn.phase) ∙ ap (λ (v : Terminal). record v { phase = Ground }) (behind-settled symbol t text single here.utf8 here.plain)
+          ∙ ap₂ (λ n v. prints symbol n v) columns (at-drawn before.x before.y pen (rested t) here.column here.row (drawn.pen ∙ same)) in
+          record {
+            bytes = sends.bytes;
+            appended = sends.appended ∙ ap (λ xs. xs ++ sends.bytes) none;
+            drawn = λ t wide high drawn.
+                let here = drawn.placed placed in
+                let e : feed sends.bytes t ≡ typed symbol t = sends.read t drawn.phase in
+                drawn-behind before.x before.y pen symbol after (rested t) (feed sends.bytes t) (ap (λ (v : Terminal). v.phase) e ∙ drawn.phase) refl refl refl (shown t drawn)
+                (λ known. (
+                  subst IsUtf8 (sym (ap (λ (v : Terminal). v.text) e)) (IsUtf8-append t.text symbol here.utf8 utf8),
+                  ap (λ (v : Terminal). list_all is_plain (chars v.text)) e ∙ more-plain t.text symbol here.utf8 here.plain (one-plain (chars symbol) single),
+                  single,
+                ));
+            printed = λ t wide high drawn. shown t drawn;
+          }
+      | Sets does ↦ put-sent w h before before.x before.y pen symbol old new (with_pen pen) (Sends-then old mid new (λ t. with_pen pen (rested t)) (typed symbol) does sends (λ t. refl)) is after refl refl refl (λ known. single)
+          (λ t. refl) (λ t wide high drawn. let here = drawn.placed placed in at-drawn before.x before.y pen (with_pen pen (rested t)) here.column here.row refl)
+    ]
+
+-- a symbol in a place, with a move
+pub put-there : (w h x y : ℕ) (before after : Brush) (pen : Pen) (symbol old first mid new : List ℕ) → x < w → y < h → Does old first (moved x y) → Changes before.pen pen first mid → Sends mid new (typed symbol)
+    → IsTrue (is_printed symbol) → after.pen ≡ pen → after.x ≡ x + 1 → after.y ≡ y → (IsTrue after.is_placed → is_one_plain (chars symbol) ≡ true) → Prints w h old before x y pen symbol new after
+put-there w h x y before after pen symbol old first mid new x_in y_in moves changes sends printed same column row single =
+    let is : is_printed symbol ≡ true = grind (arith, nat_tests) in
+    let cursor_x : (s : Terminal) → s.width ≡ w → min x (s.width - 1) ≡ x = λ s wide. omega arith in
+    let cursor_y : (s : Terminal) → s.height ≡ h → min y (s.height - 1) ≡ y = λ s high. omega arith in
+    elim changes [
+      | Stays pens none ↦
+          put-sent w h before x y pen symbol old new (moved x y)
+          (Sends-then old first new (λ t. moved x y (rested t)) (typed symbol) moves (subst (λ xs. Sends xs new (typed symbol)) none sends) (λ t. refl)) is after same column row single
+          (λ t. refl) (λ t wide high drawn. at-drawn x y pen (moved x y (rested t)) (cursor_x (rested t) wide) (cursor_y (rested t) high) (drawn.pen ∙ pens) ∙ moved-drawn x y pen (rested t))
+      | Sets does ↦
+          put-sent w h before x y pen symbol old new (λ t. with_pen pen (moved x y t))
+          (Sends-then old mid new (λ t. with_pen pen (moved x y (rested t))) (typed symbol)
+          (Does-then old first mid (moved x y) (with_pen pen) moves does (λ t. refl)) sends (λ t. refl)) is after same column row single
+          (λ t. refl) (λ t wide high drawn. at-drawn x y pen (with_pen pen (moved x y (rested t))) (cursor_x (rested t) wide) (cursor_y (rested t) high) refl ∙ moved-drawn x y pen (rested t))
+    ]

@@ -1,0 +1,297 @@
+-- A pen is read back as it is written.
+use Rattle.std.proofs.Common.{◌≡◌, ℕ, ◌+◌, ◌<◌, ◌^◌, ◌==◌, nat_lt, nat_eq, List, [], ◌∷◌, ◌++◌, Bool, true, false, IsTrue, zero, suc, inl, inr, ◌⊎◌, ◌&&◌, if◌then◌else◌, refl, sym, ap, ◌∙◌, arith, append_assoc}
+use Rattle.std.specs.Fmt.{decimal}
+use Rattle.std.specs.List.{list_all}
+use Rattle.std.specs.Int.RustNames.{bit_and, bit_or}
+use Rattle.std.proofs.lemmas.Bool.Decides.{nat_tests}
+use Rattle.std.proofs.lemmas.List.Folds.{list_all-append}
+use Rattle.rtui_style.specs.declared.color.Color.{Color}
+use Rattle.rtui_style.specs.declared.color.Color.TheVariants.{Reset, Black, Red, Green, Yellow, Blue, Magenta, Cyan, Gray, DarkGray, LightRed, LightGreen, LightYellow, LightBlue, LightMagenta, LightCyan, White, Rgb, Indexed}
+use Rattle.rtui_style.specs.contracts.color.Color as color
+use Rattle.rtui_style.specs.contracts.color.ColorPartialEq.TheImpl as color_equality
+use Rattle.rtui_style.specs.contracts.ModifierPartialEq.TheImpl as modifier_equality
+use Rattle.rtui_cell.proofs.DerivedLemmas.{same_value}
+use Rattle.ratatui_ansi.specs.contracts.pen.PenPartialEq.TheImpl as pen_equality
+use Rattle.std.proofs.lemmas.Bool.Decides.{Decides-eqb}
+use Rattle.rtui_style.specs.declared.Modifier.{Modifier}
+use Rattle.rtui_style.specs.Modifier.{no_modifier, bits_of, modifier_of}
+use Rattle.ratatui_ansi.specs.declared.pen.Pen.{Pen}
+use Rattle.ratatui_ansi.specs.Pen.{Inking, inks, inks_in, own_pen}
+use Rattle.ratatui_ansi.specs.Pen.Awaits.{Nothing}
+use Rattle.ratatui_ansi.specs.Terminal.{Terminal, rested, with_pen}
+use Rattle.ratatui_ansi.specs.Terminal.Phase.{Ground, Sequence}
+use Rattle.ratatui_ansi.specs.Sequences.{feed, performs}
+use Rattle.ratatui_ansi.specs.Parameters.{color_parameters, underline_parameters, modifier_parameters, modifier_parameter, pen_parameters, semicolons, pen_bytes, is_underline, is_told, Tells}
+use Rattle.ratatui_ansi.specs.Sends.{Does}
+use Rattle.ratatui_ansi.proofs.ReadLemmas.{feed-append, number-read, begun}
+use Rattle.ratatui_ansi.proofs.TextLemmas.{and-both}
+
+fits : (p : ℕ) → nat_lt p 256 ≡ true → p < 2 ^ 64
+fits p small =
+    let below : p < 256 = grind (arith, nat_tests) in
+    omega arith
+
+semicolons-append : (ps qs : List ℕ) → semicolons (ps ++ qs) ≡ semicolons ps ++ semicolons qs
+semicolons-append [] qs = refl
+semicolons-append (p ∷ ps) qs =
+    ap (λ rest. 59 ∷ (decimal p ++ rest)) (semicolons-append ps qs) ∙ ap (λ rest. 59 ∷ rest) (sym (append_assoc (decimal p) (semicolons ps) (semicolons qs)))
+
+-- parameters behind others
+pub Tells-then : (a b c ps qs : List ℕ) → Tells a b ps → Tells b c qs → Tells a c (ps ++ qs)
+Tells-then a b c ps qs first second = record {
+  appended = second.appended ∙ ap (λ xs. xs ++ semicolons qs) first.appended ∙ append_assoc a (semicolons ps) (semicolons qs) ∙ ap (λ xs. a ++ xs) (sym (semicolons-append ps qs));
+  small = list_all-append (λ p. nat_lt p 256) ps qs ∙ rw (first.small, second.small) refl;
+}
+
+-- written parameters are the ones that a sequence performs
+pub parameters-read : (ps : List ℕ) → list_all (λ p. nat_lt p 256) ps ≡ true → (done : List ℕ) (n : ℕ) (t : Terminal)
+    → feed (semicolons ps ++ 109 ∷ []) (record t { phase = Sequence false done n }) ≡ performs (done ++ n ∷ ps) 109 (record t { phase = Ground })
+unfolding feed
+parameters-read [] small done n t = refl
+parameters-read (p ∷ ps) small done n t =
+    let rest = semicolons ps ++ 109 ∷ [] in
+    let both = and-both (nat_lt p 256) (list_all (λ q. nat_lt q 256) ps) small in
+    let opened : Terminal = record t { phase = Sequence false (done ++ n ∷ []) 0 } in
+    ap (λ bs. feed bs opened) (append_assoc (decimal p) (semicolons ps) (109 ∷ []))
+    ∙ feed-append (decimal p) rest opened
+    ∙ ap (feed rest) (number-read p (fits p both.0) false (done ++ n ∷ []) t)
+    ∙ parameters-read ps both.1 (done ++ n ∷ []) p t
+    ∙ ap (λ xs. performs xs 109 (record t { phase = Ground })) (append_assoc done (n ∷ []) (p ∷ ps))
+
+pub inks-append : (xs ys : List ℕ) (i : Inking) → inks (xs ++ ys) i ≡ inks ys (inks xs i)
+unfolding inks
+inks-append [] ys i = refl
+inks-append (x ∷ xs) ys i = inks-append xs ys (inks_in i.awaits x i.pen)
+
+-- a pen whose parameters are all read
+abbrev done_with : Pen → Inking
+done_with pen = record { pen = pen; awaits = Nothing }
+
+fg-inks : (c : Color) (pen : Pen) → pen.fg ≡ Reset → inks (color_parameters 30 c) (done_with pen) ≡ done_with (record pen { fg = c })
+unfolding inks
+fg-inks Reset pen e = ap (λ f. done_with (record pen { fg = f })) e
+fg-inks Black pen e = refl
+fg-inks Red pen e = refl
+fg-inks Green pen e = refl
+fg-inks Yellow pen e = refl
+fg-inks Blue pen e = refl
+fg-inks Magenta pen e = refl
+fg-inks Cyan pen e = refl
+fg-inks Gray pen e = refl
+fg-inks DarkGray pen e = refl
+fg-inks LightRed pen e = refl
+fg-inks LightGreen pen e = refl
+fg-inks LightYellow pen e = refl
+fg-inks LightBlue pen e = refl
+fg-inks LightMagenta pen e = refl
+fg-inks LightCyan pen e = refl
+fg-inks White pen e = refl
+fg-inks (Rgb r g b) pen e = refl
+fg-inks (Indexed n) pen e = refl
+
+bg-inks : (c : Color) (pen : Pen) → pen.bg ≡ Reset → inks (color_parameters 40 c) (done_with pen) ≡ done_with (record pen { bg = c })
+unfolding inks
+bg-inks Reset pen e = ap (λ f. done_with (record pen { bg = f })) e
+bg-inks Black pen e = refl
+bg-inks Red pen e = refl
+bg-inks Green pen e = refl
+bg-inks Yellow pen e = refl
+bg-inks Blue pen e = refl
+bg-inks Magenta pen e = refl
+bg-inks Cyan pen e = refl
+bg-inks Gray pen e = refl
+bg-inks DarkGray pen e = refl
+bg-inks LightRed pen e = refl
+bg-inks LightGreen pen e = refl
+bg-inks LightYellow pen e = refl
+bg-inks LightBlue pen e = refl
+bg-inks LightMagenta pen e = refl
+bg-inks LightCyan pen e = refl
+bg-inks White pen e = refl
+bg-inks (Rgb r g b) pen e = refl
+bg-inks (Indexed n) pen e = refl
+
+underline-inks : (c : Color) (pen : Pen) → IsTrue (is_underline c) → pen.underline_color ≡ Reset → inks (underline_parameters c) (done_with pen) ≡ done_with (record pen { underline_color = c })
+unfolding inks
+underline-inks Reset pen told e = ap (λ f. done_with (record pen { underline_color = f })) e
+underline-inks (Rgb r g b) pen told e = refl
+underline-inks (Indexed n) pen told e = refl
+underline-inks _ pen told e = let h : ⊥ = cc in absurd h
+
+-- a set of modifiers with one more, unless it is left out
+abbrev marks : Bool → ℕ → Modifier → Modifier
+marks b v m = if b then m else modifier_of (bit_or (bits_of m) v)
+
+mark-1 : (b : Bool) (pen : Pen) → inks (if b then [] else 1 ∷ []) (done_with pen) ≡ done_with (record pen { modifier = marks b 1 pen.modifier })
+unfolding inks
+mark-1 true pen = refl
+mark-1 false pen = refl
+
+mark-2 : (b : Bool) (pen : Pen) → inks (if b then [] else 2 ∷ []) (done_with pen) ≡ done_with (record pen { modifier = marks b 2 pen.modifier })
+unfolding inks
+mark-2 true pen = refl
+mark-2 false pen = refl
+
+mark-3 : (b : Bool) (pen : Pen) → inks (if b then [] else 3 ∷ []) (done_with pen) ≡ done_with (record pen { modifier = marks b 4 pen.modifier })
+unfolding inks
+mark-3 true pen = refl
+mark-3 false pen = refl
+
+mark-4 : (b : Bool) (pen : Pen) → inks (if b then [] else 4 ∷ []) (done_with pen) ≡ done_with (record pen { modifier = marks b 8 pen.modifier })
+unfolding inks
+mark-4 true pen = refl
+mark-4 false pen = refl
+
+mark-5 : (b : Bool) (pen : Pen) → inks (if b then [] else 5 ∷ []) (done_with pen) ≡ done_with (record pen { modifier = marks b 16 pen.modifier })
+unfolding inks
+mark-5 true pen = refl
+mark-5 false pen = refl
+
+mark-6 : (b : Bool) (pen : Pen) → inks (if b then [] else 6 ∷ []) (done_with pen) ≡ done_with (record pen { modifier = marks b 32 pen.modifier })
+unfolding inks
+mark-6 true pen = refl
+mark-6 false pen = refl
+
+mark-7 : (b : Bool) (pen : Pen) → inks (if b then [] else 7 ∷ []) (done_with pen) ≡ done_with (record pen { modifier = marks b 64 pen.modifier })
+unfolding inks
+mark-7 true pen = refl
+mark-7 false pen = refl
+
+mark-8 : (b : Bool) (pen : Pen) → inks (if b then [] else 8 ∷ []) (done_with pen) ≡ done_with (record pen { modifier = marks b 128 pen.modifier })
+unfolding inks
+mark-8 true pen = refl
+mark-8 false pen = refl
+
+mark-9 : (b : Bool) (pen : Pen) → inks (if b then [] else 9 ∷ []) (done_with pen) ≡ done_with (record pen { modifier = marks b 256 pen.modifier })
+unfolding inks
+mark-9 true pen = refl
+mark-9 false pen = refl
+
+-- the modifiers that are read back
+abbrev read_back : ℕ → ℕ
+read_back bits = (marks (bit_and bits 256 == 0) 256 (marks (bit_and bits 128 == 0) 128 (marks (bit_and bits 64 == 0) 64 (marks (bit_and bits 32 == 0) 32 (marks (bit_and bits 16 == 0) 16 (marks (bit_and bits 8 == 0) 8 (marks (bit_and bits 4 == 0) 4 (marks (bit_and bits 2 == 0) 2 (marks (bit_and bits 1 == 0) 1 no_modifier))))))))).0
+
+modifiers-inked : (bits : ℕ) → inks (modifier_parameters bits) (done_with own_pen) ≡ done_with (record own_pen { modifier = modifier_of (read_back bits) })
+modifiers-inked bits =
+    inks-append (modifier_parameter bits 1 1) (modifier_parameter bits 2 2 ++ (modifier_parameter bits 4 3 ++ (modifier_parameter bits 8 4 ++ (modifier_parameter bits 16 5 ++ (modifier_parameter bits 32 6 ++ (modifier_parameter bits 64 7 ++ (modifier_parameter bits 128 8 ++ modifier_parameter bits 256 9))))))) (done_with own_pen)
+    ∙ ap (inks (modifier_parameter bits 2 2 ++ (modifier_parameter bits 4 3 ++ (modifier_parameter bits 8 4 ++ (modifier_parameter bits 16 5 ++ (modifier_parameter bits 32 6 ++ (modifier_parameter bits 64 7 ++ (modifier_parameter bits 128 8 ++ modifier_parameter bits 256 9)))))))) (mark-1 (bit_and bits 1 == 0) own_pen)
+    ∙ inks-append (modifier_parameter bits 2 2) (modifier_parameter bits 4 3 ++ (modifier_parameter bits 8 4 ++ (modifier_parameter bits 16 5 ++ (modifier_parameter bits 32 6 ++ (modifier_parameter bits 64 7 ++ (modifier_parameter bits 128 8 ++ modifier_parameter bits 256 9)))))) (done_with (record own_pen { modifier = (marks (bit_and bits 1 == 0) 1 own_pen.modifier) }))
+    ∙ ap (inks (modifier_parameter bits 4 3 ++ (modifier_parameter bits 8 4 ++ (modifier_parameter bits 16 5 ++ (modifier_parameter bits 32 6 ++ (modifier_parameter bits 64 7 ++ (modifier_parameter bits 128 8 ++ modifier_parameter bits 256 9))))))) (mark-2 (bit_and bits 2 == 0) (record own_pen { modifier = (marks (bit_and bits 1 == 0) 1 own_pen.modifier) }))
+    ∙ inks-append (modifier_parameter bits 4 3) (modifier_parameter bits 8 4 ++ (modifier_parameter bits 16 5 ++ (modifier_parameter bits 32 6 ++ (modifier_parameter bits 64 7 ++ (modifier_parameter bits 128 8 ++ modifier_parameter bits 256 9))))) (done_with (record own_pen { modifier = (marks (bit_and bits 2 == 0) 2 (marks (bit_and bits 1 == 0) 1 own_pen.modifier)) }))
+    ∙ ap (inks (modifier_parameter bits 8 4 ++ (modifier_parameter bits 16 5 ++ (modifier_parameter bits 32 6 ++ (modifier_parameter bits 64 7 ++ (modifier_parameter bits 128 8 ++ modifier_parameter bits 256 9)))))) (mark-3 (bit_and bits 4 == 0) (record own_pen { modifier = (marks (bit_and bits 2 == 0) 2 (marks (bit_and bits 1 == 0) 1 own_pen.modifier)) }))
+    ∙ inks-append (modifier_parameter bits 8 4) (modifier_parameter bits 16 5 ++ (modifier_parameter bits 32 6 ++ (modifier_parameter bits 64 7 ++ (modifier_parameter bits 128 8 ++ modifier_parameter bits 256 9)))) (done_with (record own_pen { modifier = (marks (bit_and bits 4 == 0) 4 (marks (bit_and bits 2 == 0) 2 (marks (bit_and bits 1 == 0) 1 own_pen.modifier))) }))
+    ∙ ap (inks (modifier_parameter bits 16 5 ++ (modifier_parameter bits 32 6 ++ (modifier_parameter bits 64 7 ++ (modifier_parameter bits 128 8 ++ modifier_parameter bits 256 9))))) (mark-4 (bit_and bits 8 == 0) (record own_pen { modifier = (marks (bit_and bits 4 == 0) 4 (marks (bit_and bits 2 == 0) 2 (marks (bit_and bits 1 == 0) 1 own_pen.modifier))) }))
+    ∙ inks-append (modifier_parameter bits 16 5) (modifier_parameter bits 32 6 ++ (modifier_parameter bits 64 7 ++ (modifier_parameter bits 128 8 ++ modifier_parameter bits 256 9))) (done_with (record own_pen { modifier = (marks (bit_and bits 8 == 0) 8 (marks (bit_and bits 4 == 0) 4 (marks (bit_and bits 2 == 0) 2 (marks (bit_and bits 1 == 0) 1 own_pen.modifier)))) }))
+    ∙ ap (inks (modifier_parameter bits 32 6 ++ (modifier_parameter bits 64 7 ++ (modifier_parameter bits 128 8 ++ modifier_parameter bits 256 9)))) (mark-5 (bit_and bits 16 == 0) (record own_pen { modifier = (marks (bit_and bits 8 == 0) 8 (marks (bit_and bits 4 == 0) 4 (marks (bit_and bits 2 == 0) 2 (marks (bit_and bits 1 == 0) 1 own_pen.modifier)))) }))
+    ∙ inks-append (modifier_parameter bits 32 6) (modifier_parameter bits 64 7 ++ (modifier_parameter bits 128 8 ++ modifier_parameter bits 256 9)) (done_with (record own_pen { modifier = (marks (bit_and bits 16 == 0) 16 (marks (bit_and bits 8 == 0) 8 (marks (bit_and bits 4 == 0) 4 (marks (bit_and bits 2 == 0) 2 (marks (bit_and bits 1 == 0) 1 own_pen.modifier))))) }))
+    ∙ ap (inks (modifier_parameter bits 64 7 ++ (modifier_parameter bits 128 8 ++ modifier_parameter bits 256 9))) (mark-6 (bit_and bits 32 == 0) (record own_pen { modifier = (marks (bit_and bits 16 == 0) 16 (marks (bit_and bits 8 == 0) 8 (marks (bit_and bits 4 == 0) 4 (marks (bit_and bits 2 == 0) 2 (marks (bit_and bits 1 == 0) 1 own_pen.modifier))))) }))
+    ∙ inks-append (modifier_parameter bits 64 7) (modifier_parameter bits 128 8 ++ modifier_parameter bits 256 9) (done_with (record own_pen { modifier = (marks (bit_and bits 32 == 0) 32 (marks (bit_and bits 16 == 0) 16 (marks (bit_and bits 8 == 0) 8 (marks (bit_and bits 4 == 0) 4 (marks (bit_and bits 2 == 0) 2 (marks (bit_and bits 1 == 0) 1 own_pen.modifier)))))) }))
+    ∙ ap (inks (modifier_parameter bits 128 8 ++ modifier_parameter bits 256 9)) (mark-7 (bit_and bits 64 == 0) (record own_pen { modifier = (marks (bit_and bits 32 == 0) 32 (marks (bit_and bits 16 == 0) 16 (marks (bit_and bits 8 == 0) 8 (marks (bit_and bits 4 == 0) 4 (marks (bit_and bits 2 == 0) 2 (marks (bit_and bits 1 == 0) 1 own_pen.modifier)))))) }))
+    ∙ inks-append (modifier_parameter bits 128 8) (modifier_parameter bits 256 9) (done_with (record own_pen { modifier = (marks (bit_and bits 64 == 0) 64 (marks (bit_and bits 32 == 0) 32 (marks (bit_and bits 16 == 0) 16 (marks (bit_and bits 8 == 0) 8 (marks (bit_and bits 4 == 0) 4 (marks (bit_and bits 2 == 0) 2 (marks (bit_and bits 1 == 0) 1 own_pen.modifier))))))) }))
+    ∙ ap (inks (modifier_parameter bits 256 9)) (mark-8 (bit_and bits 128 == 0) (record own_pen { modifier = (marks (bit_and bits 64 == 0) 64 (marks (bit_and bits 32 == 0) 32 (marks (bit_and bits 16 == 0) 16 (marks (bit_and bits 8 == 0) 8 (marks (bit_and bits 4 == 0) 4 (marks (bit_and bits 2 == 0) 2 (marks (bit_and bits 1 == 0) 1 own_pen.modifier))))))) }))
+    ∙ mark-9 (bit_and bits 256 == 0) (record own_pen { modifier = (marks (bit_and bits 128 == 0) 128 (marks (bit_and bits 64 == 0) 64 (marks (bit_and bits 32 == 0) 32 (marks (bit_and bits 16 == 0) 16 (marks (bit_and bits 8 == 0) 8 (marks (bit_and bits 4 == 0) 4 (marks (bit_and bits 2 == 0) 2 (marks (bit_and bits 1 == 0) 1 own_pen.modifier)))))))) })
+
+abbrev up_to : (ℕ → Bool) → ℕ → Bool
+up_to f zero = true
+up_to f (suc n) = f n && up_to f n
+
+less_or_same : (k n : ℕ) → k < n + 1 → (k < n) ⊎ (k ≡ n)
+less_or_same k n below = grind (arith, nat_tests)
+
+up_to-at : (f : ℕ → Bool) (n k : ℕ) → up_to f n ≡ true → k < n → f k ≡ true
+up_to-at f zero k all below = absurd (omega arith)
+up_to-at f (suc n) k all below =
+    let both = and-both (f n) (up_to f n) all in
+    elim (less_or_same k n (omega arith)) [ inl less ↦ up_to-at f n k both.1 less | inr same ↦ rw same both.0 ]
+
+all-back : up_to (λ k. read_back k == k) 512 ≡ true
+all-back = refl
+
+-- the nine modifiers, for each set of them
+modifier-inks : (bits : ℕ) → bits < 512 → inks (modifier_parameters bits) (done_with own_pen) ≡ done_with (record own_pen { modifier = modifier_of bits })
+modifier-inks bits small =
+    let same : (read_back bits == bits) ≡ true = up_to-at (λ k. read_back k == k) 512 bits all-back small in
+    let e : read_back bits ≡ bits = grind (arith, nat_tests) in
+    modifiers-inked bits ∙ ap (λ k. done_with (record own_pen { modifier = modifier_of k })) e
+
+inks-reset : (ps : List ℕ) (pen : Pen) → inks (0 ∷ ps) (done_with pen) ≡ inks ps (done_with own_pen)
+unfolding inks
+inks-reset ps pen = refl
+
+-- the parameters of a pen make it
+inks-pen : (p : Pen) → bits_of p.modifier < 512 → IsTrue (is_underline p.underline_color) → inks (pen_parameters p) (done_with own_pen) ≡ done_with p
+inks-pen p bits told =
+    let m = modifier_parameters (bits_of p.modifier) in
+    let f = color_parameters 30 p.fg in
+    let b = color_parameters 40 p.bg in
+    let u = underline_parameters p.underline_color in
+    let p1 : Pen = record own_pen { modifier = p.modifier } in
+    let p2 : Pen = record p1 { fg = p.fg } in
+    let p3 : Pen = record p2 { bg = p.bg } in
+    inks-append m (f ++ (b ++ u)) (done_with own_pen) ∙ ap (inks (f ++ (b ++ u))) (modifier-inks (bits_of p.modifier) bits)
+    ∙ inks-append f (b ++ u) (done_with p1) ∙ ap (inks (b ++ u)) (fg-inks p.fg p1 refl)
+    ∙ inks-append b u (done_with p2) ∙ ap (inks u) (bg-inks p.bg p2 refl)
+    ∙ underline-inks p.underline_color p3 told refl
+
+-- a pen that can be told is read back
+pen-read : (p : Pen) (t : Terminal) → bits_of p.modifier < 512 → IsTrue (is_underline p.underline_color) → list_all (λ q. nat_lt q 256) (pen_parameters p) ≡ true → t.phase ≡ Ground
+    → feed (pen_bytes p) t ≡ with_pen p (rested t)
+unfolding feed
+pen-read p t bits told small ground =
+    let s : Terminal = rested t in
+    let ps = pen_parameters p in
+    begun (48 ∷ (semicolons ps ++ 109 ∷ [])) t ground
+    ∙ parameters-read ps small [] 0 s
+    ∙ ap (λ (i : Inking). with_pen i.pen s) (inks-reset ps s.pen ∙ inks-pen p bits told)
+
+-- the bytes of a pen that can be told set it
+pub pen-sent : (p : Pen) (old mid new : List ℕ) → IsTrue (is_told p) → Tells (old ++ (27 ∷ 91 ∷ 48 ∷ [])) mid (pen_parameters p) → new ≡ mid ++ 109 ∷ [] → Does old new (with_pen p)
+pen-sent p old mid new is tells e =
+    let told : is_told p ≡ true = grind (arith, nat_tests) in
+    let both = and-both (is_underline p.underline_color) (nat_lt (bits_of p.modifier) 512) told in
+    let bits : bits_of p.modifier < 512 = let test = both.1 in grind (arith, nat_tests) in
+    let underline : IsTrue (is_underline p.underline_color) = let test = both.0 in grind (arith, nat_tests) in
+    let ps = pen_parameters p in
+    let rest = semicolons ps ++ 109 ∷ [] in
+    record {
+      bytes = pen_bytes p;
+      appended = e ∙ ap (λ xs. xs ++ 109 ∷ []) tells.appended ∙ append_assoc (old ++ (27 ∷ 91 ∷ 48 ∷ [])) (semicolons ps) (109 ∷ []) ∙ append_assoc old (27 ∷ 91 ∷ 48 ∷ []) rest;
+      read = λ t ground. pen-read p t bits underline tells.small ground;
+    }
+
+-- ---- equal pens
+
+no_field : (a b : Unit {0}) → true ≡ true → a ≡ b
+no_field a b e = refl
+
+same_number : (a b : ℕ) → nat_eq a b ≡ true → a ≡ b
+same_number a b e = (Decides-eqb a b).0 e
+
+same_index : (a b : ℕ × Unit {0}) → nat_eq a.0 b.0 ≡ true → a ≡ b
+same_index a b e = ap (λ n. (n, tt)) (same_number a.0 b.0 e)
+
+same_channels : (a b : ℕ × (ℕ × (ℕ × Unit {0}))) → (nat_eq a.0 b.0 && (nat_eq a.1.0 b.1.0 && nat_eq a.1.1.0 b.1.1.0)) ≡ true → a ≡ b
+same_channels a b e =
+    let outer = and-both (nat_eq a.0 b.0) (nat_eq a.1.0 b.1.0 && nat_eq a.1.1.0 b.1.1.0) e in
+    let inner = and-both (nat_eq a.1.0 b.1.0) (nat_eq a.1.1.0 b.1.1.0) outer.1 in
+    let first = same_number a.0 b.0 outer.0 in
+    let second = same_number a.1.0 b.1.0 inner.0 in
+    let third = same_number a.1.1.0 b.1.1.0 inner.1 in
+    rw (first, second, third) refl
+
+same_color : (a b : Color) → color_equality.eq-value.it a b ≡ true → a ≡ b
+same_color =
+    let n = no_field in
+    same_value color.enum _
+    (n, (n, (n, (n, (n, (n, (n, (n, (n, (n, (n, (n, (n, (n, (n, (n, (n, (same_channels, (same_index, tt)))))))))))))))))))
+
+pub same_pen : (a b : Pen) → pen_equality.eq-value.it a b ≡ true → a ≡ b
+same_pen a b e =
+    let one = and-both (color_equality.eq-value.it a.fg b.fg) _ e in
+    let two = and-both (color_equality.eq-value.it a.bg b.bg) _ one.1 in
+    let three = and-both (color_equality.eq-value.it a.underline_color b.underline_color) (modifier_equality.eq-value.it a.modifier b.modifier) two.1 in
+    let fg = same_color a.fg b.fg one.0 in
+    let bg = same_color a.bg b.bg two.0 in
+    let underline = same_color a.underline_color b.underline_color three.0 in
+    let modifier : a.modifier ≡ b.modifier = ap modifier_of (same_number (bits_of a.modifier) (bits_of b.modifier) three.1) in
+    rw (fg, bg, underline, modifier) refl

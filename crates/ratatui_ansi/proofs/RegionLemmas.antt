@@ -1,0 +1,477 @@
+-- Regions that scroll, and what a screen shows of it.
+use Rattle.std.proofs.Common.{◌≡◌, ℕ, ◌+◌, ◌-◌, ◌<◌, ◌++◌, ◌==◌, ◌&&◌, min, nat_lt, nat_le, nat_eq, if◌then◌else◌, Bool, List, [], ◌∷◌, zero, suc, true, false, refl, sym, ap, ap₂, map, ◌∙◌, arith, append_assoc, append-nil, subst}
+use Rattle.std.proofs.lemmas.Bool.Decides.{nat_tests}
+use Rattle.std.specs.List.{list_any, range_with_len}
+use Rattle.rtui_cell.specs.Look.{empty_look}
+use Rattle.rtui_backend.specs.Screen.{Screen, ScrollsUp, ScrollsDown, seen, row_of as row_of_screen, upper_part, is_in_region}
+use Rattle.ratatui_ansi.specs.Columns.{Column, Columns, look_in, is_known, is_met, blank_column, overwritten}
+use Rattle.ratatui_ansi.specs.Columns.Column.{Shows, Unknown}
+use Rattle.ratatui_ansi.specs.declared.part.Part.TheVariants.{Line}
+use Rattle.ratatui_ansi.specs.Pen.{own_pen}
+use Rattle.ratatui_ansi.specs.Terminal.{Terminal, rested, moved, erased, line_fed, fed, scrolled, if_so, row_of, is_row_known, returned, raised, lowered, fed_and_lowered, with_region, without_region, lines_deleted, scrolled_down}
+use Rattle.ratatui_ansi.specs.Terminal.Phase.{Ground}
+use Rattle.ratatui_ansi.specs.Screens.{screen_of, IsKnown, IsWhole, IsWholeAt, IsBlankBeyond, IsReady, Turns}
+use Rattle.ratatui_ansi.specs.Sequences.{feed}
+use Rattle.ratatui_ansi.specs.Sends.{Does}
+use Rattle.ratatui_ansi.proofs.ReadLemmas.{Sends-then, line_fed-rested}
+use Rattle.ratatui_ansi.proofs.ScrollLemmas.{KeepsReady, Feeds, fed-feeds, feeds-ready, region_row, map_same, shift, all_range, seen-raised, raised-again, raised-none, raised-known, raised-whole, raised-beyond, whole_along, blank-whole}
+
+-- one action behind another
+pub Does-then : (a b c : List ℕ) (f g : Terminal → Terminal) → Does a b f → Does b c g → ((t : Terminal) → rested (f (rested t)) ≡ f (rested t)) → Does a c (λ t. g (f t))
+Does-then a b c f g first second stays =
+    let both = Sends-then a b c (λ t. f (rested t)) (λ t. g (rested t)) first second (λ t. ap (λ (u : Terminal). u.phase) (sym (stays t))) in
+    record { bytes = both.bytes; appended = both.appended; read = λ t ground. both.read t ground ∙ ap g (stays t) }
+
+-- ---- rows lowered
+
+pub lowered-whole : (from to n : ℕ) (c : Columns) → IsWhole c → IsWhole (lowered from to n c)
+lowered-whole from to n c whole a b =
+    elim (nat_le from b && nat_lt b to) as (λ p. IsWholeAt (λ k. if p then (if nat_le (from + n) b then c k (b - n) else blank_column) else c k b) a
+    (if p then (if nat_le (from + n) b then c a (b - n) else blank_column) else c a b)) [
+      | true ↦ elim (nat_le (from + n) b) as (λ q. IsWholeAt (λ k. if q then c k (b - n) else blank_column) a (if q then c a (b - n) else blank_column))
+          [ true ↦ whole a (b - n) | false ↦ blank-whole a ]
+      | false ↦ whole a b
+    ]
+
+pub lowered-beyond : (w from to n : ℕ) (c : Columns) → IsBlankBeyond w c → IsBlankBeyond w (lowered from to n c)
+lowered-beyond w from to n c beyond a b out =
+    rw (beyond a (b - n) out, beyond a b out) (elim (nat_le from b && nat_lt b to) as (λ p. (if p then (if nat_le (from + n) b then blank_column else blank_column) else blank_column) ≡ blank_column) [
+      | true ↦ elim (nat_le (from + n) b) as (λ q. (if q then blank_column else blank_column) ≡ blank_column) [ true ↦ refl | false ↦ refl ]
+      | false ↦ refl
+    ])
+
+pub lowered-known : (from to n : ℕ) (c : Columns) → IsKnown c → IsKnown (lowered from to n c)
+lowered-known from to n c known a b =
+    elim (nat_le from b && nat_lt b to) as (λ p. is_known (if p then (if nat_le (from + n) b then c a (b - n) else blank_column) else c a b) ≡ true) [
+      | true ↦ elim (nat_le (from + n) b) as (λ q. is_known (if q then c a (b - n) else blank_column) ≡ true) [ true ↦ known a (b - n) | false ↦ refl ]
+      | false ↦ known a b
+    ]
+
+-- ---- what a screen shows
+
+-- a region's end, and the same cut at the screen's end
+cut : (b h y : ℕ) → y < h → nat_lt y (min b h) ≡ nat_lt y b
+cut b h y y_in = grind (arith, nat_tests)
+
+in_region : (a b h y : ℕ) → y < h → (nat_le a y && nat_lt y (min b h)) ≡ is_in_region a b y
+in_region a b h y y_in = let e : nat_lt y (min b h) ≡ nat_lt y b = cut b h y y_in in ap (λ v. nat_le a y && v) e
+
+up-shown : (a b h n : ℕ) (c : Columns) (x y : ℕ) → y < h
+    → look_in (raised a (min b h) n c x y) ≡ (if is_in_region a b y then (if nat_lt (y + n) (min b h) then look_in (c x (y + n)) else empty_look) else look_in (c x y))
+up-shown a b h n c x y y_in = rw (in_region a b h y y_in) (
+    elim (is_in_region a b y) as (λ p. look_in (if p then (if nat_lt (y + n) (min b h) then c x (y + n) else blank_column) else c x y) ≡ (if p then (if nat_lt (y + n) (min b h) then look_in (c x (y + n)) else empty_look) else look_in (c x y)))
+    [ true ↦ elim (nat_lt (y + n) (min b h)) as (λ q. look_in (if q then c x (y + n) else blank_column) ≡ (if q then look_in (c x (y + n)) else empty_look)) [ true ↦ refl | false ↦ refl ] | false ↦ refl ])
+
+down-shown : (a b h n : ℕ) (c : Columns) (x y : ℕ) → y < h
+    → look_in (lowered a (min b h) n c x y) ≡ (if is_in_region a b y then (if nat_le (a + n) y then look_in (c x (y - n)) else empty_look) else look_in (c x y))
+down-shown a b h n c x y y_in = rw (in_region a b h y y_in) (
+    elim (is_in_region a b y) as (λ p. look_in (if p then (if nat_le (a + n) y then c x (y - n) else blank_column) else c x y) ≡ (if p then (if nat_le (a + n) y then look_in (c x (y - n)) else empty_look) else look_in (c x y)))
+    [ true ↦ elim (nat_le (a + n) y) as (λ q. look_in (if q then c x (y - n) else blank_column) ≡ (if q then look_in (c x (y - n)) else empty_look)) [ true ↦ refl | false ↦ refl ] | false ↦ refl ])
+
+-- what stays where only the columns changed
+pub record OnlyColumns (s u : Terminal) (c : Columns) : Type 0 where
+  pub history : u.history ≡ s.history
+  pub width : u.width ≡ s.width
+  pub height : u.height ≡ s.height
+  pub visible : u.visible ≡ s.visible
+  pub columns : (x y : ℕ) → u.columns x y ≡ c x y
+
+pub up-below : (w h a b n written : ℕ) (s u : Terminal) → IsReady w h s → 0 < a → a < min b h → OnlyColumns s u (raised a (min b h) n s.columns)
+    → ScrollsUp a b n (screen_of written s) (screen_of written u)
+up-below w h a b n written s u ready below some only =
+    let high : s.height ≡ h = ready.height in
+    let e : (a == 0) ≡ false = grind (arith, nat_tests) in
+    record {
+      history = rw e only.history;
+      width = only.width;
+      height = only.height;
+      grid = λ x y x_in y_in. ap look_in (only.columns x y) ∙ up-shown a b h n s.columns x y (omega arith)
+          ∙ ap (λ q. if is_in_region a b y then (if nat_lt (y + n) (min b q) then look_in (s.columns x (y + n)) else empty_look) else look_in (s.columns x y)) (sym high);
+      visible = only.visible;
+      written = refl;
+      no_rows = λ none. absurd (omega arith);
+    }
+
+pub down-shows : (w h a b n written : ℕ) (s u : Terminal) → IsReady w h s → a < min b h → OnlyColumns s u (lowered a (min b h) n s.columns)
+    → ScrollsDown a b n (screen_of written s) (screen_of written u)
+down-shows w h a b n written s u ready some only =
+    let high : s.height ≡ h = ready.height in
+    record {
+      history = only.history;
+      width = only.width;
+      height = only.height;
+      grid = λ x y x_in y_in. ap look_in (only.columns x y) ∙ down-shown a b h n s.columns x y (omega arith);
+      visible = only.visible;
+      written = refl;
+      no_rows = λ none. absurd (omega arith);
+    }
+
+-- ---- one row emptied
+
+pub none_range : (f : ℕ → Bool) → ((k : ℕ) → f k ≡ false) → (k n : ℕ) → list_any f (range_with_len k n) ≡ false
+none_range f e k zero = refl
+none_range f e k (suc n) = rw (e k, none_range f e (k + 1) n) refl
+
+-- no symbol reaches into another row
+pub row-met : (r a b : ℕ) (c : Column) → nat_eq b r ≡ false → is_met (λ k j. nat_eq j r) a b c ≡ false
+row-met r a b (Shows look index count) e = none_range (λ k. nat_eq b r) (λ k. e) (a - index) count
+row-met r a b Unknown e = refl
+
+pub row-raised : (r n : ℕ) (c : Columns) (a b : ℕ) → 0 < n → overwritten (λ k j. nat_eq j r) (λ i j. blank_column) c a b ≡ raised r (r + 1) n c a b
+row-raised r n c a b some =
+    elim (nat_eq b r) as (λ v. nat_eq b r ≡ v → (if v then blank_column else (if is_met (λ k j. nat_eq j r) a b (c a b) then Unknown else c a b)) ≡ raised r (r + 1) n c a b) [
+      | true ↦ λ e. let here : (nat_le r b && nat_lt b (r + 1)) ≡ true = grind (arith, nat_tests) in let past : nat_lt (b + n) (r + 1) ≡ false = grind (arith, nat_tests) in rw (here, past) refl
+      | false ↦ λ e. let here : (nat_le r b && nat_lt b (r + 1)) ≡ false = grind (arith, nat_tests) in rw (here, row-met r a b (c a b) e) refl
+    ] refl
+
+pub row-lowered : (r n : ℕ) (c : Columns) (a b : ℕ) → 0 < n → overwritten (λ k j. nat_eq j r) (λ i j. blank_column) c a b ≡ lowered r (r + 1) n c a b
+row-lowered r n c a b some =
+    elim (nat_eq b r) as (λ v. nat_eq b r ≡ v → (if v then blank_column else (if is_met (λ k j. nat_eq j r) a b (c a b) then Unknown else c a b)) ≡ lowered r (r + 1) n c a b) [
+      | true ↦ λ e. let here : (nat_le r b && nat_lt b (r + 1)) ≡ true = grind (arith, nat_tests) in let past : nat_le (r + n) b ≡ false = grind (arith, nat_tests) in rw (here, past) refl
+      | false ↦ λ e. let here : (nat_le r b && nat_lt b (r + 1)) ≡ false = grind (arith, nat_tests) in rw (here, row-met r a b (c a b) e) refl
+    ] refl
+
+-- ---- a terminal that stays ready where its columns change
+
+pub ready-columns : (w h : ℕ) (s u : Terminal) (c : Columns) → IsReady w h s → u.phase ≡ Ground → u.text ≡ [] → u.width ≡ s.width → u.height ≡ s.height → u.pen ≡ own_pen
+    → u.top ≡ 0 → u.bottom ≡ s.height → u.y < h → u.sure ≡ true → ((x y : ℕ) → u.columns x y ≡ c x y) → IsKnown c → IsWhole c → IsBlankBeyond w c → IsReady w h u
+ready-columns w h s u c ready phase text width height pen top bottom row sure columns known whole beyond = record {
+  phase = phase;
+  text = text;
+  width = width ∙ ready.width;
+  height = height ∙ ready.height;
+  pen = pen;
+  top = top;
+  bottom = bottom ∙ ready.height;
+  row = row;
+  sure = sure;
+  known = λ x y. ap is_known (columns x y) ∙ known x y;
+  whole = λ x y. whole_along (λ k. c k y) (λ k. u.columns k y) x (λ k. sym (columns k y)) (whole x y);
+  beyond = λ x y out. columns x y ∙ beyond x y out;
+}
+
+pub keeps-along : (w h : ℕ) (f g : Terminal → Terminal) (related : Screen → Screen → Type 0) → ((s : Terminal) → IsReady w h s → g s ≡ f s) → KeepsReady w h g related → KeepsReady w h f related
+keeps-along w h f g related same keeps s ready =
+    subst (λ u. IsReady w h u × ((written : ℕ) → related (screen_of written s) (screen_of written u))) (same s ready) (keeps s ready)
+
+-- a cursor that is moved on the screen
+pub moved-placed : (x y : ℕ) (t : Terminal) → x < t.width → y < t.height → record t { x = x; y = y } ≡ moved x y t
+moved-placed x y t x_in y_in =
+    let ex : x ≡ min x (t.width - 1) = omega arith in
+    let ey : y ≡ min y (t.height - 1) = omega arith in
+    ap₂ (λ i j. record t { x = i; y = j }) ex ey
+
+-- nothing sent
+pub Turns-none : (w h : ℕ) (old : List ℕ) (related : Screen → Screen → Type 0) → ((written : ℕ) (t : Terminal) → IsReady w h t → related (screen_of written t) (screen_of written t)) → Turns w h old old related
+unfolding feed
+Turns-none w h old related same = record {
+  bytes = [];
+  appended = sym (append-nil old);
+  phase = λ t ground ready. ground;
+  ready = λ t ground ready. ready;
+  shows = λ written t ground ready. same written (rested t) ready;
+}
+
+-- ---- the cases of a scroll
+
+pub row-up : (w h a b n : ℕ) → 0 < w → 0 < a → a < h → min b h ≡ a + 1 → 0 < n → KeepsReady w h (λ t. erased Line (moved 0 a t)) (λ s t. ScrollsUp a b n s t)
+row-up w h a b n some_columns below a_in one some = keeps-along w h (λ t. erased Line (moved 0 a t)) (λ t. erased Line (record t { x = 0; y = a })) (λ s t. ScrollsUp a b n s t)
+    (λ s ready. let wide : s.width ≡ w = ready.width in let high : s.height ≡ h = ready.height in ap (erased Line) (moved-placed 0 a s (omega arith) (omega arith)))
+    (λ s ready.
+    let u : Terminal = erased Line (record s { x = 0; y = a }) in
+    let wide : s.width ≡ w = ready.width in
+    let c = raised a (min b h) n s.columns in
+    let same : (x y : ℕ) → u.columns x y ≡ c x y = λ x y. row-raised a n s.columns x y some ∙ ap (λ to. raised a to n s.columns x y) (sym one) in
+    let x_in : nat_lt 0 s.width ≡ true = grind (arith, nat_tests) in
+    let sure : u.sure ≡ true = rw (ready.sure, ready.pen, x_in) refl in (
+      ready-columns w h s u c ready ready.phase ready.text refl refl ready.pen ready.top (ready.bottom ∙ sym ready.height) a_in sure same
+          (raised-known a (min b h) n s.columns ready.known) (raised-whole a (min b h) n s.columns ready.whole) (raised-beyond w a (min b h) n s.columns ready.beyond),
+      λ written. up-below w h a b n written s u ready below (omega arith) (record { history = refl; width = refl; height = refl; visible = refl; columns = same }),
+    ))
+
+pub row-down : (w h a b n : ℕ) → 0 < w → a < h → min b h ≡ a + 1 → 0 < n → KeepsReady w h (λ t. erased Line (moved 0 a t)) (λ s t. ScrollsDown a b n s t)
+row-down w h a b n some_columns a_in one some = keeps-along w h (λ t. erased Line (moved 0 a t)) (λ t. erased Line (record t { x = 0; y = a })) (λ s t. ScrollsDown a b n s t)
+    (λ s ready. let wide : s.width ≡ w = ready.width in let high : s.height ≡ h = ready.height in ap (erased Line) (moved-placed 0 a s (omega arith) (omega arith)))
+    (λ s ready.
+    let u : Terminal = erased Line (record s { x = 0; y = a }) in
+    let wide : s.width ≡ w = ready.width in
+    let c = lowered a (min b h) n s.columns in
+    let same : (x y : ℕ) → u.columns x y ≡ c x y = λ x y. row-lowered a n s.columns x y some ∙ ap (λ to. lowered a to n s.columns x y) (sym one) in
+    let x_in : nat_lt 0 s.width ≡ true = grind (arith, nat_tests) in
+    let sure : u.sure ≡ true = rw (ready.sure, ready.pen, x_in) refl in (
+      ready-columns w h s u c ready ready.phase ready.text refl refl ready.pen ready.top (ready.bottom ∙ sym ready.height) a_in sure same
+          (lowered-known a (min b h) n s.columns ready.known) (lowered-whole a (min b h) n s.columns ready.whole) (lowered-beyond w a (min b h) n s.columns ready.beyond),
+      λ written. down-shows w h a b n written s u ready (omega arith) (record { history = refl; width = refl; height = refl; visible = refl; columns = same }),
+    ))
+
+pub rows-up : (w h a b n : ℕ) → 0 < w → 0 < a → a + 1 < min b h → KeepsReady w h (λ t. without_region (lines_deleted n (moved 0 a (with_region a (min b h) t)))) (λ s t. ScrollsUp a b n s t)
+rows-up w h a b n some_columns below two =
+    let f : Terminal → Terminal = λ t. without_region (lines_deleted n (moved 0 a (with_region a (min b h) t))) in
+    let g : Terminal → Terminal = λ t. without_region (lines_deleted n (record (with_region a (min b h) t) { x = 0; y = a })) in
+    keeps-along w h f g (λ s t. ScrollsUp a b n s t)
+    (λ s ready. let wide : s.width ≡ w = ready.width in let high : s.height ≡ h = ready.height in
+    ap (λ t. without_region (lines_deleted n t)) (moved-placed 0 a (with_region a (min b h) s) (omega arith) (omega arith)))
+    (λ s ready.
+    let u : Terminal = g s in
+    let high : s.height ≡ h = ready.height in
+    let c = raised a (min b h) n s.columns in
+    let t1 : nat_lt (a + 1) (min b h) ≡ true = grind (arith, nat_tests) in
+    let t2 : nat_le (min b h) s.height ≡ true = grind (arith, nat_tests) in
+    let t3 : nat_lt 0 a ≡ true = grind (arith, nat_tests) in
+    let t4 : nat_le a a ≡ true = grind (arith, nat_tests) in
+    let t5 : nat_lt a (min b h) ≡ true = grind (arith, nat_tests) in
+    let sure : u.sure ≡ true = rw (ready.sure, t1, t2, ready.pen, t3, t4, t5) refl in (
+      ready-columns w h s u c ready ready.phase ready.text refl refl ready.pen refl refl (omega arith) sure (λ x y. refl)
+          (raised-known a (min b h) n s.columns ready.known) (raised-whole a (min b h) n s.columns ready.whole) (raised-beyond w a (min b h) n s.columns ready.beyond),
+      λ written. up-below w h a b n written s u ready below (omega arith) (record { history = refl; width = refl; height = refl; visible = refl; columns = λ x y. refl }),
+    ))
+
+pub rows-down : (w h a b n : ℕ) → a + 1 < min b h → KeepsReady w h (λ t. without_region (scrolled_down n (with_region a (min b h) t))) (λ s t. ScrollsDown a b n s t)
+rows-down w h a b n two s ready =
+    let u : Terminal = without_region (scrolled_down n (with_region a (min b h) s)) in
+    let high : s.height ≡ h = ready.height in
+    let c = lowered a (min b h) n s.columns in
+    let t1 : nat_lt (a + 1) (min b h) ≡ true = grind (arith, nat_tests) in
+    let t2 : nat_le (min b h) s.height ≡ true = grind (arith, nat_tests) in
+    let sure : u.sure ≡ true = rw (ready.sure, t1, t2, ready.pen) refl in (
+      ready-columns w h s u c ready ready.phase ready.text refl refl ready.pen refl refl (omega arith) sure (λ x y. refl)
+          (lowered-known a (min b h) n s.columns ready.known) (lowered-whole a (min b h) n s.columns ready.whole) (lowered-beyond w a (min b h) n s.columns ready.beyond),
+      λ written. down-shows w h a b n written s u ready (omega arith) (record { history = refl; width = refl; height = refl; visible = refl; columns = λ x y. refl }),
+    )
+
+-- ---- the rows of a region at the top, whose first rows go to the history
+
+pub up-first : (w h b n written : ℕ) (s u : Terminal) → IsReady w h s → 0 < min b h
+    → u.history ≡ s.history ++ map (region_row (record s { bottom = min b h })) (range_with_len 0 n)
+    → u.width ≡ s.width → u.height ≡ s.height → u.visible ≡ s.visible → ((x y : ℕ) → u.columns x y ≡ raised 0 (min b h) n s.columns x y)
+    → ScrollsUp 0 b n (screen_of written s) (screen_of written u)
+up-first w h b n written s u ready some history width height visible columns =
+    let high : s.height ≡ h = ready.height in
+    let e : nat_lt 0 (min b s.height) ≡ true = grind (arith, nat_tests) in
+    record {
+      history = rw e (history ∙ ap (λ q. s.history ++ map (λ k. map (λ a. if nat_lt k (min b q) then look_in (s.columns a k) else empty_look) (range_with_len 0 s.width)) (range_with_len 0 n)) (sym high));
+      width = width;
+      height = height;
+      grid = λ x y x_in y_in. ap look_in (columns x y) ∙ up-shown 0 b h n s.columns x y (omega arith)
+          ∙ ap (λ q. if is_in_region 0 b y then (if nat_lt (y + n) (min b q) then look_in (s.columns x (y + n)) else empty_look) else look_in (s.columns x y)) (sym high);
+      visible = visible;
+      written = refl;
+      no_rows = λ none. absurd (omega arith);
+    }
+
+pub screen-up : (w h b n : ℕ) → 0 < w → 0 < h → min b h ≡ h → KeepsReady w h (λ t. fed n (returned (moved 0 (h - 1) t))) (λ s t. ScrollsUp 0 b n s t)
+screen-up w h b n some_columns some_rows all =
+    let f : Terminal → Terminal = λ t. fed n (returned (moved 0 (h - 1) t)) in
+    let g : Terminal → Terminal = λ t. fed n (record t { x = 0; y = h - 1 }) in
+    keeps-along w h f g (λ s t. ScrollsUp 0 b n s t)
+    (λ s ready. let wide : s.width ≡ w = ready.width in let high : s.height ≡ h = ready.height in ap (λ t. fed n (returned t)) (moved-placed 0 (h - 1) s (omega arith) (omega arith)))
+    (λ s ready.
+    let v : Terminal = record s { x = 0; y = h - 1 } in
+    let u : Terminal = fed n v in
+    let bottom : s.bottom ≡ h = ready.bottom in
+    let feeds : Feeds n v u = fed-feeds n v ready.top (λ some. omega arith) in
+    let v_ready : IsReady w h v = record {
+      phase = ready.phase;
+      text = ready.text;
+      width = ready.width;
+      height = ready.height;
+      pen = ready.pen;
+      top = ready.top;
+      bottom = ready.bottom;
+      row = omega arith;
+      sure = ready.sure;
+      known = ready.known;
+      whole = ready.whole;
+      beyond = ready.beyond;
+    } in
+    let same : s.bottom ≡ min b h = bottom ∙ sym all in (
+      feeds-ready w h n v u v_ready some_columns feeds,
+      λ written. up-first w h b n written s u ready (omega arith) (feeds.history ∙ ap (λ q. s.history ++ map (region_row (record s { bottom = q })) (range_with_len 0 n)) same)
+          (ap (λ (t : Terminal). t.width) feeds.rest) (ap (λ (t : Terminal). t.height) feeds.rest) (ap (λ (t : Terminal). t.visible) feeds.rest)
+          (λ x y. feeds.columns x y ∙ ap (λ q. raised 0 q n s.columns x y) same),
+    ))
+
+pub first-up : (w h b n : ℕ) → 0 < w → 1 < min b h → KeepsReady w h (λ t. without_region (fed n (returned (moved 0 (min b h - 1) (with_region 0 (min b h) t))))) (λ s t. ScrollsUp 0 b n s t)
+first-up w h b n some_columns two =
+    let to = min b h in
+    let f : Terminal → Terminal = λ t. without_region (fed n (returned (moved 0 (to - 1) (with_region 0 to t)))) in
+    let g : Terminal → Terminal = λ t. without_region (fed n (record (with_region 0 to t) { x = 0; y = to - 1 })) in
+    keeps-along w h f g (λ s t. ScrollsUp 0 b n s t)
+    (λ s ready. let wide : s.width ≡ w = ready.width in let high : s.height ≡ h = ready.height in
+    ap (λ t. without_region (fed n (returned t))) (moved-placed 0 (to - 1) (with_region 0 to s) (omega arith) (omega arith)))
+    (λ s ready.
+    let v : Terminal = record (with_region 0 to s) { x = 0; y = to - 1 } in
+    let u : Terminal = fed n v in
+    let wide : s.width ≡ w = ready.width in
+    let high : s.height ≡ h = ready.height in
+    let feeds : Feeds n v u = fed-feeds n v refl (λ some. omega arith) in
+    let t1 : nat_lt (0 + 1) to ≡ true = grind (arith, nat_tests) in
+    let t2 : nat_le to s.height ≡ true = grind (arith, nat_tests) in
+    let v_sure : v.sure ≡ true = rw (ready.sure, t1, t2) refl in
+    let sure : u.sure ≡ true = feeds.sure v_sure ready.pen (omega arith) ready.known in (
+      ready-columns w h s (without_region u) (raised 0 to n s.columns) ready (ap (λ (t : Terminal). t.phase) feeds.rest ∙ ready.phase) (ap (λ (t : Terminal). t.text) feeds.rest ∙ ready.text)
+          (ap (λ (t : Terminal). t.width) feeds.rest) (ap (λ (t : Terminal). t.height) feeds.rest) (ap (λ (t : Terminal). t.pen) feeds.rest ∙ ready.pen) refl
+          (ap (λ (t : Terminal). t.height) feeds.rest) (omega arith) sure feeds.columns (raised-known 0 to n s.columns ready.known) (raised-whole 0 to n s.columns ready.whole) (raised-beyond w 0 to n s.columns ready.beyond),
+      λ written. up-first w h b n written s (without_region u) ready (omega arith) feeds.history
+          (ap (λ (t : Terminal). t.width) feeds.rest) (ap (λ (t : Terminal). t.height) feeds.rest) (ap (λ (t : Terminal). t.visible) feeds.rest) feeds.columns,
+    ))
+
+-- ---- the first row alone
+
+pub lowered_line-rested : (t : Terminal) → rested (scrolled_down 1 (line_fed (rested t))) ≡ scrolled_down 1 (line_fed (rested t))
+lowered_line-rested t = sym (ap (scrolled_down 1) (line_fed-rested t) ∙ ap (λ u. rested (scrolled_down 1 u)) (sym (line_fed-rested t)))
+
+pub fed_and_lowered-rested : (n : ℕ) (t : Terminal) → rested t ≡ t → rested (fed_and_lowered n t) ≡ fed_and_lowered n t
+fed_and_lowered-rested zero t e = e
+fed_and_lowered-rested (suc n) t e = fed_and_lowered-rested n (scrolled_down 1 (line_fed t)) (ap (λ u. rested (scrolled_down 1 (line_fed u))) (sym e) ∙ lowered_line-rested t ∙ ap (λ u. scrolled_down 1 (line_fed u)) e)
+
+pub fed_and_lowered-more : (n : ℕ) (t : Terminal) → fed_and_lowered (suc n) t ≡ scrolled_down 1 (line_fed (fed_and_lowered n t))
+fed_and_lowered-more zero t = refl
+fed_and_lowered-more (suc n) t = fed_and_lowered-more n (scrolled_down 1 (line_fed t))
+
+pub rounds-all : (a b : List ℕ) (k n : ℕ) (f : Terminal → Terminal) → k ≡ n → Does a b (λ t. fed_and_lowered k (f t)) → Does a b (λ t. fed_and_lowered n (f t))
+rounds-all a b k n f e does = subst (λ m. Does a b (λ t. fed_and_lowered m (f t))) e does
+
+-- one more round
+pub rounds-more : (a b c : List ℕ) (k : ℕ) (f : Terminal → Terminal) → ((t : Terminal) → rested (f (rested t)) ≡ f (rested t)) → Does a b (λ t. fed_and_lowered k (f t)) → Does b c (λ t. scrolled_down 1 (line_fed t))
+    → Does a c (λ t. fed_and_lowered (k + 1) (f t))
+rounds-more a b c k f stays first next =
+    let both = Does-then a b c (λ t. fed_and_lowered k (f t)) (λ t. scrolled_down 1 (line_fed t)) first next (λ t. fed_and_lowered-rested k (f (rested t)) (stays t)) in
+    let e : suc k ≡ k + 1 = omega arith in
+    record {
+      bytes = both.bytes;
+      appended = both.appended;
+      read = λ t ground. both.read t ground ∙ sym (fed_and_lowered-more k (f (rested t))) ∙ ap (λ n. fed_and_lowered n (f (rested t))) e;
+    }
+
+up_and_down : (c : Columns) (a b : ℕ) → lowered 0 2 1 (raised 0 2 1 c) a b ≡ raised 0 1 1 c a b
+up_and_down c a zero = refl
+up_and_down c a (suc zero) = refl
+up_and_down c a (suc (suc b)) = grind (arith, nat_tests)
+
+raised-along : (from to n : ℕ) (c d : Columns) → ((a b : ℕ) → c a b ≡ d a b) → (a b : ℕ) → raised from to n c a b ≡ raised from to n d a b
+raised-along from to n c d e a b = ap₂ (λ x y. if nat_le from b && nat_lt b to then (if nat_lt (b + n) to then x else blank_column) else y) (e a (b + n)) (e a b)
+
+-- n rounds
+pub record Rounds (n : ℕ) (t u : Terminal) : Type 0 where
+  pub rest : u ≡ record t { columns = u.columns; history = u.history; sure = u.sure }
+  pub columns : (a b : ℕ) → u.columns a b ≡ raised 0 1 n t.columns a b
+  pub history : u.history ≡ t.history ++ map (region_row (record t { bottom = 1 })) (range_with_len 0 n)
+  pub sure : t.sure ≡ true → t.pen ≡ own_pen → t.x < t.width → IsKnown t.columns → u.sure ≡ true
+
+pub rounds-are : (n : ℕ) (t : Terminal) → t.top ≡ 0 → t.bottom ≡ 2 → t.y ≡ 1 → Rounds n t (fed_and_lowered n t)
+rounds-are zero t top bottom y = record {
+  rest = refl;
+  columns = λ a b. raised-none 0 1 t.columns a b;
+  history = sym (append-nil t.history);
+  sure = λ sure pen x known. sure;
+}
+rounds-are (suc n) t top bottom y =
+    let v : Terminal = scrolled (if_so (nat_lt t.x t.width) t) in
+    let s : Terminal = scrolled_down 1 v in
+    let e : nat_eq (t.y + 1) t.bottom ≡ true = grind (arith, nat_tests) in
+    let here : scrolled_down 1 (line_fed t) ≡ s = rw e refl in
+    let once : (a b : ℕ) → s.columns a b ≡ raised 0 1 1 t.columns a b = λ a b. rw (top, bottom) (up_and_down t.columns a b) in
+    let more = rounds-are n s top bottom y in
+    let rows = map (region_row (record s { bottom = 1 })) (range_with_len 0 n) in
+    let next : (k : ℕ) → region_row (record s { bottom = 1 }) k ≡ region_row (record t { bottom = 1 }) (k + 1)
+    = λ k. map_same (λ a. if nat_lt k 1 then look_in (s.columns a k) else empty_look) (λ a. if nat_lt (k + 1) 1 then look_in (t.columns a (k + 1)) else empty_look)
+    (λ a. ap (λ c. if nat_lt k 1 then look_in c else empty_look) (once a k) ∙ seen-raised 1 t.columns a k) (range_with_len 0 t.width) in
+    let after : Rounds (suc n) t (fed_and_lowered n s) = record {
+      rest = more.rest;
+      columns = λ a b. more.columns a b ∙ raised-along 0 1 n s.columns (raised 0 1 1 t.columns) once a b ∙ raised-again 1 n t.columns a b;
+      history = more.history ∙ append_assoc t.history (row_of t 0 ∷ []) rows
+          ∙ ap (λ xs. t.history ++ (row_of t 0 ∷ xs)) (shift (region_row (record t { bottom = 1 })) (region_row (record s { bottom = 1 })) next 0 n);
+      sure = λ sure pen x known.
+          let x_in : nat_lt t.x t.width ≡ true = grind (arith, nat_tests) in
+          let row : is_row_known t 0 ≡ true = all_range (λ a. is_known (t.columns a 0)) (λ a. known a 0) 0 t.width in
+          let now : s.sure ≡ true = rw (sure, x_in, pen, top, row) refl in
+          more.sure now pen x (λ a b. ap is_known (once a b) ∙ raised-known 0 1 1 t.columns known a b);
+    } in
+    subst (Rounds (suc n) t) (sym (ap (fed_and_lowered n) here)) after
+
+pub one-up : (w h b n : ℕ) → 0 < w → 1 < h → min b h ≡ 1 → KeepsReady w h (λ t. without_region (fed_and_lowered n (moved 0 1 (with_region 0 2 t)))) (λ s t. ScrollsUp 0 b n s t)
+one-up w h b n some_columns two one =
+    let f : Terminal → Terminal = λ t. without_region (fed_and_lowered n (moved 0 1 (with_region 0 2 t))) in
+    let g : Terminal → Terminal = λ t. without_region (fed_and_lowered n (record (with_region 0 2 t) { x = 0; y = 1 })) in
+    keeps-along w h f g (λ s t. ScrollsUp 0 b n s t)
+    (λ s ready. let wide : s.width ≡ w = ready.width in let high : s.height ≡ h = ready.height in
+    ap (λ t. without_region (fed_and_lowered n t)) (moved-placed 0 1 (with_region 0 2 s) (omega arith) (omega arith)))
+    (λ s ready.
+    let v : Terminal = record (with_region 0 2 s) { x = 0; y = 1 } in
+    let u : Terminal = fed_and_lowered n v in
+    let wide : s.width ≡ w = ready.width in
+    let high : s.height ≡ h = ready.height in
+    let feeds : Rounds n v u = rounds-are n v refl refl refl in
+    let t2 : nat_le 2 s.height ≡ true = grind (arith, nat_tests) in
+    let v_sure : v.sure ≡ true = rw (ready.sure, t2) refl in
+    let sure : u.sure ≡ true = feeds.sure v_sure ready.pen (omega arith) ready.known in
+    let columns : (x y : ℕ) → u.columns x y ≡ raised 0 (min b h) n s.columns x y = λ x y. feeds.columns x y ∙ ap (λ q. raised 0 q n s.columns x y) (sym one) in (
+      ready-columns w h s (without_region u) (raised 0 (min b h) n s.columns) ready (ap (λ (t : Terminal). t.phase) feeds.rest ∙ ready.phase) (ap (λ (t : Terminal). t.text) feeds.rest ∙ ready.text)
+          (ap (λ (t : Terminal). t.width) feeds.rest) (ap (λ (t : Terminal). t.height) feeds.rest) (ap (λ (t : Terminal). t.pen) feeds.rest ∙ ready.pen) refl
+          (ap (λ (t : Terminal). t.height) feeds.rest) (omega arith) sure columns (raised-known 0 (min b h) n s.columns ready.known) (raised-whole 0 (min b h) n s.columns ready.whole) (raised-beyond w 0 (min b h) n s.columns ready.beyond),
+      λ written. up-first w h b n written s (without_region u) ready (omega arith)
+          (feeds.history ∙ ap (λ q. s.history ++ map (region_row (record s { bottom = q })) (range_with_len 0 n)) (sym one))
+          (ap (λ (t : Terminal). t.width) feeds.rest) (ap (λ (t : Terminal). t.height) feeds.rest) (ap (λ (t : Terminal). t.visible) feeds.rest) columns,
+    ))
+
+-- ---- nothing to scroll
+
+-- where the region has no rows, or they move by none, all stays
+still_history : (a b n written : ℕ) (s : Terminal) → (a < min b s.height → n ≡ 0)
+    → s.history ≡ (if a == 0 && nat_lt 0 (min b s.height) then s.history ++ map (row_of_screen (upper_part b (screen_of written s))) (range_with_len 0 n) else s.history)
+still_history a b n written s none =
+    elim (a == 0 && nat_lt 0 (min b s.height)) as (λ v. (a == 0 && nat_lt 0 (min b s.height)) ≡ v → s.history ≡ (if v then s.history ++ map (row_of_screen (upper_part b (screen_of written s))) (range_with_len 0 n) else s.history)) [
+      | true ↦ λ e. let z : n ≡ 0 = none (grind (arith, nat_tests)) in rw z (sym (append-nil s.history))
+      | false ↦ λ e. refl
+    ] refl
+
+still_column : (a b n written : ℕ) (s : Terminal) (x y : ℕ) → y < s.height → (a < min b s.height → n ≡ 0)
+    → look_in (s.columns x y) ≡ (if is_in_region a b y then seen (upper_part b (screen_of written s)) x (y + n) else look_in (s.columns x y))
+still_column a b n written s x y y_in none =
+    elim (is_in_region a b y) as (λ v. is_in_region a b y ≡ v → look_in (s.columns x y) ≡ (if v then seen (upper_part b (screen_of written s)) x (y + n) else look_in (s.columns x y))) [
+      | true ↦ λ e.
+          let z : n ≡ 0 = none (grind (arith, nat_tests)) in
+          let same : y + n ≡ y = omega arith in
+          let inside : nat_lt y (min b s.height) ≡ true = grind (arith, nat_tests) in
+          rw (same, inside) refl
+      | false ↦ λ e. refl
+    ] refl
+
+still_lowered : (a b n : ℕ) (s : Terminal) (x y : ℕ) → y < s.height → (a < min b s.height → n ≡ 0)
+    → look_in (s.columns x y) ≡ (if is_in_region a b y then (if nat_le (a + n) y then look_in (s.columns x (y - n)) else empty_look) else look_in (s.columns x y))
+still_lowered a b n s x y y_in none =
+    elim (is_in_region a b y) as (λ v. is_in_region a b y ≡ v → look_in (s.columns x y) ≡ (if v then (if nat_le (a + n) y then look_in (s.columns x (y - n)) else empty_look) else look_in (s.columns x y))) [
+      | true ↦ λ e.
+          let z : n ≡ 0 = none (grind (arith, nat_tests)) in
+          let same : y - n ≡ y = omega arith in
+          let inside : nat_le (a + n) y ≡ true = grind (arith, nat_tests) in
+          rw (inside, same) refl
+      | false ↦ λ e. refl
+    ] refl
+
+pub still-up : (w h a b n written : ℕ) (s : Terminal) → IsReady w h s → (a < min b h → n ≡ 0) → ScrollsUp a b n (screen_of written s) (screen_of written s)
+still-up w h a b n written s ready none =
+    let high : s.height ≡ h = ready.height in
+    record {
+      history = still_history a b n written s (λ some. none (rw (← high) some));
+      width = refl;
+      height = refl;
+      grid = λ x y x_in y_in. still_column a b n written s x y y_in (λ some. none (rw (← high) some));
+      visible = refl;
+      written = refl;
+      no_rows = λ empty. refl;
+    }
+
+pub still-down : (w h a b n written : ℕ) (s : Terminal) → IsReady w h s → (a < min b h → n ≡ 0) → ScrollsDown a b n (screen_of written s) (screen_of written s)
+still-down w h a b n written s ready none =
+    let high : s.height ≡ h = ready.height in
+    record {
+      history = refl;
+      width = refl;
+      height = refl;
+      grid = λ x y x_in y_in. still_lowered a b n s x y y_in (λ some. none (rw (← high) some));
+      visible = refl;
+      written = refl;
+      no_rows = λ empty. refl;
+    }

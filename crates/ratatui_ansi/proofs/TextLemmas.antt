@@ -1,0 +1,93 @@
+-- Text, read as it is sent.
+use Rattle.std.proofs.Common.{◌≡◌, ℕ, ◌+◌, ◌/◌, ◌%◌, ◌≤◌, ◌&&◌, not, cond, ltb, List, [], ◌∷◌, Bool, true, false, IsTrue, IsUtf8, chars, refl, sym, ap, ◌∙◌, arith, ◌==◌, append_assoc, append-nil}
+use lib.Utf8.{encode, encodes}
+use Rattle.std.specs.List.{list_all}
+use Rattle.std.specs.Str.{is_utf8}
+use Rattle.std.proofs.lemmas.Bool.Decides.{nat_tests}
+use Rattle.std.proofs.lemmas.List.Folds.{list_all-append}
+use Rattle.std.proofs.lemmas.Str.{encodes-chars, IsUtf8-from_is_utf8, is_utf8-from_IsUtf8}
+use Rattle.ratatui_ansi.specs.Terminal.{Terminal, is_control, is_directional, is_shown, is_plain, is_symbol, begins_anew}
+use Rattle.ratatui_ansi.specs.Terminal.Phase.{Ground}
+use Rattle.ratatui_ansi.specs.Sequences.{feed, reads_in, is_text}
+use Rattle.ratatui_ansi.specs.Sends.{typed}
+
+pub and-both : (a b : Bool) → (a && b) ≡ true → (a ≡ true) × (b ≡ true)
+and-both true b e = (refl, e)
+and-both false b e = let h : ⊥ = cc in absurd h
+
+one-text : (b : ℕ) → is_text b ≡ true → (t : Terminal) → reads_in Ground b t ≡ typed (b ∷ []) t
+one-text b is t =
+    let e : (b == 27) ≡ false = grind (arith, nat_tests) in
+    rw (e, is) refl
+
+-- text is kept as it is read
+pub text-read : (bs : List ℕ) → list_all is_text bs ≡ true → (t : Terminal) → t.phase ≡ Ground → feed bs t ≡ typed bs t
+unfolding feed
+text-read [] all t ground = ap (λ xs. record t { text = xs }) (sym (append-nil t.text))
+text-read (b ∷ bs) all t ground =
+    let both = and-both (is_text b) (list_all is_text bs) all in
+    ap (λ p. feed bs (reads_in p b t)) ground
+    ∙ ap (feed bs) (one-text b both.0 t)
+    ∙ text-read bs both.1 (typed (b ∷ []) t) ground
+    ∙ ap (λ xs. record t { text = xs }) (append_assoc t.text (b ∷ []) bs)
+
+-- a byte that isn't one of ASCII
+high : (b : ℕ) → 128 ≤ b → is_text b ≡ true
+high b big = grind (arith, nat_tests)
+
+one-of : (p q r : Bool) (ws bs cs ds : List ℕ) → list_all is_text ws ≡ true → list_all is_text bs ≡ true → list_all is_text cs ≡ true → list_all is_text ds ≡ true
+    → list_all is_text (cond p ws (cond q bs (cond r cs ds))) ≡ true
+one-of true q r ws bs cs ds a b c d = a
+one-of false true r ws bs cs ds a b c d = b
+one-of false false true ws bs cs ds a b c d = c
+one-of false false false ws bs cs ds a b c d = d
+
+-- a character that is no control character of ASCII has bytes of text
+encode-text : (c : ℕ) → is_text c ≡ true → list_all is_text (encode c) ≡ true
+unfolding encode
+encode-text c is =
+    let a1 = high (128 + c % 64) (omega arith) in
+    let a2 = high (128 + c / 64 % 64) (omega arith) in
+    let a3 = high (128 + c / 4096 % 64) (omega arith) in
+    one-of (ltb c 128) (ltb c 2048) (ltb c 65536) _ _ _ _
+    (rw is refl)
+    (rw (high (192 + c / 64) (omega arith), a1) refl)
+    (rw (high (224 + c / 4096) (omega arith), a2, a1) refl)
+    (rw (high (240 + c / 262144) (omega arith), a3, a2, a1) refl)
+
+encodes-text : (cs : List ℕ) → list_all is_shown cs ≡ true → list_all is_text (encodes cs) ≡ true
+encodes-text [] all = refl
+encodes-text (c ∷ cs) all =
+    let both = and-both (is_shown c) (list_all is_shown cs) all in
+    let shown = and-both (not (is_control c)) (not (is_directional c)) both.0 in
+    let control : not (is_control c) ≡ true = shown.0 in
+    let text : is_text c ≡ true = grind (arith, nat_tests) in
+    list_all-append is_text (encode c) (encodes cs) ∙ rw (encode-text c text, encodes-text cs both.1) refl
+
+last : (b : Bool) → (b && true) ≡ b
+last true = refl
+last false = refl
+
+none : (b : Bool) → (b && false) ≡ false
+none true = refl
+none false = refl
+
+-- a symbol's bytes are bytes of text
+pub symbol-text : (text : List ℕ) → IsTrue (is_symbol text) → list_all is_text text ≡ true
+symbol-text text is =
+    let e : is_symbol text ≡ true = grind (arith, nat_tests) in
+    let utf8 = and-both (is_utf8 text) _ (and-both _ (begins_anew (chars text)) e).0 in
+    ap (list_all is_text) (sym (encodes-chars text (IsUtf8-from_is_utf8 text utf8.0))) ∙ encodes-text (chars text) utf8.1
+
+-- and so are those of a plain character
+pub plain-text : (c : ℕ) → IsTrue (is_plain c) → list_all is_text (encode c) ≡ true
+plain-text c plain =
+    let text : is_text c ≡ true = grind (arith, nat_tests) in
+    encode-text c text
+
+-- what the characters of a text say of it
+pub symbol-then : (text : List ℕ) → IsUtf8 text → begins_anew (chars text) ≡ true → is_symbol text ≡ list_all is_shown (chars text)
+symbol-then text utf8 begins = rw (is_utf8-from_IsUtf8 text utf8, begins) (last (list_all is_shown (chars text)))
+
+pub symbol-else : (text : List ℕ) → begins_anew (chars text) ≡ false → is_symbol text ≡ false
+symbol-else text begins = rw begins (none (is_utf8 text && list_all is_shown (chars text)))

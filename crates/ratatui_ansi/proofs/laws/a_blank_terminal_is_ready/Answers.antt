@@ -1,0 +1,19 @@
+use Rattle.std.proofs.Common.{refl}
+use Rattle.ratatui_ansi.proofs.ScrollLemmas.{blank-whole}
+use Rattle.ratatui_ansi.proofs.laws.a_blank_terminal_is_ready.Goals as goal
+
+pub returns : goal.returns
+returns c = λ w h some. record {
+  phase = refl;
+  text = refl;
+  width = refl;
+  height = refl;
+  pen = refl;
+  top = refl;
+  bottom = refl;
+  row = some;
+  sure = refl;
+  known = λ a b. refl;
+  whole = λ a b. blank-whole a;
+  beyond = λ a b out. refl;
+}

@@ -1,0 +1,52 @@
+-- What a symbol put in its place does to the terminal that reads it.
+use Rattle.std.specs.Prelude.{◌≡◌, ℕ, ◌&&◌, ◌||◌, not, Bool, true, IsTrue, if◌then◌else◌, List, ◌++◌, ◌==◌, length, chars, IsUtf8}
+use Rattle.std.specs.List.{list_all}
+use Rattle.rtui_cell.specs.Width.{text_width}
+use Rattle.ratatui_ansi.specs.declared.pen.Pen.{Pen}
+use Rattle.ratatui_ansi.specs.declared.drawing.Brush.{Brush}
+use Rattle.ratatui_ansi.specs.Terminal.{Terminal, rested, prints, with_pen, is_plain, is_symbol}
+use Rattle.ratatui_ansi.specs.Terminal.Phase.{Ground}
+use Rattle.ratatui_ansi.specs.Sequences.{feed}
+use Rattle.ratatui_ansi.specs.Sends.{Does}
+
+-- whether these are one plain character
+abbrev pub is_one_plain : List ℕ → Bool
+is_one_plain cs = (length cs == 1) && list_all is_plain cs
+
+-- a symbol that is printed as one: a plain character, or a text that isn't plain throughout
+abbrev pub is_printed : List ℕ → Bool
+is_printed text = is_symbol text && (is_one_plain (chars text) || not (list_all is_plain (chars text)))
+
+-- its columns
+abbrev pub columns_of : List ℕ → ℕ
+columns_of text = if is_one_plain (chars text) then 1 else text_width text
+
+-- bytes were appended that set a pen where the terminal has another, and none where it has this one
+pub data Changes (from to : Pen) (old new : List ℕ) : Type 0 where
+  Stays : from ≡ to → new ≡ old → Changes from to old new
+  Sets : Does old new (with_pen to) → Changes from to old new
+
+-- the next plain character would be printed in this column and row
+pub record IsPlaced (x y : ℕ) (t : Terminal) : Type 0 where
+  pub utf8 : IsUtf8 t.text
+  pub plain : list_all is_plain (chars t.text) ≡ true
+  pub column : (rested t).x ≡ x
+  pub row : (rested t).y ≡ y
+
+-- a terminal that awaits text and prints as the brush says
+pub record IsDrawnBy (brush : Brush) (t : Terminal) : Type 0 where
+  pub phase : t.phase ≡ Ground
+  pub pen : (rested t).pen ≡ brush.pen
+  pub placed : IsTrue brush.is_placed → IsPlaced brush.x brush.y t
+
+-- with the cursor in a column and a row, and a pen
+abbrev pub drawn_at : ℕ → ℕ → Pen → Terminal → Terminal
+drawn_at x y pen t = record t { x = x; y = y; pen = pen }
+
+-- bytes were appended that print a symbol in a column and a row of a screen of this size, in a pen, and nothing else
+pub record Prints (w h : ℕ) (old : List ℕ) (before : Brush) (x y : ℕ) (pen : Pen) (symbol : List ℕ) (new : List ℕ) (after : Brush) : Type 0 where
+  pub bytes : List ℕ
+  pub appended : new ≡ old ++ bytes
+  pub drawn : (t : Terminal) → (rested t).width ≡ w → (rested t).height ≡ h → IsDrawnBy before t → IsDrawnBy after (feed bytes t)
+  pub printed : (t : Terminal) → (rested t).width ≡ w → (rested t).height ≡ h → IsDrawnBy before t
+      → rested (feed bytes t) ≡ prints symbol (columns_of symbol) (drawn_at x y pen (rested t))

@@ -1,0 +1,72 @@
+-- What a terminal shows, as the backends' contract speaks of it, and when it is ready for a call of a backend.
+use Rattle.std.specs.Prelude.{◌≡◌, ℕ, ◌+◌, ◌-◌, ◌<◌, ◌≤◌, min, true, false, List, [], ◌++◌}
+use Rattle.rtui_cell.specs.Look.{Look}
+use Rattle.rtui_backend.specs.Screen.{Screen}
+use Rattle.ratatui_ansi.specs.Columns.{Column, Columns, blank_column, look_in, is_known, is_behind, overwritten}
+use Rattle.ratatui_ansi.specs.Columns.Column.{Shows, Unknown}
+use Rattle.ratatui_ansi.specs.Pen.{own_pen}
+use Rattle.ratatui_ansi.specs.Terminal.{Terminal, rested, run}
+use Rattle.ratatui_ansi.specs.Terminal.Phase.{Ground}
+use Rattle.ratatui_ansi.specs.Sequences.{feed}
+
+-- the screen of a terminal, on which so many items were drawn; a cursor behind the last column is shown in it
+abbrev pub screen_of : ℕ → Terminal → Screen
+screen_of written t = record {
+  history = t.history;
+  width = t.width;
+  height = t.height;
+  grid = λ a b. look_in (t.columns a b);
+  cursor_x = min t.x (t.width - 1);
+  cursor_y = t.y;
+  visible = t.visible;
+  written = written;
+}
+
+-- all columns are known
+abbrev pub IsKnown : Columns → Type 0
+IsKnown columns = (a b : ℕ) → is_known (columns a b) ≡ true
+
+-- of what stands in column a of a row the whole symbol stands there
+abbrev pub IsWholeAt : (ℕ → Column) → ℕ → Column → Type 0
+IsWholeAt row a (Shows look index count) = (index < count) × (index ≤ a) × ((j : ℕ) → j < count → row ((a - index) + j) ≡ Shows look j count)
+IsWholeAt row a Unknown = Unit {0}
+
+-- no symbol is cut
+abbrev pub IsWhole : Columns → Type 0
+IsWhole columns = (a b : ℕ) → IsWholeAt (λ k. columns k b) a (columns a b)
+
+-- nothing stands right of the screen
+abbrev pub IsBlankBeyond : ℕ → Columns → Type 0
+IsBlankBeyond w columns = (a b : ℕ) → w ≤ a → columns a b ≡ blank_column
+
+-- a terminal of this size that awaits text and is sure, with its own pen, no margins, all of its symbols whole, and its cursor in its rows
+pub record IsReady (w h : ℕ) (t : Terminal) : Type 0 where
+  pub phase : t.phase ≡ Ground
+  pub text : t.text ≡ []
+  pub width : t.width ≡ w
+  pub height : t.height ≡ h
+  pub pen : t.pen ≡ own_pen
+  pub top : t.top ≡ 0
+  pub bottom : t.bottom ≡ h
+  pub row : t.y < h
+  pub sure : t.sure ≡ true
+  pub known : IsKnown t.columns
+  pub whole : IsWhole t.columns
+  pub beyond : IsBlankBeyond w t.columns
+
+-- bytes were appended that leave each terminal ready that was so once its text stands, with a screen that is related to the former
+pub record Turns (w h : ℕ) (old new : List ℕ) (related : Screen → Screen → Type 0) : Type 0 where
+  pub bytes : List ℕ
+  pub appended : new ≡ old ++ bytes
+  pub phase : (t : Terminal) → t.phase ≡ Ground → IsReady w h (rested t) → (feed bytes t).phase ≡ Ground
+  pub ready : (t : Terminal) → t.phase ≡ Ground → IsReady w h (rested t) → IsReady w h (rested (feed bytes t))
+  pub shows : (written : ℕ) (t : Terminal) → t.phase ≡ Ground → IsReady w h (rested t) → related (screen_of written (rested t)) (screen_of written (rested (feed bytes t)))
+
+-- the columns once a symbol of n columns is printed in column x of row y
+abbrev pub put_columns : ℕ → ℕ → ℕ → Look → Columns → Columns
+put_columns x y n look c = overwritten (run x y n) (λ a b. Shows look (a - x) n) c
+
+-- no symbol is cut at the ends of these columns
+pub record IsUncut (x y n : ℕ) (c : Columns) : Type 0 where
+  pub left : is_behind (c x y) ≡ false
+  pub right : is_behind (c (x + n) y) ≡ false

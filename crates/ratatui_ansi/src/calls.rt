@@ -1,0 +1,44 @@
+//! The calls of a backend that move the cursor, hide and show it, and empty the screen.
+
+ghost use Rattle.std.specs.Prelude.{◌≡◌, ℕ, ◌<◌, OnOk, true, false, string_bytes};
+ghost use Rattle.rtui_backend.specs.Screen.{Clears, with_cursor, with_visible};
+ghost use Rattle.rtui_backend.specs.declared.clear_type.ClearType.TheVariants.{All};
+ghost use Rattle.ratatui_ansi.specs.Screens.{Turns};
+
+use crate::sequences::{erase_all, hide_cursor, move_to, show_cursor};
+use std::alloc::AllocError;
+
+/// Moves the cursor to a column and a row, each kept on the screen, which has at least one of both.
+pub fn set_cursor_position(out: &mut String, x: u16, y: u16) -> Result<(), AllocError>
+    ensures { OnOk result ((w h : ℕ) → 0 < w → 0 < h → Turns w h (string_bytes out.old)
+        (string_bytes out.new) (λ s t. t ≡ with_cursor x y s)) }
+{
+    move_to(out, x, y)
+}
+
+/// Hides the cursor or shows it.
+pub fn set_visible(out: &mut String, visible: bool) -> Result<(), AllocError>
+    ensures { OnOk result ((w h : ℕ) → Turns w h (string_bytes out.old)
+        (string_bytes out.new) (λ s t. t ≡ with_visible visible s)) }
+{
+    if visible {
+        show_cursor(out)
+    } else {
+        hide_cursor(out)
+    }
+}
+
+/// Empties a screen of so many columns and rows, at least one of both, whose cursor is in this column and row; the cursor stays.
+pub fn clear_screen(
+    out: &mut String,
+    width: u16,
+    height: u16,
+    x: u16,
+    y: u16,
+) -> Result<(), AllocError>
+    ensures { OnOk result (0 < width → 0 < height → Turns width height (string_bytes out.old)
+        (string_bytes out.new) (λ s t. s.cursor_x ≡ x → s.cursor_y ≡ y → Clears s All t)) }
+{
+    erase_all(out, width, height)?;
+    move_to(out, x, y)
+}

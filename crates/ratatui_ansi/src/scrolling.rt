@@ -1,0 +1,161 @@
+//! Rows that scroll, as a backend scrolls them.
+
+ghost use Rattle.std.specs.Prelude.{◌≡◌, ℕ, ◌+◌, ◌-◌, ◌<◌, ◌≤◌, min, OnOk, string_bytes};
+ghost use Rattle.rtui_backend.specs.Screen.{Appends, ScrollsUp, ScrollsDown};
+ghost use Rattle.ratatui_ansi.specs.Terminal.{moved, returned, erased, line_fed, fed, with_region, without_region, lines_deleted, scrolled_down, fed_and_lowered};
+ghost use Rattle.ratatui_ansi.specs.declared.part.Part.TheVariants.{Line};
+ghost use Rattle.ratatui_ansi.specs.Sends.{Does};
+ghost use Rattle.ratatui_ansi.specs.Screens.{Turns};
+
+use crate::part::Part;
+use crate::sequences::{
+    delete_lines, erase, line_feeds, move_to, reset_region, scroll_down, set_region,
+};
+use std::alloc::AllocError;
+use std::ops::Range;
+
+/// Moves the cursor's row down by `n` on a screen of at least one row and one column; what goes past the last row scrolls, and
+/// the rows that leave at the top go to the history.
+pub fn append_lines(out: &mut String, n: u16) -> Result<(), AllocError>
+    ensures { OnOk result ((w h : ℕ) → 0 < w → 0 < h
+        → Turns w h (string_bytes out.old) (string_bytes out.new) (λ s t. Appends s n t)) }
+{
+    line_feeds(out, n)
+}
+
+// LF alone, which keeps the column.
+fn line_feed(out: &mut String) -> Result<(), AllocError>
+    ensures { OnOk result (Does (string_bytes out.old) (string_bytes out.new) line_fed) }
+{
+    out.push_str("\n")
+}
+
+// Empties a row.
+fn empty_row(out: &mut String, y: u16) -> Result<(), AllocError>
+    ensures { OnOk result (Does (string_bytes out.old) (string_bytes out.new)
+        (λ t. erased Line (moved 0 y t))) }
+{
+    move_to(out, 0, y)?;
+    erase(out, Part::Line)
+}
+
+// Moves rows below the first one up.
+fn raise_rows(out: &mut String, top: u16, end: u16, n: u16) -> Result<(), AllocError>
+    requires rows { top + 1 < end }
+    requires some { 0 < n }
+    ensures { OnOk result (Does (string_bytes out.old) (string_bytes out.new)
+        (λ t. without_region (lines_deleted n (moved 0 top (with_region top end t))))) }
+{
+    set_region(out, top, end)?;
+    move_to(out, 0, top)?;
+    delete_lines(out, n)?;
+    reset_region(out)
+}
+
+// Moves rows down.
+fn lower_rows(out: &mut String, top: u16, end: u16, n: u16) -> Result<(), AllocError>
+    requires rows { top + 1 < end }
+    requires some { 0 < n }
+    ensures { OnOk result (Does (string_bytes out.old) (string_bytes out.new)
+        (λ t. without_region (scrolled_down n (with_region top end t)))) }
+{
+    set_region(out, top, end)?;
+    scroll_down(out, n)?;
+    reset_region(out)
+}
+
+// Moves the rows of the whole screen up; those that leave go to the history.
+fn feed_screen(out: &mut String, height: u16, n: u16) -> Result<(), AllocError>
+    ensures { OnOk result (Does (string_bytes out.old) (string_bytes out.new)
+        (λ t. fed n (returned (moved 0 (height - 1) t)))) }
+{
+    move_to(out, 0, height.saturating_sub(1))?;
+    line_feeds(out, n)
+}
+
+// Moves the first rows up; those that leave go to the history.
+fn feed_rows(out: &mut String, end: u16, n: u16) -> Result<(), AllocError>
+    requires { 1 < end }
+    ensures { OnOk result (Does (string_bytes out.old) (string_bytes out.new)
+        (λ t. without_region (fed n (returned (moved 0 (end - 1) (with_region 0 end t)))))) }
+{
+    set_region(out, 0, end)?;
+    feed_screen(out, end, n)?;
+    reset_region(out)
+}
+
+// Sends the first row to the history, and blank ones behind it; margins enclose at least two rows, so that the second one goes up
+// and down again.
+fn feed_first_row(out: &mut String, n: u16) -> Result<(), AllocError>
+    ensures { OnOk result (Does (string_bytes out.old) (string_bytes out.new)
+        (λ t. without_region (fed_and_lowered n (moved 0 1 (with_region 0 2 t))))) }
+{
+    set_region(out, 0, 2)?;
+    move_to(out, 0, 1)?;
+    for _ in 0..n {
+        line_feed(out)?;
+        scroll_down(out, 1)?;
+    }
+    reset_region(out)
+}
+
+// Moves the first rows up, as many as `end`.
+fn scroll_first_rows(out: &mut String, height: u16, end: u16, n: u16) -> Result<(), AllocError>
+    requires some { 0 < end }
+    requires fits { end ≤ height }
+    ensures { OnOk result ((w b : ℕ) → 0 < w → min b height ≡ end → Turns w height
+        (string_bytes out.old) (string_bytes out.new) (λ s t. ScrollsUp 0 b n s t)) }
+{
+    if end == height {
+        feed_screen(out, height, n)
+    } else if end == 1 {
+        feed_first_row(out, n)
+    } else {
+        feed_rows(out, end, n)
+    }
+}
+
+/// Moves the rows of a region up by `n` on a screen of so many rows and at least one column; blank rows come in below. The region
+/// ends at the screen's last row at the latest. Of a region that begins with the first row `n` rows go to the history.
+pub fn scroll_region_up(
+    out: &mut String,
+    height: u16,
+    region: Range<u16>,
+    n: u16,
+) -> Result<(), AllocError>
+    ensures { OnOk result ((w : ℕ) → 0 < w → Turns w height (string_bytes out.old)
+        (string_bytes out.new) (λ s t. ScrollsUp region.start region.end n s t)) }
+{
+    let end = region.end.min(height);
+    if n == 0 || region.start >= end {
+        return Ok(());
+    }
+    if region.start == 0 {
+        return scroll_first_rows(out, height, end, n);
+    }
+    if end - region.start == 1 {
+        return empty_row(out, region.start);
+    }
+    raise_rows(out, region.start, end, n)
+}
+
+/// Moves the rows of a region down by `n` on a screen of so many rows and at least one column; blank rows come in above, and the
+/// rows that leave are lost. The region ends at the screen's last row at the latest.
+pub fn scroll_region_down(
+    out: &mut String,
+    height: u16,
+    region: Range<u16>,
+    n: u16,
+) -> Result<(), AllocError>
+    ensures { OnOk result ((w : ℕ) → 0 < w → Turns w height (string_bytes out.old)
+        (string_bytes out.new) (λ s t. ScrollsDown region.start region.end n s t)) }
+{
+    let end = region.end.min(height);
+    if n == 0 || region.start >= end {
+        return Ok(());
+    }
+    if end - region.start == 1 {
+        return empty_row(out, region.start);
+    }
+    lower_rows(out, region.start, end, n)
+}

@@ -1,0 +1,101 @@
+//! Escape sequences by their standard names.
+
+ghost use Rattle.std.specs.Prelude.{◌≡◌, ◌+◌, ◌-◌, ◌<◌, OnOk, true, false, string_bytes};
+ghost use Rattle.ratatui_ansi.specs.Terminal.{moved, returned, erased, fed, with_region, without_region, lines_deleted, scrolled_down, with_visible};
+ghost use Rattle.ratatui_ansi.specs.declared.part.Part.TheVariants.{Before};
+ghost use Rattle.ratatui_ansi.specs.Sends.{Does};
+
+use crate::part::Part;
+use std::alloc::AllocError;
+
+/// CUP (cursor position): moves the cursor to a column and a row.
+pub fn move_to(out: &mut String, x: u16, y: u16) -> Result<(), AllocError>
+    ensures { OnOk result (Does (string_bytes out.old) (string_bytes out.new) (moved x y)) }
+{
+    write!(out, "\u{1b}[{};{}H", u32::from(y) + 1, u32::from(x) + 1)
+}
+
+/// ED and EL (erase in display, erase in line): empties a part of the screen.
+pub fn erase(out: &mut String, part: Part) -> Result<(), AllocError>
+    ensures { OnOk result (Does (string_bytes out.old) (string_bytes out.new) (erased part)) }
+{
+    match part {
+        Part::After => out.push_str("\u{1b}[J"),
+        Part::Before => out.push_str("\u{1b}[1J"),
+        Part::Line => out.push_str("\u{1b}[2K"),
+        Part::LineEnd => out.push_str("\u{1b}[K"),
+    }
+}
+
+/// Empties the whole screen of so many columns and rows: all up to its last place, which no terminal puts into its history.
+pub fn erase_all(out: &mut String, width: u16, height: u16) -> Result<(), AllocError>
+    ensures { OnOk result (Does (string_bytes out.old) (string_bytes out.new)
+        (λ t. erased Before (moved (width - 1) (height - 1) t))) }
+{
+    move_to(out, width.saturating_sub(1), height.saturating_sub(1))?;
+    erase(out, Part::Before)
+}
+
+/// DECTCEM (text cursor enable mode): shows the cursor.
+pub fn show_cursor(out: &mut String) -> Result<(), AllocError>
+    ensures { OnOk result (Does (string_bytes out.old) (string_bytes out.new)
+        (with_visible true)) }
+{
+    out.push_str("\u{1b}[?25h")
+}
+
+/// DECTCEM (text cursor enable mode): hides the cursor.
+pub fn hide_cursor(out: &mut String) -> Result<(), AllocError>
+    ensures { OnOk result (Does (string_bytes out.old) (string_bytes out.new)
+        (with_visible false)) }
+{
+    out.push_str("\u{1b}[?25l")
+}
+
+/// CR and LF (carriage return, line feed): to the first column, and `n` rows down; what goes past the end of the scroll region
+/// scrolls.
+pub fn line_feeds(out: &mut String, n: u16) -> Result<(), AllocError>
+    ensures { OnOk result (Does (string_bytes out.old) (string_bytes out.new)
+        (λ t. fed n (returned t))) }
+{
+    out.push_str("\r")?;
+    for _ in 0..n {
+        out.push_str("\n")?;
+    }
+    Ok(())
+}
+
+/// DECSTBM (set top and bottom margins): the rows from `top` up to `bottom` are the scroll region, and the cursor goes to the
+/// corner. Terminals take at least two rows.
+pub fn set_region(out: &mut String, top: u16, bottom: u16) -> Result<(), AllocError>
+    requires { top + 1 < bottom }
+    ensures { OnOk result (Does (string_bytes out.old) (string_bytes out.new)
+        (with_region top bottom)) }
+{
+    write!(out, "\u{1b}[{};{}r", u32::from(top) + 1, bottom)
+}
+
+/// DECSTBM without margins: the whole screen is the scroll region, and the cursor goes to the corner.
+pub fn reset_region(out: &mut String) -> Result<(), AllocError>
+    ensures { OnOk result (Does (string_bytes out.old) (string_bytes out.new) without_region) }
+{
+    out.push_str("\u{1b}[r")
+}
+
+/// DL (delete line): `n` rows from the cursor's on go, and those below them in the scroll region move up.
+pub fn delete_lines(out: &mut String, n: u16) -> Result<(), AllocError>
+    requires { 0 < n }
+    ensures { OnOk result (Does (string_bytes out.old) (string_bytes out.new)
+        (lines_deleted n)) }
+{
+    write!(out, "\u{1b}[{}M", n)
+}
+
+/// SD (scroll down): the rows of the scroll region move down by `n`.
+pub fn scroll_down(out: &mut String, n: u16) -> Result<(), AllocError>
+    requires { 0 < n }
+    ensures { OnOk result (Does (string_bytes out.old) (string_bytes out.new)
+        (scrolled_down n)) }
+{
+    write!(out, "\u{1b}[{}T", n)
+}

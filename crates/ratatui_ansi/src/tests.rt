@@ -1,0 +1,201 @@
+//! Bytes that are sent, beside those of a terminal's manual.
+use crate::drawing::{Brush, is_printed, put};
+use crate::part::Part;
+use crate::pen::{Pen, push_pen};
+use crate::scrolling::{append_lines, scroll_region_down, scroll_region_up};
+use crate::sequences::{
+    delete_lines, erase, erase_all, hide_cursor, move_to, reset_region, scroll_down, set_region,
+    show_cursor,
+};
+use crate::symbol::{is_symbol, push_plain};
+use bitflags::Flags;
+use rtui_cell::Cell;
+use rtui_style::{Color, Modifier};
+use std::alloc::{AllocError, Global};
+use std::ops::Range;
+use std::test::Fail;
+
+#[test]
+fn moves_and_erases(rt: HostRuntime) -> Result<(), Fail> {
+    let mut out = String::new(rt.alloc());
+    move_to(&mut out, 4, 2)?;
+    erase(&mut out, Part::After)?;
+    erase(&mut out, Part::Before)?;
+    erase(&mut out, Part::Line)?;
+    erase(&mut out, Part::LineEnd)?;
+    erase_all(&mut out, 80, 24)?;
+    assert!(rt;
+        out.as_str() == "\u{1b}[3;5H\u{1b}[J\u{1b}[1J\u{1b}[2K\u{1b}[K\u{1b}[24;80H\u{1b}[1J"
+    );
+    Ok(())
+}
+
+#[test]
+fn cursors_and_regions(rt: HostRuntime) -> Result<(), Fail> {
+    let mut out = String::new(rt.alloc());
+    hide_cursor(&mut out)?;
+    show_cursor(&mut out)?;
+    set_region(&mut out, 1, 9)?;
+    delete_lines(&mut out, 3)?;
+    scroll_down(&mut out, 12)?;
+    reset_region(&mut out)?;
+    append_lines(&mut out, 2)?;
+    assert!(rt;
+        out.as_str() == "\u{1b}[?25l\u{1b}[?25h\u{1b}[2;9r\u{1b}[3M\u{1b}[12T\u{1b}[r\r\n\n"
+    );
+    Ok(())
+}
+
+// Whether scrolling a region on a screen of 5 rows sends this.
+fn scrolls(alloc: Global, up: bool, region: Range<u16>, n: u16, sent: &str) -> Result<bool, Fail> {
+    let mut out = String::new(alloc);
+    if up {
+        scroll_region_up(&mut out, 5, region, n)?;
+    } else {
+        scroll_region_down(&mut out, 5, region, n)?;
+    }
+    Ok(out.as_str() == sent)
+}
+
+#[test]
+fn regions_that_scroll(rt: HostRuntime) -> Result<(), Fail> {
+    let alloc = rt.alloc();
+    assert!(rt; scrolls(alloc, true, 0..9, 2, "\u{1b}[5;1H\r\n\n")?);
+    assert!(rt; scrolls(alloc, true, 0..3, 1, "\u{1b}[1;3r\u{1b}[3;1H\r\n\u{1b}[r")?);
+    assert!(rt;
+        scrolls(
+            alloc,
+            true,
+            0..1,
+            1,
+            "\u{1b}[1;2r\u{1b}[2;1H\n\u{1b}[1T\u{1b}[r"
+        )?
+    );
+    assert!(rt;
+        scrolls(
+            alloc,
+            true,
+            1..4,
+            2,
+            "\u{1b}[2;4r\u{1b}[2;1H\u{1b}[2M\u{1b}[r"
+        )?
+    );
+    assert!(rt; scrolls(alloc, true, 4..9, 2, "\u{1b}[5;1H\u{1b}[2K")?);
+    assert!(rt; scrolls(alloc, false, 0..3, 7, "\u{1b}[1;3r\u{1b}[7T\u{1b}[r")?);
+    assert!(rt; scrolls(alloc, false, 2..3, 1, "\u{1b}[3;1H\u{1b}[2K")?);
+    assert!(rt; scrolls(alloc, false, 5..9, 1, "")?);
+    Ok(())
+}
+
+// Whether a pen with these colours and modifiers is sent so.
+fn pen_is(
+    alloc: Global,
+    fg: Color,
+    bg: Color,
+    line: Color,
+    bits: u16,
+    sent: &str,
+) -> Result<bool, Fail> {
+    let mut cell = Cell::EMPTY;
+    cell.fg = fg;
+    cell.bg = bg;
+    cell.underline_color = line;
+    cell.modifier = Modifier::from_bits_retain(bits);
+    let pen = Pen::of(&cell);
+    let mut out = String::new(alloc);
+    if pen.is_told() {
+        push_pen(&mut out, pen)?;
+    }
+    Ok(out.as_str() == sent)
+}
+
+#[test]
+fn pens(rt: HostRuntime) -> Result<(), Fail> {
+    let alloc = rt.alloc();
+    let own = Color::Reset;
+    assert!(rt; pen_is(alloc, own, own, own, 0, "\u{1b}[0m")?);
+    assert!(rt;
+        pen_is(
+            alloc,
+            Color::Red,
+            Color::LightBlue,
+            own,
+            0b1001,
+            "\u{1b}[0;1;4;31;104m"
+        )?
+    );
+    assert!(rt;
+        pen_is(
+            alloc,
+            Color::White,
+            Color::Black,
+            own,
+            511,
+            "\u{1b}[0;1;2;3;4;5;6;7;8;9;97;40m"
+        )?
+    );
+    assert!(rt;
+        pen_is(
+            alloc,
+            Color::Indexed(9),
+            Color::Rgb(1, 20, 255),
+            Color::Indexed(0),
+            0,
+            "\u{1b}[0;38;5;9;48;2;1;20;255;58;5;0m"
+        )?
+    );
+    assert!(rt; pen_is(alloc, own, own, Color::Red, 0, "")?);
+    assert!(rt; pen_is(alloc, own, own, own, 512, "")?);
+    Ok(())
+}
+
+#[test]
+fn symbols(rt: HostRuntime) -> Result<(), Fail> {
+    assert!(rt;
+        is_symbol("a") && is_symbol("コ") && is_symbol("e\u{301}") && is_symbol("👩\u{200d}🔬")
+    );
+    assert!(rt;
+        !is_symbol("") && !is_symbol("a\u{1b}[2J") && !is_symbol("\u{9b}2J") && !is_symbol("\u{7f}")
+    );
+    assert!(rt; !is_symbol("a\u{202e}b") && !is_symbol("\u{301}") && !is_symbol("\n"));
+    assert!(rt; is_printed("─") && is_printed("é") && is_printed("コ") && !is_printed("ab"));
+    let mut out = String::new(rt.alloc());
+    push_plain(&mut out, '~')?;
+    assert!(rt; out.as_str() == "~");
+    Ok(())
+}
+
+// Puts a symbol on a screen of 80 columns and 24 rows.
+fn drawn(
+    out: &mut String,
+    brush: Brush,
+    x: u16,
+    y: u16,
+    fg: Color,
+    symbol: &str,
+) -> Result<Brush, Fail> {
+    let pen = Pen { fg, ..Pen::OWN };
+    if x < 80 && y < 24 && pen.is_told() && is_printed(symbol) {
+        Ok(put(out, brush, 80, 24, x, y, pen, symbol)?)
+    } else {
+        Err(Fail::from(AllocError))
+    }
+}
+
+#[test]
+fn moves_and_pens_only_where_they_change(rt: HostRuntime) -> Result<(), Fail> {
+    let mut out = String::new(rt.alloc());
+    let brush = Brush {
+        pen: Pen::OWN,
+        is_placed: false,
+        x: 0,
+        y: 0,
+    };
+    let brush = drawn(&mut out, brush, 1, 0, Color::Reset, "a")?;
+    let brush = drawn(&mut out, brush, 2, 0, Color::Reset, "─")?;
+    let brush = drawn(&mut out, brush, 3, 0, Color::Green, "c")?;
+    let brush = drawn(&mut out, brush, 4, 0, Color::Green, "コ")?;
+    drawn(&mut out, brush, 6, 0, Color::Green, "d")?;
+    assert!(rt; out.as_str() == "\u{1b}[1;2Ha─\u{1b}[0;32mc\u{1b}[1;5Hコ\u{1b}[1;7Hd");
+    Ok(())
+}
