@@ -9,7 +9,7 @@ use Rattle.std.proofs.lemmas.Str.{chars-nil, chars-append, encodes-chars, IsUtf8
 use Rattle.rtui_cell.specs.Width.{text_width}
 use Rattle.ratatui_ansi.specs.declared.pen.Pen.{Pen}
 use Rattle.ratatui_ansi.specs.declared.drawing.Brush.{Brush}
-use Rattle.ratatui_ansi.specs.Terminal.{Terminal, settled, rested, printed, prints, types, moved, with_pen, is_plain, is_symbol, begins_anew}
+use Rattle.ratatui_ansi.specs.Terminal.{Terminal, standing, rested, printed, prints, types, moved, with_pen, is_plain, is_symbol, begins_anew}
 use Rattle.ratatui_ansi.specs.Terminal.Phase.{Ground}
 use Rattle.ratatui_ansi.specs.Sequences.{feed}
 use Rattle.ratatui_ansi.specs.Sends.{Sends, Does, typed}
@@ -53,9 +53,9 @@ one-encoded : (symbol : List ℕ) (c : ℕ) → IsUtf8 symbol → chars symbol �
 one-encoded symbol c utf8 e = sym (append-nil (encode c)) ∙ ap encodes (sym e) ∙ encodes-chars symbol utf8
 
 -- a plain character behind plain text is printed behind it
-pub behind-settled : (symbol : List ℕ) (t : Terminal) → is_symbol symbol ≡ true → is_one_plain (chars symbol) ≡ true → IsUtf8 t.text → list_all is_plain (chars t.text) ≡ true
-    → settled (typed symbol t) ≡ prints symbol 1 (settled t)
-behind-settled symbol t is one utf8 plain =
+pub behind-standing : (symbol : List ℕ) (t : Terminal) → is_symbol symbol ≡ true → is_one_plain (chars symbol) ≡ true → IsUtf8 t.text → list_all is_plain (chars t.text) ≡ true
+    → standing (typed symbol t) ≡ prints symbol 1 (standing t)
+behind-standing symbol t is one utf8 plain =
     let found = one-char (chars symbol) one in
     let c = found.0 in
     let e : chars symbol ≡ c ∷ [] = found.1.0 in
@@ -65,7 +65,7 @@ behind-settled symbol t is one utf8 plain =
     ap (λ (v : Terminal). record v { text = [] }) (printed-plain text (typed symbol t) all ∙ ap (λ cs. types cs (typed symbol t)) all_chars
     ∙ types-append (chars t.text) (c ∷ []) (typed symbol t) ∙ ap (prints (encode c) 1) (types-text (chars t.text) text t))
     ∙ ap (λ (v : Terminal). prints (encode c) 1 (record v { text = [] })) (sym (printed-plain t.text t plain))
-    ∙ ap (λ bs. prints bs 1 (settled t)) (one-encoded symbol c (symbol-utf8 symbol is) e)
+    ∙ ap (λ bs. prints bs 1 (standing t)) (one-encoded symbol c (symbol-utf8 symbol is) e)
 
 flip : (b : Bool) → not b ≡ true → b ≡ false
 flip true e = let h : ⊥ = cc in absurd h
@@ -81,11 +81,11 @@ printed-other (b ∷ bs) t is other =
     rw other (ap (λ v. record u { sure = v }) (ap (λ v. u.sure && v) is ∙ and-true u.sure))
 
 -- a symbol that stands alone between two sequences
-pub alone-settled : (symbol : List ℕ) (t : Terminal) → is_printed symbol ≡ true → t.text ≡ [] → settled (typed symbol t) ≡ prints symbol (columns_of symbol) (settled t)
-alone-settled symbol t is none =
+pub alone-standing : (symbol : List ℕ) (t : Terminal) → is_printed symbol ≡ true → t.text ≡ [] → standing (typed symbol t) ≡ prints symbol (columns_of symbol) (standing t)
+alone-standing symbol t is none =
     let both = and-both (is_symbol symbol) (is_one_plain (chars symbol) || not (list_all is_plain (chars symbol))) is in
-    elim (is_one_plain (chars symbol)) as (λ v. is_one_plain (chars symbol) ≡ v → settled (typed symbol t) ≡ prints symbol (if v then 1 else text_width symbol) (settled t)) [
-      | true ↦ λ one. behind-settled symbol t both.0 one (rw none IsUtf8-nil) (rw none (ap (list_all is_plain) chars-nil))
+    elim (is_one_plain (chars symbol)) as (λ v. is_one_plain (chars symbol) ≡ v → standing (typed symbol t) ≡ prints symbol (if v then 1 else text_width symbol) (standing t)) [
+      | true ↦ λ one. behind-standing symbol t both.0 one (rw none IsUtf8-nil) (rw none (ap (list_all is_plain) chars-nil))
       | false ↦ λ many.
           let not_plain : not (list_all is_plain (chars symbol)) ≡ true = rw many at both.1 in
           let other : list_all is_plain (chars symbol) ≡ false = flip (list_all is_plain (chars symbol)) not_plain in
@@ -142,7 +142,7 @@ put-sent w h before x y pen symbol old new action sends is after same column row
     let empty : (t : Terminal) → (action (rested t)).text ≡ [] = λ t. ap (λ (v : Terminal). v.text) (sym (stays t)) in
     let ground : (t : Terminal) → (action (rested t)).phase ≡ Ground = λ t. ap (λ (v : Terminal). v.phase) (sym (stays t)) in
     let shown : (t : Terminal) → (rested t).width ≡ w → (rested t).height ≡ h → IsDrawnBy before t → rested (feed sends.bytes t) ≡ prints symbol (columns_of symbol) (drawn_at x y pen (rested t))
-    = λ t wide high drawn. ap rested (sends.read t drawn.phase) ∙ ap (λ (v : Terminal). record v { phase = Ground }) (alone-settled symbol (action (rested t)) is (empty t))
+    = λ t wide high drawn. ap rested (sends.read t drawn.phase) ∙ ap (λ (v : Terminal). record v { phase = Ground }) (alone-standing symbol (action (rested t)) is (empty t))
     ∙ ap (prints symbol (columns_of symbol)) (stays t ∙ drawn_there t wide high drawn) in
     record {
       bytes = sends.bytes;
@@ -169,7 +169,7 @@ put-here w h before pen symbol old mid new changes sends printed one placed =
       | Stays same none ↦
           let shown : (t : Terminal) → IsDrawnBy before t → rested (feed sends.bytes t) ≡ prints symbol (columns_of symbol) (drawn_at before.x before.y pen (rested t)) = λ t drawn.
           let here = drawn.placed placed in
-          ap rested (sends.read t drawn.phase) ∙ ap (λ (v : Terminal). record v { phase = Ground }) (behind-settled symbol t text single here.utf8 here.plain)
+          ap rested (sends.read t drawn.phase) ∙ ap (λ (v : Terminal). record v { phase = Ground }) (behind-standing symbol t text single here.utf8 here.plain)
           ∙ ap₂ (λ n v. prints symbol n v) columns (at-drawn before.x before.y pen (rested t) here.column here.row (drawn.pen ∙ same)) in
           record {
             bytes = sends.bytes;

@@ -100,12 +100,12 @@ printed (b ∷ bs) t =
     else if_so (is_symbol text) (prints text (text_width text) t)
 
 -- the text that was read stands on the screen
-abbrev pub settled : Terminal → Terminal
-settled t = record (printed t.text t) { text = [] }
+abbrev pub standing : Terminal → Terminal
+standing t = record (printed t.text t) { text = [] }
 
 -- the same, and text is awaited
 abbrev pub rested : Terminal → Terminal
-rested t = record (settled t) { phase = Ground }
+rested t = record (standing t) { phase = Ground }
 
 -- ---- the cursor and the pen
 
