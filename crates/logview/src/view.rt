@@ -71,10 +71,8 @@ impl<B: Backend + Drop> LogView<B> {
         };
         let terminal = Terminal::with_options(alloc, backend, options)?;
         let mut view = LogView { terminal, count: 0 };
-        match view.draw_status() {
-            Ok(()) => Ok(view),
-            Err(error) => Err(error),
-        }
+        view.draw_status()?;
+        Ok(view)
     }
 }
 
