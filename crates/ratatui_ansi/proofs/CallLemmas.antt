@@ -6,13 +6,13 @@ use Rattle.rtui_backend.specs.declared.clear_type.ClearType.TheVariants.{All}
 use Rattle.ratatui_ansi.specs.Columns.{Column, Columns, Area, look_in, is_known, is_met, blank_column, overwritten}
 use Rattle.ratatui_ansi.specs.Columns.Column.{Shows, Unknown}
 use Rattle.ratatui_ansi.specs.declared.part.Part.TheVariants.{Before}
-use Rattle.ratatui_ansi.specs.Terminal.{Terminal, moved, erased, part_at}
+use Rattle.ratatui_ansi.specs.Terminal.{Terminal, moved, erased, emptied, part_at}
 use Rattle.ratatui_ansi.specs.Terminal as terminal
-use Rattle.ratatui_ansi.specs.Screens.{screen_of, IsKnown, IsWhole, IsWholeAt, IsBlankBeyond}
+use Rattle.ratatui_ansi.specs.Screens.{screen_of, IsKnown, IsWhole, IsWholeAt, IsBlankBeyond, Becomes}
 use Rattle.ratatui_ansi.proofs.ScrollLemmas.{KeepsReady, blank-whole}
 use Rattle.ratatui_ansi.proofs.RegionLemmas.{none_range, ready-columns, keeps-along, moved-placed}
 
-pub cursor-moved : (w h x y : ℕ) → 0 < w → 0 < h → KeepsReady w h (moved x y) (λ s t. t ≡ with_cursor x y s)
+pub cursor-moved : (w h x y : ℕ) → 0 < w → 0 < h → KeepsReady w h (moved x y) (λ s. Becomes (λ p q. q ≡ with_cursor x y p) s.columns s)
 cursor-moved w h x y wide high s ready =
     let width : s.width ≡ w = ready.width in
     let height : s.height ≡ h = ready.height in
@@ -31,10 +31,13 @@ cursor-moved w h x y wide high s ready =
         whole = ready.whole;
         beyond = ready.beyond;
       },
-      λ written. ap (λ k. record (screen_of written s) { cursor_x = k; cursor_y = min y (s.height - 1) }) kept,
+      record {
+        screens = λ written. ap (λ k. record (screen_of written s) { cursor_x = k; cursor_y = min y (s.height - 1) }) kept;
+        columns = λ a b. refl;
+      },
     )
 
-pub cursor-visible : (w h : ℕ) (visible : Bool) → KeepsReady w h (terminal.with_visible visible) (λ s t. t ≡ with_visible visible s)
+pub cursor-visible : (w h : ℕ) (visible : Bool) → KeepsReady w h (terminal.with_visible visible) (λ s. Becomes (λ p q. q ≡ with_visible visible p) s.columns s)
 cursor-visible w h visible s ready = (
   record {
     phase = ready.phase;
@@ -50,14 +53,10 @@ cursor-visible w h visible s ready = (
     whole = ready.whole;
     beyond = ready.beyond;
   },
-  λ written. refl,
+  record { screens = λ written. refl; columns = λ a b. refl },
 )
 
 -- ---- the screen emptied
-
--- the screen's rows are blank, and those below it as they were
-abbrev pub emptied : ℕ → Columns → Columns
-emptied h c a b = if nat_lt b h then blank_column else c a b
 
 emptied-whole : (h : ℕ) (c : Columns) → IsWhole c → IsWhole (emptied h c)
 emptied-whole h c whole a b = elim (nat_lt b h) as (λ p. IsWholeAt (λ k. if p then blank_column else c k b) a (if p then blank_column else c a b)) [ true ↦ blank-whole a | false ↦ whole a b ]
@@ -93,9 +92,9 @@ erased-emptied w h c wide high beyond a b =
           rw (none a, not_met area a b (c a b) none) refl
     ] refl
 
-pub screen-emptied : (w h x y : ℕ) → 0 < w → 0 < h → KeepsReady w h (λ t. moved x y (erased Before (moved (w - 1) (h - 1) t))) (λ s t. s.cursor_x ≡ x → s.cursor_y ≡ y → Clears s All t)
+pub screen-emptied : (w h x y : ℕ) → 0 < w → 0 < h → KeepsReady w h (λ t. moved x y (erased Before (moved (w - 1) (h - 1) t))) (λ s. Becomes (λ p q. p.cursor_x ≡ x → p.cursor_y ≡ y → Clears p All q) (emptied h s.columns) s)
 screen-emptied w h x y wide high = keeps-along w h (λ t. moved x y (erased Before (moved (w - 1) (h - 1) t))) (λ t. moved x y (erased Before (record t { x = w - 1; y = h - 1 })))
-    (λ s t. s.cursor_x ≡ x → s.cursor_y ≡ y → Clears s All t)
+    (λ s. Becomes (λ p q. p.cursor_x ≡ x → p.cursor_y ≡ y → Clears p All q) (emptied h s.columns) s)
     (λ s ready. let width : s.width ≡ w = ready.width in let height : s.height ≡ h = ready.height in
     ap (λ t. moved x y (erased Before t)) (moved-placed (w - 1) (h - 1) s (omega arith) (omega arith)))
     (λ s ready.
@@ -107,12 +106,15 @@ screen-emptied w h x y wide high = keeps-along w h (λ t. moved x y (erased Befo
     let sure : u.sure ≡ true = rw (ready.sure, ready.pen, x_in) refl in (
       ready-columns w h s u (emptied h s.columns) ready ready.phase ready.text refl refl ready.pen ready.top (ready.bottom ∙ sym height) (omega arith) sure same
           (emptied-known h s.columns ready.known) (emptied-whole h s.columns ready.whole) (emptied-beyond w h s.columns ready.beyond),
-      λ written at_x at_y.
-          let cursor_x : min (min x (s.width - 1)) (s.width - 1) ≡ min s.x (s.width - 1) = omega arith in
-          let row : s.y < h = ready.row in
-          let cursor_y : min y (s.height - 1) ≡ s.y = omega arith in
-          record {
-            rest = ap₂ (λ i j. record (screen_of written s) { grid = λ a b. look_in (u.columns a b); cursor_x = i; cursor_y = j }) cursor_x cursor_y;
-            grid = λ a b a_in b_in. ap look_in (same a b) ∙ (let inside : nat_lt b h ≡ true = grind (arith, nat_tests) in rw inside refl);
-          },
+      record {
+        columns = same;
+        screens = λ written at_x at_y.
+            let cursor_x : min (min x (s.width - 1)) (s.width - 1) ≡ min s.x (s.width - 1) = omega arith in
+            let row : s.y < h = ready.row in
+            let cursor_y : min y (s.height - 1) ≡ s.y = omega arith in
+            record {
+              rest = ap₂ (λ i j. record (screen_of written s) { grid = λ a b. look_in (u.columns a b); cursor_x = i; cursor_y = j }) cursor_x cursor_y;
+              grid = λ a b a_in b_in. ap look_in (same a b) ∙ (let inside : nat_lt b h ≡ true = grind (arith, nat_tests) in rw inside refl);
+            };
+      },
     ))

@@ -6,3 +6,9 @@ pub mod RegionLemmas
 pub mod DrawLemmas
 pub mod CallLemmas
 pub mod PutLemmas
+pub mod TailLemmas
+pub mod FrameLemmas
+pub mod FlagLemmas
+pub mod EraseLemmas
+pub mod TrackLemmas
+pub mod BackendLemmas

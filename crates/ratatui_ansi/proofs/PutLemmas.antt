@@ -10,7 +10,7 @@ use Rattle.ratatui_ansi.specs.Columns.Column.{Shows, Unknown}
 use Rattle.ratatui_ansi.specs.Terminal.{run}
 use Rattle.ratatui_ansi.specs.Screens.{IsKnown, IsWhole, IsWholeAt, IsBlankBeyond, IsUncut, put_columns}
 
-none_between : (f : ℕ → Bool) (k n : ℕ) → ((j : ℕ) → k ≤ j → j < k + n → f j ≡ false) → list_any f (range_with_len k n) ≡ false
+pub none_between : (f : ℕ → Bool) (k n : ℕ) → ((j : ℕ) → k ≤ j → j < k + n → f j ≡ false) → list_any f (range_with_len k n) ≡ false
 none_between f k zero e = refl
 none_between f k (suc n) e = rw (e k (omega arith) (omega arith), none_between f (k + 1) n (λ j low high. e j (omega arith) (omega arith))) refl
 
@@ -30,7 +30,7 @@ sides true q e f g = f refl
 sides false q e f g = g e
 
 -- a run that no symbol crosses at its ends has no column of a symbol outside it
-apart-at : (x y n a b i m : ℕ) (look : Look) (c : Columns) → IsWholeAt (λ k. c k b) a (Shows look i m) → is_behind (c x y) ≡ false → is_behind (c (x + n) y) ≡ false → run x y n a b ≡ false
+pub apart-at : (x y n a b i m : ℕ) (look : Look) (c : Columns) → IsWholeAt (λ k. c k b) a (Shows look i m) → is_behind (c x y) ≡ false → is_behind (c (x + n) y) ≡ false → run x y n a b ≡ false
     → (k : ℕ) → a - i ≤ k → k < (a - i) + m → run x y n k b ≡ false
 apart-at x y n a b i m look c whole left right out k low high = not_in (run x y n k b) (λ inside.
     let index : i < m = whole.0 in
@@ -59,14 +59,14 @@ put-inside x y n look c a b e = rw e refl
 put-outside : (x y n : ℕ) (look : Look) (c : Columns) (a b : ℕ) → IsWhole c → IsUncut x y n c → run x y n a b ≡ false → put_columns x y n look c a b ≡ c a b
 put-outside x y n look c a b whole uncut e = rw (e, apart x y n a b c (c a b) (whole a b) uncut.left uncut.right e) refl
 
-first-or-behind : (x a : ℕ) (look old : Look) → x ≤ a → look_in (Shows look (a - x) 1) ≡ (if nat_eq a x then look else (if nat_lt x a && true && true then empty_look else old))
+pub first-or-behind : (x a : ℕ) (look old : Look) → x ≤ a → look_in (Shows look (a - x) 1) ≡ (if nat_eq a x then look else (if nat_lt x a && true && true then empty_look else old))
 first-or-behind x a look old low =
     elim (nat_eq a x) as (λ p. nat_eq a x ≡ p → (if (a - x) == 0 then look else empty_look) ≡ (if p then look else (if nat_lt x a && true && true then empty_look else old))) [
       | true ↦ λ e. let f : ((a - x) == 0) ≡ true = grind (arith, nat_tests) in rw f refl
       | false ↦ λ e. let f : ((a - x) == 0) ≡ false = grind (arith, nat_tests) in let g : nat_lt x a ≡ true = grind (arith, nat_tests) in rw (f, g) refl
     ] refl
 
-rest-same : {A : Type 0} (p q r : Bool) (look old : A) (e : A) → (p ≡ true → q ≡ false) → (p ≡ true → r ≡ false) → old ≡ (if p then (if q then look else (if r then e else old)) else old)
+pub rest-same : {A : Type 0} (p q r : Bool) (look old : A) (e : A) → (p ≡ true → q ≡ false) → (p ≡ true → r ≡ false) → old ≡ (if p then (if q then look else (if r then e else old)) else old)
 rest-same false q r look old e f g = refl
 rest-same true q r look old e f g = rw (f refl, g refl) refl
 

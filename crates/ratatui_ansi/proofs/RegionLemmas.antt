@@ -10,7 +10,7 @@ use Rattle.ratatui_ansi.specs.declared.part.Part.TheVariants.{Line}
 use Rattle.ratatui_ansi.specs.Pen.{own_pen}
 use Rattle.ratatui_ansi.specs.Terminal.{Terminal, rested, moved, erased, line_fed, fed, scrolled, if_so, row_of, is_row_known, returned, raised, lowered, fed_and_lowered, with_region, without_region, lines_deleted, scrolled_down}
 use Rattle.ratatui_ansi.specs.Terminal.Phase.{Ground}
-use Rattle.ratatui_ansi.specs.Screens.{screen_of, IsKnown, IsWhole, IsWholeAt, IsBlankBeyond, IsReady, Turns}
+use Rattle.ratatui_ansi.specs.Screens.{screen_of, IsKnown, IsWhole, IsWholeAt, IsBlankBeyond, IsReady, Turns, Becomes}
 use Rattle.ratatui_ansi.specs.Sequences.{feed}
 use Rattle.ratatui_ansi.specs.Sends.{Does}
 use Rattle.ratatui_ansi.proofs.ReadLemmas.{Sends-then, line_fed-rested}
@@ -150,9 +150,9 @@ ready-columns w h s u c ready phase text width height pen top bottom row sure co
   beyond = λ x y out. columns x y ∙ beyond x y out;
 }
 
-pub keeps-along : (w h : ℕ) (f g : Terminal → Terminal) (related : Screen → Screen → Type 0) → ((s : Terminal) → IsReady w h s → g s ≡ f s) → KeepsReady w h g related → KeepsReady w h f related
+pub keeps-along : (w h : ℕ) (f g : Terminal → Terminal) (related : Terminal → Terminal → Type 0) → ((s : Terminal) → IsReady w h s → g s ≡ f s) → KeepsReady w h g related → KeepsReady w h f related
 keeps-along w h f g related same keeps s ready =
-    subst (λ u. IsReady w h u × ((written : ℕ) → related (screen_of written s) (screen_of written u))) (same s ready) (keeps s ready)
+    subst (λ u. IsReady w h u × related s u) (same s ready) (keeps s ready)
 
 -- a cursor that is moved on the screen
 pub moved-placed : (x y : ℕ) (t : Terminal) → x < t.width → y < t.height → record t { x = x; y = y } ≡ moved x y t
@@ -162,20 +162,20 @@ moved-placed x y t x_in y_in =
     ap₂ (λ i j. record t { x = i; y = j }) ex ey
 
 -- nothing sent
-pub Turns-none : (w h : ℕ) (old : List ℕ) (related : Screen → Screen → Type 0) → ((written : ℕ) (t : Terminal) → IsReady w h t → related (screen_of written t) (screen_of written t)) → Turns w h old old related
+pub Turns-none : (w h : ℕ) (old : List ℕ) (related : Terminal → Terminal → Type 0) → ((t : Terminal) → IsReady w h t → related t t) → Turns w h old old related
 unfolding feed
 Turns-none w h old related same = record {
   bytes = [];
   appended = sym (append-nil old);
   phase = λ t ground ready. ground;
   ready = λ t ground ready. ready;
-  shows = λ written t ground ready. same written (rested t) ready;
+  turned = λ t ground ready. same (rested t) ready;
 }
 
 -- ---- the cases of a scroll
 
-pub row-up : (w h a b n : ℕ) → 0 < w → 0 < a → a < h → min b h ≡ a + 1 → 0 < n → KeepsReady w h (λ t. erased Line (moved 0 a t)) (λ s t. ScrollsUp a b n s t)
-row-up w h a b n some_columns below a_in one some = keeps-along w h (λ t. erased Line (moved 0 a t)) (λ t. erased Line (record t { x = 0; y = a })) (λ s t. ScrollsUp a b n s t)
+pub row-up : (w h a b n : ℕ) → 0 < w → 0 < a → a < h → min b h ≡ a + 1 → 0 < n → KeepsReady w h (λ t. erased Line (moved 0 a t)) (λ s. Becomes (ScrollsUp a b n) (raised a (min b h) n s.columns) s)
+row-up w h a b n some_columns below a_in one some = keeps-along w h (λ t. erased Line (moved 0 a t)) (λ t. erased Line (record t { x = 0; y = a })) (λ s. Becomes (ScrollsUp a b n) (raised a (min b h) n s.columns) s)
     (λ s ready. let wide : s.width ≡ w = ready.width in let high : s.height ≡ h = ready.height in ap (erased Line) (moved-placed 0 a s (omega arith) (omega arith)))
     (λ s ready.
     let u : Terminal = erased Line (record s { x = 0; y = a }) in
@@ -186,11 +186,11 @@ row-up w h a b n some_columns below a_in one some = keeps-along w h (λ t. erase
     let sure : u.sure ≡ true = rw (ready.sure, ready.pen, x_in) refl in (
       ready-columns w h s u c ready ready.phase ready.text refl refl ready.pen ready.top (ready.bottom ∙ sym ready.height) a_in sure same
           (raised-known a (min b h) n s.columns ready.known) (raised-whole a (min b h) n s.columns ready.whole) (raised-beyond w a (min b h) n s.columns ready.beyond),
-      λ written. up-below w h a b n written s u ready below (omega arith) (record { history = refl; width = refl; height = refl; visible = refl; columns = same }),
+      record { screens = λ written. up-below w h a b n written s u ready below (omega arith) (record { history = refl; width = refl; height = refl; visible = refl; columns = same }); columns = same },
     ))
 
-pub row-down : (w h a b n : ℕ) → 0 < w → a < h → min b h ≡ a + 1 → 0 < n → KeepsReady w h (λ t. erased Line (moved 0 a t)) (λ s t. ScrollsDown a b n s t)
-row-down w h a b n some_columns a_in one some = keeps-along w h (λ t. erased Line (moved 0 a t)) (λ t. erased Line (record t { x = 0; y = a })) (λ s t. ScrollsDown a b n s t)
+pub row-down : (w h a b n : ℕ) → 0 < w → a < h → min b h ≡ a + 1 → 0 < n → KeepsReady w h (λ t. erased Line (moved 0 a t)) (λ s. Becomes (ScrollsDown a b n) (lowered a (min b h) n s.columns) s)
+row-down w h a b n some_columns a_in one some = keeps-along w h (λ t. erased Line (moved 0 a t)) (λ t. erased Line (record t { x = 0; y = a })) (λ s. Becomes (ScrollsDown a b n) (lowered a (min b h) n s.columns) s)
     (λ s ready. let wide : s.width ≡ w = ready.width in let high : s.height ≡ h = ready.height in ap (erased Line) (moved-placed 0 a s (omega arith) (omega arith)))
     (λ s ready.
     let u : Terminal = erased Line (record s { x = 0; y = a }) in
@@ -201,14 +201,14 @@ row-down w h a b n some_columns a_in one some = keeps-along w h (λ t. erased Li
     let sure : u.sure ≡ true = rw (ready.sure, ready.pen, x_in) refl in (
       ready-columns w h s u c ready ready.phase ready.text refl refl ready.pen ready.top (ready.bottom ∙ sym ready.height) a_in sure same
           (lowered-known a (min b h) n s.columns ready.known) (lowered-whole a (min b h) n s.columns ready.whole) (lowered-beyond w a (min b h) n s.columns ready.beyond),
-      λ written. down-shows w h a b n written s u ready (omega arith) (record { history = refl; width = refl; height = refl; visible = refl; columns = same }),
+      record { screens = λ written. down-shows w h a b n written s u ready (omega arith) (record { history = refl; width = refl; height = refl; visible = refl; columns = same }); columns = same },
     ))
 
-pub rows-up : (w h a b n : ℕ) → 0 < w → 0 < a → a + 1 < min b h → KeepsReady w h (λ t. without_region (lines_deleted n (moved 0 a (with_region a (min b h) t)))) (λ s t. ScrollsUp a b n s t)
+pub rows-up : (w h a b n : ℕ) → 0 < w → 0 < a → a + 1 < min b h → KeepsReady w h (λ t. without_region (lines_deleted n (moved 0 a (with_region a (min b h) t)))) (λ s. Becomes (ScrollsUp a b n) (raised a (min b h) n s.columns) s)
 rows-up w h a b n some_columns below two =
     let f : Terminal → Terminal = λ t. without_region (lines_deleted n (moved 0 a (with_region a (min b h) t))) in
     let g : Terminal → Terminal = λ t. without_region (lines_deleted n (record (with_region a (min b h) t) { x = 0; y = a })) in
-    keeps-along w h f g (λ s t. ScrollsUp a b n s t)
+    keeps-along w h f g (λ s. Becomes (ScrollsUp a b n) (raised a (min b h) n s.columns) s)
     (λ s ready. let wide : s.width ≡ w = ready.width in let high : s.height ≡ h = ready.height in
     ap (λ t. without_region (lines_deleted n t)) (moved-placed 0 a (with_region a (min b h) s) (omega arith) (omega arith)))
     (λ s ready.
@@ -223,10 +223,10 @@ rows-up w h a b n some_columns below two =
     let sure : u.sure ≡ true = rw (ready.sure, t1, t2, ready.pen, t3, t4, t5) refl in (
       ready-columns w h s u c ready ready.phase ready.text refl refl ready.pen refl refl (omega arith) sure (λ x y. refl)
           (raised-known a (min b h) n s.columns ready.known) (raised-whole a (min b h) n s.columns ready.whole) (raised-beyond w a (min b h) n s.columns ready.beyond),
-      λ written. up-below w h a b n written s u ready below (omega arith) (record { history = refl; width = refl; height = refl; visible = refl; columns = λ x y. refl }),
+      record { screens = λ written. up-below w h a b n written s u ready below (omega arith) (record { history = refl; width = refl; height = refl; visible = refl; columns = λ x y. refl }); columns = λ x y. refl },
     ))
 
-pub rows-down : (w h a b n : ℕ) → a + 1 < min b h → KeepsReady w h (λ t. without_region (scrolled_down n (with_region a (min b h) t))) (λ s t. ScrollsDown a b n s t)
+pub rows-down : (w h a b n : ℕ) → a + 1 < min b h → KeepsReady w h (λ t. without_region (scrolled_down n (with_region a (min b h) t))) (λ s. Becomes (ScrollsDown a b n) (lowered a (min b h) n s.columns) s)
 rows-down w h a b n two s ready =
     let u : Terminal = without_region (scrolled_down n (with_region a (min b h) s)) in
     let high : s.height ≡ h = ready.height in
@@ -236,7 +236,7 @@ rows-down w h a b n two s ready =
     let sure : u.sure ≡ true = rw (ready.sure, t1, t2, ready.pen) refl in (
       ready-columns w h s u c ready ready.phase ready.text refl refl ready.pen refl refl (omega arith) sure (λ x y. refl)
           (lowered-known a (min b h) n s.columns ready.known) (lowered-whole a (min b h) n s.columns ready.whole) (lowered-beyond w a (min b h) n s.columns ready.beyond),
-      λ written. down-shows w h a b n written s u ready (omega arith) (record { history = refl; width = refl; height = refl; visible = refl; columns = λ x y. refl }),
+      record { screens = λ written. down-shows w h a b n written s u ready (omega arith) (record { history = refl; width = refl; height = refl; visible = refl; columns = λ x y. refl }); columns = λ x y. refl },
     )
 
 -- ---- the rows of a region at the top, whose first rows go to the history
@@ -259,11 +259,11 @@ up-first w h b n written s u ready some history width height visible columns =
       no_rows = λ none. absurd (omega arith);
     }
 
-pub screen-up : (w h b n : ℕ) → 0 < w → 0 < h → min b h ≡ h → KeepsReady w h (λ t. fed n (returned (moved 0 (h - 1) t))) (λ s t. ScrollsUp 0 b n s t)
+pub screen-up : (w h b n : ℕ) → 0 < w → 0 < h → min b h ≡ h → KeepsReady w h (λ t. fed n (returned (moved 0 (h - 1) t))) (λ s. Becomes (ScrollsUp 0 b n) (raised 0 (min b h) n s.columns) s)
 screen-up w h b n some_columns some_rows all =
     let f : Terminal → Terminal = λ t. fed n (returned (moved 0 (h - 1) t)) in
     let g : Terminal → Terminal = λ t. fed n (record t { x = 0; y = h - 1 }) in
-    keeps-along w h f g (λ s t. ScrollsUp 0 b n s t)
+    keeps-along w h f g (λ s. Becomes (ScrollsUp 0 b n) (raised 0 (min b h) n s.columns) s)
     (λ s ready. let wide : s.width ≡ w = ready.width in let high : s.height ≡ h = ready.height in ap (λ t. fed n (returned t)) (moved-placed 0 (h - 1) s (omega arith) (omega arith)))
     (λ s ready.
     let v : Terminal = record s { x = 0; y = h - 1 } in
@@ -286,17 +286,20 @@ screen-up w h b n some_columns some_rows all =
     } in
     let same : s.bottom ≡ min b h = bottom ∙ sym all in (
       feeds-ready w h n v u v_ready some_columns feeds,
-      λ written. up-first w h b n written s u ready (omega arith) (feeds.history ∙ ap (λ q. s.history ++ map (region_row (record s { bottom = q })) (range_with_len 0 n)) same)
-          (ap (λ (t : Terminal). t.width) feeds.rest) (ap (λ (t : Terminal). t.height) feeds.rest) (ap (λ (t : Terminal). t.visible) feeds.rest)
-          (λ x y. feeds.columns x y ∙ ap (λ q. raised 0 q n s.columns x y) same),
+      record {
+        screens = λ written. up-first w h b n written s u ready (omega arith) (feeds.history ∙ ap (λ q. s.history ++ map (region_row (record s { bottom = q })) (range_with_len 0 n)) same)
+            (ap (λ (t : Terminal). t.width) feeds.rest) (ap (λ (t : Terminal). t.height) feeds.rest) (ap (λ (t : Terminal). t.visible) feeds.rest)
+            (λ x y. feeds.columns x y ∙ ap (λ q. raised 0 q n s.columns x y) same);
+        columns = λ x y. feeds.columns x y ∙ ap (λ q. raised 0 q n s.columns x y) same;
+      },
     ))
 
-pub first-up : (w h b n : ℕ) → 0 < w → 1 < min b h → KeepsReady w h (λ t. without_region (fed n (returned (moved 0 (min b h - 1) (with_region 0 (min b h) t))))) (λ s t. ScrollsUp 0 b n s t)
+pub first-up : (w h b n : ℕ) → 0 < w → 1 < min b h → KeepsReady w h (λ t. without_region (fed n (returned (moved 0 (min b h - 1) (with_region 0 (min b h) t))))) (λ s. Becomes (ScrollsUp 0 b n) (raised 0 (min b h) n s.columns) s)
 first-up w h b n some_columns two =
     let to = min b h in
     let f : Terminal → Terminal = λ t. without_region (fed n (returned (moved 0 (to - 1) (with_region 0 to t)))) in
     let g : Terminal → Terminal = λ t. without_region (fed n (record (with_region 0 to t) { x = 0; y = to - 1 })) in
-    keeps-along w h f g (λ s t. ScrollsUp 0 b n s t)
+    keeps-along w h f g (λ s. Becomes (ScrollsUp 0 b n) (raised 0 (min b h) n s.columns) s)
     (λ s ready. let wide : s.width ≡ w = ready.width in let high : s.height ≡ h = ready.height in
     ap (λ t. without_region (fed n (returned t))) (moved-placed 0 (to - 1) (with_region 0 to s) (omega arith) (omega arith)))
     (λ s ready.
@@ -312,8 +315,11 @@ first-up w h b n some_columns two =
       ready-columns w h s (without_region u) (raised 0 to n s.columns) ready (ap (λ (t : Terminal). t.phase) feeds.rest ∙ ready.phase) (ap (λ (t : Terminal). t.text) feeds.rest ∙ ready.text)
           (ap (λ (t : Terminal). t.width) feeds.rest) (ap (λ (t : Terminal). t.height) feeds.rest) (ap (λ (t : Terminal). t.pen) feeds.rest ∙ ready.pen) refl
           (ap (λ (t : Terminal). t.height) feeds.rest) (omega arith) sure feeds.columns (raised-known 0 to n s.columns ready.known) (raised-whole 0 to n s.columns ready.whole) (raised-beyond w 0 to n s.columns ready.beyond),
-      λ written. up-first w h b n written s (without_region u) ready (omega arith) feeds.history
-          (ap (λ (t : Terminal). t.width) feeds.rest) (ap (λ (t : Terminal). t.height) feeds.rest) (ap (λ (t : Terminal). t.visible) feeds.rest) feeds.columns,
+      record {
+        screens = λ written. up-first w h b n written s (without_region u) ready (omega arith) feeds.history
+            (ap (λ (t : Terminal). t.width) feeds.rest) (ap (λ (t : Terminal). t.height) feeds.rest) (ap (λ (t : Terminal). t.visible) feeds.rest) feeds.columns;
+        columns = feeds.columns;
+      },
     ))
 
 -- ---- the first row alone
@@ -390,11 +396,11 @@ rounds-are (suc n) t top bottom y =
     } in
     subst (Rounds (suc n) t) (sym (ap (fed_and_lowered n) here)) after
 
-pub one-up : (w h b n : ℕ) → 0 < w → 1 < h → min b h ≡ 1 → KeepsReady w h (λ t. without_region (fed_and_lowered n (moved 0 1 (with_region 0 2 t)))) (λ s t. ScrollsUp 0 b n s t)
+pub one-up : (w h b n : ℕ) → 0 < w → 1 < h → min b h ≡ 1 → KeepsReady w h (λ t. without_region (fed_and_lowered n (moved 0 1 (with_region 0 2 t)))) (λ s. Becomes (ScrollsUp 0 b n) (raised 0 (min b h) n s.columns) s)
 one-up w h b n some_columns two one =
     let f : Terminal → Terminal = λ t. without_region (fed_and_lowered n (moved 0 1 (with_region 0 2 t))) in
     let g : Terminal → Terminal = λ t. without_region (fed_and_lowered n (record (with_region 0 2 t) { x = 0; y = 1 })) in
-    keeps-along w h f g (λ s t. ScrollsUp 0 b n s t)
+    keeps-along w h f g (λ s. Becomes (ScrollsUp 0 b n) (raised 0 (min b h) n s.columns) s)
     (λ s ready. let wide : s.width ≡ w = ready.width in let high : s.height ≡ h = ready.height in
     ap (λ t. without_region (fed_and_lowered n t)) (moved-placed 0 1 (with_region 0 2 s) (omega arith) (omega arith)))
     (λ s ready.
@@ -410,9 +416,12 @@ one-up w h b n some_columns two one =
       ready-columns w h s (without_region u) (raised 0 (min b h) n s.columns) ready (ap (λ (t : Terminal). t.phase) feeds.rest ∙ ready.phase) (ap (λ (t : Terminal). t.text) feeds.rest ∙ ready.text)
           (ap (λ (t : Terminal). t.width) feeds.rest) (ap (λ (t : Terminal). t.height) feeds.rest) (ap (λ (t : Terminal). t.pen) feeds.rest ∙ ready.pen) refl
           (ap (λ (t : Terminal). t.height) feeds.rest) (omega arith) sure columns (raised-known 0 (min b h) n s.columns ready.known) (raised-whole 0 (min b h) n s.columns ready.whole) (raised-beyond w 0 (min b h) n s.columns ready.beyond),
-      λ written. up-first w h b n written s (without_region u) ready (omega arith)
-          (feeds.history ∙ ap (λ q. s.history ++ map (region_row (record s { bottom = q })) (range_with_len 0 n)) (sym one))
-          (ap (λ (t : Terminal). t.width) feeds.rest) (ap (λ (t : Terminal). t.height) feeds.rest) (ap (λ (t : Terminal). t.visible) feeds.rest) columns,
+      record {
+        screens = λ written. up-first w h b n written s (without_region u) ready (omega arith)
+            (feeds.history ∙ ap (λ q. s.history ++ map (region_row (record s { bottom = q })) (range_with_len 0 n)) (sym one))
+            (ap (λ (t : Terminal). t.width) feeds.rest) (ap (λ (t : Terminal). t.height) feeds.rest) (ap (λ (t : Terminal). t.visible) feeds.rest) columns;
+        columns = columns;
+      },
     ))
 
 -- ---- nothing to scroll
@@ -450,28 +459,56 @@ still_lowered a b n s x y y_in none =
       | false ↦ λ e. refl
     ] refl
 
-pub still-up : (w h a b n written : ℕ) (s : Terminal) → IsReady w h s → (a < min b h → n ≡ 0) → ScrollsUp a b n (screen_of written s) (screen_of written s)
-still-up w h a b n written s ready none =
+pub still-raised : (from to n : ℕ) (c : Columns) (x y : ℕ) → (from < to → n ≡ 0) → c x y ≡ raised from to n c x y
+still-raised from to n c x y none =
+    elim (nat_le from y && nat_lt y to) as (λ v. (nat_le from y && nat_lt y to) ≡ v → c x y ≡ (if v then (if nat_lt (y + n) to then c x (y + n) else blank_column) else c x y)) [
+      | true ↦ λ e.
+          let z : n ≡ 0 = none (grind (arith, nat_tests)) in
+          let same : y + n ≡ y = omega arith in
+          let inside : nat_lt y to ≡ true = grind (arith, nat_tests) in
+          rw (same, inside) refl
+      | false ↦ λ e. refl
+    ] refl
+
+pub still-lowered : (from to n : ℕ) (c : Columns) (x y : ℕ) → (from < to → n ≡ 0) → c x y ≡ lowered from to n c x y
+still-lowered from to n c x y none =
+    elim (nat_le from y && nat_lt y to) as (λ v. (nat_le from y && nat_lt y to) ≡ v → c x y ≡ (if v then (if nat_le (from + n) y then c x (y - n) else blank_column) else c x y)) [
+      | true ↦ λ e.
+          let z : n ≡ 0 = none (grind (arith, nat_tests)) in
+          let same : y - n ≡ y = omega arith in
+          let inside : nat_le (from + n) y ≡ true = grind (arith, nat_tests) in
+          rw (inside, same) refl
+      | false ↦ λ e. refl
+    ] refl
+
+pub still-up : (w h a b n : ℕ) (s : Terminal) → IsReady w h s → (a < min b h → n ≡ 0) → Becomes (ScrollsUp a b n) (raised a (min b h) n s.columns) s s
+still-up w h a b n s ready none =
     let high : s.height ≡ h = ready.height in
     record {
-      history = still_history a b n written s (λ some. none (rw (← high) some));
-      width = refl;
-      height = refl;
-      grid = λ x y x_in y_in. still_column a b n written s x y y_in (λ some. none (rw (← high) some));
-      visible = refl;
-      written = refl;
-      no_rows = λ empty. refl;
+      columns = λ x y. still-raised a (min b h) n s.columns x y none;
+      screens = λ written. record {
+        history = still_history a b n written s (λ some. none (rw (← high) some));
+        width = refl;
+        height = refl;
+        grid = λ x y x_in y_in. still_column a b n written s x y y_in (λ some. none (rw (← high) some));
+        visible = refl;
+        written = refl;
+        no_rows = λ empty. refl;
+      };
     }
 
-pub still-down : (w h a b n written : ℕ) (s : Terminal) → IsReady w h s → (a < min b h → n ≡ 0) → ScrollsDown a b n (screen_of written s) (screen_of written s)
-still-down w h a b n written s ready none =
+pub still-down : (w h a b n : ℕ) (s : Terminal) → IsReady w h s → (a < min b h → n ≡ 0) → Becomes (ScrollsDown a b n) (lowered a (min b h) n s.columns) s s
+still-down w h a b n s ready none =
     let high : s.height ≡ h = ready.height in
     record {
-      history = refl;
-      width = refl;
-      height = refl;
-      grid = λ x y x_in y_in. still_lowered a b n s x y y_in (λ some. none (rw (← high) some));
-      visible = refl;
-      written = refl;
-      no_rows = λ empty. refl;
+      columns = λ x y. still-lowered a (min b h) n s.columns x y none;
+      screens = λ written. record {
+        history = refl;
+        width = refl;
+        height = refl;
+        grid = λ x y x_in y_in. still_lowered a b n s x y y_in (λ some. none (rw (← high) some));
+        visible = refl;
+        written = refl;
+        no_rows = λ empty. refl;
+      };
     }

@@ -11,7 +11,7 @@ use Rattle.ratatui_ansi.specs.Terminal.{Terminal, rested, printed, line_fed, fed
 use Rattle.ratatui_ansi.specs.Terminal.Phase.{Ground}
 use Rattle.ratatui_ansi.specs.Sequences.{feed}
 use Rattle.ratatui_ansi.specs.Sends.{Does}
-use Rattle.ratatui_ansi.specs.Screens.{screen_of, IsKnown, IsWhole, IsWholeAt, IsBlankBeyond, IsReady, Turns}
+use Rattle.ratatui_ansi.specs.Screens.{screen_of, IsKnown, IsWhole, IsWholeAt, IsBlankBeyond, IsReady, Turns, Becomes}
 
 -- ---- from what bytes do to what a screen shows
 
@@ -20,10 +20,10 @@ rested-ready w h u ready =
     ap (λ xs. record (printed xs u) { text = []; phase = Ground }) ready.text
     ∙ ap₂ (λ xs p. record u { text = xs; phase = p }) (sym ready.text) (sym ready.phase)
 
-abbrev pub KeepsReady : ℕ → ℕ → (Terminal → Terminal) → (Screen → Screen → Type 0) → Type 0
-KeepsReady w h f related = (s : Terminal) → IsReady w h s → IsReady w h (f s) × ((written : ℕ) → related (screen_of written s) (screen_of written (f s)))
+abbrev pub KeepsReady : ℕ → ℕ → (Terminal → Terminal) → (Terminal → Terminal → Type 0) → Type 0
+KeepsReady w h f related = (s : Terminal) → IsReady w h s → IsReady w h (f s) × related s (f s)
 
-pub turns-from : (w h : ℕ) (old new : List ℕ) (f : Terminal → Terminal) (related : Screen → Screen → Type 0) → Does old new f → KeepsReady w h f related → Turns w h old new related
+pub turns-from : (w h : ℕ) (old new : List ℕ) (f : Terminal → Terminal) (related : Terminal → Terminal → Type 0) → Does old new f → KeepsReady w h f related → Turns w h old new related
 turns-from w h old new f related does keeps = record {
   bytes = does.bytes;
   appended = does.appended;
@@ -32,10 +32,10 @@ turns-from w h old new f related does keeps = record {
       let after = (keeps (rested t) ready).0 in
       let e : rested (feed does.bytes t) ≡ f (rested t) = ap rested (does.read t ground) ∙ rested-ready w h (f (rested t)) after in
       subst (IsReady w h) (sym e) after;
-  shows = λ written t ground ready.
+  turned = λ t ground ready.
       let both = keeps (rested t) ready in
       let e : rested (feed does.bytes t) ≡ f (rested t) = ap rested (does.read t ground) ∙ rested-ready w h (f (rested t)) both.0 in
-      subst (λ u. related (screen_of written (rested t)) (screen_of written u)) (sym e) (both.1 written);
+      subst (related (rested t)) (sym e) both.1;
 }
 
 -- ---- rows raised
@@ -204,7 +204,7 @@ feeds-ready w h n t u ready x feeds = record {
   beyond = λ a b out. feeds.columns a b ∙ raised-beyond w 0 t.bottom n t.columns ready.beyond a b out;
 }
 
-pub appends-ready : (w h n : ℕ) → 0 < w → 0 < h → KeepsReady w h (λ t. fed n (returned t)) (λ s t. Appends s n t)
+pub appends-ready : (w h n : ℕ) → 0 < w → 0 < h → KeepsReady w h (λ t. fed n (returned t)) (λ s. Becomes (λ p q. Appends p n q × (q.cursor_x ≡ 0)) (raised 0 h (s.y + n - (h - 1)) s.columns) s)
 appends-ready w h n some_columns some_rows s ready =
     let r : Terminal = returned s in
     let y_in : s.y < h = ready.row in
@@ -233,22 +233,31 @@ appends-ready w h n some_columns some_rows s ready =
       beyond = ready.beyond;
     } in
     let u_ready : IsReady w h u = feeds-ready w h k v u v_ready some_columns feeds in
-    let row : u.y ≡ s.y + m = ap (λ (z : Terminal). z.y) feeds.rest in (
+    let row : u.y ≡ s.y + m = ap (λ (z : Terminal). z.y) feeds.rest in
+    let first : u.x ≡ 0 = ap (λ (z : Terminal). z.x) feeds.rest in
+    let same : s.bottom ≡ h = ready.bottom in
+    let past : s.y + n - (h - 1) ≡ k = omega arith in
+    let along = λ (z : Terminal). Becomes (λ p q. Appends p n q × (q.cursor_x ≡ 0)) (raised 0 h (s.y + n - (h - 1)) s.columns) s z in (
       subst (IsReady w h) (sym all) u_ready,
-      λ written. subst (λ z. Appends (screen_of written s) n (screen_of written z)) (sym all) (
-          let past : lines_past (screen_of written s) n ≡ k = let e : nat_lt 0 s.height ≡ true = grind (arith, nat_tests) in rw e (omega arith) in
-          let same : s.bottom ≡ s.height = ready.bottom ∙ sym high in
-          record {
-            scrolled = subst (λ j. Scrolls (screen_of written s) j (screen_of written u)) (sym past) (record {
-              history = feeds.history ∙ ap (λ q. s.history ++ map (λ b. map (λ a. if nat_lt b q then look_in (s.columns a b) else empty_look) (range_with_len 0 s.width)) (range_with_len 0 k)) same;
-              width = ap (λ (z : Terminal). z.width) feeds.rest;
-              height = ap (λ (z : Terminal). z.height) feeds.rest;
-              grid = λ a b a_in b_in. ap look_in (feeds.columns a b) ∙ shown-raised s.bottom k s.columns a b (rw same b_in)
-                  ∙ ap (λ q. if nat_lt (b + k) q then look_in (s.columns a (b + k)) else empty_look) same;
-              visible = ap (λ (z : Terminal). z.visible) feeds.rest;
-              written = refl;
-            });
-            row = row ∙ (let e : s.y + m ≡ min (s.y + n) (s.height - 1) = omega arith in e);
-            no_rows = λ none. absurd (omega arith);
-          }),
+      subst along (sym all) (record {
+        columns = λ a b. feeds.columns a b ∙ ap₂ (λ i j. raised 0 i j s.columns a b) same (sym past);
+        screens = λ written.
+            let lines : lines_past (screen_of written s) n ≡ k = let e : nat_lt 0 s.height ≡ true = grind (arith, nat_tests) in rw e (omega arith) in
+            let tall : s.bottom ≡ s.height = ready.bottom ∙ sym high in (
+              record {
+                scrolled = subst (λ j. Scrolls (screen_of written s) j (screen_of written u)) (sym lines) (record {
+                  history = feeds.history ∙ ap (λ q. s.history ++ map (λ b. map (λ a. if nat_lt b q then look_in (s.columns a b) else empty_look) (range_with_len 0 s.width)) (range_with_len 0 k)) tall;
+                  width = ap (λ (z : Terminal). z.width) feeds.rest;
+                  height = ap (λ (z : Terminal). z.height) feeds.rest;
+                  grid = λ a b a_in b_in. ap look_in (feeds.columns a b) ∙ shown-raised s.bottom k s.columns a b (rw tall b_in)
+                      ∙ ap (λ q. if nat_lt (b + k) q then look_in (s.columns a (b + k)) else empty_look) tall;
+                  visible = ap (λ (z : Terminal). z.visible) feeds.rest;
+                  written = refl;
+                });
+                row = row ∙ (let e : s.y + m ≡ min (s.y + n) (s.height - 1) = omega arith in e);
+                no_rows = λ none. absurd (omega arith);
+              },
+              let e : min u.x (u.width - 1) ≡ 0 = omega arith in e,
+            );
+      }),
     )

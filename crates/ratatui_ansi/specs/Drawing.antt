@@ -1,9 +1,11 @@
 -- What a symbol put in its place does to the terminal that reads it.
-use Rattle.std.specs.Prelude.{◌≡◌, ℕ, ◌&&◌, ◌||◌, not, Bool, true, IsTrue, if◌then◌else◌, List, ◌++◌, ◌==◌, length, chars, IsUtf8}
+use Rattle.std.specs.Prelude.{◌≡◌, ℕ, ◌+◌, zero, suc, ◌&&◌, ◌||◌, not, Bool, true, IsTrue, if◌then◌else◌, List, ◌++◌, ◌==◌, length, chars, IsUtf8}
 use Rattle.std.specs.List.{list_all}
+use Rattle.rtui_cell.specs.Symbol.{blank}
 use Rattle.rtui_cell.specs.Width.{text_width}
 use Rattle.ratatui_ansi.specs.declared.pen.Pen.{Pen}
 use Rattle.ratatui_ansi.specs.declared.drawing.Brush.{Brush}
+use Rattle.ratatui_ansi.specs.Pen.{own_pen}
 use Rattle.ratatui_ansi.specs.Terminal.{Terminal, rested, prints, with_pen, is_plain, is_symbol}
 use Rattle.ratatui_ansi.specs.Terminal.Phase.{Ground}
 use Rattle.ratatui_ansi.specs.Sequences.{feed}
@@ -43,10 +45,22 @@ pub record IsDrawnBy (brush : Brush) (t : Terminal) : Type 0 where
 abbrev pub drawn_at : ℕ → ℕ → Pen → Terminal → Terminal
 drawn_at x y pen t = record t { x = x; y = y; pen = pen }
 
--- bytes were appended that print a symbol in a column and a row of a screen of this size, in a pen, and nothing else
-pub record Prints (w h : ℕ) (old : List ℕ) (before : Brush) (x y : ℕ) (pen : Pen) (symbol : List ℕ) (new : List ℕ) (after : Brush) : Type 0 where
+-- bytes were appended that do this to each terminal of this size that is drawn by a brush, and leave it drawn by another one
+pub record Paints (w h : ℕ) (old : List ℕ) (before : Brush) (effect : Terminal → Terminal) (new : List ℕ) (after : Brush) : Type 0 where
   pub bytes : List ℕ
   pub appended : new ≡ old ++ bytes
   pub drawn : (t : Terminal) → (rested t).width ≡ w → (rested t).height ≡ h → IsDrawnBy before t → IsDrawnBy after (feed bytes t)
-  pub printed : (t : Terminal) → (rested t).width ≡ w → (rested t).height ≡ h → IsDrawnBy before t
-      → rested (feed bytes t) ≡ prints symbol (columns_of symbol) (drawn_at x y pen (rested t))
+  pub printed : (t : Terminal) → (rested t).width ≡ w → (rested t).height ≡ h → IsDrawnBy before t → rested (feed bytes t) ≡ effect (rested t)
+
+-- a symbol printed in a column and a row, in a pen
+abbrev pub printed_at : ℕ → ℕ → Pen → List ℕ → Terminal → Terminal
+printed_at x y pen symbol t = prints symbol (columns_of symbol) (drawn_at x y pen t)
+
+-- bytes were appended that print a symbol in a column and a row of a screen of this size, in a pen, and nothing else
+abbrev pub Prints : ℕ → ℕ → List ℕ → Brush → ℕ → ℕ → Pen → List ℕ → List ℕ → Brush → Type 0
+Prints w h old before x y pen symbol new after = Paints w h old before (printed_at x y pen symbol) new after
+
+-- blanks printed in so many columns of a row, one by one, in the terminal's own pen
+abbrev pub blanked : ℕ → ℕ → ℕ → Terminal → Terminal
+blanked x y zero t = t
+blanked x y (suc n) t = printed_at (x + n) y own_pen blank (blanked x y n t)

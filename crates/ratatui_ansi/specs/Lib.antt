@@ -1,4 +1,5 @@
 pub mod Columns
+pub mod Flags
 pub mod Pen
 pub mod Terminal
 pub mod Sequences
@@ -6,3 +7,8 @@ pub mod Parameters
 pub mod Sends
 pub mod Screens
 pub mod Drawing
+pub mod Frame
+pub mod Calls
+pub mod Errors
+pub mod Kept
+pub mod Backend

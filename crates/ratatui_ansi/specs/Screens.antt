@@ -54,13 +54,18 @@ pub record IsReady (w h : ℕ) (t : Terminal) : Type 0 where
   pub whole : IsWhole t.columns
   pub beyond : IsBlankBeyond w t.columns
 
--- bytes were appended that leave each terminal ready that was so once its text stands, with a screen that is related to the former
-pub record Turns (w h : ℕ) (old new : List ℕ) (related : Screen → Screen → Type 0) : Type 0 where
+-- bytes were appended that leave each terminal ready that was so once its text stands, and related to what it was
+pub record Turns (w h : ℕ) (old new : List ℕ) (related : Terminal → Terminal → Type 0) : Type 0 where
   pub bytes : List ℕ
   pub appended : new ≡ old ++ bytes
   pub phase : (t : Terminal) → t.phase ≡ Ground → IsReady w h (rested t) → (feed bytes t).phase ≡ Ground
   pub ready : (t : Terminal) → t.phase ≡ Ground → IsReady w h (rested t) → IsReady w h (rested (feed bytes t))
-  pub shows : (written : ℕ) (t : Terminal) → t.phase ≡ Ground → IsReady w h (rested t) → related (screen_of written (rested t)) (screen_of written (rested (feed bytes t)))
+  pub turned : (t : Terminal) → t.phase ≡ Ground → IsReady w h (rested t) → related (rested t) (rested (feed bytes t))
+
+-- a terminal's screen is related so to that of another, which it was, and these columns stand now
+pub record Becomes (related : Screen → Screen → Type 0) (standing : Columns) (s t : Terminal) : Type 0 where
+  pub screens : (written : ℕ) → related (screen_of written s) (screen_of written t)
+  pub columns : (a b : ℕ) → t.columns a b ≡ standing a b
 
 -- the columns once a symbol of n columns is printed in column x of row y
 abbrev pub put_columns : ℕ → ℕ → ℕ → Look → Columns → Columns

@@ -146,6 +146,14 @@ erased part t = record t {
   sure = t.sure && (is_own t.pen && nat_lt t.x t.width && keeps_history part t.x t.y);
 }
 
+-- the columns of a part are blank, and all others as they were
+abbrev pub part_emptied : Part → ℕ → ℕ → Columns → Columns
+part_emptied part x y columns a b = if part_at part x y a b then blank_column else columns a b
+
+-- the first h rows are blank, and those below them as they were
+abbrev pub emptied : ℕ → Columns → Columns
+emptied h columns a b = if nat_lt b h then blank_column else columns a b
+
 -- ---- scrolling: terminals differ where the pen isn't their own
 
 -- a row, and whether all of it is known

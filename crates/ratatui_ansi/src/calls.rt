@@ -3,7 +3,8 @@
 ghost use Rattle.std.specs.Prelude.{◌≡◌, ℕ, ◌<◌, OnOk, true, false, string_bytes};
 ghost use Rattle.rtui_backend.specs.Screen.{Clears, with_cursor, with_visible};
 ghost use Rattle.rtui_backend.specs.declared.clear_type.ClearType.TheVariants.{All};
-ghost use Rattle.ratatui_ansi.specs.Screens.{Turns};
+ghost use Rattle.ratatui_ansi.specs.Terminal.{emptied};
+ghost use Rattle.ratatui_ansi.specs.Screens.{Turns, Becomes};
 
 use crate::sequences::{erase_all, hide_cursor, move_to, show_cursor};
 use std::alloc::AllocError;
@@ -11,7 +12,7 @@ use std::alloc::AllocError;
 /// Moves the cursor to a column and a row, each kept on the screen, which has at least one of both.
 pub fn set_cursor_position(out: &mut String, x: u16, y: u16) -> Result<(), AllocError>
     ensures { OnOk result ((w h : ℕ) → 0 < w → 0 < h → Turns w h (string_bytes out.old)
-        (string_bytes out.new) (λ s t. t ≡ with_cursor x y s)) }
+        (string_bytes out.new) (λ s. Becomes (λ p q. q ≡ with_cursor x y p) s.columns s)) }
 {
     move_to(out, x, y)
 }
@@ -19,7 +20,7 @@ pub fn set_cursor_position(out: &mut String, x: u16, y: u16) -> Result<(), Alloc
 /// Hides the cursor or shows it.
 pub fn set_visible(out: &mut String, visible: bool) -> Result<(), AllocError>
     ensures { OnOk result ((w h : ℕ) → Turns w h (string_bytes out.old)
-        (string_bytes out.new) (λ s t. t ≡ with_visible visible s)) }
+        (string_bytes out.new) (λ s. Becomes (λ p q. q ≡ with_visible visible p) s.columns s)) }
 {
     if visible {
         show_cursor(out)
@@ -37,7 +38,8 @@ pub fn clear_screen(
     y: u16,
 ) -> Result<(), AllocError>
     ensures { OnOk result (0 < width → 0 < height → Turns width height (string_bytes out.old)
-        (string_bytes out.new) (λ s t. s.cursor_x ≡ x → s.cursor_y ≡ y → Clears s All t)) }
+        (string_bytes out.new) (λ s. Becomes (λ p q. p.cursor_x ≡ x → p.cursor_y ≡ y
+        → Clears p All q) (emptied height s.columns) s)) }
 {
     erase_all(out, width, height)?;
     move_to(out, x, y)

@@ -2,14 +2,20 @@
 //!
 //! `specs/` is the model. A terminal (`specs/Terminal`) reads bytes one by one (`specs/Sequences`); each function here appends
 //! bytes to a text, and its contract says what they do to every terminal that reads them: a sequence by its standard name
-//! (`Does`), a symbol in its place (`Prints`), or what a backend's call does to the screen that the terminal shows (`Turns`). Columns
+//! (`Does`), a symbol in its place (`Prints`), or what a backend's call does to the screen that the terminal shows (`Turns`, `SendsCall`,
+//! `SendsDraw`). [`AnsiBackend`] is a `Backend` whose screen is what a terminal shows that has read what its [`Link`] was told. Columns
 //! and rows are counted from 0 here, and from 1 in the bytes. Where real terminals differ the model is no longer sure, and what
 //! stands in a column isn't known where a symbol was written over in part.
 #![tactic(auto)]
 
+mod backend;
 mod calls;
 mod drawing;
+mod error;
+mod flags;
+mod frame;
 pub mod laws;
+mod link;
 mod part;
 mod pen;
 mod scrolling;
@@ -17,9 +23,14 @@ mod sequences;
 mod symbol;
 #[cfg(test)]
 mod tests;
+mod tracked;
 
+pub use backend::AnsiBackend;
 pub use calls::{clear_screen, set_cursor_position, set_visible};
 pub use drawing::{Brush, is_one_plain, is_printed, put};
+pub use error::AnsiError;
+pub use frame::{Drawing, Refusal};
+pub use link::{Kept, Link};
 pub use part::Part;
 pub use pen::{Pen, push_pen};
 pub use scrolling::{append_lines, scroll_region_down, scroll_region_up};

@@ -2,10 +2,10 @@
 
 ghost use Rattle.std.specs.Prelude.{◌≡◌, ℕ, ◌+◌, ◌-◌, ◌<◌, ◌≤◌, min, OnOk, string_bytes};
 ghost use Rattle.rtui_backend.specs.Screen.{Appends, ScrollsUp, ScrollsDown};
-ghost use Rattle.ratatui_ansi.specs.Terminal.{moved, returned, erased, line_fed, fed, with_region, without_region, lines_deleted, scrolled_down, fed_and_lowered};
+ghost use Rattle.ratatui_ansi.specs.Terminal.{moved, returned, erased, line_fed, fed, with_region, without_region, lines_deleted, scrolled_down, fed_and_lowered, raised, lowered};
 ghost use Rattle.ratatui_ansi.specs.declared.part.Part.TheVariants.{Line};
 ghost use Rattle.ratatui_ansi.specs.Sends.{Does};
-ghost use Rattle.ratatui_ansi.specs.Screens.{Turns};
+ghost use Rattle.ratatui_ansi.specs.Screens.{Turns, Becomes};
 
 use crate::part::Part;
 use crate::sequences::{
@@ -18,7 +18,9 @@ use std::ops::Range;
 /// the rows that leave at the top go to the history.
 pub fn append_lines(out: &mut String, n: u16) -> Result<(), AllocError>
     ensures { OnOk result ((w h : ℕ) → 0 < w → 0 < h
-        → Turns w h (string_bytes out.old) (string_bytes out.new) (λ s t. Appends s n t)) }
+        → Turns w h (string_bytes out.old) (string_bytes out.new)
+        (λ s. Becomes (λ p q. Appends p n q × (q.cursor_x ≡ 0))
+        (raised 0 h (s.y + n - (h - 1)) s.columns) s)) }
 {
     line_feeds(out, n)
 }
@@ -104,7 +106,8 @@ fn scroll_first_rows(out: &mut String, height: u16, end: u16, n: u16) -> Result<
     requires some { 0 < end }
     requires fits { end ≤ height }
     ensures { OnOk result ((w b : ℕ) → 0 < w → min b height ≡ end → Turns w height
-        (string_bytes out.old) (string_bytes out.new) (λ s t. ScrollsUp 0 b n s t)) }
+        (string_bytes out.old) (string_bytes out.new)
+        (λ s. Becomes (ScrollsUp 0 b n) (raised 0 (min b height) n s.columns) s)) }
 {
     if end == height {
         feed_screen(out, height, n)
@@ -124,7 +127,8 @@ pub fn scroll_region_up(
     n: u16,
 ) -> Result<(), AllocError>
     ensures { OnOk result ((w : ℕ) → 0 < w → Turns w height (string_bytes out.old)
-        (string_bytes out.new) (λ s t. ScrollsUp region.start region.end n s t)) }
+        (string_bytes out.new) (λ s. Becomes (ScrollsUp region.start region.end n)
+        (raised region.start (min region.end height) n s.columns) s)) }
 {
     let end = region.end.min(height);
     if n == 0 || region.start >= end {
@@ -148,7 +152,8 @@ pub fn scroll_region_down(
     n: u16,
 ) -> Result<(), AllocError>
     ensures { OnOk result ((w : ℕ) → 0 < w → Turns w height (string_bytes out.old)
-        (string_bytes out.new) (λ s t. ScrollsDown region.start region.end n s t)) }
+        (string_bytes out.new) (λ s. Becomes (ScrollsDown region.start region.end n)
+        (lowered region.start (min region.end height) n s.columns) s)) }
 {
     let end = region.end.min(height);
     if n == 0 || region.start >= end {

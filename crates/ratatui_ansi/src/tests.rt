@@ -1,5 +1,8 @@
 //! Bytes that are sent, beside those of a terminal's manual.
+use crate::backend::AnsiBackend;
 use crate::drawing::{Brush, is_printed, put};
+use crate::error::AnsiError;
+use crate::link::Kept;
 use crate::part::Part;
 use crate::pen::{Pen, push_pen};
 use crate::scrolling::{append_lines, scroll_region_down, scroll_region_up};
@@ -9,7 +12,9 @@ use crate::sequences::{
 };
 use crate::symbol::{is_symbol, push_plain};
 use bitflags::Flags;
+use rtui_backend::{Backend, ClearType};
 use rtui_cell::Cell;
+use rtui_geometry::{Position, Size};
 use rtui_style::{Color, Modifier};
 use std::alloc::{AllocError, Global};
 use std::ops::Range;
@@ -197,5 +202,137 @@ fn moves_and_pens_only_where_they_change(rt: HostRuntime) -> Result<(), Fail> {
     let brush = drawn(&mut out, brush, 4, 0, Color::Green, "コ")?;
     drawn(&mut out, brush, 6, 0, Color::Green, "d")?;
     assert!(rt; out.as_str() == "\u{1b}[1;2Ha─\u{1b}[0;32mc\u{1b}[1;5Hコ\u{1b}[1;7Hd");
+    Ok(())
+}
+
+// A backend of a screen of so many columns and rows, over a link that keeps what it is told.
+fn over_kept(alloc: Global, width: u16, height: u16) -> Result<AnsiBackend<Kept>, Fail> {
+    let size = Size { width, height };
+    match AnsiBackend::new(alloc, Kept::new(alloc), size) {
+        Ok(backend) => Ok(backend),
+        Err(_) => Err(Fail::from(AllocError)),
+    }
+}
+
+// Whether the answer of a call is this, and what was told until then ends so.
+fn tells(
+    backend: &AnsiBackend<Kept>,
+    answer: Result<(), AnsiError<AllocError>>,
+    wanted: Result<(), AnsiError<AllocError>>,
+    end: &str,
+) -> bool {
+    answer == wanted && backend.link().unsent().ends_with(end)
+}
+
+#[test]
+fn calls_of_the_backend(rt: HostRuntime) -> Result<(), Fail> {
+    let mut backend = over_kept(rt.alloc(), 4, 3)?;
+    assert!(rt; backend.link().unsent() == "");
+    let answer = backend.hide_cursor();
+    assert!(rt; tells(&backend, answer, Ok(()), "\u{1b}[?25l"));
+    let answer = backend.set_cursor_position(Position { x: 9, y: 1 });
+    assert!(rt; tells(&backend, answer, Ok(()), "\u{1b}[?25l\u{1b}[2;10H"));
+    assert!(rt; backend.get_cursor_position() == Ok(Position { x: 3, y: 1 }));
+    let answer = backend.append_lines(2);
+    assert!(rt; tells(&backend, answer, Ok(()), "\r\n\n"));
+    assert!(rt; backend.get_cursor() == Ok((0, 2)));
+    let answer = backend.scroll_region_up(0..3, 1);
+    assert!(rt; tells(&backend, answer, Ok(()), "\u{1b}[3;1H\r\n\u{1b}[3;1H"));
+    let answer = backend.clear();
+    assert!(rt; tells(&backend, answer, Ok(()), "\u{1b}[3;4H\u{1b}[1J\u{1b}[3;1H"));
+    let answer = backend.clear_region(ClearType::UntilNewLine);
+    assert!(rt; tells(&backend, answer, Ok(()), "\u{1b}[3;1H\u{1b}[K\u{1b}[3;1H"));
+    let size = Size {
+        width: 4,
+        height: 3,
+    };
+    assert!(rt; backend.size() == Ok(size) && backend.flush() == Ok(()));
+    Ok(())
+}
+
+// Whether drawing these cells of one row, on what was drawn before, answers so and is told so.
+fn draws(
+    backend: &mut AnsiBackend<Kept>,
+    cells: &[(u16, u16, &Cell)],
+    wanted: Result<(), AnsiError<AllocError>>,
+    told: &str,
+) -> bool {
+    let before = backend.link().unsent().len();
+    let answer = backend.draw(cells.iter().copied());
+    let unsent = backend.link().unsent();
+    answer == wanted && unsent.get(before..) == Some(told)
+}
+
+#[test]
+fn cells_in_their_places(rt: HostRuntime) -> Result<(), Fail> {
+    let alloc = rt.alloc();
+    let mut backend = over_kept(alloc, 6, 2)?;
+    let (a, b, blank) = (Cell::new(alloc, "a")?, Cell::new(alloc, "b")?, Cell::EMPTY);
+    let (wide, other) = (Cell::new(alloc, "コ")?, Cell::new(alloc, "ン")?);
+    assert!(rt;
+        draws(
+            &mut backend,
+            &[(0, 0, &a), (1, 0, &b)],
+            Ok(()),
+            "\u{1b}[1;1Hab"
+        )
+    );
+    assert!(rt;
+        draws(
+            &mut backend,
+            &[(2, 0, &wide), (3, 0, &blank)],
+            Ok(()),
+            "\u{1b}[1;3Hコ"
+        )
+    );
+    assert!(rt; backend.get_cursor() == Ok((4, 0)));
+    let cut = Err(AnsiError::Cut(Position { x: 3, y: 0 }));
+    assert!(rt; draws(&mut backend, &[(3, 0, &a)], cut, ""));
+    assert!(rt; draws(&mut backend, &[(2, 0, &a)], Ok(()), "\u{1b}[1;3Ha "));
+    assert!(rt; draws(&mut backend, &[(3, 0, &a)], Ok(()), "\u{1b}[1;4Ha"));
+    assert!(rt; draws(&mut backend, &[(4, 1, &wide)], Ok(()), "\u{1b}[2;5Hコ"));
+    assert!(rt;
+        draws(
+            &mut backend,
+            &[(3, 1, &other)],
+            Ok(()),
+            "\u{1b}[2;4Hン\u{1b}[2;6H "
+        )
+    );
+    assert!(rt; draws(&mut backend, &[(9, 9, &a)], Ok(()), ""));
+    Ok(())
+}
+
+#[test]
+fn cells_that_are_refused(rt: HostRuntime) -> Result<(), Fail> {
+    let alloc = rt.alloc();
+    let mut backend = over_kept(alloc, 3, 1)?;
+    let place = Position { x: 1, y: 0 };
+    let symbol = Err(AnsiError::Symbol(place));
+    let mut cell = Cell::new(alloc, "a\u{1b}[2J")?;
+    assert!(rt; draws(&mut backend, &[(1, 0, &cell)], symbol, ""));
+    cell.set_symbol(alloc, "")?;
+    assert!(rt; draws(&mut backend, &[(1, 0, &cell)], symbol, ""));
+    cell.set_symbol(alloc, "ab")?;
+    assert!(rt; draws(&mut backend, &[(1, 0, &cell)], symbol, ""));
+    cell.set_symbol(alloc, "コン")?;
+    assert!(rt; draws(&mut backend, &[(1, 0, &cell)], symbol, ""));
+    cell.set_symbol(alloc, "a")?;
+    cell.underline_color = Color::Red;
+    assert!(rt;
+        draws(
+            &mut backend,
+            &[(1, 0, &cell)],
+            Err(AnsiError::Pen(place)),
+            ""
+        )
+    );
+    cell.underline_color = Color::Reset;
+    assert!(rt; draws(&mut backend, &[(1, 0, &cell)], Ok(()), "\u{1b}[1;2Ha"));
+    let none = Size {
+        width: 0,
+        height: 1,
+    };
+    assert!(rt; AnsiBackend::new(alloc, Kept::new(alloc), none).is_err());
     Ok(())
 }

@@ -13,7 +13,7 @@ returns-then-n-eq0 c =
     let h = c.args.height in
     let e : c.min-end.result ≡ min b h = c.min-end.ensures in
     let none : a < min b h → c.args.n ≡ 0 = λ inside. elim c.then-n-eq0.either [ inl z ↦ z | inr both ↦ let past : c.min-end.result ≤ a = both.1 in absurd (omega arith) ] in
-    λ w some. Turns-none w h _ _ (λ written t ready. still-down w h a b c.args.n written t ready none)
+    λ w some. Turns-none w h _ _ (λ t ready. still-down w h a b c.args.n t ready none)
 
 pub returns-then-end-region-eq1 : goal.returns-then-end-region-eq1
 returns-then-end-region-eq1 c =

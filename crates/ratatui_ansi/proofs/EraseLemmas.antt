@@ -1,0 +1,148 @@
+-- Parts of a screen that are erased, and cut no symbol.
+use Rattle.std.proofs.Common.{◌≡◌, ℕ, ◌+◌, ◌-◌, ◌*◌, ◌<◌, ◌≤◌, ◌==◌, ◌&&◌, ◌||◌, min, nat_lt, nat_le, nat_eq, if◌then◌else◌, zero, suc, Bool, List, true, false, refl, sym, ap, ap₂, ◌∙◌, arith, subst, inl, inr}
+use Rattle.std.proofs.lemmas.Bool.{cases_lt}
+use Rattle.std.proofs.lemmas.Bool.Decides.{nat_tests}
+use Rattle.std.specs.List.{list_any, range_with_len}
+use Rattle.rtui_cell.specs.Look.{Look, empty_look}
+use Rattle.ratatui_ansi.specs.declared.part.Part.{Part}
+use Rattle.ratatui_ansi.specs.declared.part.Part.TheVariants.{After, Before, Line, LineEnd}
+use Rattle.ratatui_ansi.specs.Columns.{Column, Columns, Area, is_known, is_behind, is_met, blank_column, overwritten}
+use Rattle.ratatui_ansi.specs.Columns.Column.{Shows, Unknown}
+use Rattle.ratatui_ansi.specs.Terminal.{part_at, part_emptied}
+use Rattle.ratatui_ansi.specs.Screens.{IsKnown, IsWhole, IsWholeAt, IsBlankBeyond}
+use Rattle.ratatui_ansi.specs.Flags.{flag, AreBehind, is_cut}
+use Rattle.ratatui_ansi.proofs.ScrollLemmas.{blank-whole}
+
+none_between : (f : ℕ → Bool) (k n : ℕ) → ((j : ℕ) → k ≤ j → j < k + n → f j ≡ false) → list_any f (range_with_len k n) ≡ false
+none_between f k zero e = refl
+none_between f k (suc n) e = rw (e k (omega arith) (omega arith), none_between f (k + 1) n (λ j low high. e j (omega arith) (omega arith))) refl
+
+-- a later column of a symbol lies behind its first
+behind-later : (look : Look) (j count : ℕ) (c : Column) → c ≡ Shows look j count → 0 < j → is_behind c ≡ false → ⊥
+behind-later look j count c e some not =
+    let zero : (j == 0) ≡ false = grind (arith, nat_tests) in
+    let shown : is_behind c ≡ true = ap is_behind e ∙ rw zero refl in
+    cc
+
+-- a symbol that begins left of a column that isn't behind ends there, and one that has a column right of such an end begins behind it
+ends-before : (row : ℕ → Column) (x a i m k : ℕ) (look : Look) → IsWholeAt row a (Shows look i m) → is_behind (row x) ≡ false → a < x → k < (a - i) + m → k < x
+ends-before row x a i m k look whole not left high = elim (cases_lt k x) [
+  | inl done ↦ done
+  | inr past ↦
+      let index : i < m = whole.0 in
+      let first : i ≤ a = whole.1 in
+      let there : (a - i) + (x - (a - i)) ≡ x = omega arith in
+      absurd (behind-later look (x - (a - i)) m (row x) (ap row (sym there) ∙ whole.2 (x - (a - i)) (omega arith)) (omega arith) not)
+]
+
+begins-behind : (row : ℕ → Column) (x a i m k : ℕ) (look : Look) → IsWholeAt row a (Shows look i m) → is_behind (row (x + 1)) ≡ false → x < a → a - i ≤ k → x < k
+begins-behind row x a i m k look whole not right low = elim (cases_lt x k) [
+  | inl done ↦ done
+  | inr past ↦
+      let index : i < m = whole.0 in
+      let first : i ≤ a = whole.1 in
+      let there : (a - i) + (x + 1 - (a - i)) ≡ x + 1 = omega arith in
+      absurd (behind-later look (x + 1 - (a - i)) m (row (x + 1)) (ap row (sym there) ∙ whole.2 (x + 1 - (a - i)) (omega arith)) (omega arith) not)
+]
+
+-- what isn't in an area has no column of its symbol there
+abbrev pub IsApart : Area → Columns → Type 0
+IsApart area c = (a b i m k : ℕ) (look : Look) → IsWholeAt (λ j. c j b) a (Shows look i m) → area a b ≡ false → a - i ≤ k → k < (a - i) + m → area k b ≡ false
+
+-- whether a symbol is cut at the end of a part
+abbrev cuts : Part → ℕ → ℕ → Columns → Bool
+cuts After x y c = is_behind (c x y)
+cuts Before x y c = is_behind (c (x + 1) y)
+cuts Line x y c = false
+cuts LineEnd x y c = is_behind (c x y)
+
+part-apart : (part : Part) (x y : ℕ) (c : Columns) → cuts part x y c ≡ false → IsApart (part_at part x y) c
+part-apart After x y c uncut a b i m k look whole out low high = elim (cases_lt b y) [
+  | inl above ↦ grind (arith, nat_tests)
+  | inr other ↦
+      let row : b ≡ y = grind (arith, nat_tests) in
+      let left : a < x = grind (arith, nat_tests) in
+      let e : k < x = ends-before (λ j. c j b) x a i m k look whole (ap (λ r. is_behind (c x r)) row ∙ uncut) left high in
+      grind (arith, nat_tests)
+]
+part-apart Before x y c uncut a b i m k look whole out low high = elim (cases_lt y b) [
+  | inl below ↦ grind (arith, nat_tests)
+  | inr other ↦
+      let row : b ≡ y = grind (arith, nat_tests) in
+      let right : x < a = grind (arith, nat_tests) in
+      let e : x < k = begins-behind (λ j. c j b) x a i m k look whole (ap (λ r. is_behind (c (x + 1) r)) row ∙ uncut) right low in
+      grind (arith, nat_tests)
+]
+part-apart Line x y c uncut a b i m k look whole out low high = out
+part-apart LineEnd x y c uncut a b i m k look whole out low high = elim (cases_lt b y) [
+  | inl above ↦ grind (arith, nat_tests)
+  | inr other ↦ elim (cases_lt y b) [
+    | inl below ↦ grind (arith, nat_tests)
+    | inr here ↦
+        let row : b ≡ y = omega arith in
+        let left : a < x = grind (arith, nat_tests) in
+        let e : k < x = ends-before (λ j. c j b) x a i m k look whole (ap (λ r. is_behind (c x r)) row ∙ uncut) left high in
+        grind (arith, nat_tests)
+  ]
+]
+
+module _ (area : Area) (c : Columns) (apart : IsApart area c) where
+  not_met : (a b : ℕ) (d : Column) → IsWholeAt (λ j. c j b) a d → area a b ≡ false → is_met area a b d ≡ false
+  not_met a b Unknown whole out = refl
+  not_met a b (Shows look i m) whole out = none_between (λ k. area k b) (a - i) m (λ k low high. apart a b i m k look whole out low high)
+
+  area-erased : IsWhole c → (a b : ℕ) → overwritten area (λ i j. blank_column) c a b ≡ (if area a b then blank_column else c a b)
+  area-erased whole a b = elim (area a b) as (λ p. area a b ≡ p → (if p then blank_column else (if is_met area a b (c a b) then Unknown else c a b)) ≡ (if p then blank_column else c a b))
+      [ true ↦ λ e. refl | false ↦ λ e. rw (not_met a b (c a b) (whole a b) e) refl ] refl
+
+  whole-outside : (a b : ℕ) (d : Column) → area a b ≡ false → IsWholeAt (λ k. c k b) a d → IsWholeAt (λ k. if area k b then blank_column else c k b) a d
+  whole-outside a b Unknown e at_a = tt
+  whole-outside a b (Shows look i m) e at_a = (
+    at_a.0,
+    at_a.1,
+    λ j below. rw (apart a b i m ((a - i) + j) look at_a e (omega arith) (omega arith)) (at_a.2 j below),
+  )
+
+  area-whole : IsWhole c → IsWhole (λ a b. if area a b then blank_column else c a b)
+  area-whole whole a b = elim (area a b) as (λ p. area a b ≡ p → IsWholeAt (λ k. if area k b then blank_column else c k b) a (if p then blank_column else c a b)) [
+    | true ↦ λ e. blank-there a b e
+    | false ↦ λ e. whole-outside a b (c a b) e (whole a b)
+  ] refl
+    where
+      blank-there : (a b : ℕ) → area a b ≡ true → IsWholeAt (λ k. if area k b then blank_column else c k b) a blank_column
+      blank-there a b e = (
+        omega arith,
+        omega arith,
+        λ j below.
+            let z : 0 ≡ j = omega arith in
+            let there : (a - 0) + j ≡ a = omega arith in
+            rw (there, e) (ap (λ i. Shows empty_look i 1) z),
+      )
+
+-- the flags tell whether a part cuts
+flags-tell : (part : Part) (w h x y : ℕ) (flags : List Bool) (c : Columns) → x < w → y < h → IsBlankBeyond w c → AreBehind w h flags c → is_cut part w x y flags ≡ false → cuts part x y c ≡ false
+flags-tell After w h x y flags c x_in y_in beyond behind uncut = sym (behind.each x y x_in y_in) ∙ uncut
+flags-tell Before w h x y flags c x_in y_in beyond behind uncut = elim (cases_lt (x + 1) w) [
+  | inl inside ↦
+      let test : nat_lt (x + 1) w ≡ true = grind (arith, nat_tests) in
+      sym (behind.each (x + 1) y inside y_in) ∙ (rw test at uncut)
+  | inr past ↦ ap is_behind (beyond (x + 1) y past)
+]
+flags-tell Line w h x y flags c x_in y_in beyond behind uncut = refl
+flags-tell LineEnd w h x y flags c x_in y_in beyond behind uncut = sym (behind.each x y x_in y_in) ∙ uncut
+
+module _ (part : Part) (w h x y : ℕ) (flags : List Bool) (c : Columns) (x_in : x < w) (y_in : y < h) (beyond : IsBlankBeyond w c) (behind : AreBehind w h flags c) (uncut : is_cut part w x y flags ≡ false) where
+  apart : IsApart (part_at part x y) c
+  apart = part-apart part x y c (flags-tell part w h x y flags c x_in y_in beyond behind uncut)
+
+  pub part-erased : IsWhole c → (a b : ℕ) → overwritten (part_at part x y) (λ i j. blank_column) c a b ≡ part_emptied part x y c a b
+  part-erased whole = area-erased (part_at part x y) c apart whole
+
+  pub part-whole : IsWhole c → IsWhole (part_emptied part x y c)
+  part-whole whole = area-whole (part_at part x y) c apart whole
+
+pub part-known : (part : Part) (x y : ℕ) (c : Columns) → IsKnown c → IsKnown (part_emptied part x y c)
+part-known part x y c known a b = elim (part_at part x y a b) as (λ p. is_known (if p then blank_column else c a b) ≡ true) [ true ↦ refl | false ↦ known a b ]
+
+pub part-beyond : (part : Part) (w x y : ℕ) (c : Columns) → IsBlankBeyond w c → IsBlankBeyond w (part_emptied part x y c)
+part-beyond part w x y c beyond a b out = rw (beyond a b out) (elim (part_at part x y a b) as (λ p. (if p then blank_column else blank_column) ≡ blank_column) [ true ↦ refl | false ↦ refl ])

@@ -1,0 +1,175 @@
+-- Flags that move with their rows.
+use Rattle.std.proofs.Common.{◌≡◌, ◌∷◌, ℕ, true, false, ◌+◌, ◌-◌, ◌*◌, ◌<◌, ◌≤◌, ◌++◌, ◌&&◌, nat_lt, Bool, List, length, take, drop, set, refl, sym, ap, ◌∙◌, arith, inl, inr, length-drop, length-take, if◌then◌else◌}
+use Rattle.std.specs.Prelude.{nat_le, nat_eq}
+use Rattle.std.proofs.Math.Nat.{mul-le-mul_right}
+use Rattle.std.proofs.lemmas.Nat.{mul-add-lt}
+use Rattle.std.proofs.lemmas.Grind.{common_steps}
+use Rattle.std.proofs.lemmas.List.{get_or_append_left, get_or-append_right, get_or-take, get_or-drop, get_or_past}
+use Rattle.std.proofs.lemmas.Bool.{cases_lt}
+use Rattle.std.proofs.lemmas.Bool.Decides.{nat_tests}
+use Rattle.ratatui_ansi.specs.Columns.{Column, Columns, is_behind, blank_column}
+use Rattle.ratatui_ansi.specs.Terminal.{raised, lowered, emptied, part_at, part_emptied}
+use Rattle.ratatui_ansi.specs.declared.part.Part.{Part}
+use Rattle.ratatui_ansi.specs.declared.part.Part.TheVariants.{After, Before, Line, LineEnd}
+use Rattle.ratatui_ansi.specs.Flags.{flag, AreBehind}
+
+pub flag-set : (flags : List Bool) (i j : ℕ) (v : Bool) → i < length flags → flag (set flags i v) j ≡ if nat_eq j i then v else flag flags j
+flag-set flags i j v inside = grind (arith, common_steps)
+
+pub past_end : (flags : List Bool) (k : ℕ) → length flags ≤ k → flag flags k ≡ false
+past_end flags k past = get_or_past flags k false past
+
+-- flags that were cleared and moved to the end
+pub rotated : (xs : List Bool) (w : ℕ) → w ≤ length xs → ((j : ℕ) → j < w → flag xs j ≡ false) → (k : ℕ) → flag (drop w xs ++ take w xs) k ≡ flag xs (k + w)
+rotated xs w fits cleared k = elim (cases_lt k (length xs - w)) [
+  | inl before ↦
+      let len : k < length (drop w xs) = rw length-drop before in
+      get_or_append_left (drop w xs) (take w xs) false k len ∙ get_or-drop w xs k false ∙ ap (λ i. flag xs i) (omega arith)
+  | inr after ↦
+      get_or-append_right (drop w xs) (take w xs) (length xs - w) k false (length-drop w xs) after
+      ∙ moved (k - (length xs - w))
+      ∙ sym (get_or_past xs (k + w) false (omega arith))
+]
+  where
+    moved : (j : ℕ) → flag (take w xs) j ≡ false
+    moved j = elim (cases_lt j w) [
+      | inl inside ↦ get_or-take w xs j false inside ∙ cleared j inside
+      | inr past ↦ get_or_past (take w xs) j false (simp length-take (omega arith))
+    ]
+
+-- rows do not overlap
+pub row_below : (w b y : ℕ) → b < y → b * w + w ≤ y * w
+row_below w b y lower = let e : (b + 1) * w ≤ y * w = mul-le-mul_right w (omega arith) in omega arith
+
+-- where the places of rows lie
+module _ (w x : ℕ) (x_in : x < w) where
+  place_before : (y e : ℕ) → nat_lt (y * w + x) (e * w) ≡ nat_lt y e
+  place_before y e = elim (cases_lt y e) [
+    | inl above ↦ let p = row_below w y e above in grind (arith, nat_tests)
+    | inr past ↦ let p : e * w ≤ y * w = mul-le-mul_right w past in grind (arith, nat_tests)
+  ]
+
+  place_from : (y e : ℕ) → nat_le (e * w) (y * w + x) ≡ nat_le e y
+  place_from y e = elim (cases_lt y e) [
+    | inl above ↦ let p = row_below w y e above in grind (arith, nat_tests)
+    | inr past ↦ let p : e * w ≤ y * w = mul-le-mul_right w past in grind (arith, nat_tests)
+  ]
+
+  module _ (old new : List Bool) (a e n : ℕ) where
+    pub flag_moved_up : ((k : ℕ) → flag new k ≡ if nat_le (a * w) k && nat_lt k (e * w) then (if nat_lt (k + n * w) (e * w) then flag old (k + n * w) else false) else flag old k)
+        → (y : ℕ) → flag new (y * w + x) ≡ if nat_le a y && nat_lt y e then (if nat_lt (y + n) e then flag old ((y + n) * w + x) else false) else flag old (y * w + x)
+    flag_moved_up moved y =
+        let next : y * w + x + n * w ≡ (y + n) * w + x = grind arith in
+        rw (next, place_before (y + n) e, place_before y e, place_from y a) at (moved (y * w + x))
+
+    by_both : (d : ℕ) → d * w + n * w ≡ (d + n) * w
+    by_both d = grind arith
+
+    pub flag_moved_down : ((k : ℕ) → flag new k ≡ if nat_le (a * w) k && nat_lt k (e * w) then (if nat_le (a * w + n * w) k then flag old (k - n * w) else false) else flag old k)
+        → (y : ℕ) → flag new (y * w + x) ≡ if nat_le a y && nat_lt y e then (if nat_le (a + n) y then flag old ((y - n) * w + x) else false) else flag old (y * w + x)
+    flag_moved_down moved y = elim (cases_lt y (a + n)) [
+      | inl above ↦
+          let p : (y + 1) * w ≤ (a + n) * w = mul-le-mul_right w (omega arith) in
+          let no : nat_le (a * w + n * w) (y * w + x) ≡ false = grind (arith, nat_tests) in
+          let none : nat_le (a + n) y ≡ false = grind (arith, nat_tests) in
+          rw none (rw (no, place_before y e, place_from y a) at (moved (y * w + x)))
+      | inr past ↦
+          let p : (a + n) * w ≤ y * w = mul-le-mul_right w past in
+          let yes : nat_le (a * w + n * w) (y * w + x) ≡ true = grind (arith, nat_tests) in
+          let some : nat_le (a + n) y ≡ true = grind (arith, nat_tests) in
+          let whole : y - n + n ≡ y = omega arith in
+          let q : (y - n) * w + n * w ≡ y * w = by_both (y - n) ∙ ap (λ m. m * w) whole in
+          let back : y * w + x - n * w ≡ (y - n) * w + x = omega (arith, q) in
+          rw some (rw (yes, back, place_before y e, place_from y a) at (moved (y * w + x)))
+    ]
+
+module _ (w h : ℕ) (old new : List Bool) (c : Columns) (from to n : ℕ) (fits : to ≤ h) (same : length new ≡ length old) (behind : AreBehind w h old c) where
+  pub raised-behind : ((k : ℕ) → flag new k ≡ if nat_le (from * w) k && nat_lt k (to * w) then (if nat_lt (k + n * w) (to * w) then flag old (k + n * w) else false) else flag old k)
+      → AreBehind w h new (raised from to n c)
+  raised-behind moved = record {
+    count = same ∙ behind.count;
+    each = λ a b a_in b_in. flag_moved_up w a a_in old new from to n moved b
+        ∙ elim (nat_le from b && nat_lt b to) as (λ p. (if p then (if nat_lt (b + n) to then flag old ((b + n) * w + a) else false) else flag old (b * w + a))
+        ≡ is_behind (if p then (if nat_lt (b + n) to then c a (b + n) else blank_column) else c a b)) [
+          | true ↦ elim (nat_lt (b + n) to) as (λ q. nat_lt (b + n) to ≡ q → (if q then flag old ((b + n) * w + a) else false) ≡ is_behind (if q then c a (b + n) else blank_column))
+              [ true ↦ λ e. behind.each a (b + n) a_in (grind (arith, nat_tests)) | false ↦ λ e. refl ] refl
+          | false ↦ behind.each a b a_in b_in
+        ];
+  }
+
+  pub lowered-behind : ((k : ℕ) → flag new k ≡ if nat_le (from * w) k && nat_lt k (to * w) then (if nat_le (from * w + n * w) k then flag old (k - n * w) else false) else flag old k)
+      → AreBehind w h new (lowered from to n c)
+  lowered-behind moved = record {
+    count = same ∙ behind.count;
+    each = λ a b a_in b_in. flag_moved_down w a a_in old new from to n moved b
+        ∙ elim (nat_le from b && nat_lt b to) as (λ p. (if p then (if nat_le (from + n) b then flag old ((b - n) * w + a) else false) else flag old (b * w + a))
+        ≡ is_behind (if p then (if nat_le (from + n) b then c a (b - n) else blank_column) else c a b)) [
+          | true ↦ elim (nat_le (from + n) b) as (λ q. (if q then flag old ((b - n) * w + a) else false) ≡ is_behind (if q then c a (b - n) else blank_column))
+              [ true ↦ behind.each a (b - n) a_in (omega arith) | false ↦ refl ]
+          | false ↦ behind.each a b a_in b_in
+        ];
+  }
+
+-- columns that are the same have the same flags
+pub AreBehind-along : (w h : ℕ) (flags : List Bool) (c d : Columns) → ((a b : ℕ) → d a b ≡ c a b) → AreBehind w h flags c → AreBehind w h flags d
+AreBehind-along w h flags c d same behind = record { count = behind.count; each = λ a b a_in b_in. behind.each a b a_in b_in ∙ ap is_behind (sym (same a b)) }
+
+-- ---- flags that were cleared
+
+module _ (w h : ℕ) (old new : List Bool) (c : Columns) (same : length new ≡ length old) (behind : AreBehind w h old c) where
+  pub emptied-behind : ((k : ℕ) → flag new k ≡ if nat_le 0 k && nat_lt k (length old) then false else flag old k) → AreBehind w h new (emptied h c)
+  emptied-behind cleared = record {
+    count = same ∙ behind.count;
+    each = λ a b a_in b_in.
+        let place : b * w + a < w * h = mul-add-lt b w a h b_in a_in in
+        let count : length old ≡ w * h = behind.count in
+        let inside : (nat_le 0 (b * w + a) && nat_lt (b * w + a) (length old)) ≡ true = grind (arith, nat_tests) in
+        let row : nat_lt b h ≡ true = grind (arith, nat_tests) in
+        rw row (rw inside at (cleared (b * w + a)));
+  }
+
+  pub part-behind : (part : Part) (x y from to : ℕ) → ((a b : ℕ) → a < w → b < h → (nat_le from (b * w + a) && nat_lt (b * w + a) to) ≡ part_at part x y a b)
+      → ((k : ℕ) → flag new k ≡ if nat_le from k && nat_lt k to then false else flag old k) → AreBehind w h new (part_emptied part x y c)
+  part-behind part x y from to places cleared = record {
+    count = same ∙ behind.count;
+    each = λ a b a_in b_in. (rw (places a b a_in b_in) at (cleared (b * w + a)))
+        ∙ elim (part_at part x y a b) as (λ p. (if p then false else flag old (b * w + a)) ≡ is_behind (if p then blank_column else c a b)) [ true ↦ refl | false ↦ behind.each a b a_in b_in ];
+  }
+
+-- which places a part takes
+module _ (w h x y a b : ℕ) (a_in : a < w) (b_in : b < h) (x_in : x < w) (y_in : y < h) where
+  pub places_after : (nat_le (y * w + x) (b * w + a) && nat_lt (b * w + a) (w * h)) ≡ part_at After x y a b
+  places_after = let inside : b * w + a < w * h = mul-add-lt b w a h b_in a_in in elim (cases_lt b y) [
+    | inl above ↦ let e = row_below w b y above in grind (arith, nat_tests)
+    | inr other ↦ elim (cases_lt y b) [
+      | inl below ↦ let e = row_below w y b below in grind (arith, nat_tests)
+      | inr here ↦ let e : b ≡ y = omega arith in grind (arith, nat_tests)
+    ]
+  ]
+
+  pub places_before : (nat_le 0 (b * w + a) && nat_lt (b * w + a) (y * w + x + 1)) ≡ part_at Before x y a b
+  places_before = elim (cases_lt b y) [
+    | inl above ↦ let e = row_below w b y above in grind (arith, nat_tests)
+    | inr other ↦ elim (cases_lt y b) [
+      | inl below ↦ let e = row_below w y b below in grind (arith, nat_tests)
+      | inr here ↦ let e : b ≡ y = omega arith in grind (arith, nat_tests)
+    ]
+  ]
+
+  pub places_line : (nat_le (y * w) (b * w + a) && nat_lt (b * w + a) (y * w + w)) ≡ part_at Line x y a b
+  places_line = elim (cases_lt b y) [
+    | inl above ↦ let e = row_below w b y above in grind (arith, nat_tests)
+    | inr other ↦ elim (cases_lt y b) [
+      | inl below ↦ let e = row_below w y b below in grind (arith, nat_tests)
+      | inr here ↦ let e : b ≡ y = omega arith in grind (arith, nat_tests)
+    ]
+  ]
+
+  pub places_line_end : (nat_le (y * w + x) (b * w + a) && nat_lt (b * w + a) (y * w + w)) ≡ part_at LineEnd x y a b
+  places_line_end = elim (cases_lt b y) [
+    | inl above ↦ let e = row_below w b y above in grind (arith, nat_tests)
+    | inr other ↦ elim (cases_lt y b) [
+      | inl below ↦ let e = row_below w y b below in grind (arith, nat_tests)
+      | inr here ↦ let e : b ≡ y = omega arith in grind (arith, nat_tests)
+    ]
+  ]

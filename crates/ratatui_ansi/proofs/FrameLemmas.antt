@@ -1,0 +1,507 @@
+-- What the bytes of a cell do to a terminal within a draw.
+use Rattle.std.proofs.Common.{◌≡◌, ℕ, ◌+◌, ◌-◌, ◌*◌, ◌^◌, ◌<◌, ◌≤◌, ◌==◌, ◌&&◌, ◌||◌, not, min, nat_lt, nat_le, nat_eq, if◌then◌else◌, Bool, List, [], ◌∷◌, ◌++◌, length, IsTrue, chars, true, false, zero, suc, slice_index_or, IsUtf8, rules, refl, sym, ap, ap₂, ◌∙◌, arith, subst, inl, inr, append_assoc, append-nil}
+use lib.Utf8.{encode, encodes}
+use Rattle.std.proofs.Math.Nat.{mul-le-mul_right}
+use Rattle.std.proofs.lemmas.Bool.{cases_lt}
+use Rattle.std.proofs.lemmas.Bool.Decides.{nat_tests}
+use Rattle.std.proofs.lemmas.Str.{chars-encodes, IsUtf8-encode, is_utf8-from_IsUtf8}
+use Rattle.unicode_width.specs.Width.{char_width}
+use Rattle.rtui_geometry.specs.declared.position.Position.{Position}
+use Rattle.rtui_cell.specs.Symbol.{blank, symbol_text}
+use Rattle.rtui_cell.specs.Look.{Look, look_of, empty_look}
+use Rattle.rtui_cell.specs.Cell.{width_of}
+use Rattle.rtui_cell.specs.Grid.{Update, put}
+use Rattle.rtui_cell.specs.declared.cell.Cell.{Cell}
+use Rattle.rtui_backend.proofs.DrawLemmas.{Draws-none, Draws-push}
+use Rattle.rtui_backend.specs.Screen.{Screen, Draws, cursor_of}
+use Rattle.ratatui_ansi.specs.declared.pen.Pen.{Pen}
+use Rattle.ratatui_ansi.specs.declared.drawing.Brush.{Brush}
+use Rattle.ratatui_ansi.specs.declared.frame.Drawing.{Drawing}
+use Rattle.ratatui_ansi.specs.Columns.{Column, Columns, blank_column, look_in, is_known, is_behind}
+use Rattle.ratatui_ansi.specs.Columns.Column.{Shows, Unknown}
+use Rattle.ratatui_ansi.specs.Flags.{AreBehind, flag}
+use Rattle.ratatui_ansi.specs.Pen.{own_pen, inked, pen_of}
+use Rattle.ratatui_ansi.specs.Terminal.{Terminal, rested, run, with_pen, has_columns}
+use Rattle.ratatui_ansi.specs.Terminal.Phase.{Ground}
+use Rattle.ratatui_ansi.specs.Sequences.{feed}
+use Rattle.ratatui_ansi.specs.Screens.{screen_of, IsKnown, IsWhole, IsWholeAt, IsBlankBeyond, IsReady, put_columns}
+use Rattle.ratatui_ansi.specs.Drawing.{is_one_plain, is_printed, columns_of, printed_at, blanked, IsDrawnBy, Changes, Paints, Prints}
+use Rattle.ratatui_ansi.specs.Drawing.Changes.{Stays, Sets}
+use Rattle.ratatui_ansi.specs.Calls.{IsAwaiting}
+use Rattle.ratatui_ansi.specs.Frame.{IsTail, laid, is_fit, IsVacant, IsDrawing, SendsUpdates, SendsDraw}
+use Rattle.ratatui_ansi.proofs.ReadLemmas.{feed-append}
+use Rattle.ratatui_ansi.proofs.ScrollLemmas.{whole_along}
+use Rattle.ratatui_ansi.proofs.TextLemmas.{and-both}
+use Rattle.ratatui_ansi.proofs.TailLemmas.{behind_empty, torn, put-torn, torn-more, torn-all, laid-known, laid-whole, laid-beyond, laid-behind, laid-shown}
+
+-- ---- blanks
+
+pub blank-chars : chars blank ≡ 32 ∷ []
+unfolding encode
+blank-chars = chars-encodes (32 ∷ []) refl
+
+pub blank-one : columns_of blank ≡ 1
+blank-one = rw blank-chars refl
+
+blank-utf8 : IsUtf8 blank
+unfolding encode
+blank-utf8 = IsUtf8-encode 32 (search rules)
+
+blank-columns : has_columns 32 ≡ true
+unfolding char_width
+blank-columns = refl
+
+pub blank-printed : is_printed blank ≡ true
+blank-printed = rw (blank-chars, is_utf8-from_IsUtf8 blank blank-utf8, blank-columns) refl
+
+-- all but the columns, the cursor, the pen and the doubt stays
+abbrev pub OnlyPrinted : Terminal → Terminal → Type 0
+OnlyPrinted s u = record u { columns = s.columns; x = s.x; y = s.y; pen = s.pen; sure = s.sure } ≡ s
+
+only-then : (s t u : Terminal) → OnlyPrinted s t → OnlyPrinted t u → OnlyPrinted s u
+only-then s t u first second = ap (λ (v : Terminal). record v { columns = s.columns; x = s.x; y = s.y; pen = s.pen; sure = s.sure }) second ∙ first
+
+blanked-only : (x y n : ℕ) (t : Terminal) → OnlyPrinted t (blanked x y n t)
+blanked-only x y zero t = refl
+blanked-only x y (suc n) t = blanked-only x y n t
+
+blanked-width : (x y n : ℕ) (t : Terminal) → (blanked x y n t).width ≡ t.width
+blanked-width x y n t = ap (λ (v : Terminal). v.width) (blanked-only x y n t)
+
+blanked-height : (x y n : ℕ) (t : Terminal) → (blanked x y n t).height ≡ t.height
+blanked-height x y n t = ap (λ (v : Terminal). v.height) (blanked-only x y n t)
+
+blanked-x : (x y n : ℕ) (t : Terminal) → t.x ≡ x → (blanked x y n t).x ≡ x + n
+blanked-x x y zero t e = e ∙ omega arith
+blanked-x x y (suc n) t e = ap (λ k. x + n + k) blank-one ∙ omega arith
+
+blanked-y : (x y n : ℕ) (t : Terminal) → t.y ≡ y → (blanked x y n t).y ≡ y
+blanked-y x y zero t e = e
+blanked-y x y (suc n) t e = refl
+
+blanked-sure : (x y n : ℕ) (t : Terminal) → t.sure ≡ true → x + n ≤ t.width → y < t.height → (blanked x y n t).sure ≡ true
+blanked-sure x y zero t sure fits row = sure
+blanked-sure x y (suc n) t sure fits row =
+    let before : (blanked x y n t).sure ≡ true = blanked-sure x y n t sure (omega arith) row in
+    let wide = blanked-width x y n t in
+    let high = blanked-height x y n t in
+    let column : nat_le (x + n + 1) t.width ≡ true = grind (arith, nat_tests) in
+    let below : nat_lt y t.height ≡ true = grind (arith, nat_tests) in
+    rw (before, blank-one, wide, high, column, below) refl
+
+blanked-torn : (x y n end m k : ℕ) (look : Look) (c : Columns) (t : Terminal) → IsWhole c → is_behind (c x y) ≡ false → IsTail (x + n) end y c → ((a b : ℕ) → t.columns a b ≡ torn x y n (x + n) end look c a b)
+    → x + n + m ≡ k → k ≤ end → (a b : ℕ) → (blanked (x + n) y m t).columns a b ≡ torn x y n k end look c a b
+blanked-torn x y n end zero k look c t whole left tail same reached high a b =
+    let e : x + n ≡ k = omega arith in
+    same a b ∙ ap (λ j. torn x y n j end look c a b) e
+blanked-torn x y n end (suc m) k look c t whole left tail same reached high a b =
+    let e : x + n + m + 1 ≡ k = omega arith in
+    let before = λ (i j : ℕ). blanked-torn x y n end m (x + n + m) look c t whole left tail same refl (omega arith) i j in
+    ap (λ j. put_columns (x + n + m) y j empty_look (blanked (x + n) y m t).columns a b) blank-one
+    ∙ torn-more x y n (x + n + m) end look c (blanked (x + n) y m t).columns whole left tail (omega arith) (omega arith) before a b
+    ∙ ap (λ j. torn x y n j end look c a b) e
+
+-- bytes that do nothing, and bytes behind others
+abbrev pub KeepsSize : (Terminal → Terminal) → Type 0
+KeepsSize effect = (t : Terminal) → ((effect t).width ≡ t.width) × ((effect t).height ≡ t.height)
+
+pub Paints-then : (w h : ℕ) (a b c : List ℕ) (p q r : Brush) (f g : Terminal → Terminal) → KeepsSize f → Paints w h a p f b q → Paints w h b q g c r → Paints w h a p (λ t. g (f t)) c r
+Paints-then w h a b c p q r f g keeps first second =
+    let fed : (t : Terminal) → feed (first.bytes ++ second.bytes) t ≡ feed second.bytes (feed first.bytes t) = feed-append first.bytes second.bytes in
+    let wide : (t : Terminal) → (rested t).width ≡ w → (rested t).height ≡ h → IsDrawnBy p t → (rested (feed first.bytes t)).width ≡ w =
+    λ t width height drawn. ap (λ (v : Terminal). v.width) (first.printed t width height drawn) ∙ (keeps (rested t)).0 ∙ width in
+    let high : (t : Terminal) → (rested t).width ≡ w → (rested t).height ≡ h → IsDrawnBy p t → (rested (feed first.bytes t)).height ≡ h =
+    λ t width height drawn. ap (λ (v : Terminal). v.height) (first.printed t width height drawn) ∙ (keeps (rested t)).1 ∙ height in
+    record {
+      bytes = first.bytes ++ second.bytes;
+      appended = second.appended ∙ ap (λ xs. xs ++ second.bytes) first.appended ∙ append_assoc a first.bytes second.bytes;
+      drawn = λ t width height drawn.
+          subst (IsDrawnBy r) (sym (fed t)) (second.drawn (feed first.bytes t) (wide t width height drawn) (high t width height drawn) (first.drawn t width height drawn));
+      printed = λ t width height drawn.
+          ap rested (fed t) ∙ second.printed (feed first.bytes t) (wide t width height drawn) (high t width height drawn) (first.drawn t width height drawn)
+          ∙ ap g (first.printed t width height drawn);
+    }
+
+pub blanks-none : (w h : ℕ) (old : List ℕ) (brush : Brush) (x y n : ℕ) → n ≡ 0 → Paints w h old brush (blanked x y n) old brush
+unfolding feed
+blanks-none w h old brush x y n e = record {
+  bytes = [];
+  appended = sym (append-nil old);
+  drawn = λ t width height drawn. drawn;
+  printed = λ t width height drawn. ap (λ k. blanked x y k (rested t)) (sym e);
+}
+
+pub blanks-more : (w h x y column m k : ℕ) (old mid new : List ℕ) (before between after : Brush) → Paints w h old before (blanked x y m) mid between → Prints w h mid between column y own_pen blank new after
+    → column ≡ x + m → k ≡ suc m → Paints w h old before (blanked x y k) new after
+blanks-more w h x y column m k old mid new before between after done more at count =
+    let keeps : KeepsSize (blanked x y m) = λ t. (blanked-width x y m t, blanked-height x y m t) in
+    let more_at : Prints w h mid between (x + m) y own_pen blank new after = subst (λ j. Prints w h mid between j y own_pen blank new after) at more in
+    subst (λ j. Paints w h old before (blanked x y j) new after) (sym count) (Paints-then w h old mid new before between after (blanked x y m) (printed_at (x + m) y own_pen blank) keeps done more_at)
+
+-- ---- a symbol, and blanks in what is left of another one
+
+-- a symbol stands in its place, and blanks up to column `end`
+pub record IsLaid (x y n end : ℕ) (look : Look) (s u : Terminal) : Type 0 where
+  pub only : OnlyPrinted s u
+  pub columns : (a b : ℕ) → u.columns a b ≡ laid x y n end look s.columns a b
+  pub x_at : u.x ≡ end
+  pub y_at : u.y ≡ y
+  pub certain : u.sure ≡ true
+
+laid-by : (w h x y n end : ℕ) (pen : Pen) (symbol : List ℕ) (s : Terminal) → IsReady w h (with_pen own_pen s) → columns_of symbol ≡ n → 0 < n → x + n ≤ w → end ≤ w → y < h
+    → is_behind (s.columns x y) ≡ false → IsTail (x + n) end y s.columns → IsLaid x y n end (inked symbol pen) s (blanked (x + n) y (end - (x + n)) (printed_at x y pen symbol s))
+laid-by w h x y n end pen symbol s ready en some fits inside row left tail =
+    let ordered : x + n ≤ end = tail.ordered in
+    let m = end - (x + n) in
+    let t = printed_at x y pen symbol s in
+    let wide : s.width ≡ w = ready.width in
+    let high : s.height ≡ h = ready.height in
+    let reached : x + n + m ≡ end = omega arith in
+    let look = inked symbol pen in
+    let put : (a b : ℕ) → t.columns a b ≡ torn x y n (x + n) end look s.columns a b =
+    λ a b. ap (λ j. put_columns x y j look s.columns a b) en ∙ put-torn x y n end look s.columns ready.whole left tail some a b in
+    let sure : t.sure ≡ true =
+    let one : nat_lt 0 n ≡ true = grind (arith, nat_tests) in
+    let two : nat_le (x + n) s.width ≡ true = grind (arith, nat_tests) in
+    let three : nat_lt y s.height ≡ true = grind (arith, nat_tests) in
+    rw (ready.sure, en, one, two, three) refl in
+    record {
+      only = only-then s t (blanked (x + n) y m t) refl (blanked-only (x + n) y m t);
+      columns = λ a b. blanked-torn x y n end m end look s.columns t ready.whole left tail put reached (omega arith) a b ∙ torn-all x y n end look s.columns a b;
+      x_at = blanked-x (x + n) y m t (ap (λ j. x + j) en) ∙ reached;
+      y_at = blanked-y (x + n) y m t refl;
+      certain = blanked-sure (x + n) y m t sure (omega arith) (omega arith);
+    }
+
+laid-ready : (w h x y n end : ℕ) (look : Look) (s u : Terminal) → IsReady w h (with_pen own_pen s) → x + n ≤ w → y < h → is_behind (s.columns x y) ≡ false → IsTail (x + n) end y s.columns
+    → IsLaid x y n end look s u → IsReady w h (with_pen own_pen u)
+laid-ready w h x y n end look s u ready fits row left tail is = record {
+  phase = ap (λ (v : Terminal). v.phase) is.only ∙ ready.phase;
+  text = ap (λ (v : Terminal). v.text) is.only ∙ ready.text;
+  width = ap (λ (v : Terminal). v.width) is.only ∙ ready.width;
+  height = ap (λ (v : Terminal). v.height) is.only ∙ ready.height;
+  pen = refl;
+  top = ap (λ (v : Terminal). v.top) is.only ∙ ready.top;
+  bottom = ap (λ (v : Terminal). v.bottom) is.only ∙ ready.bottom;
+  row = let at : u.y ≡ y = is.y_at in omega arith;
+  sure = is.certain;
+  known = λ a b. ap is_known (is.columns a b) ∙ laid-known x y n end look s.columns ready.known a b;
+  whole = λ a b.
+      whole_along (λ k. laid x y n end look s.columns k b) (λ k. u.columns k b) a (λ k. sym (is.columns k b)) (laid-whole x y n end look s.columns ready.whole left tail a b);
+  beyond = λ a b far. is.columns a b ∙ laid-beyond w x y n end look s.columns fits ready.beyond a b far;
+}
+
+-- ---- the flags
+
+-- rows do not overlap
+row_below : (w b y : ℕ) → b < y → b * w + w ≤ y * w
+row_below w b y lower = let e : (b + 1) * w ≤ y * w = mul-le-mul_right w (omega arith) in omega arith
+
+-- the flags of the columns from x up to `end` of a row were set anew
+-- flags set anew in the columns of a row from x up to `end`
+pub record AreMarked (first behind_it end : ℕ) (flags after : List Bool) : Type 0 where
+  pub count : length after ≡ length flags
+  pub each : (k : ℕ) → slice_index_or after k false ≡ (if nat_le first k && nat_lt k end then nat_lt first k && nat_lt k behind_it else slice_index_or flags k false)
+
+marked-in : (w x y n end a : ℕ) (old new is was : Bool) → x + n ≤ end → end ≤ w
+    → new ≡ (if nat_le (y * w + x) (y * w + a) && nat_lt (y * w + a) (y * w + end) then nat_lt (y * w + x) (y * w + a) && nat_lt (y * w + a) (y * w + (x + n)) else old)
+    → old ≡ was → is ≡ (if run x y n a y then nat_lt x a else (if run (x + n) y (end - (x + n)) a y then false else was)) → new ≡ is
+marked-in w x y n end a old new is was ordered inside e f g = grind (arith, nat_tests)
+
+aside : (p q r in_p in_q old new is was : Bool) → p ≡ false → q ≡ false → r ≡ false → new ≡ (if p then in_p else old) → old ≡ was → is ≡ (if q then in_q else (if r then false else was)) → new ≡ is
+aside p q r in_p in_q old new is was ep eq er e f g =
+    let is_old : new ≡ old = rw ep at e in
+    let is_was : is ≡ was = rw (eq, er) at g in
+    is_old ∙ f ∙ sym is_was
+
+marked-at : (w x y n end a b : ℕ) (old new is was : Bool) → x + n ≤ end → end ≤ w → a < w → 0 < n
+    → new ≡ (if nat_le (y * w + x) (b * w + a) && nat_lt (b * w + a) (y * w + end) then nat_lt (y * w + x) (b * w + a) && nat_lt (b * w + a) (y * w + (x + n)) else old)
+    → old ≡ was → is ≡ (if run x y n a b then nat_lt x a else (if run (x + n) y (end - (x + n)) a b then false else was)) → new ≡ is
+marked-at w x y n end a b old new is was ordered inside column some e f g =
+    elim (cases_lt b y) [
+      | inl above ↦
+          let apart = row_below w b y above in
+          let no : (nat_le (y * w + x) (b * w + a) && nat_lt (b * w + a) (y * w + end)) ≡ false = grind (arith, nat_tests) in
+          let none : run x y n a b ≡ false = grind (arith, nat_tests) in
+          let blanks : run (x + n) y (end - (x + n)) a b ≡ false = grind (arith, nat_tests) in
+          aside _ _ _ _ _ old new is was no none blanks e f g
+      | inr below ↦ elim (cases_lt y b) [
+        | inl under ↦
+            let apart = row_below w y b under in
+            let no : (nat_le (y * w + x) (b * w + a) && nat_lt (b * w + a) (y * w + end)) ≡ false = grind (arith, nat_tests) in
+            let none : run x y n a b ≡ false = grind (arith, nat_tests) in
+            let blanks : run (x + n) y (end - (x + n)) a b ≡ false = grind (arith, nat_tests) in
+            aside _ _ _ _ _ old new is was no none blanks e f g
+        | inr over ↦
+            let row : b ≡ y = omega arith in
+            marked-in w x y n end a old new is was ordered inside (rw row at e) f (rw row at g)
+      ]
+    ]
+
+pub tail-of : (w h from end y : ℕ) (flags : List Bool) (c : Columns) → AreBehind w h flags c → IsBlankBeyond w c → y < h → from ≤ end → end ≤ w
+    → ((k : ℕ) → from ≤ k → k < end → slice_index_or flags (y * w + k) false ≡ true) → (end < w → slice_index_or flags (y * w + end) false ≡ false) → IsTail from end y c
+tail-of w h from end y flags c are beyond row ordered inside set unset = record {
+  ordered = ordered;
+  behind = λ k low high. sym (are.each k y (omega arith) row) ∙ set k low high;
+  ended = elim (cases_lt end w) [
+    | inl within ↦ sym (are.each end y within row) ∙ unset within
+    | inr past ↦ ap is_behind (beyond end y (omega arith))
+  ];
+}
+
+pub laid-flags : (w h x y n end : ℕ) (look : Look) (s u : Terminal) (flags after : List Bool) → AreBehind w h flags s.columns → x + n ≤ end → end ≤ w → 0 < n → IsLaid x y n end look s u
+    → AreMarked (y * w + x) (y * w + (x + n)) (y * w + end) flags after → AreBehind w h after u.columns
+laid-flags w h x y n end look s u flags after are ordered inside some is marked = record {
+  count = marked.count ∙ are.count;
+  each = λ a b column row.
+      marked-at w x y n end a b (slice_index_or flags (b * w + a) false) (slice_index_or after (b * w + a) false) (is_behind (u.columns a b)) (is_behind (s.columns a b)) ordered inside column some
+      (marked.each (b * w + a)) (are.each a b column row) (ap is_behind (is.columns a b) ∙ laid-behind x y n end look s.columns a b);
+}
+
+-- ---- what the screen shows
+
+ink-look : (cell : Cell) → inked (symbol_text cell.symbol) (pen_of cell) ≡ look_of cell
+unfolding look_of
+ink-look cell = refl
+
+laid-draws : (w h x y n end : ℕ) (cell : Cell) (s u : Terminal) (written after : ℕ) → s.width ≡ w → s.height ≡ h → IsTail (x + n) end y s.columns → width_of cell ≡ n → 0 < n → x + n ≤ w → y < h
+    → IsLaid x y n end (look_of cell) s u → after ≡ min (written + 1) (2 ^ 64 - 1) → Draws (screen_of written s) (record { x = x; y = y; cell = cell } ∷ []) (screen_of after u)
+laid-draws w h x y n end cell s u written after wide high tail en some fits row is count = record {
+  history = ap (λ (v : Terminal). v.history) is.only;
+  width = ap (λ (v : Terminal). v.width) is.only;
+  height = ap (λ (v : Terminal). v.height) is.only;
+  visible = ap (λ (v : Terminal). v.visible) is.only;
+  grid = λ a b.
+      rw (wide, high) (ap look_in (is.columns a b) ∙ laid-shown w h x y n end (record { x = x; y = y; cell = cell }) s.columns tail refl refl en some fits row a b);
+  written = λ below. omega arith;
+  full = λ above. omega arith;
+}
+
+-- ---- a cell
+
+-- what a cell that fits has
+pub record Fits (room : ℕ) (cell : Cell) : Type 0 where
+  pub is_text : is_printed (symbol_text cell.symbol) ≡ true
+  pub columns : columns_of (symbol_text cell.symbol) ≡ width_of cell
+  pub some : 0 < width_of cell
+  pub inside : width_of cell ≤ room
+
+true-of : (b : Bool) → IsTrue b → b ≡ true
+true-of b is = grind (arith, nat_tests)
+
+pub fit-parts : (room : ℕ) (cell : Cell) → IsTrue (is_fit room cell) → Fits room cell
+fit-parts room cell fit =
+    let one = and-both _ (nat_le (width_of cell) room) (true-of _ fit) in
+    let two = and-both _ (nat_lt 0 (width_of cell)) one.0 in
+    let three = and-both (is_printed (symbol_text cell.symbol)) (columns_of (symbol_text cell.symbol) == width_of cell) two.0 in
+    let equal = three.1 in
+    let some = two.1 in
+    let inside = one.1 in
+    record { is_text = three.0; columns = grind (arith, nat_tests); some = grind (arith, nat_tests); inside = grind (arith, nat_tests) }
+
+cursor-at : (end y w ux uy uw : ℕ) → ux ≡ end → uy ≡ y → uw ≡ w → let at : Position = record { x = min ux (uw - 1); y = uy } in let goal : Position = record { x = min end (w - 1); y = y } in at ≡ goal
+cursor-at end y w ux uy uw ex ey ew = rw (ex, ey, ew) refl
+
+pub lay-sends : (w h x y n end : ℕ) (cell : Cell) (before after : Drawing) (between : Brush) (flags flags_after : List Bool) (old mid new : List ℕ) → Fits (w - x) cell → width_of cell ≡ n → x < w → y < h
+    → Prints w h old before.brush x y (pen_of cell) (symbol_text cell.symbol) mid between → Paints w h mid between (blanked (x + n) y (end - (x + n))) new after.brush
+    → slice_index_or flags (y * w + x) false ≡ false → x + n ≤ end → end ≤ w
+    → ((k : ℕ) → x + n ≤ k → k < end → slice_index_or flags (y * w + k) false ≡ true) → (end < w → slice_index_or flags (y * w + end) false ≡ false)
+    → AreMarked (y * w + x) (y * w + (x + n)) (y * w + end) flags flags_after
+    → after.cursor ≡ record { x = min end (w - 1); y = y } → after.written ≡ min (before.written + 1) (2 ^ 64 - 1)
+    → SendsUpdates w h old before flags (record { x = x; y = y; cell = cell } ∷ []) new after flags_after
+lay-sends w h x y n end cell before after between flags flags_after old mid new fit en column row prints paints uncut ordered inside set unset marked cursor count =
+    let symbol = symbol_text cell.symbol in
+    let m = end - (x + n) in
+    let both : Paints w h old before.brush (λ t. blanked (x + n) y m (printed_at x y (pen_of cell) symbol t)) new after.brush =
+    Paints-then w h old mid new before.brush between after.brush (printed_at x y (pen_of cell) symbol) (blanked (x + n) y m) (λ t. (refl, refl)) prints paints in
+    let columns : columns_of symbol ≡ n = fit.columns ∙ en in
+    let some : 0 < n = let s = fit.some in omega arith in
+    let fits : x + n ≤ w = let i = fit.inside in omega arith in
+    let left : (t : Terminal) → IsDrawing w h before flags t → is_behind ((rested t).columns x y) ≡ false = λ t is. sym (is.behind.each x y column row) ∙ uncut in
+    let tail : (t : Terminal) → IsDrawing w h before flags t → IsTail (x + n) end y (rested t).columns =
+    λ t is. tail-of w h (x + n) end y flags (rested t).columns is.behind is.ready.beyond row ordered inside set unset in
+    let laid_at : (t : Terminal) → IsDrawing w h before flags t → IsLaid x y n end (look_of cell) (rested t) (rested (feed both.bytes t)) = λ t is.
+    subst (IsLaid x y n end (look_of cell) (rested t)) (sym (both.printed t is.ready.width is.ready.height is.drawn))
+    (subst (λ look. IsLaid x y n end look (rested t) (blanked (x + n) y m (printed_at x y (pen_of cell) symbol (rested t)))) (ink-look cell)
+    (laid-by w h x y n end (pen_of cell) symbol (rested t) is.ready columns some fits inside row (left t is) (tail t is))) in
+    record {
+      bytes = both.bytes;
+      appended = both.appended;
+      drawing = λ t is.
+          let at = laid_at t is in
+          let u = rested (feed both.bytes t) in
+          let wide : u.width ≡ w = ap (λ (v : Terminal). v.width) at.only ∙ is.ready.width in
+          record {
+            drawn = both.drawn t is.ready.width is.ready.height is.drawn;
+            ready = laid-ready w h x y n end (look_of cell) (rested t) u is.ready fits row (left t is) (tail t is) at;
+            behind = laid-flags w h x y n end (look_of cell) (rested t) u flags flags_after is.behind ordered inside some at marked;
+            cursor = cursor-at end y w u.x u.y u.width at.x_at at.y_at wide ∙ sym cursor;
+          };
+      draws = λ t is.
+          laid-draws w h x y n end cell (rested t) (rested (feed both.bytes t)) before.written after.written is.ready.width is.ready.height (tail t is) en some fits row (laid_at t is) count;
+    }
+
+-- ---- a vacant cell
+
+pub vacant-is : (c : Cell) → symbol_text c.symbol ≡ blank → pen_of c ≡ own_pen → width_of c ≡ 1 → IsVacant c
+vacant-is c text pen width = record { look = sym (ink-look c) ∙ ap₂ inked text pen; width = width }
+
+pub vacant-text : (c : Cell) → IsVacant c → symbol_text c.symbol ≡ blank
+vacant-text c is = ap (λ (look : Look). look.symbol) (ink-look c ∙ is.look)
+
+pub vacant-pen : (c : Cell) → IsVacant c → pen_of c ≡ own_pen
+vacant-pen c is =
+    ap (λ (look : Look). let pen : Pen = record { fg = look.fg; bg = look.bg; underline_color = look.underline_color; modifier = look.modifier } in pen) (ink-look c ∙ is.look)
+
+-- ---- cells of which nothing is sent
+
+pub still-sends : (w h : ℕ) (u : Update) (before after : Drawing) (flags : List Bool) (old : List ℕ) → after.brush ≡ before.brush → after.cursor ≡ before.cursor → after.written ≡ min (before.written + 1) (2 ^ 64 - 1)
+    → ((c : Columns) → AreBehind w h flags c → (a b : ℕ) → look_in (c a b) ≡ put w h u (λ i j. look_in (c i j)) a b) → SendsUpdates w h old before flags (u ∷ []) old after flags
+unfolding feed
+still-sends w h u before after flags old brush cursor count same = record {
+  bytes = [];
+  appended = sym (append-nil old);
+  drawing = λ t is. record {
+    drawn = subst (λ b. IsDrawnBy b t) (sym brush) is.drawn;
+    ready = is.ready;
+    behind = is.behind;
+    cursor = is.cursor ∙ sym cursor;
+  };
+  draws = λ t is. record {
+    history = refl;
+    width = refl;
+    height = refl;
+    visible = refl;
+    grid = λ a b. rw (is.ready.width, is.ready.height) (same (rested t).columns is.behind a b);
+    written = λ below. omega arith;
+    full = λ above. omega arith;
+  };
+}
+
+pub put-off : (w h : ℕ) (u : Update) → (nat_lt u.x w && nat_lt u.y h) ≡ false → (c : Columns) (a b : ℕ) → look_in (c a b) ≡ put w h u (λ i j. look_in (c i j)) a b
+put-off w h u off c a b = rw off refl
+
+kept : (w x y a b : ℕ) (c : Columns) → look_in (c x y) ≡ empty_look
+    → look_in (c a b) ≡ (if nat_eq b y then (if nat_eq a x then empty_look else (if nat_lt x a && nat_lt a (x + 1) && nat_lt a w then empty_look else look_in (c a b))) else look_in (c a b))
+kept w x y a b c shows =
+    elim (nat_eq b y) as (λ p. nat_eq b y ≡ p → look_in (c a b) ≡ (if p then (if nat_eq a x then empty_look else (if nat_lt x a && nat_lt a (x + 1) && nat_lt a w then empty_look else look_in (c a b))) else look_in (c a b))) [
+      | true ↦ λ e. elim (nat_eq a x) as (λ q. nat_eq a x ≡ q → look_in (c a b) ≡ (if q then empty_look else (if nat_lt x a && nat_lt a (x + 1) && nat_lt a w then empty_look else look_in (c a b)))) [
+        | true ↦ λ f.
+            let here_x : a ≡ x = grind (arith, nat_tests) in
+            let here_y : b ≡ y = grind (arith, nat_tests) in
+            ap₂ (λ i j. look_in (c i j)) here_x here_y ∙ shows
+        | false ↦ λ f. let g : (nat_lt x a && nat_lt a (x + 1)) ≡ false = grind (arith, nat_tests) in rw g refl
+      ] refl
+      | false ↦ λ e. refl
+    ] refl
+
+pub put-vacant : (w h : ℕ) (u : Update) (flags : List Bool) → u.x < w → u.y < h → flag flags (u.y * w + u.x) ≡ true → IsVacant u.cell
+    → (c : Columns) → AreBehind w h flags c → (a b : ℕ) → look_in (c a b) ≡ put w h u (λ i j. look_in (c i j)) a b
+put-vacant w h u flags column row covered vacant c are a b =
+    let x_test : nat_lt u.x w ≡ true = grind (arith, nat_tests) in
+    let y_test : nat_lt u.y h ≡ true = grind (arith, nat_tests) in
+    let shows : look_in (c u.x u.y) ≡ empty_look = behind_empty (c u.x u.y) (sym (are.each u.x u.y column row) ∙ covered) in
+    rw (x_test, y_test, vacant.look, vacant.width) (kept w u.x u.y a b c shows)
+
+-- ---- a draw
+
+pub sends-none : (w h : ℕ) (old : List ℕ) (d : Drawing) (flags : List Bool) → SendsUpdates w h old d flags [] old d flags
+unfolding feed
+sends-none w h old d flags = record {
+  bytes = [];
+  appended = sym (append-nil old);
+  drawing = λ t is. is;
+  draws = λ t is. Draws-none (screen_of d.written (rested t));
+}
+
+pub sends-push : (w h : ℕ) (a b c : List ℕ) (p q r : Drawing) (f g k : List Bool) (us : List Update) (u : Update) → SendsUpdates w h a p f us b q g → SendsUpdates w h b q g (u ∷ []) c r k
+    → SendsUpdates w h a p f (us ++ u ∷ []) c r k
+sends-push w h a b c p q r f g k us u first second =
+    let fed : (t : Terminal) → feed (first.bytes ++ second.bytes) t ≡ feed second.bytes (feed first.bytes t) = feed-append first.bytes second.bytes in
+    record {
+      bytes = first.bytes ++ second.bytes;
+      appended = second.appended ∙ ap (λ xs. xs ++ second.bytes) first.appended ∙ append_assoc a first.bytes second.bytes;
+      drawing = λ t is. subst (IsDrawing w h r k) (sym (fed t)) (second.drawing (feed first.bytes t) (first.drawing t is));
+      draws = λ t is.
+          subst (λ v. Draws (screen_of p.written (rested t)) (us ++ u ∷ []) (screen_of r.written (rested v))) (sym (fed t))
+          (Draws-push (first.draws t is) (second.draws (feed first.bytes t) (first.drawing t is)));
+    }
+
+-- a draw begins with the own pen and an unknown place
+begins : (w h : ℕ) (d : Drawing) (cursor : Position) (flags : List Bool) (t : Terminal) → d.brush.pen ≡ own_pen → d.brush.is_placed ≡ false → d.cursor ≡ cursor → IsAwaiting w h cursor flags t → IsDrawing w h d flags t
+begins w h d cursor flags t own unplaced at is = record {
+  drawn = record {
+    phase = is.phase;
+    pen = is.ready.pen ∙ sym own;
+    placed = λ placed. let h : ⊥ = cc in absurd h;
+  };
+  ready = record {
+    phase = is.ready.phase;
+    text = is.ready.text;
+    width = is.ready.width;
+    height = is.ready.height;
+    pen = refl;
+    top = is.ready.top;
+    bottom = is.ready.bottom;
+    row = is.ready.row;
+    sure = is.ready.sure;
+    known = is.ready.known;
+    whole = is.ready.whole;
+    beyond = is.ready.beyond;
+  };
+  behind = is.behind;
+  cursor = is.placed ∙ sym at;
+}
+
+with-own : (w h : ℕ) (t : Terminal) → t.pen ≡ own_pen → IsReady w h (with_pen own_pen t) → IsReady w h t
+with-own w h t own ready = record {
+  phase = ready.phase;
+  text = ready.text;
+  width = ready.width;
+  height = ready.height;
+  pen = own;
+  top = ready.top;
+  bottom = ready.bottom;
+  row = ready.row;
+  sure = ready.sure;
+  known = ready.known;
+  whole = ready.whole;
+  beyond = ready.beyond;
+}
+
+-- and ends with the own pen
+pub draw-sends : (w h : ℕ) (old mid new : List ℕ) (before after : Drawing) (cursor : Position) (written : ℕ) (flags flags_after : List Bool) (us : List Update) → before.brush.pen ≡ own_pen
+    → before.brush.is_placed ≡ false → before.cursor ≡ cursor → before.written ≡ written → SendsUpdates w h old before flags us mid after flags_after → Changes after.brush.pen own_pen mid new
+    → SendsDraw w h old cursor written flags us new after.cursor after.written flags_after
+draw-sends w h old mid new before after cursor written flags flags_after us own unplaced at count sends changes =
+    let start = λ (t : Terminal) (is : IsAwaiting w h cursor flags t). begins w h before cursor flags t own unplaced at is in
+    elim changes [
+      | Stays same none ↦ record {
+        bytes = sends.bytes;
+        appended = none ∙ sends.appended;
+        awaiting = λ t is.
+            let end = sends.drawing t (start t is) in
+            record {
+              phase = end.drawn.phase;
+              ready = with-own w h (rested (feed sends.bytes t)) (end.drawn.pen ∙ same) end.ready;
+              behind = end.behind;
+              placed = end.cursor;
+            };
+        draws = λ t is. subst (λ n. Draws (screen_of n (rested t)) us (screen_of after.written (rested (feed sends.bytes t)))) count (sends.draws t (start t is));
+      }
+      | Sets does ↦
+          let fed : (t : Terminal) → IsAwaiting w h cursor flags t → feed (sends.bytes ++ does.bytes) t ≡ with_pen own_pen (rested (feed sends.bytes t)) = λ t is.
+          feed-append sends.bytes does.bytes t ∙ does.read (feed sends.bytes t) (sends.drawing t (start t is)).drawn.phase in
+          record {
+            bytes = sends.bytes ++ does.bytes;
+            appended = does.appended ∙ ap (λ xs. xs ++ does.bytes) sends.appended ∙ append_assoc old sends.bytes does.bytes;
+            awaiting = λ t is.
+                let end = sends.drawing t (start t is) in
+                let last : IsAwaiting w h after.cursor flags_after (with_pen own_pen (rested (feed sends.bytes t))) = record { phase = refl; ready = end.ready; behind = end.behind; placed = end.cursor } in
+                subst (IsAwaiting w h after.cursor flags_after) (sym (fed t is)) last;
+            draws = λ t is.
+                let before_count = subst (λ n. Draws (screen_of n (rested t)) us (screen_of after.written (rested (feed sends.bytes t)))) count (sends.draws t (start t is)) in
+                let same : Draws (screen_of written (rested t)) us (screen_of after.written (rested (with_pen own_pen (rested (feed sends.bytes t))))) = before_count in
+                subst (λ v. Draws (screen_of written (rested t)) us (screen_of after.written (rested v))) (sym (fed t is)) same;
+          }
+    ]

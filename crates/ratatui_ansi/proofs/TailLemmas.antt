@@ -1,0 +1,290 @@
+-- The columns under a symbol, and what is left of one of which it covers the first part.
+use Rattle.std.proofs.Common.{◌≡◌, ℕ, ◌+◌, ◌-◌, ◌<◌, ◌≤◌, ◌==◌, ◌&&◌, ◌||◌, nat_lt, nat_le, nat_eq, if◌then◌else◌, zero, suc, Bool, true, false, refl, sym, ap, ap₂, ◌∙◌, arith, subst}
+use Rattle.std.proofs.lemmas.Bool.Decides.{nat_tests}
+use Rattle.std.specs.List.{list_any, range_with_len}
+use Rattle.rtui_cell.specs.Look.{Look, look_of, empty_look}
+use Rattle.rtui_cell.specs.Cell.{width_of}
+use Rattle.rtui_cell.specs.Grid.{Update, put}
+use Rattle.ratatui_ansi.specs.Columns.{Column, Columns, blank_column, look_in, is_known, is_behind, is_met, overwritten}
+use Rattle.ratatui_ansi.specs.Columns.Column.{Shows, Unknown}
+use Rattle.ratatui_ansi.specs.Terminal.{run}
+use Rattle.ratatui_ansi.specs.Screens.{IsKnown, IsWhole, IsWholeAt, IsBlankBeyond, put_columns}
+use Rattle.ratatui_ansi.specs.Frame.{IsTail, laid}
+use Rattle.ratatui_ansi.proofs.PutLemmas.{none_between, apart-at, first-or-behind, rest-same}
+
+-- a symbol of n columns stands in column x of row y, blanks behind it up to column k, and from there up to column `end` nothing is known
+abbrev pub torn : ℕ → ℕ → ℕ → ℕ → ℕ → Look → Columns → Columns
+torn x y n k end look c a b = if run k y (end - k) a b then Unknown else laid x y n k look c a b
+
+or_true : (p : Bool) → (p || true) ≡ true
+or_true true = refl
+or_true false = refl
+
+some_between : (f : ℕ → Bool) (k n j : ℕ) → k ≤ j → j < k + n → f j ≡ true → list_any f (range_with_len k n) ≡ true
+some_between f k zero j low high e = absurd (omega arith)
+some_between f k (suc n) j low high e =
+    elim (nat_eq k j) as (λ p. nat_eq k j ≡ p → (f k || list_any f (range_with_len (k + 1) n)) ≡ true) [
+      | true ↦ λ same. let here : k ≡ j = grind (arith, nat_tests) in let at : f k ≡ true = ap f here ∙ e in rw at refl
+      | false ↦ λ other.
+          let above : k < j = grind (arith, nat_tests) in
+          rw (some_between f (k + 1) n j (omega arith) (omega arith) e) (or_true (f k))
+    ] refl
+
+-- ---- the three parts of the columns
+
+laid_cases : (x y n end : ℕ) (look : Look) (c : Columns) (a b : ℕ) (P : Column → Type 0) → (run x y n a b ≡ true → P (Shows look (a - x) n))
+    → (run x y n a b ≡ false → run (x + n) y (end - (x + n)) a b ≡ true → P blank_column) → (run x y n a b ≡ false → run (x + n) y (end - (x + n)) a b ≡ false → P (c a b)) → P (laid x y n end look c a b)
+laid_cases x y n end look c a b P inside blank out =
+    elim (run x y n a b) as (λ p. run x y n a b ≡ p → P (if p then Shows look (a - x) n else (if run (x + n) y (end - (x + n)) a b then blank_column else c a b))) [
+      | true ↦ inside
+      | false ↦ λ f. elim (run (x + n) y (end - (x + n)) a b) as (λ q. run (x + n) y (end - (x + n)) a b ≡ q → P (if q then blank_column else c a b)) [
+        | true ↦ λ g. blank f g
+        | false ↦ λ g. out f g
+      ] refl
+    ] refl
+
+laid-inside : (x y n end : ℕ) (look : Look) (c : Columns) (a b : ℕ) → run x y n a b ≡ true → laid x y n end look c a b ≡ Shows look (a - x) n
+laid-inside x y n end look c a b e = rw e refl
+
+laid-blank : (x y n end : ℕ) (look : Look) (c : Columns) (a b : ℕ) → run x y n a b ≡ false → run (x + n) y (end - (x + n)) a b ≡ true → laid x y n end look c a b ≡ blank_column
+laid-blank x y n end look c a b e f = rw (e, f) refl
+
+laid-other : (x y n end : ℕ) (look : Look) (c : Columns) (a b : ℕ) → run x y n a b ≡ false → run (x + n) y (end - (x + n)) a b ≡ false → laid x y n end look c a b ≡ c a b
+laid-other x y n end look c a b e f = rw (e, f) refl
+
+outside : (x y n end a b : ℕ) → x + n ≤ end → run x y n a b ≡ false → run (x + n) y (end - (x + n)) a b ≡ false → run x y (end - x) a b ≡ false
+outside x y n end a b ordered e f = grind (arith, nat_tests)
+
+laid-outside : (x y n end : ℕ) (look : Look) (c : Columns) (a b : ℕ) → x + n ≤ end → run x y (end - x) a b ≡ false → laid x y n end look c a b ≡ c a b
+laid-outside x y n end look c a b ordered e =
+    let f : run x y n a b ≡ false = grind (arith, nat_tests) in
+    let g : run (x + n) y (end - (x + n)) a b ≡ false = grind (arith, nat_tests) in
+    laid-other x y n end look c a b f g
+
+-- a symbol outside the columns of the new one and the tail has none of its columns in them
+apart_from : (x y n end a b : ℕ) (look : Look) (i m : ℕ) (c : Columns) → is_behind (c x y) ≡ false → IsTail (x + n) end y c → IsWholeAt (λ k. c k b) a (Shows look i m)
+    → run x y (end - x) a b ≡ false → (k : ℕ) → a - i ≤ k → k < (a - i) + m → run x y (end - x) k b ≡ false
+apart_from x y n end a b look i m c left tail whole out =
+    let ordered : x + n ≤ end = tail.ordered in
+    let there : x + (end - x) ≡ end = omega arith in
+    apart-at x y (end - x) a b i m look c whole left (ap (λ k. is_behind (c k y)) there ∙ tail.ended) out
+
+-- ---- what the columns are
+
+pub laid-known : (x y n end : ℕ) (look : Look) (c : Columns) → IsKnown c → IsKnown (laid x y n end look c)
+laid-known x y n end look c known a b = laid_cases x y n end look c a b (λ d. is_known d ≡ true) (λ e. refl) (λ e f. refl) (λ e f. known a b)
+
+pub laid-beyond : (w x y n end : ℕ) (look : Look) (c : Columns) → x + n ≤ w → IsBlankBeyond w c → IsBlankBeyond w (laid x y n end look c)
+laid-beyond w x y n end look c fits beyond a b far =
+    laid_cases x y n end look c a b (λ d. d ≡ blank_column) (λ e. let near : a < x + n = grind (arith, nat_tests) in absurd (omega arith)) (λ e f. refl) (λ e f. beyond a b far)
+
+part_behind : (x a : ℕ) → x ≤ a → (if (a - x) == 0 then false else true) ≡ nat_lt x a
+part_behind x a low =
+    elim (nat_lt x a) as (λ p. nat_lt x a ≡ p → (if (a - x) == 0 then false else true) ≡ p) [
+      | true ↦ λ e. let f : ((a - x) == 0) ≡ false = grind (arith, nat_tests) in rw f refl
+      | false ↦ λ e. let f : ((a - x) == 0) ≡ true = grind (arith, nat_tests) in rw f refl
+    ] refl
+
+pub laid-behind : (x y n end : ℕ) (look : Look) (c : Columns) (a b : ℕ)
+    → is_behind (laid x y n end look c a b) ≡ (if run x y n a b then nat_lt x a else (if run (x + n) y (end - (x + n)) a b then false else is_behind (c a b)))
+laid-behind x y n end look c a b =
+    elim (run x y n a b) as (λ p. run x y n a b ≡ p → is_behind (if p then Shows look (a - x) n else (if run (x + n) y (end - (x + n)) a b then blank_column else c a b))
+    ≡ (if p then nat_lt x a else (if run (x + n) y (end - (x + n)) a b then false else is_behind (c a b)))) [
+      | true ↦ λ e. part_behind x a (grind (arith, nat_tests))
+      | false ↦ λ e. elim (run (x + n) y (end - (x + n)) a b) as (λ q. is_behind (if q then blank_column else c a b) ≡ (if q then false else is_behind (c a b))) [ true ↦ refl | false ↦ refl ]
+    ] refl
+
+whole_outside : (x y n end a b : ℕ) (look : Look) (c : Columns) (d : Column) → is_behind (c x y) ≡ false → IsTail (x + n) end y c → run x y (end - x) a b ≡ false
+    → IsWholeAt (λ k. c k b) a d → IsWholeAt (λ k. laid x y n end look c k b) a d
+whole_outside x y n end a b look c Unknown left tail out whole = tt
+whole_outside x y n end a b look c (Shows other i m) left tail out whole = (
+  whole.0,
+  whole.1,
+  λ j below.
+      laid-outside x y n end look c ((a - i) + j) b tail.ordered (apart_from x y n end a b other i m c left tail whole out ((a - i) + j) (omega arith) (omega arith)) ∙ whole.2 j below,
+)
+
+pub laid-whole : (x y n end : ℕ) (look : Look) (c : Columns) → IsWhole c → is_behind (c x y) ≡ false → IsTail (x + n) end y c → IsWhole (laid x y n end look c)
+laid-whole x y n end look c whole left tail a b =
+    let ordered : x + n ≤ end = tail.ordered in
+    laid_cases x y n end look c a b (IsWholeAt (λ k. laid x y n end look c k b) a)
+    (λ e.
+    let row : b ≡ y = grind (arith, nat_tests) in
+    let low : x ≤ a = grind (arith, nat_tests) in
+    let high : a < x + n = grind (arith, nat_tests) in
+    let index : a - x < n = omega arith in
+    let first : a - x ≤ a = omega arith in (
+      index,
+      first,
+      λ j below.
+          let there : (a - (a - x)) + j ≡ x + j = omega arith in
+          let inside : run x y n (x + j) b ≡ true = grind (arith, nat_tests) in
+          let part : x + j - x ≡ j = omega arith in
+          ap (λ k. laid x y n end look c k b) there ∙ laid-inside x y n end look c (x + j) b inside ∙ ap (λ k. Shows look k n) part,
+    ))
+    (λ e f. (
+      omega arith,
+      omega arith,
+      λ j below.
+          let first : j ≡ 0 = omega arith in
+          let there : (a - 0) + j ≡ a = omega arith in
+          ap (λ k. laid x y n end look c k b) there ∙ laid-blank x y n end look c a b e f ∙ ap (λ k. Shows empty_look k 1) (sym first),
+    ))
+    (λ e f. whole_outside x y n end a b look c (c a b) left tail (outside x y n end a b ordered e f) (whole a b))
+
+-- behind the first column of a symbol a column shows nothing of its own
+pub behind_empty : (d : Column) → is_behind d ≡ true → look_in d ≡ empty_look
+behind_empty Unknown e = refl
+behind_empty (Shows look index count) e =
+    elim (index == 0) as (λ p. (if p then false else true) ≡ true → (if p then look else empty_look) ≡ empty_look) [
+      | true ↦ λ f. let h : ⊥ = cc in absurd h
+      | false ↦ λ f. refl
+    ] e
+
+if_past : {A : Type 0} (p q : Bool) (r s : A) → (if p && false && q then r else s) ≡ s
+if_past true q r s = refl
+if_past false q r s = refl
+
+-- columns and looks: the put of the cells' grids
+pub laid-shown : (w h x y n end : ℕ) (u : Update) (c : Columns) → IsTail (x + n) end y c → u.x ≡ x → u.y ≡ y → width_of u.cell ≡ n → 0 < n → x + n ≤ w → y < h
+    → (a b : ℕ) → look_in (laid x y n end (look_of u.cell) c a b) ≡ put w h u (λ i j. look_in (c i j)) a b
+laid-shown w h x y n end u c tail ex ey en some fits y_in a b =
+    let x_test : nat_lt x w ≡ true = grind (arith, nat_tests) in
+    let y_test : nat_lt y h ≡ true = grind (arith, nat_tests) in
+    rw (ex, ey, en, x_test, y_test)
+    (laid_cases x y n end (look_of u.cell) c a b
+    (λ d. look_in d ≡ (if nat_eq b y then (if nat_eq a x then look_of u.cell else (if nat_lt x a && nat_lt a (x + n) && nat_lt a w then empty_look else look_in (c a b))) else look_in (c a b)))
+    (λ e.
+    let row : nat_eq b y ≡ true = grind (arith, nat_tests) in
+    let high : nat_lt a (x + n) ≡ true = grind (arith, nat_tests) in
+    let wide : nat_lt a w ≡ true = grind (arith, nat_tests) in
+    rw (row, high, wide) (first-or-behind x a (look_of u.cell) (look_in (c a b)) (grind (arith, nat_tests))))
+    (λ e f.
+    let row : nat_eq b y ≡ true = grind (arith, nat_tests) in
+    let same_row : b ≡ y = grind (arith, nat_tests) in
+    let other : nat_eq a x ≡ false = grind (arith, nat_tests) in
+    let past : nat_lt a (x + n) ≡ false = grind (arith, nat_tests) in
+    let low : x + n ≤ a = grind (arith, nat_tests) in
+    let high : a < end = grind (arith, nat_tests) in
+    let behind : is_behind (c a b) ≡ true = ap (λ k. is_behind (c a k)) same_row ∙ tail.behind a low high in
+    rw (row, other, past) (sym (if_past (nat_lt x a) (nat_lt a w) empty_look (look_in (c a b)) ∙ behind_empty (c a b) behind)))
+    (λ e f. rest-same (nat_eq b y) (nat_eq a x) (nat_lt x a && nat_lt a (x + n) && nat_lt a w) (look_of u.cell) (look_in (c a b)) empty_look
+    (λ row. grind (arith, nat_tests)) (λ row. grind (arith, nat_tests))))
+
+-- ---- the columns while the tail is emptied
+
+later : (i : ℕ) → (if i == 0 then false else true) ≡ true → 0 < i
+later i e =
+    elim (i == 0) as (λ p. (i == 0) ≡ p → (if p then false else true) ≡ true → 0 < i) [
+      | true ↦ λ f g. let h : ⊥ = cc in absurd h
+      | false ↦ λ f g. grind (arith, nat_tests)
+    ] refl e
+
+-- the symbol of a column in the tail begins before the tail
+before : (x y n end a b : ℕ) (look : Look) (i m : ℕ) (c : Columns) → IsWholeAt (λ k. c k b) a (Shows look i m) → 0 < i → IsTail (x + n) end y c → b ≡ y → a < end → a - i < x + n
+before x y n end a b look i m c whole some tail row high =
+    elim (nat_lt (a - i) (x + n)) as (λ p. nat_lt (a - i) (x + n) ≡ p → a - i < x + n) [
+      | true ↦ λ e. grind (arith, nat_tests)
+      | false ↦ λ e.
+          let from : x + n ≤ a - i = grind (arith, nat_tests) in
+          let index : i < m = whole.0 in
+          let there : (a - i) + 0 ≡ a - i = omega arith in
+          let shows : c (a - i) y ≡ Shows look 0 m = ap₂ (λ k j. c k j) (sym there) (sym row) ∙ whole.2 0 (omega arith) in
+          let not : is_behind (c (a - i) y) ≡ false = ap is_behind shows in
+          let is : is_behind (c (a - i) y) ≡ true = tail.behind (a - i) from (omega arith) in
+          let h : ⊥ = cc in
+          absurd h
+    ] refl
+
+tail-met : (x y n end a b : ℕ) (c : Columns) (d : Column) → IsWholeAt (λ k. c k b) a d → is_behind d ≡ true → IsTail (x + n) end y c → 0 < n → b ≡ y → x + n ≤ a → a < end
+    → is_met (run x y n) a b d ≡ true
+tail-met x y n end a b c Unknown whole behind tail some row low high = let h : ⊥ = cc in absurd h
+tail-met x y n end a b c (Shows look i m) whole behind tail some row low high =
+    let index : i < m = whole.0 in
+    let first : i ≤ a = whole.1 in
+    let starts : a - i < x + n = before x y n end a b look i m c whole (later i behind) tail row high in
+    let inside : run x y n (x + n - 1) b ≡ true = grind (arith, nat_tests) in
+    some_between (λ k. run x y n k b) (a - i) m (x + n - 1) (omega arith) (omega arith) inside
+
+met-none : (x y n end a b : ℕ) (area : ℕ → ℕ → Bool) (c : Columns) (d : Column) → is_behind (c x y) ≡ false → IsTail (x + n) end y c → run x y (end - x) a b ≡ false → IsWholeAt (λ k. c k b) a d
+    → ((k : ℕ) → run x y (end - x) k b ≡ false → area k b ≡ false) → is_met area a b d ≡ false
+met-none x y n end a b area c Unknown left tail out whole within = refl
+met-none x y n end a b area c (Shows look i m) left tail out whole within =
+    none_between (λ k. area k b) (a - i) m (λ k low high. within k (apart_from x y n end a b look i m c left tail whole out k low high))
+
+-- the symbol alone: what it cut isn't known
+pub put-torn : (x y n end : ℕ) (look : Look) (c : Columns) → IsWhole c → is_behind (c x y) ≡ false → IsTail (x + n) end y c → 0 < n
+    → (a b : ℕ) → put_columns x y n look c a b ≡ torn x y n (x + n) end look c a b
+put-torn x y n end look c whole left tail some a b =
+    let ordered : x + n ≤ end = tail.ordered in
+    elim (run x y n a b) as (λ p. run x y n a b ≡ p → put_columns x y n look c a b ≡ torn x y n (x + n) end look c a b) [
+      | true ↦ λ e.
+          let f : run (x + n) y (end - (x + n)) a b ≡ false = grind (arith, nat_tests) in
+          rw (e, f) refl
+      | false ↦ λ e. elim (run (x + n) y (end - (x + n)) a b) as (λ q. run (x + n) y (end - (x + n)) a b ≡ q → put_columns x y n look c a b ≡ torn x y n (x + n) end look c a b) [
+        | true ↦ λ f.
+            let row : b ≡ y = grind (arith, nat_tests) in
+            let low : x + n ≤ a = grind (arith, nat_tests) in
+            let high : a < end = grind (arith, nat_tests) in
+            let behind : is_behind (c a b) ≡ true = ap (λ k. is_behind (c a k)) row ∙ tail.behind a low high in
+            let met : is_met (run x y n) a b (c a b) ≡ true = tail-met x y n end a b c (c a b) (whole a b) behind tail some row low high in
+            rw (e, f, met) refl
+        | false ↦ λ f.
+            let g : run (x + n) y (x + n - (x + n)) a b ≡ false = grind (arith, nat_tests) in
+            let met : is_met (run x y n) a b (c a b) ≡ false = met-none x y n end a b (run x y n) c (c a b) left tail (outside x y n end a b ordered e f) (whole a b)
+            (λ k out. grind (arith, nat_tests)) in
+            rw (e, f, g, met) refl
+      ] refl
+    ] refl
+
+laid-more : (x y n k : ℕ) (look : Look) (c : Columns) (a b : ℕ) → run k y 1 a b ≡ false → x + n ≤ k → laid x y n k look c a b ≡ laid x y n (k + 1) look c a b
+laid-more x y n k look c a b other low =
+    elim (run (x + n) y (k - (x + n)) a b) as (λ p. run (x + n) y (k - (x + n)) a b ≡ p → laid x y n k look c a b ≡ laid x y n (k + 1) look c a b) [
+      | true ↦ λ e. let f : run (x + n) y (k + 1 - (x + n)) a b ≡ true = grind (arith, nat_tests) in rw (e, f) refl
+      | false ↦ λ e. let f : run (x + n) y (k + 1 - (x + n)) a b ≡ false = grind (arith, nat_tests) in rw (e, f) refl
+    ] refl
+
+laid-apart : (x y n k end a b : ℕ) (look : Look) (c : Columns) → IsWhole c → is_behind (c x y) ≡ false → IsTail (x + n) end y c → x + n ≤ k → k < end → run k y (end - k) a b ≡ false
+    → is_met (run k y 1) a b (laid x y n k look c a b) ≡ false
+laid-apart x y n k end a b look c whole left tail low high out =
+    laid_cases x y n k look c a b (λ d. is_met (run k y 1) a b d ≡ false)
+    (λ e.
+    let from : x ≤ a = grind (arith, nat_tests) in
+    none_between (λ j. run k y 1 j b) (a - (a - x)) n (λ j from_j to_j. grind (arith, nat_tests)))
+    (λ e f.
+    let near : a < k = grind (arith, nat_tests) in
+    none_between (λ j. run k y 1 j b) (a - 0) 1 (λ j from_j to_j. grind (arith, nat_tests)))
+    (λ e f.
+    let all_out : run x y (end - x) a b ≡ false = grind (arith, nat_tests) in
+    met-none x y n end a b (run k y 1) c (c a b) left tail all_out (whole a b) (λ j out_j. grind (arith, nat_tests)))
+
+-- one more blank
+pub torn-more : (x y n k end : ℕ) (look : Look) (c d : Columns) → IsWhole c → is_behind (c x y) ≡ false → IsTail (x + n) end y c → x + n ≤ k → k < end → ((a b : ℕ) → d a b ≡ torn x y n k end look c a b)
+    → (a b : ℕ) → put_columns k y 1 empty_look d a b ≡ torn x y n (k + 1) end look c a b
+torn-more x y n k end look c d whole left tail low high same a b =
+    elim (run k y 1 a b) as (λ p. run k y 1 a b ≡ p → put_columns k y 1 empty_look d a b ≡ torn x y n (k + 1) end look c a b) [
+      | true ↦ λ e.
+          let f : run (k + 1) y (end - (k + 1)) a b ≡ false = grind (arith, nat_tests) in
+          let g : run x y n a b ≡ false = grind (arith, nat_tests) in
+          let i : run (x + n) y (k + 1 - (x + n)) a b ≡ true = grind (arith, nat_tests) in
+          let here : a ≡ k = grind (arith, nat_tests) in
+          let none : a - k ≡ 0 = omega arith in
+          rw (e, f, g, i) (ap (λ j. Shows empty_look j 1) none)
+      | false ↦ λ e. elim (run k y (end - k) a b) as (λ q. run k y (end - k) a b ≡ q → put_columns k y 1 empty_look d a b ≡ torn x y n (k + 1) end look c a b) [
+        | true ↦ λ f.
+            let g : run (k + 1) y (end - (k + 1)) a b ≡ true = grind (arith, nat_tests) in
+            let unknown : d a b ≡ Unknown = same a b ∙ rw f refl in
+            rw (e, g, unknown) refl
+        | false ↦ λ f.
+            let g : run (k + 1) y (end - (k + 1)) a b ≡ false = grind (arith, nat_tests) in
+            let is : d a b ≡ laid x y n k look c a b = same a b ∙ rw f refl in
+            let met : is_met (run k y 1) a b (d a b) ≡ false = ap (is_met (run k y 1) a b) is ∙ laid-apart x y n k end a b look c whole left tail low high f in
+            rw (e, g, met) (is ∙ laid-more x y n k look c a b e low)
+      ] refl
+    ] refl
+
+-- the tail is empty
+pub torn-all : (x y n end : ℕ) (look : Look) (c : Columns) (a b : ℕ) → torn x y n end end look c a b ≡ laid x y n end look c a b
+torn-all x y n end look c a b =
+    let e : run end y (end - end) a b ≡ false = grind (arith, nat_tests) in
+    rw e refl

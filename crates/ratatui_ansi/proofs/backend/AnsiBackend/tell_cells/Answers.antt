@@ -1,0 +1,25 @@
+use Rattle.std.proofs.Common.{ap, ◌∙◌, ◌++◌, ◌≡◌}
+use Rattle.std.proofs.lemmas.List.{with_items_is}
+use Rattle.ratatui_ansi.proofs.BackendLemmas.{in-order-drawn, drawn-on, count-kept}
+use Rattle.ratatui_ansi.proofs.backend.AnsiBackend.tell_cells.Goals as goal
+
+pub invariant_of-self-2 : goal.invariant_of-self-2
+invariant_of-self-2 g c =
+    let b = c.self.inside in
+    let lent = c.as_mut_slice-draft.ensures in
+    let told = c.in-Ok.ensures ∙ ap (λ xs. g.L.Link.told b.link ++ xs) c.as_str.ensures.value in
+    let copied = c.copy_from_slice.ensures.after ∙ c.as_slice.ensures.value in
+    let drawn = rw (c.clear.ensures.bytes, copied) at c.in_ok-cursor.ensures in
+    let after = in-order-drawn (g.L.Link.told b.link) c.self.invariant c.if-self.false drawn.2 told in
+    let count = count-kept c.draw_cells.new.behind c.self.invariant.draft_count after.behind_count lent.value lent.len in
+    let taken = ap (λ v. v.items) c.swap.ensures.x_after ∙ with_items_is b.draft c.draw_cells.new.behind count in
+    let kept = ap (λ v. v.items) c.swap.ensures.y_after in
+    rw (taken, kept) after
+
+pub returns-clause-ok : goal.returns-clause-ok
+returns-clause-ok g c =
+    let b = c.self.inside in
+    let told = c.in-Ok.ensures ∙ ap (λ xs. g.L.Link.told b.link ++ xs) c.as_str.ensures.value in
+    let copied = c.copy_from_slice.ensures.after ∙ c.as_slice.ensures.value in
+    let drawn = rw (c.clear.ensures.bytes, copied) at c.in_ok-cursor.ensures in
+    (drawn.0, drawn.1, rw (← c.self.view_is) (drawn-on (g.L.Link.told b.link) drawn.2 told (c.self.invariant.awaiting c.if-self.false)))

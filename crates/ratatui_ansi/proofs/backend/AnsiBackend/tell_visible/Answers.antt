@@ -1,0 +1,15 @@
+use Rattle.std.proofs.Common.{ap, ◌∙◌, ◌++◌}
+use Rattle.ratatui_ansi.proofs.BackendLemmas.{in-order-on, related-on}
+use Rattle.ratatui_ansi.proofs.backend.AnsiBackend.tell_visible.Goals as goal
+
+pub invariant_of-self-2 : goal.invariant_of-self-2
+invariant_of-self-2 g c =
+    let b = c.self.inside in
+    let told = c.in-Ok.ensures ∙ ap (λ xs. g.L.Link.told b.link ++ xs) c.as_str.ensures.value in
+    in-order-on (g.L.Link.told b.link) c.self.invariant c.if-self.false (rw c.clear.ensures.bytes at c.in_ok-show.ensures b.size.width b.size.height b.cursor b.behind.items) told
+
+pub returns-clause-ok : goal.returns-clause-ok
+returns-clause-ok g c =
+    let b = c.self.inside in
+    let told = c.in-Ok.ensures ∙ ap (λ xs. g.L.Link.told b.link ++ xs) c.as_str.ensures.value in
+    rw (← c.self.view_is) (related-on (g.L.Link.told b.link) b.written (rw c.clear.ensures.bytes at c.in_ok-show.ensures b.size.width b.size.height b.cursor b.behind.items) told (c.self.invariant.awaiting c.if-self.false))

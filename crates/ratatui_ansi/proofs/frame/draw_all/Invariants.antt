@@ -1,0 +1,11 @@
+use Rattle.std.proofs.Common.{map, string_bytes}
+use Rattle.rtui_cell.specs.Grid.{update_by}
+use Rattle.ratatui_ansi.specs.Frame.{SendsUpdates}
+use Rattle.ratatui_ansi.proofs.frame.draw_all.Given as goal
+
+abbrev pub invariant-loop-x : goal.invariant-loop-x
+invariant-loop-x g l = record {
+  can_next : (goal.iterator-loop-x g).can_next l.x-iterator;
+  is_finite : (goal.iterator-loop-x g).is_finite l.x-iterator;
+  sends : SendsUpdates l.width l.height (string_bytes l.fn.out) l.fn.drawing l.fn.behind (map (update_by g.C.AsCell.cell) l.yielded) (string_bytes l.out) l.drawing l.behind;
+}

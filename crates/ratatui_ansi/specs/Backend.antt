@@ -1,0 +1,34 @@
+-- What callers see of a backend that sends escape sequences, and the screen that it stands for.
+use Rattle.std.specs.Prelude.{◌≡◌, ℕ, ◌*◌, ◌<◌, Bool, false, List, length}
+use Rattle.rtui_geometry.specs.declared.position.Position.{Position}
+use Rattle.rtui_geometry.specs.declared.size.Size.{Size}
+use Rattle.rtui_backend.specs.Screen.{Screen}
+use Rattle.ratatui_ansi.specs.Terminal.{Terminal, rested, fresh}
+use Rattle.ratatui_ansi.specs.Sequences.{feed}
+use Rattle.ratatui_ansi.specs.Screens.{screen_of}
+use Rattle.ratatui_ansi.specs.Calls.{IsAwaiting}
+
+-- the link, the terminal's size, how many items were drawn and how many calls failed, and whether a send failed
+pub record State (L : Type 0) : Type 0 where
+  pub link : L
+  pub size : Size
+  pub written : ℕ
+  pub failures : ℕ
+  pub is_broken : Bool
+
+-- a terminal of a size that was blank and has read these bytes
+abbrev pub reader : Size → List ℕ → Terminal
+reader size bytes = feed bytes (fresh size.width size.height)
+
+-- the screen of the terminal that has read what the link was told
+abbrev pub shown_by : {L : Type 0} → (L → List ℕ) → State L → Screen
+shown_by told b = screen_of b.written (rested (reader b.size (told b.link)))
+
+-- what a backend keeps is in order: a screen of some columns and rows, flags for all of them, also for a draft, and, unless a send failed, a
+-- terminal that awaits the next call, with its cursor there and these flags
+pub record IsInOrder (size : Size) (cursor : Position) (behind draft : List Bool) (is_broken : Bool) (told : List ℕ) : Type 0 where
+  pub columns : 0 < size.width
+  pub rows : 0 < size.height
+  pub behind_count : length behind ≡ size.width * size.height
+  pub draft_count : length draft ≡ size.width * size.height
+  pub awaiting : is_broken ≡ false → IsAwaiting size.width size.height cursor behind (reader size told)

@@ -1,0 +1,90 @@
+-- What a draw knows of the terminal, and what its bytes do to it.
+use Rattle.std.specs.Prelude.{◌≡◌, ℕ, ◌+◌, ◌-◌, ◌*◌, ◌<◌, ◌≤◌, ◌==◌, ◌&&◌, nat_lt, nat_le, Bool, true, false, if◌then◌else◌, List, ◌++◌}
+use Rattle.rtui_geometry.specs.declared.position.Position.{Position}
+use Rattle.rtui_cell.specs.Symbol.{symbol_text}
+use Rattle.rtui_cell.specs.Look.{Look, look_of, empty_look}
+use Rattle.rtui_cell.specs.Cell.{width_of}
+use Rattle.rtui_cell.specs.Grid.{Update}
+use Rattle.rtui_cell.specs.declared.cell.Cell.{Cell}
+use Rattle.rtui_backend.specs.Screen.{Draws, cursor_of}
+use Rattle.ratatui_ansi.specs.declared.frame.Drawing.{Drawing}
+use Rattle.ratatui_ansi.specs.declared.frame.Refusal.{Refusal}
+use Rattle.ratatui_ansi.specs.declared.frame.Refusal.TheVariants as Refused
+use Rattle.ratatui_ansi.specs.Columns.{Columns, blank_column, is_behind}
+use Rattle.ratatui_ansi.specs.Columns.Column.{Shows}
+use Rattle.ratatui_ansi.specs.Calls.{IsAwaiting}
+use Rattle.ratatui_ansi.specs.Flags.{AreBehind, flag}
+use Rattle.ratatui_ansi.specs.Pen.{own_pen, pen_of}
+use Rattle.ratatui_ansi.specs.Parameters.{is_told}
+use Rattle.ratatui_ansi.specs.Terminal.{Terminal, rested, with_pen, run}
+use Rattle.ratatui_ansi.specs.Terminal.Phase.{Ground}
+use Rattle.ratatui_ansi.specs.Sequences.{feed}
+use Rattle.ratatui_ansi.specs.Screens.{screen_of, IsReady}
+use Rattle.ratatui_ansi.specs.Drawing.{is_printed, columns_of, IsDrawnBy}
+
+-- ---- a symbol over a part of another one
+
+-- the columns of a row from `from` up to `end` lie behind the first one of their symbol, and the column at `end` doesn't
+pub record IsTail (from end y : ℕ) (c : Columns) : Type 0 where
+  pub ordered : from ≤ end
+  pub behind : (k : ℕ) → from ≤ k → k < end → is_behind (c k y) ≡ true
+  pub ended : is_behind (c end y) ≡ false
+
+-- the columns once a symbol of n columns stands in column x of row y, and blanks behind it up to column `end`
+abbrev pub laid : ℕ → ℕ → ℕ → ℕ → Look → Columns → Columns
+laid x y n end look c a b =
+    if run x y n a b then Shows look (a - x) n
+    else (if run (x + n) y (end - (x + n)) a b then blank_column else c a b)
+
+-- ---- cells
+
+-- whether a cell's symbol is printed in just the columns that the cell takes, and these are some and fit into a room
+abbrev pub is_fit : ℕ → Cell → Bool
+is_fit room c =
+    is_printed (symbol_text c.symbol) && (columns_of (symbol_text c.symbol) == width_of c) && nat_lt 0 (width_of c) && nat_le (width_of c) room
+
+-- a cell of one column that looks like an empty one
+pub record IsVacant (c : Cell) : Type 0 where
+  pub look : look_of c ≡ empty_look
+  pub width : width_of c ≡ 1
+
+-- an update lies in this place of a screen of this size
+pub record IsPlaced (w h : ℕ) (p : Position) (u : Update) : Type 0 where
+  pub column : u.x < w
+  pub row : u.y < h
+  pub place : p ≡ record { x = u.x; y = u.y }
+
+-- an update was refused: for want of memory, or in its place, which isn't covered from the left, because its symbol doesn't fit or its pen
+-- can't be told, or because it isn't vacant and the place is covered
+abbrev pub IsRefused : ℕ → ℕ → List Bool → Update → Refusal → Type 0
+IsRefused w h flags u Refused.Memory = Unit {0}
+IsRefused w h flags u (Refused.Symbol p) = IsPlaced w h p u × (flag flags (u.y * w + u.x) ≡ false) × (is_fit (w - u.x) u.cell ≡ false)
+IsRefused w h flags u (Refused.Pen p) = IsPlaced w h p u × (flag flags (u.y * w + u.x) ≡ false) × (is_told (pen_of u.cell) ≡ false)
+IsRefused w h flags u (Refused.Cut p) = IsPlaced w h p u × (flag flags (u.y * w + u.x) ≡ true) × (IsVacant u.cell → ⊥)
+
+-- ---- draws
+
+-- a terminal within a draw on a screen of this size: with its own pen it would be ready; the flags are those of its columns
+pub record IsDrawing (w h : ℕ) (d : Drawing) (flags : List Bool) (t : Terminal) : Type 0 where
+  pub drawn : IsDrawnBy d.brush t
+  pub ready : IsReady w h (with_pen own_pen (rested t))
+  pub behind : AreBehind w h flags (rested t).columns
+  pub cursor : cursor_of (screen_of d.written (rested t)) ≡ d.cursor
+
+-- bytes were appended that draw these updates, in order, on each terminal within such a draw
+pub record SendsUpdates (w h : ℕ) (old : List ℕ) (before : Drawing) (flags : List Bool) (us : List Update) (new : List ℕ) (after : Drawing)
+    (flags_after : List Bool) : Type 0 where
+  pub bytes : List ℕ
+  pub appended : new ≡ old ++ bytes
+  pub drawing : (t : Terminal) → IsDrawing w h before flags t → IsDrawing w h after flags_after (feed bytes t)
+  pub draws : (t : Terminal) → IsDrawing w h before flags t
+      → Draws (screen_of before.written (rested t)) us (screen_of after.written (rested (feed bytes t)))
+
+-- bytes were appended that draw these updates, in order, on each terminal between two calls
+pub record SendsDraw (w h : ℕ) (old : List ℕ) (cursor : Position) (written : ℕ) (flags : List Bool) (us : List Update) (new : List ℕ)
+    (cursor_after : Position) (written_after : ℕ) (flags_after : List Bool) : Type 0 where
+  pub bytes : List ℕ
+  pub appended : new ≡ old ++ bytes
+  pub awaiting : (t : Terminal) → IsAwaiting w h cursor flags t → IsAwaiting w h cursor_after flags_after (feed bytes t)
+  pub draws : (t : Terminal) → IsAwaiting w h cursor flags t
+      → Draws (screen_of written (rested t)) us (screen_of written_after (rested (feed bytes t)))

@@ -1,0 +1,389 @@
+//! A backend for terminals that read escape sequences.
+
+ghost use Rattle.std.specs.Prelude.{◌≡◌, ℕ, ◌+◌, ◌^◌, ◌-◌, ◌<◌, [], length, true, false, List, map, IfOk, OnOk, OnErr};
+ghost use Rattle.std.specs.Iterator.{IsFinite, Drains};
+ghost use Rattle.rtui_cell.specs.Grid.{update_by};
+ghost use Rattle.rtui_backend.specs.Failures.{Counts};
+ghost use Rattle.rtui_backend.specs.Screen.{IsBlankScreen, IsOnGrid, Draws, Appends, Clears, ScrollsUp, ScrollsDown, with_visible, with_cursor, cursor_of, size_of};
+ghost use Rattle.rtui_backend.specs.declared.clear_type.ClearType.TheVariants.{All};
+ghost use Rattle.ratatui_ansi.specs.Columns.{blank_column};
+ghost use Rattle.ratatui_ansi.specs.Flags.{AreBehind};
+ghost use Rattle.ratatui_ansi.specs.Backend.{State, shown_by};
+
+use crate::error::AnsiError;
+use crate::frame::draw_cells;
+use crate::link::Link;
+use crate::tracked::{append, clear_region, cuts, place_cursor, scroll_down, scroll_up, show};
+use rtui_backend::{AsCell, Backend, ClearType, WindowSize};
+use rtui_geometry::{Position, Size};
+use std::alloc::{AllocError, Global};
+use std::marker::Model;
+use std::mem;
+use std::ops::Range;
+
+/// A backend that sends escape sequences along a link. Its screen is what a terminal shows that was blank and has read what
+/// the link was told. Each call sends once, or nothing where it is refused; after a failed send every call is refused until
+/// `restart`.
+#[derive(Drop)]
+pub struct AnsiBackend<L: Link> {
+    link: L,
+    size: Size,
+    cursor: Position,
+    // Whether each column lies behind the first one of its symbol, row by row; and the same within a draw.
+    behind: Vec<bool>,
+    draft: Vec<bool>,
+    // What the call at hand sends.
+    out: String,
+    written: u64,
+    failures: u64,
+    is_broken: bool,
+}
+
+impl<L: Link> Model for AnsiBackend<L> {
+    ghost use Rattle.ratatui_ansi.specs.Backend.{State, IsInOrder};
+
+    ghost Value = { State L };
+
+    ghost view = { λ b. record {
+      link = b.link;
+      size = b.size;
+      written = b.written;
+      failures = b.failures;
+      is_broken = b.is_broken;
+    } };
+
+    ghost invariant = { λ b. IsInOrder b.size b.cursor b.behind.items b.draft.items b.is_broken
+        (L.told b.link) };
+}
+
+// The flags of a blank screen.
+fn blank_flags(alloc: Global, size: Size) -> Result<Vec<bool>, AllocError>
+    ensures { IfOk result (λ flags. AreBehind size.width size.height flags.items
+        (λ a b. blank_column)) }
+{
+    let count = usize::from(size.width) * usize::from(size.height);
+    Vec::from_elem(alloc, false, count)
+}
+
+impl<L: Link> AnsiBackend<L> {
+    /// A backend of a blank screen of this size in columns and rows, over a link that begins anew. Refused where the screen
+    /// has no columns or no rows, where memory is, or where the link fails.
+    pub fn new(alloc: Global, link: L, size: Size) -> Result<AnsiBackend<L>, AnsiError<L::Error>>
+        ensures blank { IfOk result (λ b.
+            IsBlankScreen size.width size.height (shown_by L.told b)) }
+        ensures told { IfOk result (λ b. L.told b.link ≡ []) }
+        ensures failures { IfOk result (λ b. b.failures ≡ 0) }
+    {
+        if size.width == 0 || size.height == 0 {
+            return Err(AnsiError::Size);
+        }
+        let behind = blank_flags(alloc, size)?;
+        let draft = blank_flags(alloc, size)?;
+        let mut link = link;
+        match link.renew() {
+            Ok(()) => {}
+            Err(error) => return Err(AnsiError::Send(error)),
+        }
+        Ok(AnsiBackend {
+            link,
+            size,
+            cursor: Position::ORIGIN,
+            behind,
+            draft,
+            out: String::new(alloc),
+            written: 0,
+            failures: 0,
+            is_broken: false,
+        })
+    }
+
+    /// The link, and so what it was told.
+    pub fn link(&self) -> &L
+        ensures { result.now ≡ self.now.link }
+    {
+        &self.link
+    }
+
+    // Moves the cursor.
+    fn tell_position(&mut self, position: Position) -> Result<(), AnsiError<L::Error>>
+        ensures ok { OnOk result (shown_by L.told self.new
+            ≡ with_cursor position.x position.y (shown_by L.told self.old)) }
+        ensures failures { self.new.failures ≡ self.old.failures }
+    {
+        if self.is_broken {
+            return Err(AnsiError::Broken);
+        }
+        self.out.clear();
+        let cursor = place_cursor(&mut self.out, self.size, position)?;
+        self.is_broken = true;
+        match self.link.send(self.out.as_str()) {
+            Ok(()) => {}
+            Err(error) => return Err(AnsiError::Send(error)),
+        }
+        self.cursor = cursor;
+        self.is_broken = false;
+        Ok(())
+    }
+
+    // Shows or hides the cursor.
+    fn tell_visible(&mut self, visible: bool) -> Result<(), AnsiError<L::Error>>
+        ensures ok { OnOk result (shown_by L.told self.new
+            ≡ with_visible visible (shown_by L.told self.old)) }
+        ensures failures { self.new.failures ≡ self.old.failures }
+    {
+        if self.is_broken {
+            return Err(AnsiError::Broken);
+        }
+        self.out.clear();
+        show(&mut self.out, visible)?;
+        self.is_broken = true;
+        match self.link.send(self.out.as_str()) {
+            Ok(()) => {}
+            Err(error) => return Err(AnsiError::Send(error)),
+        }
+        self.is_broken = false;
+        Ok(())
+    }
+
+    // Moves the cursor's row down.
+    fn tell_lines(&mut self, n: u16) -> Result<(), AnsiError<L::Error>>
+        ensures ok { OnOk result (Appends (shown_by L.told self.old) n (shown_by L.told self.new)) }
+        ensures failures { self.new.failures ≡ self.old.failures }
+    {
+        if self.is_broken {
+            return Err(AnsiError::Broken);
+        }
+        self.out.clear();
+        let behind = self.behind.as_mut_slice();
+        let cursor = append(&mut self.out, behind, self.size, self.cursor, n)?;
+        self.is_broken = true;
+        match self.link.send(self.out.as_str()) {
+            Ok(()) => {}
+            Err(error) => return Err(AnsiError::Send(error)),
+        }
+        self.cursor = cursor;
+        self.is_broken = false;
+        Ok(())
+    }
+
+    // Moves the rows of a region up.
+    fn tell_up(&mut self, region: Range<u16>, n: u16) -> Result<(), AnsiError<L::Error>>
+        ensures ok { OnOk result (ScrollsUp region.start region.end n
+            (shown_by L.told self.old) (shown_by L.told self.new)) }
+        ensures failures { self.new.failures ≡ self.old.failures }
+    {
+        if self.is_broken {
+            return Err(AnsiError::Broken);
+        }
+        self.out.clear();
+        let behind = self.behind.as_mut_slice();
+        scroll_up(&mut self.out, behind, self.size, self.cursor, region, n)?;
+        self.is_broken = true;
+        match self.link.send(self.out.as_str()) {
+            Ok(()) => {}
+            Err(error) => return Err(AnsiError::Send(error)),
+        }
+        self.is_broken = false;
+        Ok(())
+    }
+
+    // Moves the rows of a region down.
+    fn tell_down(&mut self, region: Range<u16>, n: u16) -> Result<(), AnsiError<L::Error>>
+        ensures ok { OnOk result (ScrollsDown region.start region.end n
+            (shown_by L.told self.old) (shown_by L.told self.new)) }
+        ensures failures { self.new.failures ≡ self.old.failures }
+    {
+        if self.is_broken {
+            return Err(AnsiError::Broken);
+        }
+        self.out.clear();
+        let behind = self.behind.as_mut_slice();
+        scroll_down(&mut self.out, behind, self.size, self.cursor, region, n)?;
+        self.is_broken = true;
+        match self.link.send(self.out.as_str()) {
+            Ok(()) => {}
+            Err(error) => return Err(AnsiError::Send(error)),
+        }
+        self.is_broken = false;
+        Ok(())
+    }
+
+    // Empties a part of the screen.
+    fn tell_clear(&mut self, clear_type: ClearType) -> Result<(), AnsiError<L::Error>>
+        ensures ok { OnOk result (Clears (shown_by L.told self.old) clear_type (shown_by L.told self.new)) }
+        ensures failures { self.new.failures ≡ self.old.failures }
+    {
+        if self.is_broken {
+            return Err(AnsiError::Broken);
+        }
+        self.out.clear();
+        if cuts(self.behind.as_slice(), self.size, self.cursor, clear_type) {
+            return Err(AnsiError::Cut(self.cursor));
+        }
+        let behind = self.behind.as_mut_slice();
+        clear_region(&mut self.out, behind, self.size, self.cursor, clear_type)?;
+        self.is_broken = true;
+        match self.link.send(self.out.as_str()) {
+            Ok(()) => {}
+            Err(error) => return Err(AnsiError::Send(error)),
+        }
+        self.is_broken = false;
+        Ok(())
+    }
+
+    // Draws cells.
+    fn tell_cells<C: AsCell, I: Iterator<Item = (u16, u16, C)>>(
+        &mut self,
+        content: I,
+    ) -> Result<(), AnsiError<L::Error>>
+        requires can { I.can_next content }
+        requires finite { IsFinite (I.remaining content) }
+        ensures ok { OnOk result (
+            (items : List (ℕ × ℕ × C)) × Drains I.next_gives content items
+            × Draws (shown_by L.told self.old) (map (update_by C.cell) items)
+            (shown_by L.told self.new)) }
+        ensures failures { self.new.failures ≡ self.old.failures }
+    {
+        if self.is_broken {
+            return Err(AnsiError::Broken);
+        }
+        self.out.clear();
+        let Size { width, height } = self.size;
+        let draft = self.draft.as_mut_slice();
+        draft.copy_from_slice(self.behind.as_slice());
+        let (cursor, written) = draw_cells(
+            &mut self.out,
+            draft,
+            width,
+            height,
+            self.cursor,
+            self.written,
+            content,
+        )?;
+        self.is_broken = true;
+        match self.link.send(self.out.as_str()) {
+            Ok(()) => {}
+            Err(error) => return Err(AnsiError::Send(error)),
+        }
+        mem::swap(&mut self.behind, &mut self.draft);
+        self.cursor = cursor;
+        self.written = written;
+        self.is_broken = false;
+        Ok(())
+    }
+
+    // Counts a failure, and gives the error back.
+    fn failed(&mut self, error: AnsiError<L::Error>) -> AnsiError<L::Error>
+        ensures error { result ≡ error }
+        ensures count { self.old.failures < 2 ^ 64 - 1
+            → self.new.failures ≡ self.old.failures + 1 }
+    {
+        self.failures = self.failures.saturating_add(1);
+        error
+    }
+
+    // Counts the failure of a call that answers this, if it is one.
+    fn counted(
+        &mut self,
+        answer: Result<(), AnsiError<L::Error>>,
+    ) -> Result<(), AnsiError<L::Error>>
+        ensures answer { result ≡ answer }
+        ensures screen { OnOk result (self.new ≡ self.old) }
+        ensures counts { Counts result self.old.failures self.new.failures }
+    {
+        match answer {
+            Ok(()) => Ok(()),
+            Err(error) => Err(self.failed(error)),
+        }
+    }
+}
+
+impl<L: Link> Backend for AnsiBackend<L> {
+    ghost use Rattle.ratatui_ansi.specs.Backend.{shown_by};
+
+    type Error = AnsiError<L::Error>;
+
+    ghost screen = { shown_by L.told };
+
+    ghost failures = { λ b. b.failures };
+
+    fn draw<C: AsCell, I: Iterator<Item = (u16, u16, C)>>(
+        &mut self,
+        content: I,
+    ) -> Result<(), AnsiError<L::Error>> {
+        let answer = self.tell_cells(content);
+        self.counted(answer)
+    }
+
+    fn append_lines(&mut self, n: u16) -> Result<(), AnsiError<L::Error>> {
+        let answer = self.tell_lines(n);
+        self.counted(answer)
+    }
+
+    fn scroll_region_up(&mut self, region: Range<u16>, n: u16) -> Result<(), AnsiError<L::Error>> {
+        let answer = self.tell_up(region, n);
+        self.counted(answer)
+    }
+
+    fn scroll_region_down(
+        &mut self,
+        region: Range<u16>,
+        n: u16,
+    ) -> Result<(), AnsiError<L::Error>> {
+        let answer = self.tell_down(region, n);
+        self.counted(answer)
+    }
+
+    fn hide_cursor(&mut self) -> Result<(), AnsiError<L::Error>> {
+        let answer = self.tell_visible(false);
+        self.counted(answer)
+    }
+
+    fn show_cursor(&mut self) -> Result<(), AnsiError<L::Error>> {
+        let answer = self.tell_visible(true);
+        self.counted(answer)
+    }
+
+    fn get_cursor_position(&mut self) -> Result<Position, AnsiError<L::Error>> {
+        if self.is_broken {
+            return Err(self.failed(AnsiError::Broken));
+        }
+        Ok(self.cursor)
+    }
+
+    fn set_cursor_position(&mut self, position: Position) -> Result<(), AnsiError<L::Error>> {
+        let answer = self.tell_position(position);
+        self.counted(answer)
+    }
+
+    fn clear(&mut self) -> Result<(), AnsiError<L::Error>> {
+        self.clear_region(ClearType::All)
+    }
+
+    fn clear_region(&mut self, clear_type: ClearType) -> Result<(), AnsiError<L::Error>> {
+        let answer = self.tell_clear(clear_type);
+        self.counted(answer)
+    }
+
+    fn size(&mut self) -> Result<Size, AnsiError<L::Error>> {
+        if self.is_broken {
+            return Err(self.failed(AnsiError::Broken));
+        }
+        Ok(self.size)
+    }
+
+    fn window_size(&mut self) -> Result<WindowSize, AnsiError<L::Error>> {
+        let columns_rows = self.size()?;
+        Ok(WindowSize {
+            columns_rows,
+            pixels: Size::ZERO,
+        })
+    }
+
+    fn flush(&mut self) -> Result<(), AnsiError<L::Error>> {
+        if self.is_broken {
+            return Err(self.failed(AnsiError::Broken));
+        }
+        Ok(())
+    }
+}

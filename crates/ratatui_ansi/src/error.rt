@@ -1,0 +1,73 @@
+//! Why a backend's call failed.
+
+ghost use Rattle.ratatui_ansi.specs.Errors.{ansi_error_text};
+
+use crate::frame::Refusal;
+use rtui_geometry::Position;
+use std::alloc::AllocError;
+use std::error::Error;
+use std::fmt;
+
+/// Why a call of an `AnsiBackend` failed. Only after `Broken` and `Send` isn't it known what the terminal shows.
+#[derive(Debug, Clone, Copy, PartialEq, Eq, Hash, Drop)]
+pub enum AnsiError<E> {
+    /// Memory was refused, and nothing was sent.
+    Memory,
+    /// The symbol in this place isn't shown as one by terminals, or not in the columns that its cell takes; nothing was sent.
+    Symbol(Position),
+    /// The style in this place can't be told to terminals; nothing was sent.
+    Pen(Position),
+    /// In this place a part of a symbol would go of which the first column stays; nothing was sent.
+    Cut(Position),
+    /// A screen has columns and rows.
+    Size,
+    /// An earlier call failed to send.
+    Broken,
+    /// The link failed.
+    Send(E),
+}
+
+impl<E: fmt::Display> fmt::Display for AnsiError<E> {
+    ghost output = { ansi_error_text E.output };
+
+    fn fmt<W: fmt::Write>(&self, f: &mut fmt::Formatter<W>) -> fmt::Result {
+        match self {
+            AnsiError::Memory => write!(f, "no memory"),
+            AnsiError::Symbol(position) => write!(f, "symbol at {position}"),
+            AnsiError::Pen(position) => write!(f, "style at {position}"),
+            AnsiError::Cut(position) => write!(f, "symbol cut at {position}"),
+            AnsiError::Size => write!(f, "no columns or rows"),
+            AnsiError::Broken => write!(f, "broken"),
+            AnsiError::Send(error) => write!(f, "link: {error}"),
+        }
+    }
+}
+
+impl<E: Error> Error for AnsiError<E> {}
+
+impl<E> From<AllocError> for AnsiError<E> {
+    ghost use Rattle.std.specs.Prelude.{◌≡◌};
+    ghost use Rattle.ratatui_ansi.specs.declared.error.AnsiError.TheVariants.{Memory};
+
+    fn from(_: AllocError) -> AnsiError<E>
+        ensures { result ≡ Memory }
+    {
+        AnsiError::Memory
+    }
+}
+
+impl<E> From<Refusal> for AnsiError<E> {
+    ghost use Rattle.std.specs.Prelude.{◌≡◌};
+    ghost use Rattle.ratatui_ansi.specs.Errors.{error_of};
+
+    fn from(refusal: Refusal) -> AnsiError<E>
+        ensures { result ≡ error_of refusal }
+    {
+        match refusal {
+            Refusal::Memory => AnsiError::Memory,
+            Refusal::Symbol(place) => AnsiError::Symbol(place),
+            Refusal::Pen(place) => AnsiError::Pen(place),
+            Refusal::Cut(place) => AnsiError::Cut(place),
+        }
+    }
+}

@@ -1,0 +1,165 @@
+//! The flags of a screen's columns, one for each and row by row, which tell the columns that lie behind the first one of their symbol.
+
+ghost use Rattle.std.specs.Prelude.{◌≡◌, ℕ, ◌+◌, ◌-◌, ◌*◌, ◌<◌, ◌≤◌, ◌&&◌, min, nat_le, nat_lt, if◌then◌else◌, true, false, length};
+ghost use Rattle.ratatui_ansi.specs.declared.part.Part.TheVariants.{Before};
+ghost use Rattle.ratatui_ansi.specs.Columns.{Columns};
+ghost use Rattle.ratatui_ansi.specs.Terminal.{raised, lowered, emptied, part_at, part_emptied};
+ghost use Rattle.ratatui_ansi.specs.Flags.{flag, AreBehind, is_cut};
+
+use crate::part::Part;
+use rtui_geometry::Size;
+use std::ops::Range;
+
+// Clears the flags from one place up to another.
+fn clear(flags: &mut [bool], from: usize, to: usize)
+    requires order { from ≤ to }
+    requires end { to ≤ length flags.old }
+    ensures { (k : ℕ) → flag flags.new k
+        ≡ (if nat_le from k && nat_lt k to then false else flag flags.old k) }
+{
+    for k in from..to {
+        flags[k] = false;
+    }
+}
+
+// Moves flags up by so many places; false comes in behind them.
+fn shift_up(flags: &mut [bool], by: usize)
+    ensures { (k : ℕ) → flag flags.new k ≡ flag flags.old (k + by) }
+{
+    let count = by.min(flags.len());
+    clear(flags, 0, count);
+    flags.rotate_left(count);
+}
+
+// Moves flags down by so many places; false comes in before them.
+fn shift_down(flags: &mut [bool], by: usize)
+    ensures { (k : ℕ) → flag flags.new k ≡ (if nat_lt k (length flags.old)
+        then (if nat_le by k then flag flags.old (k - by) else false) else false) }
+{
+    let count = by.min(flags.len());
+    flags.rotate_right(count);
+    clear(flags, 0, count);
+}
+
+// Moves the flags from one place up to another up by so many places; false comes in behind them.
+fn shift_part_up(flags: &mut [bool], from: usize, to: usize, by: usize)
+    requires order { from ≤ to }
+    requires end { to ≤ length flags.old }
+    ensures { (k : ℕ) → flag flags.new k ≡ (if nat_le from k && nat_lt k to
+        then (if nat_lt (k + by) to then flag flags.old (k + by) else false)
+        else flag flags.old k) }
+{
+    shift_up(&mut flags[from..to], by);
+}
+
+// Moves the flags from one place up to another down by so many places; false comes in before them.
+fn shift_part_down(flags: &mut [bool], from: usize, to: usize, by: usize)
+    requires order { from ≤ to }
+    requires end { to ≤ length flags.old }
+    ensures { (k : ℕ) → flag flags.new k ≡ (if nat_le from k && nat_lt k to
+        then (if nat_le (from + by) k then flag flags.old (k - by) else false)
+        else flag flags.old k) }
+{
+    shift_down(&mut flags[from..to], by);
+}
+
+/// Moves the flags of a region's rows up by `n` rows, as the rows themselves; the region ends at the screen's last row at the latest.
+pub fn raise_flags(flags: &mut [bool], size: Size, region: Range<u16>, n: u16)
+    requires { length flags.old ≡ size.width * size.height }
+    ensures { (c : Columns) → AreBehind size.width size.height flags.old c
+        → AreBehind size.width size.height flags.new
+        (raised region.start (min region.end size.height) n c) }
+{
+    let end = region.end.min(size.height);
+    if region.start < end {
+        let width = usize::from(size.width);
+        let from = usize::from(region.start) * width;
+        let to = usize::from(end) * width;
+        shift_part_up(flags, from, to, usize::from(n) * width);
+    }
+}
+
+/// Moves the flags of a region's rows down by `n` rows, as the rows themselves; the region ends at the screen's last row at the latest.
+pub fn lower_flags(flags: &mut [bool], size: Size, region: Range<u16>, n: u16)
+    requires { length flags.old ≡ size.width * size.height }
+    ensures { (c : Columns) → AreBehind size.width size.height flags.old c
+        → AreBehind size.width size.height flags.new
+        (lowered region.start (min region.end size.height) n c) }
+{
+    let end = region.end.min(size.height);
+    if region.start < end {
+        let width = usize::from(size.width);
+        let from = usize::from(region.start) * width;
+        let to = usize::from(end) * width;
+        shift_part_down(flags, from, to, usize::from(n) * width);
+    }
+}
+
+/// Clears all flags of a screen.
+pub fn clear_flags(flags: &mut [bool])
+    ensures { (w h : ℕ) (c : Columns) → AreBehind w h flags.old c
+        → AreBehind w h flags.new (emptied h c) }
+{
+    let count = flags.len();
+    clear(flags, 0, count);
+}
+
+// The places of the flags of a part's columns.
+fn part_places(size: Size, part: Part, x: u16, y: u16) -> (usize, usize)
+    requires column { x < size.width }
+    requires row { y < size.height }
+    ensures order { result.0 ≤ result.1 }
+    ensures end { result.1 ≤ size.width * size.height }
+    ensures places { (a b : ℕ) → a < size.width → b < size.height
+        → (nat_le result.0 (b * size.width + a) && nat_lt (b * size.width + a) result.1)
+        ≡ part_at part x y a b }
+{
+    let width = usize::from(size.width);
+    let line = usize::from(y) * width;
+    let at = line + usize::from(x);
+    match part {
+        Part::After => (at, width * usize::from(size.height)),
+        Part::Before => (0, at + 1),
+        Part::Line => (line, line + width),
+        Part::LineEnd => (at, line + width),
+    }
+}
+
+/// Clears the flags of a part of the screen, for a cursor in this column and row.
+pub fn clear_part_flags(flags: &mut [bool], size: Size, part: Part, x: u16, y: u16)
+    requires count { length flags.old ≡ size.width * size.height }
+    requires column { x < size.width }
+    requires row { y < size.height }
+    ensures { (c : Columns) → AreBehind size.width size.height flags.old c
+        → AreBehind size.width size.height flags.new (part_emptied part x y c) }
+{
+    let (from, to) = part_places(size, part, x, y);
+    clear(flags, from, to);
+}
+
+/// Whether the column in this place lies behind the first one of its symbol.
+pub fn is_flagged(flags: &[bool], size: Size, x: u16, y: u16) -> bool
+    requires count { length flags.now ≡ size.width * size.height }
+    requires column { x < size.width }
+    requires row { y < size.height }
+    ensures { result ≡ flag flags.now (y * size.width + x) }
+{
+    flags[usize::from(y) * usize::from(size.width) + usize::from(x)]
+}
+
+/// The last column of the symbol that has a column in this place.
+pub fn symbol_end(flags: &[bool], size: Size, x: u16, y: u16) -> u16
+    requires count { length flags.now ≡ size.width * size.height }
+    requires column { x < size.width }
+    requires row { y < size.height }
+    ensures from { x ≤ result }
+    ensures column { result < size.width }
+    ensures behind { (k : ℕ) → x < k → k ≤ result → flag flags.now (y * size.width + k) ≡ true }
+    ensures ended { is_cut Before size.width result y flags.now ≡ false }
+{
+    let mut end = x;
+    while end + 1 < size.width && is_flagged(flags, size, end + 1, y) {
+        end += 1;
+    }
+    end
+}
