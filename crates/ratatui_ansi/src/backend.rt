@@ -1,6 +1,6 @@
 //! A backend for terminals that read escape sequences.
 
-ghost use Rattle.std.specs.Prelude.{◌≡◌, ℕ, ◌+◌, ◌^◌, ◌-◌, ◌<◌, [], length, true, false, List, map, IfOk, OnOk, OnErr};
+ghost use Rattle.std.specs.Prelude.{◌≡◌, ℕ, ◌+◌, ◌^◌, ◌-◌, ◌*◌, ◌<◌, [], length, true, false, List, map, IfOk, OnOk, OnErr};
 ghost use Rattle.std.specs.Iterator.{IsFinite, Drains};
 ghost use Rattle.rtui_cell.specs.Grid.{update_by};
 ghost use Rattle.rtui_backend.specs.Failures.{Counts};
@@ -65,6 +65,14 @@ fn blank_flags(alloc: Global, size: Size) -> Result<Vec<bool>, AllocError>
     Vec::from_elem(alloc, false, count)
 }
 
+// Makes flags those of a blank screen.
+fn unset_flags(flags: &mut [bool], size: Size)
+    requires { length flags.old ≡ size.width * size.height }
+    ensures { AreBehind size.width size.height flags.new (λ a b. blank_column) }
+{
+    flags.fill(false);
+}
+
 impl<L: Link> AnsiBackend<L> {
     /// A backend of a blank screen of this size in columns and rows, over a link that begins anew. Refused where the screen
     /// has no columns or no rows, where memory is, or where the link fails.
@@ -102,6 +110,28 @@ impl<L: Link> AnsiBackend<L> {
         ensures { result.now ≡ self.now.link }
     {
         &self.link
+    }
+
+    /// Begins anew, also after a failed send: the link does so, and the screen is blank. Where the link fails every call is
+    /// refused until the next `restart`.
+    pub fn restart(&mut self) -> Result<(), AnsiError<L::Error>>
+        ensures blank { OnOk result (IsBlankScreen self.old.size.width self.old.size.height
+            (shown_by L.told self.new)) }
+        ensures told { OnOk result (L.told self.new.link ≡ []) }
+        ensures size { self.new.size ≡ self.old.size }
+        ensures failures { self.new.failures ≡ self.old.failures }
+    {
+        self.is_broken = true;
+        match self.link.renew() {
+            Ok(()) => {}
+            Err(error) => return Err(AnsiError::Send(error)),
+        }
+        let behind = self.behind.as_mut_slice();
+        unset_flags(behind, self.size);
+        self.cursor = Position::ORIGIN;
+        self.written = 0;
+        self.is_broken = false;
+        Ok(())
     }
 
     // Moves the cursor.

@@ -247,6 +247,8 @@ fn calls_of_the_backend(rt: HostRuntime) -> Result<(), Fail> {
         height: 3,
     };
     assert!(rt; backend.size() == Ok(size) && backend.flush() == Ok(()));
+    assert!(rt; backend.restart().is_ok() && backend.link().unsent() == "");
+    assert!(rt; backend.get_cursor() == Ok((0, 0)));
     Ok(())
 }
 

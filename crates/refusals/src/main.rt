@@ -10,6 +10,7 @@
 mod backends;
 mod buffers;
 mod cells;
+mod logs;
 mod made;
 mod outcome;
 mod painting;
@@ -26,7 +27,7 @@ use std::{env, io};
 const LAST: usize = 1500;
 
 // The cases by name, a group for each module.
-static NAMES: [&str; 70] = [
+static NAMES: [&str; 75] = [
     "set_string",
     "set_stringn",
     "set_span",
@@ -97,6 +98,11 @@ static NAMES: [&str; 70] = [
     "insert_before of more rows than the screen has",
     "play",
     "run",
+    "start of a log view",
+    "push to a log view",
+    "push to a log view that scrolls",
+    "run of a log",
+    "run of a log to a writer that grows",
 ];
 
 fn outcome_of(alloc: Global, number: usize) -> Result<Outcome, AllocError> {
@@ -109,7 +115,8 @@ fn outcome_of(alloc: Global, number: usize) -> Result<Outcome, AllocError> {
         57..=60 => backends::outcome_of(alloc, number - 57),
         61..=67 => terminals::outcome_of(alloc, number - 61),
         68 => scripts::played(alloc),
-        _ => scripts::run_over_memory(alloc),
+        69 => scripts::run_over_memory(alloc),
+        _ => logs::outcome_of(alloc, number - 70),
     }
 }
 
