@@ -7,3 +7,4 @@ pub mod InsertionLemmas
 pub mod HeadlineLemmas
 pub mod RenderedLemmas
 pub mod StartLemmas
+pub mod TextRowLemmas

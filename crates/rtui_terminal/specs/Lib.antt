@@ -13,3 +13,4 @@ pub mod Insertion
 pub mod Display
 pub mod Headline
 pub mod Rendered
+pub mod TextRow

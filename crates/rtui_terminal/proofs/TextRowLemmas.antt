@@ -1,0 +1,225 @@
+-- A text drawn over one row, and inserted above it.
+use Rattle.std.proofs.Common.{◌≡◌, ℕ, ◌<◌, ◌+◌, List, [], ◌∷◌, ◌++◌, length, append-nil, Option, Result, Ok, Err, OnOk, OnErr, IfErr, refl, sym, ap, ap₂, subst, ◌∙◌, inl, inr, arith}
+use Rattle.std.specs.Prelude.{alloc_error, slice_index_or}
+use Rattle.std.specs.declared.alloc.AllocError.{AllocError}
+use Rattle.rtui_geometry.specs.declared.position.Position.{Position}
+use Rattle.rtui_geometry.specs.declared.rect.Rect.{Rect}
+use Rattle.rtui_cell.specs.Look.{Look}
+use Rattle.rtui_diff.specs.Shows.{RowAgrees}
+use Rattle.rtui_buffer.specs.Sheet.{Sheet, IsEmptied}
+use Rattle.rtui_buffer.specs.Frame.{IsSettledSheet}
+use Rattle.rtui_widgets.specs.Rendering.{RendersStr, HasFirstRow}
+use Rattle.rtui_widgets.proofs.SettledLemmas.{has-first-row, text-settled}
+use Rattle.rtui_backend.specs.Screen.{Screen}
+use Rattle.rtui_viewport.specs.Viewports.{IsInline}
+use Rattle.rtui_viewport.specs.declared.viewport.Viewport.TheVariants.{Inline}
+use Rattle.rtui_rows.specs.Insertion.{AppendsRows, AreRowsOf}
+use Rattle.rtui_terminal.specs.State.{State, HasAreas}
+use Rattle.rtui_terminal.specs.InStep.{IsSized, rows_over}
+use Rattle.rtui_terminal.specs.Faults.{FaultCounts, IsBackendFault}
+use Rattle.rtui_terminal.specs.declared.terminal.error.TerminalError.{TerminalError}
+use Rattle.rtui_terminal.specs.declared.terminal.error.TerminalError.TheVariants.{Backend, Memory, Area, Closure}
+use Rattle.rtui_terminal.specs.Starting.{IsBlank, StartErr, Starts, StartsInRow}
+use Rattle.rtui_terminal.specs.Drawing.{DrawOk, DrawErr}
+use Rattle.rtui_terminal.specs.Rendered.{OnlyRenders}
+use Rattle.rtui_terminal.specs.Insertion.{inserted_area, TakesRows, Inserts, InsertOk, InsertsBy}
+use Rattle.rtui_terminal.specs.TextRow.{row_area, IsPaintedText, IsRowOf, RendersRow, FillsRow, IsOverRow, DrawsRow, InsertsRow, StartsOverRow, ShowsRow}
+use Rattle.rtui_terminal.proofs.RenderedLemmas.{shows-rendered, sized-stays, refused-by-backend}
+use Rattle.rtui_terminal.proofs.StartLemmas.{starts-in-row, starts-in-step, starts-blank}
+use Rattle.rtui_terminal.proofs.InsertionLemmas.{emptied-moved}
+use Rattle.rtui_terminal.proofs.KeepLemmas.{below-kept}
+
+-- a list of one
+record IsOne {X : Type 0} (xs : List X) : Type 0 where
+  item : X
+  is : xs ≡ item ∷ []
+
+one : {X : Type 0} (xs : List X) → length xs ≡ 1 → IsOne xs
+one [] e = absurd (omega arith)
+one (x ∷ []) e = record { item = x; is = refl }
+one (x ∷ y ∷ xs) e = absurd (omega arith)
+
+-- the one row that came in with a painted text
+record HasRow (width : ℕ) (text : List ℕ) (old new : List (List Look)) : Type 0 where
+  row : List Look
+  painted : IsRowOf width text row
+  above : new ≡ old ++ row ∷ []
+
+row-appended : (width : ℕ) (text : List ℕ) (sheet : Sheet) (old new : List (List Look)) → sheet.area ≡ row_area width 0 → IsPaintedText text sheet → AppendsRows (sheet ∷ []) old new → HasRow width text old new
+row-appended width text sheet old new over painted appends =
+    let wide : sheet.area.width ≡ width = ap (λ (r : Rect). r.width) over in
+    let high : sheet.area.height ≡ 1 = ap (λ (r : Rect). r.height) over in
+    let first : List (List Look) = appends.agree.0 in
+    let are : AreRowsOf sheet first = appends.agree.3 in
+    let all : appends.rows ≡ first = appends.agree.2 ∙ ap (λ rows. first ++ rows) appends.agree.4 ∙ append-nil first in
+    let single : IsOne first = one first (are.count ∙ high) in
+    record {
+      row = single.item;
+      painted = record {
+        sheet = sheet;
+        over = over;
+        painted = painted;
+        agrees = subst (λ n. RowAgrees n sheet.cells 0 single.item) wide (subst (λ rows. RowAgrees sheet.area.width sheet.cells 0 (slice_index_or rows 0 [])) single.is (are.agree 0 (omega arith)));
+      };
+      above = appends.appended ∙ ap (λ rows. old ++ rows) (all ∙ single.is);
+    }
+
+-- a text was rendered in an empty row
+row-painted : (text : List ℕ) (y width : ℕ) (blank sheet : Sheet) → sheet.area ≡ row_area width y → IsEmptied sheet.area blank → RendersRow text sheet.area blank sheet → IsPaintedText text sheet
+row-painted text y width blank sheet over empty renders =
+    let high : sheet.area.height ≡ 1 = ap (λ (r : Rect). r.height) over in
+    record { blank = blank; emptied = empty; rendered = renders (has-first-row sheet.area blank (omega arith) empty) }
+
+-- a screen can show it
+row-settled : (text : List ℕ) (sheet : Sheet) → IsPaintedText text sheet → IsSettledSheet sheet
+row-settled text sheet is =
+    let left : is.blank.area.x ≡ sheet.area.x = ap (λ (r : Rect). r.x) is.emptied.area in
+    text-settled sheet.area sheet.area text is.blank sheet is.emptied (omega arith) (omega arith) is.rendered
+
+module _ {B : Type 0} (screen : B → Screen) where
+  takes : (s : State B) → IsOverRow screen s → TakesRows screen s
+  takes s is =
+      let high : s.viewport_area.height ≡ 1 = ap (λ (r : Rect). r.height) is.row in
+      record { inline = is.kind; known = is.known; row = omega arith; width = ap (λ (r : Rect). r.width) is.row }
+
+  -- the row of a text was inserted
+  pub inserts-row : (text : List ℕ) (s t : State B) (filled : Result (Unit {0}) AllocError → Sheet → Type 0) → IsOverRow screen s
+      → ((sheet : Sheet) → filled (Ok tt) sheet → FillsRow text (inserted_area s 1) sheet)
+      → InsertOk screen (inserted_area s 1) filled s t → InsertsRow screen text s t
+  inserts-row text s t filled is only ins =
+      let may = takes s is in
+      let high : s.viewport_area.height ≡ 1 = ap (λ (r : Rect). r.height) is.row in
+      let known : (screen s.backend).height ≡ s.known_area.height = ap (λ (r : Rect). r.height) is.known in
+      let bottom = is.in_step.on_screen.bottom in
+      let sheet = ins.inserted in
+      let inserts : Inserts screen sheet s t = ins.inserts (omega arith) in
+      let over : sheet.area ≡ row_area (screen s.backend).width 0 = ins.over ∙ ap (λ w. row_area w 0) may.width in
+      let fills = only sheet ins.closure in
+      let empty : IsEmptied sheet.area fills.before = subst (λ (r : Rect). IsEmptied r fills.before) (sym ins.over) fills.empty in
+      let renders = subst (λ (r : Rect). RendersRow text r fills.before sheet) (fills.empty.area ∙ sym ins.over) fills.renders in
+      let painted : IsPaintedText text sheet = row-painted text 0 (screen s.backend).width fills.before sheet over empty renders in
+      let settled : IsSettledSheet sheet = row-settled text sheet painted in
+      let row : HasRow (screen s.backend).width text (rows_over screen s) (rows_over screen t) = row-appended (screen s.backend).width text sheet (rows_over screen s) (rows_over screen t) over painted (inserts.above may is.in_step settled) in
+      let kept = inserts.rest in
+      let area : t.viewport_area ≡ record s.viewport_area { y = t.viewport_area.y } = ap (λ (x : State B). x.viewport_area) kept in
+      let here : t.viewport_area ≡ row_area (screen t.backend).width t.viewport_area.y =
+      area ∙ ap (λ (r : Rect). record r { y = t.viewport_area.y }) is.row ∙ ap (λ w. row_area w t.viewport_area.y) (sym inserts.shape.width) in
+      let height : sheet.area.height ≡ 1 = ap (λ (r : Rect). r.height) over in
+      record {
+        over = record {
+          kind = subst IsInline (sym (ap (λ (x : State B). x.viewport) kept)) is.kind;
+          known = ap₂ (λ w h. record { x = 0; y = 0; width = w; height = h }) inserts.shape.width inserts.shape.height ∙ is.known ∙ sym (ap (λ (x : State B). x.known_area) kept);
+          row = here;
+          in_step = inserts.in_step may is.in_step settled;
+          current = emptied-moved screen sheet s t inserts is.current;
+        };
+        size = ap₂ (λ w h. record { width = w; height = h }) inserts.shape.width inserts.shape.height;
+        top = (let top = inserts.top in omega arith);
+        row = row.row;
+        painted = row.painted;
+        above = row.above;
+        below = inserts.below may is.in_step settled;
+      }
+
+  -- by the answer of the insertion
+  pub inserts-row-if : {T E : Type 0} (text : List ℕ) (s t : State B) (filled : Result (Unit {0}) AllocError → Sheet → Type 0) (result : Result T (TerminalError E)) → IsOverRow screen s
+      → ((sheet : Sheet) → filled (Ok tt) sheet → FillsRow text (inserted_area s 1) sheet)
+      → InsertsBy screen (inserted_area s 1) filled s t result → OnOk result (InsertsRow screen text s t)
+  inserts-row-if text s t filled (Ok x) is only by = inserts-row text s t filled is only by
+  inserts-row-if text s t filled (Err e) is only by = tt
+
+  -- a text was drawn over the viewport
+  pub draws-row : {X : Type 0} (text : List ℕ) (s t : State B) (ran : State B → Result (Unit {0}) X → Option Position → Sheet → Type 0) → IsOverRow screen s → OnlyRenders ran (RendersRow text) → DrawOk screen ran s t
+      → DrawsRow screen text s t
+  draws-row text s t ran is only drawn =
+      let sized : IsSized screen s = inr is.known in
+      let shows = shows-rendered screen ran (RendersRow text) s t (inl is.in_step) is.current only drawn in
+      let applied = drawn.draws.applied in
+      let stays = sized-stays screen s drawn.draws.sized sized drawn.draws.autoresized in
+      let kept : t.viewport_area ≡ s.viewport_area = ap (λ (x : State B). x.viewport_area) applied.rest ∙ ap (λ (x : State B). x.viewport_area) stays.rest in
+      let over : t.older.area ≡ row_area (screen s.backend).width s.viewport_area.y = shows.area ∙ kept ∙ is.row in
+      let painted : IsPaintedText text t.older = row-painted text s.viewport_area.y (screen s.backend).width shows.rendered.blank t.older over shows.rendered.emptied shows.rendered.rendered in
+      let settled : IsSettledSheet t.older = row-settled text t.older painted in
+      let keeps = drawn.draws.keeps is.in_step sized settled in
+      let step = drawn.draws.in_step (inl is.in_step) settled in
+      record {
+        over = record {
+          kind = subst IsInline (sym (ap (λ (x : State B). x.viewport) applied.rest ∙ ap (λ (x : State B). x.viewport) stays.rest)) is.kind;
+          known =
+              ap₂ (λ w h. record { x = 0; y = 0; width = w; height = h }) keeps.size.width keeps.size.height
+              ∙ is.known
+              ∙ sym (ap (λ (x : State B). x.known_area) applied.rest ∙ ap (λ (x : State B). x.known_area) stays.rest);
+          row = kept ∙ is.row ∙ ap₂ row_area (sym keeps.size.width) (sym (ap (λ (r : Rect). r.y) kept));
+          in_step = step;
+          current = subst (λ (r : Rect). IsEmptied r t.current) (sym (ap (λ (x : State B). x.viewport_area) applied.rest)) applied.emptied;
+        };
+        shown = record { sheet = t.older; over = shows.area; painted = painted; shown = step.shown };
+        keeps = keeps;
+      }
+
+  -- by the answer of a draw that takes no memory
+  pub refused-by-backend-if : {T F : Type 0} (X : Type 0) (s t : State B) (ran : State B → Result (Unit {0}) AllocError → Option Position → Sheet → Type 0) (result : Result T (TerminalError F)) → IsSized screen s → HasAreas s
+      → ((r : State B) (cursor : Option Position) (painted : Sheet) → ran r (Err alloc_error) cursor painted → ⊥)
+      → ((r : State B) (cursor : Option Position) (painted : Sheet) → ran r (Ok tt) cursor painted → painted.area ≡ r.current.area)
+      → OnErr result (IfErr result (DrawErr screen ran s t) × X) → IfErr result IsBackendFault
+  refused-by-backend-if X s t ran (Ok x) sized areas never keeps by = tt
+  refused-by-backend-if X s t ran (Err e) sized areas never keeps by = refused-by-backend screen ran s t e sized areas never keeps by.0
+
+  -- a text was inserted, and then another one drawn
+  pub inserts-and-draws : (text status : List ℕ) (r s t : State B) → InsertsRow screen text r s → DrawsRow screen status s t → InsertsRow screen text r t
+  inserts-and-draws text status r s t inserts drawn =
+      let keeps = drawn.keeps in
+      record {
+        over = drawn.over;
+        size = ap₂ (λ w h. record { width = w; height = h }) keeps.size.width keeps.size.height ∙ inserts.size;
+        top = ap (λ (a : Rect). a.y) keeps.viewport_area ∙ inserts.top;
+        row = inserts.row;
+        painted = inserts.painted;
+        above = keeps.above ∙ inserts.above;
+        below = λ blank. below-kept screen s t keeps (inserts.below blank);
+      }
+
+  -- the terminal of a start over one row knows its screen's size
+  starts-known : (b : B) (t : State B) → Starts screen (Inline 1) b t → record { x = 0; y = 0; width = (screen t.backend).width; height = (screen t.backend).height } ≡ t.known_area
+  starts-known b t starts = ap₂ (λ w h. record { x = 0; y = 0; width = w; height = h }) starts.scrolls.width starts.scrolls.height ∙ sym starts.known_area
+
+  pub starts-sized : (b : B) (t : State B) → Starts screen (Inline 1) b t → IsSized screen t
+  starts-sized b t starts = inr (starts-known b t starts)
+
+  pub starts-areas : (b : B) (t : State B) → Starts screen (Inline 1) b t → HasAreas t
+  starts-areas b t starts = record { current = starts.current.area; older = starts.older.area }
+
+  -- a start on a blank screen
+  pub starts-over-row : (b : B) (t : State B) → IsBlank (screen b) → 0 < (screen b).height → Starts screen (Inline 1) b t → IsOverRow screen t
+  starts-over-row b t blank some starts =
+      let row = starts-in-row screen b t some starts in
+      record {
+        kind = subst IsInline (sym starts.kind) tt;
+        known = starts-known b t starts;
+        row = row.viewport_area ∙ ap₂ row_area (sym row.size.width) (sym (ap (λ (r : Rect). r.y) row.viewport_area));
+        in_step = starts-in-step screen (Inline 1) b t starts (starts.on_screen (λ fixed. fixed)) blank;
+        current = starts.current;
+      }
+
+  -- a start on a blank screen, and then a text drawn
+  pub starts-and-draws : (text : List ℕ) (b : B) (s t : State B) → IsBlank (screen b) → 0 < (screen b).height → Starts screen (Inline 1) b s → DrawsRow screen text s t → StartsOverRow screen b t
+  starts-and-draws text b s t blank some starts drawn =
+      let row = starts-in-row screen b s some starts in
+      let keeps = drawn.keeps in
+      let still = starts-blank screen (Inline 1) b s starts blank in
+      record {
+        over = drawn.over;
+        size = ap₂ (λ w h. record { width = w; height = h }) (keeps.size.width ∙ row.size.width) (keeps.size.height ∙ row.size.height);
+        top = ap (λ (r : Rect). r.y) (keeps.viewport_area ∙ row.viewport_area);
+        above = keeps.above ∙ row.above;
+        below = below-kept screen s t keeps
+            (record { at = λ a c a_in c_in low. still.at a c a_in c_in });
+      }
+
+-- a start whose first frame was refused, by the backend
+pub refused-start : {B E : Type 0} (screen : B → Screen) (failures : B → ℕ) (b : B) (t : State B) (dropped : B) (error : TerminalError E) → failures t.backend ≡ failures b → IsBackendFault error
+    → FaultCounts (failures t.backend) (failures dropped) error → StartErr screen failures (Inline 1) b error
+refused-start screen failures b t dropped (Backend error) same by counts = (λ fixed. fixed, (dropped, λ small. rw same at (counts (rw same small))))
+refused-start screen failures b t dropped Memory same by counts = absurd by
+refused-start screen failures b t dropped Area same by counts = absurd by
+refused-start screen failures b t dropped (Closure error) same by counts = absurd by

@@ -1,0 +1,85 @@
+-- A terminal over one row of text, and rows of text above it.
+use Rattle.std.specs.Prelude.{◌≡◌, ℕ, ◌+◌, ◌-◌, min, List, [], ◌∷◌, ◌++◌}
+use Rattle.rtui_geometry.specs.declared.rect.Rect.{Rect}
+use Rattle.rtui_buffer.specs.Sheet.{Sheet, IsEmptied}
+use Rattle.rtui_cell.specs.Look.{Look}
+use Rattle.rtui_cell.specs.Grid.{Grid}
+use Rattle.rtui_diff.specs.Shows.{RowAgrees}
+use Rattle.rtui_buffer.specs.Frame.{ShowsSheet}
+use Rattle.rtui_widgets.specs.Rendering.{HasFirstRow, RendersStr}
+use Rattle.rtui_backend.specs.Screen.{Screen, size_of, screen_area, rows_above}
+use Rattle.rtui_viewport.specs.Viewports.{IsInline}
+use Rattle.rtui_viewport.specs.Areas.{IsBlankBelow}
+use Rattle.rtui_terminal.specs.State.{State}
+use Rattle.rtui_terminal.specs.InStep.{IsInStep, KeepsAroundViewport, rows_over}
+use Rattle.rtui_terminal.specs.Rendered.{IsRendered}
+
+-- the area of a row of this width
+abbrev pub row_area : ℕ → ℕ → Rect
+row_area width y = record { x = 0; y = y; width = width; height = 1 }
+
+-- the buffer is an empty one on which a text was painted
+abbrev pub IsPaintedText : List ℕ → Sheet → Type 0
+IsPaintedText text = IsRendered (RendersStr text)
+
+-- a row of looks that agrees with a text painted on an empty row
+pub record IsRowOf (width : ℕ) (text : List ℕ) (row : List Look) : Type 0 where
+  pub sheet : Sheet
+  pub over : sheet.area ≡ row_area width 0
+  pub painted : IsPaintedText text sheet
+  pub agrees : RowAgrees width sheet.cells 0 row
+
+-- the grid shows a text painted on an empty row
+pub record ShowsText (text : List ℕ) (area : Rect) (g : Grid) : Type 0 where
+  pub sheet : Sheet
+  pub over : sheet.area ≡ area
+  pub painted : IsPaintedText text sheet
+  pub shown : ShowsSheet sheet g
+
+-- how a closure renders a text in the first row of a buffer, where the buffer has it
+abbrev pub RendersRow : List ℕ → Rect → Sheet → Sheet → Type 0
+RendersRow text area old new = HasFirstRow area old → RendersStr text area old new
+
+-- what a closure leaves that renders a text over the whole of an empty buffer
+pub record FillsRow (text : List ℕ) (area : Rect) (sheet : Sheet) : Type 0 where
+  pub before : Sheet
+  pub empty : IsEmptied area before
+  pub renders : RendersRow text before.area before sheet
+
+module _ {B : Type 0} (screen : B → Screen) where
+  -- the terminal is in step over one row as wide as the screen, whose size it knows, and its next frame begins empty
+  pub record IsOverRow (t : State B) : Type 0 where
+    pub kind : IsInline t.viewport
+    pub known : screen_area (screen t.backend) ≡ t.known_area
+    pub row : t.viewport_area ≡ row_area (screen t.backend).width t.viewport_area.y
+    pub in_step : IsInStep screen t
+    pub current : IsEmptied t.viewport_area t.current
+
+  -- the viewport shows a text
+  abbrev pub ShowsRow : List ℕ → State B → Type 0
+  ShowsRow text t = ShowsText text t.viewport_area (screen t.backend).grid
+
+  -- a text was drawn over the viewport, and all else stays
+  pub record DrawsRow (text : List ℕ) (s t : State B) : Type 0 where
+    pub over : IsOverRow t
+    pub shown : ShowsRow text t
+    pub keeps : KeepsAroundViewport screen s t
+
+  -- a text was inserted: the terminal is still over one row, which went down by one if there was room, exactly one row, the text's, came to those
+  -- above, and blank rows below stay so
+  pub record InsertsRow (text : List ℕ) (s t : State B) : Type 0 where
+    pub over : IsOverRow t
+    pub size : size_of (screen t.backend) ≡ size_of (screen s.backend)
+    pub top : t.viewport_area.y ≡ min (s.viewport_area.y + 1) ((screen s.backend).height - 1)
+    pub row : List Look
+    pub painted : IsRowOf (screen s.backend).width text row
+    pub above : rows_over screen t ≡ rows_over screen s ++ row ∷ []
+    pub below : IsBlankBelow s.viewport_area (screen s.backend) → IsBlankBelow t.viewport_area (screen t.backend)
+
+  -- a start on a blank screen: the terminal is over one row, the cursor's, the rows above are those that were there, and those below are blank
+  pub record StartsOverRow (b : B) (t : State B) : Type 0 where
+    pub over : IsOverRow t
+    pub size : size_of (screen t.backend) ≡ size_of (screen b)
+    pub top : t.viewport_area.y ≡ (screen b).cursor_y
+    pub above : rows_over screen t ≡ rows_above (screen b) (screen b).cursor_y
+    pub below : IsBlankBelow t.viewport_area (screen t.backend)
