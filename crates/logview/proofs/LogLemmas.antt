@@ -6,10 +6,10 @@ use Rattle.std.specs.List.{before_first, after_first}
 use Rattle.std.proofs.lemmas.Grind.{common_steps}
 use Rattle.ratatui_core.specs.Layout.{Rect, Size}
 use Rattle.ratatui_core.specs.Backend.{Screen, IsBlankScreen, rows_above, TestBackend, screen_of, printed_screen}
-use Rattle.ratatui_core.specs.Terminal.{IsBlank, IsBlankBelow}
-use Rattle.logview.specs.Rows.{counted, status_text, row_area, IsPaintedText, IsRowOf, AreRowsOfLines}
+use Rattle.ratatui_core.specs.Terminal.{IsBlank, IsBlankBelow, row_area, IsPaintedText, IsRowOf, rows_over}
+use Rattle.logview.specs.Rows.{counted, status_text, AreRowsOfLines}
 use Rattle.logview.specs.Size.{parsed_number, size_by, parsed_size}
-use Rattle.logview.specs.Views.{lines_shown, StartsView, PushesLine, IsViewOf}
+use Rattle.logview.specs.Views.{StartsView, PushesLine, IsViewOf}
 use Rattle.logview.specs.Engine.{ShowsLog, IsLogView, PrintsLog, size_of_log}
 use Rattle.std.specs.Str.{IsUtf8}
 use Rattle.std.specs.Str.Lines.{lines}
@@ -26,13 +26,13 @@ module _ {B E : Type 0} (screen : B → Screen) where
   view_none size b v blank count starts =
       let row : (screen b).cursor_y ≡ 0 = ap (λ p. p.y) blank.cursor in
       record {
-        following = starts.following;
+        following = starts.starts.over;
         status = starts.status;
         count = count;
-        size_is = starts.size ∙ ap₂ (λ w h. record { width = w; height = h }) blank.width blank.height;
-        top = starts.top ∙ row ∙ omega arith;
-        above = subst (AreRowsOfLines size.width []) (sym (starts.above ∙ ap (rows_above (screen b)) row ∙ ap (λ h. h ++ []) blank.history)) tt;
-        below = starts.below;
+        size_is = starts.starts.size ∙ ap₂ (λ w h. record { width = w; height = h }) blank.width blank.height;
+        top = starts.starts.top ∙ row ∙ omega arith;
+        above = subst (AreRowsOfLines size.width []) (sym (starts.starts.above ∙ ap (rows_above (screen b)) row ∙ ap (λ h. h ++ []) blank.history)) tt;
+        below = starts.starts.below;
       }
 
   -- one more line
@@ -44,12 +44,12 @@ module _ {B E : Type 0} (screen : B → Screen) where
       let high : (screen v.terminal.backend).height ≡ size.height = ap (λ (s : Size). s.height) is.size_is in
       let painted : IsRowOf size.width line ins.row = subst (λ n. IsRowOf n line ins.row) wide ins.painted in
       record {
-        following = ins.following;
+        following = ins.over;
         status = pushes.status;
         count = (let c = is.count in omega arith);
         size_is = ins.size ∙ is.size_is;
         top = (let t = ins.top in let f = is.top in omega arith);
-        above = subst (AreRowsOfLines size.width (lines ++ line ∷ [])) (sym ins.above) (rows_more size.width line ins.row lines (lines_shown screen v) is.above painted);
+        above = subst (AreRowsOfLines size.width (lines ++ line ∷ [])) (sym ins.above) (rows_more size.width line ins.row lines (rows_over screen v.terminal) is.above painted);
         below = ins.below is.below;
       }
 

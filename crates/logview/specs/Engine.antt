@@ -6,8 +6,8 @@ use Rattle.std.specs.Str.Lines.{lines}
 use Rattle.std.specs.Io.KnownBytes.{Appends}
 use Rattle.ratatui_core.specs.Layout.{Size}
 use Rattle.ratatui_core.specs.Backend.{Screen, TestBackend, TestError, screen_of, size_of, rows_above, printed_screen}
-use Rattle.ratatui_core.specs.Terminal.{IsBlankBelow, TerminalError}
-use Rattle.logview.specs.Rows.{counted, status_text, row_area, AreRowsOfLines, ShowsText}
+use Rattle.ratatui_core.specs.Terminal.{row_area, ShowsText, IsBlankBelow, TerminalError}
+use Rattle.logview.specs.Rows.{counted, status_text, AreRowsOfLines}
 use Rattle.logview.specs.Views.{IsViewOf, RefusesPush}
 use Rattle.logview.specs.declared.view.LogView.{LogView}
 use Rattle.logview.specs.Size.{parsed_size}

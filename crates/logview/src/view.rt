@@ -1,10 +1,11 @@
 //! Lines above a status line.
 
 ghost use Rattle.std.specs.Prelude.{◌≡◌, ◌+◌, ◌<◌, IfOk, IfErr, IsOk, OnOk};
-ghost use Rattle.ratatui_core.specs.Terminal.{Faults, HasAreas, Inline, IsBackendFault, IsBlank, IsSized, KeepsFrame, StartErr};
+ghost use Rattle.ratatui_core.specs.Terminal.{DrawsRow, Faults, HasAreas, Inline, InsertsRow, IsBackendFault, IsBlank, IsSized};
+ghost use Rattle.ratatui_core.specs.Terminal.{KeepsFrame, StartErr};
 ghost use Rattle.ratatui_core.specs.Widgets.{HasFirstRow, RendersStr, RendersShortStr};
-ghost use Rattle.logview.specs.Rows.{counted};
-ghost use Rattle.logview.specs.Views.{IsFollowing, DrawsStatus, StartsView, InsertsLine, PushesLine, RefusesLine, RefusesPush};
+ghost use Rattle.logview.specs.Rows.{counted, status_text};
+ghost use Rattle.logview.specs.Views.{IsFollowing, StartsView, PushesLine, RefusesLine, RefusesPush};
 
 use crate::status::status_text;
 use ratatui_core::backend::Backend;
@@ -81,7 +82,8 @@ impl<B: Backend> LogView<B> {
     fn draw_status(&mut self) -> Result<(), TerminalError<B::Error>>
         ensures count { self.new.count ≡ self.old.count }
         ensures ok { IsFollowing B.screen self.old
-            → OnOk result (DrawsStatus B.screen self.old self.new) }
+            → OnOk result (DrawsRow B.screen (status_text self.old.count)
+            self.old.terminal self.new.terminal) }
         ensures err { HasAreas self.old.terminal → IsSized B.screen self.old.terminal
             → IfErr result IsBackendFault }
         ensures faults { Faults result (B.failures self.old.terminal.backend)
@@ -98,7 +100,8 @@ impl<B: Backend> LogView<B> {
     fn insert_line(&mut self, line: &str) -> Result<(), TerminalError<B::Error>>
         ensures count { self.new.count ≡ self.old.count }
         ensures ok { IsFollowing B.screen self.old
-            → OnOk result (InsertsLine B.screen line.now self.old self.new) }
+            → OnOk result (InsertsRow B.screen line.now
+            self.old.terminal self.new.terminal) }
         ensures err { IsFollowing B.screen self.old
             → IfErr result (RefusesLine self.old self.new) }
         ensures faults { Faults result (B.failures self.old.terminal.backend)

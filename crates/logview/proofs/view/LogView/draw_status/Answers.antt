@@ -1,22 +1,23 @@
-use Rattle.std.proofs.Common.{rules, refl, subst, arith}
+use Rattle.std.proofs.Common.{rules, subst, arith}
+use Rattle.ratatui_core.specs.Terminal.{DrawsRow}
 use Rattle.ratatui_core.specs.Widgets.{RendersShortStr}
-use Rattle.logview.specs.Views.{DrawsStatus}
+use Rattle.ratatui_core.proofs.TerminalLemmas.{draws-row, refused-by-backend-if}
+use Rattle.logview.specs.Rows.{status_text}
 use Rattle.logview.proofs.StatusLemmas.{ascii-status}
-use Rattle.logview.proofs.ViewLemmas.{draws_status, refused_if}
 use Rattle.logview.proofs.view.LogView.draw_status.Goals as goal
 
 pub returns-clause-ok : goal.returns-clause-ok
 returns-clause-ok g c = λ is.
     let v = c.args.self.now in
     let frame = c.in_ok-self.field-0.terminal.now in
-    subst (λ t. DrawsStatus g.B.Backend.screen v (record { terminal = t; count = v.count })) (search rules)
-    (draws_status g.B.Backend.screen v (record { terminal = frame; count = v.count }) _ is refl (λ s cursor painted ran has. search rules) c.in_ok-self.ensures.drawn)
+    subst (λ t. DrawsRow g.B.Backend.screen (status_text v.count) v.terminal t) (search rules)
+    (draws-row g.B.Backend.screen (status_text v.count) v.terminal frame _ is (λ s cursor painted ran has. search rules) c.in_ok-self.ensures.drawn)
 
 pub returns-in_err-self-clause-err : goal.returns-in_err-self-clause-err
 returns-in_err-self-clause-err g c = λ areas sized.
     let text = c.status_text-text in
     let by =
-    refused_if g.B.Backend.screen _ c.args.self.now.terminal c.draw.follows.lender-at-none _ c.draw.result sized areas
+    refused-by-backend-if g.B.Backend.screen _ c.args.self.now.terminal c.draw.follows.lender-at-none _ c.draw.result sized areas
     (λ s cursor painted ran.
     let frame = ran.before in
     let short : RendersShortStr text.result.bytes frame.viewport_area frame.buffer.now =
