@@ -1,20 +1,16 @@
 //! A user of the port: it stands on `ratatui_core` alone, and docs/USING.md walks through it.
 //!
-//! [`draw_checked`] draws a frame on a terminal, [`label`] is a widget over a buffer, and [`EscapeBackend`] a
-//! backend.
+//! [`draw_checked`] draws a frame on a terminal, [`log`] logs rows above it, and [`label`] is a widget over a buffer.
 #![tactic(auto)]
 
-mod escape;
 mod frames;
 mod labels;
 mod lines;
 mod logging;
 mod renewing;
-mod sequences;
 #[cfg(test)]
 mod tests;
 
-pub use escape::{EscapeBackend, EscapeError};
 pub use frames::draw_checked;
 pub use labels::{label, pieces_stand};
 pub use lines::restyle_first;

@@ -4,27 +4,32 @@
 //! push leaves on the screen, is `logview`'s; that the bytes show that screen is `ratatui_ansi`'s.
 #![tactic(auto)]
 
+mod fault;
+
+use crate::fault::Fault;
+use clap::{Arg, Command, value_parser};
 use logview::LogView;
 use ratatui_ansi::{AnsiBackend, Kept};
 use rtui_geometry::Size;
-use std::alloc::Global;
+use std::alloc::{AllocError, Global};
 use std::env;
 use std::io::{self, BufRead, BufWriter, Write};
 use std::process::ExitCode;
 
-// Columns and rows, as the words say.
-fn asked(rt: &HostRuntime) -> Option<Size> {
-    let mut words = env::args(rt).ok()?;
-    let _program = words.next()?;
-    let width = words.next()?.as_str().parse::<u16>().ok()?;
-    let height = words.next()?.as_str().parse::<u16>().ok()?;
-    Some(Size { width, height })
-}
-
-// A view over a terminal of this size.
-fn open(alloc: Global, size: Size) -> Option<LogView<AnsiBackend<Kept>>> {
-    let backend = AnsiBackend::new(alloc, Kept::new(alloc), size).ok()?;
-    LogView::new(alloc, backend).ok()
+// What the program takes: the columns and rows of the terminal.
+fn command<'a>(alloc: Global) -> Result<Command<'a>, AllocError> {
+    let columns = Arg::new(alloc, "COLUMNS")
+        .help("How wide the terminal is")
+        .required(true)
+        .value_parser(value_parser!(u16).range(1..=65535));
+    let rows = Arg::new(alloc, "ROWS")
+        .help("How high the terminal is")
+        .required(true)
+        .value_parser(value_parser!(u16).range(1..=65535));
+    Command::new(alloc, "follow")
+        .about("Shows standard input line by line above a status line, as it comes")
+        .arg(columns)?
+        .arg(rows)
 }
 
 // Makes the terminal blank.
@@ -62,35 +67,46 @@ fn follow<R: BufRead, W: Write>(
     reader: &mut R,
     writer: &mut W,
     size: Size,
-) -> Option<()> {
-    let mut view = open(alloc, size)?;
-    blank(writer, size).ok()?;
-    let mut written = pass_on(writer, &view, 0).ok()?;
+) -> Result<(), Fault> {
+    let backend = AnsiBackend::new(alloc, Kept::new(alloc), size)?;
+    let mut view = LogView::new(alloc, backend)?;
+    blank(writer, size).map_err(Fault::Write)?;
+    let mut written = pass_on(writer, &view, 0).map_err(Fault::Write)?;
     let mut line = String::new(alloc);
     for _ in 0..u64::MAX {
         line.clear();
-        if reader.read_line(&mut line).ok()? == 0 {
-            return leave(writer, size).ok();
+        if reader.read_line(&mut line).map_err(Fault::Read)? == 0 {
+            break;
         }
-        view.push(line.as_str()).ok()?;
-        written = pass_on(writer, &view, written).ok()?;
+        view.push(line.as_str())?;
+        written = pass_on(writer, &view, written).map_err(Fault::Write)?;
     }
-    Some(())
+    leave(writer, size).map_err(Fault::Write)
 }
 
-fn run(rt: &HostRuntime, size: Size) -> Option<()> {
+// Shows standard input on a terminal of this size.
+fn run(rt: &HostRuntime, size: Size) -> Result<(), Fault> {
     let mut reader = rt.reader();
-    let mut writer = BufWriter::new(rt.alloc(), io::writer(rt)).ok()?;
+    let mut writer = BufWriter::new(rt.alloc(), io::writer(rt))?;
     follow(rt.alloc(), &mut reader, &mut writer, size)
 }
 
-fn main(rt: HostRuntime) -> ExitCode {
-    let Some(size) = asked(&rt) else {
-        let _ = eprintln!(&rt; "usage: follow COLUMNS ROWS");
-        return ExitCode::FAILURE;
+fn main(rt: HostRuntime) -> anyhow::Result<ExitCode> {
+    let words: Vec<String> = env::args(&rt)?.collect(rt.alloc())?;
+    let matches = match command(rt.alloc())?.try_get_matches_from(words.as_slice()) {
+        Ok(matches) => matches,
+        Err(error) => {
+            error.print(&rt)?;
+            return Ok(ExitCode::from(error.exit_code() as u8));
+        }
     };
-    match run(&rt, size) {
-        Some(()) => ExitCode::SUCCESS,
-        None => ExitCode::FAILURE,
+    let width = matches.get_one::<u16>("COLUMNS").unwrap_or(1);
+    let height = matches.get_one::<u16>("ROWS").unwrap_or(1);
+    match run(&rt, Size { width, height }) {
+        Ok(()) => Ok(ExitCode::SUCCESS),
+        Err(fault) => {
+            eprintln!(&rt; "follow: {fault}")?;
+            Ok(ExitCode::FAILURE)
+        }
     }
 }

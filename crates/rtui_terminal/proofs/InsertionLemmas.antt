@@ -1,5 +1,5 @@
 -- Rows that were scrolled in above a viewport, as one insertion.
-use Rattle.std.proofs.Common.{◌≡◌, ℕ, zero, suc, ◌+◌, ◌-◌, ◌*◌, ◌^◌, ◌<◌, ◌≤◌, ◌++◌, min, nat_lt, if◌then◌else◌, List, [], ◌∷◌, slice_index_or, refl, sym, ap, ◌∙◌, subst, arith, append-nil, inl, inr}
+use Rattle.std.proofs.Common.{◌≡◌, ℕ, ◌+◌, ◌-◌, ◌*◌, ◌<◌, ◌≤◌, ◌++◌, min, nat_lt, if◌then◌else◌, List, [], ◌∷◌, slice_index_or, refl, sym, ap, ◌∙◌, subst, arith, append-nil, inl, inr}
 use Rattle.std.proofs.lemmas.Bool.{cases_lt}
 use Rattle.std.proofs.lemmas.Bool.Decides.{nat_tests}
 use Rattle.rtui_geometry.specs.declared.rect.Rect.{Rect}
@@ -7,24 +7,23 @@ use Rattle.rtui_cell.specs.Look.{Look}
 use Rattle.rtui_diff.specs.Shows.{ShowsColumn, RowAgrees}
 use Rattle.rtui_buffer.specs.Sheet.{Sheet, IsEmptied, area_size, empty_cells}
 use Rattle.rtui_buffer.specs.Frame.{IsSettledSheet, ShowsSheet}
-use Rattle.rtui_backend.specs.Screen.{Screen, IsOnScreen, rows_above}
-use Rattle.rtui_viewport.specs.Areas.{IsBlankBelow}
+use Rattle.rtui_backend.specs.Screen.{Screen, rows_above}
 use Rattle.std.specs.Prelude.{◌⊎◌, Result, Ok, Err, OnOk, OnErr}
 use Rattle.std.specs.declared.alloc.AllocError.{AllocError}
 use Rattle.rtui_terminal.specs.Faults.{FailsOnlyByBackend}
 use Rattle.rtui_terminal.specs.declared.terminal.error.TerminalError.{TerminalError}
 use Rattle.rtui_terminal.specs.declared.terminal.error.TerminalError.TheVariants.{Backend, Memory, Area, Closure}
-use Rattle.rtui_rows.specs.Rows.{DrawsRows, RowsFit, CanShowRows, ShowsRows, IsNarrowSheet, nonempty_cells, WritesAtMost}
+use Rattle.rtui_rows.specs.Rows.{DrawsRows, ShowsRows, nonempty_cells}
 use Rattle.rtui_rows.specs.Insertion.{AppendsRows, KeepsSizeAndVisibility, HasPlaceAbove, AppendsPart}
 use Rattle.rtui_rows.specs.Scrolling.{HasPushed, HasRaised, HasLowered, PushesRows, InsertsDown, InsertsUp, rows_down}
-use Rattle.rtui_rows.specs.Following.{AreaFollows, Follows}
+use Rattle.rtui_rows.specs.Following.{Follows}
 use Rattle.rtui_terminal.specs.State.{State}
 use Rattle.rtui_terminal.specs.InStep.{IsInStep, rows_over}
 use Rattle.rtui_terminal.specs.Insertion.{inserted_area, TakesRows}
 use Rattle.rtui_rows.proofs.ShownLemmas.{parts_join, rows_shown, blank_first}
 use Rattle.rtui_rows.proofs.CountLemmas.{writes_rows, nonempty_parts}
 use Rattle.rtui_rows.proofs.PushLemmas.{no_part, own_area}
-use Rattle.rtui_terminal.specs.Insertion.{top_behind, IsLeft, Inserts, StopsInserting, InsertsBy}
+use Rattle.rtui_terminal.specs.Insertion.{Inserts, StopsInserting, InsertsBy}
 
 -- all rows of a buffer were appended
 pub AppendsRows-part : (s : Sheet) (n : ℕ) (old new : List (List Look)) → n ≡ s.area.height → AppendsPart s 0 n old new → AppendsRows (s ∷ []) old new

@@ -1,5 +1,5 @@
 -- What stands after the start of a terminal.
-use Rattle.std.proofs.Common.{◌≡◌, ℕ, ◌+◌, ◌-◌, ◌<◌, ◌≤◌, refl, sym, ap, ap₂, subst, ◌∙◌, arith, append-nil, inl, inr}
+use Rattle.std.proofs.Common.{◌≡◌, ℕ, ◌+◌, ◌<◌, ◌≤◌, sym, ap, ap₂, subst, ◌∙◌, arith, append-nil, inl, inr}
 use Rattle.std.proofs.lemmas.Bool.{cases_lt}
 use Rattle.std.proofs.lemmas.Bool.Decides.{nat_tests}
 use Rattle.rtui_geometry.specs.declared.rect.Rect.{Rect}
@@ -10,7 +10,7 @@ use Rattle.rtui_viewport.specs.declared.viewport.Viewport.{Viewport}
 use Rattle.rtui_viewport.specs.declared.viewport.Viewport.TheVariants.{Inline}
 use Rattle.rtui_viewport.specs.Placing.{area_in, rows_scrolled}
 use Rattle.rtui_terminal.specs.State.{State}
-use Rattle.rtui_terminal.specs.InStep.{IsInStep, rows_over}
+use Rattle.rtui_terminal.specs.InStep.{IsInStep}
 use Rattle.rtui_terminal.specs.Starting.{IsBlank, Starts, StartsInRow}
 
 no-rows-past : (s : Screen) → s.cursor_y + 1 ≤ s.height → lines_past s 0 ≡ 0

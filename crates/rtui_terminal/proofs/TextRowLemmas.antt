@@ -1,5 +1,5 @@
 -- A text drawn over one row, and inserted above it.
-use Rattle.std.proofs.Common.{◌≡◌, ℕ, ◌<◌, ◌+◌, List, [], ◌∷◌, ◌++◌, length, append-nil, Option, Result, Ok, Err, OnOk, OnErr, IfErr, refl, sym, ap, ap₂, subst, ◌∙◌, inl, inr, arith}
+use Rattle.std.proofs.Common.{◌≡◌, ℕ, ◌<◌, List, [], ◌∷◌, ◌++◌, length, append-nil, Option, Result, Ok, Err, OnOk, OnErr, IfErr, refl, sym, ap, ap₂, subst, ◌∙◌, inl, inr, arith}
 use Rattle.std.specs.Prelude.{alloc_error, slice_index_or}
 use Rattle.std.specs.declared.alloc.AllocError.{AllocError}
 use Rattle.rtui_geometry.specs.declared.position.Position.{Position}
@@ -8,7 +8,6 @@ use Rattle.rtui_cell.specs.Look.{Look}
 use Rattle.rtui_diff.specs.Shows.{RowAgrees}
 use Rattle.rtui_buffer.specs.Sheet.{Sheet, IsEmptied}
 use Rattle.rtui_buffer.specs.Frame.{IsSettledSheet}
-use Rattle.rtui_widgets.specs.Rendering.{RendersStr, HasFirstRow}
 use Rattle.rtui_widgets.proofs.SettledLemmas.{has-first-row, text-settled}
 use Rattle.rtui_backend.specs.Screen.{Screen}
 use Rattle.rtui_viewport.specs.Viewports.{IsInline}
@@ -19,11 +18,11 @@ use Rattle.rtui_terminal.specs.InStep.{IsSized, rows_over}
 use Rattle.rtui_terminal.specs.Faults.{FaultCounts, IsBackendFault}
 use Rattle.rtui_terminal.specs.declared.terminal.error.TerminalError.{TerminalError}
 use Rattle.rtui_terminal.specs.declared.terminal.error.TerminalError.TheVariants.{Backend, Memory, Area, Closure}
-use Rattle.rtui_terminal.specs.Starting.{IsBlank, StartErr, Starts, StartsInRow}
+use Rattle.rtui_terminal.specs.Starting.{IsBlank, StartErr, Starts}
 use Rattle.rtui_terminal.specs.Drawing.{DrawOk, DrawErr}
 use Rattle.rtui_terminal.specs.Rendered.{OnlyRenders}
 use Rattle.rtui_terminal.specs.Insertion.{inserted_area, TakesRows, Inserts, InsertOk, InsertsBy}
-use Rattle.rtui_terminal.specs.TextRow.{row_area, IsPaintedText, IsRowOf, RendersRow, FillsRow, IsOverRow, DrawsRow, InsertsRow, StartsOverRow, ShowsRow}
+use Rattle.rtui_terminal.specs.TextRow.{row_area, IsPaintedText, IsRowOf, RendersRow, FillsRow, IsOverRow, DrawsRow, InsertsRow, StartsOverRow}
 use Rattle.rtui_terminal.proofs.RenderedLemmas.{shows-rendered, sized-stays, refused-by-backend}
 use Rattle.rtui_terminal.proofs.StartLemmas.{starts-in-row, starts-in-step, starts-blank}
 use Rattle.rtui_terminal.proofs.InsertionLemmas.{emptied-moved}

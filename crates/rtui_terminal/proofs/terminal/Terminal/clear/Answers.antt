@@ -1,8 +1,7 @@
-use Rattle.std.proofs.Common.{◌≡◌, Option, Some, refl, ap, sym, ◌∙◌}
+use Rattle.std.proofs.Common.{◌≡◌, Option, Some, refl}
 use Rattle.rtui_geometry.specs.declared.position.Position.{Position}
-use Rattle.rtui_backend.specs.Screen.{Screen, cursor_of, with_cursor}
 use Rattle.rtui_viewport.specs.Areas.{KeepsAllButLooks}
-use Rattle.rtui_viewport.specs.Clearing.{ClearsArea, WritesBlanks}
+use Rattle.rtui_viewport.specs.Clearing.{ClearsArea}
 use Rattle.rtui_viewport.proofs.ClearLemmas.{blank_over, frame_restored, clears_restored, written_restored}
 use Rattle.rtui_terminal.proofs.StepLemmas.{blank_in_step, on_same, has_place, cursor_kept}
 use Rattle.rtui_terminal.proofs.KeepLemmas.{above_cleared, outside_cleared, rest_of}
