@@ -2,16 +2,13 @@
 use ratatui_ansi::AnsiError;
 use ratatui_core::terminal::TerminalError;
 use std::alloc::AllocError;
-use std::fmt;
-use std::io;
+use std::{fmt, io};
 
 /// Why the program stops before its input ends.
-#[derive(Debug)]
+#[derive(Debug, Drop)]
 pub enum Fault {
-    /// Memory was refused before the first row was shown.
-    Memory,
-    /// The terminal can't show a line.
-    View(TerminalError<AnsiError>),
+    /// The terminal refused a line, or memory was refused.
+    Terminal(TerminalError<AnsiError<AllocError>>),
     /// Standard input can't be read.
     Read(io::Error),
     /// Standard output can't be written.
@@ -21,22 +18,15 @@ pub enum Fault {
 impl fmt::Display for Fault {
     fn fmt<W: fmt::Write>(&self, f: &mut fmt::Formatter<W>) -> fmt::Result {
         match self {
-            Fault::Memory => f.write_str("no memory"),
-            Fault::View(error) => write!(f, "{error}"),
+            Fault::Terminal(error) => write!(f, "{error}"),
             Fault::Read(error) => write!(f, "standard input: {error}"),
             Fault::Write(error) => write!(f, "standard output: {error}"),
         }
     }
 }
 
-impl From<AllocError> for Fault {
-    fn from(_error: AllocError) -> Fault {
-        Fault::Memory
-    }
-}
-
-impl From<TerminalError<AnsiError>> for Fault {
-    fn from(error: TerminalError<AnsiError>) -> Fault {
-        Fault::View(error)
+impl From<TerminalError<AnsiError<AllocError>>> for Fault {
+    fn from(error: TerminalError<AnsiError<AllocError>>) -> Fault {
+        Fault::Terminal(error)
     }
 }

@@ -10,6 +10,7 @@ use crate::fault::Fault;
 use clap::{Arg, Command, value_parser};
 use logview::LogView;
 use ratatui_ansi::{AnsiBackend, Kept};
+use ratatui_core::terminal::TerminalError;
 use rtui_geometry::Size;
 use std::alloc::{AllocError, Global};
 use std::env;
@@ -68,7 +69,7 @@ fn follow<R: BufRead, W: Write>(
     writer: &mut W,
     size: Size,
 ) -> Result<(), Fault> {
-    let backend = AnsiBackend::new(alloc, Kept::new(alloc), size)?;
+    let backend = AnsiBackend::new(alloc, Kept::new(alloc), size).map_err(TerminalError::Backend)?;
     let mut view = LogView::new(alloc, backend)?;
     blank(writer, size).map_err(Fault::Write)?;
     let mut written = pass_on(writer, &view, 0).map_err(Fault::Write)?;
@@ -87,7 +88,7 @@ fn follow<R: BufRead, W: Write>(
 // Shows standard input on a terminal of this size.
 fn run(rt: &HostRuntime, size: Size) -> Result<(), Fault> {
     let mut reader = rt.reader();
-    let mut writer = BufWriter::new(rt.alloc(), io::writer(rt))?;
+    let mut writer = BufWriter::new(rt.alloc(), io::writer(rt)).map_err(Fault::Write)?;
     follow(rt.alloc(), &mut reader, &mut writer, size)
 }
 
