@@ -51,6 +51,17 @@ in-order-on told kept whole sends e =
       awaiting = λ _. after;
     }
 
+-- and so it is where the link was told nothing more
+pub in-order-still : {size : Size} {place : Position} {flags draft : List Bool} {broken : Bool} {told new : List ℕ} → IsInOrder size place flags draft broken told → broken ≡ false → new ≡ told
+    → IsInOrder size place flags draft false new
+in-order-still {size} {place} {flags} kept whole same = record {
+  columns = kept.columns;
+  rows = kept.rows;
+  behind_count = kept.behind_count;
+  draft_count = kept.draft_count;
+  awaiting = λ _. subst (λ bytes. IsAwaiting size.width size.height place flags (reader size bytes)) (sym same) (kept.awaiting whole);
+}
+
 -- the cursor stands on the screen
 pub cursor-column : {w h : ℕ} {place : Position} {flags : List Bool} {t : Terminal} → 0 < w → IsAwaiting w h place flags t → place.x < w
 cursor-column {w} {place = place} {t = t} some awaits =

@@ -175,6 +175,24 @@ impl<L: Link> AnsiBackend<L> {
         Ok(())
     }
 
+    // Has the link send on what it kept back.
+    fn flush_link(&mut self) -> Result<(), AnsiError<L::Error>>
+        ensures ok { OnOk result (shown_by L.told self.new ≡ shown_by L.told self.old) }
+        ensures told { OnOk result (L.told self.new.link ≡ L.told self.old.link) }
+        ensures failures { self.new.failures ≡ self.old.failures }
+    {
+        if self.is_broken {
+            return Err(AnsiError::Broken);
+        }
+        self.is_broken = true;
+        match self.link.flush() {
+            Ok(()) => {}
+            Err(error) => return Err(AnsiError::Send(error)),
+        }
+        self.is_broken = false;
+        Ok(())
+    }
+
     // Moves the cursor's row down.
     fn tell_lines(&mut self, n: u16) -> Result<(), AnsiError<L::Error>>
         ensures ok { OnOk result (Appends (shown_by L.told self.old) n (shown_by L.told self.new)) }
@@ -411,9 +429,7 @@ impl<L: Link> Backend for AnsiBackend<L> {
     }
 
     fn flush(&mut self) -> Result<(), AnsiError<L::Error>> {
-        if self.is_broken {
-            return Err(self.failed(AnsiError::Broken));
-        }
-        Ok(())
+        let answer = self.flush_link();
+        self.counted(answer)
     }
 }

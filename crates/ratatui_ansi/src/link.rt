@@ -1,6 +1,6 @@
 //! Where a backend's bytes go.
 
-ghost use Rattle.std.specs.Prelude.{◌≡◌, ℕ, List, [], ◌++◌, OnOk, OnErr, string_bytes};
+ghost use Rattle.std.specs.Prelude.{◌≡◌, ℕ, List, [], ◌++◌, IsOk, OnOk, OnErr, string_bytes};
 
 use std::alloc::{AllocError, Global};
 use std::error::Error;
@@ -11,9 +11,13 @@ pub trait Link: Drop {
 
     ghost told: { Self → List ℕ };
 
-    /// Sends a text whole. After an Err it isn't known what of it was sent.
+    /// Sends a text whole; it may be kept back until the next `flush`. After an Err it isn't known what of it was sent.
     fn send(&mut self, text: &str) -> Result<(), Self::Error>
         ensures { OnOk result (told self.new ≡ told self.old ++ text.now) };
+
+    /// Sends on what was kept back. After an Err it isn't known what of it was sent.
+    fn flush(&mut self) -> Result<(), Self::Error>
+        ensures { OnOk result (told self.new ≡ told self.old) };
 
     /// Begins anew, with a terminal that is blank, and to which nothing was told.
     fn renew(&mut self) -> Result<(), Self::Error>
@@ -86,6 +90,13 @@ impl Link for Kept {
         ensures err { OnErr result (unsent_of self.new ≡ unsent_of self.old) }
     {
         self.unsent.push_str(text)
+    }
+
+    fn flush(&mut self) -> Result<(), AllocError>
+        ensures ok { IsOk result }
+        ensures kept { self.new ≡ self.old }
+    {
+        Ok(())
     }
 
     fn renew(&mut self) -> Result<(), AllocError>
