@@ -1,11 +1,10 @@
 -- What a link was told, and the terminal that has read it.
-use Rattle.std.proofs.Common.{◌≡◌, ℕ, ◌+◌, ◌*◌, Bool, true, false, length, ◌-◌, ◌<◌, min, arith, List, [], ◌++◌, refl, sym, ap, ◌∙◌, subst}
+use Rattle.std.proofs.Common.{◌≡◌, ℕ, ◌*◌, Bool, false, length, ◌-◌, ◌<◌, min, arith, List, [], ◌++◌, refl, sym, ap, ◌∙◌, subst}
 use Rattle.rtui_geometry.specs.declared.position.Position.{Position}
 use Rattle.rtui_geometry.specs.declared.size.Size.{Size}
 use Rattle.rtui_backend.specs.Screen.{Screen}
 use Rattle.ratatui_ansi.specs.Terminal.{Terminal, rested, fresh}
 use Rattle.ratatui_ansi.specs.Sequences.{feed}
-use Rattle.rtui_backend.specs.Screen.{cursor_of, IsOnGrid}
 use Rattle.ratatui_ansi.specs.Screens.{screen_of}
 use Rattle.ratatui_ansi.specs.Calls.{IsAwaiting, SendsCall}
 use Rattle.ratatui_ansi.specs.Backend.{reader, IsInOrder}

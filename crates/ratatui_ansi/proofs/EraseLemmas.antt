@@ -1,5 +1,5 @@
 -- Parts of a screen that are erased, and cut no symbol.
-use Rattle.std.proofs.Common.{◌≡◌, ℕ, ◌+◌, ◌-◌, ◌*◌, ◌<◌, ◌≤◌, ◌==◌, ◌&&◌, ◌||◌, min, nat_lt, nat_le, nat_eq, if◌then◌else◌, zero, suc, Bool, List, true, false, refl, sym, ap, ap₂, ◌∙◌, arith, subst, inl, inr}
+use Rattle.std.proofs.Common.{◌≡◌, ℕ, ◌+◌, ◌-◌, ◌<◌, ◌≤◌, ◌==◌, nat_lt, if◌then◌else◌, zero, suc, Bool, List, true, false, refl, sym, ap, ◌∙◌, arith, inl, inr}
 use Rattle.std.proofs.lemmas.Bool.{cases_lt}
 use Rattle.std.proofs.lemmas.Bool.Decides.{nat_tests}
 use Rattle.std.specs.List.{list_any, range_with_len}
@@ -10,8 +10,7 @@ use Rattle.ratatui_ansi.specs.Columns.{Column, Columns, Area, is_known, is_behin
 use Rattle.ratatui_ansi.specs.Columns.Column.{Shows, Unknown}
 use Rattle.ratatui_ansi.specs.Terminal.{part_at, part_emptied}
 use Rattle.ratatui_ansi.specs.Screens.{IsKnown, IsWhole, IsWholeAt, IsBlankBeyond}
-use Rattle.ratatui_ansi.specs.Flags.{flag, AreBehind, is_cut}
-use Rattle.ratatui_ansi.proofs.ScrollLemmas.{blank-whole}
+use Rattle.ratatui_ansi.specs.Flags.{AreBehind, is_cut}
 
 none_between : (f : ℕ → Bool) (k n : ℕ) → ((j : ℕ) → k ≤ j → j < k + n → f j ≡ false) → list_any f (range_with_len k n) ≡ false
 none_between f k zero e = refl

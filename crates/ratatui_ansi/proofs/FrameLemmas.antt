@@ -1,6 +1,6 @@
 -- What the bytes of a cell do to a terminal within a draw.
-use Rattle.std.proofs.Common.{◌≡◌, ℕ, ◌+◌, ◌-◌, ◌*◌, ◌^◌, ◌<◌, ◌≤◌, ◌==◌, ◌&&◌, ◌||◌, not, min, nat_lt, nat_le, nat_eq, if◌then◌else◌, Bool, List, [], ◌∷◌, ◌++◌, length, IsTrue, chars, true, false, zero, suc, slice_index_or, IsUtf8, rules, refl, sym, ap, ap₂, ◌∙◌, arith, subst, inl, inr, append_assoc, append-nil}
-use lib.Utf8.{encode, encodes}
+use Rattle.std.proofs.Common.{◌≡◌, ℕ, ◌+◌, ◌-◌, ◌*◌, ◌^◌, ◌<◌, ◌≤◌, ◌==◌, ◌&&◌, min, nat_lt, nat_le, nat_eq, if◌then◌else◌, Bool, List, [], ◌∷◌, ◌++◌, length, IsTrue, chars, true, false, zero, suc, slice_index_or, IsUtf8, rules, refl, sym, ap, ap₂, ◌∙◌, arith, subst, inl, inr, append_assoc, append-nil}
+use lib.Utf8.{encode}
 use Rattle.std.proofs.Math.Nat.{mul-le-mul_right}
 use Rattle.std.proofs.lemmas.Bool.{cases_lt}
 use Rattle.std.proofs.lemmas.Bool.Decides.{nat_tests}
@@ -13,19 +13,17 @@ use Rattle.rtui_cell.specs.Cell.{width_of}
 use Rattle.rtui_cell.specs.Grid.{Update, put}
 use Rattle.rtui_cell.specs.declared.cell.Cell.{Cell}
 use Rattle.rtui_backend.proofs.DrawLemmas.{Draws-none, Draws-push}
-use Rattle.rtui_backend.specs.Screen.{Screen, Draws, cursor_of}
+use Rattle.rtui_backend.specs.Screen.{Draws}
 use Rattle.ratatui_ansi.specs.declared.pen.Pen.{Pen}
 use Rattle.ratatui_ansi.specs.declared.drawing.Brush.{Brush}
 use Rattle.ratatui_ansi.specs.declared.frame.Drawing.{Drawing}
-use Rattle.ratatui_ansi.specs.Columns.{Column, Columns, blank_column, look_in, is_known, is_behind}
-use Rattle.ratatui_ansi.specs.Columns.Column.{Shows, Unknown}
+use Rattle.ratatui_ansi.specs.Columns.{Columns, look_in, is_known, is_behind}
 use Rattle.ratatui_ansi.specs.Flags.{AreBehind, flag}
 use Rattle.ratatui_ansi.specs.Pen.{own_pen, inked, pen_of}
 use Rattle.ratatui_ansi.specs.Terminal.{Terminal, rested, run, with_pen, has_columns}
-use Rattle.ratatui_ansi.specs.Terminal.Phase.{Ground}
 use Rattle.ratatui_ansi.specs.Sequences.{feed}
-use Rattle.ratatui_ansi.specs.Screens.{screen_of, IsKnown, IsWhole, IsWholeAt, IsBlankBeyond, IsReady, put_columns}
-use Rattle.ratatui_ansi.specs.Drawing.{is_one_plain, is_printed, columns_of, printed_at, blanked, IsDrawnBy, Changes, Paints, Prints}
+use Rattle.ratatui_ansi.specs.Screens.{screen_of, IsWhole, IsBlankBeyond, IsReady, put_columns}
+use Rattle.ratatui_ansi.specs.Drawing.{is_printed, columns_of, printed_at, blanked, IsDrawnBy, Changes, Paints, Prints}
 use Rattle.ratatui_ansi.specs.Drawing.Changes.{Stays, Sets}
 use Rattle.ratatui_ansi.specs.Calls.{IsAwaiting}
 use Rattle.ratatui_ansi.specs.Frame.{IsTail, laid, is_fit, IsVacant, IsDrawing, SendsUpdates, SendsDraw}

@@ -3,7 +3,7 @@ use Rattle.std.proofs.Common.{◌≡◌, ℕ, ◌+◌, ◌-◌, ◌<◌, ◌++�
 use Rattle.std.proofs.lemmas.Bool.Decides.{nat_tests}
 use Rattle.std.specs.List.{list_any, range_with_len}
 use Rattle.rtui_cell.specs.Look.{empty_look}
-use Rattle.rtui_backend.specs.Screen.{Screen, ScrollsUp, ScrollsDown, seen, row_of as row_of_screen, upper_part, is_in_region}
+use Rattle.rtui_backend.specs.Screen.{ScrollsUp, ScrollsDown, seen, row_of as row_of_screen, upper_part, is_in_region}
 use Rattle.ratatui_ansi.specs.Columns.{Column, Columns, look_in, is_known, is_met, blank_column, overwritten}
 use Rattle.ratatui_ansi.specs.Columns.Column.{Shows, Unknown}
 use Rattle.ratatui_ansi.specs.declared.part.Part.TheVariants.{Line}

@@ -12,7 +12,6 @@ use Rattle.ratatui_ansi.specs.declared.part.Part.TheVariants.{After, Before, Lin
 use Rattle.ratatui_ansi.specs.Columns.{Column, Columns, look_in, is_behind, blank_column}
 use Rattle.ratatui_ansi.specs.Columns.Column.{Shows, Unknown}
 use Rattle.ratatui_ansi.specs.Terminal.{Terminal, rested, raised, lowered, part_at, part_emptied, moved, erased, keeps_history}
-use Rattle.ratatui_ansi.specs.Terminal.Phase.{Ground}
 use Rattle.ratatui_ansi.specs.Sequences.{feed}
 use Rattle.ratatui_ansi.specs.Screens.{screen_of, IsReady, Turns, Becomes}
 use Rattle.ratatui_ansi.specs.Flags.{flag, AreBehind, is_cut}

@@ -17,7 +17,6 @@ use Rattle.ratatui_ansi.specs.Flags.{AreBehind, flag}
 use Rattle.ratatui_ansi.specs.Pen.{own_pen, pen_of}
 use Rattle.ratatui_ansi.specs.Parameters.{is_told}
 use Rattle.ratatui_ansi.specs.Terminal.{Terminal, rested, with_pen, run}
-use Rattle.ratatui_ansi.specs.Terminal.Phase.{Ground}
 use Rattle.ratatui_ansi.specs.Sequences.{feed}
 use Rattle.ratatui_ansi.specs.Screens.{screen_of, IsReady}
 use Rattle.ratatui_ansi.specs.Drawing.{is_printed, columns_of, IsDrawnBy}

@@ -1,4 +1,4 @@
-use Rattle.std.proofs.Common.{◌≡◌, ◌+◌, ◌*◌, ◌<◌, ◌&&◌, nat_lt, false, true, arith, refl}
+use Rattle.std.proofs.Common.{◌≡◌, ◌&&◌, nat_lt, false, arith, refl}
 use Rattle.std.proofs.lemmas.Bool.Decides.{nat_tests}
 use Rattle.ratatui_ansi.proofs.FrameLemmas.{still-sends, put-off, put-vacant}
 use Rattle.ratatui_ansi.proofs.frame.draw_cell.Goals.{then-x-width-via-then-x-width, then-x-width-via-else-x-width+then-y-height}

@@ -1,4 +1,4 @@
-use Rattle.std.proofs.Common.{◌≡◌, IsTrue, Bool, true, sym, ap, ◌∙◌, arith, refl}
+use Rattle.std.proofs.Common.{◌≡◌, IsTrue, Bool, true, sym, ◌∙◌, arith, refl}
 use Rattle.std.proofs.lemmas.Bool.Decides.{nat_tests}
 use Rattle.ratatui_ansi.specs.declared.pen.Pen.{Pen}
 use Rattle.ratatui_ansi.specs.contracts.pen.PenPartialEq.TheImpl as equality

@@ -1,5 +1,4 @@
-use Rattle.std.proofs.Common.{◌≡◌, ◌+◌, ◌-◌, ◌*◌, ◌≤◌, ◌∙◌, length, refl, sym, ap, ap₂, rules, arith}
-use Rattle.rtui_geometry.specs.declared.position.Position.{Position}
+use Rattle.std.proofs.Common.{◌-◌, sym, ap, rules, arith}
 use Rattle.ratatui_ansi.proofs.FrameLemmas.{fit-parts, lay-sends}
 use Rattle.ratatui_ansi.proofs.frame.lay.Goals as goal
 

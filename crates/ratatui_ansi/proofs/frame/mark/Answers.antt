@@ -1,6 +1,5 @@
-use Rattle.std.proofs.Common.{◌≡◌, arith}
+use Rattle.std.proofs.Common.{arith}
 use Rattle.std.proofs.lemmas.Bool.Decides.{nat_tests}
-use Rattle.ratatui_ansi.proofs.TailLemmas.{torn-all}
 use Rattle.ratatui_ansi.proofs.frame.mark.Goals as goal
 
 pub returns : goal.returns

@@ -1,4 +1,4 @@
-use Rattle.std.proofs.Common.{◌+◌, ◌-◌, IsTrue, arith, rules, subst, sym}
+use Rattle.std.proofs.Common.{◌+◌, ◌-◌, arith, rules}
 use Rattle.ratatui_ansi.proofs.FrameLemmas.{blank-printed, blanks-none, blanks-more}
 use Rattle.ratatui_ansi.proofs.frame.put_blanks.Goals as goal
 

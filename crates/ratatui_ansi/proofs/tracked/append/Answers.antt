@@ -1,4 +1,4 @@
-use Rattle.std.proofs.Common.{◌+◌, ◌-◌, ◌≡◌, ◌<◌, min, arith, sym}
+use Rattle.std.proofs.Common.{◌+◌, ◌-◌, ◌≡◌, min, arith}
 use Rattle.ratatui_ansi.proofs.TrackLemmas.{call-from, append-kept}
 use Rattle.ratatui_ansi.proofs.tracked.append.Goals as goal
 

@@ -1,7 +1,6 @@
-use Rattle.std.proofs.Common.{◌≡◌, ap₂, arith, refl}
+use Rattle.std.proofs.Common.{◌≡◌, ap₂, arith}
 use Rattle.std.proofs.lemmas.Bool.Decides.{nat_tests}
 use Rattle.std.proofs.lemmas.Result.{on_ok_weaker}
-use Rattle.rtui_geometry.specs.declared.position.Position.{Position}
 use Rattle.ratatui_ansi.proofs.TrackLemmas.{clears-all-after, clears-after, clears-before, clears-line, clears-line-end}
 use Rattle.ratatui_ansi.proofs.tracked.clear_region.Goals as goal
 

@@ -1,4 +1,3 @@
-use Rattle.std.proofs.Common.{arith, ap₂, ◌∙◌, sym}
 use Rattle.ratatui_ansi.proofs.TrackLemmas.{call-from, cursor-kept}
 use Rattle.ratatui_ansi.proofs.tracked.place_cursor.Goals as goal
 

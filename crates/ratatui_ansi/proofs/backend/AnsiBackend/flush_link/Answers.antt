@@ -1,4 +1,4 @@
-use Rattle.std.proofs.Common.{sym, ap}
+use Rattle.std.proofs.Common.{ap}
 use Rattle.ratatui_ansi.specs.Backend.{reader}
 use Rattle.ratatui_ansi.specs.Screens.{screen_of}
 use Rattle.ratatui_ansi.specs.Terminal.{rested}

@@ -1,4 +1,4 @@
-use Rattle.std.proofs.Common.{ap, ◌∙◌, ◌++◌, ◌≡◌}
+use Rattle.std.proofs.Common.{ap, ◌∙◌, ◌++◌}
 use Rattle.std.proofs.lemmas.List.{with_items_is}
 use Rattle.ratatui_ansi.proofs.BackendLemmas.{in-order-drawn, drawn-on, count-kept}
 use Rattle.ratatui_ansi.proofs.backend.AnsiBackend.tell_cells.Goals as goal
