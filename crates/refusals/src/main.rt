@@ -8,6 +8,7 @@
 #![tactic(auto)]
 
 mod backends;
+mod borrowed;
 mod buffers;
 mod cells;
 mod extends;
@@ -28,7 +29,7 @@ use std::{env, io};
 const LAST: usize = 1500;
 
 // The cases by name, a group for each module.
-static NAMES: [&str; 78] = [
+static NAMES: [&str; 80] = [
     "set_string",
     "set_stringn",
     "set_span",
@@ -107,6 +108,8 @@ static NAMES: [&str; 78] = [
     "push to a log view that scrolls",
     "run of a log",
     "run of a log to a writer that grows",
+    "clone of a span that borrows its text: no memory",
+    "clone of a masked text that borrows its own: no memory",
 ];
 
 fn outcome_of(alloc: Global, number: usize) -> Result<Outcome, AllocError> {
@@ -121,7 +124,8 @@ fn outcome_of(alloc: Global, number: usize) -> Result<Outcome, AllocError> {
         64..=70 => terminals::outcome_of(alloc, number - 64),
         71 => scripts::played(alloc),
         72 => scripts::run_over_memory(alloc),
-        _ => logs::outcome_of(alloc, number - 73),
+        73..=77 => logs::outcome_of(alloc, number - 73),
+        _ => borrowed::outcome_of(alloc, number - 78),
     }
 }
 
