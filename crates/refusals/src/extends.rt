@@ -24,8 +24,8 @@ static KEPT: [&str; 4] = ["a", "b", "c", "d"];
 // What stands behind the one that was made again.
 static WITHOUT_THE_REFUSED: [&str; 5] = ["a", "b", "c", "d", "f"];
 
-// The items of a list, said to be more than memory has room for. A list that asks for room for all of them is refused without a
-// request, and asks for room for one; of fewer items it would make both requests, of which only one is refused.
+// The items of a list, said to be more than could ever lie in memory. A list that is to take items asks for room for as many as are
+// said to come, and where that is refused for room for one. Of so many it can't even ask, so that the one request may be refused.
 #[derive(Drop)]
 struct Countless<T> {
     items: vec::IntoIter<T>,
@@ -82,13 +82,17 @@ fn spans_are(spans: &[Span<'_>], texts: &[&str]) -> bool {
             .all(|(span, text)| span.text() == *text)
 }
 
+fn line_is(line: &Line<'_>, text: &&str) -> bool {
+    spans_are(line.spans.as_slice(), slice::from_ref(text))
+}
+
 // Whether a text has a line of each of these, in order.
 fn lines_are(text: &Text<'_>, texts: &[&str]) -> bool {
     text.height() == texts.len()
         && text
             .iter()
             .zip(texts.iter())
-            .all(|(line, text)| spans_are(line.spans.as_slice(), slice::from_ref(text)))
+            .all(|(line, text)| line_is(line, text))
 }
 
 fn spans_extended(alloc: Global) -> Result<Outcome, AllocError> {
