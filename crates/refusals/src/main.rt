@@ -8,8 +8,10 @@
 #![tactic(auto)]
 
 mod backends;
+mod borrowed;
 mod buffers;
 mod cells;
+mod extends;
 mod logs;
 mod made;
 mod outcome;
@@ -27,7 +29,7 @@ use std::{env, io};
 const LAST: usize = 1500;
 
 // The cases by name, a group for each module.
-static NAMES: [&str; 75] = [
+static NAMES: [&str; 80] = [
     "set_string",
     "set_stringn",
     "set_span",
@@ -53,6 +55,9 @@ static NAMES: [&str; 75] = [
     "push_line of a text",
     "push_span of a text",
     "append of a text",
+    "extend of spans",
+    "try_extend of a line",
+    "try_extend of a text",
     "into_left_aligned_line",
     "into_centered_line",
     "into_right_aligned_line",
@@ -103,6 +108,8 @@ static NAMES: [&str; 75] = [
     "push to a log view that scrolls",
     "run of a log",
     "run of a log to a writer that grows",
+    "clone of a span that borrows its text: no memory",
+    "clone of a masked text that borrows its own: no memory",
 ];
 
 fn outcome_of(alloc: Global, number: usize) -> Result<Outcome, AllocError> {
@@ -111,12 +118,14 @@ fn outcome_of(alloc: Global, number: usize) -> Result<Outcome, AllocError> {
         9..=15 => buffers::outcome_of(alloc, number - 9),
         16..=20 => cells::outcome_of(alloc, number - 16),
         21..=24 => texts::outcome_of(alloc, number - 21),
-        25..=56 => made::outcome_of(alloc, number - 25),
-        57..=60 => backends::outcome_of(alloc, number - 57),
-        61..=67 => terminals::outcome_of(alloc, number - 61),
-        68 => scripts::played(alloc),
-        69 => scripts::run_over_memory(alloc),
-        _ => logs::outcome_of(alloc, number - 70),
+        25..=27 => extends::outcome_of(alloc, number - 25),
+        28..=59 => made::outcome_of(alloc, number - 28),
+        60..=63 => backends::outcome_of(alloc, number - 60),
+        64..=70 => terminals::outcome_of(alloc, number - 64),
+        71 => scripts::played(alloc),
+        72 => scripts::run_over_memory(alloc),
+        73..=77 => logs::outcome_of(alloc, number - 73),
+        _ => borrowed::outcome_of(alloc, number - 78),
     }
 }
 
