@@ -1,4 +1,5 @@
 //! The workloads.
+use crate::boxes::boxes;
 use crate::inline;
 use crate::painting::{dot, fill, letter, lines, texts, touch};
 use crate::sheets::{ascii, sum, updates, wide};
@@ -6,6 +7,7 @@ use ratatui_core::backend::TestBackend;
 use ratatui_core::buffer::{Buffer, Cell};
 use ratatui_core::layout::Rect;
 use ratatui_core::style::{Color, Modifier, Style};
+use ratatui_core::symbols::merge::MergeStrategy;
 use ratatui_core::terminal::{Frame, Terminal};
 use ratatui_core::text::Line;
 use std::alloc::{AllocError, Global};
@@ -229,6 +231,34 @@ fn sets(alloc: Global, width: u16, height: u16, count: u64) -> Done {
     Ok((count, sum(&buffer)))
 }
 
+fn resize_one(
+    terminal: &mut Terminal<TestBackend>,
+    width: u16,
+    height: u16,
+) -> Result<(), AllocError> {
+    match terminal.resize(Rect::new(0, 0, width, height)) {
+        Ok(()) => Ok(()),
+        Err(_) => Err(AllocError),
+    }
+}
+
+// A terminal's viewport with one column and one row less in each second round.
+fn terminal_resizes(alloc: Global, width: u16, height: u16, count: u64) -> Done {
+    let Ok(mut terminal) = Terminal::new(alloc, TestBackend::new(alloc, width, height)?) else {
+        return Err(AllocError);
+    };
+    for round in 0..count {
+        let less = (round % 2) as u16;
+        resize_one(
+            &mut terminal,
+            width.saturating_sub(less),
+            height.saturating_sub(less),
+        )?;
+    }
+    let backend = terminal.backend();
+    Ok((count, sum(backend.buffer())))
+}
+
 // The workload of this name.
 pub fn run(
     alloc: Global,
@@ -264,7 +294,10 @@ pub fn run(
         "reset" => resets(alloc, width, height, count)?,
         "fill_reset" => fill_resets(alloc, width, height, count)?,
         "sets" => sets(alloc, width, height, count)?,
-        _ => return Ok(None),
+        "term_resize" => terminal_resizes(alloc, width, height, count)?,
+        "boxes_exact" => boxes(alloc, width, height, count, MergeStrategy::Exact)?,
+        "boxes_fuzzy" => boxes(alloc, width, height, count, MergeStrategy::Fuzzy)?,
+        _ => return crate::texts::run(alloc, name, width, height, count),
     };
     Ok(Some(done))
 }
