@@ -27,22 +27,18 @@ fn push_words(spans: &mut Vec<Span<'static>>, style: Style, first: u16) {
         spans.push(Span::styled(*word, style.fg(color(usize::from(first) + k))));
     }
 }
-fn line_of(times: u8) -> Line<'static> {
+fn line_of(times: u8, style: Style, first: u16) -> Line<'static> {
     let mut spans = Vec::new();
     for _ in 0..times {
-        push_words(&mut spans, Style::new(), 0);
+        push_words(&mut spans, style, first);
     }
     Line::from(spans)
 }
-fn bold_line(first: u16) -> Line<'static> {
-    let mut spans = Vec::new();
-    push_words(&mut spans, Style::new().add_modifier(Modifier::BOLD), first);
-    Line::from(spans)
-}
 fn text_of(count: u16) -> Text<'static> {
+    let style = Style::new().add_modifier(Modifier::BOLD);
     let mut lines = vec![Line::default()];
     for first in 0..count {
-        lines.push(bold_line(first));
+        lines.push(line_of(1, style, first));
     }
     Text::from(lines)
 }
@@ -58,7 +54,7 @@ fn text_widget(w: u16, h: u16, count: u64) -> (u64, u64) {
 }
 fn lines_aligned(w: u16, h: u16, count: u64, times: u8, alignment: HorizontalAlignment) -> (u64, u64) {
     let mut b = sheet(w, h);
-    let line = line_of(times).alignment(alignment);
+    let line = line_of(times, Style::new(), 0).alignment(alignment);
     for round in 0..count {
         touch(&mut b, round);
         for y in 0..h {

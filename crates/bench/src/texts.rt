@@ -27,11 +27,7 @@ fn color(k: usize) -> Color {
 }
 
 // Puts the words behind these spans, in this style and in colours from this one on.
-fn push_words(
-    spans: &mut Vec<Span<'static>>,
-    style: Style,
-    first: u16,
-) -> Result<(), AllocError> {
+fn push_words(spans: &mut Vec<Span<'static>>, style: Style, first: u16) -> Result<(), AllocError> {
     for (k, word) in WORDS.iter().enumerate() {
         let color = color(usize::from(first).wrapping_add(k));
         spans.push(Span::styled(*word, style.fg(color)))?;
@@ -40,26 +36,26 @@ fn push_words(
 }
 
 // The words so many times, one behind the other.
-fn line_of(alloc: Global, times: u8) -> Result<Line<'static>, AllocError> {
+fn line_of(
+    alloc: Global,
+    times: u8,
+    style: Style,
+    first: u16,
+) -> Result<Line<'static>, AllocError> {
     let mut spans = Vec::new(alloc);
     for _time in 0..times {
-        push_words(&mut spans, Style::new(), 0)?;
+        push_words(&mut spans, style, first)?;
     }
     Ok(Line::from(spans))
 }
 
-fn bold_line(alloc: Global, first: u16) -> Result<Line<'static>, AllocError> {
-    let mut spans = Vec::new(alloc);
-    push_words(&mut spans, Style::new().add_modifier(Modifier::BOLD), first)?;
-    Ok(Line::from(spans))
-}
-
-// An empty line, and so many lines of the words.
+// An empty line, and so many bold lines of the words.
 fn text_of(alloc: Global, count: u16) -> Result<Text<'static>, AllocError> {
+    let style = Style::new().add_modifier(Modifier::BOLD);
     let mut lines = Vec::new(alloc);
     lines.push(Line::default_in(alloc))?;
     for first in 0..count {
-        lines.push(bold_line(alloc, first)?)?;
+        lines.push(line_of(alloc, 1, style, first)?)?;
     }
     Ok(Text::from(lines))
 }
@@ -93,7 +89,7 @@ fn lines_aligned(
     alignment: HorizontalAlignment,
 ) -> Done {
     let mut buffer = Buffer::empty(alloc, Rect::new(0, 0, width, height))?;
-    let line = line_of(alloc, times)?.alignment(alignment);
+    let line = line_of(alloc, times, Style::new(), 0)?.alignment(alignment);
     for round in 0..count {
         touch(&mut buffer, round);
         render_lines(&mut buffer, &line)?;
