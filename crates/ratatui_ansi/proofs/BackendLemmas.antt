@@ -15,6 +15,7 @@ use Rattle.ratatui_ansi.specs.Flags.{AreBehind}
 use Rattle.ratatui_ansi.specs.Frame.{SendsDraw}
 use Rattle.ratatui_ansi.proofs.ScrollLemmas.{blank-whole}
 use Rattle.ratatui_ansi.proofs.ReadLemmas.{feed-append}
+use Rattle.ratatui_ansi.proofs.TextLemmas.{blank-sized}
 
 -- the terminal once the link was told more
 read-on : (size : Size) (told more out new : List ℕ) → out ≡ more → new ≡ told ++ out → reader size new ≡ feed more (reader size told)
@@ -123,7 +124,7 @@ blank-awaits w h flags some behind =
         bottom = refl;
         row = some;
         sure = refl;
-        known = λ a b. refl;
+        sized = λ a b. blank-sized;
         whole = λ a b. blank-whole a;
         beyond = λ a b out. refl;
       };

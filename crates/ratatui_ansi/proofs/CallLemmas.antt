@@ -3,14 +3,15 @@ use Rattle.std.proofs.Common.{◌≡◌, ℕ, ◌-◌, ◌<◌, ◌||◌, min, n
 use Rattle.std.proofs.lemmas.Bool.Decides.{nat_tests}
 use Rattle.rtui_backend.specs.Screen.{Clears, with_cursor, with_visible}
 use Rattle.rtui_backend.specs.declared.clear_type.ClearType.TheVariants.{All}
-use Rattle.ratatui_ansi.specs.Columns.{Column, Columns, Area, look_in, is_known, is_met, blank_column, overwritten}
+use Rattle.ratatui_ansi.specs.Columns.{Column, Columns, Area, look_in, is_met, blank_column, overwritten}
 use Rattle.ratatui_ansi.specs.Columns.Column.{Shows, Unknown}
 use Rattle.ratatui_ansi.specs.declared.part.Part.TheVariants.{Before}
 use Rattle.ratatui_ansi.specs.Terminal.{Terminal, moved, erased, emptied, part_at}
 use Rattle.ratatui_ansi.specs.Terminal as terminal
-use Rattle.ratatui_ansi.specs.Screens.{screen_of, IsKnown, IsWhole, IsWholeAt, IsBlankBeyond, Becomes}
+use Rattle.ratatui_ansi.specs.Screens.{screen_of, IsSized, AreSized, IsWhole, IsWholeAt, IsBlankBeyond, Becomes}
 use Rattle.ratatui_ansi.proofs.ScrollLemmas.{KeepsReady, blank-whole}
 use Rattle.ratatui_ansi.proofs.RegionLemmas.{none_range, ready-columns, keeps-along, moved-placed}
+use Rattle.ratatui_ansi.proofs.TextLemmas.{blank-sized}
 
 pub cursor-moved : (w h x y : ℕ) → 0 < w → 0 < h → KeepsReady w h (moved x y) (λ s. Becomes (λ p q. q ≡ with_cursor x y p) s.columns s)
 cursor-moved w h x y wide high s ready =
@@ -27,7 +28,7 @@ cursor-moved w h x y wide high s ready =
         bottom = ready.bottom;
         row = omega arith;
         sure = ready.sure;
-        known = ready.known;
+        sized = ready.sized;
         whole = ready.whole;
         beyond = ready.beyond;
       },
@@ -49,7 +50,7 @@ cursor-visible w h visible s ready = (
     bottom = ready.bottom;
     row = ready.row;
     sure = ready.sure;
-    known = ready.known;
+    sized = ready.sized;
     whole = ready.whole;
     beyond = ready.beyond;
   },
@@ -61,8 +62,8 @@ cursor-visible w h visible s ready = (
 emptied-whole : (h : ℕ) (c : Columns) → IsWhole c → IsWhole (emptied h c)
 emptied-whole h c whole a b = elim (nat_lt b h) as (λ p. IsWholeAt (λ k. if p then blank_column else c k b) a (if p then blank_column else c a b)) [ true ↦ blank-whole a | false ↦ whole a b ]
 
-emptied-known : (h : ℕ) (c : Columns) → IsKnown c → IsKnown (emptied h c)
-emptied-known h c known a b = elim (nat_lt b h) as (λ p. is_known (if p then blank_column else c a b) ≡ true) [ true ↦ refl | false ↦ known a b ]
+emptied-sized : (h : ℕ) (c : Columns) → AreSized c → AreSized (emptied h c)
+emptied-sized h c sized a b = elim (nat_lt b h) as (λ p. IsSized (if p then blank_column else c a b)) [ true ↦ blank-sized | false ↦ sized a b ]
 
 emptied-beyond : (w h : ℕ) (c : Columns) → IsBlankBeyond w c → IsBlankBeyond w (emptied h c)
 emptied-beyond w h c beyond a b out = rw (beyond a b out) (elim (nat_lt b h) as (λ p. (if p then blank_column else blank_column) ≡ blank_column) [ true ↦ refl | false ↦ refl ])
@@ -105,7 +106,7 @@ screen-emptied w h x y wide high = keeps-along w h (λ t. moved x y (erased Befo
     let x_in : nat_lt (w - 1) s.width ≡ true = grind (arith, nat_tests) in
     let sure : u.sure ≡ true = rw (ready.sure, ready.pen, x_in) refl in (
       ready-columns w h s u (emptied h s.columns) ready ready.phase ready.text refl refl ready.pen ready.top (ready.bottom ∙ sym height) (omega arith) sure same
-          (emptied-known h s.columns ready.known) (emptied-whole h s.columns ready.whole) (emptied-beyond w h s.columns ready.beyond),
+          (emptied-sized h s.columns ready.sized) (emptied-whole h s.columns ready.whole) (emptied-beyond w h s.columns ready.beyond),
       record {
         columns = same;
         screens = λ written at_x at_y.

@@ -6,11 +6,12 @@ use Rattle.std.specs.List.{list_any, range_with_len}
 use Rattle.rtui_cell.specs.Look.{Look, empty_look}
 use Rattle.ratatui_ansi.specs.declared.part.Part.{Part}
 use Rattle.ratatui_ansi.specs.declared.part.Part.TheVariants.{After, Before, Line, LineEnd}
-use Rattle.ratatui_ansi.specs.Columns.{Column, Columns, Area, is_known, is_behind, is_met, blank_column, overwritten}
+use Rattle.ratatui_ansi.specs.Columns.{Column, Columns, Area, is_behind, is_met, blank_column, overwritten}
 use Rattle.ratatui_ansi.specs.Columns.Column.{Shows, Unknown}
 use Rattle.ratatui_ansi.specs.Terminal.{part_at, part_emptied}
-use Rattle.ratatui_ansi.specs.Screens.{IsKnown, IsWhole, IsWholeAt, IsBlankBeyond}
+use Rattle.ratatui_ansi.specs.Screens.{IsSized, AreSized, IsWhole, IsWholeAt, IsBlankBeyond}
 use Rattle.ratatui_ansi.specs.Flags.{AreBehind, is_cut}
+use Rattle.ratatui_ansi.proofs.TextLemmas.{blank-sized}
 
 none_between : (f : ℕ → Bool) (k n : ℕ) → ((j : ℕ) → k ≤ j → j < k + n → f j ≡ false) → list_any f (range_with_len k n) ≡ false
 none_between f k zero e = refl
@@ -140,8 +141,8 @@ module _ (part : Part) (w h x y : ℕ) (flags : List Bool) (c : Columns) (x_in :
   pub part-whole : IsWhole c → IsWhole (part_emptied part x y c)
   part-whole whole = area-whole (part_at part x y) c apart whole
 
-pub part-known : (part : Part) (x y : ℕ) (c : Columns) → IsKnown c → IsKnown (part_emptied part x y c)
-part-known part x y c known a b = elim (part_at part x y a b) as (λ p. is_known (if p then blank_column else c a b) ≡ true) [ true ↦ refl | false ↦ known a b ]
+pub part-sized : (part : Part) (x y : ℕ) (c : Columns) → AreSized c → AreSized (part_emptied part x y c)
+part-sized part x y c sized a b = elim (part_at part x y a b) as (λ p. IsSized (if p then blank_column else c a b)) [ true ↦ blank-sized | false ↦ sized a b ]
 
 pub part-beyond : (part : Part) (w x y : ℕ) (c : Columns) → IsBlankBeyond w c → IsBlankBeyond w (part_emptied part x y c)
 part-beyond part w x y c beyond a b out = rw (beyond a b out) (elim (part_at part x y a b) as (λ p. (if p then blank_column else blank_column) ≡ blank_column) [ true ↦ refl | false ↦ refl ])

@@ -17,29 +17,22 @@ use Rattle.rtui_backend.specs.Screen.{Draws}
 use Rattle.ratatui_ansi.specs.declared.pen.Pen.{Pen}
 use Rattle.ratatui_ansi.specs.declared.drawing.Brush.{Brush}
 use Rattle.ratatui_ansi.specs.declared.frame.Drawing.{Drawing}
-use Rattle.ratatui_ansi.specs.Columns.{Columns, look_in, is_known, is_behind}
+use Rattle.ratatui_ansi.specs.Columns.{Columns, look_in, is_behind}
 use Rattle.ratatui_ansi.specs.Flags.{AreBehind, flag}
 use Rattle.ratatui_ansi.specs.Pen.{own_pen, inked, pen_of}
 use Rattle.ratatui_ansi.specs.Terminal.{Terminal, rested, run, with_pen, has_columns}
 use Rattle.ratatui_ansi.specs.Sequences.{feed}
-use Rattle.ratatui_ansi.specs.Screens.{screen_of, IsWhole, IsBlankBeyond, IsReady, put_columns}
+use Rattle.ratatui_ansi.specs.Screens.{screen_of, IsSized, IsWhole, IsBlankBeyond, IsReady, put_columns}
 use Rattle.ratatui_ansi.specs.Drawing.{is_printed, columns_of, printed_at, blanked, IsDrawnBy, Changes, Paints, Prints}
 use Rattle.ratatui_ansi.specs.Drawing.Changes.{Stays, Sets}
 use Rattle.ratatui_ansi.specs.Calls.{IsAwaiting}
 use Rattle.ratatui_ansi.specs.Frame.{IsTail, laid, is_fit, IsVacant, IsDrawing, SendsUpdates, SendsDraw}
 use Rattle.ratatui_ansi.proofs.ReadLemmas.{feed-append}
 use Rattle.ratatui_ansi.proofs.ScrollLemmas.{whole_along}
-use Rattle.ratatui_ansi.proofs.TextLemmas.{and-both}
-use Rattle.ratatui_ansi.proofs.TailLemmas.{behind_empty, torn, put-torn, torn-more, torn-all, laid-known, laid-whole, laid-beyond, laid-behind, laid-shown}
+use Rattle.ratatui_ansi.proofs.TextLemmas.{and-both, blank-chars, blank-one}
+use Rattle.ratatui_ansi.proofs.TailLemmas.{behind_empty, torn, put-torn, torn-more, torn-all, laid-sized, laid-whole, laid-beyond, laid-behind, laid-shown}
 
 -- ---- blanks
-
-pub blank-chars : chars blank ≡ 32 ∷ []
-unfolding encode
-blank-chars = chars-encodes (32 ∷ []) refl
-
-pub blank-one : columns_of blank ≡ 1
-blank-one = rw blank-chars refl
 
 blank-utf8 : IsUtf8 blank
 unfolding encode
@@ -171,9 +164,9 @@ laid-by w h x y n end pen symbol s ready en some fits inside row left tail =
       certain = blanked-sure (x + n) y m t sure (omega arith) (omega arith);
     }
 
-laid-ready : (w h x y n end : ℕ) (look : Look) (s u : Terminal) → IsReady w h (with_pen own_pen s) → x + n ≤ w → y < h → is_behind (s.columns x y) ≡ false → IsTail (x + n) end y s.columns
-    → IsLaid x y n end look s u → IsReady w h (with_pen own_pen u)
-laid-ready w h x y n end look s u ready fits row left tail is = record {
+laid-ready : (w h x y n end : ℕ) (look : Look) (s u : Terminal) → IsReady w h (with_pen own_pen s) → n ≡ columns_of look.symbol → x + n ≤ w → y < h → is_behind (s.columns x y) ≡ false
+    → IsTail (x + n) end y s.columns → IsLaid x y n end look s u → IsReady w h (with_pen own_pen u)
+laid-ready w h x y n end look s u ready takes fits row left tail is = record {
   phase = ap (λ (v : Terminal). v.phase) is.only ∙ ready.phase;
   text = ap (λ (v : Terminal). v.text) is.only ∙ ready.text;
   width = ap (λ (v : Terminal). v.width) is.only ∙ ready.width;
@@ -183,7 +176,7 @@ laid-ready w h x y n end look s u ready fits row left tail is = record {
   bottom = ap (λ (v : Terminal). v.bottom) is.only ∙ ready.bottom;
   row = let at : u.y ≡ y = is.y_at in omega arith;
   sure = is.certain;
-  known = λ a b. ap is_known (is.columns a b) ∙ laid-known x y n end look s.columns ready.known a b;
+  sized = λ a b. subst IsSized (sym (is.columns a b)) (laid-sized x y n end look s.columns takes ready.sized a b);
   whole = λ a b.
       whole_along (λ k. laid x y n end look s.columns k b) (λ k. u.columns k b) a (λ k. sym (is.columns k b)) (laid-whole x y n end look s.columns ready.whole left tail a b);
   beyond = λ a b far. is.columns a b ∙ laid-beyond w x y n end look s.columns fits ready.beyond a b far;
@@ -331,7 +324,7 @@ lay-sends w h x y n end cell before after between flags flags_after old mid new 
           let wide : u.width ≡ w = ap (λ (v : Terminal). v.width) at.only ∙ is.ready.width in
           record {
             drawn = both.drawn t is.ready.width is.ready.height is.drawn;
-            ready = laid-ready w h x y n end (look_of cell) (rested t) u is.ready fits row (left t is) (tail t is) at;
+            ready = laid-ready w h x y n end (look_of cell) (rested t) u is.ready (sym columns ∙ ap (λ (look : Look). columns_of look.symbol) (ink-look cell)) fits row (left t is) (tail t is) at;
             behind = laid-flags w h x y n end (look_of cell) (rested t) u flags flags_after is.behind ordered inside some at marked;
             cursor = cursor-at end y w u.x u.y u.width at.x_at at.y_at wide ∙ sym cursor;
           };
@@ -426,7 +419,7 @@ sends-push w h a b c p q r f g k us u first second =
     }
 
 -- a draw begins with the own pen and an unknown place
-begins : (w h : ℕ) (d : Drawing) (cursor : Position) (flags : List Bool) (t : Terminal) → d.brush.pen ≡ own_pen → d.brush.is_placed ≡ false → d.cursor ≡ cursor → IsAwaiting w h cursor flags t → IsDrawing w h d flags t
+pub begins : (w h : ℕ) (d : Drawing) (cursor : Position) (flags : List Bool) (t : Terminal) → d.brush.pen ≡ own_pen → d.brush.is_placed ≡ false → d.cursor ≡ cursor → IsAwaiting w h cursor flags t → IsDrawing w h d flags t
 begins w h d cursor flags t own unplaced at is = record {
   drawn = record {
     phase = is.phase;
@@ -443,7 +436,7 @@ begins w h d cursor flags t own unplaced at is = record {
     bottom = is.ready.bottom;
     row = is.ready.row;
     sure = is.ready.sure;
-    known = is.ready.known;
+    sized = is.ready.sized;
     whole = is.ready.whole;
     beyond = is.ready.beyond;
   };
@@ -462,7 +455,7 @@ with-own w h t own ready = record {
   bottom = ready.bottom;
   row = ready.row;
   sure = ready.sure;
-  known = ready.known;
+  sized = ready.sized;
   whole = ready.whole;
   beyond = ready.beyond;
 }

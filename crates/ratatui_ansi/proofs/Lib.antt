@@ -7,8 +7,10 @@ pub mod DrawLemmas
 pub mod CallLemmas
 pub mod PutLemmas
 pub mod TailLemmas
+pub mod CoverLemmas
 pub mod FrameLemmas
 pub mod FlagLemmas
 pub mod EraseLemmas
 pub mod TrackLemmas
 pub mod BackendLemmas
+pub mod RefusalLemmas

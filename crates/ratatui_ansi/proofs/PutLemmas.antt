@@ -5,10 +5,11 @@ use Rattle.std.specs.List.{list_any, range_with_len}
 use Rattle.rtui_cell.specs.Look.{Look, look_of, empty_look}
 use Rattle.rtui_cell.specs.Cell.{width_of}
 use Rattle.rtui_cell.specs.Grid.{Update, put}
-use Rattle.ratatui_ansi.specs.Columns.{Column, Columns, look_in, is_known, is_behind, is_met}
+use Rattle.ratatui_ansi.specs.Columns.{Column, Columns, look_in, is_behind, is_met}
 use Rattle.ratatui_ansi.specs.Columns.Column.{Shows, Unknown}
 use Rattle.ratatui_ansi.specs.Terminal.{run}
-use Rattle.ratatui_ansi.specs.Screens.{IsKnown, IsWhole, IsWholeAt, IsBlankBeyond, IsUncut, put_columns}
+use Rattle.ratatui_ansi.specs.Screens.{IsSized, AreSized, IsWhole, IsWholeAt, IsBlankBeyond, IsUncut, put_columns}
+use Rattle.ratatui_ansi.specs.Drawing.{columns_of}
 
 pub none_between : (f : ℕ → Bool) (k n : ℕ) → ((j : ℕ) → k ≤ j → j < k + n → f j ≡ false) → list_any f (range_with_len k n) ≡ false
 none_between f k zero e = refl
@@ -87,12 +88,12 @@ put-shown w h x y n u c whole uncut ex ey en some fits y_in a b =
           (λ row. grind (arith, nat_tests)) (λ row. grind (arith, nat_tests))
     ] refl)
 
--- the columns stay known and whole
-pub put-known : (x y n : ℕ) (look : Look) (c : Columns) → IsWhole c → IsKnown c → IsUncut x y n c → IsKnown (put_columns x y n look c)
-put-known x y n look c whole known uncut a b =
-    elim (run x y n a b) as (λ p. run x y n a b ≡ p → is_known (put_columns x y n look c a b) ≡ true) [
-      | true ↦ λ e. ap is_known (put-inside x y n look c a b e)
-      | false ↦ λ e. ap is_known (put-outside x y n look c a b whole uncut e) ∙ known a b
+-- the columns stay sized and whole
+pub put-sized : (x y n : ℕ) (look : Look) (c : Columns) → IsWhole c → IsUncut x y n c → n ≡ columns_of look.symbol → AreSized c → AreSized (put_columns x y n look c)
+put-sized x y n look c whole uncut takes sized a b =
+    elim (run x y n a b) as (λ p. run x y n a b ≡ p → IsSized (put_columns x y n look c a b)) [
+      | true ↦ λ e. subst IsSized (sym (put-inside x y n look c a b e)) takes
+      | false ↦ λ e. subst IsSized (sym (put-outside x y n look c a b whole uncut e)) (sized a b)
     ] refl
 
 whole-inside : (x y n a b : ℕ) (look : Look) (c : Columns) → run x y n a b ≡ true → IsWholeAt (λ k. put_columns x y n look c k b) a (Shows look (a - x) n)

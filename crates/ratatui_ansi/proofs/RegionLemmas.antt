@@ -10,11 +10,12 @@ use Rattle.ratatui_ansi.specs.declared.part.Part.TheVariants.{Line}
 use Rattle.ratatui_ansi.specs.Pen.{own_pen}
 use Rattle.ratatui_ansi.specs.Terminal.{Terminal, rested, moved, erased, line_fed, fed, scrolled, if_so, row_of, is_row_known, returned, raised, lowered, fed_and_lowered, with_region, without_region, lines_deleted, scrolled_down}
 use Rattle.ratatui_ansi.specs.Terminal.Phase.{Ground}
-use Rattle.ratatui_ansi.specs.Screens.{screen_of, IsKnown, IsWhole, IsWholeAt, IsBlankBeyond, IsReady, Turns, Becomes}
+use Rattle.ratatui_ansi.specs.Screens.{screen_of, IsSized, AreSized, IsWhole, IsWholeAt, IsBlankBeyond, IsReady, Turns, Becomes}
 use Rattle.ratatui_ansi.specs.Sequences.{feed}
 use Rattle.ratatui_ansi.specs.Sends.{Does}
 use Rattle.ratatui_ansi.proofs.ReadLemmas.{Sends-then, line_fed-rested}
-use Rattle.ratatui_ansi.proofs.ScrollLemmas.{KeepsReady, Feeds, fed-feeds, feeds-ready, region_row, map_same, shift, all_range, seen-raised, raised-again, raised-none, raised-known, raised-whole, raised-beyond, whole_along, blank-whole}
+use Rattle.ratatui_ansi.proofs.ScrollLemmas.{KeepsReady, Feeds, fed-feeds, feeds-ready, region_row, map_same, shift, all_range, seen-raised, raised-again, raised-none, raised-sized, raised-whole, raised-beyond, whole_along, blank-whole}
+use Rattle.ratatui_ansi.proofs.TextLemmas.{blank-sized, sized-known}
 
 -- one action behind another
 pub Does-then : (a b c : List ℕ) (f g : Terminal → Terminal) → Does a b f → Does b c g → ((t : Terminal) → rested (f (rested t)) ≡ f (rested t)) → Does a c (λ t. g (f t))
@@ -40,11 +41,11 @@ lowered-beyond w from to n c beyond a b out =
       | false ↦ refl
     ])
 
-pub lowered-known : (from to n : ℕ) (c : Columns) → IsKnown c → IsKnown (lowered from to n c)
-lowered-known from to n c known a b =
-    elim (nat_le from b && nat_lt b to) as (λ p. is_known (if p then (if nat_le (from + n) b then c a (b - n) else blank_column) else c a b) ≡ true) [
-      | true ↦ elim (nat_le (from + n) b) as (λ q. is_known (if q then c a (b - n) else blank_column) ≡ true) [ true ↦ known a (b - n) | false ↦ refl ]
-      | false ↦ known a b
+pub lowered-sized : (from to n : ℕ) (c : Columns) → AreSized c → AreSized (lowered from to n c)
+lowered-sized from to n c sized a b =
+    elim (nat_le from b && nat_lt b to) as (λ p. IsSized (if p then (if nat_le (from + n) b then c a (b - n) else blank_column) else c a b)) [
+      | true ↦ elim (nat_le (from + n) b) as (λ q. IsSized (if q then c a (b - n) else blank_column)) [ true ↦ sized a (b - n) | false ↦ blank-sized ]
+      | false ↦ sized a b
     ]
 
 -- ---- what a screen shows
@@ -134,8 +135,8 @@ row-lowered r n c a b some =
 -- ---- a terminal that stays ready where its columns change
 
 pub ready-columns : (w h : ℕ) (s u : Terminal) (c : Columns) → IsReady w h s → u.phase ≡ Ground → u.text ≡ [] → u.width ≡ s.width → u.height ≡ s.height → u.pen ≡ own_pen
-    → u.top ≡ 0 → u.bottom ≡ s.height → u.y < h → u.sure ≡ true → ((x y : ℕ) → u.columns x y ≡ c x y) → IsKnown c → IsWhole c → IsBlankBeyond w c → IsReady w h u
-ready-columns w h s u c ready phase text width height pen top bottom row sure columns known whole beyond = record {
+    → u.top ≡ 0 → u.bottom ≡ s.height → u.y < h → u.sure ≡ true → ((x y : ℕ) → u.columns x y ≡ c x y) → AreSized c → IsWhole c → IsBlankBeyond w c → IsReady w h u
+ready-columns w h s u c ready phase text width height pen top bottom row sure columns sized whole beyond = record {
   phase = phase;
   text = text;
   width = width ∙ ready.width;
@@ -145,7 +146,7 @@ ready-columns w h s u c ready phase text width height pen top bottom row sure co
   bottom = bottom ∙ ready.height;
   row = row;
   sure = sure;
-  known = λ x y. ap is_known (columns x y) ∙ known x y;
+  sized = λ x y. subst IsSized (sym (columns x y)) (sized x y);
   whole = λ x y. whole_along (λ k. c k y) (λ k. u.columns k y) x (λ k. sym (columns k y)) (whole x y);
   beyond = λ x y out. columns x y ∙ beyond x y out;
 }
@@ -185,7 +186,7 @@ row-up w h a b n some_columns below a_in one some = keeps-along w h (λ t. erase
     let x_in : nat_lt 0 s.width ≡ true = grind (arith, nat_tests) in
     let sure : u.sure ≡ true = rw (ready.sure, ready.pen, x_in) refl in (
       ready-columns w h s u c ready ready.phase ready.text refl refl ready.pen ready.top (ready.bottom ∙ sym ready.height) a_in sure same
-          (raised-known a (min b h) n s.columns ready.known) (raised-whole a (min b h) n s.columns ready.whole) (raised-beyond w a (min b h) n s.columns ready.beyond),
+          (raised-sized a (min b h) n s.columns ready.sized) (raised-whole a (min b h) n s.columns ready.whole) (raised-beyond w a (min b h) n s.columns ready.beyond),
       record { screens = λ written. up-below w h a b n written s u ready below (omega arith) (record { history = refl; width = refl; height = refl; visible = refl; columns = same }); columns = same },
     ))
 
@@ -200,7 +201,7 @@ row-down w h a b n some_columns a_in one some = keeps-along w h (λ t. erased Li
     let x_in : nat_lt 0 s.width ≡ true = grind (arith, nat_tests) in
     let sure : u.sure ≡ true = rw (ready.sure, ready.pen, x_in) refl in (
       ready-columns w h s u c ready ready.phase ready.text refl refl ready.pen ready.top (ready.bottom ∙ sym ready.height) a_in sure same
-          (lowered-known a (min b h) n s.columns ready.known) (lowered-whole a (min b h) n s.columns ready.whole) (lowered-beyond w a (min b h) n s.columns ready.beyond),
+          (lowered-sized a (min b h) n s.columns ready.sized) (lowered-whole a (min b h) n s.columns ready.whole) (lowered-beyond w a (min b h) n s.columns ready.beyond),
       record { screens = λ written. down-shows w h a b n written s u ready (omega arith) (record { history = refl; width = refl; height = refl; visible = refl; columns = same }); columns = same },
     ))
 
@@ -222,7 +223,7 @@ rows-up w h a b n some_columns below two =
     let t5 : nat_lt a (min b h) ≡ true = grind (arith, nat_tests) in
     let sure : u.sure ≡ true = rw (ready.sure, t1, t2, ready.pen, t3, t4, t5) refl in (
       ready-columns w h s u c ready ready.phase ready.text refl refl ready.pen refl refl (omega arith) sure (λ x y. refl)
-          (raised-known a (min b h) n s.columns ready.known) (raised-whole a (min b h) n s.columns ready.whole) (raised-beyond w a (min b h) n s.columns ready.beyond),
+          (raised-sized a (min b h) n s.columns ready.sized) (raised-whole a (min b h) n s.columns ready.whole) (raised-beyond w a (min b h) n s.columns ready.beyond),
       record { screens = λ written. up-below w h a b n written s u ready below (omega arith) (record { history = refl; width = refl; height = refl; visible = refl; columns = λ x y. refl }); columns = λ x y. refl },
     ))
 
@@ -235,7 +236,7 @@ rows-down w h a b n two s ready =
     let t2 : nat_le (min b h) s.height ≡ true = grind (arith, nat_tests) in
     let sure : u.sure ≡ true = rw (ready.sure, t1, t2, ready.pen) refl in (
       ready-columns w h s u c ready ready.phase ready.text refl refl ready.pen refl refl (omega arith) sure (λ x y. refl)
-          (lowered-known a (min b h) n s.columns ready.known) (lowered-whole a (min b h) n s.columns ready.whole) (lowered-beyond w a (min b h) n s.columns ready.beyond),
+          (lowered-sized a (min b h) n s.columns ready.sized) (lowered-whole a (min b h) n s.columns ready.whole) (lowered-beyond w a (min b h) n s.columns ready.beyond),
       record { screens = λ written. down-shows w h a b n written s u ready (omega arith) (record { history = refl; width = refl; height = refl; visible = refl; columns = λ x y. refl }); columns = λ x y. refl },
     )
 
@@ -280,7 +281,7 @@ screen-up w h b n some_columns some_rows all =
       bottom = ready.bottom;
       row = omega arith;
       sure = ready.sure;
-      known = ready.known;
+      sized = ready.sized;
       whole = ready.whole;
       beyond = ready.beyond;
     } in
@@ -311,10 +312,10 @@ first-up w h b n some_columns two =
     let t1 : nat_lt (0 + 1) to ≡ true = grind (arith, nat_tests) in
     let t2 : nat_le to s.height ≡ true = grind (arith, nat_tests) in
     let v_sure : v.sure ≡ true = rw (ready.sure, t1, t2) refl in
-    let sure : u.sure ≡ true = feeds.sure v_sure ready.pen (omega arith) ready.known in (
+    let sure : u.sure ≡ true = feeds.sure v_sure ready.pen (omega arith) ready.sized in (
       ready-columns w h s (without_region u) (raised 0 to n s.columns) ready (ap (λ (t : Terminal). t.phase) feeds.rest ∙ ready.phase) (ap (λ (t : Terminal). t.text) feeds.rest ∙ ready.text)
           (ap (λ (t : Terminal). t.width) feeds.rest) (ap (λ (t : Terminal). t.height) feeds.rest) (ap (λ (t : Terminal). t.pen) feeds.rest ∙ ready.pen) refl
-          (ap (λ (t : Terminal). t.height) feeds.rest) (omega arith) sure feeds.columns (raised-known 0 to n s.columns ready.known) (raised-whole 0 to n s.columns ready.whole) (raised-beyond w 0 to n s.columns ready.beyond),
+          (ap (λ (t : Terminal). t.height) feeds.rest) (omega arith) sure feeds.columns (raised-sized 0 to n s.columns ready.sized) (raised-whole 0 to n s.columns ready.whole) (raised-beyond w 0 to n s.columns ready.beyond),
       record {
         screens = λ written. up-first w h b n written s (without_region u) ready (omega arith) feeds.history
             (ap (λ (t : Terminal). t.width) feeds.rest) (ap (λ (t : Terminal). t.height) feeds.rest) (ap (λ (t : Terminal). t.visible) feeds.rest) feeds.columns;
@@ -363,14 +364,14 @@ pub record Rounds (n : ℕ) (t u : Terminal) : Type 0 where
   pub rest : u ≡ record t { columns = u.columns; history = u.history; sure = u.sure }
   pub columns : (a b : ℕ) → u.columns a b ≡ raised 0 1 n t.columns a b
   pub history : u.history ≡ t.history ++ map (region_row (record t { bottom = 1 })) (range_with_len 0 n)
-  pub sure : t.sure ≡ true → t.pen ≡ own_pen → t.x < t.width → IsKnown t.columns → u.sure ≡ true
+  pub sure : t.sure ≡ true → t.pen ≡ own_pen → t.x < t.width → AreSized t.columns → u.sure ≡ true
 
 pub rounds-are : (n : ℕ) (t : Terminal) → t.top ≡ 0 → t.bottom ≡ 2 → t.y ≡ 1 → Rounds n t (fed_and_lowered n t)
 rounds-are zero t top bottom y = record {
   rest = refl;
   columns = λ a b. raised-none 0 1 t.columns a b;
   history = sym (append-nil t.history);
-  sure = λ sure pen x known. sure;
+  sure = λ sure pen x sized. sure;
 }
 rounds-are (suc n) t top bottom y =
     let v : Terminal = scrolled (if_so (nat_lt t.x t.width) t) in
@@ -388,11 +389,11 @@ rounds-are (suc n) t top bottom y =
       columns = λ a b. more.columns a b ∙ raised-along 0 1 n s.columns (raised 0 1 1 t.columns) once a b ∙ raised-again 1 n t.columns a b;
       history = more.history ∙ append_assoc t.history (row_of t 0 ∷ []) rows
           ∙ ap (λ xs. t.history ++ (row_of t 0 ∷ xs)) (shift (region_row (record t { bottom = 1 })) (region_row (record s { bottom = 1 })) next 0 n);
-      sure = λ sure pen x known.
+      sure = λ sure pen x sized.
           let x_in : nat_lt t.x t.width ≡ true = grind (arith, nat_tests) in
-          let row : is_row_known t 0 ≡ true = all_range (λ a. is_known (t.columns a 0)) (λ a. known a 0) 0 t.width in
+          let row : is_row_known t 0 ≡ true = all_range (λ a. is_known (t.columns a 0)) (λ a. sized-known (t.columns a 0) (sized a 0)) 0 t.width in
           let now : s.sure ≡ true = rw (sure, x_in, pen, top, row) refl in
-          more.sure now pen x (λ a b. ap is_known (once a b) ∙ raised-known 0 1 1 t.columns known a b);
+          more.sure now pen x (λ a b. subst IsSized (sym (once a b)) (raised-sized 0 1 1 t.columns sized a b));
     } in
     subst (Rounds (suc n) t) (sym (ap (fed_and_lowered n) here)) after
 
@@ -411,11 +412,11 @@ one-up w h b n some_columns two one =
     let feeds : Rounds n v u = rounds-are n v refl refl refl in
     let t2 : nat_le 2 s.height ≡ true = grind (arith, nat_tests) in
     let v_sure : v.sure ≡ true = rw (ready.sure, t2) refl in
-    let sure : u.sure ≡ true = feeds.sure v_sure ready.pen (omega arith) ready.known in
+    let sure : u.sure ≡ true = feeds.sure v_sure ready.pen (omega arith) ready.sized in
     let columns : (x y : ℕ) → u.columns x y ≡ raised 0 (min b h) n s.columns x y = λ x y. feeds.columns x y ∙ ap (λ q. raised 0 q n s.columns x y) (sym one) in (
       ready-columns w h s (without_region u) (raised 0 (min b h) n s.columns) ready (ap (λ (t : Terminal). t.phase) feeds.rest ∙ ready.phase) (ap (λ (t : Terminal). t.text) feeds.rest ∙ ready.text)
           (ap (λ (t : Terminal). t.width) feeds.rest) (ap (λ (t : Terminal). t.height) feeds.rest) (ap (λ (t : Terminal). t.pen) feeds.rest ∙ ready.pen) refl
-          (ap (λ (t : Terminal). t.height) feeds.rest) (omega arith) sure columns (raised-known 0 (min b h) n s.columns ready.known) (raised-whole 0 (min b h) n s.columns ready.whole) (raised-beyond w 0 (min b h) n s.columns ready.beyond),
+          (ap (λ (t : Terminal). t.height) feeds.rest) (omega arith) sure columns (raised-sized 0 (min b h) n s.columns ready.sized) (raised-whole 0 (min b h) n s.columns ready.whole) (raised-beyond w 0 (min b h) n s.columns ready.beyond),
       record {
         screens = λ written. up-first w h b n written s (without_region u) ready (omega arith)
             (feeds.history ∙ ap (λ q. s.history ++ map (region_row (record s { bottom = q })) (range_with_len 0 n)) (sym one))

@@ -11,7 +11,8 @@ use Rattle.ratatui_ansi.specs.Terminal.{Terminal, rested, printed, line_fed, fed
 use Rattle.ratatui_ansi.specs.Terminal.Phase.{Ground}
 use Rattle.ratatui_ansi.specs.Sequences.{feed}
 use Rattle.ratatui_ansi.specs.Sends.{Does}
-use Rattle.ratatui_ansi.specs.Screens.{screen_of, IsKnown, IsWhole, IsWholeAt, IsBlankBeyond, IsReady, Turns, Becomes}
+use Rattle.ratatui_ansi.specs.Screens.{screen_of, IsSized, AreSized, IsWhole, IsWholeAt, IsBlankBeyond, IsReady, Turns, Becomes}
+use Rattle.ratatui_ansi.proofs.TextLemmas.{blank-sized, sized-known}
 
 -- ---- from what bytes do to what a screen shows
 
@@ -81,11 +82,11 @@ raised-beyond w from to n c beyond a b out =
       | false ↦ refl
     ])
 
-pub raised-known : (from to n : ℕ) (c : Columns) → IsKnown c → IsKnown (raised from to n c)
-raised-known from to n c known a b =
-    elim (nat_le from b && nat_lt b to) as (λ p. is_known (if p then (if nat_lt (b + n) to then c a (b + n) else blank_column) else c a b) ≡ true) [
-      | true ↦ elim (nat_lt (b + n) to) as (λ q. is_known (if q then c a (b + n) else blank_column) ≡ true) [ true ↦ known a (b + n) | false ↦ refl ]
-      | false ↦ known a b
+pub raised-sized : (from to n : ℕ) (c : Columns) → AreSized c → AreSized (raised from to n c)
+raised-sized from to n c sized a b =
+    elim (nat_le from b && nat_lt b to) as (λ p. IsSized (if p then (if nat_lt (b + n) to then c a (b + n) else blank_column) else c a b)) [
+      | true ↦ elim (nat_lt (b + n) to) as (λ q. IsSized (if q then c a (b + n) else blank_column)) [ true ↦ sized a (b + n) | false ↦ blank-sized ]
+      | false ↦ sized a b
     ]
 
 -- ---- line feeds in the last row of a region that begins with the first row
@@ -99,7 +100,7 @@ pub record Feeds (n : ℕ) (t u : Terminal) : Type 0 where
   pub rest : u ≡ record t { columns = u.columns; history = u.history; sure = u.sure }
   pub columns : (a b : ℕ) → u.columns a b ≡ raised 0 t.bottom n t.columns a b
   pub history : u.history ≡ t.history ++ map (region_row t) (range_with_len 0 n)
-  pub sure : t.sure ≡ true → t.pen ≡ own_pen → t.x < t.width → IsKnown t.columns → u.sure ≡ true
+  pub sure : t.sure ≡ true → t.pen ≡ own_pen → t.x < t.width → AreSized t.columns → u.sure ≡ true
 
 pub map_same : {A B : Type 0} (f g : A → B) → ((a : A) → f a ≡ g a) → (xs : List A) → map f xs ≡ map g xs
 map_same f g e [] = refl
@@ -140,7 +141,7 @@ fed-feeds zero t top last = record {
   rest = refl;
   columns = λ a b. raised-none 0 t.bottom t.columns a b;
   history = sym (append-nil t.history);
-  sure = λ sure pen x known. sure;
+  sure = λ sure pen x sized. sure;
 }
 fed-feeds (suc n) t top last =
     let y : t.y + 1 ≡ t.bottom = last (omega arith) in
@@ -154,11 +155,11 @@ fed-feeds (suc n) t top last =
       columns = λ a b. more.columns a b ∙ rw top (raised-again t.bottom n t.columns a b);
       history = more.history ∙ append_assoc t.history (row_of t 0 ∷ []) rows
           ∙ ap₂ (λ x xs. t.history ++ (x ∷ xs)) (first_row t (omega arith)) (shift (region_row t) (region_row s) (λ k. region_row-scrolled (if_so (nat_lt t.x t.width) t) k top) 0 n);
-      sure = λ sure pen x known.
+      sure = λ sure pen x sized.
           let x_in : nat_lt t.x t.width ≡ true = grind (arith, nat_tests) in
-          let row : is_row_known t 0 ≡ true = all_range (λ a. is_known (t.columns a 0)) (λ a. known a 0) 0 t.width in
+          let row : is_row_known t 0 ≡ true = all_range (λ a. is_known (t.columns a 0)) (λ a. sized-known (t.columns a 0) (sized a 0)) 0 t.width in
           let now : s.sure ≡ true = rw (sure, x_in, pen, top, row) refl in
-          more.sure now pen x (raised-known t.top t.bottom 1 t.columns known);
+          more.sure now pen x (raised-sized t.top t.bottom 1 t.columns sized);
     } in
     subst (Feeds (suc n) t) (sym (ap (fed n) here)) after
 
@@ -198,8 +199,8 @@ feeds-ready w h n t u ready x feeds = record {
   top = ap (λ (v : Terminal). v.top) feeds.rest ∙ ready.top;
   bottom = ap (λ (v : Terminal). v.bottom) feeds.rest ∙ ready.bottom;
   row = let e : u.y ≡ t.y = ap (λ (v : Terminal). v.y) feeds.rest in rw e ready.row;
-  sure = feeds.sure ready.sure ready.pen (rw ready.width x) ready.known;
-  known = λ a b. ap is_known (feeds.columns a b) ∙ raised-known 0 t.bottom n t.columns ready.known a b;
+  sure = feeds.sure ready.sure ready.pen (rw ready.width x) ready.sized;
+  sized = λ a b. subst IsSized (sym (feeds.columns a b)) (raised-sized 0 t.bottom n t.columns ready.sized a b);
   whole = λ a b. whole_along (λ k. raised 0 t.bottom n t.columns k b) (λ k. u.columns k b) a (λ k. sym (feeds.columns k b)) (raised-whole 0 t.bottom n t.columns ready.whole a b);
   beyond = λ a b out. feeds.columns a b ∙ raised-beyond w 0 t.bottom n t.columns ready.beyond a b out;
 }
@@ -228,7 +229,7 @@ appends-ready w h n some_columns some_rows s ready =
       bottom = ready.bottom;
       row = omega arith;
       sure = ready.sure;
-      known = ready.known;
+      sized = ready.sized;
       whole = ready.whole;
       beyond = ready.beyond;
     } in

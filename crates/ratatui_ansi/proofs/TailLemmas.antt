@@ -5,12 +5,14 @@ use Rattle.std.specs.List.{list_any, range_with_len}
 use Rattle.rtui_cell.specs.Look.{Look, look_of, empty_look}
 use Rattle.rtui_cell.specs.Cell.{width_of}
 use Rattle.rtui_cell.specs.Grid.{Update, put}
-use Rattle.ratatui_ansi.specs.Columns.{Column, Columns, blank_column, look_in, is_known, is_behind, is_met}
+use Rattle.ratatui_ansi.specs.Columns.{Column, Columns, blank_column, look_in, is_behind, is_met}
 use Rattle.ratatui_ansi.specs.Columns.Column.{Shows, Unknown}
 use Rattle.ratatui_ansi.specs.Terminal.{run}
-use Rattle.ratatui_ansi.specs.Screens.{IsKnown, IsWhole, IsWholeAt, IsBlankBeyond, put_columns}
+use Rattle.ratatui_ansi.specs.Screens.{IsSized, AreSized, IsWhole, IsWholeAt, IsBlankBeyond, put_columns}
 use Rattle.ratatui_ansi.specs.Frame.{IsTail, laid}
 use Rattle.ratatui_ansi.proofs.PutLemmas.{none_between, apart-at, first-or-behind, rest-same}
+use Rattle.ratatui_ansi.proofs.TextLemmas.{blank-sized}
+use Rattle.ratatui_ansi.specs.Drawing.{columns_of}
 
 -- a symbol of n columns stands in column x of row y, blanks behind it up to column k, and from there up to column `end` nothing is known
 abbrev pub torn : ℕ → ℕ → ℕ → ℕ → ℕ → Look → Columns → Columns
@@ -71,8 +73,8 @@ apart_from x y n end a b look i m c left tail whole out =
 
 -- ---- what the columns are
 
-pub laid-known : (x y n end : ℕ) (look : Look) (c : Columns) → IsKnown c → IsKnown (laid x y n end look c)
-laid-known x y n end look c known a b = laid_cases x y n end look c a b (λ d. is_known d ≡ true) (λ e. refl) (λ e f. refl) (λ e f. known a b)
+pub laid-sized : (x y n end : ℕ) (look : Look) (c : Columns) → n ≡ columns_of look.symbol → AreSized c → AreSized (laid x y n end look c)
+laid-sized x y n end look c takes sized a b = laid_cases x y n end look c a b IsSized (λ e. takes) (λ e f. blank-sized) (λ e f. sized a b)
 
 pub laid-beyond : (w x y n end : ℕ) (look : Look) (c : Columns) → x + n ≤ w → IsBlankBeyond w c → IsBlankBeyond w (laid x y n end look c)
 laid-beyond w x y n end look c fits beyond a b far =

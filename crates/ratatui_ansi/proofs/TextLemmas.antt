@@ -5,7 +5,12 @@ use Rattle.std.specs.List.{list_all}
 use Rattle.std.specs.Str.{is_utf8}
 use Rattle.std.proofs.lemmas.Bool.Decides.{nat_tests}
 use Rattle.std.proofs.lemmas.List.Folds.{list_all-append}
-use Rattle.std.proofs.lemmas.Str.{encodes-chars, IsUtf8-from_is_utf8, is_utf8-from_IsUtf8}
+use Rattle.std.proofs.lemmas.Str.{chars-encodes, encodes-chars, IsUtf8-from_is_utf8, is_utf8-from_IsUtf8}
+use Rattle.rtui_cell.specs.Symbol.{blank}
+use Rattle.ratatui_ansi.specs.Columns.{Column, blank_column, is_known}
+use Rattle.ratatui_ansi.specs.Columns.Column.{Shows, Unknown}
+use Rattle.ratatui_ansi.specs.Drawing.{columns_of}
+use Rattle.ratatui_ansi.specs.Screens.{IsSized}
 use Rattle.ratatui_ansi.specs.Terminal.{Terminal, is_control, is_directional, is_shown, is_plain, is_symbol, begins_anew}
 use Rattle.ratatui_ansi.specs.Terminal.Phase.{Ground}
 use Rattle.ratatui_ansi.specs.Sequences.{feed, reads_in, is_text}
@@ -91,3 +96,19 @@ symbol-then text utf8 begins = rw (is_utf8-from_IsUtf8 text utf8, begins) (last 
 
 pub symbol-else : (text : List ℕ) → begins_anew (chars text) ≡ false → is_symbol text ≡ false
 symbol-else text begins = rw begins (none (is_utf8 text && list_all is_shown (chars text)))
+
+-- ---- the blank
+
+pub blank-chars : chars blank ≡ 32 ∷ []
+unfolding encode
+blank-chars = chars-encodes (32 ∷ []) refl
+
+pub blank-one : columns_of blank ≡ 1
+blank-one = rw blank-chars refl
+
+pub blank-sized : IsSized blank_column
+blank-sized = sym blank-one
+
+pub sized-known : (c : Column) → IsSized c → is_known c ≡ true
+sized-known (Shows look index count) takes = refl
+sized-known Unknown none = absurd none

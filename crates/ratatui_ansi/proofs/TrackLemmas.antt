@@ -18,7 +18,7 @@ use Rattle.ratatui_ansi.specs.Flags.{flag, AreBehind, is_cut}
 use Rattle.ratatui_ansi.specs.Calls.{IsAwaiting, SendsCall, Empties}
 use Rattle.ratatui_ansi.proofs.ReadLemmas.{feed-append}
 use Rattle.ratatui_ansi.proofs.FlagLemmas.{AreBehind-along}
-use Rattle.ratatui_ansi.proofs.EraseLemmas.{part-erased, part-whole, part-known, part-beyond}
+use Rattle.ratatui_ansi.proofs.EraseLemmas.{part-erased, part-whole, part-sized, part-beyond}
 use Rattle.ratatui_ansi.proofs.ScrollLemmas.{rested-ready}
 use Rattle.ratatui_ansi.proofs.RegionLemmas.{ready-columns, moved-placed}
 use Rattle.ratatui_ansi.specs.Sends.{Does}
@@ -234,7 +234,7 @@ part-kept w h x y part place flags flags_after x_in y_in at_x at_y uncut history
     let cursor_y : min place.y (s.height - 1) ≡ s.y = omega arith in
     subst (λ v. IsReady w h v × IsKept w h place flags_after (Empties part x y) s v) there (
       ready-columns w h s u (part_emptied part x y s.columns) ready ready.phase ready.text refl refl ready.pen ready.top (ready.bottom ∙ sym height) (omega arith) sure same
-          (part-known part x y s.columns ready.known) (part-whole part w h x y flags s.columns x_in y_in ready.beyond behind uncut ready.whole) (part-beyond part w x y s.columns ready.beyond),
+          (part-sized part x y s.columns ready.sized) (part-whole part w h x y flags s.columns x_in y_in ready.beyond behind uncut ready.whole) (part-beyond part w x y s.columns ready.beyond),
       record {
         cursor = ap₂ (λ i j. record { x = i; y = j }) cursor_x cursor_y ∙ at;
         behind = AreBehind-along w h flags_after (part_emptied part x y s.columns) u.columns same (cleared s.columns behind);

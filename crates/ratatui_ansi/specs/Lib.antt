@@ -5,10 +5,12 @@ pub mod Terminal
 pub mod Sequences
 pub mod Parameters
 pub mod Sends
-pub mod Screens
 pub mod Drawing
+pub mod Screens
+pub mod Covered
 pub mod Frame
 pub mod Calls
 pub mod Errors
 pub mod Kept
 pub mod Backend
+pub mod Refusals

@@ -2,12 +2,13 @@
 use Rattle.std.specs.Prelude.{◌≡◌, ℕ, ◌+◌, ◌-◌, ◌<◌, ◌≤◌, min, true, false, List, [], ◌++◌}
 use Rattle.rtui_cell.specs.Look.{Look}
 use Rattle.rtui_backend.specs.Screen.{Screen}
-use Rattle.ratatui_ansi.specs.Columns.{Column, Columns, blank_column, look_in, is_known, is_behind, overwritten}
+use Rattle.ratatui_ansi.specs.Columns.{Column, Columns, blank_column, look_in, is_behind, overwritten}
 use Rattle.ratatui_ansi.specs.Columns.Column.{Shows, Unknown}
 use Rattle.ratatui_ansi.specs.Pen.{own_pen}
 use Rattle.ratatui_ansi.specs.Terminal.{Terminal, rested, run}
 use Rattle.ratatui_ansi.specs.Terminal.Phase.{Ground}
 use Rattle.ratatui_ansi.specs.Sequences.{feed}
+use Rattle.ratatui_ansi.specs.Drawing.{columns_of}
 
 -- the screen of a terminal, on which so many items were drawn; a cursor behind the last column is shown in it
 abbrev pub screen_of : ℕ → Terminal → Screen
@@ -22,9 +23,14 @@ screen_of written t = record {
   written = written;
 }
 
--- all columns are known
-abbrev pub IsKnown : Columns → Type 0
-IsKnown columns = (a b : ℕ) → is_known (columns a b) ≡ true
+-- a column of a symbol that stands in just as many columns as it takes
+abbrev pub IsSized : Column → Type 0
+IsSized (Shows look index count) = count ≡ columns_of look.symbol
+IsSized Unknown = ⊥
+
+-- all columns are known, and so are their symbols' sizes
+abbrev pub AreSized : Columns → Type 0
+AreSized columns = (a b : ℕ) → IsSized (columns a b)
 
 -- of what stands in column a of a row the whole symbol stands there
 abbrev pub IsWholeAt : (ℕ → Column) → ℕ → Column → Type 0
@@ -50,7 +56,7 @@ pub record IsReady (w h : ℕ) (t : Terminal) : Type 0 where
   pub bottom : t.bottom ≡ h
   pub row : t.y < h
   pub sure : t.sure ≡ true
-  pub known : IsKnown t.columns
+  pub sized : AreSized t.columns
   pub whole : IsWhole t.columns
   pub beyond : IsBlankBeyond w t.columns
 

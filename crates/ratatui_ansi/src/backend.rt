@@ -1,6 +1,6 @@
 //! A backend for terminals that read escape sequences.
 
-ghost use Rattle.std.specs.Prelude.{◌≡◌, ℕ, ◌+◌, ◌^◌, ◌-◌, ◌*◌, ◌<◌, [], length, true, false, List, map, IfOk, OnOk, OnErr};
+ghost use Rattle.std.specs.Prelude.{◌≡◌, ℕ, ◌+◌, ◌^◌, ◌-◌, ◌*◌, ◌<◌, [], length, true, false, List, map, IfOk, IfErr, OnOk, OnErr};
 ghost use Rattle.std.specs.Iterator.{IsFinite, Drains};
 ghost use Rattle.rtui_cell.specs.Grid.{update_by};
 ghost use Rattle.rtui_backend.specs.Failures.{Counts};
@@ -9,6 +9,7 @@ ghost use Rattle.rtui_backend.specs.declared.clear_type.ClearType.TheVariants.{A
 ghost use Rattle.ratatui_ansi.specs.Columns.{blank_column};
 ghost use Rattle.ratatui_ansi.specs.Flags.{AreBehind};
 ghost use Rattle.ratatui_ansi.specs.Backend.{State, shown_by};
+ghost use Rattle.ratatui_ansi.specs.Refusals.{IsUntold, Leaves, StopsBy};
 
 use crate::error::AnsiError;
 use crate::frame::draw_cells;
@@ -138,6 +139,7 @@ impl<L: Link> AnsiBackend<L> {
     fn tell_position(&mut self, position: Position) -> Result<(), AnsiError<L::Error>>
         ensures ok { OnOk result (shown_by L.told self.new
             ≡ with_cursor position.x position.y (shown_by L.told self.old)) }
+        ensures state { Leaves result self.old self.new }
         ensures failures { self.new.failures ≡ self.old.failures }
     {
         if self.is_broken {
@@ -159,6 +161,7 @@ impl<L: Link> AnsiBackend<L> {
     fn tell_visible(&mut self, visible: bool) -> Result<(), AnsiError<L::Error>>
         ensures ok { OnOk result (shown_by L.told self.new
             ≡ with_visible visible (shown_by L.told self.old)) }
+        ensures state { Leaves result self.old self.new }
         ensures failures { self.new.failures ≡ self.old.failures }
     {
         if self.is_broken {
@@ -179,6 +182,7 @@ impl<L: Link> AnsiBackend<L> {
     fn flush_link(&mut self) -> Result<(), AnsiError<L::Error>>
         ensures ok { OnOk result (shown_by L.told self.new ≡ shown_by L.told self.old) }
         ensures told { OnOk result (L.told self.new.link ≡ L.told self.old.link) }
+        ensures state { Leaves result self.old self.new }
         ensures failures { self.new.failures ≡ self.old.failures }
     {
         if self.is_broken {
@@ -196,6 +200,7 @@ impl<L: Link> AnsiBackend<L> {
     // Moves the cursor's row down.
     fn tell_lines(&mut self, n: u16) -> Result<(), AnsiError<L::Error>>
         ensures ok { OnOk result (Appends (shown_by L.told self.old) n (shown_by L.told self.new)) }
+        ensures state { Leaves result self.old self.new }
         ensures failures { self.new.failures ≡ self.old.failures }
     {
         if self.is_broken {
@@ -218,6 +223,7 @@ impl<L: Link> AnsiBackend<L> {
     fn tell_up(&mut self, region: Range<u16>, n: u16) -> Result<(), AnsiError<L::Error>>
         ensures ok { OnOk result (ScrollsUp region.start region.end n
             (shown_by L.told self.old) (shown_by L.told self.new)) }
+        ensures state { Leaves result self.old self.new }
         ensures failures { self.new.failures ≡ self.old.failures }
     {
         if self.is_broken {
@@ -239,6 +245,7 @@ impl<L: Link> AnsiBackend<L> {
     fn tell_down(&mut self, region: Range<u16>, n: u16) -> Result<(), AnsiError<L::Error>>
         ensures ok { OnOk result (ScrollsDown region.start region.end n
             (shown_by L.told self.old) (shown_by L.told self.new)) }
+        ensures state { Leaves result self.old self.new }
         ensures failures { self.new.failures ≡ self.old.failures }
     {
         if self.is_broken {
@@ -259,6 +266,7 @@ impl<L: Link> AnsiBackend<L> {
     // Empties a part of the screen.
     fn tell_clear(&mut self, clear_type: ClearType) -> Result<(), AnsiError<L::Error>>
         ensures ok { OnOk result (Clears (shown_by L.told self.old) clear_type (shown_by L.told self.new)) }
+        ensures state { Leaves result self.old self.new }
         ensures failures { self.new.failures ≡ self.old.failures }
     {
         if self.is_broken {
@@ -290,6 +298,9 @@ impl<L: Link> AnsiBackend<L> {
             (items : List (ℕ × ℕ × C)) × Drains I.next_gives content items
             × Draws (shown_by L.told self.old) (map (update_by C.cell) items)
             (shown_by L.told self.new)) }
+        ensures stopped { IfErr result (StopsBy I.next_gives content (update_by C.cell)
+            (shown_by L.told self.old)) }
+        ensures state { Leaves result self.old self.new }
         ensures failures { self.new.failures ≡ self.old.failures }
     {
         if self.is_broken {
@@ -323,6 +334,7 @@ impl<L: Link> AnsiBackend<L> {
     // Counts a failure, and gives the error back.
     fn failed(&mut self, error: AnsiError<L::Error>) -> AnsiError<L::Error>
         ensures error { result ≡ error }
+        ensures rest { IsUntold self.old self.new }
         ensures count { self.old.failures < 2 ^ 64 - 1
             → self.new.failures ≡ self.old.failures + 1 }
     {
@@ -337,6 +349,7 @@ impl<L: Link> AnsiBackend<L> {
     ) -> Result<(), AnsiError<L::Error>>
         ensures answer { result ≡ answer }
         ensures screen { OnOk result (self.new ≡ self.old) }
+        ensures rest { IsUntold self.old self.new }
         ensures counts { Counts result self.old.failures self.new.failures }
     {
         match answer {
@@ -358,17 +371,37 @@ impl<L: Link> Backend for AnsiBackend<L> {
     fn draw<C: AsCell, I: Iterator<Item = (u16, u16, C)>>(
         &mut self,
         content: I,
-    ) -> Result<(), AnsiError<L::Error>> {
+    ) -> Result<(), AnsiError<L::Error>>
+        requires can { I.can_next content }
+        requires finite { IsFinite (I.remaining content) }
+        ensures ok { OnOk result (
+            (items : List (ℕ × ℕ × C)) × Drains I.next_gives content items
+            × Draws (shown_by L.told self.old) (map (update_by C.cell) items)
+            (shown_by L.told self.new)) }
+        ensures stopped { IfErr result (StopsBy I.next_gives content (update_by C.cell)
+            (shown_by L.told self.old)) }
+        ensures state { Leaves result self.old self.new }
+        ensures counts { Counts result self.old.failures self.new.failures }
+    {
         let answer = self.tell_cells(content);
         self.counted(answer)
     }
 
-    fn append_lines(&mut self, n: u16) -> Result<(), AnsiError<L::Error>> {
+    fn append_lines(&mut self, n: u16) -> Result<(), AnsiError<L::Error>>
+        ensures ok { OnOk result (Appends (shown_by L.told self.old) n (shown_by L.told self.new)) }
+        ensures state { Leaves result self.old self.new }
+        ensures counts { Counts result self.old.failures self.new.failures }
+    {
         let answer = self.tell_lines(n);
         self.counted(answer)
     }
 
-    fn scroll_region_up(&mut self, region: Range<u16>, n: u16) -> Result<(), AnsiError<L::Error>> {
+    fn scroll_region_up(&mut self, region: Range<u16>, n: u16) -> Result<(), AnsiError<L::Error>>
+        ensures ok { OnOk result (ScrollsUp region.start region.end n
+            (shown_by L.told self.old) (shown_by L.told self.new)) }
+        ensures state { Leaves result self.old self.new }
+        ensures counts { Counts result self.old.failures self.new.failures }
+    {
         let answer = self.tell_up(region, n);
         self.counted(answer)
     }
@@ -377,50 +410,98 @@ impl<L: Link> Backend for AnsiBackend<L> {
         &mut self,
         region: Range<u16>,
         n: u16,
-    ) -> Result<(), AnsiError<L::Error>> {
+    ) -> Result<(), AnsiError<L::Error>>
+        ensures ok { OnOk result (ScrollsDown region.start region.end n
+            (shown_by L.told self.old) (shown_by L.told self.new)) }
+        ensures state { Leaves result self.old self.new }
+        ensures counts { Counts result self.old.failures self.new.failures }
+    {
         let answer = self.tell_down(region, n);
         self.counted(answer)
     }
 
-    fn hide_cursor(&mut self) -> Result<(), AnsiError<L::Error>> {
+    fn hide_cursor(&mut self) -> Result<(), AnsiError<L::Error>>
+        ensures ok { OnOk result (shown_by L.told self.new
+            ≡ with_visible false (shown_by L.told self.old)) }
+        ensures state { Leaves result self.old self.new }
+        ensures counts { Counts result self.old.failures self.new.failures }
+    {
         let answer = self.tell_visible(false);
         self.counted(answer)
     }
 
-    fn show_cursor(&mut self) -> Result<(), AnsiError<L::Error>> {
+    fn show_cursor(&mut self) -> Result<(), AnsiError<L::Error>>
+        ensures ok { OnOk result (shown_by L.told self.new
+            ≡ with_visible true (shown_by L.told self.old)) }
+        ensures state { Leaves result self.old self.new }
+        ensures counts { Counts result self.old.failures self.new.failures }
+    {
         let answer = self.tell_visible(true);
         self.counted(answer)
     }
 
-    fn get_cursor_position(&mut self) -> Result<Position, AnsiError<L::Error>> {
+    fn get_cursor_position(&mut self) -> Result<Position, AnsiError<L::Error>>
+        ensures ok { IfOk result (λ position.
+            position ≡ cursor_of (shown_by L.told self.old)) }
+        ensures on_grid { OnOk result (IsOnGrid (shown_by L.told self.old)) }
+        ensures stays { OnOk result (shown_by L.told self.new ≡ shown_by L.told self.old) }
+        ensures state { Leaves result self.old self.new }
+        ensures counts { Counts result self.old.failures self.new.failures }
+    {
         if self.is_broken {
             return Err(self.failed(AnsiError::Broken));
         }
         Ok(self.cursor)
     }
 
-    fn set_cursor_position(&mut self, position: Position) -> Result<(), AnsiError<L::Error>> {
+    fn set_cursor_position(&mut self, position: Position) -> Result<(), AnsiError<L::Error>>
+        ensures ok { OnOk result (shown_by L.told self.new
+            ≡ with_cursor position.x position.y (shown_by L.told self.old)) }
+        ensures state { Leaves result self.old self.new }
+        ensures counts { Counts result self.old.failures self.new.failures }
+    {
         let answer = self.tell_position(position);
         self.counted(answer)
     }
 
-    fn clear(&mut self) -> Result<(), AnsiError<L::Error>> {
+    fn clear(&mut self) -> Result<(), AnsiError<L::Error>>
+        ensures ok { OnOk result (Clears (shown_by L.told self.old) All
+            (shown_by L.told self.new)) }
+        ensures state { Leaves result self.old self.new }
+        ensures counts { Counts result self.old.failures self.new.failures }
+    {
         self.clear_region(ClearType::All)
     }
 
-    fn clear_region(&mut self, clear_type: ClearType) -> Result<(), AnsiError<L::Error>> {
+    fn clear_region(&mut self, clear_type: ClearType) -> Result<(), AnsiError<L::Error>>
+        ensures ok { OnOk result (Clears (shown_by L.told self.old) clear_type
+            (shown_by L.told self.new)) }
+        ensures state { Leaves result self.old self.new }
+        ensures counts { Counts result self.old.failures self.new.failures }
+    {
         let answer = self.tell_clear(clear_type);
         self.counted(answer)
     }
 
-    fn size(&mut self) -> Result<Size, AnsiError<L::Error>> {
+    fn size(&mut self) -> Result<Size, AnsiError<L::Error>>
+        ensures ok { IfOk result (λ size. size ≡ size_of (shown_by L.told self.old)) }
+        ensures stays { OnOk result (shown_by L.told self.new ≡ shown_by L.told self.old) }
+        ensures state { Leaves result self.old self.new }
+        ensures counts { Counts result self.old.failures self.new.failures }
+    {
         if self.is_broken {
             return Err(self.failed(AnsiError::Broken));
         }
         Ok(self.size)
     }
 
-    fn window_size(&mut self) -> Result<WindowSize, AnsiError<L::Error>> {
+    fn window_size(&mut self) -> Result<WindowSize, AnsiError<L::Error>>
+        ensures ok { IfOk result (λ window.
+            window.columns_rows ≡ size_of (shown_by L.told self.old)) }
+        ensures stays { OnOk result (shown_by L.told self.new ≡ shown_by L.told self.old) }
+        ensures state { Leaves result self.old self.new }
+        ensures counts { Counts result self.old.failures self.new.failures }
+    {
         let columns_rows = self.size()?;
         Ok(WindowSize {
             columns_rows,
@@ -428,7 +509,12 @@ impl<L: Link> Backend for AnsiBackend<L> {
         })
     }
 
-    fn flush(&mut self) -> Result<(), AnsiError<L::Error>> {
+    fn flush(&mut self) -> Result<(), AnsiError<L::Error>>
+        ensures ok { OnOk result (shown_by L.told self.new ≡ shown_by L.told self.old) }
+        ensures told { OnOk result (L.told self.new.link ≡ L.told self.old.link) }
+        ensures state { Leaves result self.old self.new }
+        ensures counts { Counts result self.old.failures self.new.failures }
+    {
         let answer = self.flush_link();
         self.counted(answer)
     }

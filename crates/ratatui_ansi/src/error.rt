@@ -49,9 +49,9 @@ impl<E> From<AllocError> for AnsiError<E> {
     ghost use Rattle.std.specs.Prelude.{◌≡◌};
     ghost use Rattle.ratatui_ansi.specs.declared.error.AnsiError.TheVariants.{Memory};
 
-    fn from(_: AllocError) -> AnsiError<E>
-        ensures { result ≡ Memory }
-    {
+    ghost from_gives = { λ _ error. error ≡ Memory };
+
+    fn from(_: AllocError) -> AnsiError<E> {
         AnsiError::Memory
     }
 }
@@ -60,9 +60,9 @@ impl<E> From<Refusal> for AnsiError<E> {
     ghost use Rattle.std.specs.Prelude.{◌≡◌};
     ghost use Rattle.ratatui_ansi.specs.Errors.{error_of};
 
-    fn from(refusal: Refusal) -> AnsiError<E>
-        ensures { result ≡ error_of refusal }
-    {
+    ghost from_gives = { λ refusal error. error ≡ error_of refusal };
+
+    fn from(refusal: Refusal) -> AnsiError<E> {
         match refusal {
             Refusal::Memory => AnsiError::Memory,
             Refusal::Symbol(place) => AnsiError::Symbol(place),

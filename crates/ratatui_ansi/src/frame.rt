@@ -1,6 +1,6 @@
 //! Cells in their places, as a backend draws them.
 
-ghost use Rattle.std.specs.Prelude.{◌≡◌, ℕ, ◌+◌, ◌-◌, ◌*◌, ◌<◌, ◌≤◌, ◌&&◌, nat_lt, nat_le, if◌then◌else◌, true, false, IsTrue, ◌↔◌, IfOk, OnOk, OnErr, List, [], ◌∷◌, map, length, slice_index_or, string_bytes, MatchResult};
+ghost use Rattle.std.specs.Prelude.{◌≡◌, ℕ, ◌+◌, ◌-◌, ◌*◌, ◌<◌, ◌≤◌, ◌&&◌, nat_lt, nat_le, if◌then◌else◌, true, false, IsTrue, ◌↔◌, IfOk, IfErr, OnOk, OnErr, List, [], ◌∷◌, map, length, slice_index_or, string_bytes, MatchResult};
 ghost use Rattle.std.specs.Iterator.{IsFinite, Drains};
 ghost use Rattle.rtui_cell.specs.Symbol.{blank};
 ghost use Rattle.rtui_cell.specs.Cell.{width_of};
@@ -9,6 +9,7 @@ ghost use Rattle.ratatui_ansi.specs.Pen.{own_pen, pen_of};
 ghost use Rattle.ratatui_ansi.specs.Parameters.{is_told};
 ghost use Rattle.ratatui_ansi.specs.Drawing.{columns_of, blanked, Paints};
 ghost use Rattle.ratatui_ansi.specs.Frame.{is_fit, IsVacant, IsRefused, SendsUpdates, SendsDraw};
+ghost use Rattle.ratatui_ansi.specs.Refusals.{has_place, StopsWithin, StopsDraw};
 
 use crate::drawing::{Brush, change_pen, is_one_plain, is_printed, put};
 use crate::pen::Pen;
@@ -42,10 +43,11 @@ pub enum Refusal {
 
 impl From<AllocError> for Refusal {
     ghost use Rattle.std.specs.Prelude.{◌≡◌};
+    ghost use Rattle.ratatui_ansi.specs.declared.frame.Refusal.TheVariants.{Memory};
 
-    fn from(_: AllocError) -> Refusal
-        ensures { result ≡ Refusal.Memory }
-    {
+    ghost from_gives = { λ _ refusal. refusal ≡ Memory };
+
+    fn from(_: AllocError) -> Refusal {
         Refusal::Memory
     }
 }
@@ -259,10 +261,12 @@ fn draw_all<C: AsCell, I: Iterator<Item = (u16, u16, C)>>(
     requires flags { length behind.old ≡ width * height }
     requires can { I.can_next content }
     requires finite { IsFinite (I.remaining content) }
-    ensures { IfOk result (λ after. (items : List (ℕ × ℕ × C))
+    ensures drawn { IfOk result (λ after. (items : List (ℕ × ℕ × C))
         × Drains I.next_gives content items
         × SendsUpdates width height (string_bytes out.old) drawing behind.old
         (map (update_by C.cell) items) (string_bytes out.new) after behind.new) }
+    ensures refused { IfErr result (StopsWithin I.next_gives content (update_by C.cell)
+        width height (string_bytes out.old) drawing behind.old) }
 {
     let mut drawing = drawing;
     for (x, y, cell) in content {
@@ -286,10 +290,13 @@ pub fn draw_cells<C: AsCell, I: Iterator<Item = (u16, u16, C)>>(
     requires flags { length behind.old ≡ width * height }
     requires can { I.can_next content }
     requires finite { IsFinite (I.remaining content) }
-    ensures { IfOk result (λ after. (items : List (ℕ × ℕ × C))
+    ensures drawn { IfOk result (λ after. (items : List (ℕ × ℕ × C))
         × Drains I.next_gives content items
         × SendsDraw width height (string_bytes out.old) cursor written behind.old
         (map (update_by C.cell) items) (string_bytes out.new) after.0 after.1 behind.new) }
+    ensures refused { IfErr result (λ refusal. IsTrue (has_place refusal)
+        → StopsDraw I.next_gives content (update_by C.cell) width height cursor written
+        behind.old refusal) }
 {
     let brush = Brush {
         pen: Pen::OWN,

@@ -1,17 +1,39 @@
 //! Laws of the model that are no single call's clause. Calling one of these functions costs nothing and tells the caller's proof
 //! its law.
 
-ghost use Rattle.std.specs.Prelude.{◌≡◌, ℕ, ◌+◌, ◌<◌, ◌≤◌, nat_lt, if◌then◌else◌};
+ghost use Rattle.std.specs.Prelude.{◌≡◌, ℕ, ◌+◌, ◌<◌, ◌≤◌, nat_lt, if◌then◌else◌, List, ◌∷◌, ◌++◌};
 ghost use Rattle.rtui_cell.specs.Look.{Look, look_of};
 ghost use Rattle.rtui_cell.specs.Cell.{width_of};
-ghost use Rattle.rtui_cell.specs.Grid.{Update, put};
+ghost use Rattle.rtui_cell.specs.Grid.{Grid, Update, put, puts};
+ghost use Rattle.rtui_cell.specs.declared.cell.Cell.{Cell};
+ghost use Rattle.rtui_diff.specs.Cells.{cell_at};
+ghost use Rattle.rtui_diff.specs.Diff.{IsDiff};
+ghost use Rattle.rtui_diff.specs.Settled.{IsSettled};
+ghost use Rattle.rtui_diff.specs.Shows.{Shows};
+ghost use Rattle.ratatui_ansi.specs.Covered.{IsCovered, IsOpen, IsOrdinary};
+ghost use Rattle.ratatui_ansi.specs.Frame.{IsVacant};
 ghost use Rattle.ratatui_ansi.specs.Columns.{Columns, look_in, is_behind};
-ghost use Rattle.ratatui_ansi.specs.Screens.{IsKnown, IsWhole, IsBlankBeyond, IsReady, IsUncut, put_columns};
+ghost use Rattle.ratatui_ansi.specs.Screens.{AreSized, IsWhole, IsBlankBeyond, IsReady, IsUncut, put_columns};
+ghost use Rattle.ratatui_ansi.specs.Drawing.{columns_of};
 ghost use Rattle.ratatui_ansi.specs.Terminal.{run, fresh};
 
 /// A blank terminal of at least one row is ready, so that what is said of ready terminals is said of some.
 pub fn a_blank_terminal_is_ready()
     ensures { (w h : ℕ) → 0 < h → IsReady w h (fresh w h) }
+{}
+
+/// Where a screen shows a settled frame, and no symbol reaches into the frame's area from the left, no update of the diff to
+/// another settled frame, of ordinary cells, lies where a symbol covers its place, unless the update is vacant: none is
+/// refused with `Cut`.
+pub fn updates_cut_no_symbol()
+    ensures { (x y w h width height : ℕ) (former next : List Cell) (g : Grid)
+        (before : List Update) (u : Update) (after : List Update)
+        → IsDiff x y w h former next (before ++ u ∷ after)
+        → IsSettled w h former → IsSettled w h next
+        → ((a b : ℕ) → a < w → b < h → IsOrdinary (cell_at w next a b))
+        → x + w ≤ width → y + h ≤ height
+        → Shows x y w h former g → IsOpen g x y h
+        → IsCovered (puts width height before g) u.x u.y → IsVacant u.cell }
 {}
 
 /// A symbol that is printed on the screen and cuts no other at its ends is put, as the cells' grids say.
@@ -23,11 +45,11 @@ pub fn a_printed_symbol_is_put()
         ≡ put w h u (λ i j. look_in (c i j)) a b }
 {}
 
-/// Behind such a symbol all columns are known that were, all symbols are whole, nothing stands right of the screen, and of the
-/// symbol's columns all but the first lie behind it.
+/// Behind such a symbol, if it takes just those columns, all columns are known and sized that were, all symbols are whole,
+/// nothing stands right of the screen, and of the symbol's columns all but the first lie behind it.
 pub fn a_printed_symbol_keeps_the_others()
-    ensures known { (x y n : ℕ) (look : Look) (c : Columns) → IsWhole c → IsUncut x y n c
-        → IsKnown c → IsKnown (put_columns x y n look c) }
+    ensures sized { (x y n : ℕ) (look : Look) (c : Columns) → IsWhole c → IsUncut x y n c
+        → n ≡ columns_of look.symbol → AreSized c → AreSized (put_columns x y n look c) }
     ensures whole { (x y n : ℕ) (look : Look) (c : Columns) → IsWhole c → IsUncut x y n c
         → IsWhole (put_columns x y n look c) }
     ensures beyond { (w x y n : ℕ) (look : Look) (c : Columns) → IsWhole c → IsUncut x y n c

@@ -1,4 +1,8 @@
 //! Bytes that are sent, beside those of a terminal's manual.
+mod failing;
+mod plays;
+mod reader;
+
 use crate::backend::AnsiBackend;
 use crate::drawing::{Brush, is_printed, put};
 use crate::error::AnsiError;

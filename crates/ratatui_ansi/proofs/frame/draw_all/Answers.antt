@@ -1,6 +1,7 @@
 use Rattle.std.proofs.Common.{rules}
 use Rattle.std.proofs.lemmas.List.{map-append}
 use Rattle.ratatui_ansi.proofs.FrameLemmas.{sends-none, sends-push}
+use Rattle.ratatui_ansi.proofs.RefusalLemmas.{if-error}
 use Rattle.ratatui_ansi.proofs.frame.draw_all.Goals as goal
 
 pub loop-x-init : goal.loop-x-init
@@ -16,3 +17,16 @@ loop-x-preserved g c = record {
   is_finite = search rules;
   sends = rw map-append (sends-push _ _ _ _ _ _ _ _ _ _ _ _ _ c.loop-x.invariant.sends (rw c.as_cell.ensures at c.in_ok-drawing.ensures.drawn));
 }
+
+pub returns-in_err-drawing-clause-refused : goal.returns-in_err-drawing-clause-refused
+returns-in_err-drawing-clause-refused g c = if-error _ _ _ c.from_residual.ensures (record {
+  front = c.loop-x.yielded;
+  item = (c.in-Some.x, c.in-Some.y, c.in-Some.cell);
+  rest = _;
+  gives = (c.loop-x.x-iterator, rw c.into_iter-x-iterator.ensures.into_iter_gives at c.loop-x.yielded_by, c.in-Some.ensures.steps);
+  new = _;
+  after = _;
+  flags_after = _;
+  sends = c.loop-x.invariant.sends;
+  refused = rw c.as_cell.ensures at c.in_err-drawing.ensures.refused;
+})

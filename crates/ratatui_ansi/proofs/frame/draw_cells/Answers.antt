@@ -1,11 +1,15 @@
 use Rattle.std.proofs.Common.{refl}
 use Rattle.ratatui_ansi.proofs.FrameLemmas.{draw-sends}
+use Rattle.ratatui_ansi.proofs.RefusalLemmas.{if-error, stops-draw}
 use Rattle.ratatui_ansi.proofs.frame.draw_cells.Goals as goal
 
-pub returns : goal.returns
-returns g c =
-    let drawn = c.in_ok-drawing.ensures in (
+pub returns-clause-drawn : goal.returns-clause-drawn
+returns-clause-drawn g c =
+    let drawn = c.in_ok-drawing.ensures.drawn in (
       drawn.0,
       drawn.1,
       draw-sends _ _ _ _ _ _ _ _ _ _ _ _ refl refl refl refl drawn.2 c.in_ok-change_pen.ensures,
     )
+
+pub returns-in_err-drawing-clause-refused : goal.returns-in_err-drawing-clause-refused
+returns-in_err-drawing-clause-refused g c = if-error _ _ _ c.from_residual.ensures (λ named. stops-draw _ _ _ _ _ _ _ _ _ _ _ refl refl refl refl c.in_err-drawing.ensures.refused)

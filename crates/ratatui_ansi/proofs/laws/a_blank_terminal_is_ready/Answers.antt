@@ -1,4 +1,5 @@
 use Rattle.std.proofs.Common.{refl}
+use Rattle.ratatui_ansi.proofs.TextLemmas.{blank-sized}
 use Rattle.ratatui_ansi.proofs.ScrollLemmas.{blank-whole}
 use Rattle.ratatui_ansi.proofs.laws.a_blank_terminal_is_ready.Goals as goal
 
@@ -13,7 +14,7 @@ returns c = λ w h some. record {
   bottom = refl;
   row = some;
   sure = refl;
-  known = λ a b. refl;
+  sized = λ a b. blank-sized;
   whole = λ a b. blank-whole a;
   beyond = λ a b out. refl;
 }

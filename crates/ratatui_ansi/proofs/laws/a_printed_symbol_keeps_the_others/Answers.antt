@@ -1,9 +1,9 @@
-use Rattle.ratatui_ansi.proofs.PutLemmas.{put-known, put-whole, put-beyond, put-behind}
+use Rattle.ratatui_ansi.proofs.PutLemmas.{put-sized, put-whole, put-beyond, put-behind}
 use Rattle.ratatui_ansi.proofs.laws.a_printed_symbol_keeps_the_others.Goals as goal
 
 pub returns : goal.returns
 returns c = record {
-  known = λ x y n look columns whole uncut known. put-known x y n look columns whole known uncut;
+  sized = λ x y n look columns whole uncut takes sized. put-sized x y n look columns whole uncut takes sized;
   whole = λ x y n look columns whole uncut. put-whole x y n look columns whole uncut;
   beyond = λ w x y n look columns whole uncut fits beyond. put-beyond w x y n look columns whole uncut fits beyond;
   behind = λ x y n look columns whole uncut. put-behind x y n look columns whole uncut;

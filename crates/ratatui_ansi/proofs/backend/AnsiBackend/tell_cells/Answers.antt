@@ -1,6 +1,8 @@
-use Rattle.std.proofs.Common.{ap, ◌∙◌, ◌++◌}
+use Rattle.std.proofs.Common.{ap, refl, ◌∙◌, ◌++◌}
+use Rattle.ratatui_ansi.specs.Backend.{reader}
 use Rattle.std.proofs.lemmas.List.{with_items_is}
 use Rattle.ratatui_ansi.proofs.BackendLemmas.{in-order-drawn, drawn-on, count-kept}
+use Rattle.ratatui_ansi.proofs.RefusalLemmas.{if-error, leaves-error, refusal-leaves, still-untold, named-place}
 use Rattle.ratatui_ansi.proofs.backend.AnsiBackend.tell_cells.Goals as goal
 
 pub invariant_of-self-2 : goal.invariant_of-self-2
@@ -9,7 +11,7 @@ invariant_of-self-2 g c =
     let lent = c.as_mut_slice-draft.ensures in
     let told = c.in-Ok.ensures ∙ ap (λ xs. g.L.Link.told b.link ++ xs) c.as_str.ensures.value in
     let copied = c.copy_from_slice.ensures.after ∙ c.as_slice.ensures.value in
-    let drawn = rw (c.clear.ensures.bytes, copied) at c.in_ok-cursor.ensures in
+    let drawn = rw (c.clear.ensures.bytes, copied) at c.in_ok-cursor.ensures.drawn in
     let after = in-order-drawn (g.L.Link.told b.link) c.self.invariant c.if-self.false drawn.2 told in
     let count = count-kept c.draw_cells.new.behind c.self.invariant.draft_count after.behind_count lent.value lent.len in
     let taken = ap (λ v. v.items) c.swap.ensures.x_after ∙ with_items_is b.draft c.draw_cells.new.behind count in
@@ -21,5 +23,16 @@ returns-clause-ok g c =
     let b = c.self.inside in
     let told = c.in-Ok.ensures ∙ ap (λ xs. g.L.Link.told b.link ++ xs) c.as_str.ensures.value in
     let copied = c.copy_from_slice.ensures.after ∙ c.as_slice.ensures.value in
-    let drawn = rw (c.clear.ensures.bytes, copied) at c.in_ok-cursor.ensures in
+    let drawn = rw (c.clear.ensures.bytes, copied) at c.in_ok-cursor.ensures.drawn in
     (drawn.0, drawn.1, rw (← c.self.view_is) (drawn-on (g.L.Link.told b.link) drawn.2 told (c.self.invariant.awaiting c.if-self.false)))
+
+pub returns-in_err-cursor-clause-stopped : goal.returns-in_err-cursor-clause-stopped
+returns-in_err-cursor-clause-stopped g c =
+    let b = c.self.inside in
+    let copied = c.copy_from_slice.ensures.after ∙ c.as_slice.ensures.value in
+    let stopped = rw copied at c.in_err-cursor.ensures.refused in
+    if-error _ _ _ c.from_residual.ensures (λ named.
+    (_, refl, rw (← c.self.view_is) ((stopped (named-place _ _ named)).stops (reader b.size (g.L.Link.told b.link)) (c.self.invariant.awaiting c.if-self.false))))
+
+pub returns-in_err-cursor-clause-state : goal.returns-in_err-cursor-clause-state
+returns-in_err-cursor-clause-state g c = leaves-error _ _ _ _ c.from_residual.ensures (rw (← c.self.view_is) (refusal-leaves _ _ _ _ c.if-self.false (still-untold _)))

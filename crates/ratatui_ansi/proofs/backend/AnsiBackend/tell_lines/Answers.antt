@@ -1,6 +1,7 @@
 use Rattle.std.proofs.Common.{ap, ◌∙◌, ◌++◌}
 use Rattle.std.proofs.lemmas.List.{with_items_is}
 use Rattle.ratatui_ansi.proofs.BackendLemmas.{in-order-on, in-order-by, related-on, count-kept}
+use Rattle.ratatui_ansi.proofs.RefusalLemmas.{leaves-error, still-untold}
 use Rattle.ratatui_ansi.proofs.backend.AnsiBackend.tell_lines.Goals as goal
 
 pub invariant_of-self-2 : goal.invariant_of-self-2
@@ -18,3 +19,6 @@ returns-clause-ok g c =
     let told = c.in-Ok.ensures ∙ ap (λ xs. g.L.Link.told b.link ++ xs) c.as_str.ensures.value in
     rw (← c.self.view_is) (related-on (g.L.Link.told b.link) b.written (rw (c.clear.ensures.bytes, c.as_mut_slice-behind.ensures.value) at c.in_ok-cursor.ensures.ok) told
     (c.self.invariant.awaiting c.if-self.false))
+
+pub returns-in_err-cursor-clause-state : goal.returns-in_err-cursor-clause-state
+returns-in_err-cursor-clause-state g c = leaves-error _ _ _ _ c.from_residual.ensures (rw (← c.self.view_is) (c.if-self.false, still-untold _))

@@ -1,5 +1,6 @@
 use Rattle.std.proofs.Common.{ap, ◌∙◌, ◌++◌}
 use Rattle.ratatui_ansi.proofs.BackendLemmas.{in-order-on, related-on}
+use Rattle.ratatui_ansi.proofs.RefusalLemmas.{leaves-error, still-untold}
 use Rattle.ratatui_ansi.proofs.backend.AnsiBackend.tell_position.Goals as goal
 
 pub invariant_of-self-2 : goal.invariant_of-self-2
@@ -13,3 +14,6 @@ returns-clause-ok g c =
     let b = c.self.inside in
     let told = c.in-Ok.ensures ∙ ap (λ xs. g.L.Link.told b.link ++ xs) c.as_str.ensures.value in
     rw (← c.self.view_is) (related-on (g.L.Link.told b.link) b.written (rw c.clear.ensures.bytes at c.in_ok-cursor.ensures b.cursor b.behind.items) told (c.self.invariant.awaiting c.if-self.false))
+
+pub returns-in_err-cursor-clause-state : goal.returns-in_err-cursor-clause-state
+returns-in_err-cursor-clause-state g c = leaves-error _ _ _ _ c.from_residual.ensures (rw (← c.self.view_is) (c.if-self.false, still-untold _))

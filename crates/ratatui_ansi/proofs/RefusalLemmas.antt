@@ -1,0 +1,85 @@
+-- What refused calls leave, and where a draw stops.
+use Rattle.std.proofs.Common.{◌≡◌, ℕ, ◌*◌, Bool, true, false, IsTrue, List, map, Option, Some, Result, Ok, Err, IsErr, IsErrAnd, IfErr, refl, sym, subst, ◌∙◌, arith}
+use Rattle.std.specs.Iterator.{YieldsThen}
+use Rattle.std.proofs.lemmas.Bool.{false≢true}
+use Rattle.rtui_geometry.specs.declared.position.Position.{Position}
+use Rattle.rtui_cell.specs.Grid.{Update}
+use Rattle.rtui_backend.specs.Screen.{Draws}
+use Rattle.ratatui_ansi.specs.declared.error.AnsiError.{AnsiError}
+use Rattle.ratatui_ansi.specs.declared.error.AnsiError.TheVariants.{Memory, Symbol, Pen, Cut, Size, Broken, Send}
+use Rattle.ratatui_ansi.specs.declared.frame.Drawing.{Drawing}
+use Rattle.ratatui_ansi.specs.declared.frame.Refusal.{Refusal}
+use Rattle.ratatui_ansi.specs.declared.frame.Refusal.TheVariants as Refused
+use Rattle.ratatui_ansi.specs.Backend.{State}
+use Rattle.ratatui_ansi.specs.Calls.{IsAwaiting}
+use Rattle.ratatui_ansi.specs.Errors.{error_of}
+use Rattle.ratatui_ansi.specs.Flags.{flag}
+use Rattle.ratatui_ansi.specs.Frame.{IsPlaced, IsRefused, IsDrawing}
+use Rattle.ratatui_ansi.specs.Pen.{own_pen}
+use Rattle.ratatui_ansi.specs.Refusals.{IsUntold, FailsBy, Leaves, names_cell, has_place, IsRefusedOn, StopsAt, StopsBy, StopsWithin, StopsDraw}
+use Rattle.ratatui_ansi.specs.Screens.{screen_of}
+use Rattle.ratatui_ansi.specs.Sequences.{feed}
+use Rattle.ratatui_ansi.specs.Terminal.{Terminal, rested}
+use Rattle.ratatui_ansi.proofs.CoverLemmas.{covered-behind}
+use Rattle.ratatui_ansi.proofs.FrameLemmas.{begins}
+
+-- ---- where a draw stops
+
+refused-on : (w h : ℕ) (d : Drawing) (flags : List Bool) (t : Terminal) (u : Update) (refusal : Refusal) → IsDrawing w h d flags t → IsRefused w h flags u refusal
+    → IsRefusedOn (screen_of d.written (rested t)) u refusal
+refused-on w h d flags t u Refused.Memory is because = tt
+refused-on w h d flags t u (Refused.Symbol p) is because = (rw (is.ready.width, is.ready.height) because.0, rw is.ready.width because.2)
+refused-on w h d flags t u (Refused.Pen p) is because = (rw (is.ready.width, is.ready.height) because.0, because.2)
+refused-on w h d flags t u (Refused.Cut p) is because = (
+  rw (is.ready.width, is.ready.height) because.0,
+  covered-behind (rested t).columns is.ready.sized is.ready.whole u.x u.y (sym (is.behind.each u.x u.y because.0.column because.0.row) ∙ because.1),
+  because.2,
+)
+
+pub stops-draw : {S A : Type 0} (steps : S → Option A → S → Type 0) (content : S) (update : A → Update) (w h : ℕ) (old : List ℕ) (d : Drawing) (cursor : Position) (written : ℕ) (flags : List Bool)
+    (refusal : Refusal) → d.brush.pen ≡ own_pen → d.brush.is_placed ≡ false → d.cursor ≡ cursor → d.written ≡ written → StopsWithin steps content update w h old d flags refusal
+    → StopsDraw steps content update w h cursor written flags refusal
+stops-draw steps content update w h old d cursor written flags refusal own unplaced at count stops = record {
+  stops = λ t is.
+      let start = begins w h d cursor flags t own unplaced at is in
+      let u = feed stops.sends.bytes t in
+      record {
+        front = stops.front;
+        item = stops.item;
+        rest = stops.rest;
+        gives = stops.gives;
+        between = screen_of stops.after.written (rested u);
+        draws = subst (λ n. Draws (screen_of n (rested t)) (map update stops.front) (screen_of stops.after.written (rested u))) count (stops.sends.draws t start);
+        refused = refused-on w h stops.after stops.flags_after u (update stops.item) refusal (stops.sends.drawing t start) stops.refused;
+      };
+}
+
+-- an error that names a cell comes from a refusal that has a place
+pub named-place : (E : Type 0) (refusal : Refusal) → IsTrue (names_cell (error_of {E = E} refusal)) → IsTrue (has_place refusal)
+named-place E Refused.Memory named = named
+named-place E (Refused.Symbol p) named = named
+named-place E (Refused.Pen p) named = named
+named-place E (Refused.Cut p) named = named
+
+-- ---- what refused calls leave
+
+-- a result that is this error
+abbrev pub Refuses : {A F : Type 0} → Result A F → F → Type 0
+Refuses answer error = IsErr answer × IsErrAnd answer (λ f. f ≡ error)
+
+pub if-error : {A F : Type 0} (P : F → Type 0) (answer : Result A F) (error : F) → Refuses answer error → P error → IfErr answer P
+if-error P (Ok x) error is holds = tt
+if-error P (Err f) error is holds = subst P (sym is.1) holds
+
+pub leaves-error : {L E A : Type 0} (answer : Result A (AnsiError E)) (error : AnsiError E) (old new : State L) → Refuses answer error → FailsBy old new error → Leaves answer old new
+leaves-error (Ok x) error old new is fails = absurd (false≢true is.0)
+leaves-error (Err f) error old new is fails = subst (FailsBy old new) (sym is.1) fails
+
+pub still-untold : {L : Type 0} (s : State L) → IsUntold s s
+still-untold s = record { link = refl; size = refl; written = refl; is_broken = refl }
+
+pub refusal-leaves : {L : Type 0} (E : Type 0) (old new : State L) (refusal : Refusal) → old.is_broken ≡ false → IsUntold old new → FailsBy {L = L} {E = E} old new (error_of refusal)
+refusal-leaves E old new Refused.Memory whole same = (whole, same)
+refusal-leaves E old new (Refused.Symbol p) whole same = (whole, same)
+refusal-leaves E old new (Refused.Pen p) whole same = (whole, same)
+refusal-leaves E old new (Refused.Cut p) whole same = (whole, same)

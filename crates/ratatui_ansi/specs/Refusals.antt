@@ -1,0 +1,113 @@
+-- What a backend's call leaves, by its answer, and where a draw stops.
+use Rattle.std.specs.Prelude.{◌≡◌, ℕ, ◌-◌, Bool, true, false, IsTrue, List, map, Option, Some, Result, MatchResult}
+use Rattle.std.specs.Iterator.{YieldsThen}
+use Rattle.rtui_cell.specs.Grid.{Update}
+use Rattle.rtui_geometry.specs.declared.position.Position.{Position}
+use Rattle.rtui_backend.specs.Screen.{Screen, Draws}
+use Rattle.ratatui_ansi.specs.declared.error.AnsiError.{AnsiError}
+use Rattle.ratatui_ansi.specs.declared.error.AnsiError.TheVariants.{Memory, Symbol, Pen, Cut, Size, Broken, Send}
+use Rattle.ratatui_ansi.specs.declared.frame.Drawing.{Drawing}
+use Rattle.ratatui_ansi.specs.declared.frame.Refusal.{Refusal}
+use Rattle.ratatui_ansi.specs.declared.frame.Refusal.TheVariants as Refused
+use Rattle.ratatui_ansi.specs.Backend.{State}
+use Rattle.ratatui_ansi.specs.Calls.{IsAwaiting}
+use Rattle.ratatui_ansi.specs.Covered.{IsCovered}
+use Rattle.ratatui_ansi.specs.Errors.{error_of}
+use Rattle.ratatui_ansi.specs.Frame.{is_fit, IsVacant, IsPlaced, IsRefused, SendsUpdates}
+use Rattle.ratatui_ansi.specs.Parameters.{is_told}
+use Rattle.ratatui_ansi.specs.Pen.{pen_of}
+use Rattle.ratatui_ansi.specs.Screens.{screen_of}
+use Rattle.ratatui_ansi.specs.Terminal.{Terminal, rested}
+
+-- ---- what is left
+
+-- nothing was told, and but for the count of failures all is as it was
+pub record IsUntold {L : Type 0} (old new : State L) : Type 0 where
+  pub link : new.link ≡ old.link
+  pub size : new.size ≡ old.size
+  pub written : new.written ≡ old.written
+  pub is_broken : new.is_broken ≡ old.is_broken
+
+-- no send failed before, and none fails now
+pub record IsWorking {L : Type 0} (old new : State L) : Type 0 where
+  pub before : old.is_broken ≡ false
+  pub after : new.is_broken ≡ false
+  pub size : new.size ≡ old.size
+
+-- a send failed for the first time
+pub record Breaks {L : Type 0} (old new : State L) : Type 0 where
+  pub before : old.is_broken ≡ false
+  pub after : new.is_broken ≡ true
+  pub size : new.size ≡ old.size
+
+-- a refused call, by its error: after a failed send every call is refused, and only a failed send changes anything
+abbrev pub FailsBy : {L E : Type 0} → State L → State L → AnsiError E → Type 0
+FailsBy old new Memory = (old.is_broken ≡ false) × IsUntold old new
+FailsBy old new (Symbol p) = (old.is_broken ≡ false) × IsUntold old new
+FailsBy old new (Pen p) = (old.is_broken ≡ false) × IsUntold old new
+FailsBy old new (Cut p) = (old.is_broken ≡ false) × IsUntold old new
+FailsBy old new Size = ⊥
+FailsBy old new Broken = (old.is_broken ≡ true) × IsUntold old new
+FailsBy old new (Send error) = Breaks old new
+
+-- a call that answers this
+abbrev pub Leaves : {L E A : Type 0} → Result A (AnsiError E) → State L → State L → Type 0
+Leaves answer old new = MatchResult answer (λ _. IsWorking old new) (FailsBy old new)
+
+-- ---- cells that aren't drawn
+
+-- whether a refusal, or an error, names a cell's place
+abbrev pub has_place : Refusal → Bool
+has_place Refused.Memory = false
+has_place (Refused.Symbol p) = true
+has_place (Refused.Pen p) = true
+has_place (Refused.Cut p) = true
+
+abbrev pub names_cell : {E : Type 0} → AnsiError E → Bool
+names_cell Memory = false
+names_cell (Symbol p) = true
+names_cell (Pen p) = true
+names_cell (Cut p) = true
+names_cell Size = false
+names_cell Broken = false
+names_cell (Send error) = false
+
+-- why an update isn't drawn on a screen: its symbol doesn't fit, its pen can't be told, or it isn't vacant where a symbol covers its place
+abbrev pub IsRefusedOn : Screen → Update → Refusal → Type 0
+IsRefusedOn s u Refused.Memory = Unit {0}
+IsRefusedOn s u (Refused.Symbol p) = IsPlaced s.width s.height p u × (is_fit (s.width - u.x) u.cell ≡ false)
+IsRefusedOn s u (Refused.Pen p) = IsPlaced s.width s.height p u × (is_told (pen_of u.cell) ≡ false)
+IsRefusedOn s u (Refused.Cut p) = IsPlaced s.width s.height p u × IsCovered s.grid u.x u.y × (IsVacant u.cell → ⊥)
+
+-- an item isn't drawn on the screen that the items before it would have made of this one
+pub record StopsAt {S A : Type 0} (steps : S → Option A → S → Type 0) (content : S) (update : A → Update) (old : Screen) (refusal : Refusal) : Type 0 where
+  pub front : List A
+  pub item : A
+  pub rest : S
+  pub gives : YieldsThen steps content front (Some item) rest
+  pub between : Screen
+  pub draws : Draws old (map update front) between
+  pub refused : IsRefusedOn between (update item) refusal
+
+-- an error that names a cell is that of the item at which a draw stops
+abbrev pub StopsBy : {S A E : Type 0} → (S → Option A → S → Type 0) → S → (A → Update) → Screen → AnsiError E → Type 0
+StopsBy steps content update old error =
+    IsTrue (names_cell error) → (refusal : Refusal) × (error ≡ error_of refusal) × StopsAt steps content update old refusal
+
+-- the same within a draw: the bytes of the items before it were appended
+pub record StopsWithin {S A : Type 0} (steps : S → Option A → S → Type 0) (content : S) (update : A → Update) (w h : ℕ) (old : List ℕ) (before : Drawing)
+    (flags : List Bool) (refusal : Refusal) : Type 0 where
+  pub front : List A
+  pub item : A
+  pub rest : S
+  pub gives : YieldsThen steps content front (Some item) rest
+  pub new : List ℕ
+  pub after : Drawing
+  pub flags_after : List Bool
+  pub sends : SendsUpdates w h old before flags (map update front) new after flags_after
+  pub refused : IsRefused w h flags_after (update item) refusal
+
+-- the same for each terminal between two calls
+pub record StopsDraw {S A : Type 0} (steps : S → Option A → S → Type 0) (content : S) (update : A → Update) (w h : ℕ) (cursor : Position) (written : ℕ)
+    (flags : List Bool) (refusal : Refusal) : Type 0 where
+  pub stops : (t : Terminal) → IsAwaiting w h cursor flags t → StopsAt steps content update (screen_of written (rested t)) refusal

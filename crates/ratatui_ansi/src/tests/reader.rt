@@ -1,0 +1,478 @@
+//! A terminal that reads what a link was told: the model, computed.
+use crate::part::Part;
+use crate::pen::Pen;
+use crate::symbol::{is_plain, is_symbol};
+use bitflags::Flags;
+use rtui_backend::TestBackend;
+use rtui_cell::{Cell, CellWidth};
+use rtui_geometry::Position;
+use rtui_style::{Color, Modifier};
+use std::alloc::{AllocError, Global};
+
+// One of the columns of a symbol, counted from 0, and how many the symbol takes; none at all where nothing is known.
+#[derive(Clone, Copy)]
+struct Column<'a> {
+    symbol: &'a str,
+    pen: Pen,
+    index: u16,
+    count: u16,
+}
+
+const BLANK: Column<'static> = Column {
+    symbol: " ",
+    pen: Pen::OWN,
+    index: 0,
+    count: 1,
+};
+
+// Columns that are written over.
+#[derive(Clone, Copy)]
+enum Area {
+    Run(Position, u16),
+    Part(Part, Position),
+}
+
+impl Area {
+    fn has(self, a: u16, b: u16) -> bool {
+        match self {
+            Area::Run(from, count) => {
+                b == from.y && from.x <= a && a - from.x < count
+            }
+            Area::Part(Part::After, at) => at.y < b || (b == at.y && at.x <= a),
+            Area::Part(Part::Before, at) => b < at.y || (b == at.y && a <= at.x),
+            Area::Part(Part::Line, at) => b == at.y,
+            Area::Part(Part::LineEnd, at) => b == at.y && at.x <= a,
+        }
+    }
+
+    // Whether a symbol, of which this is column `a` of row `b`, has a column here.
+    fn meets(self, a: u16, b: u16, column: Column<'_>) -> bool {
+        let first = a.saturating_sub(column.index);
+        for k in 0..column.count {
+            if self.has(first.saturating_add(k), b) {
+                return true;
+            }
+        }
+        false
+    }
+}
+
+// What the next parameter of a pen belongs to.
+#[derive(Clone, Copy)]
+enum Awaits {
+    Nothing,
+    Kind(u16),
+    Number(u16),
+    Red(u16),
+    Green(u16, u8),
+    Blue(u16, u8, u8),
+}
+
+const NAMED: [Color; 16] = [
+    Color::Black,
+    Color::Red,
+    Color::Green,
+    Color::Yellow,
+    Color::Blue,
+    Color::Magenta,
+    Color::Cyan,
+    Color::Gray,
+    Color::DarkGray,
+    Color::LightRed,
+    Color::LightGreen,
+    Color::LightYellow,
+    Color::LightBlue,
+    Color::LightMagenta,
+    Color::LightCyan,
+    Color::White,
+];
+
+fn named(number: u16) -> Color {
+    match NAMED.get(usize::from(number)) {
+        Some(color) => *color,
+        None => Color::Reset,
+    }
+}
+
+fn colored(pen: Pen, target: u16, color: Color) -> Pen {
+    match target {
+        38 => Pen { fg: color, ..pen },
+        48 => Pen { bg: color, ..pen },
+        _ => Pen {
+            underline_color: color,
+            ..pen
+        },
+    }
+}
+
+const MODIFIERS: [u16; 9] = [1, 2, 4, 8, 16, 32, 64, 128, 256];
+
+// A pen after a parameter that stands for itself.
+fn inked(pen: Pen, number: u16) -> Pen {
+    match number {
+        0 => Pen::OWN,
+        1..=9 => match MODIFIERS.get(usize::from(number) - 1) {
+            Some(bit) => Pen {
+                modifier: pen.modifier | Modifier::from_bits_retain(*bit),
+                ..pen
+            },
+            None => pen,
+        },
+        30..=37 => colored(pen, 38, named(number - 30)),
+        40..=47 => colored(pen, 48, named(number - 40)),
+        90..=97 => colored(pen, 38, named(number - 82)),
+        100..=107 => colored(pen, 48, named(number - 92)),
+        _ => pen,
+    }
+}
+
+fn byte(number: u16) -> u8 {
+    u8::try_from(number).unwrap_or(255)
+}
+
+// A pen after the parameters of a whole sequence.
+fn inked_by(pen: Pen, parameters: &str) -> Pen {
+    let mut pen = pen;
+    let mut awaits = Awaits::Nothing;
+    for parameter in parameters.split(';') {
+        let number: u16 = parameter.parse().unwrap_or(0);
+        awaits = match awaits {
+            Awaits::Nothing if number == 38 || number == 48 || number == 58 => Awaits::Kind(number),
+            Awaits::Nothing => {
+                pen = inked(pen, number);
+                Awaits::Nothing
+            }
+            Awaits::Kind(target) if number == 5 => Awaits::Number(target),
+            Awaits::Kind(target) => Awaits::Red(target),
+            Awaits::Number(target) => {
+                pen = colored(pen, target, Color::Indexed(byte(number)));
+                Awaits::Nothing
+            }
+            Awaits::Red(target) => Awaits::Green(target, byte(number)),
+            Awaits::Green(target, red) => Awaits::Blue(target, red, byte(number)),
+            Awaits::Blue(target, red, green) => {
+                pen = colored(pen, target, Color::Rgb(red, green, byte(number)));
+                Awaits::Nothing
+            }
+        };
+    }
+    pen
+}
+
+// A terminal that was blank; `sure` until real terminals would differ.
+#[derive(Drop)]
+pub struct Reader<'a> {
+    width: u16,
+    height: u16,
+    pen: Pen,
+    x: u16,
+    y: u16,
+    top: u16,
+    bottom: u16,
+    columns: Vec<Option<Column<'a>>>,
+    history: Vec<Vec<Option<Column<'a>>>>,
+    visible: bool,
+    sure: bool,
+    alloc: Global,
+}
+
+impl<'a> Reader<'a> {
+    // A terminal of this size after it has read a text.
+    pub fn of(
+        alloc: Global,
+        width: u16,
+        height: u16,
+        told: &'a str,
+    ) -> Result<Reader<'a>, AllocError> {
+        let count = usize::from(width) * usize::from(height);
+        let mut reader = Reader {
+            width,
+            height,
+            pen: Pen::OWN,
+            x: 0,
+            y: 0,
+            top: 0,
+            bottom: height,
+            columns: Vec::from_elem(alloc, Some(BLANK), count)?,
+            history: Vec::new(alloc),
+            visible: true,
+            sure: true,
+            alloc,
+        };
+        reader.read(told)?;
+        Ok(reader)
+    }
+
+    fn read(&mut self, told: &'a str) -> Result<(), AllocError> {
+        let mut texts = told.split('\u{1b}');
+        if let Some(text) = texts.next() {
+            self.read_text(text)?;
+        }
+        for sequence in texts {
+            match sequence.strip_prefix('[') {
+                Some(sequence) => self.read_sequence(sequence)?,
+                None => self.sure = false,
+            }
+        }
+        Ok(())
+    }
+
+    // Text with carriage returns and line feeds.
+    fn read_text(&mut self, text: &'a str) -> Result<(), AllocError> {
+        let mut from = 0;
+        for (at, ch) in text.char_indices() {
+            if ch == '\r' || ch == '\n' {
+                self.print(text.get(from..at).unwrap_or(""));
+                from = at + 1;
+                if ch == '\r' {
+                    self.x = 0;
+                } else {
+                    self.feed_line()?;
+                }
+            }
+        }
+        self.print(text.get(from..).unwrap_or(""));
+        Ok(())
+    }
+
+    fn read_sequence(&mut self, sequence: &'a str) -> Result<(), AllocError> {
+        for (at, ch) in sequence.char_indices() {
+            if !ch.is_ascii_digit() && ch != ';' && ch != '?' {
+                self.perform(sequence.get(..at).unwrap_or(""), ch);
+                let from = at + ch.len_utf8();
+                return self.read_text(sequence.get(from..).unwrap_or(""));
+            }
+        }
+        self.sure = false;
+        Ok(())
+    }
+
+    fn perform(&mut self, parameters: &str, last: char) {
+        if last == 'm' {
+            self.pen = inked_by(self.pen, parameters);
+            return;
+        }
+        if parameters == "?25" {
+            self.visible = last == 'h';
+            self.sure = self.sure && (last == 'h' || last == 'l');
+            return;
+        }
+        let mut numbers = parameters.split(';');
+        let first = numbers.next().unwrap_or("").parse().unwrap_or(0);
+        match numbers.next() {
+            Some(second) => self.perform_two(last, first, second.parse().unwrap_or(0)),
+            None => self.perform_one(last, first),
+        }
+    }
+
+    fn perform_two(&mut self, last: char, first: u16, second: u16) {
+        match last {
+            'H' => {
+                self.x = second.saturating_sub(1).min(self.width.saturating_sub(1));
+                self.y = first.saturating_sub(1).min(self.height.saturating_sub(1));
+            }
+            'r' => {
+                self.sure = self.sure && first < second && second <= self.height;
+                self.set_region(first.saturating_sub(1), second);
+            }
+            _ => self.sure = false,
+        }
+    }
+
+    fn perform_one(&mut self, last: char, n: u16) {
+        match (last, n) {
+            ('J', 0) => self.erase(Part::After),
+            ('J', 1) => self.erase(Part::Before),
+            ('K', 0) => self.erase(Part::LineEnd),
+            ('K', 2) => self.erase(Part::Line),
+            ('r', 0) => self.set_region(0, self.height),
+            ('M', _) => {
+                let is_row = 0 < self.y && self.top <= self.y && self.y < self.bottom;
+                self.sure = self.sure && self.has_own_pen() && is_row && self.x == 0 && 0 < n;
+                self.raise(self.y, self.bottom, n);
+            }
+            ('T', _) => {
+                self.sure = self.sure && self.has_own_pen() && 0 < n;
+                self.lower(self.top, self.bottom, n);
+            }
+            _ => self.sure = false,
+        }
+    }
+
+    fn has_own_pen(&self) -> bool {
+        self.pen == Pen::OWN
+    }
+
+    fn set_region(&mut self, top: u16, bottom: u16) {
+        self.top = top;
+        self.bottom = bottom;
+        self.x = 0;
+        self.y = 0;
+    }
+
+    // Plain characters one by one, any other text as one symbol.
+    fn print(&mut self, text: &'a str) {
+        if text.chars().all(is_plain) {
+            for (at, ch) in text.char_indices() {
+                self.print_symbol(text.get(at..at + ch.len_utf8()).unwrap_or(""), 1);
+            }
+        } else {
+            self.sure = self.sure && is_symbol(text);
+            self.print_symbol(text, text.cell_width());
+        }
+    }
+
+    fn print_symbol(&mut self, symbol: &'a str, count: u16) {
+        let is_in = 0 < count && count <= self.width.saturating_sub(self.x) && self.y < self.height;
+        self.sure = self.sure && is_in;
+        let at = Position {
+            x: self.x,
+            y: self.y,
+        };
+        self.overwrite(Area::Run(at, count), symbol, self.pen, count);
+        self.x = self.x.saturating_add(count);
+    }
+
+    fn erase(&mut self, part: Part) {
+        let is_kept = !matches!(part, Part::After) || 0 < self.x || 0 < self.y;
+        self.sure = self.sure && self.has_own_pen() && self.x < self.width && is_kept;
+        let at = Position {
+            x: self.x,
+            y: self.y,
+        };
+        self.overwrite(Area::Part(part, at), " ", Pen::OWN, 1);
+    }
+
+    // Writes an area over: with one symbol of so many columns, or with symbols of one column each.
+    fn overwrite(&mut self, area: Area, symbol: &'a str, pen: Pen, count: u16) {
+        let width = self.width;
+        let first = self.x;
+        let mut a: u16 = 0;
+        let mut b: u16 = 0;
+        for slot in self.columns.iter_mut() {
+            if area.has(a, b) {
+                let index = if count == 1 { 0 } else { a.saturating_sub(first) };
+                *slot = Some(Column {
+                    symbol,
+                    pen,
+                    index,
+                    count,
+                });
+            } else if let Some(old) = *slot {
+                if area.meets(a, b, old) {
+                    *slot = None;
+                }
+            }
+            a = a.saturating_add(1);
+            if a >= width {
+                a = 0;
+                b = b.saturating_add(1);
+            }
+        }
+    }
+
+    fn column(&self, a: u16, b: u16) -> Option<Column<'a>> {
+        let place = usize::from(b) * usize::from(self.width) + usize::from(a);
+        match self.columns.get(place) {
+            Some(column) => *column,
+            None => None,
+        }
+    }
+
+    fn set_column(&mut self, a: u16, b: u16, column: Option<Column<'a>>) {
+        let place = usize::from(b) * usize::from(self.width) + usize::from(a);
+        if let Some(slot) = self.columns.get_mut(place) {
+            *slot = column;
+        }
+    }
+
+    fn set_row(&mut self, b: u16, from: Option<u16>) {
+        for a in 0..self.width {
+            let column = match from {
+                Some(row) => self.column(a, row),
+                None => Some(BLANK),
+            };
+            self.set_column(a, b, column);
+        }
+    }
+
+    // The rows from `top` up to `bottom`, moved up.
+    fn raise(&mut self, top: u16, bottom: u16, n: u16) {
+        for b in top..bottom {
+            let from = b.saturating_add(n);
+            self.set_row(b, if from < bottom { Some(from) } else { None });
+        }
+    }
+
+    // The rows from `top` up to `bottom`, moved down.
+    fn lower(&mut self, top: u16, bottom: u16, n: u16) {
+        for b in (top..bottom).rev() {
+            let from = b.saturating_sub(n);
+            let is_moved = n <= b && top <= from;
+            self.set_row(b, if is_moved { Some(from) } else { None });
+        }
+    }
+
+    fn feed_line(&mut self) -> Result<(), AllocError> {
+        self.sure = self.sure && self.x < self.width;
+        let below = self.y.saturating_add(1);
+        if below != self.bottom {
+            self.y = below.min(self.height.saturating_sub(1));
+            return Ok(());
+        }
+        let mut row = Vec::new(self.alloc);
+        for a in 0..self.width {
+            let column = self.column(a, 0);
+            self.sure = self.sure && column.is_some();
+            row.push(column)?;
+        }
+        self.history.push(row)?;
+        self.sure = self.sure && self.has_own_pen() && self.top == 0;
+        self.raise(self.top, self.bottom, 1);
+        Ok(())
+    }
+
+    /// Whether a place is covered by a symbol that begins left of it.
+    pub fn is_behind(&self, x: u16, y: u16) -> bool {
+        match self.column(x, y) {
+            Some(column) => 0 < column.index,
+            None => false,
+        }
+    }
+
+    /// Whether it is sure of what it shows, with its cursor in this place, and shows what a screen in memory does.
+    pub fn shows(&self, cursor: Position, screen: &TestBackend) -> bool {
+        let x = self.x.min(self.width.saturating_sub(1));
+        let is_calm = self.sure && self.has_own_pen() && self.top == 0 && self.bottom == self.height;
+        if !is_calm || x != cursor.x || self.y != cursor.y || self.visible != screen.cursor_visible()
+        {
+            return false;
+        }
+        are_shown(self.columns.as_slice(), screen.buffer().content())
+            && self.history.len() == screen.scrollback().len()
+            && self
+                .history
+                .iter()
+                .zip(screen.scrollback().iter())
+                .all(|(row, cells)| are_shown(row.as_slice(), cells.as_slice()))
+    }
+}
+
+// Whether what stands in a column has the look of a cell.
+fn is_shown(column: Option<Column<'_>>, cell: &Cell) -> bool {
+    match column {
+        Some(column) if column.index == 0 => {
+            cell.symbol() == column.symbol && Pen::of(cell) == column.pen
+        }
+        Some(_) => cell.symbol() == " " && Pen::of(cell) == Pen::OWN,
+        None => false,
+    }
+}
+
+fn are_shown(columns: &[Option<Column<'_>>], cells: &[Cell]) -> bool {
+    columns.len() == cells.len()
+        && columns
+            .iter()
+            .zip(cells.iter())
+            .all(|(column, cell)| is_shown(*column, cell))
+}
