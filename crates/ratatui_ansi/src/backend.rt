@@ -406,11 +406,7 @@ impl<L: Link> Backend for AnsiBackend<L> {
         self.counted(answer)
     }
 
-    fn scroll_region_down(
-        &mut self,
-        region: Range<u16>,
-        n: u16,
-    ) -> Result<(), AnsiError<L::Error>>
+    fn scroll_region_down(&mut self, region: Range<u16>, n: u16) -> Result<(), AnsiError<L::Error>>
         ensures ok { OnOk result (ScrollsDown region.start region.end n
             (shown_by L.told self.old) (shown_by L.told self.new)) }
         ensures state { Leaves result self.old self.new }

@@ -10,9 +10,8 @@ use rtui_cell::Cell;
 use rtui_geometry::{Position, Size};
 use std::alloc::{AllocError, Global};
 use std::error::Error;
-use std::fmt;
-use std::iter;
 use std::test::Fail;
+use std::{fmt, iter};
 
 // Why a link failed.
 #[derive(Debug, Clone, Copy, PartialEq, Eq)]
@@ -146,7 +145,8 @@ fn is_mended(backend: &mut AnsiBackend<Tearing>, cell: &Cell) -> bool {
 // so often, and a restart mends that.
 fn fails_and_is_mended(alloc: Global, number: u64, restarts: u64) -> Result<bool, Fail> {
     let cell = Cell::new(alloc, "a")?;
-    let Ok(mut backend) = over_tearing(alloc, number.saturating_add(1), restarts.saturating_add(1)) else {
+    let Ok(mut backend) = over_tearing(alloc, number.saturating_add(1), restarts.saturating_add(1))
+    else {
         return Ok(false);
     };
     for before in 0..number {

@@ -41,7 +41,18 @@ impl Random {
 }
 
 const SYMBOLS: [&str; 12] = [
-    " ", "a", "~", "é", "─", "コ", "ン", "e\u{301}", "👩\u{200d}🔬", "", "\u{7}", "ab",
+    " ",
+    "a",
+    "~",
+    "é",
+    "─",
+    "コ",
+    "ン",
+    "e\u{301}",
+    "👩\u{200d}🔬",
+    "",
+    "\u{7}",
+    "ab",
 ];
 
 const COLORS: [Color; 6] = [
@@ -67,7 +78,10 @@ fn random_cell(alloc: Global, random: &mut Random) -> Result<Cell, AllocError> {
     let mut cell = Cell::new(alloc, random.among(&SYMBOLS, "a"))?;
     cell.fg = random.among(&COLORS, Color::Reset);
     cell.bg = random.among(&COLORS, Color::Reset);
-    cell.underline_color = random.among(&[Color::Reset, Color::Reset, Color::Indexed(3)], Color::Reset);
+    cell.underline_color = random.among(
+        &[Color::Reset, Color::Reset, Color::Indexed(3)],
+        Color::Reset,
+    );
     cell.modifier = Modifier::from_bits_retain(random.among(&MODIFIERS, 0));
     Ok(cell)
 }
@@ -121,7 +135,10 @@ impl Play {
     // Draws one cell; whether it is drawn on both, or refused for a reason with nothing told.
     fn draws(&mut self, random: &mut Random) -> Result<bool, Fail> {
         let cell = random_cell(self.alloc, random)?;
-        let (x, y) = (random.below(self.width.saturating_add(1)), random.below(self.height.saturating_add(1)));
+        let (x, y) = (
+            random.below(self.width.saturating_add(1)),
+            random.below(self.height.saturating_add(1)),
+        );
         let room = self.width.saturating_sub(x);
         let is_behind = self.read()?.is_behind(x, y);
         let told = self.backend.link().unsent().len();
@@ -178,7 +195,10 @@ impl Play {
     }
 
     fn scrolls(&mut self, random: &mut Random, up: bool) -> bool {
-        let (start, end) = (random.below(self.height.saturating_add(1)), random.below(self.height.saturating_add(2)));
+        let (start, end) = (
+            random.below(self.height.saturating_add(1)),
+            random.below(self.height.saturating_add(2)),
+        );
         let n = random.below(self.height.saturating_add(2));
         let are_both = if up {
             self.backend.scroll_region_up(start..end, n).is_ok()

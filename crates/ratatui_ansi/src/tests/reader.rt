@@ -35,9 +35,7 @@ enum Area {
 impl Area {
     fn has(self, a: u16, b: u16) -> bool {
         match self {
-            Area::Run(from, count) => {
-                b == from.y && from.x <= a && a - from.x < count
-            }
+            Area::Run(from, count) => { b == from.y && from.x <= a && a - from.x < count }
             Area::Part(Part::After, at) => at.y < b || (b == at.y && at.x <= a),
             Area::Part(Part::Before, at) => b < at.y || (b == at.y && a <= at.x),
             Area::Part(Part::Line, at) => b == at.y,
@@ -351,7 +349,11 @@ impl<'a> Reader<'a> {
         let mut b: u16 = 0;
         for slot in self.columns.iter_mut() {
             if area.has(a, b) {
-                let index = if count == 1 { 0 } else { a.saturating_sub(first) };
+                let index = if count == 1 {
+                    0
+                } else {
+                    a.saturating_sub(first)
+                };
                 *slot = Some(Column {
                     symbol,
                     pen,
@@ -443,8 +445,14 @@ impl<'a> Reader<'a> {
     /// Whether it is sure of what it shows, with its cursor in this place, and shows what a screen in memory does.
     pub fn shows(&self, cursor: Position, screen: &TestBackend) -> bool {
         let x = self.x.min(self.width.saturating_sub(1));
-        let is_calm = self.sure && self.has_own_pen() && self.top == 0 && self.bottom == self.height;
-        if !is_calm || x != cursor.x || self.y != cursor.y || self.visible != screen.cursor_visible()
+        let is_calm = self.sure
+            && self.has_own_pen()
+            && self.top == 0
+            && self.bottom == self.height;
+        if !is_calm
+            || x != cursor.x
+            || self.y != cursor.y
+            || self.visible != screen.cursor_visible()
         {
             return false;
         }
