@@ -25,21 +25,21 @@ use Rattle.ratatui_ansi.proofs.FrameLemmas.{begins}
 
 -- ---- where a draw stops
 
-refused-on : (w h : ℕ) (d : Drawing) (flags : List Bool) (t : Terminal) (u : Update) (refusal : Refusal) → IsDrawing w h d flags t → IsRefused w h flags u refusal
-    → IsRefusedOn (screen_of d.written (rested t)) u refusal
-refused-on w h d flags t u Refused.Memory is because = tt
-refused-on w h d flags t u (Refused.Symbol p) is because = (rw (is.ready.width, is.ready.height) because.0, rw is.ready.width because.2)
-refused-on w h d flags t u (Refused.Pen p) is because = (rw (is.ready.width, is.ready.height) because.0, because.2)
-refused-on w h d flags t u (Refused.Cut p) is because = (
+refused-on : (w h : ℕ) (colors : Bool) (d : Drawing) (flags : List Bool) (t : Terminal) (u : Update) (refusal : Refusal) → IsDrawing w h d flags t → IsRefused w h colors flags u refusal
+    → IsRefusedOn colors (screen_of d.written (rested t)) u refusal
+refused-on w h colors d flags t u Refused.Memory is because = tt
+refused-on w h colors d flags t u (Refused.Symbol p) is because = (rw (is.ready.width, is.ready.height) because.0, rw is.ready.width because.2)
+refused-on w h colors d flags t u (Refused.Pen p) is because = (rw (is.ready.width, is.ready.height) because.0, because.2)
+refused-on w h colors d flags t u (Refused.Cut p) is because = (
   rw (is.ready.width, is.ready.height) because.0,
   covered-behind (rested t).columns is.ready.sized is.ready.whole u.x u.y (sym (is.behind.each u.x u.y because.0.column because.0.row) ∙ because.1),
   because.2,
 )
 
-pub stops-draw : {S A : Type 0} (steps : S → Option A → S → Type 0) (content : S) (update : A → Update) (w h : ℕ) (old : List ℕ) (d : Drawing) (cursor : Position) (written : ℕ) (flags : List Bool)
-    (refusal : Refusal) → d.brush.pen ≡ own_pen → d.brush.is_placed ≡ false → d.cursor ≡ cursor → d.written ≡ written → StopsWithin steps content update w h old d flags refusal
-    → StopsDraw steps content update w h cursor written flags refusal
-stops-draw steps content update w h old d cursor written flags refusal own unplaced at count stops = record {
+pub stops-draw : {S A : Type 0} (steps : S → Option A → S → Type 0) (content : S) (update : A → Update) (w h : ℕ) (colors : Bool) (old : List ℕ) (d : Drawing) (cursor : Position) (written : ℕ) (flags : List Bool)
+    (refusal : Refusal) → d.brush.pen ≡ own_pen → d.brush.is_placed ≡ false → d.cursor ≡ cursor → d.written ≡ written → StopsWithin steps content update w h colors old d flags refusal
+    → StopsDraw steps content update w h colors cursor written flags refusal
+stops-draw steps content update w h colors old d cursor written flags refusal own unplaced at count stops = record {
   stops = λ t is.
       let start = begins w h d cursor flags t own unplaced at is in
       let u = feed stops.sends.bytes t in
@@ -50,7 +50,7 @@ stops-draw steps content update w h old d cursor written flags refusal own unpla
         gives = stops.gives;
         between = screen_of stops.after.written (rested u);
         draws = subst (λ n. Draws (screen_of n (rested t)) (map update stops.front) (screen_of stops.after.written (rested u))) count (stops.sends.draws t start);
-        refused = refused-on w h stops.after stops.flags_after u (update stops.item) refusal (stops.sends.drawing t start) stops.refused;
+        refused = refused-on w h colors stops.after stops.flags_after u (update stops.item) refusal (stops.sends.drawing t start) stops.refused;
       };
 }
 
@@ -76,7 +76,7 @@ leaves-error (Ok x) error old new is fails = absurd (false≢true is.0)
 leaves-error (Err f) error old new is fails = subst (FailsBy old new) (sym is.1) fails
 
 pub still-untold : {L : Type 0} (s : State L) → IsUntold s s
-still-untold s = record { link = refl; size = refl; written = refl; is_broken = refl }
+still-untold s = record { link = refl; size = refl; colors = refl; written = refl; is_broken = refl }
 
 pub refusal-leaves : {L : Type 0} (E : Type 0) (old new : State L) (refusal : Refusal) → old.is_broken ≡ false → IsUntold old new → FailsBy {L = L} {E = E} old new (error_of refusal)
 refusal-leaves E old new Refused.Memory whole same = (whole, same)

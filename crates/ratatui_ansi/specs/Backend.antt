@@ -12,6 +12,7 @@ use Rattle.ratatui_ansi.specs.Calls.{IsAwaiting}
 pub record State (L : Type 0) : Type 0 where
   pub link : L
   pub size : Size
+  pub has_underline_colors : Bool
   pub written : ℕ
   pub failures : ℕ
   pub is_broken : Bool

@@ -15,7 +15,7 @@ use Rattle.ratatui_ansi.specs.Columns.Column.{Shows}
 use Rattle.ratatui_ansi.specs.Calls.{IsAwaiting}
 use Rattle.ratatui_ansi.specs.Flags.{AreBehind, flag}
 use Rattle.ratatui_ansi.specs.Pen.{own_pen, pen_of}
-use Rattle.ratatui_ansi.specs.Parameters.{is_told}
+use Rattle.ratatui_ansi.specs.Parameters.{is_told_by}
 use Rattle.ratatui_ansi.specs.Terminal.{Terminal, rested, with_pen, run}
 use Rattle.ratatui_ansi.specs.Sequences.{feed}
 use Rattle.ratatui_ansi.specs.Screens.{screen_of, IsReady}
@@ -54,12 +54,12 @@ pub record IsPlaced (w h : ℕ) (p : Position) (u : Update) : Type 0 where
   pub place : p ≡ record { x = u.x; y = u.y }
 
 -- an update was refused: for want of memory, or in its place, which isn't covered from the left, because its symbol doesn't fit or its pen
--- can't be told, or because it isn't vacant and the place is covered
-abbrev pub IsRefused : ℕ → ℕ → List Bool → Update → Refusal → Type 0
-IsRefused w h flags u Refused.Memory = Unit {0}
-IsRefused w h flags u (Refused.Symbol p) = IsPlaced w h p u × (flag flags (u.y * w + u.x) ≡ false) × (is_fit (w - u.x) u.cell ≡ false)
-IsRefused w h flags u (Refused.Pen p) = IsPlaced w h p u × (flag flags (u.y * w + u.x) ≡ false) × (is_told (pen_of u.cell) ≡ false)
-IsRefused w h flags u (Refused.Cut p) = IsPlaced w h p u × (flag flags (u.y * w + u.x) ≡ true) × (IsVacant u.cell → ⊥)
+-- can't be told to a terminal with colours of the line under the text or without, or because it isn't vacant and the place is covered
+abbrev pub IsRefused : ℕ → ℕ → Bool → List Bool → Update → Refusal → Type 0
+IsRefused w h colors flags u Refused.Memory = Unit {0}
+IsRefused w h colors flags u (Refused.Symbol p) = IsPlaced w h p u × (flag flags (u.y * w + u.x) ≡ false) × (is_fit (w - u.x) u.cell ≡ false)
+IsRefused w h colors flags u (Refused.Pen p) = IsPlaced w h p u × (flag flags (u.y * w + u.x) ≡ false) × (is_told_by colors (pen_of u.cell) ≡ false)
+IsRefused w h colors flags u (Refused.Cut p) = IsPlaced w h p u × (flag flags (u.y * w + u.x) ≡ true) × (IsVacant u.cell → ⊥)
 
 -- ---- draws
 

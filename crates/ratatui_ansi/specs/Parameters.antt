@@ -1,11 +1,12 @@
 -- The parameters that set a pen, and the bytes that tell them.
-use Rattle.std.specs.Prelude.{◌≡◌, ℕ, ◌+◌, ◌==◌, ◌&&◌, nat_lt, Bool, true, false, if◌then◌else◌, List, [], ◌∷◌, ◌++◌}
+use Rattle.std.specs.Prelude.{◌≡◌, ℕ, ◌+◌, ◌==◌, ◌&&◌, ◌||◌, nat_lt, Bool, true, false, if◌then◌else◌, List, [], ◌∷◌, ◌++◌}
 use Rattle.std.specs.Int.RustNames.{bit_and}
 use Rattle.std.specs.List.{list_all}
 use Rattle.std.specs.Fmt.{decimal}
 use Rattle.rtui_style.specs.declared.color.Color.{Color}
 use Rattle.rtui_style.specs.declared.color.Color.TheVariants.{Reset, Black, Red, Green, Yellow, Blue, Magenta, Cyan, Gray, DarkGray, LightRed, LightGreen, LightYellow, LightBlue, LightMagenta, LightCyan, White, Rgb, Indexed}
 use Rattle.rtui_style.specs.Modifier.{bits_of}
+use Rattle.ratatui_ansi.specs.Pen.{is_reset}
 use Rattle.ratatui_ansi.specs.declared.pen.Pen.{Pen}
 
 -- of a colour: those of the text count from 30, those behind it from 40
@@ -46,6 +47,10 @@ is_underline _ = false
 -- whether a terminal can be told a pen: only the nine modifiers are set
 abbrev pub is_told : Pen → Bool
 is_told p = is_underline p.underline_color && nat_lt (bits_of p.modifier) 512
+
+-- the same of a terminal that reads colours of the line under the text, or of one that doesn't
+abbrev pub is_told_by : Bool → Pen → Bool
+is_told_by colors p = is_told p && (colors || is_reset p.underline_color)
 
 -- the modifier with this bit, by its number
 abbrev pub modifier_parameter : ℕ → ℕ → ℕ → List ℕ

@@ -14,7 +14,7 @@ use Rattle.ratatui_ansi.specs.Calls.{IsAwaiting}
 use Rattle.ratatui_ansi.specs.Covered.{IsCovered}
 use Rattle.ratatui_ansi.specs.Errors.{error_of}
 use Rattle.ratatui_ansi.specs.Frame.{is_fit, IsVacant, IsPlaced, IsRefused, SendsUpdates}
-use Rattle.ratatui_ansi.specs.Parameters.{is_told}
+use Rattle.ratatui_ansi.specs.Parameters.{is_told_by}
 use Rattle.ratatui_ansi.specs.Pen.{pen_of}
 use Rattle.ratatui_ansi.specs.Screens.{screen_of}
 use Rattle.ratatui_ansi.specs.Terminal.{Terminal, rested}
@@ -25,6 +25,7 @@ use Rattle.ratatui_ansi.specs.Terminal.{Terminal, rested}
 pub record IsUntold {L : Type 0} (old new : State L) : Type 0 where
   pub link : new.link ≡ old.link
   pub size : new.size ≡ old.size
+  pub colors : new.has_underline_colors ≡ old.has_underline_colors
   pub written : new.written ≡ old.written
   pub is_broken : new.is_broken ≡ old.is_broken
 
@@ -33,12 +34,14 @@ pub record IsWorking {L : Type 0} (old new : State L) : Type 0 where
   pub before : old.is_broken ≡ false
   pub after : new.is_broken ≡ false
   pub size : new.size ≡ old.size
+  pub colors : new.has_underline_colors ≡ old.has_underline_colors
 
 -- a send failed for the first time
 pub record Breaks {L : Type 0} (old new : State L) : Type 0 where
   pub before : old.is_broken ≡ false
   pub after : new.is_broken ≡ true
   pub size : new.size ≡ old.size
+  pub colors : new.has_underline_colors ≡ old.has_underline_colors
 
 -- a refused call, by its error: after a failed send every call is refused, and only a failed send changes anything
 abbrev pub FailsBy : {L E : Type 0} → State L → State L → AnsiError E → Type 0
@@ -73,29 +76,29 @@ names_cell Broken = false
 names_cell (Send error) = false
 
 -- why an update isn't drawn on a screen: its symbol doesn't fit, its pen can't be told, or it isn't vacant where a symbol covers its place
-abbrev pub IsRefusedOn : Screen → Update → Refusal → Type 0
-IsRefusedOn s u Refused.Memory = Unit {0}
-IsRefusedOn s u (Refused.Symbol p) = IsPlaced s.width s.height p u × (is_fit (s.width - u.x) u.cell ≡ false)
-IsRefusedOn s u (Refused.Pen p) = IsPlaced s.width s.height p u × (is_told (pen_of u.cell) ≡ false)
-IsRefusedOn s u (Refused.Cut p) = IsPlaced s.width s.height p u × IsCovered s.grid u.x u.y × (IsVacant u.cell → ⊥)
+abbrev pub IsRefusedOn : Bool → Screen → Update → Refusal → Type 0
+IsRefusedOn colors s u Refused.Memory = Unit {0}
+IsRefusedOn colors s u (Refused.Symbol p) = IsPlaced s.width s.height p u × (is_fit (s.width - u.x) u.cell ≡ false)
+IsRefusedOn colors s u (Refused.Pen p) = IsPlaced s.width s.height p u × (is_told_by colors (pen_of u.cell) ≡ false)
+IsRefusedOn colors s u (Refused.Cut p) = IsPlaced s.width s.height p u × IsCovered s.grid u.x u.y × (IsVacant u.cell → ⊥)
 
 -- an item isn't drawn on the screen that the items before it would have made of this one
-pub record StopsAt {S A : Type 0} (steps : S → Option A → S → Type 0) (content : S) (update : A → Update) (old : Screen) (refusal : Refusal) : Type 0 where
+pub record StopsAt {S A : Type 0} (steps : S → Option A → S → Type 0) (content : S) (update : A → Update) (colors : Bool) (old : Screen) (refusal : Refusal) : Type 0 where
   pub front : List A
   pub item : A
   pub rest : S
   pub gives : YieldsThen steps content front (Some item) rest
   pub between : Screen
   pub draws : Draws old (map update front) between
-  pub refused : IsRefusedOn between (update item) refusal
+  pub refused : IsRefusedOn colors between (update item) refusal
 
 -- an error that names a cell is that of the item at which a draw stops
-abbrev pub StopsBy : {S A E : Type 0} → (S → Option A → S → Type 0) → S → (A → Update) → Screen → AnsiError E → Type 0
-StopsBy steps content update old error =
-    IsTrue (names_cell error) → (refusal : Refusal) × (error ≡ error_of refusal) × StopsAt steps content update old refusal
+abbrev pub StopsBy : {S A E : Type 0} → (S → Option A → S → Type 0) → S → (A → Update) → Bool → Screen → AnsiError E → Type 0
+StopsBy steps content update colors old error =
+    IsTrue (names_cell error) → (refusal : Refusal) × (error ≡ error_of refusal) × StopsAt steps content update colors old refusal
 
 -- the same within a draw: the bytes of the items before it were appended
-pub record StopsWithin {S A : Type 0} (steps : S → Option A → S → Type 0) (content : S) (update : A → Update) (w h : ℕ) (old : List ℕ) (before : Drawing)
+pub record StopsWithin {S A : Type 0} (steps : S → Option A → S → Type 0) (content : S) (update : A → Update) (w h : ℕ) (colors : Bool) (old : List ℕ) (before : Drawing)
     (flags : List Bool) (refusal : Refusal) : Type 0 where
   pub front : List A
   pub item : A
@@ -105,9 +108,9 @@ pub record StopsWithin {S A : Type 0} (steps : S → Option A → S → Type 0) 
   pub after : Drawing
   pub flags_after : List Bool
   pub sends : SendsUpdates w h old before flags (map update front) new after flags_after
-  pub refused : IsRefused w h flags_after (update item) refusal
+  pub refused : IsRefused w h colors flags_after (update item) refusal
 
 -- the same for each terminal between two calls
-pub record StopsDraw {S A : Type 0} (steps : S → Option A → S → Type 0) (content : S) (update : A → Update) (w h : ℕ) (cursor : Position) (written : ℕ)
+pub record StopsDraw {S A : Type 0} (steps : S → Option A → S → Type 0) (content : S) (update : A → Update) (w h : ℕ) (colors : Bool) (cursor : Position) (written : ℕ)
     (flags : List Bool) (refusal : Refusal) : Type 0 where
-  pub stops : (t : Terminal) → IsAwaiting w h cursor flags t → StopsAt steps content update (screen_of written (rested t)) refusal
+  pub stops : (t : Terminal) → IsAwaiting w h cursor flags t → StopsAt steps content update colors (screen_of written (rested t)) refusal

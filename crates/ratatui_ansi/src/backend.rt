@@ -29,6 +29,7 @@ use std::ops::Range;
 pub struct AnsiBackend<L: Link> {
     link: L,
     size: Size,
+    has_underline_colors: bool,
     cursor: Position,
     // Whether each column lies behind the first one of its symbol, row by row; and the same within a draw.
     behind: Vec<bool>,
@@ -48,6 +49,7 @@ impl<L: Link> Model for AnsiBackend<L> {
     ghost view = { λ b. record {
       link = b.link;
       size = b.size;
+      has_underline_colors = b.has_underline_colors;
       written = b.written;
       failures = b.failures;
       is_broken = b.is_broken;
@@ -81,6 +83,7 @@ impl<L: Link> AnsiBackend<L> {
         ensures blank { IfOk result (λ b.
             IsBlankScreen size.width size.height (shown_by L.told b)) }
         ensures told { IfOk result (λ b. L.told b.link ≡ []) }
+        ensures colors { IfOk result (λ b. b.has_underline_colors ≡ false) }
         ensures failures { IfOk result (λ b. b.failures ≡ 0) }
     {
         if size.width == 0 || size.height == 0 {
@@ -96,6 +99,7 @@ impl<L: Link> AnsiBackend<L> {
         Ok(AnsiBackend {
             link,
             size,
+            has_underline_colors: false,
             cursor: Position::ORIGIN,
             behind,
             draft,
@@ -113,6 +117,13 @@ impl<L: Link> AnsiBackend<L> {
         &self.link
     }
 
+    /// From now on it sends colours of the line under the text, or refuses them, as at first: some terminals misread them.
+    pub fn set_underline_colors(&mut self, has_underline_colors: bool)
+        ensures { self.new ≡ record self.old { has_underline_colors = has_underline_colors } }
+    {
+        self.has_underline_colors = has_underline_colors;
+    }
+
     /// Begins anew, also after a failed send: the link does so, and the screen is blank. Where the link fails every call is
     /// refused until the next `restart`.
     pub fn restart(&mut self) -> Result<(), AnsiError<L::Error>>
@@ -120,6 +131,7 @@ impl<L: Link> AnsiBackend<L> {
             (shown_by L.told self.new)) }
         ensures told { OnOk result (L.told self.new.link ≡ []) }
         ensures size { self.new.size ≡ self.old.size }
+        ensures colors { self.new.has_underline_colors ≡ self.old.has_underline_colors }
         ensures failures { self.new.failures ≡ self.old.failures }
     {
         self.is_broken = true;
@@ -299,7 +311,7 @@ impl<L: Link> AnsiBackend<L> {
             × Draws (shown_by L.told self.old) (map (update_by C.cell) items)
             (shown_by L.told self.new)) }
         ensures stopped { IfErr result (StopsBy I.next_gives content (update_by C.cell)
-            (shown_by L.told self.old)) }
+            self.old.has_underline_colors (shown_by L.told self.old)) }
         ensures state { Leaves result self.old self.new }
         ensures failures { self.new.failures ≡ self.old.failures }
     {
@@ -315,6 +327,7 @@ impl<L: Link> AnsiBackend<L> {
             draft,
             width,
             height,
+            self.has_underline_colors,
             self.cursor,
             self.written,
             content,
@@ -379,7 +392,7 @@ impl<L: Link> Backend for AnsiBackend<L> {
             × Draws (shown_by L.told self.old) (map (update_by C.cell) items)
             (shown_by L.told self.new)) }
         ensures stopped { IfErr result (StopsBy I.next_gives content (update_by C.cell)
-            (shown_by L.told self.old)) }
+            self.old.has_underline_colors (shown_by L.told self.old)) }
         ensures state { Leaves result self.old self.new }
         ensures counts { Counts result self.old.failures self.new.failures }
     {

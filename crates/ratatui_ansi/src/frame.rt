@@ -211,6 +211,7 @@ pub fn draw_cell(
     behind: &mut [bool],
     width: u16,
     height: u16,
+    has_underline_colors: bool,
     drawing: Drawing,
     x: u16,
     y: u16,
@@ -221,7 +222,8 @@ pub fn draw_cell(
         drawing behind.old (record { x = x; y = y; cell = cell.now } ∷ [])
         (string_bytes out.new) after behind.new) }
     ensures refused { MatchResult result (λ _. Unit {0})
-        (IsRefused width height behind.old (record { x = x; y = y; cell = cell.now })) }
+        (IsRefused width height has_underline_colors behind.old
+        (record { x = x; y = y; cell = cell.now })) }
 {
     let counted = Drawing {
         written: drawing.written.saturating_add(1),
@@ -240,7 +242,7 @@ pub fn draw_cell(
     if !is_fit(width - x, cell) {
         return Err(Refusal::Symbol(place));
     }
-    if !Pen::of(cell).is_told() {
+    if !Pen::of(cell).is_told_by(has_underline_colors) {
         return Err(Refusal::Pen(place));
     }
     match lay(out, behind, width, height, drawing, x, y, cell) {
@@ -255,6 +257,7 @@ fn draw_all<C: AsCell, I: Iterator<Item = (u16, u16, C)>>(
     behind: &mut [bool],
     width: u16,
     height: u16,
+    has_underline_colors: bool,
     drawing: Drawing,
     content: I,
 ) -> Result<Drawing, Refusal>
@@ -266,11 +269,21 @@ fn draw_all<C: AsCell, I: Iterator<Item = (u16, u16, C)>>(
         × SendsUpdates width height (string_bytes out.old) drawing behind.old
         (map (update_by C.cell) items) (string_bytes out.new) after behind.new) }
     ensures refused { IfErr result (StopsWithin I.next_gives content (update_by C.cell)
-        width height (string_bytes out.old) drawing behind.old) }
+        width height has_underline_colors (string_bytes out.old) drawing behind.old) }
 {
     let mut drawing = drawing;
     for (x, y, cell) in content {
-        drawing = draw_cell(out, behind, width, height, drawing, x, y, cell.as_cell())?;
+        drawing = draw_cell(
+            out,
+            behind,
+            width,
+            height,
+            has_underline_colors,
+            drawing,
+            x,
+            y,
+            cell.as_cell(),
+        )?;
     }
     Ok(drawing)
 }
@@ -283,6 +296,7 @@ pub fn draw_cells<C: AsCell, I: Iterator<Item = (u16, u16, C)>>(
     behind: &mut [bool],
     width: u16,
     height: u16,
+    has_underline_colors: bool,
     cursor: Position,
     written: u64,
     content: I,
@@ -295,8 +309,8 @@ pub fn draw_cells<C: AsCell, I: Iterator<Item = (u16, u16, C)>>(
         × SendsDraw width height (string_bytes out.old) cursor written behind.old
         (map (update_by C.cell) items) (string_bytes out.new) after.0 after.1 behind.new) }
     ensures refused { IfErr result (λ refusal. IsTrue (has_place refusal)
-        → StopsDraw I.next_gives content (update_by C.cell) width height cursor written
-        behind.old refusal) }
+        → StopsDraw I.next_gives content (update_by C.cell) width height has_underline_colors cursor
+        written behind.old refusal) }
 {
     let brush = Brush {
         pen: Pen::OWN,
@@ -309,7 +323,15 @@ pub fn draw_cells<C: AsCell, I: Iterator<Item = (u16, u16, C)>>(
         cursor,
         written,
     };
-    let drawing = draw_all(out, behind, width, height, drawing, content)?;
+    let drawing = draw_all(
+        out,
+        behind,
+        width,
+        height,
+        has_underline_colors,
+        drawing,
+        content,
+    )?;
     change_pen(out, drawing.brush.pen, Pen::OWN)?;
     Ok((drawing.cursor, drawing.written))
 }

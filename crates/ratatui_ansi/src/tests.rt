@@ -333,6 +333,18 @@ fn cells_that_are_refused(rt: HostRuntime) -> Result<(), Fail> {
             ""
         )
     );
+    cell.underline_color = Color::Indexed(3);
+    assert!(rt;
+        draws(
+            &mut backend,
+            &[(1, 0, &cell)],
+            Err(AnsiError::Pen(place)),
+            ""
+        )
+    );
+    backend.set_underline_colors(true);
+    let told = "\u{1b}[1;2H\u{1b}[0;58;5;3ma\u{1b}[0m";
+    assert!(rt; draws(&mut backend, &[(1, 0, &cell)], Ok(()), told));
     cell.underline_color = Color::Reset;
     assert!(rt; draws(&mut backend, &[(1, 0, &cell)], Ok(()), "\u{1b}[1;2Ha"));
     let none = Size {

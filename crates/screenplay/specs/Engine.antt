@@ -3,14 +3,11 @@ use Rattle.std.specs.Prelude.{◌≡◌, ℕ, List, [], ◌++◌, Option, Some, 
 use Rattle.std.specs.Fmt.{decimal}
 use Rattle.std.specs.Str.{IsUtf8}
 use Rattle.std.specs.Io.KnownBytes.{Appends}
-use Rattle.rtui_backend.specs.declared.test.TestBackend.{TestBackend}
-use Rattle.rtui_terminal.specs.State.{State}
 use Rattle.screenplay.specs.Script.{IsScript, IsFirstBadLine, nothing, script_lines, shows_of, steps_of}
 use Rattle.screenplay.specs.Run.{IsRun, StopsBehind}
-use Rattle.screenplay.specs.Print.{printed_scenes, printed_scene}
-use Rattle.screenplay.specs.Playing.{scene_in}
+use Rattle.screenplay.specs.Recording.{Records, scenes_at}
+use Rattle.screenplay.specs.Print.{printed_scenes}
 use Rattle.screenplay.specs.declared.script.Command.{Command}
-use Rattle.screenplay.specs.declared.script.Command.TheVariants.{SetStage, TakeSize, Put, AddText, Draw, Insert, Clear, Show}
 use Rattle.screenplay.specs.declared.scene.Scene.{Scene}
 use Rattle.screenplay.specs.declared.scene.Stage.{Stage}
 use Rattle.screenplay.specs.declared.scene.Step.{Step}
@@ -35,12 +32,12 @@ pub record PrintsRun (bytes : List ℕ) (old new : Option (List ℕ)) : Type 0 w
   pub played : IsPlayed bytes shows scenes
   pub written : Appends old new (printed_scenes shows scenes)
 
--- the printed scenes of a run of the script that the bytes are
-pub record IsTextOf (bytes text : List ℕ) : Type 0 where
+-- a recorder was given what a run of the script shows
+pub record Performs {R : Type 0} (has : R → List Scene → Type 0) (bytes : List ℕ) (r r' : R) : Type 0 where
   pub shows : List ℕ
   pub scenes : List Scene
   pub played : IsPlayed bytes shows scenes
-  pub text_is : text ≡ printed_scenes shows scenes
+  pub recorded : Records has r r' (scenes_at shows scenes)
 
 -- the bytes are a script with a step that can't be played
 pub record HasStepFault (bytes : List ℕ) (fault : StepFault) : Type 0 where
@@ -61,20 +58,9 @@ IsRunFault bytes Read = Unit {0}
 IsRunFault bytes Memory = Unit {0}
 IsRunFault bytes Write = (shows : List ℕ) × (scenes : List Scene) × IsPlayed bytes shows scenes
 
--- the text that a command shows of a terminal's screen
-abbrev pub text_shown_by : Command → State TestBackend → List ℕ
-text_shown_by (SetStage stage) t = []
-text_shown_by (TakeSize size) t = []
-text_shown_by (Put x y c) t = []
-text_shown_by (AddText text) t = []
-text_shown_by Draw t = []
-text_shown_by Insert t = []
-text_shown_by Clear t = []
-text_shown_by Show t = printed_scene (scene_in t)
-
--- the printed scenes of a run of the commands' steps
-abbrev pub IsShownText : Stage → List Command → List ℕ → Type 0
-IsShownText stage commands text = (scenes : List Scene) × IsRun stage (steps_of nothing commands) scenes × (text ≡ printed_scenes (shows_of 0 commands) scenes)
+-- a recorder was given what a run of the commands' steps shows
+abbrev pub AreShown : {R : Type 0} → (R → List Scene → Type 0) → Stage → List Command → R → R → Type 0
+AreShown has stage commands r r' = (scenes : List Scene) × IsRun stage (steps_of nothing commands) scenes × Records has r r' (scenes_at (shows_of 0 commands) scenes)
 
 -- a step of the commands can't be played, or memory was refused
 abbrev pub StopsAtStep : Stage → List Command → RunFault → Type 0

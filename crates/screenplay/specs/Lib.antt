@@ -3,6 +3,7 @@ pub mod Reading
 pub mod Puts
 pub mod Run
 pub mod Appending
-pub mod Print
 pub mod Playing
+pub mod Recording
+pub mod Print
 pub mod Engine

@@ -1,17 +1,18 @@
-//! The engine: from the bytes of a script to its printed scenes.
+//! The engine: from the bytes of a script to the scenes that it shows, and to their print.
 
-ghost use Rattle.std.specs.Prelude.{◌≡◌, ◌++◌, length, IfOk, IfErr, IfSome, OnOk};
+ghost use Rattle.std.specs.Prelude.{◌≡◌, length, IfOk, IfErr, IfSome, OnOk};
 ghost use Rattle.std.specs.Str.{IsUtf8};
 ghost use Rattle.screenplay.specs.Script.{IsScript, nothing, script_lines, shows_of, steps_of};
 ghost use Rattle.screenplay.specs.Run.{IsGoodStage};
-ghost use Rattle.screenplay.specs.Engine.{IsRunFault, IsShownText, IsTextOf, PrintsRun, StopsAtStep, text_shown_by};
+ghost use Rattle.screenplay.specs.Engine.{AreShown, IsRunFault, Performs, PrintsRun, StopsAtStep};
+ghost use Rattle.screenplay.specs.Recording.{Records, scenes_shown_by};
 ghost use Rattle.screenplay.specs.Playing.{IsCauseOfAnyStep, IsPlaying, PlaysAny, sight_in};
 ghost use Rattle.screenplay.specs.Reading.{as_list};
 ghost use Rattle.screenplay.specs.declared.fault.RunFault.TheVariants.{Step as AtStep, Read, Memory, Write};
 
 use crate::fault::RunFault;
 use crate::playing::{open, play_step};
-use crate::print::write_sight;
+use crate::recorder::{PrintedText, Recorder};
 use crate::scene::{PlayCause, Stage, Step, StepFault};
 use crate::script::{Command, Script, ScriptFault, read_script};
 use crate::waiting::{nothing_waiting, take_command};
@@ -54,18 +55,18 @@ fn script_of(alloc: Global, bytes: &[u8]) -> Result<Script<'_>, RunFault>
     }
 }
 
-// Writes what the screen shows behind a text, where a command says so.
-fn show(
-    text: &mut Vec<u8>,
+// Records what the screen shows, where a command says so.
+fn show<S: Recorder>(
+    recorder: &mut S,
     terminal: &Terminal<TestBackend>,
     command: &Command<'_>,
 ) -> Result<(), RunFault>
-    ensures ok { OnOk result (text.new.items
-        ≡ text.old.items ++ text_shown_by command.now terminal.now) }
+    ensures ok { OnOk result (Records S.has_recorded recorder.old recorder.new
+        (scenes_shown_by command.now terminal.now)) }
     ensures err { IfErr result (λ fault. fault ≡ Memory) }
 {
     match command {
-        Command::Show => match write_sight(text, terminal) {
+        Command::Show => match recorder.record(terminal) {
             Ok(()) => Ok(()),
             Err(_) => Err(RunFault::Memory),
         },
@@ -102,13 +103,17 @@ fn play_taken(
     }
 }
 
-// Plays the commands of a script on its stage, step by step, and gives the text of what they show.
-fn play_commands(alloc: Global, stage: Stage, commands: &[Command<'_>]) -> Result<Vec<u8>, RunFault>
+// Plays the commands of a script on its stage, step by step, and records what they show.
+fn play_commands<S: Recorder>(
+    alloc: Global,
+    stage: Stage,
+    commands: &[Command<'_>],
+    recorder: &mut S,
+) -> Result<(), RunFault>
     requires { IsGoodStage stage }
-    ensures ok { IfOk result (λ text. IsShownText stage commands.now text.items) }
+    ensures ok { OnOk result (AreShown S.has_recorded stage commands.now recorder.old recorder.new) }
     ensures fault { IfErr result (StopsAtStep stage commands.now) }
 {
-    let mut text = Vec::new(alloc);
     let mut waiting = nothing_waiting(alloc);
     let mut steps = 0usize;
     let mut terminal = match open(alloc, stage) {
@@ -124,22 +129,39 @@ fn play_commands(alloc: Global, stage: Stage, commands: &[Command<'_>]) -> Resul
             Ok(count) => steps += count,
             Err(cause) => return Err(step_fault(steps + 1, cause)),
         }
-        show(&mut text, &terminal, command)?;
+        show(recorder, &terminal, command)?;
     }
-    Ok(text)
+    Ok(())
 }
 
-// The text that a script shows.
-fn text_shown(alloc: Global, bytes: &[u8]) -> Result<Vec<u8>, RunFault>
-    ensures ok { IfOk result (λ text. IsTextOf bytes.now text.items) }
+// Plays the script that these bytes are, and records what it shows.
+fn perform_bytes<S: Recorder>(alloc: Global, bytes: &[u8], recorder: &mut S) -> Result<(), RunFault>
+    ensures ok { OnOk result (Performs S.has_recorded bytes.now recorder.old recorder.new) }
     ensures err { IfErr result (IsRunFault bytes.now) }
     ensures early { IfErr result (λ fault. fault ≡ Write → ⊥) }
 {
     let script = script_of(alloc, bytes)?;
     match script.stage {
-        Some(stage) => play_commands(alloc, stage, script.commands.as_slice()),
-        None => Ok(Vec::new(alloc)),
+        Some(stage) => play_commands(alloc, stage, script.commands.as_slice(), recorder),
+        None => Ok(()),
     }
+}
+
+/// Reads a script to its end and plays it; the recorder is given what each of its shows shows, in order. A fault names the first
+/// bad line, the step that can't be played, or what else failed; what was shown before it is recorded.
+pub fn perform<R: Read, S: Recorder>(
+    alloc: Global,
+    reader: &mut R,
+    recorder: &mut S,
+) -> Result<(), RunFault>
+    ensures recorded { OnOk result (IfSome (R.remaining reader.old) (λ bytes.
+        Performs S.has_recorded bytes recorder.old recorder.new)) }
+    ensures fault { IfErr result (λ fault.
+        IfSome (R.remaining reader.old) (λ bytes. IsRunFault bytes fault)) }
+    ensures early { IfErr result (λ fault. fault ≡ Write → ⊥) }
+{
+    let bytes = read_bytes(alloc, reader)?;
+    perform_bytes(alloc, bytes.as_slice(), recorder)
 }
 
 /// Reads a script to its end, plays it, and writes the scenes that it shows. A fault names the first bad line, the step
@@ -154,9 +176,9 @@ pub fn run<R: Read, W: Write>(alloc: Global, reader: &mut R, writer: &mut W) -> 
     ensures nothing_written { IfErr result (λ fault.
         (fault ≡ Write → ⊥) → writer.new ≡ writer.old) }
 {
-    let bytes = read_bytes(alloc, reader)?;
-    let text = text_shown(alloc, bytes.as_slice())?;
-    match writer.write_all(text.as_slice()) {
+    let mut text = PrintedText::new(alloc);
+    perform(alloc, reader, &mut text)?;
+    match writer.write_all(text.as_bytes()) {
         Ok(()) => {}
         Err(_) => return Err(RunFault::Write),
     }

@@ -93,6 +93,7 @@ struct Play {
     screen: TestBackend,
     width: u16,
     height: u16,
+    has_underline_colors: bool,
     alloc: Global,
 }
 
@@ -103,6 +104,7 @@ impl Play {
             screen: TestBackend::new(alloc, width, height)?,
             width,
             height,
+            has_underline_colors: false,
             alloc,
         })
     }
@@ -151,7 +153,9 @@ impl Play {
                 let place = Position { x, y };
                 let is_in = x < self.width && y < self.height;
                 let is_untold = self.backend.link().unsent().len() == told;
-                Ok(is_in && is_untold && is_reason(error, place, is_behind, room, &cell))
+                let has_colors = self.has_underline_colors;
+                let is_one = is_reason(error, place, is_behind, room, has_colors, &cell);
+                Ok(is_in && is_untold && is_one)
             }
         }
     }
@@ -246,6 +250,7 @@ fn is_reason(
     place: Position,
     is_behind: bool,
     room: u16,
+    has_underline_colors: bool,
     cell: &Cell,
 ) -> bool {
     let columns = cell.cell_width();
@@ -254,7 +259,9 @@ fn is_reason(
         AnsiError::Cut(at) => at == place && is_behind,
         AnsiError::Symbol(at) => at == place && !is_behind && (!is_one || room < columns),
         AnsiError::Pen(at) => {
-            at == place && !is_behind && is_one && columns <= room && cell.modifier.bits() == 512
+            let is_colored = cell.underline_color != Color::Reset;
+            let is_told = cell.modifier.bits() < 512 && (has_underline_colors || !is_colored);
+            at == place && !is_behind && is_one && columns <= room && !is_told
         }
         _ => false,
     }
@@ -263,6 +270,8 @@ fn is_reason(
 // Whether a terminal that reads each call of a play shows the screen in memory.
 fn is_played(alloc: Global, width: u16, height: u16, seed: u64) -> Result<bool, Fail> {
     let mut play = Play::new(alloc, width, height)?;
+    play.has_underline_colors = seed % 2 == 0;
+    play.backend.set_underline_colors(seed % 2 == 0);
     let mut random = Random { state: seed };
     for _ in 0..CALLS {
         if !play.calls(&mut random)? || !play.is_shown()? {

@@ -12,4 +12,4 @@ returns-clause-drawn g c =
     )
 
 pub returns-in_err-drawing-clause-refused : goal.returns-in_err-drawing-clause-refused
-returns-in_err-drawing-clause-refused g c = if-error _ _ _ c.from_residual.ensures (λ named. stops-draw _ _ _ _ _ _ _ _ _ _ _ refl refl refl refl c.in_err-drawing.ensures.refused)
+returns-in_err-drawing-clause-refused g c = if-error _ _ _ c.from_residual.ensures (λ named. stops-draw _ _ _ _ _ _ _ _ _ _ _ _ refl refl refl refl c.in_err-drawing.ensures.refused)

@@ -1,0 +1,14 @@
+use Rattle.std.proofs.Common.{refl}
+use Rattle.std.proofs.lemmas.Result.{on_ok_weaker}
+use Rattle.std.proofs.lemmas.Iterator.Consumers.{YieldsList-from_first}
+use Rattle.rtui_cell.specs.Grid.{update_by}
+use Rattle.rtui_backend.proofs.DrawLemmas.{Draws-along}
+use Rattle.rtui_terminal.proofs.DifferenceLemmas.{writes_differences}
+use Rattle.screenplay_program.proofs.frames.draw_differences.Goals as goal
+
+pub returns : goal.returns
+returns g c =
+    let diff = c.diff_iter.ensures in
+    on_ok_weaker c.draw.result
+    (λ drawn. writes_differences c.args.older.now c.args.frame.now _ _ _ c.requires.edges c.requires.same diff.walks drawn diff.replays diff.narrow)
+    (Draws-along c.draw.result _ _ c.draw.ensures.ok (YieldsList-from_first (update_by (λ cell. cell.now)) (λ rest. rest) _ refl))
