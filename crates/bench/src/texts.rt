@@ -228,7 +228,7 @@ pub fn run(
         "spans_2000" => spans(alloc, width, height, count)?,
         "widths_letters" => letters_widths(alloc, width, height, count)?,
         "widths_wide" => wide_widths(alloc, width, height, count)?,
-        _ => return Ok(None),
+        _ => return crate::sequences::run(alloc, name, width, height, count),
     };
     Ok(Some(done))
 }
