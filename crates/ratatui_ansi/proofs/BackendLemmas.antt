@@ -3,9 +3,9 @@ use Rattle.std.proofs.Common.{◌≡◌, ℕ, ◌*◌, Bool, false, length, ◌-
 use Rattle.rtui_geometry.specs.declared.position.Position.{Position}
 use Rattle.rtui_geometry.specs.declared.size.Size.{Size}
 use Rattle.rtui_backend.specs.Screen.{Screen}
-use Rattle.ratatui_ansi.specs.Terminal.{Terminal, rested, fresh}
+use Rattle.ratatui_ansi.specs.Emulator.{Emulator, rested, fresh}
 use Rattle.ratatui_ansi.specs.Sequences.{feed}
-use Rattle.ratatui_ansi.specs.Screens.{screen_of}
+use Rattle.ratatui_ansi.specs.Screens.{screen_shown}
 use Rattle.ratatui_ansi.specs.Calls.{IsAwaiting, SendsCall}
 use Rattle.ratatui_ansi.specs.Backend.{reader, IsInOrder}
 use Rattle.rtui_backend.specs.Screen.{Draws, IsBlankScreen}
@@ -32,9 +32,9 @@ awaiting-on {size} told {out} {new} {place} {place_after} {flags} {flags_after} 
 pub related-on : {size : Size} (told : List ℕ) {out new : List ℕ} {place place_after : Position} {flags flags_after : List Bool} {related : Screen → Screen → Type 0} (written : ℕ)
     → SendsCall size.width size.height [] out place flags place_after flags_after related → new ≡ told ++ out
     → IsAwaiting size.width size.height place flags (reader size told)
-    → related (screen_of written (rested (reader size told))) (screen_of written (rested (reader size new)))
+    → related (screen_shown written (rested (reader size told))) (screen_shown written (rested (reader size new)))
 related-on {size} told {out} {new} {related = related} written sends e awaits =
-    subst (λ t. related (screen_of written (rested (reader size told))) (screen_of written (rested t))) (sym (read-on size told sends.bytes out new sends.appended e))
+    subst (λ t. related (screen_shown written (rested (reader size told))) (screen_shown written (rested t))) (sym (read-on size told sends.bytes out new sends.appended e))
     (sends.shows written (reader size told) awaits)
 
 -- a backend is in order once a call took over what its bytes leave
@@ -63,13 +63,13 @@ in-order-still {size} {place} {flags} kept whole same = record {
 }
 
 -- the cursor stands on the screen
-pub cursor-column : {w h : ℕ} {place : Position} {flags : List Bool} {t : Terminal} → 0 < w → IsAwaiting w h place flags t → place.x < w
+pub cursor-column : {w h : ℕ} {place : Position} {flags : List Bool} {t : Emulator} → 0 < w → IsAwaiting w h place flags t → place.x < w
 cursor-column {w} {place = place} {t = t} some awaits =
     let x : min (rested t).x ((rested t).width - 1) ≡ place.x = ap (λ (p : Position). p.x) awaits.placed in
     let width : (rested t).width ≡ w = awaits.ready.width in
     omega arith
 
-pub cursor-row : {w h : ℕ} {place : Position} {flags : List Bool} {t : Terminal} → IsAwaiting w h place flags t → place.y < h
+pub cursor-row : {w h : ℕ} {place : Position} {flags : List Bool} {t : Emulator} → IsAwaiting w h place flags t → place.y < h
 cursor-row {h = h} {place = place} {t = t} awaits =
     let y : (rested t).y ≡ place.y = ap (λ (p : Position). p.y) awaits.placed in
     let row : (rested t).y < h = awaits.ready.row in
@@ -98,9 +98,9 @@ in-order-drawn {size} told {out} {new} {place} {place_after} {flags_after = flag
 pub drawn-on : {size : Size} (told : List ℕ) {out new : List ℕ} {place place_after : Position} {written written_after : ℕ} {flags flags_after : List Bool} {us : List Update}
     → SendsDraw size.width size.height [] place written flags us out place_after written_after flags_after → new ≡ told ++ out
     → IsAwaiting size.width size.height place flags (reader size told)
-    → Draws (screen_of written (rested (reader size told))) us (screen_of written_after (rested (reader size new)))
+    → Draws (screen_shown written (rested (reader size told))) us (screen_shown written_after (rested (reader size new)))
 drawn-on {size} told {out} {new} {written = written} {written_after} {us = us} sends e awaits =
-    subst (λ t. Draws (screen_of written (rested (reader size told))) us (screen_of written_after (rested t))) (sym (read-on size told sends.bytes out new sends.appended e))
+    subst (λ t. Draws (screen_shown written (rested (reader size told))) us (screen_shown written_after (rested t))) (sym (read-on size told sends.bytes out new sends.appended e))
     (sends.draws (reader size told) awaits)
 
 -- ---- the beginning
@@ -143,10 +143,10 @@ begun {size} {told} {flags} {draft} e wide high behind count = record {
       (blank-awaits size.width size.height flags high behind);
 }
 
-pub blank-shown : (size : Size) (told : List ℕ) → told ≡ [] → IsBlankScreen size.width size.height (screen_of 0 (rested (reader size told)))
+pub blank-shown : (size : Size) (told : List ℕ) → told ≡ [] → IsBlankScreen size.width size.height (screen_shown 0 (rested (reader size told)))
 blank-shown size told e =
     let column : min 0 (size.width - 1) ≡ 0 = omega arith in
-    subst (λ t. IsBlankScreen size.width size.height (screen_of 0 (rested t))) (sym (ap (reader size) e ∙ fresh-read size)) (record {
+    subst (λ t. IsBlankScreen size.width size.height (screen_shown 0 (rested t))) (sym (ap (reader size) e ∙ fresh-read size)) (record {
       history = refl;
       width = refl;
       height = refl;

@@ -6,9 +6,9 @@ use Rattle.rtui_backend.specs.declared.clear_type.ClearType.TheVariants.{All}
 use Rattle.ratatui_ansi.specs.Columns.{Column, Columns, Area, look_in, is_met, blank_column, overwritten}
 use Rattle.ratatui_ansi.specs.Columns.Column.{Shows, Unknown}
 use Rattle.ratatui_ansi.specs.declared.part.Part.TheVariants.{Before}
-use Rattle.ratatui_ansi.specs.Terminal.{Terminal, moved, erased, emptied, part_at}
-use Rattle.ratatui_ansi.specs.Terminal as terminal
-use Rattle.ratatui_ansi.specs.Screens.{screen_of, IsSized, AreSized, IsWhole, IsWholeAt, IsBlankBeyond, Becomes}
+use Rattle.ratatui_ansi.specs.Emulator.{Emulator, moved, erased, emptied, part_at}
+use Rattle.ratatui_ansi.specs.Emulator as terminal
+use Rattle.ratatui_ansi.specs.Screens.{screen_shown, IsSized, AreSized, IsWhole, IsWholeAt, IsBlankBeyond, Becomes}
 use Rattle.ratatui_ansi.proofs.ScrollLemmas.{KeepsReady, blank-whole}
 use Rattle.ratatui_ansi.proofs.RegionLemmas.{none_range, ready-columns, keeps-along, moved-placed}
 use Rattle.ratatui_ansi.proofs.TextLemmas.{blank-sized}
@@ -33,7 +33,7 @@ cursor-moved w h x y wide high s ready =
         beyond = ready.beyond;
       },
       record {
-        screens = λ written. ap (λ k. record (screen_of written s) { cursor_x = k; cursor_y = min y (s.height - 1) }) kept;
+        screens = λ written. ap (λ k. record (screen_shown written s) { cursor_x = k; cursor_y = min y (s.height - 1) }) kept;
         columns = λ a b. refl;
       },
     )
@@ -101,7 +101,7 @@ screen-emptied w h x y wide high = keeps-along w h (λ t. moved x y (erased Befo
     (λ s ready.
     let width : s.width ≡ w = ready.width in
     let height : s.height ≡ h = ready.height in
-    let u : Terminal = moved x y (erased Before (record s { x = w - 1; y = h - 1 })) in
+    let u : Emulator = moved x y (erased Before (record s { x = w - 1; y = h - 1 })) in
     let same : (a b : ℕ) → u.columns a b ≡ emptied h s.columns a b = erased-emptied w h s.columns wide high ready.beyond in
     let x_in : nat_lt (w - 1) s.width ≡ true = grind (arith, nat_tests) in
     let sure : u.sure ≡ true = rw (ready.sure, ready.pen, x_in) refl in (
@@ -114,7 +114,7 @@ screen-emptied w h x y wide high = keeps-along w h (λ t. moved x y (erased Befo
             let row : s.y < h = ready.row in
             let cursor_y : min y (s.height - 1) ≡ s.y = omega arith in
             record {
-              rest = ap₂ (λ i j. record (screen_of written s) { grid = λ a b. look_in (u.columns a b); cursor_x = i; cursor_y = j }) cursor_x cursor_y;
+              rest = ap₂ (λ i j. record (screen_shown written s) { grid = λ a b. look_in (u.columns a b); cursor_x = i; cursor_y = j }) cursor_x cursor_y;
               grid = λ a b a_in b_in. ap look_in (same a b) ∙ (let inside : nat_lt b h ≡ true = grind (arith, nat_tests) in rw inside refl);
             };
       },

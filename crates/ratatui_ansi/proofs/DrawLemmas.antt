@@ -9,8 +9,8 @@ use Rattle.std.proofs.lemmas.Str.{chars-nil, chars-append, encodes-chars, IsUtf8
 use Rattle.rtui_cell.specs.Width.{text_width}
 use Rattle.ratatui_ansi.specs.declared.pen.Pen.{Pen}
 use Rattle.ratatui_ansi.specs.declared.drawing.Brush.{Brush}
-use Rattle.ratatui_ansi.specs.Terminal.{Terminal, standing, rested, printed, prints, types, moved, with_pen, is_plain, is_symbol, begins_anew}
-use Rattle.ratatui_ansi.specs.Terminal.Phase.{Ground}
+use Rattle.ratatui_ansi.specs.Emulator.{Emulator, standing, rested, printed, prints, types, moved, with_pen, is_plain, is_symbol, begins_anew}
+use Rattle.ratatui_ansi.specs.Emulator.Phase.{Ground}
 use Rattle.ratatui_ansi.specs.Sequences.{feed}
 use Rattle.ratatui_ansi.specs.Sends.{Sends, Does, typed}
 use Rattle.ratatui_ansi.specs.Drawing.{is_one_plain, is_printed, columns_of, IsDrawnBy, drawn_at, Changes, Prints}
@@ -20,15 +20,15 @@ use Rattle.ratatui_ansi.proofs.RegionLemmas.{Does-then}
 use Rattle.ratatui_ansi.proofs.TextLemmas.{and-both}
 
 -- how plain characters are printed one after the other
-types-append : (xs ys : List ℕ) (t : Terminal) → types (xs ++ ys) t ≡ types ys (types xs t)
+types-append : (xs ys : List ℕ) (t : Emulator) → types (xs ++ ys) t ≡ types ys (types xs t)
 types-append [] ys t = refl
 types-append (x ∷ xs) ys t = types-append xs ys (prints (encode x) 1 t)
 
-types-text : (xs text : List ℕ) (t : Terminal) → types xs (record t { text = text }) ≡ record (types xs t) { text = text }
+types-text : (xs text : List ℕ) (t : Emulator) → types xs (record t { text = text }) ≡ record (types xs t) { text = text }
 types-text [] text t = refl
 types-text (x ∷ xs) text t = types-text xs text (prints (encode x) 1 t)
 
-printed-plain : (xs : List ℕ) (t : Terminal) → list_all is_plain (chars xs) ≡ true → printed xs t ≡ types (chars xs) t
+printed-plain : (xs : List ℕ) (t : Emulator) → list_all is_plain (chars xs) ≡ true → printed xs t ≡ types (chars xs) t
 printed-plain [] t e = ap (λ cs. types cs t) (sym chars-nil)
 printed-plain (x ∷ xs) t e = rw e refl
 
@@ -53,7 +53,7 @@ one-encoded : (symbol : List ℕ) (c : ℕ) → IsUtf8 symbol → chars symbol �
 one-encoded symbol c utf8 e = sym (append-nil (encode c)) ∙ ap encodes (sym e) ∙ encodes-chars symbol utf8
 
 -- a plain character behind plain text is printed behind it
-pub behind-standing : (symbol : List ℕ) (t : Terminal) → is_symbol symbol ≡ true → is_one_plain (chars symbol) ≡ true → IsUtf8 t.text → list_all is_plain (chars t.text) ≡ true
+pub behind-standing : (symbol : List ℕ) (t : Emulator) → is_symbol symbol ≡ true → is_one_plain (chars symbol) ≡ true → IsUtf8 t.text → list_all is_plain (chars t.text) ≡ true
     → standing (typed symbol t) ≡ prints symbol 1 (standing t)
 behind-standing symbol t is one utf8 plain =
     let found = one-char (chars symbol) one in
@@ -62,26 +62,26 @@ behind-standing symbol t is one utf8 plain =
     let text = t.text ++ symbol in
     let all_chars : chars text ≡ chars t.text ++ c ∷ [] = chars-append t.text symbol utf8 ∙ ap (λ cs. chars t.text ++ cs) e in
     let all : list_all is_plain (chars text) ≡ true = ap (list_all is_plain) all_chars ∙ list_all-append is_plain (chars t.text) (c ∷ []) ∙ rw (plain, found.1.1) refl in
-    ap (λ (v : Terminal). record v { text = [] }) (printed-plain text (typed symbol t) all ∙ ap (λ cs. types cs (typed symbol t)) all_chars
+    ap (λ (v : Emulator). record v { text = [] }) (printed-plain text (typed symbol t) all ∙ ap (λ cs. types cs (typed symbol t)) all_chars
     ∙ types-append (chars t.text) (c ∷ []) (typed symbol t) ∙ ap (prints (encode c) 1) (types-text (chars t.text) text t))
-    ∙ ap (λ (v : Terminal). prints (encode c) 1 (record v { text = [] })) (sym (printed-plain t.text t plain))
+    ∙ ap (λ (v : Emulator). prints (encode c) 1 (record v { text = [] })) (sym (printed-plain t.text t plain))
     ∙ ap (λ bs. prints bs 1 (standing t)) (one-encoded symbol c (symbol-utf8 symbol is) e)
 
 flip : (b : Bool) → not b ≡ true → b ≡ false
 flip true e = let h : ⊥ = cc in absurd h
 flip false e = refl
 
-printed-other : (symbol : List ℕ) (t : Terminal) → is_symbol symbol ≡ true → list_all is_plain (chars symbol) ≡ false → printed symbol t ≡ prints symbol (text_width symbol) t
+printed-other : (symbol : List ℕ) (t : Emulator) → is_symbol symbol ≡ true → list_all is_plain (chars symbol) ≡ false → printed symbol t ≡ prints symbol (text_width symbol) t
 printed-other [] t is other =
     let e : list_all is_plain (chars []) ≡ true = ap (list_all is_plain) chars-nil in
     let h : ⊥ = cc in
     absurd h
 printed-other (b ∷ bs) t is other =
-    let u : Terminal = prints (b ∷ bs) (text_width (b ∷ bs)) t in
+    let u : Emulator = prints (b ∷ bs) (text_width (b ∷ bs)) t in
     rw other (ap (λ v. record u { sure = v }) (ap (λ v. u.sure && v) is ∙ and-true u.sure))
 
 -- a symbol that stands alone between two sequences
-pub alone-standing : (symbol : List ℕ) (t : Terminal) → is_printed symbol ≡ true → t.text ≡ [] → standing (typed symbol t) ≡ prints symbol (columns_of symbol) (standing t)
+pub alone-standing : (symbol : List ℕ) (t : Emulator) → is_printed symbol ≡ true → t.text ≡ [] → standing (typed symbol t) ≡ prints symbol (columns_of symbol) (standing t)
 alone-standing symbol t is none =
     let both = and-both (is_symbol symbol) (is_one_plain (chars symbol) || not (list_all is_plain (chars symbol))) is in
     elim (is_one_plain (chars symbol)) as (λ v. is_one_plain (chars symbol) ≡ v → standing (typed symbol t) ≡ prints symbol (if v then 1 else text_width symbol) (standing t)) [
@@ -91,28 +91,28 @@ alone-standing symbol t is none =
           let other : list_all is_plain (chars symbol) ≡ false = flip (list_all is_plain (chars symbol)) not_plain in
           let text : t.text ++ symbol ≡ symbol = ap (λ xs. xs ++ symbol) none in
           ap (λ xs. record (printed xs (record t { text = xs })) { text = [] }) text
-          ∙ ap (λ (v : Terminal). record v { text = [] }) (printed-other symbol (record t { text = symbol }) both.0 other)
+          ∙ ap (λ (v : Emulator). record v { text = [] }) (printed-other symbol (record t { text = symbol }) both.0 other)
           ∙ sym (ap (λ xs. prints symbol (text_width symbol) (record (printed xs t) { text = [] })) none)
     ] refl
 
 -- ---- a symbol in its place
 
 -- behind a symbol that was printed the terminal is drawn as the brush says
-drawn-behind : (x y : ℕ) (pen : Pen) (symbol : List ℕ) (after : Brush) (t u : Terminal) → u.phase ≡ Ground → after.pen ≡ pen → after.x ≡ x + 1 → after.y ≡ y
+drawn-behind : (x y : ℕ) (pen : Pen) (symbol : List ℕ) (after : Brush) (t u : Emulator) → u.phase ≡ Ground → after.pen ≡ pen → after.x ≡ x + 1 → after.y ≡ y
     → rested u ≡ prints symbol (columns_of symbol) (drawn_at x y pen t)
     → (IsTrue after.is_placed → IsUtf8 u.text × (list_all is_plain (chars u.text) ≡ true) × (is_one_plain (chars symbol) ≡ true))
     → IsDrawnBy after u
 drawn-behind x y pen symbol after t u ground same column row e placed = record {
   phase = ground;
-  pen = ap (λ (v : Terminal). v.pen) e ∙ sym same;
+  pen = ap (λ (v : Emulator). v.pen) e ∙ sym same;
   placed = λ known.
       let p = placed known in
       let one : columns_of symbol ≡ 1 = rw p.2 refl in
       record {
         utf8 = p.0;
         plain = p.1;
-        column = ap (λ (v : Terminal). v.x) e ∙ ap (λ k. x + k) one ∙ sym column;
-        row = ap (λ (v : Terminal). v.y) e ∙ sym row;
+        column = ap (λ (v : Emulator). v.x) e ∙ ap (λ k. x + k) one ∙ sym column;
+        row = ap (λ (v : Emulator). v.y) e ∙ sym row;
       };
 }
 
@@ -124,33 +124,33 @@ more-plain : (xs ys : List ℕ) → IsUtf8 xs → list_all is_plain (chars xs) �
 more-plain xs ys utf8 e f = ap (list_all is_plain) (chars-append xs ys utf8) ∙ list_all-append is_plain (chars xs) (chars ys) ∙ rw (e, f) refl
 
 -- what a symbol's bytes do to a terminal that has its cursor and its pen
-at-drawn : (x y : ℕ) (pen : Pen) (t : Terminal) → t.x ≡ x → t.y ≡ y → t.pen ≡ pen → t ≡ drawn_at x y pen t
+at-drawn : (x y : ℕ) (pen : Pen) (t : Emulator) → t.x ≡ x → t.y ≡ y → t.pen ≡ pen → t ≡ drawn_at x y pen t
 at-drawn x y pen t ex ey ep = rw (← ex, ← ey, ← ep) refl
 
 -- the cursor and the pen are all that a move changes
-moved-drawn : (x y : ℕ) (pen : Pen) (t : Terminal) → drawn_at x y pen (moved x y t) ≡ drawn_at x y pen t
+moved-drawn : (x y : ℕ) (pen : Pen) (t : Emulator) → drawn_at x y pen (moved x y t) ≡ drawn_at x y pen t
 moved-drawn x y pen t = refl
 
 -- a symbol behind a sequence
-put-sent : (w h : ℕ) (before : Brush) (x y : ℕ) (pen : Pen) (symbol old new : List ℕ) (action : Terminal → Terminal) → Sends old new (λ t. typed symbol (action (rested t))) → is_printed symbol ≡ true
+put-sent : (w h : ℕ) (before : Brush) (x y : ℕ) (pen : Pen) (symbol old new : List ℕ) (action : Emulator → Emulator) → Sends old new (λ t. typed symbol (action (rested t))) → is_printed symbol ≡ true
     → (after : Brush) → after.pen ≡ pen → after.x ≡ x + 1 → after.y ≡ y → (IsTrue after.is_placed → is_one_plain (chars symbol) ≡ true)
-    → ((t : Terminal) → rested (action (rested t)) ≡ action (rested t))
-    → ((t : Terminal) → (rested t).width ≡ w → (rested t).height ≡ h → IsDrawnBy before t → action (rested t) ≡ drawn_at x y pen (rested t))
+    → ((t : Emulator) → rested (action (rested t)) ≡ action (rested t))
+    → ((t : Emulator) → (rested t).width ≡ w → (rested t).height ≡ h → IsDrawnBy before t → action (rested t) ≡ drawn_at x y pen (rested t))
     → Prints w h old before x y pen symbol new after
 put-sent w h before x y pen symbol old new action sends is after same column row single stays drawn_there =
     let text = (and-both (is_symbol symbol) (is_one_plain (chars symbol) || not (list_all is_plain (chars symbol))) is).0 in
-    let empty : (t : Terminal) → (action (rested t)).text ≡ [] = λ t. ap (λ (v : Terminal). v.text) (sym (stays t)) in
-    let ground : (t : Terminal) → (action (rested t)).phase ≡ Ground = λ t. ap (λ (v : Terminal). v.phase) (sym (stays t)) in
-    let shown : (t : Terminal) → (rested t).width ≡ w → (rested t).height ≡ h → IsDrawnBy before t → rested (feed sends.bytes t) ≡ prints symbol (columns_of symbol) (drawn_at x y pen (rested t))
-    = λ t wide high drawn. ap rested (sends.read t drawn.phase) ∙ ap (λ (v : Terminal). record v { phase = Ground }) (alone-standing symbol (action (rested t)) is (empty t))
+    let empty : (t : Emulator) → (action (rested t)).text ≡ [] = λ t. ap (λ (v : Emulator). v.text) (sym (stays t)) in
+    let ground : (t : Emulator) → (action (rested t)).phase ≡ Ground = λ t. ap (λ (v : Emulator). v.phase) (sym (stays t)) in
+    let shown : (t : Emulator) → (rested t).width ≡ w → (rested t).height ≡ h → IsDrawnBy before t → rested (feed sends.bytes t) ≡ prints symbol (columns_of symbol) (drawn_at x y pen (rested t))
+    = λ t wide high drawn. ap rested (sends.read t drawn.phase) ∙ ap (λ (v : Emulator). record v { phase = Ground }) (alone-standing symbol (action (rested t)) is (empty t))
     ∙ ap (prints symbol (columns_of symbol)) (stays t ∙ drawn_there t wide high drawn) in
     record {
       bytes = sends.bytes;
       appended = sends.appended;
       drawn = λ t wide high drawn.
           let e : feed sends.bytes t ≡ typed symbol (action (rested t)) = sends.read t drawn.phase in
-          let only : (feed sends.bytes t).text ≡ symbol = ap (λ (v : Terminal). v.text) e ∙ ap (λ xs. xs ++ symbol) (empty t) in
-          drawn-behind x y pen symbol after (rested t) (feed sends.bytes t) (ap (λ (v : Terminal). v.phase) e ∙ ground t) same column row (shown t wide high drawn)
+          let only : (feed sends.bytes t).text ≡ symbol = ap (λ (v : Emulator). v.text) e ∙ ap (λ xs. xs ++ symbol) (empty t) in
+          drawn-behind x y pen symbol after (rested t) (feed sends.bytes t) (ap (λ (v : Emulator). v.phase) e ∙ ground t) same column row (shown t wide high drawn)
           (λ known. (subst IsUtf8 (sym only) (symbol-utf8 symbol text), ap (λ xs. list_all is_plain (chars xs)) only ∙ one-plain (chars symbol) (single known), single known));
       printed = shown;
     }
@@ -167,9 +167,9 @@ put-here w h before pen symbol old mid new changes sends printed one placed =
     let columns : 1 ≡ columns_of symbol = rw single refl in
     elim changes [
       | Stays same none ↦
-          let shown : (t : Terminal) → IsDrawnBy before t → rested (feed sends.bytes t) ≡ prints symbol (columns_of symbol) (drawn_at before.x before.y pen (rested t)) = λ t drawn.
+          let shown : (t : Emulator) → IsDrawnBy before t → rested (feed sends.bytes t) ≡ prints symbol (columns_of symbol) (drawn_at before.x before.y pen (rested t)) = λ t drawn.
           let here = drawn.placed placed in
-          ap rested (sends.read t drawn.phase) ∙ ap (λ (v : Terminal). record v { phase = Ground }) (behind-standing symbol t text single here.utf8 here.plain)
+          ap rested (sends.read t drawn.phase) ∙ ap (λ (v : Emulator). record v { phase = Ground }) (behind-standing symbol t text single here.utf8 here.plain)
           ∙ ap₂ (λ n v. prints symbol n v) columns (at-drawn before.x before.y pen (rested t) here.column here.row (drawn.pen ∙ same)) in
           record {
             bytes = sends.bytes;
@@ -177,10 +177,10 @@ put-here w h before pen symbol old mid new changes sends printed one placed =
             drawn = λ t wide high drawn.
                 let here = drawn.placed placed in
                 let e : feed sends.bytes t ≡ typed symbol t = sends.read t drawn.phase in
-                drawn-behind before.x before.y pen symbol after (rested t) (feed sends.bytes t) (ap (λ (v : Terminal). v.phase) e ∙ drawn.phase) refl refl refl (shown t drawn)
+                drawn-behind before.x before.y pen symbol after (rested t) (feed sends.bytes t) (ap (λ (v : Emulator). v.phase) e ∙ drawn.phase) refl refl refl (shown t drawn)
                 (λ known. (
-                  subst IsUtf8 (sym (ap (λ (v : Terminal). v.text) e)) (IsUtf8-append t.text symbol here.utf8 utf8),
-                  ap (λ (v : Terminal). list_all is_plain (chars v.text)) e ∙ more-plain t.text symbol here.utf8 here.plain (one-plain (chars symbol) single),
+                  subst IsUtf8 (sym (ap (λ (v : Emulator). v.text) e)) (IsUtf8-append t.text symbol here.utf8 utf8),
+                  ap (λ (v : Emulator). list_all is_plain (chars v.text)) e ∙ more-plain t.text symbol here.utf8 here.plain (one-plain (chars symbol) single),
                   single,
                 ));
             printed = λ t wide high drawn. shown t drawn;
@@ -194,8 +194,8 @@ pub put-there : (w h x y : ℕ) (before after : Brush) (pen : Pen) (symbol old f
     → IsTrue (is_printed symbol) → after.pen ≡ pen → after.x ≡ x + 1 → after.y ≡ y → (IsTrue after.is_placed → is_one_plain (chars symbol) ≡ true) → Prints w h old before x y pen symbol new after
 put-there w h x y before after pen symbol old first mid new x_in y_in moves changes sends printed same column row single =
     let is : is_printed symbol ≡ true = grind (arith, nat_tests) in
-    let cursor_x : (s : Terminal) → s.width ≡ w → min x (s.width - 1) ≡ x = λ s wide. omega arith in
-    let cursor_y : (s : Terminal) → s.height ≡ h → min y (s.height - 1) ≡ y = λ s high. omega arith in
+    let cursor_x : (s : Emulator) → s.width ≡ w → min x (s.width - 1) ≡ x = λ s wide. omega arith in
+    let cursor_y : (s : Emulator) → s.height ≡ h → min y (s.height - 1) ≡ y = λ s high. omega arith in
     elim changes [
       | Stays pens none ↦
           put-sent w h before x y pen symbol old new (moved x y)

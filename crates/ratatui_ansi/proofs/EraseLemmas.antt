@@ -8,7 +8,7 @@ use Rattle.ratatui_ansi.specs.declared.part.Part.{Part}
 use Rattle.ratatui_ansi.specs.declared.part.Part.TheVariants.{After, Before, Line, LineEnd}
 use Rattle.ratatui_ansi.specs.Columns.{Column, Columns, Area, is_behind, is_met, blank_column, overwritten}
 use Rattle.ratatui_ansi.specs.Columns.Column.{Shows, Unknown}
-use Rattle.ratatui_ansi.specs.Terminal.{part_at, part_emptied}
+use Rattle.ratatui_ansi.specs.Emulator.{part_at, part_emptied}
 use Rattle.ratatui_ansi.specs.Screens.{IsSized, AreSized, IsWhole, IsWholeAt, IsBlankBeyond}
 use Rattle.ratatui_ansi.specs.Flags.{AreBehind, is_cut}
 use Rattle.ratatui_ansi.proofs.TextLemmas.{blank-sized}

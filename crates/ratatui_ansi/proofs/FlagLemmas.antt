@@ -8,7 +8,7 @@ use Rattle.std.proofs.lemmas.List.{get_or_append_left, get_or-append_right, get_
 use Rattle.std.proofs.lemmas.Bool.{cases_lt}
 use Rattle.std.proofs.lemmas.Bool.Decides.{nat_tests}
 use Rattle.ratatui_ansi.specs.Columns.{Columns, is_behind, blank_column}
-use Rattle.ratatui_ansi.specs.Terminal.{raised, lowered, emptied, part_at, part_emptied}
+use Rattle.ratatui_ansi.specs.Emulator.{raised, lowered, emptied, part_at, part_emptied}
 use Rattle.ratatui_ansi.specs.declared.part.Part.{Part}
 use Rattle.ratatui_ansi.specs.declared.part.Part.TheVariants.{After, Before, Line, LineEnd}
 use Rattle.ratatui_ansi.specs.Flags.{flag, AreBehind}

@@ -20,9 +20,9 @@ use Rattle.ratatui_ansi.specs.declared.frame.Drawing.{Drawing}
 use Rattle.ratatui_ansi.specs.Columns.{Columns, look_in, is_behind}
 use Rattle.ratatui_ansi.specs.Flags.{AreBehind, flag}
 use Rattle.ratatui_ansi.specs.Pen.{own_pen, inked, pen_of}
-use Rattle.ratatui_ansi.specs.Terminal.{Terminal, rested, run, with_pen, has_columns}
+use Rattle.ratatui_ansi.specs.Emulator.{Emulator, rested, run, with_pen, has_columns}
 use Rattle.ratatui_ansi.specs.Sequences.{feed}
-use Rattle.ratatui_ansi.specs.Screens.{screen_of, IsSized, IsWhole, IsBlankBeyond, IsReady, put_columns}
+use Rattle.ratatui_ansi.specs.Screens.{screen_shown, IsSized, IsWhole, IsBlankBeyond, IsReady, put_columns}
 use Rattle.ratatui_ansi.specs.Drawing.{is_printed, columns_of, printed_at, blanked, IsDrawnBy, Changes, Paints, Prints}
 use Rattle.ratatui_ansi.specs.Drawing.Changes.{Stays, Sets}
 use Rattle.ratatui_ansi.specs.Calls.{IsAwaiting}
@@ -46,31 +46,31 @@ pub blank-printed : is_printed blank ≡ true
 blank-printed = rw (blank-chars, is_utf8-from_IsUtf8 blank blank-utf8, blank-columns) refl
 
 -- all but the columns, the cursor, the pen and the doubt stays
-abbrev pub OnlyPrinted : Terminal → Terminal → Type 0
+abbrev pub OnlyPrinted : Emulator → Emulator → Type 0
 OnlyPrinted s u = record u { columns = s.columns; x = s.x; y = s.y; pen = s.pen; sure = s.sure } ≡ s
 
-only-then : (s t u : Terminal) → OnlyPrinted s t → OnlyPrinted t u → OnlyPrinted s u
-only-then s t u first second = ap (λ (v : Terminal). record v { columns = s.columns; x = s.x; y = s.y; pen = s.pen; sure = s.sure }) second ∙ first
+only-then : (s t u : Emulator) → OnlyPrinted s t → OnlyPrinted t u → OnlyPrinted s u
+only-then s t u first second = ap (λ (v : Emulator). record v { columns = s.columns; x = s.x; y = s.y; pen = s.pen; sure = s.sure }) second ∙ first
 
-blanked-only : (x y n : ℕ) (t : Terminal) → OnlyPrinted t (blanked x y n t)
+blanked-only : (x y n : ℕ) (t : Emulator) → OnlyPrinted t (blanked x y n t)
 blanked-only x y zero t = refl
 blanked-only x y (suc n) t = blanked-only x y n t
 
-blanked-width : (x y n : ℕ) (t : Terminal) → (blanked x y n t).width ≡ t.width
-blanked-width x y n t = ap (λ (v : Terminal). v.width) (blanked-only x y n t)
+blanked-width : (x y n : ℕ) (t : Emulator) → (blanked x y n t).width ≡ t.width
+blanked-width x y n t = ap (λ (v : Emulator). v.width) (blanked-only x y n t)
 
-blanked-height : (x y n : ℕ) (t : Terminal) → (blanked x y n t).height ≡ t.height
-blanked-height x y n t = ap (λ (v : Terminal). v.height) (blanked-only x y n t)
+blanked-height : (x y n : ℕ) (t : Emulator) → (blanked x y n t).height ≡ t.height
+blanked-height x y n t = ap (λ (v : Emulator). v.height) (blanked-only x y n t)
 
-blanked-x : (x y n : ℕ) (t : Terminal) → t.x ≡ x → (blanked x y n t).x ≡ x + n
+blanked-x : (x y n : ℕ) (t : Emulator) → t.x ≡ x → (blanked x y n t).x ≡ x + n
 blanked-x x y zero t e = e ∙ omega arith
 blanked-x x y (suc n) t e = ap (λ k. x + n + k) blank-one ∙ omega arith
 
-blanked-y : (x y n : ℕ) (t : Terminal) → t.y ≡ y → (blanked x y n t).y ≡ y
+blanked-y : (x y n : ℕ) (t : Emulator) → t.y ≡ y → (blanked x y n t).y ≡ y
 blanked-y x y zero t e = e
 blanked-y x y (suc n) t e = refl
 
-blanked-sure : (x y n : ℕ) (t : Terminal) → t.sure ≡ true → x + n ≤ t.width → y < t.height → (blanked x y n t).sure ≡ true
+blanked-sure : (x y n : ℕ) (t : Emulator) → t.sure ≡ true → x + n ≤ t.width → y < t.height → (blanked x y n t).sure ≡ true
 blanked-sure x y zero t sure fits row = sure
 blanked-sure x y (suc n) t sure fits row =
     let before : (blanked x y n t).sure ≡ true = blanked-sure x y n t sure (omega arith) row in
@@ -80,7 +80,7 @@ blanked-sure x y (suc n) t sure fits row =
     let below : nat_lt y t.height ≡ true = grind (arith, nat_tests) in
     rw (before, blank-one, wide, high, column, below) refl
 
-blanked-torn : (x y n end m k : ℕ) (look : Look) (c : Columns) (t : Terminal) → IsWhole c → is_behind (c x y) ≡ false → IsTail (x + n) end y c → ((a b : ℕ) → t.columns a b ≡ torn x y n (x + n) end look c a b)
+blanked-torn : (x y n end m k : ℕ) (look : Look) (c : Columns) (t : Emulator) → IsWhole c → is_behind (c x y) ≡ false → IsTail (x + n) end y c → ((a b : ℕ) → t.columns a b ≡ torn x y n (x + n) end look c a b)
     → x + n + m ≡ k → k ≤ end → (a b : ℕ) → (blanked (x + n) y m t).columns a b ≡ torn x y n k end look c a b
 blanked-torn x y n end zero k look c t whole left tail same reached high a b =
     let e : x + n ≡ k = omega arith in
@@ -93,16 +93,16 @@ blanked-torn x y n end (suc m) k look c t whole left tail same reached high a b 
     ∙ ap (λ j. torn x y n j end look c a b) e
 
 -- bytes that do nothing, and bytes behind others
-abbrev pub KeepsSize : (Terminal → Terminal) → Type 0
-KeepsSize effect = (t : Terminal) → ((effect t).width ≡ t.width) × ((effect t).height ≡ t.height)
+abbrev pub KeepsSize : (Emulator → Emulator) → Type 0
+KeepsSize effect = (t : Emulator) → ((effect t).width ≡ t.width) × ((effect t).height ≡ t.height)
 
-pub Paints-then : (w h : ℕ) (a b c : List ℕ) (p q r : Brush) (f g : Terminal → Terminal) → KeepsSize f → Paints w h a p f b q → Paints w h b q g c r → Paints w h a p (λ t. g (f t)) c r
+pub Paints-then : (w h : ℕ) (a b c : List ℕ) (p q r : Brush) (f g : Emulator → Emulator) → KeepsSize f → Paints w h a p f b q → Paints w h b q g c r → Paints w h a p (λ t. g (f t)) c r
 Paints-then w h a b c p q r f g keeps first second =
-    let fed : (t : Terminal) → feed (first.bytes ++ second.bytes) t ≡ feed second.bytes (feed first.bytes t) = feed-append first.bytes second.bytes in
-    let wide : (t : Terminal) → (rested t).width ≡ w → (rested t).height ≡ h → IsDrawnBy p t → (rested (feed first.bytes t)).width ≡ w =
-    λ t width height drawn. ap (λ (v : Terminal). v.width) (first.printed t width height drawn) ∙ (keeps (rested t)).0 ∙ width in
-    let high : (t : Terminal) → (rested t).width ≡ w → (rested t).height ≡ h → IsDrawnBy p t → (rested (feed first.bytes t)).height ≡ h =
-    λ t width height drawn. ap (λ (v : Terminal). v.height) (first.printed t width height drawn) ∙ (keeps (rested t)).1 ∙ height in
+    let fed : (t : Emulator) → feed (first.bytes ++ second.bytes) t ≡ feed second.bytes (feed first.bytes t) = feed-append first.bytes second.bytes in
+    let wide : (t : Emulator) → (rested t).width ≡ w → (rested t).height ≡ h → IsDrawnBy p t → (rested (feed first.bytes t)).width ≡ w =
+    λ t width height drawn. ap (λ (v : Emulator). v.width) (first.printed t width height drawn) ∙ (keeps (rested t)).0 ∙ width in
+    let high : (t : Emulator) → (rested t).width ≡ w → (rested t).height ≡ h → IsDrawnBy p t → (rested (feed first.bytes t)).height ≡ h =
+    λ t width height drawn. ap (λ (v : Emulator). v.height) (first.printed t width height drawn) ∙ (keeps (rested t)).1 ∙ height in
     record {
       bytes = first.bytes ++ second.bytes;
       appended = second.appended ∙ ap (λ xs. xs ++ second.bytes) first.appended ∙ append_assoc a first.bytes second.bytes;
@@ -132,14 +132,14 @@ blanks-more w h x y column m k old mid new before between after done more at cou
 -- ---- a symbol, and blanks in what is left of another one
 
 -- a symbol stands in its place, and blanks up to column `end`
-pub record IsLaid (x y n end : ℕ) (look : Look) (s u : Terminal) : Type 0 where
+pub record IsLaid (x y n end : ℕ) (look : Look) (s u : Emulator) : Type 0 where
   pub only : OnlyPrinted s u
   pub columns : (a b : ℕ) → u.columns a b ≡ laid x y n end look s.columns a b
   pub x_at : u.x ≡ end
   pub y_at : u.y ≡ y
   pub certain : u.sure ≡ true
 
-laid-by : (w h x y n end : ℕ) (pen : Pen) (symbol : List ℕ) (s : Terminal) → IsReady w h (with_pen own_pen s) → columns_of symbol ≡ n → 0 < n → x + n ≤ w → end ≤ w → y < h
+laid-by : (w h x y n end : ℕ) (pen : Pen) (symbol : List ℕ) (s : Emulator) → IsReady w h (with_pen own_pen s) → columns_of symbol ≡ n → 0 < n → x + n ≤ w → end ≤ w → y < h
     → is_behind (s.columns x y) ≡ false → IsTail (x + n) end y s.columns → IsLaid x y n end (inked symbol pen) s (blanked (x + n) y (end - (x + n)) (printed_at x y pen symbol s))
 laid-by w h x y n end pen symbol s ready en some fits inside row left tail =
     let ordered : x + n ≤ end = tail.ordered in
@@ -164,16 +164,16 @@ laid-by w h x y n end pen symbol s ready en some fits inside row left tail =
       certain = blanked-sure (x + n) y m t sure (omega arith) (omega arith);
     }
 
-laid-ready : (w h x y n end : ℕ) (look : Look) (s u : Terminal) → IsReady w h (with_pen own_pen s) → n ≡ columns_of look.symbol → x + n ≤ w → y < h → is_behind (s.columns x y) ≡ false
+laid-ready : (w h x y n end : ℕ) (look : Look) (s u : Emulator) → IsReady w h (with_pen own_pen s) → n ≡ columns_of look.symbol → x + n ≤ w → y < h → is_behind (s.columns x y) ≡ false
     → IsTail (x + n) end y s.columns → IsLaid x y n end look s u → IsReady w h (with_pen own_pen u)
 laid-ready w h x y n end look s u ready takes fits row left tail is = record {
-  phase = ap (λ (v : Terminal). v.phase) is.only ∙ ready.phase;
-  text = ap (λ (v : Terminal). v.text) is.only ∙ ready.text;
-  width = ap (λ (v : Terminal). v.width) is.only ∙ ready.width;
-  height = ap (λ (v : Terminal). v.height) is.only ∙ ready.height;
+  phase = ap (λ (v : Emulator). v.phase) is.only ∙ ready.phase;
+  text = ap (λ (v : Emulator). v.text) is.only ∙ ready.text;
+  width = ap (λ (v : Emulator). v.width) is.only ∙ ready.width;
+  height = ap (λ (v : Emulator). v.height) is.only ∙ ready.height;
   pen = refl;
-  top = ap (λ (v : Terminal). v.top) is.only ∙ ready.top;
-  bottom = ap (λ (v : Terminal). v.bottom) is.only ∙ ready.bottom;
+  top = ap (λ (v : Emulator). v.top) is.only ∙ ready.top;
+  bottom = ap (λ (v : Emulator). v.bottom) is.only ∙ ready.bottom;
   row = let at : u.y ≡ y = is.y_at in omega arith;
   sure = is.certain;
   sized = λ a b. subst IsSized (sym (is.columns a b)) (laid-sized x y n end look s.columns takes ready.sized a b);
@@ -240,7 +240,7 @@ tail-of w h from end y flags c are beyond row ordered inside set unset = record 
   ];
 }
 
-pub laid-flags : (w h x y n end : ℕ) (look : Look) (s u : Terminal) (flags after : List Bool) → AreBehind w h flags s.columns → x + n ≤ end → end ≤ w → 0 < n → IsLaid x y n end look s u
+pub laid-flags : (w h x y n end : ℕ) (look : Look) (s u : Emulator) (flags after : List Bool) → AreBehind w h flags s.columns → x + n ≤ end → end ≤ w → 0 < n → IsLaid x y n end look s u
     → AreMarked (y * w + x) (y * w + (x + n)) (y * w + end) flags after → AreBehind w h after u.columns
 laid-flags w h x y n end look s u flags after are ordered inside some is marked = record {
   count = marked.count ∙ are.count;
@@ -255,13 +255,13 @@ ink-look : (cell : Cell) → inked (symbol_text cell.symbol) (pen_of cell) ≡ l
 unfolding look_of
 ink-look cell = refl
 
-laid-draws : (w h x y n end : ℕ) (cell : Cell) (s u : Terminal) (written after : ℕ) → s.width ≡ w → s.height ≡ h → IsTail (x + n) end y s.columns → width_of cell ≡ n → 0 < n → x + n ≤ w → y < h
-    → IsLaid x y n end (look_of cell) s u → after ≡ min (written + 1) (2 ^ 64 - 1) → Draws (screen_of written s) (record { x = x; y = y; cell = cell } ∷ []) (screen_of after u)
+laid-draws : (w h x y n end : ℕ) (cell : Cell) (s u : Emulator) (written after : ℕ) → s.width ≡ w → s.height ≡ h → IsTail (x + n) end y s.columns → width_of cell ≡ n → 0 < n → x + n ≤ w → y < h
+    → IsLaid x y n end (look_of cell) s u → after ≡ min (written + 1) (2 ^ 64 - 1) → Draws (screen_shown written s) (record { x = x; y = y; cell = cell } ∷ []) (screen_shown after u)
 laid-draws w h x y n end cell s u written after wide high tail en some fits row is count = record {
-  history = ap (λ (v : Terminal). v.history) is.only;
-  width = ap (λ (v : Terminal). v.width) is.only;
-  height = ap (λ (v : Terminal). v.height) is.only;
-  visible = ap (λ (v : Terminal). v.visible) is.only;
+  history = ap (λ (v : Emulator). v.history) is.only;
+  width = ap (λ (v : Emulator). v.width) is.only;
+  height = ap (λ (v : Emulator). v.height) is.only;
+  visible = ap (λ (v : Emulator). v.visible) is.only;
   grid = λ a b.
       rw (wide, high) (ap look_in (is.columns a b) ∙ laid-shown w h x y n end (record { x = x; y = y; cell = cell }) s.columns tail refl refl en some fits row a b);
   written = λ below. omega arith;
@@ -308,10 +308,10 @@ lay-sends w h x y n end cell before after between flags flags_after old mid new 
     let columns : columns_of symbol ≡ n = fit.columns ∙ en in
     let some : 0 < n = let s = fit.some in omega arith in
     let fits : x + n ≤ w = let i = fit.inside in omega arith in
-    let left : (t : Terminal) → IsDrawing w h before flags t → is_behind ((rested t).columns x y) ≡ false = λ t is. sym (is.behind.each x y column row) ∙ uncut in
-    let tail : (t : Terminal) → IsDrawing w h before flags t → IsTail (x + n) end y (rested t).columns =
+    let left : (t : Emulator) → IsDrawing w h before flags t → is_behind ((rested t).columns x y) ≡ false = λ t is. sym (is.behind.each x y column row) ∙ uncut in
+    let tail : (t : Emulator) → IsDrawing w h before flags t → IsTail (x + n) end y (rested t).columns =
     λ t is. tail-of w h (x + n) end y flags (rested t).columns is.behind is.ready.beyond row ordered inside set unset in
-    let laid_at : (t : Terminal) → IsDrawing w h before flags t → IsLaid x y n end (look_of cell) (rested t) (rested (feed both.bytes t)) = λ t is.
+    let laid_at : (t : Emulator) → IsDrawing w h before flags t → IsLaid x y n end (look_of cell) (rested t) (rested (feed both.bytes t)) = λ t is.
     subst (IsLaid x y n end (look_of cell) (rested t)) (sym (both.printed t is.ready.width is.ready.height is.drawn))
     (subst (λ look. IsLaid x y n end look (rested t) (blanked (x + n) y m (printed_at x y (pen_of cell) symbol (rested t)))) (ink-look cell)
     (laid-by w h x y n end (pen_of cell) symbol (rested t) is.ready columns some fits inside row (left t is) (tail t is))) in
@@ -321,7 +321,7 @@ lay-sends w h x y n end cell before after between flags flags_after old mid new 
       drawing = λ t is.
           let at = laid_at t is in
           let u = rested (feed both.bytes t) in
-          let wide : u.width ≡ w = ap (λ (v : Terminal). v.width) at.only ∙ is.ready.width in
+          let wide : u.width ≡ w = ap (λ (v : Emulator). v.width) at.only ∙ is.ready.width in
           record {
             drawn = both.drawn t is.ready.width is.ready.height is.drawn;
             ready = laid-ready w h x y n end (look_of cell) (rested t) u is.ready (sym columns ∙ ap (λ (look : Look). columns_of look.symbol) (ink-look cell)) fits row (left t is) (tail t is) at;
@@ -402,24 +402,24 @@ sends-none w h old d flags = record {
   bytes = [];
   appended = sym (append-nil old);
   drawing = λ t is. is;
-  draws = λ t is. Draws-none (screen_of d.written (rested t));
+  draws = λ t is. Draws-none (screen_shown d.written (rested t));
 }
 
 pub sends-push : (w h : ℕ) (a b c : List ℕ) (p q r : Drawing) (f g k : List Bool) (us : List Update) (u : Update) → SendsUpdates w h a p f us b q g → SendsUpdates w h b q g (u ∷ []) c r k
     → SendsUpdates w h a p f (us ++ u ∷ []) c r k
 sends-push w h a b c p q r f g k us u first second =
-    let fed : (t : Terminal) → feed (first.bytes ++ second.bytes) t ≡ feed second.bytes (feed first.bytes t) = feed-append first.bytes second.bytes in
+    let fed : (t : Emulator) → feed (first.bytes ++ second.bytes) t ≡ feed second.bytes (feed first.bytes t) = feed-append first.bytes second.bytes in
     record {
       bytes = first.bytes ++ second.bytes;
       appended = second.appended ∙ ap (λ xs. xs ++ second.bytes) first.appended ∙ append_assoc a first.bytes second.bytes;
       drawing = λ t is. subst (IsDrawing w h r k) (sym (fed t)) (second.drawing (feed first.bytes t) (first.drawing t is));
       draws = λ t is.
-          subst (λ v. Draws (screen_of p.written (rested t)) (us ++ u ∷ []) (screen_of r.written (rested v))) (sym (fed t))
+          subst (λ v. Draws (screen_shown p.written (rested t)) (us ++ u ∷ []) (screen_shown r.written (rested v))) (sym (fed t))
           (Draws-push (first.draws t is) (second.draws (feed first.bytes t) (first.drawing t is)));
     }
 
 -- a draw begins with the own pen and an unknown place
-pub begins : (w h : ℕ) (d : Drawing) (cursor : Position) (flags : List Bool) (t : Terminal) → d.brush.pen ≡ own_pen → d.brush.is_placed ≡ false → d.cursor ≡ cursor → IsAwaiting w h cursor flags t → IsDrawing w h d flags t
+pub begins : (w h : ℕ) (d : Drawing) (cursor : Position) (flags : List Bool) (t : Emulator) → d.brush.pen ≡ own_pen → d.brush.is_placed ≡ false → d.cursor ≡ cursor → IsAwaiting w h cursor flags t → IsDrawing w h d flags t
 begins w h d cursor flags t own unplaced at is = record {
   drawn = record {
     phase = is.phase;
@@ -444,7 +444,7 @@ begins w h d cursor flags t own unplaced at is = record {
   cursor = is.placed ∙ sym at;
 }
 
-with-own : (w h : ℕ) (t : Terminal) → t.pen ≡ own_pen → IsReady w h (with_pen own_pen t) → IsReady w h t
+with-own : (w h : ℕ) (t : Emulator) → t.pen ≡ own_pen → IsReady w h (with_pen own_pen t) → IsReady w h t
 with-own w h t own ready = record {
   phase = ready.phase;
   text = ready.text;
@@ -465,7 +465,7 @@ pub draw-sends : (w h : ℕ) (old mid new : List ℕ) (before after : Drawing) (
     → before.brush.is_placed ≡ false → before.cursor ≡ cursor → before.written ≡ written → SendsUpdates w h old before flags us mid after flags_after → Changes after.brush.pen own_pen mid new
     → SendsDraw w h old cursor written flags us new after.cursor after.written flags_after
 draw-sends w h old mid new before after cursor written flags flags_after us own unplaced at count sends changes =
-    let start = λ (t : Terminal) (is : IsAwaiting w h cursor flags t). begins w h before cursor flags t own unplaced at is in
+    let start = λ (t : Emulator) (is : IsAwaiting w h cursor flags t). begins w h before cursor flags t own unplaced at is in
     elim changes [
       | Stays same none ↦ record {
         bytes = sends.bytes;
@@ -478,10 +478,10 @@ draw-sends w h old mid new before after cursor written flags flags_after us own 
               behind = end.behind;
               placed = end.cursor;
             };
-        draws = λ t is. subst (λ n. Draws (screen_of n (rested t)) us (screen_of after.written (rested (feed sends.bytes t)))) count (sends.draws t (start t is));
+        draws = λ t is. subst (λ n. Draws (screen_shown n (rested t)) us (screen_shown after.written (rested (feed sends.bytes t)))) count (sends.draws t (start t is));
       }
       | Sets does ↦
-          let fed : (t : Terminal) → IsAwaiting w h cursor flags t → feed (sends.bytes ++ does.bytes) t ≡ with_pen own_pen (rested (feed sends.bytes t)) = λ t is.
+          let fed : (t : Emulator) → IsAwaiting w h cursor flags t → feed (sends.bytes ++ does.bytes) t ≡ with_pen own_pen (rested (feed sends.bytes t)) = λ t is.
           feed-append sends.bytes does.bytes t ∙ does.read (feed sends.bytes t) (sends.drawing t (start t is)).drawn.phase in
           record {
             bytes = sends.bytes ++ does.bytes;
@@ -491,8 +491,8 @@ draw-sends w h old mid new before after cursor written flags flags_after us own 
                 let last : IsAwaiting w h after.cursor flags_after (with_pen own_pen (rested (feed sends.bytes t))) = record { phase = refl; ready = end.ready; behind = end.behind; placed = end.cursor } in
                 subst (IsAwaiting w h after.cursor flags_after) (sym (fed t is)) last;
             draws = λ t is.
-                let before_count = subst (λ n. Draws (screen_of n (rested t)) us (screen_of after.written (rested (feed sends.bytes t)))) count (sends.draws t (start t is)) in
-                let same : Draws (screen_of written (rested t)) us (screen_of after.written (rested (with_pen own_pen (rested (feed sends.bytes t))))) = before_count in
-                subst (λ v. Draws (screen_of written (rested t)) us (screen_of after.written (rested v))) (sym (fed t is)) same;
+                let before_count = subst (λ n. Draws (screen_shown n (rested t)) us (screen_shown after.written (rested (feed sends.bytes t)))) count (sends.draws t (start t is)) in
+                let same : Draws (screen_shown written (rested t)) us (screen_shown after.written (rested (with_pen own_pen (rested (feed sends.bytes t))))) = before_count in
+                subst (λ v. Draws (screen_shown written (rested t)) us (screen_shown after.written (rested v))) (sym (fed t is)) same;
           }
     ]

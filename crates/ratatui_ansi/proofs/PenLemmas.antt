@@ -18,8 +18,8 @@ use Rattle.rtui_style.specs.Modifier.{no_modifier, bits_of, modifier_of}
 use Rattle.ratatui_ansi.specs.declared.pen.Pen.{Pen}
 use Rattle.ratatui_ansi.specs.Pen.{Inking, inks, inks_in, own_pen}
 use Rattle.ratatui_ansi.specs.Pen.Awaits.{Nothing}
-use Rattle.ratatui_ansi.specs.Terminal.{Terminal, rested, with_pen}
-use Rattle.ratatui_ansi.specs.Terminal.Phase.{Ground, Sequence}
+use Rattle.ratatui_ansi.specs.Emulator.{Emulator, rested, with_pen}
+use Rattle.ratatui_ansi.specs.Emulator.Phase.{Ground, Sequence}
 use Rattle.ratatui_ansi.specs.Sequences.{feed, performs}
 use Rattle.ratatui_ansi.specs.Parameters.{color_parameters, underline_parameters, modifier_parameters, modifier_parameter, pen_parameters, semicolons, pen_bytes, is_underline, is_told, Tells}
 use Rattle.ratatui_ansi.specs.Sends.{Does}
@@ -44,14 +44,14 @@ Tells-then a b c ps qs first second = record {
 }
 
 -- written parameters are the ones that a sequence performs
-pub parameters-read : (ps : List ℕ) → list_all (λ p. nat_lt p 256) ps ≡ true → (done : List ℕ) (n : ℕ) (t : Terminal)
+pub parameters-read : (ps : List ℕ) → list_all (λ p. nat_lt p 256) ps ≡ true → (done : List ℕ) (n : ℕ) (t : Emulator)
     → feed (semicolons ps ++ 109 ∷ []) (record t { phase = Sequence false done n }) ≡ performs (done ++ n ∷ ps) 109 (record t { phase = Ground })
 unfolding feed
 parameters-read [] small done n t = refl
 parameters-read (p ∷ ps) small done n t =
     let rest = semicolons ps ++ 109 ∷ [] in
     let both = and-both (nat_lt p 256) (list_all (λ q. nat_lt q 256) ps) small in
-    let opened : Terminal = record t { phase = Sequence false (done ++ n ∷ []) 0 } in
+    let opened : Emulator = record t { phase = Sequence false (done ++ n ∷ []) 0 } in
     ap (λ bs. feed bs opened) (append_assoc (decimal p) (semicolons ps) (109 ∷ []))
     ∙ feed-append (decimal p) rest opened
     ∙ ap (feed rest) (number-read p (fits p both.0) false (done ++ n ∷ []) t)
@@ -234,11 +234,11 @@ inks-pen p bits told =
     ∙ underline-inks p.underline_color p3 told refl
 
 -- a pen that can be told is read back
-pen-read : (p : Pen) (t : Terminal) → bits_of p.modifier < 512 → IsTrue (is_underline p.underline_color) → list_all (λ q. nat_lt q 256) (pen_parameters p) ≡ true → t.phase ≡ Ground
+pen-read : (p : Pen) (t : Emulator) → bits_of p.modifier < 512 → IsTrue (is_underline p.underline_color) → list_all (λ q. nat_lt q 256) (pen_parameters p) ≡ true → t.phase ≡ Ground
     → feed (pen_bytes p) t ≡ with_pen p (rested t)
 unfolding feed
 pen-read p t bits told small ground =
-    let s : Terminal = rested t in
+    let s : Emulator = rested t in
     let ps = pen_parameters p in
     begun (48 ∷ (semicolons ps ++ 109 ∷ [])) t ground
     ∙ parameters-read ps small [] 0 s

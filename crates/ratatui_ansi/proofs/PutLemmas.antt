@@ -7,7 +7,7 @@ use Rattle.rtui_cell.specs.Cell.{width_of}
 use Rattle.rtui_cell.specs.Grid.{Update, put}
 use Rattle.ratatui_ansi.specs.Columns.{Column, Columns, look_in, is_behind, is_met}
 use Rattle.ratatui_ansi.specs.Columns.Column.{Shows, Unknown}
-use Rattle.ratatui_ansi.specs.Terminal.{run}
+use Rattle.ratatui_ansi.specs.Emulator.{run}
 use Rattle.ratatui_ansi.specs.Screens.{IsSized, AreSized, IsWhole, IsWholeAt, IsBlankBeyond, IsUncut, put_columns}
 use Rattle.ratatui_ansi.specs.Drawing.{columns_of}
 

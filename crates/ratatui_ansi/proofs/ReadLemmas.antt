@@ -5,20 +5,20 @@ use Rattle.std.proofs.lemmas.Fmt.{decimal_by_steps}
 use Rattle.std.proofs.lemmas.Bool.Decides.{nat_tests}
 use Rattle.std.proofs.Math.Nat.{div-add-mod'}
 use Rattle.std.specs.Fmt.{decimal}
-use Rattle.ratatui_ansi.specs.Terminal.{Terminal, Phase, rested, moved, returned, erased, scrolled, line_fed, fed, if_so, with_visible, with_region, without_region, lines_deleted, scrolled_down}
-use Rattle.ratatui_ansi.specs.Terminal.Phase.{Ground, Sequence}
+use Rattle.ratatui_ansi.specs.Emulator.{Emulator, Phase, rested, moved, returned, erased, scrolled, line_fed, fed, if_so, with_visible, with_region, without_region, lines_deleted, scrolled_down}
+use Rattle.ratatui_ansi.specs.Emulator.Phase.{Ground, Sequence}
 use Rattle.ratatui_ansi.specs.declared.part.Part.{Part}
 use Rattle.ratatui_ansi.specs.declared.part.Part.TheVariants.{After, Before, Line, LineEnd}
 use Rattle.ratatui_ansi.specs.Sequences.{feed, reads_in, is_digit}
 use Rattle.ratatui_ansi.specs.Sends.{Sends, Does}
 
-pub feed-append : (xs ys : List ℕ) (t : Terminal) → feed (xs ++ ys) t ≡ feed ys (feed xs t)
+pub feed-append : (xs ys : List ℕ) (t : Emulator) → feed (xs ++ ys) t ≡ feed ys (feed xs t)
 unfolding feed
 feed-append [] ys t = refl
 feed-append (x ∷ xs) ys t = feed-append xs ys (reads_in t.phase x t)
 
 -- one after the other
-pub Sends-then : (a b c : List ℕ) (f g : Terminal → Terminal) → Sends a b f → Sends b c g → ((t : Terminal) → (f t).phase ≡ Ground) → Sends a c (λ t. g (f t))
+pub Sends-then : (a b c : List ℕ) (f g : Emulator → Emulator) → Sends a b f → Sends b c g → ((t : Emulator) → (f t).phase ≡ Ground) → Sends a c (λ t. g (f t))
 Sends-then a b c f g first second stays = record {
   bytes = first.bytes ++ second.bytes;
   appended = second.appended ∙ ap (λ xs. xs ++ second.bytes) first.appended ∙ append_assoc a first.bytes second.bytes;
@@ -26,8 +26,8 @@ Sends-then a b c f g first second stays = record {
 }
 
 -- a text was pushed
-pub pushed : {E : Type 0} (r : Result (Unit {0}) E) (old new bs : List ℕ) (effect : Terminal → Terminal) → new ≡ (if is_ok r then old ++ bs else old)
-    → ((t : Terminal) → t.phase ≡ Ground → feed bs t ≡ effect t) → OnOk r (Sends old new effect)
+pub pushed : {E : Type 0} (r : Result (Unit {0}) E) (old new bs : List ℕ) (effect : Emulator → Emulator) → new ≡ (if is_ok r then old ++ bs else old)
+    → ((t : Emulator) → t.phase ≡ Ground → feed bs t ≡ effect t) → OnOk r (Sends old new effect)
 pushed (Ok u) old new bs effect e read = record { bytes = bs; appended = e; read = read }
 pushed (Err f) old new bs effect e read = tt
 
@@ -36,20 +36,20 @@ on_push (Ok u) old new bs e = e
 on_push (Err f) old new bs e = tt
 
 -- a terminal in a phase
-abbrev pub within : Phase → Terminal → Terminal
+abbrev pub within : Phase → Emulator → Emulator
 within p t = record t { phase = p }
 
 digit : (d : ℕ) → d < 10 → is_digit (48 + d) ≡ true
 digit d small = grind (arith, nat_tests)
 
-digit-read : (mark : Bool) (done : List ℕ) (m d : ℕ) (t : Terminal) → d < 10
+digit-read : (mark : Bool) (done : List ℕ) (m d : ℕ) (t : Emulator) → d < 10
     → reads_in (Sequence mark done m) (48 + d) t ≡ within (Sequence mark done (m * 10 + d)) t
 digit-read mark done m d t small =
     let e : 48 + d - 48 ≡ d = omega arith in
     rw (digit d small, e) refl
 
 abbrev ReadsNumber : ℕ → List ℕ → Type 0
-ReadsNumber n ds = (mark : Bool) (done : List ℕ) (t : Terminal)
+ReadsNumber n ds = (mark : Bool) (done : List ℕ) (t : Emulator)
     → feed ds (within (Sequence mark done 0) t) ≡ within (Sequence mark done n) t
 
 one : (n : ℕ) → n < 10 → ReadsNumber n ((48 + n) ∷ [])
@@ -70,12 +70,12 @@ pub number-read : (n : ℕ) → n < 2 ^ 64 → ReadsNumber n (decimal n)
 number-read n small = decimal_by_steps ReadsNumber one more n small
 
 -- a sequence begins
-pub begun : (rest : List ℕ) (t : Terminal) → t.phase ≡ Ground → feed (27 ∷ 91 ∷ rest) t ≡ feed rest (within (Sequence false [] 0) (rested t))
+pub begun : (rest : List ℕ) (t : Emulator) → t.phase ≡ Ground → feed (27 ∷ 91 ∷ rest) t ≡ feed rest (within (Sequence false [] 0) (rested t))
 unfolding feed
 begun rest t ground = ap (λ p. feed (91 ∷ rest) (reads_in p 27 t)) ground
 
 -- one with a single number
-pub with_one : (n final : ℕ) → n < 2 ^ 64 → (t : Terminal) → t.phase ≡ Ground
+pub with_one : (n final : ℕ) → n < 2 ^ 64 → (t : Emulator) → t.phase ≡ Ground
     → feed (27 ∷ 91 ∷ (decimal n ++ final ∷ [])) t ≡ reads_in (Sequence false [] n) final (within (Sequence false [] n) (rested t))
 unfolding feed
 with_one n final small t ground =
@@ -84,12 +84,12 @@ with_one n final small t ground =
     ∙ ap (feed (final ∷ [])) (number-read n small false [] (rested t))
 
 -- one with two numbers
-pub with_two : (m n final : ℕ) → m < 2 ^ 64 → n < 2 ^ 64 → (t : Terminal) → t.phase ≡ Ground
+pub with_two : (m n final : ℕ) → m < 2 ^ 64 → n < 2 ^ 64 → (t : Emulator) → t.phase ≡ Ground
     → feed (27 ∷ 91 ∷ (decimal m ++ (59 ∷ (decimal n ++ final ∷ [])))) t
     ≡ reads_in (Sequence false (m ∷ []) n) final (within (Sequence false (m ∷ []) n) (rested t))
 unfolding feed
 with_two m n final small_m small_n t ground =
-    let s : Terminal = rested t in
+    let s : Emulator = rested t in
     let back = 59 ∷ (decimal n ++ final ∷ []) in
     begun (decimal m ++ back) t ground
     ∙ feed-append (decimal m) back (within (Sequence false [] 0) s)
@@ -102,7 +102,7 @@ with_two m n final small_m small_n t ground =
 abbrev pub CUP : ℕ → ℕ → List ℕ
 CUP x y = 27 ∷ 91 ∷ (decimal (y + 1) ++ (59 ∷ (decimal (x + 1) ++ 72 ∷ [])))
 
-pub CUP-read : (x y : ℕ) → x < 2 ^ 16 → y < 2 ^ 16 → (t : Terminal) → t.phase ≡ Ground → feed (CUP x y) t ≡ moved x y (rested t)
+pub CUP-read : (x y : ℕ) → x < 2 ^ 16 → y < 2 ^ 16 → (t : Emulator) → t.phase ≡ Ground → feed (CUP x y) t ≡ moved x y (rested t)
 CUP-read x y x_in y_in t ground =
     let ex : x + 1 - 1 ≡ x = omega arith in
     let ey : y + 1 - 1 ≡ y = omega arith in
@@ -114,38 +114,38 @@ erasing Before = 27 ∷ 91 ∷ 49 ∷ 74 ∷ []
 erasing Line = 27 ∷ 91 ∷ 50 ∷ 75 ∷ []
 erasing LineEnd = 27 ∷ 91 ∷ 75 ∷ []
 
-pub erasing-read : (part : Part) (t : Terminal) → t.phase ≡ Ground → feed (erasing part) t ≡ erased part (rested t)
+pub erasing-read : (part : Part) (t : Emulator) → t.phase ≡ Ground → feed (erasing part) t ≡ erased part (rested t)
 unfolding feed
 erasing-read After t ground = begun (74 ∷ []) t ground
 erasing-read Before t ground = begun (49 ∷ 74 ∷ []) t ground
 erasing-read Line t ground = begun (50 ∷ 75 ∷ []) t ground
 erasing-read LineEnd t ground = begun (75 ∷ []) t ground
 
-pub hiding-read : (t : Terminal) → t.phase ≡ Ground → feed (27 ∷ 91 ∷ 63 ∷ 50 ∷ 53 ∷ 108 ∷ []) t ≡ with_visible false (rested t)
+pub hiding-read : (t : Emulator) → t.phase ≡ Ground → feed (27 ∷ 91 ∷ 63 ∷ 50 ∷ 53 ∷ 108 ∷ []) t ≡ with_visible false (rested t)
 unfolding feed
 hiding-read t ground = begun (63 ∷ 50 ∷ 53 ∷ 108 ∷ []) t ground
 
-pub showing-read : (t : Terminal) → t.phase ≡ Ground → feed (27 ∷ 91 ∷ 63 ∷ 50 ∷ 53 ∷ 104 ∷ []) t ≡ with_visible true (rested t)
+pub showing-read : (t : Emulator) → t.phase ≡ Ground → feed (27 ∷ 91 ∷ 63 ∷ 50 ∷ 53 ∷ 104 ∷ []) t ≡ with_visible true (rested t)
 unfolding feed
 showing-read t ground = begun (63 ∷ 50 ∷ 53 ∷ 104 ∷ []) t ground
 
-pub region-read : (top bottom : ℕ) → top < 2 ^ 16 → bottom < 2 ^ 16 → (t : Terminal) → t.phase ≡ Ground
+pub region-read : (top bottom : ℕ) → top < 2 ^ 16 → bottom < 2 ^ 16 → (t : Emulator) → t.phase ≡ Ground
     → feed (27 ∷ 91 ∷ (decimal (top + 1) ++ (59 ∷ (decimal bottom ++ 114 ∷ [])))) t ≡ with_region top bottom (rested t)
 region-read top bottom top_in bottom_in t ground =
     let e : top + 1 - 1 ≡ top = omega arith in
     with_two (top + 1) bottom 114 (omega arith) (omega arith) t ground ∙ ap (λ a. with_region a bottom (rested t)) e
 
-pub no_region-read : (t : Terminal) → t.phase ≡ Ground → feed (27 ∷ 91 ∷ 114 ∷ []) t ≡ without_region (rested t)
+pub no_region-read : (t : Emulator) → t.phase ≡ Ground → feed (27 ∷ 91 ∷ 114 ∷ []) t ≡ without_region (rested t)
 unfolding feed
 no_region-read t ground = begun (114 ∷ []) t ground
 
-pub deleting-read : (n : ℕ) → 0 < n → n < 2 ^ 16 → (t : Terminal) → t.phase ≡ Ground
+pub deleting-read : (n : ℕ) → 0 < n → n < 2 ^ 16 → (t : Emulator) → t.phase ≡ Ground
     → feed (27 ∷ 91 ∷ (decimal n ++ 77 ∷ [])) t ≡ lines_deleted n (rested t)
 deleting-read n some n_in t ground =
     let e : (n == 0) ≡ false = grind (arith, nat_tests) in
     with_one n 77 (omega arith) t ground ∙ rw e refl
 
-pub lowering-read : (n : ℕ) → 0 < n → n < 2 ^ 16 → (t : Terminal) → t.phase ≡ Ground
+pub lowering-read : (n : ℕ) → 0 < n → n < 2 ^ 16 → (t : Emulator) → t.phase ≡ Ground
     → feed (27 ∷ 91 ∷ (decimal n ++ 84 ∷ [])) t ≡ scrolled_down n (rested t)
 lowering-read n some n_in t ground =
     let e : (n == 0) ≡ false = grind (arith, nat_tests) in
@@ -153,27 +153,27 @@ lowering-read n some n_in t ground =
 
 -- ---- line feeds
 
-pub return-read : (t : Terminal) → t.phase ≡ Ground → feed (13 ∷ []) t ≡ returned (rested t)
+pub return-read : (t : Emulator) → t.phase ≡ Ground → feed (13 ∷ []) t ≡ returned (rested t)
 unfolding feed
 return-read t ground = ap (λ p. reads_in p 13 t) ground
 
-pub feed-read : (t : Terminal) → t.phase ≡ Ground → feed (10 ∷ []) t ≡ line_fed (rested t)
+pub feed-read : (t : Emulator) → t.phase ≡ Ground → feed (10 ∷ []) t ≡ line_fed (rested t)
 unfolding feed
 feed-read t ground = ap (λ p. reads_in p 10 t) ground
 
 -- a rested terminal stays so
-pub line_fed-rested : (t : Terminal) → line_fed (rested t) ≡ rested (line_fed (rested t))
+pub line_fed-rested : (t : Emulator) → line_fed (rested t) ≡ rested (line_fed (rested t))
 line_fed-rested t =
-    let s : Terminal = rested t in
+    let s : Emulator = rested t in
     elim (nat_eq (s.y + 1) s.bottom) as (λ v. (if v then scrolled (if_so (nat_lt s.x s.width) s) else record s { y = min (s.y + 1) (s.height - 1); sure = s.sure && nat_lt s.x s.width })
     ≡ rested (if v then scrolled (if_so (nat_lt s.x s.width) s) else record s { y = min (s.y + 1) (s.height - 1); sure = s.sure && nat_lt s.x s.width }))
     [ true ↦ refl | false ↦ refl ]
 
-pub fed-rested : (n : ℕ) (t : Terminal) → fed n (rested t) ≡ rested (fed n (rested t))
+pub fed-rested : (n : ℕ) (t : Emulator) → fed n (rested t) ≡ rested (fed n (rested t))
 fed-rested zero t = refl
 fed-rested (suc n) t = ap (fed n) (line_fed-rested t) ∙ fed-rested n (line_fed (rested t)) ∙ ap (λ u. rested (fed n u)) (sym (line_fed-rested t))
 
-fed-more : (n : ℕ) (t : Terminal) → fed (suc n) t ≡ line_fed (fed n t)
+fed-more : (n : ℕ) (t : Emulator) → fed (suc n) t ≡ line_fed (fed n t)
 fed-more zero t = refl
 fed-more (suc n) t = fed-more n (line_fed t)
 
@@ -183,8 +183,8 @@ feeds-none a b first = record { bytes = first.bytes; appended = first.appended; 
 
 pub feeds-more : (a b c : List ℕ) (k : ℕ) → Does a b (λ t. fed k (returned t)) → Does b c line_fed → Does a c (λ t. fed (k + 1) (returned t))
 feeds-more a b c k first next =
-    let rests : (t : Terminal) → fed k (returned (rested t)) ≡ rested (fed k (returned (rested t))) = λ t. fed-rested k (returned (rested t)) in
-    let both = Sends-then a b c (λ t. fed k (returned (rested t))) (λ t. line_fed (rested t)) first next (λ t. ap (λ (u : Terminal). u.phase) (rests t)) in
+    let rests : (t : Emulator) → fed k (returned (rested t)) ≡ rested (fed k (returned (rested t))) = λ t. fed-rested k (returned (rested t)) in
+    let both = Sends-then a b c (λ t. fed k (returned (rested t))) (λ t. line_fed (rested t)) first next (λ t. ap (λ (u : Emulator). u.phase) (rests t)) in
     let e : suc k ≡ k + 1 = omega arith in
     record {
       bytes = both.bytes;

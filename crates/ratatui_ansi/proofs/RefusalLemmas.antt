@@ -10,23 +10,23 @@ use Rattle.ratatui_ansi.specs.declared.error.AnsiError.TheVariants.{Memory, Symb
 use Rattle.ratatui_ansi.specs.declared.frame.Drawing.{Drawing}
 use Rattle.ratatui_ansi.specs.declared.frame.Refusal.{Refusal}
 use Rattle.ratatui_ansi.specs.declared.frame.Refusal.TheVariants as Refused
-use Rattle.ratatui_ansi.specs.Backend.{State}
+use Rattle.ratatui_ansi.specs.Backend.{BackendState}
 use Rattle.ratatui_ansi.specs.Calls.{IsAwaiting}
 use Rattle.ratatui_ansi.specs.Errors.{error_of}
 use Rattle.ratatui_ansi.specs.Flags.{flag}
 use Rattle.ratatui_ansi.specs.Frame.{IsPlaced, IsRefused, IsDrawing}
 use Rattle.ratatui_ansi.specs.Pen.{own_pen}
 use Rattle.ratatui_ansi.specs.Refusals.{IsUntold, FailsBy, Leaves, names_cell, has_place, IsRefusedOn, StopsAt, StopsBy, StopsWithin, StopsDraw}
-use Rattle.ratatui_ansi.specs.Screens.{screen_of}
+use Rattle.ratatui_ansi.specs.Screens.{screen_shown}
 use Rattle.ratatui_ansi.specs.Sequences.{feed}
-use Rattle.ratatui_ansi.specs.Terminal.{Terminal, rested}
+use Rattle.ratatui_ansi.specs.Emulator.{Emulator, rested}
 use Rattle.ratatui_ansi.proofs.CoverLemmas.{covered-behind}
 use Rattle.ratatui_ansi.proofs.FrameLemmas.{begins}
 
 -- ---- where a draw stops
 
-refused-on : (w h : ℕ) (colors : Bool) (d : Drawing) (flags : List Bool) (t : Terminal) (u : Update) (refusal : Refusal) → IsDrawing w h d flags t → IsRefused w h colors flags u refusal
-    → IsRefusedOn colors (screen_of d.written (rested t)) u refusal
+refused-on : (w h : ℕ) (colors : Bool) (d : Drawing) (flags : List Bool) (t : Emulator) (u : Update) (refusal : Refusal) → IsDrawing w h d flags t → IsRefused w h colors flags u refusal
+    → IsRefusedOn colors (screen_shown d.written (rested t)) u refusal
 refused-on w h colors d flags t u Refused.Memory is because = tt
 refused-on w h colors d flags t u (Refused.Symbol p) is because = (rw (is.ready.width, is.ready.height) because.0, rw is.ready.width because.2)
 refused-on w h colors d flags t u (Refused.Pen p) is because = (rw (is.ready.width, is.ready.height) because.0, because.2)
@@ -48,8 +48,8 @@ stops-draw steps content update w h colors old d cursor written flags refusal ow
         item = stops.item;
         rest = stops.rest;
         gives = stops.gives;
-        between = screen_of stops.after.written (rested u);
-        draws = subst (λ n. Draws (screen_of n (rested t)) (map update stops.front) (screen_of stops.after.written (rested u))) count (stops.sends.draws t start);
+        between = screen_shown stops.after.written (rested u);
+        draws = subst (λ n. Draws (screen_shown n (rested t)) (map update stops.front) (screen_shown stops.after.written (rested u))) count (stops.sends.draws t start);
         refused = refused-on w h colors stops.after stops.flags_after u (update stops.item) refusal (stops.sends.drawing t start) stops.refused;
       };
 }
@@ -71,14 +71,14 @@ pub if-error : {A F : Type 0} (P : F → Type 0) (answer : Result A F) (error : 
 if-error P (Ok x) error is holds = tt
 if-error P (Err f) error is holds = subst P (sym is.1) holds
 
-pub leaves-error : {L E A : Type 0} (answer : Result A (AnsiError E)) (error : AnsiError E) (old new : State L) → Refuses answer error → FailsBy old new error → Leaves answer old new
+pub leaves-error : {L E A : Type 0} (answer : Result A (AnsiError E)) (error : AnsiError E) (old new : BackendState L) → Refuses answer error → FailsBy old new error → Leaves answer old new
 leaves-error (Ok x) error old new is fails = absurd (false≢true is.0)
 leaves-error (Err f) error old new is fails = subst (FailsBy old new) (sym is.1) fails
 
-pub still-untold : {L : Type 0} (s : State L) → IsUntold s s
+pub still-untold : {L : Type 0} (s : BackendState L) → IsUntold s s
 still-untold s = record { link = refl; size = refl; colors = refl; written = refl; is_broken = refl }
 
-pub refusal-leaves : {L : Type 0} (E : Type 0) (old new : State L) (refusal : Refusal) → old.is_broken ≡ false → IsUntold old new → FailsBy {L = L} {E = E} old new (error_of refusal)
+pub refusal-leaves : {L : Type 0} (E : Type 0) (old new : BackendState L) (refusal : Refusal) → old.is_broken ≡ false → IsUntold old new → FailsBy {L = L} {E = E} old new (error_of refusal)
 refusal-leaves E old new Refused.Memory whole same = (whole, same)
 refusal-leaves E old new (Refused.Symbol p) whole same = (whole, same)
 refusal-leaves E old new (Refused.Pen p) whole same = (whole, same)

@@ -3,14 +3,14 @@ use Rattle.std.proofs.Common.{◌≡◌, ℕ, ◌+◌, ◌-◌, ◌<◌, ◌++�
 use Rattle.std.proofs.lemmas.Bool.Decides.{nat_tests}
 use Rattle.std.specs.List.{list_any, range_with_len}
 use Rattle.rtui_cell.specs.Look.{empty_look}
-use Rattle.rtui_backend.specs.Screen.{ScrollsUp, ScrollsDown, seen, row_of as row_of_screen, upper_part, is_in_region}
+use Rattle.rtui_backend.specs.Screen.{ScrollsUp, ScrollsDown, seen, row_of, upper_part, is_in_region}
 use Rattle.ratatui_ansi.specs.Columns.{Column, Columns, look_in, is_known, is_met, blank_column, overwritten}
 use Rattle.ratatui_ansi.specs.Columns.Column.{Shows, Unknown}
 use Rattle.ratatui_ansi.specs.declared.part.Part.TheVariants.{Line}
 use Rattle.ratatui_ansi.specs.Pen.{own_pen}
-use Rattle.ratatui_ansi.specs.Terminal.{Terminal, rested, moved, erased, line_fed, fed, scrolled, if_so, row_of, is_row_known, returned, raised, lowered, fed_and_lowered, with_region, without_region, lines_deleted, scrolled_down}
-use Rattle.ratatui_ansi.specs.Terminal.Phase.{Ground}
-use Rattle.ratatui_ansi.specs.Screens.{screen_of, IsSized, AreSized, IsWhole, IsWholeAt, IsBlankBeyond, IsReady, Turns, Becomes}
+use Rattle.ratatui_ansi.specs.Emulator.{Emulator, rested, moved, erased, line_fed, fed, scrolled, if_so, row_shown, is_row_known, returned, raised, lowered, fed_and_lowered, with_region, without_region, lines_deleted, scrolled_down}
+use Rattle.ratatui_ansi.specs.Emulator.Phase.{Ground}
+use Rattle.ratatui_ansi.specs.Screens.{screen_shown, IsSized, AreSized, IsWhole, IsWholeAt, IsBlankBeyond, IsReady, Turns, Becomes}
 use Rattle.ratatui_ansi.specs.Sequences.{feed}
 use Rattle.ratatui_ansi.specs.Sends.{Does}
 use Rattle.ratatui_ansi.proofs.ReadLemmas.{Sends-then, line_fed-rested}
@@ -18,9 +18,9 @@ use Rattle.ratatui_ansi.proofs.ScrollLemmas.{KeepsReady, Feeds, fed-feeds, feeds
 use Rattle.ratatui_ansi.proofs.TextLemmas.{blank-sized, sized-known}
 
 -- one action behind another
-pub Does-then : (a b c : List ℕ) (f g : Terminal → Terminal) → Does a b f → Does b c g → ((t : Terminal) → rested (f (rested t)) ≡ f (rested t)) → Does a c (λ t. g (f t))
+pub Does-then : (a b c : List ℕ) (f g : Emulator → Emulator) → Does a b f → Does b c g → ((t : Emulator) → rested (f (rested t)) ≡ f (rested t)) → Does a c (λ t. g (f t))
 Does-then a b c f g first second stays =
-    let both = Sends-then a b c (λ t. f (rested t)) (λ t. g (rested t)) first second (λ t. ap (λ (u : Terminal). u.phase) (sym (stays t))) in
+    let both = Sends-then a b c (λ t. f (rested t)) (λ t. g (rested t)) first second (λ t. ap (λ (u : Emulator). u.phase) (sym (stays t))) in
     record { bytes = both.bytes; appended = both.appended; read = λ t ground. both.read t ground ∙ ap g (stays t) }
 
 -- ---- rows lowered
@@ -70,15 +70,15 @@ down-shown a b h n c x y y_in = rw (in_region a b h y y_in) (
     [ true ↦ elim (nat_le (a + n) y) as (λ q. look_in (if q then c x (y - n) else blank_column) ≡ (if q then look_in (c x (y - n)) else empty_look)) [ true ↦ refl | false ↦ refl ] | false ↦ refl ])
 
 -- what stays where only the columns changed
-pub record OnlyColumns (s u : Terminal) (c : Columns) : Type 0 where
+pub record OnlyColumns (s u : Emulator) (c : Columns) : Type 0 where
   pub history : u.history ≡ s.history
   pub width : u.width ≡ s.width
   pub height : u.height ≡ s.height
   pub visible : u.visible ≡ s.visible
   pub columns : (x y : ℕ) → u.columns x y ≡ c x y
 
-pub up-below : (w h a b n written : ℕ) (s u : Terminal) → IsReady w h s → 0 < a → a < min b h → OnlyColumns s u (raised a (min b h) n s.columns)
-    → ScrollsUp a b n (screen_of written s) (screen_of written u)
+pub up-below : (w h a b n written : ℕ) (s u : Emulator) → IsReady w h s → 0 < a → a < min b h → OnlyColumns s u (raised a (min b h) n s.columns)
+    → ScrollsUp a b n (screen_shown written s) (screen_shown written u)
 up-below w h a b n written s u ready below some only =
     let high : s.height ≡ h = ready.height in
     let e : (a == 0) ≡ false = grind (arith, nat_tests) in
@@ -93,8 +93,8 @@ up-below w h a b n written s u ready below some only =
       no_rows = λ none. absurd (omega arith);
     }
 
-pub down-shows : (w h a b n written : ℕ) (s u : Terminal) → IsReady w h s → a < min b h → OnlyColumns s u (lowered a (min b h) n s.columns)
-    → ScrollsDown a b n (screen_of written s) (screen_of written u)
+pub down-shows : (w h a b n written : ℕ) (s u : Emulator) → IsReady w h s → a < min b h → OnlyColumns s u (lowered a (min b h) n s.columns)
+    → ScrollsDown a b n (screen_shown written s) (screen_shown written u)
 down-shows w h a b n written s u ready some only =
     let high : s.height ≡ h = ready.height in
     record {
@@ -134,7 +134,7 @@ row-lowered r n c a b some =
 
 -- ---- a terminal that stays ready where its columns change
 
-pub ready-columns : (w h : ℕ) (s u : Terminal) (c : Columns) → IsReady w h s → u.phase ≡ Ground → u.text ≡ [] → u.width ≡ s.width → u.height ≡ s.height → u.pen ≡ own_pen
+pub ready-columns : (w h : ℕ) (s u : Emulator) (c : Columns) → IsReady w h s → u.phase ≡ Ground → u.text ≡ [] → u.width ≡ s.width → u.height ≡ s.height → u.pen ≡ own_pen
     → u.top ≡ 0 → u.bottom ≡ s.height → u.y < h → u.sure ≡ true → ((x y : ℕ) → u.columns x y ≡ c x y) → AreSized c → IsWhole c → IsBlankBeyond w c → IsReady w h u
 ready-columns w h s u c ready phase text width height pen top bottom row sure columns sized whole beyond = record {
   phase = phase;
@@ -151,19 +151,19 @@ ready-columns w h s u c ready phase text width height pen top bottom row sure co
   beyond = λ x y out. columns x y ∙ beyond x y out;
 }
 
-pub keeps-along : (w h : ℕ) (f g : Terminal → Terminal) (related : Terminal → Terminal → Type 0) → ((s : Terminal) → IsReady w h s → g s ≡ f s) → KeepsReady w h g related → KeepsReady w h f related
+pub keeps-along : (w h : ℕ) (f g : Emulator → Emulator) (related : Emulator → Emulator → Type 0) → ((s : Emulator) → IsReady w h s → g s ≡ f s) → KeepsReady w h g related → KeepsReady w h f related
 keeps-along w h f g related same keeps s ready =
     subst (λ u. IsReady w h u × related s u) (same s ready) (keeps s ready)
 
 -- a cursor that is moved on the screen
-pub moved-placed : (x y : ℕ) (t : Terminal) → x < t.width → y < t.height → record t { x = x; y = y } ≡ moved x y t
+pub moved-placed : (x y : ℕ) (t : Emulator) → x < t.width → y < t.height → record t { x = x; y = y } ≡ moved x y t
 moved-placed x y t x_in y_in =
     let ex : x ≡ min x (t.width - 1) = omega arith in
     let ey : y ≡ min y (t.height - 1) = omega arith in
     ap₂ (λ i j. record t { x = i; y = j }) ex ey
 
 -- nothing sent
-pub Turns-none : (w h : ℕ) (old : List ℕ) (related : Terminal → Terminal → Type 0) → ((t : Terminal) → IsReady w h t → related t t) → Turns w h old old related
+pub Turns-none : (w h : ℕ) (old : List ℕ) (related : Emulator → Emulator → Type 0) → ((t : Emulator) → IsReady w h t → related t t) → Turns w h old old related
 unfolding feed
 Turns-none w h old related same = record {
   bytes = [];
@@ -179,7 +179,7 @@ pub row-up : (w h a b n : ℕ) → 0 < w → 0 < a → a < h → min b h ≡ a +
 row-up w h a b n some_columns below a_in one some = keeps-along w h (λ t. erased Line (moved 0 a t)) (λ t. erased Line (record t { x = 0; y = a })) (λ s. Becomes (ScrollsUp a b n) (raised a (min b h) n s.columns) s)
     (λ s ready. let wide : s.width ≡ w = ready.width in let high : s.height ≡ h = ready.height in ap (erased Line) (moved-placed 0 a s (omega arith) (omega arith)))
     (λ s ready.
-    let u : Terminal = erased Line (record s { x = 0; y = a }) in
+    let u : Emulator = erased Line (record s { x = 0; y = a }) in
     let wide : s.width ≡ w = ready.width in
     let c = raised a (min b h) n s.columns in
     let same : (x y : ℕ) → u.columns x y ≡ c x y = λ x y. row-raised a n s.columns x y some ∙ ap (λ to. raised a to n s.columns x y) (sym one) in
@@ -194,7 +194,7 @@ pub row-down : (w h a b n : ℕ) → 0 < w → a < h → min b h ≡ a + 1 → 0
 row-down w h a b n some_columns a_in one some = keeps-along w h (λ t. erased Line (moved 0 a t)) (λ t. erased Line (record t { x = 0; y = a })) (λ s. Becomes (ScrollsDown a b n) (lowered a (min b h) n s.columns) s)
     (λ s ready. let wide : s.width ≡ w = ready.width in let high : s.height ≡ h = ready.height in ap (erased Line) (moved-placed 0 a s (omega arith) (omega arith)))
     (λ s ready.
-    let u : Terminal = erased Line (record s { x = 0; y = a }) in
+    let u : Emulator = erased Line (record s { x = 0; y = a }) in
     let wide : s.width ≡ w = ready.width in
     let c = lowered a (min b h) n s.columns in
     let same : (x y : ℕ) → u.columns x y ≡ c x y = λ x y. row-lowered a n s.columns x y some ∙ ap (λ to. lowered a to n s.columns x y) (sym one) in
@@ -207,13 +207,13 @@ row-down w h a b n some_columns a_in one some = keeps-along w h (λ t. erased Li
 
 pub rows-up : (w h a b n : ℕ) → 0 < w → 0 < a → a + 1 < min b h → KeepsReady w h (λ t. without_region (lines_deleted n (moved 0 a (with_region a (min b h) t)))) (λ s. Becomes (ScrollsUp a b n) (raised a (min b h) n s.columns) s)
 rows-up w h a b n some_columns below two =
-    let f : Terminal → Terminal = λ t. without_region (lines_deleted n (moved 0 a (with_region a (min b h) t))) in
-    let g : Terminal → Terminal = λ t. without_region (lines_deleted n (record (with_region a (min b h) t) { x = 0; y = a })) in
+    let f : Emulator → Emulator = λ t. without_region (lines_deleted n (moved 0 a (with_region a (min b h) t))) in
+    let g : Emulator → Emulator = λ t. without_region (lines_deleted n (record (with_region a (min b h) t) { x = 0; y = a })) in
     keeps-along w h f g (λ s. Becomes (ScrollsUp a b n) (raised a (min b h) n s.columns) s)
     (λ s ready. let wide : s.width ≡ w = ready.width in let high : s.height ≡ h = ready.height in
     ap (λ t. without_region (lines_deleted n t)) (moved-placed 0 a (with_region a (min b h) s) (omega arith) (omega arith)))
     (λ s ready.
-    let u : Terminal = g s in
+    let u : Emulator = g s in
     let high : s.height ≡ h = ready.height in
     let c = raised a (min b h) n s.columns in
     let t1 : nat_lt (a + 1) (min b h) ≡ true = grind (arith, nat_tests) in
@@ -229,7 +229,7 @@ rows-up w h a b n some_columns below two =
 
 pub rows-down : (w h a b n : ℕ) → a + 1 < min b h → KeepsReady w h (λ t. without_region (scrolled_down n (with_region a (min b h) t))) (λ s. Becomes (ScrollsDown a b n) (lowered a (min b h) n s.columns) s)
 rows-down w h a b n two s ready =
-    let u : Terminal = without_region (scrolled_down n (with_region a (min b h) s)) in
+    let u : Emulator = without_region (scrolled_down n (with_region a (min b h) s)) in
     let high : s.height ≡ h = ready.height in
     let c = lowered a (min b h) n s.columns in
     let t1 : nat_lt (a + 1) (min b h) ≡ true = grind (arith, nat_tests) in
@@ -242,10 +242,10 @@ rows-down w h a b n two s ready =
 
 -- ---- the rows of a region at the top, whose first rows go to the history
 
-pub up-first : (w h b n written : ℕ) (s u : Terminal) → IsReady w h s → 0 < min b h
+pub up-first : (w h b n written : ℕ) (s u : Emulator) → IsReady w h s → 0 < min b h
     → u.history ≡ s.history ++ map (region_row (record s { bottom = min b h })) (range_with_len 0 n)
     → u.width ≡ s.width → u.height ≡ s.height → u.visible ≡ s.visible → ((x y : ℕ) → u.columns x y ≡ raised 0 (min b h) n s.columns x y)
-    → ScrollsUp 0 b n (screen_of written s) (screen_of written u)
+    → ScrollsUp 0 b n (screen_shown written s) (screen_shown written u)
 up-first w h b n written s u ready some history width height visible columns =
     let high : s.height ≡ h = ready.height in
     let e : nat_lt 0 (min b s.height) ≡ true = grind (arith, nat_tests) in
@@ -262,13 +262,13 @@ up-first w h b n written s u ready some history width height visible columns =
 
 pub screen-up : (w h b n : ℕ) → 0 < w → 0 < h → min b h ≡ h → KeepsReady w h (λ t. fed n (returned (moved 0 (h - 1) t))) (λ s. Becomes (ScrollsUp 0 b n) (raised 0 (min b h) n s.columns) s)
 screen-up w h b n some_columns some_rows all =
-    let f : Terminal → Terminal = λ t. fed n (returned (moved 0 (h - 1) t)) in
-    let g : Terminal → Terminal = λ t. fed n (record t { x = 0; y = h - 1 }) in
+    let f : Emulator → Emulator = λ t. fed n (returned (moved 0 (h - 1) t)) in
+    let g : Emulator → Emulator = λ t. fed n (record t { x = 0; y = h - 1 }) in
     keeps-along w h f g (λ s. Becomes (ScrollsUp 0 b n) (raised 0 (min b h) n s.columns) s)
     (λ s ready. let wide : s.width ≡ w = ready.width in let high : s.height ≡ h = ready.height in ap (λ t. fed n (returned t)) (moved-placed 0 (h - 1) s (omega arith) (omega arith)))
     (λ s ready.
-    let v : Terminal = record s { x = 0; y = h - 1 } in
-    let u : Terminal = fed n v in
+    let v : Emulator = record s { x = 0; y = h - 1 } in
+    let u : Emulator = fed n v in
     let bottom : s.bottom ≡ h = ready.bottom in
     let feeds : Feeds n v u = fed-feeds n v ready.top (λ some. omega arith) in
     let v_ready : IsReady w h v = record {
@@ -289,7 +289,7 @@ screen-up w h b n some_columns some_rows all =
       feeds-ready w h n v u v_ready some_columns feeds,
       record {
         screens = λ written. up-first w h b n written s u ready (omega arith) (feeds.history ∙ ap (λ q. s.history ++ map (region_row (record s { bottom = q })) (range_with_len 0 n)) same)
-            (ap (λ (t : Terminal). t.width) feeds.rest) (ap (λ (t : Terminal). t.height) feeds.rest) (ap (λ (t : Terminal). t.visible) feeds.rest)
+            (ap (λ (t : Emulator). t.width) feeds.rest) (ap (λ (t : Emulator). t.height) feeds.rest) (ap (λ (t : Emulator). t.visible) feeds.rest)
             (λ x y. feeds.columns x y ∙ ap (λ q. raised 0 q n s.columns x y) same);
         columns = λ x y. feeds.columns x y ∙ ap (λ q. raised 0 q n s.columns x y) same;
       },
@@ -298,14 +298,14 @@ screen-up w h b n some_columns some_rows all =
 pub first-up : (w h b n : ℕ) → 0 < w → 1 < min b h → KeepsReady w h (λ t. without_region (fed n (returned (moved 0 (min b h - 1) (with_region 0 (min b h) t))))) (λ s. Becomes (ScrollsUp 0 b n) (raised 0 (min b h) n s.columns) s)
 first-up w h b n some_columns two =
     let to = min b h in
-    let f : Terminal → Terminal = λ t. without_region (fed n (returned (moved 0 (to - 1) (with_region 0 to t)))) in
-    let g : Terminal → Terminal = λ t. without_region (fed n (record (with_region 0 to t) { x = 0; y = to - 1 })) in
+    let f : Emulator → Emulator = λ t. without_region (fed n (returned (moved 0 (to - 1) (with_region 0 to t)))) in
+    let g : Emulator → Emulator = λ t. without_region (fed n (record (with_region 0 to t) { x = 0; y = to - 1 })) in
     keeps-along w h f g (λ s. Becomes (ScrollsUp 0 b n) (raised 0 (min b h) n s.columns) s)
     (λ s ready. let wide : s.width ≡ w = ready.width in let high : s.height ≡ h = ready.height in
     ap (λ t. without_region (fed n (returned t))) (moved-placed 0 (to - 1) (with_region 0 to s) (omega arith) (omega arith)))
     (λ s ready.
-    let v : Terminal = record (with_region 0 to s) { x = 0; y = to - 1 } in
-    let u : Terminal = fed n v in
+    let v : Emulator = record (with_region 0 to s) { x = 0; y = to - 1 } in
+    let u : Emulator = fed n v in
     let wide : s.width ≡ w = ready.width in
     let high : s.height ≡ h = ready.height in
     let feeds : Feeds n v u = fed-feeds n v refl (λ some. omega arith) in
@@ -313,34 +313,34 @@ first-up w h b n some_columns two =
     let t2 : nat_le to s.height ≡ true = grind (arith, nat_tests) in
     let v_sure : v.sure ≡ true = rw (ready.sure, t1, t2) refl in
     let sure : u.sure ≡ true = feeds.sure v_sure ready.pen (omega arith) ready.sized in (
-      ready-columns w h s (without_region u) (raised 0 to n s.columns) ready (ap (λ (t : Terminal). t.phase) feeds.rest ∙ ready.phase) (ap (λ (t : Terminal). t.text) feeds.rest ∙ ready.text)
-          (ap (λ (t : Terminal). t.width) feeds.rest) (ap (λ (t : Terminal). t.height) feeds.rest) (ap (λ (t : Terminal). t.pen) feeds.rest ∙ ready.pen) refl
-          (ap (λ (t : Terminal). t.height) feeds.rest) (omega arith) sure feeds.columns (raised-sized 0 to n s.columns ready.sized) (raised-whole 0 to n s.columns ready.whole) (raised-beyond w 0 to n s.columns ready.beyond),
+      ready-columns w h s (without_region u) (raised 0 to n s.columns) ready (ap (λ (t : Emulator). t.phase) feeds.rest ∙ ready.phase) (ap (λ (t : Emulator). t.text) feeds.rest ∙ ready.text)
+          (ap (λ (t : Emulator). t.width) feeds.rest) (ap (λ (t : Emulator). t.height) feeds.rest) (ap (λ (t : Emulator). t.pen) feeds.rest ∙ ready.pen) refl
+          (ap (λ (t : Emulator). t.height) feeds.rest) (omega arith) sure feeds.columns (raised-sized 0 to n s.columns ready.sized) (raised-whole 0 to n s.columns ready.whole) (raised-beyond w 0 to n s.columns ready.beyond),
       record {
         screens = λ written. up-first w h b n written s (without_region u) ready (omega arith) feeds.history
-            (ap (λ (t : Terminal). t.width) feeds.rest) (ap (λ (t : Terminal). t.height) feeds.rest) (ap (λ (t : Terminal). t.visible) feeds.rest) feeds.columns;
+            (ap (λ (t : Emulator). t.width) feeds.rest) (ap (λ (t : Emulator). t.height) feeds.rest) (ap (λ (t : Emulator). t.visible) feeds.rest) feeds.columns;
         columns = feeds.columns;
       },
     ))
 
 -- ---- the first row alone
 
-pub lowered_line-rested : (t : Terminal) → rested (scrolled_down 1 (line_fed (rested t))) ≡ scrolled_down 1 (line_fed (rested t))
+pub lowered_line-rested : (t : Emulator) → rested (scrolled_down 1 (line_fed (rested t))) ≡ scrolled_down 1 (line_fed (rested t))
 lowered_line-rested t = sym (ap (scrolled_down 1) (line_fed-rested t) ∙ ap (λ u. rested (scrolled_down 1 u)) (sym (line_fed-rested t)))
 
-pub fed_and_lowered-rested : (n : ℕ) (t : Terminal) → rested t ≡ t → rested (fed_and_lowered n t) ≡ fed_and_lowered n t
+pub fed_and_lowered-rested : (n : ℕ) (t : Emulator) → rested t ≡ t → rested (fed_and_lowered n t) ≡ fed_and_lowered n t
 fed_and_lowered-rested zero t e = e
 fed_and_lowered-rested (suc n) t e = fed_and_lowered-rested n (scrolled_down 1 (line_fed t)) (ap (λ u. rested (scrolled_down 1 (line_fed u))) (sym e) ∙ lowered_line-rested t ∙ ap (λ u. scrolled_down 1 (line_fed u)) e)
 
-pub fed_and_lowered-more : (n : ℕ) (t : Terminal) → fed_and_lowered (suc n) t ≡ scrolled_down 1 (line_fed (fed_and_lowered n t))
+pub fed_and_lowered-more : (n : ℕ) (t : Emulator) → fed_and_lowered (suc n) t ≡ scrolled_down 1 (line_fed (fed_and_lowered n t))
 fed_and_lowered-more zero t = refl
 fed_and_lowered-more (suc n) t = fed_and_lowered-more n (scrolled_down 1 (line_fed t))
 
-pub rounds-all : (a b : List ℕ) (k n : ℕ) (f : Terminal → Terminal) → k ≡ n → Does a b (λ t. fed_and_lowered k (f t)) → Does a b (λ t. fed_and_lowered n (f t))
+pub rounds-all : (a b : List ℕ) (k n : ℕ) (f : Emulator → Emulator) → k ≡ n → Does a b (λ t. fed_and_lowered k (f t)) → Does a b (λ t. fed_and_lowered n (f t))
 rounds-all a b k n f e does = subst (λ m. Does a b (λ t. fed_and_lowered m (f t))) e does
 
 -- one more round
-pub rounds-more : (a b c : List ℕ) (k : ℕ) (f : Terminal → Terminal) → ((t : Terminal) → rested (f (rested t)) ≡ f (rested t)) → Does a b (λ t. fed_and_lowered k (f t)) → Does b c (λ t. scrolled_down 1 (line_fed t))
+pub rounds-more : (a b c : List ℕ) (k : ℕ) (f : Emulator → Emulator) → ((t : Emulator) → rested (f (rested t)) ≡ f (rested t)) → Does a b (λ t. fed_and_lowered k (f t)) → Does b c (λ t. scrolled_down 1 (line_fed t))
     → Does a c (λ t. fed_and_lowered (k + 1) (f t))
 rounds-more a b c k f stays first next =
     let both = Does-then a b c (λ t. fed_and_lowered k (f t)) (λ t. scrolled_down 1 (line_fed t)) first next (λ t. fed_and_lowered-rested k (f (rested t)) (stays t)) in
@@ -360,13 +360,13 @@ raised-along : (from to n : ℕ) (c d : Columns) → ((a b : ℕ) → c a b ≡ 
 raised-along from to n c d e a b = ap₂ (λ x y. if nat_le from b && nat_lt b to then (if nat_lt (b + n) to then x else blank_column) else y) (e a (b + n)) (e a b)
 
 -- n rounds
-pub record Rounds (n : ℕ) (t u : Terminal) : Type 0 where
+pub record Rounds (n : ℕ) (t u : Emulator) : Type 0 where
   pub rest : u ≡ record t { columns = u.columns; history = u.history; sure = u.sure }
   pub columns : (a b : ℕ) → u.columns a b ≡ raised 0 1 n t.columns a b
   pub history : u.history ≡ t.history ++ map (region_row (record t { bottom = 1 })) (range_with_len 0 n)
   pub sure : t.sure ≡ true → t.pen ≡ own_pen → t.x < t.width → AreSized t.columns → u.sure ≡ true
 
-pub rounds-are : (n : ℕ) (t : Terminal) → t.top ≡ 0 → t.bottom ≡ 2 → t.y ≡ 1 → Rounds n t (fed_and_lowered n t)
+pub rounds-are : (n : ℕ) (t : Emulator) → t.top ≡ 0 → t.bottom ≡ 2 → t.y ≡ 1 → Rounds n t (fed_and_lowered n t)
 rounds-are zero t top bottom y = record {
   rest = refl;
   columns = λ a b. raised-none 0 1 t.columns a b;
@@ -374,8 +374,8 @@ rounds-are zero t top bottom y = record {
   sure = λ sure pen x sized. sure;
 }
 rounds-are (suc n) t top bottom y =
-    let v : Terminal = scrolled (if_so (nat_lt t.x t.width) t) in
-    let s : Terminal = scrolled_down 1 v in
+    let v : Emulator = scrolled (if_so (nat_lt t.x t.width) t) in
+    let s : Emulator = scrolled_down 1 v in
     let e : nat_eq (t.y + 1) t.bottom ≡ true = grind (arith, nat_tests) in
     let here : scrolled_down 1 (line_fed t) ≡ s = rw e refl in
     let once : (a b : ℕ) → s.columns a b ≡ raised 0 1 1 t.columns a b = λ a b. rw (top, bottom) (up_and_down t.columns a b) in
@@ -387,8 +387,8 @@ rounds-are (suc n) t top bottom y =
     let after : Rounds (suc n) t (fed_and_lowered n s) = record {
       rest = more.rest;
       columns = λ a b. more.columns a b ∙ raised-along 0 1 n s.columns (raised 0 1 1 t.columns) once a b ∙ raised-again 1 n t.columns a b;
-      history = more.history ∙ append_assoc t.history (row_of t 0 ∷ []) rows
-          ∙ ap (λ xs. t.history ++ (row_of t 0 ∷ xs)) (shift (region_row (record t { bottom = 1 })) (region_row (record s { bottom = 1 })) next 0 n);
+      history = more.history ∙ append_assoc t.history (row_shown t 0 ∷ []) rows
+          ∙ ap (λ xs. t.history ++ (row_shown t 0 ∷ xs)) (shift (region_row (record t { bottom = 1 })) (region_row (record s { bottom = 1 })) next 0 n);
       sure = λ sure pen x sized.
           let x_in : nat_lt t.x t.width ≡ true = grind (arith, nat_tests) in
           let row : is_row_known t 0 ≡ true = all_range (λ a. is_known (t.columns a 0)) (λ a. sized-known (t.columns a 0) (sized a 0)) 0 t.width in
@@ -399,14 +399,14 @@ rounds-are (suc n) t top bottom y =
 
 pub one-up : (w h b n : ℕ) → 0 < w → 1 < h → min b h ≡ 1 → KeepsReady w h (λ t. without_region (fed_and_lowered n (moved 0 1 (with_region 0 2 t)))) (λ s. Becomes (ScrollsUp 0 b n) (raised 0 (min b h) n s.columns) s)
 one-up w h b n some_columns two one =
-    let f : Terminal → Terminal = λ t. without_region (fed_and_lowered n (moved 0 1 (with_region 0 2 t))) in
-    let g : Terminal → Terminal = λ t. without_region (fed_and_lowered n (record (with_region 0 2 t) { x = 0; y = 1 })) in
+    let f : Emulator → Emulator = λ t. without_region (fed_and_lowered n (moved 0 1 (with_region 0 2 t))) in
+    let g : Emulator → Emulator = λ t. without_region (fed_and_lowered n (record (with_region 0 2 t) { x = 0; y = 1 })) in
     keeps-along w h f g (λ s. Becomes (ScrollsUp 0 b n) (raised 0 (min b h) n s.columns) s)
     (λ s ready. let wide : s.width ≡ w = ready.width in let high : s.height ≡ h = ready.height in
     ap (λ t. without_region (fed_and_lowered n t)) (moved-placed 0 1 (with_region 0 2 s) (omega arith) (omega arith)))
     (λ s ready.
-    let v : Terminal = record (with_region 0 2 s) { x = 0; y = 1 } in
-    let u : Terminal = fed_and_lowered n v in
+    let v : Emulator = record (with_region 0 2 s) { x = 0; y = 1 } in
+    let u : Emulator = fed_and_lowered n v in
     let wide : s.width ≡ w = ready.width in
     let high : s.height ≡ h = ready.height in
     let feeds : Rounds n v u = rounds-are n v refl refl refl in
@@ -414,13 +414,13 @@ one-up w h b n some_columns two one =
     let v_sure : v.sure ≡ true = rw (ready.sure, t2) refl in
     let sure : u.sure ≡ true = feeds.sure v_sure ready.pen (omega arith) ready.sized in
     let columns : (x y : ℕ) → u.columns x y ≡ raised 0 (min b h) n s.columns x y = λ x y. feeds.columns x y ∙ ap (λ q. raised 0 q n s.columns x y) (sym one) in (
-      ready-columns w h s (without_region u) (raised 0 (min b h) n s.columns) ready (ap (λ (t : Terminal). t.phase) feeds.rest ∙ ready.phase) (ap (λ (t : Terminal). t.text) feeds.rest ∙ ready.text)
-          (ap (λ (t : Terminal). t.width) feeds.rest) (ap (λ (t : Terminal). t.height) feeds.rest) (ap (λ (t : Terminal). t.pen) feeds.rest ∙ ready.pen) refl
-          (ap (λ (t : Terminal). t.height) feeds.rest) (omega arith) sure columns (raised-sized 0 (min b h) n s.columns ready.sized) (raised-whole 0 (min b h) n s.columns ready.whole) (raised-beyond w 0 (min b h) n s.columns ready.beyond),
+      ready-columns w h s (without_region u) (raised 0 (min b h) n s.columns) ready (ap (λ (t : Emulator). t.phase) feeds.rest ∙ ready.phase) (ap (λ (t : Emulator). t.text) feeds.rest ∙ ready.text)
+          (ap (λ (t : Emulator). t.width) feeds.rest) (ap (λ (t : Emulator). t.height) feeds.rest) (ap (λ (t : Emulator). t.pen) feeds.rest ∙ ready.pen) refl
+          (ap (λ (t : Emulator). t.height) feeds.rest) (omega arith) sure columns (raised-sized 0 (min b h) n s.columns ready.sized) (raised-whole 0 (min b h) n s.columns ready.whole) (raised-beyond w 0 (min b h) n s.columns ready.beyond),
       record {
         screens = λ written. up-first w h b n written s (without_region u) ready (omega arith)
             (feeds.history ∙ ap (λ q. s.history ++ map (region_row (record s { bottom = q })) (range_with_len 0 n)) (sym one))
-            (ap (λ (t : Terminal). t.width) feeds.rest) (ap (λ (t : Terminal). t.height) feeds.rest) (ap (λ (t : Terminal). t.visible) feeds.rest) columns;
+            (ap (λ (t : Emulator). t.width) feeds.rest) (ap (λ (t : Emulator). t.height) feeds.rest) (ap (λ (t : Emulator). t.visible) feeds.rest) columns;
         columns = columns;
       },
     ))
@@ -428,18 +428,18 @@ one-up w h b n some_columns two one =
 -- ---- nothing to scroll
 
 -- where the region has no rows, or they move by none, all stays
-still_history : (a b n written : ℕ) (s : Terminal) → (a < min b s.height → n ≡ 0)
-    → s.history ≡ (if a == 0 && nat_lt 0 (min b s.height) then s.history ++ map (row_of_screen (upper_part b (screen_of written s))) (range_with_len 0 n) else s.history)
+still_history : (a b n written : ℕ) (s : Emulator) → (a < min b s.height → n ≡ 0)
+    → s.history ≡ (if a == 0 && nat_lt 0 (min b s.height) then s.history ++ map (row_of (upper_part b (screen_shown written s))) (range_with_len 0 n) else s.history)
 still_history a b n written s none =
-    elim (a == 0 && nat_lt 0 (min b s.height)) as (λ v. (a == 0 && nat_lt 0 (min b s.height)) ≡ v → s.history ≡ (if v then s.history ++ map (row_of_screen (upper_part b (screen_of written s))) (range_with_len 0 n) else s.history)) [
+    elim (a == 0 && nat_lt 0 (min b s.height)) as (λ v. (a == 0 && nat_lt 0 (min b s.height)) ≡ v → s.history ≡ (if v then s.history ++ map (row_of (upper_part b (screen_shown written s))) (range_with_len 0 n) else s.history)) [
       | true ↦ λ e. let z : n ≡ 0 = none (grind (arith, nat_tests)) in rw z (sym (append-nil s.history))
       | false ↦ λ e. refl
     ] refl
 
-still_column : (a b n written : ℕ) (s : Terminal) (x y : ℕ) → y < s.height → (a < min b s.height → n ≡ 0)
-    → look_in (s.columns x y) ≡ (if is_in_region a b y then seen (upper_part b (screen_of written s)) x (y + n) else look_in (s.columns x y))
+still_column : (a b n written : ℕ) (s : Emulator) (x y : ℕ) → y < s.height → (a < min b s.height → n ≡ 0)
+    → look_in (s.columns x y) ≡ (if is_in_region a b y then seen (upper_part b (screen_shown written s)) x (y + n) else look_in (s.columns x y))
 still_column a b n written s x y y_in none =
-    elim (is_in_region a b y) as (λ v. is_in_region a b y ≡ v → look_in (s.columns x y) ≡ (if v then seen (upper_part b (screen_of written s)) x (y + n) else look_in (s.columns x y))) [
+    elim (is_in_region a b y) as (λ v. is_in_region a b y ≡ v → look_in (s.columns x y) ≡ (if v then seen (upper_part b (screen_shown written s)) x (y + n) else look_in (s.columns x y))) [
       | true ↦ λ e.
           let z : n ≡ 0 = none (grind (arith, nat_tests)) in
           let same : y + n ≡ y = omega arith in
@@ -448,7 +448,7 @@ still_column a b n written s x y y_in none =
       | false ↦ λ e. refl
     ] refl
 
-still_lowered : (a b n : ℕ) (s : Terminal) (x y : ℕ) → y < s.height → (a < min b s.height → n ≡ 0)
+still_lowered : (a b n : ℕ) (s : Emulator) (x y : ℕ) → y < s.height → (a < min b s.height → n ≡ 0)
     → look_in (s.columns x y) ≡ (if is_in_region a b y then (if nat_le (a + n) y then look_in (s.columns x (y - n)) else empty_look) else look_in (s.columns x y))
 still_lowered a b n s x y y_in none =
     elim (is_in_region a b y) as (λ v. is_in_region a b y ≡ v → look_in (s.columns x y) ≡ (if v then (if nat_le (a + n) y then look_in (s.columns x (y - n)) else empty_look) else look_in (s.columns x y))) [
@@ -482,7 +482,7 @@ still-lowered from to n c x y none =
       | false ↦ λ e. refl
     ] refl
 
-pub still-up : (w h a b n : ℕ) (s : Terminal) → IsReady w h s → (a < min b h → n ≡ 0) → Becomes (ScrollsUp a b n) (raised a (min b h) n s.columns) s s
+pub still-up : (w h a b n : ℕ) (s : Emulator) → IsReady w h s → (a < min b h → n ≡ 0) → Becomes (ScrollsUp a b n) (raised a (min b h) n s.columns) s s
 still-up w h a b n s ready none =
     let high : s.height ≡ h = ready.height in
     record {
@@ -498,7 +498,7 @@ still-up w h a b n s ready none =
       };
     }
 
-pub still-down : (w h a b n : ℕ) (s : Terminal) → IsReady w h s → (a < min b h → n ≡ 0) → Becomes (ScrollsDown a b n) (lowered a (min b h) n s.columns) s s
+pub still-down : (w h a b n : ℕ) (s : Emulator) → IsReady w h s → (a < min b h → n ≡ 0) → Becomes (ScrollsDown a b n) (lowered a (min b h) n s.columns) s s
 still-down w h a b n s ready none =
     let high : s.height ≡ h = ready.height in
     record {

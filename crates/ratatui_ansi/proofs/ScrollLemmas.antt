@@ -7,28 +7,28 @@ use Rattle.rtui_backend.specs.Screen.{Scrolls, Appends, lines_past}
 use Rattle.ratatui_ansi.specs.Columns.{Column, Columns, look_in, is_known, blank_column}
 use Rattle.ratatui_ansi.specs.Columns.Column.{Shows, Unknown}
 use Rattle.ratatui_ansi.specs.Pen.{own_pen}
-use Rattle.ratatui_ansi.specs.Terminal.{Terminal, rested, printed, line_fed, fed, scrolled, returned, raised, if_so, row_of, is_row_known}
-use Rattle.ratatui_ansi.specs.Terminal.Phase.{Ground}
+use Rattle.ratatui_ansi.specs.Emulator.{Emulator, rested, printed, line_fed, fed, scrolled, returned, raised, if_so, row_shown, is_row_known}
+use Rattle.ratatui_ansi.specs.Emulator.Phase.{Ground}
 use Rattle.ratatui_ansi.specs.Sequences.{feed}
 use Rattle.ratatui_ansi.specs.Sends.{Does}
-use Rattle.ratatui_ansi.specs.Screens.{screen_of, IsSized, AreSized, IsWhole, IsWholeAt, IsBlankBeyond, IsReady, Turns, Becomes}
+use Rattle.ratatui_ansi.specs.Screens.{screen_shown, IsSized, AreSized, IsWhole, IsWholeAt, IsBlankBeyond, IsReady, Turns, Becomes}
 use Rattle.ratatui_ansi.proofs.TextLemmas.{blank-sized, sized-known}
 
 -- ---- from what bytes do to what a screen shows
 
-pub rested-ready : (w h : ℕ) (u : Terminal) → IsReady w h u → rested u ≡ u
+pub rested-ready : (w h : ℕ) (u : Emulator) → IsReady w h u → rested u ≡ u
 rested-ready w h u ready =
     ap (λ xs. record (printed xs u) { text = []; phase = Ground }) ready.text
     ∙ ap₂ (λ xs p. record u { text = xs; phase = p }) (sym ready.text) (sym ready.phase)
 
-abbrev pub KeepsReady : ℕ → ℕ → (Terminal → Terminal) → (Terminal → Terminal → Type 0) → Type 0
-KeepsReady w h f related = (s : Terminal) → IsReady w h s → IsReady w h (f s) × related s (f s)
+abbrev pub KeepsReady : ℕ → ℕ → (Emulator → Emulator) → (Emulator → Emulator → Type 0) → Type 0
+KeepsReady w h f related = (s : Emulator) → IsReady w h s → IsReady w h (f s) × related s (f s)
 
-pub turns-from : (w h : ℕ) (old new : List ℕ) (f : Terminal → Terminal) (related : Terminal → Terminal → Type 0) → Does old new f → KeepsReady w h f related → Turns w h old new related
+pub turns-from : (w h : ℕ) (old new : List ℕ) (f : Emulator → Emulator) (related : Emulator → Emulator → Type 0) → Does old new f → KeepsReady w h f related → Turns w h old new related
 turns-from w h old new f related does keeps = record {
   bytes = does.bytes;
   appended = does.appended;
-  phase = λ t ground ready. let after = (keeps (rested t) ready).0 in ap (λ (v : Terminal). v.phase) (does.read t ground) ∙ after.phase;
+  phase = λ t ground ready. let after = (keeps (rested t) ready).0 in ap (λ (v : Emulator). v.phase) (does.read t ground) ∙ after.phase;
   ready = λ t ground ready.
       let after = (keeps (rested t) ready).0 in
       let e : rested (feed does.bytes t) ≡ f (rested t) = ap rested (does.read t ground) ∙ rested-ready w h (f (rested t)) after in
@@ -92,11 +92,11 @@ raised-sized from to n c sized a b =
 -- ---- line feeds in the last row of a region that begins with the first row
 
 -- what stands in a row of the region; below it all is empty
-abbrev pub region_row : Terminal → ℕ → List Look
+abbrev pub region_row : Emulator → ℕ → List Look
 region_row t k = map (λ a. if nat_lt k t.bottom then look_in (t.columns a k) else empty_look) (range_with_len 0 t.width)
 
 -- n line feeds: n rows went to the history, the region's rows moved up, and nothing else changed
-pub record Feeds (n : ℕ) (t u : Terminal) : Type 0 where
+pub record Feeds (n : ℕ) (t u : Emulator) : Type 0 where
   pub rest : u ≡ record t { columns = u.columns; history = u.history; sure = u.sure }
   pub columns : (a b : ℕ) → u.columns a b ≡ raised 0 t.bottom n t.columns a b
   pub history : u.history ≡ t.history ++ map (region_row t) (range_with_len 0 n)
@@ -126,17 +126,17 @@ seen-raised bottom c a k =
     let least : nat_le 0 k ≡ true = grind (arith, nat_tests) in
     rw least (one-up (nat_lt k bottom) (nat_lt (k + 1) bottom) (c a (k + 1)) (c a k) (λ e. grind (arith, nat_tests)))
 
-region_row-scrolled : (t : Terminal) (k : ℕ) → t.top ≡ 0 → region_row (scrolled t) k ≡ region_row t (k + 1)
+region_row-scrolled : (t : Emulator) (k : ℕ) → t.top ≡ 0 → region_row (scrolled t) k ≡ region_row t (k + 1)
 region_row-scrolled t k top =
     map_same (λ a. if nat_lt k t.bottom then look_in (raised t.top t.bottom 1 t.columns a k) else empty_look) (λ a. if nat_lt (k + 1) t.bottom then look_in (t.columns a (k + 1)) else empty_look)
     (λ a. rw top (seen-raised t.bottom t.columns a k)) (range_with_len 0 t.width)
 
-first_row : (t : Terminal) → 0 < t.bottom → row_of t 0 ≡ region_row t 0
+first_row : (t : Emulator) → 0 < t.bottom → row_shown t 0 ≡ region_row t 0
 first_row t some =
     let e : nat_lt 0 t.bottom ≡ true = grind (arith, nat_tests) in
     map_same (λ a. look_in (t.columns a 0)) (λ a. if nat_lt 0 t.bottom then look_in (t.columns a 0) else empty_look) (λ a. rw e refl) (range_with_len 0 t.width)
 
-pub fed-feeds : (n : ℕ) (t : Terminal) → t.top ≡ 0 → (0 < n → t.y + 1 ≡ t.bottom) → Feeds n t (fed n t)
+pub fed-feeds : (n : ℕ) (t : Emulator) → t.top ≡ 0 → (0 < n → t.y + 1 ≡ t.bottom) → Feeds n t (fed n t)
 fed-feeds zero t top last = record {
   rest = refl;
   columns = λ a b. raised-none 0 t.bottom t.columns a b;
@@ -145,7 +145,7 @@ fed-feeds zero t top last = record {
 }
 fed-feeds (suc n) t top last =
     let y : t.y + 1 ≡ t.bottom = last (omega arith) in
-    let s : Terminal = scrolled (if_so (nat_lt t.x t.width) t) in
+    let s : Emulator = scrolled (if_so (nat_lt t.x t.width) t) in
     let e : nat_eq (t.y + 1) t.bottom ≡ true = grind (arith, nat_tests) in
     let here : line_fed t ≡ s = rw e refl in
     let more = fed-feeds n s top (λ some. y) in
@@ -153,7 +153,7 @@ fed-feeds (suc n) t top last =
     let after : Feeds (suc n) t (fed n s) = record {
       rest = more.rest;
       columns = λ a b. more.columns a b ∙ rw top (raised-again t.bottom n t.columns a b);
-      history = more.history ∙ append_assoc t.history (row_of t 0 ∷ []) rows
+      history = more.history ∙ append_assoc t.history (row_shown t 0 ∷ []) rows
           ∙ ap₂ (λ x xs. t.history ++ (x ∷ xs)) (first_row t (omega arith)) (shift (region_row t) (region_row s) (λ k. region_row-scrolled (if_so (nat_lt t.x t.width) t) k top) 0 n);
       sure = λ sure pen x sized.
           let x_in : nat_lt t.x t.width ≡ true = grind (arith, nat_tests) in
@@ -165,7 +165,7 @@ fed-feeds (suc n) t top last =
 
 -- ---- line feeds above the last row
 
-pub fed-above : (n : ℕ) (t : Terminal) → t.bottom ≡ t.height → t.sure ≡ true → t.x < t.width → t.y + n < t.height → fed n t ≡ record t { y = t.y + n }
+pub fed-above : (n : ℕ) (t : Emulator) → t.bottom ≡ t.height → t.sure ≡ true → t.x < t.width → t.y + n < t.height → fed n t ≡ record t { y = t.y + n }
 fed-above zero t bottom sure x fits = let e : t.y ≡ t.y + 0 = omega arith in ap (λ k. record t { y = k }) e
 fed-above (suc n) t bottom sure x fits =
     let e : nat_eq (t.y + 1) t.bottom ≡ false = grind (arith, nat_tests) in
@@ -176,7 +176,7 @@ fed-above (suc n) t bottom sure x fits =
     let more : t.y + 1 + n ≡ t.y + suc n = omega arith in
     ap (fed n) here ∙ fed-above n (record t { y = t.y + 1 }) bottom sure x (omega arith) ∙ ap (λ k. record t { y = k }) more
 
-fed-plus : (m k j : ℕ) (t : Terminal) → m + k ≡ j → fed j t ≡ fed k (fed m t)
+fed-plus : (m k j : ℕ) (t : Emulator) → m + k ≡ j → fed j t ≡ fed k (fed m t)
 fed-plus zero k j t e = let f : j ≡ k = omega arith in ap (λ i. fed i t) f
 fed-plus (suc m) k zero t e = absurd (omega arith)
 fed-plus (suc m) k (suc j) t e = fed-plus m k j (line_fed t) (omega arith)
@@ -189,16 +189,16 @@ shown-raised bottom k c a b b_in =
 
 -- ---- lines appended
 
-pub feeds-ready : (w h n : ℕ) (t u : Terminal) → IsReady w h t → t.x < w → Feeds n t u → IsReady w h u
+pub feeds-ready : (w h n : ℕ) (t u : Emulator) → IsReady w h t → t.x < w → Feeds n t u → IsReady w h u
 feeds-ready w h n t u ready x feeds = record {
-  phase = ap (λ (v : Terminal). v.phase) feeds.rest ∙ ready.phase;
-  text = ap (λ (v : Terminal). v.text) feeds.rest ∙ ready.text;
-  width = ap (λ (v : Terminal). v.width) feeds.rest ∙ ready.width;
-  height = ap (λ (v : Terminal). v.height) feeds.rest ∙ ready.height;
-  pen = ap (λ (v : Terminal). v.pen) feeds.rest ∙ ready.pen;
-  top = ap (λ (v : Terminal). v.top) feeds.rest ∙ ready.top;
-  bottom = ap (λ (v : Terminal). v.bottom) feeds.rest ∙ ready.bottom;
-  row = let e : u.y ≡ t.y = ap (λ (v : Terminal). v.y) feeds.rest in rw e ready.row;
+  phase = ap (λ (v : Emulator). v.phase) feeds.rest ∙ ready.phase;
+  text = ap (λ (v : Emulator). v.text) feeds.rest ∙ ready.text;
+  width = ap (λ (v : Emulator). v.width) feeds.rest ∙ ready.width;
+  height = ap (λ (v : Emulator). v.height) feeds.rest ∙ ready.height;
+  pen = ap (λ (v : Emulator). v.pen) feeds.rest ∙ ready.pen;
+  top = ap (λ (v : Emulator). v.top) feeds.rest ∙ ready.top;
+  bottom = ap (λ (v : Emulator). v.bottom) feeds.rest ∙ ready.bottom;
+  row = let e : u.y ≡ t.y = ap (λ (v : Emulator). v.y) feeds.rest in rw e ready.row;
   sure = feeds.sure ready.sure ready.pen (rw ready.width x) ready.sized;
   sized = λ a b. subst IsSized (sym (feeds.columns a b)) (raised-sized 0 t.bottom n t.columns ready.sized a b);
   whole = λ a b. whole_along (λ k. raised 0 t.bottom n t.columns k b) (λ k. u.columns k b) a (λ k. sym (feeds.columns k b)) (raised-whole 0 t.bottom n t.columns ready.whole a b);
@@ -207,14 +207,14 @@ feeds-ready w h n t u ready x feeds = record {
 
 pub appends-ready : (w h n : ℕ) → 0 < w → 0 < h → KeepsReady w h (λ t. fed n (returned t)) (λ s. Becomes (λ p q. Appends p n q × (q.cursor_x ≡ 0)) (raised 0 h (s.y + n - (h - 1)) s.columns) s)
 appends-ready w h n some_columns some_rows s ready =
-    let r : Terminal = returned s in
+    let r : Emulator = returned s in
     let y_in : s.y < h = ready.row in
     let high : s.height ≡ h = ready.height in
     let wide : s.width ≡ w = ready.width in
     let m = min n (h - 1 - s.y) in
     let k = n - m in
-    let v : Terminal = record r { y = s.y + m } in
-    let u : Terminal = fed k v in
+    let v : Emulator = record r { y = s.y + m } in
+    let u : Emulator = fed k v in
     let at_end : 0 < k → v.y + 1 ≡ v.bottom = λ some. let bottom : s.bottom ≡ h = ready.bottom in omega arith in
     let feeds : Feeds k v u = fed-feeds k v ready.top at_end in
     let first : fed m r ≡ v = fed-above m r (ready.bottom ∙ sym high) ready.sure (omega arith) (omega arith) in
@@ -234,25 +234,25 @@ appends-ready w h n some_columns some_rows s ready =
       beyond = ready.beyond;
     } in
     let u_ready : IsReady w h u = feeds-ready w h k v u v_ready some_columns feeds in
-    let row : u.y ≡ s.y + m = ap (λ (z : Terminal). z.y) feeds.rest in
-    let first : u.x ≡ 0 = ap (λ (z : Terminal). z.x) feeds.rest in
+    let row : u.y ≡ s.y + m = ap (λ (z : Emulator). z.y) feeds.rest in
+    let first : u.x ≡ 0 = ap (λ (z : Emulator). z.x) feeds.rest in
     let same : s.bottom ≡ h = ready.bottom in
     let past : s.y + n - (h - 1) ≡ k = omega arith in
-    let along = λ (z : Terminal). Becomes (λ p q. Appends p n q × (q.cursor_x ≡ 0)) (raised 0 h (s.y + n - (h - 1)) s.columns) s z in (
+    let along = λ (z : Emulator). Becomes (λ p q. Appends p n q × (q.cursor_x ≡ 0)) (raised 0 h (s.y + n - (h - 1)) s.columns) s z in (
       subst (IsReady w h) (sym all) u_ready,
       subst along (sym all) (record {
         columns = λ a b. feeds.columns a b ∙ ap₂ (λ i j. raised 0 i j s.columns a b) same (sym past);
         screens = λ written.
-            let lines : lines_past (screen_of written s) n ≡ k = let e : nat_lt 0 s.height ≡ true = grind (arith, nat_tests) in rw e (omega arith) in
+            let lines : lines_past (screen_shown written s) n ≡ k = let e : nat_lt 0 s.height ≡ true = grind (arith, nat_tests) in rw e (omega arith) in
             let tall : s.bottom ≡ s.height = ready.bottom ∙ sym high in (
               record {
-                scrolled = subst (λ j. Scrolls (screen_of written s) j (screen_of written u)) (sym lines) (record {
+                scrolled = subst (λ j. Scrolls (screen_shown written s) j (screen_shown written u)) (sym lines) (record {
                   history = feeds.history ∙ ap (λ q. s.history ++ map (λ b. map (λ a. if nat_lt b q then look_in (s.columns a b) else empty_look) (range_with_len 0 s.width)) (range_with_len 0 k)) tall;
-                  width = ap (λ (z : Terminal). z.width) feeds.rest;
-                  height = ap (λ (z : Terminal). z.height) feeds.rest;
+                  width = ap (λ (z : Emulator). z.width) feeds.rest;
+                  height = ap (λ (z : Emulator). z.height) feeds.rest;
                   grid = λ a b a_in b_in. ap look_in (feeds.columns a b) ∙ shown-raised s.bottom k s.columns a b (rw tall b_in)
                       ∙ ap (λ q. if nat_lt (b + k) q then look_in (s.columns a (b + k)) else empty_look) tall;
-                  visible = ap (λ (z : Terminal). z.visible) feeds.rest;
+                  visible = ap (λ (z : Emulator). z.visible) feeds.rest;
                   written = refl;
                 });
                 row = row ∙ (let e : s.y + m ≡ min (s.y + n) (s.height - 1) = omega arith in e);

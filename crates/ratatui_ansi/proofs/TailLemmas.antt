@@ -7,7 +7,7 @@ use Rattle.rtui_cell.specs.Cell.{width_of}
 use Rattle.rtui_cell.specs.Grid.{Update, put}
 use Rattle.ratatui_ansi.specs.Columns.{Column, Columns, blank_column, look_in, is_behind, is_met}
 use Rattle.ratatui_ansi.specs.Columns.Column.{Shows, Unknown}
-use Rattle.ratatui_ansi.specs.Terminal.{run}
+use Rattle.ratatui_ansi.specs.Emulator.{run}
 use Rattle.ratatui_ansi.specs.Screens.{IsSized, AreSized, IsWhole, IsWholeAt, IsBlankBeyond, put_columns}
 use Rattle.ratatui_ansi.specs.Frame.{IsTail, laid}
 use Rattle.ratatui_ansi.proofs.PutLemmas.{none_between, apart-at, first-or-behind, rest-same}

@@ -11,8 +11,8 @@ use Rattle.ratatui_ansi.specs.Columns.{Column, blank_column, is_known}
 use Rattle.ratatui_ansi.specs.Columns.Column.{Shows, Unknown}
 use Rattle.ratatui_ansi.specs.Drawing.{columns_of}
 use Rattle.ratatui_ansi.specs.Screens.{IsSized}
-use Rattle.ratatui_ansi.specs.Terminal.{Terminal, is_control, is_directional, is_shown, is_plain, is_symbol, begins_anew}
-use Rattle.ratatui_ansi.specs.Terminal.Phase.{Ground}
+use Rattle.ratatui_ansi.specs.Emulator.{Emulator, is_control, is_directional, is_shown, is_plain, is_symbol, begins_anew}
+use Rattle.ratatui_ansi.specs.Emulator.Phase.{Ground}
 use Rattle.ratatui_ansi.specs.Sequences.{feed, reads_in, is_text}
 use Rattle.ratatui_ansi.specs.Sends.{typed}
 
@@ -20,13 +20,13 @@ pub and-both : (a b : Bool) → (a && b) ≡ true → (a ≡ true) × (b ≡ tru
 and-both true b e = (refl, e)
 and-both false b e = let h : ⊥ = cc in absurd h
 
-one-text : (b : ℕ) → is_text b ≡ true → (t : Terminal) → reads_in Ground b t ≡ typed (b ∷ []) t
+one-text : (b : ℕ) → is_text b ≡ true → (t : Emulator) → reads_in Ground b t ≡ typed (b ∷ []) t
 one-text b is t =
     let e : (b == 27) ≡ false = grind (arith, nat_tests) in
     rw (e, is) refl
 
 -- text is kept as it is read
-pub text-read : (bs : List ℕ) → list_all is_text bs ≡ true → (t : Terminal) → t.phase ≡ Ground → feed bs t ≡ typed bs t
+pub text-read : (bs : List ℕ) → list_all is_text bs ≡ true → (t : Emulator) → t.phase ≡ Ground → feed bs t ≡ typed bs t
 unfolding feed
 text-read [] all t ground = ap (λ xs. record t { text = xs }) (sym (append-nil t.text))
 text-read (b ∷ bs) all t ground =

@@ -11,9 +11,9 @@ use Rattle.ratatui_ansi.specs.declared.part.Part.{Part}
 use Rattle.ratatui_ansi.specs.declared.part.Part.TheVariants.{After, Before, Line, LineEnd}
 use Rattle.ratatui_ansi.specs.Columns.{Column, Columns, look_in, is_behind, blank_column}
 use Rattle.ratatui_ansi.specs.Columns.Column.{Shows, Unknown}
-use Rattle.ratatui_ansi.specs.Terminal.{Terminal, rested, raised, lowered, part_at, part_emptied, moved, erased, keeps_history}
+use Rattle.ratatui_ansi.specs.Emulator.{Emulator, rested, raised, lowered, part_at, part_emptied, moved, erased, keeps_history}
 use Rattle.ratatui_ansi.specs.Sequences.{feed}
-use Rattle.ratatui_ansi.specs.Screens.{screen_of, IsReady, Turns, Becomes}
+use Rattle.ratatui_ansi.specs.Screens.{screen_shown, IsReady, Turns, Becomes}
 use Rattle.ratatui_ansi.specs.Flags.{flag, AreBehind, is_cut}
 use Rattle.ratatui_ansi.specs.Calls.{IsAwaiting, SendsCall, Empties}
 use Rattle.ratatui_ansi.proofs.ReadLemmas.{feed-append}
@@ -24,30 +24,30 @@ use Rattle.ratatui_ansi.proofs.RegionLemmas.{ready-columns, moved-placed}
 use Rattle.ratatui_ansi.specs.Sends.{Does}
 
 -- one after the other
-pub Turns-then : (w h : ℕ) (a b c : List ℕ) (first second : Terminal → Terminal → Type 0) → Turns w h a b first → Turns w h b c second → Turns w h a c (λ s u. (t : Terminal) × first s t × second t u)
+pub Turns-then : (w h : ℕ) (a b c : List ℕ) (first second : Emulator → Emulator → Type 0) → Turns w h a b first → Turns w h b c second → Turns w h a c (λ s u. (t : Emulator) × first s t × second t u)
 Turns-then w h a b c first second one two =
-    let joined : (t : Terminal) → feed (one.bytes ++ two.bytes) t ≡ feed two.bytes (feed one.bytes t) = feed-append one.bytes two.bytes in
+    let joined : (t : Emulator) → feed (one.bytes ++ two.bytes) t ≡ feed two.bytes (feed one.bytes t) = feed-append one.bytes two.bytes in
     record {
       bytes = one.bytes ++ two.bytes;
       appended = two.appended ∙ ap (λ xs. xs ++ two.bytes) one.appended ∙ append_assoc a one.bytes two.bytes;
-      phase = λ t ground ready. ap (λ (u : Terminal). u.phase) (joined t) ∙ two.phase (feed one.bytes t) (one.phase t ground ready) (one.ready t ground ready);
+      phase = λ t ground ready. ap (λ (u : Emulator). u.phase) (joined t) ∙ two.phase (feed one.bytes t) (one.phase t ground ready) (one.ready t ground ready);
       ready = λ t ground ready. subst (λ u. IsReady w h (rested u)) (sym (joined t)) (two.ready (feed one.bytes t) (one.phase t ground ready) (one.ready t ground ready));
-      turned = λ t ground ready. subst (λ u. (m : Terminal) × first (rested t) m × second m (rested u)) (sym (joined t))
+      turned = λ t ground ready. subst (λ u. (m : Emulator) × first (rested t) m × second m (rested u)) (sym (joined t))
           (rested (feed one.bytes t), one.turned t ground ready, two.turned (feed one.bytes t) (one.phase t ground ready) (one.ready t ground ready));
     }
 
 -- what is known of a ready terminal behind a call
-pub record IsKept (w h : ℕ) (place : Position) (flags : List Bool) (related : Screen → Screen → Type 0) (s t : Terminal) : Type 0 where
-  pub cursor : cursor_of (screen_of 0 t) ≡ place
+pub record IsKept (w h : ℕ) (place : Position) (flags : List Bool) (related : Screen → Screen → Type 0) (s t : Emulator) : Type 0 where
+  pub cursor : cursor_of (screen_shown 0 t) ≡ place
   pub behind : AreBehind w h flags t.columns
-  pub screens : (written : ℕ) → related (screen_of written s) (screen_of written t)
+  pub screens : (written : ℕ) → related (screen_shown written s) (screen_shown written t)
 
-pub call-from : (w h : ℕ) (a b : List ℕ) (place place_after : Position) (flags flags_after : List Bool) (turned : Terminal → Terminal → Type 0) (related : Screen → Screen → Type 0)
+pub call-from : (w h : ℕ) (a b : List ℕ) (place place_after : Position) (flags flags_after : List Bool) (turned : Emulator → Emulator → Type 0) (related : Screen → Screen → Type 0)
     → Turns w h a b turned
-    → ((s t : Terminal) → IsReady w h s → cursor_of (screen_of 0 s) ≡ place → AreBehind w h flags s.columns → turned s t → IsKept w h place_after flags_after related s t)
+    → ((s t : Emulator) → IsReady w h s → cursor_of (screen_shown 0 s) ≡ place → AreBehind w h flags s.columns → turned s t → IsKept w h place_after flags_after related s t)
     → SendsCall w h a b place flags place_after flags_after related
 call-from w h a b place place_after flags flags_after turned related turns kept =
-    let all = λ (t : Terminal) (awaiting : IsAwaiting w h place flags t). kept (rested t) (rested (feed turns.bytes t)) awaiting.ready awaiting.placed awaiting.behind (turns.turned t awaiting.phase awaiting.ready) in
+    let all = λ (t : Emulator) (awaiting : IsAwaiting w h place flags t). kept (rested t) (rested (feed turns.bytes t)) awaiting.ready awaiting.placed awaiting.behind (turns.turned t awaiting.phase awaiting.ready) in
     record {
       bytes = turns.bytes;
       appended = turns.appended;
@@ -62,7 +62,7 @@ call-from w h a b place place_after flags flags_after turned related turns kept 
 
 -- ---- the cursor
 
-pub visible-kept : (w h : ℕ) (visible : Bool) (place : Position) (flags : List Bool) (s t : Terminal) → IsReady w h s → cursor_of (screen_of 0 s) ≡ place → AreBehind w h flags s.columns
+pub visible-kept : (w h : ℕ) (visible : Bool) (place : Position) (flags : List Bool) (s t : Emulator) → IsReady w h s → cursor_of (screen_shown 0 s) ≡ place → AreBehind w h flags s.columns
     → Becomes (λ p q. q ≡ with_visible visible p) s.columns s t → IsKept w h place flags (λ p q. q ≡ with_visible visible p) s t
 visible-kept w h visible place flags s t ready at behind became = record {
   cursor = ap cursor_of (became.screens 0) ∙ at;
@@ -70,10 +70,10 @@ visible-kept w h visible place flags s t ready at behind became = record {
   screens = became.screens;
 }
 
-pub cursor-kept : (w h x y : ℕ) (flags : List Bool) (s t : Terminal) → IsReady w h s → AreBehind w h flags s.columns
+pub cursor-kept : (w h x y : ℕ) (flags : List Bool) (s t : Emulator) → IsReady w h s → AreBehind w h flags s.columns
     → Becomes (λ p q. q ≡ with_cursor x y p) s.columns s t → IsKept w h (record { x = min x (w - 1); y = min y (h - 1) }) flags (λ p q. q ≡ with_cursor x y p) s t
 cursor-kept w h x y flags s t ready behind became =
-    let at : cursor_of (screen_of 0 t) ≡ record { x = min x (s.width - 1); y = min y (s.height - 1) } = ap cursor_of (became.screens 0) in
+    let at : cursor_of (screen_shown 0 t) ≡ record { x = min x (s.width - 1); y = min y (s.height - 1) } = ap cursor_of (became.screens 0) in
     record {
       cursor = at ∙ ap₂ (λ i j. record { x = min x (i - 1); y = min y (j - 1) }) ready.width ready.height;
       behind = AreBehind-along w h flags s.columns t.columns became.columns behind;
@@ -82,7 +82,7 @@ cursor-kept w h x y flags s t ready behind became =
 
 -- ---- rows that move
 
-pub append-kept : (w h n : ℕ) (place : Position) (flags flags_after : List Bool) (s t : Terminal) → IsReady w h s → cursor_of (screen_of 0 s) ≡ place → place.y < h
+pub append-kept : (w h n : ℕ) (place : Position) (flags flags_after : List Bool) (s t : Emulator) → IsReady w h s → cursor_of (screen_shown 0 s) ≡ place → place.y < h
     → ((c : Columns) → AreBehind w h flags c → AreBehind w h flags_after (raised 0 (min h h) (n - (h - 1 - place.y)) c)) → AreBehind w h flags s.columns
     → Becomes (λ p q. Appends p n q × (q.cursor_x ≡ 0)) (raised 0 h (s.y + n - (h - 1)) s.columns) s t
     → IsKept w h (record { x = 0; y = min (place.y + n) (h - 1) }) flags_after (λ p q. Appends p n q) s t
@@ -129,18 +129,18 @@ module _ (x y : ℕ) (p q : Screen) (width : q.width ≡ p.width) (height : q.he
     no_rows = λ none. back (scrolled.no_rows none);
   }
 
-module _ (w h : ℕ) (place : Position) (flags flags_after : List Bool) (x_in : place.x < w) (y_in : place.y < h) (s u : Terminal) (ready : IsReady w h s) (at : cursor_of (screen_of 0 s) ≡ place) where
-  cursor-back : (t : Terminal) → t.width ≡ w → t.height ≡ h → u.width ≡ t.width → Becomes (λ p q. q ≡ with_cursor place.x place.y p) t.columns t u → cursor_of (screen_of 0 u) ≡ place
+module _ (w h : ℕ) (place : Position) (flags flags_after : List Bool) (x_in : place.x < w) (y_in : place.y < h) (s u : Emulator) (ready : IsReady w h s) (at : cursor_of (screen_shown 0 s) ≡ place) where
+  cursor-back : (t : Emulator) → t.width ≡ w → t.height ≡ h → u.width ≡ t.width → Becomes (λ p q. q ≡ with_cursor place.x place.y p) t.columns t u → cursor_of (screen_shown 0 u) ≡ place
   cursor-back t wide high same became =
       let ex : min place.x (t.width - 1) ≡ place.x = omega arith in
       let ey : min place.y (t.height - 1) ≡ place.y = omega arith in
       ap cursor_of (became.screens 0) ∙ ap₂ (λ i j. record { x = i; y = j }) ex ey
 
   pub up-kept : (a b n : ℕ) → ((c : Columns) → AreBehind w h flags c → AreBehind w h flags_after (raised a (min b h) n c)) → AreBehind w h flags s.columns
-      → (t : Terminal) × Becomes (ScrollsUp a b n) (raised a (min b h) n s.columns) s t × Becomes (λ p q. q ≡ with_cursor place.x place.y p) t.columns t u
+      → (t : Emulator) × Becomes (ScrollsUp a b n) (raised a (min b h) n s.columns) s t × Becomes (λ p q. q ≡ with_cursor place.x place.y p) t.columns t u
       → IsKept w h place flags_after (ScrollsUp a b n) s u
   up-kept a b n moved behind both =
-      let t : Terminal = both.0 in
+      let t : Emulator = both.0 in
       let wide : t.width ≡ s.width = (both.1.screens 0).width in
       let high : t.height ≡ s.height = (both.1.screens 0).height in
       let x_at : min s.x (s.width - 1) ≡ place.x = ap (λ (p : Position). p.x) at in
@@ -151,15 +151,15 @@ module _ (w h : ℕ) (place : Position) (flags flags_after : List Bool) (x_in : 
       record {
         cursor = cursor-back t (wide ∙ s_wide) (high ∙ s_high) same both.2;
         behind = AreBehind-along w h flags_after (raised a (min b h) n s.columns) u.columns (λ i j. both.2.columns i j ∙ both.1.columns i j) (moved s.columns behind);
-        screens = λ written. subst (ScrollsUp a b n (screen_of written s)) (sym (both.2.screens written))
-            (up-back place.x place.y (screen_of written s) (screen_of written t) wide high x_at y_at (omega arith) (omega arith) a b n (both.1.screens written));
+        screens = λ written. subst (ScrollsUp a b n (screen_shown written s)) (sym (both.2.screens written))
+            (up-back place.x place.y (screen_shown written s) (screen_shown written t) wide high x_at y_at (omega arith) (omega arith) a b n (both.1.screens written));
       }
 
   pub down-kept : (a b n : ℕ) → ((c : Columns) → AreBehind w h flags c → AreBehind w h flags_after (lowered a (min b h) n c)) → AreBehind w h flags s.columns
-      → (t : Terminal) × Becomes (ScrollsDown a b n) (lowered a (min b h) n s.columns) s t × Becomes (λ p q. q ≡ with_cursor place.x place.y p) t.columns t u
+      → (t : Emulator) × Becomes (ScrollsDown a b n) (lowered a (min b h) n s.columns) s t × Becomes (λ p q. q ≡ with_cursor place.x place.y p) t.columns t u
       → IsKept w h place flags_after (ScrollsDown a b n) s u
   down-kept a b n moved behind both =
-      let t : Terminal = both.0 in
+      let t : Emulator = both.0 in
       let wide : t.width ≡ s.width = (both.1.screens 0).width in
       let high : t.height ≡ s.height = (both.1.screens 0).height in
       let x_at : min s.x (s.width - 1) ≡ place.x = ap (λ (p : Position). p.x) at in
@@ -170,13 +170,13 @@ module _ (w h : ℕ) (place : Position) (flags flags_after : List Bool) (x_in : 
       record {
         cursor = cursor-back t (wide ∙ s_wide) (high ∙ s_high) same both.2;
         behind = AreBehind-along w h flags_after (lowered a (min b h) n s.columns) u.columns (λ i j. both.2.columns i j ∙ both.1.columns i j) (moved s.columns behind);
-        screens = λ written. subst (ScrollsDown a b n (screen_of written s)) (sym (both.2.screens written))
-            (down-back place.x place.y (screen_of written s) (screen_of written t) wide high x_at y_at (omega arith) (omega arith) a b n (both.1.screens written));
+        screens = λ written. subst (ScrollsDown a b n (screen_shown written s)) (sym (both.2.screens written))
+            (down-back place.x place.y (screen_shown written s) (screen_shown written t) wide high x_at y_at (omega arith) (omega arith) a b n (both.1.screens written));
       }
 
 -- ---- the screen emptied, and parts of it
 
-pub emptied-kept : (w h : ℕ) (place : Position) (flags flags_after : List Bool) (s t : Terminal) (columns : Columns) → cursor_of (screen_of 0 s) ≡ place
+pub emptied-kept : (w h : ℕ) (place : Position) (flags flags_after : List Bool) (s t : Emulator) (columns : Columns) → cursor_of (screen_shown 0 s) ≡ place
     → AreBehind w h flags_after columns
     → Becomes (λ p q. p.cursor_x ≡ place.x → p.cursor_y ≡ place.y → Clears p All q) columns s t → IsKept w h place flags_after (λ p q. Clears p All q) s t
 emptied-kept w h place flags flags_after s t columns at behind became =
@@ -189,27 +189,27 @@ emptied-kept w h place flags flags_after s t columns at behind became =
     }
 
 -- bytes whose action keeps a terminal awaiting
-pub call-does : (w h : ℕ) (a b : List ℕ) (place place_after : Position) (flags flags_after : List Bool) (f : Terminal → Terminal) (related : Screen → Screen → Type 0) → Does a b f
-    → ((s : Terminal) → IsReady w h s → cursor_of (screen_of 0 s) ≡ place → AreBehind w h flags s.columns → IsReady w h (f s) × IsKept w h place_after flags_after related s (f s))
+pub call-does : (w h : ℕ) (a b : List ℕ) (place place_after : Position) (flags flags_after : List Bool) (f : Emulator → Emulator) (related : Screen → Screen → Type 0) → Does a b f
+    → ((s : Emulator) → IsReady w h s → cursor_of (screen_shown 0 s) ≡ place → AreBehind w h flags s.columns → IsReady w h (f s) × IsKept w h place_after flags_after related s (f s))
     → SendsCall w h a b place flags place_after flags_after related
 call-does w h a b place place_after flags flags_after f related does kept = record {
   bytes = does.bytes;
   appended = does.appended;
   awaiting = λ t awaiting.
       let both = kept (rested t) awaiting.ready awaiting.placed awaiting.behind in
-      let u : Terminal = f (rested t) in
+      let u : Emulator = f (rested t) in
       let stays : rested u ≡ u = rested-ready w h u both.0 in
       let after : IsAwaiting w h place_after flags_after u = record {
         phase = both.0.phase;
         ready = subst (IsReady w h) (sym stays) both.0;
-        placed = ap (λ v. cursor_of (screen_of 0 v)) stays ∙ both.1.cursor;
+        placed = ap (λ v. cursor_of (screen_shown 0 v)) stays ∙ both.1.cursor;
         behind = subst (λ v. AreBehind w h flags_after v.columns) (sym stays) both.1.behind;
       } in
       subst (IsAwaiting w h place_after flags_after) (sym (does.read t awaiting.phase)) after;
   shows = λ written t awaiting.
       let both = kept (rested t) awaiting.ready awaiting.placed awaiting.behind in
       let e : rested (feed does.bytes t) ≡ f (rested t) = ap rested (does.read t awaiting.phase) ∙ rested-ready w h (f (rested t)) both.0 in
-      subst (λ v. related (screen_of written (rested t)) (screen_of written v)) (sym e) (both.1.screens written);
+      subst (λ v. related (screen_shown written (rested t)) (screen_shown written v)) (sym e) (both.1.screens written);
 }
 
 emptied-look : (p : Bool) (c : Column) → look_in (if p then blank_column else c) ≡ (if p then empty_look else look_in c)
@@ -218,12 +218,12 @@ emptied-look false c = refl
 
 pub part-kept : (w h x y : ℕ) (part : Part) (place : Position) (flags flags_after : List Bool) → x < w → y < h → place.x < w → place.y < h → is_cut part w x y flags ≡ false → keeps_history part x y ≡ true
     → ((c : Columns) → AreBehind w h flags c → AreBehind w h flags_after (part_emptied part x y c))
-    → (s : Terminal) → IsReady w h s → cursor_of (screen_of 0 s) ≡ place → AreBehind w h flags s.columns
+    → (s : Emulator) → IsReady w h s → cursor_of (screen_shown 0 s) ≡ place → AreBehind w h flags s.columns
     → IsReady w h (moved place.x place.y (erased part (moved x y s))) × IsKept w h place flags_after (Empties part x y) s (moved place.x place.y (erased part (moved x y s)))
 part-kept w h x y part place flags flags_after x_in y_in at_x at_y uncut history cleared s ready at behind =
     let width : s.width ≡ w = ready.width in
     let height : s.height ≡ h = ready.height in
-    let u : Terminal = moved place.x place.y (erased part (record s { x = x; y = y })) in
+    let u : Emulator = moved place.x place.y (erased part (record s { x = x; y = y })) in
     let there : u ≡ moved place.x place.y (erased part (moved x y s)) = ap (λ t. moved place.x place.y (erased part t)) (moved-placed x y s (omega arith) (omega arith)) in
     let same : (a b : ℕ) → u.columns a b ≡ part_emptied part x y s.columns a b = part-erased part w h x y flags s.columns x_in y_in ready.beyond behind uncut ready.whole in
     let x_test : nat_lt x s.width ≡ true = grind (arith, nat_tests) in
@@ -239,7 +239,7 @@ part-kept w h x y part place flags flags_after x_in y_in at_x at_y uncut history
         cursor = ap₂ (λ i j. record { x = i; y = j }) cursor_x cursor_y ∙ at;
         behind = AreBehind-along w h flags_after (part_emptied part x y s.columns) u.columns same (cleared s.columns behind);
         screens = λ written. record {
-          rest = ap₂ (λ i j. record (screen_of written s) { grid = λ a b. look_in (u.columns a b); cursor_x = i; cursor_y = j }) cursor_x cursor_y;
+          rest = ap₂ (λ i j. record (screen_shown written s) { grid = λ a b. look_in (u.columns a b); cursor_x = i; cursor_y = j }) cursor_x cursor_y;
           grid = λ a b a_in b_in. ap look_in (same a b) ∙ emptied-look (part_at part x y a b) (s.columns a b);
         };
       },
@@ -248,13 +248,13 @@ part-kept w h x y part place flags flags_after x_in y_in at_x at_y uncut history
 -- ---- the five clears
 
 pub call-weaker : (w h : ℕ) (a b : List ℕ) (place place_after : Position) (flags flags_after : List Bool) (first second : Screen → Screen → Type 0) → SendsCall w h a b place flags place_after flags_after first
-    → ((written : ℕ) (t : Terminal) (q : Screen) → IsAwaiting w h place flags t → first (screen_of written (rested t)) q → second (screen_of written (rested t)) q)
+    → ((written : ℕ) (t : Emulator) (q : Screen) → IsAwaiting w h place flags t → first (screen_shown written (rested t)) q → second (screen_shown written (rested t)) q)
     → SendsCall w h a b place flags place_after flags_after second
 call-weaker w h a b place place_after flags flags_after first second sends weaker = record {
   bytes = sends.bytes;
   appended = sends.appended;
   awaiting = sends.awaiting;
-  shows = λ written t awaiting. weaker written t (screen_of written (rested (feed sends.bytes t))) awaiting (sends.shows written t awaiting);
+  shows = λ written t awaiting. weaker written t (screen_shown written (rested (feed sends.bytes t))) awaiting (sends.shows written t awaiting);
 }
 
 clears-from : (kind : ClearType) (part : Part) (x y : ℕ) (p q : Screen) → ((a b : ℕ) → is_cleared kind p.cursor_x p.cursor_y a b ≡ part_at part x y a b) → Empties part x y p q → Clears p kind q
@@ -266,7 +266,7 @@ clears-from kind part x y p q same emptied = record {
 module _ (w h : ℕ) (a b : List ℕ) (place : Position) (flags flags_after : List Bool) where
   pub clears-all-after : place ≡ record { x = 0; y = 0 } → SendsCall w h a b place flags place flags_after (λ p q. Clears p All q) → SendsCall w h a b place flags place flags_after (λ p q. Clears p AfterCursor q)
   clears-all-after corner sends = call-weaker w h a b place place flags flags_after (λ p q. Clears p All q) (λ p q. Clears p AfterCursor q) sends (λ written t q awaiting cleared.
-      let p : Screen = screen_of written (rested t) in
+      let p : Screen = screen_shown written (rested t) in
       let x : p.cursor_x ≡ 0 = ap (λ (k : Position). k.x) (awaiting.placed ∙ corner) in
       let y : p.cursor_y ≡ 0 = ap (λ (k : Position). k.y) (awaiting.placed ∙ corner) in
       record {
@@ -276,15 +276,15 @@ module _ (w h : ℕ) (a b : List ℕ) (place : Position) (flags flags_after : Li
 
   pub clears-after : SendsCall w h a b place flags place flags_after (Empties After place.x place.y) → SendsCall w h a b place flags place flags_after (λ p q. Clears p AfterCursor q)
   clears-after sends = call-weaker w h a b place place flags flags_after (Empties After place.x place.y) (λ p q. Clears p AfterCursor q) sends (λ written t q awaiting emptied.
-      clears-from AfterCursor After place.x place.y (screen_of written (rested t)) q (λ i j. ap (λ (k : Position). part_at After k.x k.y i j) awaiting.placed) emptied)
+      clears-from AfterCursor After place.x place.y (screen_shown written (rested t)) q (λ i j. ap (λ (k : Position). part_at After k.x k.y i j) awaiting.placed) emptied)
 
   pub clears-line : SendsCall w h a b place flags place flags_after (Empties Line place.x place.y) → SendsCall w h a b place flags place flags_after (λ p q. Clears p CurrentLine q)
   clears-line sends = call-weaker w h a b place place flags flags_after (Empties Line place.x place.y) (λ p q. Clears p CurrentLine q) sends (λ written t q awaiting emptied.
-      clears-from CurrentLine Line place.x place.y (screen_of written (rested t)) q (λ i j. ap (λ (k : Position). part_at Line k.x k.y i j) awaiting.placed) emptied)
+      clears-from CurrentLine Line place.x place.y (screen_shown written (rested t)) q (λ i j. ap (λ (k : Position). part_at Line k.x k.y i j) awaiting.placed) emptied)
 
   pub clears-line-end : SendsCall w h a b place flags place flags_after (Empties LineEnd place.x place.y) → SendsCall w h a b place flags place flags_after (λ p q. Clears p UntilNewLine q)
   clears-line-end sends = call-weaker w h a b place place flags flags_after (Empties LineEnd place.x place.y) (λ p q. Clears p UntilNewLine q) sends (λ written t q awaiting emptied.
-      clears-from UntilNewLine LineEnd place.x place.y (screen_of written (rested t)) q (λ i j. ap (λ (k : Position). part_at LineEnd k.x k.y i j) awaiting.placed) emptied)
+      clears-from UntilNewLine LineEnd place.x place.y (screen_shown written (rested t)) q (λ i j. ap (λ (k : Position). part_at LineEnd k.x k.y i j) awaiting.placed) emptied)
 
   shown-behind : (c : Column) → is_behind c ≡ true → look_in c ≡ empty_look
   shown-behind (Shows look index count) e = elim (index == 0) as (λ z. (if z then false else true) ≡ true → (if z then look else empty_look) ≡ empty_look) [
@@ -296,7 +296,7 @@ module _ (w h : ℕ) (a b : List ℕ) (place : Position) (flags flags_after : Li
   pub clears-before : (end : ℕ) → place.x ≤ end → end < w → ((k : ℕ) → place.x < k → k ≤ end → flag flags (place.y * w + k) ≡ true)
       → SendsCall w h a b place flags place flags_after (Empties Before end place.y) → SendsCall w h a b place flags place flags_after (λ p q. Clears p BeforeCursor q)
   clears-before end from inside rest sends = call-weaker w h a b place place flags flags_after (Empties Before end place.y) (λ p q. Clears p BeforeCursor q) sends (λ written t q awaiting emptied.
-      let s : Terminal = rested t in
+      let s : Emulator = rested t in
       let x_at : min s.x (s.width - 1) ≡ place.x = ap (λ (k : Position). k.x) awaiting.placed in
       let y_at : s.y ≡ place.y = ap (λ (k : Position). k.y) awaiting.placed in
       let height : s.height ≡ h = awaiting.ready.height in
@@ -305,7 +305,7 @@ module _ (w h : ℕ) (a b : List ℕ) (place : Position) (flags flags_after : Li
         grid = λ i j i_in j_in. rw (x_at, y_at) (emptied.grid i j i_in j_in ∙ before s awaiting.behind i j (omega arith));
       })
     where
-      before : (s : Terminal) → AreBehind w h flags s.columns → (i j : ℕ) → j < h
+      before : (s : Emulator) → AreBehind w h flags s.columns → (i j : ℕ) → j < h
           → (if part_at Before end place.y i j then empty_look else look_in (s.columns i j)) ≡ (if is_cleared BeforeCursor place.x place.y i j then empty_look else look_in (s.columns i j))
       before s behind i j j_in = elim (is_cleared BeforeCursor place.x place.y i j) as (λ p. is_cleared BeforeCursor place.x place.y i j ≡ p → (if part_at Before end place.y i j then empty_look else look_in (s.columns i j)) ≡ (if p then empty_look else look_in (s.columns i j))) [
         | true ↦ λ e. let f : part_at Before end place.y i j ≡ true = grind (arith, nat_tests) in rw f refl

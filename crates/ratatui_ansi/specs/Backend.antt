@@ -3,13 +3,13 @@ use Rattle.std.specs.Prelude.{◌≡◌, ℕ, ◌*◌, ◌<◌, Bool, false, Lis
 use Rattle.rtui_geometry.specs.declared.position.Position.{Position}
 use Rattle.rtui_geometry.specs.declared.size.Size.{Size}
 use Rattle.rtui_backend.specs.Screen.{Screen}
-use Rattle.ratatui_ansi.specs.Terminal.{Terminal, rested, fresh}
+use Rattle.ratatui_ansi.specs.Emulator.{Emulator, rested, fresh}
 use Rattle.ratatui_ansi.specs.Sequences.{feed}
-use Rattle.ratatui_ansi.specs.Screens.{screen_of}
+use Rattle.ratatui_ansi.specs.Screens.{screen_shown}
 use Rattle.ratatui_ansi.specs.Calls.{IsAwaiting}
 
 -- the link, the terminal's size, how many items were drawn and how many calls failed, and whether a send failed
-pub record State (L : Type 0) : Type 0 where
+pub record BackendState (L : Type 0) : Type 0 where
   pub link : L
   pub size : Size
   pub has_underline_colors : Bool
@@ -18,12 +18,12 @@ pub record State (L : Type 0) : Type 0 where
   pub is_broken : Bool
 
 -- a terminal of a size that was blank and has read these bytes
-abbrev pub reader : Size → List ℕ → Terminal
+abbrev pub reader : Size → List ℕ → Emulator
 reader size bytes = feed bytes (fresh size.width size.height)
 
 -- the screen of the terminal that has read what the link was told
-abbrev pub shown_by : {L : Type 0} → (L → List ℕ) → State L → Screen
-shown_by told b = screen_of b.written (rested (reader b.size (told b.link)))
+abbrev pub shown_by : {L : Type 0} → (L → List ℕ) → BackendState L → Screen
+shown_by told b = screen_shown b.written (rested (reader b.size (told b.link)))
 
 -- what a backend keeps is in order: a screen of some columns and rows, flags for all of them, also for a draft, and, unless a send failed, a
 -- terminal that awaits the next call, with its cursor there and these flags

@@ -4,18 +4,18 @@ use Rattle.rtui_geometry.specs.declared.position.Position.{Position}
 use Rattle.rtui_cell.specs.Look.{empty_look}
 use Rattle.rtui_backend.specs.Screen.{Screen, cursor_of}
 use Rattle.ratatui_ansi.specs.declared.part.Part.{Part}
-use Rattle.ratatui_ansi.specs.Terminal.{Terminal, rested, part_at}
-use Rattle.ratatui_ansi.specs.Terminal.Phase.{Ground}
+use Rattle.ratatui_ansi.specs.Emulator.{Emulator, rested, part_at}
+use Rattle.ratatui_ansi.specs.Emulator.Phase.{Ground}
 use Rattle.ratatui_ansi.specs.Sequences.{feed}
-use Rattle.ratatui_ansi.specs.Screens.{screen_of, IsReady}
+use Rattle.ratatui_ansi.specs.Screens.{screen_shown, IsReady}
 use Rattle.ratatui_ansi.specs.Flags.{AreBehind}
 
 -- a terminal between two calls: it awaits text and is ready, with its cursor there and these flags
-pub record IsAwaiting (w h : ℕ) (cursor : Position) (flags : List Bool) (t : Terminal) : Type 0 where
+pub record IsAwaiting (w h : ℕ) (cursor : Position) (flags : List Bool) (t : Emulator) : Type 0 where
   pub phase : t.phase ≡ Ground
   pub ready : IsReady w h (rested t)
   pub behind : AreBehind w h flags (rested t).columns
-  pub placed : cursor_of (screen_of 0 (rested t)) ≡ cursor
+  pub placed : cursor_of (screen_shown 0 (rested t)) ≡ cursor
 
 -- bytes were appended, behind which a terminal that awaited a call awaits the next one, with the cursor and the flags after it, and its
 -- screen related so to the former
@@ -23,9 +23,9 @@ pub record SendsCall (w h : ℕ) (old new : List ℕ) (cursor : Position) (flags
     (related : Screen → Screen → Type 0) : Type 0 where
   pub bytes : List ℕ
   pub appended : new ≡ old ++ bytes
-  pub awaiting : (t : Terminal) → IsAwaiting w h cursor flags t → IsAwaiting w h cursor_after flags_after (feed bytes t)
-  pub shows : (written : ℕ) (t : Terminal) → IsAwaiting w h cursor flags t
-      → related (screen_of written (rested t)) (screen_of written (rested (feed bytes t)))
+  pub awaiting : (t : Emulator) → IsAwaiting w h cursor flags t → IsAwaiting w h cursor_after flags_after (feed bytes t)
+  pub shows : (written : ℕ) (t : Emulator) → IsAwaiting w h cursor flags t
+      → related (screen_shown written (rested t)) (screen_shown written (rested (feed bytes t)))
 
 -- a part of a screen was emptied, for a cursor in column x of row y, and all else stays
 pub record Empties (part : Part) (x y : ℕ) (old new : Screen) : Type 0 where

@@ -6,8 +6,8 @@ use Rattle.rtui_cell.specs.Width.{text_width}
 use Rattle.ratatui_ansi.specs.declared.pen.Pen.{Pen}
 use Rattle.ratatui_ansi.specs.declared.drawing.Brush.{Brush}
 use Rattle.ratatui_ansi.specs.Pen.{own_pen}
-use Rattle.ratatui_ansi.specs.Terminal.{Terminal, rested, prints, with_pen, is_plain, is_symbol}
-use Rattle.ratatui_ansi.specs.Terminal.Phase.{Ground}
+use Rattle.ratatui_ansi.specs.Emulator.{Emulator, rested, prints, with_pen, is_plain, is_symbol}
+use Rattle.ratatui_ansi.specs.Emulator.Phase.{Ground}
 use Rattle.ratatui_ansi.specs.Sequences.{feed}
 use Rattle.ratatui_ansi.specs.Sends.{Does}
 
@@ -29,31 +29,31 @@ pub data Changes (from to : Pen) (old new : List ℕ) : Type 0 where
   Sets : Does old new (with_pen to) → Changes from to old new
 
 -- the next plain character would be printed in this column and row
-pub record IsPlaced (x y : ℕ) (t : Terminal) : Type 0 where
+pub record IsPlaced (x y : ℕ) (t : Emulator) : Type 0 where
   pub utf8 : IsUtf8 t.text
   pub plain : list_all is_plain (chars t.text) ≡ true
   pub column : (rested t).x ≡ x
   pub row : (rested t).y ≡ y
 
 -- a terminal that awaits text and prints as the brush says
-pub record IsDrawnBy (brush : Brush) (t : Terminal) : Type 0 where
+pub record IsDrawnBy (brush : Brush) (t : Emulator) : Type 0 where
   pub phase : t.phase ≡ Ground
   pub pen : (rested t).pen ≡ brush.pen
   pub placed : IsTrue brush.is_placed → IsPlaced brush.x brush.y t
 
 -- with the cursor in a column and a row, and a pen
-abbrev pub drawn_at : ℕ → ℕ → Pen → Terminal → Terminal
+abbrev pub drawn_at : ℕ → ℕ → Pen → Emulator → Emulator
 drawn_at x y pen t = record t { x = x; y = y; pen = pen }
 
 -- bytes were appended that do this to each terminal of this size that is drawn by a brush, and leave it drawn by another one
-pub record Paints (w h : ℕ) (old : List ℕ) (before : Brush) (effect : Terminal → Terminal) (new : List ℕ) (after : Brush) : Type 0 where
+pub record Paints (w h : ℕ) (old : List ℕ) (before : Brush) (effect : Emulator → Emulator) (new : List ℕ) (after : Brush) : Type 0 where
   pub bytes : List ℕ
   pub appended : new ≡ old ++ bytes
-  pub drawn : (t : Terminal) → (rested t).width ≡ w → (rested t).height ≡ h → IsDrawnBy before t → IsDrawnBy after (feed bytes t)
-  pub printed : (t : Terminal) → (rested t).width ≡ w → (rested t).height ≡ h → IsDrawnBy before t → rested (feed bytes t) ≡ effect (rested t)
+  pub drawn : (t : Emulator) → (rested t).width ≡ w → (rested t).height ≡ h → IsDrawnBy before t → IsDrawnBy after (feed bytes t)
+  pub printed : (t : Emulator) → (rested t).width ≡ w → (rested t).height ≡ h → IsDrawnBy before t → rested (feed bytes t) ≡ effect (rested t)
 
 -- a symbol printed in a column and a row, in a pen
-abbrev pub printed_at : ℕ → ℕ → Pen → List ℕ → Terminal → Terminal
+abbrev pub printed_at : ℕ → ℕ → Pen → List ℕ → Emulator → Emulator
 printed_at x y pen symbol t = prints symbol (columns_of symbol) (drawn_at x y pen t)
 
 -- bytes were appended that print a symbol in a column and a row of a screen of this size, in a pen, and nothing else
@@ -61,6 +61,6 @@ abbrev pub Prints : ℕ → ℕ → List ℕ → Brush → ℕ → ℕ → Pen �
 Prints w h old before x y pen symbol new after = Paints w h old before (printed_at x y pen symbol) new after
 
 -- blanks printed in so many columns of a row, one by one, in the terminal's own pen
-abbrev pub blanked : ℕ → ℕ → ℕ → Terminal → Terminal
+abbrev pub blanked : ℕ → ℕ → ℕ → Emulator → Emulator
 blanked x y zero t = t
 blanked x y (suc n) t = printed_at (x + n) y own_pen blank (blanked x y n t)

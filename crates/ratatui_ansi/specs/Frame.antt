@@ -16,9 +16,9 @@ use Rattle.ratatui_ansi.specs.Calls.{IsAwaiting}
 use Rattle.ratatui_ansi.specs.Flags.{AreBehind, flag}
 use Rattle.ratatui_ansi.specs.Pen.{own_pen, pen_of}
 use Rattle.ratatui_ansi.specs.Parameters.{is_told_by}
-use Rattle.ratatui_ansi.specs.Terminal.{Terminal, rested, with_pen, run}
+use Rattle.ratatui_ansi.specs.Emulator.{Emulator, rested, with_pen, run}
 use Rattle.ratatui_ansi.specs.Sequences.{feed}
-use Rattle.ratatui_ansi.specs.Screens.{screen_of, IsReady}
+use Rattle.ratatui_ansi.specs.Screens.{screen_shown, IsReady}
 use Rattle.ratatui_ansi.specs.Drawing.{is_printed, columns_of, IsDrawnBy}
 
 -- ---- a symbol over a part of another one
@@ -64,26 +64,26 @@ IsRefused w h colors flags u (Refused.Cut p) = IsPlaced w h p u × (flag flags (
 -- ---- draws
 
 -- a terminal within a draw on a screen of this size: with its own pen it would be ready; the flags are those of its columns
-pub record IsDrawing (w h : ℕ) (d : Drawing) (flags : List Bool) (t : Terminal) : Type 0 where
+pub record IsDrawing (w h : ℕ) (d : Drawing) (flags : List Bool) (t : Emulator) : Type 0 where
   pub drawn : IsDrawnBy d.brush t
   pub ready : IsReady w h (with_pen own_pen (rested t))
   pub behind : AreBehind w h flags (rested t).columns
-  pub cursor : cursor_of (screen_of d.written (rested t)) ≡ d.cursor
+  pub cursor : cursor_of (screen_shown d.written (rested t)) ≡ d.cursor
 
 -- bytes were appended that draw these updates, in order, on each terminal within such a draw
 pub record SendsUpdates (w h : ℕ) (old : List ℕ) (before : Drawing) (flags : List Bool) (us : List Update) (new : List ℕ) (after : Drawing)
     (flags_after : List Bool) : Type 0 where
   pub bytes : List ℕ
   pub appended : new ≡ old ++ bytes
-  pub drawing : (t : Terminal) → IsDrawing w h before flags t → IsDrawing w h after flags_after (feed bytes t)
-  pub draws : (t : Terminal) → IsDrawing w h before flags t
-      → Draws (screen_of before.written (rested t)) us (screen_of after.written (rested (feed bytes t)))
+  pub drawing : (t : Emulator) → IsDrawing w h before flags t → IsDrawing w h after flags_after (feed bytes t)
+  pub draws : (t : Emulator) → IsDrawing w h before flags t
+      → Draws (screen_shown before.written (rested t)) us (screen_shown after.written (rested (feed bytes t)))
 
 -- bytes were appended that draw these updates, in order, on each terminal between two calls
 pub record SendsDraw (w h : ℕ) (old : List ℕ) (cursor : Position) (written : ℕ) (flags : List Bool) (us : List Update) (new : List ℕ)
     (cursor_after : Position) (written_after : ℕ) (flags_after : List Bool) : Type 0 where
   pub bytes : List ℕ
   pub appended : new ≡ old ++ bytes
-  pub awaiting : (t : Terminal) → IsAwaiting w h cursor flags t → IsAwaiting w h cursor_after flags_after (feed bytes t)
-  pub draws : (t : Terminal) → IsAwaiting w h cursor flags t
-      → Draws (screen_of written (rested t)) us (screen_of written_after (rested (feed bytes t)))
+  pub awaiting : (t : Emulator) → IsAwaiting w h cursor flags t → IsAwaiting w h cursor_after flags_after (feed bytes t)
+  pub draws : (t : Emulator) → IsAwaiting w h cursor flags t
+      → Draws (screen_shown written (rested t)) us (screen_shown written_after (rested (feed bytes t)))

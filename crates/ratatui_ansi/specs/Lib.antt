@@ -1,7 +1,7 @@
 pub mod Columns
 pub mod Flags
 pub mod Pen
-pub mod Terminal
+pub mod Emulator
 pub mod Sequences
 pub mod Parameters
 pub mod Sends

@@ -9,20 +9,20 @@ use Rattle.ratatui_ansi.specs.declared.error.AnsiError.TheVariants.{Memory, Symb
 use Rattle.ratatui_ansi.specs.declared.frame.Drawing.{Drawing}
 use Rattle.ratatui_ansi.specs.declared.frame.Refusal.{Refusal}
 use Rattle.ratatui_ansi.specs.declared.frame.Refusal.TheVariants as Refused
-use Rattle.ratatui_ansi.specs.Backend.{State}
+use Rattle.ratatui_ansi.specs.Backend.{BackendState}
 use Rattle.ratatui_ansi.specs.Calls.{IsAwaiting}
 use Rattle.ratatui_ansi.specs.Covered.{IsCovered}
 use Rattle.ratatui_ansi.specs.Errors.{error_of}
 use Rattle.ratatui_ansi.specs.Frame.{is_fit, IsVacant, IsPlaced, IsRefused, SendsUpdates}
 use Rattle.ratatui_ansi.specs.Parameters.{is_told_by}
 use Rattle.ratatui_ansi.specs.Pen.{pen_of}
-use Rattle.ratatui_ansi.specs.Screens.{screen_of}
-use Rattle.ratatui_ansi.specs.Terminal.{Terminal, rested}
+use Rattle.ratatui_ansi.specs.Screens.{screen_shown}
+use Rattle.ratatui_ansi.specs.Emulator.{Emulator, rested}
 
 -- ---- what is left
 
 -- nothing was told, and but for the count of failures all is as it was
-pub record IsUntold {L : Type 0} (old new : State L) : Type 0 where
+pub record IsUntold {L : Type 0} (old new : BackendState L) : Type 0 where
   pub link : new.link ≡ old.link
   pub size : new.size ≡ old.size
   pub colors : new.has_underline_colors ≡ old.has_underline_colors
@@ -30,21 +30,21 @@ pub record IsUntold {L : Type 0} (old new : State L) : Type 0 where
   pub is_broken : new.is_broken ≡ old.is_broken
 
 -- no send failed before, and none fails now
-pub record IsWorking {L : Type 0} (old new : State L) : Type 0 where
+pub record IsWorking {L : Type 0} (old new : BackendState L) : Type 0 where
   pub before : old.is_broken ≡ false
   pub after : new.is_broken ≡ false
   pub size : new.size ≡ old.size
   pub colors : new.has_underline_colors ≡ old.has_underline_colors
 
 -- a send failed for the first time
-pub record Breaks {L : Type 0} (old new : State L) : Type 0 where
+pub record Breaks {L : Type 0} (old new : BackendState L) : Type 0 where
   pub before : old.is_broken ≡ false
   pub after : new.is_broken ≡ true
   pub size : new.size ≡ old.size
   pub colors : new.has_underline_colors ≡ old.has_underline_colors
 
 -- a refused call, by its error: after a failed send every call is refused, and only a failed send changes anything
-abbrev pub FailsBy : {L E : Type 0} → State L → State L → AnsiError E → Type 0
+abbrev pub FailsBy : {L E : Type 0} → BackendState L → BackendState L → AnsiError E → Type 0
 FailsBy old new Memory = (old.is_broken ≡ false) × IsUntold old new
 FailsBy old new (Symbol p) = (old.is_broken ≡ false) × IsUntold old new
 FailsBy old new (Pen p) = (old.is_broken ≡ false) × IsUntold old new
@@ -54,7 +54,7 @@ FailsBy old new Broken = (old.is_broken ≡ true) × IsUntold old new
 FailsBy old new (Send error) = Breaks old new
 
 -- a call that answers this
-abbrev pub Leaves : {L E A : Type 0} → Result A (AnsiError E) → State L → State L → Type 0
+abbrev pub Leaves : {L E A : Type 0} → Result A (AnsiError E) → BackendState L → BackendState L → Type 0
 Leaves answer old new = MatchResult answer (λ _. IsWorking old new) (FailsBy old new)
 
 -- ---- cells that aren't drawn
@@ -113,4 +113,4 @@ pub record StopsWithin {S A : Type 0} (steps : S → Option A → S → Type 0) 
 -- the same for each terminal between two calls
 pub record StopsDraw {S A : Type 0} (steps : S → Option A → S → Type 0) (content : S) (update : A → Update) (w h : ℕ) (colors : Bool) (cursor : Position) (written : ℕ)
     (flags : List Bool) (refusal : Refusal) : Type 0 where
-  pub stops : (t : Terminal) → IsAwaiting w h cursor flags t → StopsAt steps content update colors (screen_of written (rested t)) refusal
+  pub stops : (t : Emulator) → IsAwaiting w h cursor flags t → StopsAt steps content update colors (screen_shown written (rested t)) refusal

@@ -5,14 +5,14 @@ use Rattle.rtui_backend.specs.Screen.{Screen}
 use Rattle.ratatui_ansi.specs.Columns.{Column, Columns, blank_column, look_in, is_behind, overwritten}
 use Rattle.ratatui_ansi.specs.Columns.Column.{Shows, Unknown}
 use Rattle.ratatui_ansi.specs.Pen.{own_pen}
-use Rattle.ratatui_ansi.specs.Terminal.{Terminal, rested, run}
-use Rattle.ratatui_ansi.specs.Terminal.Phase.{Ground}
+use Rattle.ratatui_ansi.specs.Emulator.{Emulator, rested, run}
+use Rattle.ratatui_ansi.specs.Emulator.Phase.{Ground}
 use Rattle.ratatui_ansi.specs.Sequences.{feed}
 use Rattle.ratatui_ansi.specs.Drawing.{columns_of}
 
 -- the screen of a terminal, on which so many items were drawn; a cursor behind the last column is shown in it
-abbrev pub screen_of : ℕ → Terminal → Screen
-screen_of written t = record {
+abbrev pub screen_shown : ℕ → Emulator → Screen
+screen_shown written t = record {
   history = t.history;
   width = t.width;
   height = t.height;
@@ -46,7 +46,7 @@ abbrev pub IsBlankBeyond : ℕ → Columns → Type 0
 IsBlankBeyond w columns = (a b : ℕ) → w ≤ a → columns a b ≡ blank_column
 
 -- a terminal of this size that awaits text and is sure, with its own pen, no margins, all of its symbols whole, and its cursor in its rows
-pub record IsReady (w h : ℕ) (t : Terminal) : Type 0 where
+pub record IsReady (w h : ℕ) (t : Emulator) : Type 0 where
   pub phase : t.phase ≡ Ground
   pub text : t.text ≡ []
   pub width : t.width ≡ w
@@ -61,16 +61,16 @@ pub record IsReady (w h : ℕ) (t : Terminal) : Type 0 where
   pub beyond : IsBlankBeyond w t.columns
 
 -- bytes were appended that leave each terminal ready that was so once its text stands, and related to what it was
-pub record Turns (w h : ℕ) (old new : List ℕ) (related : Terminal → Terminal → Type 0) : Type 0 where
+pub record Turns (w h : ℕ) (old new : List ℕ) (related : Emulator → Emulator → Type 0) : Type 0 where
   pub bytes : List ℕ
   pub appended : new ≡ old ++ bytes
-  pub phase : (t : Terminal) → t.phase ≡ Ground → IsReady w h (rested t) → (feed bytes t).phase ≡ Ground
-  pub ready : (t : Terminal) → t.phase ≡ Ground → IsReady w h (rested t) → IsReady w h (rested (feed bytes t))
-  pub turned : (t : Terminal) → t.phase ≡ Ground → IsReady w h (rested t) → related (rested t) (rested (feed bytes t))
+  pub phase : (t : Emulator) → t.phase ≡ Ground → IsReady w h (rested t) → (feed bytes t).phase ≡ Ground
+  pub ready : (t : Emulator) → t.phase ≡ Ground → IsReady w h (rested t) → IsReady w h (rested (feed bytes t))
+  pub turned : (t : Emulator) → t.phase ≡ Ground → IsReady w h (rested t) → related (rested t) (rested (feed bytes t))
 
 -- a terminal's screen is related so to that of another, which it was, and these columns stand now
-pub record Becomes (related : Screen → Screen → Type 0) (standing : Columns) (s t : Terminal) : Type 0 where
-  pub screens : (written : ℕ) → related (screen_of written s) (screen_of written t)
+pub record Becomes (related : Screen → Screen → Type 0) (standing : Columns) (s t : Emulator) : Type 0 where
+  pub screens : (written : ℕ) → related (screen_shown written s) (screen_shown written t)
   pub columns : (a b : ℕ) → t.columns a b ≡ standing a b
 
 -- the columns once a symbol of n columns is printed in column x of row y

@@ -2,43 +2,43 @@
 use Rattle.std.specs.Prelude.{ℕ, ◌+◌, ◌-◌, ◌*◌, ◌==◌, ◌&&◌, not, nat_le, Bool, true, false, if◌then◌else◌, List, [], ◌∷◌, ◌++◌}
 use Rattle.ratatui_ansi.specs.Pen.{inks}
 use Rattle.ratatui_ansi.specs.Pen.Awaits.{Nothing}
-use Rattle.ratatui_ansi.specs.Terminal.{Terminal, Phase, unsure, rested, moved, returned, with_visible, with_pen, erased, with_region, without_region, line_fed, lines_deleted, scrolled_down}
-use Rattle.ratatui_ansi.specs.Terminal.Phase.{Ground, Escape, Sequence}
+use Rattle.ratatui_ansi.specs.Emulator.{Emulator, Phase, unsure, rested, moved, returned, with_visible, with_pen, erased, with_region, without_region, line_fed, lines_deleted, scrolled_down}
+use Rattle.ratatui_ansi.specs.Emulator.Phase.{Ground, Escape, Sequence}
 use Rattle.ratatui_ansi.specs.declared.part.Part.TheVariants.{After, Before, Line, LineEnd}
 
 -- ED; the parameter 2 erases the whole screen, which some terminals put into their history then
-abbrev pub performs_ED : List ℕ → Terminal → Terminal
+abbrev pub performs_ED : List ℕ → Emulator → Emulator
 performs_ED (n ∷ []) t = if n == 0 then erased After t else (if n == 1 then erased Before t else unsure t)
 performs_ED _ t = unsure t
 
 -- EL
-abbrev pub performs_EL : List ℕ → Terminal → Terminal
+abbrev pub performs_EL : List ℕ → Emulator → Emulator
 performs_EL (n ∷ []) t = if n == 0 then erased LineEnd t else (if n == 2 then erased Line t else unsure t)
 performs_EL _ t = unsure t
 
 -- CUP: the row and the column, counted from 1
-abbrev pub performs_CUP : List ℕ → Terminal → Terminal
+abbrev pub performs_CUP : List ℕ → Emulator → Emulator
 performs_CUP (m ∷ n ∷ []) t = moved (n - 1) (m - 1) t
 performs_CUP _ t = unsure t
 
 -- DECSTBM: the first and the last row of the region, counted from 1, or none
-abbrev pub performs_DECSTBM : List ℕ → Terminal → Terminal
+abbrev pub performs_DECSTBM : List ℕ → Emulator → Emulator
 performs_DECSTBM (m ∷ []) t = if m == 0 then without_region t else unsure t
 performs_DECSTBM (m ∷ n ∷ []) t = with_region (m - 1) n t
 performs_DECSTBM _ t = unsure t
 
 -- DL
-abbrev pub performs_DL : List ℕ → Terminal → Terminal
+abbrev pub performs_DL : List ℕ → Emulator → Emulator
 performs_DL (n ∷ []) t = if n == 0 then unsure t else lines_deleted n t
 performs_DL _ t = unsure t
 
 -- SD
-abbrev pub performs_SD : List ℕ → Terminal → Terminal
+abbrev pub performs_SD : List ℕ → Emulator → Emulator
 performs_SD (n ∷ []) t = if n == 0 then unsure t else scrolled_down n t
 performs_SD _ t = unsure t
 
 -- a whole sequence, by its last byte: H CUP, m SGR, J ED, K EL, r DECSTBM, M DL, T SD
-abbrev pub performs : List ℕ → ℕ → Terminal → Terminal
+abbrev pub performs : List ℕ → ℕ → Emulator → Emulator
 performs parameters final t =
     if final == 72 then performs_CUP parameters t
     else (if final == 109 then with_pen (inks parameters (record { pen = t.pen; awaits = Nothing })).pen t
@@ -47,7 +47,7 @@ performs parameters final t =
     else (if final == 84 then performs_SD parameters t else unsure t))))))
 
 -- a sequence with the mark `?`: DECTCEM (text cursor enable mode) shows the cursor by h and hides it by l
-abbrev pub performs_marked : List ℕ → ℕ → Terminal → Terminal
+abbrev pub performs_marked : List ℕ → ℕ → Emulator → Emulator
 performs_marked (m ∷ []) final t =
     if (m == 25) && (final == 104) then with_visible true t
     else (if (m == 25) && (final == 108) then with_visible false t else unsure t)
@@ -61,7 +61,7 @@ abbrev pub is_text : ℕ → Bool
 is_text b = nat_le 32 b && not (b == 127)
 
 -- one byte, read: a sequence is ESC [, perhaps ?, numbers between semicolons, and the byte that names it
-abbrev pub reads_in : Phase → ℕ → Terminal → Terminal
+abbrev pub reads_in : Phase → ℕ → Emulator → Emulator
 reads_in Ground b t =
     if b == 27 then record (rested t) { phase = Escape }
     else (if is_text b then record t { text = t.text ++ b ∷ [] }
@@ -75,6 +75,6 @@ reads_in (Sequence mark done n) b t =
     else performs (done ++ n ∷ []) b (record t { phase = Ground }))))
 
 -- bytes, read in order
-unfoldable pub feed : List ℕ → Terminal → Terminal
+unfoldable pub feed : List ℕ → Emulator → Emulator
 feed [] t = t
 feed (b ∷ bs) t = feed bs (reads_in t.phase b t)

@@ -8,7 +8,7 @@ ghost use Rattle.rtui_backend.specs.Screen.{IsBlankScreen, IsOnGrid, Draws, Appe
 ghost use Rattle.rtui_backend.specs.declared.clear_type.ClearType.TheVariants.{All};
 ghost use Rattle.ratatui_ansi.specs.Columns.{blank_column};
 ghost use Rattle.ratatui_ansi.specs.Flags.{AreBehind};
-ghost use Rattle.ratatui_ansi.specs.Backend.{State, shown_by};
+ghost use Rattle.ratatui_ansi.specs.Backend.{BackendState, shown_by};
 ghost use Rattle.ratatui_ansi.specs.Refusals.{IsUntold, Leaves, StopsBy};
 
 use crate::error::AnsiError;
@@ -42,9 +42,9 @@ pub struct AnsiBackend<L: Link> {
 }
 
 impl<L: Link> Model for AnsiBackend<L> {
-    ghost use Rattle.ratatui_ansi.specs.Backend.{State, IsInOrder};
+    ghost use Rattle.ratatui_ansi.specs.Backend.{BackendState, IsInOrder};
 
-    ghost Value = { State L };
+    ghost Value = { BackendState L };
 
     ghost view = { λ b. record {
       link = b.link;

@@ -3,7 +3,7 @@
 ghost use Rattle.std.specs.Prelude.{◌≡◌, ℕ, ◌<◌, OnOk, true, false, string_bytes};
 ghost use Rattle.rtui_backend.specs.Screen.{Clears, with_cursor, with_visible};
 ghost use Rattle.rtui_backend.specs.declared.clear_type.ClearType.TheVariants.{All};
-ghost use Rattle.ratatui_ansi.specs.Terminal.{emptied};
+ghost use Rattle.ratatui_ansi.specs.Emulator.{emptied};
 ghost use Rattle.ratatui_ansi.specs.Screens.{Turns, Becomes};
 
 use crate::sequences::{erase_all, hide_cursor, move_to, show_cursor};

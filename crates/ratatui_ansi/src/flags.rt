@@ -3,7 +3,7 @@
 ghost use Rattle.std.specs.Prelude.{◌≡◌, ℕ, ◌+◌, ◌-◌, ◌*◌, ◌<◌, ◌≤◌, ◌&&◌, min, nat_le, nat_lt, if◌then◌else◌, true, false, length};
 ghost use Rattle.ratatui_ansi.specs.declared.part.Part.TheVariants.{Before};
 ghost use Rattle.ratatui_ansi.specs.Columns.{Columns};
-ghost use Rattle.ratatui_ansi.specs.Terminal.{raised, lowered, emptied, part_at, part_emptied};
+ghost use Rattle.ratatui_ansi.specs.Emulator.{raised, lowered, emptied, part_at, part_emptied};
 ghost use Rattle.ratatui_ansi.specs.Flags.{flag, AreBehind, is_cut};
 
 use crate::part::Part;

@@ -15,7 +15,7 @@ ghost use Rattle.ratatui_ansi.specs.Frame.{IsVacant};
 ghost use Rattle.ratatui_ansi.specs.Columns.{Columns, look_in, is_behind};
 ghost use Rattle.ratatui_ansi.specs.Screens.{AreSized, IsWhole, IsBlankBeyond, IsReady, IsUncut, put_columns};
 ghost use Rattle.ratatui_ansi.specs.Drawing.{columns_of};
-ghost use Rattle.ratatui_ansi.specs.Terminal.{run, fresh};
+ghost use Rattle.ratatui_ansi.specs.Emulator.{run, fresh};
 
 /// A blank terminal of at least one row is ready, so that what is said of ready terminals is said of some.
 pub fn a_blank_terminal_is_ready()

@@ -1,6 +1,6 @@
 //! From the frame to the bytes: escape sequences, proved against a model of the terminal that reads them.
 //!
-//! `specs/` is the model. A terminal (`specs/Terminal`) reads bytes one by one (`specs/Sequences`); each function here appends
+//! `specs/` is the model. A terminal (`specs/Emulator`) reads bytes one by one (`specs/Sequences`); each function here appends
 //! bytes to a text, and its contract says what they do to every terminal that reads them: a sequence by its standard name
 //! (`Does`), a symbol in its place (`Prints`), or what a backend's call does to the screen that the terminal shows (`Turns`, `SendsCall`,
 //! `SendsDraw`). [`AnsiBackend`] is a `Backend` whose screen is what a terminal shows that has read what its [`Link`] was told. Columns

@@ -1,7 +1,7 @@
 //! Escape sequences by their standard names.
 
 ghost use Rattle.std.specs.Prelude.{◌≡◌, ◌+◌, ◌-◌, ◌<◌, OnOk, true, false, string_bytes};
-ghost use Rattle.ratatui_ansi.specs.Terminal.{moved, returned, erased, fed, with_region, without_region, lines_deleted, scrolled_down, with_visible};
+ghost use Rattle.ratatui_ansi.specs.Emulator.{moved, returned, erased, fed, with_region, without_region, lines_deleted, scrolled_down, with_visible};
 ghost use Rattle.ratatui_ansi.specs.declared.part.Part.TheVariants.{Before};
 ghost use Rattle.ratatui_ansi.specs.Sends.{Does};
 

@@ -2,7 +2,7 @@
 
 ghost use Rattle.std.specs.Prelude.{◌≡◌, OnOk, IsTrue, string_bytes, encode_utf8, chars};
 ghost use Rattle.std.specs.List.{list_all};
-ghost use Rattle.ratatui_ansi.specs.Terminal.{is_plain, is_shown, has_columns, begins_anew, is_symbol};
+ghost use Rattle.ratatui_ansi.specs.Emulator.{is_plain, is_shown, has_columns, begins_anew, is_symbol};
 ghost use Rattle.ratatui_ansi.specs.Sends.{Sends, typed};
 
 use std::alloc::AllocError;

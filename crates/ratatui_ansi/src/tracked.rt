@@ -5,7 +5,7 @@ ghost use Rattle.std.specs.Prelude.{◌≡◌, ℕ, ◌*◌, ◌<◌, true, fals
 ghost use Rattle.rtui_geometry.specs.declared.position.Position.{Position};
 ghost use Rattle.rtui_backend.specs.Screen.{Appends, Clears, ScrollsUp, ScrollsDown, with_cursor, with_visible};
 ghost use Rattle.rtui_backend.specs.declared.clear_type.ClearType.TheVariants.{All};
-ghost use Rattle.ratatui_ansi.specs.Terminal.{keeps_history};
+ghost use Rattle.ratatui_ansi.specs.Emulator.{keeps_history};
 ghost use Rattle.ratatui_ansi.specs.Flags.{is_cut, is_clear_cut};
 ghost use Rattle.ratatui_ansi.specs.Calls.{SendsCall, Empties};
 

@@ -8,13 +8,13 @@ use Rattle.rtui_buffer.specs.Frame.{IsSettledSheet, ShowsSheet}
 use Rattle.rtui_buffer.proofs.EmptyLemmas.{IsSettledSheet-empty, ShowsSheet-empty}
 use Rattle.rtui_backend.specs.Screen.{IsBlankScreen}
 use Rattle.rtui_terminal.specs.Writing.{WritesDifferences}
-use Rattle.ratatui_ansi.specs.Backend.{State, shown_by}
+use Rattle.ratatui_ansi.specs.Backend.{BackendState, shown_by}
 use Rattle.ratatui_ansi.specs.Kept.{told_of}
 use Rattle.ratatui_ansi.specs.declared.link.Kept.{Kept}
 use Rattle.screenplay_program.specs.Reels.{ShowsFrame}
 
 -- a blank terminal shows an empty frame
-pub shows-empty : (area : Rect) (frame : Sheet) (b : State Kept) → area.x ≡ 0 → area.y ≡ 0 → IsEmptied area frame → IsBlankScreen area.width area.height (shown_by told_of b) → ShowsFrame b frame
+pub shows-empty : (area : Rect) (frame : Sheet) (b : BackendState Kept) → area.x ≡ 0 → area.y ≡ 0 → IsEmptied area frame → IsBlankScreen area.width area.height (shown_by told_of b) → ShowsFrame b frame
 shows-empty area frame b left top emptied blank = record {
   left = ap (λ r. r.x) emptied.area ∙ left;
   top = ap (λ r. r.y) emptied.area ∙ top;
@@ -24,7 +24,7 @@ shows-empty area frame b left top emptied blank = record {
 }
 
 -- and the next frame, where the last one was settled
-pub shows-next : (b b' : State Kept) (former frame copy : Sheet) → ShowsFrame b former → IsSettledSheet former → frame.area ≡ former.area
+pub shows-next : (b b' : BackendState Kept) (former frame copy : Sheet) → ShowsFrame b former → IsSettledSheet former → frame.area ≡ former.area
     → WritesDifferences former frame (shown_by told_of b) (shown_by told_of b') → IsSameSheet frame copy → ShowsFrame b' copy
 shows-next b b' former frame copy before settled same writes is =
     let area : copy.area ≡ former.area = is.area ∙ same in record {

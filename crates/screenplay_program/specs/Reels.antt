@@ -2,18 +2,18 @@
 use Rattle.std.specs.Prelude.{◌≡◌, List, [], ◌∷◌, ◌++◌, Option, None, Some}
 use Rattle.rtui_buffer.specs.Sheet.{Sheet, IsSameSheet}
 use Rattle.rtui_buffer.specs.Frame.{IsSettledSheet, ShowsSheet}
-use Rattle.ratatui_ansi.specs.Backend.{State, shown_by}
+use Rattle.ratatui_ansi.specs.Backend.{BackendState, shown_by}
 use Rattle.ratatui_ansi.specs.Kept.{told_of}
 use Rattle.ratatui_ansi.specs.declared.link.Kept.{Kept}
 use Rattle.screenplay.specs.declared.scene.Scene.{Scene}
 
 -- a terminal, and the last frame that it was told
 pub record ReelData : Type 0 where
-  pub backend : State Kept
+  pub backend : BackendState Kept
   pub shown : Sheet
 
 -- the terminal is as large as the frame, and shows it where it is settled
-pub record ShowsFrame (backend : State Kept) (frame : Sheet) : Type 0 where
+pub record ShowsFrame (backend : BackendState Kept) (frame : Sheet) : Type 0 where
   pub left : frame.area.x ≡ 0
   pub top : frame.area.y ≡ 0
   pub width : (shown_by told_of backend).width ≡ frame.area.width

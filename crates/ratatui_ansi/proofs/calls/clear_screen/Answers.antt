@@ -1,7 +1,7 @@
 use Rattle.std.proofs.Common.{◌-◌, refl}
 use Rattle.std.proofs.lemmas.Result.{on_ok_weaker}
 use Rattle.ratatui_ansi.specs.declared.part.Part.TheVariants.{Before}
-use Rattle.ratatui_ansi.specs.Terminal.{moved, erased}
+use Rattle.ratatui_ansi.specs.Emulator.{moved, erased}
 use Rattle.ratatui_ansi.proofs.ScrollLemmas.{turns-from}
 use Rattle.ratatui_ansi.proofs.RegionLemmas.{Does-then}
 use Rattle.ratatui_ansi.proofs.CallLemmas.{screen-emptied}

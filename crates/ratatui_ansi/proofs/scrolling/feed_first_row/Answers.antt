@@ -1,6 +1,6 @@
 use Rattle.std.proofs.Common.{refl, sym, arith}
 use Rattle.std.proofs.lemmas.Result.{on_ok_weaker}
-use Rattle.ratatui_ansi.specs.Terminal.{Terminal, moved, rested, line_fed, with_region, without_region, scrolled_down, fed_and_lowered}
+use Rattle.ratatui_ansi.specs.Emulator.{Emulator, moved, rested, line_fed, with_region, without_region, scrolled_down, fed_and_lowered}
 use Rattle.ratatui_ansi.proofs.ReadLemmas.{line_fed-rested}
 use Rattle.ratatui_ansi.proofs.RegionLemmas.{Does-then, rounds-more, rounds-all, fed_and_lowered-rested}
 use Rattle.ratatui_ansi.proofs.scrolling.feed_first_row.Goals as goal
@@ -15,6 +15,6 @@ loop-preserved c =
 
 pub returns : goal.returns
 returns c =
-    let f = λ (t : Terminal). moved 0 1 (with_region 0 2 t) in
+    let f = λ (t : Emulator). moved 0 1 (with_region 0 2 t) in
     let all = rounds-all _ _ c.loop.counter c.args.n f (omega arith) c.loop.invariant in
     on_ok_weaker c.reset_region.result (λ does. Does-then _ _ _ (λ t. fed_and_lowered c.args.n (f t)) without_region all does (λ t. fed_and_lowered-rested c.args.n (f (rested t)) refl)) c.reset_region.ensures

@@ -1,5 +1,5 @@
 use Rattle.std.proofs.Common.{string_bytes}
-use Rattle.ratatui_ansi.specs.Terminal.{moved, with_region, fed_and_lowered}
+use Rattle.ratatui_ansi.specs.Emulator.{moved, with_region, fed_and_lowered}
 use Rattle.ratatui_ansi.specs.Sends.{Does}
 use Rattle.ratatui_ansi.proofs.scrolling.feed_first_row.Given as goal
 

@@ -1,6 +1,6 @@
 use Rattle.std.proofs.Common.{◌-◌, refl, sym}
 use Rattle.std.proofs.lemmas.Result.{on_ok_weaker}
-use Rattle.ratatui_ansi.specs.Terminal.{moved, returned, rested, fed, with_region, without_region}
+use Rattle.ratatui_ansi.specs.Emulator.{moved, returned, rested, fed, with_region, without_region}
 use Rattle.ratatui_ansi.proofs.ReadLemmas.{fed-rested}
 use Rattle.ratatui_ansi.proofs.RegionLemmas.{Does-then}
 use Rattle.ratatui_ansi.proofs.scrolling.feed_rows.Goals as goal

@@ -1,6 +1,6 @@
 use Rattle.std.proofs.Common.{◌-◌, refl}
 use Rattle.std.proofs.lemmas.Result.{on_ok_weaker}
-use Rattle.ratatui_ansi.specs.Terminal.{moved, returned, fed}
+use Rattle.ratatui_ansi.specs.Emulator.{moved, returned, fed}
 use Rattle.ratatui_ansi.proofs.RegionLemmas.{Does-then}
 use Rattle.ratatui_ansi.proofs.scrolling.feed_screen.Goals as goal
 

@@ -1,6 +1,6 @@
 use Rattle.std.proofs.Common.{refl}
 use Rattle.std.proofs.lemmas.Result.{on_ok_weaker}
-use Rattle.ratatui_ansi.specs.Terminal.{with_region, without_region, scrolled_down}
+use Rattle.ratatui_ansi.specs.Emulator.{with_region, without_region, scrolled_down}
 use Rattle.ratatui_ansi.proofs.RegionLemmas.{Does-then}
 use Rattle.ratatui_ansi.proofs.scrolling.lower_rows.Goals as goal
 

@@ -1,6 +1,6 @@
 use Rattle.std.proofs.Common.{refl}
 use Rattle.std.proofs.lemmas.Result.{on_ok_weaker}
-use Rattle.ratatui_ansi.specs.Terminal.{moved, with_region, without_region, lines_deleted}
+use Rattle.ratatui_ansi.specs.Emulator.{moved, with_region, without_region, lines_deleted}
 use Rattle.ratatui_ansi.proofs.RegionLemmas.{Does-then}
 use Rattle.ratatui_ansi.proofs.scrolling.raise_rows.Goals as goal
 

@@ -1,6 +1,6 @@
 use Rattle.std.proofs.Common.{◌-◌, sym, min, arith}
 use Rattle.std.proofs.lemmas.Result.{on_ok_weaker}
-use Rattle.ratatui_ansi.specs.Terminal.{moved, returned, fed, with_region, without_region, fed_and_lowered}
+use Rattle.ratatui_ansi.specs.Emulator.{moved, returned, fed, with_region, without_region, fed_and_lowered}
 use Rattle.ratatui_ansi.proofs.ScrollLemmas.{turns-from}
 use Rattle.ratatui_ansi.proofs.RegionLemmas.{screen-up, one-up, first-up}
 use Rattle.ratatui_ansi.proofs.scrolling.scroll_first_rows.Goals as goal

@@ -1,6 +1,6 @@
 use Rattle.std.proofs.Common.{sym, inl, inr, ◌≤◌, min, arith, ◌<◌, ◌≡◌}
 use Rattle.std.proofs.lemmas.Result.{on_ok_weaker}
-use Rattle.ratatui_ansi.specs.Terminal.{moved, erased, with_region, without_region, lines_deleted}
+use Rattle.ratatui_ansi.specs.Emulator.{moved, erased, with_region, without_region, lines_deleted}
 use Rattle.ratatui_ansi.specs.declared.part.Part.TheVariants.{Line}
 use Rattle.ratatui_ansi.proofs.ScrollLemmas.{turns-from}
 use Rattle.ratatui_ansi.proofs.RegionLemmas.{Turns-none, still-up, row-up, rows-up}

@@ -1,6 +1,6 @@
 use Rattle.std.proofs.Common.{◌-◌, refl}
 use Rattle.std.proofs.lemmas.Result.{on_ok_weaker}
-use Rattle.ratatui_ansi.specs.Terminal.{rested, moved, erased}
+use Rattle.ratatui_ansi.specs.Emulator.{rested, moved, erased}
 use Rattle.ratatui_ansi.specs.declared.part.Part.TheVariants.{Before}
 use Rattle.ratatui_ansi.proofs.ReadLemmas.{Sends-then}
 use Rattle.ratatui_ansi.proofs.sequences.erase_all.Goals as goal

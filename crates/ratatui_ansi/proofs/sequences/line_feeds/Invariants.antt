@@ -1,5 +1,5 @@
 use Rattle.std.proofs.Common.{string_bytes}
-use Rattle.ratatui_ansi.specs.Terminal.{fed, returned}
+use Rattle.ratatui_ansi.specs.Emulator.{fed, returned}
 use Rattle.ratatui_ansi.specs.Sends.{Does}
 use Rattle.ratatui_ansi.proofs.sequences.line_feeds.Given as goal
 

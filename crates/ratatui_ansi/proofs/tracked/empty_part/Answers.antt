@@ -1,5 +1,5 @@
 use Rattle.std.proofs.Common.{refl}
-use Rattle.ratatui_ansi.specs.Terminal.{moved, erased}
+use Rattle.ratatui_ansi.specs.Emulator.{moved, erased}
 use Rattle.ratatui_ansi.proofs.RegionLemmas.{Does-then}
 use Rattle.ratatui_ansi.proofs.TrackLemmas.{call-does, part-kept}
 use Rattle.ratatui_ansi.proofs.tracked.empty_part.Goals as goal

@@ -1,5 +1,5 @@
 use Rattle.std.proofs.Common.{arith}
-use Rattle.ratatui_ansi.specs.Terminal.{emptied}
+use Rattle.ratatui_ansi.specs.Emulator.{emptied}
 use Rattle.ratatui_ansi.proofs.TrackLemmas.{call-from, emptied-kept}
 use Rattle.ratatui_ansi.proofs.tracked.empty_screen.Goals as goal
 

@@ -20,7 +20,7 @@ pub data Phase : Type 0 where
 
 -- a terminal: `text` is what it has read since the last sequence; a cursor in column `width` is behind the last one; line feeds scroll the
 -- rows from `top` up to `bottom`, its scroll region. Once it isn't sure, real terminals differ
-pub record Terminal : Type 0 where
+pub record Emulator : Type 0 where
   pub width : ℕ
   pub height : ℕ
   pub phase : Phase
@@ -36,11 +36,11 @@ pub record Terminal : Type 0 where
   pub sure : Bool
 
 -- sure only if this holds
-abbrev pub if_so : Bool → Terminal → Terminal
+abbrev pub if_so : Bool → Emulator → Emulator
 if_so holds t = record t { sure = t.sure && holds }
 
 -- real terminals differ from here on
-abbrev pub unsure : Terminal → Terminal
+abbrev pub unsure : Emulator → Emulator
 unsure t = record t { sure = false }
 
 -- ---- text
@@ -79,7 +79,7 @@ abbrev pub run : ℕ → ℕ → ℕ → Area
 run x y n a b = nat_eq b y && nat_le x a && nat_lt a (x + n)
 
 -- a symbol of n columns printed at the cursor
-abbrev pub prints : List ℕ → ℕ → Terminal → Terminal
+abbrev pub prints : List ℕ → ℕ → Emulator → Emulator
 prints symbol n t = record t {
   columns = overwritten (run t.x t.y n) (λ a b. Shows (inked symbol t.pen) (a - t.x) n) t.columns;
   x = t.x + n;
@@ -87,12 +87,12 @@ prints symbol n t = record t {
 }
 
 -- characters, each printed by itself
-abbrev pub types : List ℕ → Terminal → Terminal
+abbrev pub types : List ℕ → Emulator → Emulator
 types [] t = t
 types (c ∷ cs) t = types cs (prints (encode_utf8 c) 1 t)
 
 -- a text printed: plain characters one by one, any other text as one symbol
-abbrev pub printed : List ℕ → Terminal → Terminal
+abbrev pub printed : List ℕ → Emulator → Emulator
 printed [] t = t
 printed (b ∷ bs) t =
     let text = b ∷ bs in
@@ -100,29 +100,29 @@ printed (b ∷ bs) t =
     else if_so (is_symbol text) (prints text (text_width text) t)
 
 -- the text that was read stands on the screen
-abbrev pub standing : Terminal → Terminal
+abbrev pub standing : Emulator → Emulator
 standing t = record (printed t.text t) { text = [] }
 
 -- the same, and text is awaited
-abbrev pub rested : Terminal → Terminal
+abbrev pub rested : Emulator → Emulator
 rested t = record (standing t) { phase = Ground }
 
 -- ---- the cursor and the pen
 
 -- CUP (cursor position): to a column and a row, kept on the screen
-abbrev pub moved : ℕ → ℕ → Terminal → Terminal
+abbrev pub moved : ℕ → ℕ → Emulator → Emulator
 moved x y t = record t { x = min x (t.width - 1); y = min y (t.height - 1) }
 
 -- CR (carriage return)
-abbrev pub returned : Terminal → Terminal
+abbrev pub returned : Emulator → Emulator
 returned t = record t { x = 0 }
 
 -- DECTCEM (text cursor enable mode)
-abbrev pub with_visible : Bool → Terminal → Terminal
+abbrev pub with_visible : Bool → Emulator → Emulator
 with_visible visible t = record t { visible = visible }
 
 -- SGR (select graphic rendition)
-abbrev pub with_pen : Pen → Terminal → Terminal
+abbrev pub with_pen : Pen → Emulator → Emulator
 with_pen pen t = record t { pen = pen }
 
 -- ---- erasing: terminals differ where the pen isn't their own, or the cursor is behind the last column
@@ -140,7 +140,7 @@ keeps_history After x y = nat_lt 0 (x + y)
 keeps_history _ x y = true
 
 -- ED (erase in display) and EL (erase in line)
-abbrev pub erased : Part → Terminal → Terminal
+abbrev pub erased : Part → Emulator → Emulator
 erased part t = record t {
   columns = overwritten (part_at part t.x t.y) (λ a b. blank_column) t.columns;
   sure = t.sure && (is_own t.pen && nat_lt t.x t.width && keeps_history part t.x t.y);
@@ -157,14 +157,14 @@ emptied h columns a b = if nat_lt b h then blank_column else columns a b
 -- ---- scrolling: terminals differ where the pen isn't their own
 
 -- a row, and whether all of it is known
-abbrev pub row_of : Terminal → ℕ → List Look
-row_of t b = map (λ a. look_in (t.columns a b)) (range_with_len 0 t.width)
+abbrev pub row_shown : Emulator → ℕ → List Look
+row_shown t b = map (λ a. look_in (t.columns a b)) (range_with_len 0 t.width)
 
-abbrev pub is_row_known : Terminal → ℕ → Bool
+abbrev pub is_row_known : Emulator → ℕ → Bool
 is_row_known t b = list_all (λ a. is_known (t.columns a b)) (range_with_len 0 t.width)
 
 -- DECSTBM (set top and bottom margins): the scroll region, of at least two rows, and the cursor in the corner
-abbrev pub with_region : ℕ → ℕ → Terminal → Terminal
+abbrev pub with_region : ℕ → ℕ → Emulator → Emulator
 with_region top bottom t = record t {
   top = top;
   bottom = bottom;
@@ -174,7 +174,7 @@ with_region top bottom t = record t {
 }
 
 -- no margins: the whole screen is the region
-abbrev pub without_region : Terminal → Terminal
+abbrev pub without_region : Emulator → Emulator
 without_region t = record t { top = 0; bottom = t.height; x = 0; y = 0 }
 
 -- the rows from `from` up to `to` moved up by n, blank ones come in below
@@ -188,48 +188,48 @@ lowered from to n columns a b =
     if nat_le from b && nat_lt b to then (if nat_le (from + n) b then columns a (b - n) else blank_column) else columns a b
 
 -- the rows of the region one up; the first row goes to the history. Terminals differ on that where the region begins below the first row
-abbrev pub scrolled : Terminal → Terminal
+abbrev pub scrolled : Emulator → Emulator
 scrolled t = record t {
-  history = t.history ++ row_of t 0 ∷ [];
+  history = t.history ++ row_shown t 0 ∷ [];
   columns = raised t.top t.bottom 1 t.columns;
   sure = t.sure && (is_own t.pen && nat_eq t.top 0 && is_row_known t 0);
 }
 
 -- LF (line feed): the cursor one row down; from the last row of the region the region scrolls in place of it
-abbrev pub line_fed : Terminal → Terminal
+abbrev pub line_fed : Emulator → Emulator
 line_fed t =
     if nat_eq (t.y + 1) t.bottom then scrolled (if_so (nat_lt t.x t.width) t)
     else record t { y = min (t.y + 1) (t.height - 1); sure = t.sure && nat_lt t.x t.width }
 
 -- n line feeds
-abbrev pub fed : ℕ → Terminal → Terminal
+abbrev pub fed : ℕ → Emulator → Emulator
 fed zero t = t
 fed (suc n) t = fed n (line_fed t)
 
 -- DL (delete line): n rows from the cursor's on go, those below in the region move up. Terminals differ on the history in the first row, and
 -- on where the cursor ends in another column than the first
-abbrev pub lines_deleted : ℕ → Terminal → Terminal
+abbrev pub lines_deleted : ℕ → Emulator → Emulator
 lines_deleted n t = record t {
   columns = raised t.y t.bottom n t.columns;
   sure = t.sure && (is_own t.pen && nat_lt 0 t.y && nat_le t.top t.y && nat_lt t.y t.bottom && nat_eq t.x 0);
 }
 
 -- SD (scroll down): the rows of the region n down
-abbrev pub scrolled_down : ℕ → Terminal → Terminal
+abbrev pub scrolled_down : ℕ → Emulator → Emulator
 scrolled_down n t = record t {
   columns = lowered t.top t.bottom n t.columns;
   sure = t.sure && is_own t.pen;
 }
 
 -- n line feeds, each with a scroll down by one behind it
-abbrev pub fed_and_lowered : ℕ → Terminal → Terminal
+abbrev pub fed_and_lowered : ℕ → Emulator → Emulator
 fed_and_lowered zero t = t
 fed_and_lowered (suc n) t = fed_and_lowered n (scrolled_down 1 (line_fed t))
 
 -- ---- the beginning
 
 -- a blank terminal of this size
-abbrev pub fresh : ℕ → ℕ → Terminal
+abbrev pub fresh : ℕ → ℕ → Emulator
 fresh w h = record {
   width = w;
   height = h;
