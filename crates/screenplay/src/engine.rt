@@ -148,7 +148,8 @@ fn perform_bytes<S: Recorder>(alloc: Global, bytes: &[u8], recorder: &mut S) -> 
 }
 
 /// Reads a script to its end and plays it; the recorder is given what each of its shows shows, in order. A fault names the first
-/// bad line, the step that can't be played, or what else failed; what was shown before it is recorded.
+/// bad line, the step that can't be played, or what else failed; nothing is said then of what the recorder
+/// was given.
 pub fn perform<R: Read, S: Recorder>(
     alloc: Global,
     reader: &mut R,

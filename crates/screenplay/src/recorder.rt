@@ -54,7 +54,7 @@ impl PrintedText {
     }
 }
 
-/// What was printed stays where memory is refused in the middle of a scene.
+/// Where memory is refused, a part of the scene may have been added.
 impl Recorder for PrintedText {
     ghost has_recorded = { λ text scenes. text ≡ printed_list scenes };
 

@@ -1,4 +1,4 @@
--- Frames of one size, and the terminal that shows them.
+-- Frames that are drawn one over the other, and the terminal that shows them.
 use Rattle.std.specs.Prelude.{◌≡◌, List, [], ◌∷◌, ◌++◌, Option, None, Some}
 use Rattle.rtui_buffer.specs.Sheet.{Sheet, IsSameSheet}
 use Rattle.rtui_buffer.specs.Frame.{IsSettledSheet, ShowsSheet}
@@ -20,7 +20,7 @@ pub record ShowsFrame (backend : BackendState Kept) (frame : Sheet) : Type 0 whe
   pub height : (shown_by told_of backend).height ≡ frame.area.height
   pub shows : IsSettledSheet frame → ShowsSheet frame (shown_by told_of backend).grid
 
--- the last frame of a reel is this one, and so is what its terminal shows
+-- the last frame of a reel is this one, and its terminal shows it
 abbrev pub IsShownBy : Sheet → Option ReelData → Type 0
 IsShownBy frame None = ⊥
 IsShownBy frame (Some reel) = IsSameSheet frame reel.shown × ShowsFrame reel.backend reel.shown

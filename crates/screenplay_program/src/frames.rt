@@ -32,7 +32,7 @@ fn draw_differences<B: Backend>(
     backend.draw(older.diff_iter(frame))
 }
 
-// Frames of one size: what a terminal was told, and the last frame.
+// Frames that are drawn one over the other: what a terminal was told, and the last frame.
 #[derive(Drop)]
 struct Reel {
     backend: AnsiBackend<Kept>,
@@ -124,7 +124,7 @@ impl Frames {
         self.refused
     }
 
-    /// Writes the frames, those of each size of the screen on a terminal made blank, and leaves the cursor below the last.
+    /// Writes the frames. One that begins anew finds a terminal made blank; behind the last one the cursor stands below it.
     pub fn write_to<W: Write>(&self, writer: &mut W) -> io::Result<()> {
         for reel in &self.ended {
             reel.write_to(writer)?;
