@@ -5,7 +5,7 @@ use Rattle.rtui_diff.specs.Settled.{IsSettled}
 use Rattle.rtui_diff.specs.Shows.{Shows}
 use Rattle.rtui_buffer.specs.Sheet.{Sheet, IsEmptied, IsSameSheet}
 use Rattle.rtui_buffer.specs.Frame.{IsSettledSheet, ShowsSheet}
-use Rattle.rtui_buffer.proofs.EmptyLemmas.{IsSettledSheet-empty, ShowsSheet-empty}
+use Rattle.rtui_buffer.proofs.EmptyLemmas.{ShowsSheet-empty}
 use Rattle.rtui_backend.specs.Screen.{IsBlankScreen}
 use Rattle.rtui_terminal.specs.Writing.{WritesDifferences}
 use Rattle.ratatui_ansi.specs.Backend.{BackendState, shown_by}
@@ -40,7 +40,3 @@ shows-next b b' former frame copy before settled same writes is =
           subst (λ r. Shows r.x r.y r.width r.height copy.cells (shown_by told_of b').grid) (sym is.area)
           (subst (λ cells. Shows frame.area.x frame.area.y frame.area.width frame.area.height cells (shown_by told_of b').grid) (sym is.cells) on);
     }
-
--- which is settled
-pub settled-empty : (area : Rect) (frame : Sheet) → IsEmptied area frame → IsSettledSheet frame
-settled-empty area frame emptied = IsSettledSheet-empty area frame emptied
