@@ -1,5 +1,5 @@
 -- What a link was told, and the terminal that has read it.
-use Rattle.std.proofs.Common.{◌≡◌, ℕ, ◌*◌, Bool, false, length, ◌-◌, ◌<◌, min, arith, List, [], ◌++◌, refl, sym, ap, ◌∙◌, subst}
+use Rattle.std.proofs.Common.{◌≡◌, ℕ, ◌+◌, ◌*◌, ◌^◌, Bool, true, false, length, ◌-◌, ◌<◌, min, arith, List, [], ◌++◌, refl, sym, ap, ◌∙◌, subst}
 use Rattle.rtui_geometry.specs.declared.position.Position.{Position}
 use Rattle.rtui_geometry.specs.declared.size.Size.{Size}
 use Rattle.rtui_backend.specs.Screen.{Screen}
@@ -38,9 +38,9 @@ related-on {size} told {out} {new} {related = related} written sends e awaits =
     (sends.shows written (reader size told) awaits)
 
 -- a backend is in order once a call took over what its bytes leave
-pub in-order-on : {size : Size} (told : List ℕ) {out new : List ℕ} {place place_after : Position} {flags flags_after draft : List Bool} {broken : Bool}
-    {related : Screen → Screen → Type 0} → IsInOrder size place flags draft broken told → broken ≡ false
-    → SendsCall size.width size.height [] out place flags place_after flags_after related → new ≡ told ++ out → IsInOrder size place_after flags_after draft false new
+pub in-order-on : {size : Size} (told : List ℕ) {out new : List ℕ} {place place_after : Position} {flags flags_after draft : List Bool} {broken : Bool} {failures : ℕ}
+    {related : Screen → Screen → Type 0} → IsInOrder size place flags draft broken failures told → broken ≡ false
+    → SendsCall size.width size.height [] out place flags place_after flags_after related → new ≡ told ++ out → IsInOrder size place_after flags_after draft false failures new
 in-order-on told kept whole sends e =
     let after = awaiting-on told sends e (kept.awaiting whole) in
     record {
@@ -48,17 +48,19 @@ in-order-on told kept whole sends e =
       rows = kept.rows;
       behind_count = after.behind.count;
       draft_count = kept.draft_count;
+      unfailed = λ _. refl;
       awaiting = λ _. after;
     }
 
 -- and so it is where the link was told nothing more
-pub in-order-still : {size : Size} {place : Position} {flags draft : List Bool} {broken : Bool} {told new : List ℕ} → IsInOrder size place flags draft broken told → broken ≡ false → new ≡ told
-    → IsInOrder size place flags draft false new
+pub in-order-still : {size : Size} {place : Position} {flags draft : List Bool} {broken : Bool} {failures : ℕ} {told new : List ℕ} → IsInOrder size place flags draft broken failures told → broken ≡ false → new ≡ told
+    → IsInOrder size place flags draft false failures new
 in-order-still {size} {place} {flags} kept whole same = record {
   columns = kept.columns;
   rows = kept.rows;
   behind_count = kept.behind_count;
   draft_count = kept.draft_count;
+  unfailed = λ _. refl;
   awaiting = λ _. subst (λ bytes. IsAwaiting size.width size.height place flags (reader size bytes)) (sym same) (kept.awaiting whole);
 }
 
@@ -81,9 +83,9 @@ count-kept new e f same count = f ∙ sym e ∙ ap length (sym same) ∙ count
 
 -- ---- a draw
 
-pub in-order-drawn : {size : Size} (told : List ℕ) {out new : List ℕ} {place place_after : Position} {written written_after : ℕ} {flags flags_after draft : List Bool} {broken : Bool}
-    {us : List Update} → IsInOrder size place flags draft broken told → broken ≡ false
-    → SendsDraw size.width size.height [] place written flags us out place_after written_after flags_after → new ≡ told ++ out → IsInOrder size place_after flags_after flags false new
+pub in-order-drawn : {size : Size} (told : List ℕ) {out new : List ℕ} {place place_after : Position} {written written_after : ℕ} {flags flags_after draft : List Bool} {broken : Bool} {failures : ℕ}
+    {us : List Update} → IsInOrder size place flags draft broken failures told → broken ≡ false
+    → SendsDraw size.width size.height [] place written flags us out place_after written_after flags_after → new ≡ told ++ out → IsInOrder size place_after flags_after flags false failures new
 in-order-drawn {size} told {out} {new} {place} {place_after} {flags_after = flags_after} kept whole sends e =
     let after = subst (IsAwaiting size.width size.height place_after flags_after) (sym (read-on size told sends.bytes out new sends.appended e))
     (sends.awaiting (reader size told) (kept.awaiting whole)) in
@@ -92,8 +94,14 @@ in-order-drawn {size} told {out} {new} {place} {place_after} {flags_after = flag
       rows = kept.rows;
       behind_count = after.behind.count;
       draft_count = kept.behind_count;
+      unfailed = λ _. refl;
       awaiting = λ _. after;
     }
+
+-- a draw leaves as many flags as there are columns
+pub drawn-count : {w h : ℕ} {old out : List ℕ} {place place_after : Position} {written written_after : ℕ} {flags flags_after : List Bool} {us : List Update} {t : Emulator}
+    → SendsDraw w h old place written flags us out place_after written_after flags_after → IsAwaiting w h place flags t → length flags_after ≡ w * h
+drawn-count {t = t} sends awaits = (sends.awaiting t awaits).behind.count
 
 pub drawn-on : {size : Size} (told : List ℕ) {out new : List ℕ} {place place_after : Position} {written written_after : ℕ} {flags flags_after : List Bool} {us : List Update}
     → SendsDraw size.width size.height [] place written flags us out place_after written_after flags_after → new ≡ told ++ out
@@ -132,13 +140,14 @@ blank-awaits w h flags some behind =
       placed = ap (λ k. record { x = k; y = 0 }) column;
     }
 
-pub begun : {size : Size} {told : List ℕ} {flags draft : List Bool} → told ≡ [] → 0 < size.width → 0 < size.height → AreBehind size.width size.height flags (λ a b. blank_column)
-    → length draft ≡ size.width * size.height → IsInOrder size (record { x = 0; y = 0 }) flags draft false told
+pub begun : {size : Size} {told : List ℕ} {failures : ℕ} {flags draft : List Bool} → told ≡ [] → 0 < size.width → 0 < size.height → AreBehind size.width size.height flags (λ a b. blank_column)
+    → length draft ≡ size.width * size.height → IsInOrder size (record { x = 0; y = 0 }) flags draft false failures told
 begun {size} {told} {flags} {draft} e wide high behind count = record {
   columns = wide;
   rows = high;
   behind_count = behind.count;
   draft_count = count;
+  unfailed = λ _. refl;
   awaiting = λ _. subst (IsAwaiting size.width size.height (record { x = 0; y = 0 }) flags) (sym (ap (reader size) e ∙ fresh-read size))
       (blank-awaits size.width size.height flags high behind);
 }
@@ -157,6 +166,32 @@ blank-shown size told e =
     })
 
 -- flags that are known under another name
-pub in-order-by : {size : Size} {told : List ℕ} {place : Position} {flags draft : List Bool} {broken : Bool} (same : List Bool) → same ≡ flags
-    → IsInOrder size place flags draft broken told → IsInOrder size place same draft broken told
-in-order-by {size} {told} {place} {flags} {draft} {broken} same e kept = subst (λ xs. IsInOrder size place xs draft broken told) (sym e) kept
+pub in-order-by : {size : Size} {told : List ℕ} {place : Position} {flags draft : List Bool} {broken : Bool} {failures : ℕ} (same : List Bool) → same ≡ flags
+    → IsInOrder size place flags draft broken failures told → IsInOrder size place same draft broken failures told
+in-order-by {size} {told} {place} {flags} {draft} {broken} {failures} same e kept = subst (λ xs. IsInOrder size place xs draft broken failures told) (sym e) kept
+
+-- ---- calls that fail
+
+-- a call that counts as failed
+pub in-order-failed : {size : Size} {told : List ℕ} {place : Position} {flags draft : List Bool} {broken : Bool} {failures after : ℕ} → after ≡ min (failures + 1) (2 ^ 64 - 1)
+    → IsInOrder size place flags draft broken failures told → IsInOrder size place flags draft broken after told
+in-order-failed {failures = failures} count kept = record {
+  columns = kept.columns;
+  rows = kept.rows;
+  behind_count = kept.behind_count;
+  draft_count = kept.draft_count;
+  unfailed = λ none. absurd (omega arith);
+  awaiting = kept.awaiting;
+}
+
+-- a send that failed
+pub in-order-broken : {size : Size} {told new : List ℕ} {place : Position} {flags draft behind spare : List Bool} {broken : Bool} {failures after : ℕ} → after ≡ min (failures + 1) (2 ^ 64 - 1)
+    → length behind ≡ length flags → length spare ≡ length draft → IsInOrder size place flags draft broken failures told → IsInOrder size place behind spare true after new
+in-order-broken {failures = failures} count flags_count draft_count kept = record {
+  columns = kept.columns;
+  rows = kept.rows;
+  behind_count = flags_count ∙ kept.behind_count;
+  draft_count = draft_count ∙ kept.draft_count;
+  unfailed = λ none. absurd (omega arith);
+  awaiting = λ whole. let h : ⊥ = cc in absurd h;
+}

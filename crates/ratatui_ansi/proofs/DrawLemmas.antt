@@ -1,19 +1,21 @@
 -- What a sent symbol leaves on a terminal.
-use Rattle.std.proofs.Common.{◌≡◌, ℕ, ◌+◌, ◌-◌, ◌<◌, ◌&&◌, ◌||◌, not, min, Bool, List, [], ◌∷◌, ◌++◌, ◌==◌, length, IsTrue, IsUtf8, chars, true, false, refl, sym, ap, ap₂, ◌∙◌, arith, append-nil, if◌then◌else◌, subst}
+use Rattle.std.proofs.Common.{◌≡◌, ℕ, ◌+◌, ◌-◌, ◌<◌, ◌&&◌, ◌||◌, not, min, Bool, List, [], ◌∷◌, ◌++◌, ◌==◌, length, IsTrue, IsUtf8, chars, true, false, refl, sym, ap, ap₂, ◌∙◌, arith, append-nil, if◌then◌else◌, subst, nat_lt, unwrap_or, Some, None}
 use lib.Utf8.{encode, encodes}
 use Rattle.std.specs.List.{list_all}
 use Rattle.std.specs.Str.{is_utf8}
 use Rattle.std.proofs.lemmas.Bool.Decides.{nat_tests}
 use Rattle.std.proofs.lemmas.List.Folds.{list_all-append}
-use Rattle.std.proofs.lemmas.Str.{chars-nil, chars-append, encodes-chars, IsUtf8-append, IsUtf8-nil, IsUtf8-from_is_utf8}
+use Rattle.std.proofs.lemmas.Str.{chars-nil, chars-append, encodes-chars, IsUtf8-append, IsUtf8-nil, IsUtf8-from_is_utf8, is_utf8-from_IsUtf8}
+use Rattle.unicode_width.specs.Width.{char_width}
 use Rattle.rtui_cell.specs.Width.{text_width}
 use Rattle.ratatui_ansi.specs.declared.pen.Pen.{Pen}
 use Rattle.ratatui_ansi.specs.declared.drawing.Brush.{Brush}
-use Rattle.ratatui_ansi.specs.Emulator.{Emulator, standing, rested, printed, prints, types, moved, with_pen, is_plain, is_symbol, begins_anew}
+use Rattle.ratatui_ansi.specs.declared.drawing.Printing.TheVariants.{Plain, Whole, Unprinted}
+use Rattle.ratatui_ansi.specs.Emulator.{Emulator, standing, rested, printed, prints, types, moved, with_pen, is_plain, is_shown, has_columns, is_symbol, begins_anew}
 use Rattle.ratatui_ansi.specs.Emulator.Phase.{Ground}
 use Rattle.ratatui_ansi.specs.Sequences.{feed}
 use Rattle.ratatui_ansi.specs.Sends.{Sends, Does, typed}
-use Rattle.ratatui_ansi.specs.Drawing.{is_one_plain, is_printed, columns_of, IsDrawnBy, drawn_at, Changes, Prints}
+use Rattle.ratatui_ansi.specs.Drawing.{only_of, is_one_plain, is_printed, printing_of, columns_of, IsDrawnBy, drawn_at, Changes, Prints}
 use Rattle.ratatui_ansi.specs.Drawing.Changes.{Stays, Sets}
 use Rattle.ratatui_ansi.proofs.ReadLemmas.{Sends-then}
 use Rattle.ratatui_ansi.proofs.RegionLemmas.{Does-then}
@@ -44,6 +46,48 @@ one-char (c ∷ d ∷ cs) e =
     let two : (length (c ∷ d ∷ cs) == 1) ≡ false = grind (arith, nat_tests) in
     let h : ⊥ = cc in
     absurd h
+
+-- ---- how a text is printed
+
+only-is : (cs : List ℕ) (c : ℕ) → only_of cs ≡ Some c → cs ≡ c ∷ []
+only-is [] c e = let h : ⊥ = cc in absurd h
+only-is (d ∷ []) c e = let same : d ≡ c = cc in ap (λ k. k ∷ []) same
+only-is (d ∷ f ∷ cs) c e = let h : ⊥ = cc in absurd h
+
+plain-shown : (c : ℕ) → is_plain c ≡ true → is_shown c ≡ true
+plain-shown c plain = grind (arith, nat_tests)
+
+by-character : (p s u : Bool) → (p ≡ true → s ≡ true)
+    → (if p then Plain else (if s && (p || u) then Whole else Unprinted))
+    ≡ (if (true && (s && true) && (p || u)) && ((true && (p && true)) || not (p && true)) then (if true && (p && true) then Plain else Whole) else Unprinted)
+by-character true s u shown = rw (shown refl) refl
+by-character false true true shown = refl
+by-character false true false shown = refl
+by-character false false true shown = refl
+by-character false false false shown = refl
+
+-- a text of one character
+pub printing-one : (text : List ℕ) (c : ℕ) → IsUtf8 text → only_of (chars text) ≡ Some c
+    → (if is_plain c then Plain else (if is_shown c && has_columns c then Whole else Unprinted)) ≡ printing_of text
+printing-one text c utf8 only =
+    let one : chars text ≡ c ∷ [] = only-is (chars text) c only in
+    rw (one, is_utf8-from_IsUtf8 text utf8) (by-character (is_plain c) (is_shown c) (nat_lt 0 (unwrap_or (char_width false c) 0)) (plain-shown c))
+
+none-single : (cs : List ℕ) → only_of cs ≡ None → is_one_plain cs ≡ false
+none-single [] e = refl
+none-single (c ∷ []) e = let h : ⊥ = cc in absurd h
+none-single (c ∷ d ∷ cs) e =
+    let two : (length (c ∷ d ∷ cs) == 1) ≡ false = grind (arith, nat_tests) in
+    rw two refl
+
+by-symbol : (s p : Bool) → (if s && not p then Whole else Unprinted) ≡ (if s && (false || not p) then (if false then Plain else Whole) else Unprinted)
+by-symbol true true = refl
+by-symbol true false = refl
+by-symbol false p = refl
+
+-- a text of several, or of none
+pub printing-several : (text : List ℕ) → only_of (chars text) ≡ None → (if is_symbol text && not (list_all is_plain (chars text)) then Whole else Unprinted) ≡ printing_of text
+printing-several text only = rw (none-single (chars text) only) (by-symbol (is_symbol text) (list_all is_plain (chars text)))
 
 -- a symbol is text in UTF-8
 symbol-utf8 : (symbol : List ℕ) → is_symbol symbol ≡ true → IsUtf8 symbol

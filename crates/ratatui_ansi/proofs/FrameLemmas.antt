@@ -1,5 +1,6 @@
 -- What the bytes of a cell do to a terminal within a draw.
-use Rattle.std.proofs.Common.{◌≡◌, ℕ, ◌+◌, ◌-◌, ◌*◌, ◌^◌, ◌<◌, ◌≤◌, ◌==◌, ◌&&◌, min, nat_lt, nat_le, nat_eq, if◌then◌else◌, Bool, List, [], ◌∷◌, ◌++◌, length, IsTrue, chars, true, false, zero, suc, slice_index_or, IsUtf8, rules, refl, sym, ap, ap₂, ◌∙◌, arith, subst, inl, inr, append_assoc, append-nil}
+use Rattle.std.proofs.Common.{◌≡◌, ℕ, ◌+◌, ◌-◌, ◌*◌, ◌^◌, ◌<◌, ◌≤◌, ◌==◌, ◌&&◌, min, nat_lt, nat_le, nat_eq, if◌then◌else◌, Bool, List, [], ◌∷◌, ◌++◌, length, IsTrue, chars, true, false, zero, suc, slice_index_or, IsUtf8, rules, refl, sym, ap, ap₂, ◌∙◌, arith, subst, inl, inr, append_assoc, append-nil, ◌↔◌, ◌⊎◌, Some, None}
+use Rattle.std.specs.Bool.{then_some}
 use lib.Utf8.{encode}
 use Rattle.std.proofs.Math.Nat.{mul-le-mul_right}
 use Rattle.std.proofs.lemmas.Bool.{cases_lt}
@@ -10,23 +11,27 @@ use Rattle.rtui_geometry.specs.declared.position.Position.{Position}
 use Rattle.rtui_cell.specs.Symbol.{blank, symbol_text}
 use Rattle.rtui_cell.specs.Look.{Look, look_of, empty_look}
 use Rattle.rtui_cell.specs.Cell.{width_of}
+use Rattle.rtui_cell.specs.Width.{text_width}
 use Rattle.rtui_cell.specs.Grid.{Update, put}
 use Rattle.rtui_cell.specs.declared.cell.Cell.{Cell}
+use Rattle.rtui_cell.specs.declared.cell.CellDiffOption.TheVariants as DiffOption
 use Rattle.rtui_backend.proofs.DrawLemmas.{Draws-none, Draws-push}
 use Rattle.rtui_backend.specs.Screen.{Draws}
 use Rattle.ratatui_ansi.specs.declared.pen.Pen.{Pen}
 use Rattle.ratatui_ansi.specs.declared.drawing.Brush.{Brush}
+use Rattle.ratatui_ansi.specs.declared.drawing.Printing.TheVariants.{Plain, Whole, Unprinted}
 use Rattle.ratatui_ansi.specs.declared.frame.Drawing.{Drawing}
+use Rattle.ratatui_ansi.specs.declared.frame.Glyph.{Glyph}
 use Rattle.ratatui_ansi.specs.Columns.{Columns, look_in, is_behind}
 use Rattle.ratatui_ansi.specs.Flags.{AreBehind, flag}
 use Rattle.ratatui_ansi.specs.Pen.{own_pen, inked, pen_of}
 use Rattle.ratatui_ansi.specs.Emulator.{Emulator, rested, run, with_pen, has_columns}
 use Rattle.ratatui_ansi.specs.Sequences.{feed}
 use Rattle.ratatui_ansi.specs.Screens.{screen_shown, IsSized, IsWhole, IsBlankBeyond, IsReady, put_columns}
-use Rattle.ratatui_ansi.specs.Drawing.{is_printed, columns_of, printed_at, blanked, IsDrawnBy, Changes, Paints, Prints}
+use Rattle.ratatui_ansi.specs.Drawing.{is_one_plain, is_printed, printing_of, columns_of, printed_at, blanked, IsDrawnBy, Changes, Paints, Prints}
 use Rattle.ratatui_ansi.specs.Drawing.Changes.{Stays, Sets}
 use Rattle.ratatui_ansi.specs.Calls.{IsAwaiting}
-use Rattle.ratatui_ansi.specs.Frame.{IsTail, laid, is_fit, IsVacant, IsDrawing, SendsUpdates, SendsDraw}
+use Rattle.ratatui_ansi.specs.Frame.{IsTail, laid, is_fit, printed_columns, glyph_in, IsVacant, IsDrawing, SendsUpdates, SendsDraw}
 use Rattle.ratatui_ansi.proofs.ReadLemmas.{feed-append}
 use Rattle.ratatui_ansi.proofs.ScrollLemmas.{whole_along}
 use Rattle.ratatui_ansi.proofs.TextLemmas.{and-both, blank-chars, blank-one}
@@ -44,6 +49,9 @@ blank-columns = refl
 
 pub blank-printed : is_printed blank ≡ true
 blank-printed = rw (blank-chars, is_utf8-from_IsUtf8 blank blank-utf8, blank-columns) refl
+
+pub blank-single : is_one_plain (chars blank) ≡ true
+blank-single = rw blank-chars refl
 
 -- all but the columns, the cursor, the pen and the doubt stays
 abbrev pub OnlyPrinted : Emulator → Emulator → Type 0
@@ -289,6 +297,101 @@ fit-parts room cell fit =
     let some = two.1 in
     let inside = one.1 in
     record { is_text = three.0; columns = grind (arith, nat_tests); some = grind (arith, nat_tests); inside = grind (arith, nat_tests) }
+
+-- by how its symbol is printed
+by-plain : (p o : Bool) → (if p then (if o then Plain else Whole) else Unprinted) ≡ Plain → (p ≡ true) × (o ≡ true)
+by-plain true true e = (refl, refl)
+by-plain true false e = let h : ⊥ = cc in absurd h
+by-plain false o e = let h : ⊥ = cc in absurd h
+
+by-whole : (p o : Bool) → (if p then (if o then Plain else Whole) else Unprinted) ≡ Whole → (p ≡ true) × (o ≡ false)
+by-whole true true e = let h : ⊥ = cc in absurd h
+by-whole true false e = (refl, refl)
+by-whole false o e = let h : ⊥ = cc in absurd h
+
+by-none : (p o : Bool) → (if p then (if o then Plain else Whole) else Unprinted) ≡ Unprinted → p ≡ false
+by-none true true e = let h : ⊥ = cc in absurd h
+by-none true false e = let h : ⊥ = cc in absurd h
+by-none false o e = refl
+
+pub plain-columns : (text : List ℕ) → printing_of text ≡ Plain → 1 ≡ printed_columns text
+plain-columns text e =
+    let is = by-plain (is_printed text) (is_one_plain (chars text)) e in
+    rw (is.0, is.1) refl
+
+pub whole-columns : (text : List ℕ) → printing_of text ≡ Whole → text_width text ≡ printed_columns text
+whole-columns text e =
+    let is = by-whole (is_printed text) (is_one_plain (chars text)) e in
+    rw (is.0, is.1) refl
+
+pub no-columns : (text : List ℕ) → printing_of text ≡ Unprinted → 0 ≡ printed_columns text
+no-columns text e = rw (by-none (is_printed text) (is_one_plain (chars text)) e) refl
+
+-- without a forced width a cell takes the columns of its text
+pub own-width : (c : Cell) → (c.diff_option ≡ DiffOption.None) ⊎ (c.diff_option ≡ DiffOption.Skip) ⊎ (c.diff_option ≡ DiffOption.AlwaysUpdate) → width_of c ≡ text_width (symbol_text c.symbol)
+unfolding width_of
+own-width c (inl e) = rw e refl
+own-width c (inr (inl e)) = rw e refl
+own-width c (inr (inr e)) = rw e refl
+
+fit-test : (p : Bool) (n w room : ℕ) → (((if p then n else 0) == w) && nat_lt 0 w && nat_le w room) ≡ (p && (n == w) && nat_lt 0 w && nat_le w room)
+fit-test true n w room = refl
+fit-test false n zero room = refl
+fit-test false n (suc w) room = let none : (0 == suc w) ≡ false = grind (arith, nat_tests) in rw none refl
+
+-- a cell that fits is plain just where its symbol is
+fit-single : (room : ℕ) (c : Cell) (p : Bool) → is_fit room c ≡ true → IsTrue p ↔ (printing_of (symbol_text c.symbol) ≡ Plain) → p ≡ is_one_plain (chars (symbol_text c.symbol))
+fit-single room c p fit plain =
+    let one = and-both _ (nat_le (width_of c) room) fit in
+    let two = and-both _ (nat_lt 0 (width_of c)) one.0 in
+    let three = and-both (is_printed (symbol_text c.symbol)) (columns_of (symbol_text c.symbol) == width_of c) two.0 in
+    elim (is_one_plain (chars (symbol_text c.symbol))) as (λ q. is_one_plain (chars (symbol_text c.symbol)) ≡ q → p ≡ q) [
+      | true ↦ λ e. true-of p (plain.1 (rw (three.0, e) refl))
+      | false ↦ λ e. elim p as (λ q. p ≡ q → q ≡ false) [
+        | true ↦ λ f.
+            let is = by-plain (is_printed (symbol_text c.symbol)) (is_one_plain (chars (symbol_text c.symbol))) (plain.0 (rw f refl)) in
+            let h : ⊥ = cc in
+            absurd h
+        | false ↦ λ f. refl
+      ] refl
+    ] refl
+
+then-some : (b : Bool) (g d : Glyph) → (b ≡ true → g ≡ d) → then_some b g ≡ (if b then Some d else None)
+then-some true g d same = ap (λ k. Some k) (same refl)
+then-some false g d same = refl
+
+pub glyph-found : (room : ℕ) (c : Cell) (p : Bool) → IsTrue p ↔ (printing_of (symbol_text c.symbol) ≡ Plain)
+    → then_some ((printed_columns (symbol_text c.symbol) == width_of c) && nat_lt 0 (width_of c) && nat_le (width_of c) room) (record { columns = width_of c; is_plain = p }) ≡ glyph_in room c
+glyph-found room c p plain =
+    rw (fit-test (is_printed (symbol_text c.symbol)) (columns_of (symbol_text c.symbol)) (width_of c) room)
+    (then-some (is_fit room c) _ _ (λ fit. ap (λ k. record { columns = width_of c; is_plain = k }) (fit-single room c p fit plain)))
+
+-- what a cell has that is printed so
+pub record IsGlyph (room : ℕ) (c : Cell) (g : Glyph) : Type 0 where
+  pub fits : Fits room c
+  pub columns : g.columns ≡ width_of c
+  pub single : g.is_plain ≡ is_one_plain (chars (symbol_text c.symbol))
+
+glyph-by : (room : ℕ) (c : Cell) (g : Glyph) (b : Bool) → is_fit room c ≡ b
+    → (if b then Some (record { columns = width_of c; is_plain = is_one_plain (chars (symbol_text c.symbol)) }) else None) ≡ Some g → IsGlyph room c g
+glyph-by room c g true fit found =
+    let same : record { columns = width_of c; is_plain = is_one_plain (chars (symbol_text c.symbol)) } ≡ g = cc in
+    record {
+      fits = fit-parts room c (rw fit refl);
+      columns = ap (λ (k : Glyph). k.columns) (sym same);
+      single = ap (λ (k : Glyph). k.is_plain) (sym same);
+    }
+glyph-by room c g false fit found = let h : ⊥ = cc in absurd h
+
+pub glyph-parts : (room : ℕ) (c : Cell) (g : Glyph) → glyph_in room c ≡ Some g → IsGlyph room c g
+glyph-parts room c g found = glyph-by room c g (is_fit room c) refl found
+
+none-by : {A : Type 0} (b : Bool) (g : A) → (if b then Some g else None) ≡ None → b ≡ false
+none-by true g e = let h : ⊥ = cc in absurd h
+none-by false g e = refl
+
+pub glyph-none : (room : ℕ) (c : Cell) → glyph_in room c ≡ None → is_fit room c ≡ false
+glyph-none room c none = none-by (is_fit room c) _ none
 
 cursor-at : (end y w ux uy uw : ℕ) → ux ≡ end → uy ≡ y → uw ≡ w → let at : Position = record { x = min ux (uw - 1); y = uy } in let goal : Position = record { x = min end (w - 1); y = y } in at ≡ goal
 cursor-at end y w ux uy uw ex ey ew = rw (ex, ey, ew) refl

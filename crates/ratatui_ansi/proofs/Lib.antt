@@ -14,3 +14,4 @@ pub mod EraseLemmas
 pub mod TrackLemmas
 pub mod BackendLemmas
 pub mod RefusalLemmas
+pub mod HeadlineLemmas

@@ -75,11 +75,16 @@ pub leaves-error : {L E A : Type 0} (answer : Result A (AnsiError E)) (error : A
 leaves-error (Ok x) error old new is fails = absurd (false≢true is.0)
 leaves-error (Err f) error old new is fails = subst (FailsBy old new) (sym is.1) fails
 
-pub still-untold : {L : Type 0} (s : BackendState L) → IsUntold s s
-still-untold s = record { link = refl; size = refl; colors = refl; written = refl; is_broken = refl }
+-- only the count of failures changed
+pub counted-untold : {L : Type 0} (s : BackendState L) (n : ℕ) → IsUntold s (record s { failures = n })
+counted-untold s n = record { link = refl; size = refl; colors = refl; written = refl; is_broken = refl }
 
-pub refusal-leaves : {L : Type 0} (E : Type 0) (old new : BackendState L) (refusal : Refusal) → old.is_broken ≡ false → IsUntold old new → FailsBy {L = L} {E = E} old new (error_of refusal)
-refusal-leaves E old new Refused.Memory whole same = (whole, same)
-refusal-leaves E old new (Refused.Symbol p) whole same = (whole, same)
-refusal-leaves E old new (Refused.Pen p) whole same = (whole, same)
-refusal-leaves E old new (Refused.Cut p) whole same = (whole, same)
+pub refusal-leaves : {L : Type 0} (E : Type 0) (was old new : BackendState L) (refusal : Refusal) → was ≡ old → was.is_broken ≡ false → IsUntold was new → FailsBy {L = L} {E = E} old new (error_of refusal)
+refusal-leaves {L} E was old new refusal same whole still =
+    subst (λ s. FailsBy {L = L} {E = E} s new (error_of refusal)) same (by_refusal refusal)
+  where
+    by_refusal : (r : Refusal) → FailsBy {L = L} {E = E} was new (error_of r)
+    by_refusal Refused.Memory = (whole, still)
+    by_refusal (Refused.Symbol p) = (whole, still)
+    by_refusal (Refused.Pen p) = (whole, still)
+    by_refusal (Refused.Cut p) = (whole, still)

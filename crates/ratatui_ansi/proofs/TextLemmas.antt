@@ -1,15 +1,15 @@
 -- Text, read as it is sent.
-use Rattle.std.proofs.Common.{◌≡◌, ℕ, ◌+◌, ◌/◌, ◌%◌, ◌≤◌, ◌&&◌, not, cond, ltb, List, [], ◌∷◌, Bool, true, false, IsTrue, IsUtf8, chars, refl, sym, ap, ◌∙◌, arith, ◌==◌, append_assoc, append-nil}
+use Rattle.std.proofs.Common.{◌≡◌, ℕ, ◌+◌, ◌/◌, ◌%◌, ◌≤◌, ◌&&◌, not, cond, ltb, List, [], ◌∷◌, Bool, true, false, IsTrue, IsUtf8, chars, refl, sym, ap, ◌∙◌, arith, ◌==◌, append_assoc, append-nil, ◌<◌, ◌++◌, length, suc, Some, None}
 use lib.Utf8.{encode, encodes}
 use Rattle.std.specs.List.{list_all}
 use Rattle.std.specs.Str.{is_utf8}
 use Rattle.std.proofs.lemmas.Bool.Decides.{nat_tests}
 use Rattle.std.proofs.lemmas.List.Folds.{list_all-append}
-use Rattle.std.proofs.lemmas.Str.{chars-encodes, encodes-chars, IsUtf8-from_is_utf8, is_utf8-from_IsUtf8}
+use Rattle.std.proofs.lemmas.Str.{chars-nil, chars-encodes, chars_past_char, encodes-chars, IsUtf8-past_char, IsUtf8-from_is_utf8, is_utf8-from_IsUtf8}
 use Rattle.rtui_cell.specs.Symbol.{blank}
 use Rattle.ratatui_ansi.specs.Columns.{Column, blank_column, is_known}
 use Rattle.ratatui_ansi.specs.Columns.Column.{Shows, Unknown}
-use Rattle.ratatui_ansi.specs.Drawing.{columns_of}
+use Rattle.ratatui_ansi.specs.Drawing.{only_of, columns_of}
 use Rattle.ratatui_ansi.specs.Screens.{IsSized}
 use Rattle.ratatui_ansi.specs.Emulator.{Emulator, is_control, is_directional, is_shown, is_plain, is_symbol, begins_anew}
 use Rattle.ratatui_ansi.specs.Emulator.Phase.{Ground}
@@ -96,6 +96,24 @@ symbol-then text utf8 begins = rw (is_utf8-from_IsUtf8 text utf8, begins) (last 
 
 pub symbol-else : (text : List ℕ) → begins_anew (chars text) ≡ false → is_symbol text ≡ false
 symbol-else text begins = rw begins (none (is_utf8 text && list_all is_shown (chars text)))
+
+-- ---- the character of a text that has only one
+
+pub only-first : (text rest : List ℕ) (c : ℕ) → IsUtf8 text → text ≡ encode c ++ rest → length rest ≡ 0 → Some c ≡ only_of (chars text)
+only-first text [] c utf8 e none = rw (chars_past_char text [] c utf8 e, chars-nil) refl
+only-first text (b ∷ bs) c utf8 e none = let some : length (b ∷ bs) ≡ suc (length bs) = refl in absurd (omega arith)
+
+two-or-more : (c : ℕ) (cs rest : List ℕ) → encodes cs ≡ rest → 0 < length rest → None ≡ only_of (c ∷ cs)
+two-or-more c [] rest e some = let none : length rest ≡ 0 = ap length (sym e) in absurd (omega arith)
+two-or-more c (d ∷ cs) rest e some = refl
+
+pub only-more : (text rest : List ℕ) (c : ℕ) → IsUtf8 text → text ≡ encode c ++ rest → 0 < length rest → None ≡ only_of (chars text)
+only-more text rest c utf8 e some =
+    rw (chars_past_char text rest c utf8 e) (two-or-more c (chars rest) rest (encodes-chars rest (IsUtf8-past_char text rest c utf8 e)) some)
+
+pub only-none : (text : List ℕ) → length text ≡ 0 → None ≡ only_of (chars text)
+only-none [] none = rw chars-nil refl
+only-none (b ∷ bs) none = let some : length (b ∷ bs) ≡ suc (length bs) = refl in absurd (omega arith)
 
 -- ---- the blank
 

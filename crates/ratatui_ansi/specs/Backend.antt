@@ -26,10 +26,11 @@ abbrev pub shown_by : {L : Type 0} → (L → List ℕ) → BackendState L → S
 shown_by told b = screen_shown b.written (rested (reader b.size (told b.link)))
 
 -- what a backend keeps is in order: a screen of some columns and rows, flags for all of them, also for a draft, and, unless a send failed, a
--- terminal that awaits the next call, with its cursor there and these flags
-pub record IsInOrder (size : Size) (cursor : Position) (behind draft : List Bool) (is_broken : Bool) (told : List ℕ) : Type 0 where
+-- terminal that awaits the next call, with its cursor there and these flags; no send failed where no call did
+pub record IsInOrder (size : Size) (cursor : Position) (behind draft : List Bool) (is_broken : Bool) (failures : ℕ) (told : List ℕ) : Type 0 where
   pub columns : 0 < size.width
   pub rows : 0 < size.height
   pub behind_count : length behind ≡ size.width * size.height
   pub draft_count : length draft ≡ size.width * size.height
+  pub unfailed : failures ≡ 0 → is_broken ≡ false
   pub awaiting : is_broken ≡ false → IsAwaiting size.width size.height cursor behind (reader size told)

@@ -1,15 +1,23 @@
 -- What a symbol put in its place does to the terminal that reads it.
-use Rattle.std.specs.Prelude.{◌≡◌, ℕ, ◌+◌, zero, suc, ◌&&◌, ◌||◌, not, Bool, true, IsTrue, if◌then◌else◌, List, ◌++◌, ◌==◌, length, chars, IsUtf8}
+use Rattle.std.specs.Prelude.{◌≡◌, ℕ, ◌+◌, zero, suc, ◌&&◌, ◌||◌, not, Bool, true, IsTrue, if◌then◌else◌, List, [], ◌∷◌, ◌++◌, ◌==◌, length, chars, IsUtf8, Option, Some, None}
 use Rattle.std.specs.List.{list_all}
 use Rattle.rtui_cell.specs.Symbol.{blank}
 use Rattle.rtui_cell.specs.Width.{text_width}
 use Rattle.ratatui_ansi.specs.declared.pen.Pen.{Pen}
 use Rattle.ratatui_ansi.specs.declared.drawing.Brush.{Brush}
+use Rattle.ratatui_ansi.specs.declared.drawing.Printing.{Printing}
+use Rattle.ratatui_ansi.specs.declared.drawing.Printing.TheVariants.{Plain, Whole, Unprinted}
 use Rattle.ratatui_ansi.specs.Pen.{own_pen}
 use Rattle.ratatui_ansi.specs.Emulator.{Emulator, rested, prints, with_pen, is_plain, is_symbol}
 use Rattle.ratatui_ansi.specs.Emulator.Phase.{Ground}
 use Rattle.ratatui_ansi.specs.Sequences.{feed}
 use Rattle.ratatui_ansi.specs.Sends.{Does}
+
+-- the character of a list that has only one
+abbrev pub only_of : List ℕ → Option ℕ
+only_of [] = None
+only_of (c ∷ []) = Some c
+only_of (c ∷ d ∷ cs) = None
 
 -- whether these are one plain character
 abbrev pub is_one_plain : List ℕ → Bool
@@ -18,6 +26,10 @@ is_one_plain cs = (length cs == 1) && list_all is_plain cs
 -- a symbol that is printed as one: a plain character, or a text that isn't plain throughout
 abbrev pub is_printed : List ℕ → Bool
 is_printed text = is_symbol text && (is_one_plain (chars text) || not (list_all is_plain (chars text)))
+
+-- how a text is printed
+abbrev pub printing_of : List ℕ → Printing
+printing_of text = if is_printed text then (if is_one_plain (chars text) then Plain else Whole) else Unprinted
 
 -- its columns
 abbrev pub columns_of : List ℕ → ℕ

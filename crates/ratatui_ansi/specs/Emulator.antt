@@ -63,7 +63,7 @@ is_plain c = (nat_le 32 c && nat_le c 126) || (nat_le 0xC0 c && nat_le c 0x17F) 
 
 -- whether a character has columns of its own
 abbrev pub has_columns : ℕ → Bool
-has_columns c = nat_lt 0 (unwrap_or (char_width false c) 0)
+has_columns c = is_plain c || nat_lt 0 (unwrap_or (char_width false c) 0)
 
 -- whether a text begins with such a character, and so doesn't join what is before it
 abbrev pub begins_anew : List ℕ → Bool

@@ -1,5 +1,5 @@
 -- What a draw knows of the terminal, and what its bytes do to it.
-use Rattle.std.specs.Prelude.{◌≡◌, ℕ, ◌+◌, ◌-◌, ◌*◌, ◌<◌, ◌≤◌, ◌==◌, ◌&&◌, nat_lt, nat_le, Bool, true, false, if◌then◌else◌, List, ◌++◌}
+use Rattle.std.specs.Prelude.{◌≡◌, ℕ, ◌+◌, ◌-◌, ◌*◌, ◌<◌, ◌≤◌, ◌==◌, ◌&&◌, nat_lt, nat_le, Bool, true, false, if◌then◌else◌, List, ◌++◌, chars, Option, Some, None}
 use Rattle.rtui_geometry.specs.declared.position.Position.{Position}
 use Rattle.rtui_cell.specs.Symbol.{symbol_text}
 use Rattle.rtui_cell.specs.Look.{Look, look_of, empty_look}
@@ -8,6 +8,7 @@ use Rattle.rtui_cell.specs.Grid.{Update}
 use Rattle.rtui_cell.specs.declared.cell.Cell.{Cell}
 use Rattle.rtui_backend.specs.Screen.{Draws, cursor_of}
 use Rattle.ratatui_ansi.specs.declared.frame.Drawing.{Drawing}
+use Rattle.ratatui_ansi.specs.declared.frame.Glyph.{Glyph}
 use Rattle.ratatui_ansi.specs.declared.frame.Refusal.{Refusal}
 use Rattle.ratatui_ansi.specs.declared.frame.Refusal.TheVariants as Refused
 use Rattle.ratatui_ansi.specs.Columns.{Columns, blank_column, is_behind}
@@ -19,7 +20,7 @@ use Rattle.ratatui_ansi.specs.Parameters.{is_told_by}
 use Rattle.ratatui_ansi.specs.Emulator.{Emulator, rested, with_pen, run}
 use Rattle.ratatui_ansi.specs.Sequences.{feed}
 use Rattle.ratatui_ansi.specs.Screens.{screen_shown, IsReady}
-use Rattle.ratatui_ansi.specs.Drawing.{is_printed, columns_of, IsDrawnBy}
+use Rattle.ratatui_ansi.specs.Drawing.{is_one_plain, is_printed, columns_of, IsDrawnBy}
 
 -- ---- a symbol over a part of another one
 
@@ -41,6 +42,15 @@ laid x y n end look c a b =
 abbrev pub is_fit : ℕ → Cell → Bool
 is_fit room c =
     is_printed (symbol_text c.symbol) && (columns_of (symbol_text c.symbol) == width_of c) && nat_lt 0 (width_of c) && nat_le (width_of c) room
+
+-- in how many columns a text is printed as one symbol
+abbrev pub printed_columns : List ℕ → ℕ
+printed_columns text = if is_printed text then columns_of text else 0
+
+-- how a cell that fits into a room is printed
+abbrev pub glyph_in : ℕ → Cell → Option Glyph
+glyph_in room c =
+    if is_fit room c then Some (record { columns = width_of c; is_plain = is_one_plain (chars (symbol_text c.symbol)) }) else None
 
 -- a cell of one column that looks like an empty one
 pub record IsVacant (c : Cell) : Type 0 where

@@ -14,3 +14,4 @@ pub mod Errors
 pub mod Kept
 pub mod Backend
 pub mod Refusals
+pub mod Headline

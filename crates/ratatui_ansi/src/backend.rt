@@ -9,6 +9,7 @@ ghost use Rattle.rtui_backend.specs.declared.clear_type.ClearType.TheVariants.{A
 ghost use Rattle.ratatui_ansi.specs.Columns.{blank_column};
 ghost use Rattle.ratatui_ansi.specs.Flags.{AreBehind};
 ghost use Rattle.ratatui_ansi.specs.Backend.{BackendState, shown_by};
+ghost use Rattle.ratatui_ansi.specs.Headline.{IsReadSurely};
 ghost use Rattle.ratatui_ansi.specs.Refusals.{IsUntold, Leaves, StopsBy};
 
 use crate::error::AnsiError;
@@ -23,8 +24,8 @@ use std::mem;
 use std::ops::Range;
 
 /// A backend that sends escape sequences along a link. Its screen is what a terminal shows that was blank and has read what
-/// the link was told. Each call sends once, or nothing where it is refused; after a failed send every call is refused until
-/// `restart`.
+/// the link was told. Each call sends once, or nothing where it is refused, and counts as failed until it has succeeded; after a
+/// failed send every call is refused until `restart`.
 #[derive(Drop)]
 pub struct AnsiBackend<L: Link> {
     link: L,
@@ -56,7 +57,7 @@ impl<L: Link> Model for AnsiBackend<L> {
     } };
 
     ghost invariant = { λ b. IsInOrder b.size b.cursor b.behind.items b.draft.items b.is_broken
-        (L.told b.link) };
+        b.failures (L.told b.link) };
 }
 
 // The flags of a blank screen.
@@ -110,9 +111,10 @@ impl<L: Link> AnsiBackend<L> {
         })
     }
 
-    /// The link, and so what it was told.
+    /// The link, and so what it was told. Where no call failed, real terminals don't differ on that.
     pub fn link(&self) -> &L
-        ensures { result.now ≡ self.now.link }
+        ensures link { result.now ≡ self.now.link }
+        ensures sure { self.now.failures ≡ 0 → IsReadSurely L.told self.now }
     {
         &self.link
     }
@@ -132,8 +134,10 @@ impl<L: Link> AnsiBackend<L> {
         ensures told { OnOk result (L.told self.new.link ≡ []) }
         ensures size { self.new.size ≡ self.old.size }
         ensures colors { self.new.has_underline_colors ≡ self.old.has_underline_colors }
-        ensures failures { self.new.failures ≡ self.old.failures }
+        ensures counts { Counts result self.old.failures self.new.failures }
     {
+        let failures = self.failures;
+        self.failures = failures.saturating_add(1);
         self.is_broken = true;
         match self.link.renew() {
             Ok(()) => {}
@@ -144,6 +148,7 @@ impl<L: Link> AnsiBackend<L> {
         self.cursor = Position::ORIGIN;
         self.written = 0;
         self.is_broken = false;
+        self.failures = failures;
         Ok(())
     }
 
@@ -152,8 +157,10 @@ impl<L: Link> AnsiBackend<L> {
         ensures ok { OnOk result (shown_by L.told self.new
             ≡ with_cursor position.x position.y (shown_by L.told self.old)) }
         ensures state { Leaves result self.old self.new }
-        ensures failures { self.new.failures ≡ self.old.failures }
+        ensures counts { Counts result self.old.failures self.new.failures }
     {
+        let failures = self.failures;
+        self.failures = failures.saturating_add(1);
         if self.is_broken {
             return Err(AnsiError::Broken);
         }
@@ -166,6 +173,7 @@ impl<L: Link> AnsiBackend<L> {
         }
         self.cursor = cursor;
         self.is_broken = false;
+        self.failures = failures;
         Ok(())
     }
 
@@ -174,8 +182,10 @@ impl<L: Link> AnsiBackend<L> {
         ensures ok { OnOk result (shown_by L.told self.new
             ≡ with_visible visible (shown_by L.told self.old)) }
         ensures state { Leaves result self.old self.new }
-        ensures failures { self.new.failures ≡ self.old.failures }
+        ensures counts { Counts result self.old.failures self.new.failures }
     {
+        let failures = self.failures;
+        self.failures = failures.saturating_add(1);
         if self.is_broken {
             return Err(AnsiError::Broken);
         }
@@ -187,6 +197,7 @@ impl<L: Link> AnsiBackend<L> {
             Err(error) => return Err(AnsiError::Send(error)),
         }
         self.is_broken = false;
+        self.failures = failures;
         Ok(())
     }
 
@@ -195,8 +206,10 @@ impl<L: Link> AnsiBackend<L> {
         ensures ok { OnOk result (shown_by L.told self.new ≡ shown_by L.told self.old) }
         ensures told { OnOk result (L.told self.new.link ≡ L.told self.old.link) }
         ensures state { Leaves result self.old self.new }
-        ensures failures { self.new.failures ≡ self.old.failures }
+        ensures counts { Counts result self.old.failures self.new.failures }
     {
+        let failures = self.failures;
+        self.failures = failures.saturating_add(1);
         if self.is_broken {
             return Err(AnsiError::Broken);
         }
@@ -206,6 +219,7 @@ impl<L: Link> AnsiBackend<L> {
             Err(error) => return Err(AnsiError::Send(error)),
         }
         self.is_broken = false;
+        self.failures = failures;
         Ok(())
     }
 
@@ -213,8 +227,10 @@ impl<L: Link> AnsiBackend<L> {
     fn tell_lines(&mut self, n: u16) -> Result<(), AnsiError<L::Error>>
         ensures ok { OnOk result (Appends (shown_by L.told self.old) n (shown_by L.told self.new)) }
         ensures state { Leaves result self.old self.new }
-        ensures failures { self.new.failures ≡ self.old.failures }
+        ensures counts { Counts result self.old.failures self.new.failures }
     {
+        let failures = self.failures;
+        self.failures = failures.saturating_add(1);
         if self.is_broken {
             return Err(AnsiError::Broken);
         }
@@ -228,6 +244,7 @@ impl<L: Link> AnsiBackend<L> {
         }
         self.cursor = cursor;
         self.is_broken = false;
+        self.failures = failures;
         Ok(())
     }
 
@@ -236,8 +253,10 @@ impl<L: Link> AnsiBackend<L> {
         ensures ok { OnOk result (ScrollsUp region.start region.end n
             (shown_by L.told self.old) (shown_by L.told self.new)) }
         ensures state { Leaves result self.old self.new }
-        ensures failures { self.new.failures ≡ self.old.failures }
+        ensures counts { Counts result self.old.failures self.new.failures }
     {
+        let failures = self.failures;
+        self.failures = failures.saturating_add(1);
         if self.is_broken {
             return Err(AnsiError::Broken);
         }
@@ -250,6 +269,7 @@ impl<L: Link> AnsiBackend<L> {
             Err(error) => return Err(AnsiError::Send(error)),
         }
         self.is_broken = false;
+        self.failures = failures;
         Ok(())
     }
 
@@ -258,8 +278,10 @@ impl<L: Link> AnsiBackend<L> {
         ensures ok { OnOk result (ScrollsDown region.start region.end n
             (shown_by L.told self.old) (shown_by L.told self.new)) }
         ensures state { Leaves result self.old self.new }
-        ensures failures { self.new.failures ≡ self.old.failures }
+        ensures counts { Counts result self.old.failures self.new.failures }
     {
+        let failures = self.failures;
+        self.failures = failures.saturating_add(1);
         if self.is_broken {
             return Err(AnsiError::Broken);
         }
@@ -272,6 +294,7 @@ impl<L: Link> AnsiBackend<L> {
             Err(error) => return Err(AnsiError::Send(error)),
         }
         self.is_broken = false;
+        self.failures = failures;
         Ok(())
     }
 
@@ -279,8 +302,10 @@ impl<L: Link> AnsiBackend<L> {
     fn tell_clear(&mut self, clear_type: ClearType) -> Result<(), AnsiError<L::Error>>
         ensures ok { OnOk result (Clears (shown_by L.told self.old) clear_type (shown_by L.told self.new)) }
         ensures state { Leaves result self.old self.new }
-        ensures failures { self.new.failures ≡ self.old.failures }
+        ensures counts { Counts result self.old.failures self.new.failures }
     {
+        let failures = self.failures;
+        self.failures = failures.saturating_add(1);
         if self.is_broken {
             return Err(AnsiError::Broken);
         }
@@ -296,6 +321,7 @@ impl<L: Link> AnsiBackend<L> {
             Err(error) => return Err(AnsiError::Send(error)),
         }
         self.is_broken = false;
+        self.failures = failures;
         Ok(())
     }
 
@@ -313,8 +339,10 @@ impl<L: Link> AnsiBackend<L> {
         ensures stopped { IfErr result (StopsBy I.next_gives content (update_by C.cell)
             self.old.has_underline_colors (shown_by L.told self.old)) }
         ensures state { Leaves result self.old self.new }
-        ensures failures { self.new.failures ≡ self.old.failures }
+        ensures counts { Counts result self.old.failures self.new.failures }
     {
+        let failures = self.failures;
+        self.failures = failures.saturating_add(1);
         if self.is_broken {
             return Err(AnsiError::Broken);
         }
@@ -341,6 +369,7 @@ impl<L: Link> AnsiBackend<L> {
         self.cursor = cursor;
         self.written = written;
         self.is_broken = false;
+        self.failures = failures;
         Ok(())
     }
 
@@ -353,22 +382,6 @@ impl<L: Link> AnsiBackend<L> {
     {
         self.failures = self.failures.saturating_add(1);
         error
-    }
-
-    // Counts the failure of a call that answers this, if it is one.
-    fn counted(
-        &mut self,
-        answer: Result<(), AnsiError<L::Error>>,
-    ) -> Result<(), AnsiError<L::Error>>
-        ensures answer { result ≡ answer }
-        ensures screen { OnOk result (self.new ≡ self.old) }
-        ensures rest { IsUntold self.old self.new }
-        ensures counts { Counts result self.old.failures self.new.failures }
-    {
-        match answer {
-            Ok(()) => Ok(()),
-            Err(error) => Err(self.failed(error)),
-        }
     }
 }
 
@@ -396,8 +409,7 @@ impl<L: Link> Backend for AnsiBackend<L> {
         ensures state { Leaves result self.old self.new }
         ensures counts { Counts result self.old.failures self.new.failures }
     {
-        let answer = self.tell_cells(content);
-        self.counted(answer)
+        self.tell_cells(content)
     }
 
     fn append_lines(&mut self, n: u16) -> Result<(), AnsiError<L::Error>>
@@ -405,8 +417,7 @@ impl<L: Link> Backend for AnsiBackend<L> {
         ensures state { Leaves result self.old self.new }
         ensures counts { Counts result self.old.failures self.new.failures }
     {
-        let answer = self.tell_lines(n);
-        self.counted(answer)
+        self.tell_lines(n)
     }
 
     fn scroll_region_up(&mut self, region: Range<u16>, n: u16) -> Result<(), AnsiError<L::Error>>
@@ -415,8 +426,7 @@ impl<L: Link> Backend for AnsiBackend<L> {
         ensures state { Leaves result self.old self.new }
         ensures counts { Counts result self.old.failures self.new.failures }
     {
-        let answer = self.tell_up(region, n);
-        self.counted(answer)
+        self.tell_up(region, n)
     }
 
     fn scroll_region_down(&mut self, region: Range<u16>, n: u16) -> Result<(), AnsiError<L::Error>>
@@ -425,8 +435,7 @@ impl<L: Link> Backend for AnsiBackend<L> {
         ensures state { Leaves result self.old self.new }
         ensures counts { Counts result self.old.failures self.new.failures }
     {
-        let answer = self.tell_down(region, n);
-        self.counted(answer)
+        self.tell_down(region, n)
     }
 
     fn hide_cursor(&mut self) -> Result<(), AnsiError<L::Error>>
@@ -435,8 +444,7 @@ impl<L: Link> Backend for AnsiBackend<L> {
         ensures state { Leaves result self.old self.new }
         ensures counts { Counts result self.old.failures self.new.failures }
     {
-        let answer = self.tell_visible(false);
-        self.counted(answer)
+        self.tell_visible(false)
     }
 
     fn show_cursor(&mut self) -> Result<(), AnsiError<L::Error>>
@@ -445,8 +453,7 @@ impl<L: Link> Backend for AnsiBackend<L> {
         ensures state { Leaves result self.old self.new }
         ensures counts { Counts result self.old.failures self.new.failures }
     {
-        let answer = self.tell_visible(true);
-        self.counted(answer)
+        self.tell_visible(true)
     }
 
     fn get_cursor_position(&mut self) -> Result<Position, AnsiError<L::Error>>
@@ -469,8 +476,7 @@ impl<L: Link> Backend for AnsiBackend<L> {
         ensures state { Leaves result self.old self.new }
         ensures counts { Counts result self.old.failures self.new.failures }
     {
-        let answer = self.tell_position(position);
-        self.counted(answer)
+        self.tell_position(position)
     }
 
     fn clear(&mut self) -> Result<(), AnsiError<L::Error>>
@@ -488,8 +494,7 @@ impl<L: Link> Backend for AnsiBackend<L> {
         ensures state { Leaves result self.old self.new }
         ensures counts { Counts result self.old.failures self.new.failures }
     {
-        let answer = self.tell_clear(clear_type);
-        self.counted(answer)
+        self.tell_clear(clear_type)
     }
 
     fn size(&mut self) -> Result<Size, AnsiError<L::Error>>
@@ -524,7 +529,6 @@ impl<L: Link> Backend for AnsiBackend<L> {
         ensures state { Leaves result self.old self.new }
         ensures counts { Counts result self.old.failures self.new.failures }
     {
-        let answer = self.flush_link();
-        self.counted(answer)
+        self.flush_link()
     }
 }

@@ -1,20 +1,20 @@
 //! Cells in their places, as a backend draws them.
 
-ghost use Rattle.std.specs.Prelude.{◌≡◌, ℕ, ◌+◌, ◌-◌, ◌*◌, ◌<◌, ◌≤◌, ◌&&◌, nat_lt, nat_le, if◌then◌else◌, true, false, IsTrue, ◌↔◌, IfOk, IfErr, OnOk, OnErr, List, [], ◌∷◌, map, length, slice_index_or, string_bytes, MatchResult};
+ghost use Rattle.std.specs.Prelude.{◌≡◌, ℕ, ◌+◌, ◌-◌, ◌*◌, ◌<◌, ◌≤◌, ◌&&◌, nat_lt, nat_le, if◌then◌else◌, true, false, IsTrue, ◌↔◌, IfOk, IfErr, OnOk, OnErr, List, [], ◌∷◌, map, length, slice_index_or, string_bytes, MatchResult, Some, ◌==◌};
 ghost use Rattle.std.specs.Iterator.{IsFinite, Drains};
-ghost use Rattle.rtui_cell.specs.Symbol.{blank};
+ghost use Rattle.rtui_cell.specs.Symbol.{blank, symbol_text};
 ghost use Rattle.rtui_cell.specs.Cell.{width_of};
 ghost use Rattle.rtui_cell.specs.Grid.{update_by};
 ghost use Rattle.ratatui_ansi.specs.Pen.{own_pen, pen_of};
 ghost use Rattle.ratatui_ansi.specs.Parameters.{is_told};
-ghost use Rattle.ratatui_ansi.specs.Drawing.{columns_of, blanked, Paints};
-ghost use Rattle.ratatui_ansi.specs.Frame.{is_fit, IsVacant, IsRefused, SendsUpdates, SendsDraw};
+ghost use Rattle.ratatui_ansi.specs.Drawing.{printing_of, blanked, Paints};
+ghost use Rattle.ratatui_ansi.specs.Frame.{printed_columns, glyph_in, IsVacant, IsRefused, SendsUpdates, SendsDraw};
 ghost use Rattle.ratatui_ansi.specs.Refusals.{has_place, StopsWithin, StopsDraw};
 
-use crate::drawing::{Brush, change_pen, is_one_plain, is_printed, put};
+use crate::drawing::{Brush, Printing, change_pen, printing_of, put};
 use crate::pen::Pen;
 use rtui_backend::AsCell;
-use rtui_cell::{Cell, CellWidth};
+use rtui_cell::{Cell, CellDiffOption, CellWidth};
 use rtui_geometry::Position;
 use std::alloc::AllocError;
 
@@ -52,26 +52,47 @@ impl From<AllocError> for Refusal {
     }
 }
 
-// The columns of a symbol that is printed.
-fn columns_of(symbol: &str) -> u16
-    ensures { result ≡ columns_of symbol.now }
+// A cell's symbol, as it is printed.
+#[derive(Debug, Clone, Copy, PartialEq, Eq)]
+struct Glyph {
+    columns: u16,
+    is_plain: bool,
+}
+
+// In how many columns a cell's symbol is printed so; in none where it isn't printed.
+fn printed_columns(cell: &Cell, printing: Printing, columns: u16) -> u16
+    requires printing { printing ≡ printing_of (symbol_text cell.now.symbol) }
+    requires columns { columns ≡ width_of cell.now }
+    ensures { result ≡ printed_columns (symbol_text cell.now.symbol) }
 {
-    if is_one_plain(symbol) {
-        1
-    } else {
-        symbol.cell_width()
+    match printing {
+        Printing::Plain => 1,
+        Printing::Whole => match cell.diff_option {
+            CellDiffOption::ForcedWidth(_) => cell.symbol().cell_width(),
+            CellDiffOption::None | CellDiffOption::Skip | CellDiffOption::AlwaysUpdate => columns,
+        },
+        Printing::Unprinted => 0,
     }
 }
 
-// Whether a cell's symbol is printed in just the columns that the cell takes, and these are some and fit into a room.
-fn is_fit(room: u16, cell: &Cell) -> bool
-    ensures { result ≡ is_fit room cell.now }
+// Whether a symbol that is printed in so many columns takes just these, and they are some and fit into a room.
+fn fits(room: u16, columns: u16, printed: u16) -> bool
+    ensures { result ≡ ((printed == columns) && nat_lt 0 columns && nat_le columns room) }
 {
+    printed == columns && 0 < columns && columns <= room
+}
+
+// How a cell is printed that fits into a room.
+fn glyph_in(room: u16, cell: &Cell) -> Option<Glyph>
+    ensures { result ≡ glyph_in room cell.now }
+{
+    let printing = printing_of(cell.symbol());
     let columns = cell.cell_width();
-    is_printed(cell.symbol())
-        && columns_of(cell.symbol()) == columns
-        && 0 < columns
-        && columns <= room
+    let glyph = Glyph {
+        columns,
+        is_plain: printing.is_plain(),
+    };
+    fits(room, columns, printed_columns(cell, printing, columns)).then_some(glyph)
 }
 
 // Whether a text is one blank.
@@ -131,7 +152,7 @@ fn put_blanks(
 {
     let mut brush = brush;
     for column in x..end {
-        brush = put(out, brush, width, height, column, y, Pen::OWN, " ")?;
+        brush = put(out, brush, width, height, column, y, Pen::OWN, " ", true)?;
     }
     Ok(brush)
 }
@@ -160,12 +181,13 @@ fn lay(
     x: u16,
     y: u16,
     cell: &Cell,
+    glyph: Glyph,
 ) -> Result<Drawing, AllocError>
     requires column { x < width }
     requires row { y < height }
     requires flags { length behind.old ≡ width * height }
     requires uncut { slice_index_or behind.old (y * width + x) false ≡ false }
-    requires fit { IsTrue (is_fit (width - x) cell.now) }
+    requires fit { glyph_in (width - x) cell.now ≡ Some glyph }
     requires told { IsTrue (is_told (pen_of cell.now)) }
     ensures { IfOk result (λ after. SendsUpdates width height (string_bytes out.old) drawing
         behind.old (record { x = x; y = y; cell = cell.now } ∷ []) (string_bytes out.new)
@@ -180,9 +202,10 @@ fn lay(
         y,
         Pen::of(cell),
         cell.symbol(),
+        glyph.is_plain,
     )?;
     let start = usize::from(y) * usize::from(width);
-    let behind_it = x + cell.cell_width();
+    let behind_it = x + glyph.columns;
     let end = tail_end(behind, start, behind_it, width);
     let brush = put_blanks(out, brush, width, height, behind_it, y, end)?;
     mark(
@@ -239,13 +262,13 @@ pub fn draw_cell(
         }
         return Err(Refusal::Cut(place));
     }
-    if !is_fit(width - x, cell) {
+    let Some(glyph) = glyph_in(width - x, cell) else {
         return Err(Refusal::Symbol(place));
-    }
+    };
     if !Pen::of(cell).is_told_by(has_underline_colors) {
         return Err(Refusal::Pen(place));
     }
-    match lay(out, behind, width, height, drawing, x, y, cell) {
+    match lay(out, behind, width, height, drawing, x, y, cell, glyph) {
         Ok(after) => Ok(after),
         Err(AllocError) => Err(Refusal::Memory),
     }

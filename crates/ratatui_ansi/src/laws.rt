@@ -1,4 +1,4 @@
-//! Laws of the model that are no single call's clause. Calling one of these functions costs nothing and tells the caller's proof
+//! Laws of the bytes and of the model that are no single call's clause. Calling one of these functions costs nothing and tells the caller's proof
 //! its law.
 
 ghost use Rattle.std.specs.Prelude.{◌≡◌, ℕ, ◌+◌, ◌<◌, ◌≤◌, nat_lt, if◌then◌else◌, List, ◌∷◌, ◌++◌};
@@ -12,10 +12,26 @@ ghost use Rattle.rtui_diff.specs.Settled.{IsSettled};
 ghost use Rattle.rtui_diff.specs.Shows.{Shows};
 ghost use Rattle.ratatui_ansi.specs.Covered.{IsCovered, IsOpen, IsOrdinary};
 ghost use Rattle.ratatui_ansi.specs.Frame.{IsVacant};
+ghost use Rattle.ratatui_ansi.specs.Headline.{IsHeadlineOfBytes};
 ghost use Rattle.ratatui_ansi.specs.Columns.{Columns, look_in, is_behind};
 ghost use Rattle.ratatui_ansi.specs.Screens.{AreSized, IsWhole, IsBlankBeyond, IsReady, IsUncut, put_columns};
 ghost use Rattle.ratatui_ansi.specs.Drawing.{columns_of};
 ghost use Rattle.ratatui_ansi.specs.Emulator.{run, fresh};
+
+use crate::backend::AnsiBackend;
+use crate::link::Link;
+use rtui_terminal::Terminal;
+use rtui_terminal::laws::every_call_is_faithful;
+
+/// The headline, of the bytes: from in step, behind any list of calls of a terminal that answered Ok, each painted and inserted
+/// buffer settled, and where no call of the backend failed, a terminal that was blank and has read what the link was told shows
+/// the buffer that the last call left, and real terminals don't differ on what it read.
+pub fn bytes_show_the_last_buffer<L: Link>(terminal: &Terminal<AnsiBackend<L>>)
+    ensures { IsHeadlineOfBytes L.told terminal.now }
+{
+    every_call_is_faithful::<AnsiBackend<L>>();
+    let _link = terminal.backend().link();
+}
 
 /// A blank terminal of at least one row is ready, so that what is said of ready terminals is said of some.
 pub fn a_blank_terminal_is_ready()

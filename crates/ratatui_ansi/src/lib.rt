@@ -21,13 +21,11 @@ mod pen;
 mod scrolling;
 mod sequences;
 mod symbol;
-#[cfg(test)]
-mod tests;
 mod tracked;
 
 pub use backend::AnsiBackend;
 pub use calls::{clear_screen, set_cursor_position, set_visible};
-pub use drawing::{Brush, is_one_plain, is_printed, put};
+pub use drawing::{Brush, Printing, printing_of, put};
 pub use error::AnsiError;
 pub use frame::{Drawing, Refusal};
 pub use link::{Kept, Link};

@@ -3,13 +3,14 @@
 ghost use Rattle.std.specs.Prelude.{◌≡◌, OnOk, IsTrue, string_bytes, encode_utf8, chars};
 ghost use Rattle.std.specs.List.{list_all};
 ghost use Rattle.ratatui_ansi.specs.Emulator.{is_plain, is_shown, has_columns, begins_anew, is_symbol};
+ghost use Rattle.ratatui_ansi.specs.Drawing.{only_of};
 ghost use Rattle.ratatui_ansi.specs.Sends.{Sends, typed};
 
 use std::alloc::AllocError;
 use unicode_width::UnicodeWidthChar;
 
-// Whether a character is shown, or joins one that is: no control character, and none that turns the direction.
-fn is_shown(c: char) -> bool
+/// Whether a character is shown, or joins one that is: no control character, and none that turns the direction.
+pub fn is_shown(c: char) -> bool
     ensures { result ≡ is_shown c }
 {
     !matches!(c, '\u{0}'..='\u{1f}' | '\u{7f}'..='\u{9f}' | '\u{61c}' | '\u{200e}'..='\u{200f}' | '\u{202a}'..='\u{202e}' | '\u{2066}'..='\u{2069}')
@@ -29,14 +30,27 @@ pub fn is_plain(c: char) -> bool
     matches!(c, ' '..='~' | '\u{c0}'..='\u{17f}' | '\u{2500}'..='\u{259f}')
 }
 
-// Whether a character has columns of its own.
-fn has_columns(c: char) -> bool
+/// Whether a character has columns of its own.
+pub fn has_columns(c: char) -> bool
     ensures { result ≡ has_columns c }
 {
     match c.width() {
-        Some(columns) => columns > 0,
-        None => false,
+        Some(columns) => is_plain(c) || columns > 0,
+        None => is_plain(c),
     }
+}
+
+/// The character of a text that has only one.
+pub fn only_char(text: &str) -> Option<char>
+    ensures { result ≡ only_of (chars text.now) }
+{
+    let mut rest = text.chars();
+    if let Some(first) = rest.next()
+        && rest.as_str().is_empty()
+    {
+        return Some(first);
+    }
+    None
 }
 
 // Whether a text begins with a character that has columns of its own.

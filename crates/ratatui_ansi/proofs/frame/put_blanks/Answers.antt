@@ -1,5 +1,5 @@
-use Rattle.std.proofs.Common.{◌+◌, ◌-◌, arith, rules}
-use Rattle.ratatui_ansi.proofs.FrameLemmas.{blank-printed, blanks-none, blanks-more}
+use Rattle.std.proofs.Common.{◌+◌, ◌-◌, sym, arith, rules}
+use Rattle.ratatui_ansi.proofs.FrameLemmas.{blank-printed, blank-single, blanks-none, blanks-more}
 use Rattle.ratatui_ansi.proofs.frame.put_blanks.Goals as goal
 
 pub loop-column-init : goal.loop-column-init
@@ -7,6 +7,9 @@ loop-column-init c = blanks-none c.args.width c.args.height _ _ c.args.x c.args.
 
 pub put-requires-clause-printed : goal.put-requires-clause-printed
 put-requires-clause-printed c = search (rules, blank-printed)
+
+pub put-requires-clause-plain : goal.put-requires-clause-plain
+put-requires-clause-plain c = sym blank-single
 
 pub loop-column-preserved : goal.loop-column-preserved
 loop-column-preserved c =

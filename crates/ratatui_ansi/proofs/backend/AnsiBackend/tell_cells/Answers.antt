@@ -1,8 +1,8 @@
-use Rattle.std.proofs.Common.{ap, refl, ◌∙◌, ◌++◌}
+use Rattle.std.proofs.Common.{ap, refl, sym, length, ◌∙◌, ◌++◌}
 use Rattle.ratatui_ansi.specs.Backend.{reader}
 use Rattle.std.proofs.lemmas.List.{with_items_is}
-use Rattle.ratatui_ansi.proofs.BackendLemmas.{in-order-drawn, drawn-on, count-kept}
-use Rattle.ratatui_ansi.proofs.RefusalLemmas.{if-error, leaves-error, refusal-leaves, still-untold, named-place}
+use Rattle.ratatui_ansi.proofs.BackendLemmas.{in-order-drawn, in-order-broken, drawn-count, drawn-on, count-kept}
+use Rattle.ratatui_ansi.proofs.RefusalLemmas.{if-error, leaves-error, refusal-leaves, counted-untold, named-place}
 use Rattle.ratatui_ansi.proofs.backend.AnsiBackend.tell_cells.Goals as goal
 
 pub invariant_of-self-2 : goal.invariant_of-self-2
@@ -17,6 +17,16 @@ invariant_of-self-2 g c =
     let taken = ap (λ v. v.items) c.swap.ensures.x_after ∙ with_items_is b.draft c.draw_cells.new.behind count in
     let kept = ap (λ v. v.items) c.swap.ensures.y_after in
     rw (taken, kept) after
+
+pub invariant_of-self-in-Err : goal.invariant_of-self-in-Err
+invariant_of-self-in-Err g c =
+    let b = c.self.inside in
+    let lent = c.as_mut_slice-draft.ensures in
+    let copied = c.copy_from_slice.ensures.after ∙ c.as_slice.ensures.value in
+    let drawn = rw copied at c.in_ok-cursor.ensures.drawn in
+    let flags = drawn-count drawn.2 (c.self.invariant.awaiting c.if-self.false) in
+    let count = count-kept c.draw_cells.new.behind c.self.invariant.draft_count flags lent.value lent.len in
+    in-order-broken c.saturating_add-self-inside.ensures refl (ap length (with_items_is b.draft c.draw_cells.new.behind count) ∙ flags ∙ sym c.self.invariant.draft_count) c.self.invariant
 
 pub returns-clause-ok : goal.returns-clause-ok
 returns-clause-ok g c =
@@ -35,4 +45,4 @@ returns-in_err-cursor-clause-stopped g c =
     (_, refl, rw (← c.self.view_is) ((stopped (named-place _ _ named)).stops (reader b.size (g.L.Link.told b.link)) (c.self.invariant.awaiting c.if-self.false))))
 
 pub returns-in_err-cursor-clause-state : goal.returns-in_err-cursor-clause-state
-returns-in_err-cursor-clause-state g c = leaves-error _ _ _ _ c.from_residual.ensures (rw (← c.self.view_is) (refusal-leaves _ _ _ _ c.if-self.false (still-untold _)))
+returns-in_err-cursor-clause-state g c = leaves-error _ _ _ _ c.from_residual.ensures (refusal-leaves _ _ _ _ _ c.self.view_is c.if-self.false (counted-untold _ _))

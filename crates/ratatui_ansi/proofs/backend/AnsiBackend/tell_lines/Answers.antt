@@ -1,7 +1,7 @@
 use Rattle.std.proofs.Common.{ap, ◌∙◌, ◌++◌}
 use Rattle.std.proofs.lemmas.List.{with_items_is}
 use Rattle.ratatui_ansi.proofs.BackendLemmas.{in-order-on, in-order-by, related-on, count-kept}
-use Rattle.ratatui_ansi.proofs.RefusalLemmas.{leaves-error, still-untold}
+use Rattle.ratatui_ansi.proofs.RefusalLemmas.{leaves-error, counted-untold}
 use Rattle.ratatui_ansi.proofs.backend.AnsiBackend.tell_lines.Goals as goal
 
 pub invariant_of-self-2 : goal.invariant_of-self-2
@@ -21,4 +21,4 @@ returns-clause-ok g c =
     (c.self.invariant.awaiting c.if-self.false))
 
 pub returns-in_err-cursor-clause-state : goal.returns-in_err-cursor-clause-state
-returns-in_err-cursor-clause-state g c = leaves-error _ _ _ _ c.from_residual.ensures (rw (← c.self.view_is) (c.if-self.false, still-untold _))
+returns-in_err-cursor-clause-state g c = leaves-error _ _ _ _ c.from_residual.ensures (rw (← c.self.view_is) (c.if-self.false, counted-untold _ _))

@@ -1,6 +1,6 @@
 use Rattle.std.proofs.Common.{ap, ◌∙◌, ◌++◌}
 use Rattle.ratatui_ansi.proofs.BackendLemmas.{in-order-on, related-on}
-use Rattle.ratatui_ansi.proofs.RefusalLemmas.{leaves-error, still-untold}
+use Rattle.ratatui_ansi.proofs.RefusalLemmas.{leaves-error, counted-untold}
 use Rattle.ratatui_ansi.proofs.backend.AnsiBackend.tell_visible.Goals as goal
 
 pub invariant_of-self-2 : goal.invariant_of-self-2
@@ -16,4 +16,4 @@ returns-clause-ok g c =
     rw (← c.self.view_is) (related-on (g.L.Link.told b.link) b.written (rw c.clear.ensures.bytes at c.in_ok-show.ensures b.size.width b.size.height b.cursor b.behind.items) told (c.self.invariant.awaiting c.if-self.false))
 
 pub returns-in_err-show-clause-state : goal.returns-in_err-show-clause-state
-returns-in_err-show-clause-state g c = leaves-error _ _ _ _ c.from_residual.ensures (rw (← c.self.view_is) (c.if-self.false, still-untold _))
+returns-in_err-show-clause-state g c = leaves-error _ _ _ _ c.from_residual.ensures (rw (← c.self.view_is) (c.if-self.false, counted-untold _ _))

@@ -1,21 +1,10 @@
 //! Bytes that are sent, beside those of a terminal's manual.
-mod failing;
-mod plays;
-mod reader;
-
-use crate::backend::AnsiBackend;
-use crate::drawing::{Brush, is_printed, put};
-use crate::error::AnsiError;
-use crate::link::Kept;
-use crate::part::Part;
-use crate::pen::{Pen, push_pen};
-use crate::scrolling::{append_lines, scroll_region_down, scroll_region_up};
-use crate::sequences::{
-    delete_lines, erase, erase_all, hide_cursor, move_to, reset_region, scroll_down, set_region,
-    show_cursor,
-};
-use crate::symbol::{is_symbol, push_plain};
 use bitflags::Flags;
+use ratatui_ansi::{
+    AnsiBackend, AnsiError, Brush, Kept, Part, Pen, Printing, append_lines, delete_lines, erase,
+    erase_all, hide_cursor, is_symbol, move_to, printing_of, push_pen, push_plain, put,
+    reset_region, scroll_down, scroll_region_down, scroll_region_up, set_region, show_cursor,
+};
 use rtui_backend::{Backend, ClearType};
 use rtui_cell::Cell;
 use rtui_geometry::{Position, Size};
@@ -167,7 +156,10 @@ fn symbols(rt: HostRuntime) -> Result<(), Fail> {
         !is_symbol("") && !is_symbol("a\u{1b}[2J") && !is_symbol("\u{9b}2J") && !is_symbol("\u{7f}")
     );
     assert!(rt; !is_symbol("a\u{202e}b") && !is_symbol("\u{301}") && !is_symbol("\n"));
-    assert!(rt; is_printed("─") && is_printed("é") && is_printed("コ") && !is_printed("ab"));
+    assert!(rt; printing_of("─") == Printing::Plain && printing_of("é") == Printing::Plain);
+    assert!(rt; printing_of("コ") == Printing::Whole && printing_of("e\u{301}") == Printing::Whole);
+    assert!(rt; printing_of("ab") == Printing::Unprinted && printing_of("") == Printing::Unprinted);
+    assert!(rt; printing_of("\u{9b}") == Printing::Unprinted);
     let mut out = String::new(rt.alloc());
     push_plain(&mut out, '~')?;
     assert!(rt; out.as_str() == "~");
@@ -184,11 +176,12 @@ fn drawn(
     symbol: &str,
 ) -> Result<Brush, Fail> {
     let pen = Pen { fg, ..Pen::OWN };
-    if x < 80 && y < 24 && pen.is_told() && is_printed(symbol) {
-        Ok(put(out, brush, 80, 24, x, y, pen, symbol)?)
-    } else {
-        Err(Fail::from(AllocError))
+    let printing = printing_of(symbol);
+    if x >= 80 || y >= 24 || !pen.is_told() || printing == Printing::Unprinted {
+        return Err(Fail::from(AllocError));
     }
+    let is_plain = printing == Printing::Plain;
+    Ok(put(out, brush, 80, 24, x, y, pen, symbol, is_plain)?)
 }
 
 #[test]
@@ -210,7 +203,7 @@ fn moves_and_pens_only_where_they_change(rt: HostRuntime) -> Result<(), Fail> {
 }
 
 // A backend of a screen of so many columns and rows, over a link that keeps what it is told.
-fn over_kept(alloc: Global, width: u16, height: u16) -> Result<AnsiBackend<Kept>, Fail> {
+pub(crate) fn over_kept(alloc: Global, width: u16, height: u16) -> Result<AnsiBackend<Kept>, Fail> {
     let size = Size { width, height };
     match AnsiBackend::new(alloc, Kept::new(alloc), size) {
         Ok(backend) => Ok(backend),

@@ -1,8 +1,6 @@
 //! A terminal that reads what a link was told: the model, computed.
-use crate::part::Part;
-use crate::pen::Pen;
-use crate::symbol::{is_plain, is_symbol};
 use bitflags::Flags;
+use ratatui_ansi::{Part, Pen, is_plain, is_symbol};
 use rtui_backend::TestBackend;
 use rtui_cell::{Cell, CellWidth};
 use rtui_geometry::Position;

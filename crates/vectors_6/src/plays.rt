@@ -1,11 +1,8 @@
 //! Random plays of a backend, read by a terminal, beside a screen in memory.
-use crate::backend::AnsiBackend;
-use crate::error::AnsiError;
-use crate::link::Kept;
-use crate::symbol::is_symbol;
-use crate::tests::over_kept;
-use crate::tests::reader::Reader;
+use crate::reader::Reader;
+use crate::sequences::over_kept;
 use bitflags::Flags;
+use ratatui_ansi::{AnsiBackend, AnsiError, Kept, is_symbol};
 use rtui_backend::{Backend, ClearType, TestBackend};
 use rtui_cell::{Cell, CellWidth};
 use rtui_geometry::Position;

@@ -2,9 +2,7 @@
 
 ghost use Rattle.std.specs.Prelude.{◌≡◌, Some, codes, string_bytes, OnOk};
 
-use crate::backend::AnsiBackend;
-use crate::error::AnsiError;
-use crate::link::Link;
+use ratatui_ansi::{AnsiBackend, AnsiError, Link};
 use rtui_backend::Backend;
 use rtui_cell::Cell;
 use rtui_geometry::{Position, Size};

@@ -1,0 +1,26 @@
+-- What the headline says of the bytes: a terminal that was blank, and has read all that a backend's link was told.
+use Rattle.std.specs.Prelude.{◌≡◌, ℕ, true, List}
+use Rattle.rtui_buffer.specs.Sheet.{Sheet}
+use Rattle.rtui_buffer.specs.Frame.{ShowsSheet}
+use Rattle.rtui_terminal.specs.State.{State}
+use Rattle.rtui_terminal.specs.InStep.{IsInStep}
+use Rattle.rtui_terminal.specs.Headline.{Event, Along, last_state, Does, IsFair}
+use Rattle.ratatui_ansi.specs.Backend.{BackendState, reader, shown_by}
+use Rattle.ratatui_ansi.specs.Columns.{look_in}
+use Rattle.ratatui_ansi.specs.Emulator.{rested}
+
+module _ {L : Type 0} (told : L → List ℕ) where
+  -- real terminals don't differ on what it read
+  abbrev pub IsReadSurely : BackendState L → Type 0
+  IsReadSurely b = (rested (reader b.size (told b.link))).sure ≡ true
+
+  -- it is sure, and each unskipped column of a buffer's area has its cell's look
+  pub record IsShownToReaders (frame : Sheet) (b : BackendState L) : Type 0 where
+    pub surely : IsReadSurely b
+    pub shown : ShowsSheet frame (λ x y. look_in ((rested (reader b.size (told b.link))).columns x y))
+
+  -- from in step, behind any list of calls that answered Ok, and where no call of the backend failed, it shows the buffer that the last call left
+  abbrev pub IsHeadlineOfBytes : State (BackendState L) → Type 0
+  IsHeadlineOfBytes t = (s : State (BackendState L)) (events : List (Event (BackendState L))) → IsInStep (shown_by told) s
+      → Along (Does (shown_by told)) s events → Along (IsFair (shown_by told)) s events → last_state s events ≡ t
+      → t.backend.failures ≡ 0 → IsShownToReaders t.older t.backend

@@ -1,0 +1,12 @@
+//! Tests of escape sequences: the bytes beside those of a terminal's manual, each send failing in turn, and random plays beside the
+//! backend in memory, read by the model.
+#![tactic(auto)]
+
+#[cfg(test)]
+mod failing;
+#[cfg(test)]
+mod plays;
+#[cfg(test)]
+mod reader;
+#[cfg(test)]
+mod sequences;
