@@ -1,10 +1,13 @@
 -- What the bytes of a cell do to a terminal within a draw.
-use Rattle.std.proofs.Common.{◌≡◌, ℕ, ◌+◌, ◌-◌, ◌*◌, ◌^◌, ◌<◌, ◌≤◌, ◌==◌, ◌&&◌, min, nat_lt, nat_le, nat_eq, if◌then◌else◌, Bool, List, [], ◌∷◌, ◌++◌, length, IsTrue, chars, true, false, zero, suc, slice_index_or, IsUtf8, rules, refl, sym, ap, ap₂, ◌∙◌, arith, subst, inl, inr, append_assoc, append-nil, ◌↔◌, ◌⊎◌, Some, None}
+use Rattle.std.proofs.Common.{◌≡◌, ℕ, ◌+◌, ◌-◌, ◌*◌, ◌^◌, ◌<◌, ◌≤◌, ◌==◌, ◌&&◌, ◌||◌, not, min, nat_lt, nat_le, nat_eq, if◌then◌else◌, Bool, List, [], ◌∷◌, ◌++◌, length, IsTrue, chars, true, false, zero, suc, slice_index_or, IsUtf8, rules, refl, sym, ap, ap₂, ◌∙◌, arith, subst, inl, inr, append_assoc, append-nil, ◌↔◌, ◌⊎◌, Some, None}
 use Rattle.std.specs.Bool.{then_some}
 use lib.Utf8.{encode}
 use Rattle.std.proofs.Math.Nat.{mul-le-mul_right}
 use Rattle.std.proofs.lemmas.Bool.{cases_lt}
 use Rattle.std.proofs.lemmas.Bool.Decides.{nat_tests}
+use Rattle.std.specs.List.{list_all}
+use Rattle.std.proofs.lemmas.List.Folds.{list_all-append}
+use Rattle.ratatui_ansi.specs.Parameters.{is_told_by}
 use Rattle.std.proofs.lemmas.Str.{chars-encodes, IsUtf8-encode, is_utf8-from_IsUtf8}
 use Rattle.unicode_width.specs.Width.{char_width}
 use Rattle.rtui_geometry.specs.declared.position.Position.{Position}
@@ -31,7 +34,7 @@ use Rattle.ratatui_ansi.specs.Screens.{screen_shown, IsSized, IsWhole, IsBlankBe
 use Rattle.ratatui_ansi.specs.Drawing.{is_one_plain, is_printed, printing_of, columns_of, printed_at, blanked, IsDrawnBy, Changes, Paints, Prints}
 use Rattle.ratatui_ansi.specs.Drawing.Changes.{Stays, Sets}
 use Rattle.ratatui_ansi.specs.Calls.{IsAwaiting}
-use Rattle.ratatui_ansi.specs.Frame.{IsTail, laid, is_fit, printed_columns, glyph_in, IsVacant, IsDrawing, SendsUpdates, SendsDraw}
+use Rattle.ratatui_ansi.specs.Frame.{IsTail, laid, is_fit, printed_columns, glyph_in, is_told_on, IsVacant, IsDrawing, SendsUpdates, SendsDraw}
 use Rattle.ratatui_ansi.proofs.ReadLemmas.{feed-append}
 use Rattle.ratatui_ansi.proofs.ScrollLemmas.{whole_along}
 use Rattle.ratatui_ansi.proofs.TextLemmas.{and-both, blank-chars, blank-one}
@@ -496,6 +499,29 @@ put-vacant w h u flags column row covered vacant c are a b =
     let y_test : nat_lt u.y h ≡ true = grind (arith, nat_tests) in
     let shows : look_in (c u.x u.y) ≡ empty_look = behind_empty (c u.x u.y) (sym (are.each u.x u.y column row) ∙ covered) in
     rw (x_test, y_test, vacant.look, vacant.width) (kept w u.x u.y a b c shows)
+
+-- ---- which pens are told
+
+pub told-off : (w h : ℕ) (colors : Bool) (u : Update) → (nat_lt u.x w && nat_lt u.y h) ≡ false → is_told_on w h colors u ≡ true
+told-off w h colors u off = rw off refl
+
+own-told : (colors : Bool) → is_told_by colors own_pen ≡ true
+own-told true = refl
+own-told false = refl
+
+told-either : (p : Bool) → (p || true) ≡ true
+told-either true = refl
+told-either false = refl
+
+pub told-pen : (w h : ℕ) (colors : Bool) (u : Update) → is_told_by colors (pen_of u.cell) ≡ true → is_told_on w h colors u ≡ true
+told-pen w h colors u told = rw told (told-either (not (nat_lt u.x w && nat_lt u.y h)))
+
+pub told-vacant : (w h : ℕ) (colors : Bool) (u : Update) → IsVacant u.cell → is_told_on w h colors u ≡ true
+told-vacant w h colors u vacant = told-pen w h colors u (ap (is_told_by colors) (vacant-pen u.cell vacant) ∙ own-told colors)
+
+pub told-push : (w h : ℕ) (colors : Bool) (us : List Update) (u : Update) → list_all (is_told_on w h colors) us ≡ true → is_told_on w h colors u ≡ true
+    → list_all (is_told_on w h colors) (us ++ u ∷ []) ≡ true
+told-push w h colors us u all told = list_all-append (is_told_on w h colors) us (u ∷ []) ∙ rw (all, told) refl
 
 -- ---- a draw
 

@@ -1,5 +1,5 @@
 -- What a draw knows of the terminal, and what its bytes do to it.
-use Rattle.std.specs.Prelude.{◌≡◌, ℕ, ◌+◌, ◌-◌, ◌*◌, ◌<◌, ◌≤◌, ◌==◌, ◌&&◌, nat_lt, nat_le, Bool, true, false, if◌then◌else◌, List, ◌++◌, chars, Option, Some, None}
+use Rattle.std.specs.Prelude.{◌≡◌, ℕ, ◌+◌, ◌-◌, ◌*◌, ◌<◌, ◌≤◌, ◌==◌, ◌&&◌, ◌||◌, not, nat_lt, nat_le, Bool, true, false, if◌then◌else◌, List, ◌++◌, chars, Option, Some, None}
 use Rattle.rtui_geometry.specs.declared.position.Position.{Position}
 use Rattle.rtui_cell.specs.Symbol.{symbol_text}
 use Rattle.rtui_cell.specs.Look.{Look, look_of, empty_look}
@@ -62,6 +62,10 @@ pub record IsPlaced (w h : ℕ) (p : Position) (u : Update) : Type 0 where
   pub column : u.x < w
   pub row : u.y < h
   pub place : p ≡ record { x = u.x; y = u.y }
+
+-- whether an update that lies on a screen of this size has a pen that a terminal can be told, one with colours of the line under the text or without
+abbrev pub is_told_on : ℕ → ℕ → Bool → Update → Bool
+is_told_on w h colors u = not (nat_lt u.x w && nat_lt u.y h) || is_told_by colors (pen_of u.cell)
 
 -- an update was refused: for want of memory, or in its place, which isn't covered from the left, because its symbol doesn't fit or its pen
 -- can't be told to a terminal with colours of the line under the text or without, or because it isn't vacant and the place is covered

@@ -1,6 +1,7 @@
 //! A backend for terminals that read escape sequences.
 
 ghost use Rattle.std.specs.Prelude.{◌≡◌, ℕ, ◌+◌, ◌^◌, ◌-◌, ◌*◌, ◌<◌, [], length, true, false, List, map, IfOk, IfErr, OnOk, OnErr};
+ghost use Rattle.std.specs.List.{list_all};
 ghost use Rattle.std.specs.Iterator.{IsFinite, Drains};
 ghost use Rattle.rtui_cell.specs.Grid.{update_by};
 ghost use Rattle.rtui_backend.specs.Failures.{Counts};
@@ -9,6 +10,7 @@ ghost use Rattle.rtui_backend.specs.declared.clear_type.ClearType.TheVariants.{A
 ghost use Rattle.ratatui_ansi.specs.Columns.{blank_column};
 ghost use Rattle.ratatui_ansi.specs.Flags.{AreBehind};
 ghost use Rattle.ratatui_ansi.specs.Backend.{BackendState, shown_by};
+ghost use Rattle.ratatui_ansi.specs.Frame.{is_told_on};
 ghost use Rattle.ratatui_ansi.specs.Headline.{IsReadSurely};
 ghost use Rattle.ratatui_ansi.specs.Refusals.{IsUntold, Leaves, StopsBy};
 
@@ -336,6 +338,10 @@ impl<L: Link> AnsiBackend<L> {
             (items : List (ℕ × ℕ × C)) × Drains I.next_gives content items
             × Draws (shown_by L.told self.old) (map (update_by C.cell) items)
             (shown_by L.told self.new)) }
+        ensures told { OnOk result (
+            (items : List (ℕ × ℕ × C)) × Drains I.next_gives content items
+            × (list_all (is_told_on self.old.size.width self.old.size.height
+            self.old.has_underline_colors) (map (update_by C.cell) items) ≡ true)) }
         ensures stopped { IfErr result (StopsBy I.next_gives content (update_by C.cell)
             self.old.has_underline_colors (shown_by L.told self.old)) }
         ensures state { Leaves result self.old self.new }
@@ -404,6 +410,10 @@ impl<L: Link> Backend for AnsiBackend<L> {
             (items : List (ℕ × ℕ × C)) × Drains I.next_gives content items
             × Draws (shown_by L.told self.old) (map (update_by C.cell) items)
             (shown_by L.told self.new)) }
+        ensures told { OnOk result (
+            (items : List (ℕ × ℕ × C)) × Drains I.next_gives content items
+            × (list_all (is_told_on self.old.size.width self.old.size.height
+            self.old.has_underline_colors) (map (update_by C.cell) items) ≡ true)) }
         ensures stopped { IfErr result (StopsBy I.next_gives content (update_by C.cell)
             self.old.has_underline_colors (shown_by L.told self.old)) }
         ensures state { Leaves result self.old self.new }

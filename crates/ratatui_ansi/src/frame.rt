@@ -1,6 +1,7 @@
 //! Cells in their places, as a backend draws them.
 
 ghost use Rattle.std.specs.Prelude.{◌≡◌, ℕ, ◌+◌, ◌-◌, ◌*◌, ◌<◌, ◌≤◌, ◌&&◌, nat_lt, nat_le, if◌then◌else◌, true, false, IsTrue, ◌↔◌, IfOk, IfErr, OnOk, OnErr, List, [], ◌∷◌, map, length, slice_index_or, string_bytes, MatchResult, Some, ◌==◌};
+ghost use Rattle.std.specs.List.{list_all};
 ghost use Rattle.std.specs.Iterator.{IsFinite, Drains};
 ghost use Rattle.rtui_cell.specs.Symbol.{blank, symbol_text};
 ghost use Rattle.rtui_cell.specs.Cell.{width_of};
@@ -8,7 +9,7 @@ ghost use Rattle.rtui_cell.specs.Grid.{update_by};
 ghost use Rattle.ratatui_ansi.specs.Pen.{own_pen, pen_of};
 ghost use Rattle.ratatui_ansi.specs.Parameters.{is_told};
 ghost use Rattle.ratatui_ansi.specs.Drawing.{printing_of, blanked, Paints};
-ghost use Rattle.ratatui_ansi.specs.Frame.{printed_columns, glyph_in, IsVacant, IsRefused, SendsUpdates, SendsDraw};
+ghost use Rattle.ratatui_ansi.specs.Frame.{printed_columns, glyph_in, is_told_on, IsVacant, IsRefused, SendsUpdates, SendsDraw};
 ghost use Rattle.ratatui_ansi.specs.Refusals.{has_place, StopsWithin, StopsDraw};
 
 use crate::drawing::{Brush, Printing, change_pen, printing_of, put};
@@ -244,6 +245,8 @@ pub fn draw_cell(
     ensures drawn { IfOk result (λ after. SendsUpdates width height (string_bytes out.old)
         drawing behind.old (record { x = x; y = y; cell = cell.now } ∷ [])
         (string_bytes out.new) after behind.new) }
+    ensures told { IfOk result (λ _. is_told_on width height has_underline_colors
+        (record { x = x; y = y; cell = cell.now }) ≡ true) }
     ensures refused { MatchResult result (λ _. Unit {0})
         (IsRefused width height has_underline_colors behind.old
         (record { x = x; y = y; cell = cell.now })) }
@@ -290,7 +293,9 @@ fn draw_all<C: AsCell, I: Iterator<Item = (u16, u16, C)>>(
     ensures drawn { IfOk result (λ after. (items : List (ℕ × ℕ × C))
         × Drains I.next_gives content items
         × SendsUpdates width height (string_bytes out.old) drawing behind.old
-        (map (update_by C.cell) items) (string_bytes out.new) after behind.new) }
+        (map (update_by C.cell) items) (string_bytes out.new) after behind.new
+        × (list_all (is_told_on width height has_underline_colors)
+        (map (update_by C.cell) items) ≡ true)) }
     ensures refused { IfErr result (StopsWithin I.next_gives content (update_by C.cell)
         width height has_underline_colors (string_bytes out.old) drawing behind.old) }
 {
@@ -330,7 +335,9 @@ pub fn draw_cells<C: AsCell, I: Iterator<Item = (u16, u16, C)>>(
     ensures drawn { IfOk result (λ after. (items : List (ℕ × ℕ × C))
         × Drains I.next_gives content items
         × SendsDraw width height (string_bytes out.old) cursor written behind.old
-        (map (update_by C.cell) items) (string_bytes out.new) after.0 after.1 behind.new) }
+        (map (update_by C.cell) items) (string_bytes out.new) after.0 after.1 behind.new
+        × (list_all (is_told_on width height has_underline_colors)
+        (map (update_by C.cell) items) ≡ true)) }
     ensures refused { IfErr result (λ refusal. IsTrue (has_place refusal)
         → StopsDraw I.next_gives content (update_by C.cell) width height has_underline_colors cursor
         written behind.old refusal) }

@@ -1,6 +1,7 @@
-use Rattle.std.proofs.Common.{rules}
+use Rattle.std.proofs.Common.{map, rules, refl}
 use Rattle.std.proofs.lemmas.List.{map-append}
-use Rattle.ratatui_ansi.proofs.FrameLemmas.{sends-none, sends-push}
+use Rattle.rtui_cell.specs.Grid.{update_by}
+use Rattle.ratatui_ansi.proofs.FrameLemmas.{sends-none, sends-push, told-push}
 use Rattle.ratatui_ansi.proofs.RefusalLemmas.{if-error}
 use Rattle.ratatui_ansi.proofs.frame.draw_all.Goals as goal
 
@@ -9,6 +10,7 @@ loop-x-init g c = record {
   can_next = search rules;
   is_finite = search rules;
   sends = sends-none _ _ _ _ _;
+  told = refl;
 }
 
 pub loop-x-preserved : goal.loop-x-preserved
@@ -16,6 +18,8 @@ loop-x-preserved g c = record {
   can_next = search rules;
   is_finite = search rules;
   sends = rw map-append (sends-push _ _ _ _ _ _ _ _ _ _ _ _ _ c.loop-x.invariant.sends (rw c.as_cell.ensures at c.in_ok-drawing.ensures.drawn));
+  told = rw map-append (told-push c.args.width c.args.height c.args.has_underline_colors (map (update_by g.C.AsCell.cell) c.loop-x.yielded)
+      (update_by g.C.AsCell.cell (c.in-Some.x, c.in-Some.y, c.in-Some.cell)) c.loop-x.invariant.told (rw c.as_cell.ensures at c.in_ok-drawing.ensures.told));
 }
 
 pub returns-in_err-drawing-clause-refused : goal.returns-in_err-drawing-clause-refused

@@ -9,6 +9,7 @@ returns-clause-drawn g c =
       drawn.0,
       drawn.1,
       draw-sends _ _ _ _ _ _ _ _ _ _ _ _ refl refl refl refl drawn.2 c.in_ok-change_pen.ensures,
+      drawn.3,
     )
 
 pub returns-in_err-drawing-clause-refused : goal.returns-in_err-drawing-clause-refused

@@ -36,6 +36,11 @@ returns-clause-ok g c =
     let drawn = rw (c.clear.ensures.bytes, copied) at c.in_ok-cursor.ensures.drawn in
     (drawn.0, drawn.1, rw (← c.self.view_is) (drawn-on (g.L.Link.told b.link) drawn.2 told (c.self.invariant.awaiting c.if-self.false)))
 
+pub returns-clause-told : goal.returns-clause-told
+returns-clause-told g c =
+    let drawn = c.in_ok-cursor.ensures.drawn in
+    rw (← c.self.view_is) (drawn.0, drawn.1, drawn.3)
+
 pub returns-in_err-cursor-clause-stopped : goal.returns-in_err-cursor-clause-stopped
 returns-in_err-cursor-clause-stopped g c =
     let b = c.self.inside in
