@@ -308,7 +308,7 @@ impl<'a> Reader<'a> {
 
     // Plain characters one by one, any other text as one symbol.
     fn print(&mut self, text: &'a str) {
-        if text.chars().all(is_plain) {
+        if text.chars().all(|c| is_plain(c)) {
             for (at, ch) in text.char_indices() {
                 self.print_symbol(text.get(at..at + ch.len_utf8()).unwrap_or(""), 1);
             }

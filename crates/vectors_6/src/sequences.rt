@@ -1,9 +1,9 @@
 //! Bytes that are sent, beside those of a terminal's manual.
 use bitflags::Flags;
 use ratatui_ansi::{
-    AnsiBackend, AnsiError, Brush, Kept, Part, Pen, Printing, append_lines, delete_lines, erase,
-    erase_all, hide_cursor, is_symbol, move_to, printing_of, push_pen, push_plain, put,
-    reset_region, scroll_down, scroll_region_down, scroll_region_up, set_region, show_cursor,
+    AnsiBackend, AnsiError, Kept, Part, Pen, Printing, append_lines, delete_lines, erase,
+    erase_all, hide_cursor, is_symbol, move_to, printing_of, push_pen, push_plain, reset_region,
+    scroll_down, scroll_region_down, scroll_region_up, set_region, show_cursor,
 };
 use rtui_backend::{Backend, ClearType};
 use rtui_cell::Cell;
@@ -166,42 +166,6 @@ fn symbols(rt: HostRuntime) -> Result<(), Fail> {
     Ok(())
 }
 
-// Puts a symbol on a screen of 80 columns and 24 rows.
-fn drawn(
-    out: &mut String,
-    brush: Brush,
-    x: u16,
-    y: u16,
-    fg: Color,
-    symbol: &str,
-) -> Result<Brush, Fail> {
-    let pen = Pen { fg, ..Pen::OWN };
-    let printing = printing_of(symbol);
-    if x >= 80 || y >= 24 || !pen.is_told() || printing == Printing::Unprinted {
-        return Err(Fail::from(AllocError));
-    }
-    let is_plain = printing == Printing::Plain;
-    Ok(put(out, brush, 80, 24, x, y, pen, symbol, is_plain)?)
-}
-
-#[test]
-fn moves_and_pens_only_where_they_change(rt: HostRuntime) -> Result<(), Fail> {
-    let mut out = String::new(rt.alloc());
-    let brush = Brush {
-        pen: Pen::OWN,
-        is_placed: false,
-        x: 0,
-        y: 0,
-    };
-    let brush = drawn(&mut out, brush, 1, 0, Color::Reset, "a")?;
-    let brush = drawn(&mut out, brush, 2, 0, Color::Reset, "─")?;
-    let brush = drawn(&mut out, brush, 3, 0, Color::Green, "c")?;
-    let brush = drawn(&mut out, brush, 4, 0, Color::Green, "コ")?;
-    drawn(&mut out, brush, 6, 0, Color::Green, "d")?;
-    assert!(rt; out.as_str() == "\u{1b}[1;2Ha─\u{1b}[0;32mc\u{1b}[1;5Hコ\u{1b}[1;7Hd");
-    Ok(())
-}
-
 // A backend of a screen of so many columns and rows, over a link that keeps what it is told.
 pub(crate) fn over_kept(alloc: Global, width: u16, height: u16) -> Result<AnsiBackend<Kept>, Fail> {
     let size = Size { width, height };
@@ -260,6 +224,36 @@ fn draws(
     let answer = backend.draw(cells.iter().copied());
     let unsent = backend.link().unsent();
     answer == wanted && unsent.get(before..) == Some(told)
+}
+
+#[test]
+fn moves_and_pens_only_where_they_change(rt: HostRuntime) -> Result<(), Fail> {
+    let alloc = rt.alloc();
+    let mut backend = over_kept(alloc, 80, 24)?;
+    let (a, line) = (Cell::new(alloc, "a")?, Cell::new(alloc, "─")?);
+    let (mut c, mut wide, mut d) = (
+        Cell::new(alloc, "c")?,
+        Cell::new(alloc, "コ")?,
+        Cell::new(alloc, "d")?,
+    );
+    c.fg = Color::Green;
+    wide.fg = Color::Green;
+    d.fg = Color::Green;
+    assert!(rt;
+        draws(
+            &mut backend,
+            &[
+                (1, 0, &a),
+                (2, 0, &line),
+                (3, 0, &c),
+                (4, 0, &wide),
+                (6, 0, &d)
+            ],
+            Ok(()),
+            "\u{1b}[1;2Ha─\u{1b}[0;32mc\u{1b}[1;5Hコ\u{1b}[1;7Hd\u{1b}[0m"
+        )
+    );
+    Ok(())
 }
 
 #[test]
