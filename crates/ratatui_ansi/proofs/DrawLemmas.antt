@@ -1,24 +1,22 @@
 -- What a sent symbol leaves on a terminal.
 use Rattle.std.proofs.Common.{◌≡◌, ℕ, ◌+◌, ◌-◌, ◌<◌, ◌&&◌, ◌||◌, not, min, Bool, List, [], ◌∷◌, ◌++◌, ◌==◌, length, IsTrue, IsUtf8, chars, true, false, refl, sym, ap, ap₂, ◌∙◌, arith, append-nil, if◌then◌else◌, subst, nat_lt, unwrap_or, Some, None}
-use lib.Utf8.{encode, encodes}
+use lib.Utf8.{scalar, encode, encodes, low_scalar}
 use Rattle.std.specs.List.{list_all}
 use Rattle.std.specs.Str.{is_utf8}
 use Rattle.std.proofs.lemmas.Bool.Decides.{nat_tests}
 use Rattle.std.proofs.lemmas.List.Folds.{list_all-append}
-use Rattle.std.proofs.lemmas.Str.{chars-nil, chars-append, encodes-chars, IsUtf8-append, IsUtf8-nil, IsUtf8-from_is_utf8, is_utf8-from_IsUtf8}
+use Rattle.std.proofs.lemmas.Str.{chars-nil, chars-append, chars-encodes, encodes-chars, IsUtf8-encode, IsUtf8-append, IsUtf8-nil, IsUtf8-from_is_utf8, is_utf8-from_IsUtf8}
 use Rattle.unicode_width.specs.Width.{char_width}
 use Rattle.rtui_cell.specs.Width.{text_width}
 use Rattle.ratatui_ansi.specs.declared.pen.Pen.{Pen}
 use Rattle.ratatui_ansi.specs.declared.drawing.Brush.{Brush}
 use Rattle.ratatui_ansi.specs.declared.drawing.Printing.TheVariants.{Plain, Whole, Unprinted}
-use Rattle.ratatui_ansi.specs.Emulator.{Emulator, standing, rested, printed, prints, types, moved, with_pen, is_plain, is_shown, has_columns, is_symbol, begins_anew}
+use Rattle.ratatui_ansi.specs.Emulator.{Emulator, standing, rested, printed, prints, types, moved, is_plain, is_shown, has_columns, is_symbol, begins_anew}
 use Rattle.ratatui_ansi.specs.Emulator.Phase.{Ground}
 use Rattle.ratatui_ansi.specs.Sequences.{feed}
 use Rattle.ratatui_ansi.specs.Sends.{Sends, Does, typed}
-use Rattle.ratatui_ansi.specs.Drawing.{only_of, is_one_plain, is_printed, printing_of, columns_of, IsDrawnBy, drawn_at, Changes, Prints}
-use Rattle.ratatui_ansi.specs.Drawing.Changes.{Stays, Sets}
+use Rattle.ratatui_ansi.specs.Drawing.{only_of, is_one_plain, is_printed, printing_by, printing_of, columns_of, is_at, IsDrawnBy, drawn_at, Prints}
 use Rattle.ratatui_ansi.proofs.ReadLemmas.{Sends-then}
-use Rattle.ratatui_ansi.proofs.RegionLemmas.{Does-then}
 use Rattle.ratatui_ansi.proofs.TextLemmas.{and-both}
 
 -- how plain characters are printed one after the other
@@ -57,21 +55,26 @@ only-is (d ∷ f ∷ cs) c e = let h : ⊥ = cc in absurd h
 plain-shown : (c : ℕ) → is_plain c ≡ true → is_shown c ≡ true
 plain-shown c plain = grind (arith, nat_tests)
 
-by-character : (p s u : Bool) → (p ≡ true → s ≡ true)
-    → (if p then Plain else (if s && (p || u) then Whole else Unprinted))
-    ≡ (if (true && (s && true) && (p || u)) && ((true && (p && true)) || not (p && true)) then (if true && (p && true) then Plain else Whole) else Unprinted)
-by-character true s u shown = rw (shown refl) refl
-by-character false true true shown = refl
-by-character false true false shown = refl
-by-character false false true shown = refl
-by-character false false false shown = refl
+by-character : (c : ℕ) (p s u : Bool) → (p ≡ true → s ≡ true)
+    → (if p then Plain c else (if s && (p || u) then Whole else Unprinted))
+    ≡ (if (true && (s && true) && (p || u)) && ((true && (p && true)) || not (p && true)) then (if p then Plain c else Whole) else Unprinted)
+by-character c true s u shown = rw (shown refl) refl
+by-character c false true true shown = refl
+by-character c false true false shown = refl
+by-character c false false true shown = refl
+by-character c false false false shown = refl
 
 -- a text of one character
 pub printing-one : (text : List ℕ) (c : ℕ) → IsUtf8 text → only_of (chars text) ≡ Some c
-    → (if is_plain c then Plain else (if is_shown c && has_columns c then Whole else Unprinted)) ≡ printing_of text
+    → (if is_plain c then Plain c else (if is_shown c && has_columns c then Whole else Unprinted)) ≡ printing_of text
 printing-one text c utf8 only =
     let one : chars text ≡ c ∷ [] = only-is (chars text) c only in
-    rw (one, is_utf8-from_IsUtf8 text utf8) (by-character (is_plain c) (is_shown c) (nat_lt 0 (unwrap_or (char_width false c) 0)) (plain-shown c))
+    rw (one, is_utf8-from_IsUtf8 text utf8) (by-character c (is_plain c) (is_shown c) (nat_lt 0 (unwrap_or (char_width false c) 0)) (plain-shown c))
+
+none-by : (cs : List ℕ) → only_of cs ≡ None → printing_by cs ≡ Whole
+none-by [] e = refl
+none-by (c ∷ []) e = let h : ⊥ = cc in absurd h
+none-by (c ∷ d ∷ cs) e = refl
 
 none-single : (cs : List ℕ) → only_of cs ≡ None → is_one_plain cs ≡ false
 none-single [] e = refl
@@ -80,14 +83,14 @@ none-single (c ∷ d ∷ cs) e =
     let two : (length (c ∷ d ∷ cs) == 1) ≡ false = grind (arith, nat_tests) in
     rw two refl
 
-by-symbol : (s p : Bool) → (if s && not p then Whole else Unprinted) ≡ (if s && (false || not p) then (if false then Plain else Whole) else Unprinted)
+by-symbol : (s p : Bool) → (if s && not p then Whole else Unprinted) ≡ (if s && (false || not p) then Whole else Unprinted)
 by-symbol true true = refl
 by-symbol true false = refl
 by-symbol false p = refl
 
 -- a text of several, or of none
 pub printing-several : (text : List ℕ) → only_of (chars text) ≡ None → (if is_symbol text && not (list_all is_plain (chars text)) then Whole else Unprinted) ≡ printing_of text
-printing-several text only = rw (none-single (chars text) only) (by-symbol (is_symbol text) (list_all is_plain (chars text)))
+printing-several text only = rw (none-single (chars text) only, none-by (chars text) only) (by-symbol (is_symbol text) (list_all is_plain (chars text)))
 
 -- a symbol is text in UTF-8
 symbol-utf8 : (symbol : List ℕ) → is_symbol symbol ≡ true → IsUtf8 symbol
@@ -139,24 +142,42 @@ alone-standing symbol t is none =
           ∙ sym (ap (λ xs. prints symbol (text_width symbol) (record (printed xs t) { text = [] })) none)
     ] refl
 
+-- ---- a plain character
+
+plain-scalar : (c : ℕ) → is_plain c ≡ true → scalar c ≡ true
+plain-scalar c plain = low_scalar c (grind (arith, nat_tests))
+
+plain-chars : (c : ℕ) → is_plain c ≡ true → chars (encode c) ≡ c ∷ []
+plain-chars c plain = ap chars (sym (append-nil (encode c))) ∙ chars-encodes (c ∷ []) (rw (plain-scalar c plain) refl)
+
+-- one printed as a symbol
+pub plain-printed : (c : ℕ) → is_plain c ≡ true → is_printed (encode c) ≡ true
+plain-printed c plain = rw (plain-chars c plain, is_utf8-from_IsUtf8 (encode c) (IsUtf8-encode c (plain-scalar c plain)), plain, plain-shown c plain) refl
+
+pub plain-single : (c : ℕ) → is_plain c ≡ true → is_one_plain (chars (encode c)) ≡ true
+plain-single c plain = rw (plain-chars c plain, plain) refl
+
 -- ---- a symbol in its place
 
+-- a brush knows where the next plain character would be printed only behind a plain one
+abbrev pub KnowsPlace : ℕ → ℕ → List ℕ → Brush → Type 0
+KnowsPlace x y symbol after = IsTrue after.is_placed → (after.x ≡ x + 1) × (after.y ≡ y) × (is_one_plain (chars symbol) ≡ true)
+
 -- behind a symbol that was printed the terminal is drawn as the brush says
-drawn-behind : (x y : ℕ) (pen : Pen) (symbol : List ℕ) (after : Brush) (t u : Emulator) → u.phase ≡ Ground → after.pen ≡ pen → after.x ≡ x + 1 → after.y ≡ y
-    → rested u ≡ prints symbol (columns_of symbol) (drawn_at x y pen t)
-    → (IsTrue after.is_placed → IsUtf8 u.text × (list_all is_plain (chars u.text) ≡ true) × (is_one_plain (chars symbol) ≡ true))
-    → IsDrawnBy after u
-drawn-behind x y pen symbol after t u ground same column row e placed = record {
+drawn-behind : (x y : ℕ) (pen : Pen) (symbol : List ℕ) (after : Brush) (t u : Emulator) → u.phase ≡ Ground → after.pen ≡ pen → KnowsPlace x y symbol after
+    → rested u ≡ prints symbol (columns_of symbol) (drawn_at x y pen t) → (IsTrue after.is_placed → IsUtf8 u.text × (list_all is_plain (chars u.text) ≡ true)) → IsDrawnBy after u
+drawn-behind x y pen symbol after t u ground same knows e placed = record {
   phase = ground;
   pen = ap (λ (v : Emulator). v.pen) e ∙ sym same;
   placed = λ known.
       let p = placed known in
-      let one : columns_of symbol ≡ 1 = rw p.2 refl in
+      let at = knows known in
+      let one : columns_of symbol ≡ 1 = rw at.2 refl in
       record {
         utf8 = p.0;
         plain = p.1;
-        column = ap (λ (v : Emulator). v.x) e ∙ ap (λ k. x + k) one ∙ sym column;
-        row = ap (λ (v : Emulator). v.y) e ∙ sym row;
+        column = ap (λ (v : Emulator). v.x) e ∙ ap (λ k. x + k) one ∙ sym at.0;
+        row = ap (λ (v : Emulator). v.y) e ∙ sym at.1;
       };
 }
 
@@ -175,79 +196,67 @@ at-drawn x y pen t ex ey ep = rw (← ex, ← ey, ← ep) refl
 moved-drawn : (x y : ℕ) (pen : Pen) (t : Emulator) → drawn_at x y pen (moved x y t) ≡ drawn_at x y pen t
 moved-drawn x y pen t = refl
 
--- a symbol behind a sequence
-put-sent : (w h : ℕ) (before : Brush) (x y : ℕ) (pen : Pen) (symbol old new : List ℕ) (action : Emulator → Emulator) → Sends old new (λ t. typed symbol (action (rested t))) → is_printed symbol ≡ true
-    → (after : Brush) → after.pen ≡ pen → after.x ≡ x + 1 → after.y ≡ y → (IsTrue after.is_placed → is_one_plain (chars symbol) ≡ true)
-    → ((t : Emulator) → rested (action (rested t)) ≡ action (rested t))
-    → ((t : Emulator) → (rested t).width ≡ w → (rested t).height ≡ h → IsDrawnBy before t → action (rested t) ≡ drawn_at x y pen (rested t))
-    → Prints w h old before x y pen symbol new after
-put-sent w h before x y pen symbol old new action sends is after same column row single stays drawn_there =
-    let text = (and-both (is_symbol symbol) (is_one_plain (chars symbol) || not (list_all is_plain (chars symbol))) is).0 in
-    let empty : (t : Emulator) → (action (rested t)).text ≡ [] = λ t. ap (λ (v : Emulator). v.text) (sym (stays t)) in
-    let ground : (t : Emulator) → (action (rested t)).phase ≡ Ground = λ t. ap (λ (v : Emulator). v.phase) (sym (stays t)) in
-    let shown : (t : Emulator) → (rested t).width ≡ w → (rested t).height ≡ h → IsDrawnBy before t → rested (feed sends.bytes t) ≡ prints symbol (columns_of symbol) (drawn_at x y pen (rested t))
-    = λ t wide high drawn. ap rested (sends.read t drawn.phase) ∙ ap (λ (v : Emulator). record v { phase = Ground }) (alone-standing symbol (action (rested t)) is (empty t))
-    ∙ ap (prints symbol (columns_of symbol)) (stays t ∙ drawn_there t wide high drawn) in
+pub at-parts : (x y : ℕ) (b : Brush) → is_at x y b ≡ true → IsTrue b.is_placed × (b.x ≡ x) × (b.y ≡ y)
+at-parts x y b e =
+    let placed : IsTrue b.is_placed = grind (arith, nat_tests) in
+    let column : b.x ≡ x = grind (arith, nat_tests) in
+    let row : b.y ≡ y = grind (arith, nat_tests) in
+    (placed, column, row)
+
+-- a plain character where the cursor is
+pub put-here : (w h x y : ℕ) (before after : Brush) (c : ℕ) (old new : List ℕ) → Sends old new (typed (encode c)) → is_plain c ≡ true → IsTrue before.is_placed → before.x ≡ x → before.y ≡ y
+    → after.pen ≡ before.pen → after.x ≡ x + 1 → after.y ≡ y → Prints w h old before x y before.pen (encode c) new after
+put-here w h x y before after c old new sends plain placed at_x at_y same column row =
+    let symbol = encode c in
+    let single = plain-single c plain in
+    let text = (and-both (is_symbol symbol) (is_one_plain (chars symbol) || not (list_all is_plain (chars symbol))) (plain-printed c plain)).0 in
+    let utf8 = symbol-utf8 symbol text in
+    let columns : 1 ≡ columns_of symbol = rw single refl in
+    let shown : (t : Emulator) → IsDrawnBy before t → rested (feed sends.bytes t) ≡ prints symbol (columns_of symbol) (drawn_at x y before.pen (rested t)) = λ t drawn.
+    let here = drawn.placed placed in
+    ap rested (sends.read t drawn.phase) ∙ ap (λ (v : Emulator). record v { phase = Ground }) (behind-standing symbol t text single here.utf8 here.plain)
+    ∙ ap₂ (λ n v. prints symbol n v) columns (at-drawn x y before.pen (rested t) (here.column ∙ at_x) (here.row ∙ at_y) drawn.pen) in
     record {
       bytes = sends.bytes;
       appended = sends.appended;
       drawn = λ t wide high drawn.
-          let e : feed sends.bytes t ≡ typed symbol (action (rested t)) = sends.read t drawn.phase in
-          let only : (feed sends.bytes t).text ≡ symbol = ap (λ (v : Emulator). v.text) e ∙ ap (λ xs. xs ++ symbol) (empty t) in
-          drawn-behind x y pen symbol after (rested t) (feed sends.bytes t) (ap (λ (v : Emulator). v.phase) e ∙ ground t) same column row (shown t wide high drawn)
-          (λ known. (subst IsUtf8 (sym only) (symbol-utf8 symbol text), ap (λ xs. list_all is_plain (chars xs)) only ∙ one-plain (chars symbol) (single known), single known));
+          let here = drawn.placed placed in
+          let e : feed sends.bytes t ≡ typed symbol t = sends.read t drawn.phase in
+          drawn-behind x y before.pen symbol after (rested t) (feed sends.bytes t) (ap (λ (v : Emulator). v.phase) e ∙ drawn.phase) same (λ known. (column, row, single)) (shown t drawn)
+          (λ known. (
+            subst IsUtf8 (sym (ap (λ (v : Emulator). v.text) e)) (IsUtf8-append t.text symbol here.utf8 utf8),
+            ap (λ (v : Emulator). list_all is_plain (chars v.text)) e ∙ more-plain t.text symbol here.utf8 here.plain (one-plain (chars symbol) single),
+          ));
+      printed = λ t wide high drawn. shown t drawn;
+    }
+
+-- a symbol in a place, with a move
+pub put-there : (w h x y : ℕ) (before after : Brush) (symbol old first new : List ℕ) → x < w → y < h → Does old first (moved x y) → Sends first new (typed symbol)
+    → is_printed symbol ≡ true → after.pen ≡ before.pen → KnowsPlace x y symbol after → Prints w h old before x y before.pen symbol new after
+put-there w h x y before after symbol old first new x_in y_in moves sends is same knows =
+    let pen = before.pen in
+    let text = (and-both (is_symbol symbol) (is_one_plain (chars symbol) || not (list_all is_plain (chars symbol))) is).0 in
+    let both : Sends old new (λ t. typed symbol (moved x y (rested t))) = Sends-then old first new (λ t. moved x y (rested t)) (typed symbol) moves sends (λ t. refl) in
+    let there : (t : Emulator) → (rested t).width ≡ w → (rested t).height ≡ h → IsDrawnBy before t → moved x y (rested t) ≡ drawn_at x y pen (rested t) = λ t wide high drawn.
+    let cursor_x : min x ((rested t).width - 1) ≡ x = omega arith in
+    let cursor_y : min y ((rested t).height - 1) ≡ y = omega arith in
+    at-drawn x y pen (moved x y (rested t)) cursor_x cursor_y drawn.pen ∙ moved-drawn x y pen (rested t) in
+    let shown : (t : Emulator) → (rested t).width ≡ w → (rested t).height ≡ h → IsDrawnBy before t → rested (feed both.bytes t) ≡ prints symbol (columns_of symbol) (drawn_at x y pen (rested t))
+    = λ t wide high drawn. ap rested (both.read t drawn.phase) ∙ ap (λ (v : Emulator). record v { phase = Ground }) (alone-standing symbol (moved x y (rested t)) is refl)
+    ∙ ap (prints symbol (columns_of symbol)) (there t wide high drawn) in
+    record {
+      bytes = both.bytes;
+      appended = both.appended;
+      drawn = λ t wide high drawn.
+          let e : feed both.bytes t ≡ typed symbol (moved x y (rested t)) = both.read t drawn.phase in
+          let only : (feed both.bytes t).text ≡ symbol = ap (λ (v : Emulator). v.text) e in
+          drawn-behind x y pen symbol after (rested t) (feed both.bytes t) (ap (λ (v : Emulator). v.phase) e) same knows (shown t wide high drawn)
+          (λ known. (subst IsUtf8 (sym only) (symbol-utf8 symbol text), ap (λ xs. list_all is_plain (chars xs)) only ∙ one-plain (chars symbol) (knows known).2));
       printed = shown;
     }
 
--- a plain character where the cursor is
-pub put-here : (w h : ℕ) (before : Brush) (pen : Pen) (symbol old mid new : List ℕ) → Changes before.pen pen old mid → Sends mid new (typed symbol) → IsTrue (is_printed symbol) → IsTrue (is_one_plain (chars symbol))
-    → IsTrue before.is_placed → Prints w h old before before.x before.y pen symbol new (record { pen = pen; is_placed = true; x = before.x + 1; y = before.y })
-put-here w h before pen symbol old mid new changes sends printed one placed =
-    let is : is_printed symbol ≡ true = grind (arith, nat_tests) in
-    let single : is_one_plain (chars symbol) ≡ true = grind (arith, nat_tests) in
-    let text = (and-both (is_symbol symbol) (is_one_plain (chars symbol) || not (list_all is_plain (chars symbol))) is).0 in
-    let utf8 = symbol-utf8 symbol text in
-    let after : Brush = record { pen = pen; is_placed = true; x = before.x + 1; y = before.y } in
-    let columns : 1 ≡ columns_of symbol = rw single refl in
-    elim changes [
-      | Stays same none ↦
-          let shown : (t : Emulator) → IsDrawnBy before t → rested (feed sends.bytes t) ≡ prints symbol (columns_of symbol) (drawn_at before.x before.y pen (rested t)) = λ t drawn.
-          let here = drawn.placed placed in
-          ap rested (sends.read t drawn.phase) ∙ ap (λ (v : Emulator). record v { phase = Ground }) (behind-standing symbol t text single here.utf8 here.plain)
-          ∙ ap₂ (λ n v. prints symbol n v) columns (at-drawn before.x before.y pen (rested t) here.column here.row (drawn.pen ∙ same)) in
-          record {
-            bytes = sends.bytes;
-            appended = sends.appended ∙ ap (λ xs. xs ++ sends.bytes) none;
-            drawn = λ t wide high drawn.
-                let here = drawn.placed placed in
-                let e : feed sends.bytes t ≡ typed symbol t = sends.read t drawn.phase in
-                drawn-behind before.x before.y pen symbol after (rested t) (feed sends.bytes t) (ap (λ (v : Emulator). v.phase) e ∙ drawn.phase) refl refl refl (shown t drawn)
-                (λ known. (
-                  subst IsUtf8 (sym (ap (λ (v : Emulator). v.text) e)) (IsUtf8-append t.text symbol here.utf8 utf8),
-                  ap (λ (v : Emulator). list_all is_plain (chars v.text)) e ∙ more-plain t.text symbol here.utf8 here.plain (one-plain (chars symbol) single),
-                  single,
-                ));
-            printed = λ t wide high drawn. shown t drawn;
-          }
-      | Sets does ↦ put-sent w h before before.x before.y pen symbol old new (with_pen pen) (Sends-then old mid new (λ t. with_pen pen (rested t)) (typed symbol) does sends (λ t. refl)) is after refl refl refl (λ known. single)
-          (λ t. refl) (λ t wide high drawn. let here = drawn.placed placed in at-drawn before.x before.y pen (with_pen pen (rested t)) here.column here.row refl)
-    ]
-
--- a symbol in a place, with a move
-pub put-there : (w h x y : ℕ) (before after : Brush) (pen : Pen) (symbol old first mid new : List ℕ) → x < w → y < h → Does old first (moved x y) → Changes before.pen pen first mid → Sends mid new (typed symbol)
-    → IsTrue (is_printed symbol) → after.pen ≡ pen → after.x ≡ x + 1 → after.y ≡ y → (IsTrue after.is_placed → is_one_plain (chars symbol) ≡ true) → Prints w h old before x y pen symbol new after
-put-there w h x y before after pen symbol old first mid new x_in y_in moves changes sends printed same column row single =
-    let is : is_printed symbol ≡ true = grind (arith, nat_tests) in
-    let cursor_x : (s : Emulator) → s.width ≡ w → min x (s.width - 1) ≡ x = λ s wide. omega arith in
-    let cursor_y : (s : Emulator) → s.height ≡ h → min y (s.height - 1) ≡ y = λ s high. omega arith in
-    elim changes [
-      | Stays pens none ↦
-          put-sent w h before x y pen symbol old new (moved x y)
-          (Sends-then old first new (λ t. moved x y (rested t)) (typed symbol) moves (subst (λ xs. Sends xs new (typed symbol)) none sends) (λ t. refl)) is after same column row single
-          (λ t. refl) (λ t wide high drawn. at-drawn x y pen (moved x y (rested t)) (cursor_x (rested t) wide) (cursor_y (rested t) high) (drawn.pen ∙ pens) ∙ moved-drawn x y pen (rested t))
-      | Sets does ↦
-          put-sent w h before x y pen symbol old new (λ t. with_pen pen (moved x y t))
-          (Sends-then old mid new (λ t. with_pen pen (moved x y (rested t))) (typed symbol)
-          (Does-then old first mid (moved x y) (with_pen pen) moves does (λ t. refl)) sends (λ t. refl)) is after same column row single
-          (λ t. refl) (λ t wide high drawn. at-drawn x y pen (with_pen pen (moved x y (rested t))) (cursor_x (rested t) wide) (cursor_y (rested t) high) refl ∙ moved-drawn x y pen (rested t))
-    ]
+-- a symbol behind which no place is known
+pub put_unplaced : (w h x y : ℕ) (before after : Brush) (symbol old first new : List ℕ) → Does old first (moved x y) → Sends first new (typed symbol) → is_printed symbol ≡ true
+    → after.pen ≡ before.pen → after.is_placed ≡ false → x < w → y < h → Prints w h old before x y before.pen symbol new after
+put_unplaced w h x y before after symbol old first new moves sends is same unplaced column row =
+    put-there w h x y before after symbol old first new column row moves sends is same (λ known. let none : ⊥ = cc in absurd none)

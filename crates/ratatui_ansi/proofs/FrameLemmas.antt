@@ -1,15 +1,13 @@
 -- What the bytes of a cell do to a terminal within a draw.
-use Rattle.std.proofs.Common.{◌≡◌, ℕ, ◌+◌, ◌-◌, ◌*◌, ◌^◌, ◌<◌, ◌≤◌, ◌==◌, ◌&&◌, ◌||◌, not, min, nat_lt, nat_le, nat_eq, if◌then◌else◌, Bool, List, [], ◌∷◌, ◌++◌, length, IsTrue, chars, true, false, zero, suc, slice_index_or, IsUtf8, rules, refl, sym, ap, ap₂, ◌∙◌, arith, subst, inl, inr, append_assoc, append-nil, ◌↔◌, ◌⊎◌, Some, None}
+use Rattle.std.proofs.Common.{◌≡◌, ℕ, ◌+◌, ◌-◌, ◌*◌, ◌^◌, ◌<◌, ◌≤◌, ◌==◌, ◌&&◌, ◌||◌, not, min, nat_lt, nat_le, nat_eq, if◌then◌else◌, Bool, List, [], ◌∷◌, ◌++◌, length, IsTrue, chars, true, false, zero, suc, slice_index_or, IsUtf8, MatchOption, rules, refl, sym, ap, ap₂, ◌∙◌, arith, subst, inl, inr, append_assoc, append-nil, ◌⊎◌}
 use Rattle.std.specs.Bool.{then_some}
-use lib.Utf8.{encode}
+use lib.Utf8.{encode, encodes}
 use Rattle.std.proofs.Math.Nat.{mul-le-mul_right}
 use Rattle.std.proofs.lemmas.Bool.{cases_lt}
 use Rattle.std.proofs.lemmas.Bool.Decides.{nat_tests}
 use Rattle.std.specs.List.{list_all}
 use Rattle.std.proofs.lemmas.List.Folds.{list_all-append}
-use Rattle.ratatui_ansi.specs.Parameters.{is_told_by}
-use Rattle.std.proofs.lemmas.Str.{chars-encodes, IsUtf8-encode, is_utf8-from_IsUtf8}
-use Rattle.unicode_width.specs.Width.{char_width}
+use Rattle.std.proofs.lemmas.Str.{chars-nil, encodes-chars, IsUtf8-nil}
 use Rattle.rtui_geometry.specs.declared.position.Position.{Position}
 use Rattle.rtui_cell.specs.Symbol.{blank, symbol_text}
 use Rattle.rtui_cell.specs.Look.{Look, look_of, empty_look}
@@ -25,36 +23,28 @@ use Rattle.ratatui_ansi.specs.declared.drawing.Brush.{Brush}
 use Rattle.ratatui_ansi.specs.declared.drawing.Printing.TheVariants.{Plain, Whole, Unprinted}
 use Rattle.ratatui_ansi.specs.declared.frame.Drawing.{Drawing}
 use Rattle.ratatui_ansi.specs.declared.frame.Glyph.{Glyph}
+use Rattle.ratatui_ansi.specs.declared.frame.Glyph.TheVariants as Glyphs
 use Rattle.ratatui_ansi.specs.Columns.{Columns, look_in, is_behind}
 use Rattle.ratatui_ansi.specs.Flags.{AreBehind, flag}
+use Rattle.ratatui_ansi.specs.Parameters.{is_told_by}
 use Rattle.ratatui_ansi.specs.Pen.{own_pen, inked, pen_of}
-use Rattle.ratatui_ansi.specs.Emulator.{Emulator, rested, run, with_pen, has_columns}
+use Rattle.ratatui_ansi.specs.Emulator.{Emulator, rested, run, with_pen, is_plain}
 use Rattle.ratatui_ansi.specs.Sequences.{feed}
 use Rattle.ratatui_ansi.specs.Screens.{screen_shown, IsSized, IsWhole, IsBlankBeyond, IsReady, put_columns}
-use Rattle.ratatui_ansi.specs.Drawing.{is_one_plain, is_printed, printing_of, columns_of, printed_at, blanked, IsDrawnBy, Changes, Paints, Prints}
+use Rattle.ratatui_ansi.specs.Drawing.{is_one_plain, is_printed, printing_by, printing_of, columns_of, printed_at, blanked, IsDrawnBy, Changes, Paints, Prints}
 use Rattle.ratatui_ansi.specs.Drawing.Changes.{Stays, Sets}
 use Rattle.ratatui_ansi.specs.Calls.{IsAwaiting}
-use Rattle.ratatui_ansi.specs.Frame.{IsTail, laid, is_fit, printed_columns, glyph_in, is_told_on, IsVacant, IsDrawing, SendsUpdates, SendsDraw}
+use Rattle.ratatui_ansi.specs.Frame.{IsTail, laid, is_fit, glyph_columns, is_told_on, IsGlyph, IsVacant, IsDrawing, AreMarked, Covers, SendsUpdates, SendsDraw}
 use Rattle.ratatui_ansi.proofs.ReadLemmas.{feed-append}
 use Rattle.ratatui_ansi.proofs.ScrollLemmas.{whole_along}
-use Rattle.ratatui_ansi.proofs.TextLemmas.{and-both, blank-chars, blank-one}
+use Rattle.ratatui_ansi.proofs.TextLemmas.{and-both, blank-one}
 use Rattle.ratatui_ansi.proofs.TailLemmas.{behind_empty, torn, put-torn, torn-more, torn-all, laid-sized, laid-whole, laid-beyond, laid-behind, laid-shown}
 
 -- ---- blanks
 
-blank-utf8 : IsUtf8 blank
+pub blank-encoded : encode 32 ≡ blank
 unfolding encode
-blank-utf8 = IsUtf8-encode 32 (search rules)
-
-blank-columns : has_columns 32 ≡ true
-unfolding char_width
-blank-columns = refl
-
-pub blank-printed : is_printed blank ≡ true
-blank-printed = rw (blank-chars, is_utf8-from_IsUtf8 blank blank-utf8, blank-columns) refl
-
-pub blank-single : is_one_plain (chars blank) ≡ true
-blank-single = rw blank-chars refl
+blank-encoded = refl
 
 -- all but the columns, the cursor, the pen and the doubt stays
 abbrev pub OnlyPrinted : Emulator → Emulator → Type 0
@@ -124,6 +114,33 @@ Paints-then w h a b c p q r f g keeps first second =
           ∙ ap g (first.printed t width height drawn);
     }
 
+-- a pen that is set where the terminal has another
+with_pen-same : (pen : Pen) (t : Emulator) → t.pen ≡ pen → t ≡ with_pen pen t
+with_pen-same pen t e = rw (← e) refl
+
+pub pen-paints : (w h : ℕ) (before : Brush) (pen : Pen) (old new : List ℕ) → Changes before.pen pen old new → Paints w h old before (with_pen pen) new (record before { pen = pen })
+unfolding feed
+pen-paints w h before pen old new (Stays same none) = record {
+  bytes = [];
+  appended = none ∙ sym (append-nil old);
+  drawn = λ t width height drawn. record { phase = drawn.phase; pen = drawn.pen ∙ same; placed = drawn.placed };
+  printed = λ t width height drawn. with_pen-same pen (rested t) (drawn.pen ∙ same);
+}
+pen-paints w h before pen old new (Sets does) =
+    let fed : (t : Emulator) → IsDrawnBy before t → feed does.bytes t ≡ with_pen pen (rested t) = λ t drawn. does.read t drawn.phase in
+    record {
+      bytes = does.bytes;
+      appended = does.appended;
+      drawn = λ t width height drawn. subst (IsDrawnBy (record before { pen = pen })) (sym (fed t drawn)) (record {
+        phase = refl;
+        pen = refl;
+        placed = λ known.
+            let here = drawn.placed known in
+            record { utf8 = IsUtf8-nil; plain = ap (list_all is_plain) chars-nil; column = here.column; row = here.row };
+      });
+      printed = λ t width height drawn. ap rested (fed t drawn);
+    }
+
 pub blanks-none : (w h : ℕ) (old : List ℕ) (brush : Brush) (x y n : ℕ) → n ≡ 0 → Paints w h old brush (blanked x y n) old brush
 unfolding feed
 blanks-none w h old brush x y n e = record {
@@ -133,12 +150,31 @@ blanks-none w h old brush x y n e = record {
   printed = λ t width height drawn. ap (λ k. blanked x y k (rested t)) (sym e);
 }
 
-pub blanks-more : (w h x y column m k : ℕ) (old mid new : List ℕ) (before between after : Brush) → Paints w h old before (blanked x y m) mid between → Prints w h mid between column y own_pen blank new after
-    → column ≡ x + m → k ≡ suc m → Paints w h old before (blanked x y k) new after
-blanks-more w h x y column m k old mid new before between after done more at count =
+pub blanks-more : (w h x y column m k : ℕ) (old mid new : List ℕ) (before between after : Brush) → Paints w h old before (blanked x y m) mid between → between.pen ≡ own_pen
+    → Prints w h mid between column y between.pen (encode 32) new after → column ≡ x + m → k ≡ suc m → Paints w h old before (blanked x y k) new after
+blanks-more w h x y column m k old mid new before between after done own more at count =
     let keeps : KeepsSize (blanked x y m) = λ t. (blanked-width x y m t, blanked-height x y m t) in
-    let more_at : Prints w h mid between (x + m) y own_pen blank new after = subst (λ j. Prints w h mid between j y own_pen blank new after) at more in
+    let more_blank : Prints w h mid between column y between.pen blank new after = subst (λ bs. Prints w h mid between column y between.pen bs new after) blank-encoded more in
+    let more_own : Prints w h mid between column y own_pen blank new after = subst (λ p. Prints w h mid between column y p blank new after) own more_blank in
+    let more_at : Prints w h mid between (x + m) y own_pen blank new after = subst (λ j. Prints w h mid between j y own_pen blank new after) at more_own in
     subst (λ j. Paints w h old before (blanked x y j) new after) (sym count) (Paints-then w h old mid new before between after (blanked x y m) (printed_at (x + m) y own_pen blank) keeps done more_at)
+
+blanked-pen : (x y n : ℕ) (t : Emulator) → blanked x y (suc n) (with_pen own_pen t) ≡ blanked x y (suc n) t
+blanked-pen x y zero t = refl
+blanked-pen x y (suc n) t = ap (printed_at (x + suc n) y own_pen blank) (blanked-pen x y n t)
+
+-- blanks behind the own pen
+pub blanks-own : (w h x y n m : ℕ) (old mid new : List ℕ) (before between after : Brush) → Changes before.pen own_pen old mid → between ≡ record before { pen = own_pen }
+    → Paints w h mid between (blanked x y n) new after → n ≡ suc m → Paints w h old before (blanked x y n) new after
+blanks-own w h x y n m old mid new before between after changes pens done some =
+    let pen_set : Paints w h old before (with_pen own_pen) mid between = subst (Paints w h old before (with_pen own_pen) mid) (sym pens) (pen-paints w h before own_pen old mid changes) in
+    let both : Paints w h old before (λ t. blanked x y n (with_pen own_pen t)) new after = Paints-then w h old mid new before between after (with_pen own_pen) (blanked x y n) (λ t. (refl, refl)) pen_set done in
+    record {
+      bytes = both.bytes;
+      appended = both.appended;
+      drawn = both.drawn;
+      printed = λ t wide high drawn. both.printed t wide high drawn ∙ ap (λ k. blanked x y k (with_pen own_pen (rested t))) some ∙ blanked-pen x y m (rested t) ∙ ap (λ k. blanked x y k (rested t)) (sym some);
+    }
 
 -- ---- a symbol, and blanks in what is left of another one
 
@@ -199,12 +235,6 @@ laid-ready w h x y n end look s u ready takes fits row left tail is = record {
 row_below : (w b y : ℕ) → b < y → b * w + w ≤ y * w
 row_below w b y lower = let e : (b + 1) * w ≤ y * w = mul-le-mul_right w (omega arith) in omega arith
 
--- the flags of the columns from x up to `end` of a row were set anew
--- flags set anew in the columns of a row from x up to `end`
-pub record AreMarked (first behind_it end : ℕ) (flags after : List Bool) : Type 0 where
-  pub count : length after ≡ length flags
-  pub each : (k : ℕ) → slice_index_or after k false ≡ (if nat_le first k && nat_lt k end then nat_lt first k && nat_lt k behind_it else slice_index_or flags k false)
-
 marked-in : (w x y n end a : ℕ) (old new is was : Bool) → x + n ≤ end → end ≤ w
     → new ≡ (if nat_le (y * w + x) (y * w + a) && nat_lt (y * w + a) (y * w + end) then nat_lt (y * w + x) (y * w + a) && nat_lt (y * w + a) (y * w + (x + n)) else old)
     → old ≡ was → is ≡ (if run x y n a y then nat_lt x a else (if run (x + n) y (end - (x + n)) a y then false else was)) → new ≡ is
@@ -239,6 +269,19 @@ marked-at w x y n end a b old new is was ordered inside column some e f g =
             marked-in w x y n end a old new is was ordered inside (rw row at e) f (rw row at g)
       ]
     ]
+
+-- a symbol of one column over no part of another one leaves the flags as they are
+pub one-marked : (first behind_it end : ℕ) (flags : List Bool) → slice_index_or flags first false ≡ false → end ≤ first + 1
+    → (k : ℕ) → slice_index_or flags k false ≡ (if nat_le first k && nat_lt k end then nat_lt first k && nat_lt k behind_it else slice_index_or flags k false)
+one-marked first behind_it end flags unset short k =
+    elim (nat_le first k && nat_lt k end) as (λ p. (nat_le first k && nat_lt k end) ≡ p
+    → slice_index_or flags k false ≡ (if p then nat_lt first k && nat_lt k behind_it else slice_index_or flags k false)) [
+      | true ↦ λ e.
+          let same : k ≡ first = grind (arith, nat_tests) in
+          let not_behind : nat_lt first k ≡ false = grind (arith, nat_tests) in
+          ap (λ j. slice_index_or flags j false) same ∙ unset ∙ rw not_behind refl
+      | false ↦ λ e. refl
+    ] refl
 
 pub tail-of : (w h from end y : ℕ) (flags : List Bool) (c : Columns) → AreBehind w h flags c → IsBlankBeyond w c → y < h → from ≤ end → end ≤ w
     → ((k : ℕ) → from ≤ k → k < end → slice_index_or flags (y * w + k) false ≡ true) → (end < w → slice_index_or flags (y * w + end) false ≡ false) → IsTail from end y c
@@ -279,6 +322,12 @@ laid-draws w h x y n end cell s u written after wide high tail en some fits row 
   full = λ above. omega arith;
 }
 
+-- ---- pens
+
+own-told : (colors : Bool) → is_told_by colors own_pen ≡ true
+own-told true = refl
+own-told false = refl
+
 -- ---- a cell
 
 -- what a cell that fits has
@@ -302,33 +351,39 @@ fit-parts room cell fit =
     record { is_text = three.0; columns = grind (arith, nat_tests); some = grind (arith, nat_tests); inside = grind (arith, nat_tests) }
 
 -- by how its symbol is printed
-by-plain : (p o : Bool) → (if p then (if o then Plain else Whole) else Unprinted) ≡ Plain → (p ≡ true) × (o ≡ true)
-by-plain true true e = (refl, refl)
-by-plain true false e = let h : ⊥ = cc in absurd h
-by-plain false o e = let h : ⊥ = cc in absurd h
+by-plain : (p : Bool) (cs : List ℕ) (c : ℕ) → (if p then printing_by cs else Unprinted) ≡ Plain c → (p ≡ true) × ((cs ≡ c ∷ []) × (is_plain c ≡ true))
+by-plain true [] c e = let h : ⊥ = cc in absurd h
+by-plain true (d ∷ []) c e =
+    elim (is_plain d) as (λ q. is_plain d ≡ q → (if q then Plain d else Whole) ≡ Plain c → (true ≡ true) × ((d ∷ [] ≡ c ∷ []) × (is_plain c ≡ true))) [
+      | true ↦ λ plain f. let same : d ≡ c = cc in (refl, (ap (λ k. k ∷ []) same, ap is_plain (sym same) ∙ plain))
+      | false ↦ λ plain f. let h : ⊥ = cc in absurd h
+    ] refl e
+by-plain true (d ∷ f ∷ cs) c e = let h : ⊥ = cc in absurd h
+by-plain false cs c e = let h : ⊥ = cc in absurd h
 
-by-whole : (p o : Bool) → (if p then (if o then Plain else Whole) else Unprinted) ≡ Whole → (p ≡ true) × (o ≡ false)
-by-whole true true e = let h : ⊥ = cc in absurd h
-by-whole true false e = (refl, refl)
-by-whole false o e = let h : ⊥ = cc in absurd h
+by-whole : (p : Bool) (cs : List ℕ) → (if p then printing_by cs else Unprinted) ≡ Whole → (p ≡ true) × (is_one_plain cs ≡ false)
+by-whole true [] e = (refl, refl)
+by-whole true (c ∷ []) e =
+    elim (is_plain c) as (λ q. is_plain c ≡ q → (if q then Plain c else Whole) ≡ Whole → (true ≡ true) × (is_one_plain (c ∷ []) ≡ false)) [
+      | true ↦ λ plain f. let h : ⊥ = cc in absurd h
+      | false ↦ λ plain f. (refl, rw plain refl)
+    ] refl e
+by-whole true (c ∷ d ∷ cs) e = let two : (length (c ∷ d ∷ cs) == 1) ≡ false = grind (arith, nat_tests) in (refl, rw two refl)
+by-whole false cs e = let h : ⊥ = cc in absurd h
 
-by-none : (p o : Bool) → (if p then (if o then Plain else Whole) else Unprinted) ≡ Unprinted → p ≡ false
-by-none true true e = let h : ⊥ = cc in absurd h
-by-none true false e = let h : ⊥ = cc in absurd h
-by-none false o e = refl
+printing-some : (cs : List ℕ) → printing_by cs ≡ Unprinted → ⊥
+printing-some [] e = cc
+printing-some (c ∷ []) e =
+    elim (is_plain c) as (λ q. (if q then Plain c else Whole) ≡ Unprinted → ⊥) [ true ↦ λ f. cc | false ↦ λ f. cc ] e
+printing-some (c ∷ d ∷ cs) e = cc
 
-pub plain-columns : (text : List ℕ) → printing_of text ≡ Plain → 1 ≡ printed_columns text
-plain-columns text e =
-    let is = by-plain (is_printed text) (is_one_plain (chars text)) e in
-    rw (is.0, is.1) refl
+by-none : (p : Bool) (cs : List ℕ) → (if p then printing_by cs else Unprinted) ≡ Unprinted → p ≡ false
+by-none true cs e = absurd (printing-some cs e)
+by-none false cs e = refl
 
-pub whole-columns : (text : List ℕ) → printing_of text ≡ Whole → text_width text ≡ printed_columns text
-whole-columns text e =
-    let is = by-whole (is_printed text) (is_one_plain (chars text)) e in
-    rw (is.0, is.1) refl
-
-pub no-columns : (text : List ℕ) → printing_of text ≡ Unprinted → 0 ≡ printed_columns text
-no-columns text e = rw (by-none (is_printed text) (is_one_plain (chars text)) e) refl
+-- a symbol that isn't plain is printed in the columns of its text
+pub whole-columns : (text : List ℕ) → printing_of text ≡ Whole → text_width text ≡ columns_of text
+whole-columns text e = rw (by-whole (is_printed text) (chars text) e).1 refl
 
 -- without a forced width a cell takes the columns of its text
 pub own-width : (c : Cell) → (c.diff_option ≡ DiffOption.None) ⊎ (c.diff_option ≡ DiffOption.Skip) ⊎ (c.diff_option ≡ DiffOption.AlwaysUpdate) → width_of c ≡ text_width (symbol_text c.symbol)
@@ -337,80 +392,54 @@ own-width c (inl e) = rw e refl
 own-width c (inr (inl e)) = rw e refl
 own-width c (inr (inr e)) = rw e refl
 
-fit-test : (p : Bool) (n w room : ℕ) → (((if p then n else 0) == w) && nat_lt 0 w && nat_le w room) ≡ (p && (n == w) && nat_lt 0 w && nat_le w room)
-fit-test true n w room = refl
-fit-test false n zero room = refl
-fit-test false n (suc w) room = let none : (0 == suc w) ≡ false = grind (arith, nat_tests) in rw none refl
+-- ---- how a cell is printed
 
--- a cell that fits is plain just where its symbol is
-fit-single : (room : ℕ) (c : Cell) (p : Bool) → is_fit room c ≡ true → IsTrue p ↔ (printing_of (symbol_text c.symbol) ≡ Plain) → p ≡ is_one_plain (chars (symbol_text c.symbol))
-fit-single room c p fit plain =
-    let one = and-both _ (nat_le (width_of c) room) fit in
-    let two = and-both _ (nat_lt 0 (width_of c)) one.0 in
-    let three = and-both (is_printed (symbol_text c.symbol)) (columns_of (symbol_text c.symbol) == width_of c) two.0 in
-    elim (is_one_plain (chars (symbol_text c.symbol))) as (λ q. is_one_plain (chars (symbol_text c.symbol)) ≡ q → p ≡ q) [
-      | true ↦ λ e. true-of p (plain.1 (rw (three.0, e) refl))
-      | false ↦ λ e. elim p as (λ q. p ≡ q → q ≡ false) [
-        | true ↦ λ f.
-            let is = by-plain (is_printed (symbol_text c.symbol)) (is_one_plain (chars (symbol_text c.symbol))) (plain.0 (rw f refl)) in
-            let h : ⊥ = cc in
-            absurd h
-        | false ↦ λ f. refl
-      ] refl
-    ] refl
+abbrev Gives : ℕ → Cell → Bool → Glyph → Type 0
+Gives room c b glyph = MatchOption (then_some b glyph) (is_fit room c ≡ false) (IsGlyph room c)
 
-then-some : (b : Bool) (g d : Glyph) → (b ≡ true → g ≡ d) → then_some b g ≡ (if b then Some d else None)
-then-some true g d same = ap (λ k. Some k) (same refl)
-then-some false g d same = refl
+gives-by : (room : ℕ) (c : Cell) (b : Bool) (glyph : Glyph) → b ≡ is_fit room c → (is_fit room c ≡ true → IsGlyph room c glyph) → Gives room c b glyph
+gives-by room c true glyph e is = is (sym e)
+gives-by room c false glyph e is = sym e
 
-pub glyph-found : (room : ℕ) (c : Cell) (p : Bool) → IsTrue p ↔ (printing_of (symbol_text c.symbol) ≡ Plain)
-    → then_some ((printed_columns (symbol_text c.symbol) == width_of c) && nat_lt 0 (width_of c) && nat_le (width_of c) room) (record { columns = width_of c; is_plain = p }) ≡ glyph_in room c
-glyph-found room c p plain =
-    rw (fit-test (is_printed (symbol_text c.symbol)) (columns_of (symbol_text c.symbol)) (width_of c) room)
-    (then-some (is_fit room c) _ _ (λ fit. ap (λ k. record { columns = width_of c; is_plain = k }) (fit-single room c p fit plain)))
+-- a cell with one plain character
+pub plain-gives : (room : ℕ) (c : Cell) (ch : ℕ) (b : Bool) → IsUtf8 (symbol_text c.symbol) → 0 < room → printing_of (symbol_text c.symbol) ≡ Plain ch → b ≡ nat_eq (width_of c) 1 → Gives room c b (Glyphs.Plain ch)
+plain-gives room c ch b utf8 some e test =
+    let text = symbol_text c.symbol in
+    let is = by-plain (is_printed text) (chars text) ch e in
+    let one : is_one_plain (chars text) ≡ true = rw (is.1.0, is.1.1) refl in
+    let single : 1 ≡ columns_of text = rw one refl in
+    let fit : is_fit room c ≡ ((1 == width_of c) && nat_lt 0 (width_of c) && nat_le (width_of c) room) = rw (is.0, one) refl in
+    let same : ((1 == width_of c) && nat_lt 0 (width_of c) && nat_le (width_of c) room) ≡ nat_eq (width_of c) 1 = grind (arith, nat_tests) in
+    gives-by room c b (Glyphs.Plain ch) (test ∙ sym (fit ∙ same)) (λ fits. record {
+      fits = fits;
+      columns = single ∙ (fit-parts room c (rw fits refl)).columns;
+      symbol = (is.1.1, sym (encodes-chars text utf8) ∙ ap encodes is.1.0 ∙ append-nil (encode ch));
+    })
 
--- what a cell has that is printed so
-pub record IsGlyph (room : ℕ) (c : Cell) (g : Glyph) : Type 0 where
-  pub fits : Fits room c
-  pub columns : g.columns ≡ width_of c
-  pub single : g.is_plain ≡ is_one_plain (chars (symbol_text c.symbol))
+-- a cell with another symbol
+pub whole-gives : (room : ℕ) (c : Cell) (n : ℕ) (b : Bool) → printing_of (symbol_text c.symbol) ≡ Whole → n ≡ width_of c
+    → b ≡ ((columns_of (symbol_text c.symbol) == width_of c) && nat_lt 0 (width_of c) && nat_le (width_of c) room) → Gives room c b (Glyphs.Whole n)
+whole-gives room c n b e takes test =
+    let text = symbol_text c.symbol in
+    let is = by-whole (is_printed text) (chars text) e in
+    gives-by room c b (Glyphs.Whole n) (test ∙ rw is.0 refl) (λ fits. record { fits = fits; columns = takes; symbol = is.0 })
 
-glyph-by : (room : ℕ) (c : Cell) (g : Glyph) (b : Bool) → is_fit room c ≡ b
-    → (if b then Some (record { columns = width_of c; is_plain = is_one_plain (chars (symbol_text c.symbol)) }) else None) ≡ Some g → IsGlyph room c g
-glyph-by room c g true fit found =
-    let same : record { columns = width_of c; is_plain = is_one_plain (chars (symbol_text c.symbol)) } ≡ g = cc in
-    record {
-      fits = fit-parts room c (rw fit refl);
-      columns = ap (λ (k : Glyph). k.columns) (sym same);
-      single = ap (λ (k : Glyph). k.is_plain) (sym same);
-    }
-glyph-by room c g false fit found = let h : ⊥ = cc in absurd h
-
-pub glyph-parts : (room : ℕ) (c : Cell) (g : Glyph) → glyph_in room c ≡ Some g → IsGlyph room c g
-glyph-parts room c g found = glyph-by room c g (is_fit room c) refl found
-
-none-by : {A : Type 0} (b : Bool) (g : A) → (if b then Some g else None) ≡ None → b ≡ false
-none-by true g e = let h : ⊥ = cc in absurd h
-none-by false g e = refl
-
-pub glyph-none : (room : ℕ) (c : Cell) → glyph_in room c ≡ None → is_fit room c ≡ false
-glyph-none room c none = none-by (is_fit room c) _ none
+pub none-fits : (room : ℕ) (c : Cell) → printing_of (symbol_text c.symbol) ≡ Unprinted → is_fit room c ≡ false
+none-fits room c e = rw (by-none (is_printed (symbol_text c.symbol)) (chars (symbol_text c.symbol)) e) refl
 
 cursor-at : (end y w ux uy uw : ℕ) → ux ≡ end → uy ≡ y → uw ≡ w → let at : Position = record { x = min ux (uw - 1); y = uy } in let goal : Position = record { x = min end (w - 1); y = y } in at ≡ goal
 cursor-at end y w ux uy uw ex ey ew = rw (ex, ey, ew) refl
 
-pub lay-sends : (w h x y n end : ℕ) (cell : Cell) (before after : Drawing) (between : Brush) (flags flags_after : List Bool) (old mid new : List ℕ) → Fits (w - x) cell → width_of cell ≡ n → x < w → y < h
-    → Prints w h old before.brush x y (pen_of cell) (symbol_text cell.symbol) mid between → Paints w h mid between (blanked (x + n) y (end - (x + n))) new after.brush
+pub lay-sends : (w h x y n end : ℕ) (cell : Cell) (before after : Drawing) (flags flags_after : List Bool) (old new : List ℕ) → Fits (w - x) cell → width_of cell ≡ n → x < w → y < h
+    → Paints w h old before.brush (λ t. blanked (x + n) y (end - (x + n)) (printed_at x y (pen_of cell) (symbol_text cell.symbol) t)) new after.brush
     → slice_index_or flags (y * w + x) false ≡ false → x + n ≤ end → end ≤ w
     → ((k : ℕ) → x + n ≤ k → k < end → slice_index_or flags (y * w + k) false ≡ true) → (end < w → slice_index_or flags (y * w + end) false ≡ false)
     → AreMarked (y * w + x) (y * w + (x + n)) (y * w + end) flags flags_after
     → after.cursor ≡ record { x = min end (w - 1); y = y } → after.written ≡ min (before.written + 1) (2 ^ 64 - 1)
     → SendsUpdates w h old before flags (record { x = x; y = y; cell = cell } ∷ []) new after flags_after
-lay-sends w h x y n end cell before after between flags flags_after old mid new fit en column row prints paints uncut ordered inside set unset marked cursor count =
+lay-sends w h x y n end cell before after flags flags_after old new fit en column row both uncut ordered inside set unset marked cursor count =
     let symbol = symbol_text cell.symbol in
     let m = end - (x + n) in
-    let both : Paints w h old before.brush (λ t. blanked (x + n) y m (printed_at x y (pen_of cell) symbol t)) new after.brush =
-    Paints-then w h old mid new before.brush between after.brush (printed_at x y (pen_of cell) symbol) (blanked (x + n) y m) (λ t. (refl, refl)) prints paints in
     let columns : columns_of symbol ≡ n = fit.columns ∙ en in
     let some : 0 < n = let s = fit.some in omega arith in
     let fits : x + n ≤ w = let i = fit.inside in omega arith in
@@ -437,6 +466,29 @@ lay-sends w h x y n end cell before after between flags flags_after old mid new 
       draws = λ t is.
           laid-draws w h x y n end cell (rested t) (rested (feed both.bytes t)) before.written after.written is.ready.width is.ready.height (tail t is) en some fits row (laid_at t is) count;
     }
+
+-- a pen, a symbol, and blanks in what is left of another one
+pub cell-sends : (w h x y : ℕ) (cell : Cell) (glyph : Glyph) (end : ℕ) (before after : Drawing) (inked drawn : Brush) (flags flags_after : List Bool) (old first mid new : List ℕ) → x < w → y < h
+    → IsGlyph (w - x) cell glyph → Changes before.brush.pen (pen_of cell) old first → inked ≡ record before.brush { pen = pen_of cell }
+    → Prints w h first inked x y inked.pen (symbol_text cell.symbol) mid drawn → Covers w x y (glyph_columns glyph) mid flags drawn end new flags_after after.brush
+    → slice_index_or flags (y * w + x) false ≡ false → after.cursor ≡ record { x = min end (w - 1); y = y } → after.written ≡ min (before.written + 1) (2 ^ 64 - 1)
+    → SendsUpdates w h old before flags (record { x = x; y = y; cell = cell } ∷ []) new after flags_after
+cell-sends w h x y cell glyph end before after inked drawn flags flags_after old first mid new column row is changes pens prints covers uncut cursor count =
+    let pen = pen_of cell in
+    let symbol = symbol_text cell.symbol in
+    let n = glyph_columns glyph in
+    let m = end - (x + n) in
+    let pen_set : Paints w h old before.brush (with_pen pen) first inked = subst (Paints w h old before.brush (with_pen pen) first) (sym pens) (pen-paints w h before.brush pen old first changes) in
+    let here : Prints w h first inked x y pen symbol mid drawn = subst (λ p. Prints w h first inked x y p symbol mid drawn) (ap (λ (b : Brush). b.pen) pens) prints in
+    let two : Paints w h old before.brush (printed_at x y pen symbol) mid drawn = Paints-then w h old first mid before.brush inked drawn (with_pen pen) (printed_at x y pen symbol) (λ t. (refl, refl)) pen_set here in
+    let both : Paints w h old before.brush (λ t. blanked (x + n) y m (printed_at x y pen symbol t)) new after.brush
+    = Paints-then w h old mid new before.brush drawn after.brush (printed_at x y pen symbol) (blanked (x + n) y m) (λ t. (refl, refl)) two (covers.paints h row) in
+    lay-sends w h x y n end cell before after flags flags_after old new (fit-parts (w - x) cell (rw is.fits refl)) (sym is.columns) column row both uncut covers.ordered covers.inside covers.set covers.unset covers.marked cursor count
+
+-- what a pen that was kept, or given back, can be told to
+pub pen-told : (colors : Bool) (before after : Pen) → (after ≡ before) ⊎ (after ≡ own_pen) → is_told_by colors before ≡ true → is_told_by colors after ≡ true
+pen-told colors before after (inl same) told = ap (is_told_by colors) same ∙ told
+pen-told colors before after (inr own) told = ap (is_told_by colors) own ∙ own-told colors
 
 -- ---- a vacant cell
 
@@ -504,10 +556,6 @@ put-vacant w h u flags column row covered vacant c are a b =
 
 pub told-off : (w h : ℕ) (colors : Bool) (u : Update) → (nat_lt u.x w && nat_lt u.y h) ≡ false → is_told_on w h colors u ≡ true
 told-off w h colors u off = rw off refl
-
-own-told : (colors : Bool) → is_told_by colors own_pen ≡ true
-own-told true = refl
-own-told false = refl
 
 told-either : (p : Bool) → (p || true) ≡ true
 told-either true = refl

@@ -1,5 +1,5 @@
 -- A pen is read back as it is written.
-use Rattle.std.proofs.Common.{◌≡◌, ℕ, ◌+◌, ◌<◌, ◌^◌, ◌==◌, nat_lt, nat_eq, List, [], ◌∷◌, ◌++◌, Bool, true, false, IsTrue, zero, suc, inl, inr, ◌⊎◌, ◌&&◌, if◌then◌else◌, refl, sym, ap, ◌∙◌, arith, append_assoc}
+use Rattle.std.proofs.Common.{◌≡◌, ℕ, ◌+◌, ◌<◌, ◌^◌, ◌==◌, nat_lt, nat_eq, List, [], ◌∷◌, ◌++◌, Bool, true, false, IsTrue, zero, suc, inl, inr, ◌⊎◌, ◌&&◌, if◌then◌else◌, refl, sym, ap, ap₂, ◌∙◌, arith, append_assoc, append-nil}
 use Rattle.std.specs.Fmt.{decimal}
 use Rattle.std.specs.List.{list_all}
 use Rattle.std.specs.Int.RustNames.{bit_and, bit_or}
@@ -16,6 +16,7 @@ use Rattle.std.proofs.lemmas.Bool.Decides.{Decides-eqb}
 use Rattle.rtui_style.specs.declared.Modifier.{Modifier}
 use Rattle.rtui_style.specs.Modifier.{no_modifier, bits_of, modifier_of}
 use Rattle.ratatui_ansi.specs.declared.pen.Pen.{Pen}
+use Rattle.ratatui_ansi.specs.declared.drawing.Brush.{Brush}
 use Rattle.ratatui_ansi.specs.Pen.{Inking, inks, inks_in, own_pen}
 use Rattle.ratatui_ansi.specs.Pen.Awaits.{Nothing}
 use Rattle.ratatui_ansi.specs.Emulator.{Emulator, rested, with_pen}
@@ -42,6 +43,15 @@ Tells-then a b c ps qs first second = record {
   appended = second.appended ∙ ap (λ xs. xs ++ semicolons qs) first.appended ∙ append_assoc a (semicolons ps) (semicolons qs) ∙ ap (λ xs. a ++ xs) (sym (semicolons-append ps qs));
   small = list_all-append (λ p. nat_lt p 256) ps qs ∙ rw (first.small, second.small) refl;
 }
+
+-- one parameter
+pub parameter-told : (n byte : ℕ) (old mid new semicolon : List ℕ) → mid ≡ old ++ semicolon → semicolon ≡ 59 ∷ [] → new ≡ mid ++ decimal byte → byte ≡ n → n < 256 → Tells old new (n ∷ [])
+parameter-told n byte old mid new semicolon first is second same small =
+    let below : nat_lt n 256 ≡ true = grind (arith, nat_tests) in
+    record {
+      appended = second ∙ ap₂ (λ xs k. xs ++ decimal k) (first ∙ ap (λ xs. old ++ xs) is) same ∙ append_assoc old (59 ∷ []) (decimal n) ∙ ap (λ ds. old ++ (59 ∷ ds)) (sym (append-nil (decimal n)));
+      small = rw below refl;
+    }
 
 -- written parameters are the ones that a sequence performs
 pub parameters-read : (ps : List ℕ) → list_all (λ p. nat_lt p 256) ps ≡ true → (done : List ℕ) (n : ℕ) (t : Emulator)
@@ -295,3 +305,7 @@ same_pen a b e =
     let underline = same_color a.underline_color b.underline_color three.0 in
     let modifier : a.modifier ≡ b.modifier = ap modifier_of (same_number (bits_of a.modifier) (bits_of b.modifier) three.1) in
     rw (fg, bg, underline, modifier) refl
+
+-- a brush with the pen that it has
+pub brush-kept : (b : Brush) (pen : Pen) → b.pen ≡ pen → b ≡ record b { pen = pen }
+brush-kept b pen e = rw (← e) refl

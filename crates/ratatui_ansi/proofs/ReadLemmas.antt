@@ -1,7 +1,7 @@
 -- What a terminal makes of appended bytes, of numbers, and of whole sequences.
 use Rattle.std.proofs.Common.{◌≡◌, ℕ, ◌+◌, ◌-◌, ◌*◌, ◌/◌, ◌%◌, ◌<◌, ◌≤◌, ◌^◌, min, List, [], ◌∷◌, ◌++◌, Bool, true, false, zero, suc, refl, sym, ap, ap₂, ◌∙◌, arith, ◌==◌, ◌&&◌, nat_lt, nat_eq, if◌then◌else◌, Result, Ok, Err, OnOk, append_assoc}
 use Rattle.std.specs.Result.{is_ok}
-use Rattle.std.proofs.lemmas.Fmt.{decimal_by_steps}
+use Rattle.std.proofs.lemmas.Fmt.{decimal_by_steps, decimal_step, decimal_digit}
 use Rattle.std.proofs.lemmas.Bool.Decides.{nat_tests}
 use Rattle.std.proofs.Math.Nat.{div-add-mod'}
 use Rattle.std.specs.Fmt.{decimal}
@@ -107,6 +107,25 @@ CUP-read x y x_in y_in t ground =
     let ex : x + 1 - 1 ≡ x = omega arith in
     let ey : y + 1 - 1 ≡ y = omega arith in
     with_two (y + 1) (x + 1) 72 (omega arith) (omega arith) t ground ∙ ap₂ (λ a b. moved a b (rested t)) ex ey
+
+-- ---- numbers, digit by digit
+
+pub digits-more : (n : ℕ) (old pre new : List ℕ) → 10 ≤ n → n < 2 ^ 64 → pre ≡ old ++ decimal (n / 10) → new ≡ pre ++ (48 + n % 10) ∷ [] → new ≡ old ++ decimal n
+digits-more n old pre new big small first last =
+    last ∙ ap (λ xs. xs ++ (48 + n % 10) ∷ []) first ∙ append_assoc old (decimal (n / 10)) ((48 + n % 10) ∷ []) ∙ ap (λ ds. old ++ ds) (sym (decimal_step n big small))
+
+pub digits-one : (n : ℕ) (old new : List ℕ) → n < 10 → new ≡ old ++ (48 + n) ∷ [] → new ≡ old ++ decimal n
+digits-one n old new small last = last ∙ ap (λ ds. old ++ ds) (sym (decimal_digit n small))
+
+pub behind-those : (old mid new a b : List ℕ) → mid ≡ old ++ a → new ≡ mid ++ b → new ≡ old ++ (a ++ b)
+behind-those old mid new a b first second = second ∙ ap (λ xs. xs ++ b) first ∙ append_assoc old a b
+
+pub move-appended : (x y fx fy : ℕ) (old first second third fourth new semicolon last : List ℕ) → first ≡ old ++ 27 ∷ 91 ∷ [] → second ≡ first ++ decimal (fy + 1) → third ≡ second ++ semicolon
+    → fourth ≡ third ++ decimal (fx + 1) → new ≡ fourth ++ last → fy ≡ y → fx ≡ x → semicolon ≡ 59 ∷ [] → last ≡ 72 ∷ [] → new ≡ old ++ CUP x y
+move-appended x y fx fy old first second third fourth new semicolon last e1 e2 e3 e4 e5 row column is_semicolon is_last =
+    let all : new ≡ old ++ ((27 ∷ 91 ∷ []) ++ (decimal (fy + 1) ++ (semicolon ++ (decimal (fx + 1) ++ last)))) =
+    behind-those old first new _ _ e1 (behind-those first second new _ _ e2 (behind-those second third new _ _ e3 (behind-those third fourth new _ _ e4 e5))) in
+    rw (row, column, is_semicolon, is_last) at all
 
 abbrev pub erasing : Part → List ℕ
 erasing After = 27 ∷ 91 ∷ 74 ∷ []

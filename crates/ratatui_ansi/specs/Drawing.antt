@@ -27,9 +27,14 @@ is_one_plain cs = (length cs == 1) && list_all is_plain cs
 abbrev pub is_printed : List ℕ → Bool
 is_printed text = is_symbol text && (is_one_plain (chars text) || not (list_all is_plain (chars text)))
 
+-- how a text is printed that is printed as one symbol
+abbrev pub printing_by : List ℕ → Printing
+printing_by (c ∷ []) = if is_plain c then Plain c else Whole
+printing_by _ = Whole
+
 -- how a text is printed
 abbrev pub printing_of : List ℕ → Printing
-printing_of text = if is_printed text then (if is_one_plain (chars text) then Plain else Whole) else Unprinted
+printing_of text = if is_printed text then printing_by (chars text) else Unprinted
 
 -- its columns
 abbrev pub columns_of : List ℕ → ℕ
@@ -52,6 +57,10 @@ pub record IsDrawnBy (brush : Brush) (t : Emulator) : Type 0 where
   pub phase : t.phase ≡ Ground
   pub pen : (rested t).pen ≡ brush.pen
   pub placed : IsTrue brush.is_placed → IsPlaced brush.x brush.y t
+
+-- whether a brush knows that the next plain character would be printed in this column and row
+abbrev pub is_at : ℕ → ℕ → Brush → Bool
+is_at x y brush = brush.is_placed && (brush.x == x) && (brush.y == y)
 
 -- with the cursor in a column and a row, and a pen
 abbrev pub drawn_at : ℕ → ℕ → Pen → Emulator → Emulator

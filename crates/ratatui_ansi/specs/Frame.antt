@@ -1,5 +1,5 @@
 -- What a draw knows of the terminal, and what its bytes do to it.
-use Rattle.std.specs.Prelude.{◌≡◌, ℕ, ◌+◌, ◌-◌, ◌*◌, ◌<◌, ◌≤◌, ◌==◌, ◌&&◌, ◌||◌, not, nat_lt, nat_le, Bool, true, false, if◌then◌else◌, List, ◌++◌, chars, Option, Some, None}
+use Rattle.std.specs.Prelude.{◌≡◌, ℕ, ◌+◌, ◌-◌, ◌*◌, ◌<◌, ◌≤◌, ◌==◌, ◌&&◌, ◌||◌, ◌⊎◌, not, nat_lt, nat_le, Bool, true, false, if◌then◌else◌, List, ◌++◌, length, encode_utf8}
 use Rattle.rtui_geometry.specs.declared.position.Position.{Position}
 use Rattle.rtui_cell.specs.Symbol.{symbol_text}
 use Rattle.rtui_cell.specs.Look.{Look, look_of, empty_look}
@@ -7,20 +7,23 @@ use Rattle.rtui_cell.specs.Cell.{width_of}
 use Rattle.rtui_cell.specs.Grid.{Update}
 use Rattle.rtui_cell.specs.declared.cell.Cell.{Cell}
 use Rattle.rtui_backend.specs.Screen.{Draws, cursor_of}
+use Rattle.ratatui_ansi.specs.declared.drawing.Brush.{Brush}
 use Rattle.ratatui_ansi.specs.declared.frame.Drawing.{Drawing}
 use Rattle.ratatui_ansi.specs.declared.frame.Glyph.{Glyph}
+use Rattle.ratatui_ansi.specs.declared.frame.Glyph.TheVariants.{Plain, Whole}
 use Rattle.ratatui_ansi.specs.declared.frame.Refusal.{Refusal}
 use Rattle.ratatui_ansi.specs.declared.frame.Refusal.TheVariants as Refused
+use Rattle.ratatui_ansi.specs.declared.pen.Pen.{Pen}
 use Rattle.ratatui_ansi.specs.Columns.{Columns, blank_column, is_behind}
 use Rattle.ratatui_ansi.specs.Columns.Column.{Shows}
 use Rattle.ratatui_ansi.specs.Calls.{IsAwaiting}
 use Rattle.ratatui_ansi.specs.Flags.{AreBehind, flag}
 use Rattle.ratatui_ansi.specs.Pen.{own_pen, pen_of}
 use Rattle.ratatui_ansi.specs.Parameters.{is_told_by}
-use Rattle.ratatui_ansi.specs.Emulator.{Emulator, rested, with_pen, run}
+use Rattle.ratatui_ansi.specs.Emulator.{Emulator, rested, with_pen, run, is_plain}
 use Rattle.ratatui_ansi.specs.Sequences.{feed}
 use Rattle.ratatui_ansi.specs.Screens.{screen_shown, IsReady}
-use Rattle.ratatui_ansi.specs.Drawing.{is_one_plain, is_printed, columns_of, IsDrawnBy}
+use Rattle.ratatui_ansi.specs.Drawing.{is_printed, columns_of, blanked, IsDrawnBy, Paints}
 
 -- ---- a symbol over a part of another one
 
@@ -43,14 +46,21 @@ abbrev pub is_fit : ℕ → Cell → Bool
 is_fit room c =
     is_printed (symbol_text c.symbol) && (columns_of (symbol_text c.symbol) == width_of c) && nat_lt 0 (width_of c) && nat_le (width_of c) room
 
--- in how many columns a text is printed as one symbol
-abbrev pub printed_columns : List ℕ → ℕ
-printed_columns text = if is_printed text then columns_of text else 0
+-- in how many columns a symbol is printed
+abbrev pub glyph_columns : Glyph → ℕ
+glyph_columns (Plain ch) = 1
+glyph_columns (Whole n) = n
 
--- how a cell that fits into a room is printed
-abbrev pub glyph_in : ℕ → Cell → Option Glyph
-glyph_in room c =
-    if is_fit room c then Some (record { columns = width_of c; is_plain = is_one_plain (chars (symbol_text c.symbol)) }) else None
+-- a text is printed so
+abbrev pub IsPrintedAs : List ℕ → Glyph → Type 0
+IsPrintedAs text (Plain ch) = (is_plain ch ≡ true) × (text ≡ encode_utf8 ch)
+IsPrintedAs text (Whole n) = is_printed text ≡ true
+
+-- a cell that fits into a room is printed so
+pub record IsGlyph (room : ℕ) (c : Cell) (glyph : Glyph) : Type 0 where
+  pub fits : is_fit room c ≡ true
+  pub columns : glyph_columns glyph ≡ width_of c
+  pub symbol : IsPrintedAs (symbol_text c.symbol) glyph
 
 -- a cell of one column that looks like an empty one
 pub record IsVacant (c : Cell) : Type 0 where
@@ -75,7 +85,30 @@ IsRefused w h colors flags u (Refused.Symbol p) = IsPlaced w h p u × (flag flag
 IsRefused w h colors flags u (Refused.Pen p) = IsPlaced w h p u × (flag flags (u.y * w + u.x) ≡ false) × (is_told_by colors (pen_of u.cell) ≡ false)
 IsRefused w h colors flags u (Refused.Cut p) = IsPlaced w h p u × (flag flags (u.y * w + u.x) ≡ true) × (IsVacant u.cell → ⊥)
 
+-- a pen wasn't set: for want of memory, or since it can't be told
+abbrev pub IsUntoldPen : Bool → Position → Pen → Refusal → Type 0
+IsUntoldPen colors place pen Refused.Memory = Unit {0}
+IsUntoldPen colors place pen (Refused.Pen p) = (p ≡ place) × (is_told_by colors pen ≡ false)
+IsUntoldPen colors place pen _ = ⊥
+
 -- ---- draws
+
+-- flags were set anew from the place `first` up to `end`: set up to `behind_it`, but for the first one
+pub record AreMarked (first behind_it end : ℕ) (flags after : List Bool) : Type 0 where
+  pub count : length after ≡ length flags
+  pub each : (k : ℕ) → flag after k
+      ≡ (if nat_le first k && nat_lt k end then nat_lt first k && nat_lt k behind_it else flag flags k)
+
+-- behind a symbol of n columns what is left of another one, up to column `end`, was emptied, and the flags are those of the symbol
+pub record Covers (w x y n : ℕ) (old : List ℕ) (flags : List Bool) (before : Brush) (end : ℕ) (new : List ℕ) (flags_after : List Bool)
+    (after : Brush) : Type 0 where
+  pub ordered : x + n ≤ end
+  pub inside : end ≤ w
+  pub set : (k : ℕ) → x + n ≤ k → k < end → flag flags (y * w + k) ≡ true
+  pub unset : end < w → flag flags (y * w + end) ≡ false
+  pub paints : (h : ℕ) → y < h → Paints w h old before (blanked (x + n) y (end - (x + n))) new after
+  pub pen : (after.pen ≡ before.pen) ⊎ (after.pen ≡ own_pen)
+  pub marked : AreMarked (y * w + x) (y * w + (x + n)) (y * w + end) flags flags_after
 
 -- a terminal within a draw on a screen of this size: with its own pen it would be ready; the flags are those of its columns
 pub record IsDrawing (w h : ℕ) (d : Drawing) (flags : List Bool) (t : Emulator) : Type 0 where

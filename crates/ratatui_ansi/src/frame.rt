@@ -1,18 +1,21 @@
 //! Cells in their places, as a backend draws them.
 
-ghost use Rattle.std.specs.Prelude.{◌≡◌, ℕ, ◌+◌, ◌-◌, ◌*◌, ◌<◌, ◌≤◌, ◌&&◌, nat_lt, nat_le, if◌then◌else◌, true, false, IsTrue, ◌↔◌, IfOk, IfErr, OnOk, OnErr, List, [], ◌∷◌, map, length, slice_index_or, string_bytes, MatchResult, Some, ◌==◌};
+ghost use Rattle.std.specs.Prelude.{◌≡◌, ℕ, ◌+◌, ◌-◌, ◌*◌, ◌<◌, ◌≤◌, ◌&&◌, ◌⊎◌, nat_lt, nat_le, if◌then◌else◌, true, false, IsTrue, ◌↔◌, IfOk, IfErr, OnOk, OnErr, List, [], ◌∷◌, map, length, slice_index_or, string_bytes, MatchOption, ◌==◌};
 ghost use Rattle.std.specs.List.{list_all};
 ghost use Rattle.std.specs.Iterator.{IsFinite, Drains};
 ghost use Rattle.rtui_cell.specs.Symbol.{blank, symbol_text};
 ghost use Rattle.rtui_cell.specs.Cell.{width_of};
 ghost use Rattle.rtui_cell.specs.Grid.{update_by};
-ghost use Rattle.ratatui_ansi.specs.Pen.{own_pen, pen_of};
-ghost use Rattle.ratatui_ansi.specs.Parameters.{is_told};
-ghost use Rattle.ratatui_ansi.specs.Drawing.{printing_of, blanked, Paints};
-ghost use Rattle.ratatui_ansi.specs.Frame.{printed_columns, glyph_in, is_told_on, IsVacant, IsRefused, SendsUpdates, SendsDraw};
+ghost use Rattle.ratatui_ansi.specs.declared.drawing.Printing.TheVariants.{Whole};
+ghost use Rattle.ratatui_ansi.specs.Pen.{own_pen};
+ghost use Rattle.ratatui_ansi.specs.Parameters.{is_told_by};
+ghost use Rattle.ratatui_ansi.specs.Drawing.{printing_of, columns_of, blanked, Changes, Paints, Prints};
+ghost use Rattle.ratatui_ansi.specs.Frame.{glyph_columns, is_fit, is_told_on, IsPrintedAs, IsGlyph, IsVacant, IsUntoldPen, IsRefused, Covers, SendsUpdates, SendsDraw};
 ghost use Rattle.ratatui_ansi.specs.Refusals.{has_place, StopsWithin, StopsDraw};
 
-use crate::drawing::{Brush, Printing, change_pen, printing_of, put};
+use crate::drawing::{
+    Brush, Printing, change_pen, printing_of, put_plain, put_symbol, set_pen,
+};
 use crate::pen::Pen;
 use rtui_backend::AsCell;
 use rtui_cell::{Cell, CellDiffOption, CellWidth};
@@ -55,24 +58,33 @@ impl From<AllocError> for Refusal {
 
 // A cell's symbol, as it is printed.
 #[derive(Debug, Clone, Copy, PartialEq, Eq)]
-struct Glyph {
-    columns: u16,
-    is_plain: bool,
+enum Glyph {
+    // As this plain character, in one column.
+    Plain(char),
+    // As a symbol that isn't plain, in so many columns.
+    Whole(u16),
 }
 
-// In how many columns a cell's symbol is printed so; in none where it isn't printed.
-fn printed_columns(cell: &Cell, printing: Printing, columns: u16) -> u16
-    requires printing { printing ≡ printing_of (symbol_text cell.now.symbol) }
+impl Glyph {
+    fn columns(self) -> u16
+        ensures { result ≡ glyph_columns self }
+    {
+        match self {
+            Glyph::Plain(_) => 1,
+            Glyph::Whole(columns) => columns,
+        }
+    }
+}
+
+// In how many columns a cell's symbol, which isn't plain, is printed; the cell takes `columns`.
+fn printed_columns(cell: &Cell, columns: u16) -> u16
+    requires whole { printing_of (symbol_text cell.now.symbol) ≡ Whole }
     requires columns { columns ≡ width_of cell.now }
-    ensures { result ≡ printed_columns (symbol_text cell.now.symbol) }
+    ensures { result ≡ columns_of (symbol_text cell.now.symbol) }
 {
-    match printing {
-        Printing::Plain => 1,
-        Printing::Whole => match cell.diff_option {
-            CellDiffOption::ForcedWidth(_) => cell.symbol().cell_width(),
-            CellDiffOption::None | CellDiffOption::Skip | CellDiffOption::AlwaysUpdate => columns,
-        },
-        Printing::Unprinted => 0,
+    match cell.diff_option {
+        CellDiffOption::ForcedWidth(_) => cell.symbol().cell_width(),
+        CellDiffOption::None | CellDiffOption::Skip | CellDiffOption::AlwaysUpdate => columns,
     }
 }
 
@@ -83,17 +95,19 @@ fn fits(room: u16, columns: u16, printed: u16) -> bool
     printed == columns && 0 < columns && columns <= room
 }
 
-// How a cell is printed that fits into a room.
+// A cell's symbol, as it is printed in some columns: none where it isn't, where the cell takes others, or more than there are.
 fn glyph_in(room: u16, cell: &Cell) -> Option<Glyph>
-    ensures { result ≡ glyph_in room cell.now }
+    requires { 0 < room }
+    ensures { MatchOption result (is_fit room cell.now ≡ false) (IsGlyph room cell.now) }
 {
-    let printing = printing_of(cell.symbol());
     let columns = cell.cell_width();
-    let glyph = Glyph {
-        columns,
-        is_plain: printing.is_plain(),
-    };
-    fits(room, columns, printed_columns(cell, printing, columns)).then_some(glyph)
+    match printing_of(cell.symbol()) {
+        Printing::Plain(c) => (columns == 1).then_some(Glyph::Plain(c)),
+        Printing::Whole => {
+            fits(room, columns, printed_columns(cell, columns)).then_some(Glyph::Whole(columns))
+        }
+        Printing::Unprinted => None,
+    }
 }
 
 // Whether a text is one blank.
@@ -138,24 +152,24 @@ fn tail_end(behind: &[bool], start: usize, from: u16, width: u16) -> u16
 // Prints blanks in the columns of a row from `x` up to `end`.
 fn put_blanks(
     out: &mut String,
-    brush: Brush,
-    width: u16,
-    height: u16,
+    brush: &mut Brush,
     x: u16,
     y: u16,
     end: u16,
-) -> Result<Brush, AllocError>
-    requires ordered { x ≤ end }
-    requires columns { end ≤ width }
-    requires row { y < height }
-    ensures { IfOk result (λ after. Paints width height (string_bytes out.old) brush
-        (blanked x y (end - x)) (string_bytes out.new) after) }
+) -> Result<(), AllocError>
+    requires { x ≤ end }
+    ensures paints { OnOk result ((w h : ℕ) → end ≤ w → y < h → Paints w h (string_bytes out.old)
+        brush.old (blanked x y (end - x)) (string_bytes out.new) brush.new) }
+    ensures pen { OnOk result ((brush.new.pen ≡ brush.old.pen) ⊎ (brush.new.pen ≡ own_pen)) }
 {
-    let mut brush = brush;
-    for column in x..end {
-        brush = put(out, brush, width, height, column, y, Pen::OWN, " ", true)?;
+    if x == end {
+        return Ok(());
     }
-    Ok(brush)
+    change_pen(out, brush, Pen::OWN)?;
+    for column in x..end {
+        put_plain(out, brush, column, y, ' ')?;
+    }
+    Ok(())
 }
 
 // Sets the flags of a symbol's columns, from the place `first` up to `behind_it`, and unsets those from there up to `end`.
@@ -171,58 +185,83 @@ fn mark(behind: &mut [bool], first: usize, behind_it: usize, end: usize)
     }
 }
 
-// Prints a cell that fits its row, in a place that no other symbol covers from the left, and empties what is left of a symbol of
-// which it covers the first part.
-fn lay(
+// Sets the flags of a symbol of so many columns, and empties what is left of another one of which it covers the first part.
+// Answers the column behind all these.
+fn cover(
     out: &mut String,
     behind: &mut [bool],
     width: u16,
-    height: u16,
-    drawing: Drawing,
+    brush: &mut Brush,
+    x: u16,
+    y: u16,
+    columns: u16,
+) -> Result<u16, AllocError>
+    requires some { 0 < columns }
+    requires fits { x + columns ≤ width }
+    requires row { y * width + width ≤ length behind.old }
+    requires uncut { slice_index_or behind.old (y * width + x) false ≡ false }
+    ensures { IfOk result (λ end. Covers width x y columns (string_bytes out.old) behind.old
+        brush.old end (string_bytes out.new) behind.new brush.new) }
+{
+    let start = usize::from(y) * usize::from(width);
+    let behind_it = x + columns;
+    let end = tail_end(behind, start, behind_it, width);
+    if x + 1 < end {
+        put_blanks(out, brush, behind_it, y, end)?;
+        mark(
+            behind,
+            start + usize::from(x),
+            start + usize::from(behind_it),
+            start + usize::from(end),
+        );
+    }
+    Ok(end)
+}
+
+// Prints a cell's symbol in a column and a row of a screen, in the brush's pen.
+fn put(
+    out: &mut String,
+    brush: &mut Brush,
     x: u16,
     y: u16,
     cell: &Cell,
     glyph: Glyph,
-) -> Result<Drawing, AllocError>
-    requires column { x < width }
-    requires row { y < height }
-    requires flags { length behind.old ≡ width * height }
-    requires uncut { slice_index_or behind.old (y * width + x) false ≡ false }
-    requires fit { glyph_in (width - x) cell.now ≡ Some glyph }
-    requires told { IsTrue (is_told (pen_of cell.now)) }
-    ensures { IfOk result (λ after. SendsUpdates width height (string_bytes out.old) drawing
-        behind.old (record { x = x; y = y; cell = cell.now } ∷ []) (string_bytes out.new)
-        after behind.new) }
+) -> Result<(), AllocError>
+    requires column { x < 65535 }
+    requires glyph { IsPrintedAs (symbol_text cell.now.symbol) glyph }
+    ensures prints { OnOk result ((w h : ℕ) → x < w → y < h → Prints w h (string_bytes out.old)
+        brush.old x y brush.old.pen (symbol_text cell.now.symbol) (string_bytes out.new) brush.new) }
+    ensures pen { OnOk result (brush.new.pen ≡ brush.old.pen) }
 {
-    let brush = put(
-        out,
-        drawing.brush,
-        width,
-        height,
-        x,
-        y,
-        Pen::of(cell),
-        cell.symbol(),
-        glyph.is_plain,
-    )?;
-    let start = usize::from(y) * usize::from(width);
-    let behind_it = x + glyph.columns;
-    let end = tail_end(behind, start, behind_it, width);
-    let brush = put_blanks(out, brush, width, height, behind_it, y, end)?;
-    mark(
-        behind,
-        start + usize::from(x),
-        start + usize::from(behind_it),
-        start + usize::from(end),
-    );
-    Ok(Drawing {
-        brush,
-        cursor: Position {
-            x: end.min(width - 1),
-            y,
-        },
-        written: drawing.written.saturating_add(1),
-    })
+    match glyph {
+        Glyph::Plain(c) => put_plain(out, brush, x, y, c),
+        Glyph::Whole(_) => put_symbol(out, brush, x, y, cell.symbol()),
+    }
+}
+
+// Sets the pen of the cell in a place, where the brush has another.
+fn take_pen(
+    out: &mut String,
+    brush: &mut Brush,
+    has_underline_colors: bool,
+    place: Position,
+    pen: Pen,
+) -> Result<(), Refusal>
+    requires { is_told_by has_underline_colors brush.old.pen ≡ true }
+    ensures changes { OnOk result (Changes brush.old.pen pen (string_bytes out.old)
+        (string_bytes out.new)) }
+    ensures pen { OnOk result (brush.new ≡ record brush.old { pen = pen }) }
+    ensures told { OnOk result (is_told_by has_underline_colors pen ≡ true) }
+    ensures refused { IfErr result (IsUntoldPen has_underline_colors place pen) }
+{
+    if brush.pen == pen {
+        return Ok(());
+    }
+    if !pen.is_told_by(has_underline_colors) {
+        return Err(Refusal::Pen(place));
+    }
+    set_pen(out, brush, pen)?;
+    Ok(())
 }
 
 /// Draws a cell in a column and a row of a screen of so many columns and rows, and counts it. `behind` has a flag for each column,
@@ -236,45 +275,45 @@ pub fn draw_cell(
     width: u16,
     height: u16,
     has_underline_colors: bool,
-    drawing: Drawing,
+    drawing: &mut Drawing,
     x: u16,
     y: u16,
     cell: &Cell,
-) -> Result<Drawing, Refusal>
-    requires { length behind.old ≡ width * height }
-    ensures drawn { IfOk result (λ after. SendsUpdates width height (string_bytes out.old)
-        drawing behind.old (record { x = x; y = y; cell = cell.now } ∷ [])
-        (string_bytes out.new) after behind.new) }
-    ensures told { IfOk result (λ _. is_told_on width height has_underline_colors
+) -> Result<(), Refusal>
+    requires flags { length behind.old ≡ width * height }
+    requires pen { is_told_by has_underline_colors drawing.old.brush.pen ≡ true }
+    ensures drawn { OnOk result (SendsUpdates width height (string_bytes out.old)
+        drawing.old behind.old (record { x = x; y = y; cell = cell.now } ∷ [])
+        (string_bytes out.new) drawing.new behind.new) }
+    ensures told { OnOk result (is_told_on width height has_underline_colors
         (record { x = x; y = y; cell = cell.now }) ≡ true) }
-    ensures refused { MatchResult result (λ _. Unit {0})
-        (IsRefused width height has_underline_colors behind.old
+    ensures pen { OnOk result (is_told_by has_underline_colors drawing.new.brush.pen ≡ true) }
+    ensures refused { IfErr result (IsRefused width height has_underline_colors behind.old
         (record { x = x; y = y; cell = cell.now })) }
 {
-    let counted = Drawing {
-        written: drawing.written.saturating_add(1),
-        ..drawing
-    };
+    drawing.written = drawing.written.saturating_add(1);
     if x >= width || y >= height {
-        return Ok(counted);
+        return Ok(());
     }
     let place = Position { x, y };
     if behind[usize::from(y) * usize::from(width) + usize::from(x)] {
         if is_vacant(cell) {
-            return Ok(counted);
+            return Ok(());
         }
         return Err(Refusal::Cut(place));
     }
     let Some(glyph) = glyph_in(width - x, cell) else {
         return Err(Refusal::Symbol(place));
     };
-    if !Pen::of(cell).is_told_by(has_underline_colors) {
-        return Err(Refusal::Pen(place));
-    }
-    match lay(out, behind, width, height, drawing, x, y, cell, glyph) {
-        Ok(after) => Ok(after),
-        Err(AllocError) => Err(Refusal::Memory),
-    }
+    let brush = &mut drawing.brush;
+    take_pen(out, brush, has_underline_colors, place, Pen::of(cell))?;
+    put(out, brush, x, y, cell, glyph)?;
+    let end = cover(out, behind, width, brush, x, y, glyph.columns())?;
+    drawing.cursor = Position {
+        x: end.min(width - 1),
+        y,
+    };
+    Ok(())
 }
 
 // Draws cells in order.
@@ -284,24 +323,24 @@ fn draw_all<C: AsCell, I: Iterator<Item = (u16, u16, C)>>(
     width: u16,
     height: u16,
     has_underline_colors: bool,
-    drawing: Drawing,
+    drawing: &mut Drawing,
     content: I,
-) -> Result<Drawing, Refusal>
+) -> Result<(), Refusal>
     requires flags { length behind.old ≡ width * height }
+    requires pen { is_told_by has_underline_colors drawing.old.brush.pen ≡ true }
     requires can { I.can_next content }
     requires finite { IsFinite (I.remaining content) }
-    ensures drawn { IfOk result (λ after. (items : List (ℕ × ℕ × C))
+    ensures drawn { OnOk result ((items : List (ℕ × ℕ × C))
         × Drains I.next_gives content items
-        × SendsUpdates width height (string_bytes out.old) drawing behind.old
-        (map (update_by C.cell) items) (string_bytes out.new) after behind.new
+        × SendsUpdates width height (string_bytes out.old) drawing.old behind.old
+        (map (update_by C.cell) items) (string_bytes out.new) drawing.new behind.new
         × (list_all (is_told_on width height has_underline_colors)
         (map (update_by C.cell) items) ≡ true)) }
     ensures refused { IfErr result (StopsWithin I.next_gives content (update_by C.cell)
-        width height has_underline_colors (string_bytes out.old) drawing behind.old) }
+        width height has_underline_colors (string_bytes out.old) drawing.old behind.old) }
 {
-    let mut drawing = drawing;
     for (x, y, cell) in content {
-        drawing = draw_cell(
+        draw_cell(
             out,
             behind,
             width,
@@ -313,7 +352,7 @@ fn draw_all<C: AsCell, I: Iterator<Item = (u16, u16, C)>>(
             cell.as_cell(),
         )?;
     }
-    Ok(drawing)
+    Ok(())
 }
 
 /// Draws cells in order on a screen of so many columns and rows, with the cursor there and so many items drawn before; `behind` is
@@ -348,20 +387,20 @@ pub fn draw_cells<C: AsCell, I: Iterator<Item = (u16, u16, C)>>(
         x: 0,
         y: 0,
     };
-    let drawing = Drawing {
+    let mut drawing = Drawing {
         brush,
         cursor,
         written,
     };
-    let drawing = draw_all(
+    draw_all(
         out,
         behind,
         width,
         height,
         has_underline_colors,
-        drawing,
+        &mut drawing,
         content,
     )?;
-    change_pen(out, drawing.brush.pen, Pen::OWN)?;
+    change_pen(out, &mut drawing.brush, Pen::OWN)?;
     Ok((drawing.cursor, drawing.written))
 }

@@ -1,6 +1,7 @@
 //! Escape sequences by their standard names.
 
-ghost use Rattle.std.specs.Prelude.{◌≡◌, ◌+◌, ◌-◌, ◌<◌, OnOk, true, false, string_bytes};
+ghost use Rattle.std.specs.Prelude.{◌≡◌, ◌+◌, ◌-◌, ◌<◌, OnOk, true, false, [], ◌∷◌, ◌++◌, string_bytes};
+ghost use Rattle.std.specs.Fmt.{decimal};
 ghost use Rattle.ratatui_ansi.specs.Emulator.{moved, returned, erased, fed, with_region, without_region, lines_deleted, scrolled_down, with_visible};
 ghost use Rattle.ratatui_ansi.specs.declared.part.Part.TheVariants.{Before};
 ghost use Rattle.ratatui_ansi.specs.Sends.{Does};
@@ -8,11 +9,38 @@ ghost use Rattle.ratatui_ansi.specs.Sends.{Does};
 use crate::part::Part;
 use std::alloc::AllocError;
 
+// Appends a digit.
+fn push_digit(out: &mut String, digit: u32) -> Result<(), AllocError>
+    requires { digit < 10 }
+    ensures { OnOk result (string_bytes out.new ≡ string_bytes out.old ++ (48 + digit) ∷ []) }
+{
+    out.push(char::from(b'0' + digit as u8))
+}
+
+/// Appends a number in decimal digits.
+pub fn push_number(out: &mut String, n: u32) -> Result<(), AllocError>
+    ensures { OnOk result (string_bytes out.new ≡ string_bytes out.old ++ decimal n) }
+{
+    if n < 10 {
+        return push_digit(out, n);
+    }
+    if n < 100 {
+        push_digit(out, n / 10)?;
+    } else {
+        push_number(out, n / 10)?;
+    }
+    push_digit(out, n % 10)
+}
+
 /// CUP (cursor position): moves the cursor to a column and a row.
 pub fn move_to(out: &mut String, x: u16, y: u16) -> Result<(), AllocError>
     ensures { OnOk result (Does (string_bytes out.old) (string_bytes out.new) (moved x y)) }
 {
-    write!(out, "\u{1b}[{};{}H", u32::from(y) + 1, u32::from(x) + 1)
+    out.push_str("\u{1b}[")?;
+    push_number(out, u32::from(y) + 1)?;
+    out.push(';')?;
+    push_number(out, u32::from(x) + 1)?;
+    out.push('H')
 }
 
 /// ED and EL (erase in display, erase in line): empties a part of the screen.

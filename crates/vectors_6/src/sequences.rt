@@ -156,7 +156,7 @@ fn symbols(rt: HostRuntime) -> Result<(), Fail> {
         !is_symbol("") && !is_symbol("a\u{1b}[2J") && !is_symbol("\u{9b}2J") && !is_symbol("\u{7f}")
     );
     assert!(rt; !is_symbol("a\u{202e}b") && !is_symbol("\u{301}") && !is_symbol("\n"));
-    assert!(rt; printing_of("─") == Printing::Plain && printing_of("é") == Printing::Plain);
+    assert!(rt; printing_of("─") == Printing::Plain('─') && printing_of("é") == Printing::Plain('é'));
     assert!(rt; printing_of("コ") == Printing::Whole && printing_of("e\u{301}") == Printing::Whole);
     assert!(rt; printing_of("ab") == Printing::Unprinted && printing_of("") == Printing::Unprinted);
     assert!(rt; printing_of("\u{9b}") == Printing::Unprinted);
@@ -330,7 +330,7 @@ fn cells_that_are_refused(rt: HostRuntime) -> Result<(), Fail> {
         )
     );
     backend.set_underline_colors(true);
-    let told = "\u{1b}[1;2H\u{1b}[0;58;5;3ma\u{1b}[0m";
+    let told = "\u{1b}[0;58;5;3m\u{1b}[1;2Ha\u{1b}[0m";
     assert!(rt; draws(&mut backend, &[(1, 0, &cell)], Ok(()), told));
     cell.underline_color = Color::Reset;
     assert!(rt; draws(&mut backend, &[(1, 0, &cell)], Ok(()), "\u{1b}[1;2Ha"));

@@ -11,19 +11,21 @@ loop-x-init g c = record {
   is_finite = search rules;
   sends = sends-none _ _ _ _ _;
   told = refl;
+  pen = c.requires.pen;
 }
 
 pub loop-x-preserved : goal.loop-x-preserved
 loop-x-preserved g c = record {
   can_next = search rules;
   is_finite = search rules;
-  sends = rw map-append (sends-push _ _ _ _ _ _ _ _ _ _ _ _ _ c.loop-x.invariant.sends (rw c.as_cell.ensures at c.in_ok-drawing.ensures.drawn));
+  sends = rw map-append (sends-push _ _ _ _ _ _ _ _ _ _ _ _ _ c.loop-x.invariant.sends (rw c.as_cell.ensures at c.in_ok-draw_cell.ensures.drawn));
   told = rw map-append (told-push c.args.width c.args.height c.args.has_underline_colors (map (update_by g.C.AsCell.cell) c.loop-x.yielded)
-      (update_by g.C.AsCell.cell (c.in-Some.x, c.in-Some.y, c.in-Some.cell)) c.loop-x.invariant.told (rw c.as_cell.ensures at c.in_ok-drawing.ensures.told));
+      (update_by g.C.AsCell.cell (c.in-Some.x, c.in-Some.y, c.in-Some.cell)) c.loop-x.invariant.told (rw c.as_cell.ensures at c.in_ok-draw_cell.ensures.told));
+  pen = c.in_ok-draw_cell.ensures.pen;
 }
 
-pub returns-in_err-drawing-clause-refused : goal.returns-in_err-drawing-clause-refused
-returns-in_err-drawing-clause-refused g c = if-error _ _ _ c.from_residual.ensures (record {
+pub returns-in_err-draw_cell-clause-refused : goal.returns-in_err-draw_cell-clause-refused
+returns-in_err-draw_cell-clause-refused g c = if-error _ _ _ c.from_residual.ensures (record {
   front = c.loop-x.yielded;
   item = (c.in-Some.x, c.in-Some.y, c.in-Some.cell);
   rest = _;
@@ -32,5 +34,5 @@ returns-in_err-drawing-clause-refused g c = if-error _ _ _ c.from_residual.ensur
   after = _;
   flags_after = _;
   sends = c.loop-x.invariant.sends;
-  refused = rw c.as_cell.ensures at c.in_err-drawing.ensures.refused;
+  refused = rw c.as_cell.ensures at c.in_err-draw_cell.ensures.refused;
 })

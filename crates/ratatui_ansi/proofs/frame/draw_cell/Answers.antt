@@ -1,6 +1,6 @@
-use Rattle.std.proofs.Common.{◌≡◌, ◌&&◌, nat_lt, false, arith, refl}
+use Rattle.std.proofs.Common.{◌≡◌, ◌&&◌, nat_lt, false, refl, ap, arith}
 use Rattle.std.proofs.lemmas.Bool.Decides.{nat_tests}
-use Rattle.ratatui_ansi.proofs.FrameLemmas.{still-sends, put-off, put-vacant, told-off, told-vacant}
+use Rattle.ratatui_ansi.proofs.FrameLemmas.{still-sends, put-off, put-vacant, told-off, told-vacant, cell-sends}
 use Rattle.ratatui_ansi.proofs.frame.draw_cell.Goals.{then-x-width-via-then-x-width, then-x-width-via-else-x-width+then-y-height}
 use Rattle.ratatui_ansi.proofs.frame.draw_cell.Goals as goal
 
@@ -10,7 +10,7 @@ returns-then-x-width-clause-drawn c =
       | then-x-width-via-then-x-width w ↦ grind (arith, nat_tests)
       | then-x-width-via-else-x-width+then-y-height w ↦ grind (arith, nat_tests)
     ] in
-    still-sends c.args.width c.args.height _ _ _ _ _ refl refl c.saturating_add.ensures (λ columns are. put-off c.args.width c.args.height _ off columns)
+    still-sends c.args.width c.args.height _ _ _ _ _ refl refl c.saturating_add-drawing.ensures (λ columns are. put-off c.args.width c.args.height _ off columns)
 
 pub returns-then-x-width-clause-told : goal.returns-then-x-width-clause-told
 returns-then-x-width-clause-told c =
@@ -22,8 +22,15 @@ returns-then-x-width-clause-told c =
 
 pub returns-then-is_vacant-clause-drawn : goal.returns-then-is_vacant-clause-drawn
 returns-then-is_vacant-clause-drawn c =
-    still-sends c.args.width c.args.height _ _ _ _ _ refl refl c.saturating_add.ensures
+    still-sends c.args.width c.args.height _ _ _ _ _ refl refl c.saturating_add-drawing.ensures
     (put-vacant c.args.width c.args.height _ c.args.behind.now (omega arith) (omega arith) (rw (c.from.ensures, c.from-2.ensures, c.from-3.ensures) at c.if-behind-from.true) (c.is_vacant.ensures.0 c.if-is_vacant.true))
 
 pub returns-then-is_vacant-clause-told : goal.returns-then-is_vacant-clause-told
 returns-then-is_vacant-clause-told c = told-vacant c.args.width c.args.height c.args.has_underline_colors (record { x = c.args.x; y = c.args.y; cell = c.args.cell.now }) (c.is_vacant.ensures.0 c.if-is_vacant.true)
+
+pub returns-clause-drawn : goal.returns-clause-drawn
+returns-clause-drawn c =
+    cell-sends c.args.width c.args.height c.args.x c.args.y c.args.cell.now c.in-Some.glyph c.in_ok-end.end c.args.drawing.now _ c.take_pen.new.brush c.put.new.brush c.args.behind.now c.cover.new.behind
+    _ _ _ _ (omega arith) (omega arith) c.in-Some.ensures (rw c.of.ensures at c.in_ok-take_pen.ensures.changes) (rw c.of.ensures at c.in_ok-take_pen.ensures.pen)
+    (c.in_ok-put.ensures.prints c.args.width c.args.height (omega arith) (omega arith)) (rw c.columns.ensures at c.in_ok-end.ensures)
+    (rw (c.from.ensures, c.from-2.ensures, c.from-3.ensures) at c.if-behind-from.false) (ap (λ k. record { x = k; y = c.args.y }) c.min.ensures) c.saturating_add-drawing.ensures

@@ -1,17 +1,29 @@
-use Rattle.std.proofs.Common.{◌+◌, ◌-◌, sym, arith, rules}
-use Rattle.ratatui_ansi.proofs.FrameLemmas.{blank-printed, blank-single, blanks-none, blanks-more}
+use Rattle.std.proofs.Common.{◌≡◌, ◌+◌, ◌-◌, string_bytes, ap, subst, ◌∙◌, arith}
+use Rattle.ratatui_ansi.specs.declared.drawing.Brush.{Brush}
+use Rattle.ratatui_ansi.specs.Drawing.{blanked, Paints}
+use Rattle.ratatui_ansi.proofs.FrameLemmas.{blanks-none, blanks-more, blanks-own}
 use Rattle.ratatui_ansi.proofs.frame.put_blanks.Goals as goal
 
+pub returns-then-x-end-clause-paints : goal.returns-then-x-end-clause-paints
+returns-then-x-end-clause-paints c = λ w h inside row. blanks-none w h _ _ c.args.x c.args.y (c.args.end - c.args.x) (omega arith)
+
 pub loop-column-init : goal.loop-column-init
-loop-column-init c = blanks-none c.args.width c.args.height _ _ c.args.x c.args.y (c.args.x - c.args.x) (omega arith)
-
-pub put-requires-clause-printed : goal.put-requires-clause-printed
-put-requires-clause-printed c = search (rules, blank-printed)
-
-pub put-requires-clause-plain : goal.put-requires-clause-plain
-put-requires-clause-plain c = sym blank-single
+loop-column-init c = record {
+  own = ap (λ (b : Brush). b.pen) c.in_ok-change_pen.ensures.pen;
+  paints = λ w h inside row. blanks-none w h _ _ c.args.x c.args.y (c.args.x - c.args.x) (omega arith);
+}
 
 pub loop-column-preserved : goal.loop-column-preserved
-loop-column-preserved c =
-    blanks-more c.args.width c.args.height c.args.x c.args.y c.loop-column.column (c.loop-column.column - c.args.x)
-    (c.loop-column.column + 1 - c.args.x) _ _ _ _ _ _ c.loop-column.invariant c.in_ok-brush.ensures (omega arith) (omega arith)
+loop-column-preserved c = record {
+  own = c.in_ok-put_plain.ensures.pen ∙ c.loop-column.invariant.own;
+  paints = λ w h inside row.
+      blanks-more w h c.args.x c.args.y c.loop-column.column (c.loop-column.column - c.args.x) (c.loop-column.column + 1 - c.args.x) _ _ _ _ _ _
+      (c.loop-column.invariant.paints w h inside row) c.loop-column.invariant.own (c.in_ok-put_plain.ensures.prints w h (omega arith) row) (omega arith) (omega arith);
+}
+
+pub returns-clause-paints : goal.returns-clause-paints
+returns-clause-paints c = λ w h inside row.
+    let at_end : c.loop-column.column ≡ c.args.end = omega arith in
+    blanks-own w h c.args.x c.args.y (c.args.end - c.args.x) (c.args.end - c.args.x - 1) _ _ _ _ _ _ c.in_ok-change_pen.ensures.changes c.in_ok-change_pen.ensures.pen
+    (subst (λ k. Paints w h (string_bytes c.change_pen.new.out) c.change_pen.new.brush (blanked c.args.x c.args.y (k - c.args.x)) (string_bytes c.loop-column.out) c.loop-column.brush) at_end
+    (c.loop-column.invariant.paints w h inside row)) (omega arith)

@@ -1,14 +1,13 @@
-use Rattle.std.proofs.Common.{◌+◌, string_bytes, [], ◌∷◌, ◌++◌, ap₂, ◌∙◌}
-use Rattle.std.specs.Fmt.{decimal}
+use Rattle.std.proofs.Common.{string_bytes, encode_utf8, arith}
 use Rattle.std.proofs.lemmas.Result.{on_ok_weaker}
-use Rattle.ratatui_ansi.proofs.ReadLemmas.{CUP, CUP-read}
+use Rattle.ratatui_ansi.proofs.ReadLemmas.{CUP, CUP-read, on_push, move-appended}
 use Rattle.ratatui_ansi.proofs.sequences.move_to.Goals as goal
 
 pub returns : goal.returns
 returns c =
-    let old = string_bytes c.args.out.now in
-    on_ok_weaker c.write.result (λ e. record {
+    on_ok_weaker c.push-2.result (λ e. record {
       bytes = CUP c.args.x c.args.y;
-      appended = e ∙ ap₂ (λ r k. old ++ (27 ∷ 91 ∷ (decimal (r + 1) ++ (59 ∷ (decimal (k + 1) ++ 72 ∷ []))))) c.from.ensures c.from-2.ensures;
+      appended = move-appended c.args.x c.args.y _ _ _ _ _ _ _ _ _ _ c.in_ok-push_str.ensures.bytes c.in_ok-push_number.ensures c.in_ok-push.ensures.bytes c.in_ok-push_number-2.ensures e
+          c.from.ensures c.from-2.ensures (c.in_ok-push.ensures.ascii (omega arith)) (c.push-2.ensures.ascii (omega arith));
       read = CUP-read c.args.x c.args.y c.ranges.x.fits c.ranges.y.fits;
-    }) c.write.ensures.bytes
+    }) (on_push c.push-2.result (string_bytes c.push_number-2.new.out) (string_bytes c.push-2.new.self) (encode_utf8 72) c.push-2.ensures.bytes)

@@ -1,0 +1,31 @@
+use Rattle.std.proofs.Common.{◌+◌, ◌-◌, ◌*◌, inl, refl, arith}
+use Rattle.ratatui_ansi.proofs.FrameLemmas.{blanks-none, one-marked}
+use Rattle.ratatui_ansi.proofs.frame.cover.Goals as goal
+
+pub returns-in_ok-put_blanks : goal.returns-in_ok-put_blanks
+returns-in_ok-put_blanks c = record {
+  ordered = c.tail_end-end.ensures.low;
+  inside = c.tail_end-end.ensures.high;
+  set = λ k low high. rw (c.from.ensures, c.from-2.ensures) at (c.tail_end-end.ensures.behind k low high);
+  unset = λ within. rw (c.from.ensures, c.from-2.ensures) at (c.tail_end-end.ensures.ended within);
+  paints = λ h row. c.in_ok-put_blanks.ensures.paints c.args.width h c.tail_end-end.ensures.high row;
+  pen = c.in_ok-put_blanks.ensures.pen;
+  marked = record {
+    count = c.mark.auto.behind;
+    each = λ k. rw (c.from.ensures, c.from-2.ensures, c.from-then-x-end.ensures, c.from-then-x-end-2.ensures, c.from-then-x-end-3.ensures) at (c.mark.ensures k);
+  };
+}
+
+pub returns-else-x-end : goal.returns-else-x-end
+returns-else-x-end c = record {
+  ordered = c.tail_end-end.ensures.low;
+  inside = c.tail_end-end.ensures.high;
+  set = λ k low high. rw (c.from.ensures, c.from-2.ensures) at (c.tail_end-end.ensures.behind k low high);
+  unset = λ within. rw (c.from.ensures, c.from-2.ensures) at (c.tail_end-end.ensures.ended within);
+  paints = λ h row. blanks-none c.args.width h _ _ (c.args.x + c.args.columns) c.args.y (c.tail_end-end.result - (c.args.x + c.args.columns)) (omega arith);
+  pen = inl refl;
+  marked = record {
+    count = refl;
+    each = one-marked (c.args.y * c.args.width + c.args.x) (c.args.y * c.args.width + (c.args.x + c.args.columns)) (c.args.y * c.args.width + c.tail_end-end.result) c.args.behind.now c.requires.uncut (omega arith);
+  };
+}
