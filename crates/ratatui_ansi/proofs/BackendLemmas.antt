@@ -1,15 +1,13 @@
 -- What a link was told, and the terminal that has read it.
 use Rattle.std.proofs.Common.{◌≡◌, ℕ, ◌+◌, ◌*◌, ◌^◌, Bool, true, false, length, ◌-◌, ◌<◌, min, arith, List, [], ◌++◌, refl, sym, ap, ◌∙◌, subst}
-use Rattle.rtui_geometry.specs.declared.position.Position.{Position}
-use Rattle.rtui_geometry.specs.declared.size.Size.{Size}
-use Rattle.rtui_backend.specs.Screen.{Screen}
+use Rattle.ratatui_core.specs.Layout.{Position, Size}
+use Rattle.ratatui_core.specs.Buffer.{Update}
+use Rattle.ratatui_core.specs.Backend.{Screen, Draws, IsBlankScreen}
 use Rattle.ratatui_ansi.specs.Emulator.{Emulator, rested, fresh}
 use Rattle.ratatui_ansi.specs.Sequences.{feed}
 use Rattle.ratatui_ansi.specs.Screens.{screen_shown}
 use Rattle.ratatui_ansi.specs.Calls.{IsAwaiting, SendsCall}
 use Rattle.ratatui_ansi.specs.Backend.{reader, IsInOrder}
-use Rattle.rtui_backend.specs.Screen.{Draws, IsBlankScreen}
-use Rattle.rtui_cell.specs.Grid.{Update}
 use Rattle.ratatui_ansi.specs.Columns.{blank_column}
 use Rattle.ratatui_ansi.specs.Flags.{AreBehind}
 use Rattle.ratatui_ansi.specs.Frame.{SendsDraw}

@@ -1,8 +1,7 @@
 -- Moves of the cursor, its visibility, and the screen emptied.
 use Rattle.std.proofs.Common.{◌≡◌, ℕ, ◌-◌, ◌<◌, ◌||◌, min, nat_lt, if◌then◌else◌, Bool, true, false, refl, sym, ap, ap₂, ◌∙◌, arith}
 use Rattle.std.proofs.lemmas.Bool.Decides.{nat_tests}
-use Rattle.rtui_backend.specs.Screen.{Clears, with_cursor, with_visible}
-use Rattle.rtui_backend.specs.declared.clear_type.ClearType.TheVariants.{All}
+use Rattle.ratatui_core.specs.Backend.{Clears, with_cursor, with_visible, All}
 use Rattle.ratatui_ansi.specs.Columns.{Column, Columns, Area, look_in, is_met, blank_column, overwritten}
 use Rattle.ratatui_ansi.specs.Columns.Column.{Shows, Unknown}
 use Rattle.ratatui_ansi.specs.declared.part.Part.TheVariants.{Before}

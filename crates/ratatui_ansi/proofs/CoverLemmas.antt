@@ -3,19 +3,9 @@ use Rattle.std.proofs.Common.{◌≡◌, ◌⊎◌, inl, inr, ℕ, ◌+◌, ◌-
 use Rattle.std.proofs.lemmas.Bool.{cases_lt, false≢true}
 use Rattle.std.proofs.lemmas.Bool.Decides.{nat_tests}
 use Rattle.std.proofs.lemmas.List.Elements.{All-head, All-tail}
-use Rattle.rtui_cell.specs.Cell.{width_of, width_by, empty_cell}
-use Rattle.rtui_cell.specs.Grid.{Grid, Update, put, puts}
-use Rattle.rtui_cell.specs.Look.{Look, look_of, empty_look}
-use Rattle.rtui_cell.specs.Symbol.{symbol_text}
-use Rattle.rtui_cell.specs.Width.{text_width}
-use Rattle.rtui_cell.specs.declared.cell.Cell.{Cell}
-use Rattle.rtui_cell.specs.declared.cell.CellDiffOption.TheVariants as DiffOption
-use Rattle.rtui_cell.proofs.CellLemmas.{same_look, same_width, look-empty, width-empty}
-use Rattle.rtui_diff.specs.Cells.{cell_at, is_forced, is_forced_by}
-use Rattle.rtui_diff.specs.Diff.{IsDiff}
-use Rattle.rtui_diff.specs.Settled.{IsSettled}
-use Rattle.rtui_diff.specs.Shows.{Shows, ShowsColumn}
-use Rattle.rtui_diff.specs.Updates.{IsBefore, Rises, IsCellOfNext}
+use Rattle.ratatui_core.specs.Buffer.{width_of, width_by, empty_cell, Grid, Update, put, puts, Look, look_of, empty_look, symbol_text, text_width, Cell, cell_at, is_forced, is_forced_by, IsDiff, IsSettled, Shows, ShowsColumn, IsBefore, Rises, IsCellOfNext}
+use Rattle.ratatui_core.proofs.BufferLemmas.{same_look, same_width, look-empty, width-empty}
+use Rattle.ratatui_core.specs.DiffOption as DiffOption
 use Rattle.ratatui_ansi.specs.Columns.{Column, Columns, look_in, is_behind}
 use Rattle.ratatui_ansi.specs.Columns.Column.{Unknown}
 use Rattle.ratatui_ansi.specs.Columns.Column.{Shows as Standing}

@@ -3,7 +3,7 @@ use Rattle.std.proofs.Common.{◌≡◌, ℕ, ◌+◌, ◌-◌, ◌<◌, ◌≤�
 use Rattle.std.proofs.lemmas.Bool.{cases_lt}
 use Rattle.std.proofs.lemmas.Bool.Decides.{nat_tests}
 use Rattle.std.specs.List.{list_any, range_with_len}
-use Rattle.rtui_cell.specs.Look.{Look, empty_look}
+use Rattle.ratatui_core.specs.Buffer.{Look, empty_look}
 use Rattle.ratatui_ansi.specs.declared.part.Part.{Part}
 use Rattle.ratatui_ansi.specs.declared.part.Part.TheVariants.{After, Before, Line, LineEnd}
 use Rattle.ratatui_ansi.specs.Columns.{Column, Columns, Area, is_behind, is_met, blank_column, overwritten}

@@ -8,16 +8,11 @@ use Rattle.std.proofs.lemmas.Bool.Decides.{nat_tests}
 use Rattle.std.specs.List.{list_all}
 use Rattle.std.proofs.lemmas.List.Folds.{list_all-append}
 use Rattle.std.proofs.lemmas.Str.{chars-nil, encodes-chars, IsUtf8-nil}
-use Rattle.rtui_geometry.specs.declared.position.Position.{Position}
-use Rattle.rtui_cell.specs.Symbol.{blank, symbol_text}
-use Rattle.rtui_cell.specs.Look.{Look, look_of, empty_look}
-use Rattle.rtui_cell.specs.Cell.{width_of}
-use Rattle.rtui_cell.specs.Width.{text_width}
-use Rattle.rtui_cell.specs.Grid.{Update, put}
-use Rattle.rtui_cell.specs.declared.cell.Cell.{Cell}
-use Rattle.rtui_cell.specs.declared.cell.CellDiffOption.TheVariants as DiffOption
-use Rattle.rtui_backend.proofs.DrawLemmas.{Draws-none, Draws-push}
-use Rattle.rtui_backend.specs.Screen.{Draws}
+use Rattle.ratatui_core.specs.Layout.{Position}
+use Rattle.ratatui_core.specs.Buffer.{blank, symbol_text, Look, look_of, empty_look, width_of, text_width, Update, put, Cell}
+use Rattle.ratatui_core.specs.Backend.{Draws}
+use Rattle.ratatui_core.proofs.BackendLemmas.{Draws-none, Draws-push}
+use Rattle.ratatui_core.specs.DiffOption as DiffOption
 use Rattle.ratatui_ansi.specs.declared.pen.Pen.{Pen}
 use Rattle.ratatui_ansi.specs.declared.drawing.Brush.{Brush}
 use Rattle.ratatui_ansi.specs.declared.drawing.Printing.TheVariants.{Plain, Whole, Unprinted}

@@ -1,9 +1,8 @@
 -- From the screen that a backend stands for to the terminal that has read its bytes.
 use Rattle.std.proofs.Common.{◌≡◌, ℕ, List, [], ◌∷◌}
-use Rattle.rtui_backend.specs.Screen.{Screen}
-use Rattle.rtui_terminal.specs.State.{State}
-use Rattle.rtui_terminal.specs.InStep.{IsInStep}
-use Rattle.rtui_terminal.specs.Headline.{Event, Along, last_state, IsFaithful}
+use Rattle.ratatui_core.specs.Backend.{Screen}
+use Rattle.ratatui_core.specs.Terminal.{State, IsInStep}
+use Rattle.ratatui_core.specs.Headline.{Event, Along, last_state, IsFaithful}
 use Rattle.ratatui_ansi.specs.Backend.{BackendState, shown_by}
 use Rattle.ratatui_ansi.specs.Headline.{IsReadSurely, IsShownToReaders}
 

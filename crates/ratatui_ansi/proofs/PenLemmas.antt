@@ -5,16 +5,9 @@ use Rattle.std.specs.List.{list_all}
 use Rattle.std.specs.Int.RustNames.{bit_and, bit_or}
 use Rattle.std.proofs.lemmas.Bool.Decides.{nat_tests}
 use Rattle.std.proofs.lemmas.List.Folds.{list_all-append}
-use Rattle.rtui_style.specs.declared.color.Color.{Color}
-use Rattle.rtui_style.specs.declared.color.Color.TheVariants.{Reset, Black, Red, Green, Yellow, Blue, Magenta, Cyan, Gray, DarkGray, LightRed, LightGreen, LightYellow, LightBlue, LightMagenta, LightCyan, White, Rgb, Indexed}
-use Rattle.rtui_style.specs.contracts.color.Color as color
-use Rattle.rtui_style.specs.contracts.color.ColorPartialEq.TheImpl as color_equality
-use Rattle.rtui_style.specs.contracts.ModifierPartialEq.TheImpl as modifier_equality
-use Rattle.rtui_cell.proofs.DerivedLemmas.{same_value}
+use Rattle.ratatui_core.specs.Style.{Color, Reset, Black, Red, Green, Yellow, Blue, Magenta, Cyan, Gray, DarkGray, LightRed, LightGreen, LightYellow, LightBlue, LightMagenta, LightCyan, White, Rgb, Indexed, Modifier, no_modifier, bits_of, modifier_of}
+use Rattle.ratatui_core.proofs.StyleLemmas.{same_color, same_modifier}
 use Rattle.ratatui_ansi.specs.contracts.pen.PenPartialEq.TheImpl as pen_equality
-use Rattle.std.proofs.lemmas.Bool.Decides.{Decides-eqb}
-use Rattle.rtui_style.specs.declared.Modifier.{Modifier}
-use Rattle.rtui_style.specs.Modifier.{no_modifier, bits_of, modifier_of}
 use Rattle.ratatui_ansi.specs.declared.pen.Pen.{Pen}
 use Rattle.ratatui_ansi.specs.declared.drawing.Brush.{Brush}
 use Rattle.ratatui_ansi.specs.Pen.{Inking, inks, inks_in, own_pen}
@@ -271,39 +264,15 @@ pen-sent p old mid new is tells e =
 
 -- ---- equal pens
 
-no_field : (a b : Unit {0}) → true ≡ true → a ≡ b
-no_field a b e = refl
-
-same_number : (a b : ℕ) → nat_eq a b ≡ true → a ≡ b
-same_number a b e = (Decides-eqb a b).0 e
-
-same_index : (a b : ℕ × Unit {0}) → nat_eq a.0 b.0 ≡ true → a ≡ b
-same_index a b e = ap (λ n. (n, tt)) (same_number a.0 b.0 e)
-
-same_channels : (a b : ℕ × (ℕ × (ℕ × Unit {0}))) → (nat_eq a.0 b.0 && (nat_eq a.1.0 b.1.0 && nat_eq a.1.1.0 b.1.1.0)) ≡ true → a ≡ b
-same_channels a b e =
-    let outer = and-both (nat_eq a.0 b.0) (nat_eq a.1.0 b.1.0 && nat_eq a.1.1.0 b.1.1.0) e in
-    let inner = and-both (nat_eq a.1.0 b.1.0) (nat_eq a.1.1.0 b.1.1.0) outer.1 in
-    let first = same_number a.0 b.0 outer.0 in
-    let second = same_number a.1.0 b.1.0 inner.0 in
-    let third = same_number a.1.1.0 b.1.1.0 inner.1 in
-    rw (first, second, third) refl
-
-same_color : (a b : Color) → color_equality.eq-value.it a b ≡ true → a ≡ b
-same_color =
-    let n = no_field in
-    same_value color.enum _
-    (n, (n, (n, (n, (n, (n, (n, (n, (n, (n, (n, (n, (n, (n, (n, (n, (n, (same_channels, (same_index, tt)))))))))))))))))))
-
 pub same_pen : (a b : Pen) → pen_equality.eq-value.it a b ≡ true → a ≡ b
 same_pen a b e =
-    let one = and-both (color_equality.eq-value.it a.fg b.fg) _ e in
-    let two = and-both (color_equality.eq-value.it a.bg b.bg) _ one.1 in
-    let three = and-both (color_equality.eq-value.it a.underline_color b.underline_color) (modifier_equality.eq-value.it a.modifier b.modifier) two.1 in
+    let one = and-both _ _ e in
+    let two = and-both _ _ one.1 in
+    let three = and-both _ _ two.1 in
     let fg = same_color a.fg b.fg one.0 in
     let bg = same_color a.bg b.bg two.0 in
     let underline = same_color a.underline_color b.underline_color three.0 in
-    let modifier : a.modifier ≡ b.modifier = ap modifier_of (same_number (bits_of a.modifier) (bits_of b.modifier) three.1) in
+    let modifier = same_modifier a.modifier b.modifier three.1 in
     rw (fg, bg, underline, modifier) refl
 
 -- a brush with the pen that it has

@@ -2,9 +2,9 @@
 use Rattle.std.proofs.Common.{◌≡◌, ℕ, ◌*◌, Bool, true, false, IsTrue, List, map, Option, Some, Result, Ok, Err, IsErr, IsErrAnd, IfErr, refl, sym, subst, ◌∙◌, arith}
 use Rattle.std.specs.Iterator.{YieldsThen}
 use Rattle.std.proofs.lemmas.Bool.{false≢true}
-use Rattle.rtui_geometry.specs.declared.position.Position.{Position}
-use Rattle.rtui_cell.specs.Grid.{Update}
-use Rattle.rtui_backend.specs.Screen.{Draws}
+use Rattle.ratatui_core.specs.Layout.{Position}
+use Rattle.ratatui_core.specs.Buffer.{Update}
+use Rattle.ratatui_core.specs.Backend.{Draws}
 use Rattle.ratatui_ansi.specs.declared.error.AnsiError.{AnsiError}
 use Rattle.ratatui_ansi.specs.declared.error.AnsiError.TheVariants.{Memory, Symbol, Pen, Cut, Size, Broken, Send}
 use Rattle.ratatui_ansi.specs.declared.frame.Drawing.{Drawing}

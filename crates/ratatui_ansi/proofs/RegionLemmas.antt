@@ -2,8 +2,8 @@
 use Rattle.std.proofs.Common.{◌≡◌, ℕ, ◌+◌, ◌-◌, ◌<◌, ◌++◌, ◌==◌, ◌&&◌, min, nat_lt, nat_le, nat_eq, if◌then◌else◌, Bool, List, [], ◌∷◌, zero, suc, true, false, refl, sym, ap, ap₂, map, ◌∙◌, arith, append_assoc, append-nil, subst}
 use Rattle.std.proofs.lemmas.Bool.Decides.{nat_tests}
 use Rattle.std.specs.List.{list_any, range_with_len}
-use Rattle.rtui_cell.specs.Look.{empty_look}
-use Rattle.rtui_backend.specs.Screen.{ScrollsUp, ScrollsDown, seen, row_of, upper_part, is_in_region}
+use Rattle.ratatui_core.specs.Buffer.{empty_look}
+use Rattle.ratatui_core.specs.Backend.{ScrollsUp, ScrollsDown, seen, row_of, upper_part, is_in_region}
 use Rattle.ratatui_ansi.specs.Columns.{Column, Columns, look_in, is_known, is_met, blank_column, overwritten}
 use Rattle.ratatui_ansi.specs.Columns.Column.{Shows, Unknown}
 use Rattle.ratatui_ansi.specs.declared.part.Part.TheVariants.{Line}

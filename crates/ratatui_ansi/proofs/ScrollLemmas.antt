@@ -2,8 +2,8 @@
 use Rattle.std.proofs.Common.{◌≡◌, ℕ, ◌+◌, ◌-◌, ◌<◌, ◌++◌, ◌&&◌, min, nat_lt, nat_le, nat_eq, if◌then◌else◌, Bool, List, [], ◌∷◌, zero, suc, true, false, refl, sym, ap, ap₂, map, ◌∙◌, arith, append_assoc, append-nil, subst}
 use Rattle.std.proofs.lemmas.Bool.Decides.{nat_tests}
 use Rattle.std.specs.List.{list_all, range_with_len}
-use Rattle.rtui_cell.specs.Look.{Look, empty_look}
-use Rattle.rtui_backend.specs.Screen.{Scrolls, Appends, lines_past}
+use Rattle.ratatui_core.specs.Buffer.{Look, empty_look}
+use Rattle.ratatui_core.specs.Backend.{Scrolls, Appends, lines_past}
 use Rattle.ratatui_ansi.specs.Columns.{Column, Columns, look_in, is_known, blank_column}
 use Rattle.ratatui_ansi.specs.Columns.Column.{Shows, Unknown}
 use Rattle.ratatui_ansi.specs.Pen.{own_pen}

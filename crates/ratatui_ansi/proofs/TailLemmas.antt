@@ -2,9 +2,7 @@
 use Rattle.std.proofs.Common.{◌≡◌, ℕ, ◌+◌, ◌-◌, ◌<◌, ◌≤◌, ◌==◌, ◌&&◌, ◌||◌, nat_lt, nat_eq, if◌then◌else◌, zero, suc, Bool, true, false, refl, sym, ap, ap₂, ◌∙◌, arith}
 use Rattle.std.proofs.lemmas.Bool.Decides.{nat_tests}
 use Rattle.std.specs.List.{list_any, range_with_len}
-use Rattle.rtui_cell.specs.Look.{Look, look_of, empty_look}
-use Rattle.rtui_cell.specs.Cell.{width_of}
-use Rattle.rtui_cell.specs.Grid.{Update, put}
+use Rattle.ratatui_core.specs.Buffer.{Look, look_of, empty_look, width_of, Update, put}
 use Rattle.ratatui_ansi.specs.Columns.{Column, Columns, blank_column, look_in, is_behind, is_met}
 use Rattle.ratatui_ansi.specs.Columns.Column.{Shows, Unknown}
 use Rattle.ratatui_ansi.specs.Emulator.{run}

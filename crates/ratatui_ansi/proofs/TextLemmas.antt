@@ -6,7 +6,7 @@ use Rattle.std.specs.Str.{is_utf8}
 use Rattle.std.proofs.lemmas.Bool.Decides.{nat_tests}
 use Rattle.std.proofs.lemmas.List.Folds.{list_all-append}
 use Rattle.std.proofs.lemmas.Str.{chars-nil, chars-encodes, chars_past_char, encodes-chars, IsUtf8-past_char, IsUtf8-from_is_utf8, is_utf8-from_IsUtf8}
-use Rattle.rtui_cell.specs.Symbol.{blank}
+use Rattle.ratatui_core.specs.Buffer.{blank}
 use Rattle.ratatui_ansi.specs.Columns.{Column, blank_column, is_known}
 use Rattle.ratatui_ansi.specs.Columns.Column.{Shows, Unknown}
 use Rattle.ratatui_ansi.specs.Drawing.{only_of, columns_of}

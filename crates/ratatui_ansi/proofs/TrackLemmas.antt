@@ -1,12 +1,9 @@
 -- From what bytes do to a ready terminal to what a backend keeps of it.
 use Rattle.std.proofs.Common.{◌≡◌, ℕ, ◌+◌, ◌-◌, ◌*◌, ◌<◌, ◌≤◌, ◌++◌, ◌&&◌, ◌||◌, ◌==◌, min, nat_lt, nat_le, nat_eq, if◌then◌else◌, Bool, List, true, false, refl, sym, ap, ap₂, ◌∙◌, arith, append_assoc, subst}
 use Rattle.std.proofs.lemmas.Bool.Decides.{nat_tests}
-use Rattle.rtui_geometry.specs.declared.position.Position.{Position}
-use Rattle.rtui_cell.specs.Look.{empty_look}
-use Rattle.rtui_backend.specs.Screen.{Screen, ScrollsUp, ScrollsDown, Appends, Clears, with_cursor, with_visible, cursor_of}
-use Rattle.rtui_backend.specs.declared.clear_type.ClearType.{ClearType}
-use Rattle.rtui_backend.specs.declared.clear_type.ClearType.TheVariants.{All, AfterCursor, BeforeCursor, CurrentLine, UntilNewLine}
-use Rattle.rtui_backend.specs.Clear.{is_cleared}
+use Rattle.ratatui_core.specs.Layout.{Position}
+use Rattle.ratatui_core.specs.Buffer.{empty_look}
+use Rattle.ratatui_core.specs.Backend.{Screen, ScrollsUp, ScrollsDown, Appends, Clears, with_cursor, with_visible, cursor_of, ClearType, All, AfterCursor, BeforeCursor, CurrentLine, UntilNewLine, is_cleared}
 use Rattle.ratatui_ansi.specs.declared.part.Part.{Part}
 use Rattle.ratatui_ansi.specs.declared.part.Part.TheVariants.{After, Before, Line, LineEnd}
 use Rattle.ratatui_ansi.specs.Columns.{Column, Columns, look_in, is_behind, blank_column}

@@ -1,8 +1,7 @@
 -- What callers see of a backend that sends escape sequences, and the screen that it stands for.
 use Rattle.std.specs.Prelude.{◌≡◌, ℕ, ◌*◌, ◌<◌, Bool, false, List, length}
-use Rattle.rtui_geometry.specs.declared.position.Position.{Position}
-use Rattle.rtui_geometry.specs.declared.size.Size.{Size}
-use Rattle.rtui_backend.specs.Screen.{Screen}
+use Rattle.ratatui_core.specs.Layout.{Position, Size}
+use Rattle.ratatui_core.specs.Backend.{Screen}
 use Rattle.ratatui_ansi.specs.Emulator.{Emulator, rested, fresh}
 use Rattle.ratatui_ansi.specs.Sequences.{feed}
 use Rattle.ratatui_ansi.specs.Screens.{screen_shown}

@@ -1,8 +1,8 @@
 -- What a backend keeps of its terminal between two calls, and what it knows of the bytes that a call sends.
 use Rattle.std.specs.Prelude.{◌≡◌, ℕ, ◌<◌, Bool, if◌then◌else◌, List, ◌++◌}
-use Rattle.rtui_geometry.specs.declared.position.Position.{Position}
-use Rattle.rtui_cell.specs.Look.{empty_look}
-use Rattle.rtui_backend.specs.Screen.{Screen, cursor_of}
+use Rattle.ratatui_core.specs.Layout.{Position}
+use Rattle.ratatui_core.specs.Buffer.{empty_look}
+use Rattle.ratatui_core.specs.Backend.{Screen, cursor_of}
 use Rattle.ratatui_ansi.specs.declared.part.Part.{Part}
 use Rattle.ratatui_ansi.specs.Emulator.{Emulator, rested, part_at}
 use Rattle.ratatui_ansi.specs.Emulator.Phase.{Ground}

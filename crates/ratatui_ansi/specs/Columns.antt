@@ -1,7 +1,7 @@
 -- What stands in the columns of a terminal, and what writing over a part of it leaves.
 use Rattle.std.specs.Prelude.{ℕ, ◌-◌, ◌==◌, Bool, true, false, if◌then◌else◌}
 use Rattle.std.specs.List.{list_any, range_with_len}
-use Rattle.rtui_cell.specs.Look.{Look, empty_look}
+use Rattle.ratatui_core.specs.Buffer.{Look, empty_look}
 
 -- one of the columns of a symbol, counted from 0, and how many the symbol takes; or nothing that is known
 pub data Column : Type 0 where

@@ -1,9 +1,6 @@
 -- Columns that are covered by a symbol which begins left of them.
 use Rattle.std.specs.Prelude.{◌≡◌, ℕ, ◌+◌, ◌<◌, false}
-use Rattle.rtui_cell.specs.Cell.{is_skipped}
-use Rattle.rtui_cell.specs.Grid.{Grid}
-use Rattle.rtui_cell.specs.declared.cell.Cell.{Cell}
-use Rattle.rtui_diff.specs.Cells.{is_forced}
+use Rattle.ratatui_core.specs.Buffer.{is_skipped, Grid, Cell, is_forced}
 use Rattle.ratatui_ansi.specs.Drawing.{columns_of}
 
 -- a symbol that begins left of column a, in row b, reaches over that column

@@ -1,8 +1,7 @@
 -- What a symbol put in its place does to the terminal that reads it.
 use Rattle.std.specs.Prelude.{◌≡◌, ℕ, ◌+◌, zero, suc, ◌&&◌, ◌||◌, not, Bool, true, IsTrue, if◌then◌else◌, List, [], ◌∷◌, ◌++◌, ◌==◌, length, chars, IsUtf8, Option, Some, None}
 use Rattle.std.specs.List.{list_all}
-use Rattle.rtui_cell.specs.Symbol.{blank}
-use Rattle.rtui_cell.specs.Width.{text_width}
+use Rattle.ratatui_core.specs.Buffer.{blank, text_width}
 use Rattle.ratatui_ansi.specs.declared.pen.Pen.{Pen}
 use Rattle.ratatui_ansi.specs.declared.drawing.Brush.{Brush}
 use Rattle.ratatui_ansi.specs.declared.drawing.Printing.{Printing}

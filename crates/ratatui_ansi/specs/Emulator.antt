@@ -3,8 +3,7 @@ use Rattle.std.specs.Prelude.{ℕ, ◌+◌, ◌-◌, ◌==◌, ◌&&◌, ◌||�
 use Rattle.std.specs.List.{list_all, range_with_len}
 use Rattle.std.specs.Str.{is_utf8}
 use Rattle.unicode_width.specs.Width.{char_width}
-use Rattle.rtui_cell.specs.Look.{Look}
-use Rattle.rtui_cell.specs.Width.{text_width}
+use Rattle.ratatui_core.specs.Buffer.{Look, text_width}
 use Rattle.ratatui_ansi.specs.declared.pen.Pen.{Pen}
 use Rattle.ratatui_ansi.specs.Pen.{own_pen, inked, is_own}
 use Rattle.ratatui_ansi.specs.declared.part.Part.{Part}

@@ -1,7 +1,7 @@
 -- The printed texts of errors.
 use Rattle.std.specs.Prelude.{ℕ, List, ◌++◌, Option, Some, codes}
 use Rattle.std.specs.Fmt.{◌++?◌}
-use Rattle.rtui_geometry.specs.Display.{position_text}
+use Rattle.ratatui_core.specs.Layout.{position_text}
 use Rattle.ratatui_ansi.specs.declared.frame.Refusal.{Refusal}
 use Rattle.ratatui_ansi.specs.declared.frame.Refusal.TheVariants as Refused
 use Rattle.ratatui_ansi.specs.declared.error.AnsiError.{AnsiError}

@@ -1,12 +1,8 @@
 -- What a draw knows of the terminal, and what its bytes do to it.
 use Rattle.std.specs.Prelude.{◌≡◌, ℕ, ◌+◌, ◌-◌, ◌*◌, ◌<◌, ◌≤◌, ◌==◌, ◌&&◌, ◌||◌, ◌⊎◌, not, nat_lt, nat_le, Bool, true, false, if◌then◌else◌, List, ◌++◌, length, encode_utf8}
-use Rattle.rtui_geometry.specs.declared.position.Position.{Position}
-use Rattle.rtui_cell.specs.Symbol.{symbol_text}
-use Rattle.rtui_cell.specs.Look.{Look, look_of, empty_look}
-use Rattle.rtui_cell.specs.Cell.{width_of}
-use Rattle.rtui_cell.specs.Grid.{Update}
-use Rattle.rtui_cell.specs.declared.cell.Cell.{Cell}
-use Rattle.rtui_backend.specs.Screen.{Draws, cursor_of}
+use Rattle.ratatui_core.specs.Layout.{Position}
+use Rattle.ratatui_core.specs.Buffer.{symbol_text, Look, look_of, empty_look, width_of, Update, Cell}
+use Rattle.ratatui_core.specs.Backend.{Draws, cursor_of}
 use Rattle.ratatui_ansi.specs.declared.drawing.Brush.{Brush}
 use Rattle.ratatui_ansi.specs.declared.frame.Drawing.{Drawing}
 use Rattle.ratatui_ansi.specs.declared.frame.Glyph.{Glyph}

@@ -1,10 +1,8 @@
 -- What the headline says of the bytes: a terminal that was blank, and has read all that a backend's link was told.
 use Rattle.std.specs.Prelude.{◌≡◌, ℕ, true, List}
-use Rattle.rtui_buffer.specs.Sheet.{Sheet}
-use Rattle.rtui_buffer.specs.Frame.{ShowsSheet}
-use Rattle.rtui_terminal.specs.State.{State}
-use Rattle.rtui_terminal.specs.InStep.{IsInStep}
-use Rattle.rtui_terminal.specs.Headline.{Event, Along, last_state, Does, IsFair}
+use Rattle.ratatui_core.specs.Buffer.{Sheet, ShowsSheet}
+use Rattle.ratatui_core.specs.Terminal.{State, IsInStep}
+use Rattle.ratatui_core.specs.Headline.{Event, Along, last_state, Does, IsFair}
 use Rattle.ratatui_ansi.specs.Backend.{BackendState, reader, shown_by}
 use Rattle.ratatui_ansi.specs.Columns.{look_in}
 use Rattle.ratatui_ansi.specs.Emulator.{rested}

@@ -1,11 +1,8 @@
 -- The colours and modifiers that text is printed with, and how SGR (select graphic rendition) changes them.
 use Rattle.std.specs.Prelude.{ℕ, ◌-◌, ◌^◌, ◌==◌, ◌&&◌, ◌||◌, nat_le, Bool, true, false, if◌then◌else◌, List, [], ◌∷◌}
 use Rattle.std.specs.Int.RustNames.{bit_or}
-use Rattle.rtui_style.specs.declared.color.Color.{Color}
-use Rattle.rtui_style.specs.declared.color.Color.TheVariants.{Reset, Black, Red, Green, Yellow, Blue, Magenta, Cyan, Gray, DarkGray, LightRed, LightGreen, LightYellow, LightBlue, LightMagenta, LightCyan, White, Rgb, Indexed}
-use Rattle.rtui_style.specs.Modifier.{no_modifier, bits_of, modifier_of}
-use Rattle.rtui_cell.specs.Look.{Look}
-use Rattle.rtui_cell.specs.declared.cell.Cell.{Cell}
+use Rattle.ratatui_core.specs.Style.{Color, Reset, Black, Red, Green, Yellow, Blue, Magenta, Cyan, Gray, DarkGray, LightRed, LightGreen, LightYellow, LightBlue, LightMagenta, LightCyan, White, Rgb, Indexed, no_modifier, bits_of, modifier_of}
+use Rattle.ratatui_core.specs.Buffer.{Look, Cell}
 use Rattle.ratatui_ansi.specs.declared.pen.Pen.{Pen}
 
 -- the terminal's own colours, and no modifiers

@@ -1,9 +1,9 @@
 -- What a backend's call leaves, by its answer, and where a draw stops.
 use Rattle.std.specs.Prelude.{◌≡◌, ℕ, ◌-◌, Bool, true, false, IsTrue, List, map, Option, Some, Result, MatchResult}
 use Rattle.std.specs.Iterator.{YieldsThen}
-use Rattle.rtui_cell.specs.Grid.{Update}
-use Rattle.rtui_geometry.specs.declared.position.Position.{Position}
-use Rattle.rtui_backend.specs.Screen.{Screen, Draws}
+use Rattle.ratatui_core.specs.Layout.{Position}
+use Rattle.ratatui_core.specs.Buffer.{Update}
+use Rattle.ratatui_core.specs.Backend.{Screen, Draws}
 use Rattle.ratatui_ansi.specs.declared.error.AnsiError.{AnsiError}
 use Rattle.ratatui_ansi.specs.declared.error.AnsiError.TheVariants.{Memory, Symbol, Pen, Cut, Size, Broken, Send}
 use Rattle.ratatui_ansi.specs.declared.frame.Drawing.{Drawing}

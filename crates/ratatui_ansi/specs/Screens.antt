@@ -1,7 +1,7 @@
 -- What a terminal shows, as the backends' contract speaks of it, and when it is ready for a call of a backend.
 use Rattle.std.specs.Prelude.{◌≡◌, ℕ, ◌+◌, ◌-◌, ◌<◌, ◌≤◌, min, true, false, List, [], ◌++◌}
-use Rattle.rtui_cell.specs.Look.{Look}
-use Rattle.rtui_backend.specs.Screen.{Screen}
+use Rattle.ratatui_core.specs.Buffer.{Look}
+use Rattle.ratatui_core.specs.Backend.{Screen}
 use Rattle.ratatui_ansi.specs.Columns.{Column, Columns, blank_column, look_in, is_behind, overwritten}
 use Rattle.ratatui_ansi.specs.Columns.Column.{Shows, Unknown}
 use Rattle.ratatui_ansi.specs.Pen.{own_pen}

@@ -1,8 +1,7 @@
 //! The calls of a backend that move the cursor, hide and show it, and empty the screen.
 
 ghost use Rattle.std.specs.Prelude.{◌≡◌, ℕ, ◌<◌, OnOk, true, false, string_bytes};
-ghost use Rattle.rtui_backend.specs.Screen.{Clears, with_cursor, with_visible};
-ghost use Rattle.rtui_backend.specs.declared.clear_type.ClearType.TheVariants.{All};
+ghost use Rattle.ratatui_core.specs.Backend.{Clears, with_cursor, with_visible, All};
 ghost use Rattle.ratatui_ansi.specs.Emulator.{emptied};
 ghost use Rattle.ratatui_ansi.specs.Screens.{Turns, Becomes};
 

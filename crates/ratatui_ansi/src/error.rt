@@ -3,7 +3,7 @@
 ghost use Rattle.ratatui_ansi.specs.Errors.{ansi_error_text};
 
 use crate::frame::Refusal;
-use rtui_geometry::Position;
+use ratatui_core::layout::Position;
 use std::alloc::AllocError;
 use std::error::Error;
 use std::fmt;

@@ -7,7 +7,7 @@ ghost use Rattle.ratatui_ansi.specs.Emulator.{raised, lowered, emptied, part_at,
 ghost use Rattle.ratatui_ansi.specs.Flags.{flag, AreBehind, is_cut};
 
 use crate::part::Part;
-use rtui_geometry::Size;
+use ratatui_core::layout::Size;
 use std::ops::Range;
 
 // Clears the flags from one place up to another.

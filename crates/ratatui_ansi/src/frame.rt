@@ -3,9 +3,7 @@
 ghost use Rattle.std.specs.Prelude.{◌≡◌, ℕ, ◌+◌, ◌-◌, ◌*◌, ◌<◌, ◌≤◌, ◌&&◌, ◌⊎◌, nat_lt, nat_le, if◌then◌else◌, true, false, IsTrue, ◌↔◌, IfOk, IfErr, OnOk, OnErr, List, [], ◌∷◌, map, length, slice_index_or, string_bytes, MatchOption, ◌==◌};
 ghost use Rattle.std.specs.List.{list_all};
 ghost use Rattle.std.specs.Iterator.{IsFinite, Drains};
-ghost use Rattle.rtui_cell.specs.Symbol.{blank, symbol_text};
-ghost use Rattle.rtui_cell.specs.Cell.{width_of};
-ghost use Rattle.rtui_cell.specs.Grid.{update_by};
+ghost use Rattle.ratatui_core.specs.Buffer.{blank, symbol_text, width_of, update_by};
 ghost use Rattle.ratatui_ansi.specs.declared.drawing.Printing.TheVariants.{Whole};
 ghost use Rattle.ratatui_ansi.specs.Pen.{own_pen};
 ghost use Rattle.ratatui_ansi.specs.Parameters.{is_told_by};
@@ -13,13 +11,11 @@ ghost use Rattle.ratatui_ansi.specs.Drawing.{printing_of, columns_of, blanked, C
 ghost use Rattle.ratatui_ansi.specs.Frame.{glyph_columns, is_fit, is_told_on, IsPrintedAs, IsGlyph, IsVacant, IsUntoldPen, IsRefused, Covers, SendsUpdates, SendsDraw};
 ghost use Rattle.ratatui_ansi.specs.Refusals.{has_place, StopsWithin, StopsDraw};
 
-use crate::drawing::{
-    Brush, Printing, change_pen, printing_of, put_plain, put_symbol, set_pen,
-};
+use crate::drawing::{Brush, Printing, change_pen, printing_of, put_plain, put_symbol, set_pen};
 use crate::pen::Pen;
-use rtui_backend::AsCell;
-use rtui_cell::{Cell, CellDiffOption, CellWidth};
-use rtui_geometry::Position;
+use ratatui_core::backend::AsCell;
+use ratatui_core::buffer::{Cell, CellDiffOption, CellWidth};
+use ratatui_core::layout::Position;
 use std::alloc::AllocError;
 
 /// What is known of the terminal within a draw, beside its columns.

@@ -2,14 +2,7 @@
 //! its law.
 
 ghost use Rattle.std.specs.Prelude.{◌≡◌, ℕ, ◌+◌, ◌<◌, ◌≤◌, nat_lt, if◌then◌else◌, List, ◌∷◌, ◌++◌};
-ghost use Rattle.rtui_cell.specs.Look.{Look, look_of};
-ghost use Rattle.rtui_cell.specs.Cell.{width_of};
-ghost use Rattle.rtui_cell.specs.Grid.{Grid, Update, put, puts};
-ghost use Rattle.rtui_cell.specs.declared.cell.Cell.{Cell};
-ghost use Rattle.rtui_diff.specs.Cells.{cell_at};
-ghost use Rattle.rtui_diff.specs.Diff.{IsDiff};
-ghost use Rattle.rtui_diff.specs.Settled.{IsSettled};
-ghost use Rattle.rtui_diff.specs.Shows.{Shows};
+ghost use Rattle.ratatui_core.specs.Buffer.{Look, look_of, width_of, Grid, Update, put, puts, Cell, cell_at, IsDiff, IsSettled, Shows};
 ghost use Rattle.ratatui_ansi.specs.Covered.{IsCovered, IsOpen, IsOrdinary};
 ghost use Rattle.ratatui_ansi.specs.Frame.{IsVacant};
 ghost use Rattle.ratatui_ansi.specs.Headline.{IsHeadlineOfBytes};
@@ -20,8 +13,8 @@ ghost use Rattle.ratatui_ansi.specs.Emulator.{run, fresh};
 
 use crate::backend::AnsiBackend;
 use crate::link::Link;
-use rtui_terminal::Terminal;
-use rtui_terminal::laws::every_call_is_faithful;
+use ratatui_core::terminal::Terminal;
+use ratatui_core::terminal::laws::every_call_is_faithful;
 
 /// The headline, of the bytes: from in step, behind any list of calls of a terminal that answered Ok, each painted and inserted
 /// buffer settled, and where no call of the backend failed, a terminal that was blank and has read what the link was told shows

@@ -1,7 +1,7 @@
 //! Rows that scroll, as a backend scrolls them.
 
 ghost use Rattle.std.specs.Prelude.{◌≡◌, ℕ, ◌+◌, ◌-◌, ◌<◌, ◌≤◌, min, OnOk, string_bytes};
-ghost use Rattle.rtui_backend.specs.Screen.{Appends, ScrollsUp, ScrollsDown};
+ghost use Rattle.ratatui_core.specs.Backend.{Appends, ScrollsUp, ScrollsDown};
 ghost use Rattle.ratatui_ansi.specs.Emulator.{moved, returned, erased, line_fed, fed, with_region, without_region, lines_deleted, scrolled_down, fed_and_lowered, raised, lowered};
 ghost use Rattle.ratatui_ansi.specs.declared.part.Part.TheVariants.{Line};
 ghost use Rattle.ratatui_ansi.specs.Sends.{Does};

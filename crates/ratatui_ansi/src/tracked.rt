@@ -2,9 +2,8 @@
 //! refused the flags stay.
 
 ghost use Rattle.std.specs.Prelude.{◌≡◌, ℕ, ◌*◌, ◌<◌, true, false, Bool, List, length, OnOk, IfOk, OnErr, string_bytes};
-ghost use Rattle.rtui_geometry.specs.declared.position.Position.{Position};
-ghost use Rattle.rtui_backend.specs.Screen.{Appends, Clears, ScrollsUp, ScrollsDown, with_cursor, with_visible};
-ghost use Rattle.rtui_backend.specs.declared.clear_type.ClearType.TheVariants.{All};
+ghost use Rattle.ratatui_core.specs.Layout.{Position};
+ghost use Rattle.ratatui_core.specs.Backend.{Appends, Clears, ScrollsUp, ScrollsDown, with_cursor, with_visible, All};
 ghost use Rattle.ratatui_ansi.specs.Emulator.{keeps_history};
 ghost use Rattle.ratatui_ansi.specs.Flags.{is_cut, is_clear_cut};
 ghost use Rattle.ratatui_ansi.specs.Calls.{SendsCall, Empties};
@@ -16,8 +15,8 @@ use crate::flags::{
 use crate::part::Part;
 use crate::scrolling::{append_lines, scroll_region_down, scroll_region_up};
 use crate::sequences::{erase, move_to};
-use rtui_backend::ClearType;
-use rtui_geometry::{Position, Size};
+use ratatui_core::backend::ClearType;
+use ratatui_core::layout::{Position, Size};
 use std::alloc::AllocError;
 use std::ops::Range;
 

@@ -5,3 +5,5 @@ pub use Rattle.rtui_buffer.proofs.ColumnLemmas.{PaintsByColumns-paints, same-bes
 pub use Rattle.rtui_buffer.proofs.ShownLemmas.{IsSettledSheet-styled, IsPaintable-styled, shown-look, look-painted, look-beside}
 -- A screen that shows pieces on a bar.
 pub use Rattle.rtui_buffer.proofs.BarLemmas.{ShowsPieces-bar}
+-- Cells that are the same have one look and one width, and an empty cell has the empty look and takes one column.
+pub use Rattle.rtui_cell.proofs.CellLemmas.{same_look, same_width, look-empty, width-empty}

@@ -2,3 +2,4 @@ pub mod BackendLemmas
 pub mod BufferLemmas
 pub mod TerminalLemmas
 pub mod WidgetLemmas
+pub mod StyleLemmas

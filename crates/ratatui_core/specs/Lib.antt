@@ -4,6 +4,7 @@ pub mod Palette
 pub mod Symbols
 pub mod Text
 pub mod Buffer
+pub mod DiffOption
 pub mod Widgets
 pub mod Backend
 pub mod Terminal

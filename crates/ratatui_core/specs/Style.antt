@@ -1,5 +1,6 @@
 -- Styles, colours and modifiers.
 pub use Rattle.rtui_style.specs.declared.color.Color.{Color}
+pub use Rattle.rtui_style.specs.declared.color.Color.TheVariants.{Reset, Black, Red, Green, Yellow, Blue, Magenta, Cyan, Gray, DarkGray, LightRed, LightGreen, LightYellow, LightBlue, LightMagenta, LightCyan, White, Rgb, Indexed}
 pub use Rattle.rtui_style.specs.declared.Modifier.{Modifier}
 pub use Rattle.rtui_style.specs.declared.Style.{Style}
 pub use Rattle.rtui_style.specs.Color.{hex_byte, color_text, is_kept, lowered, cleaned, color_names, color_among, named_color, color_index, pair_value, rgb_of, hex_color, first_of, color_of, color_or_error, color_of_number}

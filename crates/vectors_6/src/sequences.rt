@@ -156,7 +156,9 @@ fn symbols(rt: HostRuntime) -> Result<(), Fail> {
         !is_symbol("") && !is_symbol("a\u{1b}[2J") && !is_symbol("\u{9b}2J") && !is_symbol("\u{7f}")
     );
     assert!(rt; !is_symbol("a\u{202e}b") && !is_symbol("\u{301}") && !is_symbol("\n"));
-    assert!(rt; printing_of("─") == Printing::Plain('─') && printing_of("é") == Printing::Plain('é'));
+    assert!(rt;
+        printing_of("─") == Printing::Plain('─') && printing_of("é") == Printing::Plain('é')
+    );
     assert!(rt; printing_of("コ") == Printing::Whole && printing_of("e\u{301}") == Printing::Whole);
     assert!(rt; printing_of("ab") == Printing::Unprinted && printing_of("") == Printing::Unprinted);
     assert!(rt; printing_of("\u{9b}") == Printing::Unprinted);

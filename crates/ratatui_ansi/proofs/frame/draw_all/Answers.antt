@@ -1,6 +1,6 @@
 use Rattle.std.proofs.Common.{map, rules, refl}
 use Rattle.std.proofs.lemmas.List.{map-append}
-use Rattle.rtui_cell.specs.Grid.{update_by}
+use Rattle.ratatui_core.specs.Buffer.{update_by}
 use Rattle.ratatui_ansi.proofs.FrameLemmas.{sends-none, sends-push, told-push}
 use Rattle.ratatui_ansi.proofs.RefusalLemmas.{if-error}
 use Rattle.ratatui_ansi.proofs.frame.draw_all.Goals as goal

@@ -1,6 +1,6 @@
 use Rattle.std.proofs.Common.{◌≡◌, true, map, string_bytes}
 use Rattle.std.specs.List.{list_all}
-use Rattle.rtui_cell.specs.Grid.{update_by}
+use Rattle.ratatui_core.specs.Buffer.{update_by}
 use Rattle.ratatui_ansi.specs.Frame.{is_told_on, SendsUpdates}
 use Rattle.ratatui_ansi.specs.Parameters.{is_told_by}
 use Rattle.ratatui_ansi.proofs.frame.draw_all.Given as goal

@@ -1,6 +1,6 @@
 use Rattle.std.proofs.Common.{◌≡◌, ℕ, IsTrue, nat_eq, sym, ◌∙◌, arith}
 use Rattle.std.proofs.lemmas.Bool.Decides.{nat_tests}
-use Rattle.rtui_cell.specs.Cell.{width_of}
+use Rattle.ratatui_core.specs.Buffer.{width_of}
 use Rattle.ratatui_ansi.proofs.FrameLemmas.{vacant-is, vacant-text, vacant-pen}
 use Rattle.ratatui_ansi.proofs.frame.is_vacant.Goals.{then-is_blank, else-is_blank}
 use Rattle.ratatui_ansi.proofs.frame.is_vacant.Goals as goal

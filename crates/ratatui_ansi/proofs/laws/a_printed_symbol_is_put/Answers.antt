@@ -1,5 +1,5 @@
 use Rattle.std.proofs.Common.{refl}
-use Rattle.rtui_cell.specs.Cell.{width_of}
+use Rattle.ratatui_core.specs.Buffer.{width_of}
 use Rattle.ratatui_ansi.proofs.PutLemmas.{put-shown}
 use Rattle.ratatui_ansi.proofs.laws.a_printed_symbol_is_put.Goals as goal
 

@@ -1,5 +1,5 @@
 use Rattle.std.proofs.Common.{subst}
-use Rattle.rtui_terminal.specs.InStep.{IsInStep}
+use Rattle.ratatui_core.specs.Terminal.{IsInStep}
 use Rattle.ratatui_ansi.specs.Backend.{shown_by}
 use Rattle.ratatui_ansi.proofs.HeadlineLemmas.{last-in-step, shown-to-readers}
 use Rattle.ratatui_ansi.proofs.laws.bytes_show_the_last_buffer.Goals as goal

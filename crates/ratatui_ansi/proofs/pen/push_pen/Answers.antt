@@ -1,5 +1,5 @@
 use Rattle.std.proofs.Common.{string_bytes, [], ◌∷◌, ◌++◌}
-use Rattle.rtui_style.specs.Modifier.{bits_of}
+use Rattle.ratatui_core.specs.Style.{bits_of}
 use Rattle.std.proofs.lemmas.Result.{on_ok_weaker}
 use Rattle.ratatui_ansi.specs.Parameters.{Tells, pen_parameters, modifier_parameters}
 use Rattle.ratatui_ansi.proofs.ReadLemmas.{on_push}

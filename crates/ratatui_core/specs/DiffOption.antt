@@ -1,0 +1,2 @@
+-- How a diff goes by a cell: the options by their names.
+pub use Rattle.rtui_cell.specs.declared.cell.CellDiffOption.TheVariants.{None, Skip, AlwaysUpdate, ForcedWidth}
