@@ -1,5 +1,5 @@
 -- What a backend's call leaves, by its answer, and where a draw stops.
-use Rattle.std.specs.Prelude.{◌≡◌, ℕ, ◌-◌, Bool, true, false, IsTrue, List, map, Option, Some, Result, MatchResult}
+use Rattle.std.specs.Prelude.{◌≡◌, ℕ, ◌-◌, ◌<◌, ◌⊎◌, Bool, true, false, IsTrue, List, map, Option, Some, Result, MatchResult}
 use Rattle.std.specs.Iterator.{YieldsThen}
 use Rattle.ratatui_core.specs.Layout.{Position}
 use Rattle.ratatui_core.specs.Buffer.{Update}
@@ -56,6 +56,20 @@ FailsBy old new (Send error) = Breaks old new
 -- a call that answers this
 abbrev pub Leaves : {L E A : Type 0} → Result A (AnsiError E) → BackendState L → BackendState L → Type 0
 Leaves answer old new = MatchResult answer (λ _. IsWorking old new) (FailsBy old new)
+
+-- ---- beginnings
+
+-- why a backend of this size doesn't begin: it has no columns or no rows, memory was refused, or the link failed
+abbrev pub RefusesToBegin : {E : Type 0} → ℕ → ℕ → AnsiError E → Type 0
+RefusesToBegin w h Size = (w ≡ 0) ⊎ (h ≡ 0)
+RefusesToBegin w h Memory = (0 < w) × (0 < h)
+RefusesToBegin w h (Send error) = (0 < w) × (0 < h)
+RefusesToBegin w h _ = ⊥
+
+-- an error of the link
+abbrev pub IsOfLink : {E : Type 0} → AnsiError E → Type 0
+IsOfLink (Send error) = Unit {0}
+IsOfLink _ = ⊥
 
 -- ---- cells that aren't drawn
 

@@ -10,7 +10,7 @@ ghost use Rattle.ratatui_ansi.specs.Flags.{AreBehind};
 ghost use Rattle.ratatui_ansi.specs.Backend.{BackendState, shown_by};
 ghost use Rattle.ratatui_ansi.specs.Frame.{is_told_on};
 ghost use Rattle.ratatui_ansi.specs.Headline.{IsReadSurely};
-ghost use Rattle.ratatui_ansi.specs.Refusals.{IsUntold, Leaves, StopsBy};
+ghost use Rattle.ratatui_ansi.specs.Refusals.{IsUntold, Leaves, RefusesToBegin, IsOfLink, StopsBy};
 
 use crate::error::AnsiError;
 use crate::frame::draw_cells;
@@ -86,6 +86,9 @@ impl<L: Link> AnsiBackend<L> {
         ensures told { IfOk result (λ b. L.told b.link ≡ []) }
         ensures colors { IfOk result (λ b. b.has_underline_colors ≡ false) }
         ensures failures { IfOk result (λ b. b.failures ≡ 0) }
+        ensures works { IfOk result (λ b. b.is_broken ≡ false) }
+        ensures size { OnOk result ((0 < size.width) × (0 < size.height)) }
+        ensures refused { IfErr result (RefusesToBegin size.width size.height) }
     {
         if size.width == 0 || size.height == 0 {
             return Err(AnsiError::Size);
@@ -111,10 +114,12 @@ impl<L: Link> AnsiBackend<L> {
         })
     }
 
-    /// The link, and so what it was told. Where no call failed, real terminals don't differ on that.
+    /// The link, and so what it was told. Where no call failed, no send did; and unless one did since the last `restart`, real
+    /// terminals don't differ on what was told.
     pub fn link(&self) -> &L
         ensures link { result.now ≡ self.now.link }
-        ensures sure { self.now.failures ≡ 0 → IsReadSurely L.told self.now }
+        ensures unfailed { self.now.failures ≡ 0 → self.now.is_broken ≡ false }
+        ensures sure { self.now.is_broken ≡ false → IsReadSurely L.told self.now }
     {
         &self.link
     }
@@ -132,6 +137,9 @@ impl<L: Link> AnsiBackend<L> {
         ensures blank { OnOk result (IsBlankScreen self.old.size.width self.old.size.height
             (shown_by L.told self.new)) }
         ensures told { OnOk result (L.told self.new.link ≡ []) }
+        ensures works { OnOk result (self.new.is_broken ≡ false) }
+        ensures broken { OnErr result (self.new.is_broken ≡ true) }
+        ensures refused { IfErr result IsOfLink }
         ensures size { self.new.size ≡ self.old.size }
         ensures colors { self.new.has_underline_colors ≡ self.old.has_underline_colors }
         ensures counts { Counts result self.old.failures self.new.failures }

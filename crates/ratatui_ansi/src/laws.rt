@@ -17,8 +17,8 @@ use ratatui_core::terminal::Terminal;
 use ratatui_core::terminal::laws::every_call_is_faithful;
 
 /// The headline, of the bytes: from in step, behind any list of calls of a terminal that answered Ok, each painted and inserted
-/// buffer settled, and where no call of the backend failed, a terminal that was blank and has read what the link was told shows
-/// the buffer that the last call left, and real terminals don't differ on what it read.
+/// buffer settled, and unless a send failed since the backend began or began anew, a terminal that was blank and has read what
+/// the link was told shows the buffer that the last call left, and real terminals don't differ on what it read.
 pub fn bytes_show_the_last_buffer<L: Link>(terminal: &Terminal<AnsiBackend<L>>)
     ensures { IsHeadlineOfBytes L.told terminal.now }
 {
