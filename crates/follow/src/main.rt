@@ -9,7 +9,7 @@ mod fault;
 use crate::fault::Fault;
 use clap::{Arg, Command, value_parser};
 use logview::LogView;
-use ratatui_ansi::{AnsiBackend, Kept};
+use ratatui_ansi::{AnsiBackend, Kept, make_blank};
 use ratatui_core::terminal::TerminalError;
 use rtui_geometry::Size;
 use std::alloc::{AllocError, Global};
@@ -34,12 +34,10 @@ fn command<'a>(alloc: Global) -> Result<Command<'a>, AllocError> {
 }
 
 // Makes the terminal blank.
-fn blank<W: Write>(writer: &mut W, size: Size) -> io::Result<()> {
-    write!(
-        writer,
-        "\u{1b}[0m\u{1b}[r\u{1b}[{};{}H\u{1b}[1J\u{1b}[H",
-        size.height, size.width
-    )
+fn blank<W: Write>(alloc: Global, writer: &mut W, size: Size) -> io::Result<()> {
+    let mut sequences = String::new(alloc);
+    make_blank(&mut sequences, size.width, size.height)?;
+    writer.write_all(sequences.as_bytes())
 }
 
 // Leaves the terminal with its cursor shown below the screen's rows.
@@ -71,7 +69,7 @@ fn follow<R: BufRead, W: Write>(
 ) -> Result<(), Fault> {
     let backend = AnsiBackend::new(alloc, Kept::new(alloc), size).map_err(TerminalError::Backend)?;
     let mut view = LogView::new(alloc, backend)?;
-    blank(writer, size).map_err(Fault::Write)?;
+    blank(alloc, writer, size).map_err(Fault::Write)?;
     let mut written = pass_on(writer, &view, 0).map_err(Fault::Write)?;
     let mut line = String::new(alloc);
     for _ in 0..u64::MAX {

@@ -1,17 +1,23 @@
 -- What covers a column, by looks alone, and why no update between settled frames lies there.
-use Rattle.std.proofs.Common.{◌≡◌, ◌⊎◌, inl, inr, ℕ, ◌+◌, ◌-◌, ◌<◌, ◌≤◌, ◌==◌, ◌&&◌, nat_lt, nat_eq, if◌then◌else◌, Bool, true, false, List, [], ◌∷◌, ◌++◌, All, chars, refl, sym, ap, ap₂, subst, ◌∙◌, arith, append-nil}
+use Rattle.std.proofs.Common.{◌≡◌, ◌⊎◌, inl, inr, ℕ, ◌+◌, ◌-◌, ◌<◌, ◌≤◌, ◌==◌, ◌&&◌, nat_lt, nat_eq, if◌then◌else◌, Bool, true, false, List, [], ◌∷◌, ◌++◌, All, chars, map, refl, sym, ap, ap₂, subst, ◌∙◌, arith, append-nil}
+use Rattle.std.specs.Borrow.{Bor}
+use Rattle.std.specs.Iterator.{Yields, YieldsFirstBy}
 use Rattle.std.proofs.lemmas.Bool.{cases_lt, false≢true}
 use Rattle.std.proofs.lemmas.Bool.Decides.{nat_tests}
 use Rattle.std.proofs.lemmas.List.Elements.{All-head, All-tail}
 use Rattle.ratatui_core.specs.Buffer.{width_of, width_by, empty_cell, Grid, Update, put, puts, Look, look_of, empty_look, symbol_text, text_width, Cell, cell_at, is_forced, is_forced_by, IsDiff, IsSettled, Shows, ShowsColumn, IsBefore, Rises, IsCellOfNext}
 use Rattle.ratatui_core.proofs.BufferLemmas.{same_look, same_width, look-empty, width-empty}
 use Rattle.ratatui_core.specs.DiffOption as DiffOption
+use Rattle.ratatui_core.specs.Layout.{Position}
+use Rattle.ratatui_core.specs.Backend.{Screen}
 use Rattle.ratatui_ansi.specs.Columns.{Column, Columns, look_in, is_behind}
 use Rattle.ratatui_ansi.specs.Columns.Column.{Unknown}
 use Rattle.ratatui_ansi.specs.Columns.Column.{Shows as Standing}
 use Rattle.ratatui_ansi.specs.Covered.{IsCovered, IsOpen, IsOrdinary}
 use Rattle.ratatui_ansi.specs.Drawing.{is_one_plain, columns_of}
 use Rattle.ratatui_ansi.specs.Frame.{IsVacant}
+use Rattle.ratatui_ansi.specs.Refusals.{lent_update, StopsInDiff}
+use Rattle.ratatui_ansi.specs.declared.frame.Refusal.TheVariants.{Cut}
 use Rattle.ratatui_ansi.specs.Screens.{IsSized, AreSized, IsWhole, IsWholeAt}
 
 -- ---- a column behind the first one of its symbol is covered
@@ -105,7 +111,7 @@ ordinary-width c unforced wide =
 
 -- ---- updates between settled frames
 
-pub cuts-none : (x y w h width height : ℕ) (former next : List Cell) (g : Grid) (before : List Update) (u : Update) (after : List Update)
+cuts-none : (x y w h width height : ℕ) (former next : List Cell) (g : Grid) (before : List Update) (u : Update) (after : List Update)
     → IsDiff x y w h former next (before ++ u ∷ after) → IsSettled w h former → IsSettled w h next → ((a b : ℕ) → a < w → b < h → IsOrdinary (cell_at w next a b))
     → x + w ≤ width → y + h ≤ height → Shows x y w h former g → IsOpen g x y h → IsCovered (puts width height before g) u.x u.y → IsVacant u.cell
 cuts-none x y w h width height former next g before u after diff settled_former settled ordinary fits_x fits_y shows clear covered =
@@ -151,3 +157,29 @@ cuts-none x y w h width height former next g before u after diff settled_former 
                 absurd (false≢true (sym plain.unskipped ∙ skipped))
           ]
     ]
+
+-- ---- draws of a diff
+
+-- the updates that an iterator over updates gave, and those that it has left
+gave-front : (us : List Update) (front : List (ℕ × ℕ × Bor Cell)) (left : List Update) → Yields (YieldsFirstBy lent_update (λ rest. rest)) us front left
+    → us ≡ map lent_update front ++ left
+gave-front us [] left e = e
+gave-front us (item ∷ front) left gave = gave.1 ∙ ap (λ rest. lent_update item ∷ rest) (gave-front gave.0 front left gave.2)
+
+covered-same : (f g : Grid) → ((a b : ℕ) → f a b ≡ g a b) → (a b : ℕ) → IsCovered f a b → IsCovered g a b
+covered-same f g same a b covered =
+    let columns : columns_of (f covered.start b).symbol ≡ columns_of (g covered.start b).symbol = ap (λ (look : Look). columns_of look.symbol) (same covered.start b) in
+    let reaches = covered.reaches in
+    record { start = covered.start; left = covered.left; reaches = omega arith }
+
+pub draw-cuts-none : (x y w h : ℕ) (former next : List Cell) (us : List Update) (s : Screen) (colors : Bool) (p : Position) → IsDiff x y w h former next us
+    → IsSettled w h former → IsSettled w h next → ((a b : ℕ) → a < w → b < h → IsOrdinary (cell_at w next a b)) → x + w ≤ s.width → y + h ≤ s.height
+    → Shows x y w h former s.grid → IsOpen s.grid x y h → StopsInDiff us colors s (Cut p) → ⊥
+draw-cuts-none x y w h former next us s colors p diff settled_former settled ordinary fits_x fits_y shows clear stops =
+    let before : List Update = map lent_update stops.front in
+    let update : Update = lent_update stops.item in
+    let gives = stops.gives in
+    let all : us ≡ before ++ update ∷ stops.rest = gave-front us stops.front gives.0 gives.1 ∙ ap (λ rest. before ++ rest) gives.2 in
+    let refused = stops.refused in
+    let there : IsCovered (puts s.width s.height before s.grid) update.x update.y = covered-same stops.between.grid _ stops.draws.grid update.x update.y refused.1 in
+    refused.2 (cuts-none x y w h s.width s.height former next s.grid before update stops.rest (subst (IsDiff x y w h former next) all diff) settled_former settled ordinary fits_x fits_y shows clear there)

@@ -1,10 +1,11 @@
 -- What a backend keeps of its terminal between two calls, and what it knows of the bytes that a call sends.
-use Rattle.std.specs.Prelude.{◌≡◌, ℕ, ◌<◌, Bool, if◌then◌else◌, List, ◌++◌}
+use Rattle.std.specs.Prelude.{◌≡◌, ◌⊎◌, ℕ, ◌<◌, ◌≤◌, Bool, true, if◌then◌else◌, List, ◌++◌}
 use Rattle.ratatui_core.specs.Layout.{Position}
 use Rattle.ratatui_core.specs.Buffer.{empty_look}
 use Rattle.ratatui_core.specs.Backend.{Screen, cursor_of}
 use Rattle.ratatui_ansi.specs.declared.part.Part.{Part}
-use Rattle.ratatui_ansi.specs.Emulator.{Emulator, rested, part_at}
+use Rattle.ratatui_ansi.specs.Columns.{blank_column}
+use Rattle.ratatui_ansi.specs.Emulator.{Emulator, rested, part_at, fresh}
 use Rattle.ratatui_ansi.specs.Emulator.Phase.{Ground}
 use Rattle.ratatui_ansi.specs.Sequences.{feed}
 use Rattle.ratatui_ansi.specs.Screens.{screen_shown, IsReady}
@@ -31,3 +32,15 @@ pub record SendsCall (w h : ℕ) (old new : List ℕ) (cursor : Position) (flags
 pub record Empties (part : Part) (x y : ℕ) (old new : Screen) : Type 0 where
   pub rest : new ≡ record old { grid = new.grid }
   pub grid : (a b : ℕ) → a < old.width → b < old.height → new.grid a b ≡ if part_at part x y a b then empty_look else old.grid a b
+
+-- a terminal is as a new one of this size, but for the history of another, and for whether that one's cursor is shown
+pub record IsLikeNew (w h : ℕ) (former t : Emulator) : Type 0 where
+  pub blank : (a b : ℕ) → t.columns a b ≡ blank_column
+  pub rest : t ≡ record (fresh w h) { columns = t.columns; history = former.history; visible = former.visible }
+
+-- bytes were appended that make each sure terminal of this size like a new one, if nothing stands off its screen
+pub record MakesBlank (w h : ℕ) (old new : List ℕ) : Type 0 where
+  pub bytes : List ℕ
+  pub appended : new ≡ old ++ bytes
+  pub made : (t : Emulator) → t.phase ≡ Ground → (rested t).width ≡ w → (rested t).height ≡ h → (rested t).sure ≡ true
+      → ((a b : ℕ) → (w ≤ a) ⊎ (h ≤ b) → (rested t).columns a b ≡ blank_column) → IsLikeNew w h (rested t) (feed bytes t)

@@ -1,8 +1,9 @@
 -- What a backend's call leaves, by its answer, and where a draw stops.
 use Rattle.std.specs.Prelude.{◌≡◌, ℕ, ◌-◌, ◌<◌, ◌⊎◌, Bool, true, false, IsTrue, List, map, Option, Some, Result, MatchResult}
-use Rattle.std.specs.Iterator.{YieldsThen}
+use Rattle.std.specs.Borrow.{Bor}
+use Rattle.std.specs.Iterator.{YieldsThen, YieldsFirstBy}
 use Rattle.ratatui_core.specs.Layout.{Position}
-use Rattle.ratatui_core.specs.Buffer.{Update}
+use Rattle.ratatui_core.specs.Buffer.{Update, Cell, update_by}
 use Rattle.ratatui_core.specs.Backend.{Screen, Draws}
 use Rattle.ratatui_ansi.specs.declared.error.AnsiError.{AnsiError}
 use Rattle.ratatui_ansi.specs.declared.error.AnsiError.TheVariants.{Memory, Symbol, Pen, Cut, Size, Broken, Send}
@@ -96,6 +97,10 @@ IsRefusedOn colors s u (Refused.Symbol p) = IsPlaced s.width s.height p u × (is
 IsRefusedOn colors s u (Refused.Pen p) = IsPlaced s.width s.height p u × (is_told_by colors (pen_of u.cell) ≡ false)
 IsRefusedOn colors s u (Refused.Cut p) = IsPlaced s.width s.height p u × IsCovered s.grid u.x u.y × (IsVacant u.cell → ⊥)
 
+-- an item of a diff, which lends its cell, as an update
+abbrev pub lent_update : ℕ × ℕ × Bor Cell → Update
+lent_update item = update_by (λ cell. cell.now) item
+
 -- an item isn't drawn on the screen that the items before it would have made of this one
 pub record StopsAt {S A : Type 0} (steps : S → Option A → S → Type 0) (content : S) (update : A → Update) (colors : Bool) (old : Screen) (refusal : Refusal) : Type 0 where
   pub front : List A
@@ -105,6 +110,10 @@ pub record StopsAt {S A : Type 0} (steps : S → Option A → S → Type 0) (con
   pub between : Screen
   pub draws : Draws old (map update front) between
   pub refused : IsRefusedOn colors between (update item) refusal
+
+-- a draw of these updates, as a diff gives them, stops at one of them
+abbrev pub StopsInDiff : List Update → Bool → Screen → Refusal → Type 0
+StopsInDiff us colors old refusal = StopsAt (YieldsFirstBy lent_update (λ rest. rest)) us lent_update colors old refusal
 
 -- an error that names a cell is that of the item at which a draw stops
 abbrev pub StopsBy : {S A E : Type 0} → (S → Option A → S → Type 0) → S → (A → Update) → Bool → Screen → AnsiError E → Type 0

@@ -1,11 +1,13 @@
-//! The calls of a backend that move the cursor, hide and show it, and empty the screen.
+//! The calls of a backend that move the cursor, hide and show it, and empty the screen; and a blank beginning.
 
 ghost use Rattle.std.specs.Prelude.{◌≡◌, ℕ, ◌<◌, OnOk, true, false, string_bytes};
 ghost use Rattle.ratatui_core.specs.Backend.{Clears, with_cursor, with_visible, All};
+ghost use Rattle.ratatui_ansi.specs.Calls.{MakesBlank};
 ghost use Rattle.ratatui_ansi.specs.Emulator.{emptied};
 ghost use Rattle.ratatui_ansi.specs.Screens.{Turns, Becomes};
 
-use crate::sequences::{erase_all, hide_cursor, move_to, show_cursor};
+use crate::pen::{Pen, push_pen};
+use crate::sequences::{erase_all, hide_cursor, move_to, reset_region, show_cursor};
 use std::alloc::AllocError;
 
 /// Moves the cursor to a column and a row, each kept on the screen, which has at least one of both.
@@ -42,4 +44,16 @@ pub fn clear_screen(
 {
     erase_all(out, width, height)?;
     move_to(out, x, y)
+}
+
+/// Makes a terminal of so many columns and rows, at least one of both, as a new one is, whatever stands on it: in its own
+/// colours, without margins, empty, and with its cursor in the corner. Its history stays, and whether its cursor is shown.
+pub fn make_blank(out: &mut String, width: u16, height: u16) -> Result<(), AllocError>
+    ensures { OnOk result (0 < width → 0 < height
+        → MakesBlank width height (string_bytes out.old) (string_bytes out.new)) }
+{
+    push_pen(out, Pen::OWN)?;
+    reset_region(out)?;
+    erase_all(out, width, height)?;
+    move_to(out, 0, 0)
 }

@@ -5,7 +5,7 @@ ghost use Rattle.std.specs.List.{list_all};
 ghost use Rattle.std.specs.Iterator.{IsFinite, Drains};
 ghost use Rattle.ratatui_core.specs.Buffer.{blank, symbol_text, width_of, update_by};
 ghost use Rattle.ratatui_ansi.specs.declared.drawing.Printing.TheVariants.{Whole};
-ghost use Rattle.ratatui_ansi.specs.Pen.{own_pen};
+ghost use Rattle.ratatui_ansi.specs.Pen.{own_pen, pen_of};
 ghost use Rattle.ratatui_ansi.specs.Parameters.{is_told_by};
 ghost use Rattle.ratatui_ansi.specs.Drawing.{printing_of, columns_of, blanked, Changes, Paints, Prints};
 ghost use Rattle.ratatui_ansi.specs.Frame.{glyph_columns, is_fit, is_told_on, IsPrintedAs, IsGlyph, IsVacant, IsUntoldPen, IsRefused, Covers, SendsUpdates, SendsDraw};
@@ -113,18 +113,11 @@ fn is_blank(symbol: &str) -> bool
     symbol == " "
 }
 
-// Whether a pen is the terminal's own.
-fn is_own(pen: Pen) -> bool
-    ensures { IsTrue result ↔ (pen ≡ own_pen) }
-{
-    pen == Pen::OWN
-}
-
 // Whether a cell takes one column and looks like an empty one.
 fn is_vacant(cell: &Cell) -> bool
     ensures { IsTrue result ↔ IsVacant cell.now }
 {
-    is_blank(cell.symbol()) && is_own(Pen::of(cell)) && cell.cell_width() == 1
+    is_blank(cell.symbol()) && Pen::OWN.is_of(cell) && cell.cell_width() == 1
 }
 
 // The first column from `from` on whose flag isn't set, or the row's end. The row begins at `start`.
@@ -241,18 +234,19 @@ fn take_pen(
     brush: &mut Brush,
     has_underline_colors: bool,
     place: Position,
-    pen: Pen,
+    cell: &Cell,
 ) -> Result<(), Refusal>
     requires { is_told_by has_underline_colors brush.old.pen ≡ true }
-    ensures changes { OnOk result (Changes brush.old.pen pen (string_bytes out.old)
+    ensures changes { OnOk result (Changes brush.old.pen (pen_of cell.now) (string_bytes out.old)
         (string_bytes out.new)) }
-    ensures pen { OnOk result (brush.new ≡ record brush.old { pen = pen }) }
-    ensures told { OnOk result (is_told_by has_underline_colors pen ≡ true) }
-    ensures refused { IfErr result (IsUntoldPen has_underline_colors place pen) }
+    ensures pen { OnOk result (brush.new ≡ record brush.old { pen = pen_of cell.now }) }
+    ensures told { OnOk result (is_told_by has_underline_colors (pen_of cell.now) ≡ true) }
+    ensures refused { IfErr result (IsUntoldPen has_underline_colors place (pen_of cell.now)) }
 {
-    if brush.pen == pen {
+    if brush.pen.is_of(cell) {
         return Ok(());
     }
+    let pen = Pen::of(cell);
     if !pen.is_told_by(has_underline_colors) {
         return Err(Refusal::Pen(place));
     }
@@ -302,7 +296,7 @@ pub fn draw_cell(
         return Err(Refusal::Symbol(place));
     };
     let brush = &mut drawing.brush;
-    take_pen(out, brush, has_underline_colors, place, Pen::of(cell))?;
+    take_pen(out, brush, has_underline_colors, place, cell)?;
     put(out, brush, x, y, cell, glyph)?;
     let end = cover(out, behind, width, brush, x, y, glyph.columns())?;
     drawing.cursor = Position {

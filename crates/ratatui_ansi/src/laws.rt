@@ -1,10 +1,13 @@
 //! Laws of the bytes and of the model that are no single call's clause. Calling one of these functions costs nothing and tells the caller's proof
 //! its law.
 
-ghost use Rattle.std.specs.Prelude.{◌≡◌, ℕ, ◌+◌, ◌<◌, ◌≤◌, nat_lt, if◌then◌else◌, List, ◌∷◌, ◌++◌};
-ghost use Rattle.ratatui_core.specs.Buffer.{Look, look_of, width_of, Grid, Update, put, puts, Cell, cell_at, IsDiff, IsSettled, Shows};
-ghost use Rattle.ratatui_ansi.specs.Covered.{IsCovered, IsOpen, IsOrdinary};
-ghost use Rattle.ratatui_ansi.specs.Frame.{IsVacant};
+ghost use Rattle.std.specs.Prelude.{◌≡◌, ℕ, ◌+◌, ◌<◌, ◌≤◌, nat_lt, if◌then◌else◌, Bool, List};
+ghost use Rattle.ratatui_core.specs.Layout.{Position};
+ghost use Rattle.ratatui_core.specs.Backend.{Screen};
+ghost use Rattle.ratatui_core.specs.Buffer.{Look, look_of, width_of, Update, put, Cell, cell_at, IsDiff, IsSettled, Shows};
+ghost use Rattle.ratatui_ansi.specs.Covered.{IsOpen, IsOrdinary};
+ghost use Rattle.ratatui_ansi.specs.Refusals.{StopsInDiff};
+ghost use Rattle.ratatui_ansi.specs.declared.frame.Refusal.TheVariants.{Cut};
 ghost use Rattle.ratatui_ansi.specs.Headline.{IsHeadlineOfBytes};
 ghost use Rattle.ratatui_ansi.specs.Columns.{Columns, look_in, is_behind};
 ghost use Rattle.ratatui_ansi.specs.Screens.{AreSized, IsWhole, IsBlankBeyond, IsReady, IsUncut, put_columns};
@@ -31,18 +34,16 @@ pub fn a_blank_terminal_is_ready()
     ensures { (w h : ℕ) → 0 < h → IsReady w h (fresh w h) }
 {}
 
-/// Where a screen shows a settled frame, and no symbol reaches into the frame's area from the left, no update of the diff to
-/// another settled frame, of ordinary cells, lies where a symbol covers its place, unless the update is vacant: none is
-/// refused with `Cut`.
+/// Where a screen shows a settled frame, and no symbol reaches into the frame's area from the left, no draw of the diff to
+/// another settled frame, of ordinary cells, is refused with `Cut`.
 pub fn updates_cut_no_symbol()
-    ensures { (x y w h width height : ℕ) (former next : List Cell) (g : Grid)
-        (before : List Update) (u : Update) (after : List Update)
-        → IsDiff x y w h former next (before ++ u ∷ after)
+    ensures { (x y w h : ℕ) (former next : List Cell) (us : List Update) (s : Screen)
+        (colors : Bool) (p : Position) → IsDiff x y w h former next us
         → IsSettled w h former → IsSettled w h next
         → ((a b : ℕ) → a < w → b < h → IsOrdinary (cell_at w next a b))
-        → x + w ≤ width → y + h ≤ height
-        → Shows x y w h former g → IsOpen g x y h
-        → IsCovered (puts width height before g) u.x u.y → IsVacant u.cell }
+        → x + w ≤ s.width → y + h ≤ s.height
+        → Shows x y w h former s.grid → IsOpen s.grid x y h
+        → StopsInDiff us colors s (Cut p) → ⊥ }
 {}
 
 /// A symbol that is printed on the screen and cuts no other at its ends is put, as the cells' grids say.

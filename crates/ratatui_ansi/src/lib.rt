@@ -24,7 +24,7 @@ mod symbol;
 mod tracked;
 
 pub use backend::AnsiBackend;
-pub use calls::{clear_screen, set_cursor_position, set_visible};
+pub use calls::{clear_screen, make_blank, set_cursor_position, set_visible};
 pub use drawing::{Brush, Printing, change_pen, printing_of, put_plain, put_symbol, set_pen};
 pub use error::AnsiError;
 pub use frame::{Drawing, Refusal};

@@ -7,7 +7,7 @@ ghost use Rattle.rtui_buffer.specs.Frame.{IsSettledSheet};
 ghost use Rattle.rtui_terminal.specs.Writing.{WritesDifferences};
 ghost use Rattle.screenplay_program.specs.Reels.{HasFrames, IsShownBy, ShowsFrame};
 
-use ratatui_ansi::{AnsiBackend, AnsiError, Kept};
+use ratatui_ansi::{AnsiBackend, AnsiError, Kept, make_blank};
 use rtui_backend::{Backend, TestBackend};
 use rtui_buffer::Buffer;
 use rtui_geometry::Rect;
@@ -81,13 +81,11 @@ impl Reel {
     }
 
     // Writes the frames, on a terminal made blank.
-    fn write_to<W: Write>(&self, writer: &mut W) -> io::Result<()> {
+    fn write_to<W: Write>(&self, alloc: Global, writer: &mut W) -> io::Result<()> {
         let area = self.shown.area();
-        write!(
-            writer,
-            "\u{1b}[0m\u{1b}[r\u{1b}[{};{}H\u{1b}[1J\u{1b}[H",
-            area.height, area.width
-        )?;
+        let mut sequences = String::new(alloc);
+        make_blank(&mut sequences, area.width, area.height)?;
+        writer.write_all(sequences.as_bytes())?;
         writer.write_all(self.backend.link().unsent().as_bytes())?;
         write!(writer, "\u{1b}[{};1H\r\n", area.height)
     }
@@ -127,10 +125,10 @@ impl Frames {
     /// Writes the frames. One that begins anew finds a terminal made blank; behind the last one the cursor stands below it.
     pub fn write_to<W: Write>(&self, writer: &mut W) -> io::Result<()> {
         for reel in &self.ended {
-            reel.write_to(writer)?;
+            reel.write_to(self.alloc, writer)?;
         }
         if let Some(reel) = &self.reel {
-            reel.write_to(writer)?;
+            reel.write_to(self.alloc, writer)?;
         }
         writer.flush()
     }

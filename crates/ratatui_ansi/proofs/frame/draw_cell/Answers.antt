@@ -31,6 +31,6 @@ returns-then-is_vacant-clause-told c = told-vacant c.args.width c.args.height c.
 pub returns-clause-drawn : goal.returns-clause-drawn
 returns-clause-drawn c =
     cell-sends c.args.width c.args.height c.args.x c.args.y c.args.cell.now c.in-Some.glyph c.in_ok-end.end c.args.drawing.now _ c.take_pen.new.brush c.put.new.brush c.args.behind.now c.cover.new.behind
-    _ _ _ _ (omega arith) (omega arith) c.in-Some.ensures (rw c.of.ensures at c.in_ok-take_pen.ensures.changes) (rw c.of.ensures at c.in_ok-take_pen.ensures.pen)
+    _ _ _ _ (omega arith) (omega arith) c.in-Some.ensures c.in_ok-take_pen.ensures.changes c.in_ok-take_pen.ensures.pen
     (c.in_ok-put.ensures.prints c.args.width c.args.height (omega arith) (omega arith)) (rw c.columns.ensures at c.in_ok-end.ensures)
     (rw (c.from.ensures, c.from-2.ensures, c.from-3.ensures) at c.if-behind-from.false) (ap (λ k. record { x = k; y = c.args.y }) c.min.ensures) c.saturating_add-drawing.ensures
