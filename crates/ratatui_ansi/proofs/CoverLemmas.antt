@@ -1,11 +1,11 @@
 -- What covers a column, by looks alone, and why no update between settled frames lies there.
-use Rattle.std.proofs.Common.{◌≡◌, ◌⊎◌, inl, inr, ℕ, ◌+◌, ◌-◌, ◌<◌, ◌≤◌, ◌==◌, ◌&&◌, nat_lt, nat_eq, if◌then◌else◌, Bool, true, false, List, [], ◌∷◌, ◌++◌, All, chars, map, refl, sym, ap, ap₂, subst, ◌∙◌, arith, append-nil}
+use Rattle.std.proofs.Common.{◌≡◌, inl, inr, ℕ, ◌+◌, ◌-◌, ◌<◌, ◌≤◌, ◌&&◌, nat_lt, nat_eq, if◌then◌else◌, Bool, true, false, List, [], ◌∷◌, ◌++◌, All, chars, map, refl, sym, ap, ap₂, subst, ◌∙◌, arith, append-nil}
 use Rattle.std.specs.Borrow.{Bor}
 use Rattle.std.specs.Iterator.{Yields, YieldsFirstBy}
 use Rattle.std.proofs.lemmas.Bool.{cases_lt, false≢true}
 use Rattle.std.proofs.lemmas.Bool.Decides.{nat_tests}
 use Rattle.std.proofs.lemmas.List.Elements.{All-head, All-tail}
-use Rattle.ratatui_core.specs.Buffer.{width_of, width_by, empty_cell, Grid, Update, put, puts, Look, look_of, empty_look, symbol_text, text_width, Cell, cell_at, is_forced, is_forced_by, IsDiff, IsSettled, Shows, ShowsColumn, IsBefore, Rises, IsCellOfNext}
+use Rattle.ratatui_core.specs.Buffer.{width_of, width_by, empty_cell, Grid, Update, put, puts, Look, look_of, symbol_text, text_width, Cell, cell_at, is_forced, is_forced_by, IsDiff, IsSettled, Shows, ShowsColumn, IsBefore, Rises, IsCellOfNext}
 use Rattle.ratatui_core.proofs.BufferLemmas.{same_look, same_width, look-empty, width-empty}
 use Rattle.ratatui_core.specs.DiffOption as DiffOption
 use Rattle.ratatui_core.specs.Layout.{Position}

@@ -1,5 +1,5 @@
 -- What the bytes of a cell do to a terminal within a draw.
-use Rattle.std.proofs.Common.{◌≡◌, ℕ, ◌+◌, ◌-◌, ◌*◌, ◌^◌, ◌<◌, ◌≤◌, ◌==◌, ◌&&◌, ◌||◌, not, min, nat_lt, nat_le, nat_eq, if◌then◌else◌, Bool, List, [], ◌∷◌, ◌++◌, length, IsTrue, chars, true, false, zero, suc, slice_index_or, IsUtf8, MatchOption, rules, refl, sym, ap, ap₂, ◌∙◌, arith, subst, inl, inr, append_assoc, append-nil, ◌⊎◌}
+use Rattle.std.proofs.Common.{◌≡◌, ℕ, ◌+◌, ◌-◌, ◌*◌, ◌^◌, ◌<◌, ◌≤◌, ◌==◌, ◌&&◌, ◌||◌, not, min, nat_lt, nat_le, nat_eq, if◌then◌else◌, Bool, List, [], ◌∷◌, ◌++◌, length, IsTrue, chars, true, false, zero, suc, slice_index_or, IsUtf8, MatchOption, refl, sym, ap, ap₂, ◌∙◌, arith, subst, inl, inr, append_assoc, append-nil, ◌⊎◌}
 use Rattle.std.specs.Bool.{then_some}
 use lib.Utf8.{encode, encodes}
 use Rattle.std.proofs.Math.Nat.{mul-le-mul_right}

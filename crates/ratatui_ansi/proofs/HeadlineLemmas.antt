@@ -1,5 +1,5 @@
 -- From the screen that a backend stands for to the terminal that has read its bytes.
-use Rattle.std.proofs.Common.{◌≡◌, ℕ, List, [], ◌∷◌}
+use Rattle.std.proofs.Common.{ℕ, List, [], ◌∷◌}
 use Rattle.ratatui_core.specs.Backend.{Screen}
 use Rattle.ratatui_core.specs.Terminal.{State, IsInStep}
 use Rattle.ratatui_core.specs.Headline.{Event, Along, last_state, IsFaithful}

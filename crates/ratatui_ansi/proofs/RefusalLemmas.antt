@@ -1,22 +1,18 @@
 -- What refused calls leave, and where a draw stops.
-use Rattle.std.proofs.Common.{◌≡◌, ℕ, ◌*◌, Bool, true, false, IsTrue, List, map, Option, Some, Result, Ok, Err, IsErr, IsErrAnd, IfErr, refl, sym, subst, ◌∙◌, arith}
-use Rattle.std.specs.Iterator.{YieldsThen}
+use Rattle.std.proofs.Common.{◌≡◌, ℕ, Bool, false, IsTrue, List, map, Option, Result, Ok, Err, IsErr, IsErrAnd, IfErr, refl, sym, subst, ◌∙◌}
 use Rattle.std.proofs.lemmas.Bool.{false≢true}
 use Rattle.ratatui_core.specs.Layout.{Position}
 use Rattle.ratatui_core.specs.Buffer.{Update}
 use Rattle.ratatui_core.specs.Backend.{Draws}
 use Rattle.ratatui_ansi.specs.declared.error.AnsiError.{AnsiError}
-use Rattle.ratatui_ansi.specs.declared.error.AnsiError.TheVariants.{Memory, Symbol, Pen, Cut, Size, Broken, Send}
 use Rattle.ratatui_ansi.specs.declared.frame.Drawing.{Drawing}
 use Rattle.ratatui_ansi.specs.declared.frame.Refusal.{Refusal}
 use Rattle.ratatui_ansi.specs.declared.frame.Refusal.TheVariants as Refused
 use Rattle.ratatui_ansi.specs.Backend.{BackendState}
-use Rattle.ratatui_ansi.specs.Calls.{IsAwaiting}
 use Rattle.ratatui_ansi.specs.Errors.{error_of}
-use Rattle.ratatui_ansi.specs.Flags.{flag}
-use Rattle.ratatui_ansi.specs.Frame.{IsPlaced, IsRefused, IsDrawing}
+use Rattle.ratatui_ansi.specs.Frame.{IsRefused, IsDrawing}
 use Rattle.ratatui_ansi.specs.Pen.{own_pen}
-use Rattle.ratatui_ansi.specs.Refusals.{IsUntold, FailsBy, Leaves, names_cell, has_place, IsRefusedOn, StopsAt, StopsBy, StopsWithin, StopsDraw}
+use Rattle.ratatui_ansi.specs.Refusals.{IsUntold, FailsBy, Leaves, names_cell, has_place, IsRefusedOn, StopsWithin, StopsDraw}
 use Rattle.ratatui_ansi.specs.Screens.{screen_shown}
 use Rattle.ratatui_ansi.specs.Sequences.{feed}
 use Rattle.ratatui_ansi.specs.Emulator.{Emulator, rested}

@@ -1,5 +1,4 @@
-use Rattle.std.proofs.Common.{◌≡◌, ◌==◌, IsUtf8, MatchOption, false, nat_eq, sym, ap, ◌∙◌, subst}
-use Rattle.ratatui_core.specs.Buffer.{width_of, symbol_text}
+use Rattle.std.proofs.Common.{◌≡◌, IsUtf8, MatchOption, false, nat_eq, sym, ap, ◌∙◌, subst}
 use Rattle.ratatui_ansi.specs.Frame.{is_fit, IsGlyph}
 use Rattle.ratatui_ansi.proofs.FrameLemmas.{plain-gives, whole-gives, none-fits}
 use Rattle.ratatui_ansi.proofs.frame.glyph_in.Goals as goal

@@ -1,4 +1,4 @@
-use Rattle.std.proofs.Common.{◌≤◌, ◌<◌, string_bytes, ap, ◌∙◌, arith}
+use Rattle.std.proofs.Common.{◌≤◌, string_bytes, ap, ◌∙◌, arith}
 use Rattle.std.proofs.lemmas.Result.{on_ok_weaker}
 use Rattle.ratatui_ansi.proofs.ReadLemmas.{digits-more, digits-one}
 use Rattle.ratatui_ansi.proofs.sequences.+push_number.Goals.{then-n-lt100+in_ok-push_digit, else-n-lt100+in_ok-push_number}
