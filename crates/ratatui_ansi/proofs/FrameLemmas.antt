@@ -1,5 +1,5 @@
 -- What the bytes of a cell do to a terminal within a draw.
-use Rattle.std.proofs.Common.{◌≡◌, ℕ, ◌+◌, ◌-◌, ◌*◌, ◌^◌, ◌<◌, ◌≤◌, ◌==◌, ◌&&◌, ◌||◌, not, min, nat_lt, nat_le, nat_eq, if◌then◌else◌, Bool, List, [], ◌∷◌, ◌++◌, length, IsTrue, chars, true, false, zero, suc, slice_index_or, IsUtf8, MatchOption, refl, sym, ap, ap₂, ◌∙◌, arith, subst, inl, inr, append_assoc, append-nil, ◌⊎◌}
+use Rattle.std.proofs.Common.{◌≡◌, ℕ, ◌+◌, ◌-◌, ◌*◌, ◌^◌, ◌<◌, ◌≤◌, ◌==◌, ◌&&◌, ◌||◌, not, min, nat_lt, nat_le, nat_eq, if◌then◌else◌, Bool, List, [], ◌∷◌, ◌++◌, length, IsTrue, chars, true, false, zero, suc, slice_index_or, IsUtf8, Option, Some, None, IfSome, Result, Ok, Err, OnOk, MatchOption, refl, sym, ap, ap₂, ◌∙◌, arith, subst, inl, inr, append_assoc, append-nil, ◌⊎◌}
 use Rattle.std.specs.Bool.{then_some}
 use lib.Utf8.{encode, encodes}
 use Rattle.std.proofs.Math.Nat.{mul-le-mul_right}
@@ -7,7 +7,7 @@ use Rattle.std.proofs.lemmas.Bool.{cases_lt}
 use Rattle.std.proofs.lemmas.Bool.Decides.{nat_tests}
 use Rattle.std.specs.List.{list_all}
 use Rattle.std.proofs.lemmas.List.Folds.{list_all-append}
-use Rattle.std.proofs.lemmas.Str.{chars-nil, encodes-chars, IsUtf8-nil}
+use Rattle.std.proofs.lemmas.Str.{chars-nil, encode_ascii, encodes-chars, IsUtf8-nil}
 use Rattle.ratatui_core.specs.Layout.{Position}
 use Rattle.ratatui_core.specs.Buffer.{blank, symbol_text, Look, look_of, empty_look, width_of, text_width, Update, put, Cell}
 use Rattle.ratatui_core.specs.Backend.{Draws}
@@ -32,6 +32,7 @@ use Rattle.ratatui_ansi.specs.Calls.{IsAwaiting}
 use Rattle.ratatui_ansi.specs.Frame.{IsTail, laid, is_fit, glyph_columns, is_told_on, IsGlyph, IsVacant, IsDrawing, AreMarked, Covers, SendsUpdates, SendsDraw}
 use Rattle.ratatui_ansi.proofs.ReadLemmas.{feed-append}
 use Rattle.ratatui_ansi.proofs.ScrollLemmas.{whole_along}
+use Rattle.ratatui_ansi.proofs.DrawLemmas.{plain-printed, plain-single}
 use Rattle.ratatui_ansi.proofs.TextLemmas.{and-both, blank-one}
 use Rattle.ratatui_ansi.proofs.TailLemmas.{behind_empty, torn, put-torn, torn-more, torn-all, laid-sized, laid-whole, laid-beyond, laid-behind, laid-shown}
 
@@ -411,6 +412,26 @@ plain-gives room c ch b utf8 some e test =
       symbol = (is.1.1, sym (encodes-chars text utf8) ∙ ap encodes is.1.0 ∙ append-nil (encode ch));
     })
 
+-- a cell with one printable character of ASCII
+one-byte : (c : Cell) (b : ℕ) → symbol_text c.symbol ≡ b ∷ [] → width_of c ≡ text_width (symbol_text c.symbol) → width_of c ≡ 1
+unfolding text_width
+one-byte c b text own = own ∙ rw text refl
+
+printable-fits : (room : ℕ) (c : Cell) (b : ℕ) → symbol_text c.symbol ≡ b ∷ [] → 32 ≤ b → b ≤ 126 → width_of c ≡ text_width (symbol_text c.symbol) → 0 < room → IsGlyph room c (Glyphs.Plain b)
+printable-fits room c b text low high own some =
+    let plain : is_plain b ≡ true = grind (arith, nat_tests) in
+    let small : b < 128 = omega arith in
+    let same : symbol_text c.symbol ≡ encode b = text ∙ sym (encode_ascii b small) in
+    let one : is_one_plain (chars (encode b)) ≡ true = plain-single b plain in
+    let wide = one-byte c b text own in
+    let inside : nat_le 1 room ≡ true = grind (arith, nat_tests) in
+    record { fits = rw (same, plain-printed b plain, one, wide, inside) refl; columns = sym wide; symbol = (plain, same) }
+
+pub printable-gives : (c : Cell) (found : Option ℕ) → IfSome found (λ b. (symbol_text c.symbol ≡ b ∷ []) × (32 ≤ b) × (b ≤ 126)) → width_of c ≡ text_width (symbol_text c.symbol)
+    → IfSome found (λ b. (room : ℕ) → 0 < room → IsGlyph room c (Glyphs.Plain b))
+printable-gives c None is own = tt
+printable-gives c (Some b) is own = λ room some. printable-fits room c b is.0 is.1 is.2 own some
+
 -- a cell with another symbol
 pub whole-gives : (room : ℕ) (c : Cell) (n : ℕ) (b : Bool) → printing_of (symbol_text c.symbol) ≡ Whole → n ≡ width_of c
     → b ≡ ((columns_of (symbol_text c.symbol) == width_of c) && nat_lt 0 (width_of c) && nat_le (width_of c) room) → Gives room c b (Glyphs.Whole n)
@@ -479,6 +500,11 @@ cell-sends w h x y cell glyph end before after inked drawn flags flags_after old
     let both : Paints w h old before.brush (λ t. blanked (x + n) y m (printed_at x y pen symbol t)) new after.brush
     = Paints-then w h old mid new before.brush drawn after.brush (printed_at x y pen symbol) (blanked (x + n) y m) (λ t. (refl, refl)) two (covers.paints h row) in
     lay-sends w h x y n end cell before after flags flags_after old new (fit-parts (w - x) cell (rw is.fits refl)) (sym is.columns) column row both uncut covers.ordered covers.inside covers.set covers.unset covers.marked cursor count
+
+-- what follows from what a call did
+pub OnOk-then : {E P Q : Type 0} (r : Result (Unit {0}) E) → OnOk r P → (P → Q) → OnOk r Q
+OnOk-then (Ok done) is follows = follows is
+OnOk-then (Err e) is follows = tt
 
 -- what a pen that was kept, or given back, can be told to
 pub pen-told : (colors : Bool) (before after : Pen) → (after ≡ before) ⊎ (after ≡ own_pen) → is_told_by colors before ≡ true → is_told_by colors after ≡ true

@@ -1,10 +1,11 @@
 //! Cells in their places, as a backend draws them.
 
-ghost use Rattle.std.specs.Prelude.{◌≡◌, ℕ, ◌+◌, ◌-◌, ◌*◌, ◌<◌, ◌≤◌, ◌&&◌, ◌⊎◌, nat_lt, nat_le, if◌then◌else◌, true, false, IsTrue, ◌↔◌, IfOk, IfErr, OnOk, OnErr, List, [], ◌∷◌, map, length, slice_index_or, string_bytes, MatchOption, ◌==◌};
+ghost use Rattle.std.specs.Prelude.{◌≡◌, ℕ, ◌+◌, ◌-◌, ◌*◌, ◌^◌, ◌<◌, ◌≤◌, ◌&&◌, min, nat_lt, nat_le, if◌then◌else◌, true, false, IsTrue, ◌↔◌, IfOk, IfErr, IfSome, OnOk, OnErr, List, [], ◌∷◌, map, length, slice_index_or, string_bytes, MatchOption, ◌==◌};
 ghost use Rattle.std.specs.List.{list_all};
 ghost use Rattle.std.specs.Iterator.{IsFinite, Drains};
 ghost use Rattle.ratatui_core.specs.Buffer.{blank, symbol_text, width_of, update_by};
 ghost use Rattle.ratatui_ansi.specs.declared.drawing.Printing.TheVariants.{Whole};
+ghost use Rattle.ratatui_ansi.specs.declared.frame.Glyph.TheVariants.{Plain};
 ghost use Rattle.ratatui_ansi.specs.Pen.{own_pen, pen_of};
 ghost use Rattle.ratatui_ansi.specs.Parameters.{is_told_by};
 ghost use Rattle.ratatui_ansi.specs.Drawing.{printing_of, columns_of, blanked, Changes, Paints, Prints};
@@ -13,6 +14,7 @@ ghost use Rattle.ratatui_ansi.specs.Refusals.{has_place, StopsWithin, StopsDraw}
 
 use crate::drawing::{Brush, Printing, change_pen, printing_of, put_plain, put_symbol, set_pen};
 use crate::pen::Pen;
+use crate::symbol::only_printable;
 use ratatui_core::backend::AsCell;
 use ratatui_core::buffer::{Cell, CellDiffOption, CellWidth};
 use ratatui_core::layout::Position;
@@ -106,6 +108,18 @@ fn glyph_in(room: u16, cell: &Cell) -> Option<Glyph>
     }
 }
 
+// The printable ASCII character that is all of a cell's symbol, where the cell's width isn't forced.
+fn printable_of(cell: &Cell) -> Option<char>
+    ensures { IfSome result (λ c. (room : ℕ) → 0 < room → IsGlyph room cell.now (Plain c)) }
+{
+    match cell.diff_option {
+        CellDiffOption::ForcedWidth(_) => None,
+        CellDiffOption::None | CellDiffOption::Skip | CellDiffOption::AlwaysUpdate => {
+            only_printable(cell.symbol())
+        }
+    }
+}
+
 // Whether a text is one blank.
 fn is_blank(symbol: &str) -> bool
     ensures { IsTrue result ↔ (symbol.now ≡ blank) }
@@ -138,7 +152,8 @@ fn tail_end(behind: &[bool], start: usize, from: u16, width: u16) -> u16
     width
 }
 
-// Prints blanks in the columns of a row from `x` up to `end`.
+// Prints blanks in the columns of a row from `x` up to `end`, at least one.
+#[inline(never)]
 fn put_blanks(
     out: &mut String,
     brush: &mut Brush,
@@ -146,14 +161,11 @@ fn put_blanks(
     y: u16,
     end: u16,
 ) -> Result<(), AllocError>
-    requires { x ≤ end }
+    requires { x < end }
     ensures paints { OnOk result ((w h : ℕ) → end ≤ w → y < h → Paints w h (string_bytes out.old)
         brush.old (blanked x y (end - x)) (string_bytes out.new) brush.new) }
-    ensures pen { OnOk result ((brush.new.pen ≡ brush.old.pen) ⊎ (brush.new.pen ≡ own_pen)) }
+    ensures pen { OnOk result (brush.new.pen ≡ own_pen) }
 {
-    if x == end {
-        return Ok(());
-    }
     change_pen(out, brush, Pen::OWN)?;
     for column in x..end {
         put_plain(out, brush, column, y, ' ')?;
@@ -162,6 +174,7 @@ fn put_blanks(
 }
 
 // Sets the flags of a symbol's columns, from the place `first` up to `behind_it`, and unsets those from there up to `end`.
+#[inline(never)]
 fn mark(behind: &mut [bool], first: usize, behind_it: usize, end: usize)
     requires ordered { first ≤ end }
     requires row { end ≤ length behind.old }
@@ -176,6 +189,7 @@ fn mark(behind: &mut [bool], first: usize, behind_it: usize, end: usize)
 
 // Sets the flags of a symbol of so many columns, and empties what is left of another one of which it covers the first part.
 // Answers the column behind all these.
+#[inline(always)]
 fn cover(
     out: &mut String,
     behind: &mut [bool],
@@ -196,7 +210,9 @@ fn cover(
     let behind_it = x + columns;
     let end = tail_end(behind, start, behind_it, width);
     if x + 1 < end {
-        put_blanks(out, brush, behind_it, y, end)?;
+        if behind_it < end {
+            put_blanks(out, brush, behind_it, y, end)?;
+        }
         mark(
             behind,
             start + usize::from(x),
@@ -208,6 +224,7 @@ fn cover(
 }
 
 // Prints a cell's symbol in a column and a row of a screen, in the brush's pen.
+#[inline(always)]
 fn put(
     out: &mut String,
     brush: &mut Brush,
@@ -228,7 +245,31 @@ fn put(
     }
 }
 
+// Sets the pen of the cell in a place; apart, so that the path of a cell in the brush's pen stays short.
+#[inline(never)]
+fn set_pen_of(
+    out: &mut String,
+    brush: &mut Brush,
+    has_underline_colors: bool,
+    place: Position,
+    cell: &Cell,
+) -> Result<(), Refusal>
+    ensures changes { OnOk result (Changes brush.old.pen (pen_of cell.now) (string_bytes out.old)
+        (string_bytes out.new)) }
+    ensures pen { OnOk result (brush.new ≡ record brush.old { pen = pen_of cell.now }) }
+    ensures told { OnOk result (is_told_by has_underline_colors (pen_of cell.now) ≡ true) }
+    ensures refused { IfErr result (IsUntoldPen has_underline_colors place (pen_of cell.now)) }
+{
+    let pen = Pen::of(cell);
+    if !pen.is_told_by(has_underline_colors) {
+        return Err(Refusal::Pen(place));
+    }
+    set_pen(out, brush, pen)?;
+    Ok(())
+}
+
 // Sets the pen of the cell in a place, where the brush has another.
+#[inline(always)]
 fn take_pen(
     out: &mut String,
     brush: &mut Brush,
@@ -246,11 +287,44 @@ fn take_pen(
     if brush.pen.is_of(cell) {
         return Ok(());
     }
-    let pen = Pen::of(cell);
-    if !pen.is_told_by(has_underline_colors) {
-        return Err(Refusal::Pen(place));
-    }
-    set_pen(out, brush, pen)?;
+    set_pen_of(out, brush, has_underline_colors, place, cell)
+}
+
+// Draws a cell in a place of a screen of so many columns, where no symbol covers it from the left; it was counted before.
+#[inline(always)]
+fn draw_glyph(
+    out: &mut String,
+    behind: &mut [bool],
+    width: u16,
+    has_underline_colors: bool,
+    drawing: &mut Drawing,
+    place: Position,
+    cell: &Cell,
+    glyph: Glyph,
+) -> Result<(), Refusal>
+    requires column { place.x < width }
+    requires row { place.y * width + width ≤ length behind.old }
+    requires uncut { slice_index_or behind.old (place.y * width + place.x) false ≡ false }
+    requires glyph { IsGlyph (width - place.x) cell.now glyph }
+    requires pen { is_told_by has_underline_colors drawing.old.brush.pen ≡ true }
+    ensures drawn { OnOk result ((h n : ℕ) → place.y < h
+        → drawing.old.written ≡ min (n + 1) (2 ^ 64 - 1)
+        → SendsUpdates width h (string_bytes out.old) (record drawing.old { written = n })
+        behind.old (record { x = place.x; y = place.y; cell = cell.now } ∷ [])
+        (string_bytes out.new) drawing.new behind.new) }
+    ensures told { OnOk result (is_told_by has_underline_colors (pen_of cell.now) ≡ true) }
+    ensures pen { OnOk result (is_told_by has_underline_colors drawing.new.brush.pen ≡ true) }
+    ensures refused { IfErr result (IsUntoldPen has_underline_colors place (pen_of cell.now)) }
+{
+    let Position { x, y } = place;
+    let brush = &mut drawing.brush;
+    take_pen(out, brush, has_underline_colors, place, cell)?;
+    put(out, brush, x, y, cell, glyph)?;
+    let end = cover(out, behind, width, brush, x, y, glyph.columns())?;
+    drawing.cursor = Position {
+        x: end.min(width - 1),
+        y,
+    };
     Ok(())
 }
 
@@ -292,18 +366,33 @@ pub fn draw_cell(
         }
         return Err(Refusal::Cut(place));
     }
+    // Most symbols are printable ASCII: their path stands alone, so that it stays short.
+    if let Some(c) = printable_of(cell) {
+        let glyph = Glyph::Plain(c);
+        return draw_glyph(
+            out,
+            behind,
+            width,
+            has_underline_colors,
+            drawing,
+            place,
+            cell,
+            glyph,
+        );
+    }
     let Some(glyph) = glyph_in(width - x, cell) else {
         return Err(Refusal::Symbol(place));
     };
-    let brush = &mut drawing.brush;
-    take_pen(out, brush, has_underline_colors, place, cell)?;
-    put(out, brush, x, y, cell, glyph)?;
-    let end = cover(out, behind, width, brush, x, y, glyph.columns())?;
-    drawing.cursor = Position {
-        x: end.min(width - 1),
-        y,
-    };
-    Ok(())
+    draw_glyph(
+        out,
+        behind,
+        width,
+        has_underline_colors,
+        drawing,
+        place,
+        cell,
+        glyph,
+    )
 }
 
 // Draws cells in order.

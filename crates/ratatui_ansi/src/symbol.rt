@@ -1,6 +1,6 @@
 //! Texts that are sent as symbols.
 
-ghost use Rattle.std.specs.Prelude.{◌≡◌, OnOk, IsTrue, string_bytes, encode_utf8, chars};
+ghost use Rattle.std.specs.Prelude.{◌≡◌, ◌≤◌, [], ◌∷◌, OnOk, IfSome, IsTrue, string_bytes, encode_utf8, chars};
 ghost use Rattle.std.specs.List.{list_all};
 ghost use Rattle.ratatui_ansi.specs.Emulator.{is_plain, is_shown, has_columns, begins_anew, is_symbol};
 ghost use Rattle.ratatui_ansi.specs.Drawing.{only_of};
@@ -51,6 +51,16 @@ pub fn only_char(text: &str) -> Option<char>
         return Some(first);
     }
     None
+}
+
+/// The character of a text that has only one, which is printable ASCII.
+pub fn only_printable(text: &str) -> Option<char>
+    ensures { IfSome result (λ c. (text.now ≡ c ∷ []) × (32 ≤ c) × (c ≤ 126)) }
+{
+    match text.as_bytes() {
+        [byte @ b' '..=b'~'] => Some(char::from(*byte)),
+        _ => None,
+    }
 }
 
 // Whether a text begins with a character that has columns of its own.

@@ -1,6 +1,6 @@
-use Rattle.std.proofs.Common.{◌≡◌, ◌&&◌, nat_lt, false, refl, ap, arith}
+use Rattle.std.proofs.Common.{◌≡◌, ◌&&◌, nat_lt, false, refl, arith}
 use Rattle.std.proofs.lemmas.Bool.Decides.{nat_tests}
-use Rattle.ratatui_ansi.proofs.FrameLemmas.{still-sends, put-off, put-vacant, told-off, told-vacant, cell-sends}
+use Rattle.ratatui_ansi.proofs.FrameLemmas.{still-sends, put-off, put-vacant, told-off, told-vacant, OnOk-then}
 use Rattle.ratatui_ansi.proofs.frame.draw_cell.Goals.{then-x-width-via-then-x-width, then-x-width-via-else-x-width+then-y-height}
 use Rattle.ratatui_ansi.proofs.frame.draw_cell.Goals as goal
 
@@ -28,9 +28,10 @@ returns-then-is_vacant-clause-drawn c =
 pub returns-then-is_vacant-clause-told : goal.returns-then-is_vacant-clause-told
 returns-then-is_vacant-clause-told c = told-vacant c.args.width c.args.height c.args.has_underline_colors (record { x = c.args.x; y = c.args.y; cell = c.args.cell.now }) (c.is_vacant.ensures.0 c.if-is_vacant.true)
 
+pub returns-in-Some-clause-drawn : goal.returns-in-Some-clause-drawn
+returns-in-Some-clause-drawn c =
+    OnOk-then c.draw_glyph.result c.draw_glyph.ensures.drawn (λ drawn. drawn c.args.height c.args.drawing.now.written (omega arith) c.saturating_add-drawing.ensures)
+
 pub returns-clause-drawn : goal.returns-clause-drawn
 returns-clause-drawn c =
-    cell-sends c.args.width c.args.height c.args.x c.args.y c.args.cell.now c.in-Some.glyph c.in_ok-end.end c.args.drawing.now _ c.take_pen.new.brush c.put.new.brush c.args.behind.now c.cover.new.behind
-    _ _ _ _ (omega arith) (omega arith) c.in-Some.ensures c.in_ok-take_pen.ensures.changes c.in_ok-take_pen.ensures.pen
-    (c.in_ok-put.ensures.prints c.args.width c.args.height (omega arith) (omega arith)) (rw c.columns.ensures at c.in_ok-end.ensures)
-    (rw (c.from.ensures, c.from-2.ensures, c.from-3.ensures) at c.if-behind-from.false) (ap (λ k. record { x = k; y = c.args.y }) c.min.ensures) c.saturating_add-drawing.ensures
+    OnOk-then c.draw_glyph-2.result c.draw_glyph-2.ensures.drawn (λ drawn. drawn c.args.height c.args.drawing.now.written (omega arith) c.saturating_add-drawing.ensures)

@@ -4,9 +4,6 @@ use Rattle.ratatui_ansi.specs.Drawing.{blanked, Paints}
 use Rattle.ratatui_ansi.proofs.FrameLemmas.{blanks-none, blanks-more, blanks-own}
 use Rattle.ratatui_ansi.proofs.frame.put_blanks.Goals as goal
 
-pub returns-then-x-end-clause-paints : goal.returns-then-x-end-clause-paints
-returns-then-x-end-clause-paints c = λ w h inside row. blanks-none w h _ _ c.args.x c.args.y (c.args.end - c.args.x) (omega arith)
-
 pub loop-column-init : goal.loop-column-init
 loop-column-init c = record {
   own = ap (λ (b : Brush). b.pen) c.in_ok-change_pen.ensures.pen;
