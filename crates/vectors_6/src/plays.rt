@@ -2,7 +2,7 @@
 use crate::reader::Reader;
 use crate::sequences::over_kept;
 use bitflags::Flags;
-use ratatui_ansi::{AnsiBackend, AnsiError, Kept, is_symbol};
+use ratatui_ansi::{AnsiBackend, AnsiError, Kept, is_symbol, make_blank};
 use rtui_backend::{Backend, ClearType, TestBackend};
 use rtui_cell::{Cell, CellWidth};
 use rtui_geometry::Position;
@@ -300,6 +300,35 @@ fn plays_are_shown(rt: HostRuntime) -> Result<(), Fail> {
     assert!(rt; are_played(alloc, 3, 2)?);
     assert!(rt; are_played(alloc, 7, 4)?);
     assert!(rt; are_played(alloc, 12, 5)?);
+    Ok(())
+}
+
+// What another program leaves: a symbol over halves of others, a pen, and margins.
+const LEFT_BEHIND: &str = "\u{1b}[2;2Hコ\u{1b}[0;1;31m\u{1b}[2;3r";
+
+// Whether a terminal, after a play and another program, is blank behind what makes it so.
+fn is_made_blank(alloc: Global, seed: u64) -> Result<bool, Fail> {
+    let mut play = Play::new(alloc, 7, 4)?;
+    let mut random = Random { state: seed };
+    for _ in 0..CALLS {
+        if !play.calls(&mut random)? {
+            return Ok(false);
+        }
+    }
+    let mut told = String::from_str(alloc, play.backend.link().unsent())?;
+    told.push_str(LEFT_BEHIND)?;
+    make_blank(&mut told, 7, 4)?;
+    let corner = Position { x: 0, y: 0 };
+    let is_cleared = play.screen.clear().is_ok() && play.screen.set_cursor_position(corner).is_ok();
+    Ok(is_cleared && Reader::of(alloc, 7, 4, told.as_str())?.shows(corner, &play.screen))
+}
+
+#[test]
+fn used_terminals_are_made_blank(rt: HostRuntime) -> Result<(), Fail> {
+    let alloc = rt.alloc();
+    for seed in 0..PLAYS {
+        assert!(rt; is_made_blank(alloc, seed)?);
+    }
     Ok(())
 }
 
