@@ -1,5 +1,5 @@
 -- What the bytes of a cell do to a terminal within a draw.
-use Rattle.std.proofs.Common.{◌≡◌, ℕ, ◌+◌, ◌-◌, ◌*◌, ◌^◌, ◌<◌, ◌≤◌, ◌==◌, ◌&&◌, ◌||◌, not, min, nat_lt, nat_le, nat_eq, if◌then◌else◌, Bool, List, [], ◌∷◌, ◌++◌, length, IsTrue, chars, true, false, zero, suc, slice_index_or, IsUtf8, Option, Some, None, IfSome, Result, Ok, Err, OnOk, MatchOption, refl, sym, ap, ap₂, ◌∙◌, arith, subst, inl, inr, append_assoc, append-nil, ◌⊎◌}
+use Rattle.std.proofs.Common.{◌≡◌, ℕ, ◌+◌, ◌-◌, ◌*◌, ◌^◌, ◌<◌, ◌≤◌, ◌==◌, ◌&&◌, ◌||◌, not, min, nat_lt, nat_le, nat_eq, if◌then◌else◌, Bool, List, [], ◌∷◌, ◌++◌, length, IsTrue, chars, true, false, zero, suc, slice_index_or, IsUtf8, Option, Some, None, IfSome, MatchOption, refl, sym, ap, ap₂, ◌∙◌, arith, subst, inl, inr, append_assoc, append-nil, ◌⊎◌}
 use Rattle.std.specs.Bool.{then_some}
 use lib.Utf8.{encode, encodes}
 use Rattle.std.proofs.Math.Nat.{mul-le-mul_right}
@@ -412,20 +412,21 @@ plain-gives room c ch b utf8 some e test =
       symbol = (is.1.1, sym (encodes-chars text utf8) ∙ ap encodes is.1.0 ∙ append-nil (encode ch));
     })
 
+pub plain-fits : (room : ℕ) (c : Cell) (ch : ℕ) → is_plain ch ≡ true → symbol_text c.symbol ≡ encode ch → width_of c ≡ 1 → 0 < room → IsGlyph room c (Glyphs.Plain ch)
+plain-fits room c ch plain same wide some =
+    let one : is_one_plain (chars (encode ch)) ≡ true = plain-single ch plain in
+    let inside : nat_le 1 room ≡ true = grind (arith, nat_tests) in
+    record { fits = rw (same, plain-printed ch plain, one, wide, inside) refl; columns = sym wide; symbol = (plain, same) }
+
 -- a cell with one printable character of ASCII
-one-byte : (c : Cell) (b : ℕ) → symbol_text c.symbol ≡ b ∷ [] → width_of c ≡ text_width (symbol_text c.symbol) → width_of c ≡ 1
+one-byte : (text : List ℕ) (b : ℕ) → text ≡ b ∷ [] → text_width text ≡ 1
 unfolding text_width
-one-byte c b text own = own ∙ rw text refl
+one-byte text b e = rw e refl
 
 printable-fits : (room : ℕ) (c : Cell) (b : ℕ) → symbol_text c.symbol ≡ b ∷ [] → 32 ≤ b → b ≤ 126 → width_of c ≡ text_width (symbol_text c.symbol) → 0 < room → IsGlyph room c (Glyphs.Plain b)
 printable-fits room c b text low high own some =
-    let plain : is_plain b ≡ true = grind (arith, nat_tests) in
     let small : b < 128 = omega arith in
-    let same : symbol_text c.symbol ≡ encode b = text ∙ sym (encode_ascii b small) in
-    let one : is_one_plain (chars (encode b)) ≡ true = plain-single b plain in
-    let wide = one-byte c b text own in
-    let inside : nat_le 1 room ≡ true = grind (arith, nat_tests) in
-    record { fits = rw (same, plain-printed b plain, one, wide, inside) refl; columns = sym wide; symbol = (plain, same) }
+    plain-fits room c b (grind (arith, nat_tests)) (text ∙ sym (encode_ascii b small)) (own ∙ one-byte (symbol_text c.symbol) b text) some
 
 pub printable-gives : (c : Cell) (found : Option ℕ) → IfSome found (λ b. (symbol_text c.symbol ≡ b ∷ []) × (32 ≤ b) × (b ≤ 126)) → width_of c ≡ text_width (symbol_text c.symbol)
     → IfSome found (λ b. (room : ℕ) → 0 < room → IsGlyph room c (Glyphs.Plain b))
@@ -500,11 +501,6 @@ cell-sends w h x y cell glyph end before after inked drawn flags flags_after old
     let both : Paints w h old before.brush (λ t. blanked (x + n) y m (printed_at x y pen symbol t)) new after.brush
     = Paints-then w h old mid new before.brush drawn after.brush (printed_at x y pen symbol) (blanked (x + n) y m) (λ t. (refl, refl)) two (covers.paints h row) in
     lay-sends w h x y n end cell before after flags flags_after old new (fit-parts (w - x) cell (rw is.fits refl)) (sym is.columns) column row both uncut covers.ordered covers.inside covers.set covers.unset covers.marked cursor count
-
--- what follows from what a call did
-pub OnOk-then : {E P Q : Type 0} (r : Result (Unit {0}) E) → OnOk r P → (P → Q) → OnOk r Q
-OnOk-then (Ok done) is follows = follows is
-OnOk-then (Err e) is follows = tt
 
 -- what a pen that was kept, or given back, can be told to
 pub pen-told : (colors : Bool) (before after : Pen) → (after ≡ before) ⊎ (after ≡ own_pen) → is_told_by colors before ≡ true → is_told_by colors after ≡ true

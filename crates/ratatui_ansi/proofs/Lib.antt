@@ -9,6 +9,7 @@ pub mod PutLemmas
 pub mod TailLemmas
 pub mod CoverLemmas
 pub mod FrameLemmas
+pub mod LoneLemmas
 pub mod FlagLemmas
 pub mod EraseLemmas
 pub mod TrackLemmas

@@ -60,9 +60,13 @@ is_shown c = not (is_control c) && not (is_directional c)
 abbrev pub is_plain : ℕ → Bool
 is_plain c = (nat_le 32 c && nat_le c 126) || (nat_le 0xC0 c && nat_le c 0x17F) || (nat_le 0x2500 c && nat_le c 0x259F)
 
+-- how many columns a character takes alone: none where it is a control character or joins what is before it
+abbrev pub columns_of_char : ℕ → ℕ
+columns_of_char c = unwrap_or (char_width false c) 0
+
 -- whether a character has columns of its own
 abbrev pub has_columns : ℕ → Bool
-has_columns c = is_plain c || nat_lt 0 (unwrap_or (char_width false c) 0)
+has_columns c = is_plain c || nat_lt 0 (columns_of_char c)
 
 -- whether a text begins with such a character, and so doesn't join what is before it
 abbrev pub begins_anew : List ℕ → Bool

@@ -1,7 +1,7 @@
 -- What a draw knows of the terminal, and what its bytes do to it.
-use Rattle.std.specs.Prelude.{◌≡◌, ℕ, ◌+◌, ◌-◌, ◌*◌, ◌<◌, ◌≤◌, ◌==◌, ◌&&◌, ◌||◌, ◌⊎◌, not, nat_lt, nat_le, Bool, true, false, if◌then◌else◌, List, ◌++◌, length, encode_utf8}
+use Rattle.std.specs.Prelude.{◌≡◌, ℕ, ◌+◌, ◌-◌, ◌*◌, ◌<◌, ◌≤◌, ◌==◌, ◌&&◌, ◌||◌, ◌⊎◌, not, nat_lt, nat_le, Bool, true, false, if◌then◌else◌, List, [], ◌∷◌, ◌++◌, length, encode_utf8, chars, IsUtf8}
 use Rattle.ratatui_core.specs.Layout.{Position}
-use Rattle.ratatui_core.specs.Buffer.{symbol_text, Look, look_of, empty_look, width_of, Update, Cell}
+use Rattle.ratatui_core.specs.Buffer.{symbol_text, text_width, Look, look_of, empty_look, width_of, Update, Cell}
 use Rattle.ratatui_core.specs.Backend.{Draws, cursor_of}
 use Rattle.ratatui_ansi.specs.declared.drawing.Brush.{Brush}
 use Rattle.ratatui_ansi.specs.declared.frame.Drawing.{Drawing}
@@ -57,6 +57,13 @@ pub record IsGlyph (room : ℕ) (c : Cell) (glyph : Glyph) : Type 0 where
   pub fits : is_fit room c ≡ true
   pub columns : glyph_columns glyph ≡ width_of c
   pub symbol : IsPrintedAs (symbol_text c.symbol) glyph
+
+-- a cell's symbol is this character alone, one above U+00A0, and the cell takes the columns of its text
+pub record IsLone (c : Cell) (ch : ℕ) : Type 0 where
+  pub above : 0xA0 < ch
+  pub utf8 : IsUtf8 (symbol_text c.symbol)
+  pub symbol : chars (symbol_text c.symbol) ≡ ch ∷ []
+  pub width : width_of c ≡ text_width (symbol_text c.symbol)
 
 -- a cell of one column that looks like an empty one
 pub record IsVacant (c : Cell) : Type 0 where

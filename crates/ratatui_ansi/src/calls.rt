@@ -52,7 +52,7 @@ pub fn make_blank(out: &mut String, width: u16, height: u16) -> Result<(), Alloc
     ensures { OnOk result (0 < width → 0 < height
         → MakesBlank width height (string_bytes out.old) (string_bytes out.new)) }
 {
-    push_pen(out, Pen::OWN)?;
+    push_pen(out, &Pen::OWN)?;
     reset_region(out)?;
     erase_all(out, width, height)?;
     move_to(out, 0, 0)

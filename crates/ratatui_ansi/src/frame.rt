@@ -3,18 +3,18 @@
 ghost use Rattle.std.specs.Prelude.{◌≡◌, ℕ, ◌+◌, ◌-◌, ◌*◌, ◌^◌, ◌<◌, ◌≤◌, ◌&&◌, min, nat_lt, nat_le, if◌then◌else◌, true, false, IsTrue, ◌↔◌, IfOk, IfErr, IfSome, OnOk, OnErr, List, [], ◌∷◌, map, length, slice_index_or, string_bytes, MatchOption, ◌==◌};
 ghost use Rattle.std.specs.List.{list_all};
 ghost use Rattle.std.specs.Iterator.{IsFinite, Drains};
-ghost use Rattle.ratatui_core.specs.Buffer.{blank, symbol_text, width_of, update_by};
+ghost use Rattle.ratatui_core.specs.Buffer.{blank, symbol_text, text_width, width_of, update_by, Cell};
 ghost use Rattle.ratatui_ansi.specs.declared.drawing.Printing.TheVariants.{Whole};
 ghost use Rattle.ratatui_ansi.specs.declared.frame.Glyph.TheVariants.{Plain};
 ghost use Rattle.ratatui_ansi.specs.Pen.{own_pen, pen_of};
 ghost use Rattle.ratatui_ansi.specs.Parameters.{is_told_by};
 ghost use Rattle.ratatui_ansi.specs.Drawing.{printing_of, columns_of, blanked, Changes, Paints, Prints};
-ghost use Rattle.ratatui_ansi.specs.Frame.{glyph_columns, is_fit, is_told_on, IsPrintedAs, IsGlyph, IsVacant, IsUntoldPen, IsRefused, Covers, SendsUpdates, SendsDraw};
+ghost use Rattle.ratatui_ansi.specs.Frame.{glyph_columns, is_fit, is_told_on, IsPrintedAs, IsGlyph, IsLone, IsVacant, IsUntoldPen, IsRefused, Covers, SendsUpdates, SendsDraw};
 ghost use Rattle.ratatui_ansi.specs.Refusals.{has_place, StopsWithin, StopsDraw};
 
 use crate::drawing::{Brush, Printing, change_pen, printing_of, put_plain, put_symbol, set_pen};
 use crate::pen::Pen;
-use crate::symbol::only_printable;
+use crate::symbol::{columns_of_char, is_plain, is_shown, only_char, only_printable};
 use ratatui_core::backend::AsCell;
 use ratatui_core::buffer::{Cell, CellDiffOption, CellWidth};
 use ratatui_core::layout::Position;
@@ -93,18 +93,16 @@ fn fits(room: u16, columns: u16, printed: u16) -> bool
     printed == columns && 0 < columns && columns <= room
 }
 
-// A cell's symbol, as it is printed in some columns: none where it isn't, where the cell takes others, or more than there are.
-fn glyph_in(room: u16, cell: &Cell) -> Option<Glyph>
-    requires { 0 < room }
-    ensures { MatchOption result (is_fit room cell.now ≡ false) (IsGlyph room cell.now) }
+// A cell's symbol, where the cell takes the columns of its text.
+fn unforced_symbol(cell: &Cell) -> Option<&str>
+    ensures { IfSome result (λ text. (text.now ≡ symbol_text cell.now.symbol)
+        × (width_of cell.now ≡ text_width text.now)) }
 {
-    let columns = cell.cell_width();
-    match printing_of(cell.symbol()) {
-        Printing::Plain(c) => (columns == 1).then_some(Glyph::Plain(c)),
-        Printing::Whole => {
-            fits(room, columns, printed_columns(cell, columns)).then_some(Glyph::Whole(columns))
+    match cell.diff_option {
+        CellDiffOption::ForcedWidth(_) => None,
+        CellDiffOption::None | CellDiffOption::Skip | CellDiffOption::AlwaysUpdate => {
+            Some(cell.symbol())
         }
-        Printing::Unprinted => None,
     }
 }
 
@@ -112,11 +110,48 @@ fn glyph_in(room: u16, cell: &Cell) -> Option<Glyph>
 fn printable_of(cell: &Cell) -> Option<char>
     ensures { IfSome result (λ c. (room : ℕ) → 0 < room → IsGlyph room cell.now (Plain c)) }
 {
-    match cell.diff_option {
-        CellDiffOption::ForcedWidth(_) => None,
-        CellDiffOption::None | CellDiffOption::Skip | CellDiffOption::AlwaysUpdate => {
-            only_printable(cell.symbol())
+    only_printable(unforced_symbol(cell)?)
+}
+
+// The character above U+00A0 that is all of a cell's symbol, where the cell's width isn't forced.
+fn lone_of(cell: &Cell) -> Option<char>
+    ensures { IfSome result (IsLone cell.now) }
+{
+    match only_char(unforced_symbol(cell)?) {
+        Some(c) if c > '\u{a0}' => Some(c),
+        _ => None,
+    }
+}
+
+// Such a character, as it is printed in some columns: none where it isn't, or takes more than there are.
+fn lone_glyph(room: u16, c: char) -> Option<Glyph>
+    requires room { 0 < room }
+    requires above { 0xA0 < c }
+    ensures { (cell : Cell) → IsLone cell c
+        → MatchOption result (is_fit room cell ≡ false) (IsGlyph room cell) }
+{
+    if is_plain(c) {
+        return Some(Glyph::Plain(c));
+    }
+    let columns = columns_of_char(c);
+    (is_shown(c) && 0 < columns && columns <= room).then_some(Glyph::Whole(columns))
+}
+
+// A cell's symbol, as it is printed in some columns: none where it isn't, where the cell takes others, or more than there are.
+fn glyph_in(room: u16, cell: &Cell) -> Option<Glyph>
+    requires { 0 < room }
+    ensures { MatchOption result (is_fit room cell.now ≡ false) (IsGlyph room cell.now) }
+{
+    if let Some(c) = lone_of(cell) {
+        return lone_glyph(room, c);
+    }
+    let columns = cell.cell_width();
+    match printing_of(cell.symbol()) {
+        Printing::Plain(c) => (columns == 1).then_some(Glyph::Plain(c)),
+        Printing::Whole => {
+            fits(room, columns, printed_columns(cell, columns)).then_some(Glyph::Whole(columns))
         }
+        Printing::Unprinted => None,
     }
 }
 
@@ -131,7 +166,7 @@ fn is_blank(symbol: &str) -> bool
 fn is_vacant(cell: &Cell) -> bool
     ensures { IsTrue result ↔ IsVacant cell.now }
 {
-    is_blank(cell.symbol()) && Pen::OWN.is_of(cell) && cell.cell_width() == 1
+    is_blank(cell.symbol()) && Pen::of(cell) == Pen::OWN && cell.cell_width() == 1
 }
 
 // The first column from `from` on whose flag isn't set, or the row's end. The row begins at `start`.
@@ -166,7 +201,7 @@ fn put_blanks(
         brush.old (blanked x y (end - x)) (string_bytes out.new) brush.new) }
     ensures pen { OnOk result (brush.new.pen ≡ own_pen) }
 {
-    change_pen(out, brush, Pen::OWN)?;
+    change_pen(out, brush, &Pen::OWN)?;
     for column in x..end {
         put_plain(out, brush, column, y, ' ')?;
     }
@@ -264,7 +299,7 @@ fn set_pen_of(
     if !pen.is_told_by(has_underline_colors) {
         return Err(Refusal::Pen(place));
     }
-    set_pen(out, brush, pen)?;
+    set_pen(out, brush, &pen)?;
     Ok(())
 }
 
@@ -284,7 +319,7 @@ fn take_pen(
     ensures told { OnOk result (is_told_by has_underline_colors (pen_of cell.now) ≡ true) }
     ensures refused { IfErr result (IsUntoldPen has_underline_colors place (pen_of cell.now)) }
 {
-    if brush.pen.is_of(cell) {
+    if brush.pen == Pen::of(cell) {
         return Ok(());
     }
     set_pen_of(out, brush, has_underline_colors, place, cell)
@@ -480,6 +515,6 @@ pub fn draw_cells<C: AsCell, I: Iterator<Item = (u16, u16, C)>>(
         &mut drawing,
         content,
     )?;
-    change_pen(out, &mut drawing.brush, Pen::OWN)?;
+    change_pen(out, &mut drawing.brush, &Pen::OWN)?;
     Ok((drawing.cursor, drawing.written))
 }

@@ -2,7 +2,7 @@
 
 ghost use Rattle.std.specs.Prelude.{◌≡◌, ◌≤◌, [], ◌∷◌, OnOk, IfSome, IsTrue, string_bytes, encode_utf8, chars};
 ghost use Rattle.std.specs.List.{list_all};
-ghost use Rattle.ratatui_ansi.specs.Emulator.{is_plain, is_shown, has_columns, begins_anew, is_symbol};
+ghost use Rattle.ratatui_ansi.specs.Emulator.{is_plain, is_shown, columns_of_char, has_columns, begins_anew, is_symbol};
 ghost use Rattle.ratatui_ansi.specs.Drawing.{only_of};
 ghost use Rattle.ratatui_ansi.specs.Sends.{Sends, typed};
 
@@ -30,14 +30,21 @@ pub fn is_plain(c: char) -> bool
     matches!(c, ' '..='~' | '\u{c0}'..='\u{17f}' | '\u{2500}'..='\u{259f}')
 }
 
+/// How many columns a character takes alone: none where it is a control character or joins what is before it.
+pub fn columns_of_char(c: char) -> u16
+    ensures { result ≡ columns_of_char c }
+{
+    match c.width() {
+        Some(columns) => columns as u16,
+        None => 0,
+    }
+}
+
 /// Whether a character has columns of its own.
 pub fn has_columns(c: char) -> bool
     ensures { result ≡ has_columns c }
 {
-    match c.width() {
-        Some(columns) => is_plain(c) || columns > 0,
-        None => is_plain(c),
-    }
+    is_plain(c) || columns_of_char(c) > 0
 }
 
 /// The character of a text that has only one.

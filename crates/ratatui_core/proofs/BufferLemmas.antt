@@ -7,3 +7,5 @@ pub use Rattle.rtui_buffer.proofs.ShownLemmas.{IsSettledSheet-styled, IsPaintabl
 pub use Rattle.rtui_buffer.proofs.BarLemmas.{ShowsPieces-bar}
 -- Cells that are the same have one look and one width, and an empty cell has the empty look and takes one column.
 pub use Rattle.rtui_cell.proofs.CellLemmas.{same_look, same_width, look-empty, width-empty}
+-- The columns of a text of one character above U+00A0 are the character's.
+pub use Rattle.rtui_cell.proofs.WidthLemmas.{one_character}

@@ -102,7 +102,7 @@ fn pen_is(
     let pen = Pen::of(&cell);
     let mut out = String::new(alloc);
     if pen.is_told() {
-        push_pen(&mut out, pen)?;
+        push_pen(&mut out, &pen)?;
     }
     Ok(out.as_str() == sent)
 }

@@ -1,6 +1,7 @@
 use Rattle.std.proofs.Common.{◌≡◌, ◌&&◌, nat_lt, false, refl, arith}
 use Rattle.std.proofs.lemmas.Bool.Decides.{nat_tests}
-use Rattle.ratatui_ansi.proofs.FrameLemmas.{still-sends, put-off, put-vacant, told-off, told-vacant, OnOk-then}
+use Rattle.std.proofs.lemmas.Result.{on_ok_weaker}
+use Rattle.ratatui_ansi.proofs.FrameLemmas.{still-sends, put-off, put-vacant, told-off, told-vacant}
 use Rattle.ratatui_ansi.proofs.frame.draw_cell.Goals.{then-x-width-via-then-x-width, then-x-width-via-else-x-width+then-y-height}
 use Rattle.ratatui_ansi.proofs.frame.draw_cell.Goals as goal
 
@@ -30,8 +31,8 @@ returns-then-is_vacant-clause-told c = told-vacant c.args.width c.args.height c.
 
 pub returns-in-Some-clause-drawn : goal.returns-in-Some-clause-drawn
 returns-in-Some-clause-drawn c =
-    OnOk-then c.draw_glyph.result c.draw_glyph.ensures.drawn (λ drawn. drawn c.args.height c.args.drawing.now.written (omega arith) c.saturating_add-drawing.ensures)
+    on_ok_weaker c.draw_glyph.result (λ drawn. drawn c.args.height c.args.drawing.now.written (omega arith) c.saturating_add-drawing.ensures) c.draw_glyph.ensures.drawn
 
 pub returns-clause-drawn : goal.returns-clause-drawn
 returns-clause-drawn c =
-    OnOk-then c.draw_glyph-2.result c.draw_glyph-2.ensures.drawn (λ drawn. drawn c.args.height c.args.drawing.now.written (omega arith) c.saturating_add-drawing.ensures)
+    on_ok_weaker c.draw_glyph-2.result (λ drawn. drawn c.args.height c.args.drawing.now.written (omega arith) c.saturating_add-drawing.ensures) c.draw_glyph-2.ensures.drawn

@@ -10,9 +10,9 @@ pub returns : goal.returns
 returns c =
     let old = string_bytes c.args.out.now in
     let opened = old ++ (27 ∷ 91 ∷ 48 ∷ []) in
-    let modifiers : Tells opened (string_bytes c.push_modifiers.new.out) (modifier_parameters (bits_of c.args.pen.modifier))
+    let modifiers : Tells opened (string_bytes c.push_modifiers.new.out) (modifier_parameters (bits_of c.args.pen.now.modifier))
     = rw (← c.in_ok-push_str.ensures.bytes, ← c.bits.ensures) c.in_ok-push_modifiers.ensures in
-    let tells : Tells opened (string_bytes c.push_underline.new.out) (pen_parameters c.args.pen)
+    let tells : Tells opened (string_bytes c.push_underline.new.out) (pen_parameters c.args.pen.now)
     = Tells-then _ _ _ _ _ modifiers (Tells-then _ _ _ _ _ c.in_ok-push_color.ensures (Tells-then _ _ _ _ _ c.in_ok-push_color-2.ensures c.in_ok-push_underline.ensures)) in
-    on_ok_weaker c.push_str-2.result (λ e. pen-sent c.args.pen old _ _ c.requires tells e)
+    on_ok_weaker c.push_str-2.result (λ e. pen-sent c.args.pen.now old _ _ c.requires tells e)
     (on_push c.push_str-2.result (string_bytes c.push_underline.new.out) (string_bytes c.push_str-2.new.self) (109 ∷ []) c.push_str-2.ensures.bytes)
