@@ -1,5 +1,5 @@
 -- A pen is read back as it is written.
-use Rattle.std.proofs.Common.{◌≡◌, ℕ, ◌+◌, ◌<◌, ◌^◌, ◌==◌, nat_lt, List, [], ◌∷◌, ◌++◌, Bool, true, false, IsTrue, zero, suc, inl, inr, ◌⊎◌, ◌&&◌, if◌then◌else◌, refl, sym, ap, ap₂, ◌∙◌, arith, append_assoc, append-nil}
+use Rattle.std.proofs.Common.{◌≡◌, ℕ, ◌+◌, ◌<◌, ◌^◌, ◌==◌, nat_lt, nat_eq, List, [], ◌∷◌, ◌++◌, Bool, true, false, IsTrue, zero, suc, inl, inr, ◌⊎◌, ◌&&◌, if◌then◌else◌, refl, sym, ap, ap₂, ◌∙◌, arith, append_assoc, append-nil}
 use Rattle.std.specs.Fmt.{decimal}
 use Rattle.std.specs.List.{list_all}
 use Rattle.std.specs.Int.RustNames.{bit_and, bit_or}
@@ -10,7 +10,8 @@ use Rattle.ratatui_core.proofs.StyleLemmas.{same_color, same_modifier}
 use Rattle.ratatui_ansi.specs.contracts.pen.PenPartialEq.TheImpl as pen_equality
 use Rattle.ratatui_ansi.specs.declared.pen.Pen.{Pen}
 use Rattle.ratatui_ansi.specs.declared.drawing.Brush.{Brush}
-use Rattle.ratatui_ansi.specs.Pen.{Inking, inks, inks_in, own_pen}
+use Rattle.ratatui_core.specs.Buffer.{Cell}
+use Rattle.ratatui_ansi.specs.Pen.{Inking, inks, inks_in, own_pen, pen_of}
 use Rattle.ratatui_ansi.specs.Pen.Awaits.{Nothing}
 use Rattle.ratatui_ansi.specs.Emulator.{Emulator, rested, with_pen}
 use Rattle.ratatui_ansi.specs.Emulator.Phase.{Ground, Sequence}
@@ -275,8 +276,14 @@ same_pen a b e =
     let modifier = same_modifier a.modifier b.modifier three.1 in
     rw (fg, bg, underline, modifier) refl
 
-pub equal-own : (pen : Pen) → pen ≡ own_pen → pen_equality.eq-value.it pen own_pen ≡ true
-equal-own pen e = rw e refl
+pub pen-of-cell : (pen : Pen) (cell : Cell) → pen.fg ≡ cell.fg → pen.bg ≡ cell.bg → pen.underline_color ≡ cell.underline_color → pen.modifier ≡ cell.modifier → pen ≡ pen_of cell
+pen-of-cell pen cell fg bg underline modifier = rw (fg, bg, underline, modifier) refl
+
+equal-number : (n : ℕ) → nat_eq n n ≡ true
+equal-number n = grind (arith, nat_tests)
+
+pub same-bits : (pen : Pen) (cell : Cell) → pen ≡ pen_of cell → nat_eq (bits_of pen.modifier) (bits_of cell.modifier) ≡ true
+same-bits pen cell e = ap (λ (p : Pen). nat_eq (bits_of p.modifier) (bits_of cell.modifier)) e ∙ equal-number (bits_of cell.modifier)
 
 -- a brush with the pen that it has
 pub brush-kept : (b : Brush) (pen : Pen) → b.pen ≡ pen → b ≡ record b { pen = pen }

@@ -162,11 +162,12 @@ fn is_blank(symbol: &str) -> bool
     symbol == " "
 }
 
-// Whether a cell takes one column and looks like an empty one.
+// Whether a cell takes one column and looks like an empty one; apart, as few cells are asked.
+#[inline(never)]
 fn is_vacant(cell: &Cell) -> bool
     ensures { IsTrue result ↔ IsVacant cell.now }
 {
-    is_blank(cell.symbol()) && Pen::of(cell) == Pen::OWN && cell.cell_width() == 1
+    is_blank(cell.symbol()) && Pen::OWN.is_of(cell) && cell.cell_width() == 1
 }
 
 // The first column from `from` on whose flag isn't set, or the row's end. The row begins at `start`.
@@ -319,7 +320,7 @@ fn take_pen(
     ensures told { OnOk result (is_told_by has_underline_colors (pen_of cell.now) ≡ true) }
     ensures refused { IfErr result (IsUntoldPen has_underline_colors place (pen_of cell.now)) }
 {
-    if brush.pen == Pen::of(cell) {
+    if brush.pen.is_of(cell) {
         return Ok(());
     }
     set_pen_of(out, brush, has_underline_colors, place, cell)
