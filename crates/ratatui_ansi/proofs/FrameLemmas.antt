@@ -1,13 +1,13 @@
 -- What the bytes of a cell do to a terminal within a draw.
 use Rattle.std.proofs.Common.{◌≡◌, ℕ, ◌+◌, ◌-◌, ◌*◌, ◌^◌, ◌<◌, ◌≤◌, ◌==◌, ◌&&◌, ◌||◌, not, min, nat_lt, nat_le, nat_eq, if◌then◌else◌, Bool, List, [], ◌∷◌, ◌++◌, length, IsTrue, chars, true, false, zero, suc, slice_index_or, IsUtf8, Option, Some, None, IfSome, MatchOption, refl, sym, ap, ap₂, ◌∙◌, arith, subst, inl, inr, append_assoc, append-nil, ◌⊎◌}
 use Rattle.std.specs.Bool.{then_some}
-use lib.Utf8.{encode, encodes}
+use lib.Utf8.{encode}
 use Rattle.std.proofs.Math.Nat.{mul-le-mul_right}
 use Rattle.std.proofs.lemmas.Bool.{cases_lt}
 use Rattle.std.proofs.lemmas.Bool.Decides.{nat_tests}
 use Rattle.std.specs.List.{list_all}
 use Rattle.std.proofs.lemmas.List.Folds.{list_all-append}
-use Rattle.std.proofs.lemmas.Str.{chars-nil, encode_ascii, encodes-chars, IsUtf8-nil}
+use Rattle.std.proofs.lemmas.Str.{chars-nil, encode_ascii, IsUtf8-nil}
 use Rattle.ratatui_core.specs.Layout.{Position}
 use Rattle.ratatui_core.specs.Buffer.{blank, symbol_text, Look, look_of, empty_look, width_of, text_width, Update, put, Cell}
 use Rattle.ratatui_core.specs.Backend.{Draws}
@@ -32,7 +32,7 @@ use Rattle.ratatui_ansi.specs.Calls.{IsAwaiting}
 use Rattle.ratatui_ansi.specs.Frame.{IsTail, laid, is_fit, glyph_columns, is_told_on, IsGlyph, IsVacant, IsDrawing, AreMarked, Covers, SendsUpdates, SendsDraw}
 use Rattle.ratatui_ansi.proofs.ReadLemmas.{feed-append}
 use Rattle.ratatui_ansi.proofs.ScrollLemmas.{whole_along}
-use Rattle.ratatui_ansi.proofs.DrawLemmas.{plain-printed, plain-single}
+use Rattle.ratatui_ansi.proofs.DrawLemmas.{plain-printed, plain-single, one-encoded}
 use Rattle.ratatui_ansi.proofs.TextLemmas.{and-both, blank-one}
 use Rattle.ratatui_ansi.proofs.TailLemmas.{behind_empty, torn, put-torn, torn-more, torn-all, laid-sized, laid-whole, laid-beyond, laid-behind, laid-shown}
 
@@ -409,7 +409,7 @@ plain-gives room c ch b utf8 some e test =
     gives-by room c b (Glyphs.Plain ch) (test ∙ sym (fit ∙ same)) (λ fits. record {
       fits = fits;
       columns = single ∙ (fit-parts room c (rw fits refl)).columns;
-      symbol = (is.1.1, sym (encodes-chars text utf8) ∙ ap encodes is.1.0 ∙ append-nil (encode ch));
+      symbol = (is.1.1, sym (one-encoded text ch utf8 is.1.0));
     })
 
 pub plain-fits : (room : ℕ) (c : Cell) (ch : ℕ) → is_plain ch ≡ true → symbol_text c.symbol ≡ encode ch → width_of c ≡ 1 → 0 < room → IsGlyph room c (Glyphs.Plain ch)

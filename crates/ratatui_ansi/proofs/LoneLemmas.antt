@@ -1,10 +1,9 @@
 -- A cell whose symbol is one character above U+00A0.
-use Rattle.std.proofs.Common.{◌≡◌, ℕ, ◌+◌, ◌-◌, ◌<◌, ◌≤◌, ◌==◌, ◌&&◌, ◌||◌, not, min, nat_lt, nat_le, nat_eq, Bool, true, false, zero, suc, List, [], ◌∷◌, length, chars, IsUtf8, Some, MatchOption, refl, sym, ap, subst, ◌∙◌, arith, append-nil}
-use lib.Utf8.{encode, encodes}
+use Rattle.std.proofs.Common.{◌≡◌, ℕ, ◌+◌, ◌-◌, ◌<◌, ◌≤◌, ◌==◌, ◌&&◌, ◌||◌, not, min, nat_lt, nat_le, nat_eq, Bool, true, false, List, [], ◌∷◌, length, chars, IsUtf8, Some, MatchOption, refl, sym, subst, ◌∙◌, arith}
+use lib.Utf8.{encode}
 use Rattle.std.specs.Bool.{then_some}
-use Rattle.std.specs.List.{list_all, range_with_len}
 use Rattle.std.proofs.lemmas.Bool.Decides.{nat_tests}
-use Rattle.std.proofs.lemmas.Str.{encodes-chars, length-encode, is_utf8-from_IsUtf8}
+use Rattle.std.proofs.lemmas.Str.{length-encode, is_utf8-from_IsUtf8}
 use Rattle.unicode_width.specs.Width.{char_width, str_width}
 use Rattle.unicode_width.proofs.Computing.{unicode_width}
 use Rattle.unicode_width.proofs.Rules.{width_or_zero-le}
@@ -14,31 +13,24 @@ use Rattle.ratatui_ansi.specs.declared.frame.Glyph.TheVariants.{Plain, Whole}
 use Rattle.ratatui_ansi.specs.Emulator.{is_plain, is_shown, columns_of_char}
 use Rattle.ratatui_ansi.specs.Frame.{is_fit, IsGlyph, IsLone}
 use Rattle.ratatui_ansi.proofs.TextLemmas.{and-both}
+use Rattle.ratatui_ansi.proofs.PenLemmas.{up_to, up_to-at, equal-number}
+use Rattle.ratatui_ansi.proofs.DrawLemmas.{one-encoded}
 use Rattle.ratatui_ansi.proofs.FrameLemmas.{plain-fits}
 
 -- ---- a plain character takes one column
 
-letters : list_all (λ c. nat_eq (columns_of_char c) 1) (range_with_len 0xC0 192) ≡ true
+letters : up_to (λ i. nat_eq (columns_of_char (0xC0 + i)) 1) 192 ≡ true
 unfolding unicode_width
 letters = refl
 
-lines : list_all (λ c. nat_eq (columns_of_char c) 1) (range_with_len 0x2500 160) ≡ true
+lines : up_to (λ i. nat_eq (columns_of_char (0x2500 + i)) 1) 160 ≡ true
 unfolding unicode_width
 lines = refl
 
-at : (f : ℕ → Bool) (k n i : ℕ) → list_all f (range_with_len k n) ≡ true → i < n → f (k + i) ≡ true
-at f k zero i all inside = absurd (omega arith)
-at f k (suc n) zero all inside =
-    let first : k ≡ k + 0 = omega arith in
-    subst (λ c. f c ≡ true) first (and-both (f k) (list_all f (range_with_len (k + 1) n)) all).0
-at f k (suc n) (suc i) all inside =
-    let next : k + 1 + i ≡ k + suc i = omega arith in
-    subst (λ c. f c ≡ true) next (at f (k + 1) n i (and-both (f k) (list_all f (range_with_len (k + 1) n)) all).1 (omega arith))
-
-within : (k n c : ℕ) → list_all (λ d. nat_eq (columns_of_char d) 1) (range_with_len k n) ≡ true → k ≤ c → c < k + n → columns_of_char c ≡ 1
-within k n c all low high =
-    let place : k + (c - k) ≡ c = omega arith in
-    let one = subst (λ d. nat_eq (columns_of_char d) 1 ≡ true) place (at (λ d. nat_eq (columns_of_char d) 1) k n (c - k) all (omega arith)) in
+within : (first n c : ℕ) → up_to (λ i. nat_eq (columns_of_char (first + i)) 1) n ≡ true → first ≤ c → c < first + n → columns_of_char c ≡ 1
+within first n c all low high =
+    let place : first + (c - first) ≡ c = omega arith in
+    let one = subst (λ d. nat_eq (columns_of_char d) 1 ≡ true) place (up_to-at (λ i. nat_eq (columns_of_char (first + i)) 1) n (c - first) all (omega arith)) in
     grind (arith, nat_tests)
 
 plain-columns : (c : ℕ) → 0xA0 < c → is_plain c ≡ true → columns_of_char c ≡ 1
@@ -55,13 +47,10 @@ some-width c n e = rw e refl
 longer : (c : ℕ) → 0xA0 < c → (length (encode c) == 1) ≡ false
 longer c above = grind (arith, nat_tests, length-encode c)
 
-spelled : (text : List ℕ) (c : ℕ) → IsUtf8 text → chars text ≡ c ∷ [] → text ≡ encode c
-spelled text c utf8 only = sym (encodes-chars text utf8) ∙ ap encodes only ∙ append-nil (encode c)
-
 text-columns : (text : List ℕ) (c : ℕ) → 0xA0 < c → IsUtf8 text → chars text ≡ c ∷ [] → text_width text ≡ columns_of_char c
 unfolding text_width
 text-columns text c above utf8 only =
-    let long : (length text == 1) ≡ false = rw (spelled text c utf8 only) (longer c above) in
+    let long : (length text == 1) ≡ false = rw (sym (one-encoded text c utf8 only)) (longer c above) in
     let width = some-width c (str_width false (c ∷ [])) (one_character c above) in
     let small : columns_of_char c ≤ 3 = width_or_zero-le false c in
     let kept : min (columns_of_char c) 65535 ≡ columns_of_char c = omega arith in
@@ -74,7 +63,7 @@ lone-columns cell c lone = lone.width ∙ text-columns (symbol_text cell.symbol)
 
 pub lone-plain : (room : ℕ) (cell : Cell) (c : ℕ) → IsLone cell c → is_plain c ≡ true → 0 < room → IsGlyph room cell (Plain c)
 lone-plain room cell c lone plain some =
-    plain-fits room cell c plain (spelled (symbol_text cell.symbol) c lone.utf8 lone.symbol) (lone-columns cell c lone ∙ plain-columns c lone.above plain) some
+    plain-fits room cell c plain (sym (one-encoded (symbol_text cell.symbol) c lone.utf8 lone.symbol)) (lone-columns cell c lone ∙ plain-columns c lone.above plain) some
 
 tests : (p q r e : Bool) → e ≡ true → ((true && (p && true) && (false || q) && (false || not false)) && e && q && r) ≡ (p && q && r)
 tests true true true e is = rw is refl
@@ -82,14 +71,11 @@ tests true true false e is = rw is refl
 tests true false r e is = refl
 tests false q r e is = refl
 
-equal : (n : ℕ) → (n == n) ≡ true
-equal n = grind (arith, nat_tests)
-
 lone-fit : (room : ℕ) (cell : Cell) (c : ℕ) → IsLone cell c → is_plain c ≡ false → is_fit room cell ≡ (is_shown c && nat_lt 0 (columns_of_char c) && nat_le (columns_of_char c) room)
 lone-fit room cell c lone other =
     let text = symbol_text cell.symbol in
     rw (lone-columns cell c lone, text-columns text c lone.above lone.utf8 lone.symbol, lone.symbol, is_utf8-from_IsUtf8 text lone.utf8, other)
-    (tests (is_shown c) (nat_lt 0 (columns_of_char c)) (nat_le (columns_of_char c) room) (columns_of_char c == columns_of_char c) (equal (columns_of_char c)))
+    (tests (is_shown c) (nat_lt 0 (columns_of_char c)) (nat_le (columns_of_char c) room) (columns_of_char c == columns_of_char c) (equal-number (columns_of_char c)))
 
 lone-printed : (room : ℕ) (cell : Cell) (c : ℕ) → IsLone cell c → is_plain c ≡ false → is_fit room cell ≡ true → IsGlyph room cell (Whole (columns_of_char c))
 lone-printed room cell c lone other fits =

@@ -195,14 +195,15 @@ modifiers-inked bits =
     ∙ ap (inks (modifier_parameter bits 256 9)) (mark-8 (bit_and bits 128 == 0) (record own_pen { modifier = (marks (bit_and bits 64 == 0) 64 (marks (bit_and bits 32 == 0) 32 (marks (bit_and bits 16 == 0) 16 (marks (bit_and bits 8 == 0) 8 (marks (bit_and bits 4 == 0) 4 (marks (bit_and bits 2 == 0) 2 (marks (bit_and bits 1 == 0) 1 own_pen.modifier))))))) }))
     ∙ mark-9 (bit_and bits 256 == 0) (record own_pen { modifier = (marks (bit_and bits 128 == 0) 128 (marks (bit_and bits 64 == 0) 64 (marks (bit_and bits 32 == 0) 32 (marks (bit_and bits 16 == 0) 16 (marks (bit_and bits 8 == 0) 8 (marks (bit_and bits 4 == 0) 4 (marks (bit_and bits 2 == 0) 2 (marks (bit_and bits 1 == 0) 1 own_pen.modifier)))))))) })
 
-abbrev up_to : (ℕ → Bool) → ℕ → Bool
+-- whether a test holds of each number below n
+abbrev pub up_to : (ℕ → Bool) → ℕ → Bool
 up_to f zero = true
 up_to f (suc n) = f n && up_to f n
 
 less_or_same : (k n : ℕ) → k < n + 1 → (k < n) ⊎ (k ≡ n)
 less_or_same k n below = grind (arith, nat_tests)
 
-up_to-at : (f : ℕ → Bool) (n k : ℕ) → up_to f n ≡ true → k < n → f k ≡ true
+pub up_to-at : (f : ℕ → Bool) (n k : ℕ) → up_to f n ≡ true → k < n → f k ≡ true
 up_to-at f zero k all below = absurd (omega arith)
 up_to-at f (suc n) k all below =
     let both = and-both (f n) (up_to f n) all in
@@ -279,7 +280,7 @@ same_pen a b e =
 pub pen-of-cell : (pen : Pen) (cell : Cell) → pen.fg ≡ cell.fg → pen.bg ≡ cell.bg → pen.underline_color ≡ cell.underline_color → pen.modifier ≡ cell.modifier → pen ≡ pen_of cell
 pen-of-cell pen cell fg bg underline modifier = rw (fg, bg, underline, modifier) refl
 
-equal-number : (n : ℕ) → nat_eq n n ≡ true
+pub equal-number : (n : ℕ) → nat_eq n n ≡ true
 equal-number n = grind (arith, nat_tests)
 
 pub same-bits : (pen : Pen) (cell : Cell) → pen ≡ pen_of cell → nat_eq (bits_of pen.modifier) (bits_of cell.modifier) ≡ true
