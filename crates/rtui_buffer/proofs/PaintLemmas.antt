@@ -5,12 +5,13 @@ use Rattle.std.proofs.lemmas.List.{get_or-set_other, length-set}
 use Rattle.std.proofs.lemmas.List.Sums.{sum_by-cons}
 use Rattle.rtui_style.specs.declared.Style.{Style}
 use Rattle.rtui_cell.specs.declared.cell.Cell.{Cell}
-use Rattle.rtui_cell.specs.Cell.{empty_cell}
+use Rattle.rtui_cell.specs.Cell.{empty_cell, IsUnmarked}
 use Rattle.rtui_cell.specs.Width.{text_width}
 use Rattle.std.proofs.lemmas.List.Elements.{All-head, All-tail}
 use Rattle.rtui_cell.specs.Symbol.{IsShort}
 use Rattle.rtui_buffer.specs.PaintedText.{AreShort}
-use Rattle.rtui_buffer.specs.Painting.{has_control, painted_width, has_painted_width, fitting, kept, Piece, piece_of, pieces, piece_width, columns, emptied, with_piece, painted, IsSameOutside}
+use Rattle.rtui_buffer.specs.Painting.{has_control, painted_width, has_painted_width, fitting, kept, Piece, piece_of, pieces, piece_width, columns, emptied, with_piece, painted, IsSameOutside, KeepsUnmarked}
+use Rattle.rtui_diff.specs.Cells.{cell}
 
 painted_width-cases : (g : List ℕ) (b : Bool) → has_control g ≡ b → 0 < painted_width g → painted_width g ≡ text_width g
 unfolding painted_width
@@ -89,6 +90,35 @@ IsSameOutside-put from at p old new le lt h =
     IsSameOutside-emptied from (at + piece_width p) (at + 1) (piece_width p - 1) old _ (omega arith) (omega arith)
     (IsSameOutside-set from (at + piece_width p) at _ old new le (omega arith) (IsSameOutside-wider from at (at + piece_width p) old new (omega arith) h))
 
+pub unmarked-refl : (cells : List Cell) → KeepsUnmarked cells cells
+unmarked-refl cells = record { at = λ k u. u }
+
+pub unmarked-then : (a b c : List Cell) → KeepsUnmarked a b → KeepsUnmarked b c → KeepsUnmarked a c
+unmarked-then a b c h g = record { at = λ k u. g.at k (h.at k u) }
+
+unmarked-set : (cells : List Cell) (i : ℕ) (c : Cell) → (IsUnmarked (cell cells i) → IsUnmarked c) → (k : ℕ) → IsUnmarked (cell cells k) → IsUnmarked (cell (set cells i c) k)
+unmarked-set [] i c keep k u = u
+unmarked-set (x ∷ xs) zero c keep zero u = keep u
+unmarked-set (x ∷ xs) zero c keep (suc k) u = u
+unmarked-set (x ∷ xs) (suc i) c keep zero u = u
+unmarked-set (x ∷ xs) (suc i) c keep (suc k) u = unmarked-set xs i c keep k u
+
+unmarked-emptied : (at n : ℕ) (old new : List Cell) → KeepsUnmarked old new → KeepsUnmarked old (emptied at n new)
+unfolding emptied
+unmarked-emptied at zero old new h = h
+unmarked-emptied at (suc n) old new h =
+    unmarked-emptied (at + 1) n old (set new at empty_cell) (record { at = λ k u. unmarked-set new at empty_cell (λ w. record { option = refl; flag = refl }) k (h.at k u) })
+
+pub unmarked-put : (at : ℕ) (p : Piece) (old new : List Cell) → KeepsUnmarked old new → KeepsUnmarked old (with_piece at p new)
+unfolding with_piece
+unmarked-put at p old new h =
+    unmarked-emptied (at + 1) (piece_width p - 1) old _ (record { at = λ k u. unmarked-set new at _ (λ w. record { option = w.option; flag = w.flag }) k (h.at k u) })
+
+pub unmarked-painted : (ps : List Piece) (at : ℕ) (old new : List Cell) → KeepsUnmarked old new → KeepsUnmarked old (painted at ps new)
+unfolding painted
+unmarked-painted [] at old new h = h
+unmarked-painted (p ∷ ps) at old new h = unmarked-painted ps (at + piece_width p) old (with_piece at p new) (unmarked-put at p old new h)
+
 -- a turn of the loop paints the next grapheme
 pub painted-turn : (s : Style) (start used room width : ℕ) (left gs : List (List ℕ)) (g : List ℕ) (cells more whole : List Cell)
     → left ≡ g ∷ gs → width ≡ painted_width g → 0 < width → width ≤ room - used → more ≡ with_piece (start + used) (piece_of s g) cells
@@ -142,4 +172,4 @@ short-turn s used room width left gs g is wide pos fits h =
 
 pub ruleset empty_steps = (emptied-end, emptied-more)
 
-pub ruleset paint_steps = (painted_width-painted, kept-nil, kept-skip, kept-take, kept-full, painted-nil, painted-cons, IsSameOutside-refl, IsSameOutside-wider)
+pub ruleset paint_steps = (painted_width-painted, kept-nil, kept-skip, kept-take, kept-full, painted-nil, painted-cons, IsSameOutside-refl, IsSameOutside-wider, unmarked-refl)

@@ -13,7 +13,7 @@ use Rattle.rtui_cell.specs.Cell.{empty_cell, styled, width_of, is_skipped, IsUnm
 use Rattle.rtui_diff.specs.Cells.{cell, cell_at}
 use Rattle.rtui_buffer.specs.Sheet.{Sheet, cell_index, cell_in, position_of}
 use Rattle.rtui_buffer.specs.Frame.{IsSettledSheet}
-use Rattle.rtui_buffer.specs.Painting.{Piece, text_pieces, piece_width, piece_at, columns, shown, IsSameOutside, HasPieces}
+use Rattle.rtui_buffer.specs.Painting.{Piece, text_pieces, piece_width, piece_at, columns, shown, IsSameOutside, HasPieces, KeepsUnmarked}
 
 -- the columns from x to the area's right edge, at most max and 65535
 abbrev pub room_at : Rect → ℕ → ℕ → ℕ
@@ -67,6 +67,7 @@ pub record PaintsOrRefuses {A : Type 0} (p : Position) (ps : List Piece) (result
   pub ok : OnOk result (PaintsPieces p ps old new)
   pub settled : IsSettledSheet old → IsPaintable p (columns ps) old → OnOk result (IsSettledSheet new)
   pub err : OnErr result (IsSameBeside p ps old new)
+  pub marks : OnErr result (KeepsUnmarked old.cells new.cells)
   pub short : AreShort ps → IsOk result
 
 -- the cells of a part with a style laid over them

@@ -4,7 +4,7 @@ use Rattle.unicode_segmentation.specs.Grapheme.{graphemes}
 use Rattle.rtui_style.specs.declared.Style.{Style}
 use Rattle.rtui_style.specs.Style.{new_style}
 use Rattle.rtui_cell.specs.declared.cell.Cell.{Cell}
-use Rattle.rtui_cell.specs.Cell.{empty_cell, styled}
+use Rattle.rtui_cell.specs.Cell.{empty_cell, styled, IsUnmarked}
 use Rattle.rtui_cell.specs.Width.{text_width}
 pub use Rattle.rtui_text.specs.Graphemes.{has_control}
 use Rattle.rtui_diff.specs.Cells.{cell}
@@ -78,6 +78,10 @@ pub record IsSameOutside (from to : ℕ) (old new : List Cell) : Type 0 where
   pub count : length new ≡ length old
   pub before : (k : ℕ) → k < from → cell new k ≡ cell old k
   pub behind : (k : ℕ) → to ≤ k → cell new k ≡ cell old k
+
+-- where a former cell has no option and no flag the new one has none
+pub record KeepsUnmarked (old new : List Cell) : Type 0 where
+  pub at : (k : ℕ) → IsUnmarked (cell old k) → IsUnmarked (cell new k)
 
 abbrev pub piece_at : List Piece → ℕ → Piece
 piece_at ps k = slice_index_or ps k (piece_of new_style [])

@@ -69,6 +69,7 @@ impl Buffer {
         ensures area { IfOk result (λ b. b.area ≡ area) }
         ensures cells { IfOk result (λ b. b.cells ≡ replicate (area_size area) cell) }
         ensures room { IfOk result (HasRoomFor area) }
+        ensures succeeds { area_size area ≡ 0 → IsOk result }
     {
         let content = copies(alloc, cell, area.area() as usize)?;
         Ok(Buffer { area, content })

@@ -129,6 +129,8 @@ module _ {B : Type 0} (screen : B → Screen) (s : State B) (inserted : Sheet) (
           rw top (AppendsRows-part inserted inserted.area.height (rows_above (screen s.backend) 0) (rows_above (screen b) 0) refl
           (subst (AppendsPart inserted 0 inserted.area.height (rows_above (screen s.backend) 0)) (sym here) part));
       below = λ takes step settled blank. record { at = λ x y x_in y_in past. absurd (omega (arith, shape.height, shape_mid.height, same_height takes)) };
+      moved = λ takes step settled lower a b a_in b_in. absurd (omega arith);
+      kept = λ takes step settled a b a_in b_in past. absurd (omega (arith, same_height takes));
       left = λ takes step. ap (λ r. record s.older { area = r }) step.area;
       in_step = λ takes step settled. record {
         on_screen = record { right = omega (arith, step.on_screen.right, shape.width, shape_mid.width); bottom = omega (arith, step.on_screen.bottom, shape.height, shape_mid.height) };
@@ -193,6 +195,10 @@ module _ {B : Type 0} (screen : B → Screen) (s : State B) (inserted : Sheet) (
             ∙ blank.at x y (omega (arith, shape.width, shape_mid.width)) (omega (arith, shape.height, shape_mid.height)) (omega arith);
       };
       left = λ takes step. left_older takes step;
+      moved = λ takes step settled lower a b a_in b_in. viewport_moved takes step settled a b a_in b_in;
+      kept = λ takes step settled a b a_in b_in past.
+          (raised takes step settled).below a b (omega (arith, shape_mid.width)) (omega (arith, shape_mid.height)) (omega arith)
+          ∙ (lowered takes step settled).below a b a_in b_in (omega arith);
       in_step = λ takes step settled.
           let e = left_older takes step in
           let x : s.older.area.x ≡ s.viewport_area.x = ap (λ (r : Rect). r.x) step.area in
@@ -237,6 +243,8 @@ module _ {B : Type 0} (screen : B → Screen) where
         below = λ takes step settled blank. blank;
         left = λ takes step. ap (λ r. record s.older { area = r }) step.area;
         in_step = λ takes step settled. step;
+        moved = λ takes step settled lower a b a_in b_in. refl;
+        kept = λ takes step settled a b a_in b_in past. refl;
         few = λ takes step settled narrow room. omega arith;
       }
 

@@ -4,7 +4,8 @@ use Rattle.std.specs.Prelude.{Result, Ok, Err, MatchResult}
 use Rattle.rtui_geometry.specs.declared.rect.Rect.{Rect}
 use Rattle.rtui_backend.specs.Screen.{Screen, screen_area}
 use Rattle.rtui_viewport.specs.Viewports.{IsFixed}
-use Rattle.rtui_terminal.specs.State.{State}
+use Rattle.rtui_terminal.specs.State.{State, cursor_offset}
+use Rattle.rtui_viewport.specs.Placing.{area_in, raised}
 use Rattle.rtui_terminal.specs.InStep.{IsSized}
 use Rattle.rtui_terminal.specs.Resizing.{Resizes, ResizeErr, Autoresizes, AutoresizeErr, KeepsBuffers, ResizesBuffers}
 use Rattle.rtui_terminal.specs.declared.terminal.error.TerminalError.{TerminalError}
@@ -28,9 +29,11 @@ module _ {B : Type 0} (screen : B → Screen) (s : State B) (b : B) (t : State B
     in_step = r.in_step;
   }
 
-  left_same : KeepsBuffers (record s { backend = b }) t ⊎ ResizesBuffers (record s { backend = b }) t → KeepsBuffers s t ⊎ ResizesBuffers s t
-  left_same (inl kept) = inl (record { viewport_area = kept.viewport_area; current = kept.current; older = kept.older })
-  left_same (inr resized) = inr (record { current = resized.current; older = resized.older })
+  left_same : (area : Rect) → screen b ≡ screen s.backend
+      → KeepsBuffers (record s { backend = b }) t ⊎ (ResizesBuffers (record s { backend = b }) t × (t.viewport_area ≡ raised s.viewport_area.width (area_in s.viewport area (cursor_offset s) (screen b).cursor_y)))
+      → KeepsBuffers s t ⊎ (ResizesBuffers s t × (t.viewport_area ≡ raised s.viewport_area.width (area_in s.viewport area (cursor_offset s) (screen s.backend).cursor_y)))
+  left_same area same (inl kept) = inl (record { viewport_area = kept.viewport_area; current = kept.current; older = kept.older })
+  left_same area same (inr (resized, placed)) = inr (record { current = resized.current; older = resized.older }, rw same at placed)
 
   -- the same by its answer, as an autoresize
   pub resized_by : {T E : Type 0} (result : Result T (TerminalError E)) → (IsFixed s.viewport → ⊥) → (IsSized screen s → ⊥) → screen b ≡ screen s.backend
@@ -45,7 +48,7 @@ module _ {B : Type 0} (screen : B → Screen) (s : State B) (b : B) (t : State B
     free,
     record {
       rest = r.rest;
-      left = left_same r.left;
+      left = left_same _ same r.left;
       areas = λ had. r.areas (record { current = had.current; older = had.older });
     },
   )

@@ -8,11 +8,6 @@ use Rattle.rtui_viewport.specs.Clearing.{ClearsArea, WritesBlanks}
 use Rattle.rtui_terminal.specs.State.{State}
 use Rattle.rtui_terminal.specs.InStep.{IsInStep, KeepsAroundViewport, rows_over}
 
--- a backend failed in a clear; where only the cursor wasn't set back, the older buffer is empty
-pub record FailsClearing {B : Type 0} (s t : State B) : Type 0 where
-  pub rest : t ≡ record s { backend = t.backend; older = t.older }
-  pub older : (t.older ≡ s.older) ⊎ IsEmptied s.older.area t.older
-
 module _ {B : Type 0} (screen : B → Screen) where
   -- a clear: the older buffer is empty, and so is the viewport; the size, the history and the cursor stay
   pub record ClearsViewport (s t : State B) : Type 0 where
@@ -26,3 +21,8 @@ module _ {B : Type 0} (screen : B → Screen) where
     pub above : IsInline s.viewport → IsOnScreen s.viewport_area (screen s.backend) → 0 < s.viewport_area.height
         → rows_over screen t ≡ rows_over screen s
     pub keeps : IsFixed s.viewport → IsOnScreen s.viewport_area (screen s.backend) → KeepsAroundViewport screen s t
+
+  -- a backend failed in a clear; where only the cursor wasn't set back, the viewport was emptied, and so is the older buffer
+  pub record FailsClearing (s t : State B) : Type 0 where
+    pub rest : t ≡ record s { backend = t.backend; older = t.older }
+    pub older : (t.older ≡ s.older) ⊎ ((cleared : B) × ClearsArea s.viewport s.viewport_area (screen s.backend) (screen cleared) × IsEmptied s.older.area t.older)

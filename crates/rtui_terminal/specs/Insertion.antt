@@ -1,5 +1,5 @@
 -- What an insertion above an inline viewport does to a terminal.
-use Rattle.std.specs.Prelude.{◌≡◌, ◌⊎◌, ℕ, ◌+◌, ◌-◌, ◌*◌, ◌<◌, min, nat_lt, if◌then◌else◌, [], ◌∷◌, Result, Ok, MatchResult}
+use Rattle.std.specs.Prelude.{◌≡◌, ◌⊎◌, ℕ, ◌+◌, ◌-◌, ◌*◌, ◌<◌, ◌≤◌, min, nat_lt, if◌then◌else◌, [], ◌∷◌, Result, Ok, MatchResult}
 use Rattle.std.specs.declared.alloc.AllocError.{AllocError}
 use Rattle.rtui_geometry.specs.declared.rect.Rect.{Rect}
 use Rattle.rtui_buffer.specs.Sheet.{Sheet, area_size}
@@ -53,6 +53,10 @@ module _ {B : Type 0} (screen : B → Screen) where
     pub above : TakesRows s → IsInStep screen s → IsSettledSheet inserted → AppendsRows (inserted ∷ []) (rows_over screen s) (rows_over screen t)
     pub below : TakesRows s → IsInStep screen s → IsSettledSheet inserted → IsBlankBelow s.viewport_area (screen s.backend) → IsBlankBelow t.viewport_area (screen t.backend)
     pub left : TakesRows s → IsInStep screen s → IsLeft s t
+    pub moved : TakesRows s → IsInStep screen s → IsSettledSheet inserted → s.viewport_area.height < s.known_area.height
+        → (a b : ℕ) → a < (screen s.backend).width → b < s.viewport_area.height → (screen t.backend).grid a (t.viewport_area.y + b) ≡ (screen s.backend).grid a (s.viewport_area.y + b)
+    pub kept : TakesRows s → IsInStep screen s → IsSettledSheet inserted
+        → (a b : ℕ) → a < (screen s.backend).width → b < (screen s.backend).height → t.viewport_area.y + t.viewport_area.height ≤ b → (screen t.backend).grid a b ≡ (screen s.backend).grid a b
     pub in_step : TakesRows s → IsInStep screen s → IsSettledSheet inserted → IsInStep screen t
     pub few : TakesRows s → IsInStep screen s → IsSettledSheet inserted → IsNarrowSheet inserted → WritesAtMost (cells_to_insert inserted s) (screen s.backend) (screen t.backend)
 

@@ -52,14 +52,14 @@ module _ {B : Type 0} (screen : B → Screen) where
     pub in_step : IsOnScreen t.viewport_area (screen t.backend) → IsInStep screen t
 
   -- a backend failed in a resize, before the viewport and both buffers had got their new area, or behind that; the last known area stays
-  pub record FailsResizing (s t : State B) : Type 0 where
+  pub record FailsResizing (area : Rect) (s t : State B) : Type 0 where
     pub rest : t ≡ record s { backend = t.backend; current = t.current; older = t.older; viewport_area = t.viewport_area }
-    pub left : KeepsBuffers s t ⊎ ResizesBuffers s t
+    pub left : KeepsBuffers s t ⊎ (ResizesBuffers s t × (t.viewport_area ≡ raised s.viewport_area.width (area_in s.viewport area (cursor_offset s) (screen s.backend).cursor_y)))
     pub areas : HasAreas s → HasAreas t
 
   -- a refused resize: for want of memory, where a buffer had no room, and then nothing changed but the room of the buffers
   abbrev pub ResizeErr : {E : Type 0} → Rect → State B → State B → TerminalError E → Type 0
-  ResizeErr area s t (Backend error) = FailsResizing s t
+  ResizeErr area s t (Backend error) = FailsResizing area s t
   ResizeErr area s t Memory = LacksRoom area s × (t ≡ record s { current = t.current; older = t.older }) × IsSameSheet s.current t.current × IsSameSheet s.older t.older
   ResizeErr area s t Area = ⊥
   ResizeErr area s t (Closure error) = ⊥
@@ -72,7 +72,7 @@ module _ {B : Type 0} (screen : B → Screen) where
 
   -- a refused autoresize: the viewport isn't fixed, and the screen's size couldn't be asked for, or the resize was refused
   abbrev pub AutoresizeErr : {E : Type 0} → State B → State B → TerminalError E → Type 0
-  AutoresizeErr s t (Backend error) = (IsFixed s.viewport → ⊥) × FailsResizing s t
+  AutoresizeErr s t (Backend error) = (IsFixed s.viewport → ⊥) × FailsResizing (screen_area (screen s.backend)) s t
   AutoresizeErr s t Memory = (IsSized screen s → ⊥) × LacksRoom (screen_area (screen s.backend)) s × (t ≡ record s { backend = t.backend; current = t.current; older = t.older }) × (screen t.backend ≡ screen s.backend) × IsSameSheet s.current t.current × IsSameSheet s.older t.older
   AutoresizeErr s t Area = ⊥
   AutoresizeErr s t (Closure error) = ⊥

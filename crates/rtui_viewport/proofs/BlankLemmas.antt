@@ -78,9 +78,9 @@ decide_within r a b = elim (cases_lt a r.x) [
 ]
 
 -- drawn over an area that lies on the grid
-pub blanks_over : (r : Rect) (w h : ℕ) (ps : List Position) → EdgesFit r → r.x + r.width ≤ w → r.y + r.height ≤ h → ListsPositions r ps
+pub blanks_over : (r : Rect) (w h : ℕ) (ps : List Position) → EdgesFit r → ListsPositions r ps
     → (g : Grid) (a b : ℕ) → a < w → b < h → puts w h (map blank_at ps) g a b ≡ if is_within r a b then empty_look else g a b
-blanks_over r w h ps fits right bottom lists g a b a_in b_in = elim (decide_within r a b) [
+blanks_over r w h ps fits lists g a b a_in b_in = elim (decide_within r a b) [
   | inl (within, is) ↦ rw is (puts_here w h ps g a b a_in b_in ((lists.each (at a b)).1
       within))
   | inr (out, is) ↦ rw is (puts_away w h ps g a b (λ c. let p = (lists.each (at a b)).0 c in

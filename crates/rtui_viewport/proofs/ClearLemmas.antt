@@ -70,7 +70,7 @@ empties_cleared x y kind which p same = record {
 }
 
 -- row after row
-pub rows_more : (top y : ℕ) {r s t : Screen} → Empties (is_between top y) r s → top ≤ y → y < r.height → Clears (with_cursor 0 y s) CurrentLine t
+pub rows_more : (top y : ℕ) {r s t : Screen} → Empties (is_between top y) r s → top ≤ y → top < r.height → Clears (with_cursor 0 y s) CurrentLine t
     → Empties (is_between top (y + 1)) r t
 rows_more top y {r} {s} {t} p from in_it q = record {
   frame = frame_more p.frame (frame_cleared_at 0 y CurrentLine q);
@@ -86,10 +86,10 @@ pub rows_all : (top y bottom : ℕ) {r s : Screen} → Empties (is_between top y
 rows_all top y bottom p done end = let all : y ≡ bottom = omega arith in rw all at p
 
 -- empty cells drawn over an area
-pub empties_drawn : (r : Rect) {s t : Screen} (ps : List Position) → EdgesFit r → IsOnScreen r s → ListsPositions r ps → Draws s (map blank_at ps) t → Empties (is_within r) s t
-empties_drawn r {s} {t} ps fits on lists d = record {
+pub empties_drawn : (r : Rect) {s t : Screen} (ps : List Position) → EdgesFit r → ListsPositions r ps → Draws s (map blank_at ps) t → Empties (is_within r) s t
+empties_drawn r {s} {t} ps fits lists d = record {
   frame = frame_drawn d;
-  grid = λ a b a_in b_in. d.grid a b ∙ blanks_over r s.width s.height ps fits on.right on.bottom lists s.grid a b a_in b_in;
+  grid = λ a b a_in b_in. d.grid a b ∙ blanks_over r s.width s.height ps fits lists s.grid a b a_in b_in;
 }
 
 -- a clear of the whole screen

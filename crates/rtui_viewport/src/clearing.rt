@@ -1,10 +1,11 @@
-ghost use Rattle.std.specs.Prelude.{◌≡◌, ◌*◌, ◌≤◌, OnOk};
+ghost use Rattle.std.specs.Prelude.{◌≡◌, ◌*◌, ◌≤◌, ◌<◌, OnOk};
 ghost use Rattle.rtui_geometry.specs.Rect.{EdgesFit};
 ghost use Rattle.rtui_backend.specs.Failures.{Counts};
 ghost use Rattle.rtui_backend.specs.Screen.{IsOnScreen, cursor_of};
 ghost use Rattle.rtui_viewport.specs.Areas.{KeepsAllButLooks, Empties, is_between, is_within};
 ghost use Rattle.rtui_viewport.specs.Clearing.{ClearsArea, WritesItems, WritesBlanks, blanks_needed};
 ghost use Rattle.rtui_viewport.specs.declared.viewport.Viewport.TheVariants.{Fullscreen};
+ghost use Rattle.rtui_viewport.specs.Viewports.{IsFixed};
 ghost use Rattle.rtui_viewport.specs.Placing.{cursor_restored};
 
 use crate::blanks::Blanks;
@@ -18,7 +19,7 @@ fn clear_rows<B: Backend>(backend: &mut B, top: u16, bottom: u16) -> Result<(), 
     requires { top ≤ bottom }
     ensures written { OnOk result
         ((B.screen backend.new).written ≡ (B.screen backend.old).written) }
-    ensures cleared { OnOk result (bottom ≤ (B.screen backend.old).height
+    ensures cleared { OnOk result (top < (B.screen backend.old).height
         → Empties (is_between top bottom) (B.screen backend.old) (B.screen backend.new)) }
     ensures frame { OnOk result (KeepsAllButLooks (B.screen backend.old) (B.screen backend.new)) }
     ensures counts { Counts result (B.failures backend.old) (B.failures backend.new) }
@@ -33,8 +34,8 @@ fn clear_rows<B: Backend>(backend: &mut B, top: u16, bottom: u16) -> Result<(), 
 // Draws an empty cell at each position of an area.
 fn draw_blanks<B: Backend>(backend: &mut B, area: Rect) -> Result<(), B::Error>
     requires { EdgesFit area }
-    ensures cleared { OnOk result (IsOnScreen area (B.screen backend.old)
-        → Empties (is_within area) (B.screen backend.old) (B.screen backend.new)) }
+    ensures cleared { OnOk result
+        (Empties (is_within area) (B.screen backend.old) (B.screen backend.new)) }
     ensures frame { OnOk result (KeepsAllButLooks (B.screen backend.old) (B.screen backend.new)) }
     ensures written { OnOk result
         (WritesItems (area.width * area.height) (B.screen backend.old) (B.screen backend.new)) }
@@ -48,6 +49,8 @@ fn draw_blanks<B: Backend>(backend: &mut B, area: Rect) -> Result<(), B::Error>
 fn clear_fixed<B: Backend>(backend: &mut B, area: Rect) -> Result<(), B::Error>
     requires { EdgesFit area }
     ensures cleared { OnOk result (IsOnScreen area (B.screen backend.old)
+        → Empties (is_within area) (B.screen backend.old) (B.screen backend.new)) }
+    ensures cut { OnOk result (area.y < (B.screen backend.old).height
         → Empties (is_within area) (B.screen backend.old) (B.screen backend.new)) }
     ensures frame { OnOk result (KeepsAllButLooks (B.screen backend.old) (B.screen backend.new)) }
     ensures written { OnOk result (WritesItems (blanks_needed area (B.screen backend.old))
@@ -79,6 +82,8 @@ pub fn clear_area<B: Backend>(
     requires { EdgesFit area }
     ensures cleared { OnOk result
         (ClearsArea viewport area (B.screen backend.old) (B.screen backend.new)) }
+    ensures cut { OnOk result (IsFixed viewport → area.y < (B.screen backend.old).height
+        → Empties (is_within area) (B.screen backend.old) (B.screen backend.new)) }
     ensures frame { OnOk result (KeepsAllButLooks (B.screen backend.old) (B.screen backend.new)) }
     ensures cursor { OnOk result (viewport ≡ Fullscreen
         → cursor_of (B.screen backend.new) ≡ cursor_of (B.screen backend.old)) }

@@ -20,6 +20,8 @@ use Rattle.rtui_buffer.proofs.PaintedLemmas.{columns-kept}
 use Rattle.rtui_widgets.specs.Rendering.{area_row, ChangesWithin, RendersRows, in_first_row, first_row}
 use Rattle.rtui_widgets.specs.Rows.{Rows, place, cells_of_row, IsOutside, KeepsOthers, MakesRows}
 use Rattle.rtui_widgets.specs.Clipped.{IsClipped}
+use Rattle.rtui_widgets.specs.Steps.{KeepsUnmarked}
+use Rattle.rtui_widgets.proofs.SpanLemmas.{unmarked-written}
 use Rattle.rtui_widgets.proofs.RowLemmas.{length-written, written-before, written-behind, written-there, same-row, rows_before, other}
 
 pub refilled-same : (cells w : List Cell) → length w ≡ length cells → refilled cells w ≡ w
@@ -173,6 +175,26 @@ module _ (area : Rect) (old : Sheet) (r : Rect) (h : IsClipped area old.area r) 
   pub changes-within : (w : List Cell) → KeepsOthers rows_of old.cells w → ChangesWithin area old (record old { cells = w })
   changes-within w keeps = record { same_area = refl; same_room = refl; outside = λ p in_own off. keeps.others (cell_index own p) (outside-rows p in_own off) }
 
+  not-in-first : (p : Position) → HasPosition own p → ¬ (HasPosition (first_row r) p) → (k : ℕ) → k < 1 → p.y - own.y ≡ r.y - own.y + k
+      → (p.x - own.x < r.x - own.x) ⊎ (r.x - own.x + r.width ≤ p.x - own.x)
+  not-in-first p in_own off k lt same =
+      let t = top in let b = bottom-cut in let a = left in let c = right-cut in let rows = h.rows in
+      let pl = in_own.left in let pt = in_own.top in
+      ⊎_elim
+      (λ (before : p.x - own.x < r.x - own.x). inl before)
+      (λ (from : r.x - own.x ≤ p.x - own.x).
+      ⊎_elim
+      (λ (inside : p.x - own.x < r.x - own.x + r.width).
+      absurd (off (record { left = omega arith; right = omega arith; top = omega arith; bottom = omega arith })))
+      (λ (past : r.x - own.x + r.width ≤ p.x - own.x). inr past)
+      (cases_lt (p.x - own.x) (r.x - own.x + r.width)))
+      (cases_lt (p.x - own.x) (r.x - own.x))
+
+  outside-first : (p : Position) → HasPosition own p → ¬ (HasPosition (first_row r) p) → IsOutside (record { start = cell_index own (record { x = r.x; y = r.y }); width = r.width; stride = own.width; count = 1 }) (cell_index own p)
+  outside-first p in_own off k lt =
+      let a = left in let c = right in let pl = in_own.left in let pr = in_own.right in
+      row-beside (r.y - own.y) k (p.y - own.y) own.width (r.x - own.x) (p.x - own.x) r.width (omega arith) (omega arith) (not-in-first p in_own off k lt)
+
   rows-made : (f : ℕ → List Cell → List Cell) (w : List Cell) → MakesRows rows_of f old.cells w → (k : ℕ) → k < r.height → area_row r k (record old { cells = w }) ≡ f k (area_row r k old)
   rows-made f w made k lt =
       ap (λ at. take r.width (drop at w)) (place-of k) ∙ made.rows k lt ∙ ap (λ at. f k (take r.width (drop at old.cells))) (sym (place-of k))
@@ -235,10 +257,27 @@ module _ (area : Rect) (old : Sheet) (r : Rect) (h : IsClipped area old.area r) 
       let keeps = keeps-first at r.width old.area.width r.height old.cells part n (apart-rows area old r h) h.rows width-is first-inside part-count in
       subst (λ w. ChangesWithin area old (record old { cells = w })) (sym written-same) (changes-within area old r h written (subst (λ a. KeepsOthers (record { start = a; width = r.width; stride = old.area.width; count = r.height }) old.cells written) at-is keeps))
 
+  pub first-marks : KeepsUnmarked (take n (drop at old.cells)) part → KeepsUnmarked old.cells (refilled old.cells written)
+  first-marks keeps = subst (λ w. KeepsUnmarked old.cells w) (sym written-same) (unmarked-written at n old.cells part keeps len)
+
+  pub first-row-changes : ChangesWithin (first_row (intersected area old.area)) old (record old { cells = refilled old.cells written })
+  first-row-changes =
+      let keeps = keeps-first at r.width old.area.width 1 old.cells part n (apart-rows area old r h) (omega arith) width-is (λ k lt. first-inside k (omega (arith, lt, h.rows))) part-count in
+      subst (λ q. ChangesWithin (first_row q) old (record old { cells = refilled old.cells written })) h.value
+      (subst (λ w. ChangesWithin (first_row r) old (record old { cells = w })) (sym written-same)
+      (record {
+        same_area = refl;
+        same_room = refl;
+        outside = λ p i o. keeps.others (cell_index old.area p) (subst (λ a. IsOutside (record { start = a; width = r.width; stride = old.area.width; count = 1 }) (cell_index old.area p)) (sym at-is) (outside-first area old r h p i o));
+      }))
+
 -- how many columns the row has
 pub first-columns : (area : Rect) (old : Sheet) (r : Rect) (h : IsClipped area old.area r) (at n : ℕ) → at ≡ cell_index old.area (record { x = r.x; y = r.y }) → n ≡ r.width
     → length old.cells ≡ area_size old.area → length (take n (drop at old.cells)) ≡ (intersected area old.area).width
 first-columns area old r h at n at-is width-is count = part-count area old r h at n (take n (drop at old.cells)) at-is width-is count refl ∙ ap (λ q. q.width) h.value
+
+pub refilled-marks : (old w : List Cell) → length w ≡ length old → KeepsUnmarked old w → KeepsUnmarked old (refilled old w)
+refilled-marks old w same keeps = subst (λ cells. KeepsUnmarked old cells) (sym (refilled-same old w same)) keeps
 
 -- ---- rows that were lent
 

@@ -1,5 +1,5 @@
 -- How rendering goes on, a grapheme at a time.
-use Rattle.std.proofs.Common.{◌≡◌, ◌≢◌, ℕ, suc, zero, ◌+◌, ◌-◌, ◌<◌, ◌≤◌, ◌⊎◌, ⊎_elim, inl, inr, Bool, true, false, cond, List, [], ◌∷◌, ◌++◌, length, get_or, set, refl, sym, ap, ◌∙◌, arith, append_assoc}
+use Rattle.std.proofs.Common.{◌≡◌, ◌≢◌, ℕ, suc, zero, ◌+◌, ◌-◌, ◌<◌, ◌≤◌, ◌⊎◌, ⊎_elim, inl, inr, Bool, true, false, cond, List, [], ◌∷◌, ◌++◌, length, map, take, drop, get_or, set, refl, sym, ap, ◌∙◌, arith, append_assoc}
 use Rattle.std.specs.Prelude.{◌||◌, ◌&&◌, nat_lt, Some, unwrap_or}
 use Rattle.std.specs.List.{concat}
 use Rattle.std.proofs.lemmas.Bool.{cases_lt}
@@ -7,14 +7,16 @@ use Rattle.std.proofs.lemmas.Bool.Decides.{nat_tests}
 use Rattle.std.proofs.lemmas.List.{append-nil, get_or-set_other, get_or-set_same, length-set, ext_get_or}
 use Rattle.unicode_segmentation.specs.Grapheme.{graphemes}
 use Rattle.rtui_cell.specs.declared.cell.Cell.{Cell}
-use Rattle.rtui_cell.specs.Cell.{empty_cell}
+use Rattle.rtui_cell.specs.Cell.{empty_cell, IsUnmarked, styled}
+use Rattle.rtui_diff.specs.Cells.{cell}
+use Rattle.std.specs.Prelude.{if◌then◌else◌}
 use Rattle.rtui_cell.specs.Symbol.{appended, IsShort}
 use Rattle.rtui_style.specs.declared.Style.{Style}
 use Rattle.rtui_cell.specs.Width.{text_width}
 use Rattle.rtui_text.specs.Graphemes.{has_control}
-use Rattle.rtui_buffer.specs.Painting.{fitting, emptied}
+use Rattle.rtui_buffer.specs.Painting.{fitting, emptied, Piece, piece_width, with_piece, painted}
 use Rattle.rtui_widgets.specs.Span.{showing, goes_to, those_at, is_behind, column_with, columns_from, span_rendered}
-use Rattle.rtui_widgets.specs.Steps.{with_appended, with_grapheme, with_next, next_symbol}
+use Rattle.rtui_widgets.specs.Steps.{with_appended, with_grapheme, with_next, next_symbol, KeepsUnmarked}
 use Rattle.rtui_widgets.proofs.RowWith.{end_of_those, IsRowWith}
 use Rattle.rtui_widgets.proofs.ColumnLemmas.{end-append, those_at-far, is_behind-far, reached, first_reached, front-no_longer, symbol-here, column-behind, column-other, column-set, column-append}
 
@@ -266,3 +268,72 @@ unfolding end_of_those
 end-none = refl
 
 pub ruleset span_steps = (rendered-nothing, end-none, IsRowWith-none)
+
+-- ---- no cell gets an option or the flag
+
+pub unmarked-refl : (cells : List Cell) → KeepsUnmarked cells cells
+unmarked-refl cells = record { at = λ k u. u }
+
+unmarked-set : (cells : List Cell) (i : ℕ) (c : Cell) → (IsUnmarked (cell cells i) → IsUnmarked c) → (k : ℕ) → IsUnmarked (cell cells k) → IsUnmarked (cell (set cells i c) k)
+unmarked-set [] i c keep k u = u
+unmarked-set (x ∷ xs) zero c keep zero u = keep u
+unmarked-set (x ∷ xs) zero c keep (suc k) u = u
+unmarked-set (x ∷ xs) (suc i) c keep zero u = u
+unmarked-set (x ∷ xs) (suc i) c keep (suc k) u = unmarked-set xs i c keep k u
+
+unmarked-emptied : (at n : ℕ) (old new : List Cell) → KeepsUnmarked old new → KeepsUnmarked old (emptied at n new)
+unfolding emptied
+unmarked-emptied at zero old new h = h
+unmarked-emptied at (suc n) old new h =
+    unmarked-emptied (at + 1) n old (set new at empty_cell) (record { at = λ k u. unmarked-set new at empty_cell (λ w. record { option = refl; flag = refl }) k (h.at k u) })
+
+unmarked-piece : (at : ℕ) (p : Piece) (old new : List Cell) → KeepsUnmarked old new → KeepsUnmarked old (with_piece at p new)
+unfolding with_piece
+unmarked-piece at p old new h =
+    unmarked-emptied (at + 1) (piece_width p - 1) old _ (record { at = λ k u. unmarked-set new at _ (λ w. record { option = w.option; flag = w.flag }) k (h.at k u) })
+
+pub unmarked-painted : (ps : List Piece) (at : ℕ) (old new : List Cell) → KeepsUnmarked old new → KeepsUnmarked old (painted at ps new)
+unfolding painted
+unmarked-painted [] at old new h = h
+unmarked-painted (p ∷ ps) at old new h = unmarked-painted ps (at + piece_width p) old (with_piece at p new) (unmarked-piece at p old new h)
+
+next-keeps : (b : Bool) (style : Style) (g : List ℕ) (c : Cell) → IsUnmarked c → IsUnmarked (if b then with_grapheme style g c else with_appended style g c)
+next-keeps true style g c w = record { option = w.option; flag = w.flag }
+next-keeps false style g c w = record { option = w.option; flag = w.flag }
+
+pub unmarked-next : (is_first : Bool) (x : ℕ) (style : Style) (g : List ℕ) (old new : List Cell) → KeepsUnmarked old new → KeepsUnmarked old (with_next is_first x style g new)
+unfolding with_next
+unmarked-next is_first x style g old new h =
+    unmarked-emptied (x + 1) (text_width g - 1) old _ (record { at = λ k u. unmarked-set new (goes_to x g) _ (next-keeps (is_first || (nat_lt 0 x && nat_lt 0 (text_width g))) style g _) k (h.at k u) })
+
+pub unmarked-then : (a b c : List Cell) → KeepsUnmarked a b → KeepsUnmarked b c → KeepsUnmarked a c
+unmarked-then a b c h g = record { at = λ k u. g.at k (h.at k u) }
+
+pub unmarked-eq : (a b : List Cell) → b ≡ a → KeepsUnmarked a b
+unmarked-eq a b e = rw e (unmarked-refl a)
+
+styled-keeps : (s : Style) (cells : List Cell) (k : ℕ) → IsUnmarked (cell cells k) → IsUnmarked (cell (map (styled s) cells) k)
+styled-keeps s [] k u = u
+styled-keeps s (x ∷ xs) zero u = record { option = u.option; flag = u.flag }
+styled-keeps s (x ∷ xs) (suc k) u = styled-keeps s xs k u
+
+pub unmarked-styled : (s : Style) (cells : List Cell) → KeepsUnmarked cells (map (styled s) cells)
+unmarked-styled s cells = record { at = styled-keeps s cells }
+
+prefix-keeps : (at : ℕ) (cells tail : List Cell) → KeepsUnmarked (drop at cells) tail → (k : ℕ) → IsUnmarked (cell cells k) → IsUnmarked (cell (take at cells ++ tail) k)
+prefix-keeps zero cells tail h k u = h.at k u
+prefix-keeps (suc n) [] tail h k u = h.at k u
+prefix-keeps (suc n) (x ∷ xs) tail h zero u = u
+prefix-keeps (suc n) (x ∷ xs) tail h (suc k) u = prefix-keeps n xs tail h k u
+
+mid-keeps : (n : ℕ) (cells part : List Cell) → KeepsUnmarked (take n cells) part → length part ≡ length (take n cells) → (k : ℕ) → IsUnmarked (cell cells k) → IsUnmarked (cell (part ++ drop n cells) k)
+mid-keeps zero cells [] h e k u = u
+mid-keeps zero cells (p ∷ ps) h e k u = absurd (omega (arith, e))
+mid-keeps (suc n) [] [] h e k u = u
+mid-keeps (suc n) [] (p ∷ ps) h e k u = absurd (omega (arith, e))
+mid-keeps (suc n) (x ∷ xs) [] h e k u = absurd (omega (arith, e))
+mid-keeps (suc n) (x ∷ xs) (p ∷ ps) h e zero u = h.at zero u
+mid-keeps (suc n) (x ∷ xs) (p ∷ ps) h e (suc k) u = mid-keeps n xs ps (record { at = λ j v. h.at (suc j) v }) (omega (arith, e)) k u
+
+pub unmarked-written : (at n : ℕ) (cells part : List Cell) → KeepsUnmarked (take n (drop at cells)) part → length part ≡ length (take n (drop at cells)) → KeepsUnmarked cells (take at cells ++ (part ++ drop n (drop at cells)))
+unmarked-written at n cells part h e = record { at = prefix-keeps at cells (part ++ drop n (drop at cells)) (record { at = mid-keeps n (drop at cells) part h e }) }

@@ -7,6 +7,7 @@ ghost use Rattle.rtui_cell.specs.Cell.{styled};
 ghost use Rattle.rtui_cell.specs.Width.{text_columns};
 ghost use Rattle.rtui_text.specs.Widths.{span_width};
 ghost use Rattle.rtui_widgets.specs.IsPart.{IsPart};
+ghost use Rattle.rtui_widgets.specs.Steps.{KeepsUnmarked};
 ghost use Rattle.rtui_widgets.specs.Line.{parts, parts_rendered, part_of, columns_before, line_rendered, last_fitting, AreShortParts, IsShortLine};
 
 use crate::span::render_span;
@@ -27,6 +28,7 @@ pub(crate) fn render_line(
 ) -> Result<(), AllocError>
     ensures ok { OnOk result (row.new ≡ line_rendered alignment line.now row.old) }
     ensures short { IsShortLine alignment line.now (length row.old) → IsOk result }
+    ensures marks { KeepsUnmarked row.old row.new }
 {
     let columns = row.len();
     if columns == 0 {
@@ -80,6 +82,7 @@ fn render_spans(
 ) -> Result<(), AllocError>
     ensures ok { OnOk result (row.new ≡ parts_rendered (parts skip spans.now) row.old) }
     ensures short { AreShortParts (length row.old) (parts skip spans.now) → IsOk result }
+    ensures marks { KeepsUnmarked row.old row.new }
 {
     let mut skip = skip;
     let mut start = 0;

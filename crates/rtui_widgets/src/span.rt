@@ -1,11 +1,11 @@
 //! Spans in a row of cells.
 
-ghost use Rattle.std.specs.Prelude.{true, ◌≡◌, ◌+◌, ◌-◌, ◌<◌, ◌≤◌, length, IsOk, OnOk};
+ghost use Rattle.std.specs.Prelude.{true, ◌≡◌, ◌+◌, ◌-◌, ◌<◌, ◌≤◌, length, IsOk, OnOk, OnErr};
 ghost use Rattle.rtui_cell.specs.Symbol.{appended, IsShort};
 ghost use Rattle.rtui_cell.specs.Width.{text_width};
 ghost use Rattle.rtui_buffer.specs.Painting.{emptied};
 ghost use Rattle.rtui_widgets.specs.Span.{span_rendered, IsShortSpan};
-ghost use Rattle.rtui_widgets.specs.Steps.{with_grapheme, with_appended, with_next, next_symbol};
+ghost use Rattle.rtui_widgets.specs.Steps.{KeepsUnmarked, with_grapheme, with_appended, with_next, next_symbol};
 
 use rtui_buffer::paint_printable;
 use rtui_cell::{Cell, CellWidth};
@@ -25,6 +25,7 @@ pub(crate) fn render_span(
 ) -> Result<(), AllocError>
     ensures ok { OnOk result (row.new ≡ span_rendered style text.now row.old) }
     ensures short { IsShortSpan (length row.old) text.now → IsOk result }
+    ensures marks { KeepsUnmarked row.old row.new }
 {
     if row.is_empty() {
         return Ok(());
@@ -65,6 +66,7 @@ fn put_next(
     requires first { is_first ≡ true → x ≡ 0 }
     ensures ok { OnOk result (row.new ≡ with_next is_first x style grapheme.now row.old) }
     ensures short { IsShort (next_symbol is_first x grapheme.now row.old) → IsOk result }
+    ensures err { OnErr result (row.new ≡ row.old) }
 {
     if is_first || (x > 0 && width > 0) {
         set(alloc, &mut row[x], grapheme, style)?;
@@ -81,6 +83,7 @@ fn put_next(
 fn set(alloc: Global, cell: &mut Cell, symbol: &str, style: Style) -> Result<(), AllocError>
     ensures ok { OnOk result (cell.new ≡ with_grapheme style symbol.now cell.old) }
     ensures short { IsShort symbol.now → IsOk result }
+    ensures err { OnErr result (cell.new ≡ cell.old) }
 {
     cell.set_symbol(alloc, symbol)?;
     cell.set_style(style);
@@ -91,6 +94,7 @@ fn set(alloc: Global, cell: &mut Cell, symbol: &str, style: Style) -> Result<(),
 fn append(alloc: Global, cell: &mut Cell, symbol: &str, style: Style) -> Result<(), AllocError>
     ensures ok { OnOk result (cell.new ≡ with_appended style symbol.now cell.old) }
     ensures short { IsShort (appended cell.old.symbol symbol.now) → IsOk result }
+    ensures err { OnErr result (cell.new ≡ cell.old) }
 {
     cell.append_symbol(alloc, symbol)?;
     cell.set_style(style);

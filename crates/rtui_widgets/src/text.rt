@@ -2,6 +2,7 @@
 
 ghost use Rattle.std.specs.Prelude.{◌≡◌, ℕ, ◌+◌, ◌*◌, ◌<◌, ◌≤◌, length, IsOk, OnOk, OnErr};
 ghost use Rattle.rtui_widgets.specs.Rendering.{text_row, IsShortRow};
+ghost use Rattle.rtui_widgets.specs.Steps.{KeepsUnmarked};
 ghost use Rattle.rtui_widgets.specs.Rows.{rows_from, KeepsOthers, MakesRows};
 
 use crate::line::{lay_row, render_line};
@@ -26,6 +27,7 @@ pub(crate) fn render_rows(
     ensures err { let rows = rows_from start width stride height in
         OnErr result (KeepsOthers rows cells.old cells.new) }
     ensures short { ((k : ℕ) → k < height → IsShortRow text.now width k) → IsOk result }
+    ensures marks { KeepsUnmarked cells.old cells.new }
 {
     for k in 0..height {
         let from = start + k * stride;
@@ -38,6 +40,7 @@ pub(crate) fn render_rows(
 fn render_row(alloc: Global, row: &mut [Cell], text: &Text<'_>, k: usize) -> Result<(), AllocError>
     ensures ok { OnOk result (row.new ≡ text_row text.now k row.old) }
     ensures short { IsShortRow text.now (length row.old) k → IsOk result }
+    ensures marks { KeepsUnmarked row.old row.new }
 {
     lay_row(row, text.style);
     match text.lines.as_slice().get(k) {

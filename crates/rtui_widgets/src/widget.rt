@@ -1,7 +1,9 @@
 ghost use Rattle.std.specs.Prelude.{⊤, ◌≡◌, MatchOption, IsOk, OnOk, OnErr, option_map, unwrap_or};
 ghost use Rattle.rtui_geometry.specs.declared.rect.Rect.{Rect};
 ghost use Rattle.rtui_buffer.specs.Sheet.{Sheet};
-ghost use Rattle.rtui_widgets.specs.Rendering.{ChangesWithin};
+ghost use Rattle.rtui_widgets.specs.Rendering.{ChangesWithin, first_row};
+ghost use Rattle.rtui_geometry.specs.Rect.{intersected};
+ghost use Rattle.rtui_widgets.specs.Steps.{KeepsUnmarked};
 
 use crate::buffer::{line_in, span_in, text_in};
 use rtui_buffer::Buffer;
@@ -29,6 +31,9 @@ pub trait Widget {
     // the area outside which nothing changes where it is refused: the given one, unless it says otherwise
     ghost reach: { Self → Rect → Rect } = { λ _ area. area };
 
+    // what else holds of the buffer where it is refused: nothing, unless it says more
+    ghost leaves: { Self → Rect → Sheet → Sheet → Type 0 } = { λ _ _ _ _. ⊤ };
+
     // where it takes no memory: nowhere, unless it says otherwise
     ghost is_short: { Self → Rect → Sheet → Type 0 } = { λ _ _ _. ⊥ };
 
@@ -39,6 +44,7 @@ pub trait Widget {
         ensures area { buf.new.area ≡ buf.old.area }
         ensures ok { OnOk result (renders self area buf.old buf.new) }
         ensures err { OnErr result (ChangesWithin (reach self area) buf.old buf.new) }
+        ensures left { OnErr result (leaves self area buf.old buf.new) }
         ensures short { is_short self area buf.old → IsOk result };
 }
 
@@ -75,6 +81,9 @@ impl<'b, 'a> Widget for &'b Span<'a> {
 
     ghost renders = { λ span. RendersSpan span.now };
 
+    ghost leaves = { λ _ area old new. KeepsUnmarked old.cells new.cells
+        × ChangesWithin (first_row (intersected area old.area)) old new };
+
     ghost is_short = { λ span. RendersShortSpan span.now };
 
     fn render(self, area: Rect, buf: &mut Buffer) -> Result<(), AllocError> {
@@ -86,6 +95,9 @@ impl<'a> Widget for Span<'a> {
     ghost use Rattle.rtui_widgets.specs.Rendering.{RendersSpan, RendersShortSpan};
 
     ghost renders = { RendersSpan };
+
+    ghost leaves = { λ _ area old new. KeepsUnmarked old.cells new.cells
+        × ChangesWithin (first_row (intersected area old.area)) old new };
 
     ghost is_short = { RendersShortSpan };
 
@@ -101,6 +113,9 @@ impl<'b, 'a> Widget for &'b Line<'a> {
 
     ghost renders = { λ line. RendersLine line.now };
 
+    ghost leaves = { λ _ area old new. KeepsUnmarked old.cells new.cells
+        × ChangesWithin (first_row (intersected area old.area)) old new };
+
     ghost is_short = { λ line. RendersShortLine line.now };
 
     fn render(self, area: Rect, buf: &mut Buffer) -> Result<(), AllocError> {
@@ -112,6 +127,9 @@ impl<'a> Widget for Line<'a> {
     ghost use Rattle.rtui_widgets.specs.Rendering.{RendersLine, RendersShortLine};
 
     ghost renders = { RendersLine };
+
+    ghost leaves = { λ _ area old new. KeepsUnmarked old.cells new.cells
+        × ChangesWithin (first_row (intersected area old.area)) old new };
 
     ghost is_short = { RendersShortLine };
 
@@ -126,6 +144,8 @@ impl<'b, 'a> Widget for &'b Text<'a> {
 
     ghost renders = { λ text. RendersText text.now };
 
+    ghost leaves = { λ _ _ old new. KeepsUnmarked old.cells new.cells };
+
     ghost is_short = { λ text. RendersShortText text.now };
 
     fn render(self, area: Rect, buf: &mut Buffer) -> Result<(), AllocError> {
@@ -137,6 +157,8 @@ impl<'a> Widget for Text<'a> {
     ghost use Rattle.rtui_widgets.specs.Rendering.{RendersText, RendersShortText};
 
     ghost renders = { RendersText };
+
+    ghost leaves = { λ _ _ old new. KeepsUnmarked old.cells new.cells };
 
     ghost is_short = { RendersShortText };
 
@@ -154,6 +176,8 @@ impl<W: Widget> Widget for Option<W> {
 
     ghost reach = { λ widget area. unwrap_or (option_map (λ w. W.reach w area) widget) area };
 
+    ghost leaves = { λ widget area old new. MatchOption widget ⊤ (λ w. W.leaves w area old new) };
+
     ghost is_short = { λ widget area s. MatchOption widget ⊤ (λ w. W.is_short w area s) };
 
     fn render(self, area: Rect, buf: &mut Buffer) -> Result<(), AllocError> {
@@ -167,7 +191,7 @@ impl<W: Widget> Widget for Option<W> {
 /// Painted from the corner of the area on, in at most its columns. The area's first row has to lie in the buffer, and not to
 /// begin left of it.
 impl<'a> Widget for &'a str {
-    ghost use Rattle.rtui_widgets.specs.Rendering.{HasFirstRow, RendersStr, RendersShortStr, first_row};
+    ghost use Rattle.rtui_widgets.specs.Rendering.{HasFirstRow, RendersStr, RendersShortStr};
 
     ghost can_render = { λ _. HasFirstRow };
 
@@ -186,7 +210,7 @@ impl<'a> Widget for &'a str {
 /// As a `&str`.
 impl Widget for String {
     ghost use Rattle.std.specs.String.{string_bytes};
-    ghost use Rattle.rtui_widgets.specs.Rendering.{HasFirstRow, RendersStr, RendersShortStr, first_row};
+    ghost use Rattle.rtui_widgets.specs.Rendering.{HasFirstRow, RendersStr, RendersShortStr};
 
     ghost can_render = { λ _. HasFirstRow };
 

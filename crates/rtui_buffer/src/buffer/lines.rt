@@ -7,7 +7,7 @@ ghost use Rattle.rtui_text.specs.Text.{raw_line};
 ghost use Rattle.rtui_text.specs.Widths.{line_width};
 ghost use Rattle.rtui_buffer.specs.Sheet.{HasRow, position_of, empty_cells, HasRoomFor};
 ghost use Rattle.rtui_buffer.specs.Frame.{IsSettledSheet};
-ghost use Rattle.rtui_buffer.specs.Painting.{text_pieces, columns, painted, IsSameOutside, HasPieces};
+ghost use Rattle.rtui_buffer.specs.Painting.{text_pieces, columns, painted, IsSameOutside, HasPieces, KeepsUnmarked};
 ghost use Rattle.rtui_buffer.specs.PaintedText.{room_at, pieces_at, AreShort, PaintsOrRefuses};
 ghost use Rattle.rtui_buffer.specs.Line.{line_pieces, line_pieces_at, widest, lines_area, line_rows, IsOfLines, raw_lines};
 
@@ -202,6 +202,7 @@ fn paint_spans(
         OnOk result (HasPieces start ps cells.old cells.new) }
     ensures err { let ps = line_pieces room base spans.now in
         OnErr result (IsSameOutside start (start + columns ps) cells.old cells.new) }
+    ensures marks { KeepsUnmarked cells.old cells.new }
     ensures short { AreShort (line_pieces room base spans.now) → IsOk result }
 {
     let mut used = 0;

@@ -8,7 +8,7 @@ ghost use Rattle.rtui_cell.specs.Cell.{empty_cell, styled};
 ghost use Rattle.rtui_cell.specs.Width.{text_width};
 ghost use Rattle.rtui_text.specs.Printable.{ArePrintable, singles};
 ghost use Rattle.rtui_buffer.specs.Sheet.{HasRow, cell_index, position_of};
-ghost use Rattle.rtui_buffer.specs.Painting.{painted_width, piece_of, pieces, text_pieces, columns, shown, emptied, with_piece, painted, IsSameOutside, HasPieces};
+ghost use Rattle.rtui_buffer.specs.Painting.{KeepsUnmarked, painted_width, piece_of, pieces, text_pieces, columns, shown, emptied, with_piece, painted, IsSameOutside, HasPieces};
 ghost use Rattle.rtui_buffer.specs.PaintedText.{room_at, pieces_at, AreShort, PaintsOrRefuses, IsStyledPart, IsStyledRows, IsStyled};
 
 use crate::buffer::Buffer;
@@ -114,6 +114,7 @@ pub fn paint_text(
         OnOk result (HasPieces start ps cells.old cells.new) }
     ensures err { let ps = text_pieces room style text.now in
         OnErr result (IsSameOutside start (start + columns ps) cells.old cells.new) }
+    ensures marks { KeepsUnmarked cells.old cells.new }
     ensures short { AreShort (text_pieces room style text.now) → IsOk result }
 {
     let front = printable_front(text, usize::from(room));
@@ -175,6 +176,7 @@ fn paint_graphemes(
         OnOk result (HasPieces start ps cells.old cells.new) }
     ensures err { let ps = text_pieces room style text.now in
         OnErr result (IsSameOutside start (start + columns ps) cells.old cells.new) }
+    ensures marks { KeepsUnmarked cells.old cells.new }
     ensures short { AreShort (text_pieces room style text.now) → IsOk result }
 {
     let mut used = 0;

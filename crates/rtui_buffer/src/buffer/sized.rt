@@ -12,6 +12,7 @@ use std::alloc::{AllocError, Global};
 pub fn copies(alloc: Global, cell: Cell, count: usize) -> Result<Vec<Cell>, AllocError>
     ensures items { IfOk result (λ cells. cells.items ≡ replicate count cell) }
     ensures room { IfOk result (λ cells. vec_capacity cells ≡ count) }
+    ensures succeeds { count ≡ 0 → IsOk result }
 {
     let mut cells = Vec::with_capacity(alloc, count)?;
     if count > 0 {

@@ -19,7 +19,7 @@ impl<B: Backend> Terminal<B> {
     /// its area. It takes no memory.
     pub fn clear(&mut self) -> Result<(), TerminalError<B::Error>>
         ensures ok { OnOk result (ClearsViewport B.screen self.old self.new) }
-        ensures err { OnErr result (FailsClearing self.old self.new) }
+        ensures err { OnErr result (FailsClearing B.screen self.old self.new) }
         ensures only { FailsOnlyByBackend result }
         ensures faults { Faults result (B.failures self.old.backend) (B.failures self.new.backend) }
     {

@@ -4,7 +4,7 @@ use Rattle.rtui_buffer.specs.Sheet.{area_size}
 use Rattle.rtui_geometry.specs.Rect.{intersected}
 use Rattle.rtui_widgets.specs.Rendering.{text_row, IsShortRow}
 use Rattle.rtui_widgets.proofs.LineLemmas.{line-in_none}
-use Rattle.rtui_widgets.proofs.SheetLemmas.{renders-nothing, rows-inside, lent-renders, lent-changes}
+use Rattle.rtui_widgets.proofs.SheetLemmas.{renders-nothing, rows-inside, lent-renders, lent-changes, refilled-marks}
 use Rattle.rtui_widgets.proofs.buffer.text_in.Goals as goal
 
 pub returns-in_default-clause-ok : goal.returns-in_default-clause-ok
@@ -38,3 +38,9 @@ returns-clause-short c = λ short.
     let width : (intersected c.args.area c.args.buf.now.area).width ≡ c.from.result = sym (c.from.ensures ∙ ap (λ q. q.width) r) in
     let height : c.from-2.result ≡ (intersected c.args.area c.args.buf.now.area).height = c.from-2.ensures ∙ ap (λ q. q.height) r in
     subst (λ n. IsShortRow c.args.text.now n k) width (short k (omega arith)))
+
+pub returns-clause-marks : goal.returns-clause-marks
+returns-clause-marks c =
+    let value = c.cells_mut.ensures.cells in
+    let same : length c.render_rows.new.cells ≡ length c.args.buf.now.cells = rw (← value) c.render_rows.auto.cells in
+    refilled-marks c.args.buf.now.cells c.render_rows.new.cells same (rw (← value) c.render_rows.ensures.marks)

@@ -1,10 +1,10 @@
-use Rattle.std.proofs.Common.{ℕ, List, ◌≡◌, false, true, ◌∷◌, [], ◌++◌, ◌+◌, ◌-◌, ◌<◌, ◌≤◌, length, min, take, drop, slice_index_or, arith, sym, ap, subst, ◌∙◌}
+use Rattle.std.proofs.Common.{ℕ, List, ◌≡◌, false, true, ◌∷◌, [], ◌++◌, ◌+◌, ◌-◌, ◌<◌, ◌≤◌, length, min, take, drop, slice_index_or, arith, sym, ap, subst, ◌∙◌, rules}
 use Rattle.std.proofs.lemmas.List.{drop_more, drop_all, take-append-drop}
 use Rattle.rtui_text.specs.Text.{SpanData}
 use Rattle.rtui_text.specs.Widths.{span_width}
 use Rattle.rtui_cell.specs.declared.cell.Cell.{Cell}
 use Rattle.rtui_widgets.specs.Span.{span_rendered, IsShortSpan}
-use Rattle.rtui_widgets.proofs.SpanLemmas.{length-span_rendered}
+use Rattle.rtui_widgets.proofs.SpanLemmas.{length-span_rendered, unmarked-refl, unmarked-then, unmarked-written}
 use Rattle.rtui_widgets.specs.Line.{Part, part_of, parts, parts_rendered, behind_first, AreShortParts}
 use Rattle.rtui_widgets.proofs.LineLemmas.{parts-nil, parts-skip, parts-take, parts-past, part-turn, part-style, length-rest, length-lent, short-part, short-others}
 use Rattle.rtui_widgets.proofs.line.render_spans.Goals as goal
@@ -24,6 +24,7 @@ loop-span-preserved-then-width-skip c =
       within = c.loop-span.invariant.within;
       left = ap (λ ps. behind_first c.loop-span.start (parts_rendered ps) c.loop-span.row) (sym same) ∙ c.loop-span.invariant.left;
       short = λ short. subst (AreShortParts (length c.loop-span.row - c.loop-span.start)) same (c.loop-span.invariant.short short);
+      marks = c.loop-span.invariant.marks;
     }
 
 pub returns-then-start-row-clause-ok : goal.returns-then-start-row-clause-ok
@@ -67,6 +68,7 @@ loop-span-preserved c =
           let columns : length row - start - p.indent - p.width ≡ length (take (start + c.min-start.result) row ++ (c.render_span.new.row ++ drop (length row - (start + c.min-start.result)) (drop (start + c.min-start.result) row)))
           - (start + c.min-start.result + c.min-start-in-loop-span.result) = omega (arith, whole, start1, start2, c.loop-span.invariant.within) in
           subst (λ n. AreShortParts n (parts 0 others)) columns (short-others (length row - start) p (parts 0 others) (subst (AreShortParts (length row - start)) same (c.loop-span.invariant.short short)));
+      marks = unmarked-then _ _ _ c.loop-span.invariant.marks (unmarked-written (start + c.min-start.result) (length row - (start + c.min-start.result)) row c.render_span.new.row c.in_ok-render_span.ensures.marks c.render_span.auto.row);
     }
 
 pub returns-in_err-render_span-clause-short : goal.returns-in_err-render_span-clause-short
@@ -94,3 +96,9 @@ returns-clause-ok c =
     sym (ap (λ spans. behind_first c.loop-span.start (parts_rendered (parts c.loop-span.skip spans)) c.loop-span.row) none
     ∙ ap (λ cells. take c.loop-span.start c.loop-span.row ++ cells) (parts-nil c.loop-span.skip (drop c.loop-span.start c.loop-span.row)) ∙ take-append-drop c.loop-span.start c.loop-span.row)
     ∙ c.loop-span.invariant.left
+
+pub returns-in_err-render_span-clause-marks : goal.returns-in_err-render_span-clause-marks
+returns-in_err-render_span-clause-marks c =
+    let row : List Cell = c.loop-span.row in
+    let start : ℕ = c.loop-span.start in
+    unmarked-then _ _ _ c.loop-span.invariant.marks (unmarked-written (start + c.min-start.result) (length row - (start + c.min-start.result)) row c.render_span.new.row c.in_err-render_span.ensures.marks c.render_span.auto.row)

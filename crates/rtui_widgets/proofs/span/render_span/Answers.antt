@@ -8,7 +8,7 @@ use Rattle.rtui_text.specs.Printable.{singles}
 use Rattle.rtui_buffer.specs.Painting.{pieces, painted}
 use Rattle.rtui_widgets.proofs.PrintableLemmas.{front-at, front-first, front-later, front-shows, front-row}
 use Rattle.rtui_text.specs.Graphemes.{has_control}
-use Rattle.rtui_widgets.proofs.SpanLemmas.{rendered_of, front-skip, front-turn, front-full, front-end, next-short, append-some, end-more, IsRowWith-turn}
+use Rattle.rtui_widgets.proofs.SpanLemmas.{rendered_of, front-skip, front-turn, front-full, front-end, next-short, append-some, end-more, IsRowWith-turn, unmarked-refl, unmarked-painted, unmarked-next}
 use Rattle.rtui_widgets.proofs.span.render_span.Goals as goal
 
 pub loop-grapheme-init : goal.loop-grapheme-init
@@ -36,6 +36,7 @@ loop-grapheme-init c =
         later = λ e. front-later text c.range_from.result.now n c.args.style old row h fits tail is e;
         front = rw (left, count) shows;
         row = front-row text c.range_from.result.now n c.args.style old row h fits tail is;
+        marks = rw is (unmarked-painted (pieces c.args.style (singles (take n text))) 0 old old (unmarked-refl old));
       },
     )
 
@@ -55,6 +56,7 @@ loop-grapheme-preserved-then-has_control c =
         later = i.later;
         front = front-skip _ _ _ _ _ _ is control i.front;
         row = i.row;
+        marks = i.marks;
       },
     )
 
@@ -99,6 +101,7 @@ loop-grapheme-preserved c =
         later = λ _. append-some _ _;
         front = rw same (front-turn _ _ _ _ _ _ _ _ is control width (omega arith) i.front);
         row = rw c.in_ok-put_next.ensures.ok more;
+        marks = rw c.in_ok-put_next.ensures.ok (unmarked-next _ _ _ _ _ _ i.marks);
       },
     )
 
@@ -106,3 +109,18 @@ pub returns-clause-ok : goal.returns-clause-ok
 returns-clause-ok c =
     let i = c.loop-grapheme.invariant.1 in
     rendered_of _ _ _ _ _ i.row (front-end _ _ _ _ (search rules) i.front)
+
+pub returns-then-width-row-clause-marks : goal.returns-then-width-row-clause-marks
+returns-then-width-row-clause-marks c =
+    let m = c.loop-grapheme.invariant.1.marks in
+    search (rules, m)
+
+pub returns-in_err-put_next-clause-marks : goal.returns-in_err-put_next-clause-marks
+returns-in_err-put_next-clause-marks c =
+    let m = c.loop-grapheme.invariant.1.marks in
+    search (rules, m)
+
+pub returns-clause-marks : goal.returns-clause-marks
+returns-clause-marks c =
+    let m = c.loop-grapheme.invariant.1.marks in
+    search (rules, m)

@@ -3,6 +3,7 @@ use Rattle.unicode_segmentation.specs.Grapheme.{graphemes}
 use Rattle.unicode_segmentation.specs.Iter.{graphemes_left}
 use Rattle.rtui_widgets.specs.Span.{showing}
 use Rattle.rtui_widgets.proofs.RowWith.{end_of_those, IsRowWith}
+use Rattle.rtui_widgets.specs.Steps.{KeepsUnmarked}
 use Rattle.rtui_widgets.proofs.span.render_span.Given as goal
 
 abbrev pub invariant-loop-grapheme : goal.invariant-loop-grapheme
@@ -16,4 +17,5 @@ invariant-loop-grapheme l = (gs : List (List ℕ)) × record {
   later : l.is_first ≡ false → gs ≢ [];
   front : gs ++ showing (length l.row - l.x) (graphemes_left l.grapheme-iterator) ≡ showing (length l.fn.row) (graphemes true l.text);
   row : IsRowWith l.style gs l.fn.row l.row;
+  marks : KeepsUnmarked l.fn.row l.row;
 }

@@ -22,5 +22,6 @@ returns-clause-paints c =
           IsSettled-written c.args.self.now c.args.x c.args.y _ _ _ _ _ _ _ cells c.as_mut_slice.ensures.value len shown place pieces c.self.inside.area (ap (λ s. s.area) c.self.view_is)
           c.requires.column (text-fits c.args.self.now.area _ _ _ _ _ (c.room_at-room.ensures ∙ ap (λ s. room_at s.area c.args.x c.args.max) c.self.view_is) c.if-room-eq0.false) was may;
       err = search rules;
+      marks = search rules;
       short = search rules;
     }

@@ -2,6 +2,7 @@ use Rattle.std.proofs.lemmas.Bool.{false≢true}
 use Rattle.std.proofs.Common.{◌≡◌, ◌∷◌, ◌+◌, rules, arith, drop, ap, ◌∙◌, sym, refl}
 use Rattle.rtui_style.specs.Style.{patch}
 use Rattle.rtui_buffer.proofs.LineLemmas.{span-columns, span-first, span-painted, span-outside, span-refused, span-short, columns-done, painted-done, line_pieces-none, line_pieces-end, spans-more, HasPieces-line}
+use Rattle.rtui_buffer.proofs.PaintLemmas.{unmarked-refl, unmarked-then}
 use Rattle.rtui_buffer.proofs.buffer.lines.paint_spans.Goals as goal
 
 pub loop-span-preserved : goal.loop-span-preserved
@@ -18,6 +19,7 @@ loop-span-preserved c =
       cells = span-painted c.args.base c.args.start c.loop-span.used c.args.room _ _ _ c.span-item.result more wide _ _ _ put i.cells;
       short = λ all. (span-short c.args.base c.loop-span.used c.args.room _ _ _ c.span-item.result more wide (i.short all)).1;
       outside = span-outside _ _ _ _ _ _ _ i.outside c.in_ok-used.ensures.columns c.in_ok-used.ensures.shown.outside;
+      marks = unmarked-then _ _ _ i.marks c.in_ok-used.ensures.marks;
     }
 
 pub returns-in_err-used-clause-err : goal.returns-in_err-used-clause-err
@@ -63,3 +65,8 @@ returns-clause-ok c =
 pub returns-clause-shown : goal.returns-clause-shown
 returns-clause-shown c =
     HasPieces-line _ _ _ _ _ _ (painted-done _ _ _ _ (line_pieces-end _ _ _ _ c.loop-span-test.false) c.loop-span.invariant.cells) c.requires.inside
+
+pub returns-in_err-used-clause-marks : goal.returns-in_err-used-clause-marks
+returns-in_err-used-clause-marks c =
+    let o = unmarked-then _ _ _ c.loop-span.invariant.marks c.in_err-used.ensures.marks in
+    search (rules, o)

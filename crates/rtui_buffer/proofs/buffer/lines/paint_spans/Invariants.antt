@@ -1,5 +1,5 @@
 use Rattle.std.proofs.Common.{◌≡◌, ◌+◌, ◌-◌, ◌≤◌, drop}
-use Rattle.rtui_buffer.specs.Painting.{columns, painted, IsSameOutside}
+use Rattle.rtui_buffer.specs.Painting.{columns, painted, IsSameOutside, KeepsUnmarked}
 use Rattle.rtui_buffer.specs.Line.{line_pieces}
 use Rattle.rtui_buffer.specs.PaintedText.{AreShort}
 use Rattle.rtui_buffer.proofs.buffer.lines.paint_spans.Given as goal
@@ -11,4 +11,5 @@ invariant-loop-span l = record {
   cells : painted (l.start + l.used) (line_pieces (l.room - l.used) l.base (drop l.span-index l.spans)) l.cells ≡ painted l.start (line_pieces l.room l.base l.spans) l.initial.cells;
   short : AreShort (line_pieces l.room l.base l.spans) → AreShort (line_pieces (l.room - l.used) l.base (drop l.span-index l.spans));
   outside : IsSameOutside l.start (l.start + l.used) l.initial.cells l.cells;
+  marks : KeepsUnmarked l.initial.cells l.cells;
 }

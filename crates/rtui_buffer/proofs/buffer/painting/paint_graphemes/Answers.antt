@@ -1,7 +1,7 @@
 use Rattle.std.proofs.lemmas.Bool.{false≢true}
 use Rattle.std.proofs.Common.{◌≡◌, ◌∷◌, rules, arith}
 use Rattle.unicode_segmentation.specs.Iter.{graphemes_left}
-use Rattle.rtui_buffer.proofs.PaintLemmas.{painted-turn, columns-turn, outside-turn, short-turn}
+use Rattle.rtui_buffer.proofs.PaintLemmas.{painted-turn, columns-turn, outside-turn, short-turn, unmarked-put}
 use Rattle.rtui_buffer.proofs.buffer.painting.paint_graphemes.Goals as goal
 
 pub loop-grapheme-preserved : goal.loop-grapheme-preserved
@@ -16,6 +16,7 @@ loop-grapheme-preserved c =
       cells = painted-turn _ _ _ _ _ _ _ _ _ _ _ is c.painted_width-width.ensures (omega arith) (omega arith) c.in_ok-put_piece.ensures.ok i.cells;
       short = λ all. (short-turn _ _ _ _ _ _ _ is c.painted_width-width.ensures (omega arith) (omega arith) (i.short all)).1;
       outside = outside-turn _ _ _ _ _ _ _ _ c.painted_width-width.ensures (omega arith) c.in_ok-put_piece.ensures.ok i.outside;
+      marks = rw c.in_ok-put_piece.ensures.ok (unmarked-put _ _ _ _ i.marks);
     }
 
 pub returns-in_err-put_piece-clause-short : goal.returns-in_err-put_piece-clause-short
