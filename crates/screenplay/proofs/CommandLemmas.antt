@@ -1,5 +1,5 @@
 -- The commands of a script, played one after the other.
-use Rattle.std.proofs.Common.{◌≡◌, ℕ, suc, ◌+◌, ◌<◌, ◌≤◌, List, [], ◌∷◌, ◌++◌, length, take, drop, drop-cons, get_or, Option, Some, None, refl, sym, ap, ◌∙◌, subst, arith, append_assoc, length-append}
+use Rattle.std.proofs.Common.{◌≡◌, ℕ, suc, ◌+◌, ◌<◌, ◌≤◌, List, [], ◌∷◌, ◌++◌, length, take, drop, drop-cons, get_or, Option, Some, None, refl, sym, ap, ap₂, ◌∙◌, subst, arith, append_assoc, length-append}
 use Rattle.std.specs.Prelude.{slice_get, IfSome}
 use Rattle.std.specs.List.{flat_map}
 use Rattle.std.proofs.lemmas.List.{append-nil, get_or_append_left, take-append-drop}
@@ -11,14 +11,11 @@ use Rattle.rtui_terminal.specs.State.{State}
 use Rattle.screenplay.specs.Script.{IsScript, nothing, draw_of, waiting_after, waiting_behind, script_lines, step_by, steps_of, shows_of}
 use Rattle.screenplay.specs.Reading.{as_list, step_made}
 use Rattle.screenplay.specs.Run.{IsRun, IsStart, StopsBehind}
-use Rattle.screenplay.specs.Playing.{IsPlaying, sight_in, scene_in, IsSceneOf, IsCauseOfStep, IsCauseOfAnyStep, PlaysAny}
-use Rattle.screenplay.specs.Recording.{Records, scenes_at, scenes_shown_by}
+use Rattle.screenplay.specs.Playing.{IsPlaying, sight_in, scene_in, IsCauseOfStep, IsCauseOfAnyStep, PlaysAny}
 use Rattle.std.specs.Str.{IsUtf8}
 use Rattle.std.specs.Io.KnownBytes.{Appends}
-use Rattle.screenplay.specs.Print.{printed_list}
-use Rattle.screenplay.specs.Engine.{AreShown, Performs, PrintsRun, IsRunFault, StopsAtStep}
-use Rattle.screenplay.specs.declared.fault.RunFault.{RunFault}
-use Rattle.screenplay.specs.declared.fault.RunFault.TheVariants.{Line, Step as AtStep, NotText, Read, Memory, Write}
+use Rattle.screenplay.specs.Print.{printed_scene, printed_scenes, scenes_at, text_shown_by}
+use Rattle.screenplay.specs.Engine.{PrintsCommands, PrintsRun, PrintsText}
 use Rattle.screenplay.specs.declared.script.Command.{Command}
 use Rattle.screenplay.specs.declared.script.Command.TheVariants.{SetStage, TakeSize, Put, AddText, Draw, Insert, Clear, Show}
 use Rattle.screenplay.specs.declared.waiting.Waiting.{Waiting}
@@ -63,9 +60,14 @@ get_left xs ys k x is =
     let within : k < length xs = slice_get_within xs k x is in
     slice_get-get_or (xs ++ ys) k x (omega (arith, length-append xs ys)) ∙ ap Some (get_or_append_left xs ys x k within ∙ get_or_from_slice_get xs k x x is)
 
--- what a command shows behind n steps is the scene there
+-- the printed texts of shows one after the other
+printed-append : (ks ms : List ℕ) (scenes : List Scene) → printed_scenes (ks ++ ms) scenes ≡ printed_scenes ks scenes ++ printed_scenes ms scenes
+printed-append ks ms scenes =
+    ap (flat_map printed_scene) (flat_map-append (λ k. as_list (slice_get scenes k)) ks ms) ∙ flat_map-append printed_scene (scenes_at ks scenes) (scenes_at ms scenes)
+
+-- what a command prints after n steps is the scene there
 shown_by : (c : Command) (taken : Option Step) (w : Waiting) (n n' : ℕ) (t : State TestBackend) (scenes more : List Scene) → as_list taken ≡ step_by w c → n' ≡ n + length (as_list taken)
-    → slice_get scenes n' ≡ Some (scene_in t) → scenes_at (shows_of n (c ∷ [])) (scenes ++ more) ≡ scenes_shown_by c t
+    → slice_get scenes n' ≡ Some (scene_in t) → printed_scenes (shows_of n (c ∷ [])) (scenes ++ more) ≡ text_shown_by c t
 shown_by (SetStage stage) taken w n n' t scenes more made count here = refl
 shown_by (TakeSize size) taken w n n' t scenes more made count here = refl
 shown_by (Put x y ch) taken w n n' t scenes more made count here = refl
@@ -76,15 +78,9 @@ shown_by Clear taken w n n' t scenes more made count here = refl
 shown_by Show taken w n n' t scenes more made count here =
     let none : length (as_list taken) ≡ 0 = ap length made in
     let same : n' ≡ n = omega (arith, count, none) in
-    append-nil (as_list (slice_get (scenes ++ more) n)) ∙ ap as_list (get_left scenes more n (scene_in t) (subst (λ k. slice_get scenes k ≡ Some (scene_in t)) same here))
-
--- scenes recorded one after the other
-module _ {R : Type 0} (has : R → List Scene → Type 0) where
-  pub Records-none : (r : R) → Records has r r []
-  Records-none r before held = subst (has r) (sym (append-nil before)) held
-
-  pub Records-more : (r s t : R) (xs ys : List Scene) → Records has r s xs → Records has s t ys → Records has r t (xs ++ ys)
-  Records-more r s t xs ys first second before held = subst (has t) (append_assoc before xs ys) (second (before ++ xs) (first before held))
+    ap (flat_map printed_scene)
+    (append-nil (as_list (slice_get (scenes ++ more) n)) ∙ ap as_list (get_left scenes more n (scene_in t) (subst (λ k. slice_get scenes k ≡ Some (scene_in t)) same here)))
+    ∙ append-nil (printed_scene (scene_in t))
 
 -- a list in three parts
 pub split_at : {X : Type 0} (xs : List X) (i : ℕ) (x : X) → i < length xs → x ≡ get_or xs i x → take i xs ++ x ∷ drop (suc i) xs ≡ xs
@@ -95,52 +91,50 @@ pub few_of : (taken : Option Step) → length (as_list taken) ≤ 1
 few_of None = omega arith
 few_of (Some step) = omega arith
 
--- some commands of a script were played: this waits, so many steps were done, and a recorder was given what they showed, whatever scenes
+-- some commands of a script were played: this waits, so many steps were done, and this is the text of what they showed, whatever scenes
 -- follow
-pub record HasPlayed {R : Type 0} (has : R → List Scene → Type 0) (stage : Stage) (done : List Command) (w : Waiting) (n : ℕ) (t : State TestBackend) (r r' : R) : Type 0 where
+pub record HasPlayed (stage : Stage) (done : List Command) (w : Waiting) (n : ℕ) (t : State TestBackend) (text : List ℕ) : Type 0 where
   pub waiting : w ≡ waiting_behind done nothing
   pub count : n ≡ length (steps_of nothing done)
   pub playing : IsPlaying stage t
   pub scenes : List Scene
   pub run : IsRun stage (steps_of nothing done) scenes
   pub here : slice_get scenes n ≡ Some (scene_in t)
-  pub shown : (more : List Scene) → Records has r r' (scenes_at (shows_of 0 done) (scenes ++ more))
+  pub shown : (more : List Scene) → text ≡ printed_scenes (shows_of 0 done) (scenes ++ more)
 
-pub HasPlayed-none : {R : Type 0} (has : R → List Scene → Type 0) (stage : Stage) (t : State TestBackend) (r : R) → IsPlaying stage t → IsStart stage (sight_in t) → HasPlayed has stage [] nothing 0 t r r
-HasPlayed-none has stage t r playing start = record {
+pub HasPlayed-none : (stage : Stage) (t : State TestBackend) → IsPlaying stage t → IsStart stage (sight_in t) → HasPlayed stage [] nothing 0 t []
+HasPlayed-none stage t playing start = record {
   waiting = refl;
   count = refl;
   playing = playing;
   scenes = scene_in t ∷ [];
   run = IsRun-start stage t (scene_in t) playing start (IsSceneOf-in t);
   here = get_end [] (scene_in t) 0 (omega arith);
-  shown = λ more. Records-none has r;
+  shown = λ more. refl;
 }
 
-module _ {R : Type 0} (has : R → List Scene → Type 0) (stage : Stage) (done : List Command) (w : Waiting) (n : ℕ) (s : State TestBackend) (r r' : R) (h : HasPlayed has stage done w n s r r') where
+module _ (stage : Stage) (done : List Command) (w : Waiting) (n : ℕ) (s : State TestBackend) (text : List ℕ) (h : HasPlayed stage done w n s text) where
   last_at : HasLast n h.scenes s
   last_at = record { scene = scene_in s; here = h.here; shown = IsSceneOf-in s }
 
-  -- what is recorded behind one more command
-  shown_next : (c : Command) (taken : Option Step) (t : State TestBackend) (n' : ℕ) (extra more : List Scene) (r'' : R) → as_list taken ≡ step_by w c → n' ≡ n + length (as_list taken)
-      → slice_get (h.scenes ++ extra) n' ≡ Some (scene_in t) → Records has r' r'' (scenes_shown_by c t) → Records has r r'' (scenes_at (shows_of 0 (done ++ c ∷ [])) ((h.scenes ++ extra) ++ more))
-  shown_next c taken t n' extra more r'' made count here is =
+  -- the text after one more command
+  shown_next : (c : Command) (taken : Option Step) (t : State TestBackend) (n' : ℕ) (extra more : List Scene) (text' : List ℕ) → as_list taken ≡ step_by w c → n' ≡ n + length (as_list taken)
+      → slice_get (h.scenes ++ extra) n' ≡ Some (scene_in t) → text' ≡ text ++ text_shown_by c t → text' ≡ printed_scenes (shows_of 0 (done ++ c ∷ [])) ((h.scenes ++ extra) ++ more)
+  shown_next c taken t n' extra more text' made count here is =
       let scenes : List Scene = (h.scenes ++ extra) ++ more in
-      let before : Records has r r' (scenes_at (shows_of 0 done) scenes) = subst (λ xs. Records has r r' (scenes_at (shows_of 0 done) xs)) (sym (append_assoc h.scenes extra more)) (h.shown (extra ++ more)) in
-      let now : scenes_at (shows_of n (c ∷ [])) scenes ≡ scenes_shown_by c t = shown_by c taken w n n' t (h.scenes ++ extra) more made count here in
+      let before : text ≡ printed_scenes (shows_of 0 done) scenes = h.shown (extra ++ more) ∙ ap (printed_scenes (shows_of 0 done)) (sym (append_assoc h.scenes extra more)) in
+      let now : printed_scenes (shows_of n (c ∷ [])) scenes ≡ text_shown_by c t = shown_by c taken w n n' t (h.scenes ++ extra) more made count here in
       let shows : shows_of 0 (done ++ c ∷ []) ≡ shows_of 0 done ++ shows_of n (c ∷ []) =
       shows_of-push done c 0 nothing ∙ ap (λ k. shows_of 0 done ++ shows_of k (c ∷ [])) (from_none n (length (steps_of nothing done)) h.count) in
-      let all : scenes_at (shows_of 0 done) scenes ++ scenes_shown_by c t ≡ scenes_at (shows_of 0 (done ++ c ∷ [])) scenes =
-      ap (λ xs. scenes_at (shows_of 0 done) scenes ++ xs) (sym now) ∙ sym (flat_map-append (λ k. as_list (slice_get scenes k)) (shows_of 0 done) (shows_of n (c ∷ []))) ∙ ap (λ xs. scenes_at xs scenes) (sym shows) in
-      subst (Records has r r'') all (Records-more has r r' r'' (scenes_at (shows_of 0 done) scenes) (scenes_shown_by c t) before is)
+      is ∙ ap₂ (λ xs ys. xs ++ ys) before (sym now) ∙ sym (printed-append (shows_of 0 done) (shows_of n (c ∷ [])) scenes) ∙ ap (λ ks. printed_scenes ks scenes) (sym shows)
 
   steps_next : (c : Command) (taken : Option Step) → as_list taken ≡ step_by w c → steps_of nothing (done ++ c ∷ []) ≡ steps_of nothing done ++ as_list taken
   steps_next c taken made = steps_of-push nothing done c ∙ ap (λ xs. steps_of nothing done ++ xs) (sym (made ∙ ap (λ x. step_by x c) h.waiting))
 
   -- one more command was played
-  pub HasPlayed-next : (c : Command) (taken : Option Step) (w' : Waiting) (n' : ℕ) (t : State TestBackend) (r'' : R) → as_list taken ≡ step_by w c → w' ≡ waiting_after c w → n' ≡ n + length (as_list taken)
-      → PlaysAny stage taken s t → Records has r' r'' (scenes_shown_by c t) → HasPlayed has stage (done ++ c ∷ []) w' n' t r r''
-  HasPlayed-next c None w' n' t r'' made waits count plays shows =
+  pub HasPlayed-next : (c : Command) (taken : Option Step) (w' : Waiting) (n' : ℕ) (t : State TestBackend) (text' : List ℕ) → as_list taken ≡ step_by w c → w' ≡ waiting_after c w → n' ≡ n + length (as_list taken)
+      → PlaysAny stage taken s t → text' ≡ text ++ text_shown_by c t → HasPlayed stage (done ++ c ∷ []) w' n' t text'
+  HasPlayed-next c None w' n' t text' made waits count plays shows =
       let steps : steps_of nothing (done ++ c ∷ []) ≡ steps_of nothing done = steps_next c None made ∙ append-nil (steps_of nothing done) in
       let same : n' ≡ n = omega (arith, count) in
       let here : slice_get h.scenes n' ≡ Some (scene_in t) = ap (slice_get h.scenes) same ∙ h.here ∙ ap (λ x. Some (scene_in x)) (sym plays) in
@@ -152,10 +146,10 @@ module _ {R : Type 0} (has : R → List Scene → Type 0) (stage : Stage) (done 
         run = subst (λ xs. IsRun stage xs h.scenes) (sym steps) h.run;
         here = here;
         shown = λ more.
-            subst (λ xs. Records has r r'' (scenes_at (shows_of 0 (done ++ c ∷ [])) (xs ++ more))) (append-nil h.scenes)
-            (shown_next c None t n' [] more r'' made count (ap (λ xs. slice_get xs n') (append-nil h.scenes) ∙ here) shows);
+            subst (λ xs. text' ≡ printed_scenes (shows_of 0 (done ++ c ∷ [])) (xs ++ more)) (append-nil h.scenes)
+            (shown_next c None t n' [] more text' made count (ap (λ xs. slice_get xs n') (append-nil h.scenes) ∙ here) shows);
       }
-  HasPlayed-next c (Some step) w' n' t r'' made waits count plays shows =
+  HasPlayed-next c (Some step) w' n' t text' made waits count plays shows =
       let steps : steps_of nothing (done ++ c ∷ []) ≡ steps_of nothing done ++ step ∷ [] = steps_next c (Some step) made in
       let last : HasLast (length (steps_of nothing done)) h.scenes s = subst (λ k. HasLast k h.scenes s) h.count last_at in
       let all : length h.scenes ≡ length (steps_of nothing done) + 1 = h.run.count in
@@ -167,12 +161,12 @@ module _ {R : Type 0} (has : R → List Scene → Type 0) (stage : Stage) (done 
         scenes = h.scenes ++ scene_in t ∷ [];
         run = subst (λ xs. IsRun stage xs (h.scenes ++ scene_in t ∷ [])) (sym steps) (IsRun-push stage (steps_of nothing done) step h.scenes (scene_in t) s t h.run last plays (IsSceneOf-in t));
         here = here;
-        shown = λ more. shown_next c (Some step) t n' (scene_in t ∷ []) more r'' made count here shows;
+        shown = λ more. shown_next c (Some step) t n' (scene_in t ∷ []) more text' made count here shows;
       }
 
   -- all commands were played
-  pub AreShown-all : AreShown has stage done r r'
-  AreShown-all = (h.scenes, h.run, subst (λ xs. Records has r r' (scenes_at (shows_of 0 done) xs)) (append-nil h.scenes) (h.shown []))
+  pub PrintsCommands-all : PrintsCommands stage done text
+  PrintsCommands-all = (h.scenes, h.run, h.shown [] ∙ ap (printed_scenes (shows_of 0 done)) (append-nil h.scenes))
 
   -- the next command makes a step that can't be played
   StopsBehind-next : (c : Command) (rest : List Command) (step : Step) (cause : PlayCause) → step ∷ [] ≡ step_by w c → IsCauseOfStep stage step (sight_in s) cause
@@ -193,78 +187,31 @@ module _ {R : Type 0} (has : R → List Scene → Type 0) (stage : Stage) (done 
       )
 
 -- a step of the next command that can't be played
-pub StopsBehind-any : {R : Type 0} (has : R → List Scene → Type 0) (stage : Stage) (done : List Command) (w : Waiting) (n : ℕ) (s : State TestBackend) (r r' : R) → HasPlayed has stage done w n s r r' → (c : Command) (rest : List Command) (cause : PlayCause)
+pub StopsBehind-any : (stage : Stage) (done : List Command) (w : Waiting) (n : ℕ) (s : State TestBackend) (text : List ℕ) → HasPlayed stage done w n s text → (c : Command) (rest : List Command) (cause : PlayCause)
     → IsCauseOfAnyStep stage (step_made w c) (sight_in s) cause → (scenes : List Scene) × StopsBehind stage (steps_of nothing (done ++ c ∷ rest)) scenes (record { step = n + 1; cause = cause })
-StopsBehind-any has stage done w n s r r' h (SetStage other) rest cause why = absurd why
-StopsBehind-any has stage done w n s r r' h (TakeSize size) rest cause why = absurd why
-StopsBehind-any has stage done w n s r r' h (Put x y ch) rest cause why = absurd why
-StopsBehind-any has stage done w n s r r' h (AddText line) rest cause why = absurd why
-StopsBehind-any has stage done w n s r r' h Draw rest cause why = StopsBehind-next has stage done w n s r r' h Draw rest (draw_of w) cause refl why
-StopsBehind-any has stage done w n s r r' h Insert rest cause why = StopsBehind-next has stage done w n s r r' h Insert rest (steps.Insert w.text) cause refl why
-StopsBehind-any has stage done w n s r r' h Clear rest cause why = StopsBehind-next has stage done w n s r r' h Clear rest steps.Clear cause refl why
-StopsBehind-any has stage done w n s r r' h Show rest cause why = absurd why
+StopsBehind-any stage done w n s text h (SetStage other) rest cause why = absurd why
+StopsBehind-any stage done w n s text h (TakeSize size) rest cause why = absurd why
+StopsBehind-any stage done w n s text h (Put x y ch) rest cause why = absurd why
+StopsBehind-any stage done w n s text h (AddText line) rest cause why = absurd why
+StopsBehind-any stage done w n s text h Draw rest cause why = StopsBehind-next stage done w n s text h Draw rest (draw_of w) cause refl why
+StopsBehind-any stage done w n s text h Insert rest cause why = StopsBehind-next stage done w n s text h Insert rest (steps.Insert w.text) cause refl why
+StopsBehind-any stage done w n s text h Clear rest cause why = StopsBehind-next stage done w n s text h Clear rest steps.Clear cause refl why
+StopsBehind-any stage done w n s text h Show rest cause why = absurd why
 
--- the bytes of a script that is performed, or with the step at which it stops
-module _ (bytes : List ℕ) (commands : List Command) (is_text : IsUtf8 bytes) where
-  pub Performs-played : {R : Type 0} (has : R → List Scene → Type 0) (stage : Stage) (r r' : R) → IsScript (script_lines bytes) (Some stage) (steps_of nothing commands) (shows_of 0 commands)
-      → AreShown has stage commands r r' → Performs has bytes r r'
-  Performs-played has stage r r' script are = record {
-    shows = shows_of 0 commands;
-    scenes = are.0;
-    played = record { stage = Some stage; steps = steps_of nothing commands; text = is_text; script = script; run = are.1 };
-    recorded = are.2;
-  }
-
-  pub Performs-none : {R : Type 0} (has : R → List Scene → Type 0) (r : R) → IsScript (script_lines bytes) None (steps_of nothing commands) (shows_of 0 commands) → Performs has bytes r r
-  Performs-none has r script = record {
-    shows = shows_of 0 commands;
-    scenes = [];
-    played = record { stage = None; steps = steps_of nothing commands; text = is_text; script = script; run = tt };
-    recorded = subst (Records has r r) (sym (none (shows_of 0 commands))) (Records-none has r);
-  }
-    where
-      none : (shows : List ℕ) → scenes_at shows [] ≡ []
-      none [] = refl
-      none (k ∷ shows) = none shows
-
-  pub IsRunFault-stopped : (stage : Stage) (fault : RunFault) → IsScript (script_lines bytes) (Some stage) (steps_of nothing commands) (shows_of 0 commands) → StopsAtStep stage commands fault
-      → IsRunFault bytes fault × (fault ≡ Write → ⊥)
-  IsRunFault-stopped stage (Line n) script stops = absurd stops
-  IsRunFault-stopped stage (AtStep fault) script stops = (
-    record { stage = stage; steps = steps_of nothing commands; shows = shows_of 0 commands; scenes = stops.0; text = is_text; script = script; played = stops.1 },
-    λ e. subst IsStep e tt,
-  )
-    where
-      IsStep : RunFault → Type 0
-      IsStep (Line n) = ⊥
-      IsStep (AtStep fault) = Unit {0}
-      IsStep NotText = ⊥
-      IsStep Read = ⊥
-      IsStep Memory = ⊥
-      IsStep Write = ⊥
-  IsRunFault-stopped stage NotText script stops = absurd stops
-  IsRunFault-stopped stage Read script stops = absurd stops
-  IsRunFault-stopped stage Memory script stops = (tt, λ e. subst IsMemory e tt)
-    where
-      IsMemory : RunFault → Type 0
-      IsMemory (Line n) = ⊥
-      IsMemory (AtStep fault) = ⊥
-      IsMemory NotText = ⊥
-      IsMemory Read = ⊥
-      IsMemory Memory = Unit {0}
-      IsMemory Write = ⊥
-  IsRunFault-stopped stage Write script stops = absurd stops
-
--- the printed text of a performed script was written
-PrintsRun-performed : (bytes text : List ℕ) (old new : Option (List ℕ)) → Performs (λ t scenes. t ≡ printed_list scenes) bytes [] text → Appends old new text → PrintsRun bytes old new
-PrintsRun-performed bytes text old new performs appends = record {
-  shows = performs.shows;
-  scenes = performs.scenes;
-  played = performs.played;
-  written = subst (Appends old new) (performs.recorded [] refl) appends;
+-- the bytes of a script without commands
+pub PrintsText-none : (bytes : List ℕ) (commands : List Command) → IsUtf8 bytes → IsScript (script_lines bytes) None (steps_of nothing commands) (shows_of 0 commands) → PrintsText bytes []
+PrintsText-none bytes commands is_text script = record {
+  shows = shows_of 0 commands;
+  scenes = [];
+  played = record { stage = None; steps = steps_of nothing commands; text = is_text; script = script; run = tt };
+  text_is = sym (ap (flat_map printed_scene) (none (shows_of 0 commands)));
 }
+  where
+    none : (shows : List ℕ) → scenes_at shows [] ≡ []
+    none [] = refl
+    none (k ∷ shows) = none shows
 
-pub prints_run : (left : Option (List ℕ)) (text : List ℕ) (old new : Option (List ℕ)) → IfSome left (λ bytes. Performs (λ t scenes. t ≡ printed_list scenes) bytes [] text) → Appends old new text
-    → IfSome left (λ bytes. PrintsRun bytes old new)
-prints_run None text old new performs appends = performs
-prints_run (Some bytes) text old new performs appends = PrintsRun-performed bytes text old new performs appends
+-- the text of the bytes that were read was written
+pub prints_run : (left : Option (List ℕ)) (bytes text : List ℕ) (old new : Option (List ℕ)) → IfSome left (λ all. bytes ≡ all) → PrintsText bytes text → Appends old new text → IfSome left (λ all. PrintsRun all old new)
+prints_run None bytes text old new e prints written = tt
+prints_run (Some all) bytes text old new e prints written = subst (λ bs. PrintsRun bs old new) e (record { text = text; prints = prints; written = written })

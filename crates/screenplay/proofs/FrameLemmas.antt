@@ -1,25 +1,24 @@
 -- Frames of a script: none has a skipped cell, and lines past the last row that an area can have don't count.
-use Rattle.std.proofs.Common.{◌≡◌, ℕ, zero, suc, ◌+◌, ◌-◌, ◌*◌, ◌<◌, ◌≤◌, min, max, Bool, true, false, if◌then◌else◌, List, [], ◌∷◌, ◌++◌, length, map, take, drop, get_or, Some, refl, sym, ap, ap₂, ◌∙◌, subst, arith}
-use Rattle.std.specs.Prelude.{nat_le, nat_lt, ◌&&◌, ◌==◌, slice_set, slice_index_or, encode_utf8}
+use Rattle.std.proofs.Common.{◌≡◌, ℕ, zero, suc, ◌+◌, ◌-◌, ◌*◌, ◌<◌, min, max, Bool, true, false, if◌then◌else◌, List, [], ◌∷◌, ◌++◌, length, map, take, drop, Some, refl, sym, ap, ap₂, ◌∙◌, subst, arith}
+use Rattle.std.specs.Prelude.{◌==◌, slice_set, encode_utf8}
 use Rattle.std.proofs.lemmas.List.{get_or-take, get_or-drop}
 use Rattle.std.proofs.lemmas.Bool.Decides.{nat_tests}
 use Rattle.rtui_geometry.specs.declared.rect.Rect.{Rect}
 use Rattle.rtui_geometry.specs.Rect.{EdgesFit, intersected, right_edge, bottom_edge}
 use Rattle.rtui_cell.specs.declared.cell.Cell.{Cell}
 use Rattle.rtui_cell.specs.Cell.{empty_cell, is_skipped, styled}
-use Rattle.rtui_cell.specs.Look.{Look, look_of}
 use Rattle.rtui_cell.specs.Grid.{Grid}
 use Rattle.rtui_cell.proofs.CellLemmas.{skipped-empty}
 use Rattle.rtui_diff.specs.Cells.{cell, cell_at}
 use Rattle.rtui_diff.specs.Shows.{Shows}
-use Rattle.rtui_text.specs.Text.{TextData, LineData, line_of}
+use Rattle.rtui_text.specs.Text.{TextData, LineData}
 use Rattle.rtui_text.specs.Widths.{line_width}
 use Rattle.rtui_buffer.specs.Sheet.{Sheet, IsEmptied, area_size, cell_index, cell_in, empty_cells, position_of, with_cell}
 use Rattle.rtui_buffer.specs.Frame.{ShowsSheet}
 use Rattle.rtui_buffer.proofs.EmptyLemmas.{cell-empty}
-use Rattle.rtui_widgets.specs.Span.{with_graphemes, those_at, is_behind, column_with, columns_from, showing, span_rendered}
+use Rattle.rtui_widgets.specs.Span.{with_graphemes, those_at, is_behind, column_with, columns_from, span_rendered}
 use Rattle.rtui_widgets.specs.Line.{Part, behind_first, parts, parts_rendered, columns_before, line_rendered}
-use Rattle.rtui_widgets.specs.Rendering.{RendersText, RendersRows, area_row, alignment_or, text_line, text_row}
+use Rattle.rtui_widgets.specs.Rendering.{RendersRows, area_row, alignment_or, text_line, text_row}
 use Rattle.screenplay.specs.Puts.{holds_place, with_put, with_puts}
 use Rattle.screenplay.specs.Run.{IsFrame}
 use Rattle.screenplay.specs.Playing.{IsPlainSheet}

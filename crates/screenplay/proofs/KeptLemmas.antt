@@ -1,5 +1,5 @@
 -- Texts of which as many lines are kept as an area can have rows: what is played of them is what would be played of the whole.
-use Rattle.std.proofs.Common.{◌≡◌, ℕ, zero, suc, ◌+◌, ◌-◌, ◌<◌, ◌≤◌, min, Bool, true, false, nat_lt, if◌then◌else◌, List, [], ◌∷◌, ◌++◌, length, map, take, Option, Some, None, refl, sym, ap, ◌∙◌, subst, arith, length-append, length-take, inl, inr}
+use Rattle.std.proofs.Common.{◌≡◌, ℕ, zero, suc, ◌+◌, ◌-◌, ◌≤◌, min, Bool, true, false, nat_lt, if◌then◌else◌, List, [], ◌∷◌, ◌++◌, length, map, take, Option, refl, sym, ap, ◌∙◌, subst, arith, length-append, length-take, inl, inr}
 use Rattle.std.proofs.lemmas.Bool.{cases_lt}
 use Rattle.std.proofs.lemmas.List.{get_or-take, take-append-le}
 use Rattle.std.proofs.lemmas.Bool.Decides.{nat_tests}
@@ -12,12 +12,12 @@ use Rattle.rtui_buffer.specs.Sheet.{Sheet}
 use Rattle.rtui_viewport.specs.declared.viewport.Viewport.{Viewport}
 use Rattle.rtui_viewport.specs.declared.viewport.Viewport.TheVariants.{Fullscreen, Inline, Fixed}
 use Rattle.rtui_widgets.specs.Line.{line_rendered}
-use Rattle.rtui_widgets.specs.Rendering.{alignment_or, area_row, text_line}
+use Rattle.rtui_widgets.specs.Rendering.{alignment_or, area_row}
 use Rattle.rtui_backend.specs.declared.test.TestBackend.{TestBackend}
 use Rattle.rtui_terminal.specs.State.{State}
-use Rattle.screenplay.specs.Script.{nothing, waiting_after, step_by}
+use Rattle.screenplay.specs.Script.{waiting_after, step_by}
 use Rattle.screenplay.specs.Reading.{as_list, step_made, kept_text, kept_waiting, kept_after}
-use Rattle.screenplay.specs.Run.{Sight, IsFrame, IsDrawn, IsInserted, InsertsOn, row_count, text_area, HasUnsettled}
+use Rattle.screenplay.specs.Run.{Sight, IsFrame, IsDrawn, IsInserted, InsertsOn, row_count, text_area}
 use Rattle.screenplay.specs.Playing.{PlaysAny, IsCauseOfAnyStep}
 use Rattle.screenplay.specs.declared.script.Command.{Command}
 use Rattle.screenplay.specs.declared.script.Command.TheVariants.{SetStage, TakeSize, Put, AddText, Draw, Insert, Clear, Show}

@@ -8,10 +8,8 @@ use Rattle.std.proofs.lemmas.Bool.Decides.{nat_tests}
 use Rattle.rtui_geometry.specs.declared.rect.Rect.{Rect}
 use Rattle.rtui_geometry.specs.declared.size.Size.{Size}
 use Rattle.rtui_cell.specs.Cell.{empty_cell, is_skipped}
-use Rattle.rtui_cell.proofs.CellLemmas.{look-empty, skipped-empty}
-use Rattle.rtui_cell.specs.Look.{empty_look, look_of}
+use Rattle.rtui_cell.specs.Look.{empty_look}
 use Rattle.rtui_diff.specs.Cells.{cell_at}
-use Rattle.rtui_buffer.proofs.EmptyLemmas.{cell-empty}
 use Rattle.rtui_text.specs.Text.{TextData}
 use Rattle.rtui_buffer.specs.Sheet.{Sheet, IsEmptied, area_size, empty_cells}
 use Rattle.rtui_buffer.specs.Frame.{IsSettledSheet, ShowsSheet}
@@ -85,9 +83,6 @@ size_in r = record { width = r.width; height = r.height }
 module _ (w h : ℕ) (s : Screen) (blank : IsBlankScreen w h s) where
   corner_y : s.cursor_y ≡ 0
   corner_y = ap (λ p. p.y) blank.cursor
-
-  size_is : size_of s ≡ record { width = w; height = h }
-  size_is = rw (blank.width, blank.height) refl
 
   started_area : (kind : Viewport) → area_in kind (first_area kind s) 0 s.cursor_y ≡ first_viewport kind (size_of s)
   started_area Fullscreen = refl
@@ -332,10 +327,6 @@ module _ (stage : Stage) (given : Size) (s t : State TestBackend) (free : IsFixe
     );
   }
 
--- a screen that keeps its size
-pub IsSizedFor-same : (stage : Stage) (given : Option Size) (s : State TestBackend) → size_after stage.viewport given (size_of (screen_of s.backend)) ≡ size_of (screen_of s.backend) → IsSizedFor stage given s s
-IsSizedFor-same stage given s same = record { size = sym same; same = λ e. refl; other = λ out. absurd (out refl) }
-
 pub is_free : (kind : Viewport) → ((r : Rect) → kind ≡ Fixed r → ⊥) → IsFixed kind → ⊥
 is_free Fullscreen not fixed = fixed
 is_free (Inline n) not fixed = fixed
@@ -509,9 +500,6 @@ module _ (stage : Stage) (text : TextData) (rows : Sheet) (s t : State TestBacke
   made_wide : IsFrame (text_area screen_before.width text) text [] rows
   made_wide = subst (λ w. IsFrame (text_area w text) text [] rows) (inline_width stage.viewport (size_of screen_before) s.viewport_area inline playing.lies) made
 
-  pub IsCauseOfStep-inserted : (IsSettledSheet rows → ⊥) → IsCauseOfStep stage (steps.Insert text) (sight_in s) (Unsettled s.viewport_area)
-  IsCauseOfStep-inserted not = (inline, refl, record { frame = rows; made = made_wide; unsettled = not })
-
   module _ (good : IsGoodStage stage) (settled : IsSettledSheet rows) (has : InsertsBuffer rows s t) where
     known : screen_area screen_before ≡ s.known_area
     known = elim playing.sized [
@@ -595,12 +583,3 @@ module _ (stage : Stage) (text : TextData) (rows : Sheet) (s t : State TestBacke
           let flat : screen_before.height ≡ 0 = omega (arith, none) in
           subst (Plays stage (steps.Insert text) s) (sym (has.none (sym known_height ∙ flat))) (inserted_none flat)
     ]
-
--- on another viewport nothing changes
-other_stays : (kind : Viewport) (text : TextData) (s : Sight) → (IsInline kind → ⊥) → InsertsOn kind text s s
-other_stays Fullscreen text s other = refl
-other_stays (Inline n) text s other = absurd (other tt)
-other_stays (Fixed f) text s other = refl
-
-pub Plays-other : (stage : Stage) (text : TextData) (s : State TestBackend) → (IsInline stage.viewport → ⊥) → IsPlaying stage s → Plays stage (steps.Insert text) s s
-Plays-other stage text s other playing = record { playing = playing; after = other_stays stage.viewport text (sight_in s) other }

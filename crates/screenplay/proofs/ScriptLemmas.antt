@@ -1,5 +1,5 @@
 -- Reading a script, a line at a time.
-use Rattle.std.proofs.Common.{◌≡◌, ℕ, zero, suc, ◌+◌, ◌-◌, ◌<◌, ◌≤◌, Bool, true, false, ◌==◌, ◌||◌, List, [], ◌∷◌, ◌++◌, length, take, get_or, Option, Some, None, refl, sym, ap, ap₂, ◌∙◌, subst, arith, inl, inr, append_assoc, length-append}
+use Rattle.std.proofs.Common.{◌≡◌, ℕ, zero, suc, ◌+◌, ◌-◌, ◌<◌, ◌≤◌, Bool, true, false, ◌==◌, ◌||◌, List, [], ◌∷◌, ◌++◌, length, take, get_or, Option, Some, None, refl, sym, ap, ap₂, ◌∙◌, subst, arith, inl, inr, length-append}
 use Rattle.std.proofs.lemmas.List.{append-nil, get_or-take, get_or_append_left}
 use Rattle.std.proofs.lemmas.List.Elements.{filter_map-append}
 use Rattle.std.proofs.Math.Seq.{get_or-append_seam}
@@ -9,15 +9,10 @@ use Rattle.screenplay.specs.declared.script.Command.TheVariants.{SetStage, TakeS
 use Rattle.screenplay.specs.declared.waiting.Waiting.{Waiting}
 use Rattle.screenplay.specs.declared.scene.Stage.{Stage}
 use Rattle.screenplay.specs.Script.{command_with, command_of, commands_of, may_stand, is_good_line, AreGood, IsFirstBadLine, stage_of, stage_after, nothing, waiting_after, waiting_behind, may_insert, steps_of, shows_of, IsScript}
-use Rattle.rtui_text.specs.Text.{raw_line}
 use Rattle.screenplay.specs.Reading.{CountsTexts, HasRead}
-use Rattle.std.specs.Prelude.{if◌then◌else◌, nat_le, ◌^◌, min}
-use Rattle.std.proofs.lemmas.Bool.Decides.{nat_tests}
+use Rattle.std.specs.Prelude.{if◌then◌else◌}
 use Rattle.std.specs.List.{slice_split, onto_first}
 use Rattle.std.specs.Str.Lines.{lines, lines_of_parts}
-
-pub HasRead-none : HasRead [] None 0 []
-HasRead-none = record { good = λ k lt. absurd (omega arith); stage_is = refl; waiting = refl; commands_are = refl }
 
 -- a command that may stand behind others leaves the stage that they set, or sets it
 stage_of-some : (c : Command) (stage : Stage) → may_stand (Some stage) c ≡ true → stage_after c (Some stage) ≡ Some stage
@@ -84,13 +79,6 @@ AreGood-push done line before good k lt = elim (cases_lt k (length done)) [
     take-all [] line = refl
     take-all (d ∷ ds) line = ap (λ xs. d ∷ xs) (take-all ds line)
 
--- the texts that wait are at most 65535 exactly where their count is
-pub may_insert-counted : (w : Waiting) (n : ℕ) → CountsTexts w n → nat_le n 65535 ≡ may_insert w Insert
-may_insert-counted w n counts = let is : n ≡ min (length w.text.lines) (2 ^ 64 - 1) = counts in grind (arith, nat_tests)
-
-pub CountsTexts-more : (w : Waiting) (text : List ℕ) (n m : ℕ) → CountsTexts w n → m ≡ min (n + 1) (2 ^ 64 - 1) → CountsTexts (waiting_after (AddText text) w) m
-CountsTexts-more w text n m counts more = omega (arith, counts, more, length-append w.text.lines (raw_line text ∷ []))
-
 module _ (done : List (List ℕ)) (line : List ℕ) (stage : Option Stage) (texts : ℕ) (commands : List Command) (h : HasRead done stage texts commands) where
   abbrev waits : Waiting
   waits = waiting_behind (commands_of done) nothing
@@ -129,19 +117,6 @@ module _ (done : List (List ℕ)) (line : List ℕ) (stage : Option Stage) (text
     where
       one : (line : List ℕ) (c : Command) → command_of line ≡ Some c → commands_of (line ∷ []) ≡ c ∷ []
       one line c e = rw e refl
-
-  -- a line that is no command, or one out of place, is bad
-  pub bad-none : (length line == 0) ≡ false → command_of line ≡ None → is_good_line done line ≡ false
-  bad-none some none = rw (some, none) refl
-
-  pub bad-place : (c : Command) → (length line == 0) ≡ false → command_of line ≡ Some c → may_stand stage c ≡ false → is_good_line done line ≡ false
-  bad-place c some is out = let off : may_stand (stage_of (commands_of done)) c ≡ false = ap (λ s. may_stand s c) (sym h.stage_is) ∙ out in rw (some, is, off) refl
-
-  -- and so is one that would insert too many texts
-  pub bad-room : (c : Command) → (length line == 0) ≡ false → command_of line ≡ Some c → may_stand stage c ≡ true → may_insert waits c ≡ false → is_good_line done line ≡ false
-  bad-room c some is fits full =
-      let stands : may_stand (stage_of (commands_of done)) c ≡ true = ap (λ s. may_stand s c) (sym h.stage_is) ∙ fits in
-      rw (some, is, stands, full) refl
 
 -- all lines were read
 pub IsScript-read : (all : List (List ℕ)) (stage : Option Stage) (texts : ℕ) (commands : List Command) → HasRead all stage texts commands → IsScript all stage (steps_of nothing commands) (shows_of 0 commands)

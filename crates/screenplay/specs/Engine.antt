@@ -5,7 +5,6 @@ use Rattle.std.specs.Str.{IsUtf8}
 use Rattle.std.specs.Io.KnownBytes.{Appends}
 use Rattle.screenplay.specs.Script.{IsScript, IsFirstBadLine, nothing, script_lines, shows_of, steps_of}
 use Rattle.screenplay.specs.Run.{IsRun, StopsBehind}
-use Rattle.screenplay.specs.Recording.{Records, scenes_at}
 use Rattle.screenplay.specs.Print.{printed_scenes}
 use Rattle.screenplay.specs.declared.script.Command.{Command}
 use Rattle.screenplay.specs.declared.scene.Scene.{Scene}
@@ -25,19 +24,18 @@ pub record IsPlayed (bytes shows : List ℕ) (scenes : List Scene) : Type 0 wher
   pub script : IsScript (script_lines bytes) stage steps shows
   pub run : IfSome stage (λ s. IsRun s steps scenes)
 
--- the writer took the printed scenes of a run of the script
-pub record PrintsRun (bytes : List ℕ) (old new : Option (List ℕ)) : Type 0 where
+-- the bytes are a script, and this is the printed text of a run of it
+pub record PrintsText (bytes text : List ℕ) : Type 0 where
   pub shows : List ℕ
   pub scenes : List Scene
   pub played : IsPlayed bytes shows scenes
-  pub written : Appends old new (printed_scenes shows scenes)
+  pub text_is : text ≡ printed_scenes shows scenes
 
--- a recorder was given what a run of the script shows
-pub record Performs {R : Type 0} (has : R → List Scene → Type 0) (bytes : List ℕ) (r r' : R) : Type 0 where
-  pub shows : List ℕ
-  pub scenes : List Scene
-  pub played : IsPlayed bytes shows scenes
-  pub recorded : Records has r r' (scenes_at shows scenes)
+-- the writer took that text
+pub record PrintsRun (bytes : List ℕ) (old new : Option (List ℕ)) : Type 0 where
+  pub text : List ℕ
+  pub prints : PrintsText bytes text
+  pub written : Appends old new text
 
 -- the bytes are a script with a step that can't be played
 pub record HasStepFault (bytes : List ℕ) (fault : StepFault) : Type 0 where
@@ -58,9 +56,10 @@ IsRunFault bytes Read = Unit {0}
 IsRunFault bytes Memory = Unit {0}
 IsRunFault bytes Write = (shows : List ℕ) × (scenes : List Scene) × IsPlayed bytes shows scenes
 
--- a recorder was given what a run of the commands' steps shows
-abbrev pub AreShown : {R : Type 0} → (R → List Scene → Type 0) → Stage → List Command → R → R → Type 0
-AreShown has stage commands r r' = (scenes : List Scene) × IsRun stage (steps_of nothing commands) scenes × Records has r r' (scenes_at (shows_of 0 commands) scenes)
+-- the text that a run of the commands' steps prints
+abbrev pub PrintsCommands : Stage → List Command → List ℕ → Type 0
+PrintsCommands stage commands text =
+    (scenes : List Scene) × IsRun stage (steps_of nothing commands) scenes × (text ≡ printed_scenes (shows_of 0 commands) scenes)
 
 -- a step of the commands can't be played, or memory was refused
 abbrev pub StopsAtStep : Stage → List Command → RunFault → Type 0

@@ -4,6 +4,5 @@ pub mod Puts
 pub mod Run
 pub mod Appending
 pub mod Playing
-pub mod Recording
 pub mod Print
 pub mod Engine

@@ -3,22 +3,19 @@
 //! It stands on `rtui_terminal`, by its contract alone, and on the backend in memory. `specs/Script` is the
 //! grammar of a script, `specs/Run` says what a run of its steps is and
 //! `specs/Appending` what rows it leaves above an inline viewport, `specs/Print` is the text of a scene, and
-//! `specs/Engine` joins them. [`play`] gives the scenes of a run; [`perform`] reads a script from any reader and gives the
-//! scenes that it shows to a [`Recorder`]; [`run`] writes them to any writer.
+//! `specs/Engine` joins them. [`play`] gives the scenes of a run; [`printed_text`] gives the text that a script prints; [`run`]
+//! reads a script from any reader, and writes its text to any writer.
 #![tactic(auto)]
 
 mod engine;
 mod fault;
 pub mod laws;
 mod playing;
-mod print;
-mod recorder;
 mod scene;
 mod script;
 mod waiting;
 
-pub use engine::{perform, run};
+pub use engine::{printed_text, run};
 pub use fault::RunFault;
 pub use playing::play;
-pub use recorder::{PrintedText, Recorder};
 pub use scene::{PlayCause, PlayFault, Puts, Scene, Stage, Step, StepFault};

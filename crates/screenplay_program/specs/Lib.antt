@@ -1,1 +1,1 @@
-pub mod Reels
+pub mod Ending

@@ -1,68 +1,57 @@
-//! The program `screenplay`: reads a script from standard input and prints the screens that it shows, or with `--ansi` the escape
-//! sequences by which a terminal shows them one after the other.
+//! The program `screenplay`: reads a script from standard input and prints the screens that it shows.
 //!
-//! A script that can't be read or played gives one line on standard error, status 1 and no output.
+//! A script that can't be read or played gives one line on standard error, status 1 and no output. Where writing fails the
+//! status is 1, and nothing stands on standard error. Words on the command line are ignored.
 #![tactic(auto)]
 
-mod fault;
-mod frames;
+ghost use Rattle.std.specs.Prelude.{IfOk, IfSome, OnOk};
+ghost use Rattle.std.specs.Io.KnownBytes.{Appends};
+ghost use Rattle.std.specs.Process.{exit_status};
+ghost use Rattle.screenplay_program.specs.Ending.{Ends, fault_line};
 
-use crate::fault::Fault;
-use crate::frames::Frames;
-use clap::{Arg, ArgAction, Command};
-use screenplay::{perform, run};
-use std::alloc::{AllocError, Global};
-use std::env;
-use std::io::{self, BufWriter, Read, Write};
+#[cfg(test)]
+mod tests;
+
+use screenplay::{RunFault, run};
+use std::alloc::Global;
+use std::io::{self, Read, Write};
 use std::process::ExitCode;
 
-// What the program takes: in which form the screens are printed.
-fn command<'a>(alloc: Global) -> Result<Command<'a>, AllocError> {
-    let ansi = Arg::new(alloc, "ansi")
-        .long("ansi")
-        .help("Prints escape sequences by which a terminal shows the screens")
-        .action(ArgAction::SetTrue);
-    Command::new(alloc, "screenplay")
-        .about("Reads a script from standard input and prints the screens that it shows")
-        .arg(ansi)
-}
-
-// Writes the frames of a script.
-fn replay<R: Read, W: Write>(alloc: Global, reader: &mut R, writer: &mut W) -> Result<(), Fault> {
-    let mut frames = Frames::new(alloc);
-    perform(alloc, reader, &mut frames)?;
-    if let Some(error) = frames.refused() {
-        return Err(Fault::Frame(error));
+// Writes the line that tells a fault.
+fn tell<E: Write>(errors: &mut E, fault: RunFault) -> io::Result<()>
+    ensures { OnOk result
+        (Appends (E.contents errors.old) (E.contents errors.new) (fault_line fault)) }
+{
+    match fault {
+        RunFault::Write => Ok(()),
+        fault => writeln!(errors, "{fault}"),
     }
-    frames.write_to(writer)?;
-    Ok(())
 }
 
-// Reads a script from standard input, and prints it in the form that is asked for.
-fn print_script(rt: &HostRuntime, is_ansi: bool) -> Result<(), Fault> {
-    let mut reader = rt.reader();
-    let mut writer = BufWriter::new(rt.alloc(), io::writer(rt))?;
-    if is_ansi {
-        return replay(rt.alloc(), &mut reader, &mut writer);
-    }
-    run(rt.alloc(), &mut reader, &mut writer)?;
-    Ok(())
-}
-
-fn main(rt: HostRuntime) -> anyhow::Result<ExitCode> {
-    let words: Vec<String> = env::args(&rt)?.collect(rt.alloc())?;
-    let matches = match command(rt.alloc())?.try_get_matches_from(words.as_slice()) {
-        Ok(matches) => matches,
-        Err(error) => {
-            error.print(&rt)?;
-            return Ok(ExitCode::from(error.exit_code() as u8));
-        }
-    };
-    match print_script(&rt, matches.get_flag("ansi")) {
+// Prints a script, or tells why it can't; it answers the program's status, and an error where that can't be told.
+fn print_script<R: Read, W: Write, E: Write>(
+    alloc: Global,
+    reader: &mut R,
+    writer: &mut W,
+    errors: &mut E,
+) -> io::Result<ExitCode>
+    ensures { IfOk result (λ status. IfSome (R.remaining reader.old) (λ bytes.
+        Ends W.contents E.contents (exit_status status) bytes
+        writer.old writer.new errors.old errors.new)) }
+{
+    match run(alloc, reader, writer) {
         Ok(()) => Ok(ExitCode::SUCCESS),
         Err(fault) => {
-            eprintln!(&rt; "{fault}")?;
+            tell(errors, fault)?;
             Ok(ExitCode::FAILURE)
         }
+    }
+}
+
+fn main(rt: HostRuntime) -> ExitCode {
+    let (mut reader, mut writer, mut errors) = (rt.reader(), rt.stdout(), rt.stderr());
+    match print_script(rt.alloc(), &mut reader, &mut writer, &mut errors) {
+        Ok(status) => status,
+        Err(_) => ExitCode::FAILURE,
     }
 }

@@ -5,9 +5,9 @@ use Rattle.screenplay.proofs.CommandLemmas.{HasPlayed}
 use Rattle.screenplay.proofs.engine.play_commands.Given as goal
 
 abbrev pub invariant-loop-command : goal.invariant-loop-command
-invariant-loop-command g l = record {
+invariant-loop-command l = record {
   few : l.steps ≤ l.command-index;
   whole : Waiting;
   kept : l.waiting ≡ kept_waiting whole;
-  played : HasPlayed g.S.Recorder.has_recorded l.fn.stage (take l.command-index l.commands) whole l.steps l.terminal l.fn.recorder l.recorder;
+  played : HasPlayed l.fn.stage (take l.command-index l.commands) whole l.steps l.terminal l.text.items;
 }
