@@ -4,15 +4,22 @@
     compare.py [--size WxH] [--runs N] [--only WORKLOAD,..] NAME=PROGRAM NAME=PROGRAM ..
 
 The programs run in turns. A round's time is the least user time of N runs with many rounds, less that with a tenth
-of them, so that the start of the process doesn't count. The last column is each program's time over the first one's.
+of them, so that the start of the process doesn't count. The last column is each program's time over the first one's; `-` stands for a
+program that doesn't know the workload.
 """
 import argparse
 import resource
 import subprocess
 
+# All workloads that README.md names. The frames as escape sequences (the last three lines) are the port's alone.
 WORKLOADS = (
-    "draw_all draw_dots draw_none draw_wide text_ascii line_ascii text_wide diff_letters diff_empty diff_wide style "
-    "merge_same merge_half empty filled clone resize reset sets fill_reset"
+    "draw_all draw_dots draw_none draw_wide inline_all inline_few insert_kept insert_1 insert_10 insert_1000 "
+    "text_ascii text_wide line_ascii text_widget text_raw line_center line_right line_cut span_marks spans_2000 "
+    "widths_letters widths_wide boxes_exact boxes_fuzzy diff_letters diff_empty diff_wide style reset sets fill_reset "
+    "merge_same merge_half empty filled clone resize term_resize "
+    "ansi_text ansi_boxes ansi_colors ansi_wide ansi_few "
+    "crossterm_text crossterm_boxes crossterm_colors crossterm_wide crossterm_few "
+    "walk_text walk_boxes walk_colors walk_wide walk_few"
 ).split()
 SECONDS = 0.25
 
@@ -22,6 +29,11 @@ def run(program, workload, size, rounds):
     before = resource.getrusage(resource.RUSAGE_CHILDREN).ru_utime
     done = subprocess.run([program, workload, *map(str, size), str(rounds)], capture_output=True, text=True, check=True)
     return resource.getrusage(resource.RUSAGE_CHILDREN).ru_utime - before, done.stdout.strip()
+
+
+def knows(program, workload, size):
+    """Whether the program has the workload."""
+    return subprocess.run([program, workload, *map(str, size), "1"], capture_output=True).returncode == 0
 
 
 def rounds_for(program, workload, size):
@@ -57,13 +69,14 @@ def main():
     print("| workload |" + "".join(f" {name}, us |" for name, _ in programs) + " ratio |")
     print("|---|" + "---|" * (len(programs) + 1))
     for workload in options.only.split(","):
-        printed = {run(program, workload, size, 7)[1] for _, program in programs}
+        able = [(name, program) for name, program in programs if knows(program, workload, size)]
+        printed = {run(program, workload, size, 7)[1] for _, program in able}
         if len(printed) != 1:
             raise SystemExit(f"{workload}: the programs print different results: {printed}")
-        times = measure(programs, workload, size, options.runs)
-        first = times[programs[0][0]]
-        cells = "".join(f" {times[name]:.2f} |" for name, _ in programs)
-        ratios = ", ".join(f"{times[name] / first:.2f}" for name, _ in programs[1:])
+        times = measure(able, workload, size, options.runs)
+        first = times.get(programs[0][0])
+        cells = "".join(f" {times[name]:.2f} |" if name in times else " - |" for name, _ in programs)
+        ratios = ", ".join(f"{times[name] / first:.2f}" if first and name in times else "-" for name, _ in programs[1:])
         print(f"| `{workload}` |{cells} {ratios} |", flush=True)
 
 

@@ -53,9 +53,6 @@ module _ {X Y Z : Type 0} (f : X → Z) (g : Y → Z) (xs : List X) (ys : List Y
   pub same-at : (i : ℕ) → i < length xs → i < length ys → map f xs ≡ map g ys → f (get_or xs i d) ≡ g (get_or ys i e)
   same-at i in_xs in_ys same = sym (get_or-map f xs i d (f d) in_xs) ∙ ap (λ zs. get_or zs i (f d)) same ∙ get_or-map g ys i e (f d) in_ys
 
-  pub same-count : map f xs ≡ map g ys → length xs ≡ length ys
-  same-count same = sym (length-map xs f) ∙ ap length same ∙ length-map ys g
-
 -- the symbols of looks of cells
 pub history-symbols : {X : Type 0} (items : X → List Cell) (rows : List X) → map (map (λ look. look.symbol)) (map (λ row. map look_of (items row)) rows) ≡ map symbols (map items rows)
 history-symbols items [] = refl

@@ -23,9 +23,6 @@ Appends-nothing (Some a) = sym (append-nil a)
 pub HasWritten-more : (old mid new : Option (List ℕ)) (xs ys all : List ℕ) → HasWritten old mid (xs ++ ys) all → Appends mid new xs → HasWritten old new ys all
 HasWritten-more old mid new xs ys all before piece last more = before last (Appends-both mid new last xs ys piece more)
 
-pub HasWritten-all : (old new : Option (List ℕ)) (all : List ℕ) → HasWritten old new [] all → Appends old new all
-HasWritten-all old new all before = before new (Appends-nothing new)
-
 flat_map-first : (f : ℕ → List ℕ) (b n : ℕ) → 0 < n → flat_map f (range_with_len b n) ≡ f b ++ flat_map f (range_with_len (b + 1) (n - 1))
 flat_map-first f b zero lt = absurd (omega arith)
 flat_map-first f b (suc n) lt = simp (unary_clauses) refl

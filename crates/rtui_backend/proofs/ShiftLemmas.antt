@@ -53,17 +53,6 @@ rotated xs w fits blanked k = elim (cases_lt k (length xs - w)) [
 pub past_end : (xs : List Cell) (k : ℕ) → length xs ≤ k → cell xs k ≡ empty_cell
 past_end xs k past = get_or_past xs k empty_cell past
 
--- cells that are old ones or empty are plain
-pub AreUnmarked-moved : (old new : List Cell) (by : ℕ) → ((k : ℕ) → cell new k ≡ cell old (k + by)) → AreUnmarked old → AreUnmarked new
-AreUnmarked-moved old new by moved plain i = rw (moved i) (plain (i + by))
-
-pub AreUnmarked-blanked : (old new : List Cell) (which : ℕ → Bool) → ((k : ℕ) → cell new k ≡ if which k then empty_cell else cell old k) → AreUnmarked old → AreUnmarked new
-AreUnmarked-blanked old new which blanked plain i = rw (blanked i) (either (which i))
-  where
-    either : (b : Bool) → IsUnmarked (if b then empty_cell else cell old i)
-    either true = unmarked-empty
-    either false = plain i
-
 pub AreUnmarked-chosen : (old new : List Cell) (inside kept : ℕ → Bool) (place : ℕ → ℕ)
     → ((k : ℕ) → cell new k ≡ if inside k then (if kept k then cell old (place k) else empty_cell) else cell old k) → AreUnmarked old → AreUnmarked new
 AreUnmarked-chosen old new inside kept place chosen plain i = rw (chosen i) (either (inside i) (kept i))

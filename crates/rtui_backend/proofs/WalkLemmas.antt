@@ -34,27 +34,6 @@ module _ (row : ℕ → List ℕ) where
   unfolding pieces_end are_pieces
   pieces_end-not a p ps h = rw h
 
-  -- a turn of the walk along a text
-  pub end-turn : (s : Style) (end room width : ℕ) (left gs : List (List ℕ)) (g : List ℕ) (whole : Option ℕ) → left ≡ g ∷ gs → width ≡ painted_width g → 0 < width → width ≤ room - end
-      → is_piece row end g ≡ true → pieces_end row end (pieces s (kept (room - end) left)) ≡ whole → pieces_end row (end + width) (pieces s (kept (room - (end + width)) gs)) ≡ whole
-  end-turn s end room width left gs g whole is wide pos fits stands h =
-      let p : 0 < painted_width g = omega arith in
-      let same = painted_width-painted g p in
-      let fits' : text_width g ≤ room - end = omega arith in
-      let rest : room - (end + width) ≡ room - end - text_width g = omega arith in
-      let place : end + width ≡ end + text_width g = omega arith in
-      rw (rest, place) (sym (pieces_end-cons end (piece_of s g) (pieces s (kept (room - end - text_width g) gs)) stands)
-      ∙ ap (λ ks. pieces_end row end (pieces s ks)) (sym (kept-take (room - end) g gs p fits') ∙ ap (kept (room - end)) (sym is)) ∙ h)
-
-  pub end-not : (s : Style) (end room width : ℕ) (left gs : List (List ℕ)) (g : List ℕ) (whole : Option ℕ) → left ≡ g ∷ gs → width ≡ painted_width g → 0 < width → width ≤ room - end
-      → is_piece row end g ≡ false → pieces_end row end (pieces s (kept (room - end) left)) ≡ whole → None ≡ whole
-  end-not s end room width left gs g whole is wide pos fits stands h =
-      let p : 0 < painted_width g = omega arith in
-      let same = painted_width-painted g p in
-      let fits' : text_width g ≤ room - end = omega arith in
-      sym (pieces_end-not end (piece_of s g) (pieces s (kept (room - end - text_width g) gs)) stands)
-      ∙ ap (λ ks. pieces_end row end (pieces s ks)) (sym (kept-take (room - end) g gs p fits') ∙ ap (kept (room - end)) (sym is)) ∙ h
-
   pub spans_end-one : (w a : ℕ) (s : SpanData) → spans_end row w a (s ∷ []) ≡ pieces_end row a (text_pieces (w - a) new_style s.content)
   unfolding spans_end
   spans_end-one w a s = at_end-Some (pieces_end row a (text_pieces (w - a) new_style s.content))

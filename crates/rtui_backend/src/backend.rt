@@ -1,4 +1,4 @@
-ghost use Rattle.std.specs.Prelude.{◌≡◌, ℕ, List, map, true, false, IfOk, OnOk};
+ghost use Rattle.std.specs.Prelude.{◌≡◌, ℕ, Bool, List, map, true, false, IfOk, OnOk};
 ghost use Rattle.std.specs.Iterator.{IsFinite, Drains};
 ghost use Rattle.rtui_cell.specs.declared.cell.Cell.{Cell};
 ghost use Rattle.rtui_cell.specs.Grid.{update_by};
@@ -40,12 +40,17 @@ impl AsCell for &Cell {
 
 /// What a terminal draws on. Each call says what an Ok does to the screen; after an Err nothing is said of
 /// the screen, and the count of failures is one more.
+///
+/// `is_flushed` says that nothing of what was written is held back: so it is after an Ok `flush`, a call that only
+/// asks leaves it, and any other call may end it. A backend whose writes are seen at once is always flushed.
 pub trait Backend {
     type Error: Error;
 
     ghost screen: { Self → Screen };
 
     ghost failures: { Self → ℕ };
+
+    ghost is_flushed: { Self → Bool };
 
     /// Puts each cell in its column and row, in order: the column gets the cell's look, and the columns behind
     /// it that the cell covers are emptied. Off the screen nothing changes. The cursor may end anywhere.
@@ -99,6 +104,7 @@ pub trait Backend {
         ensures ok { IfOk result (λ position. position ≡ cursor_of (screen self.old)) }
         ensures on_grid { OnOk result (IsOnGrid (screen self.old)) }
         ensures stays { OnOk result (screen self.new ≡ screen self.old) }
+        ensures held { OnOk result (is_flushed self.new ≡ is_flushed self.old) }
         ensures counts { Counts result (failures self.old) (failures self.new) };
 
     /// Moves the cursor; its column and its row are each kept on the screen.
@@ -113,6 +119,7 @@ pub trait Backend {
             × (place.1 ≡ (screen self.old).cursor_y)) }
         ensures on_grid { OnOk result (IsOnGrid (screen self.old)) }
         ensures stays { OnOk result (screen self.new ≡ screen self.old) }
+        ensures held { OnOk result (is_flushed self.new ≡ is_flushed self.old) }
         ensures counts { Counts result (failures self.old) (failures self.new) }
     {
         let position = self.get_cursor_position()?;
@@ -141,16 +148,19 @@ pub trait Backend {
     fn size(&mut self) -> Result<Size, Self::Error>
         ensures ok { IfOk result (λ size. size ≡ size_of (screen self.old)) }
         ensures stays { OnOk result (screen self.new ≡ screen self.old) }
+        ensures held { OnOk result (is_flushed self.new ≡ is_flushed self.old) }
         ensures counts { Counts result (failures self.old) (failures self.new) };
 
     /// The size in columns and rows, and in pixels where they are known.
     fn window_size(&mut self) -> Result<WindowSize, Self::Error>
         ensures ok { IfOk result (λ window. window.columns_rows ≡ size_of (screen self.old)) }
         ensures stays { OnOk result (screen self.new ≡ screen self.old) }
+        ensures held { OnOk result (is_flushed self.new ≡ is_flushed self.old) }
         ensures counts { Counts result (failures self.old) (failures self.new) };
 
     /// Sends what is still held back; the screen stays as it is.
     fn flush(&mut self) -> Result<(), Self::Error>
         ensures ok { OnOk result (screen self.new ≡ screen self.old) }
+        ensures flushed { OnOk result (is_flushed self.new ≡ true) }
         ensures counts { Counts result (failures self.old) (failures self.new) };
 }

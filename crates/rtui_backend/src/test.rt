@@ -308,6 +308,8 @@ impl Backend for TestBackend {
 
     ghost failures = { failures_of };
 
+    ghost is_flushed = { λ b. true };
+
     fn draw<C: AsCell, I: Iterator<Item = (u16, u16, C)>>(
         &mut self,
         content: I,
@@ -351,6 +353,7 @@ impl Backend for TestBackend {
     fn scroll_region_up(&mut self, region: Range<u16>, n: u16) -> Result<(), TestError>
         ensures ok { OnOk result (ScrollsUp region.start region.end n
             (screen_of self.old) (screen_of self.new)) }
+        ensures short { 0 < region.start → result ≡ Err TestError.Memory → ⊥ }
         ensures cursor { cursor_of (screen_of self.new) ≡ cursor_of (screen_of self.old) }
         ensures refused { OnErr result (screen_of self.new ≡ screen_of self.old) }
         ensures counts { Counts result (failures_of self.old) (failures_of self.new) }

@@ -16,22 +16,6 @@ use Rattle.rtui_buffer.proofs.EmptyLemmas.{cell-empty}
 use Rattle.rtui_buffer.specs.Painting.{IsSameOutside}
 use Rattle.rtui_buffer.specs.Overlay.{IsOverlay, IsExtended, IsAround, is_in_block, IsBlockAt, IsBlockIn}
 
--- a swap of one more cell
-pub moved-more : (to from k : ℕ) (cells : List Cell) (was block former : List Cell) → to + k < length cells
-    → ((j : ℕ) → j < k → cell cells (to + j) ≡ cell was (from + j)) → cell block (from + k) ≡ cell was (from + k)
-    → (j : ℕ) → j < k + 1 → cell (set cells (to + k) (cell block (from + k))) (to + j) ≡ cell was (from + j)
-moved-more to from k cells was block former lt before here j less =
-    ⊎_elim
-    (λ (earlier : j < k). (let ne : to + j ≢ to + k = omega arith in get_or-set_other cells (to + k) (to + j) (cell block (from + k)) empty_cell ne) ∙ before j earlier)
-    (λ (not_earlier : k ≤ j).
-    let same : k ≡ j = omega arith in
-    subst (λ n. cell (set cells (to + k) (cell block (from + k))) (to + n) ≡ cell was (from + n)) same
-    (get_or-set_same cells (to + k) (cell block (from + k)) empty_cell lt ∙ here))
-    (cases_lt j k)
-
-pub IsBlockAt-none : (w left top columns : ℕ) (block cells : List Cell) → IsBlockAt w left top columns 0 block cells cells
-IsBlockAt-none w left top columns block cells = record { count = refl; at = λ a b lt. grind (arith, nat_tests) }
-
 rows_before : (w b c : ℕ) → b < c → b * w + w ≤ c * w
 rows_before w b c lt = row_fits b w c w lt (omega arith)
 
@@ -84,9 +68,6 @@ module _ (w left top columns row : ℕ) (block old now more given : List Cell) (
 pub row_ends : (w left columns b rows : ℕ) → left + columns ≤ w → b < rows → b * w + left + columns ≤ w * rows
 row_ends w left columns b rows fits lt =
     let r = rows_before w b rows lt in let e = mul_comm rows w in omega arith
-
-pub block_ends : (columns b rows : ℕ) → b < rows → b * columns + columns ≤ columns * rows
-block_ends columns b rows lt = let r = rows_before columns b rows lt in let e = mul_comm rows columns in omega arith
 
 -- the cell at a position, in the list of an area
 abbrev cell_over : Rect → List Cell → Position → Cell
@@ -141,13 +122,6 @@ IsAround-second a b f g =
 -- a list that was filled up from none is empty throughout
 pub filled-empty : (n m : ℕ) (none filled : List Cell) → filled ≡ take n none ++ empty_cells m → none ≡ [] → (i : ℕ) → cell filled i ≡ empty_cell
 filled-empty n m none filled e f i = rw (e, f, take-nil n) (cell-empty m i)
-
-pub IsExtended-same : (r : Rect) (s : Sheet) → r ≡ s.area → IsExtended r s s
-IsExtended-same r s e = record {
-  over = sym e;
-  of_old = λ p h. refl;
-  of_none = λ p h not_in. absurd (not_in (subst (λ t. HasPosition t p) e h));
-}
 
 pub IsExtended-block : (r : Rect) (old new : Sheet) (empty cells : List Cell) → new.area ≡ r → new.cells ≡ cells → EdgesFit old.area → IsAround r old.area
     → ((i : ℕ) → cell empty i ≡ empty_cell) → IsBlockIn r old.area old.cells empty cells → IsExtended r old new

@@ -54,10 +54,6 @@ plain_same p n e f = plain_by (is_skipped n) (is_always n) (is_same p n) e f
     plain_by false false true e f = refl
     plain_by false false false e f = absurd (false≢true (sym e))
 
-and_right : (a b : Bool) → (a && b) ≡ true → b ≡ true
-and_right true b e = e
-and_right false b e = absurd (false≢true e)
-
 unskipped_by : (s x : Bool) → (not s && x) ≡ true → s ≡ false
 unskipped_by true x e = absurd (false≢true e)
 unskipped_by false x e = refl

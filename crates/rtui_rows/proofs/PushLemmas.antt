@@ -48,16 +48,6 @@ pushed_none s q = record {
 pub raised_none : (s : Sheet) (i d : ℕ) (q : Screen) → HasRaised s i 0 d q q
 raised_none s i d q = record { shape = same_shape q; above = no_part s i (rows_above q d); below = λ a b a_in b_in low. refl; few = λ narrow room. omega arith }
 
-pub lowered_none : (s : Sheet) (r : Rect) (q : Screen) → HasLowered s 0 r q q
-lowered_none s r q =
-    let top : r.y + 0 ≡ r.y = omega arith in record {
-      shape = same_shape q;
-      above = subst (λ e. AppendsPart s 0 0 (rows_above q r.y) (rows_above q e)) (sym top) (no_part s 0 (rows_above q r.y));
-      moved = λ a b a_in b_in. ap (λ e. q.grid a (e + b)) top;
-      below = λ a b a_in b_in low. refl;
-      few = λ narrow room. omega arith;
-    }
-
 -- one more row put on the first row of the screen, and scrolled off
 module _ (s : Sheet) (k : ℕ) (old cur mid new : Screen) (before : HasPushed s k old cur) (fit : RowsFit s 1 0 old) (settled : IsSettledSheet s) (inside : k + 1 ≤ s.area.height) (up : ScrollsUp 0 1 1 mid new) where
   fit_now : RowsFit s 1 0 cur

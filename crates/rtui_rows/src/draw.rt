@@ -1,6 +1,6 @@
 //! Rows of a buffer, drawn on a screen.
 
-ghost use Rattle.std.specs.Prelude.{◌≡◌, ◌+◌, ◌<◌, ◌≤◌, OnOk};
+ghost use Rattle.std.specs.Prelude.{◌≡◌, ◌+◌, ◌<◌, ◌≤◌, true, OnOk};
 ghost use Rattle.rtui_buffer.specs.Sheet.{IsEmptied};
 ghost use Rattle.rtui_backend.specs.Failures.{Counts};
 ghost use Rattle.rtui_rows.specs.Rows.{DrawsRows, DrawsFirstRow};
@@ -29,6 +29,7 @@ pub fn draw_rows<B: Backend>(
         (B.screen backend.old) (B.screen backend.new)) }
     ensures shape { OnOk result
         (KeepsSizeAndVisibility (B.screen backend.old) (B.screen backend.new)) }
+    ensures flushed { OnOk result (B.is_flushed backend.new ≡ true) }
     ensures counts { Counts result (B.failures backend.old) (B.failures backend.new) }
 {
     let updates = diff_rows(former, 0, rows, first, count);
@@ -50,6 +51,7 @@ pub fn draw_first_row<B: Backend>(
     ensures blank { IsEmptied rows.now.area blank.new }
     ensures shape { OnOk result
         (KeepsSizeAndVisibility (B.screen backend.old) (B.screen backend.new)) }
+    ensures flushed { OnOk result (B.is_flushed backend.new ≡ true) }
     ensures counts { Counts result (B.failures backend.old) (B.failures backend.new) }
 {
     let columns = usize::from(rows.area().width);

@@ -1,6 +1,6 @@
 //! Rows that come in above a viewport, by scrolling parts of the screen.
 
-ghost use Rattle.std.specs.Prelude.{◌≡◌, ◌+◌, ◌-◌, ◌<◌, ◌≤◌, min, IfOk, OnOk};
+ghost use Rattle.std.specs.Prelude.{◌≡◌, ◌+◌, ◌-◌, ◌<◌, ◌≤◌, min, true, IfOk, OnOk};
 ghost use Rattle.rtui_geometry.specs.Rect.{EdgesFit};
 ghost use Rattle.rtui_buffer.specs.Sheet.{IsEmptied};
 ghost use Rattle.rtui_backend.specs.Failures.{Counts};
@@ -51,6 +51,7 @@ pub fn insert_down<B: Backend>(
     ensures ok { IfOk result (InsertsDown rows.now viewport height
         (B.screen backend.old) (B.screen backend.new)) }
     ensures count { IfOk result (λ n. n ≡ rows_down rows.now.area.height viewport height) }
+    ensures flushed { IfOk result (λ n. 0 < n → B.is_flushed backend.new ≡ true) }
     ensures shape { OnOk result
         (KeepsSizeAndVisibility (B.screen backend.old) (B.screen backend.new)) }
     ensures counts { Counts result (B.failures backend.old) (B.failures backend.new) }
@@ -66,7 +67,7 @@ pub fn insert_down<B: Backend>(
 }
 
 /// Scrolls the rows above row `top` up, as far as there are any at a time, and draws the rows of a buffer from row `first`
-/// on above `top`. The screen's rows from `top` on are as before.
+/// on above `top`. The screen's rows from `top` on are as before. A flush follows each drawing.
 pub fn insert_up<B: Backend>(
     backend: &mut B,
     blank: &Buffer,
@@ -79,6 +80,9 @@ pub fn insert_up<B: Backend>(
     requires room { first < rows.now.area.height → 0 < top }
     ensures ok { OnOk result (InsertsUp rows.now first top
         (B.screen backend.old) (B.screen backend.new)) }
+    ensures flushed { OnOk result (
+        (first ≡ rows.now.area.height → B.is_flushed backend.old ≡ true)
+        → B.is_flushed backend.new ≡ true) }
     ensures shape { OnOk result
         (KeepsSizeAndVisibility (B.screen backend.old) (B.screen backend.new)) }
     ensures counts { Counts result (B.failures backend.old) (B.failures backend.new) }

@@ -85,9 +85,6 @@ no_index text h =
 abbrev answer_of : Option Color → Option ℕ → Option Color → Result Color ParseColorError
 answer_of named index hex = color_or_error (first_of named (first_of (option_map Indexed index) hex))
 
-pub read_name : (text : List ℕ) (c : Color) → named_color text ≡ Some c → Ok c ≡ color_or_error (color_of text)
-read_name text c named = sym (ap (λ x. answer_of x (color_index text) (hex_color text)) named)
-
 pub read_index : (text : List ℕ) (n : ℕ) → named_color text ≡ None → color_index text ≡ Some n → Ok (Indexed n) ≡ color_or_error (color_of text)
 read_index text n named index =
     sym (ap (λ x. answer_of x (color_index text) (hex_color text)) named ∙ ap (λ y. answer_of None y (hex_color text)) index)

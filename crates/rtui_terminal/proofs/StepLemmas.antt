@@ -55,11 +55,6 @@ raised_x w r = either (nat_lt r.width w)
     either true = refl
     either false = refl
 
-pub placed_in_place : (v : Viewport) (w : ℕ) (area : Rect) (o row : ℕ) → IsInPlace v (raised w (area_in v area o row))
-placed_in_place Fullscreen w area o row = tt
-placed_in_place (Inline n) w area o row = raised_x w (area_in (Inline n) area o row)
-placed_in_place (Fixed f) w area o row = tt
-
 -- an emptied screen, or an untouched one
 pub emptied_frame : (narrow : Bool) {s m : Screen} → EmptiesAllIf narrow s m → KeepsAllButLooks s m
 emptied_frame true p = p.frame

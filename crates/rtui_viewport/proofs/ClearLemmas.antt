@@ -57,29 +57,12 @@ none_needed r s empty = either (r.x == 0 && r.width == s.width) (flat empty)
     either true none = refl
     either false none = none
 
--- nothing was emptied
-pub empties_none : (s : Screen) (which : ℕ → ℕ → Bool) → ((a b : ℕ) → which a b ≡ false) → Empties which s s
-empties_none s which none = record { frame = frame_same s; grid = λ a b _ _. rw (none a b) refl }
-
 -- what a clear with the cursor at a place empties
 pub empties_cleared : (x y : ℕ) {s t : Screen} (kind : ClearType) (which : ℕ → ℕ → Bool) → Clears (with_cursor x y s) kind t
     → ((a b : ℕ) → a < s.width → b < s.height → is_cleared kind (min x (s.width - 1)) (min y (s.height - 1)) a b ≡ which a b) → Empties which s t
 empties_cleared x y kind which p same = record {
   frame = frame_cleared_at x y kind p;
   grid = λ a b a_in b_in. rw (← same a b a_in b_in) (p.grid a b a_in b_in);
-}
-
--- row after row
-pub rows_more : (top y : ℕ) {r s t : Screen} → Empties (is_between top y) r s → top ≤ y → top < r.height → Clears (with_cursor 0 y s) CurrentLine t
-    → Empties (is_between top (y + 1)) r t
-rows_more top y {r} {s} {t} p from in_it q = record {
-  frame = frame_more p.frame (frame_cleared_at 0 y CurrentLine q);
-  grid = λ a b a_in b_in.
-      let width = p.frame.size.width in
-      let height = p.frame.size.height in
-      let was = p.grid a b a_in b_in in
-      let is = q.grid a b (omega arith) (omega arith) in
-      grind (arith, nat_tests);
 }
 
 pub rows_all : (top y bottom : ℕ) {r s : Screen} → Empties (is_between top y) r s → bottom ≤ y → y ≤ bottom → Empties (is_between top bottom) r s
@@ -152,15 +135,6 @@ keeps_above n r {s} {t} on some p = above_same s t r.y p.frame.size.history p.fr
     (λ a b a_in b_in low.
     let above : nat_le (min r.y (s.height - 1)) b ≡ false = let bottom = on.bottom in grind (arith, nat_tests) in
     p.grid a b a_in b_in ∙ rw above refl)
-
-pub blank_below : (n : ℕ) (r : Rect) {s t : Screen} → Empties (is_emptied (Inline n) r s.height) s t → IsBlankBelow r t
-blank_below n r {s} {t} p = record {
-  at = λ a b a_in b_in low.
-      let width = p.frame.size.width in
-      let height = p.frame.size.height in
-      let below : nat_le (min r.y (s.height - 1)) b ≡ true = grind (arith, nat_tests) in
-      p.grid a b (omega arith) (omega arith) ∙ rw below refl;
-}
 
 -- a clear, behind which the cursor was set back
 module _ (found : Option Position) {r s t : Screen} (restored : t ≡ cursor_restored found s) where

@@ -26,25 +26,3 @@ places_inline n o s t on p = record {
   };
   above = above_kept p.scrolled (inline_top n s.height o s.cursor_y) ∙ ap (rows_above s) (top_is n o s on);
 }
-
--- where nothing scrolls
-pub scrolls_none : (s : Screen) → Scrolls s 0 s
-scrolls_none s = record {
-  history = sym (append-nil s.history);
-  width = refl;
-  height = refl;
-  visible = refl;
-  written = refl;
-  grid = λ a b a_in b_in. grind (arith, nat_tests);
-}
-
--- emptied where a viewport became narrower
-pub raises_none : (width former : ℕ) (s : Screen) → former ≤ width → EmptiesAllIf (nat_lt width former) s s
-raises_none width former s wide =
-    let is : nat_lt width former ≡ false = grind (arith, nat_tests) in
-    rw is refl
-
-pub raises_all : (width former : ℕ) {s t : Screen} → width < former → Clears s All t → EmptiesAllIf (nat_lt width former) s t
-raises_all width former narrow p =
-    let is : nat_lt width former ≡ true = grind (arith, nat_tests) in
-    rw is (clears_fullscreen p)

@@ -94,12 +94,6 @@ is_behind-far k x (h ∷ gs) le =
     let reach = end-le (x + text_width h) gs in
     rw (hides-none k x h (inr (omega arith))) (is_behind-far k (x + text_width h) gs le)
 
-pub is_behind-before : (k x : ℕ) (gs : List (List ℕ)) → k ≤ x → is_behind k x gs ≡ false
-unfolding is_behind
-is_behind-before k x [] le = refl
-is_behind-before k x (h ∷ gs) le =
-    rw (hides-none k x h (inl le)) (is_behind-before k (x + text_width h) gs (omega arith))
-
 cond-cons-some : (b : Bool) (h : List ℕ) (us : List (List ℕ)) → us ≢ [] → cond b (h ∷ us) us ≢ []
 cond-cons-some true h us n e = cc
 cond-cons-some false h us n e = n e
@@ -148,9 +142,6 @@ pub styled-twice : (s : Style) (c : Cell) (t : Option (List ℕ)) → styled s (
 styled-twice s c t = rw (colour-twice s.fg c.fg, colour-twice s.bg c.bg, colour-twice s.underline_color c.underline_color, bits-twice c.modifier.0 s.add_modifier.0 (2 ^ 16 - 1 - s.sub_modifier.0))
 
 -- ---- the column that gets it
-
-concat-one : (g : List ℕ) → concat (g ∷ []) ≡ g
-concat-one g = append-nil g
 
 concat-more : (ts : List (List ℕ)) (g : List ℕ) → concat (ts ++ g ∷ []) ≡ concat ts ++ g
 concat-more [] g = append-nil g

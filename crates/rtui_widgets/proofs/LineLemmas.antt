@@ -171,14 +171,6 @@ module _ (p : Part) (ps : List Part) (row part : List Cell) (start start1 start2
       let there : parts_rendered (p ∷ ps) (drop start row) ≡ take p.indent (drop start row) ++ (take p.width shown ++ parts_rendered ps (drop p.width shown)) = rendered-part p ps (drop start row) ∙ rw (← behind) refl in
       ap (behind_first start2 (parts_rendered ps)) lent ∙ here ∙ sym both ∙ sym (ap (λ cells. take start row ++ cells) there)
 
-pub parts-end : (skip : ℕ) (ss : List SpanData) (row : List Cell) → length ss ≡ 0 → row ≡ parts_rendered (parts skip ss) row
-parts-end skip [] row e = sym (parts-nil skip row)
-parts-end skip (s ∷ ss) row e = absurd (omega arith)
-
-pub parts-with : (skip : ℕ) (s : SpanData) (all ss : List SpanData) (row new : List Cell) → all ≡ s ∷ ss → skip < span_width s
-    → new ≡ parts_rendered (part_of skip s ∷ parts 0 ss) row → new ≡ parts_rendered (parts skip all) row
-parts-with skip s all ss row new is lt h = h ∙ ap (λ ps. parts_rendered ps row) (sym (ap (parts skip) is ∙ parts-take skip s ss lt))
-
 part-style-cases : (b : Bool) (p q : Part) (s : Style) → p.style ≡ s → q.style ≡ s → (cond b p q).style ≡ s
 part-style-cases true p q s e h = e
 part-style-cases false p q s e h = h

@@ -115,6 +115,3 @@ module _ (start width stride : ℕ) (apart : width ≤ stride) where
           subst (λ m. cells_of_row (rows (k + 1)) m more ≡ f m (cells_of_row (rows (k + 1)) m old)) here (own ∙ is ∙ ap (f k) former))
           (cases_lt j k);
     }
-
-  pub makes-none : (f : ℕ → List Cell → List Cell) (cells : List Cell) → MakesRows (rows 0) f cells cells
-  makes-none f cells = record { keeps = record { length_stays = refl; others = λ i out. refl }; rows = λ k lt. absurd (omega arith) }

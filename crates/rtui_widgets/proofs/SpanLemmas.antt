@@ -16,7 +16,8 @@ use Rattle.rtui_cell.specs.Width.{text_width}
 use Rattle.rtui_text.specs.Graphemes.{has_control}
 use Rattle.rtui_buffer.specs.Painting.{fitting, emptied, Piece, piece_width, with_piece, painted}
 use Rattle.rtui_widgets.specs.Span.{showing, goes_to, those_at, is_behind, column_with, columns_from, span_rendered}
-use Rattle.rtui_widgets.specs.Steps.{with_appended, with_grapheme, with_next, next_symbol, KeepsUnmarked}
+use Rattle.rtui_buffer.specs.Painting.{KeepsUnmarked}
+use Rattle.rtui_widgets.specs.Steps.{with_appended, with_grapheme, with_next, next_symbol}
 use Rattle.rtui_widgets.proofs.RowWith.{end_of_those, IsRowWith}
 use Rattle.rtui_widgets.proofs.ColumnLemmas.{end-append, those_at-far, is_behind-far, reached, first_reached, front-no_longer, symbol-here, column-behind, column-other, column-set, column-append}
 
@@ -256,9 +257,6 @@ front-end room gs whole left is h = sym (append-nil gs) ∙ ap (λ w. gs ++ w) (
 pub append-some : (gs : List (List ℕ)) (g : List ℕ) → gs ++ g ∷ [] ≢ []
 append-some [] g e = cc
 append-some (h ∷ gs) g e = cc
-
-pub append-some-or : (gs : List (List ℕ)) (g : List ℕ) (b : Bool) → b ≡ false → gs ++ g ∷ [] ≢ []
-append-some-or gs g b e = append-some gs g
 
 pub end-more : (x : ℕ) (gs : List (List ℕ)) (g : List ℕ) (width : ℕ) → width ≡ text_width g → x ≡ end_of_those 0 gs → x + width ≡ end_of_those 0 (gs ++ g ∷ [])
 end-more x gs g width w e = sym (end-append 0 gs g ∙ (let goal : end_of_those 0 gs + text_width g ≡ x + width = omega arith in goal))

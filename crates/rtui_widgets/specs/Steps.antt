@@ -2,17 +2,11 @@
 use Rattle.std.specs.Prelude.{ℕ, Bool, ◌+◌, ◌-◌, ◌||◌, ◌&&◌, nat_lt, List, Some, if◌then◌else◌, slice_index_or, slice_set}
 use Rattle.rtui_style.specs.declared.Style.{Style}
 use Rattle.rtui_cell.specs.declared.cell.Cell.{Cell}
-use Rattle.rtui_cell.specs.Cell.{empty_cell, styled, IsUnmarked}
-use Rattle.std.specs.Prelude.{◌≡◌}
-use Rattle.rtui_diff.specs.Cells.{cell}
+use Rattle.rtui_cell.specs.Cell.{empty_cell, styled}
 use Rattle.rtui_cell.specs.Symbol.{appended}
 use Rattle.rtui_cell.specs.Width.{text_width}
 use Rattle.rtui_buffer.specs.Painting.{emptied}
 use Rattle.rtui_widgets.specs.Span.{goes_to}
-
--- where a former cell has no option and no flag the new one has none
-pub record KeepsUnmarked (old new : List Cell) : Type 0 where
-  pub at : (k : ℕ) → IsUnmarked (cell old k) → IsUnmarked (cell new k)
 
 -- a cell with a text as its symbol, in a style
 abbrev pub with_grapheme : Style → List ℕ → Cell → Cell

@@ -4,7 +4,7 @@ ghost use Rattle.std.specs.Prelude.{◌≡◌, ◌⊎◌, MatchOption, IsOk, OnO
 ghost use Rattle.rtui_geometry.specs.Rect.{intersected};
 ghost use Rattle.rtui_widgets.specs.Rendering.{RendersSpan, RendersLine, RendersText, RendersShortSpan, RendersShortLine, RendersShortText, ChangesWithin, first_row};
 ghost use Rattle.rtui_widgets.specs.Clipped.{IsClipped};
-ghost use Rattle.rtui_widgets.specs.Steps.{KeepsUnmarked};
+ghost use Rattle.rtui_buffer.specs.Painting.{KeepsUnmarked};
 
 use crate::line::render_line;
 use crate::span::render_span;
@@ -30,7 +30,8 @@ fn part_in(buf: &Buffer, area: Rect) -> Option<Rect>
 pub(crate) fn span_in(span: &Span<'_>, area: Rect, buf: &mut Buffer) -> Result<(), AllocError>
     ensures ok { OnOk result (RendersSpan span.now area buf.old buf.new) }
     ensures err { OnErr result (ChangesWithin area buf.old buf.new) }
-    ensures first { OnErr result (ChangesWithin (first_row (intersected area buf.old.area)) buf.old buf.new) }
+    ensures first { OnErr result
+        (ChangesWithin (first_row (intersected area buf.old.area)) buf.old buf.new) }
     ensures short { RendersShortSpan span.now area buf.old → IsOk result }
     ensures marks { KeepsUnmarked buf.old.cells buf.new.cells }
 {
@@ -48,7 +49,8 @@ pub(crate) fn span_in(span: &Span<'_>, area: Rect, buf: &mut Buffer) -> Result<(
 pub(crate) fn line_in(line: &Line<'_>, area: Rect, buf: &mut Buffer) -> Result<(), AllocError>
     ensures ok { OnOk result (RendersLine line.now area buf.old buf.new) }
     ensures err { OnErr result (ChangesWithin area buf.old buf.new) }
-    ensures first { OnErr result (ChangesWithin (first_row (intersected area buf.old.area)) buf.old buf.new) }
+    ensures first { OnErr result
+        (ChangesWithin (first_row (intersected area buf.old.area)) buf.old buf.new) }
     ensures short { RendersShortLine line.now area buf.old → IsOk result }
     ensures marks { KeepsUnmarked buf.old.cells buf.new.cells }
 {

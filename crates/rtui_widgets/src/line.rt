@@ -7,7 +7,7 @@ ghost use Rattle.rtui_cell.specs.Cell.{styled};
 ghost use Rattle.rtui_cell.specs.Width.{text_columns};
 ghost use Rattle.rtui_text.specs.Widths.{span_width};
 ghost use Rattle.rtui_widgets.specs.IsPart.{IsPart};
-ghost use Rattle.rtui_widgets.specs.Steps.{KeepsUnmarked};
+ghost use Rattle.rtui_buffer.specs.Painting.{KeepsUnmarked};
 ghost use Rattle.rtui_widgets.specs.Line.{parts, parts_rendered, part_of, columns_before, line_rendered, last_fitting, AreShortParts, IsShortLine};
 
 use crate::span::render_span;

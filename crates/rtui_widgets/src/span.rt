@@ -5,7 +5,8 @@ ghost use Rattle.rtui_cell.specs.Symbol.{appended, IsShort};
 ghost use Rattle.rtui_cell.specs.Width.{text_width};
 ghost use Rattle.rtui_buffer.specs.Painting.{emptied};
 ghost use Rattle.rtui_widgets.specs.Span.{span_rendered, IsShortSpan};
-ghost use Rattle.rtui_widgets.specs.Steps.{KeepsUnmarked, with_grapheme, with_appended, with_next, next_symbol};
+ghost use Rattle.rtui_buffer.specs.Painting.{KeepsUnmarked};
+ghost use Rattle.rtui_widgets.specs.Steps.{with_grapheme, with_appended, with_next, next_symbol};
 
 use rtui_buffer::paint_printable;
 use rtui_cell::{Cell, CellWidth};

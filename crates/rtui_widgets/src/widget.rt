@@ -3,7 +3,7 @@ ghost use Rattle.rtui_geometry.specs.declared.rect.Rect.{Rect};
 ghost use Rattle.rtui_buffer.specs.Sheet.{Sheet};
 ghost use Rattle.rtui_widgets.specs.Rendering.{ChangesWithin, first_row};
 ghost use Rattle.rtui_geometry.specs.Rect.{intersected};
-ghost use Rattle.rtui_widgets.specs.Steps.{KeepsUnmarked};
+ghost use Rattle.rtui_buffer.specs.Painting.{KeepsUnmarked};
 
 use crate::buffer::{line_in, span_in, text_in};
 use rtui_buffer::Buffer;

@@ -1,6 +1,6 @@
 //! Rows that leave the screen, and parts of it that are emptied.
 
-ghost use Rattle.std.specs.Prelude.{◌≡◌, ◌+◌, ◌-◌, ◌*◌, ◌^◌, ◌<◌, ◌≤◌, ◌&&◌, min, ℕ, nat_lt, nat_le, ◌==◌, if◌then◌else◌, length, [], map, OnOk, OnErr, IfOk};
+ghost use Rattle.std.specs.Prelude.{◌≡◌, ◌+◌, ◌-◌, ◌*◌, ◌^◌, ◌<◌, ◌≤◌, ◌&&◌, min, ℕ, nat_lt, nat_le, ◌==◌, if◌then◌else◌, length, [], map, IsOk, OnOk, OnErr, IfOk};
 ghost use Rattle.std.specs.List.{range_with_len};
 ghost use Rattle.rtui_cell.specs.Cell.{empty_cell};
 ghost use Rattle.rtui_cell.specs.Look.{look_of};
@@ -130,6 +130,8 @@ fn leaving_rows(
     ensures looks { IfOk result (λ rows. map (λ row. map look_of row.items) rows.items
         ≡ (if start == 0 then map (λ b. map (λ a. look_at cells.now (b * width + a))
         (range_with_len 0 width)) (range_with_len 0 count) else [])) }
+    ensures none { 0 < start → IfOk result (λ rows. rows.items ≡ []) }
+    ensures short { 0 < start → IsOk result }
     ensures unmarked { AreUnmarked cells.now → IfOk result (λ rows.
         AreUnmarkedRows (map (λ row. row.items) rows.items)) }
 {
@@ -227,6 +229,7 @@ impl TestBackend {
     pub fn scroll_up(&mut self, region: Range<u16>, n: u16) -> Result<(), AllocError>
         ensures ok { OnOk result
             (ScrollsUp region.start region.end n (screen_of self.old) (screen_of self.new)) }
+        ensures short { 0 < region.start → IsOk result }
         ensures cursor { cursor_of (screen_of self.new) ≡ cursor_of (screen_of self.old) }
         ensures memory { OnErr result (screen_of self.new ≡ screen_of self.old) }
         ensures failures { failures_of self.new ≡ failures_of self.old }

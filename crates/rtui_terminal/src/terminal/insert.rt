@@ -1,4 +1,4 @@
-ghost use Rattle.std.specs.Prelude.{◌≡◌, ◌<◌, ◌≤◌, Ok, OnOk, OnErr};
+ghost use Rattle.std.specs.Prelude.{◌≡◌, ◌<◌, ◌≤◌, true, Ok, OnOk, OnErr};
 ghost use Rattle.rtui_buffer.specs.Sheet.{IsEmptied};
 ghost use Rattle.rtui_viewport.specs.Viewports.{IsInline};
 ghost use Rattle.rtui_rows.specs.Filling.{AcceptsRows, FillsRows};
@@ -28,6 +28,7 @@ impl<B: Backend> Terminal<B> {
         requires known { 0 < self.old.known_area.height }
         requires covers { self.old.known_area.height ≤ self.old.viewport_area.height }
         ensures ok { OnOk result (Inserts B.screen rows.now self.old self.new) }
+        ensures flushed { OnOk result (B.is_flushed self.new.backend ≡ true) }
         ensures err { OnErr result
             (StopsInserting B.screen rows.now.area.height self.old self.new) }
         ensures only { FailsOnlyByBackend result }
@@ -38,7 +39,10 @@ impl<B: Backend> Terminal<B> {
             Err(error) => return Err(TerminalError::Backend(error)),
         }
         if *self.older.area() != self.viewport_area {
-            return Ok(());
+            return match self.backend.flush() {
+                Ok(()) => Ok(()),
+                Err(error) => Err(TerminalError::Backend(error)),
+            };
         }
         match draw_rows(&mut self.backend, blank, &self.older, 0, 1, 0) {
             Ok(()) => Ok(()),
@@ -57,6 +61,7 @@ impl<B: Backend> Terminal<B> {
         requires some { 0 < rows.now.area.height }
         requires known { 0 < self.old.known_area.height }
         ensures ok { OnOk result (Inserts B.screen rows.now self.old self.new) }
+        ensures flushed { OnOk result (B.is_flushed self.new.backend ≡ true) }
         ensures err { OnErr result
             (StopsInserting B.screen rows.now.area.height self.old self.new) }
         ensures only { FailsOnlyByBackend result }
@@ -89,6 +94,8 @@ impl<B: Backend> Terminal<B> {
         requires accepts { AcceptsRows F.FnOnce draw_fn (inserted_area self.old height) }
         ensures outcome { let area = inserted_area self.old height in
             InsertsBy B.screen area (FillsRows F.FnOnce draw_fn area) self.old self.new result }
+        ensures flushed { IsInline self.old.viewport → 0 < height → 0 < self.old.known_area.height
+            → OnOk result (B.is_flushed self.new.backend ≡ true) }
         ensures faults { Faults result (B.failures self.old.backend) (B.failures self.new.backend) }
     {
         let area = Rect {
@@ -142,6 +149,8 @@ impl<B: Backend> Terminal<B> {
         ensures outcome { let area = inserted_area self.old height in
             IsInline self.old.viewport →
             InsertsBy B.screen area (FillsRows F.FnOnce draw_fn area) self.old self.new result }
+        ensures flushed { IsInline self.old.viewport → 0 < height → 0 < self.old.known_area.height
+            → OnOk result (B.is_flushed self.new.backend ≡ true) }
         ensures faults { Faults result (B.failures self.old.backend) (B.failures self.new.backend) }
     {
         match self.viewport {

@@ -1,4 +1,4 @@
-ghost use Rattle.std.specs.Prelude.{◌≡◌, ◌+◌, ◌%◌, ◌^◌, None, Ok, Err, IfOk, IfErr, MatchResult};
+ghost use Rattle.std.specs.Prelude.{◌≡◌, ◌+◌, ◌%◌, ◌^◌, true, None, Ok, Err, IfOk, OnOk, IfErr, MatchResult};
 ghost use Rattle.std.specs.Borrow.{sem, RestsIfErr};
 ghost use Rattle.rtui_buffer.specs.Frame.{IsSettledSheet};
 ghost use Rattle.rtui_terminal.specs.InStep.{IsInStep, IsReady};
@@ -61,6 +61,7 @@ impl<B: Backend> Terminal<B> {
     fn apply(&mut self, cursor: Option<Position>) -> Result<(), TerminalError<B::Error>>
         ensures outcome { MatchResult result (λ _. Applies B.screen cursor self.old self.new)
             (ApplyErr B.screen cursor self.old self.new) }
+        ensures flushed { OnOk result (B.is_flushed self.new.backend ≡ true) }
         ensures faults { Faults result (B.failures self.old.backend) (B.failures self.new.backend) }
     {
         self.write_frame(cursor)?;
@@ -87,6 +88,8 @@ impl<B: Backend> Terminal<B> {
         ensures drawn { let ran = PaintsCurrent F.FnOnce render_callback in
             MatchResult result (FrameOk B.screen ran self.old self.new)
             (FrameErr B.screen ran self.old self.new) }
+        ensures flushed { IfOk result (λ answer. OnOk answer
+            (B.is_flushed self.new.backend ≡ true)) }
         ensures faults { Faults result (B.failures self.old.backend) (B.failures self.new.backend) }
     {
         self.autoresize()?;
@@ -110,6 +113,7 @@ impl<B: Backend> Terminal<B> {
         ensures drawn { let ran = PaintsCurrent F.FnOnce render_callback in
             MatchResult result (λ _. DrawOk B.screen ran self.old self.new)
             (DrawErr B.screen ran self.old self.new) }
+        ensures flushed { OnOk result (B.is_flushed self.new.backend ≡ true) }
         ensures faults { Faults result (B.failures self.old.backend) (B.failures self.new.backend) }
     {
         match self.paint_and_apply(render_callback)? {
@@ -126,6 +130,7 @@ impl<B: Backend> Terminal<B> {
         ensures drawn { let ran = PaintsCurrent F.FnOnce render_callback in
             MatchResult result (λ _. DrawOk B.screen ran self.old self.new)
             (TryDrawErr B.screen ran self.old self.new) }
+        ensures flushed { OnOk result (B.is_flushed self.new.backend ≡ true) }
         ensures faults { Faults result (B.failures self.old.backend) (B.failures self.new.backend) }
     {
         match self.paint_and_apply(render_callback)? {
@@ -159,6 +164,8 @@ impl<B: Backend> Terminal<B> {
             DrawOk B.screen (PaintsCurrent F.FnOnce render_callback) self.old frame.terminal.now) }
         ensures in_step { IfOk result (λ frame. IsReady B.screen self.old
             → IsSettledSheet frame.terminal.now.older → IsInStep B.screen frame.terminal.now) }
+        ensures flushed { IfOk result (λ frame.
+            B.is_flushed frame.terminal.now.backend ≡ true) }
         ensures frame { IfOk result (λ frame. CompletesFrame B.failures self.old
             frame.terminal.now frame.area frame.count) }
     {
@@ -191,6 +198,8 @@ impl<B: Backend> Terminal<B> {
             DrawOk B.screen (PaintsCurrent F.FnOnce render_callback) self.old frame.terminal.now) }
         ensures in_step { IfOk result (λ frame. IsReady B.screen self.old
             → IsSettledSheet frame.terminal.now.older → IsInStep B.screen frame.terminal.now) }
+        ensures flushed { IfOk result (λ frame.
+            B.is_flushed frame.terminal.now.backend ≡ true) }
         ensures frame { IfOk result (λ frame. CompletesFrame B.failures self.old
             frame.terminal.now frame.area frame.count) }
     {
@@ -214,6 +223,8 @@ impl<B: Backend> Terminal<B> {
         ensures same_terminal { IfOk result (λ frame.
             frame.terminal.ghost_name ≡ self.entry.ghost_name) }
         ensures applied { IfOk result (λ frame. Applies B.screen None self.old frame.terminal.now) }
+        ensures flushed { IfOk result (λ frame.
+            B.is_flushed frame.terminal.now.backend ≡ true) }
         ensures frame { IfOk result (λ frame. CompletesFrame B.failures self.old
             frame.terminal.now frame.area frame.count) }
     {
@@ -235,6 +246,8 @@ impl<B: Backend> Terminal<B> {
             frame.terminal.ghost_name ≡ self.entry.ghost_name) }
         ensures applied { IfOk result (λ frame.
             Applies B.screen cursor_position self.old frame.terminal.now) }
+        ensures flushed { IfOk result (λ frame.
+            B.is_flushed frame.terminal.now.backend ≡ true) }
         ensures frame { IfOk result (λ frame. CompletesFrame B.failures self.old
             frame.terminal.now frame.area frame.count) }
     {

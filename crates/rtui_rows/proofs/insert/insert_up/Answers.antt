@@ -11,6 +11,7 @@ loop-done-init g c = let same : c.area.result.now.height ≡ c.args.rows.now.are
   first = omega arith;
   counts = search rules;
   shape = search rules;
+  flushed = search rules;
   raised = λ wide fits settled. raised_by c.args.rows.now c.args.first _ 0 c.args.top _ _ (omega arith) (raised_none c.args.rows.now c.args.first c.args.top (g.B.Backend.screen c.args.backend.now));
 }
 
@@ -23,6 +24,7 @@ loop-done-preserved g c =
       first = omega arith;
       counts = search rules;
       shape = grind (arith, common_steps);
+      flushed = search rules;
       raised = λ wide fits settled.
           raised_by c.args.rows.now c.args.first _ (c.loop-done.done - c.args.first + c.min-count.result) c.args.top _ _ (omega arith)
           (raised_more c.args.rows.now c.args.first (c.loop-done.done - c.args.first) c.loop-done.done c.args.top c.min-count.result _ _ _ _ (omega arith) (before.raised wide fits settled) wide fits settled (omega arith) (c.requires.room (omega arith)) (omega arith) c.in_ok-scroll_region_up.ensures.ok c.args.blank.now c.requires.blank (omega arith) c.in_ok-draw_rows.ensures.ok);

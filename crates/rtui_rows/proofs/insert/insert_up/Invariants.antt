@@ -1,4 +1,4 @@
-use Rattle.std.proofs.Common.{◌≡◌, ◌-◌, ◌≤◌}
+use Rattle.std.proofs.Common.{◌≡◌, ◌-◌, ◌≤◌, true}
 use Rattle.rtui_buffer.specs.Frame.{IsSettledSheet}
 use Rattle.rtui_rows.specs.Insertion.{KeepsSizeAndVisibility}
 use Rattle.rtui_rows.specs.Scrolling.{HasRaised}
@@ -11,6 +11,7 @@ invariant-loop-done g l = record {
   first : l.fn.first ≤ l.done;
   counts : g.B.Backend.failures l.backend ≡ g.B.Backend.failures l.fn.backend;
   shape : KeepsSizeAndVisibility (g.B.Backend.screen l.fn.backend) (g.B.Backend.screen l.backend);
+  flushed : (l.fn.first ≡ l.done → g.B.Backend.is_flushed l.fn.backend ≡ true) → g.B.Backend.is_flushed l.backend ≡ true;
   raised : l.rows.area.width ≡ (g.B.Backend.screen l.fn.backend).width → l.fn.top ≤ (g.B.Backend.screen l.fn.backend).height → IsSettledSheet l.rows
       → HasRaised l.rows l.fn.first (l.done - l.fn.first) l.fn.top (g.B.Backend.screen l.fn.backend) (g.B.Backend.screen l.backend);
 }

@@ -1,5 +1,5 @@
 use Rattle.std.proofs.Common.{◌-◌, length}
-use Rattle.rtui_widgets.specs.Steps.{KeepsUnmarked}
+use Rattle.rtui_buffer.specs.Painting.{KeepsUnmarked}
 use Rattle.rtui_widgets.proofs.SpanLemmas.{unmarked-then, unmarked-written, unmarked-styled}
 use Rattle.rtui_widgets.proofs.line.render_line.Goals as goal
 

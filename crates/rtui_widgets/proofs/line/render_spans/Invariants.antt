@@ -1,6 +1,6 @@
 use Rattle.std.proofs.Common.{◌≡◌, ◌-◌, ◌≤◌, length, drop}
 use Rattle.rtui_widgets.specs.Line.{parts, behind_first, parts_rendered, AreShortParts}
-use Rattle.rtui_widgets.specs.Steps.{KeepsUnmarked}
+use Rattle.rtui_buffer.specs.Painting.{KeepsUnmarked}
 use Rattle.rtui_widgets.proofs.line.render_spans.Given as goal
 
 abbrev pub invariant-loop-span : goal.invariant-loop-span

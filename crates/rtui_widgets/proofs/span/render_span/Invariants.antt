@@ -3,7 +3,7 @@ use Rattle.unicode_segmentation.specs.Grapheme.{graphemes}
 use Rattle.unicode_segmentation.specs.Iter.{graphemes_left}
 use Rattle.rtui_widgets.specs.Span.{showing}
 use Rattle.rtui_widgets.proofs.RowWith.{end_of_those, IsRowWith}
-use Rattle.rtui_widgets.specs.Steps.{KeepsUnmarked}
+use Rattle.rtui_buffer.specs.Painting.{KeepsUnmarked}
 use Rattle.rtui_widgets.proofs.span.render_span.Given as goal
 
 abbrev pub invariant-loop-grapheme : goal.invariant-loop-grapheme

@@ -1,6 +1,6 @@
 use Rattle.rtui_widgets.specs.Rendering.{text_row}
 use Rattle.rtui_widgets.specs.Rows.{MakesRows}
-use Rattle.rtui_widgets.specs.Steps.{KeepsUnmarked}
+use Rattle.rtui_buffer.specs.Painting.{KeepsUnmarked}
 use Rattle.rtui_widgets.proofs.text.render_rows.Given as goal
 
 abbrev pub invariant-loop-k : goal.invariant-loop-k

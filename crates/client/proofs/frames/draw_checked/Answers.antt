@@ -1,6 +1,0 @@
-use Rattle.std.proofs.Common.{rules, subst}
-use Rattle.ratatui_core.specs.Terminal.{DrawsFrame}
-use Rattle.client.proofs.frames.draw_checked.Goals as goal
-
-pub returns-clause-drawn : goal.returns-clause-drawn
-returns-clause-drawn g c = subst (DrawsFrame g.B.Backend.screen c.args.terminal.now) (search rules) c.in_ok-frame.ensures.drawn.draws

@@ -1,4 +1,0 @@
-pub mod Labels
-pub mod Logging
-pub mod Restyling
-pub mod Renewing

@@ -1,5 +1,0 @@
-use Rattle.gauge.proofs.GaugeLemmas.{shows-gauge}
-use Rattle.gauge.proofs.frames.draw_gauge.Goals as goal
-
-pub returns-clause-shown : goal.returns-clause-shown
-returns-clause-shown g c = λ ready empty. shows-gauge g.B.Backend.screen c.args.gauge.now c.draw_widget.new.terminal c.draw_widget.result (c.draw_widget.ensures.shown ready empty) c.draw_widget.ensures.edges

@@ -1,0 +1,4 @@
+pub mod LabelLemmas
+pub mod LogLemmas
+pub mod RenewLemmas
+pub mod GaugeLemmas

@@ -1,0 +1,5 @@
+pub mod Gauges
+pub mod Labels
+pub mod Logging
+pub mod Restyling
+pub mod Renewing

@@ -1,0 +1,26 @@
+//! Examples on `ratatui_core` alone; docs/USING.md walks through them.
+//!
+//! [`draw_checked`] draws a frame on a terminal, [`log`] logs rows above it, [`renew`] makes a list of calls, and [`label`] paints on a
+//! buffer. [`Gauge`] is a widget of one's own: a labelled bar. [`draw_widget`] draws any widget over a whole frame, [`draw_text`] a
+//! text and [`draw_gauge`] a gauge.
+#![tactic(auto)]
+
+mod frames;
+mod gauge;
+#[cfg(test)]
+mod gauge_tests;
+mod labels;
+mod lines;
+mod logging;
+mod renewing;
+#[cfg(test)]
+mod tests;
+mod widget_frames;
+
+pub use frames::draw_checked;
+pub use gauge::Gauge;
+pub use labels::{label, pieces_stand};
+pub use lines::restyle_first;
+pub use logging::log;
+pub use renewing::renew;
+pub use widget_frames::{draw_gauge, draw_text, draw_widget};
