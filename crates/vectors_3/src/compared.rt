@@ -33,6 +33,8 @@ impl Backend for CursorOnly<'_> {
 
     ghost failures = { λ b. b.failures };
 
+    ghost is_flushed = { λ b. true };
+
     fn draw<C: AsCell, I: Iterator<Item = (u16, u16, C)>>(
         &mut self,
         content: I,
@@ -151,6 +153,8 @@ impl Backend for Refusing {
     ghost screen = { λ b. record { history = []; width = b.size.width; height = b.size.height; grid = λ _ _. empty_look; cursor_x = 0; cursor_y = 0; visible = true; written = 0 } };
 
     ghost failures = { λ b. b.failures };
+
+    ghost is_flushed = { λ b. true };
 
     fn draw<C: AsCell, I: Iterator<Item = (u16, u16, C)>>(
         &mut self,
