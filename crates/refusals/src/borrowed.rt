@@ -1,5 +1,8 @@
-//! Copies of what borrows its text: they borrow it, too, and make no request for memory.
+//! What makes no request for memory: copies of what borrows its text, which borrow it, too, and symbols of at most 22 bytes.
 use crate::outcome::{Outcome, judged};
+use rtui_buffer::Buffer;
+use rtui_cell::Cell;
+use rtui_geometry::Rect;
 use rtui_style::{Color, Style};
 use rtui_text::{Masked, Span};
 use std::alloc::{AllocError, Global};
@@ -35,9 +38,34 @@ fn masked_copied(alloc: Global) -> Result<Outcome, AllocError> {
     }
 }
 
+// A symbol of 18 bytes: a family of three.
+const FAMILY: &str = "\u{1F468}\u{200D}\u{1F469}\u{200D}\u{1F467}";
+
+// The longest symbol that takes no memory.
+const LETTERS: &str = "aaaaaaaaaaaaaaaaaaaaaa";
+
+fn symbol_set(alloc: Global, symbol: &str, length: usize) -> Result<Outcome, AllocError> {
+    let mut cell = Cell::EMPTY;
+    let is_refused = cell.set_symbol(alloc, symbol).is_err();
+    Ok(judged(is_refused, true, cell.symbol().len() == length))
+}
+
+fn text_painted(alloc: Global) -> Result<Outcome, AllocError> {
+    let mut buffer = Buffer::empty(alloc, Rect::new(0, 0, 4, 1))?;
+    let is_refused = buffer.set_string(0, 0, "コン", Style::new()).is_err();
+    let is_right = buffer
+        .content()
+        .first()
+        .is_some_and(|cell| cell.symbol() == "コ");
+    Ok(judged(is_refused, true, is_right))
+}
+
 pub fn outcome_of(alloc: Global, number: usize) -> Result<Outcome, AllocError> {
     match number {
         0 => span_copied(alloc),
-        _ => masked_copied(alloc),
+        1 => masked_copied(alloc),
+        2 => symbol_set(alloc, FAMILY, 18),
+        3 => symbol_set(alloc, LETTERS, 22),
+        _ => text_painted(alloc),
     }
 }

@@ -29,7 +29,7 @@ use std::{env, io};
 const LAST: usize = 1500;
 
 // The cases by name, a group for each module.
-static NAMES: [&str; 80] = [
+static NAMES: [&str; 85] = [
     "set_string",
     "set_stringn",
     "set_span",
@@ -55,6 +55,8 @@ static NAMES: [&str; 80] = [
     "push_line of a text",
     "push_span of a text",
     "append of a text",
+    "try_from_iter of a line",
+    "try_from_iter of a text",
     "extend of spans",
     "try_extend of a line",
     "try_extend of a text",
@@ -110,6 +112,9 @@ static NAMES: [&str; 80] = [
     "run of a log to a writer that grows",
     "clone of a span that borrows its text: no memory",
     "clone of a masked text that borrows its own: no memory",
+    "set_symbol of 18 bytes: no memory",
+    "set_symbol of 22 bytes: no memory",
+    "set_string of two wide characters: no memory",
 ];
 
 fn outcome_of(alloc: Global, number: usize) -> Result<Outcome, AllocError> {
@@ -117,15 +122,15 @@ fn outcome_of(alloc: Global, number: usize) -> Result<Outcome, AllocError> {
         0..=8 => painting::outcome_of(alloc, number),
         9..=15 => buffers::outcome_of(alloc, number - 9),
         16..=20 => cells::outcome_of(alloc, number - 16),
-        21..=24 => texts::outcome_of(alloc, number - 21),
-        25..=27 => extends::outcome_of(alloc, number - 25),
-        28..=59 => made::outcome_of(alloc, number - 28),
-        60..=63 => backends::outcome_of(alloc, number - 60),
-        64..=70 => terminals::outcome_of(alloc, number - 64),
-        71 => scripts::played(alloc),
-        72 => scripts::run_over_memory(alloc),
-        73..=77 => logs::outcome_of(alloc, number - 73),
-        _ => borrowed::outcome_of(alloc, number - 78),
+        21..=26 => texts::outcome_of(alloc, number - 21),
+        27..=29 => extends::outcome_of(alloc, number - 27),
+        30..=61 => made::outcome_of(alloc, number - 30),
+        62..=65 => backends::outcome_of(alloc, number - 62),
+        66..=72 => terminals::outcome_of(alloc, number - 66),
+        73 => scripts::played(alloc),
+        74 => scripts::run_over_memory(alloc),
+        75..=79 => logs::outcome_of(alloc, number - 75),
+        _ => borrowed::outcome_of(alloc, number - 80),
     }
 }
 
