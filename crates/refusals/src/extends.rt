@@ -133,10 +133,32 @@ fn text_extended(alloc: Global) -> Result<Outcome, AllocError> {
     Ok(judged(true, is_left, is_right))
 }
 
+// A line of the spans that an iterator gives; refused, it keeps nothing.
+fn line_gathered(alloc: Global) -> Result<Outcome, AllocError> {
+    let given = Countless::new(spans_of(alloc, &GIVEN)?);
+    let again = Countless::new(spans_of(alloc, &GIVEN)?);
+    match Line::try_from_iter(alloc, given) {
+        Ok(line) => Ok(judged(false, true, line.width() == 4)),
+        Err(_) => Ok(judged(true, true, Line::try_from_iter(alloc, again)?.width() == 4)),
+    }
+}
+
+// The same of a text and its lines.
+fn text_gathered(alloc: Global) -> Result<Outcome, AllocError> {
+    let given = Countless::new(lines_of(alloc, &GIVEN)?);
+    let again = Countless::new(lines_of(alloc, &GIVEN)?);
+    match Text::try_from_iter(alloc, given) {
+        Ok(text) => Ok(judged(false, true, text.height() == 4)),
+        Err(_) => Ok(judged(true, true, Text::try_from_iter(alloc, again)?.height() == 4)),
+    }
+}
+
 pub fn outcome_of(alloc: Global, number: usize) -> Result<Outcome, AllocError> {
     match number {
         0 => spans_extended(alloc),
         1 => line_extended(alloc),
-        _ => text_extended(alloc),
+        2 => text_extended(alloc),
+        3 => line_gathered(alloc),
+        _ => text_gathered(alloc),
     }
 }

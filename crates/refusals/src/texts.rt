@@ -59,38 +59,11 @@ fn text_appended(alloc: Global) -> Result<Outcome, AllocError> {
     Ok(judged(is_refused, is_left, is_right && text.height() == 8))
 }
 
-// A line of the spans that an iterator gives.
-fn gathered_line(alloc: Global) -> Result<Outcome, AllocError> {
-    let spans = [Span::raw("a"), Span::raw("bc")];
-    match Line::try_from_iter(alloc, spans) {
-        Ok(line) => Ok(judged(false, true, line.width() == 3)),
-        Err(_) => {
-            let again = Line::try_from_iter(alloc, [Span::raw("a"), Span::raw("bc")])?;
-            Ok(judged(true, true, again.width() == 3))
-        }
-    }
-}
-
-// A text of the lines that an iterator gives.
-fn gathered_text(alloc: Global) -> Result<Outcome, AllocError> {
-    let lines = [Line::raw(alloc, "a")?, Line::raw(alloc, "bc")?];
-    let more = [Line::raw(alloc, "a")?, Line::raw(alloc, "bc")?];
-    match Text::try_from_iter(alloc, lines) {
-        Ok(text) => Ok(judged(false, true, text.height() == 2)),
-        Err(_) => {
-            let again = Text::try_from_iter(alloc, more)?;
-            Ok(judged(true, true, again.height() == 2))
-        }
-    }
-}
-
 pub fn outcome_of(alloc: Global, number: usize) -> Result<Outcome, AllocError> {
     match number {
         0 => span_pushed(alloc),
         1 => line_pushed(alloc),
         2 => span_pushed_on(alloc),
-        3 => text_appended(alloc),
-        4 => gathered_line(alloc),
-        _ => gathered_text(alloc),
+        _ => text_appended(alloc),
     }
 }
