@@ -35,6 +35,10 @@ same_width s blank emptied = ap (λ (r : Rect). r.width) (sym emptied.area)
 no_cells : (s : Sheet) (i : ℕ) → nonempty_cells s i 0 ≡ 0
 no_cells s i = let none : s.area.width * 0 ≡ 0 = omega arith in rw none refl
 
+-- the cells of k rows and of n more
+pub more_rows : (w k n : ℕ) → w * (k + n) ≡ w * k + w * n
+more_rows w k n = omega arith
+
 -- nothing yet
 pub pushed_none : (s : Sheet) (q : Screen) → HasPushed s 0 q q
 pushed_none s q = record {
@@ -43,18 +47,19 @@ pushed_none s q = record {
   blank = λ more. absurd (omega arith);
   below = λ a b a_in b_in low. refl;
   few = λ narrow room. omega arith;
+  most = λ room. omega arith;
 }
 
 pub raised_none : (s : Sheet) (i d : ℕ) (q : Screen) → HasRaised s i 0 d q q
-raised_none s i d q = record { shape = same_shape q; above = no_part s i (rows_above q d); below = λ a b a_in b_in low. refl; few = λ narrow room. omega arith }
+raised_none s i d q = record { shape = same_shape q; above = no_part s i (rows_above q d); below = λ a b a_in b_in low. refl; few = λ narrow room. omega arith; most = λ room. omega arith }
 
 -- one more row put on the first row of the screen, and scrolled off
 module _ (s : Sheet) (k : ℕ) (old cur mid new : Screen) (before : HasPushed s k old cur) (fit : RowsFit s 1 0 old) (settled : IsSettledSheet s) (inside : k + 1 ≤ s.area.height) (up : ScrollsUp 0 1 1 mid new) where
   fit_now : RowsFit s 1 0 cur
   fit_now = record { width = fit.width ∙ sym before.shape.width; bottom = omega (arith, fit.bottom, before.shape.height) }
 
-  pushed_one : ShowsRows s k 1 0 cur mid → (IsNarrowSheet s → WritesAtMost (min (k + 1) 1 * s.area.width + nonempty_cells s 0 (k + 1)) old mid) → HasPushed s (k + 1) old new
-  pushed_one shown few =
+  pushed_one : ShowsRows s k 1 0 cur mid → WritesAtMost (s.area.width * 1) cur mid → (IsNarrowSheet s → WritesAtMost (min (k + 1) 1 * s.area.width + nonempty_cells s 0 (k + 1)) old mid) → HasPushed s (k + 1) old new
+  pushed_one shown row few =
       let some : 1 ≤ mid.height = omega (arith, fit.bottom, before.shape.height, shown.height) in record {
         shape = record {
           width = up.width ∙ shown.width ∙ before.shape.width;
@@ -71,6 +76,11 @@ module _ (s : Sheet) (k : ℕ) (old cur mid new : Screen) (before : HasPushed s 
             below_scrolled (omega arith) some up a b (omega (arith, shown.width, before.shape.width)) (omega (arith, shown.height, before.shape.height)) (omega arith)
             ∙ shown.outside a b (inr (omega arith)) ∙ before.below a b a_in b_in low;
         few = λ narrow room. let le = few narrow room in omega (arith, le, up.written);
+        most = λ room.
+            let parts : s.area.width * (k + 1) ≡ s.area.width * k + s.area.width * 1 = more_rows s.area.width k 1 in
+            let so_far : cur.written ≤ old.written + s.area.width * k = before.most (omega (arith, parts)) in
+            let last : mid.written ≤ cur.written + s.area.width * 1 = row (omega (arith, parts, so_far)) in
+            omega (arith, parts, so_far, last, up.written);
       }
 
   -- the first one, whatever stood there
@@ -82,7 +92,7 @@ module _ (s : Sheet) (k : ℕ) (old cur mid new : Screen) (before : HasPushed s 
         settled = settled;
         shown = unknown_first drew.former cur drew.unknown;
       }) in
-      pushed_one (subst (λ j. ShowsRows s j 1 0 cur mid) (sym first) shown) (λ narrow room.
+      pushed_one (subst (λ j. ShowsRows s j 1 0 cur mid) (sym first) shown) (subst (λ w. WritesAtMost (w * 1) cur mid) (sym drew.width) (writes_rows drew.drawn)) (λ narrow room.
       let w : ℕ = s.area.width in
       let one : drew.former.area.width * 1 ≡ s.area.width = omega (arith, drew.width) in
       let whole : min (k + 1) 1 * s.area.width ≡ s.area.width = ap (λ m. m * s.area.width) (let e : min (k + 1) 1 ≡ 1 = omega arith in e) ∙ omega arith in
@@ -101,7 +111,7 @@ module _ (s : Sheet) (k : ℕ) (old cur mid new : Screen) (before : HasPushed s 
         settled = settled;
         shown = blank_first blank 1 0 cur (own_area emptied) (sym wide ∙ fit_now.width) (before.blank more);
       }) in
-      pushed_one shown (λ narrow room.
+      pushed_one shown (subst (λ w. WritesAtMost (w * 1) cur mid) (sym wide) (writes_rows drew)) (λ narrow room.
       let same : min (k + 1) 1 ≡ min k 1 = omega arith in
       let whole : min (k + 1) 1 * s.area.width ≡ min k 1 * s.area.width = ap (λ m. m * s.area.width) same in
       let place : 0 + k ≡ k = omega arith in
@@ -148,6 +158,11 @@ module _ (s : Sheet) (i n j d t : ℕ) (old cur mid new : Screen) (j_is : j ≡ 
         let so_far : cur.written ≤ old.written + nonempty_cells s i n = before.few narrow (omega (arith, parts)) in
         let rows : new.written ≤ mid.written + nonempty_cells s j t = writes_nonempty drew (same_width s blank emptied) (own_area emptied) narrow (omega (arith, parts, so_far, up.written)) in
         omega (arith, parts, so_far, rows, up.written);
+    most = λ room.
+        let parts : s.area.width * (n + t) ≡ s.area.width * n + s.area.width * t = more_rows s.area.width n t in
+        let so_far : cur.written ≤ old.written + s.area.width * n = before.most (omega (arith, parts)) in
+        let rows : new.written ≤ mid.written + s.area.width * t = subst (λ w. WritesAtMost (w * t) mid new) (sym (same_width s blank emptied)) (writes_rows drew) (omega (arith, parts, so_far, up.written)) in
+        omega (arith, parts, so_far, rows, up.written);
   }
 
 -- a viewport's rows moved down by n, and n rows drawn where it stood
@@ -174,6 +189,9 @@ module _ (s : Sheet) (n : ℕ) (r : Rect) (old mid new : Screen) (width : s.area
     moved = λ a b a_in b_in. drawn.outside a (r.y + n + b) (inr (omega arith)) ∙ moved_lowered down (omega arith) a b a_in (omega arith);
     below = λ a b a_in b_in low. drawn.outside a b (inr (omega arith)) ∙ below_lowered down a b a_in b_in (omega arith);
     few = λ narrow room. let rows : new.written ≤ mid.written + nonempty_cells s 0 n = writes_nonempty drew (same_width s blank emptied) (own_area emptied) narrow (omega (arith, down.written)) in omega (arith, rows, down.written);
+    most = λ room.
+        let rows : new.written ≤ mid.written + s.area.width * n = subst (λ w. WritesAtMost (w * n) mid new) (sym (same_width s blank emptied)) (writes_rows drew) (omega (arith, down.written)) in
+        omega (arith, rows, down.written);
   }
 
 pub raised_by : (s : Sheet) (i n m d : ℕ) (old new : Screen) → n ≡ m → HasRaised s i m d old new → HasRaised s i n d old new

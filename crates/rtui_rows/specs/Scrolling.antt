@@ -8,30 +8,33 @@ use Rattle.rtui_rows.specs.Rows.{RowsFit, IsBlankAt, IsNarrowSheet, nonempty_cel
 use Rattle.rtui_rows.specs.Insertion.{KeepsSizeAndVisibility, HasPlaceAbove, AppendsPart}
 
 -- the first k rows of a buffer were scrolled off from the screen's first row, which is blank behind them, and all rows below it are as before;
--- of a narrow buffer, one whole row at most was written, and else what isn't blank
+-- at most the cells of the rows were written, and of a narrow buffer at most one whole row and else what isn't blank
 pub record HasPushed (s : Sheet) (k : ℕ) (old new : Screen) : Type 0 where
   pub shape : KeepsSizeAndVisibility old new
   pub above : AppendsPart s 0 k (rows_above old 0) (rows_above new 0)
   pub blank : 0 < k → IsBlankAt 1 0 new
   pub below : (a b : ℕ) → a < old.width → b < old.height → 0 < b → new.grid a b ≡ old.grid a b
   pub few : IsNarrowSheet s → WritesAtMost (min k 1 * s.area.width + nonempty_cells s 0 k) old new
+  pub most : WritesAtMost (s.area.width * k) old new
 
--- n rows of a buffer, from row i on, came to those above row d, and the screen's rows from row d on are as before; of a narrow buffer, at most
--- what isn't blank was written
+-- n rows of a buffer, from row i on, came to those above row d, and the screen's rows from row d on are as before; at most the rows' cells were
+-- written, and of a narrow buffer what isn't blank
 pub record HasRaised (s : Sheet) (i n d : ℕ) (old new : Screen) : Type 0 where
   pub shape : KeepsSizeAndVisibility old new
   pub above : AppendsPart s i n (rows_above old d) (rows_above new d)
   pub below : (a b : ℕ) → a < old.width → b < old.height → d ≤ b → new.grid a b ≡ old.grid a b
   pub few : IsNarrowSheet s → WritesAtMost (nonempty_cells s i n) old new
+  pub most : WritesAtMost (s.area.width * n) old new
 
--- the first n rows of a buffer came in at a viewport's top, and its rows moved down by n; the rows below those are as before; of a narrow
--- buffer, at most what isn't blank was written
+-- the first n rows of a buffer came in at a viewport's top, and its rows moved down by n; the rows below those are as before; at most
+-- the rows' cells were written, and of a narrow buffer what isn't blank
 pub record HasLowered (s : Sheet) (n : ℕ) (r : Rect) (old new : Screen) : Type 0 where
   pub shape : KeepsSizeAndVisibility old new
   pub above : AppendsPart s 0 n (rows_above old r.y) (rows_above new (r.y + n))
   pub moved : (a b : ℕ) → a < old.width → b < r.height → new.grid a (r.y + n + b) ≡ old.grid a (r.y + b)
   pub below : (a b : ℕ) → a < old.width → b < old.height → r.y + n + r.height ≤ b → new.grid a b ≡ old.grid a b
   pub few : IsNarrowSheet s → WritesAtMost (nonempty_cells s 0 n) old new
+  pub most : WritesAtMost (s.area.width * n) old new
 
 -- how many of n rows push a viewport down on a screen of h rows
 abbrev pub rows_down : ℕ → Rect → ℕ → ℕ

@@ -22,7 +22,7 @@ use Rattle.rtui_terminal.specs.InStep.{IsInStep, rows_over}
 use Rattle.rtui_terminal.specs.Insertion.{inserted_area, TakesRows}
 use Rattle.rtui_rows.proofs.ShownLemmas.{parts_join, rows_shown, blank_first}
 use Rattle.rtui_rows.proofs.CountLemmas.{writes_rows, nonempty_parts}
-use Rattle.rtui_rows.proofs.PushLemmas.{no_part, own_area}
+use Rattle.rtui_rows.proofs.PushLemmas.{more_rows, no_part, own_area}
 use Rattle.rtui_terminal.specs.Insertion.{Inserts, StopsInserting, InsertsBy}
 
 -- all rows of a buffer were appended
@@ -146,6 +146,12 @@ module _ {B : Type 0} (screen : B → Screen) (s : State B) (inserted : Sheet) (
           (has_pushed takes settled).few narrow (omega (arith, covered, once, room)) in
           let repairs : (screen b).written ≤ (screen mid).written + blank.area.width * 1 = writes_rows (redrawn step.area) (omega (arith, covered, once, columns, pushes, room)) in
           omega (arith, covered, once, columns, pushes, repairs);
+      most = λ takes step settled room.
+          let covered : (if nat_lt s.viewport_area.height s.known_area.height then 0 else inserted.area.width) ≡ inserted.area.width = grind (arith, nat_tests) in
+          let columns : blank.area.width * 1 ≡ inserted.area.width = omega (arith, ap (λ (r : Rect). r.width) emptied.area) in
+          let pushes : (screen mid).written ≤ (screen s.backend).written + inserted.area.width * inserted.area.height = (has_pushed takes settled).most (omega (arith, covered, room)) in
+          let repairs : (screen b).written ≤ (screen mid).written + blank.area.width * 1 = writes_rows (redrawn step.area) (omega (arith, covered, columns, pushes, room)) in
+          omega (arith, covered, columns, pushes, repairs);
     }
 
   -- above one that doesn't: first it moves down, then the rows above it move up
@@ -224,6 +230,13 @@ module _ {B : Type 0} (screen : B → Screen) (s : State B) (inserted : Sheet) (
           let first : (screen mid).written ≤ (screen s.backend).written + nonempty_cells inserted 0 n = (lowered takes step settled).few narrow (omega (arith, parts, room)) in
           let rest : (screen b).written ≤ (screen mid).written + nonempty_cells inserted n (inserted.area.height - n) = (raised takes step settled).few narrow (omega (arith, parts, first, room)) in
           omega (arith, parts, first, rest);
+      most = λ takes step settled room.
+          let all : n + (inserted.area.height - n) ≡ inserted.area.height = omega (arith, n_is) in
+          let parts : inserted.area.width * inserted.area.height ≡ inserted.area.width * n + inserted.area.width * (inserted.area.height - n) =
+          ap (λ h. inserted.area.width * h) (sym all) ∙ more_rows inserted.area.width n (inserted.area.height - n) in
+          let first : (screen mid).written ≤ (screen s.backend).written + inserted.area.width * n = (lowered takes step settled).most (omega (arith, parts, room)) in
+          let rest : (screen b).written ≤ (screen mid).written + inserted.area.width * (inserted.area.height - n) = (raised takes step settled).most (omega (arith, parts, first, room)) in
+          omega (arith, parts, first, rest);
     }
 
 module _ {B : Type 0} (screen : B → Screen) where
@@ -246,6 +259,7 @@ module _ {B : Type 0} (screen : B → Screen) where
         moved = λ takes step settled lower a b a_in b_in. refl;
         kept = λ takes step settled a b a_in b_in past. refl;
         few = λ takes step settled narrow room. omega arith;
+        most = λ takes step settled room. omega arith;
       }
 
   nothing : {s t : State B} {h k : ℕ} → 0 < h → 0 < k → (h ≡ 0) ⊎ (k ≡ 0) → t ≡ s

@@ -24,7 +24,11 @@ inserted_area s height = record { x = 0; y = 0; width = s.viewport_area.width; h
 abbrev pub top_behind : {B : Type 0} → ℕ → State B → ℕ
 top_behind n s = s.viewport_area.y + min n (s.known_area.height - (s.viewport_area.y + s.viewport_area.height))
 
--- how many cells an insertion writes at most: those of the rows that aren't blank, and, above a viewport as high as the screen, the screen's
+-- how many cells an insertion of any rows writes at most: those of the rows, and, above a viewport as high as the screen, the screen's first row
+abbrev pub cells_at_most : {B : Type 0} → Sheet → State B → ℕ
+cells_at_most inserted s = inserted.area.width * inserted.area.height + (if nat_lt s.viewport_area.height s.known_area.height then 0 else inserted.area.width)
+
+-- how many cells an insertion of narrow rows writes at most: those that aren't blank, and, above a viewport as high as the screen, the screen's
 -- first row twice
 abbrev pub cells_to_insert : {B : Type 0} → Sheet → State B → ℕ
 cells_to_insert inserted s = nonempty_cells inserted 0 inserted.area.height + (if nat_lt s.viewport_area.height s.known_area.height then 0 else 2 * inserted.area.width)
@@ -59,6 +63,7 @@ module _ {B : Type 0} (screen : B → Screen) where
         → (a b : ℕ) → a < (screen s.backend).width → b < (screen s.backend).height → t.viewport_area.y + t.viewport_area.height ≤ b → (screen t.backend).grid a b ≡ (screen s.backend).grid a b
     pub in_step : TakesRows s → IsInStep screen s → IsSettledSheet inserted → IsInStep screen t
     pub few : TakesRows s → IsInStep screen s → IsSettledSheet inserted → IsNarrowSheet inserted → WritesAtMost (cells_to_insert inserted s) (screen s.backend) (screen t.backend)
+    pub most : TakesRows s → IsInStep screen s → IsSettledSheet inserted → WritesAtMost (cells_at_most inserted s) (screen s.backend) (screen t.backend)
 
   -- a backend failed in the insertion of n rows, before the viewport moved or behind that; a buffer of its area moved with it
   pub record StopsInserting (n : ℕ) (s t : State B) : Type 0 where

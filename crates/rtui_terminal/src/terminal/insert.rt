@@ -127,8 +127,9 @@ impl<B: Backend> Terminal<B> {
 
     /// Inserts `height` rows above an inline viewport: the closure fills an empty buffer at (0, 0) of the viewport's
     /// width, its rows come to those above the viewport, which moves down as far as there is room and goes on showing the
-    /// last frame; rows that have no room scroll off. Only what isn't blank in the rows is written, and where the viewport
-    /// is as high as the screen its first row, too. Of a viewport without rows, or of another width than the screen's,
+    /// last frame; rows that have no room scroll off. Only the rows are written, and if the viewport is as high as the screen
+    /// its first row, too; of rows without wide cells only what isn't blank, and then that first row twice. All of it is
+    /// flushed, and the cursor may end anywhere: a draw places it. Of a viewport without rows, or of another width than the screen's,
     /// nothing is promised of the rows above. Where the screen was known to have no rows nothing is written. On another
     /// viewport the closure isn't called, and nothing changes.
     ///
