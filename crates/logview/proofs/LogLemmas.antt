@@ -1,16 +1,18 @@
 -- A view of the lines of a log, from its start on.
-use Rattle.std.proofs.Common.{◌≡◌, ℕ, ◌+◌, ◌<◌, ◌&&◌, Bool, true, false, nat_lt, List, [], ◌∷◌, ◌++◌, length, length-append, get_or, drop, Option, Some, None, IfSome, Result, Ok, Err, IfOk, if◌then◌else◌, refl, sym, ap, ap₂, subst, ◌∙◌, arith}
+use Rattle.std.proofs.Common.{◌≡◌, ℕ, ◌+◌, ◌<◌, ◌&&◌, Bool, true, false, nat_lt, List, [], ◌∷◌, ◌++◌, length, length-append, get_or, drop, Option, Some, None, IfSome, Result, Ok, Err, IfOk, if◌then◌else◌, refl, sym, ap, ap₂, subst, ◌∙◌, arith, inr}
 use Rattle.std.specs.Prelude.{◌==◌}
 use Rattle.std.specs.Result.{result_ok}
 use Rattle.std.specs.List.{before_first, after_first}
 use Rattle.std.proofs.lemmas.Grind.{common_steps}
 use Rattle.ratatui_core.specs.Layout.{Rect, Size}
-use Rattle.ratatui_core.specs.Backend.{Screen, IsBlankScreen, rows_above, TestBackend, screen_of, printed_screen}
+use Rattle.ratatui_core.specs.Backend.{Screen, IsBlankScreen, rows_above, TestBackend, TestError, screen_of, printed_screen}
 use Rattle.ratatui_core.specs.Terminal.{IsBlank, IsBlankBelow, row_area, IsPaintedText, IsRowOf, rows_over}
 use Rattle.logview.specs.Rows.{counted, status_text, AreRowsOfLines}
 use Rattle.logview.specs.Size.{parsed_number, size_by, parsed_size}
 use Rattle.logview.specs.Views.{StartsView, PushesLine, IsViewOf}
-use Rattle.logview.specs.Engine.{ShowsLog, IsLogView, PrintsLog, size_of_log}
+use Rattle.logview.specs.Engine.{ShowsLog, IsLog, IsLogFault, IsLogView, PrintsLog, StopsPushing, size_of_log}
+use Rattle.logview.specs.declared.fault.LogFault.{LogFault}
+use Rattle.logview.specs.declared.fault.LogFault.TheVariants as fault
 use Rattle.std.specs.Str.{IsUtf8}
 use Rattle.std.specs.Str.Lines.{lines}
 use Rattle.std.specs.Io.KnownBytes.{Appends}
@@ -112,10 +114,23 @@ first_line [] line some is = absurd (omega arith)
 first_line (first ∷ rest) line some is = ap parsed_size is
 
 -- what was printed of the bytes that were read
-pub prints_log : {E : Type 0} (read : Option (List ℕ)) (bytes : List ℕ) (v : LogView TestBackend E) (old new : Option (List ℕ)) → IfSome read (λ all. bytes ≡ all) → IsUtf8 bytes × IsLogView (lines bytes) v
+pub prints_log : {E : Type 0} (read : Option (List ℕ)) (bytes : List ℕ) (v : LogView TestBackend E) (old new : Option (List ℕ)) → IfSome read (λ all. bytes ≡ all) → IsUtf8 bytes → IsLogView (lines bytes) v
     → Appends old new (printed_screen (screen_of v.terminal.backend)) → IfSome read (λ all. PrintsLog all old new)
-prints_log None bytes v old new e is written = tt
-prints_log (Some all) bytes v old new e is written =
-    let log = is.1 in
+prints_log None bytes v old new e text log written = tt
+prints_log (Some all) bytes v old new e text log written =
     subst (λ bs. PrintsLog bs old new) e
-    (record { size = log.size; is = record { text = is.0; first = log.first }; screen = screen_of v.terminal.backend; shown = shows_log screen_of log.size (drop 1 (lines bytes)) v log.shown; written = written })
+    (record { size = log.size; is = record { text = text; first = log.first }; screen = screen_of v.terminal.backend; shown = shows_log screen_of log.size (drop 1 (lines bytes)) v log.shown; written = written })
+
+-- a log whose pushes were refused at a line
+pub stopped_log : (bytes : List ℕ) (size : Size) (left : LogView TestBackend TestError) (f : LogFault) → IsLog bytes size → StopsPushing size (lines bytes) left f → IsLogFault bytes f
+stopped_log bytes size left fault.Size is stops = absurd stops
+stopped_log bytes size left (fault.Refused n) is stops = (size, is, inr (left, stops))
+stopped_log bytes size left fault.NotText is stops = absurd stops
+stopped_log bytes size left fault.Read is stops = absurd stops
+stopped_log bytes size left fault.Memory is stops = absurd stops
+stopped_log bytes size left fault.Write is stops = absurd stops
+
+-- of the bytes that were read
+pub fault_of_read : (read : Option (List ℕ)) (bytes : List ℕ) (f : LogFault) → IfSome read (λ all. bytes ≡ all) → IsLogFault bytes f → IfSome read (λ all. IsLogFault all f)
+fault_of_read None bytes f e why = tt
+fault_of_read (Some all) bytes f e why = subst (λ bs. IsLogFault bs f) e why

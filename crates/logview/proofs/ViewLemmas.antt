@@ -1,16 +1,89 @@
 -- A line that was inserted, and the status line that was then drawn.
-use Rattle.std.proofs.Common.{ℕ, List, Result, Ok, Err, OnOk}
+use Rattle.std.proofs.Common.{◌≡◌, ℕ, ◌+◌, List, Result, Ok, Err, OnOk, IfErr, ap, arith, refl, inr, subst, sym, ◌∙◌}
+use Rattle.std.specs.declared.alloc.AllocError.{AllocError}
+use Rattle.ratatui_core.specs.Layout.{Rect, Size}
+use Rattle.ratatui_core.specs.Buffer.{Sheet, IsEmptied, IsSettledSheet}
 use Rattle.ratatui_core.specs.Backend.{Screen}
-use Rattle.ratatui_core.specs.Terminal.{State, IsOverRow, DrawsRow, InsertsRow}
+use Rattle.ratatui_core.specs.Terminal.{State, IsOverRow, DrawsRow, FillsRow, InsertsRow, InsertOk, InsertsBy, TakesRows, HasAreas, IsSized, IsBackendFault, TerminalError, Backend, Memory, Area, Closure, inserted_area}
 use Rattle.ratatui_core.proofs.TerminalLemmas.{inserts-and-draws}
-use Rattle.logview.specs.Rows.{status_text}
-use Rattle.logview.specs.Views.{PushesLine}
+use Rattle.ratatui_core.proofs.WidgetLemmas.{has-first-row, text-settled}
+use Rattle.logview.specs.Rows.{counted, status_text}
+use Rattle.logview.specs.Views.{KeepsBelow, PushesLine, RefusesPush}
 use Rattle.logview.specs.declared.view.LogView.{LogView}
 
--- by the answer of the draw
-pub pushed_if : {B E T F : Type 0} (screen : B → Screen) (line : List ℕ) (v w : LogView B E) (t : State B) (result : Result T F) → InsertsRow screen line v.terminal t
-    → (IsOverRow screen t → OnOk result (DrawsRow screen (status_text w.count) t w.terminal)) → OnOk result (PushesLine screen line v w)
-pushed_if screen line v w t (Ok x) inserts draws =
-    let drawn = draws inserts.over in
-    record { inserts = inserts-and-draws screen line (status_text w.count) v.terminal t w.terminal inserts drawn; status = drawn.shown }
-pushed_if screen line v w t (Err e) inserts draws = tt
+module _ {B : Type 0} (screen : B → Screen) where
+  takes : (s : State B) → IsOverRow screen s → TakesRows screen s
+  takes s is =
+      let high : s.viewport_area.height ≡ 1 = ap (λ (r : Rect). r.height) is.row in
+      record { inline = is.kind; known = is.known; row = omega arith; width = ap (λ (r : Rect). r.width) is.row }
+
+-- a line rendered on an empty row can be shown
+fills-settled : (line : List ℕ) (area : Rect) (sheet : Sheet) → area.height ≡ 1 → FillsRow line area sheet → IsSettledSheet sheet
+fills-settled line area sheet one fills =
+    let here = fills.empty.area in
+    let high : fills.before.area.height ≡ 1 = ap (λ (r : Rect). r.height) here ∙ one in
+    let own : IsEmptied fills.before.area fills.before = subst (λ (r : Rect). IsEmptied r fills.before) (sym here) fills.empty in
+    text-settled area fills.before.area line fills.before sheet fills.empty (omega arith) (omega arith) (fills.renders (has-first-row fills.before.area fills.before (omega arith) own))
+
+module _ {B E : Type 0} (screen : B → Screen) where
+  -- an insertion keeps the rows below the viewport
+  inserts-below : (line : List ℕ) (v w : LogView B E) (filled : Result (Unit {0}) AllocError → Sheet → Type 0) → IsOverRow screen v.terminal
+      → ((sheet : Sheet) → filled (Ok tt) sheet → FillsRow line (inserted_area v.terminal 1) sheet)
+      → InsertOk screen (inserted_area v.terminal 1) filled v.terminal w.terminal → KeepsBelow screen v w
+  inserts-below line v w filled is only ins =
+      let s = v.terminal in
+      let known : (screen s.backend).height ≡ s.known_area.height = ap (λ (r : Rect). r.height) is.known in
+      let high : s.viewport_area.height ≡ 1 = ap (λ (r : Rect). r.height) is.row in
+      let bottom = is.in_step.on_screen.bottom in
+      let inserts = ins.inserts (omega arith) in
+      let settled = fills-settled line (inserted_area s 1) ins.inserted refl (only ins.inserted ins.closure) in
+      let same : w.terminal.viewport_area.height ≡ s.viewport_area.height = ap (λ (x : State B). x.viewport_area.height) inserts.rest in
+      record { at = λ a b a_in b_in low. inserts.kept (takes screen s is) is.in_step settled a b a_in b_in (omega arith) }
+
+  -- by the answer of the insertion
+  pub inserts-below-if : {T F : Type 0} (line : List ℕ) (v w : LogView B E) (filled : Result (Unit {0}) AllocError → Sheet → Type 0) (result : Result T (TerminalError F)) → IsOverRow screen v.terminal
+      → ((sheet : Sheet) → filled (Ok tt) sheet → FillsRow line (inserted_area v.terminal 1) sheet)
+      → InsertsBy screen (inserted_area v.terminal 1) filled v.terminal w.terminal result → OnOk result (KeepsBelow screen v w)
+  inserts-below-if line v w filled (Ok x) is only by = inserts-below line v w filled is only by
+  inserts-below-if line v w filled (Err e) is only by = tt
+
+  -- a draw of the status line keeps them, too
+  draws-below : (line status : List ℕ) (v m w : LogView B E) → InsertsRow screen line v.terminal m.terminal → DrawsRow screen status m.terminal w.terminal → KeepsBelow screen v m → KeepsBelow screen v w
+  draws-below line status v m w inserts drawn kept =
+      let keeps = drawn.keeps in
+      let width : (screen m.terminal.backend).width ≡ (screen v.terminal.backend).width = ap (λ (z : Size). z.width) inserts.size in
+      let height : (screen m.terminal.backend).height ≡ (screen v.terminal.backend).height = ap (λ (z : Size). z.height) inserts.size in
+      let top : w.terminal.viewport_area.y ≡ m.terminal.viewport_area.y = ap (λ (r : Rect). r.y) keeps.viewport_area in
+      let high : m.terminal.viewport_area.height ≡ 1 = ap (λ (r : Rect). r.height) inserts.over.row in
+      record {
+        at = λ a b a_in b_in low.
+            keeps.outside.at a b (omega arith) (omega arith) (λ within. omega (arith, within.bottom, high, low, top)) ∙ kept.at a b a_in b_in (omega (arith, low, top));
+      }
+
+  -- by the answer of the draw
+  pub pushed_if : {T F : Type 0} (line : List ℕ) (v m w : LogView B E) (result : Result T F) → InsertsRow screen line v.terminal m.terminal → KeepsBelow screen v m
+      → (IsOverRow screen m.terminal → OnOk result (DrawsRow screen (status_text w.count) m.terminal w.terminal)) → OnOk result (PushesLine screen line v w)
+  pushed_if line v m w (Ok x) inserts kept draws =
+      let drawn = draws inserts.over in
+      record {
+        inserts = inserts-and-draws screen line (status_text w.count) v.terminal m.terminal w.terminal inserts drawn;
+        status = drawn.shown;
+        kept = draws-below line (status_text w.count) v m w inserts drawn kept;
+      }
+  pushed_if line v m w (Err e) inserts kept draws = tt
+
+-- the status line wasn't drawn after a line was inserted
+lacks_status : {B E : Type 0} (screen : B → Screen) (line : List ℕ) (v m w : LogView B E) (error : TerminalError E) → InsertsRow screen line v.terminal m.terminal → w.count ≡ counted (v.count + 1) → IsBackendFault error
+    → RefusesPush screen line v w error
+lacks_status screen line v m w (Backend e) inserts count by = inr (record { inserted = m.terminal; inserts = inserts; count = count })
+lacks_status screen line v m w Memory inserts count by = absurd by
+lacks_status screen line v m w Area inserts count by = absurd by
+lacks_status screen line v m w (Closure e) inserts count by = absurd by
+
+-- by the answer of its draw
+pub refused_if : {B E T : Type 0} (screen : B → Screen) (line : List ℕ) (v m w : LogView B E) (result : Result T (TerminalError E)) → InsertsRow screen line v.terminal m.terminal → w.count ≡ counted (v.count + 1)
+    → (HasAreas m.terminal → IsSized screen m.terminal → IfErr result IsBackendFault) → IfErr result (RefusesPush screen line v w)
+refused_if screen line v m w (Ok x) inserts count by = tt
+refused_if screen line v m w (Err e) inserts count by =
+    let over = inserts.over in
+    lacks_status screen line v m w e inserts count (by (record { current = over.current.area; older = over.in_step.area }) (inr over.known))

@@ -1,5 +1,5 @@
 -- From the bytes of a log to what is printed, or to a fault.
-use Rattle.std.specs.Prelude.{◌≡◌, ◌⊎◌, ℕ, ◌-◌, ◌<◌, ◌≤◌, min, List, [], ◌∷◌, ◌++◌, length, take, drop, Option, None, Some, codes}
+use Rattle.std.specs.Prelude.{◌≡◌, ◌⊎◌, ℕ, ◌-◌, ◌<◌, min, List, [], ◌∷◌, ◌++◌, length, take, drop, slice_get, Option, None, Some, codes}
 use Rattle.std.specs.Fmt.{decimal}
 use Rattle.std.specs.Str.{IsUtf8}
 use Rattle.std.specs.Str.Lines.{lines}
@@ -48,20 +48,25 @@ pub record PrintsLog (bytes : List ℕ) (old new : Option (List ℕ)) : Type 0 w
   pub shown : ShowsLog size (drop 1 (lines bytes)) screen
   pub written : Appends old new (printed_screen screen)
 
--- the push of line n of a log was refused, behind all lines between the first one and it, on a screen of this size
-pub record StopsAtLine (size : Size) (log : List (List ℕ)) (n : ℕ) : Type 0 where
-  pub behind : 1 < n
-  pub within : n ≤ length log
-  pub old : LogView TestBackend TestError
-  pub new : LogView TestBackend TestError
+-- the push of line n of a log was refused, after all lines between the first one and it, on a screen of this size, and left this view
+pub record StopsAtLine (size : Size) (log : List (List ℕ)) (n : ℕ) (left : LogView TestBackend TestError) : Type 0 where
+  pub after : 1 < n
+  pub line : List ℕ
+  pub line_is : slice_get (drop 1 log) (n - 2) ≡ Some line
+  pub before : LogView TestBackend TestError
+  pub shown : IsViewOf screen_of size (take (n - 2) (drop 1 log)) before
   pub error : TerminalError TestError
-  pub shown : IsViewOf screen_of size (take (n - 2) (drop 1 log)) old
-  pub refused : RefusesPush old new error
+  pub refused : RefusesPush screen_of line before left error
 
--- why nothing of these bytes was printed, or with a failed writer a part; at 1 the view itself was refused
+-- pushes were refused at a line, and left this view
+abbrev pub StopsPushing : Size → List (List ℕ) → LogView TestBackend TestError → LogFault → Type 0
+StopsPushing size log left (fault.Refused n) = StopsAtLine size log n left
+StopsPushing size log left other = ⊥
+
+-- why nothing of these bytes was printed, or with a failed writer a part; at 1 the view itself was refused, and at no line
 abbrev pub IsLogFault : List ℕ → LogFault → Type 0
 IsLogFault bytes fault.Size = IsUtf8 bytes × (size_of_log (lines bytes) ≡ None)
-IsLogFault bytes (fault.Refused n) = (size : Size) × IsLog bytes size × ((n ≡ 1) ⊎ StopsAtLine size (lines bytes) n)
+IsLogFault bytes (fault.Refused n) = (size : Size) × IsLog bytes size × ((n ≡ 1) ⊎ ((left : LogView TestBackend TestError) × StopsAtLine size (lines bytes) n left))
 IsLogFault bytes fault.NotText = IsUtf8 bytes → ⊥
 IsLogFault bytes fault.Read = Unit {0}
 IsLogFault bytes fault.Memory = Unit {0}

@@ -1,8 +1,8 @@
 -- Views of a log, and what a push does to them.
-use Rattle.std.specs.Prelude.{◌≡◌, ◌⊎◌, ℕ, ◌+◌, ◌-◌, min, List, length}
+use Rattle.std.specs.Prelude.{◌≡◌, ◌⊎◌, ℕ, ◌+◌, ◌-◌, ◌<◌, min, List, length}
 use Rattle.ratatui_core.specs.Layout.{Size}
 use Rattle.ratatui_core.specs.Backend.{Screen, size_of}
-use Rattle.ratatui_core.specs.Terminal.{IsBlankBelow, IsOverRow, ShowsRow, InsertsRow, StartsOverRow, rows_over, TerminalError, Backend, Memory, Area, Closure}
+use Rattle.ratatui_core.specs.Terminal.{IsBlankBelow, IsOverRow, ShowsRow, InsertsRow, StartsOverRow, State, StopsInserting, rows_over, TerminalError, Backend, Memory, Area, Closure}
 use Rattle.logview.specs.Rows.{counted, status_text, AreRowsOfLines}
 use Rattle.logview.specs.declared.view.LogView.{LogView}
 
@@ -24,10 +24,35 @@ module _ {B E : Type 0} (screen : B → Screen) where
     pub starts : StartsOverRow screen b v.terminal
     pub status : ShowsStatus v
 
-  -- a push: exactly one row, the line's, came in above the status line, which shows the new count
+  -- the rows below the status line, as it now stands, stay
+  pub record KeepsBelow (v w : LogView B E) : Type 0 where
+    pub at : (a b : ℕ) → a < (screen_in v).width → b < (screen_in v).height → w.terminal.viewport_area.y < b → (screen_in w).grid a b ≡ (screen_in v).grid a b
+
+  -- a push: exactly one row, the line's, came in above the status line, which shows the new count, and the rows below stay
   pub record PushesLine (line : List ℕ) (v w : LogView B E) : Type 0 where
     pub inserts : InsertsRow screen line v.terminal w.terminal
     pub status : ShowsStatus w
+    pub kept : KeepsBelow v w
+
+  -- a refused insertion: by the backend, before the viewport moved or after it, or for want of memory, and then nothing changed
+  abbrev pub RefusesLine : LogView B E → LogView B E → TerminalError E → Type 0
+  RefusesLine v w (Backend error) = (w.count ≡ v.count) × StopsInserting screen 1 v.terminal w.terminal
+  RefusesLine v w Memory = w ≡ v
+  RefusesLine v w Area = ⊥
+  RefusesLine v w (Closure error) = ⊥
+
+  -- the row of a line was inserted and counted, and then the status line couldn't be drawn
+  pub record LacksStatus (line : List ℕ) (v w : LogView B E) : Type 0 where
+    pub inserted : State B
+    pub inserts : InsertsRow screen line v.terminal inserted
+    pub count : w.count ≡ counted (v.count + 1)
+
+  -- a refused push: by the backend, in the insertion or after it; or for want of memory, and then nothing changed
+  abbrev pub RefusesPush : List ℕ → LogView B E → LogView B E → TerminalError E → Type 0
+  RefusesPush line v w (Backend error) = ((w.count ≡ v.count) × StopsInserting screen 1 v.terminal w.terminal) ⊎ LacksStatus line v w
+  RefusesPush line v w Memory = w ≡ v
+  RefusesPush line v w Area = ⊥
+  RefusesPush line v w (Closure error) = ⊥
 
   -- the view of a log of some lines, from a blank screen on
   pub record IsViewOf (size : Size) (lines : List (List ℕ)) (v : LogView B E) : Type 0 where
@@ -38,17 +63,3 @@ module _ {B E : Type 0} (screen : B → Screen) where
     pub top : v.terminal.viewport_area.y ≡ min (length lines) (size.height - 1)
     pub above : AreRowsOfLines size.width lines (rows_over screen v.terminal)
     pub below : IsBlankBelow v.terminal.viewport_area (screen_in v)
-
--- a refused insertion: by the backend, or for want of memory, and then nothing changed
-abbrev pub RefusesLine : {B E : Type 0} → LogView B E → LogView B E → TerminalError E → Type 0
-RefusesLine v w (Backend error) = Unit {0}
-RefusesLine v w Memory = w ≡ v
-RefusesLine v w Area = ⊥
-RefusesLine v w (Closure error) = ⊥
-
--- a refused push: by the backend, and the count may have risen; or for want of memory, and nothing changed
-abbrev pub RefusesPush : {B E : Type 0} → LogView B E → LogView B E → TerminalError E → Type 0
-RefusesPush v w (Backend error) = (w.count ≡ v.count) ⊎ (w.count ≡ counted (v.count + 1))
-RefusesPush v w Memory = w ≡ v
-RefusesPush v w Area = ⊥
-RefusesPush v w (Closure error) = ⊥

@@ -1,14 +1,14 @@
 //! The engine: from the bytes of a log to the printed screen.
 
-ghost use Rattle.std.specs.Prelude.{◌≡◌, ℕ, ◌<◌, [], drop, IfOk, IfErr, IfSome, OnOk};
+ghost use Rattle.std.specs.Prelude.{◌≡◌, ◌<◌, [], drop, IfOk, IfErr, IfSome, OnOk};
 ghost use Rattle.std.specs.Io.KnownBytes.{Appends};
 ghost use Rattle.std.specs.Str.{IsUtf8};
 ghost use Rattle.std.specs.Str.Lines.{lines};
 ghost use Rattle.ratatui_core.specs.Layout.{Size};
 ghost use Rattle.ratatui_core.specs.Backend.{screen_of, printed_screen};
 ghost use Rattle.logview.specs.Views.{IsViewOf};
-ghost use Rattle.logview.specs.Engine.{size_of_log, IsLogView, IsLogFault, PrintsLog, StopsAtLine};
-ghost use Rattle.logview.specs.declared.fault.LogFault.TheVariants.{Write};
+ghost use Rattle.logview.specs.Engine.{size_of_log, IsLogView, IsLogFault, PrintsLog, StopsPushing};
+ghost use Rattle.logview.specs.declared.fault.LogFault.TheVariants.{Read, Write};
 
 use crate::fault::LogFault;
 use crate::size::read_size;
@@ -25,7 +25,7 @@ fn read_bytes<R: Read>(alloc: Global, reader: &mut R) -> Result<Vec<u8>, LogFaul
         IfSome (R.remaining reader.old) (λ all. bytes.items ≡ all)) }
     ensures err { IfErr result (λ fault.
         IfSome (R.remaining reader.old) (λ bytes. IsLogFault bytes fault)) }
-    ensures early { IfErr result (λ fault. fault ≡ Write → ⊥) }
+    ensures not_write { IfErr result (λ fault. fault ≡ Write → ⊥) }
 {
     let mut bytes = Vec::new(alloc);
     match reader.read_to_end(&mut bytes) {
@@ -51,29 +51,30 @@ fn open(alloc: Global, size: Size) -> Option<LogView<TestBackend>>
     LogView::new(alloc, backend).ok()
 }
 
-// Pushes the lines of a text but the first; it answers the number of the line that was refused, if one was.
-fn push_lines(view: &mut LogView<TestBackend>, text: &str) -> Result<(), usize>
+// Pushes the lines of a text but the first; a fault names the line that was refused.
+pub fn push_lines(view: &mut LogView<TestBackend>, text: &str) -> Result<(), LogFault>
     ensures ok { OnOk result ((size : Size) → IsViewOf screen_of size [] view.old
         → IsViewOf screen_of size (drop 1 (lines text.now)) view.new) }
-    ensures err { IfErr result (λ number. (size : Size) → IsViewOf screen_of size [] view.old
-        → StopsAtLine size (lines text.now) number) }
+    ensures err { IfErr result (λ fault. (size : Size) → IsViewOf screen_of size [] view.old
+        → StopsPushing size (lines text.now) view.new fault) }
 {
     let mut number = 1usize;
     for line in text.lines().skip(1) {
         number += 1;
         match view.push(line) {
             Ok(()) => {}
-            Err(_) => return Err(number),
+            Err(_) => return Err(LogFault::Refused(number)),
         }
     }
     Ok(())
 }
 
 // The view of a log: its size, and then its lines.
-fn view_of(alloc: Global, text: &str) -> Result<LogView<TestBackend>, LogFault>
+fn view_of_text(alloc: Global, text: &str) -> Result<LogView<TestBackend>, LogFault>
     ensures ok { IfOk result (IsLogView (lines text.now)) }
     ensures err { IfErr result (IsLogFault text.now) }
-    ensures early { IfErr result (λ fault. fault ≡ Write → ⊥) }
+    ensures not_read { IfErr result (λ fault. fault ≡ Read → ⊥) }
+    ensures not_write { IfErr result (λ fault. fault ≡ Write → ⊥) }
 {
     let Some(size) = first_size(text) else {
         return Err(LogFault::Size);
@@ -83,20 +84,24 @@ fn view_of(alloc: Global, text: &str) -> Result<LogView<TestBackend>, LogFault>
     };
     match push_lines(&mut view, text) {
         Ok(()) => Ok(view),
-        Err(number) => Err(LogFault::Refused(number)),
+        Err(fault) => Err(fault),
     }
 }
 
-// The view of the log that these bytes are.
-fn view_of_bytes(alloc: Global, bytes: &[u8]) -> Result<LogView<TestBackend>, LogFault>
-    ensures ok { IfOk result (λ view. IsUtf8 bytes.now × IsLogView (lines bytes.now) view) }
-    ensures err { IfErr result (IsLogFault bytes.now) }
-    ensures early { IfErr result (λ fault. fault ≡ Write → ⊥) }
+/// The view of the log that these bytes are: a line `W H` of columns and rows, both from 1 to 65535, and then any lines. A
+/// fault names the line that was refused, or says that the size is bad or the bytes aren't text; it is neither `Read` nor
+/// `Write`.
+pub fn view_of(alloc: Global, bytes: &[u8]) -> Result<LogView<TestBackend>, LogFault>
+    ensures text { OnOk result (IsUtf8 bytes.now) }
+    ensures view { IfOk result (IsLogView (lines bytes.now)) }
+    ensures fault { IfErr result (IsLogFault bytes.now) }
+    ensures not_read { IfErr result (λ fault. fault ≡ Read → ⊥) }
+    ensures not_write { IfErr result (λ fault. fault ≡ Write → ⊥) }
 {
     let Ok(text) = str::from_utf8(bytes) else {
         return Err(LogFault::NotText);
     };
-    view_of(alloc, text)
+    view_of_text(alloc, text)
 }
 
 // Writes what the screen of a view shows, and flushes it.
@@ -120,7 +125,7 @@ pub fn run<R: Read, W: Write>(alloc: Global, reader: &mut R, writer: &mut W) -> 
         (fault ≡ Write → ⊥) → writer.new ≡ writer.old) }
 {
     let bytes = read_bytes(alloc, reader)?;
-    let view = view_of_bytes(alloc, bytes.as_slice())?;
+    let view = view_of(alloc, bytes.as_slice())?;
     match write_view(writer, &view) {
         Ok(()) => Ok(()),
         Err(_) => Err(LogFault::Write),

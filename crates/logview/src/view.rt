@@ -5,7 +5,7 @@ ghost use Rattle.ratatui_core.specs.Terminal.{DrawsRow, Faults, HasAreas, Inline
 ghost use Rattle.ratatui_core.specs.Terminal.{KeepsFrame, StartErr};
 ghost use Rattle.ratatui_core.specs.Widgets.{HasFirstRow, RendersStr, RendersShortStr};
 ghost use Rattle.logview.specs.Rows.{counted, status_text};
-ghost use Rattle.logview.specs.Views.{IsFollowing, StartsView, PushesLine, RefusesLine, RefusesPush};
+ghost use Rattle.logview.specs.Views.{IsFollowing, KeepsBelow, PushesLine, RefusesLine, RefusesPush, StartsView};
 
 use crate::status::status_text;
 use ratatui_core::backend::Backend;
@@ -102,8 +102,10 @@ impl<B: Backend> LogView<B> {
         ensures ok { IsFollowing B.screen self.old
             → OnOk result (InsertsRow B.screen line.now
             self.old.terminal self.new.terminal) }
+        ensures kept { IsFollowing B.screen self.old
+            → OnOk result (KeepsBelow B.screen self.old self.new) }
         ensures err { IsFollowing B.screen self.old
-            → IfErr result (RefusesLine self.old self.new) }
+            → IfErr result (RefusesLine B.screen self.old self.new) }
         ensures faults { Faults result (B.failures self.old.terminal.backend)
             (B.failures self.new.terminal.backend) }
     {
@@ -113,14 +115,15 @@ impl<B: Backend> LogView<B> {
         })
     }
 
-    /// Appends a line: a row of the screen's width with as much of it as fits. It is refused where memory is, which
-    /// changes nothing, or by the backend, after which the screen may show anything.
+    /// Appends a line: a row of the screen's width with as much of it as fits. The rows below the status line stay. It is refused
+    /// where memory is, which changes nothing, or by the backend, in the insertion of the row or after it was counted; then the
+    /// screen may show anything.
     pub fn push(&mut self, line: &str) -> Result<(), TerminalError<B::Error>>
         ensures pushed { IsFollowing B.screen self.old
             → OnOk result (PushesLine B.screen line.now self.old self.new) }
         ensures count { OnOk result (self.new.count ≡ counted (self.old.count + 1)) }
         ensures refused { IsFollowing B.screen self.old
-            → IfErr result (RefusesPush self.old self.new) }
+            → IfErr result (RefusesPush B.screen line.now self.old self.new) }
         ensures faults { Faults result (B.failures self.old.terminal.backend)
             (B.failures self.new.terminal.backend) }
     {

@@ -2,18 +2,16 @@
 use Rattle.std.proofs.Common.{◌≡◌, ℕ, zero, suc, ◌+◌, ◌<◌, List, [], ◌∷◌, ◌++◌, length, get_or, Some, sym, ap, ◌∙◌, subst, arith, append_assoc, append-nil, refl}
 use Rattle.std.specs.Prelude.{slice_get}
 use Rattle.std.proofs.lemmas.Option.{slice_get-get_or, get_or_from_slice_get, slice_get_within}
-use Rattle.rtui_geometry.specs.declared.rect.Rect.{Rect}
 use Rattle.rtui_geometry.specs.declared.size.Size.{Size}
 use Rattle.rtui_cell.specs.Look.{Look}
 use Rattle.rtui_text.specs.Text.{TextData}
 use Rattle.rtui_buffer.specs.Sheet.{Sheet}
-use Rattle.rtui_backend.specs.Screen.{rows_above}
-use Rattle.rtui_backend.proofs.ScrollLemmas.{above_same}
 use Rattle.rtui_rows.specs.Insertion.{AreRowsOfAll, AppendsRows}
 use Rattle.rtui_viewport.specs.declared.viewport.Viewport.{Viewport}
 use Rattle.rtui_viewport.specs.declared.viewport.Viewport.TheVariants.{Fullscreen, Inline, Fixed}
 use Rattle.rtui_viewport.specs.Viewports.{IsInline}
-use Rattle.screenplay.specs.Run.{Sight, sight_of, sight_size, sight_rows_above, KeepsSurroundings, InsertsOn, IsAfter, IsRun}
+use Rattle.screenplay.proofs.PlayLemmas.{kept_rows}
+use Rattle.screenplay.specs.Run.{Sight, sight_of, sight_size, sight_rows_above, InsertsOn, IsAfter, IsRun}
 use Rattle.screenplay.specs.Appending.{AreFrames, AppendsTexts, texts_inserted_by, inserted_from, scene_size, KeepsSizeFor, IsAppending}
 use Rattle.screenplay.specs.declared.scene.Stage.{Stage}
 use Rattle.screenplay.specs.declared.scene.Scene.{Scene}
@@ -48,12 +46,6 @@ texts_more width ss ts a b c p q = record {
 texts_none : (width : ℕ) (old new : List (List Look)) → new ≡ old → AppendsTexts width [] old new
 texts_none width old new e = record { frames = []; made = tt; appends = record { rows = []; appended = e ∙ sym (append-nil old); agree = refl } }
 
-rest_rows : (old new : Sight) → KeepsSurroundings old new → sight_rows_above new ≡ sight_rows_above old
-rest_rows old new k =
-    subst (λ (r : Rect). rows_above new.screen r.y ≡ sight_rows_above old) (sym k.viewport)
-    (above_same old.screen new.screen old.viewport.y k.size.history k.size.width k.size.height
-    (λ a b a_in b_in above. k.outside.at a b a_in b_in (λ within. omega (arith, within.top, above))))
-
 inserts_texts : (kind : Viewport) (text : TextData) (old new : Sight) → IsInline kind → 0 < old.screen.height → InsertsOn kind text old new → AppendsTexts old.screen.width (text ∷ []) (sight_rows_above old) (sight_rows_above new)
 inserts_texts Fullscreen text old new inline some inserts = absurd inline
 inserts_texts (Inline rows) text old new inline some inserts = record { frames = inserts.frame ∷ []; made = (inserts.made, tt); appends = inserts.above some }
@@ -61,9 +53,9 @@ inserts_texts (Fixed r) text old new inline some inserts = absurd inline
 
 step_texts : (stage : Stage) (step : Step) (old new : Sight) → IsInline stage.viewport → 0 < old.screen.height → IsAfter stage step old new → sight_size new ≡ sight_size old
     → AppendsTexts old.screen.width (texts_inserted_by (Some step)) (sight_rows_above old) (sight_rows_above new)
-step_texts stage (Draw given text puts) old new inline some after same = texts_none _ (sight_rows_above old) (sight_rows_above new) (rest_rows old new (after.same same))
+step_texts stage (Draw given text puts) old new inline some after same = texts_none _ (sight_rows_above old) (sight_rows_above new) (kept_rows old new (after.same same))
 step_texts stage (Insert text) old new inline some after same = inserts_texts stage.viewport text old new inline some after
-step_texts stage Clear old new inline some after same = texts_none _ (sight_rows_above old) (sight_rows_above new) (rest_rows old new after.rest)
+step_texts stage Clear old new inline some after same = texts_none _ (sight_rows_above old) (sight_rows_above new) (kept_rows old new after.rest)
 
 module _ (stage : Stage) (steps : List Step) (scenes : List Scene) (inline : IsInline stage.viewport) (run : IsRun stage steps scenes) (size : Size) (some : 0 < size.height) where
   from : (n i : ℕ) (first last : Scene) → slice_get scenes i ≡ Some first → slice_get scenes (i + n) ≡ Some last → KeepsSizeFor scenes i n size

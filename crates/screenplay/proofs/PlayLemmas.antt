@@ -13,7 +13,8 @@ use Rattle.rtui_diff.specs.Cells.{cell_at}
 use Rattle.rtui_text.specs.Text.{TextData}
 use Rattle.rtui_buffer.specs.Sheet.{Sheet, IsEmptied, area_size, empty_cells}
 use Rattle.rtui_buffer.specs.Frame.{IsSettledSheet, ShowsSheet}
-use Rattle.rtui_backend.specs.Screen.{Screen, IsBlankScreen, IsOnScreen, IsWithin, seen, row_of, rows_above, screen_area, size_of}
+use Rattle.rtui_backend.proofs.ScrollLemmas.{above_kept, above_same}
+use Rattle.rtui_backend.specs.Screen.{Screen, IsBlankScreen, TakesSize, IsOnScreen, IsWithin, seen, row_of, rows_above, screen_area, size_of}
 use Rattle.rtui_backend.specs.TestBackend.{screen_of}
 use Rattle.rtui_backend.specs.declared.test.TestBackend.{TestBackend}
 use Rattle.rtui_viewport.specs.declared.viewport.Viewport.{Viewport}
@@ -32,7 +33,7 @@ use Rattle.rtui_terminal.specs.Starting.{Starts}
 use Rattle.rtui_terminal.specs.Writing.{Applies}
 use Rattle.rtui_terminal.specs.Clearing.{ClearsViewport}
 use Rattle.rtui_terminal.specs.Resizing.{Resizes, IsResized}
-use Rattle.screenplay.specs.Run.{stage_size, IsGoodViewport, IsGoodStage, MayLie, IsFrame, first_viewport, first_rows, IsStart, KeepsSurroundings, size_after, Sight, row_count, text_area, IsInserted, InsertsOn}
+use Rattle.screenplay.specs.Run.{stage_size, GoesOn, plain_screen, sight_rows_above, IsGoodViewport, IsGoodStage, MayLie, IsFrame, first_viewport, first_rows, IsStart, KeepsSurroundings, size_after, Sight, row_count, text_area, IsInserted, InsertsOn}
 use Rattle.screenplay.proofs.FrameLemmas.{plain-emptied, plain-frame, shown-again}
 use Rattle.screenplay.specs.Playing.{IsPlainSheet, IsPlaying, sight_in, TakesNewSize, IsSizedFor, ShowsFrame, InsertsBuffer, IsCauseOfFrame, IsCauseOfStep, Plays}
 use Rattle.screenplay.specs.declared.scene.PlayCause.{PlayCause}
@@ -257,6 +258,29 @@ size_after_free Fullscreen given own free = refl
 size_after_free (Inline n) given own free = refl
 size_after_free (Fixed f) given own free = absurd (free tt)
 
+-- above a viewport that was placed on a screen and cleared all stays; one that became narrower has no rows above
+above_emptied : (kind : Viewport) (size : Size) (former o : ℕ) (b scrolled u : Screen) (r : Rect) → (IsFixed kind → ⊥) → IsGoodViewport kind size → scrolled.width ≡ b.width → scrolled.height ≡ b.height
+    → r ≡ raised former (area_in kind (screen_area b) o b.cursor_y) → (IsInline kind → r.x ≡ 0) → IsOnScreen r u → u.height ≡ scrolled.height
+    → (HasPlace kind r scrolled → Empties (λ x y. is_emptied kind r scrolled.height x y || nat_lt b.width former) scrolled u)
+    → (x y : ℕ) → x < scrolled.width → y < scrolled.height → y < r.y → u.grid x y ≡ scrolled.grid x y
+above_emptied Fullscreen size former o b scrolled u r free good width height is left on tall empties x y x_in y_in above =
+    let top : r.y ≡ 0 = ap (λ (q : Rect). q.y) (is ∙ raised_same former (screen_area b) refl (nat_lt b.width former)) in
+    absurd (omega (arith, top, above))
+above_emptied (Inline n) size former o b scrolled u r free good width height is left on tall empties x y x_in y_in above = elim (cases_lt b.width former) [
+  | inl narrower ↦
+      let less : nat_lt b.width former ≡ true = grind (arith, nat_tests) in
+      let top : r.y ≡ 0 = rw less at (ap (λ (q : Rect). q.y) is) in
+      absurd (omega (arith, top, above))
+  | inr wide ↦
+      let not_less : nat_lt b.width former ≡ false = grind (arith, nat_tests) in
+      let same = raised_by former (inline_area n b.width b.height o b.cursor_y) (nat_lt b.width former) in
+      let rows : r.height ≡ min n b.height = ap (λ (q : Rect). q.height) is ∙ same.2 in
+      let bottom = on.bottom in
+      let kept : nat_le (min r.y (scrolled.height - 1)) y ≡ false = grind (arith, nat_tests) in
+      (empties (left tt)).grid x y x_in y_in ∙ rw (kept, not_less) refl
+]
+above_emptied (Fixed f) size former o b scrolled u r free good width height is left on tall empties x y x_in y_in above = absurd (free tt)
+
 -- a screen took another size, and the terminal found it
 module _ (stage : Stage) (given : Size) (s t : State TestBackend) (free : IsFixed stage.viewport → ⊥) (playing : IsPlaying stage s)
     (other : size_of (screen_of s.backend) ≡ given → ⊥) (taken : TakesNewSize given s t) where
@@ -317,14 +341,50 @@ module _ (stage : Stage) (given : Size) (s t : State TestBackend) (free : IsFixe
         (subst (λ k. HasPlace k t.viewport_area resized.scrolled → Empties (λ a b. is_emptied k t.viewport_area resized.scrolled.height a b || nat_lt between.width s.viewport_area.width) resized.scrolled new) playing.kind resized.empties);
   }
 
+  -- the rows above the viewport are the topmost of the screen in between
+  abbrev scrolled_rows : ℕ
+  scrolled_rows = rows_scrolled s.viewport (cursor_offset s) between
+
+  kept_above : IsGoodViewport stage.viewport (stage_size stage) → (a b : ℕ) → a < resized.scrolled.width → b < resized.scrolled.height → b < t.viewport_area.y → new.grid a b ≡ resized.scrolled.grid a b
+  kept_above good =
+      above_emptied stage.viewport (stage_size stage) s.viewport_area.width (cursor_offset s) between resized.scrolled new t.viewport_area free good resized.scrolls.width resized.scrolls.height
+      (subst (λ k. t.viewport_area ≡ raised s.viewport_area.width (area_in k (screen_area between) (cursor_offset s) between.cursor_y)) playing.kind resized.viewport_area)
+      (λ inline. inline_left stage.viewport (size_of new) t.viewport_area inline resized_lies) resized_on resized.frame.size.height
+      (subst (λ k. HasPlace k t.viewport_area resized.scrolled → Empties (λ a b. is_emptied k t.viewport_area resized.scrolled.height a b || nat_lt between.width s.viewport_area.width) resized.scrolled new) playing.kind resized.empties)
+
+  goes_on : IsGoodStage stage → GoesOn (sight_in s) (sight_in t)
+  goes_on good = record {
+    between = plain_screen between;
+    takes = record {
+      history = taken.takes.history;
+      size = taken.takes.size ∙ sym resized_size;
+      grid = λ a b a_in b_in. taken.takes.grid a b (omega (arith, a_in, resized_width_is)) (omega (arith, b_in, resized_height_is));
+      cursor = ap₂ (λ x y. record { x = x; y = y }) (corner new.width) (corner new.height);
+      visible = refl;
+      written = refl;
+    };
+    count = scrolled_rows + t.viewport_area.y;
+    above =
+        above_same resized.scrolled new t.viewport_area.y resized.frame.size.history resized.frame.size.width resized.frame.size.height (kept_above good.viewport)
+        ∙ above_kept resized.scrolls t.viewport_area.y;
+    left = map (row_of between) (range_with_len 0 scrolled_rows);
+    history = resized.frame.size.history ∙ resized.scrolls.history ∙ ap (λ h. h ++ map (row_of between) (range_with_len 0 scrolled_rows)) taken.takes.history;
+  }
+    where
+      corner : (n : ℕ) → 0 ≡ min 0 (n - 1)
+      corner n = omega arith
+
+      resized_width_is : new.width ≡ given.width
+      resized_width_is = ap (λ (z : Size). z.width) resized_size
+
+      resized_height_is : new.height ≡ given.height
+      resized_height_is = ap (λ (z : Size). z.height) resized_size
+
   pub IsSizedFor-resized : IsSizedFor stage (Some given) s t
   IsSizedFor-resized = record {
     size = resized_size ∙ sym (size_after_free stage.viewport given (size_of (screen_of s.backend)) free);
     same = λ e. absurd (other (sym e ∙ resized_size));
-    other = λ _. (
-      map (row_of between) (range_with_len 0 (rows_scrolled s.viewport (cursor_offset s) between)),
-      resized.frame.size.history ∙ resized.scrolls.history ∙ ap (λ h. h ++ map (row_of between) (range_with_len 0 (rows_scrolled s.viewport (cursor_offset s) between))) taken.takes.history,
-    );
+    other = λ _. goes_on;
   }
 
 pub is_free : (kind : Viewport) → ((r : Rect) → kind ≡ Fixed r → ⊥) → IsFixed kind → ⊥
@@ -410,10 +470,17 @@ Plays-cleared stage s t good columns rows playing clears =
       };
     }
 
--- a frame drawn behind its size
-pub Plays-drawn : (stage : Stage) (given : Option Size) (text : TextData) (puts : List (ℕ × ℕ × ℕ)) (s m t : State TestBackend) → IsSizedFor stage given s m → IsPlaying stage t → ShowsFrame text puts m t
+-- what stays around a viewport keeps the rows above it
+pub kept_rows : (old new : Sight) → KeepsSurroundings old new → sight_rows_above new ≡ sight_rows_above old
+kept_rows old new k =
+    subst (λ (r : Rect). rows_above new.screen r.y ≡ sight_rows_above old) (sym k.viewport)
+    (above_same old.screen new.screen old.viewport.y k.size.history k.size.width k.size.height
+    (λ a b a_in b_in above. k.outside.at a b a_in b_in (λ within. omega (arith, within.top, above))))
+
+-- a frame drawn after its size
+pub Plays-drawn : (stage : Stage) (given : Option Size) (text : TextData) (puts : List (ℕ × ℕ × ℕ)) (s m t : State TestBackend) → IsGoodStage stage → IsSizedFor stage given s m → IsPlaying stage t → ShowsFrame text puts m t
     → Plays stage (steps.Draw given text puts) s t
-Plays-drawn stage given text puts s m t sized playing shows =
+Plays-drawn stage given text puts s m t good sized playing shows =
     let size : size_of (screen_of t.backend) ≡ size_of (screen_of m.backend) = same_size (screen_of t.backend) (screen_of m.backend) shows.rest.size.width shows.rest.size.height in
     record {
       playing = playing;
@@ -424,7 +491,16 @@ Plays-drawn stage given text puts s m t sized playing shows =
         settled = shows.settled;
         shown = shows.shown;
         same = λ e. subst (λ x. KeepsSurroundings (sight_in x) (sight_in t)) (sized.same (sym size ∙ e)) shows.rest;
-        other = λ out. let goes = sized.other (λ e. out (size ∙ e)) in (goes.0, shows.rest.size.history ∙ goes.1);
+        other = λ out.
+            let goes = sized.other (λ e. out (size ∙ e)) good in
+            record {
+              between = goes.between;
+              takes = subst (λ z. TakesSize (plain_screen (screen_of s.backend)) z goes.between) (sym size) goes.takes;
+              count = goes.count;
+              above = kept_rows (sight_in m) (sight_in t) shows.rest ∙ goes.above;
+              left = goes.left;
+              history = shows.rest.size.history ∙ goes.history;
+            };
       };
     }
 

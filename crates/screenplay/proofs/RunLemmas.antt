@@ -7,7 +7,7 @@ use Rattle.std.proofs.lemmas.Option.{slice_get-get_or, get_or_from_slice_get, sl
 use Rattle.std.proofs.Math.Seq.{get_or-append_seam}
 use Rattle.rtui_backend.specs.declared.test.TestBackend.{TestBackend}
 use Rattle.rtui_terminal.specs.State.{State}
-use Rattle.screenplay.specs.Run.{sight_of, IsAtCorner, IsStaged, IsStart, IsAfter, IsRun, StopsBehind}
+use Rattle.screenplay.specs.Run.{sight_of, IsPlainScene, IsStaged, IsStart, IsAfter, IsRun, StopsBehind}
 use Rattle.screenplay.specs.Playing.{IsPlaying, sight_in, IsSceneOf, IsCauseOfStep, Plays}
 use Rattle.screenplay.specs.declared.scene.PlayCause.{PlayCause}
 use Rattle.screenplay.specs.declared.scene.PlayCause.TheVariants.{Unsettled}
@@ -52,7 +52,7 @@ IsRun-start stage t scene playing start made = record {
   staged = λ k sc is.
       let within : k < 1 = slice_get_within (scene ∷ []) k sc is in
       let same : scene ≡ sc = get_last [] scene sc k (omega arith) is in
-      subst (λ x. IsAtCorner x × IsStaged stage (sight_of x)) same (made.corner, subst (IsStaged stage) (sym made.shown) (IsStaged-playing stage t playing));
+      subst (λ x. IsPlainScene x × IsStaged stage (sight_of x)) same (made.plain, subst (IsStaged stage) (sym made.shown) (IsStaged-playing stage t playing));
   start = λ sc is. subst (λ x. IsStart stage (sight_of x)) (get_last [] scene sc 0 (omega arith) is) (subst (IsStart stage) (sym made.shown) start);
   after = λ k step old new is. absurd (let within : k < 0 = slice_get_within [] k step is in omega arith);
 }
@@ -68,14 +68,14 @@ module _ (stage : Stage) (steps : List Step) (step : Step) (scenes : List Scene)
       let count = run.count in
       let follows : IsAfter stage step (sight_of last.scene) (sight_of scene) =
       subst (λ x. IsAfter stage step x (sight_of scene)) (sym last.shown.shown) (subst (IsAfter stage step (sight_in s)) (sym made.shown) plays.after) in
-      let fine : IsAtCorner scene × IsStaged stage (sight_of scene) = (made.corner, subst (IsStaged stage) (sym made.shown) (IsStaged-playing stage t plays.playing)) in
+      let fine : IsPlainScene scene × IsStaged stage (sight_of scene) = (made.plain, subst (IsStaged stage) (sym made.shown) (IsStaged-playing stage t plays.playing)) in
       record {
         count = omega (arith, length-append steps (step ∷ []), length-append scenes (scene ∷ []));
         staged = λ k sc is. elim (cases_lt k (length scenes)) [
           | inl less ↦ run.staged k sc (get_front scenes scene sc k less is)
           | inr ge ↦
               let within : k < length (scenes ++ scene ∷ []) = slice_get_within (scenes ++ scene ∷ []) k sc is in
-              subst (λ x. IsAtCorner x × IsStaged stage (sight_of x)) (get_last scenes scene sc k (omega (arith, length-append scenes (scene ∷ []))) is) fine
+              subst (λ x. IsPlainScene x × IsStaged stage (sight_of x)) (get_last scenes scene sc k (omega (arith, length-append scenes (scene ∷ []))) is) fine
         ];
         start = λ first e. run.start first (get_front scenes scene first 0 (omega arith) e);
         after = λ k st old new is_step is_old is_new. elim (cases_lt k (length steps)) [

@@ -1,5 +1,5 @@
 -- A scene made of what a terminal's screen shows.
-use Rattle.std.proofs.Common.{◌≡◌, List, [], ◌∷◌, map, refl, sym, ap, ap₂, ◌∙◌, true}
+use Rattle.std.proofs.Common.{◌≡◌, List, [], ◌∷◌, map, refl, sym, subst, ap, ap₂, ◌∙◌, true}
 use Rattle.std.specs.declared.vec.Vec.{Vec}
 use Rattle.std.specs.declared.alloc.Global.{Global}
 use Rattle.rtui_geometry.specs.declared.rect.Rect.{Rect}
@@ -7,7 +7,7 @@ use Rattle.rtui_cell.specs.declared.cell.Cell.{Cell}
 use Rattle.rtui_cell.specs.Look.{Look, look_of}
 use Rattle.rtui_buffer.specs.Sheet.{Sheet, IsSameSheet}
 use Rattle.rtui_backend.specs.Screen.{screen_area}
-use Rattle.rtui_backend.specs.CellGrid.{grid_of}
+use Rattle.rtui_backend.specs.CellGrid.{grid_of, AreUnmarked, AreUnmarkedRows}
 use Rattle.rtui_backend.specs.TestBackend.{screen_of, sheet_of}
 use Rattle.rtui_backend.specs.declared.test.TestBackend.{TestBackend}
 use Rattle.rtui_terminal.specs.State.{State}
@@ -41,19 +41,27 @@ shown_with viewport history area cells = record {
 -- what the terminal's screen shows, as a scene
 pub IsSceneOf-in : (t : State TestBackend) → IsSceneOf t (scene_in t)
 IsSceneOf-in t = record {
-  corner = ap₂ (λ x y. record { x = x; y = y; width = t.backend.buffer.area.width; height = t.backend.buffer.area.height }) t.backend.corner_x t.backend.corner_y;
+  plain = record {
+    corner = ap₂ (λ x y. record { x = x; y = y; width = t.backend.buffer.area.width; height = t.backend.buffer.area.height }) t.backend.corner_x t.backend.corner_y;
+    screen = t.backend.plain;
+    history = t.backend.plain_history;
+  };
   shown = refl;
 }
 
-pub IsSceneOf-made : (t : State TestBackend) (history : Vec CellRow Global) (rows : List CellRow) (buffer copy : Sheet) → IsSameSheet buffer copy → buffer.area ≡ screen_area (screen_of t.backend) → buffer ≡ sheet_of t.backend
+pub IsSceneOf-made : (t : State TestBackend) (history : Vec CellRow Global) (rows : List CellRow) (buffer copy : Sheet) → AreUnmarked buffer.cells → AreUnmarkedRows (map (λ (row : CellRow). row.items) rows) → IsSameSheet buffer copy → buffer.area ≡ screen_area (screen_of t.backend) → buffer ≡ sheet_of t.backend
     → map (λ (row : CellRow). row.items) history.items ≡ map (λ (row : CellRow). row.items) rows → map (λ (row : CellRow). map look_of row.items) rows ≡ (screen_of t.backend).history
     → IsSceneOf t (record { history = history; screen = copy; viewport = t.viewport_area })
-IsSceneOf-made t history rows buffer copy same corner value copied left =
+IsSceneOf-made t history rows buffer copy unmarked unmarked_rows same corner value copied left =
     let area : copy.area ≡ (sheet_of t.backend).area = same.area ∙ ap (λ (s : Sheet). s.area) value in
     let cells : copy.cells ≡ (sheet_of t.backend).cells = same.cells ∙ ap (λ (s : Sheet). s.cells) value in
     let scrolled = looks_of history.items ∙ ap (map (map look_of)) copied ∙ sym (looks_of rows) ∙ left in
     record {
-      corner = same.area ∙ corner ∙ ap (λ (r : Rect). record { x = 0; y = 0; width = r.width; height = r.height }) (sym area);
+      plain = record {
+        corner = same.area ∙ corner ∙ ap (λ (r : Rect). record { x = 0; y = 0; width = r.width; height = r.height }) (sym area);
+        screen = subst AreUnmarked (sym same.cells) unmarked;
+        history = subst AreUnmarkedRows (sym copied) unmarked_rows;
+      };
       shown =
           ap (λ h. shown_with t.viewport_area h copy.area copy.cells) scrolled
           ∙ ap₂ (shown_with t.viewport_area (screen_of t.backend).history) area cells;

@@ -15,7 +15,7 @@ use Rattle.rtui_terminal.specs.State.{State}
 use Rattle.rtui_terminal.specs.InStep.{IsInStep, IsSized}
 use Rattle.rtui_terminal.specs.Resizing.{Autoresizes}
 use Rattle.rtui_terminal.specs.Insertion.{inserted_area, Inserts}
-use Rattle.screenplay.specs.Run.{Sight, plain_screen, sight_of, MayLie, size_after, GoesOn, KeepsSurroundings, IsFrame, IsAtCorner, HasUnsettled, IsUnsettledStep, IsAfter}
+use Rattle.screenplay.specs.Run.{Sight, plain_screen, sight_of, IsGoodStage, MayLie, size_after, GoesOn, KeepsSurroundings, IsFrame, IsPlainScene, HasUnsettled, IsUnsettledStep, IsAfter}
 use Rattle.screenplay.specs.declared.scene.Stage.{Stage}
 use Rattle.screenplay.specs.declared.scene.Scene.{Scene}
 use Rattle.screenplay.specs.declared.scene.Step.{Step}
@@ -47,7 +47,7 @@ scene_in t = record { history = t.backend.scrollback; screen = sheet_of t.backen
 
 -- a scene shows what the terminal's screen shows
 pub record IsSceneOf (t : State TestBackend) (scene : Scene) : Type 0 where
-  pub corner : IsAtCorner scene
+  pub plain : IsPlainScene scene
   pub shown : sight_of scene ≡ sight_in t
 
 -- the screen took a size, and the terminal found it
@@ -56,11 +56,11 @@ pub record TakesNewSize (size : Size) (s t : State TestBackend) : Type 0 where
   pub takes : TakesSize (screen_of s.backend) size (screen_of backend)
   pub found : Autoresizes screen_of (record s { backend = backend }) t
 
--- the screen took the size of a draw: where it stays nothing changed, and at another size the history goes on
+-- the screen took the size of a draw: where it stays nothing changed, and at another size the history and the rows above go on
 pub record IsSizedFor (stage : Stage) (given : Option Size) (s t : State TestBackend) : Type 0 where
   pub size : size_of (screen_of t.backend) ≡ size_after stage.viewport given (size_of (screen_of s.backend))
   pub same : size_of (screen_of t.backend) ≡ size_of (screen_of s.backend) → t ≡ s
-  pub other : (size_of (screen_of t.backend) ≡ size_of (screen_of s.backend) → ⊥) → GoesOn (screen_of s.backend).history (screen_of t.backend).history
+  pub other : (size_of (screen_of t.backend) ≡ size_of (screen_of s.backend) → ⊥) → IsGoodStage stage → GoesOn (sight_in s) (sight_in t)
 
 -- a settled frame over the viewport was drawn, and all else stays
 pub record ShowsFrame (text : TextData) (puts : List (ℕ × ℕ × ℕ)) (s t : State TestBackend) : Type 0 where

@@ -8,8 +8,8 @@ use Rattle.rtui_text.specs.Text.{TextData}
 use Rattle.rtui_buffer.specs.Sheet.{Sheet, IsEmptied}
 use Rattle.rtui_buffer.specs.Frame.{IsSettledSheet, ShowsSheet}
 use Rattle.rtui_widgets.specs.Rendering.{RendersText}
-use Rattle.rtui_backend.specs.Screen.{Screen, KeepsSizeAndHistory, IsOnScreen, size_of, screen_area, rows_above}
-use Rattle.rtui_backend.specs.CellGrid.{grid_of}
+use Rattle.rtui_backend.specs.Screen.{Screen, KeepsSizeAndHistory, IsOnScreen, TakesSize, size_of, screen_area, rows_above}
+use Rattle.rtui_backend.specs.CellGrid.{grid_of, AreUnmarked, AreUnmarkedRows}
 use Rattle.rtui_viewport.specs.declared.viewport.Viewport.{Viewport}
 use Rattle.rtui_viewport.specs.declared.viewport.Viewport.TheVariants.{Fullscreen, Inline, Fixed}
 use Rattle.rtui_viewport.specs.Viewports.{IsInline}
@@ -134,12 +134,17 @@ size_after Fullscreen (Some given) own = given
 size_after (Inline rows) (Some given) own = given
 size_after (Fixed r) (Some given) own = own
 
--- the second history begins with the first
-abbrev pub GoesOn : List (List Look) → List (List Look) → Type 0
-GoesOn old new = (rows : List (List Look)) × (new ≡ old ++ rows)
+-- the screen took the size that it has, and the rows above the viewport are then the topmost of it, from its history on
+pub record GoesOn (old new : Sight) : Type 0 where
+  pub between : Screen
+  pub takes : TakesSize old.screen (sight_size new) between
+  pub count : ℕ
+  pub above : sight_rows_above new ≡ rows_above between count
+  pub left : List (List Look)
+  pub history : new.screen.history ≡ old.screen.history ++ left
 
 -- a draw: the screen has its size and shows the settled frame over the viewport; all else stays where the size does, and at another size
--- the history goes on
+-- the history and the rows above the viewport go on
 pub record IsDrawn (stage : Stage) (given : Option Size) (text : TextData) (puts : List (ℕ × ℕ × ℕ)) (old new : Sight) : Type 0 where
   pub size : sight_size new ≡ size_after stage.viewport given (sight_size old)
   pub frame : Sheet
@@ -147,7 +152,7 @@ pub record IsDrawn (stage : Stage) (given : Option Size) (text : TextData) (puts
   pub settled : IsSettledSheet frame
   pub shown : ShowsSheet frame new.screen.grid
   pub same : sight_size new ≡ sight_size old → KeepsSurroundings old new
-  pub other : (sight_size new ≡ sight_size old → ⊥) → GoesOn old.screen.history new.screen.history
+  pub other : (sight_size new ≡ sight_size old → ⊥) → GoesOn old new
 
 -- a clear: the viewport is empty, and all else stays
 pub record IsEmptiedView (old new : Sight) : Type 0 where
@@ -192,14 +197,16 @@ IsAfter stage (Draw given text puts) old new = IsDrawn stage given text puts old
 IsAfter stage (Insert text) old new = InsertsOn stage.viewport text old new
 IsAfter stage Clear old new = IsEmptiedView old new
 
--- the screen of a scene has its corner at (0, 0)
-abbrev pub IsAtCorner : Scene → Type 0
-IsAtCorner scene = scene.screen.area ≡ screen_area (sight_of scene).screen
+-- a scene of looks alone: its screen has its corner at (0, 0), and no cell of it or of the history has an option or a flag
+pub record IsPlainScene (scene : Scene) : Type 0 where
+  pub corner : scene.screen.area ≡ screen_area (sight_of scene).screen
+  pub screen : AreUnmarked scene.screen.cells
+  pub history : AreUnmarkedRows (map (λ row. row.items) scene.history.items)
 
 -- the scenes from a start through the steps, one more than those
 pub record IsRun (stage : Stage) (steps : List Step) (scenes : List Scene) : Type 0 where
   pub count : length scenes ≡ length steps + 1
-  pub staged : (k : ℕ) (scene : Scene) → slice_get scenes k ≡ Some scene → IsAtCorner scene × IsStaged stage (sight_of scene)
+  pub staged : (k : ℕ) (scene : Scene) → slice_get scenes k ≡ Some scene → IsPlainScene scene × IsStaged stage (sight_of scene)
   pub start : (scene : Scene) → slice_get scenes 0 ≡ Some scene → IsStart stage (sight_of scene)
   pub after : (k : ℕ) (step : Step) (old new : Scene) → slice_get steps k ≡ Some step → slice_get scenes k ≡ Some old → slice_get scenes (k + 1) ≡ Some new
       → IsAfter stage step (sight_of old) (sight_of new)

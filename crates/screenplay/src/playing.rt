@@ -157,7 +157,7 @@ fn draw(
     text: &Text<'_>,
     puts: &Puts,
 ) -> Result<(), PlayCause>
-    ensures ok { OnOk result ((stage : Stage) → stage.viewport ≡ viewport
+    ensures ok { OnOk result ((stage : Stage) → stage.viewport ≡ viewport → IsGoodStage stage
         → IsPlaying stage terminal.old
         → Plays stage (Draw size text.now puts.now) terminal.old terminal.new) }
     ensures err { IfErr result (λ cause. (stage : Stage) → stage.viewport ≡ viewport

@@ -1,4 +1,6 @@
-use Rattle.std.proofs.Common.{◌≡◌, ◌+◌, ◌-◌, length, take, drop, ap, subst, ◌∙◌, arith, length-drop}
+use Rattle.std.proofs.Common.{◌≡◌, ◌+◌, ◌-◌, length, take, drop, Some, ap, sym, subst, ◌∙◌, arith}
+use Rattle.std.specs.Prelude.{slice_get}
+use Rattle.std.proofs.lemmas.Option.{slice_get-get_or}
 use Rattle.std.proofs.lemmas.Grind.{common_steps}
 use Rattle.std.proofs.lemmas.List.{map-append}
 use Rattle.std.proofs.lemmas.Iterator.Consumers.{YieldsList-so_far, YieldsList-turn, YieldsList-end}
@@ -25,15 +27,14 @@ returns-in-Err-clause-err c = λ size start.
     let so_far = YieldsList-so_far road c.loop-line.yielded _ c.loop-line.yielded_by in
     let count = c.loop-line.invariant.count in
     let before = c.loop-line.invariant.view size start in
-    let all = length-drop 1 (lines c.args.text.now) in
     let place : length c.loop-line.yielded ≡ c.loop-line.number + 1 - 2 = omega (arith, count) in
     record {
-      behind = omega (arith, count);
-      within = omega (arith, turn.0, count, all);
-      old = c.loop-line.view;
-      new = c.push.new.self;
-      error = c.in-Err.field-0;
+      after = omega (arith, count);
+      line = c.in-Some.line.now;
+      line_is = subst (λ n. slice_get (drop 1 (lines c.args.text.now)) n ≡ Some c.in-Some.line.now) place (slice_get-get_or (drop 1 (lines c.args.text.now)) (length c.loop-line.yielded) c.in-Some.line.now turn.0 ∙ ap Some (sym turn.1));
+      before = c.loop-line.view;
       shown = subst (λ pushed. IsViewOf screen_of size pushed c.loop-line.view) (so_far ∙ ap (λ n. take n (drop 1 (lines c.args.text.now))) place) before;
+      error = c.in-Err.field-0;
       refused = c.in-Err.ensures.refused before.following;
     }
 

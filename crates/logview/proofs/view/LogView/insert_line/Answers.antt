@@ -1,8 +1,14 @@
 use Rattle.std.proofs.Common.{rules}
 use Rattle.ratatui_core.proofs.TerminalLemmas.{inserts-row-if}
+use Rattle.logview.proofs.ViewLemmas.{inserts-below-if}
 use Rattle.logview.proofs.view.LogView.insert_line.Goals as goal
 
 pub returns-clause-ok : goal.returns-clause-ok
 returns-clause-ok g c = λ is.
     inserts-row-if g.B.Backend.screen c.args.line.now _ _ _ c.insert_before.result is
+    (λ sheet fills. record { before = fills.before; empty = fills.new_buffer.empty; renders = λ has. search rules }) (c.insert_before.ensures.outcome is.kind)
+
+pub returns-clause-kept : goal.returns-clause-kept
+returns-clause-kept g c = λ is.
+    inserts-below-if g.B.Backend.screen c.args.line.now c.args.self.now _ _ c.insert_before.result is
     (λ sheet fills. record { before = fills.before; empty = fills.new_buffer.empty; renders = λ has. search rules }) (c.insert_before.ensures.outcome is.kind)
