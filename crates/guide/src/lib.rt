@@ -1,6 +1,6 @@
 //! Examples on `ratatui_core` alone; docs/USING.md walks through them.
 //!
-//! [`draw_checked`] draws a frame on a terminal, [`log`] logs rows above it, [`renew`] makes a list of calls, and [`label`] paints on a
+//! [`greet`] is the README's first example. [`draw_checked`] draws a frame on a terminal, [`log`] logs rows above it, [`renew`] makes a list of calls, and [`label`] paints on a
 //! buffer. [`Gauge`] is a widget of one's own: a labelled bar. [`draw_widget`] draws any widget over a whole frame, [`draw_text`] a
 //! text and [`draw_gauge`] a gauge.
 #![tactic(auto)]
@@ -9,6 +9,7 @@ mod frames;
 mod gauge;
 #[cfg(test)]
 mod gauge_tests;
+mod hello;
 mod labels;
 mod lines;
 mod logging;
@@ -19,6 +20,7 @@ mod widget_frames;
 
 pub use frames::draw_checked;
 pub use gauge::Gauge;
+pub use hello::greet;
 pub use labels::{label, pieces_stand};
 pub use lines::restyle_first;
 pub use logging::log;

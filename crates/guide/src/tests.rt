@@ -1,5 +1,6 @@
 //! The examples on a screen in memory.
 use crate::frames::draw_checked;
+use crate::hello::greet;
 use crate::labels::label;
 use crate::lines::restyle_first;
 use crate::logging::log;
@@ -17,6 +18,14 @@ fn terminal<B: Backend + Drop>(alloc: Global, backend: B) -> Result<Terminal<B>,
         Ok(terminal) => Ok(terminal),
         Err(_) => Err(Fail::from(AllocError)),
     }
+}
+
+#[test]
+fn a_greeting_is_shown(rt: HostRuntime) -> Result<(), Fail> {
+    let mut terminal = terminal(rt.alloc(), TestBackend::new(rt.alloc(), 14, 1)?)?;
+    assert!(rt; greet(&mut terminal) == Ok(true));
+    assert!(rt; terminal.backend().lines_are(&["Hello, world! "]));
+    Ok(())
 }
 
 // What a checked draw of two labels answers on a screen in memory, and whether it then shows this row.
