@@ -1,6 +1,6 @@
 //! Logs, run over bytes in memory, and lines on a screen in memory.
 
-use crate::engine::run;
+use crate::engine::{push_lines, run};
 use crate::fault::LogFault;
 use crate::view::LogView;
 use ratatui_core::backend::{TestBackend, TestError};
@@ -71,6 +71,18 @@ fn prints_many(alloc: Global) -> Result<bool, AllocError> {
 #[test]
 fn prints_more_lines_than_a_screen_has_rows(rt: HostRuntime) -> Result<(), Fail> {
     assert!(rt; prints_many(rt.alloc())?);
+    Ok(())
+}
+
+// Whether a log of one line of more than 65535 bytes prints as much of it as fits.
+fn prints_a_long_line(alloc: Global) -> Result<bool, AllocError> {
+    let log = repeated(alloc, "3 2\n", "a", 70000)?;
+    Ok(prints(alloc, log.as_str(), "|aaa\n|lin\n"))
+}
+
+#[test]
+fn prints_what_fits_of_a_long_line(rt: HostRuntime) -> Result<(), Fail> {
+    assert!(rt; prints_a_long_line(rt.alloc())?);
     Ok(())
 }
 
@@ -232,6 +244,43 @@ fn calls_made(alloc: Global, height: u16) -> Result<Option<u64>, AllocError> {
 fn answers_each_failed_call(rt: HostRuntime) -> Result<(), Fail> {
     assert!(rt; calls_made(rt.alloc(), 3)?.is_some_and(|calls| calls > 8));
     assert!(rt; calls_made(rt.alloc(), 1)?.is_some_and(|calls| calls > 8));
+    Ok(())
+}
+
+// A view over a backend whose call of this number fails, if the view can be opened.
+fn failing_view(alloc: Global, calls: u64) -> Result<Option<LogView<TestBackend>>, AllocError> {
+    let mut backend = TestBackend::new(alloc, 8, 3)?;
+    backend.fail_after(calls);
+    Ok(LogView::new(alloc, backend).ok())
+}
+
+// The line of a log at which its pushes end, one by one, if they do.
+fn first_refused(view: &mut LogView<TestBackend>, lines: &[&str]) -> Option<LogFault> {
+    for (index, line) in lines.iter().enumerate() {
+        if view.push(line).is_err() {
+            return Some(LogFault::Refused(index.saturating_add(2)));
+        }
+    }
+    None
+}
+
+// Whether the pushes of a log end at the line at which they end one by one.
+fn names_its_line(alloc: Global, calls: u64) -> Result<bool, AllocError> {
+    let Some(mut view) = failing_view(alloc, calls)? else {
+        return Ok(true);
+    };
+    let Some(mut twin) = failing_view(alloc, calls)? else {
+        return Ok(false);
+    };
+    let refused = first_refused(&mut twin, &["a", "b", "c", "d"]);
+    Ok(push_lines(&mut view, "8 3\na\nb\nc\nd").err() == refused)
+}
+
+#[test]
+fn names_the_line_that_was_refused(rt: HostRuntime) -> Result<(), Fail> {
+    for calls in 0..60 {
+        assert!(rt; names_its_line(rt.alloc(), calls)?, "{calls}");
+    }
     Ok(())
 }
 

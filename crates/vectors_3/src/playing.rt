@@ -129,3 +129,24 @@ fn writes_nothing_on_a_screen_without_rows(rt: HostRuntime) -> Result<(), Fail> 
     assert!(rt; inserts_nothing_without_rows(rt.alloc())?);
     Ok(())
 }
+
+// Where the viewport of two rows ends up above which so many rows were inserted, on a screen of ten columns and four rows.
+fn top_after(alloc: Global, rows: &str) -> Result<Option<Rect>, AllocError> {
+    let step = Step::Insert(Text::raw(alloc, rows)?);
+    let stage = Stage {
+        width: 10,
+        height: 4,
+        viewport: Viewport::Inline(2),
+    };
+    match play(alloc, stage, slice::from_ref(&step)) {
+        Ok(scenes) => Ok(scenes.last().map(|scene| scene.viewport)),
+        Err(_) => Ok(None),
+    }
+}
+
+#[test]
+fn moves_the_viewport_down(rt: HostRuntime) -> Result<(), Fail> {
+    assert!(rt; top_after(rt.alloc(), "r0\nr1\nr2\nr3\nr4")? == Some(Rect::new(0, 2, 10, 2)));
+    assert!(rt; top_after(rt.alloc(), "r0")? == Some(Rect::new(0, 1, 10, 2)));
+    Ok(())
+}

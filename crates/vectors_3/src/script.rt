@@ -13,7 +13,7 @@ fn prints(alloc: Global, script: &str, printed: &str) -> bool {
 }
 
 // Scripts and what they print.
-static PRINTED: [(&str, &str); 32] = [
+static PRINTED: [(&str, &str); 33] = [
     (
         "screen 5 2\nput 1 0 h\nput 2 0 i\ndraw\nshow\n",
         "| hi  \n|     \n",
@@ -84,6 +84,10 @@ static PRINTED: [(&str, &str); 32] = [
     (
         "inline 3 2 1\nput 0 1 x\ntext ab\ninsert\ndraw\nshow",
         "|ab \n|x  \n",
+    ),
+    (
+        "inline 6 4 2\ntext aa\ninsert\ndraw\nsize 6 5\ndraw\nshow",
+        "|aa    \n|      \n|      \n|      \n|      \n",
     ),
     ("screen 4 1\ntext コ\u{200B}\ninsert\nshow", "|    \n"),
     ("screen 4 1\ntext ab\ninsert\ndraw\nshow", "|    \n"),
