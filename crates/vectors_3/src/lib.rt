@@ -11,6 +11,8 @@ mod compared;
 #[cfg(test)]
 mod faults;
 #[cfg(test)]
+mod masked;
+#[cfg(test)]
 mod placed;
 #[cfg(test)]
 mod playing;
