@@ -2,12 +2,13 @@
 use crate::painting::texts;
 use crate::sheets::{sum, updates, wide};
 use bitflags::Flags;
-use ratatui_ansi::{AnsiBackend, Kept};
+use ratatui_ansi::AnsiBackend;
 use ratatui_core::backend::Backend;
 use ratatui_core::buffer::{Buffer, Cell};
 use ratatui_core::layout::{Position, Rect};
 use ratatui_core::style::{Color, Modifier, Style};
 use std::alloc::{AllocError, Global};
+use std::io::{self, Write};
 
 type Done = Result<(u64, u64), AllocError>;
 
@@ -108,24 +109,42 @@ fn frames(
     Ok(Some((older, newer)))
 }
 
+// A writer that only counts.
+#[derive(Drop)]
+struct Counted {
+    bytes: u64,
+}
+
+impl Write for Counted {
+    fn write(&mut self, buf: &[u8]) -> io::Result<usize> {
+        self.bytes = self.bytes.wrapping_add(buf.len() as u64);
+        Ok(buf.len())
+    }
+
+    fn flush(&mut self) -> io::Result<()> {
+        Ok(())
+    }
+}
+
 // How many bytes a frame takes, on a backend that begins anew.
 fn sent(
-    backend: &mut AnsiBackend<Kept>,
+    backend: &mut AnsiBackend<Counted>,
     older: &Buffer,
     newer: &Buffer,
 ) -> Result<u64, AllocError> {
     if older.area() != newer.area() || backend.restart().is_err() {
         return Err(AllocError);
     }
+    let before = backend.writer().bytes;
     match backend.draw(older.diff_iter(newer)) {
-        Ok(()) => Ok(backend.link().unsent().len() as u64),
+        Ok(()) => Ok(backend.writer().bytes.wrapping_sub(before)),
         Err(_) => Err(AllocError),
     }
 }
 
 fn ansi(alloc: Global, older: &Buffer, newer: &Buffer, count: u64) -> Done {
     let size = newer.area().as_size();
-    let Ok(mut backend) = AnsiBackend::new(alloc, Kept::new(alloc), size) else {
+    let Ok(mut backend) = AnsiBackend::new(alloc, Counted { bytes: 0 }, size) else {
         return Err(AllocError);
     };
     let mut bytes: u64 = 0;

@@ -7,12 +7,14 @@ use std::{fmt, io};
 /// Why the program stops before its input ends.
 #[derive(Debug, Drop)]
 pub enum Fault {
-    /// The terminal refused a line, or memory was refused.
-    Terminal(TerminalError<AnsiError<AllocError>>),
+    /// The terminal refused a line, memory was refused, or standard output can't be written.
+    Terminal(TerminalError<AnsiError>),
     /// Standard input can't be read.
     Read(io::Error),
     /// Standard output can't be written.
     Write(io::Error),
+    /// There are more lines than can be counted.
+    Lines,
 }
 
 impl fmt::Display for Fault {
@@ -21,12 +23,19 @@ impl fmt::Display for Fault {
             Fault::Terminal(error) => write!(f, "{error}"),
             Fault::Read(error) => write!(f, "standard input: {error}"),
             Fault::Write(error) => write!(f, "standard output: {error}"),
+            Fault::Lines => write!(f, "too many lines"),
         }
     }
 }
 
-impl From<TerminalError<AnsiError<AllocError>>> for Fault {
-    fn from(error: TerminalError<AnsiError<AllocError>>) -> Fault {
+impl From<TerminalError<AnsiError>> for Fault {
+    fn from(error: TerminalError<AnsiError>) -> Fault {
         Fault::Terminal(error)
+    }
+}
+
+impl From<AllocError> for Fault {
+    fn from(_: AllocError) -> Fault {
+        Fault::Terminal(TerminalError::Memory)
     }
 }

@@ -1,86 +1,110 @@
 //! The program `follow`: shows standard input line by line above a status line, as it comes.
 //!
-//! `follow COLUMNS ROWS` sends escape sequences to standard output, for a terminal of this size. What a line's row is, and what a
-//! push leaves on the screen, is `logview`'s; that the bytes show that screen is `ratatui_ansi`'s.
+//! `follow COLUMNS ROWS` sends escape sequences to standard output, for a terminal of this size; without words the size is that of the
+//! variables COLUMNS and LINES. What a line's row is, and what a push leaves on the screen, is `logview`'s; that the bytes show that
+//! screen is `ratatui_ansi`'s.
 #![tactic(auto)]
 
+ghost use Rattle.std.specs.Prelude.{◌≡◌, [], Some, IfOk, IfSome, OnOk};
+ghost use Rattle.ratatui_ansi.specs.Backend.{shown_by};
+ghost use Rattle.logview.specs.Views.{IsViewOf};
+ghost use Rattle.follow.specs.Lines.{MovesOn, ShowsText};
+
 mod fault;
+mod shown;
+mod size;
 
 use crate::fault::Fault;
-use clap::{Arg, Command, value_parser};
+use crate::shown::push_shown;
+use crate::size::{command, size_of};
 use logview::LogView;
-use ratatui_ansi::{AnsiBackend, Kept, make_blank};
+use ratatui_ansi::AnsiBackend;
 use ratatui_core::terminal::TerminalError;
 use rtui_geometry::Size;
-use std::alloc::{AllocError, Global};
+use std::alloc::Global;
 use std::env;
 use std::io::{self, BufRead, BufWriter, Write};
 use std::process::ExitCode;
 
-// What the program takes: the columns and rows of the terminal.
-fn command<'a>(alloc: Global) -> Result<Command<'a>, AllocError> {
-    let columns = Arg::new(alloc, "COLUMNS")
-        .help("How wide the terminal is")
-        .required(true)
-        .value_parser(value_parser!(u16).range(1..=65535));
-    let rows = Arg::new(alloc, "ROWS")
-        .help("How high the terminal is")
-        .required(true)
-        .value_parser(value_parser!(u16).range(1..=65535));
-    Command::new(alloc, "follow")
-        .about("Shows standard input line by line above a status line, as it comes")
-        .arg(columns)?
-        .arg(rows)
-}
-
-// Makes the terminal blank.
-fn blank<W: Write>(alloc: Global, writer: &mut W, size: Size) -> io::Result<()> {
-    let mut sequences = String::new(alloc);
-    make_blank(&mut sequences, size.width, size.height)?;
-    writer.write_all(sequences.as_bytes())
-}
-
-// Leaves the terminal with its cursor shown below the screen's rows.
-fn leave<W: Write>(writer: &mut W, size: Size) -> io::Result<()> {
-    write!(writer, "\u{1b}[?25h\u{1b}[{};1H\r\n", size.height)?;
-    writer.flush()
-}
-
-// Writes what the terminal was told behind so many bytes; answers how many it was told.
-fn pass_on<W: Write>(
-    writer: &mut W,
-    view: &LogView<AnsiBackend<Kept>>,
-    written: usize,
-) -> io::Result<usize> {
-    let told = view.terminal().backend().link().unsent().as_bytes();
-    if written <= told.len() {
-        writer.write_all(&told[written..])?;
+// Shows one more line of a reader; answers whether there was one.
+fn push_line<R: BufRead, W: Write + Drop>(
+    reader: &mut R,
+    view: &mut LogView<AnsiBackend<W>>,
+    line: &mut String,
+    shown: &mut String,
+) -> Result<bool, Fault>
+    ensures { IfOk result (λ is_more. IfSome (R.remaining reader.old) (λ text.
+        MovesOn text is_more (R.remaining reader.new) view.old view.new)) }
+{
+    line.clear();
+    shown.clear();
+    if reader.read_line(line).map_err(Fault::Read)? == 0 {
+        return Ok(false);
     }
-    writer.flush()?;
-    Ok(told.len())
+    push_shown(shown, line.as_str())?;
+    view.push(shown.as_str())?;
+    Ok(true)
 }
 
 // Shows the lines of a reader to its end.
+fn push_lines<R: BufRead, W: Write + Drop>(
+    alloc: Global,
+    reader: &mut R,
+    view: &mut LogView<AnsiBackend<W>>,
+) -> Result<(), Fault>
+    ensures { OnOk result (IfSome (R.remaining reader.old) (λ text. (size : Size)
+        → IsViewOf shown_by size [] view.old
+        → (R.remaining reader.new ≡ Some []) × ShowsText size text view.new)) }
+{
+    let mut line = String::new(alloc);
+    let mut shown = String::new(alloc);
+    for _ in 0..u64::MAX {
+        if !push_line(reader, view, &mut line, &mut shown)? {
+            return Ok(());
+        }
+    }
+    Err(Fault::Lines)
+}
+
+// Shows the lines of a reader to its end, on a terminal of this size.
+fn show_lines<R: BufRead, W: Write + Drop>(
+    alloc: Global,
+    reader: &mut R,
+    writer: W,
+    size: Size,
+) -> Result<(), Fault>
+    ensures { OnOk result
+        (IfSome (R.remaining reader.old) (λ _. R.remaining reader.new ≡ Some [])) }
+{
+    let backend = AnsiBackend::new(alloc, writer, size).map_err(TerminalError::Backend)?;
+    let mut view = LogView::new(alloc, backend)?;
+    push_lines(alloc, reader, &mut view)
+}
+
+// Leaves the terminal in its own colours and without margins, with its cursor shown below the screen's rows.
+fn leave<W: Write>(writer: &mut W, size: Size) -> io::Result<()> {
+    write!(
+        writer,
+        "\u{1b}[0m\u{1b}[r\u{1b}[?25h\u{1b}[{};1H\r\n",
+        size.height
+    )?;
+    writer.flush()
+}
+
+// Shows the lines of a reader to its end, and leaves the terminal so also after a fault.
 fn follow<R: BufRead, W: Write>(
     alloc: Global,
     reader: &mut R,
     writer: &mut W,
     size: Size,
-) -> Result<(), Fault> {
-    let backend = AnsiBackend::new(alloc, Kept::new(alloc), size).map_err(TerminalError::Backend)?;
-    let mut view = LogView::new(alloc, backend)?;
-    blank(alloc, writer, size).map_err(Fault::Write)?;
-    let mut written = pass_on(writer, &view, 0).map_err(Fault::Write)?;
-    let mut line = String::new(alloc);
-    for _ in 0..u64::MAX {
-        line.clear();
-        if reader.read_line(&mut line).map_err(Fault::Read)? == 0 {
-            break;
-        }
-        view.push(line.as_str())?;
-        written = pass_on(writer, &view, written).map_err(Fault::Write)?;
-    }
-    leave(writer, size).map_err(Fault::Write)
+) -> Result<(), Fault>
+    ensures { OnOk result
+        (IfSome (R.remaining reader.old) (λ _. R.remaining reader.new ≡ Some [])) }
+{
+    let shown = show_lines(alloc, reader, &mut *writer, size);
+    let left = leave(writer, size);
+    shown?;
+    left.map_err(Fault::Write)
 }
 
 // Shows standard input on a terminal of this size.
@@ -99,9 +123,11 @@ fn main(rt: HostRuntime) -> anyhow::Result<ExitCode> {
             return Ok(ExitCode::from(error.exit_code() as u8));
         }
     };
-    let width = matches.get_one::<u16>("COLUMNS").unwrap_or(1);
-    let height = matches.get_one::<u16>("ROWS").unwrap_or(1);
-    match run(&rt, Size { width, height }) {
+    let Some(size) = size_of(&rt, &matches) else {
+        eprintln!(&rt; "follow: no size: give COLUMNS and ROWS, or set COLUMNS and LINES")?;
+        return Ok(ExitCode::from(2));
+    };
+    match run(&rt, size) {
         Ok(()) => Ok(ExitCode::SUCCESS),
         Err(fault) => {
             eprintln!(&rt; "follow: {fault}")?;

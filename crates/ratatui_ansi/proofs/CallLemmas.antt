@@ -1,16 +1,17 @@
 -- Moves of the cursor, its visibility, and the screen emptied.
-use Rattle.std.proofs.Common.{◌≡◌, ◌⊎◌, inl, inr, ℕ, ◌-◌, ◌<◌, ◌≤◌, ◌||◌, min, nat_lt, if◌then◌else◌, Bool, true, false, List, [], refl, sym, ap, ap₂, subst, ◌∙◌, arith}
+use Rattle.std.proofs.Common.{◌≡◌, inl, inr, ℕ, ◌-◌, ◌<◌, ◌||◌, min, nat_lt, if◌then◌else◌, Bool, true, false, List, [], refl, sym, ap, ap₂, ◌∙◌, arith}
 use Rattle.std.proofs.lemmas.Bool.Decides.{nat_tests}
+use Rattle.std.proofs.Math.Path.{fun_ext}
 use Rattle.ratatui_core.specs.Backend.{Clears, with_cursor, with_visible, All}
 use Rattle.ratatui_ansi.specs.Columns.{Column, Columns, Area, look_in, is_met, blank_column, overwritten}
 use Rattle.ratatui_ansi.specs.Columns.Column.{Shows, Unknown}
 use Rattle.ratatui_ansi.specs.declared.part.Part.TheVariants.{Before}
 use Rattle.ratatui_ansi.specs.Pen.{own_pen}
-use Rattle.ratatui_ansi.specs.Emulator.{Emulator, rested, moved, erased, emptied, part_at, without_region, with_pen}
+use Rattle.ratatui_ansi.specs.Emulator.{Emulator, rested, printed, fresh, moved, erased, emptied, part_at, without_region, with_pen}
 use Rattle.ratatui_ansi.specs.Emulator.Phase.{Ground}
 use Rattle.ratatui_ansi.specs.Emulator as terminal
 use Rattle.ratatui_ansi.specs.Sends.{Does}
-use Rattle.ratatui_ansi.specs.Calls.{IsLikeNew, MakesBlank}
+use Rattle.ratatui_ansi.specs.Calls.{IsLeft, MakesBlank}
 use Rattle.ratatui_ansi.specs.Screens.{screen_shown, IsSized, AreSized, IsWhole, IsWholeAt, IsBlankBeyond, Becomes}
 use Rattle.ratatui_ansi.proofs.ScrollLemmas.{KeepsReady, blank-whole}
 use Rattle.ratatui_ansi.proofs.RegionLemmas.{none_range, ready-columns, keeps-along, moved-placed}
@@ -130,30 +131,38 @@ same-fields : (s t : Emulator) → s.width ≡ t.width → s.height ≡ t.height
 same-fields s t width height phase text pen x y top bottom columns history visible sure = rw (width, height, phase, text, pen, x, y, top, bottom, columns, history, visible, sure) refl
 
 abbrev pub begun : ℕ → ℕ → Emulator → Emulator
-begun w h s = moved 0 0 (erased Before (moved (w - 1) (h - 1) (without_region (with_pen own_pen s))))
+begun w h s = terminal.with_visible true (moved 0 0 (erased Before (moved (w - 1) (h - 1) (without_region (with_pen own_pen s)))))
 
-blank-begun : (w h : ℕ) (s : Emulator) → 0 < w → 0 < h → s.phase ≡ Ground → s.text ≡ [] → s.width ≡ w → s.height ≡ h → s.sure ≡ true
-    → ((a b : ℕ) → (w ≤ a) ⊎ (h ≤ b) → s.columns a b ≡ blank_column) → IsLikeNew w h s (begun w h s)
-blank-begun w h s wide high phase text width height sure off =
+blank-begun : (w h : ℕ) (s : Emulator) → 0 < w → 0 < h → IsLeft w h s → begun w h s ≡ record (fresh w h) { history = s.history }
+blank-begun w h s wide high left =
+    let width : s.width ≡ w = left.width in
+    let height : s.height ≡ h = left.height in
     let column : min (w - 1) (s.width - 1) ≡ w - 1 = omega arith in
     let row : min (h - 1) (s.height - 1) ≡ h - 1 = omega arith in
-    let left : min 0 (s.width - 1) ≡ 0 = omega arith in
+    let side : min 0 (s.width - 1) ≡ 0 = omega arith in
     let top : min 0 (s.height - 1) ≡ 0 = omega arith in
     let inside : nat_lt (min (w - 1) (s.width - 1)) s.width ≡ true = grind (arith, nat_tests) in
-    let still : (begun w h s).sure ≡ true = rw (sure, inside) refl in
-    record {
-      blank = λ a b.
-          ap₂ (λ i j. overwritten (part_at Before i j) (λ k r. blank_column) s.columns a b) column row ∙ erased-emptied w h s.columns wide high (λ k r out. off k r (inl out)) a b
-          ∙ elim (nat_lt b h) as (λ p. nat_lt b h ≡ p → (if p then blank_column else s.columns a b) ≡ blank_column) [
-            | true ↦ λ in_rows. refl
-            | false ↦ λ below. off a b (inr (grind (arith, nat_tests)))
-          ] refl;
-      rest = same-fields (begun w h s) _ width height phase text refl left top refl height refl refl refl still;
-    }
+    let still : (begun w h s).sure ≡ true = rw (left.sure, inside) refl in
+    let blank : (a b : ℕ) → (begun w h s).columns a b ≡ blank_column = λ a b.
+    ap₂ (λ i j. overwritten (part_at Before i j) (λ k r. blank_column) s.columns a b) column row ∙ erased-emptied w h s.columns wide high (λ k r out. left.off k r (inl out)) a b
+    ∙ elim (nat_lt b h) as (λ p. nat_lt b h ≡ p → (if p then blank_column else s.columns a b) ≡ blank_column) [
+      | true ↦ λ in_rows. refl
+      | false ↦ λ below. left.off a b (inr (grind (arith, nat_tests)))
+    ] refl in
+    same-fields (begun w h s) (record (fresh w h) { history = s.history }) width height left.phase left.text refl side top refl height (fun_ext (λ a. fun_ext (λ b. blank a b))) refl refl still
+
+pub rested-left : (w h : ℕ) (t : Emulator) → IsLeft w h t → rested t ≡ t
+rested-left w h t left =
+    ap (λ xs. record (printed xs t) { text = []; phase = Ground }) left.text
+    ∙ ap₂ (λ xs p. record t { text = xs; phase = p }) (sym left.text) (sym left.phase)
 
 pub makes-blank : (w h : ℕ) (old new : List ℕ) → 0 < w → 0 < h → Does old new (begun w h) → MakesBlank w h old new
 makes-blank w h old new wide high does = record {
   bytes = does.bytes;
   appended = does.appended;
-  made = λ t ground width height sure off. subst (IsLikeNew w h (rested t)) (sym (does.read t ground)) (blank-begun w h (rested t) wide high refl refl width height sure off);
+  made = λ t left. does.read t left.phase ∙ ap (begun w h) (rested-left w h t left) ∙ blank-begun w h t wide high left;
 }
+
+-- a new terminal is one that was left so
+pub fresh-left : (w h : ℕ) → IsLeft w h (fresh w h)
+fresh-left w h = record { phase = refl; text = refl; width = refl; height = refl; sure = refl; off = λ a b out. refl }

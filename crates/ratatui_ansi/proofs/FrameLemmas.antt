@@ -21,7 +21,7 @@ use Rattle.ratatui_ansi.specs.declared.frame.Glyph.{Glyph}
 use Rattle.ratatui_ansi.specs.declared.frame.Glyph.TheVariants as Glyphs
 use Rattle.ratatui_ansi.specs.Columns.{Columns, look_in, is_behind}
 use Rattle.ratatui_ansi.specs.Flags.{AreBehind, flag}
-use Rattle.ratatui_ansi.specs.Parameters.{is_told_by}
+use Rattle.ratatui_ansi.specs.Parameters.{is_sendable_by}
 use Rattle.ratatui_ansi.specs.Pen.{own_pen, inked, pen_of}
 use Rattle.ratatui_ansi.specs.Emulator.{Emulator, rested, run, with_pen, is_plain}
 use Rattle.ratatui_ansi.specs.Sequences.{feed}
@@ -29,7 +29,7 @@ use Rattle.ratatui_ansi.specs.Screens.{screen_shown, IsSized, IsWhole, IsBlankBe
 use Rattle.ratatui_ansi.specs.Drawing.{is_one_plain, is_printed, printing_by, printing_of, columns_of, printed_at, blanked, IsDrawnBy, Changes, Paints, Prints}
 use Rattle.ratatui_ansi.specs.Drawing.Changes.{Stays, Sets}
 use Rattle.ratatui_ansi.specs.Calls.{IsAwaiting}
-use Rattle.ratatui_ansi.specs.Frame.{IsTail, laid, is_fit, glyph_columns, is_told_on, IsGlyph, IsVacant, IsDrawing, AreMarked, Covers, SendsUpdates, SendsDraw}
+use Rattle.ratatui_ansi.specs.Frame.{IsTail, laid, is_fit, glyph_columns, is_sendable_on, IsGlyph, IsVacant, IsDrawing, AreMarked, Covers, SendsUpdates, SendsDraw}
 use Rattle.ratatui_ansi.proofs.ReadLemmas.{feed-append}
 use Rattle.ratatui_ansi.proofs.ScrollLemmas.{whole_along}
 use Rattle.ratatui_ansi.proofs.DrawLemmas.{plain-printed, plain-single, one-encoded}
@@ -320,9 +320,9 @@ laid-draws w h x y n end cell s u written after wide high tail en some fits row 
 
 -- ---- pens
 
-own-told : (colors : Bool) → is_told_by colors own_pen ≡ true
-own-told true = refl
-own-told false = refl
+own-sendable : (colors : Bool) → is_sendable_by colors own_pen ≡ true
+own-sendable true = refl
+own-sendable false = refl
 
 -- ---- a cell
 
@@ -347,7 +347,7 @@ fit-parts room cell fit =
     record { is_text = three.0; columns = grind (arith, nat_tests); some = grind (arith, nat_tests); inside = grind (arith, nat_tests) }
 
 -- by how its symbol is printed
-by-plain : (p : Bool) (cs : List ℕ) (c : ℕ) → (if p then printing_by cs else Unprinted) ≡ Plain c → (p ≡ true) × ((cs ≡ c ∷ []) × (is_plain c ≡ true))
+pub by-plain : (p : Bool) (cs : List ℕ) (c : ℕ) → (if p then printing_by cs else Unprinted) ≡ Plain c → (p ≡ true) × ((cs ≡ c ∷ []) × (is_plain c ≡ true))
 by-plain true [] c e = let h : ⊥ = cc in absurd h
 by-plain true (d ∷ []) c e =
     elim (is_plain d) as (λ q. is_plain d ≡ q → (if q then Plain d else Whole) ≡ Plain c → (true ≡ true) × ((d ∷ [] ≡ c ∷ []) × (is_plain c ≡ true))) [
@@ -357,7 +357,7 @@ by-plain true (d ∷ []) c e =
 by-plain true (d ∷ f ∷ cs) c e = let h : ⊥ = cc in absurd h
 by-plain false cs c e = let h : ⊥ = cc in absurd h
 
-by-whole : (p : Bool) (cs : List ℕ) → (if p then printing_by cs else Unprinted) ≡ Whole → (p ≡ true) × (is_one_plain cs ≡ false)
+pub by-whole : (p : Bool) (cs : List ℕ) → (if p then printing_by cs else Unprinted) ≡ Whole → (p ≡ true) × (is_one_plain cs ≡ false)
 by-whole true [] e = (refl, refl)
 by-whole true (c ∷ []) e =
     elim (is_plain c) as (λ q. is_plain c ≡ q → (if q then Plain c else Whole) ≡ Whole → (true ≡ true) × (is_one_plain (c ∷ []) ≡ false)) [
@@ -373,7 +373,7 @@ printing-some (c ∷ []) e =
     elim (is_plain c) as (λ q. (if q then Plain c else Whole) ≡ Unprinted → ⊥) [ true ↦ λ f. cc | false ↦ λ f. cc ] e
 printing-some (c ∷ d ∷ cs) e = cc
 
-by-none : (p : Bool) (cs : List ℕ) → (if p then printing_by cs else Unprinted) ≡ Unprinted → p ≡ false
+pub by-none : (p : Bool) (cs : List ℕ) → (if p then printing_by cs else Unprinted) ≡ Unprinted → p ≡ false
 by-none true cs e = absurd (printing-some cs e)
 by-none false cs e = refl
 
@@ -502,10 +502,10 @@ cell-sends w h x y cell glyph end before after inked drawn flags flags_after old
     = Paints-then w h old mid new before.brush drawn after.brush (printed_at x y pen symbol) (blanked (x + n) y m) (λ t. (refl, refl)) two (covers.paints h row) in
     lay-sends w h x y n end cell before after flags flags_after old new (fit-parts (w - x) cell (rw is.fits refl)) (sym is.columns) column row both uncut covers.ordered covers.inside covers.set covers.unset covers.marked cursor count
 
--- what a pen that was kept, or given back, can be told to
-pub pen-told : (colors : Bool) (before after : Pen) → (after ≡ before) ⊎ (after ≡ own_pen) → is_told_by colors before ≡ true → is_told_by colors after ≡ true
-pen-told colors before after (inl same) told = ap (is_told_by colors) same ∙ told
-pen-told colors before after (inr own) told = ap (is_told_by colors) own ∙ own-told colors
+-- what a pen that was kept, or given back, can be sent to
+pub pen-sendable : (colors : Bool) (before after : Pen) → (after ≡ before) ⊎ (after ≡ own_pen) → is_sendable_by colors before ≡ true → is_sendable_by colors after ≡ true
+pen-sendable colors before after (inl same) sent = ap (is_sendable_by colors) same ∙ sent
+pen-sendable colors before after (inr own) sent = ap (is_sendable_by colors) own ∙ own-sendable colors
 
 -- ---- a vacant cell
 
@@ -569,24 +569,24 @@ put-vacant w h u flags column row covered vacant c are a b =
     let shows : look_in (c u.x u.y) ≡ empty_look = behind_empty (c u.x u.y) (sym (are.each u.x u.y column row) ∙ covered) in
     rw (x_test, y_test, vacant.look, vacant.width) (kept w u.x u.y a b c shows)
 
--- ---- which pens are told
+-- ---- which pens are sent
 
-pub told-off : (w h : ℕ) (colors : Bool) (u : Update) → (nat_lt u.x w && nat_lt u.y h) ≡ false → is_told_on w h colors u ≡ true
-told-off w h colors u off = rw off refl
+pub sendable-off : (w h : ℕ) (colors : Bool) (u : Update) → (nat_lt u.x w && nat_lt u.y h) ≡ false → is_sendable_on w h colors u ≡ true
+sendable-off w h colors u off = rw off refl
 
-told-either : (p : Bool) → (p || true) ≡ true
-told-either true = refl
-told-either false = refl
+sendable-either : (p : Bool) → (p || true) ≡ true
+sendable-either true = refl
+sendable-either false = refl
 
-pub told-pen : (w h : ℕ) (colors : Bool) (u : Update) → is_told_by colors (pen_of u.cell) ≡ true → is_told_on w h colors u ≡ true
-told-pen w h colors u told = rw told (told-either (not (nat_lt u.x w && nat_lt u.y h)))
+pub sendable-pen : (w h : ℕ) (colors : Bool) (u : Update) → is_sendable_by colors (pen_of u.cell) ≡ true → is_sendable_on w h colors u ≡ true
+sendable-pen w h colors u sent = rw sent (sendable-either (not (nat_lt u.x w && nat_lt u.y h)))
 
-pub told-vacant : (w h : ℕ) (colors : Bool) (u : Update) → IsVacant u.cell → is_told_on w h colors u ≡ true
-told-vacant w h colors u vacant = told-pen w h colors u (ap (is_told_by colors) (vacant-pen u.cell vacant) ∙ own-told colors)
+pub sendable-vacant : (w h : ℕ) (colors : Bool) (u : Update) → IsVacant u.cell → is_sendable_on w h colors u ≡ true
+sendable-vacant w h colors u vacant = sendable-pen w h colors u (ap (is_sendable_by colors) (vacant-pen u.cell vacant) ∙ own-sendable colors)
 
-pub told-push : (w h : ℕ) (colors : Bool) (us : List Update) (u : Update) → list_all (is_told_on w h colors) us ≡ true → is_told_on w h colors u ≡ true
-    → list_all (is_told_on w h colors) (us ++ u ∷ []) ≡ true
-told-push w h colors us u all told = list_all-append (is_told_on w h colors) us (u ∷ []) ∙ rw (all, told) refl
+pub sendable-push : (w h : ℕ) (colors : Bool) (us : List Update) (u : Update) → list_all (is_sendable_on w h colors) us ≡ true → is_sendable_on w h colors u ≡ true
+    → list_all (is_sendable_on w h colors) (us ++ u ∷ []) ≡ true
+sendable-push w h colors us u all sent = list_all-append (is_sendable_on w h colors) us (u ∷ []) ∙ rw (all, sent) refl
 
 -- ---- a draw
 

@@ -1,15 +1,33 @@
 -- From the screen that a backend stands for to the terminal that has read its bytes.
-use Rattle.std.proofs.Common.{ℕ, List, [], ◌∷◌}
+use Rattle.std.proofs.Common.{◌≡◌, ℕ, List, [], ◌∷◌, sym, ap, ◌∙◌, true, subst}
+use Rattle.ratatui_core.specs.Layout.{Size}
 use Rattle.ratatui_core.specs.Backend.{Screen}
+use Rattle.ratatui_core.specs.Buffer.{ShowsSheet}
 use Rattle.ratatui_core.specs.Terminal.{State, IsInStep}
 use Rattle.ratatui_core.specs.Headline.{Event, Along, last_state, IsFaithful}
-use Rattle.ratatui_ansi.specs.Backend.{BackendState, shown_by}
-use Rattle.ratatui_ansi.specs.Headline.{IsReadSurely, IsShownToReaders}
+use Rattle.ratatui_ansi.specs.Backend.{BackendState, reader, shown_by, IsReadAlike}
+use Rattle.ratatui_ansi.specs.Calls.{IsLeft, with_rows_above}
+use Rattle.ratatui_ansi.specs.Emulator.{Emulator, rested}
+use Rattle.ratatui_ansi.specs.Headline.{IsReadBy, IsReadByAll, IsShownToReader}
+use Rattle.ratatui_ansi.specs.Screens.{screen_shown}
+use Rattle.ratatui_ansi.specs.Sequences.{feed}
+use Rattle.ratatui_ansi.proofs.HistoryLemmas.{rested-above}
 
 -- faithful calls leave a terminal in step
 pub last-in-step : {B : Type 0} (screen : B → Screen) (s : State B) (events : List (Event B)) → IsInStep screen s → Along (IsFaithful screen) s events → IsInStep screen (last_state s events)
 last-in-step screen s [] step all = step
 last-in-step screen s (e ∷ es) step all = last-in-step screen e.after es all.0.in_step all.1
 
-pub shown-to-readers : {L : Type 0} (told : L → List ℕ) (t : State (BackendState L)) → IsInStep (shown_by told) t → IsReadSurely told t.backend → IsShownToReaders told t.older t.backend
-shown-to-readers told t step surely = record { surely = surely; shown = step.shown }
+rested-alike : (size : Size) (sent : List ℕ) → IsReadAlike size sent → (t : Emulator) → IsLeft size.width size.height t → rested (feed sent t) ≡ with_rows_above t.history (rested (reader size sent))
+rested-alike size sent alike t left = ap rested (alike t left) ∙ rested-above t.history (reader size sent)
+
+pub read-by-all : {W : Type 0} (b : BackendState W) → IsReadAlike b.size b.sent → (rested (reader b.size b.sent)).sure ≡ true → IsReadByAll b
+read-by-all b alike sure t left =
+    let e = rested-alike b.size b.sent alike t left in
+    record { sure = ap (λ (u : Emulator). u.sure) e ∙ sure; screen = ap (screen_shown b.written) e }
+
+pub shown-to-reader : {W : Type 0} (t : State (BackendState W)) (u : Emulator) → IsInStep shown_by t → IsReadBy t.backend u → IsShownToReader t.older t.backend u
+shown-to-reader t u step read = record {
+  read = read;
+  shown = subst (λ (s : Screen). ShowsSheet t.older s.grid) (sym read.screen) step.shown;
+}

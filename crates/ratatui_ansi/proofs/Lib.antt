@@ -5,6 +5,7 @@ pub mod ScrollLemmas
 pub mod RegionLemmas
 pub mod DrawLemmas
 pub mod CallLemmas
+pub mod HistoryLemmas
 pub mod PutLemmas
 pub mod TailLemmas
 pub mod CoverLemmas

@@ -3,6 +3,7 @@ use Rattle.std.proofs.Common.{◌≡◌, ℕ, ◌+◌, ◌<◌, ◌^◌, ◌==�
 use Rattle.std.specs.Fmt.{decimal}
 use Rattle.std.specs.List.{list_all}
 use Rattle.std.specs.Int.RustNames.{bit_and, bit_or}
+use Rattle.std.proofs.lemmas.Bool.{false≢true}
 use Rattle.std.proofs.lemmas.Bool.Decides.{nat_tests}
 use Rattle.std.proofs.lemmas.List.Folds.{list_all-append}
 use Rattle.ratatui_core.specs.Style.{Color, Reset, Black, Red, Green, Yellow, Blue, Magenta, Cyan, Gray, DarkGray, LightRed, LightGreen, LightYellow, LightBlue, LightMagenta, LightCyan, White, Rgb, Indexed, Modifier, no_modifier, bits_of, modifier_of}
@@ -11,12 +12,12 @@ use Rattle.ratatui_ansi.specs.contracts.pen.PenPartialEq.TheImpl as pen_equality
 use Rattle.ratatui_ansi.specs.declared.pen.Pen.{Pen}
 use Rattle.ratatui_ansi.specs.declared.drawing.Brush.{Brush}
 use Rattle.ratatui_core.specs.Buffer.{Cell}
-use Rattle.ratatui_ansi.specs.Pen.{Inking, inks, inks_in, own_pen, pen_of}
-use Rattle.ratatui_ansi.specs.Pen.Awaits.{Nothing}
-use Rattle.ratatui_ansi.specs.Emulator.{Emulator, rested, with_pen}
+use Rattle.ratatui_ansi.specs.Pen.{Awaits, Inking, inks, inks_in, is_known, are_known, own_pen, pen_of}
+use Rattle.ratatui_ansi.specs.Pen.Awaits.{Nothing, Kind, Number, Parts}
+use Rattle.ratatui_ansi.specs.Emulator.{Emulator, rested, if_so, with_pen}
 use Rattle.ratatui_ansi.specs.Emulator.Phase.{Ground, Sequence}
 use Rattle.ratatui_ansi.specs.Sequences.{feed, performs}
-use Rattle.ratatui_ansi.specs.Parameters.{color_parameters, underline_parameters, modifier_parameters, modifier_parameter, pen_parameters, semicolons, pen_bytes, is_underline, is_told, Tells}
+use Rattle.ratatui_ansi.specs.Parameters.{color_parameters, underline_parameters, modifier_parameters, modifier_parameter, pen_parameters, semicolons, pen_bytes, is_underline, is_sendable, AddsParameters}
 use Rattle.ratatui_ansi.specs.Sends.{Does}
 use Rattle.ratatui_ansi.proofs.ReadLemmas.{feed-append, number-read, begun}
 use Rattle.ratatui_ansi.proofs.TextLemmas.{and-both}
@@ -32,15 +33,15 @@ semicolons-append (p ∷ ps) qs =
     ap (λ rest. 59 ∷ (decimal p ++ rest)) (semicolons-append ps qs) ∙ ap (λ rest. 59 ∷ rest) (sym (append_assoc (decimal p) (semicolons ps) (semicolons qs)))
 
 -- parameters behind others
-pub Tells-then : (a b c ps qs : List ℕ) → Tells a b ps → Tells b c qs → Tells a c (ps ++ qs)
-Tells-then a b c ps qs first second = record {
+pub Parameters-then : (a b c ps qs : List ℕ) → AddsParameters a b ps → AddsParameters b c qs → AddsParameters a c (ps ++ qs)
+Parameters-then a b c ps qs first second = record {
   appended = second.appended ∙ ap (λ xs. xs ++ semicolons qs) first.appended ∙ append_assoc a (semicolons ps) (semicolons qs) ∙ ap (λ xs. a ++ xs) (sym (semicolons-append ps qs));
   small = list_all-append (λ p. nat_lt p 256) ps qs ∙ rw (first.small, second.small) refl;
 }
 
 -- one parameter
-pub parameter-told : (n byte : ℕ) (old mid new semicolon : List ℕ) → mid ≡ old ++ semicolon → semicolon ≡ 59 ∷ [] → new ≡ mid ++ decimal byte → byte ≡ n → n < 256 → Tells old new (n ∷ [])
-parameter-told n byte old mid new semicolon first is second same small =
+pub parameter-sendable : (n byte : ℕ) (old mid new semicolon : List ℕ) → mid ≡ old ++ semicolon → semicolon ≡ 59 ∷ [] → new ≡ mid ++ decimal byte → byte ≡ n → n < 256 → AddsParameters old new (n ∷ [])
+parameter-sendable n byte old mid new semicolon first is second same small =
     let below : nat_lt n 256 ≡ true = grind (arith, nat_tests) in
     record {
       appended = second ∙ ap₂ (λ xs k. xs ++ decimal k) (first ∙ ap (λ xs. old ++ xs) is) same ∙ append_assoc old (59 ∷ []) (decimal n) ∙ ap (λ ds. old ++ (59 ∷ ds)) (sym (append-nil (decimal n)));
@@ -117,10 +118,10 @@ bg-inks (Indexed n) pen e = refl
 
 underline-inks : (c : Color) (pen : Pen) → IsTrue (is_underline c) → pen.underline_color ≡ Reset → inks (underline_parameters c) (done_with pen) ≡ done_with (record pen { underline_color = c })
 unfolding inks
-underline-inks Reset pen told e = ap (λ f. done_with (record pen { underline_color = f })) e
-underline-inks (Rgb r g b) pen told e = refl
-underline-inks (Indexed n) pen told e = refl
-underline-inks _ pen told e = let h : ⊥ = cc in absurd h
+underline-inks Reset pen sent e = ap (λ f. done_with (record pen { underline_color = f })) e
+underline-inks (Rgb r g b) pen sent e = refl
+underline-inks (Indexed n) pen sent e = refl
+underline-inks _ pen sent e = let h : ⊥ = cc in absurd h
 
 -- a set of modifiers with one more, unless it is left out
 abbrev marks : Bool → ℕ → Modifier → Modifier
@@ -225,7 +226,7 @@ inks-reset ps pen = refl
 
 -- the parameters of a pen make it
 inks-pen : (p : Pen) → bits_of p.modifier < 512 → IsTrue (is_underline p.underline_color) → inks (pen_parameters p) (done_with own_pen) ≡ done_with p
-inks-pen p bits told =
+inks-pen p bits sent =
     let m = modifier_parameters (bits_of p.modifier) in
     let f = color_parameters 30 p.fg in
     let b = color_parameters 40 p.bg in
@@ -236,24 +237,125 @@ inks-pen p bits told =
     inks-append m (f ++ (b ++ u)) (done_with own_pen) ∙ ap (inks (f ++ (b ++ u))) (modifier-inks (bits_of p.modifier) bits)
     ∙ inks-append f (b ++ u) (done_with p1) ∙ ap (inks (b ++ u)) (fg-inks p.fg p1 refl)
     ∙ inks-append b u (done_with p2) ∙ ap (inks u) (bg-inks p.bg p2 refl)
-    ∙ underline-inks p.underline_color p3 told refl
+    ∙ underline-inks p.underline_color p3 sent refl
 
--- a pen that can be told is read back
+-- ---- terminals take a pen's parameters alike
+
+known-append : (xs ys : List ℕ) (a : Awaits) → are_known xs a ≡ true → are_known ys Nothing ≡ true → are_known (xs ++ ys) a ≡ true
+unfolding are_known
+known-append [] ys Nothing first second = second
+known-append [] ys (Kind target) first second = absurd (false≢true first)
+known-append [] ys (Number target) first second = absurd (false≢true first)
+known-append [] ys (Parts target parts) first second = absurd (false≢true first)
+known-append (x ∷ xs) ys a first second =
+    let both = and-both (is_known a x) (are_known xs (inks_in a x own_pen).awaits) first in
+    ap₂ (λ p q. p && q) both.0 (known-append xs ys (inks_in a x own_pen).awaits both.1 second)
+
+mark-known : (b : Bool) (k : ℕ) → are_known (k ∷ []) Nothing ≡ true → are_known (if b then [] else k ∷ []) Nothing ≡ true
+unfolding are_known
+mark-known true k known = refl
+mark-known false k known = known
+
+modifiers-known : (bits : ℕ) → are_known (modifier_parameters bits) Nothing ≡ true
+unfolding are_known
+modifiers-known bits =
+    known-append (modifier_parameter bits 1 1) _ Nothing (mark-known (bit_and bits 1 == 0) 1 refl)
+    (known-append (modifier_parameter bits 2 2) _ Nothing (mark-known (bit_and bits 2 == 0) 2 refl)
+    (known-append (modifier_parameter bits 4 3) _ Nothing (mark-known (bit_and bits 4 == 0) 3 refl)
+    (known-append (modifier_parameter bits 8 4) _ Nothing (mark-known (bit_and bits 8 == 0) 4 refl)
+    (known-append (modifier_parameter bits 16 5) _ Nothing (mark-known (bit_and bits 16 == 0) 5 refl)
+    (known-append (modifier_parameter bits 32 6) _ Nothing (mark-known (bit_and bits 32 == 0) 6 refl)
+    (known-append (modifier_parameter bits 64 7) _ Nothing (mark-known (bit_and bits 64 == 0) 7 refl)
+    (known-append (modifier_parameter bits 128 8) _ Nothing (mark-known (bit_and bits 128 == 0) 8 refl) (mark-known (bit_and bits 256 == 0) 9 refl))))))))
+
+abbrev are_bytes : List ℕ → Bool
+are_bytes ps = list_all (λ q. nat_lt q 256) ps
+
+fg-known : (c : Color) → are_bytes (color_parameters 30 c) ≡ true → are_known (color_parameters 30 c) Nothing ≡ true
+unfolding are_known
+fg-known Reset small = refl
+fg-known Black small = refl
+fg-known Red small = refl
+fg-known Green small = refl
+fg-known Yellow small = refl
+fg-known Blue small = refl
+fg-known Magenta small = refl
+fg-known Cyan small = refl
+fg-known Gray small = refl
+fg-known DarkGray small = refl
+fg-known LightRed small = refl
+fg-known LightGreen small = refl
+fg-known LightYellow small = refl
+fg-known LightBlue small = refl
+fg-known LightMagenta small = refl
+fg-known LightCyan small = refl
+fg-known White small = refl
+fg-known (Rgb r g b) small = small
+fg-known (Indexed n) small = small
+
+bg-known : (c : Color) → are_bytes (color_parameters 40 c) ≡ true → are_known (color_parameters 40 c) Nothing ≡ true
+unfolding are_known
+bg-known Reset small = refl
+bg-known Black small = refl
+bg-known Red small = refl
+bg-known Green small = refl
+bg-known Yellow small = refl
+bg-known Blue small = refl
+bg-known Magenta small = refl
+bg-known Cyan small = refl
+bg-known Gray small = refl
+bg-known DarkGray small = refl
+bg-known LightRed small = refl
+bg-known LightGreen small = refl
+bg-known LightYellow small = refl
+bg-known LightBlue small = refl
+bg-known LightMagenta small = refl
+bg-known LightCyan small = refl
+bg-known White small = refl
+bg-known (Rgb r g b) small = small
+bg-known (Indexed n) small = small
+
+underline-known : (c : Color) → IsTrue (is_underline c) → are_bytes (underline_parameters c) ≡ true → are_known (underline_parameters c) Nothing ≡ true
+unfolding are_known
+underline-known Reset sent small = refl
+underline-known (Rgb r g b) sent small = small
+underline-known (Indexed n) sent small = small
+underline-known _ sent small = let h : ⊥ = cc in absurd h
+
+pen-known : (p : Pen) → IsTrue (is_underline p.underline_color) → are_bytes (pen_parameters p) ≡ true → are_known (0 ∷ pen_parameters p) Nothing ≡ true
+unfolding are_known
+pen-known p sent small =
+    let m = modifier_parameters (bits_of p.modifier) in
+    let f = color_parameters 30 p.fg in
+    let b = color_parameters 40 p.bg in
+    let u = underline_parameters p.underline_color in
+    let one = and-both (are_bytes m) (are_bytes (f ++ (b ++ u))) (sym (list_all-append (λ q. nat_lt q 256) m (f ++ (b ++ u))) ∙ small) in
+    let two = and-both (are_bytes f) (are_bytes (b ++ u)) (sym (list_all-append (λ q. nat_lt q 256) f (b ++ u)) ∙ one.1) in
+    let three = and-both (are_bytes b) (are_bytes u) (sym (list_all-append (λ q. nat_lt q 256) b u) ∙ two.1) in
+    known-append m (f ++ (b ++ u)) Nothing (modifiers-known (bits_of p.modifier))
+    (known-append f (b ++ u) Nothing (fg-known p.fg two.0) (known-append b u Nothing (bg-known p.bg three.0) (underline-known p.underline_color sent three.1)))
+
+still-sure : (b : Bool) → (b && true) ≡ b
+still-sure true = refl
+still-sure false = refl
+
+-- a pen that can be sent is read back
 pen-read : (p : Pen) (t : Emulator) → bits_of p.modifier < 512 → IsTrue (is_underline p.underline_color) → list_all (λ q. nat_lt q 256) (pen_parameters p) ≡ true → t.phase ≡ Ground
     → feed (pen_bytes p) t ≡ with_pen p (rested t)
 unfolding feed
-pen-read p t bits told small ground =
+pen-read p t bits sent small ground =
     let s : Emulator = rested t in
     let ps = pen_parameters p in
     begun (48 ∷ (semicolons ps ++ 109 ∷ [])) t ground
     ∙ parameters-read ps small [] 0 s
-    ∙ ap (λ (i : Inking). with_pen i.pen s) (inks-reset ps s.pen ∙ inks-pen p bits told)
+    ∙ ap₂ (λ known (i : Inking). if_so known (with_pen i.pen s)) (pen-known p sent small) (inks-reset ps s.pen ∙ inks-pen p bits sent)
+    ∙ ap (λ sure. record (with_pen p s) { sure = sure }) (still-sure s.sure)
 
--- the bytes of a pen that can be told set it
-pub pen-sent : (p : Pen) (old mid new : List ℕ) → IsTrue (is_told p) → Tells (old ++ (27 ∷ 91 ∷ 48 ∷ [])) mid (pen_parameters p) → new ≡ mid ++ 109 ∷ [] → Does old new (with_pen p)
+-- the bytes of a pen that can be sent set it
+pub pen-sent : (p : Pen) (old mid new : List ℕ) → IsTrue (is_sendable p) → AddsParameters (old ++ (27 ∷ 91 ∷ 48 ∷ [])) mid (pen_parameters p) → new ≡ mid ++ 109 ∷ [] → Does old new (with_pen p)
 pen-sent p old mid new is tells e =
-    let told : is_told p ≡ true = grind (arith, nat_tests) in
-    let both = and-both (is_underline p.underline_color) (nat_lt (bits_of p.modifier) 512) told in
+    let sent : is_sendable p ≡ true = grind (arith, nat_tests) in
+    let both = and-both (is_underline p.underline_color) (nat_lt (bits_of p.modifier) 512) sent in
     let bits : bits_of p.modifier < 512 = let test = both.1 in grind (arith, nat_tests) in
     let underline : IsTrue (is_underline p.underline_color) = let test = both.0 in grind (arith, nat_tests) in
     let ps = pen_parameters p in

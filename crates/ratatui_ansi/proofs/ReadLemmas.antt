@@ -5,8 +5,8 @@ use Rattle.std.proofs.lemmas.Fmt.{decimal_by_steps, decimal_step, decimal_digit}
 use Rattle.std.proofs.lemmas.Bool.Decides.{nat_tests}
 use Rattle.std.proofs.Math.Nat.{div-add-mod'}
 use Rattle.std.specs.Fmt.{decimal}
-use Rattle.ratatui_ansi.specs.Emulator.{Emulator, Phase, rested, moved, returned, erased, scrolled, line_fed, fed, if_so, with_visible, with_region, without_region, lines_deleted, scrolled_down}
-use Rattle.ratatui_ansi.specs.Emulator.Phase.{Ground, Sequence}
+use Rattle.ratatui_ansi.specs.Emulator.{Emulator, Phase, rested, moved, returned, erased, scrolled, line_fed, fed, if_so, with_visible, with_region, without_region, lines_deleted, lines_inserted}
+use Rattle.ratatui_ansi.specs.Emulator.Phase.{Ground, Opened, Sequence}
 use Rattle.ratatui_ansi.specs.declared.part.Part.{Part}
 use Rattle.ratatui_ansi.specs.declared.part.Part.TheVariants.{After, Before, Line, LineEnd}
 use Rattle.ratatui_ansi.specs.Sequences.{feed, reads_in, is_digit}
@@ -69,8 +69,30 @@ more n ds big rest mark done t =
 pub number-read : (n : ℕ) → n < 2 ^ 64 → ReadsNumber n (decimal n)
 number-read n small = decimal_by_steps ReadsNumber one more n small
 
+-- the first number of a sequence
+abbrev ReadsFirst : ℕ → List ℕ → Type 0
+ReadsFirst n ds = (t : Emulator) → feed ds (within Opened t) ≡ within (Sequence false [] n) t
+
+first-one : (n : ℕ) → n < 10 → ReadsFirst n ((48 + n) ∷ [])
+unfolding feed
+first-one n small t =
+    let no_mark : (48 + n == 63) ≡ false = grind (arith, nat_tests) in
+    let e : 0 * 10 + (48 + n - 48) ≡ n = omega arith in
+    rw (no_mark, digit n small, e) refl
+
+first-more : (n : ℕ) (ds : List ℕ) → 10 ≤ n → ReadsFirst (n / 10) ds → ReadsFirst n (ds ++ ((48 + n % 10) ∷ []))
+unfolding feed
+first-more n ds big rest t =
+    feed-append ds ((48 + n % 10) ∷ []) (within Opened t)
+    ∙ ap (feed ((48 + n % 10) ∷ [])) (rest t)
+    ∙ digit-read false [] (n / 10) (n % 10) (within (Sequence false [] (n / 10)) t) (omega arith)
+    ∙ ap (λ k. within (Sequence false [] k) t) (div-add-mod' n 10)
+
+first-read : (n : ℕ) → n < 2 ^ 64 → ReadsFirst n (decimal n)
+first-read n small = decimal_by_steps ReadsFirst first-one first-more n small
+
 -- a sequence begins
-pub begun : (rest : List ℕ) (t : Emulator) → t.phase ≡ Ground → feed (27 ∷ 91 ∷ rest) t ≡ feed rest (within (Sequence false [] 0) (rested t))
+pub begun : (rest : List ℕ) (t : Emulator) → t.phase ≡ Ground → feed (27 ∷ 91 ∷ rest) t ≡ feed rest (within Opened (rested t))
 unfolding feed
 begun rest t ground = ap (λ p. feed (91 ∷ rest) (reads_in p 27 t)) ground
 
@@ -80,8 +102,8 @@ pub with_one : (n final : ℕ) → n < 2 ^ 64 → (t : Emulator) → t.phase ≡
 unfolding feed
 with_one n final small t ground =
     begun (decimal n ++ final ∷ []) t ground
-    ∙ feed-append (decimal n) (final ∷ []) (within (Sequence false [] 0) (rested t))
-    ∙ ap (feed (final ∷ [])) (number-read n small false [] (rested t))
+    ∙ feed-append (decimal n) (final ∷ []) (within Opened (rested t))
+    ∙ ap (feed (final ∷ [])) (first-read n small (rested t))
 
 -- one with two numbers
 pub with_two : (m n final : ℕ) → m < 2 ^ 64 → n < 2 ^ 64 → (t : Emulator) → t.phase ≡ Ground
@@ -92,8 +114,8 @@ with_two m n final small_m small_n t ground =
     let s : Emulator = rested t in
     let back = 59 ∷ (decimal n ++ final ∷ []) in
     begun (decimal m ++ back) t ground
-    ∙ feed-append (decimal m) back (within (Sequence false [] 0) s)
-    ∙ ap (feed back) (number-read m small_m false [] s)
+    ∙ feed-append (decimal m) back (within Opened s)
+    ∙ ap (feed back) (first-read m small_m s)
     ∙ feed-append (decimal n) (final ∷ []) (within (Sequence false (m ∷ []) 0) s)
     ∙ ap (feed (final ∷ [])) (number-read n small_n false (m ∷ []) s)
 
@@ -164,11 +186,11 @@ deleting-read n some n_in t ground =
     let e : (n == 0) ≡ false = grind (arith, nat_tests) in
     with_one n 77 (omega arith) t ground ∙ rw e refl
 
-pub lowering-read : (n : ℕ) → 0 < n → n < 2 ^ 16 → (t : Emulator) → t.phase ≡ Ground
-    → feed (27 ∷ 91 ∷ (decimal n ++ 84 ∷ [])) t ≡ scrolled_down n (rested t)
-lowering-read n some n_in t ground =
+pub inserting-read : (n : ℕ) → 0 < n → n < 2 ^ 16 → (t : Emulator) → t.phase ≡ Ground
+    → feed (27 ∷ 91 ∷ (decimal n ++ 76 ∷ [])) t ≡ lines_inserted n (rested t)
+inserting-read n some n_in t ground =
     let e : (n == 0) ≡ false = grind (arith, nat_tests) in
-    with_one n 84 (omega arith) t ground ∙ rw e refl
+    with_one n 76 (omega arith) t ground ∙ rw e refl
 
 -- ---- line feeds
 

@@ -1,21 +1,25 @@
 -- What refused calls leave, and where a draw stops.
-use Rattle.std.proofs.Common.{◌≡◌, ℕ, Bool, false, IsTrue, List, map, Option, Result, Ok, Err, IsErr, IsErrAnd, IfErr, refl, sym, subst, ◌∙◌}
+use Rattle.std.proofs.Common.{◌≡◌, ℕ, ◌+◌, ◌*◌, ◌<◌, Bool, true, false, IsTrue, List, map, Option, Result, Ok, Err, IsErr, IsErrAnd, IfErr, refl, sym, subst, ◌∙◌}
 use Rattle.std.proofs.lemmas.Bool.{false≢true}
 use Rattle.ratatui_core.specs.Layout.{Position}
 use Rattle.ratatui_core.specs.Buffer.{Update}
-use Rattle.ratatui_core.specs.Backend.{Draws}
+use Rattle.ratatui_core.specs.Backend.{Draws, ClearType, All, AfterCursor, BeforeCursor, CurrentLine, UntilNewLine}
 use Rattle.ratatui_ansi.specs.declared.error.AnsiError.{AnsiError}
+use Rattle.ratatui_ansi.specs.declared.error.AnsiError.TheVariants.{Cut}
 use Rattle.ratatui_ansi.specs.declared.frame.Drawing.{Drawing}
 use Rattle.ratatui_ansi.specs.declared.frame.Refusal.{Refusal}
 use Rattle.ratatui_ansi.specs.declared.frame.Refusal.TheVariants as Refused
 use Rattle.ratatui_ansi.specs.Backend.{BackendState}
+use Rattle.ratatui_ansi.specs.Calls.{IsAwaiting}
 use Rattle.ratatui_ansi.specs.Errors.{error_of}
+use Rattle.ratatui_ansi.specs.Flags.{flag, is_clear_cut}
 use Rattle.ratatui_ansi.specs.Frame.{IsRefused, IsDrawing}
 use Rattle.ratatui_ansi.specs.Pen.{own_pen}
-use Rattle.ratatui_ansi.specs.Refusals.{IsUntold, FailsBy, Leaves, names_cell, has_place, IsRefusedOn, StopsWithin, StopsDraw}
+use Rattle.ratatui_ansi.specs.Refusals.{IsOfClearing, IsUnsent, FailsBy, Leaves, names_cell, has_place, IsRefusedOn, StopsWithin, StopsDraw}
 use Rattle.ratatui_ansi.specs.Screens.{screen_shown}
 use Rattle.ratatui_ansi.specs.Sequences.{feed}
 use Rattle.ratatui_ansi.specs.Emulator.{Emulator, rested}
+use Rattle.ratatui_ansi.proofs.BackendLemmas.{cursor-column, cursor-row}
 use Rattle.ratatui_ansi.proofs.CoverLemmas.{covered-behind}
 use Rattle.ratatui_ansi.proofs.FrameLemmas.{begins}
 
@@ -51,11 +55,29 @@ stops-draw steps content update w h colors old d cursor written flags refusal ow
 }
 
 -- an error that names a cell comes from a refusal that has a place
-pub named-place : (E : Type 0) (refusal : Refusal) → IsTrue (names_cell (error_of {E = E} refusal)) → IsTrue (has_place refusal)
-named-place E Refused.Memory named = named
-named-place E (Refused.Symbol p) named = named
-named-place E (Refused.Pen p) named = named
-named-place E (Refused.Cut p) named = named
+pub named-place : (refusal : Refusal) → IsTrue (names_cell (error_of refusal)) → IsTrue (has_place refusal)
+named-place Refused.Memory named = named
+named-place (Refused.Symbol p) named = named
+named-place (Refused.Pen p) named = named
+named-place (Refused.Cut p) named = named
+
+-- a clear that would cut a symbol has its cursor on a column that the symbol covers
+pub cut-is-covered : {w h : ℕ} {place : Position} {flags : List Bool} {t : Emulator} (written : ℕ) (kind : ClearType) → 0 < w → IsAwaiting w h place flags t
+    → is_clear_cut kind w place.x place.y flags ≡ true → IsOfClearing (screen_shown written (rested t)) (Cut place)
+cut-is-covered {w} {h} {place} {flags} {t} written kind wide is cut =
+    let set : flag flags (place.y * w + place.x) ≡ true = by_kind kind cut in
+    let x_in : place.x < w = cursor-column wide is in
+    let y_in : place.y < h = cursor-row is in (
+      sym is.placed,
+      covered-behind (rested t).columns is.ready.sized is.ready.whole place.x place.y (sym (is.behind.each place.x place.y x_in y_in) ∙ set),
+    )
+  where
+    by_kind : (k : ClearType) → is_clear_cut k w place.x place.y flags ≡ true → flag flags (place.y * w + place.x) ≡ true
+    by_kind All e = absurd (false≢true e)
+    by_kind AfterCursor e = e
+    by_kind BeforeCursor e = absurd (false≢true e)
+    by_kind CurrentLine e = absurd (false≢true e)
+    by_kind UntilNewLine e = e
 
 -- ---- what refused calls leave
 
@@ -67,19 +89,19 @@ pub if-error : {A F : Type 0} (P : F → Type 0) (answer : Result A F) (error : 
 if-error P (Ok x) error is holds = tt
 if-error P (Err f) error is holds = subst P (sym is.1) holds
 
-pub leaves-error : {L E A : Type 0} (answer : Result A (AnsiError E)) (error : AnsiError E) (old new : BackendState L) → Refuses answer error → FailsBy old new error → Leaves answer old new
+pub leaves-error : {W A : Type 0} (answer : Result A AnsiError) (error : AnsiError) (old new : BackendState W) → Refuses answer error → FailsBy old new error → Leaves answer old new
 leaves-error (Ok x) error old new is fails = absurd (false≢true is.0)
 leaves-error (Err f) error old new is fails = subst (FailsBy old new) (sym is.1) fails
 
 -- only the count of failures changed
-pub counted-untold : {L : Type 0} (s : BackendState L) (n : ℕ) → IsUntold s (record s { failures = n })
-counted-untold s n = record { link = refl; size = refl; colors = refl; written = refl; is_broken = refl }
+pub counted-unsent : {W : Type 0} (s : BackendState W) (n : ℕ) → IsUnsent s (record s { failures = n })
+counted-unsent s n = record { writer = refl; start = refl; sent = refl; held = refl; size = refl; colors = refl; written = refl; is_broken = refl }
 
-pub refusal-leaves : {L : Type 0} (E : Type 0) (was old new : BackendState L) (refusal : Refusal) → was ≡ old → was.is_broken ≡ false → IsUntold was new → FailsBy {L = L} {E = E} old new (error_of refusal)
-refusal-leaves {L} E was old new refusal same whole still =
-    subst (λ s. FailsBy {L = L} {E = E} s new (error_of refusal)) same (by_refusal refusal)
+pub refusal-leaves : {W : Type 0} (was old new : BackendState W) (refusal : Refusal) → was ≡ old → was.is_broken ≡ false → IsUnsent was new → FailsBy old new (error_of refusal)
+refusal-leaves was old new refusal same whole still =
+    subst (λ s. FailsBy s new (error_of refusal)) same (by_refusal refusal)
   where
-    by_refusal : (r : Refusal) → FailsBy {L = L} {E = E} was new (error_of r)
+    by_refusal : (r : Refusal) → FailsBy was new (error_of r)
     by_refusal Refused.Memory = (whole, still)
     by_refusal (Refused.Symbol p) = (whole, still)
     by_refusal (Refused.Pen p) = (whole, still)

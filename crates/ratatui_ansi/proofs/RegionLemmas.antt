@@ -8,7 +8,7 @@ use Rattle.ratatui_ansi.specs.Columns.{Column, Columns, look_in, is_known, is_me
 use Rattle.ratatui_ansi.specs.Columns.Column.{Shows, Unknown}
 use Rattle.ratatui_ansi.specs.declared.part.Part.TheVariants.{Line}
 use Rattle.ratatui_ansi.specs.Pen.{own_pen}
-use Rattle.ratatui_ansi.specs.Emulator.{Emulator, rested, moved, erased, line_fed, fed, scrolled, if_so, row_shown, is_row_known, returned, raised, lowered, fed_and_lowered, with_region, without_region, lines_deleted, scrolled_down}
+use Rattle.ratatui_ansi.specs.Emulator.{Emulator, rested, moved, erased, line_fed, fed, scrolled, if_so, row_shown, is_row_known, returned, raised, lowered, fed_and_lowered, fed_and_lowered_by, with_region, without_region, lines_deleted, lines_inserted}
 use Rattle.ratatui_ansi.specs.Emulator.Phase.{Ground}
 use Rattle.ratatui_ansi.specs.Screens.{screen_shown, IsSized, AreSized, IsWhole, IsWholeAt, IsBlankBeyond, IsReady, Turns, Becomes}
 use Rattle.ratatui_ansi.specs.Sequences.{feed}
@@ -227,18 +227,26 @@ rows-up w h a b n some_columns below two =
       record { screens = λ written. up-below w h a b n written s u ready below (omega arith) (record { history = refl; width = refl; height = refl; visible = refl; columns = λ x y. refl }); columns = λ x y. refl },
     ))
 
-pub rows-down : (w h a b n : ℕ) → a + 1 < min b h → KeepsReady w h (λ t. without_region (scrolled_down n (with_region a (min b h) t))) (λ s. Becomes (ScrollsDown a b n) (lowered a (min b h) n s.columns) s)
-rows-down w h a b n two s ready =
-    let u : Emulator = without_region (scrolled_down n (with_region a (min b h) s)) in
+pub rows-down : (w h a b n : ℕ) → 0 < w → a + 1 < min b h → KeepsReady w h (λ t. without_region (lines_inserted n (moved 0 a (with_region a (min b h) t)))) (λ s. Becomes (ScrollsDown a b n) (lowered a (min b h) n s.columns) s)
+rows-down w h a b n some_columns two =
+    let f : Emulator → Emulator = λ t. without_region (lines_inserted n (moved 0 a (with_region a (min b h) t))) in
+    let g : Emulator → Emulator = λ t. without_region (lines_inserted n (record (with_region a (min b h) t) { x = 0; y = a })) in
+    keeps-along w h f g (λ s. Becomes (ScrollsDown a b n) (lowered a (min b h) n s.columns) s)
+    (λ s ready. let wide : s.width ≡ w = ready.width in let high : s.height ≡ h = ready.height in
+    ap (λ t. without_region (lines_inserted n t)) (moved-placed 0 a (with_region a (min b h) s) (omega arith) (omega arith)))
+    (λ s ready.
+    let u : Emulator = g s in
     let high : s.height ≡ h = ready.height in
     let c = lowered a (min b h) n s.columns in
     let t1 : nat_lt (a + 1) (min b h) ≡ true = grind (arith, nat_tests) in
     let t2 : nat_le (min b h) s.height ≡ true = grind (arith, nat_tests) in
-    let sure : u.sure ≡ true = rw (ready.sure, t1, t2, ready.pen) refl in (
+    let t4 : nat_le a a ≡ true = grind (arith, nat_tests) in
+    let t5 : nat_lt a (min b h) ≡ true = grind (arith, nat_tests) in
+    let sure : u.sure ≡ true = rw (ready.sure, t1, t2, ready.pen, t4, t5) refl in (
       ready-columns w h s u c ready ready.phase ready.text refl refl ready.pen refl refl (omega arith) sure (λ x y. refl)
           (lowered-sized a (min b h) n s.columns ready.sized) (lowered-whole a (min b h) n s.columns ready.whole) (lowered-beyond w a (min b h) n s.columns ready.beyond),
       record { screens = λ written. down-shows w h a b n written s u ready (omega arith) (record { history = refl; width = refl; height = refl; visible = refl; columns = λ x y. refl }); columns = λ x y. refl },
-    )
+    ))
 
 -- ---- the rows of a region at the top, whose first rows go to the history
 
@@ -325,30 +333,32 @@ first-up w h b n some_columns two =
 
 -- ---- the first row alone
 
-pub lowered_line-rested : (t : Emulator) → rested (scrolled_down 1 (line_fed (rested t))) ≡ scrolled_down 1 (line_fed (rested t))
-lowered_line-rested t = sym (ap (scrolled_down 1) (line_fed-rested t) ∙ ap (λ u. rested (scrolled_down 1 u)) (sym (line_fed-rested t)))
+round-rested : (t : Emulator) → rested (fed_and_lowered (rested t)) ≡ fed_and_lowered (rested t)
+round-rested t =
+    let u : Emulator = moved 0 1 (rested t) in
+    sym (ap (λ v. lines_inserted 1 (moved 0 0 v)) (line_fed-rested u) ∙ ap (λ v. rested (lines_inserted 1 (moved 0 0 v))) (sym (line_fed-rested u)))
 
-pub fed_and_lowered-rested : (n : ℕ) (t : Emulator) → rested t ≡ t → rested (fed_and_lowered n t) ≡ fed_and_lowered n t
-fed_and_lowered-rested zero t e = e
-fed_and_lowered-rested (suc n) t e = fed_and_lowered-rested n (scrolled_down 1 (line_fed t)) (ap (λ u. rested (scrolled_down 1 (line_fed u))) (sym e) ∙ lowered_line-rested t ∙ ap (λ u. scrolled_down 1 (line_fed u)) e)
+pub rounds-rested : (n : ℕ) (t : Emulator) → rested t ≡ t → rested (fed_and_lowered_by n t) ≡ fed_and_lowered_by n t
+rounds-rested zero t e = e
+rounds-rested (suc n) t e = rounds-rested n (fed_and_lowered t) (ap (λ u. rested (fed_and_lowered u)) (sym e) ∙ round-rested t ∙ ap fed_and_lowered e)
 
-pub fed_and_lowered-more : (n : ℕ) (t : Emulator) → fed_and_lowered (suc n) t ≡ scrolled_down 1 (line_fed (fed_and_lowered n t))
-fed_and_lowered-more zero t = refl
-fed_and_lowered-more (suc n) t = fed_and_lowered-more n (scrolled_down 1 (line_fed t))
+rounds-next : (n : ℕ) (t : Emulator) → fed_and_lowered_by (suc n) t ≡ fed_and_lowered (fed_and_lowered_by n t)
+rounds-next zero t = refl
+rounds-next (suc n) t = rounds-next n (fed_and_lowered t)
 
-pub rounds-all : (a b : List ℕ) (k n : ℕ) (f : Emulator → Emulator) → k ≡ n → Does a b (λ t. fed_and_lowered k (f t)) → Does a b (λ t. fed_and_lowered n (f t))
-rounds-all a b k n f e does = subst (λ m. Does a b (λ t. fed_and_lowered m (f t))) e does
+pub rounds-all : (a b : List ℕ) (k n : ℕ) (f : Emulator → Emulator) → k ≡ n → Does a b (λ t. fed_and_lowered_by k (f t)) → Does a b (λ t. fed_and_lowered_by n (f t))
+rounds-all a b k n f e does = subst (λ m. Does a b (λ t. fed_and_lowered_by m (f t))) e does
 
 -- one more round
-pub rounds-more : (a b c : List ℕ) (k : ℕ) (f : Emulator → Emulator) → ((t : Emulator) → rested (f (rested t)) ≡ f (rested t)) → Does a b (λ t. fed_and_lowered k (f t)) → Does b c (λ t. scrolled_down 1 (line_fed t))
-    → Does a c (λ t. fed_and_lowered (k + 1) (f t))
+pub rounds-more : (a b c : List ℕ) (k : ℕ) (f : Emulator → Emulator) → ((t : Emulator) → rested (f (rested t)) ≡ f (rested t)) → Does a b (λ t. fed_and_lowered_by k (f t)) → Does b c fed_and_lowered
+    → Does a c (λ t. fed_and_lowered_by (k + 1) (f t))
 rounds-more a b c k f stays first next =
-    let both = Does-then a b c (λ t. fed_and_lowered k (f t)) (λ t. scrolled_down 1 (line_fed t)) first next (λ t. fed_and_lowered-rested k (f (rested t)) (stays t)) in
+    let both = Does-then a b c (λ t. fed_and_lowered_by k (f t)) fed_and_lowered first next (λ t. rounds-rested k (f (rested t)) (stays t)) in
     let e : suc k ≡ k + 1 = omega arith in
     record {
       bytes = both.bytes;
       appended = both.appended;
-      read = λ t ground. both.read t ground ∙ sym (fed_and_lowered-more k (f (rested t))) ∙ ap (λ n. fed_and_lowered n (f (rested t))) e;
+      read = λ t ground. both.read t ground ∙ sym (rounds-next k (f (rested t))) ∙ ap (λ n. fed_and_lowered_by n (f (rested t))) e;
     }
 
 up_and_down : (c : Columns) (a b : ℕ) → lowered 0 2 1 (raised 0 2 1 c) a b ≡ raised 0 1 1 c a b
@@ -366,50 +376,48 @@ pub record Rounds (n : ℕ) (t u : Emulator) : Type 0 where
   pub history : u.history ≡ t.history ++ map (region_row (record t { bottom = 1 })) (range_with_len 0 n)
   pub sure : t.sure ≡ true → t.pen ≡ own_pen → t.x < t.width → AreSized t.columns → u.sure ≡ true
 
-pub rounds-are : (n : ℕ) (t : Emulator) → t.top ≡ 0 → t.bottom ≡ 2 → t.y ≡ 1 → Rounds n t (fed_and_lowered n t)
-rounds-are zero t top bottom y = record {
+pub rounds-are : (n : ℕ) (t : Emulator) → t.top ≡ 0 → t.bottom ≡ 2 → t.x ≡ 0 → t.y ≡ 0 → 0 < t.width → 1 < t.height → Rounds n t (fed_and_lowered_by n t)
+rounds-are zero t top bottom x y wide high = record {
   rest = refl;
   columns = λ a b. raised-none 0 1 t.columns a b;
   history = sym (append-nil t.history);
   sure = λ sure pen x sized. sure;
 }
-rounds-are (suc n) t top bottom y =
-    let v : Emulator = scrolled (if_so (nat_lt t.x t.width) t) in
-    let s : Emulator = scrolled_down 1 v in
-    let e : nat_eq (t.y + 1) t.bottom ≡ true = grind (arith, nat_tests) in
-    let here : scrolled_down 1 (line_fed t) ≡ s = rw e refl in
+rounds-are (suc n) t top bottom x y wide high =
+    let p : Emulator = record t { x = 0; y = 1 } in
+    let v : Emulator = scrolled (if_so (nat_lt 0 t.width) p) in
+    let s : Emulator = lines_inserted 1 (record v { x = 0; y = 0 }) in
+    let e : nat_eq (1 + 1) t.bottom ≡ true = grind (arith, nat_tests) in
+    let fed_is : line_fed p ≡ v = rw e refl in
+    let here : fed_and_lowered t ≡ s = ap (λ u. lines_inserted 1 (moved 0 0 (line_fed u))) (sym (moved-placed 0 1 t wide high)) ∙ ap (λ u. lines_inserted 1 (moved 0 0 u)) fed_is
+    ∙ ap (lines_inserted 1) (sym (moved-placed 0 0 v wide (omega arith))) in
     let once : (a b : ℕ) → s.columns a b ≡ raised 0 1 1 t.columns a b = λ a b. rw (top, bottom) (up_and_down t.columns a b) in
-    let more = rounds-are n s top bottom y in
+    let more = rounds-are n s top bottom refl refl wide high in
     let rows = map (region_row (record s { bottom = 1 })) (range_with_len 0 n) in
     let next : (k : ℕ) → region_row (record s { bottom = 1 }) k ≡ region_row (record t { bottom = 1 }) (k + 1)
     = λ k. map_same (λ a. if nat_lt k 1 then look_in (s.columns a k) else empty_look) (λ a. if nat_lt (k + 1) 1 then look_in (t.columns a (k + 1)) else empty_look)
     (λ a. ap (λ c. if nat_lt k 1 then look_in c else empty_look) (once a k) ∙ seen-raised 1 t.columns a k) (range_with_len 0 t.width) in
-    let after : Rounds (suc n) t (fed_and_lowered n s) = record {
-      rest = more.rest;
+    let u : Emulator = fed_and_lowered_by n s in
+    let after : Rounds (suc n) t u = record {
+      rest = more.rest ∙ ap₂ (λ i j. record t { x = i; y = j; columns = u.columns; history = u.history; sure = u.sure }) (sym x) (sym y);
       columns = λ a b. more.columns a b ∙ raised-along 0 1 n s.columns (raised 0 1 1 t.columns) once a b ∙ raised-again 1 n t.columns a b;
       history = more.history ∙ append_assoc t.history (row_shown t 0 ∷ []) rows
           ∙ ap (λ xs. t.history ++ (row_shown t 0 ∷ xs)) (shift (region_row (record t { bottom = 1 })) (region_row (record s { bottom = 1 })) next 0 n);
-      sure = λ sure pen x sized.
-          let x_in : nat_lt t.x t.width ≡ true = grind (arith, nat_tests) in
+      sure = λ sure pen at sized.
+          let x_in : nat_lt 0 t.width ≡ true = grind (arith, nat_tests) in
           let row : is_row_known t 0 ≡ true = all_range (λ a. is_known (t.columns a 0)) (λ a. sized-known (t.columns a 0) (sized a 0)) 0 t.width in
-          let now : s.sure ≡ true = rw (sure, x_in, pen, top, row) refl in
-          more.sure now pen x (λ a b. subst IsSized (sym (once a b)) (raised-sized 0 1 1 t.columns sized a b));
+          let now : s.sure ≡ true = rw (sure, x_in, pen, top, row, bottom) refl in
+          more.sure now pen wide (λ a b. subst IsSized (sym (once a b)) (raised-sized 0 1 1 t.columns sized a b));
     } in
-    subst (Rounds (suc n) t) (sym (ap (fed_and_lowered n) here)) after
+    subst (Rounds (suc n) t) (sym (ap (fed_and_lowered_by n) here)) after
 
-pub one-up : (w h b n : ℕ) → 0 < w → 1 < h → min b h ≡ 1 → KeepsReady w h (λ t. without_region (fed_and_lowered n (moved 0 1 (with_region 0 2 t)))) (λ s. Becomes (ScrollsUp 0 b n) (raised 0 (min b h) n s.columns) s)
-one-up w h b n some_columns two one =
-    let f : Emulator → Emulator = λ t. without_region (fed_and_lowered n (moved 0 1 (with_region 0 2 t))) in
-    let g : Emulator → Emulator = λ t. without_region (fed_and_lowered n (record (with_region 0 2 t) { x = 0; y = 1 })) in
-    keeps-along w h f g (λ s. Becomes (ScrollsUp 0 b n) (raised 0 (min b h) n s.columns) s)
-    (λ s ready. let wide : s.width ≡ w = ready.width in let high : s.height ≡ h = ready.height in
-    ap (λ t. without_region (fed_and_lowered n t)) (moved-placed 0 1 (with_region 0 2 s) (omega arith) (omega arith)))
-    (λ s ready.
-    let v : Emulator = record (with_region 0 2 s) { x = 0; y = 1 } in
-    let u : Emulator = fed_and_lowered n v in
+pub one-up : (w h b n : ℕ) → 0 < w → 1 < h → min b h ≡ 1 → KeepsReady w h (λ t. without_region (fed_and_lowered_by n (with_region 0 2 t))) (λ s. Becomes (ScrollsUp 0 b n) (raised 0 (min b h) n s.columns) s)
+one-up w h b n some_columns two one s ready =
+    let v : Emulator = with_region 0 2 s in
+    let u : Emulator = fed_and_lowered_by n v in
     let wide : s.width ≡ w = ready.width in
     let high : s.height ≡ h = ready.height in
-    let feeds : Rounds n v u = rounds-are n v refl refl refl in
+    let feeds : Rounds n v u = rounds-are n v refl refl refl refl (omega arith) (omega arith) in
     let t2 : nat_le 2 s.height ≡ true = grind (arith, nat_tests) in
     let v_sure : v.sure ≡ true = rw (ready.sure, t2) refl in
     let sure : u.sure ≡ true = feeds.sure v_sure ready.pen (omega arith) ready.sized in
@@ -423,7 +431,7 @@ one-up w h b n some_columns two one =
             (ap (λ (t : Emulator). t.width) feeds.rest) (ap (λ (t : Emulator). t.height) feeds.rest) (ap (λ (t : Emulator). t.visible) feeds.rest) columns;
         columns = columns;
       },
-    ))
+    )
 
 -- ---- nothing to scroll
 

@@ -1,7 +1,7 @@
 -- What a backend keeps of its terminal between two calls, and what it knows of the bytes that a call sends.
-use Rattle.std.specs.Prelude.{◌≡◌, ◌⊎◌, ℕ, ◌<◌, ◌≤◌, Bool, true, if◌then◌else◌, List, ◌++◌}
+use Rattle.std.specs.Prelude.{◌≡◌, ◌⊎◌, ℕ, ◌<◌, ◌≤◌, Bool, true, if◌then◌else◌, List, [], ◌++◌}
 use Rattle.ratatui_core.specs.Layout.{Position}
-use Rattle.ratatui_core.specs.Buffer.{empty_look}
+use Rattle.ratatui_core.specs.Buffer.{Look, empty_look}
 use Rattle.ratatui_core.specs.Backend.{Screen, cursor_of}
 use Rattle.ratatui_ansi.specs.declared.part.Part.{Part}
 use Rattle.ratatui_ansi.specs.Columns.{blank_column}
@@ -33,14 +33,22 @@ pub record Empties (part : Part) (x y : ℕ) (old new : Screen) : Type 0 where
   pub rest : new ≡ record old { grid = new.grid }
   pub grid : (a b : ℕ) → a < old.width → b < old.height → new.grid a b ≡ if part_at part x y a b then empty_look else old.grid a b
 
--- a terminal is as a new one of this size, but for the history of another, and for whether that one's cursor is shown
-pub record IsLikeNew (w h : ℕ) (former t : Emulator) : Type 0 where
-  pub blank : (a b : ℕ) → t.columns a b ≡ blank_column
-  pub rest : t ≡ record (fresh w h) { columns = t.columns; history = former.history; visible = former.visible }
+-- a terminal of this size as another program may have left it, whatever its pen, margins, cursor and contents: it isn't in the middle of a
+-- sequence, and nothing stands off its screen
+pub record IsLeft (w h : ℕ) (t : Emulator) : Type 0 where
+  pub phase : t.phase ≡ Ground
+  pub text : t.text ≡ []
+  pub width : t.width ≡ w
+  pub height : t.height ≡ h
+  pub sure : t.sure ≡ true
+  pub off : (a b : ℕ) → (w ≤ a) ⊎ (h ≤ b) → t.columns a b ≡ blank_column
 
--- bytes were appended that make each sure terminal of this size like a new one, if nothing stands off its screen
+-- a terminal with these rows before those of its history
+abbrev pub with_rows_above : List (List Look) → Emulator → Emulator
+with_rows_above rows t = record t { history = rows ++ t.history }
+
+-- bytes were appended that make each terminal of this size a new one, however it was left; its history stays
 pub record MakesBlank (w h : ℕ) (old new : List ℕ) : Type 0 where
   pub bytes : List ℕ
   pub appended : new ≡ old ++ bytes
-  pub made : (t : Emulator) → t.phase ≡ Ground → (rested t).width ≡ w → (rested t).height ≡ h → (rested t).sure ≡ true
-      → ((a b : ℕ) → (w ≤ a) ⊎ (h ≤ b) → (rested t).columns a b ≡ blank_column) → IsLikeNew w h (rested t) (feed bytes t)
+  pub made : (t : Emulator) → IsLeft w h t → feed bytes t ≡ record (fresh w h) { history = t.history }

@@ -11,10 +11,12 @@ use Rattle.ratatui_ansi.specs.declared.part.Part.TheVariants.{After, Before, Lin
 use Rattle.ratatui_ansi.specs.Columns.{Columns, Area, blank_column, look_in, is_known, overwritten}
 use Rattle.ratatui_ansi.specs.Columns.Column.{Shows}
 
--- what the next byte belongs to: text, a sequence that just began, or one with a mark, some parameters and the number at hand
+-- what the next byte belongs to: text, a sequence that just began, one that is at its first parameter or its mark, or one with a mark, some
+-- parameters and the number at hand
 pub data Phase : Type 0 where
   Ground : Phase
   Escape : Phase
+  Opened : Phase
   Sequence : (mark : Bool) (done : List ℕ) (number : ℕ) → Phase
 
 -- a terminal: `text` is what it has read since the last sequence; a cursor in column `width` is behind the last one; line feeds scroll the
@@ -124,7 +126,7 @@ returned t = record t { x = 0 }
 abbrev pub with_visible : Bool → Emulator → Emulator
 with_visible visible t = record t { visible = visible }
 
--- SGR (select graphic rendition)
+-- SGR (select graphic rendition) that all terminals know
 abbrev pub with_pen : Pen → Emulator → Emulator
 with_pen pen t = record t { pen = pen }
 
@@ -217,17 +219,22 @@ lines_deleted n t = record t {
   sure = t.sure && (is_own t.pen && nat_lt 0 t.y && nat_le t.top t.y && nat_lt t.y t.bottom && nat_eq t.x 0);
 }
 
--- SD (scroll down): the rows of the region n down
-abbrev pub scrolled_down : ℕ → Emulator → Emulator
-scrolled_down n t = record t {
-  columns = lowered t.top t.bottom n t.columns;
-  sure = t.sure && is_own t.pen;
+-- IL (insert line): n blank rows come in at the cursor's row, those from there on in the region move down. Terminals differ on where the cursor
+-- ends in another column than the first
+abbrev pub lines_inserted : ℕ → Emulator → Emulator
+lines_inserted n t = record t {
+  columns = lowered t.y t.bottom n t.columns;
+  sure = t.sure && (is_own t.pen && nat_le t.top t.y && nat_lt t.y t.bottom && nat_eq t.x 0);
 }
 
--- n line feeds, each with a scroll down by one behind it
-abbrev pub fed_and_lowered : ℕ → Emulator → Emulator
-fed_and_lowered zero t = t
-fed_and_lowered (suc n) t = fed_and_lowered n (scrolled_down 1 (line_fed t))
+-- a line feed in the second row, and then a blank row in place of the first
+abbrev pub fed_and_lowered : Emulator → Emulator
+fed_and_lowered t = lines_inserted 1 (moved 0 0 (line_fed (moved 0 1 t)))
+
+-- the same n times
+abbrev pub fed_and_lowered_by : ℕ → Emulator → Emulator
+fed_and_lowered_by zero t = t
+fed_and_lowered_by (suc n) t = fed_and_lowered_by n (fed_and_lowered t)
 
 -- ---- the beginning
 

@@ -15,7 +15,7 @@ use Rattle.ratatui_ansi.specs.Columns.Column.{Shows}
 use Rattle.ratatui_ansi.specs.Calls.{IsAwaiting}
 use Rattle.ratatui_ansi.specs.Flags.{AreBehind, flag}
 use Rattle.ratatui_ansi.specs.Pen.{own_pen, pen_of}
-use Rattle.ratatui_ansi.specs.Parameters.{is_told_by}
+use Rattle.ratatui_ansi.specs.Parameters.{is_sendable_by}
 use Rattle.ratatui_ansi.specs.Emulator.{Emulator, rested, with_pen, run, is_plain}
 use Rattle.ratatui_ansi.specs.Sequences.{feed}
 use Rattle.ratatui_ansi.specs.Screens.{screen_shown, IsReady}
@@ -76,23 +76,23 @@ pub record IsPlaced (w h : ℕ) (p : Position) (u : Update) : Type 0 where
   pub row : u.y < h
   pub place : p ≡ record { x = u.x; y = u.y }
 
--- whether an update that lies on a screen of this size has a pen that a terminal can be told, one with colours of the line under the text or without
-abbrev pub is_told_on : ℕ → ℕ → Bool → Update → Bool
-is_told_on w h colors u = not (nat_lt u.x w && nat_lt u.y h) || is_told_by colors (pen_of u.cell)
+-- whether an update that lies on a screen of this size has a pen that a terminal can be sent, one with colours of the line under the text or without
+abbrev pub is_sendable_on : ℕ → ℕ → Bool → Update → Bool
+is_sendable_on w h colors u = not (nat_lt u.x w && nat_lt u.y h) || is_sendable_by colors (pen_of u.cell)
 
 -- an update was refused: for want of memory, or in its place, which isn't covered from the left, because its symbol doesn't fit or its pen
--- can't be told to a terminal with colours of the line under the text or without, or because it isn't vacant and the place is covered
+-- can't be sent to a terminal with colours of the line under the text or without, or because it isn't vacant and the place is covered
 abbrev pub IsRefused : ℕ → ℕ → Bool → List Bool → Update → Refusal → Type 0
 IsRefused w h colors flags u Refused.Memory = Unit {0}
 IsRefused w h colors flags u (Refused.Symbol p) = IsPlaced w h p u × (flag flags (u.y * w + u.x) ≡ false) × (is_fit (w - u.x) u.cell ≡ false)
-IsRefused w h colors flags u (Refused.Pen p) = IsPlaced w h p u × (flag flags (u.y * w + u.x) ≡ false) × (is_told_by colors (pen_of u.cell) ≡ false)
+IsRefused w h colors flags u (Refused.Pen p) = IsPlaced w h p u × (flag flags (u.y * w + u.x) ≡ false) × (is_sendable_by colors (pen_of u.cell) ≡ false)
 IsRefused w h colors flags u (Refused.Cut p) = IsPlaced w h p u × (flag flags (u.y * w + u.x) ≡ true) × (IsVacant u.cell → ⊥)
 
--- a pen wasn't set: for want of memory, or since it can't be told
-abbrev pub IsUntoldPen : Bool → Position → Pen → Refusal → Type 0
-IsUntoldPen colors place pen Refused.Memory = Unit {0}
-IsUntoldPen colors place pen (Refused.Pen p) = (p ≡ place) × (is_told_by colors pen ≡ false)
-IsUntoldPen colors place pen _ = ⊥
+-- a pen wasn't set: for want of memory, or since it can't be sent
+abbrev pub IsUnsendablePen : Bool → Position → Pen → Refusal → Type 0
+IsUnsendablePen colors place pen Refused.Memory = Unit {0}
+IsUnsendablePen colors place pen (Refused.Pen p) = (p ≡ place) × (is_sendable_by colors pen ≡ false)
+IsUnsendablePen colors place pen _ = ⊥
 
 -- ---- draws
 

@@ -1,25 +1,39 @@
--- What the headline says of the bytes: a terminal that was blank, and has read all that a backend's link was told.
-use Rattle.std.specs.Prelude.{◌≡◌, ℕ, true, false, List}
-use Rattle.ratatui_core.specs.Buffer.{Sheet, ShowsSheet}
+-- What the headline says of the bytes: a terminal, however it was left, that has read all that a backend's writer was sent.
+use Rattle.std.specs.Prelude.{◌≡◌, true, false, List, ◌++◌}
+use Rattle.ratatui_core.specs.Buffer.{Look, Sheet, ShowsSheet}
+use Rattle.ratatui_core.specs.Backend.{Screen}
 use Rattle.ratatui_core.specs.Terminal.{State, IsInStep}
 use Rattle.ratatui_core.specs.Headline.{Event, Along, last_state, Does, IsFair}
-use Rattle.ratatui_ansi.specs.Backend.{BackendState, reader, shown_by}
+use Rattle.ratatui_ansi.specs.Backend.{BackendState, shown_by}
+use Rattle.ratatui_ansi.specs.Calls.{IsLeft}
 use Rattle.ratatui_ansi.specs.Columns.{look_in}
-use Rattle.ratatui_ansi.specs.Emulator.{rested}
+use Rattle.ratatui_ansi.specs.Emulator.{Emulator, rested}
+use Rattle.ratatui_ansi.specs.Screens.{screen_shown}
+use Rattle.ratatui_ansi.specs.Sequences.{feed}
 
-module _ {L : Type 0} (told : L → List ℕ) where
-  -- real terminals don't differ on what it read
-  abbrev pub IsReadSurely : BackendState L → Type 0
-  IsReadSurely b = (rested (reader b.size (told b.link))).sure ≡ true
+-- a screen with these rows before those of its history
+abbrev pub below_rows : List (List Look) → Screen → Screen
+below_rows rows s = record s { history = rows ++ s.history }
 
-  -- it is sure, and each unskipped column of a buffer's area has its cell's look
-  pub record IsShownToReaders (frame : Sheet) (b : BackendState L) : Type 0 where
-    pub surely : IsReadSurely b
-    pub shown : ShowsSheet frame (λ x y. look_in ((rested (reader b.size (told b.link))).columns x y))
+module _ {W : Type 0} where
+  -- a terminal that was left so has read what was sent: real terminals don't differ on it, and it shows the backend's screen, its size,
+  -- columns, cursor and whether that is shown, and behind the rows that its history had those of the backend's
+  pub record IsReadBy (b : BackendState W) (t : Emulator) : Type 0 where
+    pub sure : (rested (feed b.sent t)).sure ≡ true
+    pub screen : screen_shown b.written (rested (feed b.sent t)) ≡ below_rows t.history (shown_by b)
 
-  -- from in step, behind any list of calls that answered Ok, and unless a send failed since the backend began or began anew, it shows the buffer
-  -- that the last call left
-  abbrev pub IsHeadlineOfBytes : State (BackendState L) → Type 0
-  IsHeadlineOfBytes t = (s : State (BackendState L)) (events : List (Event (BackendState L))) → IsInStep (shown_by told) s
-      → Along (Does (shown_by told)) s events → Along (IsFair (shown_by told)) s events → last_state s events ≡ t
-      → t.backend.is_broken ≡ false → IsShownToReaders t.older t.backend
+  -- so it is for each terminal of the backend's size
+  abbrev pub IsReadByAll : BackendState W → Type 0
+  IsReadByAll b = (t : Emulator) → IsLeft b.size.width b.size.height t → IsReadBy b t
+
+  -- the same, and each unskipped column of a buffer's area has its cell's look
+  pub record IsShownToReader (frame : Sheet) (b : BackendState W) (t : Emulator) : Type 0 where
+    pub read : IsReadBy b t
+    pub shown : ShowsSheet frame (λ x y. look_in ((rested (feed b.sent t)).columns x y))
+
+  -- from in step, behind any list of calls that answered Ok, and unless a write failed since the backend began or began anew, each terminal of
+  -- its size that reads what was sent since shows the buffer that the last call left, however it was left before
+  abbrev pub IsHeadlineOfBytes : State (BackendState W) → Type 0
+  IsHeadlineOfBytes t = (s : State (BackendState W)) (events : List (Event (BackendState W))) → IsInStep shown_by s
+      → Along (Does shown_by) s events → Along (IsFair shown_by) s events → last_state s events ≡ t → t.backend.is_broken ≡ false
+      → (reader : Emulator) → IsLeft t.backend.size.width t.backend.size.height reader → IsShownToReader t.older t.backend reader

@@ -11,7 +11,6 @@ pub mod Covered
 pub mod Frame
 pub mod Calls
 pub mod Errors
-pub mod Kept
 pub mod Backend
 pub mod Refusals
 pub mod Headline

@@ -35,20 +35,20 @@ underline_parameters (Rgb r g b) = 58 ∷ 2 ∷ r ∷ g ∷ b ∷ []
 underline_parameters (Indexed n) = 58 ∷ 5 ∷ n ∷ []
 underline_parameters _ = []
 
--- whether a colour of the line under the text can be told
+-- whether a colour of the line under the text can be sent
 abbrev pub is_underline : Color → Bool
 is_underline Reset = true
 is_underline (Rgb r g b) = true
 is_underline (Indexed n) = true
 is_underline _ = false
 
--- whether a terminal can be told a pen: only the nine modifiers are set
-abbrev pub is_told : Pen → Bool
-is_told p = is_underline p.underline_color && nat_lt (bits_of p.modifier) 512
+-- whether a terminal can be sent a pen: only the nine modifiers are set
+abbrev pub is_sendable : Pen → Bool
+is_sendable p = is_underline p.underline_color && nat_lt (bits_of p.modifier) 512
 
 -- the same of a terminal that reads colours of the line under the text, or of one that doesn't
-abbrev pub is_told_by : Bool → Pen → Bool
-is_told_by colors p = is_told p && (colors || is_reset p.underline_color)
+abbrev pub is_sendable_by : Bool → Pen → Bool
+is_sendable_by colors p = is_sendable p && (colors || is_reset p.underline_color)
 
 -- the modifier with this bit, by its number
 abbrev pub modifier_parameter : ℕ → ℕ → ℕ → List ℕ
@@ -74,6 +74,6 @@ abbrev pub pen_bytes : Pen → List ℕ
 pen_bytes p = 27 ∷ 91 ∷ 48 ∷ (semicolons (pen_parameters p) ++ 109 ∷ [])
 
 -- parameters of a byte each were appended
-pub record Tells (old new parameters : List ℕ) : Type 0 where
+pub record AddsParameters (old new parameters : List ℕ) : Type 0 where
   pub appended : new ≡ old ++ semicolons parameters
   pub small : list_all (λ p. nat_lt p 256) parameters ≡ true

@@ -1,5 +1,5 @@
 -- The colours and modifiers that text is printed with, and how SGR (select graphic rendition) changes them.
-use Rattle.std.specs.Prelude.{ℕ, ◌-◌, ◌^◌, ◌==◌, ◌&&◌, ◌||◌, nat_le, Bool, true, false, if◌then◌else◌, List, [], ◌∷◌}
+use Rattle.std.specs.Prelude.{ℕ, ◌-◌, ◌^◌, ◌==◌, ◌&&◌, ◌||◌, nat_le, nat_lt, Bool, true, false, if◌then◌else◌, List, [], ◌∷◌}
 use Rattle.std.specs.Int.RustNames.{bit_or}
 use Rattle.ratatui_core.specs.Style.{Color, Reset, Black, Red, Green, Yellow, Blue, Magenta, Cyan, Gray, DarkGray, LightRed, LightGreen, LightYellow, LightBlue, LightMagenta, LightCyan, White, Rgb, Indexed, no_modifier, bits_of, modifier_of}
 use Rattle.ratatui_core.specs.Buffer.{Look, Cell}
@@ -81,6 +81,26 @@ inks_in Nothing n pen = inks_alone n pen
 inks_in (Kind target) n pen = if n == 5 then record { pen = pen; awaits = Number target } else record { pen = pen; awaits = Parts target [] }
 inks_in (Number target) n pen = record { pen = with_color target (Indexed n) pen; awaits = Nothing }
 inks_in (Parts target parts) n pen = inks_part target parts n pen
+
+-- whether terminals know a parameter that stands for itself
+abbrev pub is_known_alone : ℕ → Bool
+is_known_alone n = nat_le n 9 || (nat_le 30 n && nat_le n 38) || (nat_le 40 n && nat_le n 48) || (n == 58) || (nat_le 90 n && nat_le n 97) || (nat_le 100 n && nat_le n 107)
+
+-- whether they take a parameter alike: a colour is begun by 5 or 2, and its numbers are below 256
+abbrev pub is_known : Awaits → ℕ → Bool
+is_known Nothing n = is_known_alone n
+is_known (Kind target) n = (n == 5) || (n == 2)
+is_known (Number target) n = nat_lt n 256
+is_known (Parts target parts) n = nat_lt n 256
+
+abbrev pub is_nothing : Awaits → Bool
+is_nothing Nothing = true
+is_nothing _ = false
+
+-- whether they take parameters alike, and no colour is left unfinished
+unfoldable pub are_known : List ℕ → Awaits → Bool
+are_known [] awaits = is_nothing awaits
+are_known (n ∷ ns) awaits = is_known awaits n && are_known ns (inks_in awaits n own_pen).awaits
 
 -- parameters, in order
 unfoldable pub inks : List ℕ → Inking → Inking

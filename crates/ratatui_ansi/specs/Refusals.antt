@@ -3,10 +3,11 @@ use Rattle.std.specs.Prelude.{◌≡◌, ℕ, ◌-◌, ◌<◌, ◌⊎◌, Bool,
 use Rattle.std.specs.Borrow.{Bor}
 use Rattle.std.specs.Iterator.{YieldsThen, YieldsFirstBy}
 use Rattle.ratatui_core.specs.Layout.{Position}
+use Rattle.ratatui_core.specs.Layout as layout
 use Rattle.ratatui_core.specs.Buffer.{Update, Cell, update_by}
-use Rattle.ratatui_core.specs.Backend.{Screen, Draws}
+use Rattle.ratatui_core.specs.Backend.{Screen, Draws, cursor_of}
 use Rattle.ratatui_ansi.specs.declared.error.AnsiError.{AnsiError}
-use Rattle.ratatui_ansi.specs.declared.error.AnsiError.TheVariants.{Memory, Symbol, Pen, Cut, Size, Broken, Send}
+use Rattle.ratatui_ansi.specs.declared.error.AnsiError.TheVariants.{Memory, Symbol, Pen, Cut, Size, Broken, Write}
 use Rattle.ratatui_ansi.specs.declared.frame.Drawing.{Drawing}
 use Rattle.ratatui_ansi.specs.declared.frame.Refusal.{Refusal}
 use Rattle.ratatui_ansi.specs.declared.frame.Refusal.TheVariants as Refused
@@ -15,62 +16,96 @@ use Rattle.ratatui_ansi.specs.Calls.{IsAwaiting}
 use Rattle.ratatui_ansi.specs.Covered.{IsCovered}
 use Rattle.ratatui_ansi.specs.Errors.{error_of}
 use Rattle.ratatui_ansi.specs.Frame.{is_fit, IsVacant, IsPlaced, IsRefused, SendsUpdates}
-use Rattle.ratatui_ansi.specs.Parameters.{is_told_by}
+use Rattle.ratatui_ansi.specs.Parameters.{is_sendable_by}
 use Rattle.ratatui_ansi.specs.Pen.{pen_of}
 use Rattle.ratatui_ansi.specs.Screens.{screen_shown}
 use Rattle.ratatui_ansi.specs.Emulator.{Emulator, rested}
 
 -- ---- what is left
 
--- nothing was told, and but for the count of failures all is as it was
-pub record IsUntold {L : Type 0} (old new : BackendState L) : Type 0 where
-  pub link : new.link ≡ old.link
+-- nothing was sent, and but for the count of failures all is as it was
+pub record IsUnsent {W : Type 0} (old new : BackendState W) : Type 0 where
+  pub writer : new.writer ≡ old.writer
+  pub start : new.before ≡ old.before
+  pub sent : new.sent ≡ old.sent
+  pub held : new.held ≡ old.held
   pub size : new.size ≡ old.size
   pub colors : new.has_underline_colors ≡ old.has_underline_colors
   pub written : new.written ≡ old.written
   pub is_broken : new.is_broken ≡ old.is_broken
 
 -- no send failed before, and none fails now
-pub record IsWorking {L : Type 0} (old new : BackendState L) : Type 0 where
+pub record IsWorking {W : Type 0} (old new : BackendState W) : Type 0 where
+  pub start : new.before ≡ old.before
   pub before : old.is_broken ≡ false
   pub after : new.is_broken ≡ false
   pub size : new.size ≡ old.size
   pub colors : new.has_underline_colors ≡ old.has_underline_colors
 
 -- a send failed for the first time
-pub record Breaks {L : Type 0} (old new : BackendState L) : Type 0 where
+pub record Breaks {W : Type 0} (old new : BackendState W) : Type 0 where
+  pub start : new.before ≡ old.before
   pub before : old.is_broken ≡ false
   pub after : new.is_broken ≡ true
   pub size : new.size ≡ old.size
   pub colors : new.has_underline_colors ≡ old.has_underline_colors
 
 -- a refused call, by its error: after a failed send every call is refused, and only a failed send changes anything
-abbrev pub FailsBy : {L E : Type 0} → BackendState L → BackendState L → AnsiError E → Type 0
-FailsBy old new Memory = (old.is_broken ≡ false) × IsUntold old new
-FailsBy old new (Symbol p) = (old.is_broken ≡ false) × IsUntold old new
-FailsBy old new (Pen p) = (old.is_broken ≡ false) × IsUntold old new
-FailsBy old new (Cut p) = (old.is_broken ≡ false) × IsUntold old new
+abbrev pub FailsBy : {W : Type 0} → BackendState W → BackendState W → AnsiError → Type 0
+FailsBy old new Memory = (old.is_broken ≡ false) × IsUnsent old new
+FailsBy old new (Symbol p) = (old.is_broken ≡ false) × IsUnsent old new
+FailsBy old new (Pen p) = (old.is_broken ≡ false) × IsUnsent old new
+FailsBy old new (Cut p) = (old.is_broken ≡ false) × IsUnsent old new
 FailsBy old new Size = ⊥
-FailsBy old new Broken = (old.is_broken ≡ true) × IsUntold old new
-FailsBy old new (Send error) = Breaks old new
+FailsBy old new Broken = (old.is_broken ≡ true) × IsUnsent old new
+FailsBy old new (Write error) = Breaks old new
 
 -- a call that answers this
-abbrev pub Leaves : {L E A : Type 0} → Result A (AnsiError E) → BackendState L → BackendState L → Type 0
+abbrev pub Leaves : {W A : Type 0} → Result A AnsiError → BackendState W → BackendState W → Type 0
 Leaves answer old new = MatchResult answer (λ _. IsWorking old new) (FailsBy old new)
+
+-- an error of a call that writes: it names no cell
+abbrev pub IsOfWriting : AnsiError → Type 0
+IsOfWriting Memory = Unit {0}
+IsOfWriting Broken = Unit {0}
+IsOfWriting (Write error) = Unit {0}
+IsOfWriting _ = ⊥
+
+-- an error of a flush: it takes no memory
+abbrev pub IsOfFlushing : AnsiError → Type 0
+IsOfFlushing Broken = Unit {0}
+IsOfFlushing (Write error) = Unit {0}
+IsOfFlushing _ = ⊥
+
+-- an error of a clear: the cell that it names is the cursor's, and a symbol covers it from the left
+abbrev pub IsOfClearing : Screen → AnsiError → Type 0
+IsOfClearing s Memory = Unit {0}
+IsOfClearing s Broken = Unit {0}
+IsOfClearing s (Write error) = Unit {0}
+IsOfClearing s (Cut p) = (p ≡ cursor_of s) × IsCovered s.grid p.x p.y
+IsOfClearing s _ = ⊥
 
 -- ---- beginnings
 
--- why a backend of this size doesn't begin: it has no columns or no rows, memory was refused, or the link failed
-abbrev pub RefusesToBegin : {E : Type 0} → ℕ → ℕ → AnsiError E → Type 0
+-- why a backend of this size doesn't begin: it has no columns or no rows, memory was refused, or a write failed
+abbrev pub RefusesToBegin : ℕ → ℕ → AnsiError → Type 0
 RefusesToBegin w h Size = (w ≡ 0) ⊎ (h ≡ 0)
 RefusesToBegin w h Memory = (0 < w) × (0 < h)
-RefusesToBegin w h (Send error) = (0 < w) × (0 < h)
+RefusesToBegin w h (Write error) = (0 < w) × (0 < h)
 RefusesToBegin w h _ = ⊥
 
--- an error of the link
-abbrev pub IsOfLink : {E : Type 0} → AnsiError E → Type 0
-IsOfLink (Send error) = Unit {0}
-IsOfLink _ = ⊥
+-- a backend that doesn't begin anew: memory was refused, which changes nothing, or a write failed
+abbrev pub FailsToRestart : {W : Type 0} → BackendState W → BackendState W → AnsiError → Type 0
+FailsToRestart old new Memory = IsUnsent old new
+FailsToRestart old new (Write error) = new.is_broken ≡ true
+FailsToRestart old new _ = ⊥
+
+-- a backend that doesn't take another size: the size has no columns or no rows, or memory was refused, which changes nothing, or a write failed
+abbrev pub FailsToResize : {W : Type 0} → layout.Size → BackendState W → BackendState W → AnsiError → Type 0
+FailsToResize size old new Size = ((size.width ≡ 0) ⊎ (size.height ≡ 0)) × IsUnsent old new
+FailsToResize size old new Memory = IsUnsent old new
+FailsToResize size old new (Write error) = new.is_broken ≡ true
+FailsToResize size old new _ = ⊥
 
 -- ---- cells that aren't drawn
 
@@ -81,20 +116,20 @@ has_place (Refused.Symbol p) = true
 has_place (Refused.Pen p) = true
 has_place (Refused.Cut p) = true
 
-abbrev pub names_cell : {E : Type 0} → AnsiError E → Bool
+abbrev pub names_cell : AnsiError → Bool
 names_cell Memory = false
 names_cell (Symbol p) = true
 names_cell (Pen p) = true
 names_cell (Cut p) = true
 names_cell Size = false
 names_cell Broken = false
-names_cell (Send error) = false
+names_cell (Write error) = false
 
--- why an update isn't drawn on a screen: its symbol doesn't fit, its pen can't be told, or it isn't vacant where a symbol covers its place
+-- why an update isn't drawn on a screen: its symbol doesn't fit, its pen can't be sent, or it isn't vacant where a symbol covers its place
 abbrev pub IsRefusedOn : Bool → Screen → Update → Refusal → Type 0
 IsRefusedOn colors s u Refused.Memory = Unit {0}
 IsRefusedOn colors s u (Refused.Symbol p) = IsPlaced s.width s.height p u × (is_fit (s.width - u.x) u.cell ≡ false)
-IsRefusedOn colors s u (Refused.Pen p) = IsPlaced s.width s.height p u × (is_told_by colors (pen_of u.cell) ≡ false)
+IsRefusedOn colors s u (Refused.Pen p) = IsPlaced s.width s.height p u × (is_sendable_by colors (pen_of u.cell) ≡ false)
 IsRefusedOn colors s u (Refused.Cut p) = IsPlaced s.width s.height p u × IsCovered s.grid u.x u.y × (IsVacant u.cell → ⊥)
 
 -- an item of a diff, which lends its cell, as an update
@@ -116,7 +151,7 @@ abbrev pub StopsInDiff : List Update → Bool → Screen → Refusal → Type 0
 StopsInDiff us colors old refusal = StopsAt (YieldsFirstBy lent_update (λ rest. rest)) us lent_update colors old refusal
 
 -- an error that names a cell is that of the item at which a draw stops
-abbrev pub StopsBy : {S A E : Type 0} → (S → Option A → S → Type 0) → S → (A → Update) → Bool → Screen → AnsiError E → Type 0
+abbrev pub StopsBy : {S A : Type 0} → (S → Option A → S → Type 0) → S → (A → Update) → Bool → Screen → AnsiError → Type 0
 StopsBy steps content update colors old error =
     IsTrue (names_cell error) → (refusal : Refusal) × (error ≡ error_of refusal) × StopsAt steps content update colors old refusal
 

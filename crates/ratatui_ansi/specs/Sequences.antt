@@ -1,9 +1,9 @@
 -- How a terminal reads bytes: text, and the sequences by their standard names.
 use Rattle.std.specs.Prelude.{ℕ, ◌+◌, ◌-◌, ◌*◌, ◌==◌, ◌&&◌, not, nat_le, Bool, true, false, if◌then◌else◌, List, [], ◌∷◌, ◌++◌}
-use Rattle.ratatui_ansi.specs.Pen.{inks}
+use Rattle.ratatui_ansi.specs.Pen.{inks, are_known}
 use Rattle.ratatui_ansi.specs.Pen.Awaits.{Nothing}
-use Rattle.ratatui_ansi.specs.Emulator.{Emulator, Phase, unsure, rested, moved, returned, with_visible, with_pen, erased, with_region, without_region, line_fed, lines_deleted, scrolled_down}
-use Rattle.ratatui_ansi.specs.Emulator.Phase.{Ground, Escape, Sequence}
+use Rattle.ratatui_ansi.specs.Emulator.{Emulator, Phase, if_so, unsure, rested, moved, returned, with_visible, with_pen, erased, with_region, without_region, line_fed, lines_deleted, lines_inserted}
+use Rattle.ratatui_ansi.specs.Emulator.Phase.{Ground, Escape, Opened, Sequence}
 use Rattle.ratatui_ansi.specs.declared.part.Part.TheVariants.{After, Before, Line, LineEnd}
 
 -- ED; the parameter 2 erases the whole screen, which some terminals put into their history then
@@ -32,19 +32,23 @@ abbrev pub performs_DL : List ℕ → Emulator → Emulator
 performs_DL (n ∷ []) t = if n == 0 then unsure t else lines_deleted n t
 performs_DL _ t = unsure t
 
--- SD
-abbrev pub performs_SD : List ℕ → Emulator → Emulator
-performs_SD (n ∷ []) t = if n == 0 then unsure t else scrolled_down n t
-performs_SD _ t = unsure t
+-- IL
+abbrev pub performs_IL : List ℕ → Emulator → Emulator
+performs_IL (n ∷ []) t = if n == 0 then unsure t else lines_inserted n t
+performs_IL _ t = unsure t
 
--- a whole sequence, by its last byte: H CUP, m SGR, J ED, K EL, r DECSTBM, M DL, T SD
+-- SGR
+abbrev pub performs_SGR : List ℕ → Emulator → Emulator
+performs_SGR parameters t = if_so (are_known parameters Nothing) (with_pen (inks parameters (record { pen = t.pen; awaits = Nothing })).pen t)
+
+-- a whole sequence, by its last byte: H CUP, m SGR, J ED, K EL, r DECSTBM, M DL, L IL
 abbrev pub performs : List ℕ → ℕ → Emulator → Emulator
 performs parameters final t =
     if final == 72 then performs_CUP parameters t
-    else (if final == 109 then with_pen (inks parameters (record { pen = t.pen; awaits = Nothing })).pen t
+    else (if final == 109 then performs_SGR parameters t
     else (if final == 74 then performs_ED parameters t else (if final == 75 then performs_EL parameters t
     else (if final == 114 then performs_DECSTBM parameters t else (if final == 77 then performs_DL parameters t
-    else (if final == 84 then performs_SD parameters t else unsure t))))))
+    else (if final == 76 then performs_IL parameters t else unsure t))))))
 
 -- a sequence with the mark `?`: DECTCEM (text cursor enable mode) shows the cursor by h and hides it by l
 abbrev pub performs_marked : List ℕ → ℕ → Emulator → Emulator
@@ -60,19 +64,23 @@ is_digit b = nat_le 48 b && nat_le b 57
 abbrev pub is_text : ℕ → Bool
 is_text b = nat_le 32 b && not (b == 127)
 
+-- one more byte of a sequence: a digit, a semicolon, or the byte that names it
+abbrev pub reads_sequence : Bool → List ℕ → ℕ → ℕ → Emulator → Emulator
+reads_sequence mark done n b t =
+    if is_digit b then record t { phase = Sequence mark done (n * 10 + (b - 48)) }
+    else (if b == 59 then record t { phase = Sequence mark (done ++ n ∷ []) 0 }
+    else (if mark then performs_marked (done ++ n ∷ []) b (record t { phase = Ground })
+    else performs (done ++ n ∷ []) b (record t { phase = Ground })))
+
 -- one byte, read: a sequence is ESC [, perhaps ?, numbers between semicolons, and the byte that names it
 abbrev pub reads_in : Phase → ℕ → Emulator → Emulator
 reads_in Ground b t =
     if b == 27 then record (rested t) { phase = Escape }
     else (if is_text b then record t { text = t.text ++ b ∷ [] }
     else (if b == 13 then returned (rested t) else (if b == 10 then line_fed (rested t) else unsure (rested t))))
-reads_in Escape b t = if b == 91 then record t { phase = Sequence false [] 0 } else unsure t
-reads_in (Sequence mark done n) b t =
-    if is_digit b then record t { phase = Sequence mark done (n * 10 + (b - 48)) }
-    else (if b == 59 then record t { phase = Sequence mark (done ++ n ∷ []) 0 }
-    else (if b == 63 then record t { phase = Sequence true done n }
-    else (if mark then performs_marked (done ++ n ∷ []) b (record t { phase = Ground })
-    else performs (done ++ n ∷ []) b (record t { phase = Ground }))))
+reads_in Escape b t = if b == 91 then record t { phase = Opened } else unsure t
+reads_in Opened b t = if b == 63 then record t { phase = Sequence true [] 0 } else reads_sequence false [] 0 b t
+reads_in (Sequence mark done n) b t = reads_sequence mark done n b t
 
 -- bytes, read in order
 unfoldable pub feed : List ℕ → Emulator → Emulator

@@ -1,54 +1,67 @@
 //! A backend for terminals that read escape sequences.
 
 ghost use Rattle.std.specs.Prelude.{◌≡◌, ℕ, ◌+◌, ◌^◌, ◌-◌, ◌*◌, ◌<◌, [], length, true, false, List, map, IfOk, IfErr, OnOk, OnErr};
+ghost use Rattle.std.specs.Io.KnownBytes.{Appends as AppendsKnown};
 ghost use Rattle.std.specs.List.{list_all};
 ghost use Rattle.std.specs.Iterator.{IsFinite, Drains};
 ghost use Rattle.ratatui_core.specs.Buffer.{update_by};
 ghost use Rattle.ratatui_core.specs.Backend.{Counts, IsBlankScreen, IsOnGrid, Draws, Appends, Clears, ScrollsUp, ScrollsDown, with_visible, with_cursor, cursor_of, size_of, All};
+ghost use Rattle.ratatui_ansi.specs.Calls.{MakesBlank};
 ghost use Rattle.ratatui_ansi.specs.Columns.{blank_column};
 ghost use Rattle.ratatui_ansi.specs.Flags.{AreBehind};
-ghost use Rattle.ratatui_ansi.specs.Backend.{BackendState, shown_by};
-ghost use Rattle.ratatui_ansi.specs.Frame.{is_told_on};
-ghost use Rattle.ratatui_ansi.specs.Headline.{IsReadSurely};
-ghost use Rattle.ratatui_ansi.specs.Refusals.{IsUntold, Leaves, RefusesToBegin, IsOfLink, StopsBy};
+ghost use Rattle.ratatui_ansi.specs.Backend.{BackendState, shown_by, is_flushed};
+ghost use Rattle.ratatui_ansi.specs.Frame.{is_sendable_on};
+ghost use Rattle.ratatui_ansi.specs.Headline.{IsReadByAll};
+ghost use Rattle.ratatui_ansi.specs.Refusals.{IsUnsent, Leaves, RefusesToBegin, FailsToRestart, FailsToResize, StopsBy};
+ghost use Rattle.ratatui_ansi.specs.Refusals.{IsOfWriting, IsOfFlushing, IsOfClearing};
+ghost use Rattle.ratatui_ansi.specs.declared.error.AnsiError.TheVariants.{Broken};
 
+use crate::calls::make_blank;
 use crate::error::AnsiError;
 use crate::frame::draw_cells;
-use crate::link::Link;
+use crate::sender::Sender;
 use crate::tracked::{append, clear_region, cuts, place_cursor, scroll_down, scroll_up, show};
 use ratatui_core::backend::{AsCell, Backend, ClearType, WindowSize};
 use ratatui_core::layout::{Position, Size};
 use std::alloc::{AllocError, Global};
+use std::io::{self, Write};
 use std::marker::Model;
 use std::mem;
 use std::ops::Range;
 
-/// A backend that sends escape sequences along a link. Its screen is what a terminal shows that was blank and has read what
-/// the link was told. Each call sends once, or nothing where it is refused, and counts as failed until it has succeeded; after a
-/// failed send every call is refused until `restart`.
+/// A backend that writes escape sequences to a writer. It begins with those that make any terminal of its size blank, and its screen
+/// is what such a terminal shows that has read what the writer was sent. Each call writes once, or nothing where it is refused, and
+/// counts as failed until it has succeeded; after a failed write every call is refused until `restart`. It keeps no byte of what it
+/// wrote.
 #[derive(Drop)]
-pub struct AnsiBackend<L: Link> {
-    link: L,
+pub struct AnsiBackend<W: Write> {
+    sender: Sender<W>,
     size: Size,
     has_underline_colors: bool,
     cursor: Position,
     // Whether each column lies behind the first one of its symbol, row by row; and the same within a draw.
     behind: Vec<bool>,
     draft: Vec<bool>,
-    // What the call at hand sends.
+    // What the call at hand writes.
     out: String,
     written: u64,
     failures: u64,
     is_broken: bool,
+    alloc: Global,
 }
 
-impl<L: Link> Model for AnsiBackend<L> {
+impl<W: Write> Model for AnsiBackend<W> {
+    ghost use Rattle.std.specs.Prelude.{◌≡◌, false};
+    ghost use Rattle.std.specs.Io.KnownBytes.{Appends};
     ghost use Rattle.ratatui_ansi.specs.Backend.{BackendState, IsInOrder};
 
-    ghost Value = { BackendState L };
+    ghost Value = { BackendState W };
 
     ghost view = { λ b. record {
-      link = b.link;
+      writer = b.sender.writer;
+      before = b.sender.sent.before;
+      sent = b.sender.sent.bytes;
+      held = b.sender.held.bytes;
       size = b.size;
       has_underline_colors = b.has_underline_colors;
       written = b.written;
@@ -57,7 +70,9 @@ impl<L: Link> Model for AnsiBackend<L> {
     } };
 
     ghost invariant = { λ b. IsInOrder b.size b.cursor b.behind.items b.draft.items b.is_broken
-        b.failures (L.told b.link) };
+        b.failures b.sender.sent.bytes
+        × (b.is_broken ≡ false
+        → Appends b.sender.sent.before (W.contents b.sender.writer) b.sender.sent.bytes) };
 }
 
 // The flags of a blank screen.
@@ -77,13 +92,14 @@ fn unset_flags(flags: &mut [bool], size: Size)
     flags.fill(false);
 }
 
-impl<L: Link> AnsiBackend<L> {
-    /// A backend of a blank screen of this size in columns and rows, over a link that begins anew. Refused where the screen
-    /// has no columns or no rows, where memory is, or where the link fails.
-    pub fn new(alloc: Global, link: L, size: Size) -> Result<AnsiBackend<L>, AnsiError<L::Error>>
-        ensures blank { IfOk result (λ b.
-            IsBlankScreen size.width size.height (shown_by L.told b)) }
-        ensures told { IfOk result (λ b. L.told b.link ≡ []) }
+impl<W: Write + Drop> AnsiBackend<W> {
+    /// A backend of a screen of this size in columns and rows, over a terminal that is made blank: what makes it so is written. Refused
+    /// where the screen has no columns or no rows, where memory is, or where writing fails; then the writer is dropped.
+    pub fn new(alloc: Global, writer: W, size: Size) -> Result<AnsiBackend<W>, AnsiError>
+        ensures blank { IfOk result (λ b. IsBlankScreen size.width size.height (shown_by b)) }
+        ensures before { IfOk result (λ b. b.before ≡ W.contents writer) }
+        ensures sent { IfOk result (λ b. MakesBlank size.width size.height [] b.sent) }
+        ensures is_size { IfOk result (λ b. b.size ≡ size) }
         ensures colors { IfOk result (λ b. b.has_underline_colors ≡ false) }
         ensures failures { IfOk result (λ b. b.failures ≡ 0) }
         ensures works { IfOk result (λ b. b.is_broken ≡ false) }
@@ -95,61 +111,80 @@ impl<L: Link> AnsiBackend<L> {
         }
         let behind = blank_flags(alloc, size)?;
         let draft = blank_flags(alloc, size)?;
-        let mut link = link;
-        match link.renew() {
+        let mut out = String::new(alloc);
+        make_blank(&mut out, size.width, size.height)?;
+        let mut sender = Sender::new(writer);
+        match sender.send(out.as_str()) {
             Ok(()) => {}
-            Err(error) => return Err(AnsiError::Send(error)),
+            Err(error) => return Err(AnsiError::Write(error)),
         }
         Ok(AnsiBackend {
-            link,
+            sender,
             size,
             has_underline_colors: false,
             cursor: Position::ORIGIN,
             behind,
             draft,
-            out: String::new(alloc),
+            out,
             written: 0,
             failures: 0,
             is_broken: false,
+            alloc,
         })
     }
 
-    /// The link, and so what it was told. Where no call failed, no send did; and unless one did since the last `restart`, real
-    /// terminals don't differ on what was told.
-    pub fn link(&self) -> &L
-        ensures link { result.now ≡ self.now.link }
+    /// The writer. Where its bytes are known, and no write failed since the backend began or began anew, it holds what it held then,
+    /// and after that what was sent since: each terminal of this size that reads this shows the backend's screen, however it was left
+    /// before, and real terminals don't differ on it. Where no call failed, no write did.
+    pub fn writer(&self) -> &W
+        ensures writer { result.now ≡ self.now.writer }
+        ensures tied { self.now.is_broken ≡ false
+            → AppendsKnown self.now.before (W.contents self.now.writer) self.now.sent }
         ensures unfailed { self.now.failures ≡ 0 → self.now.is_broken ≡ false }
-        ensures sure { self.now.is_broken ≡ false → IsReadSurely L.told self.now }
+        ensures read { self.now.is_broken ≡ false → IsReadByAll self.now }
     {
-        &self.link
+        &self.sender.writer
     }
 
-    /// From now on it sends colours of the line under the text, or refuses them, as at first: some terminals misread them.
+    /// The writer, as `writer` lends it.
+    pub fn into_writer(self) -> W
+        ensures writer { result ≡ self.writer }
+        ensures tied { self.is_broken ≡ false
+            → AppendsKnown self.before (W.contents result) self.sent }
+    {
+        self.sender.writer
+    }
+
+    /// From now on it sends colours of the underline, or refuses them, as at first: some terminals misread them.
     pub fn set_underline_colors(&mut self, has_underline_colors: bool)
         ensures { self.new ≡ record self.old { has_underline_colors = has_underline_colors } }
     {
         self.has_underline_colors = has_underline_colors;
     }
 
-    /// Begins anew, also after a failed send: the link does so, and the screen is blank. Where the link fails every call is
-    /// refused until the next `restart`.
-    pub fn restart(&mut self) -> Result<(), AnsiError<L::Error>>
+    /// Begins anew, also after a failed write, on a terminal that is made blank: what makes it so is written, and is all that counts as
+    /// sent. Where memory is refused all stays; after a failed write every call is refused until the next `restart`.
+    pub fn restart(&mut self) -> Result<(), AnsiError>
         ensures blank { OnOk result (IsBlankScreen self.old.size.width self.old.size.height
-            (shown_by L.told self.new)) }
-        ensures told { OnOk result (L.told self.new.link ≡ []) }
+            (shown_by self.new)) }
+        ensures before { OnOk result (self.new.before ≡ W.contents self.old.writer) }
+        ensures sent { OnOk result
+            (MakesBlank self.old.size.width self.old.size.height [] self.new.sent) }
         ensures works { OnOk result (self.new.is_broken ≡ false) }
-        ensures broken { OnErr result (self.new.is_broken ≡ true) }
-        ensures refused { IfErr result IsOfLink }
+        ensures refused { IfErr result (FailsToRestart self.old self.new) }
         ensures size { self.new.size ≡ self.old.size }
         ensures colors { self.new.has_underline_colors ≡ self.old.has_underline_colors }
         ensures counts { Counts result self.old.failures self.new.failures }
     {
         let failures = self.failures;
         self.failures = failures.saturating_add(1);
+        self.out.clear();
+        make_blank(&mut self.out, self.size.width, self.size.height)?;
         self.is_broken = true;
-        match self.link.renew() {
+        self.sender.renew();
+        match self.sender.send(self.out.as_str()) {
             Ok(()) => {}
-            Err(error) => return Err(AnsiError::Send(error)),
+            Err(error) => return Err(AnsiError::Write(error)),
         }
         let behind = self.behind.as_mut_slice();
         unset_flags(behind, self.size);
@@ -160,10 +195,49 @@ impl<L: Link> AnsiBackend<L> {
         Ok(())
     }
 
+    /// The window has another size: the backend begins anew on a terminal of this size, which is made blank. So the next draw of a
+    /// terminal over it finds another size. Refused where the size has no columns or no rows, or where memory is, all stays; after a
+    /// failed write every call is refused until the next `restart` or `resize`.
+    pub fn resize(&mut self, size: Size) -> Result<(), AnsiError>
+        ensures blank { OnOk result (IsBlankScreen size.width size.height (shown_by self.new)) }
+        ensures before { OnOk result (self.new.before ≡ W.contents self.old.writer) }
+        ensures sent { OnOk result (MakesBlank size.width size.height [] self.new.sent) }
+        ensures size { OnOk result (self.new.size ≡ size) }
+        ensures works { OnOk result (self.new.is_broken ≡ false) }
+        ensures refused { IfErr result (FailsToResize size self.old self.new) }
+        ensures colors { self.new.has_underline_colors ≡ self.old.has_underline_colors }
+        ensures counts { Counts result self.old.failures self.new.failures }
+    {
+        let failures = self.failures;
+        self.failures = failures.saturating_add(1);
+        if size.width == 0 || size.height == 0 {
+            return Err(AnsiError::Size);
+        }
+        let behind = blank_flags(self.alloc, size)?;
+        let draft = blank_flags(self.alloc, size)?;
+        self.out.clear();
+        make_blank(&mut self.out, size.width, size.height)?;
+        self.is_broken = true;
+        self.sender.renew();
+        match self.sender.send(self.out.as_str()) {
+            Ok(()) => {}
+            Err(error) => return Err(AnsiError::Write(error)),
+        }
+        self.size = size;
+        self.behind = behind;
+        self.draft = draft;
+        self.cursor = Position::ORIGIN;
+        self.written = 0;
+        self.is_broken = false;
+        self.failures = failures;
+        Ok(())
+    }
+
     // Moves the cursor.
-    fn tell_position(&mut self, position: Position) -> Result<(), AnsiError<L::Error>>
-        ensures ok { OnOk result (shown_by L.told self.new
-            ≡ with_cursor position.x position.y (shown_by L.told self.old)) }
+    fn send_position(&mut self, position: Position) -> Result<(), AnsiError>
+        ensures ok { OnOk result (shown_by self.new
+            ≡ with_cursor position.x position.y (shown_by self.old)) }
+        ensures why { IfErr result IsOfWriting }
         ensures state { Leaves result self.old self.new }
         ensures counts { Counts result self.old.failures self.new.failures }
     {
@@ -175,9 +249,9 @@ impl<L: Link> AnsiBackend<L> {
         self.out.clear();
         let cursor = place_cursor(&mut self.out, self.size, position)?;
         self.is_broken = true;
-        match self.link.send(self.out.as_str()) {
+        match self.sender.send(self.out.as_str()) {
             Ok(()) => {}
-            Err(error) => return Err(AnsiError::Send(error)),
+            Err(error) => return Err(AnsiError::Write(error)),
         }
         self.cursor = cursor;
         self.is_broken = false;
@@ -186,9 +260,10 @@ impl<L: Link> AnsiBackend<L> {
     }
 
     // Shows or hides the cursor.
-    fn tell_visible(&mut self, visible: bool) -> Result<(), AnsiError<L::Error>>
-        ensures ok { OnOk result (shown_by L.told self.new
-            ≡ with_visible visible (shown_by L.told self.old)) }
+    fn send_visible(&mut self, visible: bool) -> Result<(), AnsiError>
+        ensures ok { OnOk result (shown_by self.new
+            ≡ with_visible visible (shown_by self.old)) }
+        ensures why { IfErr result IsOfWriting }
         ensures state { Leaves result self.old self.new }
         ensures counts { Counts result self.old.failures self.new.failures }
     {
@@ -200,19 +275,21 @@ impl<L: Link> AnsiBackend<L> {
         self.out.clear();
         show(&mut self.out, visible)?;
         self.is_broken = true;
-        match self.link.send(self.out.as_str()) {
+        match self.sender.send(self.out.as_str()) {
             Ok(()) => {}
-            Err(error) => return Err(AnsiError::Send(error)),
+            Err(error) => return Err(AnsiError::Write(error)),
         }
         self.is_broken = false;
         self.failures = failures;
         Ok(())
     }
 
-    // Has the link send on what it kept back.
-    fn flush_link(&mut self) -> Result<(), AnsiError<L::Error>>
-        ensures ok { OnOk result (shown_by L.told self.new ≡ shown_by L.told self.old) }
-        ensures told { OnOk result (L.told self.new.link ≡ L.told self.old.link) }
+    // Has the writer send on what it kept back.
+    fn flush_writer(&mut self) -> Result<(), AnsiError>
+        ensures ok { OnOk result (shown_by self.new ≡ shown_by self.old) }
+        ensures flushed { OnOk result (is_flushed self.new ≡ true) }
+        ensures sent { OnOk result (self.new.sent ≡ self.old.sent) }
+        ensures why { IfErr result IsOfFlushing }
         ensures state { Leaves result self.old self.new }
         ensures counts { Counts result self.old.failures self.new.failures }
     {
@@ -222,9 +299,9 @@ impl<L: Link> AnsiBackend<L> {
             return Err(AnsiError::Broken);
         }
         self.is_broken = true;
-        match self.link.flush() {
+        match self.sender.flush() {
             Ok(()) => {}
-            Err(error) => return Err(AnsiError::Send(error)),
+            Err(error) => return Err(AnsiError::Write(error)),
         }
         self.is_broken = false;
         self.failures = failures;
@@ -232,8 +309,9 @@ impl<L: Link> AnsiBackend<L> {
     }
 
     // Moves the cursor's row down.
-    fn tell_lines(&mut self, n: u16) -> Result<(), AnsiError<L::Error>>
-        ensures ok { OnOk result (Appends (shown_by L.told self.old) n (shown_by L.told self.new)) }
+    fn send_lines(&mut self, n: u16) -> Result<(), AnsiError>
+        ensures ok { OnOk result (Appends (shown_by self.old) n (shown_by self.new)) }
+        ensures why { IfErr result IsOfWriting }
         ensures state { Leaves result self.old self.new }
         ensures counts { Counts result self.old.failures self.new.failures }
     {
@@ -246,9 +324,9 @@ impl<L: Link> AnsiBackend<L> {
         let behind = self.behind.as_mut_slice();
         let cursor = append(&mut self.out, behind, self.size, self.cursor, n)?;
         self.is_broken = true;
-        match self.link.send(self.out.as_str()) {
+        match self.sender.send(self.out.as_str()) {
             Ok(()) => {}
-            Err(error) => return Err(AnsiError::Send(error)),
+            Err(error) => return Err(AnsiError::Write(error)),
         }
         self.cursor = cursor;
         self.is_broken = false;
@@ -257,9 +335,10 @@ impl<L: Link> AnsiBackend<L> {
     }
 
     // Moves the rows of a region up.
-    fn tell_up(&mut self, region: Range<u16>, n: u16) -> Result<(), AnsiError<L::Error>>
+    fn send_up(&mut self, region: Range<u16>, n: u16) -> Result<(), AnsiError>
         ensures ok { OnOk result (ScrollsUp region.start region.end n
-            (shown_by L.told self.old) (shown_by L.told self.new)) }
+            (shown_by self.old) (shown_by self.new)) }
+        ensures why { IfErr result IsOfWriting }
         ensures state { Leaves result self.old self.new }
         ensures counts { Counts result self.old.failures self.new.failures }
     {
@@ -272,9 +351,9 @@ impl<L: Link> AnsiBackend<L> {
         let behind = self.behind.as_mut_slice();
         scroll_up(&mut self.out, behind, self.size, self.cursor, region, n)?;
         self.is_broken = true;
-        match self.link.send(self.out.as_str()) {
+        match self.sender.send(self.out.as_str()) {
             Ok(()) => {}
-            Err(error) => return Err(AnsiError::Send(error)),
+            Err(error) => return Err(AnsiError::Write(error)),
         }
         self.is_broken = false;
         self.failures = failures;
@@ -282,9 +361,10 @@ impl<L: Link> AnsiBackend<L> {
     }
 
     // Moves the rows of a region down.
-    fn tell_down(&mut self, region: Range<u16>, n: u16) -> Result<(), AnsiError<L::Error>>
+    fn send_down(&mut self, region: Range<u16>, n: u16) -> Result<(), AnsiError>
         ensures ok { OnOk result (ScrollsDown region.start region.end n
-            (shown_by L.told self.old) (shown_by L.told self.new)) }
+            (shown_by self.old) (shown_by self.new)) }
+        ensures why { IfErr result IsOfWriting }
         ensures state { Leaves result self.old self.new }
         ensures counts { Counts result self.old.failures self.new.failures }
     {
@@ -297,9 +377,9 @@ impl<L: Link> AnsiBackend<L> {
         let behind = self.behind.as_mut_slice();
         scroll_down(&mut self.out, behind, self.size, self.cursor, region, n)?;
         self.is_broken = true;
-        match self.link.send(self.out.as_str()) {
+        match self.sender.send(self.out.as_str()) {
             Ok(()) => {}
-            Err(error) => return Err(AnsiError::Send(error)),
+            Err(error) => return Err(AnsiError::Write(error)),
         }
         self.is_broken = false;
         self.failures = failures;
@@ -307,8 +387,9 @@ impl<L: Link> AnsiBackend<L> {
     }
 
     // Empties a part of the screen.
-    fn tell_clear(&mut self, clear_type: ClearType) -> Result<(), AnsiError<L::Error>>
-        ensures ok { OnOk result (Clears (shown_by L.told self.old) clear_type (shown_by L.told self.new)) }
+    fn send_clear(&mut self, clear_type: ClearType) -> Result<(), AnsiError>
+        ensures ok { OnOk result (Clears (shown_by self.old) clear_type (shown_by self.new)) }
+        ensures why { IfErr result (IsOfClearing (shown_by self.old)) }
         ensures state { Leaves result self.old self.new }
         ensures counts { Counts result self.old.failures self.new.failures }
     {
@@ -324,9 +405,9 @@ impl<L: Link> AnsiBackend<L> {
         let behind = self.behind.as_mut_slice();
         clear_region(&mut self.out, behind, self.size, self.cursor, clear_type)?;
         self.is_broken = true;
-        match self.link.send(self.out.as_str()) {
+        match self.sender.send(self.out.as_str()) {
             Ok(()) => {}
-            Err(error) => return Err(AnsiError::Send(error)),
+            Err(error) => return Err(AnsiError::Write(error)),
         }
         self.is_broken = false;
         self.failures = failures;
@@ -334,22 +415,22 @@ impl<L: Link> AnsiBackend<L> {
     }
 
     // Draws cells.
-    fn tell_cells<C: AsCell, I: Iterator<Item = (u16, u16, C)>>(
+    fn send_cells<C: AsCell, I: Iterator<Item = (u16, u16, C)>>(
         &mut self,
         content: I,
-    ) -> Result<(), AnsiError<L::Error>>
+    ) -> Result<(), AnsiError>
         requires can { I.can_next content }
         requires finite { IsFinite (I.remaining content) }
         ensures ok { OnOk result (
             (items : List (ℕ × ℕ × C)) × Drains I.next_gives content items
-            × Draws (shown_by L.told self.old) (map (update_by C.cell) items)
-            (shown_by L.told self.new)) }
-        ensures told { OnOk result (
+            × Draws (shown_by self.old) (map (update_by C.cell) items)
+            (shown_by self.new)) }
+        ensures sendable { OnOk result (
             (items : List (ℕ × ℕ × C)) × Drains I.next_gives content items
-            × (list_all (is_told_on self.old.size.width self.old.size.height
+            × (list_all (is_sendable_on self.old.size.width self.old.size.height
             self.old.has_underline_colors) (map (update_by C.cell) items) ≡ true)) }
         ensures stopped { IfErr result (StopsBy I.next_gives content (update_by C.cell)
-            self.old.has_underline_colors (shown_by L.told self.old)) }
+            self.old.has_underline_colors (shown_by self.old)) }
         ensures state { Leaves result self.old self.new }
         ensures counts { Counts result self.old.failures self.new.failures }
     {
@@ -373,9 +454,9 @@ impl<L: Link> AnsiBackend<L> {
             content,
         )?;
         self.is_broken = true;
-        match self.link.send(self.out.as_str()) {
+        match self.sender.send(self.out.as_str()) {
             Ok(()) => {}
-            Err(error) => return Err(AnsiError::Send(error)),
+            Err(error) => return Err(AnsiError::Write(error)),
         }
         mem::swap(&mut self.behind, &mut self.draft);
         self.cursor = cursor;
@@ -386,9 +467,9 @@ impl<L: Link> AnsiBackend<L> {
     }
 
     // Counts a failure, and gives the error back.
-    fn failed(&mut self, error: AnsiError<L::Error>) -> AnsiError<L::Error>
+    fn failed(&mut self, error: AnsiError) -> AnsiError
         ensures error { result ≡ error }
-        ensures rest { IsUntold self.old self.new }
+        ensures rest { IsUnsent self.old self.new }
         ensures count { self.old.failures < 2 ^ 64 - 1
             → self.new.failures ≡ self.old.failures + 1 }
     {
@@ -397,86 +478,95 @@ impl<L: Link> AnsiBackend<L> {
     }
 }
 
-impl<L: Link> Backend for AnsiBackend<L> {
-    ghost use Rattle.ratatui_ansi.specs.Backend.{shown_by};
+impl<W: Write + Drop> Backend for AnsiBackend<W> {
+    ghost use Rattle.ratatui_ansi.specs.Backend.{shown_by, is_flushed};
 
-    type Error = AnsiError<L::Error>;
+    type Error = AnsiError;
 
-    ghost screen = { shown_by L.told };
+    ghost screen = { shown_by };
 
     ghost failures = { λ b. b.failures };
+
+    ghost is_flushed = { is_flushed };
 
     fn draw<C: AsCell, I: Iterator<Item = (u16, u16, C)>>(
         &mut self,
         content: I,
-    ) -> Result<(), AnsiError<L::Error>>
+    ) -> Result<(), AnsiError>
         requires can { I.can_next content }
         requires finite { IsFinite (I.remaining content) }
         ensures ok { OnOk result (
             (items : List (ℕ × ℕ × C)) × Drains I.next_gives content items
-            × Draws (shown_by L.told self.old) (map (update_by C.cell) items)
-            (shown_by L.told self.new)) }
-        ensures told { OnOk result (
+            × Draws (shown_by self.old) (map (update_by C.cell) items)
+            (shown_by self.new)) }
+        ensures sendable { OnOk result (
             (items : List (ℕ × ℕ × C)) × Drains I.next_gives content items
-            × (list_all (is_told_on self.old.size.width self.old.size.height
+            × (list_all (is_sendable_on self.old.size.width self.old.size.height
             self.old.has_underline_colors) (map (update_by C.cell) items) ≡ true)) }
         ensures stopped { IfErr result (StopsBy I.next_gives content (update_by C.cell)
-            self.old.has_underline_colors (shown_by L.told self.old)) }
+            self.old.has_underline_colors (shown_by self.old)) }
         ensures state { Leaves result self.old self.new }
         ensures counts { Counts result self.old.failures self.new.failures }
     {
-        self.tell_cells(content)
+        self.send_cells(content)
     }
 
-    fn append_lines(&mut self, n: u16) -> Result<(), AnsiError<L::Error>>
-        ensures ok { OnOk result (Appends (shown_by L.told self.old) n (shown_by L.told self.new)) }
+    fn append_lines(&mut self, n: u16) -> Result<(), AnsiError>
+        ensures ok { OnOk result (Appends (shown_by self.old) n (shown_by self.new)) }
+        ensures why { IfErr result IsOfWriting }
         ensures state { Leaves result self.old self.new }
         ensures counts { Counts result self.old.failures self.new.failures }
     {
-        self.tell_lines(n)
+        self.send_lines(n)
     }
 
-    fn scroll_region_up(&mut self, region: Range<u16>, n: u16) -> Result<(), AnsiError<L::Error>>
+    fn scroll_region_up(&mut self, region: Range<u16>, n: u16) -> Result<(), AnsiError>
         ensures ok { OnOk result (ScrollsUp region.start region.end n
-            (shown_by L.told self.old) (shown_by L.told self.new)) }
+            (shown_by self.old) (shown_by self.new)) }
+        ensures why { IfErr result IsOfWriting }
         ensures state { Leaves result self.old self.new }
         ensures counts { Counts result self.old.failures self.new.failures }
     {
-        self.tell_up(region, n)
+        self.send_up(region, n)
     }
 
-    fn scroll_region_down(&mut self, region: Range<u16>, n: u16) -> Result<(), AnsiError<L::Error>>
+    fn scroll_region_down(&mut self, region: Range<u16>, n: u16) -> Result<(), AnsiError>
         ensures ok { OnOk result (ScrollsDown region.start region.end n
-            (shown_by L.told self.old) (shown_by L.told self.new)) }
+            (shown_by self.old) (shown_by self.new)) }
+        ensures why { IfErr result IsOfWriting }
         ensures state { Leaves result self.old self.new }
         ensures counts { Counts result self.old.failures self.new.failures }
     {
-        self.tell_down(region, n)
+        self.send_down(region, n)
     }
 
-    fn hide_cursor(&mut self) -> Result<(), AnsiError<L::Error>>
-        ensures ok { OnOk result (shown_by L.told self.new
-            ≡ with_visible false (shown_by L.told self.old)) }
+    fn hide_cursor(&mut self) -> Result<(), AnsiError>
+        ensures ok { OnOk result (shown_by self.new
+            ≡ with_visible false (shown_by self.old)) }
+        ensures why { IfErr result IsOfWriting }
         ensures state { Leaves result self.old self.new }
         ensures counts { Counts result self.old.failures self.new.failures }
     {
-        self.tell_visible(false)
+        self.send_visible(false)
     }
 
-    fn show_cursor(&mut self) -> Result<(), AnsiError<L::Error>>
-        ensures ok { OnOk result (shown_by L.told self.new
-            ≡ with_visible true (shown_by L.told self.old)) }
+    fn show_cursor(&mut self) -> Result<(), AnsiError>
+        ensures ok { OnOk result (shown_by self.new
+            ≡ with_visible true (shown_by self.old)) }
+        ensures why { IfErr result IsOfWriting }
         ensures state { Leaves result self.old self.new }
         ensures counts { Counts result self.old.failures self.new.failures }
     {
-        self.tell_visible(true)
+        self.send_visible(true)
     }
 
-    fn get_cursor_position(&mut self) -> Result<Position, AnsiError<L::Error>>
+    fn get_cursor_position(&mut self) -> Result<Position, AnsiError>
         ensures ok { IfOk result (λ position.
-            position ≡ cursor_of (shown_by L.told self.old)) }
-        ensures on_grid { OnOk result (IsOnGrid (shown_by L.told self.old)) }
-        ensures stays { OnOk result (shown_by L.told self.new ≡ shown_by L.told self.old) }
+            position ≡ cursor_of (shown_by self.old)) }
+        ensures on_grid { OnOk result (IsOnGrid (shown_by self.old)) }
+        ensures stays { OnOk result (shown_by self.new ≡ shown_by self.old) }
+        ensures held { OnOk result (is_flushed self.new ≡ is_flushed self.old) }
+        ensures why { IfErr result (λ error. error ≡ Broken) }
         ensures state { Leaves result self.old self.new }
         ensures counts { Counts result self.old.failures self.new.failures }
     {
@@ -486,36 +576,41 @@ impl<L: Link> Backend for AnsiBackend<L> {
         Ok(self.cursor)
     }
 
-    fn set_cursor_position(&mut self, position: Position) -> Result<(), AnsiError<L::Error>>
-        ensures ok { OnOk result (shown_by L.told self.new
-            ≡ with_cursor position.x position.y (shown_by L.told self.old)) }
+    fn set_cursor_position(&mut self, position: Position) -> Result<(), AnsiError>
+        ensures ok { OnOk result (shown_by self.new
+            ≡ with_cursor position.x position.y (shown_by self.old)) }
+        ensures why { IfErr result IsOfWriting }
         ensures state { Leaves result self.old self.new }
         ensures counts { Counts result self.old.failures self.new.failures }
     {
-        self.tell_position(position)
+        self.send_position(position)
     }
 
-    fn clear(&mut self) -> Result<(), AnsiError<L::Error>>
-        ensures ok { OnOk result (Clears (shown_by L.told self.old) All
-            (shown_by L.told self.new)) }
+    fn clear(&mut self) -> Result<(), AnsiError>
+        ensures ok { OnOk result (Clears (shown_by self.old) All
+            (shown_by self.new)) }
+        ensures why { IfErr result (IsOfClearing (shown_by self.old)) }
         ensures state { Leaves result self.old self.new }
         ensures counts { Counts result self.old.failures self.new.failures }
     {
         self.clear_region(ClearType::All)
     }
 
-    fn clear_region(&mut self, clear_type: ClearType) -> Result<(), AnsiError<L::Error>>
-        ensures ok { OnOk result (Clears (shown_by L.told self.old) clear_type
-            (shown_by L.told self.new)) }
+    fn clear_region(&mut self, clear_type: ClearType) -> Result<(), AnsiError>
+        ensures ok { OnOk result (Clears (shown_by self.old) clear_type
+            (shown_by self.new)) }
+        ensures why { IfErr result (IsOfClearing (shown_by self.old)) }
         ensures state { Leaves result self.old self.new }
         ensures counts { Counts result self.old.failures self.new.failures }
     {
-        self.tell_clear(clear_type)
+        self.send_clear(clear_type)
     }
 
-    fn size(&mut self) -> Result<Size, AnsiError<L::Error>>
-        ensures ok { IfOk result (λ size. size ≡ size_of (shown_by L.told self.old)) }
-        ensures stays { OnOk result (shown_by L.told self.new ≡ shown_by L.told self.old) }
+    fn size(&mut self) -> Result<Size, AnsiError>
+        ensures ok { IfOk result (λ size. size ≡ size_of (shown_by self.old)) }
+        ensures stays { OnOk result (shown_by self.new ≡ shown_by self.old) }
+        ensures held { OnOk result (is_flushed self.new ≡ is_flushed self.old) }
+        ensures why { IfErr result (λ error. error ≡ Broken) }
         ensures state { Leaves result self.old self.new }
         ensures counts { Counts result self.old.failures self.new.failures }
     {
@@ -525,10 +620,14 @@ impl<L: Link> Backend for AnsiBackend<L> {
         Ok(self.size)
     }
 
-    fn window_size(&mut self) -> Result<WindowSize, AnsiError<L::Error>>
+    fn window_size(&mut self) -> Result<WindowSize, AnsiError>
         ensures ok { IfOk result (λ window.
-            window.columns_rows ≡ size_of (shown_by L.told self.old)) }
-        ensures stays { OnOk result (shown_by L.told self.new ≡ shown_by L.told self.old) }
+            window.columns_rows ≡ size_of (shown_by self.old)) }
+        ensures pixels { IfOk result (λ window.
+            window.pixels ≡ record { width = 0; height = 0 }) }
+        ensures stays { OnOk result (shown_by self.new ≡ shown_by self.old) }
+        ensures held { OnOk result (is_flushed self.new ≡ is_flushed self.old) }
+        ensures why { IfErr result (λ error. error ≡ Broken) }
         ensures state { Leaves result self.old self.new }
         ensures counts { Counts result self.old.failures self.new.failures }
     {
@@ -539,12 +638,14 @@ impl<L: Link> Backend for AnsiBackend<L> {
         })
     }
 
-    fn flush(&mut self) -> Result<(), AnsiError<L::Error>>
-        ensures ok { OnOk result (shown_by L.told self.new ≡ shown_by L.told self.old) }
-        ensures told { OnOk result (L.told self.new.link ≡ L.told self.old.link) }
+    fn flush(&mut self) -> Result<(), AnsiError>
+        ensures ok { OnOk result (shown_by self.new ≡ shown_by self.old) }
+        ensures flushed { OnOk result (is_flushed self.new ≡ true) }
+        ensures sent { OnOk result (self.new.sent ≡ self.old.sent) }
+        ensures why { IfErr result IsOfFlushing }
         ensures state { Leaves result self.old self.new }
         ensures counts { Counts result self.old.failures self.new.failures }
     {
-        self.flush_link()
+        self.flush_writer()
     }
 }

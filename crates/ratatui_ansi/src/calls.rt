@@ -46,8 +46,8 @@ pub fn clear_screen(
     move_to(out, x, y)
 }
 
-/// Makes a terminal of so many columns and rows, at least one of both, as a new one is, whatever stands on it: in its own
-/// colours, without margins, empty, and with its cursor in the corner. Its history stays, and whether its cursor is shown.
+/// Makes a terminal of so many columns and rows, at least one of both, as a new one is, however another program left it: in its own
+/// colours, without margins, empty, and with its cursor shown in the corner. Its history stays.
 pub fn make_blank(out: &mut String, width: u16, height: u16) -> Result<(), AllocError>
     ensures { OnOk result (0 < width → 0 < height
         → MakesBlank width height (string_bytes out.old) (string_bytes out.new)) }
@@ -55,5 +55,6 @@ pub fn make_blank(out: &mut String, width: u16, height: u16) -> Result<(), Alloc
     push_pen(out, &Pen::OWN)?;
     reset_region(out)?;
     erase_all(out, width, height)?;
-    move_to(out, 0, 0)
+    move_to(out, 0, 0)?;
+    show_cursor(out)
 }

@@ -6,29 +6,29 @@ use crate::frame::Refusal;
 use ratatui_core::layout::Position;
 use std::alloc::AllocError;
 use std::error::Error;
-use std::fmt;
+use std::{fmt, io};
 
-/// Why a call of an `AnsiBackend` failed. Only after `Broken` and `Send` isn't it known what the terminal shows.
-#[derive(Debug, Clone, Copy, PartialEq, Eq, Hash, Drop)]
-pub enum AnsiError<E> {
+/// Why a call of an `AnsiBackend` failed. Only after `Broken` and `Write` isn't it known what the terminal shows.
+#[derive(Debug, Drop)]
+pub enum AnsiError {
     /// Memory was refused, and nothing was sent.
     Memory,
     /// The symbol in this place isn't shown as one by terminals, or not in the columns that its cell takes; nothing was sent.
     Symbol(Position),
-    /// The style in this place can't be told to terminals; nothing was sent.
+    /// The style in this place can't be sent to terminals; nothing was sent.
     Pen(Position),
     /// In this place a part of a symbol would go of which the first column stays; nothing was sent.
     Cut(Position),
     /// A screen has columns and rows.
     Size,
-    /// An earlier call failed to send.
+    /// An earlier call failed to write.
     Broken,
-    /// The link failed.
-    Send(E),
+    /// The writer failed.
+    Write(io::Error),
 }
 
-impl<E: fmt::Display> fmt::Display for AnsiError<E> {
-    ghost output = { ansi_error_text E.output };
+impl fmt::Display for AnsiError {
+    ghost output = { ansi_error_text };
 
     fn fmt<W: fmt::Write>(&self, f: &mut fmt::Formatter<W>) -> fmt::Result {
         match self {
@@ -38,31 +38,31 @@ impl<E: fmt::Display> fmt::Display for AnsiError<E> {
             AnsiError::Cut(position) => write!(f, "symbol cut at {position}"),
             AnsiError::Size => write!(f, "no columns or rows"),
             AnsiError::Broken => write!(f, "broken"),
-            AnsiError::Send(error) => write!(f, "link: {error}"),
+            AnsiError::Write(error) => write!(f, "write: {error}"),
         }
     }
 }
 
-impl<E: Error> Error for AnsiError<E> {}
+impl Error for AnsiError {}
 
-impl<E> From<AllocError> for AnsiError<E> {
+impl From<AllocError> for AnsiError {
     ghost use Rattle.std.specs.Prelude.{◌≡◌};
     ghost use Rattle.ratatui_ansi.specs.declared.error.AnsiError.TheVariants.{Memory};
 
     ghost from_gives = { λ _ error. error ≡ Memory };
 
-    fn from(_: AllocError) -> AnsiError<E> {
+    fn from(_: AllocError) -> AnsiError {
         AnsiError::Memory
     }
 }
 
-impl<E> From<Refusal> for AnsiError<E> {
+impl From<Refusal> for AnsiError {
     ghost use Rattle.std.specs.Prelude.{◌≡◌};
     ghost use Rattle.ratatui_ansi.specs.Errors.{error_of};
 
     ghost from_gives = { λ refusal error. error ≡ error_of refusal };
 
-    fn from(refusal: Refusal) -> AnsiError<E> {
+    fn from(refusal: Refusal) -> AnsiError {
         match refusal {
             Refusal::Memory => AnsiError::Memory,
             Refusal::Symbol(place) => AnsiError::Symbol(place),

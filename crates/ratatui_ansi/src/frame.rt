@@ -7,9 +7,9 @@ ghost use Rattle.ratatui_core.specs.Buffer.{blank, symbol_text, text_width, widt
 ghost use Rattle.ratatui_ansi.specs.declared.drawing.Printing.TheVariants.{Whole};
 ghost use Rattle.ratatui_ansi.specs.declared.frame.Glyph.TheVariants.{Plain};
 ghost use Rattle.ratatui_ansi.specs.Pen.{own_pen, pen_of};
-ghost use Rattle.ratatui_ansi.specs.Parameters.{is_told_by};
+ghost use Rattle.ratatui_ansi.specs.Parameters.{is_sendable_by};
 ghost use Rattle.ratatui_ansi.specs.Drawing.{printing_of, columns_of, blanked, Changes, Paints, Prints};
-ghost use Rattle.ratatui_ansi.specs.Frame.{glyph_columns, is_fit, is_told_on, IsPrintedAs, IsGlyph, IsLone, IsVacant, IsUntoldPen, IsRefused, Covers, SendsUpdates, SendsDraw};
+ghost use Rattle.ratatui_ansi.specs.Frame.{glyph_columns, is_fit, is_sendable_on, IsPrintedAs, IsGlyph, IsLone, IsVacant, IsUnsendablePen, IsRefused, Covers, SendsUpdates, SendsDraw};
 ghost use Rattle.ratatui_ansi.specs.Refusals.{has_place, StopsWithin, StopsDraw};
 
 use crate::drawing::{Brush, Printing, change_pen, printing_of, put_plain, put_symbol, set_pen};
@@ -37,7 +37,7 @@ pub enum Refusal {
     Memory,
     /// The symbol in this place isn't printed as one, or not in the columns that its cell takes, or not within its row.
     Symbol(Position),
-    /// The pen in this place can't be told.
+    /// The pen in this place can't be sent.
     Pen(Position),
     /// The cell would cut the symbol that covers this place, of which the first column stays.
     Cut(Position),
@@ -293,11 +293,11 @@ fn set_pen_of(
     ensures changes { OnOk result (Changes brush.old.pen (pen_of cell.now) (string_bytes out.old)
         (string_bytes out.new)) }
     ensures pen { OnOk result (brush.new ≡ record brush.old { pen = pen_of cell.now }) }
-    ensures told { OnOk result (is_told_by has_underline_colors (pen_of cell.now) ≡ true) }
-    ensures refused { IfErr result (IsUntoldPen has_underline_colors place (pen_of cell.now)) }
+    ensures sent { OnOk result (is_sendable_by has_underline_colors (pen_of cell.now) ≡ true) }
+    ensures refused { IfErr result (IsUnsendablePen has_underline_colors place (pen_of cell.now)) }
 {
     let pen = Pen::of(cell);
-    if !pen.is_told_by(has_underline_colors) {
+    if !pen.is_sendable_by(has_underline_colors) {
         return Err(Refusal::Pen(place));
     }
     set_pen(out, brush, &pen)?;
@@ -313,12 +313,12 @@ fn take_pen(
     place: Position,
     cell: &Cell,
 ) -> Result<(), Refusal>
-    requires { is_told_by has_underline_colors brush.old.pen ≡ true }
+    requires { is_sendable_by has_underline_colors brush.old.pen ≡ true }
     ensures changes { OnOk result (Changes brush.old.pen (pen_of cell.now) (string_bytes out.old)
         (string_bytes out.new)) }
     ensures pen { OnOk result (brush.new ≡ record brush.old { pen = pen_of cell.now }) }
-    ensures told { OnOk result (is_told_by has_underline_colors (pen_of cell.now) ≡ true) }
-    ensures refused { IfErr result (IsUntoldPen has_underline_colors place (pen_of cell.now)) }
+    ensures sent { OnOk result (is_sendable_by has_underline_colors (pen_of cell.now) ≡ true) }
+    ensures refused { IfErr result (IsUnsendablePen has_underline_colors place (pen_of cell.now)) }
 {
     if brush.pen.is_of(cell) {
         return Ok(());
@@ -342,15 +342,15 @@ fn draw_glyph(
     requires row { place.y * width + width ≤ length behind.old }
     requires uncut { slice_index_or behind.old (place.y * width + place.x) false ≡ false }
     requires glyph { IsGlyph (width - place.x) cell.now glyph }
-    requires pen { is_told_by has_underline_colors drawing.old.brush.pen ≡ true }
+    requires pen { is_sendable_by has_underline_colors drawing.old.brush.pen ≡ true }
     ensures drawn { OnOk result ((h n : ℕ) → place.y < h
         → drawing.old.written ≡ min (n + 1) (2 ^ 64 - 1)
         → SendsUpdates width h (string_bytes out.old) (record drawing.old { written = n })
         behind.old (record { x = place.x; y = place.y; cell = cell.now } ∷ [])
         (string_bytes out.new) drawing.new behind.new) }
-    ensures told { OnOk result (is_told_by has_underline_colors (pen_of cell.now) ≡ true) }
-    ensures pen { OnOk result (is_told_by has_underline_colors drawing.new.brush.pen ≡ true) }
-    ensures refused { IfErr result (IsUntoldPen has_underline_colors place (pen_of cell.now)) }
+    ensures sent { OnOk result (is_sendable_by has_underline_colors (pen_of cell.now) ≡ true) }
+    ensures pen { OnOk result (is_sendable_by has_underline_colors drawing.new.brush.pen ≡ true) }
+    ensures refused { IfErr result (IsUnsendablePen has_underline_colors place (pen_of cell.now)) }
 {
     let Position { x, y } = place;
     let brush = &mut drawing.brush;
@@ -367,7 +367,7 @@ fn draw_glyph(
 /// Draws a cell in a column and a row of a screen of so many columns and rows, and counts it. `behind` has a flag for each column,
 /// row by row: whether it lies behind the first one of its symbol. Off the screen nothing is sent, and neither is a vacant cell
 /// behind the first column of a symbol, where it would tear the symbol. Refused with its place is a cell whose symbol terminals
-/// don't print as one in just the cell's columns, or not within its row; one whose pen can't be told; and one that would cut a
+/// don't print as one in just the cell's columns, or not within its row; one whose pen can't be sent; and one that would cut a
 /// symbol of which the first column stays.
 pub fn draw_cell(
     out: &mut String,
@@ -381,13 +381,13 @@ pub fn draw_cell(
     cell: &Cell,
 ) -> Result<(), Refusal>
     requires flags { length behind.old ≡ width * height }
-    requires pen { is_told_by has_underline_colors drawing.old.brush.pen ≡ true }
+    requires pen { is_sendable_by has_underline_colors drawing.old.brush.pen ≡ true }
     ensures drawn { OnOk result (SendsUpdates width height (string_bytes out.old)
         drawing.old behind.old (record { x = x; y = y; cell = cell.now } ∷ [])
         (string_bytes out.new) drawing.new behind.new) }
-    ensures told { OnOk result (is_told_on width height has_underline_colors
+    ensures sent { OnOk result (is_sendable_on width height has_underline_colors
         (record { x = x; y = y; cell = cell.now }) ≡ true) }
-    ensures pen { OnOk result (is_told_by has_underline_colors drawing.new.brush.pen ≡ true) }
+    ensures pen { OnOk result (is_sendable_by has_underline_colors drawing.new.brush.pen ≡ true) }
     ensures refused { IfErr result (IsRefused width height has_underline_colors behind.old
         (record { x = x; y = y; cell = cell.now })) }
 {
@@ -442,14 +442,14 @@ fn draw_all<C: AsCell, I: Iterator<Item = (u16, u16, C)>>(
     content: I,
 ) -> Result<(), Refusal>
     requires flags { length behind.old ≡ width * height }
-    requires pen { is_told_by has_underline_colors drawing.old.brush.pen ≡ true }
+    requires pen { is_sendable_by has_underline_colors drawing.old.brush.pen ≡ true }
     requires can { I.can_next content }
     requires finite { IsFinite (I.remaining content) }
     ensures drawn { OnOk result ((items : List (ℕ × ℕ × C))
         × Drains I.next_gives content items
         × SendsUpdates width height (string_bytes out.old) drawing.old behind.old
         (map (update_by C.cell) items) (string_bytes out.new) drawing.new behind.new
-        × (list_all (is_told_on width height has_underline_colors)
+        × (list_all (is_sendable_on width height has_underline_colors)
         (map (update_by C.cell) items) ≡ true)) }
     ensures refused { IfErr result (StopsWithin I.next_gives content (update_by C.cell)
         width height has_underline_colors (string_bytes out.old) drawing.old behind.old) }
@@ -490,7 +490,7 @@ pub fn draw_cells<C: AsCell, I: Iterator<Item = (u16, u16, C)>>(
         × Drains I.next_gives content items
         × SendsDraw width height (string_bytes out.old) cursor written behind.old
         (map (update_by C.cell) items) (string_bytes out.new) after.0 after.1 behind.new
-        × (list_all (is_told_on width height has_underline_colors)
+        × (list_all (is_sendable_on width height has_underline_colors)
         (map (update_by C.cell) items) ≡ true)) }
     ensures refused { IfErr result (λ refusal. IsTrue (has_place refusal)
         → StopsDraw I.next_gives content (update_by C.cell) width height has_underline_colors cursor

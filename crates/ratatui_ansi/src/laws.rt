@@ -15,18 +15,19 @@ ghost use Rattle.ratatui_ansi.specs.Drawing.{columns_of};
 ghost use Rattle.ratatui_ansi.specs.Emulator.{run, fresh};
 
 use crate::backend::AnsiBackend;
-use crate::link::Link;
 use ratatui_core::terminal::Terminal;
 use ratatui_core::terminal::laws::every_call_is_faithful;
+use std::io::Write;
 
-/// The headline, of the bytes: from in step, behind any list of calls of a terminal that answered Ok, each painted and inserted
-/// buffer settled, and unless a send failed since the backend began or began anew, a terminal that was blank and has read what
-/// the link was told shows the buffer that the last call left, and real terminals don't differ on what it read.
-pub fn bytes_show_the_last_buffer<L: Link>(terminal: &Terminal<AnsiBackend<L>>)
-    ensures { IsHeadlineOfBytes L.told terminal.now }
+/// The headline, of the bytes: from in step, after any list of calls of a terminal that answered Ok, each painted and inserted
+/// buffer settled, and unless a write failed since the backend began or began anew, each terminal of its size that reads what was
+/// sent since shows the buffer that the last call left, however it was left before: its whole screen is the backend's, with the rows
+/// above, what lies outside a fixed viewport, the cursor and whether that is shown. Real terminals don't differ on what it read.
+pub fn bytes_show_the_last_buffer<W: Write + Drop>(terminal: &Terminal<AnsiBackend<W>>)
+    ensures { IsHeadlineOfBytes terminal.now }
 {
-    every_call_is_faithful::<AnsiBackend<L>>();
-    let _link = terminal.backend().link();
+    every_call_is_faithful::<AnsiBackend<W>>();
+    let _writer = terminal.backend().writer();
 }
 
 /// A blank terminal of at least one row is ready, so that what is said of ready terminals is said of some.

@@ -2,14 +2,14 @@
 
 ghost use Rattle.std.specs.Prelude.{◌≡◌, ℕ, ◌+◌, ◌-◌, ◌<◌, ◌≤◌, min, OnOk, string_bytes};
 ghost use Rattle.ratatui_core.specs.Backend.{Appends, ScrollsUp, ScrollsDown};
-ghost use Rattle.ratatui_ansi.specs.Emulator.{moved, returned, erased, line_fed, fed, with_region, without_region, lines_deleted, scrolled_down, fed_and_lowered, raised, lowered};
+ghost use Rattle.ratatui_ansi.specs.Emulator.{moved, returned, erased, line_fed, fed, with_region, without_region, lines_deleted, lines_inserted, fed_and_lowered, fed_and_lowered_by, raised, lowered};
 ghost use Rattle.ratatui_ansi.specs.declared.part.Part.TheVariants.{Line};
 ghost use Rattle.ratatui_ansi.specs.Sends.{Does};
 ghost use Rattle.ratatui_ansi.specs.Screens.{Turns, Becomes};
 
 use crate::part::Part;
 use crate::sequences::{
-    delete_lines, erase, line_feeds, move_to, reset_region, scroll_down, set_region,
+    delete_lines, erase, insert_lines, line_feeds, move_to, reset_region, set_region,
 };
 use std::alloc::AllocError;
 use std::ops::Range;
@@ -59,10 +59,11 @@ fn lower_rows(out: &mut String, top: u16, end: u16, n: u16) -> Result<(), AllocE
     requires rows { top + 1 < end }
     requires some { 0 < n }
     ensures { OnOk result (Does (string_bytes out.old) (string_bytes out.new)
-        (λ t. without_region (scrolled_down n (with_region top end t)))) }
+        (λ t. without_region (lines_inserted n (moved 0 top (with_region top end t))))) }
 {
     set_region(out, top, end)?;
-    scroll_down(out, n)?;
+    move_to(out, 0, top)?;
+    insert_lines(out, n)?;
     reset_region(out)
 }
 
@@ -86,17 +87,25 @@ fn feed_rows(out: &mut String, end: u16, n: u16) -> Result<(), AllocError>
     reset_region(out)
 }
 
-// Sends the first row to the history, and blank ones behind it; margins enclose at least two rows, so that the second one goes up
+// Moves the rows of the region up by one, the first to the history, and the second back down.
+fn feed_and_lower(out: &mut String) -> Result<(), AllocError>
+    ensures { OnOk result (Does (string_bytes out.old) (string_bytes out.new) fed_and_lowered) }
+{
+    move_to(out, 0, 1)?;
+    line_feed(out)?;
+    move_to(out, 0, 0)?;
+    insert_lines(out, 1)
+}
+
+// Sends the first row to the history, and blank ones after it; margins enclose at least two rows, so that the second one goes up
 // and down again.
 fn feed_first_row(out: &mut String, n: u16) -> Result<(), AllocError>
     ensures { OnOk result (Does (string_bytes out.old) (string_bytes out.new)
-        (λ t. without_region (fed_and_lowered n (moved 0 1 (with_region 0 2 t))))) }
+        (λ t. without_region (fed_and_lowered_by n (with_region 0 2 t)))) }
 {
     set_region(out, 0, 2)?;
-    move_to(out, 0, 1)?;
     for _ in 0..n {
-        line_feed(out)?;
-        scroll_down(out, 1)?;
+        feed_and_lower(out)?;
     }
     reset_region(out)
 }

@@ -2,7 +2,7 @@
 
 ghost use Rattle.std.specs.Prelude.{◌≡◌, ◌+◌, ◌-◌, ◌<◌, OnOk, true, false, [], ◌∷◌, ◌++◌, string_bytes};
 ghost use Rattle.std.specs.Fmt.{decimal};
-ghost use Rattle.ratatui_ansi.specs.Emulator.{moved, returned, erased, fed, with_region, without_region, lines_deleted, scrolled_down, with_visible};
+ghost use Rattle.ratatui_ansi.specs.Emulator.{moved, returned, erased, fed, with_region, without_region, lines_deleted, lines_inserted, with_visible};
 ghost use Rattle.ratatui_ansi.specs.declared.part.Part.TheVariants.{Before};
 ghost use Rattle.ratatui_ansi.specs.Sends.{Does};
 
@@ -119,11 +119,11 @@ pub fn delete_lines(out: &mut String, n: u16) -> Result<(), AllocError>
     write!(out, "\u{1b}[{}M", n)
 }
 
-/// SD (scroll down): the rows of the scroll region move down by `n`.
-pub fn scroll_down(out: &mut String, n: u16) -> Result<(), AllocError>
+/// IL (insert line): `n` blank rows come in at the cursor's row, and those from there on in the scroll region move down.
+pub fn insert_lines(out: &mut String, n: u16) -> Result<(), AllocError>
     requires { 0 < n }
     ensures { OnOk result (Does (string_bytes out.old) (string_bytes out.new)
-        (scrolled_down n)) }
+        (lines_inserted n)) }
 {
-    write!(out, "\u{1b}[{}T", n)
+    write!(out, "\u{1b}[{}L", n)
 }

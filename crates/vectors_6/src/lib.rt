@@ -10,3 +10,5 @@ mod plays;
 mod reader;
 #[cfg(test)]
 mod sequences;
+#[cfg(test)]
+mod sizes;

@@ -1,15 +1,15 @@
 //! Random plays of a backend, read by a terminal, beside a screen in memory.
 use crate::reader::Reader;
-use crate::sequences::over_kept;
+use crate::sequences::{Kept, over_kept, sent};
 use bitflags::Flags;
-use ratatui_ansi::{AnsiBackend, AnsiError, Kept, is_symbol, make_blank};
+use ratatui_ansi::{AnsiError, is_symbol};
 use rtui_backend::{Backend, ClearType, TestBackend};
 use rtui_cell::{Cell, CellWidth};
 use rtui_geometry::Position;
 use rtui_style::{Color, Modifier};
 use std::alloc::{AllocError, Global};
-use std::iter;
 use std::test::Fail;
+use std::{io, iter};
 
 // Numbers that look random.
 #[derive(Clone, Copy)]
@@ -86,11 +86,13 @@ fn random_cell(alloc: Global, random: &mut Random) -> Result<Cell, AllocError> {
 // A backend and the screen that it should show, of so many columns and rows.
 #[derive(Drop)]
 struct Play {
-    backend: AnsiBackend<Kept>,
+    backend: Kept,
     screen: TestBackend,
     width: u16,
     height: u16,
     has_underline_colors: bool,
+    // What another program left on the terminal.
+    left: &'static str,
     alloc: Global,
 }
 
@@ -102,6 +104,7 @@ impl Play {
             width,
             height,
             has_underline_colors: false,
+            left: LEFT,
             alloc,
         })
     }
@@ -111,11 +114,12 @@ impl Play {
             self.alloc,
             self.width,
             self.height,
-            self.backend.link().unsent(),
+            self.left,
+            sent(&self.backend),
         )
     }
 
-    // Whether a terminal that reads what was told shows the screen, with the cursor where both say it is.
+    // Whether a terminal that reads what was sent shows the screen, with the cursor where both say it is.
     fn is_shown(&mut self) -> Result<bool, Fail> {
         let Ok(cursor) = self.backend.get_cursor_position() else {
             return Ok(false);
@@ -131,7 +135,7 @@ impl Play {
         }
     }
 
-    // Draws one cell; whether it is drawn on both, or refused for a reason with nothing told.
+    // Draws one cell; whether it is drawn on both, or refused for a reason with nothing sent.
     fn draws(&mut self, random: &mut Random) -> Result<bool, Fail> {
         let cell = random_cell(self.alloc, random)?;
         let (x, y) = (
@@ -140,7 +144,7 @@ impl Play {
         );
         let room = self.width.saturating_sub(x);
         let is_behind = self.read()?.is_behind(x, y);
-        let told = self.backend.link().unsent().len();
+        let before = sent(&self.backend).len();
         match self.backend.draw(iter::once((x, y, &cell))) {
             Ok(()) => {
                 let is_drawn = self.screen.draw(iter::once((x, y, &cell))).is_ok();
@@ -149,15 +153,15 @@ impl Play {
             Err(error) => {
                 let place = Position { x, y };
                 let is_in = x < self.width && y < self.height;
-                let is_untold = self.backend.link().unsent().len() == told;
+                let is_unsent = sent(&self.backend).len() == before;
                 let has_colors = self.has_underline_colors;
                 let is_one = is_reason(error, place, is_behind, room, has_colors, &cell);
-                Ok(is_in && is_untold && is_one)
+                Ok(is_in && is_unsent && is_one)
             }
         }
     }
 
-    // Draws some cells at once; whether they are drawn on both, or refused with nothing told.
+    // Draws some cells at once; whether they are drawn on both, or refused with nothing sent.
     fn draws_some(&mut self, random: &mut Random) -> Result<bool, Fail> {
         let first = random_cell(self.alloc, random)?;
         let second = random_cell(self.alloc, random)?;
@@ -166,12 +170,12 @@ impl Play {
             let cell = if at % 2 == 0 { &first } else { &second };
             items.push((random.below(self.width), random.below(self.height), cell))?;
         }
-        let told = self.backend.link().unsent().len();
+        let before = sent(&self.backend).len();
         if self.backend.draw(items.iter().copied()).is_ok() {
             let is_drawn = self.screen.draw(items.iter().copied()).is_ok();
             Ok(is_drawn && self.follow_cursor())
         } else {
-            Ok(self.backend.link().unsent().len() == told)
+            Ok(sent(&self.backend).len() == before)
         }
     }
 
@@ -191,7 +195,7 @@ impl Play {
         let is_behind = self.read()?.is_behind(cursor.x, cursor.y);
         match self.backend.clear_region(clear_type) {
             Ok(()) => Ok(self.screen.clear_region(clear_type).is_ok()),
-            Err(error) => Ok(is_behind && error == AnsiError::Cut(cursor)),
+            Err(error) => Ok(is_behind && matches!(error, AnsiError::Cut(at) if at == cursor)),
         }
     }
 
@@ -243,7 +247,7 @@ impl Play {
 
 // Whether an error is that of drawing a cell in this place.
 fn is_reason(
-    error: AnsiError<AllocError>,
+    error: AnsiError,
     place: Position,
     is_behind: bool,
     room: u16,
@@ -257,8 +261,8 @@ fn is_reason(
         AnsiError::Symbol(at) => at == place && !is_behind && (!is_one || room < columns),
         AnsiError::Pen(at) => {
             let is_colored = cell.underline_color != Color::Reset;
-            let is_told = cell.modifier.bits() < 512 && (has_underline_colors || !is_colored);
-            at == place && !is_behind && is_one && columns <= room && !is_told
+            let is_sent = cell.modifier.bits() < 512 && (has_underline_colors || !is_colored);
+            at == place && !is_behind && is_one && columns <= room && !is_sent
         }
         _ => false,
     }
@@ -303,11 +307,12 @@ fn plays_are_shown(rt: HostRuntime) -> Result<(), Fail> {
     Ok(())
 }
 
-// What another program leaves: a symbol over halves of others, a pen, and margins.
-const LEFT_BEHIND: &str = "\u{1b}[2;2Hコ\u{1b}[0;1;31m\u{1b}[2;3r";
+// What another program leaves: rows that scrolled off, a symbol over halves of others, a pen, margins, and a hidden cursor.
+pub(crate) const LEFT: &str =
+    "ab\n\n\n\n\r\u{1b}[1;1Hコココ\u{1b}[1;2Hコ\u{1b}[?25l\u{1b}[0;1;31m\u{1b}[2;3r";
 
-// Whether a terminal, after a play and another program, is blank behind what makes it so.
-fn is_made_blank(alloc: Global, seed: u64) -> Result<bool, Fail> {
+// Whether a backend that begins anew after a play makes the terminal blank, and its screen is blank, too.
+fn is_begun_anew(alloc: Global, seed: u64) -> Result<bool, Fail> {
     let mut play = Play::new(alloc, 7, 4)?;
     let mut random = Random { state: seed };
     for _ in 0..CALLS {
@@ -315,19 +320,25 @@ fn is_made_blank(alloc: Global, seed: u64) -> Result<bool, Fail> {
             return Ok(false);
         }
     }
-    let mut told = String::from_str(alloc, play.backend.link().unsent())?;
-    told.push_str(LEFT_BEHIND)?;
-    make_blank(&mut told, 7, 4)?;
-    let corner = Position { x: 0, y: 0 };
-    let is_cleared = play.screen.clear().is_ok() && play.screen.set_cursor_position(corner).is_ok();
-    Ok(is_cleared && Reader::of(alloc, 7, 4, told.as_str())?.shows(corner, &play.screen))
+    let before = sent(&play.backend).len();
+    let is_begun = play.backend.restart().is_ok()
+        && play
+            .backend
+            .draw(iter::empty::<(u16, u16, &Cell)>())
+            .is_ok();
+    let bytes = sent(&play.backend);
+    let (Some(left), Some(rest)) = (bytes.get(..before), bytes.get(before..)) else {
+        return Ok(false);
+    };
+    let blank = TestBackend::new(alloc, 7, 4)?;
+    Ok(is_begun && Reader::of(alloc, 7, 4, left, rest)?.shows(Position::ORIGIN, &blank))
 }
 
 #[test]
 fn used_terminals_are_made_blank(rt: HostRuntime) -> Result<(), Fail> {
     let alloc = rt.alloc();
     for seed in 0..PLAYS {
-        assert!(rt; is_made_blank(alloc, seed)?);
+        assert!(rt; is_begun_anew(alloc, seed)?);
     }
     Ok(())
 }

@@ -1,4 +1,4 @@
-//! A terminal that reads what a link was told: the model, computed.
+//! A terminal that reads what a writer was sent: the model, computed.
 use bitflags::Flags;
 use ratatui_ansi::{Part, Pen, is_plain, is_symbol};
 use rtui_backend::TestBackend;
@@ -126,12 +126,25 @@ fn byte(number: u16) -> u8 {
     u8::try_from(number).unwrap_or(255)
 }
 
-// A pen after the parameters of a whole sequence.
-fn inked_by(pen: Pen, parameters: &str) -> Pen {
+// Whether terminals take a parameter alike.
+fn is_known(awaits: Awaits, number: u16) -> bool {
+    match awaits {
+        Awaits::Nothing => {
+            matches!(number, 0..=9 | 30..=38 | 40..=48 | 58 | 90..=97 | 100..=107)
+        }
+        Awaits::Kind(_) => number == 5 || number == 2,
+        _ => number < 256,
+    }
+}
+
+// A pen after the parameters of a whole sequence, and whether terminals take these alike.
+fn inked_by(pen: Pen, parameters: &str) -> (Pen, bool) {
     let mut pen = pen;
     let mut awaits = Awaits::Nothing;
+    let mut are_known = true;
     for parameter in parameters.split(';') {
         let number: u16 = parameter.parse().unwrap_or(0);
+        are_known = are_known && is_known(awaits, number);
         awaits = match awaits {
             Awaits::Nothing if number == 38 || number == 48 || number == 58 => Awaits::Kind(number),
             Awaits::Nothing => {
@@ -152,7 +165,7 @@ fn inked_by(pen: Pen, parameters: &str) -> Pen {
             }
         };
     }
-    pen
+    (pen, are_known && matches!(awaits, Awaits::Nothing))
 }
 
 // A terminal that was blank; `sure` until real terminals would differ.
@@ -167,18 +180,21 @@ pub struct Reader<'a> {
     bottom: u16,
     columns: Vec<Option<Column<'a>>>,
     history: Vec<Vec<Option<Column<'a>>>>,
+    // How many of its rows were left there.
+    rows_left: usize,
     visible: bool,
     sure: bool,
     alloc: Global,
 }
 
 impl<'a> Reader<'a> {
-    // A terminal of this size after it has read a text.
+    // A terminal of this size after it has read a text; before, another program left it as this other text does.
     pub fn of(
         alloc: Global,
         width: u16,
         height: u16,
-        told: &'a str,
+        left: &'a str,
+        sent: &'a str,
     ) -> Result<Reader<'a>, AllocError> {
         let count = usize::from(width) * usize::from(height);
         let mut reader = Reader {
@@ -191,16 +207,20 @@ impl<'a> Reader<'a> {
             bottom: height,
             columns: Vec::from_elem(alloc, Some(BLANK), count)?,
             history: Vec::new(alloc),
+            rows_left: 0,
             visible: true,
             sure: true,
             alloc,
         };
-        reader.read(told)?;
+        reader.read(left)?;
+        reader.rows_left = reader.history.len();
+        reader.sure = true;
+        reader.read(sent)?;
         Ok(reader)
     }
 
-    fn read(&mut self, told: &'a str) -> Result<(), AllocError> {
-        let mut texts = told.split('\u{1b}');
+    fn read(&mut self, sent: &'a str) -> Result<(), AllocError> {
+        let mut texts = sent.split('\u{1b}');
         if let Some(text) = texts.next() {
             self.read_text(text)?;
         }
@@ -245,7 +265,9 @@ impl<'a> Reader<'a> {
 
     fn perform(&mut self, parameters: &str, last: char) {
         if last == 'm' {
-            self.pen = inked_by(self.pen, parameters);
+            let (pen, is_known) = inked_by(self.pen, parameters);
+            self.pen = pen;
+            self.sure = self.sure && is_known;
             return;
         }
         if parameters == "?25" {
@@ -287,9 +309,10 @@ impl<'a> Reader<'a> {
                 self.sure = self.sure && self.has_own_pen() && is_row && self.x == 0 && 0 < n;
                 self.raise(self.y, self.bottom, n);
             }
-            ('T', _) => {
-                self.sure = self.sure && self.has_own_pen() && 0 < n;
-                self.lower(self.top, self.bottom, n);
+            ('L', _) => {
+                let is_row = self.top <= self.y && self.y < self.bottom;
+                self.sure = self.sure && self.has_own_pen() && is_row && self.x == 0 && 0 < n;
+                self.lower(self.y, self.bottom, n);
             }
             _ => self.sure = false,
         }
@@ -440,7 +463,7 @@ impl<'a> Reader<'a> {
         }
     }
 
-    /// Whether it is sure of what it shows, with its cursor in this place, and shows what a screen in memory does.
+    /// Whether it is sure of what it shows, with its cursor in this place, and shows what a screen in memory does, below the rows that were left in its history.
     pub fn shows(&self, cursor: Position, screen: &TestBackend) -> bool {
         let x = self.x.min(self.width.saturating_sub(1));
         let is_calm = self.sure
@@ -455,10 +478,11 @@ impl<'a> Reader<'a> {
             return false;
         }
         are_shown(self.columns.as_slice(), screen.buffer().content())
-            && self.history.len() == screen.scrollback().len()
+            && self.history.len() == self.rows_left + screen.scrollback().len()
             && self
                 .history
                 .iter()
+                .skip(self.rows_left)
                 .zip(screen.scrollback().iter())
                 .all(|(row, cells)| are_shown(row.as_slice(), cells.as_slice()))
     }

@@ -1,16 +1,18 @@
 //! Bytes that are sent, beside those of a terminal's manual.
 use bitflags::Flags;
 use ratatui_ansi::{
-    AnsiBackend, AnsiError, Kept, Part, Pen, Printing, append_lines, delete_lines, erase,
-    erase_all, hide_cursor, is_symbol, move_to, printing_of, push_pen, push_plain, reset_region,
-    scroll_down, scroll_region_down, scroll_region_up, set_region, show_cursor,
+    AnsiBackend, AnsiError, Part, Pen, Printing, append_lines, delete_lines, erase, erase_all,
+    hide_cursor, insert_lines, is_symbol, move_to, printing_of, push_pen, push_plain, reset_region,
+    scroll_region_down, scroll_region_up, set_region, show_cursor,
 };
 use rtui_backend::{Backend, ClearType};
 use rtui_cell::Cell;
 use rtui_geometry::{Position, Size};
 use rtui_style::{Color, Modifier};
 use std::alloc::{AllocError, Global};
+use std::io::ErrorKind;
 use std::ops::Range;
+use std::str;
 use std::test::Fail;
 
 #[test]
@@ -35,11 +37,11 @@ fn cursors_and_regions(rt: HostRuntime) -> Result<(), Fail> {
     show_cursor(&mut out)?;
     set_region(&mut out, 1, 9)?;
     delete_lines(&mut out, 3)?;
-    scroll_down(&mut out, 12)?;
+    insert_lines(&mut out, 12)?;
     reset_region(&mut out)?;
     append_lines(&mut out, 2)?;
     assert!(rt;
-        out.as_str() == "\u{1b}[?25l\u{1b}[?25h\u{1b}[2;9r\u{1b}[3M\u{1b}[12T\u{1b}[r\r\n\n"
+        out.as_str() == "\u{1b}[?25l\u{1b}[?25h\u{1b}[2;9r\u{1b}[3M\u{1b}[12L\u{1b}[r\r\n\n"
     );
     Ok(())
 }
@@ -66,7 +68,7 @@ fn regions_that_scroll(rt: HostRuntime) -> Result<(), Fail> {
             true,
             0..1,
             1,
-            "\u{1b}[1;2r\u{1b}[2;1H\n\u{1b}[1T\u{1b}[r"
+            "\u{1b}[1;2r\u{1b}[2;1H\n\u{1b}[1;1H\u{1b}[1L\u{1b}[r"
         )?
     );
     assert!(rt;
@@ -79,7 +81,15 @@ fn regions_that_scroll(rt: HostRuntime) -> Result<(), Fail> {
         )?
     );
     assert!(rt; scrolls(alloc, true, 4..9, 2, "\u{1b}[5;1H\u{1b}[2K")?);
-    assert!(rt; scrolls(alloc, false, 0..3, 7, "\u{1b}[1;3r\u{1b}[7T\u{1b}[r")?);
+    assert!(rt;
+        scrolls(
+            alloc,
+            false,
+            0..3,
+            7,
+            "\u{1b}[1;3r\u{1b}[1;1H\u{1b}[7L\u{1b}[r"
+        )?
+    );
     assert!(rt; scrolls(alloc, false, 2..3, 1, "\u{1b}[3;1H\u{1b}[2K")?);
     assert!(rt; scrolls(alloc, false, 5..9, 1, "")?);
     Ok(())
@@ -101,7 +111,7 @@ fn pen_is(
     cell.modifier = Modifier::from_bits_retain(bits);
     let pen = Pen::of(&cell);
     let mut out = String::new(alloc);
-    if pen.is_told() {
+    if pen.is_sendable() {
         push_pen(&mut out, &pen)?;
     }
     Ok(out.as_str() == sent)
@@ -168,64 +178,99 @@ fn symbols(rt: HostRuntime) -> Result<(), Fail> {
     Ok(())
 }
 
-// A backend of a screen of so many columns and rows, over a link that keeps what it is told.
-pub(crate) fn over_kept(alloc: Global, width: u16, height: u16) -> Result<AnsiBackend<Kept>, Fail> {
+// A backend that writes to memory.
+pub(crate) type Kept = AnsiBackend<Vec<u8>>;
+
+// A backend of a screen of so many columns and rows, over a writer that keeps what it is sent.
+pub(crate) fn over_kept(alloc: Global, width: u16, height: u16) -> Result<Kept, Fail> {
     let size = Size { width, height };
-    match AnsiBackend::new(alloc, Kept::new(alloc), size) {
+    match AnsiBackend::new(alloc, Vec::new(alloc), size) {
         Ok(backend) => Ok(backend),
         Err(_) => Err(Fail::from(AllocError)),
     }
 }
 
-// Whether the answer of a call is this, and what was told until then ends so.
-fn tells(
-    backend: &AnsiBackend<Kept>,
-    answer: Result<(), AnsiError<AllocError>>,
-    wanted: Result<(), AnsiError<AllocError>>,
+// What a backend was sent.
+pub(crate) fn sent(backend: &Kept) -> &str {
+    str::from_utf8(backend.writer().as_slice()).unwrap_or("not UTF-8")
+}
+
+// An error that can be compared: of a writer's error the kind alone.
+#[derive(Debug, Clone, Copy, PartialEq, Eq)]
+pub(crate) enum Why {
+    Memory,
+    Symbol(Position),
+    Pen(Position),
+    Cut(Position),
+    Size,
+    Broken,
+    Write(ErrorKind),
+}
+
+// An answer, with an error that can be compared.
+pub(crate) fn by_kind<T>(answer: Result<T, AnsiError>) -> Result<T, Why> {
+    answer.map_err(|error| match error {
+        AnsiError::Memory => Why::Memory,
+        AnsiError::Symbol(place) => Why::Symbol(place),
+        AnsiError::Pen(place) => Why::Pen(place),
+        AnsiError::Cut(place) => Why::Cut(place),
+        AnsiError::Size => Why::Size,
+        AnsiError::Broken => Why::Broken,
+        AnsiError::Write(error) => Why::Write(error.kind()),
+    })
+}
+
+// Whether the answer of a call is this, and what was sent until then ends so.
+fn sends(
+    backend: &Kept,
+    answer: Result<(), AnsiError>,
+    wanted: Result<(), Why>,
     end: &str,
 ) -> bool {
-    answer == wanted && backend.link().unsent().ends_with(end)
+    by_kind(answer) == wanted && sent(backend).ends_with(end)
 }
+
+// What makes a terminal of four columns and three rows blank.
+const BLANK_4_3: &str = "\u{1b}[0m\u{1b}[r\u{1b}[3;4H\u{1b}[1J\u{1b}[1;1H\u{1b}[?25h";
 
 #[test]
 fn calls_of_the_backend(rt: HostRuntime) -> Result<(), Fail> {
     let mut backend = over_kept(rt.alloc(), 4, 3)?;
-    assert!(rt; backend.link().unsent() == "");
+    assert!(rt; sent(&backend) == BLANK_4_3);
     let answer = backend.hide_cursor();
-    assert!(rt; tells(&backend, answer, Ok(()), "\u{1b}[?25l"));
+    assert!(rt; sends(&backend, answer, Ok(()), "\u{1b}[?25l"));
     let answer = backend.set_cursor_position(Position { x: 9, y: 1 });
-    assert!(rt; tells(&backend, answer, Ok(()), "\u{1b}[?25l\u{1b}[2;10H"));
-    assert!(rt; backend.get_cursor_position() == Ok(Position { x: 3, y: 1 }));
+    assert!(rt; sends(&backend, answer, Ok(()), "\u{1b}[?25l\u{1b}[2;10H"));
+    assert!(rt; by_kind(backend.get_cursor_position()) == Ok(Position { x: 3, y: 1 }));
     let answer = backend.append_lines(2);
-    assert!(rt; tells(&backend, answer, Ok(()), "\r\n\n"));
-    assert!(rt; backend.get_cursor() == Ok((0, 2)));
+    assert!(rt; sends(&backend, answer, Ok(()), "\r\n\n"));
+    assert!(rt; by_kind(backend.get_cursor()) == Ok((0, 2)));
     let answer = backend.scroll_region_up(0..3, 1);
-    assert!(rt; tells(&backend, answer, Ok(()), "\u{1b}[3;1H\r\n\u{1b}[3;1H"));
+    assert!(rt; sends(&backend, answer, Ok(()), "\u{1b}[3;1H\r\n\u{1b}[3;1H"));
     let answer = backend.clear();
-    assert!(rt; tells(&backend, answer, Ok(()), "\u{1b}[3;4H\u{1b}[1J\u{1b}[3;1H"));
+    assert!(rt; sends(&backend, answer, Ok(()), "\u{1b}[3;4H\u{1b}[1J\u{1b}[3;1H"));
     let answer = backend.clear_region(ClearType::UntilNewLine);
-    assert!(rt; tells(&backend, answer, Ok(()), "\u{1b}[3;1H\u{1b}[K\u{1b}[3;1H"));
+    assert!(rt; sends(&backend, answer, Ok(()), "\u{1b}[3;1H\u{1b}[K\u{1b}[3;1H"));
     let size = Size {
         width: 4,
         height: 3,
     };
-    assert!(rt; backend.size() == Ok(size) && backend.flush() == Ok(()));
-    assert!(rt; backend.restart().is_ok() && backend.link().unsent() == "");
-    assert!(rt; backend.get_cursor() == Ok((0, 0)));
+    assert!(rt; by_kind(backend.size()) == Ok(size) && backend.flush().is_ok());
+    assert!(rt; backend.restart().is_ok() && sent(&backend).ends_with(BLANK_4_3));
+    assert!(rt; by_kind(backend.get_cursor()) == Ok((0, 0)));
     Ok(())
 }
 
-// Whether drawing these cells of one row, on what was drawn before, answers so and is told so.
+// Whether drawing these cells of one row, on what was drawn before, answers so and is sent so.
 fn draws(
-    backend: &mut AnsiBackend<Kept>,
+    backend: &mut Kept,
     cells: &[(u16, u16, &Cell)],
-    wanted: Result<(), AnsiError<AllocError>>,
-    told: &str,
+    wanted: Result<(), Why>,
+    end: &str,
 ) -> bool {
-    let before = backend.link().unsent().len();
+    let before = sent(backend).len();
     let answer = backend.draw(cells.iter().copied());
-    let unsent = backend.link().unsent();
-    answer == wanted && unsent.get(before..) == Some(told)
+    by_kind(answer) == wanted && sent(backend).get(before..) == Some(end)
 }
 
 #[test]
@@ -280,8 +325,8 @@ fn cells_in_their_places(rt: HostRuntime) -> Result<(), Fail> {
             "\u{1b}[1;3Hコ"
         )
     );
-    assert!(rt; backend.get_cursor() == Ok((4, 0)));
-    let cut = Err(AnsiError::Cut(Position { x: 3, y: 0 }));
+    assert!(rt; by_kind(backend.get_cursor()) == Ok((4, 0)));
+    let cut = Err(Why::Cut(Position { x: 3, y: 0 }));
     assert!(rt; draws(&mut backend, &[(3, 0, &a)], cut, ""));
     assert!(rt; draws(&mut backend, &[(2, 0, &a)], Ok(()), "\u{1b}[1;3Ha "));
     assert!(rt; draws(&mut backend, &[(3, 0, &a)], Ok(()), "\u{1b}[1;4Ha"));
@@ -303,7 +348,7 @@ fn cells_that_are_refused(rt: HostRuntime) -> Result<(), Fail> {
     let alloc = rt.alloc();
     let mut backend = over_kept(alloc, 3, 1)?;
     let place = Position { x: 1, y: 0 };
-    let symbol = Err(AnsiError::Symbol(place));
+    let symbol = Err(Why::Symbol(place));
     let mut cell = Cell::new(alloc, "a\u{1b}[2J")?;
     assert!(rt; draws(&mut backend, &[(1, 0, &cell)], symbol, ""));
     cell.set_symbol(alloc, "")?;
@@ -314,32 +359,18 @@ fn cells_that_are_refused(rt: HostRuntime) -> Result<(), Fail> {
     assert!(rt; draws(&mut backend, &[(1, 0, &cell)], symbol, ""));
     cell.set_symbol(alloc, "a")?;
     cell.underline_color = Color::Red;
-    assert!(rt;
-        draws(
-            &mut backend,
-            &[(1, 0, &cell)],
-            Err(AnsiError::Pen(place)),
-            ""
-        )
-    );
+    assert!(rt; draws(&mut backend, &[(1, 0, &cell)], Err(Why::Pen(place)), ""));
     cell.underline_color = Color::Indexed(3);
-    assert!(rt;
-        draws(
-            &mut backend,
-            &[(1, 0, &cell)],
-            Err(AnsiError::Pen(place)),
-            ""
-        )
-    );
+    assert!(rt; draws(&mut backend, &[(1, 0, &cell)], Err(Why::Pen(place)), ""));
     backend.set_underline_colors(true);
-    let told = "\u{1b}[0;58;5;3m\u{1b}[1;2Ha\u{1b}[0m";
-    assert!(rt; draws(&mut backend, &[(1, 0, &cell)], Ok(()), told));
+    let wanted = "\u{1b}[0;58;5;3m\u{1b}[1;2Ha\u{1b}[0m";
+    assert!(rt; draws(&mut backend, &[(1, 0, &cell)], Ok(()), wanted));
     cell.underline_color = Color::Reset;
     assert!(rt; draws(&mut backend, &[(1, 0, &cell)], Ok(()), "\u{1b}[1;2Ha"));
     let none = Size {
         width: 0,
         height: 1,
     };
-    assert!(rt; AnsiBackend::new(alloc, Kept::new(alloc), none).is_err());
+    assert!(rt; AnsiBackend::new(alloc, Vec::<u8>::new(alloc), none).is_err());
     Ok(())
 }

@@ -1,7 +1,7 @@
 use Rattle.std.proofs.Common.{map, rules, refl}
 use Rattle.std.proofs.lemmas.List.{map-append}
 use Rattle.ratatui_core.specs.Buffer.{update_by}
-use Rattle.ratatui_ansi.proofs.FrameLemmas.{sends-none, sends-push, told-push}
+use Rattle.ratatui_ansi.proofs.FrameLemmas.{sends-none, sends-push, sendable-push}
 use Rattle.ratatui_ansi.proofs.RefusalLemmas.{if-error}
 use Rattle.ratatui_ansi.proofs.frame.draw_all.Goals as goal
 
@@ -10,7 +10,7 @@ loop-x-init g c = record {
   can_next = search rules;
   is_finite = search rules;
   sends = sends-none _ _ _ _ _;
-  told = refl;
+  sent = refl;
   pen = c.requires.pen;
 }
 
@@ -19,8 +19,8 @@ loop-x-preserved g c = record {
   can_next = search rules;
   is_finite = search rules;
   sends = rw map-append (sends-push _ _ _ _ _ _ _ _ _ _ _ _ _ c.loop-x.invariant.sends (rw c.as_cell.ensures at c.in_ok-draw_cell.ensures.drawn));
-  told = rw map-append (told-push c.args.width c.args.height c.args.has_underline_colors (map (update_by g.C.AsCell.cell) c.loop-x.yielded)
-      (update_by g.C.AsCell.cell (c.in-Some.x, c.in-Some.y, c.in-Some.cell)) c.loop-x.invariant.told (rw c.as_cell.ensures at c.in_ok-draw_cell.ensures.told));
+  sent = rw map-append (sendable-push c.args.width c.args.height c.args.has_underline_colors (map (update_by g.C.AsCell.cell) c.loop-x.yielded)
+      (update_by g.C.AsCell.cell (c.in-Some.x, c.in-Some.y, c.in-Some.cell)) c.loop-x.invariant.sent (rw c.as_cell.ensures at c.in_ok-draw_cell.ensures.sent));
   pen = c.in_ok-draw_cell.ensures.pen;
 }
 

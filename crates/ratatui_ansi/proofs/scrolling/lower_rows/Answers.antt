@@ -1,6 +1,6 @@
 use Rattle.std.proofs.Common.{refl}
 use Rattle.std.proofs.lemmas.Result.{on_ok_weaker}
-use Rattle.ratatui_ansi.specs.Emulator.{with_region, without_region, scrolled_down}
+use Rattle.ratatui_ansi.specs.Emulator.{moved, with_region, without_region, lines_inserted}
 use Rattle.ratatui_ansi.proofs.RegionLemmas.{Does-then}
 use Rattle.ratatui_ansi.proofs.scrolling.lower_rows.Goals as goal
 
@@ -8,6 +8,8 @@ pub returns : goal.returns
 returns c =
     let region = with_region c.args.top c.args.end in
     on_ok_weaker c.reset_region.result (λ does.
-    Does-then _ _ _ (λ t. scrolled_down c.args.n (region t)) without_region
-    (Does-then _ _ _ region (scrolled_down c.args.n) c.in_ok-set_region.ensures c.in_ok-scroll_down.ensures (λ t. refl))
+    Does-then _ _ _ (λ t. lines_inserted c.args.n (moved 0 c.args.top (region t))) without_region
+    (Does-then _ _ _ (λ t. moved 0 c.args.top (region t)) (lines_inserted c.args.n)
+    (Does-then _ _ _ region (moved 0 c.args.top) c.in_ok-set_region.ensures c.in_ok-move_to.ensures (λ t. refl))
+    c.in_ok-insert_lines.ensures (λ t. refl))
     does (λ t. refl)) c.reset_region.ensures

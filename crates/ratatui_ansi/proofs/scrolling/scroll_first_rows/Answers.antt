@@ -1,6 +1,6 @@
 use Rattle.std.proofs.Common.{◌-◌, sym, min, arith}
 use Rattle.std.proofs.lemmas.Result.{on_ok_weaker}
-use Rattle.ratatui_ansi.specs.Emulator.{moved, returned, fed, with_region, without_region, fed_and_lowered}
+use Rattle.ratatui_ansi.specs.Emulator.{moved, returned, fed, with_region, without_region, fed_and_lowered_by}
 use Rattle.ratatui_ansi.proofs.ScrollLemmas.{turns-from}
 use Rattle.ratatui_ansi.proofs.RegionLemmas.{screen-up, one-up, first-up}
 use Rattle.ratatui_ansi.proofs.scrolling.scroll_first_rows.Goals as goal
@@ -13,7 +13,7 @@ returns-then-end-height c =
 pub returns-then-end-eq1 : goal.returns-then-end-eq1
 returns-then-end-eq1 c =
     on_ok_weaker c.feed_first_row.result (λ does w b some e.
-    turns-from w c.args.height _ _ (λ t. without_region (fed_and_lowered c.args.n (moved 0 1 (with_region 0 2 t)))) _ does (one-up w c.args.height b c.args.n some (omega arith) (omega arith))) c.feed_first_row.ensures
+    turns-from w c.args.height _ _ (λ t. without_region (fed_and_lowered_by c.args.n (with_region 0 2 t))) _ does (one-up w c.args.height b c.args.n some (omega arith) (omega arith))) c.feed_first_row.ensures
 
 pub returns-else-end-eq1 : goal.returns-else-end-eq1
 returns-else-end-eq1 c =

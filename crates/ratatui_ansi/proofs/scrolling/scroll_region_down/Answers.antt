@@ -1,6 +1,6 @@
 use Rattle.std.proofs.Common.{inl, inr, ◌≤◌, min, arith, ◌<◌, ◌≡◌}
 use Rattle.std.proofs.lemmas.Result.{on_ok_weaker}
-use Rattle.ratatui_ansi.specs.Emulator.{moved, erased, with_region, without_region, scrolled_down}
+use Rattle.ratatui_ansi.specs.Emulator.{moved, erased, with_region, without_region, lines_inserted}
 use Rattle.ratatui_ansi.specs.declared.part.Part.TheVariants.{Line}
 use Rattle.ratatui_ansi.proofs.ScrollLemmas.{turns-from}
 use Rattle.ratatui_ansi.proofs.RegionLemmas.{Turns-none, still-down, row-down, rows-down}
@@ -31,4 +31,4 @@ returns c =
     let h = c.args.height in
     let e : c.min-end.result ≡ min b h = c.min-end.ensures in
     on_ok_weaker c.lower_rows.result (λ does w some.
-    turns-from w h _ _ (λ t. without_region (scrolled_down c.args.n (with_region a (min b h) t))) _ (rw e at does) (rows-down w h a b c.args.n (omega arith))) c.lower_rows.ensures
+    turns-from w h _ _ (λ t. without_region (lines_inserted c.args.n (moved 0 a (with_region a (min b h) t)))) _ (rw e at does) (rows-down w h a b c.args.n some (omega arith))) c.lower_rows.ensures

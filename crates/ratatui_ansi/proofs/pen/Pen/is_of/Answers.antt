@@ -8,8 +8,8 @@ use Rattle.ratatui_ansi.proofs.pen.Pen.is_of.Goals as goal
 holds : (b : Bool) → IsTrue b → b ≡ true
 holds b is = grind (arith, nat_tests)
 
-told : (b : Bool) → b ≡ true → IsTrue b
-told b is = grind (arith, nat_tests)
+sent : (b : Bool) → b ≡ true → IsTrue b
+sent b is = grind (arith, nat_tests)
 
 pub returns-then-eq-3 : goal.returns-then-eq-3
 returns-then-eq-3 c =
@@ -22,7 +22,7 @@ returns-then-eq-3 c =
             let bg = same_color pen.bg cell.bg (sym w.eq-then-eq.ensures ∙ sym w.value-is ∙ v.if-eq-2.true) in
             let underline = same_color pen.underline_color cell.underline_color (sym v.eq-then-eq-2.ensures ∙ sym v.value-is ∙ c.if-eq-3.true) in (
               λ is. pen-of-cell pen cell fg bg underline (same_modifier pen.modifier cell.modifier (sym c.eq-then-eq-3.ensures ∙ holds c.eq-then-eq-3.result is)),
-              λ e. told c.eq-then-eq-3.result (c.eq-then-eq-3.ensures ∙ same-bits pen cell e),
+              λ e. sent c.eq-then-eq-3.result (c.eq-then-eq-3.ensures ∙ same-bits pen cell e),
             )
         | else-eq w ↦ let not = w.value-is in let was = v.if-eq-2.true in let h : ⊥ = cc in absurd h
       ]

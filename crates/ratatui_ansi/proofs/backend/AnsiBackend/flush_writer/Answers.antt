@@ -1,0 +1,15 @@
+use Rattle.std.proofs.Common.{ap}
+use Rattle.ratatui_ansi.specs.Backend.{reader}
+use Rattle.ratatui_ansi.specs.Screens.{screen_shown}
+use Rattle.ratatui_ansi.specs.Emulator.{rested}
+use Rattle.ratatui_ansi.proofs.BackendLemmas.{in-order-still}
+use Rattle.ratatui_ansi.proofs.backend.AnsiBackend.flush_writer.Goals as goal
+
+pub invariant_of-self-2 : goal.invariant_of-self-2
+invariant_of-self-2 g c =
+    (in-order-still c.self.invariant.0 c.if-self.false (ap (λ t. t.bytes) c.flush.ensures.sent), λ _. c.flush.ensures.tied (c.self.invariant.1 c.if-self.false))
+
+pub returns-clause-ok : goal.returns-clause-ok
+returns-clause-ok g c =
+    let b = c.self.inside in
+    rw (← c.self.view_is) (ap (λ sent. screen_shown b.written (rested (reader b.size sent.bytes))) c.flush.ensures.sent)

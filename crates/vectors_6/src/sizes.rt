@@ -1,0 +1,133 @@
+//! Terminals over a backend whose window takes another size, beside a screen in memory that is blank in that size.
+use crate::plays::LEFT;
+use crate::reader::Reader;
+use crate::sequences::Kept;
+use ratatui_ansi::AnsiBackend;
+use ratatui_core::backend::{Backend, TestBackend};
+use ratatui_core::layout::{Rect, Size};
+use ratatui_core::terminal::{Terminal, TerminalOptions, Viewport};
+use std::alloc::{AllocError, Global};
+use std::str;
+use std::test::Fail;
+
+// Draws a text over the whole viewport; whether that was done.
+fn draws<B: Backend>(terminal: &mut Terminal<B>, text: &str) -> bool {
+    let answer = terminal.draw(|frame| {
+        let area = frame.area();
+        frame.render_widget(text, area)
+    });
+    answer.is_ok()
+}
+
+// A terminal over a viewport of such a kind, of a screen of six columns and three rows.
+fn over_kept(alloc: Global, viewport: Viewport) -> Result<Terminal<Kept>, Fail> {
+    let size = Size {
+        width: 6,
+        height: 3,
+    };
+    let Ok(backend) = AnsiBackend::new(alloc, Vec::new(alloc), size) else {
+        return Err(Fail::from(AllocError));
+    };
+    match Terminal::with_options(alloc, backend, TerminalOptions { viewport }) {
+        Ok(terminal) => Ok(terminal),
+        Err(_) => Err(Fail::from(AllocError)),
+    }
+}
+
+// The same over a screen in memory.
+fn over_memory(alloc: Global, viewport: Viewport) -> Result<Terminal<TestBackend>, Fail> {
+    let backend = TestBackend::new(alloc, 6, 3)?;
+    match Terminal::with_options(alloc, backend, TerminalOptions { viewport }) {
+        Ok(terminal) => Ok(terminal),
+        Err(_) => Err(Fail::from(AllocError)),
+    }
+}
+
+// Whether a frame, drawn after the window took this size, is shown to a terminal that was left by another program.
+fn is_drawn_anew(alloc: Global, viewport: Viewport, size: Size) -> Result<bool, Fail> {
+    let mut terminal = over_kept(alloc, viewport)?;
+    let mut memory = over_memory(alloc, viewport)?;
+    if !draws(&mut terminal, "abコ") || !draws(&mut memory, "abコ") {
+        return Ok(false);
+    }
+    let before = terminal.backend().writer().len();
+    *memory.backend_mut() = TestBackend::new(alloc, size.width, size.height)?;
+    if terminal.backend_mut().resize(size).is_err()
+        || !draws(&mut terminal, "cdeコ")
+        || !draws(&mut memory, "cdeコ")
+    {
+        return Ok(false);
+    }
+    let Ok(cursor) = terminal.backend_mut().get_cursor_position() else {
+        return Ok(false);
+    };
+    let sent = terminal.backend().writer().as_slice();
+    let Some(Ok(since)) = sent.get(before..).map(str::from_utf8) else {
+        return Ok(false);
+    };
+    let reader = Reader::of(alloc, size.width, size.height, LEFT, since)?;
+    Ok(reader.shows(cursor, memory.backend()))
+}
+
+const SIZES: [(u16, u16); 5] = [(9, 5), (4, 2), (6, 2), (3, 7), (1, 1)];
+
+// Whether that is so in each size.
+fn are_drawn_anew(alloc: Global, viewport: Viewport) -> Result<bool, Fail> {
+    for (width, height) in SIZES {
+        if !is_drawn_anew(alloc, viewport, Size { width, height })? {
+            return Ok(false);
+        }
+    }
+    Ok(true)
+}
+
+#[test]
+fn windows_that_take_another_size(rt: HostRuntime) -> Result<(), Fail> {
+    let alloc = rt.alloc();
+    assert!(rt; are_drawn_anew(alloc, Viewport::Fullscreen)?);
+    assert!(rt; are_drawn_anew(alloc, Viewport::Inline(1))?);
+    assert!(rt; are_drawn_anew(alloc, Viewport::Inline(2))?);
+    Ok(())
+}
+
+// A fixed viewport takes no other size, and stands where the new screen has it.
+#[test]
+fn a_fixed_viewport_in_a_wider_window(rt: HostRuntime) -> Result<(), Fail> {
+    let area = Rect {
+        x: 1,
+        y: 1,
+        width: 4,
+        height: 1,
+    };
+    let mut terminal = over_kept(rt.alloc(), Viewport::Fixed(area))?;
+    let size = Size {
+        width: 8,
+        height: 4,
+    };
+    assert!(rt; terminal.backend_mut().resize(size).is_ok());
+    assert!(rt; draws(&mut terminal, "abcd"));
+    assert!(rt;
+        terminal
+            .backend()
+            .writer()
+            .as_slice()
+            .ends_with(b"\x1b[2;2Habcd\x1b[?25l")
+    );
+    Ok(())
+}
+
+#[test]
+fn no_window_without_columns_or_rows(rt: HostRuntime) -> Result<(), Fail> {
+    let mut terminal = over_kept(rt.alloc(), Viewport::Fullscreen)?;
+    let before = terminal.backend().writer().len();
+    for (width, height) in [(0, 3), (3, 0)] {
+        assert!(rt;
+            terminal
+                .backend_mut()
+                .resize(Size { width, height })
+                .is_err()
+        );
+    }
+    assert!(rt; terminal.backend().writer().len() == before && draws(&mut terminal, "a"));
+    Ok(())
+}
