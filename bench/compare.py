@@ -11,14 +11,13 @@ import argparse
 import resource
 import subprocess
 
-# All workloads that README.md names. The frames as escape sequences (the last three lines) are the port's alone.
+# All workloads that README.md names. The frames as escape sequences (the last two lines) are the port's alone.
 WORKLOADS = (
     "draw_all draw_dots draw_none draw_wide inline_all inline_few insert_kept insert_1 insert_10 insert_1000 "
     "text_ascii text_wide line_ascii text_widget text_raw line_center line_right line_cut span_marks spans_2000 "
     "widths_letters widths_wide boxes_exact boxes_fuzzy diff_letters diff_empty diff_wide style reset sets fill_reset "
     "merge_same merge_half empty filled clone resize term_resize "
     "ansi_text ansi_boxes ansi_colors ansi_wide ansi_few "
-    "crossterm_text crossterm_boxes crossterm_colors crossterm_wide crossterm_few "
     "walk_text walk_boxes walk_colors walk_wide walk_few"
 ).split()
 SECONDS = 0.25

@@ -1,10 +1,9 @@
-//! Frames as escape sequences, by `AnsiBackend` and by the rules of ratatui's backend over crossterm.
+//! Frames as escape sequences, by `AnsiBackend`, and the walk over their updates alone.
 use crate::painting::texts;
 use crate::sheets::{sum, updates, wide};
-use bitflags::Flags;
 use ratatui_ansi::AnsiBackend;
 use ratatui_core::backend::Backend;
-use ratatui_core::buffer::{Buffer, Cell};
+use ratatui_core::buffer::Buffer;
 use ratatui_core::layout::{Position, Rect};
 use ratatui_core::style::{Color, Modifier, Style};
 use std::alloc::{AllocError, Global};
@@ -154,92 +153,6 @@ fn ansi(alloc: Global, older: &Buffer, newer: &Buffer, count: u64) -> Done {
     Ok((bytes, sum(newer)))
 }
 
-// A colour's parameters, of the text from the base 30, behind it from 40.
-fn push_color(out: &mut String, base: u8, color: Color) -> Result<(), AllocError> {
-    let (own, other) = if base == 30 { (39u8, 38u8) } else { (49, 48) };
-    match color {
-        Color::Red => write!(out, "{};5;1", other),
-        Color::Blue => write!(out, "{};5;4", other),
-        Color::LightGreen => write!(out, "{};5;10", other),
-        Color::Indexed(n) => write!(out, "{};5;{}", other, n),
-        Color::Rgb(r, g, b) => write!(out, "{};2;{};{};{}", other, r, g, b),
-        _ => write!(out, "{}", own),
-    }
-}
-
-// What was told of the text last.
-#[derive(Clone, Copy)]
-struct Told {
-    place: Option<(u16, u16)>,
-    fg: Color,
-    bg: Color,
-    modifier: Modifier,
-}
-
-// A cell, by crossterm's rules: a move only where it isn't behind the last one, and only what changes of a style.
-fn push_cell(
-    out: &mut String,
-    told: Told,
-    x: u16,
-    y: u16,
-    cell: &Cell,
-) -> Result<Told, AllocError> {
-    if x == 0 || told.place != Some((x.saturating_sub(1), y)) {
-        write!(
-            out,
-            "\u{1b}[{};{}H",
-            y.saturating_add(1),
-            x.saturating_add(1)
-        )?;
-    }
-    if cell.modifier != told.modifier {
-        let is_bold = cell.modifier.contains(Modifier::BOLD);
-        out.push_str(if is_bold { "\u{1b}[1m" } else { "\u{1b}[22m" })?;
-    }
-    if cell.fg != told.fg || cell.bg != told.bg {
-        out.push_str("\u{1b}[")?;
-        push_color(out, 30, cell.fg)?;
-        out.push_str(";")?;
-        push_color(out, 40, cell.bg)?;
-        out.push_str("m")?;
-    }
-    out.push_str(cell.symbol())?;
-    Ok(Told {
-        place: Some((x, y)),
-        fg: cell.fg,
-        bg: cell.bg,
-        modifier: cell.modifier,
-    })
-}
-
-// A frame, by crossterm's rules.
-fn push_frame(out: &mut String, older: &Buffer, newer: &Buffer) -> Result<(), AllocError> {
-    if older.area() != newer.area() {
-        return Err(AllocError);
-    }
-    let mut told = Told {
-        place: None,
-        fg: Color::Reset,
-        bg: Color::Reset,
-        modifier: Modifier::NONE,
-    };
-    for (x, y, cell) in older.diff_iter(newer) {
-        told = push_cell(out, told, x, y, cell)?;
-    }
-    out.push_str("\u{1b}[39m\u{1b}[49m\u{1b}[59m\u{1b}[0m")
-}
-
-fn crossterm(alloc: Global, older: &Buffer, newer: &Buffer, count: u64) -> Done {
-    let mut out = String::new(alloc);
-    let mut bytes: u64 = 0;
-    for _round in 0..count {
-        out.clear();
-        push_frame(&mut out, older, newer)?;
-        bytes = bytes.wrapping_add(out.len() as u64);
-    }
-    Ok((bytes, sum(newer)))
-}
-
 // The updates of a frame, and nothing made of them.
 fn walk(older: &Buffer, newer: &Buffer, count: u64) -> (u64, u64) {
     let mut cells: u64 = 0;
@@ -265,7 +178,6 @@ pub fn run(
     };
     let done = match way {
         "ansi" => ansi(alloc, &older, &newer, count)?,
-        "crossterm" => crossterm(alloc, &older, &newer, count)?,
         "walk" => walk(&older, &newer, count),
         _ => return Ok(None),
     };
