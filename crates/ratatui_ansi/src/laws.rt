@@ -22,7 +22,7 @@ use std::io::Write;
 /// The headline, of the bytes: from in step, after any list of calls of a terminal that answered Ok, each painted and inserted
 /// buffer settled, and unless a write failed since the backend began or began anew, each terminal of its size that reads what was
 /// sent since shows the buffer that the last call left, however it was left before: its whole screen is the backend's, with the rows
-/// above, what lies outside a fixed viewport, the cursor and whether that is shown. Real terminals don't differ on what it read.
+/// above, what lies outside a fixed viewport, the cursor and whether that is shown. The model is sure of all that it read.
 pub fn bytes_show_the_last_buffer<W: Write + Drop>(terminal: &Terminal<AnsiBackend<W>>)
     ensures { IsHeadlineOfBytes terminal.now }
 {
