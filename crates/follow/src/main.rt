@@ -76,7 +76,10 @@ fn show_lines<R: BufRead, W: Write + Drop>(
     ensures { OnOk result
         (IfSome (R.remaining reader.old) (λ _. R.remaining reader.new ≡ Some [])) }
 {
-    let backend = AnsiBackend::new(alloc, writer, size).map_err(TerminalError::Backend)?;
+    let backend = match AnsiBackend::new(alloc, writer, size) {
+        Ok(backend) => backend,
+        Err(error) => return Err(Fault::Terminal(TerminalError::Backend(error))),
+    };
     let mut view = LogView::new(alloc, backend)?;
     push_lines(alloc, reader, &mut view)
 }

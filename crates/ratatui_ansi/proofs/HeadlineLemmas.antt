@@ -1,14 +1,14 @@
 -- From the screen that a backend stands for to the terminal that has read its bytes.
-use Rattle.std.proofs.Common.{◌≡◌, ℕ, List, [], ◌∷◌, sym, ap, ◌∙◌, true, subst}
+use Rattle.std.proofs.Common.{◌≡◌, ℕ, List, [], ◌∷◌, inl, refl, sym, ap, ◌∙◌, true, false, subst}
 use Rattle.ratatui_core.specs.Layout.{Size}
 use Rattle.ratatui_core.specs.Backend.{Screen}
-use Rattle.ratatui_core.specs.Buffer.{ShowsSheet}
-use Rattle.ratatui_core.specs.Terminal.{State, IsInStep}
-use Rattle.ratatui_core.specs.Headline.{Event, Along, last_state, IsFaithful}
+use Rattle.ratatui_core.specs.Buffer.{ShowsSheet, IsSettledSheet}
+use Rattle.ratatui_core.specs.Terminal.{State, IsInStep, DrawsFrame}
+use Rattle.ratatui_core.specs.Headline.{Event, Along, last_state, IsFaithful, Draw}
 use Rattle.ratatui_ansi.specs.Backend.{BackendState, reader, shown_by, IsReadAlike}
 use Rattle.ratatui_ansi.specs.Calls.{IsLeft, with_rows_above}
 use Rattle.ratatui_ansi.specs.Emulator.{Emulator, rested}
-use Rattle.ratatui_ansi.specs.Headline.{IsReadBy, IsReadByAll, IsShownToReader}
+use Rattle.ratatui_ansi.specs.Headline.{IsReadBy, IsReadByAll, IsShownToReader, IsShownToAll, IsHeadlineOfBytes}
 use Rattle.ratatui_ansi.specs.Screens.{screen_shown}
 use Rattle.ratatui_ansi.specs.Sequences.{feed}
 use Rattle.ratatui_ansi.proofs.HistoryLemmas.{rested-above}
@@ -31,3 +31,9 @@ shown-to-reader t u step read = record {
   read = read;
   shown = subst (λ (s : Screen). ShowsSheet t.older s.grid) (sym read.screen) step.shown;
 }
+
+-- the headline of the bytes, for a list of one draw
+pub one-draw-shown : {W : Type 0} (s t : State (BackendState W)) → IsHeadlineOfBytes t → IsInStep shown_by s → DrawsFrame shown_by s t → IsSettledSheet t.older → t.backend.is_broken ≡ false
+    → IsShownToAll t.older t.backend
+one-draw-shown s t law step draw settled whole =
+    law s (record { call = Draw t.older; after = t } ∷ []) step ((refl, record { before = s; taken = inl refl; then = draw }), tt) (settled, tt) refl whole

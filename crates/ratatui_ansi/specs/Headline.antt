@@ -31,9 +31,12 @@ module _ {W : Type 0} where
     pub read : IsReadBy b t
     pub shown : ShowsSheet frame (λ x y. look_in ((rested (feed b.sent t)).columns x y))
 
+  -- so it is for each terminal of the backend's size, however it was left
+  abbrev pub IsShownToAll : Sheet → BackendState W → Type 0
+  IsShownToAll frame b = (t : Emulator) → IsLeft b.size.width b.size.height t → IsShownToReader frame b t
+
   -- from in step, behind any list of calls that answered Ok, and unless a write failed since the backend began or began anew, each terminal of
   -- its size that reads what was sent since shows the buffer that the last call left, however it was left before
   abbrev pub IsHeadlineOfBytes : State (BackendState W) → Type 0
   IsHeadlineOfBytes t = (s : State (BackendState W)) (events : List (Event (BackendState W))) → IsInStep shown_by s
-      → Along (Does shown_by) s events → Along (IsFair shown_by) s events → last_state s events ≡ t → t.backend.is_broken ≡ false
-      → (reader : Emulator) → IsLeft t.backend.size.width t.backend.size.height reader → IsShownToReader t.older t.backend reader
+      → Along (Does shown_by) s events → Along (IsFair shown_by) s events → last_state s events ≡ t → t.backend.is_broken ≡ false → IsShownToAll t.older t.backend

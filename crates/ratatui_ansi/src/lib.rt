@@ -10,6 +10,7 @@
 
 mod backend;
 mod calls;
+mod checked;
 mod drawing;
 mod error;
 mod flags;
@@ -26,6 +27,7 @@ mod tracked;
 
 pub use backend::AnsiBackend;
 pub use calls::{clear_screen, make_blank, set_cursor_position, set_visible};
+pub use checked::draw_for_all;
 pub use drawing::{
     Brush, Printing, change_pen, is_printed, printing_of, put_plain, put_symbol, set_pen,
 };
