@@ -1,5 +1,5 @@
 -- Lines that were read, and the view of them.
-use Rattle.std.proofs.Common.{◌≡◌, ℕ, ◌+◌, ◌<◌, Bool, true, false, List, [], ◌∷◌, ◌++◌, map, length, Option, None, Some, IfSome, is_some, unwrap_or, refl, sym, ap, subst, ◌∙◌, append_assoc, append-nil}
+use Rattle.std.proofs.Common.{◌≡◌, ℕ, true, false, List, [], ◌∷◌, ◌++◌, map, Option, None, Some, IfSome, is_some, unwrap_or, refl, sym, ap, subst, ◌∙◌, append_assoc, append-nil}
 use Rattle.std.proofs.lemmas.Bool.{false≢true}
 use Rattle.std.proofs.lemmas.List.{map-append}
 use Rattle.std.specs.Io.BufRead.{take_through, drop_through}
@@ -73,3 +73,9 @@ pub ended : {W E : Type 0} (first left now : Option (List ℕ)) (u v w : LogView
 ended None left now u v w read moves = tt
 ended (Some text) None now u v w read moves = λ size view. absurd (none-some (read size view).rest_is)
 ended (Some text) (Some rest) now u v w read moves = λ size view. has-read-all size text rest now v w (read size view) moves
+
+-- all was read that there was
+pub all-read : {W E : Type 0} (size : Size) (first now : Option (List ℕ)) (v w : LogView (BackendState W) E) → IsViewOf shown_by size [] v
+    → IfSome first (λ text. (size : Size) → IsViewOf shown_by size [] v → (now ≡ Some []) × ShowsText size text w) → IfSome first (λ text. now ≡ Some [])
+all-read size None now v w view reads = tt
+all-read size (Some text) now v w view reads = (reads size view).0

@@ -1,162 +1,116 @@
-//! Lines and lists of spans: the lines of a text, styles, equality and hash, and copies.
-use crate::sheets;
-use crate::sheets::hash_of;
-use rtui_layout::Alignment;
-use rtui_style::{Color, Style};
-use rtui_text::{Line, Span, Spans};
-use std::alloc::{AllocError, Global};
-use std::slice;
-use std::test::Fail;
+//! Calls on lines.
+use crate::answer::Answer;
+use crate::args::Args;
+use crate::fault::Fault;
+use crate::texts::alike;
+use crate::tokens::Token;
+use ratatui_core::layout::HorizontalAlignment;
+use ratatui_core::text::{Line, Spans};
+use std::alloc::Global;
 
-// Whether a span is of this text, without a style.
-fn is_plain_of(span: &Span<'_>, text: &str) -> bool {
-    span.style == Style::new() && span.text() == text
+fn made<'a>(args: &mut Args<'a>) -> Result<Line<'a>, Fault> {
+    let alloc = args.alloc;
+    Ok(match args.word()? {
+        "raw" => Line::raw(alloc, args.text()?)?,
+        "styled" => {
+            let text = args.text()?;
+            Line::styled(alloc, text, args.style())?
+        }
+        "raw_string" => Line::raw_string(alloc, String::from_str(alloc, args.text()?)?)?,
+        "from_span" => Line::from_span(alloc, args.span()?)?,
+        "from_slice" => Line::from_slice(alloc, args.line()?.spans.as_slice())?,
+        "from_spans" => Line::from(Spans::from_slice(alloc, args.line()?.spans.as_slice())?),
+        "from_vec" => Line::from(args.line()?.spans.into_vec()),
+        "try_from_iter" => Line::try_from_iter(alloc, args.line()?)?,
+        "default" => Line::default_in(alloc),
+        "line" => args.line()?,
+        _ => return Err(Fault::Unread),
+    })
 }
 
-// Whether the spans are of these texts, without styles.
-fn are_plain(spans: &[Span<'_>], texts: &[&str]) -> bool {
-    let mut plain = spans.len() == texts.len();
-    for (span, text) in spans.iter().zip(texts) {
-        plain = plain && is_plain_of(span, text);
+fn changed<'a>(line: Line<'a>, word: &str, args: &mut Args<'a>) -> Result<Line<'a>, Fault> {
+    Ok(match word {
+        "spans" => {
+            let spans = args.line()?.spans;
+            line.spans(spans.as_slice())?
+        }
+        "style" => line.style(args.style()),
+        "patch_style" => line.patch_style(args.style()),
+        "reset_style" => line.reset_style(),
+        "alignment" => line.alignment(args.value::<HorizontalAlignment>()?),
+        "left_aligned" => line.left_aligned(),
+        "centered" => line.centered(),
+        "right_aligned" => line.right_aligned(),
+        "try_add" => line.try_add(args.span()?)?,
+        _ => return extended(line, word, args),
+    })
+}
+
+// A line after a call that changes it in place.
+fn extended<'a>(mut line: Line<'a>, word: &str, args: &mut Args<'a>) -> Result<Line<'a>, Fault> {
+    match word {
+        "push_span" => line.push_span(args.span()?)?,
+        "try_extend" => line.try_extend(args.line()?)?,
+        "iter_mut" => {
+            let style = args.style();
+            for span in line.iter_mut() {
+                span.style = span.style.patch(style);
+            }
+        }
+        _ => return Err(Fault::Unread),
     }
-    plain
-}
-
-// Whether a line has no style or alignment of its own, and these plain spans.
-fn is_plain(line: &Line<'_>, texts: &[&str]) -> bool {
-    line.style == Style::new()
-        && line.alignment.is_none()
-        && are_plain(line.spans.as_slice(), texts)
-}
-
-// Whether a text reads as a line of these plain spans and nothing else.
-fn reads_as(alloc: Global, text: &str, texts: &[&str]) -> Result<bool, AllocError> {
-    let line = Line::raw(alloc, text)?;
-    Ok(is_plain(&line, texts))
-}
-
-// Texts and the texts of the spans that they make.
-static READ: [(&str, &[&str]); 4] = [
-    ("", &[]),
-    ("a\nb\r\nc", &["a", "b", "c"]),
-    ("a\n", &["a"]),
-    ("\n\na", &["", "", "a"]),
-];
-
-#[test]
-fn raw_makes_a_span_of_each_line(rt: HostRuntime) -> Result<(), Fail> {
-    for (text, texts) in &READ {
-        assert!(rt; reads_as(rt.alloc(), text, texts)?, "{text}");
-    }
-    assert!(rt; is_plain(&Line::default_in(rt.alloc()), &[]));
-    Ok(())
-}
-
-#[test]
-fn a_style_of_the_line_is_none_of_its_spans(rt: HostRuntime) -> Result<(), Fail> {
-    let red = Style::new().fg(Color::Red);
-    let line = Line::styled(rt.alloc(), "a\nb", red)?;
-    assert!(rt; line.style == red && line.alignment.is_none());
-    assert!(rt; are_plain(line.spans.as_slice(), &["a", "b"]));
-    Ok(())
-}
-
-// Whether two lines are equal, and their hashes, and the hashes of their spans.
-fn are_alike(one: &Line<'_>, other: &Line<'_>) -> bool {
-    sheets::are_alike(one, other) && hash_of(&one.spans) == hash_of(&other.spans)
-}
-
-fn differ(one: &Line<'_>, other: &Line<'_>) -> bool {
-    one != other
-}
-
-// Whether the line of a text is like the line that lists this span.
-fn is_like_listed(alloc: Global, text: &str, span: &Span<'_>) -> Result<bool, AllocError> {
-    let raw = Line::raw(alloc, text)?;
-    let listed = Line::from_slice(alloc, slice::from_ref(span))?;
-    Ok(are_alike(&raw, &listed))
-}
-
-// A line of one span with a style and an alignment of its own.
-fn line_of(
-    alloc: Global,
-    text: &str,
-    style: Style,
-    alignment: Option<Alignment>,
-) -> Result<Line<'_>, AllocError> {
-    let mut line = Line::styled(alloc, text, style)?;
-    line.alignment = alignment;
     Ok(line)
 }
 
-// Whether a line with this style and alignment differs from one without.
-fn differs_from_plain(
+// Asks a line something; whether there is such a question.
+fn asked(
+    line: &Line<'_>,
+    word: &str,
+    args: &mut Args<'_>,
+    answer: &mut Answer,
+) -> Result<bool, Fault> {
+    let alloc = args.alloc;
+    match word {
+        "width" => answer.add(line.width())?,
+        "clone" => answer.add(line.clone(alloc)?)?,
+        "print" => answer.print(alloc, line)?,
+        "equal" => alike(line, &args.line()?, answer)?,
+        "styled_graphemes" => {
+            for grapheme in line.styled_graphemes(args.style()) {
+                answer.add(grapheme)?;
+            }
+        }
+        "iter" => {
+            for span in line.iter() {
+                answer.add(span.text())?;
+            }
+        }
+        "try_add_line" => answer.add(line.clone(alloc)?.try_add_line(args.line()?)?)?,
+        "try_into_string" => answer.add(line.clone(alloc)?.try_into_string()?.as_str())?,
+        _ => return Ok(false),
+    }
+    Ok(true)
+}
+
+/// A line, and calls on it; the line itself if nothing was asked.
+pub fn line<'a>(
     alloc: Global,
-    text: &str,
-    style: Style,
-    alignment: Option<Alignment>,
-) -> Result<bool, AllocError> {
-    let line = line_of(alloc, text, style, alignment)?;
-    Ok(differ(&line, &Line::raw(alloc, text)?))
-}
-
-#[test]
-fn equal_lines_have_equal_hashes(rt: HostRuntime) -> Result<(), Fail> {
-    assert!(rt; is_like_listed(rt.alloc(), "コ", &Span::raw("コ"))?);
-    assert!(rt; differs_from_plain(rt.alloc(), "コ", Style::new(), Some(Alignment::Center))?);
-    assert!(rt; differs_from_plain(rt.alloc(), "コ", Style::new().bg(Color::Blue), None)?);
-    assert!(rt; !differs_from_plain(rt.alloc(), "コ", Style::new(), None)?);
-    Ok(())
-}
-
-// Whether a copy of the line is like it.
-fn copy_is_alike(alloc: Global, line: &Line<'_>) -> Result<bool, AllocError> {
-    let copy = line.clone(alloc)?;
-    Ok(are_alike(&copy, line))
-}
-
-#[test]
-fn copies_are_equal(rt: HostRuntime) -> Result<(), Fail> {
-    let red = Style::new().fg(Color::Red);
-    let line = line_of(rt.alloc(), "ab\nc", red, Some(Alignment::Right))?;
-    assert!(rt; copy_is_alike(rt.alloc(), &line)?);
-    Ok(())
-}
-
-// Two plain spans, of one column and of two.
-fn pushed(alloc: Global) -> Result<Spans<'static>, AllocError> {
-    let mut spans = Spans::new(alloc);
-    spans.push(Span::raw("a"))?;
-    spans.push(Span::raw("コ"))?;
-    Ok(spans)
-}
-
-// Whether the list has so many spans, and a copy equals it.
-fn has_copy(alloc: Global, spans: &Spans<'_>, count: usize) -> Result<bool, AllocError> {
-    let copy = spans.clone(alloc)?;
-    Ok(copy == *spans && copy.len() == count)
-}
-
-#[test]
-fn spans_are_a_list(rt: HostRuntime) -> Result<(), Fail> {
-    let spans = pushed(rt.alloc())?;
-    assert!(rt; !spans.is_empty());
-    assert!(rt; has_copy(rt.alloc(), &spans, 2)?);
-    assert!(rt; are_plain(spans.as_slice(), &["a", "コ"]));
-    assert!(rt; Spans::new(rt.alloc()).is_empty());
-    Ok(())
-}
-
-// Whether the line of these spans takes so many columns, has no style, and equals one that lists them again.
-fn makes_line(alloc: Global, spans: Spans<'_>, columns: usize) -> Result<bool, AllocError> {
-    let line = Line::from(spans.into_vec());
-    let again = Spans::from_slice(alloc, line.spans.as_slice())?;
-    Ok(line.width() == columns && line.style == Style::new() && again == line.spans)
-}
-
-#[test]
-fn a_list_of_spans_makes_a_line(rt: HostRuntime) -> Result<(), Fail> {
-    let spans = pushed(rt.alloc())?;
-    assert!(rt; makes_line(rt.alloc(), spans, 3)?);
-    Ok(())
+    args: &mut Args<'a>,
+    later: &'a [Vec<Token>],
+    answer: &mut Answer,
+) -> Result<(), Fault> {
+    let mut line = made(args)?;
+    for step in later {
+        let mut args = Args::new(alloc, step.as_slice());
+        let word = args.word()?;
+        if !asked(&line, word, &mut args, answer)? {
+            line = changed(line, word, &mut args)?;
+        }
+        args.end()?;
+    }
+    if answer.is_empty() {
+        answer.add(line)
+    } else {
+        Ok(())
+    }
 }

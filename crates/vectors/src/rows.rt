@@ -1,35 +1,114 @@
-//! Buffers made of rows of narrow and wide symbols.
-ghost use Rattle.std.specs.Prelude.{◌≡◌, IfOk, OnOk};
-
-use rtui_buffer::{Buffer, CellWidth};
-use rtui_geometry::{Position, Rect};
+//! Rows: a call, and what it answers.
+use crate::answer::Answer;
+use crate::args::Args;
+use crate::fault::Fault;
+use crate::tokens::{Token, steps_of};
+use crate::{
+    backends, buffers, cells, geometry, layouts, lines, palettes, scripts, spans, styles, stylize,
+    symbols, terminals, whole_texts,
+};
 use std::alloc::{AllocError, Global};
 
-/// Sets symbols from a place on, each behind the columns of the one before.
-pub fn put(
-    alloc: Global,
-    buffer: &mut Buffer,
-    x: u16,
-    y: u16,
-    symbols: &[&str],
-) -> Result<(), AllocError>
-    ensures { OnOk result (buffer.new.area ≡ buffer.old.area) }
-{
-    let mut x = x;
-    for symbol in symbols {
-        if let Some(cell) = buffer.cell_mut(Position { x, y }) {
-            cell.set_symbol(alloc, symbol)?;
-        }
-        x = x.saturating_add(symbol.cell_width());
-    }
-    Ok(())
+/// How many rows of a file hold and don't, and what is told of those that don't.
+#[derive(Drop)]
+pub struct Tally {
+    pub held: usize,
+    pub failed: usize,
+    pub report: String,
 }
 
-/// One row of this width.
-pub fn row(alloc: Global, width: u16, symbols: &[&str]) -> Result<Buffer, AllocError>
-    ensures { IfOk result (λ b. b.area ≡ record { x = 0; y = 0; width = width; height = 1 }) }
-{
-    let mut buffer = Buffer::empty(alloc, Rect::new(0, 0, width, 1))?;
-    put(alloc, &mut buffer, 0, 0, symbols)?;
-    Ok(buffer)
+impl Tally {
+    pub fn new(alloc: Global) -> Tally {
+        Tally {
+            held: 0,
+            failed: 0,
+            report: String::new(alloc),
+        }
+    }
+}
+
+// Makes the call of a row that has but one.
+fn make_call(subject: &str, args: &mut Args<'_>, answer: &mut Answer) -> Result<(), Fault> {
+    match subject {
+        "rect" => geometry::rect(args, answer),
+        "position" => geometry::position(args, answer),
+        "offset" => geometry::offset(args, answer),
+        "size" => geometry::size(args, answer),
+        "margin" => geometry::margin(args, answer),
+        "width" => cells::width(args, answer),
+        "merge" => cells::merge(args, answer),
+        "clear_type" => backends::clear_type(args, answer),
+        "palette" => palettes::palette(args, answer),
+        "symbols" => symbols::symbols(args, answer),
+        "script" => scripts::script(args, answer),
+        "layout_part" => layouts::layout_part(args, answer),
+        "color" => styles::color(args, answer),
+        "modifier" => styles::modifier(args, answer),
+        "stylize" => stylize::stylize(args, answer),
+        "masked" => whole_texts::masked(args, answer),
+        "to_text" => whole_texts::to_text(args, answer),
+        _ => Err(Fault::Unread),
+    }
+}
+
+// Makes the calls of a row, each of which takes all its arguments.
+fn make_calls(
+    alloc: Global,
+    subject: &str,
+    steps: &[Vec<Token>],
+    answer: &mut Answer,
+) -> Result<(), Fault> {
+    let Some((first, later)) = steps.split_first() else {
+        return Err(Fault::Unread);
+    };
+    let mut args = Args::new(alloc, first.as_slice());
+    match subject {
+        "iterators" => geometry::iterators(alloc, &mut args, later, answer)?,
+        "cell" => cells::cell(alloc, &mut args, later, answer)?,
+        "buffer" | "diff" | "render" => buffers::buffer(alloc, &mut args, later, answer)?,
+        "backend" => backends::backend(alloc, &mut args, later, answer)?,
+        "terminal" => terminals::terminal(alloc, &mut args, later, answer)?,
+        "layout" => layouts::layout(alloc, &mut args, later, answer)?,
+        "style" => styles::style(alloc, &mut args, later, answer)?,
+        "span" => spans::span(alloc, &mut args, later, answer)?,
+        "line" => lines::line(alloc, &mut args, later, answer)?,
+        "text" => whole_texts::text(alloc, &mut args, later, answer)?,
+        _ if later.is_empty() => make_call(subject, &mut args, answer)?,
+        _ => return Err(Fault::Unread),
+    }
+    args.end()
+}
+
+// What the calls of a row answer, or the word for why they don't.
+fn answer_of(alloc: Global, subject: &str, call: &str) -> Result<String, AllocError> {
+    let mut answer = Answer::new(alloc);
+    let made = match steps_of(alloc, call) {
+        Ok(steps) => make_calls(alloc, subject, steps.as_slice(), &mut answer),
+        Err(fault) => Err(fault),
+    };
+    match made {
+        Ok(()) => Ok(answer.text),
+        Err(fault) => String::from_str(alloc, fault.word()),
+    }
+}
+
+/// Checks a line of a file: a row, a comment or nothing.
+pub fn check(
+    alloc: Global,
+    subject: &str,
+    line: &str,
+    tally: &mut Tally,
+) -> Result<(), AllocError> {
+    if line.is_empty() || line.starts_with('#') {
+        return Ok(());
+    }
+    let (call, wanted) = line.rsplit_once(" = ").unwrap_or((line, ""));
+    let got = answer_of(alloc, subject, call)?;
+    if got.as_str() == wanted {
+        tally.held = tally.held.saturating_add(1);
+        return Ok(());
+    }
+    tally.failed = tally.failed.saturating_add(1);
+    let given = got.as_str();
+    writeln!(tally.report, "{subject}: {call} = {given}, not {wanted}")
 }

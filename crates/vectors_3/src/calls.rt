@@ -1,6 +1,6 @@
 //! Frames that are offered and completed, and texts that are printed and read.
 use crate::steps::{terminal, write_line};
-use rtui_backend::{ClearType, TestBackend, TestError};
+use rtui_backend::{TestBackend, TestError};
 use rtui_buffer::Buffer;
 use rtui_geometry::Rect;
 use rtui_terminal::{Terminal, TerminalError, TerminalOptions, Viewport};
@@ -108,28 +108,6 @@ fn prints_viewports(rt: HostRuntime) -> Result<(), Fail> {
     for (viewport, text) in &VIEWPORTS {
         assert!(rt; prints_viewport(rt.alloc(), *viewport, text)?, "{text}");
     }
-    Ok(())
-}
-
-// Whether a part that is cleared prints this text, and is read back from it.
-fn prints_and_reads(alloc: Global, part: ClearType, text: &str) -> Result<bool, AllocError> {
-    Ok(part.to_string(alloc)?.as_str() == text && text.parse() == Ok(part))
-}
-
-static PARTS: [(ClearType, &str); 5] = [
-    (ClearType::All, "All"),
-    (ClearType::AfterCursor, "AfterCursor"),
-    (ClearType::BeforeCursor, "BeforeCursor"),
-    (ClearType::CurrentLine, "CurrentLine"),
-    (ClearType::UntilNewLine, "UntilNewLine"),
-];
-
-#[test]
-fn prints_and_reads_what_is_cleared(rt: HostRuntime) -> Result<(), Fail> {
-    for (part, text) in &PARTS {
-        assert!(rt; prints_and_reads(rt.alloc(), *part, text)?, "{text}");
-    }
-    assert!(rt; "".parse::<ClearType>().is_err() && "all".parse::<ClearType>().is_err());
     Ok(())
 }
 

@@ -1,24 +1,22 @@
-//! Tests of terminals and scripts: worked values, printed text, rows inserted above a viewport, viewports that are cleared,
-//! drawn on or given another size, each call that takes memory once, refused memory, and each backend call failing in turn.
+//! Tests that no row of text can say: terminals compared, copied and dropped, frames that lend their buffer, readers and writers that
+//! fail, scripts of thousands of lines, plays of steps, what borrows, lists of spans, what other types print, and all pairs of border symbols.
 #![tactic(auto)]
 
 #[cfg(test)]
-mod appending;
+mod borrows;
 #[cfg(test)]
 mod calls;
 #[cfg(test)]
 mod compared;
 #[cfg(test)]
-mod faults;
-#[cfg(test)]
 mod masked;
 #[cfg(test)]
-mod placed;
+mod merge;
 #[cfg(test)]
 mod playing;
+#[cfg(test)]
+mod printed;
 #[cfg(test)]
 mod script;
 #[cfg(test)]
 mod steps;
-#[cfg(test)]
-mod worked;

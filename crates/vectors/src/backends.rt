@@ -1,0 +1,224 @@
+//! The backend in memory, and calls on it.
+use crate::answer::Answer;
+use crate::args::Args;
+use crate::buffers::put_row;
+use crate::cells::{look_of, put_option};
+use crate::fault::Fault;
+use crate::styles::put_style;
+use crate::tokens::Token;
+use ratatui_core::backend::{Backend, ClearType, TestBackend, TestError};
+use ratatui_core::buffer::{Buffer, Cell, texts_width};
+use ratatui_core::layout::Position;
+use std::alloc::{AllocError, Global};
+
+impl<'a> Args<'a> {
+    // The texts that are left.
+    fn texts(&mut self) -> Result<Vec<&'a str>, Fault> {
+        let mut texts = Vec::new(self.alloc);
+        self.skip_comma();
+        for _ in 0..self.len() {
+            if let Some(text) = self.next_text() {
+                texts.push(text)?;
+            }
+        }
+        Ok(texts)
+    }
+}
+
+// Writes a row that left the screen, and how its cells look where that isn't as usual.
+fn put_row_above(row: &[Cell], out: &mut String) -> Result<(), AllocError> {
+    out.push_str(", above ")?;
+    put_row(row, out)?;
+    for (x, cell) in row.iter().enumerate() {
+        let mut words = String::new(*out.allocator());
+        put_style(look_of(cell), &mut words)?;
+        put_option(cell, &mut words)?;
+        if !words.is_empty() {
+            let words = words.as_str();
+            write!(out, " {x}{words}")?;
+        }
+    }
+    Ok(())
+}
+
+/// What is seen of a backend: its screen, its cursor, and the rows that left the screen at its top, or how many if there are many.
+pub fn put_backend(backend: &TestBackend, answer: &mut Answer) -> Result<(), Fault> {
+    answer.put(backend.buffer())?;
+    let position = backend.cursor_position();
+    let (x, y) = (position.x, position.y);
+    if backend.cursor_visible() {
+        write!(answer.text, ", cursor {x} {y}")?;
+    } else {
+        write!(answer.text, ", hidden cursor {x} {y}")?;
+    }
+    let above = backend.scrollback();
+    if above.len() > 40 {
+        let count = above.len();
+        write!(answer.text, ", above {count} rows")?;
+        return Ok(());
+    }
+    for row in above {
+        put_row_above(row.as_slice(), &mut answer.text)?;
+    }
+    Ok(())
+}
+
+// Adds what a call was refused for, if it was.
+fn told(outcome: Result<(), TestError>, answer: &mut Answer) -> Result<bool, Fault> {
+    if let Err(error) = outcome {
+        answer.refused(&error)?;
+    }
+    Ok(true)
+}
+
+// Draws cells, each after its column and row.
+fn draw(backend: &mut TestBackend, args: &mut Args<'_>) -> Result<Result<(), TestError>, Fault> {
+    let mut cells = Vec::new(args.alloc);
+    let mut places = Vec::new(args.alloc);
+    for _ in 0..args.len() {
+        if !args.is_empty() {
+            places.push(args.position()?)?;
+            cells.push(args.cell()?)?;
+        }
+    }
+    let mut items = Vec::new(args.alloc);
+    for (place, cell) in places.iter().zip(cells.iter()) {
+        items.push((place.x, place.y, cell))?;
+    }
+    Ok(backend.draw(items.into_iter()))
+}
+
+/// A call of a backend that changes its screen or its cursor; whether there is such a call.
+pub fn change(
+    backend: &mut TestBackend,
+    word: &str,
+    args: &mut Args<'_>,
+    answer: &mut Answer,
+) -> Result<bool, Fault> {
+    let outcome = match word {
+        "draw_cells" => draw(backend, args)?,
+        "append_lines" => backend.append_lines(args.u16()?),
+        "scroll_region_up" => backend.scroll_region_up(args.u16()?..args.u16()?, args.u16()?),
+        "scroll_region_down" => backend.scroll_region_down(args.u16()?..args.u16()?, args.u16()?),
+        "clear_screen" => backend.clear(),
+        "clear_region" => backend.clear_region(args.value::<ClearType>()?),
+        "hide" => backend.hide_cursor(),
+        "show" => backend.show_cursor(),
+        "move_cursor" => backend.set_cursor_position(args.position()?),
+        "move_cursor_by_numbers" => backend.set_cursor(args.u16()?, args.u16()?),
+        "flush_screen" => backend.flush(),
+        "fail_after" => {
+            backend.fail_after(args.value::<u64>()?);
+            Ok(())
+        }
+        "size_screen" => {
+            backend.resize(args.u16()?, args.u16()?)?;
+            Ok(())
+        }
+        _ => return Ok(false),
+    };
+    told(outcome, answer)
+}
+
+// Asks a backend something that it can refuse.
+fn ask(
+    backend: &mut TestBackend,
+    word: &str,
+    args: &mut Args<'_>,
+    answer: &mut Answer,
+) -> Result<(), Fault> {
+    match word {
+        "size" => match backend.size() {
+            Ok(size) => answer.add(size),
+            Err(error) => answer.refused(&error),
+        },
+        "window_size" => match backend.window_size() {
+            Ok(size) => {
+                answer.add(size.columns_rows)?;
+                answer.add(size.pixels)
+            }
+            Err(error) => answer.refused(&error),
+        },
+        "get_cursor_position" => match backend.get_cursor_position() {
+            Ok(position) => answer.add(position),
+            Err(error) => answer.refused(&error),
+        },
+        "get_cursor" => match backend.get_cursor() {
+            Ok((x, y)) => answer.add(Position { x, y }),
+            Err(error) => answer.refused(&error),
+        },
+        _ => see(backend, word, args, answer),
+    }
+}
+
+/// Asks what is seen of a backend.
+pub fn see(
+    backend: &TestBackend,
+    word: &str,
+    args: &mut Args<'_>,
+    answer: &mut Answer,
+) -> Result<(), Fault> {
+    match word {
+        "cursor_position" => answer.add(backend.cursor_position()),
+        "cursor_visible" => answer.add(backend.cursor_visible()),
+        "cells_written" => answer.add(backend.cells_written() as usize),
+        "lines_are" => answer.add(backend.lines_are(args.texts()?.as_slice())),
+        "scrollback_is" => answer.add(backend.scrollback_is(args.texts()?.as_slice())),
+        "scrollback" => answer.add(backend.scrollback().len()),
+        "buffer_is" => {
+            let area = args.area()?;
+            let cell = args.cell()?;
+            answer.add(backend.buffer_is(&Buffer::filled(args.alloc, area, cell)?))
+        }
+        "write_to" => {
+            let mut written = Vec::new(args.alloc);
+            if backend.write_to(&mut written).is_err() {
+                return Err(Fault::Memory);
+            }
+            match String::from_utf8(written) {
+                Ok(text) => answer.add(text.as_str()),
+                Err(_) => Err(Fault::Unread),
+            }
+        }
+        _ => Err(Fault::Unread),
+    }
+}
+
+fn made(args: &mut Args<'_>) -> Result<TestBackend, Fault> {
+    match args.word()? {
+        "new" => Ok(TestBackend::new(args.alloc, args.u16()?, args.u16()?)?),
+        "with_lines" => {
+            let texts = args.texts()?;
+            let lines = texts.as_slice();
+            if lines.len() > 65535 || texts_width(lines) > 65535 {
+                return Err(Fault::Requires);
+            }
+            Ok(TestBackend::with_lines(args.alloc, lines)?)
+        }
+        _ => Err(Fault::Unread),
+    }
+}
+
+/// A part of the screen by its name, read and printed.
+pub fn clear_type(args: &mut Args<'_>, answer: &mut Answer) -> Result<(), Fault> {
+    crate::layouts::named::<ClearType>(args, answer)
+}
+
+/// A backend, and calls on it; what is seen of it at the end.
+pub fn backend(
+    alloc: Global,
+    args: &mut Args<'_>,
+    later: &[Vec<Token>],
+    answer: &mut Answer,
+) -> Result<(), Fault> {
+    let mut backend = made(args)?;
+    for step in later {
+        let mut args = Args::new(alloc, step.as_slice());
+        let word = args.word()?;
+        if !change(&mut backend, word, &mut args, answer)? {
+            ask(&mut backend, word, &mut args, answer)?;
+        }
+        args.end()?;
+    }
+    put_backend(&backend, answer)
+}

@@ -1,0 +1,66 @@
+//! The program `vectors`: makes the calls that rows of text name, and compares what they answer with what the rows say.
+//!
+//! `vectors FILE..` reads files of rows. It prints for each file how many rows hold, or each row that doesn't with both answers, and
+//! then ends with status 1. `data/README.md` says what a row is.
+#![tactic(auto)]
+
+mod answer;
+mod args;
+mod backends;
+mod buffers;
+mod cells;
+mod fault;
+mod geometry;
+mod layouts;
+mod lines;
+mod palettes;
+mod rows;
+mod scripts;
+mod spans;
+mod styles;
+mod stylize;
+mod symbols;
+mod terminals;
+mod texts;
+mod tokens;
+mod whole_texts;
+
+use crate::rows::Tally;
+use std::alloc::Global;
+use std::process::ExitCode;
+use std::{env, fs, io};
+
+// Checks the rows of a file, and prints what came of them; how many don't hold.
+fn check_file(rt: &HostRuntime, alloc: Global, name: &str) -> io::Result<usize> {
+    let text = fs::read_to_string(rt, name)?;
+    let subject = name.strip_suffix(".rows").unwrap_or(name);
+    let mut tally = Tally::new(alloc);
+    for line in text.as_str().lines() {
+        rows::check(alloc, subject, line, &mut tally)?;
+    }
+    let report = tally.report.as_str();
+    print!(rt; "{report}")?;
+    let (held, failed) = (tally.held, tally.failed);
+    if failed == 0 {
+        println!(rt; "{subject}: {held} rows")?;
+    } else {
+        println!(rt; "{subject}: {held} rows hold, {failed} don't")?;
+    }
+    Ok(failed)
+}
+
+// Checks the files that are named; how many rows don't hold.
+fn check_files(rt: &HostRuntime) -> io::Result<usize> {
+    let mut failed = 0usize;
+    for name in env::args(rt)?.skip(1) {
+        failed = failed.saturating_add(check_file(rt, rt.alloc(), name.as_str())?);
+    }
+    Ok(failed)
+}
+
+fn main(rt: HostRuntime) -> io::Result<ExitCode> {
+    match check_files(&rt)? {
+        0 => Ok(ExitCode::SUCCESS),
+        _ => Ok(ExitCode::FAILURE),
+    }
+}

@@ -1,0 +1,21 @@
+//! Scripts of the program `screenplay`, run over bytes in memory.
+use crate::answer::Answer;
+use crate::args::Args;
+use crate::fault::Fault;
+use screenplay::run;
+
+/// Runs a script: what it prints, or why it fails.
+pub fn script(args: &mut Args<'_>, answer: &mut Answer) -> Result<(), Fault> {
+    if args.word()? != "run" {
+        return Err(Fault::Unread);
+    }
+    let mut reader = args.text()?.as_bytes();
+    let mut written = Vec::new(args.alloc);
+    match run(args.alloc, &mut reader, &mut written) {
+        Ok(()) => match String::from_utf8(written) {
+            Ok(text) => answer.add(text.as_str()),
+            Err(_) => Err(Fault::Unread),
+        },
+        Err(fault) => answer.refused(&fault),
+    }
+}

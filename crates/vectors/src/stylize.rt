@@ -1,0 +1,125 @@
+//! Whatever has a style, styled by name.
+use crate::answer::{Answer, Show};
+use crate::args::Args;
+use crate::fault::Fault;
+use ratatui_core::style::Stylize;
+use ratatui_core::text::StyledGrapheme;
+use std::borrow::CowStr;
+
+// It on a background.
+fn on_color<T: Stylize + Drop>(item: T, name: &str) -> Option<T::Item> {
+    Some(match name {
+        "black" => item.on_black(),
+        "red" => item.on_red(),
+        "green" => item.on_green(),
+        "yellow" => item.on_yellow(),
+        "blue" => item.on_blue(),
+        "magenta" => item.on_magenta(),
+        "cyan" => item.on_cyan(),
+        "gray" => item.on_gray(),
+        "dark_gray" => item.on_dark_gray(),
+        "light_red" => item.on_light_red(),
+        "light_green" => item.on_light_green(),
+        "light_yellow" => item.on_light_yellow(),
+        "light_blue" => item.on_light_blue(),
+        "light_magenta" => item.on_light_magenta(),
+        "light_cyan" => item.on_light_cyan(),
+        "white" => item.on_white(),
+        _ => return None,
+    })
+}
+
+// It in a foreground.
+fn in_color<T: Stylize + Drop>(item: T, name: &str) -> Option<T::Item> {
+    Some(match name {
+        "black" => item.black(),
+        "red" => item.red(),
+        "green" => item.green(),
+        "yellow" => item.yellow(),
+        "blue" => item.blue(),
+        "magenta" => item.magenta(),
+        "cyan" => item.cyan(),
+        "gray" => item.gray(),
+        "dark_gray" => item.dark_gray(),
+        "light_red" => item.light_red(),
+        "light_green" => item.light_green(),
+        "light_yellow" => item.light_yellow(),
+        "light_blue" => item.light_blue(),
+        "light_magenta" => item.light_magenta(),
+        "light_cyan" => item.light_cyan(),
+        "white" => item.white(),
+        _ => return modified(item, name),
+    })
+}
+
+// It with a modifier or without it.
+fn modified<T: Stylize + Drop>(item: T, name: &str) -> Option<T::Item> {
+    Some(match name {
+        "bold" => item.bold(),
+        "not_bold" => item.not_bold(),
+        "dim" => item.dim(),
+        "not_dim" => item.not_dim(),
+        "italic" => item.italic(),
+        "not_italic" => item.not_italic(),
+        "underlined" => item.underlined(),
+        "not_underlined" => item.not_underlined(),
+        "slow_blink" => item.slow_blink(),
+        "not_slow_blink" => item.not_slow_blink(),
+        "rapid_blink" => item.rapid_blink(),
+        "not_rapid_blink" => item.not_rapid_blink(),
+        "reversed" => item.reversed(),
+        "not_reversed" => item.not_reversed(),
+        "hidden" => item.hidden(),
+        "not_hidden" => item.not_hidden(),
+        "crossed_out" => item.crossed_out(),
+        "not_crossed_out" => item.not_crossed_out(),
+        "reset" => item.reset(),
+        _ => return None,
+    })
+}
+
+// It after a call.
+fn called<T: Stylize + Drop>(item: T, args: &mut Args<'_>, answer: &mut Answer) -> Result<(), Fault>
+where
+    T::Item: Show + Drop,
+{
+    let word = args.word()?;
+    let styled = match word {
+        "style" => return answer.add(item.style()),
+        "set_style" => Some(item.set_style(args.style())),
+        "fg" => Some(item.fg(args.color()?)),
+        "bg" => Some(item.bg(args.color()?)),
+        "add_modifier" => Some(item.add_modifier(args.modifier())),
+        "remove_modifier" => Some(item.remove_modifier(args.modifier())),
+        _ => match word.strip_prefix("on_") {
+            Some(name) => on_color(item, name),
+            None => in_color(item, word),
+        },
+    };
+    match styled {
+        Some(item) => answer.add(item),
+        None => Err(Fault::Unread),
+    }
+}
+
+/// A call on what has a style: what it is, and after a comma the call.
+pub fn stylize(args: &mut Args<'_>, answer: &mut Answer) -> Result<(), Fault> {
+    match args.word()? {
+        "str" => called(args.text()?, args, answer),
+        "String" => called(String::from_str(args.alloc, args.text()?)?, args, answer),
+        "CowStr" => called(CowStr::Borrowed(args.text()?), args, answer),
+        "grapheme" => called(
+            StyledGrapheme::new(args.text()?, args.style()),
+            args,
+            answer,
+        ),
+        "span" => called(args.span()?, args, answer),
+        "line" => called(args.line()?, args, answer),
+        "text" => called(args.lines()?, args, answer),
+        "is_whitespace" => answer.add(StyledGrapheme::new(
+            args.text()?,
+            args.style(),
+        ).is_whitespace()),
+        _ => Err(Fault::Unread),
+    }
+}

@@ -1,0 +1,165 @@
+//! Calls on texts, on masked ones, and on what prints.
+use crate::answer::Answer;
+use crate::args::Args;
+use crate::fault::Fault;
+use crate::texts::alike;
+use crate::tokens::Token;
+use ratatui_core::layout::HorizontalAlignment;
+use ratatui_core::text::{Masked, Text, ToLine, ToSpan, ToText};
+use std::alloc::Global;
+use std::fmt::Display;
+
+fn made<'a>(args: &mut Args<'a>) -> Result<Text<'a>, Fault> {
+    let alloc = args.alloc;
+    Ok(match args.word()? {
+        "raw" => Text::raw(alloc, args.text()?)?,
+        "styled" => {
+            let text = args.text()?;
+            Text::styled(alloc, text, args.style())?
+        }
+        "raw_string" => Text::raw_string(alloc, String::from_str(alloc, args.text()?)?)?,
+        "from_span" => Text::from_span(alloc, args.span()?)?,
+        "from_line" => Text::from_line(alloc, args.line()?)?,
+        "from_slice" => Text::from_slice(alloc, args.lines()?.lines.as_slice())?,
+        "from_vec" => Text::from(args.lines()?.lines.into_vec()),
+        "from_lines" => Text::from(args.lines()?.lines),
+        "try_from_iter" => Text::try_from_iter(alloc, args.lines()?)?,
+        "default" => Text::default_in(alloc),
+        "text" => args.lines()?,
+        _ => return Err(Fault::Unread),
+    })
+}
+
+fn changed<'a>(text: Text<'a>, word: &str, args: &mut Args<'a>) -> Result<Text<'a>, Fault> {
+    Ok(match word {
+        "style" => text.style(args.style()),
+        "patch_style" => text.patch_style(args.style()),
+        "reset_style" => text.reset_style(),
+        "alignment" => text.alignment(args.value::<HorizontalAlignment>()?),
+        "left_aligned" => text.left_aligned(),
+        "centered" => text.centered(),
+        "right_aligned" => text.right_aligned(),
+        "try_add_line" => text.try_add_line(args.line()?)?,
+        "try_add" => text.try_add(args.lines()?)?,
+        _ => return extended(text, word, args),
+    })
+}
+
+// A text after a call that changes it in place.
+fn extended<'a>(mut text: Text<'a>, word: &str, args: &mut Args<'a>) -> Result<Text<'a>, Fault> {
+    match word {
+        "push_line" => text.push_line(args.line()?)?,
+        "push_span" => text.push_span(args.span()?)?,
+        "append" => text.append(args.lines()?)?,
+        "try_extend" => text.try_extend(args.lines()?)?,
+        "iter_mut" => {
+            let style = args.style();
+            for line in text.iter_mut() {
+                line.style = line.style.patch(style);
+            }
+        }
+        _ => return Err(Fault::Unread),
+    }
+    Ok(text)
+}
+
+// Asks a text something; whether there is such a question.
+fn asked(
+    text: &Text<'_>,
+    word: &str,
+    args: &mut Args<'_>,
+    answer: &mut Answer,
+) -> Result<bool, Fault> {
+    match word {
+        "width" => answer.add(text.width())?,
+        "height" => answer.add(text.height())?,
+        "clone" => answer.add(text.clone(args.alloc)?)?,
+        "print" => answer.print(args.alloc, text)?,
+        "equal" => alike(text, &args.lines()?, answer)?,
+        "iter" => {
+            for line in text.iter() {
+                answer.print(args.alloc, line)?;
+            }
+        }
+        _ => return Ok(false),
+    }
+    Ok(true)
+}
+
+/// A text, and calls on it; the text itself if nothing was asked.
+pub fn text<'a>(
+    alloc: Global,
+    args: &mut Args<'a>,
+    later: &'a [Vec<Token>],
+    answer: &mut Answer,
+) -> Result<(), Fault> {
+    let mut text = made(args)?;
+    for step in later {
+        let mut args = Args::new(alloc, step.as_slice());
+        let word = args.word()?;
+        if !asked(&text, word, &mut args, answer)? {
+            text = changed(text, word, &mut args)?;
+        }
+        args.end()?;
+    }
+    if answer.is_empty() {
+        answer.add(text)
+    } else {
+        Ok(())
+    }
+}
+
+/// A call on a masked text: the text, its mask, and what is asked.
+pub fn masked(args: &mut Args<'_>, answer: &mut Answer) -> Result<(), Fault> {
+    let alloc = args.alloc;
+    let word = args.word()?;
+    let (text, mask) = (args.text()?, args.char()?);
+    let masked = Masked::new(text, mask);
+    match word {
+        "value" => answer.add(masked.value(alloc)?.as_str()),
+        "mask_char" => answer.print(alloc, &masked.mask_char()),
+        "print" => answer.print(alloc, &masked),
+        "debug" => answer.add(format!(in alloc; "{masked:?}")?.as_str()),
+        "to_text" => answer.add(masked.to_text(alloc)?),
+        "clone" => answer.add(masked.clone(alloc)? == masked),
+        "from_string" => answer.add(
+            Masked::from_string(String::from_str(alloc, text)?, mask) == masked,
+        ),
+        "equal" => {
+            let (text, mask) = (args.text()?, args.char()?);
+            alike(&masked, &Masked::new(text, mask), answer)
+        }
+        _ => Err(Fault::Unread),
+    }
+}
+
+fn printed<T: Display>(
+    word: &str,
+    value: &T,
+    alloc: Global,
+    answer: &mut Answer,
+) -> Result<(), Fault> {
+    match word {
+        "to_span" => answer.add(value.to_span(alloc)?),
+        "to_line" => answer.add(value.to_line(alloc)?),
+        "to_text" => answer.add(value.to_text(alloc)?),
+        _ => Err(Fault::Unread),
+    }
+}
+
+/// What prints as a span, a line or a text.
+pub fn to_text(args: &mut Args<'_>, answer: &mut Answer) -> Result<(), Fault> {
+    let alloc = args.alloc;
+    let word = args.word()?;
+    match args.word()? {
+        "str" => printed(word, &args.text()?, alloc, answer),
+        "String" => printed(word, &String::from_str(alloc, args.text()?)?, alloc, answer),
+        "char" => printed(word, &args.char()?, alloc, answer),
+        "bool" => printed(word, &args.value::<bool>()?, alloc, answer),
+        "i32" => printed(word, &args.value::<i32>()?, alloc, answer),
+        "u64" => printed(word, &args.value::<u64>()?, alloc, answer),
+        "position" => printed(word, &args.position()?, alloc, answer),
+        "span" => printed(word, &args.span()?, alloc, answer),
+        _ => Err(Fault::Unread),
+    }
+}

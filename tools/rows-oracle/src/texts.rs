@@ -1,0 +1,136 @@
+//! Spans, lines, texts, graphemes and masked texts: as words, and calls on them.
+use crate::answer::{Answer, Show, quote};
+use crate::args::Args;
+use crate::fault::Fault;
+use crate::styles::put_style;
+use ratatui_core::layout::HorizontalAlignment;
+use ratatui_core::style::Style;
+use ratatui_core::text::{Line, Span, StyledGrapheme, Text};
+use std::fmt::{self, Write};
+use std::hash::{BuildHasher, BuildHasherDefault, DefaultHasher, Hash};
+
+impl<'a> Args<'a> {
+    /// A span: a text, and its style.
+    pub fn span(&mut self) -> Result<Span<'a>, Fault> {
+        Ok(Span::styled(self.text()?, self.style()))
+    }
+
+    /// A line: spans with a `+` between two, after them `style` with its words, and `aligned` with how.
+    pub fn line(&mut self) -> Result<Line<'a>, Fault> {
+        self.skip_comma();
+        let mut line = Line::default();
+        for _ in 0..self.len() {
+            if let Some(text) = self.next_text() {
+                line.push_span(Span::styled(text, self.style()));
+            } else if self.takes("style") {
+                line.style = self.style();
+            } else if self.takes("aligned") {
+                line.alignment = Some(self.value::<HorizontalAlignment>()?);
+            } else if !self.takes("+") && !self.takes("empty") {
+                break;
+            }
+        }
+        Ok(line)
+    }
+
+    /// A text: lines with a `/` between two, and after a `//` the style and alignment of the whole; `nothing` has no lines.
+    pub fn lines(&mut self) -> Result<Text<'a>, Fault> {
+        self.skip_comma();
+        let mut text = Text::default();
+        if !self.takes("nothing") {
+            text.push_line(self.line()?);
+        }
+        for _ in 0..self.len() {
+            if !self.takes("/") {
+                break;
+            }
+            text.push_line(self.line()?);
+        }
+        if self.takes("//") {
+            text.style = self.style();
+            if self.takes("aligned") {
+                text.alignment = Some(self.value::<HorizontalAlignment>()?);
+            }
+        }
+        Ok(text)
+    }
+}
+
+/// The hash of a value.
+pub fn hash_of<T: Hash>(value: &T) -> u64 {
+    BuildHasherDefault::<DefaultHasher>::default().hash_one(value)
+}
+
+/// Whether two values are equal with equal hashes, or differ.
+pub fn alike<T: PartialEq + Hash>(one: &T, other: &T, answer: &mut Answer) -> Result<(), Fault> {
+    if one == other && hash_of(one) != hash_of(other) {
+        return Err(Fault::Unread);
+    }
+    answer.add(one == other)
+}
+
+fn put_span(text: &str, style: Style, out: &mut String) -> fmt::Result {
+    quote(text, out)?;
+    put_style(style, out)
+}
+
+fn put_aligned(alignment: Option<HorizontalAlignment>, out: &mut String) -> fmt::Result {
+    match alignment {
+        Some(alignment) => write!(out, " aligned {alignment}"),
+        None => Ok(()),
+    }
+}
+
+fn put_line(line: &Line<'_>, out: &mut String) -> fmt::Result {
+    for (place, span) in line.spans.iter().enumerate() {
+        if place > 0 {
+            out.write_str(" + ")?;
+        }
+        put_span(span.content.as_ref(), span.style, out)?;
+    }
+    if line.spans.is_empty() {
+        out.write_str("empty")?;
+    }
+    if line.style != Style::new() {
+        out.write_str(" style")?;
+        put_style(line.style, out)?;
+    }
+    put_aligned(line.alignment, out)
+}
+
+impl Show for Span<'_> {
+    fn show(&self, out: &mut String) -> fmt::Result {
+        put_span(self.content.as_ref(), self.style, out)
+    }
+}
+
+impl Show for StyledGrapheme<'_> {
+    fn show(&self, out: &mut String) -> fmt::Result {
+        put_span(self.symbol, self.style, out)
+    }
+}
+
+impl Show for Line<'_> {
+    fn show(&self, out: &mut String) -> fmt::Result {
+        put_line(self, out)
+    }
+}
+
+impl Show for Text<'_> {
+    fn show(&self, out: &mut String) -> fmt::Result {
+        for (place, line) in self.lines.iter().enumerate() {
+            if place > 0 {
+                out.write_str(" / ")?;
+            }
+            put_line(line, out)?;
+        }
+        if self.lines.is_empty() {
+            out.write_str("nothing")?;
+        }
+        if self.style != Style::new() || self.alignment.is_some() {
+            out.write_str(" //")?;
+            put_style(self.style, out)?;
+        }
+        put_aligned(self.alignment, out)
+    }
+}
