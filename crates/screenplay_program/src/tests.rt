@@ -28,13 +28,24 @@ static REFUSED: [(&str, &str); 4] = [
 #[test]
 fn tells_why_it_prints_nothing(rt: HostRuntime) {
     for (script, told) in &REFUSED {
-        assert!(rt; ends(rt.alloc(), script, ExitCode::FAILURE, "", told), "{script}");
+        assert!(rt;
+            ends(rt.alloc(), script, ExitCode::FAILURE, "", told),
+            "{script}"
+        );
     }
 }
 
 #[test]
 fn prints_a_script(rt: HostRuntime) {
-    assert!(rt; ends(rt.alloc(), "screen 2 1\nshow", ExitCode::SUCCESS, "|  \n", ""));
+    assert!(rt;
+        ends(
+            rt.alloc(),
+            "screen 2 1\nshow",
+            ExitCode::SUCCESS,
+            "|  \n",
+            ""
+        )
+    );
     assert!(rt; ends(rt.alloc(), "", ExitCode::SUCCESS, "", ""));
 }
 
