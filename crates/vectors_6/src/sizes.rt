@@ -1,26 +1,38 @@
 //! Terminals over a backend whose window takes another size, beside a screen in memory that is blank in that size.
+ghost use Rattle.ratatui_core.specs.Terminal.{FitsEdges};
+
 use crate::plays::LEFT;
 use crate::reader::Reader;
 use crate::sequences::Kept;
 use ratatui_ansi::AnsiBackend;
 use ratatui_core::backend::{Backend, TestBackend};
+use ratatui_core::buffer::Buffer;
 use ratatui_core::layout::{Rect, Size};
+use ratatui_core::style::Style;
 use ratatui_core::terminal::{Terminal, TerminalOptions, Viewport};
 use std::alloc::{AllocError, Global};
 use std::str;
 use std::test::Fail;
 
-// Draws a text over the whole viewport; whether that was done.
+// Paints a text in the corner of a buffer, if that has one.
+fn paint(buffer: &mut Buffer, text: &str) -> Result<(), AllocError> {
+    let corner = buffer.area().as_position();
+    if !buffer.area().contains(corner) {
+        return Ok(());
+    }
+    buffer.set_string(corner.x, corner.y, text, Style::new())
+}
+
+// Draws a text in the viewport's corner; whether that was done.
 fn draws<B: Backend>(terminal: &mut Terminal<B>, text: &str) -> bool {
-    let answer = terminal.draw(|frame| {
-        let area = frame.area();
-        frame.render_widget(text, area)
-    });
+    let answer = terminal.draw(|frame| paint(frame.buffer_mut(), text));
     answer.is_ok()
 }
 
 // A terminal over a viewport of such a kind, of a screen of six columns and three rows.
-fn over_kept(alloc: Global, viewport: Viewport) -> Result<Terminal<Kept>, Fail> {
+fn over_kept(alloc: Global, viewport: Viewport) -> Result<Terminal<Kept>, Fail>
+    requires { FitsEdges viewport }
+{
     let size = Size {
         width: 6,
         height: 3,
@@ -35,7 +47,9 @@ fn over_kept(alloc: Global, viewport: Viewport) -> Result<Terminal<Kept>, Fail> 
 }
 
 // The same over a screen in memory.
-fn over_memory(alloc: Global, viewport: Viewport) -> Result<Terminal<TestBackend>, Fail> {
+fn over_memory(alloc: Global, viewport: Viewport) -> Result<Terminal<TestBackend>, Fail>
+    requires { FitsEdges viewport }
+{
     let backend = TestBackend::new(alloc, 6, 3)?;
     match Terminal::with_options(alloc, backend, TerminalOptions { viewport }) {
         Ok(terminal) => Ok(terminal),
@@ -44,7 +58,9 @@ fn over_memory(alloc: Global, viewport: Viewport) -> Result<Terminal<TestBackend
 }
 
 // Whether a frame, drawn after the window took this size, is shown to a terminal that was left by another program.
-fn is_drawn_anew(alloc: Global, viewport: Viewport, size: Size) -> Result<bool, Fail> {
+fn is_drawn_anew(alloc: Global, viewport: Viewport, size: Size) -> Result<bool, Fail>
+    requires { FitsEdges viewport }
+{
     let mut terminal = over_kept(alloc, viewport)?;
     let mut memory = over_memory(alloc, viewport)?;
     if !draws(&mut terminal, "abコ") || !draws(&mut memory, "abコ") {
@@ -62,7 +78,10 @@ fn is_drawn_anew(alloc: Global, viewport: Viewport, size: Size) -> Result<bool, 
         return Ok(false);
     };
     let sent = terminal.backend().writer().as_slice();
-    let Some(Ok(since)) = sent.get(before..).map(str::from_utf8) else {
+    let Some(since) = sent.get(before..) else {
+        return Ok(false);
+    };
+    let Ok(since) = str::from_utf8(since) else {
         return Ok(false);
     };
     let reader = Reader::of(alloc, size.width, size.height, LEFT, since)?;
@@ -72,7 +91,9 @@ fn is_drawn_anew(alloc: Global, viewport: Viewport, size: Size) -> Result<bool, 
 const SIZES: [(u16, u16); 5] = [(9, 5), (4, 2), (6, 2), (3, 7), (1, 1)];
 
 // Whether that is so in each size.
-fn are_drawn_anew(alloc: Global, viewport: Viewport) -> Result<bool, Fail> {
+fn are_drawn_anew(alloc: Global, viewport: Viewport) -> Result<bool, Fail>
+    requires { FitsEdges viewport }
+{
     for (width, height) in SIZES {
         if !is_drawn_anew(alloc, viewport, Size { width, height })? {
             return Ok(false);
