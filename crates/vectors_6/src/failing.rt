@@ -107,7 +107,7 @@ fn is_mended(backend: &mut AnsiBackend<Tearing>, cell: &Cell) -> bool {
 // Whether a call is refused where just its own call of the writer fails, all later ones as broken, and a restart mends that.
 fn fails_and_is_mended(alloc: Global, number: u64) -> Result<bool, Fail> {
     let cell = Cell::new(alloc, "a")?;
-    let Ok(mut backend) = over_tearing(alloc, number + 1) else {
+    let Ok(mut backend) = over_tearing(alloc, number.saturating_add(1)) else {
         return Ok(false);
     };
     for before in 0..number {

@@ -478,7 +478,7 @@ impl<'a> Reader<'a> {
             return false;
         }
         are_shown(self.columns.as_slice(), screen.buffer().content())
-            && self.history.len() == self.rows_left + screen.scrollback().len()
+            && self.history.len().checked_sub(self.rows_left) == Some(screen.scrollback().len())
             && self
                 .history
                 .iter()
