@@ -1,14 +1,14 @@
 -- A line that was inserted, and the status line that was then drawn.
-use Rattle.std.proofs.Common.{◌≡◌, ℕ, ◌+◌, List, Result, Ok, Err, OnOk, IfErr, ap, arith, refl, inr, subst, sym, ◌∙◌}
+use Rattle.std.proofs.Common.{◌≡◌, ℕ, ◌+◌, ◌*◌, nat_lt, if◌then◌else◌, List, Result, Ok, Err, OnOk, IfErr, ap, ap₂, arith, refl, inr, subst, sym, ◌∙◌}
 use Rattle.std.specs.declared.alloc.AllocError.{AllocError}
 use Rattle.ratatui_core.specs.Layout.{Rect, Size}
 use Rattle.ratatui_core.specs.Buffer.{Sheet, IsEmptied, IsSettledSheet}
 use Rattle.ratatui_core.specs.Backend.{Screen}
-use Rattle.ratatui_core.specs.Terminal.{State, IsOverRow, DrawsRow, FillsRow, InsertsRow, InsertOk, InsertsBy, TakesRows, HasAreas, IsSized, IsBackendFault, TerminalError, Backend, Memory, Area, Closure, inserted_area}
+use Rattle.ratatui_core.specs.Terminal.{State, IsOverRow, DrawsRow, FillsRow, InsertsRow, InsertOk, InsertsBy, TakesRows, HasAreas, IsSized, IsBackendFault, WritesAtMost, TerminalError, Backend, Memory, Area, Closure, inserted_area}
 use Rattle.ratatui_core.proofs.TerminalLemmas.{inserts-and-draws}
 use Rattle.ratatui_core.proofs.WidgetLemmas.{has-first-row, text-settled}
 use Rattle.logview.specs.Rows.{counted, status_text}
-use Rattle.logview.specs.Views.{KeepsBelow, PushesLine, RefusesPush}
+use Rattle.logview.specs.Views.{cells_of_row, screen_in, KeepsBelow, PushesLine, RefusesLine, RefusesPush}
 use Rattle.logview.specs.declared.view.LogView.{LogView}
 
 module _ {B : Type 0} (screen : B → Screen) where
@@ -24,6 +24,32 @@ fills-settled line area sheet one fills =
     let high : fills.before.area.height ≡ 1 = ap (λ (r : Rect). r.height) here ∙ one in
     let own : IsEmptied fills.before.area fills.before = subst (λ (r : Rect). IsEmptied r fills.before) (sym here) fills.empty in
     text-settled area fills.before.area line fills.before sheet fills.empty (omega arith) (omega arith) (fills.renders (has-first-row fills.before.area fills.before (omega arith) own))
+
+module _ {B : Type 0} (screen : B → Screen) where
+  -- an insertion writes no more than the row takes
+  inserts-most : (line : List ℕ) (s t : State B) (filled : Result (Unit {0}) AllocError → Sheet → Type 0) → IsOverRow screen s
+      → ((sheet : Sheet) → filled (Ok tt) sheet → FillsRow line (inserted_area s 1) sheet)
+      → InsertOk screen (inserted_area s 1) filled s t → WritesAtMost (cells_of_row (screen s.backend)) (screen s.backend) (screen t.backend)
+  inserts-most line s t filled is only ins room =
+      let may = takes screen s is in
+      let known : (screen s.backend).height ≡ s.known_area.height = ap (λ (r : Rect). r.height) is.known in
+      let high : s.viewport_area.height ≡ 1 = ap (λ (r : Rect). r.height) is.row in
+      let bottom = is.in_step.on_screen.bottom in
+      let inserts = ins.inserts (omega arith) in
+      let settled = fills-settled line (inserted_area s 1) ins.inserted refl (only ins.inserted ins.closure) in
+      let wide : ins.inserted.area.width ≡ (screen s.backend).width = ap (λ (r : Rect). r.width) ins.over ∙ may.width in
+      let tall : ins.inserted.area.height ≡ 1 = ap (λ (r : Rect). r.height) ins.over in
+      let again : (if nat_lt s.viewport_area.height s.known_area.height then 0 else ins.inserted.area.width) ≡ (if nat_lt 1 (screen s.backend).height then 0 else (screen s.backend).width) = rw (high, known, wide) refl in
+      let own : ins.inserted.area.width * ins.inserted.area.height ≡ (screen s.backend).width = rw (tall, wide) (omega arith) in
+      let most = inserts.most may is.in_step settled (omega (arith, again, own, room)) in
+      omega (arith, again, own, most)
+
+  -- by the answer of the insertion
+  pub inserts-most-if : {T F : Type 0} (line : List ℕ) (s t : State B) (filled : Result (Unit {0}) AllocError → Sheet → Type 0) (result : Result T (TerminalError F)) → IsOverRow screen s
+      → ((sheet : Sheet) → filled (Ok tt) sheet → FillsRow line (inserted_area s 1) sheet)
+      → InsertsBy screen (inserted_area s 1) filled s t result → OnOk result (WritesAtMost (cells_of_row (screen s.backend)) (screen s.backend) (screen t.backend))
+  inserts-most-if line s t filled (Ok x) is only by = inserts-most line s t filled is only by
+  inserts-most-if line s t filled (Err e) is only by = tt
 
 module _ {B E : Type 0} (screen : B → Screen) where
   -- an insertion keeps the rows below the viewport
@@ -47,6 +73,16 @@ module _ {B E : Type 0} (screen : B → Screen) where
   inserts-below-if line v w filled (Ok x) is only by = inserts-below line v w filled is only by
   inserts-below-if line v w filled (Err e) is only by = tt
 
+  -- a refused insertion
+  pub refuses-line-if : {T : Type 0} (line : List ℕ) (v w : LogView B E) (filled : Result (Unit {0}) AllocError → Sheet → Type 0) (result : Result T (TerminalError E)) → w.count ≡ v.count
+      → ((sheet : Sheet) → filled (Ok tt) sheet → FillsRow line (inserted_area v.terminal 1) sheet) → ((sheet : Sheet) → filled (Ok tt) sheet → sheet.area ≡ inserted_area v.terminal 1)
+      → InsertsBy screen (inserted_area v.terminal 1) filled v.terminal w.terminal result → IfErr result (RefusesLine screen line v w)
+  refuses-line-if line v w filled (Ok x) count only keeps by = tt
+  refuses-line-if line v w filled (Err (Backend e)) count only keeps by = record { count = count; row = by.inserted; filled = only by.inserted by.closure; stops = by.stops }
+  refuses-line-if line v w filled (Err Memory) count only keeps by = ap₂ (λ t n. record { terminal = t; count = n }) by.0 count
+  refuses-line-if line v w filled (Err Area) count only keeps by = absurd (by.over (keeps by.inserted by.closure))
+  refuses-line-if line v w filled (Err (Closure e)) count only keeps by = absurd by
+
   -- a draw of the status line keeps them, too
   draws-below : (line status : List ℕ) (v m w : LogView B E) → InsertsRow screen line v.terminal m.terminal → DrawsRow screen status m.terminal w.terminal → KeepsBelow screen v m → KeepsBelow screen v w
   draws-below line status v m w inserts drawn kept =
@@ -62,15 +98,21 @@ module _ {B E : Type 0} (screen : B → Screen) where
 
   -- by the answer of the draw
   pub pushed_if : {T F : Type 0} (line : List ℕ) (v m w : LogView B E) (result : Result T F) → InsertsRow screen line v.terminal m.terminal → KeepsBelow screen v m
+      → WritesAtMost (cells_of_row (screen_in screen v)) (screen_in screen v) (screen_in screen m)
       → (IsOverRow screen m.terminal → OnOk result (DrawsRow screen (status_text w.count) m.terminal w.terminal)) → OnOk result (PushesLine screen line v w)
-  pushed_if line v m w (Ok x) inserts kept draws =
+  pushed_if line v m w (Ok x) inserts kept most draws =
       let drawn = draws inserts.over in
+      let width : (screen_in screen m).width ≡ (screen_in screen v).width = ap (λ (z : Size). z.width) inserts.size in
       record {
         inserts = inserts-and-draws screen line (status_text w.count) v.terminal m.terminal w.terminal inserts drawn;
         status = drawn.shown;
         kept = draws-below line (status_text w.count) v m w inserts drawn kept;
+        most = λ room.
+            let row = most (omega (arith, room)) in
+            let status = drawn.most (omega (arith, row, width, room)) in
+            omega (arith, row, status, width);
       }
-  pushed_if line v m w (Err e) inserts kept draws = tt
+  pushed_if line v m w (Err e) inserts kept most draws = tt
 
 -- the status line wasn't drawn after a line was inserted
 lacks_status : {B E : Type 0} (screen : B → Screen) (line : List ℕ) (v m w : LogView B E) (error : TerminalError E) → InsertsRow screen line v.terminal m.terminal → w.count ≡ counted (v.count + 1) → IsBackendFault error

@@ -1,10 +1,16 @@
 -- Views of a log, and what a push does to them.
-use Rattle.std.specs.Prelude.{◌≡◌, ◌⊎◌, ℕ, ◌+◌, ◌-◌, ◌<◌, min, List, length}
+use Rattle.std.specs.Prelude.{◌≡◌, ◌⊎◌, ℕ, ◌+◌, ◌-◌, ◌*◌, ◌<◌, min, nat_lt, if◌then◌else◌, List, length}
 use Rattle.ratatui_core.specs.Layout.{Size}
 use Rattle.ratatui_core.specs.Backend.{Screen, size_of}
-use Rattle.ratatui_core.specs.Terminal.{IsBlankBelow, IsOverRow, ShowsRow, InsertsRow, StartsOverRow, State, StopsInserting, rows_over, TerminalError, Backend, Memory, Area, Closure}
+use Rattle.ratatui_core.specs.Buffer.{Sheet}
+use Rattle.ratatui_core.specs.Terminal.{IsBlankBelow, IsOverRow, FillsRow, ShowsRow, InsertsRow, StartsOverRow, State, StopsInserting, WritesAtMost, inserted_area, rows_over}
+use Rattle.ratatui_core.specs.Terminal.{TerminalError, Backend, Memory, Area, Closure}
 use Rattle.logview.specs.Rows.{counted, status_text, AreRowsOfLines}
 use Rattle.logview.specs.declared.view.LogView.{LogView}
+
+-- how many cells the row of a line takes at most: its own, and on a screen of one row that row again
+abbrev pub cells_of_row : Screen → ℕ
+cells_of_row s = s.width + (if nat_lt 1 s.height then 0 else s.width)
 
 module _ {B E : Type 0} (screen : B → Screen) where
   -- the view's screen
@@ -28,18 +34,27 @@ module _ {B E : Type 0} (screen : B → Screen) where
   pub record KeepsBelow (v w : LogView B E) : Type 0 where
     pub at : (a b : ℕ) → a < (screen_in v).width → b < (screen_in v).height → w.terminal.viewport_area.y < b → (screen_in w).grid a b ≡ (screen_in v).grid a b
 
-  -- a push: exactly one row, the line's, came in above the status line, which shows the new count, and the rows below stay
+  -- a push: exactly one row, the line's, came in above the status line, which shows the new count, and the rows below stay; at most the cells of
+  -- the row and of the status line were written
   pub record PushesLine (line : List ℕ) (v w : LogView B E) : Type 0 where
     pub inserts : InsertsRow screen line v.terminal w.terminal
     pub status : ShowsStatus w
     pub kept : KeepsBelow v w
+    pub most : WritesAtMost (cells_of_row (screen_in v) + (screen_in v).width) (screen_in v) (screen_in w)
 
-  -- a refused insertion: by the backend, before the viewport moved or after it, or for want of memory, and then nothing changed
-  abbrev pub RefusesLine : LogView B E → LogView B E → TerminalError E → Type 0
-  RefusesLine v w (Backend error) = (w.count ≡ v.count) × StopsInserting screen 1 v.terminal w.terminal
-  RefusesLine v w Memory = w ≡ v
-  RefusesLine v w Area = ⊥
-  RefusesLine v w (Closure error) = ⊥
+  -- the backend failed in the insertion of a line's row, before the viewport moved or after it
+  pub record StopsLine (line : List ℕ) (v w : LogView B E) : Type 0 where
+    pub count : w.count ≡ v.count
+    pub row : Sheet
+    pub filled : FillsRow line (inserted_area v.terminal 1) row
+    pub stops : StopsInserting screen row v.terminal w.terminal
+
+  -- a refused insertion: by the backend, or for want of memory, and then nothing changed
+  abbrev pub RefusesLine : List ℕ → LogView B E → LogView B E → TerminalError E → Type 0
+  RefusesLine line v w (Backend error) = StopsLine line v w
+  RefusesLine line v w Memory = w ≡ v
+  RefusesLine line v w Area = ⊥
+  RefusesLine line v w (Closure error) = ⊥
 
   -- the row of a line was inserted and counted, and then the status line couldn't be drawn
   pub record LacksStatus (line : List ℕ) (v w : LogView B E) : Type 0 where
@@ -49,7 +64,7 @@ module _ {B E : Type 0} (screen : B → Screen) where
 
   -- a refused push: by the backend, in the insertion or after it; or for want of memory, and then nothing changed
   abbrev pub RefusesPush : List ℕ → LogView B E → LogView B E → TerminalError E → Type 0
-  RefusesPush line v w (Backend error) = ((w.count ≡ v.count) × StopsInserting screen 1 v.terminal w.terminal) ⊎ LacksStatus line v w
+  RefusesPush line v w (Backend error) = StopsLine line v w ⊎ LacksStatus line v w
   RefusesPush line v w Memory = w ≡ v
   RefusesPush line v w Area = ⊥
   RefusesPush line v w (Closure error) = ⊥

@@ -2,10 +2,11 @@
 
 ghost use Rattle.std.specs.Prelude.{◌≡◌, ◌+◌, ◌<◌, IfOk, IfErr, IsOk, OnOk};
 ghost use Rattle.ratatui_core.specs.Terminal.{DrawsRow, Faults, HasAreas, Inline, InsertsRow, IsBackendFault, IsBlank, IsSized};
-ghost use Rattle.ratatui_core.specs.Terminal.{KeepsFrame, StartErr};
+ghost use Rattle.ratatui_core.specs.Terminal.{KeepsFrame, StartErr, WritesAtMost};
 ghost use Rattle.ratatui_core.specs.Widgets.{HasFirstRow, RendersStr, RendersShortStr};
 ghost use Rattle.logview.specs.Rows.{counted, status_text};
 ghost use Rattle.logview.specs.Views.{IsFollowing, KeepsBelow, PushesLine, RefusesLine, RefusesPush, StartsView};
+ghost use Rattle.logview.specs.Views.{cells_of_row, screen_in};
 
 use crate::status::status_text;
 use ratatui_core::backend::Backend;
@@ -104,8 +105,11 @@ impl<B: Backend> LogView<B> {
             self.old.terminal self.new.terminal) }
         ensures kept { IsFollowing B.screen self.old
             → OnOk result (KeepsBelow B.screen self.old self.new) }
+        ensures most { IsFollowing B.screen self.old
+            → OnOk result (let before = screen_in B.screen self.old in
+            WritesAtMost (cells_of_row before) before (screen_in B.screen self.new)) }
         ensures err { IsFollowing B.screen self.old
-            → IfErr result (RefusesLine B.screen self.old self.new) }
+            → IfErr result (RefusesLine B.screen line.now self.old self.new) }
         ensures faults { Faults result (B.failures self.old.terminal.backend)
             (B.failures self.new.terminal.backend) }
     {

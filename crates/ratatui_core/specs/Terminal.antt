@@ -29,4 +29,4 @@ pub use Rattle.rtui_rows.specs.Rows.{lowered_update, DrawsRows, IsUnknownRow, Dr
 pub use Rattle.rtui_rows.specs.Insertion.{AreRowsOf, AreRowsOfAll, AppendsRows, KeepsSizeAndVisibility, HasPlaceAbove, ArePartOf, AppendsPart}
 pub use Rattle.rtui_rows.specs.Scrolling.{HasPushed, HasRaised, HasLowered, rows_down, PushesRows, InsertsDown, InsertsUp}
 pub use Rattle.rtui_rows.specs.Following.{AreaFollows, Follows}
-pub use Rattle.rtui_terminal.specs.Insertion.{inserted_area, top_behind, cells_to_insert, TakesRows, IsLeft, Inserts, StopsInserting, InsertOk, FailsInserting, RefusesRows, InsertErr, InsertsBy}
+pub use Rattle.rtui_terminal.specs.Insertion.{inserted_area, top_behind, cells_to_insert, TakesRows, IsLeft, Inserts, HasMovedDown, StopsInserting, InsertOk, FailsInserting, RefusesRows, InsertErr, InsertsBy}

@@ -45,7 +45,7 @@ count_by_same p q same [] = refl
 count_by_same p q same (x ∷ xs) = sum_by-cons (λ y. cond (p y) 1 0) x xs ∙ rw (same x, count_by_same p q same xs) (sym (sum_by-cons (λ y. cond (q y) 1 0) x xs))
 
 -- a walk gives no place twice
-given_count : (ps ns : List Cell) (k : ℕ) (s : Walk) (i : ℕ) → length (given ps ns k s i) ≤ k
+pub given_count : (ps ns : List Cell) (k : ℕ) (s : Walk) (i : ℕ) → length (given ps ns k s i) ≤ k
 unfolding given
 given_count ps ns zero s i = omega arith
 given_count ps ns (suc k) s i =

@@ -239,6 +239,21 @@ module _ {B : Type 0} (screen : B → Screen) (s : State B) (inserted : Sheet) (
           omega (arith, parts, first, rest);
     }
 
+  -- a backend failed after that move
+  pub stopped_moved : (n : ℕ) → n ≡ rows_down inserted.area.height s.viewport_area s.known_area.height → (mid b : B) (current older : Sheet) → InsertsDown inserted s.viewport_area s.known_area.height (screen s.backend) (screen mid) n
+      → Follows s.viewport_area (record s.viewport_area { y = s.viewport_area.y + n }) s.current current → Follows s.viewport_area (record s.viewport_area { y = s.viewport_area.y + n }) s.older older
+      → StopsInserting screen inserted s (record s { backend = b; current = current; older = older; viewport_area = record s.viewport_area { y = s.viewport_area.y + n } })
+  stopped_moved n n_is mid b current older down with_current with_older = record {
+    rest = refl;
+    moved = inr (record {
+      top = ap (λ k. s.viewport_area.y + k) n_is;
+      between = mid;
+      lowered = λ takes step settled. subst (λ k. HasLowered inserted k s.viewport_area (screen s.backend) (screen mid)) n_is (down (has_place takes step) settled);
+    });
+    current = with_current;
+    older = with_older;
+  }
+
 module _ {B : Type 0} (screen : B → Screen) where
   -- no rows
   pub inserted_none : (s : State B) (inserted : Sheet) (height : ℕ) → inserted.area ≡ inserted_area s height → height ≡ 0 → Inserts screen inserted s s
@@ -269,7 +284,7 @@ module _ {B : Type 0} (screen : B → Screen) where
   -- rows that a closure filled were inserted, or a backend failed on the way
   pub inserted_by : {T E : Type 0} (result : Result T (TerminalError E)) (area : Rect) (filled : Result (Unit {0}) AllocError → Sheet → Type 0) (inserted : Sheet) (s t : State B)
       → filled (Ok tt) inserted → inserted.area ≡ area → 0 < s.known_area.height → 0 < area.height
-      → OnOk result (Inserts screen inserted s t) → OnErr result (StopsInserting screen inserted.area.height s t) → FailsOnlyByBackend result
+      → OnOk result (Inserts screen inserted s t) → OnErr result (StopsInserting screen inserted s t) → FailsOnlyByBackend result
       → InsertsBy screen area filled s t result
   inserted_by (Ok answer) area filled inserted s t closure over known some ok err only =
       record { inserted = inserted; closure = closure; over = over; none = nothing known some; inserts = λ more. ok }

@@ -1,18 +1,24 @@
 -- A text drawn over one row, and inserted above it.
-use Rattle.std.proofs.Common.{◌≡◌, ℕ, ◌<◌, List, [], ◌∷◌, ◌++◌, length, append-nil, Option, Result, Ok, Err, OnOk, OnErr, IfErr, refl, sym, ap, ap₂, subst, ◌∙◌, inl, inr, arith}
+use Rattle.std.proofs.Common.{◌≡◌, ℕ, zero, suc, ◌*◌, ◌≤◌, ◌<◌, List, [], ◌∷◌, ◌++◌, length, append-nil, Option, None, Some, Result, Ok, Err, OnOk, OnErr, IfErr, refl, sym, ap, ap₂, subst, ◌∙◌, inl, inr, arith}
 use Rattle.std.specs.Prelude.{alloc_error, slice_index_or}
 use Rattle.std.specs.declared.alloc.AllocError.{AllocError}
 use Rattle.rtui_geometry.specs.declared.position.Position.{Position}
 use Rattle.rtui_geometry.specs.declared.rect.Rect.{Rect}
+use Rattle.std.proofs.lemmas.List.{length-map}
 use Rattle.rtui_cell.specs.Look.{Look}
+use Rattle.rtui_diff.specs.DiffRule.{given, start}
 use Rattle.rtui_diff.specs.Shows.{RowAgrees}
+use Rattle.rtui_diff.specs.Updates.{update_at}
 use Rattle.rtui_buffer.specs.Sheet.{Sheet, IsEmptied}
-use Rattle.rtui_buffer.specs.Frame.{IsSettledSheet}
+use Rattle.rtui_buffer.specs.Frame.{IsSettledSheet, common_rows, sheet_updates}
 use Rattle.rtui_widgets.proofs.SettledLemmas.{has-first-row, text-settled}
 use Rattle.rtui_backend.specs.Screen.{Screen}
 use Rattle.rtui_viewport.specs.Viewports.{IsInline}
 use Rattle.rtui_viewport.specs.declared.viewport.Viewport.TheVariants.{Inline}
 use Rattle.rtui_rows.specs.Insertion.{AppendsRows, AreRowsOf}
+use Rattle.rtui_rows.specs.Rows.{WritesAtMost}
+use Rattle.rtui_rows.proofs.CountLemmas.{given_count}
+use Rattle.rtui_terminal.specs.Writing.{HasDrawn, cursor_placed}
 use Rattle.rtui_terminal.specs.State.{State, HasAreas}
 use Rattle.rtui_terminal.specs.InStep.{IsSized, rows_over}
 use Rattle.rtui_terminal.specs.Faults.{FaultCounts, IsBackendFault}
@@ -74,6 +80,31 @@ row-settled : (text : List ℕ) (sheet : Sheet) → IsPaintedText text sheet →
 row-settled text sheet is =
     let left : is.blank.area.x ≡ sheet.area.x = ap (λ (r : Rect). r.x) is.emptied.area in
     text-settled sheet.area sheet.area text is.blank sheet is.emptied (omega arith) (omega arith) is.rendered
+
+at_most_one_row : (w rows width : ℕ) → w ≡ width → rows ≤ 1 → w * rows ≤ width
+at_most_one_row w zero width is le = omega arith
+at_most_one_row w (suc zero) width is le = omega (arith, is)
+at_most_one_row w (suc (suc n)) width is le = absurd (omega (arith, le))
+
+-- placing a cursor writes no cell
+placed_written : (cursor : Option Position) (s : Screen) → (cursor_placed cursor s).written ≡ s.written
+placed_written None s = refl
+placed_written (Some p) s = refl
+
+-- a drawing of a row's differences writes each column at most once
+row_written : {B : Type 0} (width y : ℕ) (cursor : Option Position) (s : State B) (old new : Screen) → s.older.area ≡ row_area width y → HasDrawn cursor s old new → WritesAtMost width old new
+row_written width y cursor s old new over drawn room =
+    let wide : s.older.area.width ≡ width = ap (λ (r : Rect). r.width) over in
+    let high : s.older.area.height ≡ 1 = ap (λ (r : Rect). r.height) over in
+    let rows : ℕ = common_rows s.older s.current in
+    let some : rows ≤ 1 = omega (arith, high) in
+    let count : length (sheet_updates s.older s.current) ≡ length (given s.older.cells s.current.cells (s.older.area.width * rows) start 0) =
+    length-map _ (update_at s.older.area.x s.older.area.y s.older.area.width s.current.cells) in
+    let le = given_count s.older.cells s.current.cells (s.older.area.width * rows) start 0 in
+    let cells : s.older.area.width * rows ≤ width = at_most_one_row s.older.area.width rows width wide some in
+    let same : new.written ≡ drawn.0.written = ap (λ (t : Screen). t.written) drawn.2 ∙ placed_written cursor drawn.0 in
+    let is = drawn.1.drawn.written (omega (arith, room, count, le, cells)) in
+    omega (arith, count, le, cells, same, is)
 
 module _ {B : Type 0} (screen : B → Screen) where
   takes : (s : State B) → IsOverRow screen s → TakesRows screen s
@@ -154,6 +185,9 @@ module _ {B : Type 0} (screen : B → Screen) where
         };
         shown = record { sheet = t.older; over = shows.area; painted = painted; shown = step.shown };
         keeps = keeps;
+        most = subst (λ (x : Screen). WritesAtMost (screen s.backend).width x (screen t.backend)) stays.screen_stays
+            (row_written (screen s.backend).width s.viewport_area.y drawn.draws.cursor (record drawn.draws.sized { current = t.older }) (screen drawn.draws.sized.backend) (screen t.backend)
+            (applied.areas.older ∙ ap (λ (x : State B). x.viewport_area) stays.rest ∙ is.row) applied.drawn);
       }
 
   -- by the answer of a draw that takes no memory

@@ -10,6 +10,7 @@ use Rattle.rtui_viewport.specs.Areas.{IsBlankBelow}
 use Rattle.rtui_rows.specs.Filling.{RefusesFilling}
 use Rattle.rtui_rows.specs.Rows.{nonempty_cells, IsNarrowSheet, WritesAtMost}
 use Rattle.rtui_rows.specs.Insertion.{AppendsRows, KeepsSizeAndVisibility}
+use Rattle.rtui_rows.specs.Scrolling.{HasLowered, rows_down}
 use Rattle.rtui_rows.specs.Following.{Follows}
 use Rattle.rtui_terminal.specs.State.{State}
 use Rattle.rtui_terminal.specs.InStep.{IsInStep, rows_over}
@@ -65,10 +66,17 @@ module _ {B : Type 0} (screen : B → Screen) where
     pub few : TakesRows s → IsInStep screen s → IsSettledSheet inserted → IsNarrowSheet inserted → WritesAtMost (cells_to_insert inserted s) (screen s.backend) (screen t.backend)
     pub most : TakesRows s → IsInStep screen s → IsSettledSheet inserted → WritesAtMost (cells_at_most inserted s) (screen s.backend) (screen t.backend)
 
-  -- a backend failed in the insertion of n rows, before the viewport moved or behind that; a buffer of its area moved with it
-  pub record StopsInserting (n : ℕ) (s t : State B) : Type 0 where
+  -- the viewport moved down, and its rows on the screen with it, after the first rows of a buffer had come in above it
+  pub record HasMovedDown (inserted : Sheet) (s t : State B) : Type 0 where
+    pub top : t.viewport_area.y ≡ top_behind inserted.area.height s
+    pub between : B
+    pub lowered : TakesRows s → IsInStep screen s → IsSettledSheet inserted
+        → HasLowered inserted (rows_down inserted.area.height s.viewport_area s.known_area.height) s.viewport_area (screen s.backend) (screen between)
+
+  -- a backend failed in the insertion of a buffer's rows, before the viewport moved or after it; a buffer of its area moved with it
+  pub record StopsInserting (inserted : Sheet) (s t : State B) : Type 0 where
     pub rest : t ≡ record s { backend = t.backend; current = t.current; older = t.older; viewport_area = record s.viewport_area { y = t.viewport_area.y } }
-    pub top : (t.viewport_area.y ≡ s.viewport_area.y) ⊎ (t.viewport_area.y ≡ top_behind n s)
+    pub moved : (t.viewport_area.y ≡ s.viewport_area.y) ⊎ HasMovedDown inserted s t
     pub current : Follows s.viewport_area t.viewport_area s.current t.current
     pub older : Follows s.viewport_area t.viewport_area s.older t.older
 
@@ -88,7 +96,7 @@ module _ {B : Type 0} (screen : B → Screen) where
       pub closure : filled (Ok tt) inserted
       pub over : inserted.area ≡ area
       pub known : 0 < s.known_area.height
-      pub stops : StopsInserting inserted.area.height s t
+      pub stops : StopsInserting inserted s t
 
     -- the closure left a buffer of another area, and nothing changed
     pub record RefusesRows (s t : State B) : Type 0 where

@@ -10,6 +10,7 @@ use Rattle.rtui_widgets.specs.Rendering.{HasFirstRow, RendersStr}
 use Rattle.rtui_backend.specs.Screen.{Screen, size_of, screen_area, rows_above}
 use Rattle.rtui_viewport.specs.Viewports.{IsInline}
 use Rattle.rtui_viewport.specs.Areas.{IsBlankBelow}
+use Rattle.rtui_rows.specs.Rows.{WritesAtMost}
 use Rattle.rtui_terminal.specs.State.{State}
 use Rattle.rtui_terminal.specs.InStep.{IsInStep, KeepsAroundViewport, rows_over}
 use Rattle.rtui_terminal.specs.Rendered.{IsRendered}
@@ -59,11 +60,12 @@ module _ {B : Type 0} (screen : B → Screen) where
   abbrev pub ShowsRow : List ℕ → State B → Type 0
   ShowsRow text t = ShowsText text t.viewport_area (screen t.backend).grid
 
-  -- a text was drawn over the viewport, and all else stays
+  -- a text was drawn over the viewport, by at most one item for each column, and all else stays
   pub record DrawsRow (text : List ℕ) (s t : State B) : Type 0 where
     pub over : IsOverRow t
     pub shown : ShowsRow text t
     pub keeps : KeepsAroundViewport screen s t
+    pub most : WritesAtMost (screen s.backend).width (screen s.backend) (screen t.backend)
 
   -- a text was inserted: the terminal is still over one row, which went down by one if there was room, exactly one row, the text's, came to those
   -- above, and blank rows below stay so

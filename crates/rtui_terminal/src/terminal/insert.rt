@@ -29,8 +29,7 @@ impl<B: Backend> Terminal<B> {
         requires covers { self.old.known_area.height ≤ self.old.viewport_area.height }
         ensures ok { OnOk result (Inserts B.screen rows.now self.old self.new) }
         ensures flushed { OnOk result (B.is_flushed self.new.backend ≡ true) }
-        ensures err { OnErr result
-            (StopsInserting B.screen rows.now.area.height self.old self.new) }
+        ensures err { OnErr result (StopsInserting B.screen rows.now self.old self.new) }
         ensures only { FailsOnlyByBackend result }
         ensures faults { Faults result (B.failures self.old.backend) (B.failures self.new.backend) }
     {
@@ -62,8 +61,7 @@ impl<B: Backend> Terminal<B> {
         requires known { 0 < self.old.known_area.height }
         ensures ok { OnOk result (Inserts B.screen rows.now self.old self.new) }
         ensures flushed { OnOk result (B.is_flushed self.new.backend ≡ true) }
-        ensures err { OnErr result
-            (StopsInserting B.screen rows.now.area.height self.old self.new) }
+        ensures err { OnErr result (StopsInserting B.screen rows.now self.old self.new) }
         ensures only { FailsOnlyByBackend result }
         ensures faults { Faults result (B.failures self.old.backend) (B.failures self.new.backend) }
     {

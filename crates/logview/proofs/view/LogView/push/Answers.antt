@@ -9,7 +9,7 @@ returns-clause-pushed g c = λ is.
     let screen = g.B.Backend.screen in
     let m = c.insert_line.new.self in
     let w = c.draw_status.new.self in
-    pushed_if screen c.args.line.now c.args.self.now m w c.draw_status.result (c.in_ok-insert_line.ensures.ok is) (c.in_ok-insert_line.ensures.kept is)
+    pushed_if screen c.args.line.now c.args.self.now m w c.draw_status.result (c.in_ok-insert_line.ensures.ok is) (c.in_ok-insert_line.ensures.kept is) (c.in_ok-insert_line.ensures.most is)
     (λ over. subst (λ n. OnOk c.draw_status.result (DrawsRow screen (status_text n) m.terminal w.terminal)) (sym c.draw_status.ensures.count) (c.draw_status.ensures.ok over))
 
 pub returns-clause-refused : goal.returns-clause-refused
