@@ -7,6 +7,7 @@ pub mod SettledLemmas
 pub mod TextLemmas
 pub mod StyleLemmas
 pub mod LineLemmas
+pub mod RefusedLemmas
 pub mod ShortLemmas
 pub mod RowLemmas
 pub mod OverlayLemmas

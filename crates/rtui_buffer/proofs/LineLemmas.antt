@@ -71,8 +71,8 @@ line-fits r x max room base ss e some = let k = columns-line room base ss in ome
 
 -- the pieces that a turn of the loop paints, before those of the spans behind
 module _ (base : Style) (start used room w : ℕ) (left ss : List SpanData) (s : SpanData) (is : left ≡ s ∷ ss) (wide : w ≡ columns (text_pieces (room - used) (patch base s.style) s.content)) where
-  first : line_pieces (room - used) base left ≡ text_pieces (room - used) (patch base s.style) s.content ++ line_pieces (room - (used + w)) base ss
-  first =
+  pub span-pieces : line_pieces (room - used) base left ≡ text_pieces (room - used) (patch base s.style) s.content ++ line_pieces (room - (used + w)) base ss
+  span-pieces =
       let ps : List Piece = text_pieces (room - used) (patch base s.style) s.content in
       let rest : room - used - columns ps ≡ room - (used + w) = omega arith in
       ap (line_pieces (room - used) base) is ∙ line_pieces-cons (room - used) base s ss ∙ ap (λ n. ps ++ line_pieces n base ss) rest
@@ -80,7 +80,7 @@ module _ (base : Style) (start used room w : ℕ) (left ss : List SpanData) (s :
   pub span-columns : (all : ℕ) → used + columns (line_pieces (room - used) base left) ≡ all → used + w + columns (line_pieces (room - (used + w)) base ss) ≡ all
   span-columns all h =
       let e : columns (line_pieces (room - used) base left) ≡ columns (text_pieces (room - used) (patch base s.style) s.content) + columns (line_pieces (room - (used + w)) base ss) =
-      ap columns first ∙ columns-append (text_pieces (room - used) (patch base s.style) s.content) (line_pieces (room - (used + w)) base ss) in
+      ap columns span-pieces ∙ columns-append (text_pieces (room - used) (patch base s.style) s.content) (line_pieces (room - (used + w)) base ss) in
       omega arith
 
   pub span-first : (all : ℕ) → used + columns (line_pieces (room - used) base left) ≡ all → used + columns (text_pieces (room - used) (patch base s.style) s.content) ≤ all
@@ -92,7 +92,7 @@ module _ (base : Style) (start used room w : ℕ) (left ss : List SpanData) (s :
   span-painted cells more whole put h =
       let ps : List Piece = text_pieces (room - used) (patch base s.style) s.content in
       let place : start + (used + w) ≡ start + used + columns ps = omega arith in
-      rw (place, put) (sym (painted-append (start + used) ps (line_pieces (room - (used + w)) base ss) cells) ∙ ap (λ qs. painted (start + used) qs cells) (sym first) ∙ h)
+      rw (place, put) (sym (painted-append (start + used) ps (line_pieces (room - (used + w)) base ss) cells) ∙ ap (λ qs. painted (start + used) qs cells) (sym span-pieces) ∙ h)
 
 -- of two lists of short pieces both are
 short-front : (ps qs : List Piece) → AreShort (ps ++ qs) → AreShort ps
@@ -107,7 +107,7 @@ pub span-short : (base : Style) (used room w : ℕ) (left ss : List SpanData) (s
     → AreShort (line_pieces (room - used) base left)
     → AreShort (text_pieces (room - used) (patch base s.style) s.content) × AreShort (line_pieces (room - (used + w)) base ss)
 span-short base used room w left ss s is wide h =
-    let all = subst AreShort (first base 0 used room w left ss s is wide) h in
+    let all = subst AreShort (span-pieces base 0 used room w left ss s is wide) h in
     (short-front _ _ all, short-rest _ _ all)
 
 pub span-outside : (start used w n : ℕ) (old cells more : List Cell) → IsSameOutside start (start + used) old cells → w ≡ n

@@ -72,7 +72,7 @@ kept-singles (b ∷ bs) room gs all le =
     kept-take room (b ∷ []) (singles bs ++ gs) wide (omega (arith, one_column b))
     ∙ rw (one_column b) (ap (λ ks. (b ∷ []) ∷ ks) (kept-singles bs (room - 1) gs (λ k lt. all (suc k) (omega arith)) (omega arith) ∙ rw less refl))
 
-columns-singles : (s : Style) (bs : List ℕ) → columns (pieces s (singles bs)) ≡ length bs
+pub columns-singles : (s : Style) (bs : List ℕ) → columns (pieces s (singles bs)) ≡ length bs
 columns-singles s [] = refl
 columns-singles s (b ∷ bs) = omega (arith, sum_by-cons piece_width (piece_of s (b ∷ [])) (pieces s (singles bs)), one_column b, columns-singles s bs)
 
@@ -111,7 +111,7 @@ module _ (text tail : List ℕ) (n room : ℕ) (s : Style) (h : IsPrintableFront
   abbrev rest : List Piece
   rest = text_pieces (room - n) s tail
 
-  front-count : length (take n text) ≡ n
+  pub front-count : length (take n text) ≡ n
   front-count = length-take-le n text h.within
 
   pub pieces-split : text_pieces room s text ≡ first ++ rest

@@ -1,5 +1,5 @@
 -- Painting into a buffer, from a position on.
-use Rattle.std.specs.Prelude.{ℕ, ◌+◌, ◌-◌, ◌≡◌, ◌⊎◌, ◌≤◌, ◌<◌, ◌&&◌, nat_le, nat_lt, if◌then◌else◌, min, true, false, List, length, take, All, Result, IsOk, OnOk, OnErr}
+use Rattle.std.specs.Prelude.{ℕ, ◌+◌, ◌-◌, ◌≡◌, ◌⊎◌, ◌≤◌, ◌<◌, ◌&&◌, nat_le, nat_lt, if◌then◌else◌, min, true, false, List, ◌++◌, length, take, All, Result, IsOk, OnOk, OnErr}
 use Rattle.std.specs.declared.alloc.AllocError.{AllocError}
 use Rattle.unicode_segmentation.specs.Grapheme.{graphemes}
 use Rattle.rtui_text.specs.Text.{SpanData}
@@ -28,6 +28,13 @@ pub record PaintsPieces (p : Position) (ps : List Piece) (old new : Sheet) : Typ
   pub area : new.area ≡ old.area
   pub room : new.room ≡ old.room
   pub cells : HasPieces (cell_index old.area p) ps old.cells new.cells
+
+-- the buffer with a front of the pieces painted from a position on, and no more
+pub record PaintsFront (p : Position) (ps : List Piece) (old new : Sheet) : Type 0 where
+  pub front : List Piece
+  pub rest : List Piece
+  pub is : ps ≡ front ++ rest
+  pub paints : PaintsPieces p front old new
 
 -- the position some columns further right
 abbrev pub right_by : ℕ → Position → Position

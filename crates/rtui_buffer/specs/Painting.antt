@@ -1,5 +1,5 @@
 -- Painting pieces of text into a list of cells, one behind the other.
-use Rattle.std.specs.Prelude.{ℕ, Bool, true, ◌+◌, ◌-◌, ◌≡◌, ◌≤◌, ◌<◌, suc, zero, nat_le, nat_lt, List, [], ◌∷◌, length, take, map, filter, sum_by, if◌then◌else◌, Some, slice_index_or, slice_set}
+use Rattle.std.specs.Prelude.{ℕ, Bool, true, ◌+◌, ◌-◌, ◌≡◌, ◌≤◌, ◌<◌, suc, zero, nat_le, nat_lt, List, [], ◌∷◌, ◌++◌, length, take, map, filter, sum_by, if◌then◌else◌, Some, slice_index_or, slice_set}
 use Rattle.unicode_segmentation.specs.Grapheme.{graphemes}
 use Rattle.rtui_style.specs.declared.Style.{Style}
 use Rattle.rtui_style.specs.Style.{new_style}
@@ -96,3 +96,11 @@ pub record HasPieces (at : ℕ) (ps : List Piece) (old new : List Cell) : Type 0
   pub starts : (k : ℕ) → k < length ps → cell new (place_of at ps k) ≡ shown (piece_at ps k) (cell old (place_of at ps k))
   pub behind : (k j : ℕ) → k < length ps → 0 < j → j < piece_width (piece_at ps k) → cell new (place_of at ps k + j) ≡ empty_cell
   pub outside : IsSameOutside at (at + columns ps) old new
+
+-- a front of the pieces, and no more, is painted
+pub record HasFront (at : ℕ) (ps : List Piece) (old new : List Cell) : Type 0 where
+  pub front : List Piece
+  pub rest : List Piece
+  pub is : ps ≡ front ++ rest
+  pub cells : new ≡ painted at front old
+  pub shown : HasPieces at front old new

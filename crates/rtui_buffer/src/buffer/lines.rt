@@ -7,8 +7,8 @@ ghost use Rattle.rtui_text.specs.Text.{raw_line};
 ghost use Rattle.rtui_text.specs.Widths.{line_width};
 ghost use Rattle.rtui_buffer.specs.Sheet.{HasRow, position_of, empty_cells, HasRoomFor};
 ghost use Rattle.rtui_buffer.specs.Frame.{IsSettledSheet};
-ghost use Rattle.rtui_buffer.specs.Painting.{text_pieces, columns, painted, IsSameOutside, HasPieces, KeepsUnmarked};
-ghost use Rattle.rtui_buffer.specs.PaintedText.{room_at, pieces_at, AreShort, PaintsOrRefuses};
+ghost use Rattle.rtui_buffer.specs.Painting.{text_pieces, columns, painted, IsSameOutside, HasPieces, HasFront, KeepsUnmarked};
+ghost use Rattle.rtui_buffer.specs.PaintedText.{room_at, pieces_at, AreShort, PaintsFront, PaintsOrRefuses};
 ghost use Rattle.rtui_buffer.specs.Line.{line_pieces, line_pieces_at, widest, lines_area, line_rows, IsOfLines, raw_lines};
 
 use super::painting::{paint_text, room_at};
@@ -33,6 +33,8 @@ impl Buffer {
         requires column { self.old.area.x ≤ x }
         ensures paints { let ps = pieces_at self.old.area x max span.now.style span.now.content in
             PaintsOrRefuses (position_of (x, y)) ps result self.old self.new }
+        ensures front { let ps = pieces_at self.old.area x max span.now.style span.now.content in
+            OnErr result (PaintsFront (position_of (x, y)) ps self.old self.new) }
         ensures place { let ps = pieces_at self.old.area x max span.now.style span.now.content in
             IfOk result (λ end. end ≡ (x + columns ps, y)) }
     {
@@ -41,8 +43,8 @@ impl Buffer {
 
     /// Paints a line from a column and a row on, span behind span, each in its style over the line's and in the
     /// width that is left of the area and of `max` columns. A span that is cut does not end it. It answers the
-    /// column behind the last one that was painted, and the row. Where memory is refused at most the columns that
-    /// the line would have taken differ.
+    /// column behind the last one that was painted, and the row. Where memory is refused a front of the line's
+    /// graphemes is painted, and no more.
     #[tactic(auto, using(crate::proofs::LineLemmas::no_line_steps))]
     pub fn set_line(
         &mut self,
@@ -55,6 +57,8 @@ impl Buffer {
         requires column { self.old.area.x ≤ x }
         ensures paints { let ps = line_pieces_at self.old.area x max line.now in
             PaintsOrRefuses (position_of (x, y)) ps result self.old self.new }
+        ensures front { let ps = line_pieces_at self.old.area x max line.now in
+            OnErr result (PaintsFront (position_of (x, y)) ps self.old self.new) }
         ensures place { let ps = line_pieces_at self.old.area x max line.now in
             IfOk result (λ end. end ≡ (x + columns ps, y)) }
     {
@@ -184,7 +188,7 @@ fn paint_lines(
 }
 
 // Paints spans one behind the other in this room, over a base style, and says how many columns they take.
-#[tactic(auto, using(crate::proofs::LineLemmas::line_steps))]
+#[tactic(auto, using(crate::proofs::LineLemmas::line_steps, crate::proofs::RefusedLemmas::so_far_steps))]
 fn paint_spans(
     alloc: Global,
     cells: &mut [Cell],
@@ -202,6 +206,8 @@ fn paint_spans(
         OnOk result (HasPieces start ps cells.old cells.new) }
     ensures err { let ps = line_pieces room base spans.now in
         OnErr result (IsSameOutside start (start + columns ps) cells.old cells.new) }
+    ensures front { let ps = line_pieces room base spans.now in
+        OnErr result (HasFront start ps cells.old cells.new) }
     ensures marks { KeepsUnmarked cells.old cells.new }
     ensures short { AreShort (line_pieces room base spans.now) → IsOk result }
 {

@@ -8,8 +8,8 @@ ghost use Rattle.rtui_cell.specs.Cell.{empty_cell, styled};
 ghost use Rattle.rtui_cell.specs.Width.{text_width};
 ghost use Rattle.rtui_text.specs.Printable.{ArePrintable, singles};
 ghost use Rattle.rtui_buffer.specs.Sheet.{HasRow, cell_index, position_of};
-ghost use Rattle.rtui_buffer.specs.Painting.{KeepsUnmarked, painted_width, piece_of, pieces, text_pieces, columns, shown, emptied, with_piece, painted, IsSameOutside, HasPieces};
-ghost use Rattle.rtui_buffer.specs.PaintedText.{room_at, pieces_at, AreShort, PaintsOrRefuses, IsStyledPart, IsStyledRows, IsStyled};
+ghost use Rattle.rtui_buffer.specs.Painting.{KeepsUnmarked, painted_width, piece_of, pieces, text_pieces, columns, shown, emptied, with_piece, painted, IsSameOutside, HasPieces, HasFront};
+ghost use Rattle.rtui_buffer.specs.PaintedText.{room_at, pieces_at, AreShort, PaintsFront, PaintsOrRefuses, IsStyledPart, IsStyledRows, IsStyled};
 
 use crate::buffer::Buffer;
 use rtui_cell::{Cell, CellWidth};
@@ -23,7 +23,7 @@ impl Buffer {
     /// Paints a text in a style, from a column and a row on: the longest front of its graphemes that fits the
     /// area and `max` columns, without those that have a control character or no width. The columns behind a
     /// wide grapheme become empty. It answers the column behind the last one that was painted, and the row.
-    /// Where memory is refused at most the columns that these would have taken differ.
+    /// Where memory is refused a front of these is painted, and no more.
     #[tactic(auto, using(crate::proofs::TextLemmas::none_steps))]
     pub fn set_stringn(
         &mut self,
@@ -37,6 +37,8 @@ impl Buffer {
         requires column { self.old.area.x ≤ x }
         ensures paints { let ps = pieces_at self.old.area x max style text.now in
             PaintsOrRefuses (position_of (x, y)) ps result self.old self.new }
+        ensures front { let ps = pieces_at self.old.area x max style text.now in
+            OnErr result (PaintsFront (position_of (x, y)) ps self.old self.new) }
         ensures place { let ps = pieces_at self.old.area x max style text.now in
             IfOk result (λ end. end ≡ (x + columns ps, y)) }
     {
@@ -54,8 +56,10 @@ impl Buffer {
     pub fn set_string(&mut self, x: u16, y: u16, text: &str, style: Style) -> Result<(), AllocError>
         requires row { HasRow self.old.area y }
         requires column { self.old.area.x ≤ x }
-        ensures { let ps = pieces_at self.old.area x 65535 style text.now in
+        ensures paints { let ps = pieces_at self.old.area x 65535 style text.now in
             PaintsOrRefuses (position_of (x, y)) ps result self.old self.new }
+        ensures front { let ps = pieces_at self.old.area x 65535 style text.now in
+            OnErr result (PaintsFront (position_of (x, y)) ps self.old self.new) }
     {
         self.set_stringn(x, y, text, usize::MAX, style)?;
         Ok(())
@@ -114,6 +118,8 @@ pub fn paint_text(
         OnOk result (HasPieces start ps cells.old cells.new) }
     ensures err { let ps = text_pieces room style text.now in
         OnErr result (IsSameOutside start (start + columns ps) cells.old cells.new) }
+    ensures front { let ps = text_pieces room style text.now in
+        OnErr result (HasFront start ps cells.old cells.new) }
     ensures marks { KeepsUnmarked cells.old cells.new }
     ensures short { AreShort (text_pieces room style text.now) → IsOk result }
 {
@@ -158,7 +164,7 @@ fn show_byte(alloc: Global, cell: &mut Cell, byte: u8, style: Style) -> Result<(
 }
 
 // Paints the graphemes of a text that fit the room, and says how many columns they take.
-#[tactic(auto, using(crate::proofs::PaintLemmas::paint_steps, crate::proofs::PaintedLemmas::shown_steps))]
+#[tactic(auto, using(crate::proofs::PaintLemmas::paint_steps, crate::proofs::PaintedLemmas::shown_steps, crate::proofs::RefusedLemmas::so_far_steps))]
 fn paint_graphemes(
     alloc: Global,
     cells: &mut [Cell],
@@ -176,6 +182,8 @@ fn paint_graphemes(
         OnOk result (HasPieces start ps cells.old cells.new) }
     ensures err { let ps = text_pieces room style text.now in
         OnErr result (IsSameOutside start (start + columns ps) cells.old cells.new) }
+    ensures front { let ps = text_pieces room style text.now in
+        OnErr result (HasFront start ps cells.old cells.new) }
     ensures marks { KeepsUnmarked cells.old cells.new }
     ensures short { AreShort (text_pieces room style text.now) → IsOk result }
 {

@@ -3,6 +3,7 @@ use Rattle.std.proofs.Common.{◌≡◌, ◌∷◌, ◌+◌, rules, arith, drop,
 use Rattle.rtui_style.specs.Style.{patch}
 use Rattle.rtui_buffer.proofs.LineLemmas.{span-columns, span-first, span-painted, span-outside, span-refused, span-short, columns-done, painted-done, line_pieces-none, line_pieces-end, spans-more, HasPieces-line}
 use Rattle.rtui_buffer.proofs.PaintLemmas.{unmarked-refl, unmarked-then}
+use Rattle.rtui_buffer.proofs.RefusedLemmas.{so_far-span, HasFront-span}
 use Rattle.rtui_buffer.proofs.buffer.lines.paint_spans.Goals as goal
 
 pub loop-span-preserved : goal.loop-span-preserved
@@ -17,6 +18,7 @@ loop-span-preserved c =
       within = omega (arith, c.in_ok-used.ensures.fits);
       columns = span-columns c.args.base c.args.start c.loop-span.used c.args.room _ _ _ c.span-item.result more wide _ i.columns;
       cells = span-painted c.args.base c.args.start c.loop-span.used c.args.room _ _ _ c.span-item.result more wide _ _ _ put i.cells;
+      so_far = so_far-span c.args.base c.args.start c.loop-span.used c.args.room _ _ _ c.span-item.result more wide _ _ _ _ put i.so_far;
       short = λ all. (span-short c.args.base c.loop-span.used c.args.room _ _ _ c.span-item.result more wide (i.short all)).1;
       outside = span-outside _ _ _ _ _ _ _ i.outside c.in_ok-used.ensures.columns c.in_ok-used.ensures.shown.outside;
       marks = unmarked-then _ _ _ i.marks c.in_ok-used.ensures.marks;
@@ -69,4 +71,14 @@ returns-clause-shown c =
 pub returns-in_err-used-clause-marks : goal.returns-in_err-used-clause-marks
 returns-in_err-used-clause-marks c =
     let o = unmarked-then _ _ _ c.loop-span.invariant.marks c.in_err-used.ensures.marks in
+    search (rules, o)
+
+pub returns-in_err-used-clause-front : goal.returns-in_err-used-clause-front
+returns-in_err-used-clause-front c =
+    let i = c.loop-span.invariant in
+    let more : drop c.loop-span.span-index c.args.spans.now ≡ c.span-item.result ∷ drop (c.loop-span.span-index + 1) c.args.spans.now =
+    spans-more c.args.spans.now c.loop-span.span-index c.span-item.result c.loop-span-test.true ∙ ap (λ s. s ∷ drop (c.loop-span.span-index + 1) c.args.spans.now) (sym c.span-item.is) in
+    let style : c.patch-style.result ≡ patch c.args.base c.span-item.result.style = c.patch-style.ensures ∙ ap (λ s. patch c.args.base s.style) c.span.view_is in
+    let front = rw (style, c.text.ensures) at c.in_err-used.ensures.front in
+    let o = HasFront-span c.args.base c.args.start c.loop-span.used c.args.room _ _ _ c.span-item.result more refl _ _ _ _ c.requires.inside i.so_far front in
     search (rules, o)
