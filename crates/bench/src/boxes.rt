@@ -1,99 +1,94 @@
-//! Workloads of boxes that share their borders.
-use crate::sheets::sum;
+//! Boxes that share their borders.
 use ratatui_core::buffer::Buffer;
 use ratatui_core::layout::{Position, Rect};
 use ratatui_core::symbols::merge::MergeStrategy;
 use std::alloc::{AllocError, Global};
 
-type Done = Result<(u64, u64), AllocError>;
-
-// A box's first and last column and row.
+/// How boxes stand in a buffer: their size, how far one is from the next, and how their borders are joined.
 #[derive(Clone, Copy)]
-struct Edges {
-    left: u16,
-    top: u16,
+pub struct Border {
+    width: u16,
+    height: u16,
     right: u16,
-    bottom: u16,
-}
-
-// One symbol of a border, over what stands there.
-fn edge(
-    alloc: Global,
-    buffer: &mut Buffer,
-    x: u16,
-    y: u16,
-    symbol: &str,
+    down: u16,
     strategy: MergeStrategy,
-) -> Result<(), AllocError> {
-    match buffer.cell_mut(Position { x, y }) {
-        Some(cell) => cell.merge_symbol(alloc, symbol, strategy),
-        None => Ok(()),
-    }
 }
 
-fn sides(
-    alloc: Global,
-    buffer: &mut Buffer,
-    edges: Edges,
-    strategy: MergeStrategy,
-) -> Result<(), AllocError> {
-    for x in edges.left.saturating_add(1)..edges.right {
-        edge(alloc, buffer, x, edges.top, "─", strategy)?;
-        edge(alloc, buffer, x, edges.bottom, "─", strategy)?;
+impl Border {
+    /// Boxes of 20 columns and 6 rows, each of which shares a side with the next one.
+    pub fn joined(strategy: MergeStrategy) -> Border {
+        Border {
+            width: 20,
+            height: 6,
+            right: 19,
+            down: 5,
+            strategy,
+        }
     }
-    for y in edges.top.saturating_add(1)..edges.bottom {
-        edge(alloc, buffer, edges.left, y, "│", strategy)?;
-        edge(alloc, buffer, edges.right, y, "│", strategy)?;
-    }
-    Ok(())
-}
 
-fn corners(
-    alloc: Global,
-    buffer: &mut Buffer,
-    edges: Edges,
-    strategy: MergeStrategy,
-) -> Result<(), AllocError> {
-    edge(alloc, buffer, edges.left, edges.top, "┌", strategy)?;
-    edge(alloc, buffer, edges.right, edges.top, "┐", strategy)?;
-    edge(alloc, buffer, edges.left, edges.bottom, "└", strategy)?;
-    edge(alloc, buffer, edges.right, edges.bottom, "┘", strategy)
-}
-
-// Boxes of 20 columns and 6 rows from this row on, side by side.
-fn row_of_boxes(
-    alloc: Global,
-    buffer: &mut Buffer,
-    top: u16,
-    strategy: MergeStrategy,
-) -> Result<(), AllocError> {
-    for k in 0..buffer.area().width.saturating_sub(1) / 19 {
-        let left = k * 19;
-        let edges = Edges {
-            left,
-            top,
-            right: left.saturating_add(19),
-            bottom: top.saturating_add(5),
-        };
-        sides(alloc, buffer, edges, strategy)?;
-        corners(alloc, buffer, edges, strategy)?;
+    /// Boxes of ten columns and six rows, side by side.
+    pub fn apart() -> Border {
+        Border {
+            width: 10,
+            height: 6,
+            right: 10,
+            down: 6,
+            strategy: MergeStrategy::Replace,
+        }
     }
-    Ok(())
-}
 
-fn grid(alloc: Global, buffer: &mut Buffer, strategy: MergeStrategy) -> Result<(), AllocError> {
-    for k in 0..buffer.area().height.saturating_sub(1) / 5 {
-        row_of_boxes(alloc, buffer, k * 5, strategy)?;
+    // Puts one symbol over what stands there, if the buffer has that place.
+    fn put(
+        self,
+        alloc: Global,
+        buffer: &mut Buffer,
+        x: u16,
+        y: u16,
+        symbol: &str,
+    ) -> Result<(), AllocError> {
+        match buffer.cell_mut(Position { x, y }) {
+            Some(cell) => cell.merge_symbol(alloc, symbol, self.strategy),
+            None => Ok(()),
+        }
     }
-    Ok(())
-}
 
-/// Draws a grid of boxes that share their borders, on an empty buffer.
-pub fn boxes(alloc: Global, width: u16, height: u16, count: u64, strategy: MergeStrategy) -> Done {
-    let mut buffer = Buffer::empty(alloc, Rect::new(0, 0, width, height))?;
-    for _round in 0..count {
-        buffer.reset();
-        grid(alloc, &mut buffer, strategy)?;
+    // Draws the box whose first corner this is.
+    fn draw(
+        self,
+        alloc: Global,
+        buffer: &mut Buffer,
+        left: u16,
+        top: u16,
+    ) -> Result<(), AllocError> {
+        let right = left.saturating_add(self.width.saturating_sub(1));
+        let bottom = top.saturating_add(self.height.saturating_sub(1));
+        for x in left.saturating_add(1)..right {
+            self.put(alloc, buffer, x, top, "─")?;
+            self.put(alloc, buffer, x, bottom, "─")?;
+        }
+        for y in top.saturating_add(1)..bottom {
+            self.put(alloc, buffer, left, y, "│")?;
+            self.put(alloc, buffer, right, y, "│")?;
+        }
+        self.put(alloc, buffer, left, top, "┌")?;
+        self.put(alloc, buffer, right, top, "┐")?;
+        self.put(alloc, buffer, left, bottom, "└")?;
+        self.put(alloc, buffer, right, bottom, "┘")
     }
-    Ok((count, sum(&buffer)))
+
+    /// Draws the boxes that have room.
+    pub fn grid(self, alloc: Global, buffer: &mut Buffer) -> Result<(), AllocError> {
+        let Rect { width, height, .. } = *buffer.area();
+        let shared = self.width.saturating_sub(self.right);
+        let columns = width.saturating_sub(shared).checked_div(self.right);
+        let shared = self.height.saturating_sub(self.down);
+        let rows = height.saturating_sub(shared).checked_div(self.down);
+        for row in 0..rows.unwrap_or(0) {
+            for column in 0..columns.unwrap_or(0) {
+                let left = column.saturating_mul(self.right);
+                self.draw(alloc, buffer, left, row.saturating_mul(self.down))?;
+            }
+        }
+        Ok(())
+    }
 }

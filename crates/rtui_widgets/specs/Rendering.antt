@@ -11,7 +11,7 @@ use Rattle.rtui_text.specs.Text.{SpanData, LineData, TextData, line_of}
 use Rattle.rtui_buffer.specs.Sheet.{Sheet, cell_index, cell_in}
 use Rattle.rtui_style.specs.Style.{new_style}
 use Rattle.rtui_buffer.specs.Sheet.{HasRow}
-use Rattle.rtui_buffer.specs.PaintedText.{pieces_at, AreShort, PaintsPieces}
+use Rattle.rtui_buffer.specs.PaintedText.{pieces_at, AreShort, PaintsFront, PaintsPieces}
 use Rattle.rtui_widgets.specs.Span.{span_rendered, IsShortSpan}
 use Rattle.rtui_widgets.specs.Line.{line_rendered, IsShortLine}
 
@@ -70,6 +70,10 @@ pub record HasFirstRow (area : Rect) (s : Sheet) : Type 0 where
 -- a text painted from the corner of an area on, in at most the area's columns
 abbrev pub RendersStr : List ℕ → Rect → Sheet → Sheet → Type 0
 RendersStr text area old = PaintsPieces (record { x = area.x; y = area.y }) (pieces_at old.area area.x area.width new_style text) old
+
+-- such a painting that was refused memory: a front of the text's graphemes is painted
+abbrev pub LeavesStr : List ℕ → Rect → Sheet → Sheet → Type 0
+LeavesStr text area old = PaintsFront (record { x = area.x; y = area.y }) (pieces_at old.area area.x area.width new_style text) old
 
 -- row k of a text takes no memory in these many columns
 abbrev pub IsShortRow : TextData → ℕ → ℕ → Type 0

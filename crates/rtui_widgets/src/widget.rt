@@ -62,6 +62,9 @@ pub trait StatefulWidget {
     // the area outside which nothing changes where it is refused: the given one, unless it says otherwise
     ghost reach: { Self → Rect → Rect } = { λ _ area. area };
 
+    // what else holds of the state and the buffer where it is refused: nothing, unless it says more
+    ghost leaves: { Self → Self.State → Self.State → Rect → Sheet → Sheet → Type 0 } = { λ _ _ _ _ _ _. ⊤ };
+
     // where it takes no memory: nowhere, unless it says otherwise
     ghost is_short: { Self → Self.State → Rect → Sheet → Type 0 } = { λ _ _ _ _. ⊥ };
 
@@ -72,6 +75,7 @@ pub trait StatefulWidget {
         ensures area { buf.new.area ≡ buf.old.area }
         ensures ok { OnOk result (renders self state.old state.new area buf.old buf.new) }
         ensures err { OnErr result (ChangesWithin (reach self area) buf.old buf.new) }
+        ensures left { OnErr result (leaves self state.old state.new area buf.old buf.new) }
         ensures short { is_short self state.old area buf.old → IsOk result };
 }
 
@@ -191,13 +195,15 @@ impl<W: Widget> Widget for Option<W> {
 /// Painted from the corner of the area on, in at most its columns. The area's first row has to lie in the buffer, and not to
 /// begin left of it.
 impl<'a> Widget for &'a str {
-    ghost use Rattle.rtui_widgets.specs.Rendering.{HasFirstRow, RendersStr, RendersShortStr};
+    ghost use Rattle.rtui_widgets.specs.Rendering.{HasFirstRow, LeavesStr, RendersStr, RendersShortStr};
 
     ghost can_render = { λ _. HasFirstRow };
 
     ghost renders = { λ text. RendersStr text.now };
 
     ghost reach = { λ _. first_row };
+
+    ghost leaves = { λ text. LeavesStr text.now };
 
     ghost is_short = { λ text. RendersShortStr text.now };
 
@@ -210,13 +216,15 @@ impl<'a> Widget for &'a str {
 /// As a `&str`.
 impl Widget for String {
     ghost use Rattle.std.specs.String.{string_bytes};
-    ghost use Rattle.rtui_widgets.specs.Rendering.{HasFirstRow, RendersStr, RendersShortStr};
+    ghost use Rattle.rtui_widgets.specs.Rendering.{HasFirstRow, LeavesStr, RendersStr, RendersShortStr};
 
     ghost can_render = { λ _. HasFirstRow };
 
     ghost renders = { λ text. RendersStr (string_bytes text) };
 
     ghost reach = { λ _. first_row };
+
+    ghost leaves = { λ text. LeavesStr (string_bytes text) };
 
     ghost is_short = { λ text. RendersShortStr (string_bytes text) };
 

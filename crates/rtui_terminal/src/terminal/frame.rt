@@ -74,6 +74,8 @@ impl Frame<'_> {
         ensures ok { OnOk result (W.renders widget area self.old.buffer.now self.new.buffer.now) }
         ensures err { let reach = W.reach widget area in
             OnErr result (ChangesWithin reach self.old.buffer.now self.new.buffer.now) }
+        ensures left { OnErr result (W.leaves widget area
+            self.old.buffer.now self.new.buffer.now) }
         ensures short { W.is_short widget area self.old.buffer.now → IsOk result }
     {
         widget.render(area, self.buffer)
@@ -93,6 +95,8 @@ impl Frame<'_> {
             self.old.buffer.now self.new.buffer.now) }
         ensures err { let reach = W.reach widget area in
             OnErr result (ChangesWithin reach self.old.buffer.now self.new.buffer.now) }
+        ensures left { OnErr result (W.leaves widget state.old state.new area
+            self.old.buffer.now self.new.buffer.now) }
         ensures short { W.is_short widget state.old area self.old.buffer.now → IsOk result }
     {
         widget.render(area, self.buffer, state)
