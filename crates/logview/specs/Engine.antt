@@ -14,7 +14,7 @@ use Rattle.logview.specs.Size.{parsed_size}
 use Rattle.logview.specs.declared.fault.LogFault.{LogFault}
 use Rattle.logview.specs.declared.fault.LogFault.TheVariants as fault
 
--- the screen of a log from a blank one on: a row for each line, those that have no room scrolled off, behind them the status line, and blank
+-- the screen of a log from a blank one on: a row for each line, those that have no room scrolled off, after them the status line, and blank
 -- rows below it
 pub record ShowsLog (size : Size) (log : List (List ℕ)) (s : Screen) : Type 0 where
   pub size_is : size_of s ≡ size
@@ -29,7 +29,7 @@ abbrev pub size_of_log : List (List ℕ) → Option Size
 size_of_log [] = None
 size_of_log (first ∷ rest) = parsed_size first
 
--- the view shows the lines of a log behind the first one, on a screen of the size that that one says
+-- the view shows the lines of a log after the first one, on a screen of the size that that one says
 pub record IsLogView {E : Type 0} (log : List (List ℕ)) (v : LogView TestBackend E) : Type 0 where
   pub size : Size
   pub first : size_of_log log ≡ Some size
@@ -40,7 +40,7 @@ pub record IsLog (bytes : List ℕ) (size : Size) : Type 0 where
   pub text : IsUtf8 bytes
   pub first : size_of_log (lines bytes) ≡ Some size
 
--- the writer took the printed screen of the log: of a blank screen of its size, and of its lines behind the first one
+-- the writer took the printed screen of the log: of a blank screen of its size, and of its lines after the first one
 pub record PrintsLog (bytes : List ℕ) (old new : Option (List ℕ)) : Type 0 where
   pub size : Size
   pub is : IsLog bytes size

@@ -8,7 +8,7 @@ use Rattle.ratatui_core.specs.Terminal.{IsRowOf}
 abbrev pub counted : ℕ → ℕ
 counted n = min n (2 ^ 64 - 1)
 
--- the status line behind so many lines
+-- the status line after so many lines
 abbrev pub status_text : ℕ → List ℕ
 status_text count = codes "lines: " ++ decimal count
 

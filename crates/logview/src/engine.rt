@@ -114,7 +114,7 @@ fn write_view<W: Write>(writer: &mut W, view: &LogView<TestBackend>) -> io::Resu
 }
 
 /// Reads a log to its end: a line `W H` of columns and rows, both from 1 to 65535, and then any lines. It shows them on a
-/// screen of that size, and writes the rows that scrolled off, each behind `^`, and those of the screen, each behind `|`.
+/// screen of that size, and writes the rows that scrolled off, each after `^`, and those of the screen, each after `|`.
 /// With any fault but `Write` nothing was written.
 pub fn run<R: Read, W: Write>(alloc: Global, reader: &mut R, writer: &mut W) -> Result<(), LogFault>
     ensures printed { OnOk result (IfSome (R.remaining reader.old) (λ bytes.

@@ -17,7 +17,7 @@ use ratatui_core::widgets::Widget;
 use ratatui_core::widgets::laws::ascii_texts_take_no_memory;
 use std::alloc::{AllocError, Global};
 
-// Renders a text in the first row of an area, where the buffer has that row.
+// Renders a text in the first row of an area, if the buffer has that row.
 fn render_row(text: &str, area: Rect, buffer: &mut Buffer) -> Result<(), AllocError>
     ensures area { buffer.new.area ≡ buffer.old.area }
     ensures ok { HasFirstRow area buffer.old
@@ -59,7 +59,7 @@ pub struct LogView<B: Backend> {
 
 impl<B: Backend + Drop> LogView<B> {
     /// A view without lines: its status line stands in the cursor's row, or in the last one. It is refused as the start of a
-    /// terminal is: for want of memory, where the screen has cells, or by the backend; then the backend is dropped.
+    /// terminal is: for want of memory, if the screen has cells, or by the backend; then the backend is dropped.
     pub fn new(alloc: Global, backend: B) -> Result<LogView<B>, TerminalError<B::Error>>
         ensures started { IsBlank (B.screen backend) → 0 < (B.screen backend).height
             → IfOk result (StartsView B.screen backend) }
@@ -120,7 +120,7 @@ impl<B: Backend> LogView<B> {
     }
 
     /// Appends a line: a row of the screen's width with as much of it as fits. The rows below the status line stay. It is refused
-    /// where memory is, which changes nothing, or by the backend, in the insertion of the row or after it was counted; then the
+    /// if memory is, which changes nothing, or by the backend, in the insertion of the row or after it was counted; then the
     /// screen may show anything.
     pub fn push(&mut self, line: &str) -> Result<(), TerminalError<B::Error>>
         ensures pushed { IsFollowing B.screen self.old

@@ -3,7 +3,7 @@
 //! It prints the name of each case and what came of it: `accepted`; `refused, and as it was` where memory was refused to the call,
 //! what it must leave stands, and the same call was then accepted; `not ready` where memory was refused before the call; and else
 //! `broken`. `refusals REQUEST` first makes so many requests of its own that the one of number `LAST` is that request of the cases,
-//! counted from the start of the program, and says where it was refused in front of them or behind them. `tools/refusals` has each
+//! counted from the start of the program, and says if it was refused before them or after them. `tools/refusals` has each
 //! request refused in turn.
 #![tactic(auto)]
 
@@ -168,17 +168,17 @@ fn asked(rt: &HostRuntime) -> Option<usize> {
     words.next()?.as_str().parse::<usize>().ok()
 }
 
-// Runs the cases behind and in front of requests of its own.
+// Runs the cases between requests of its own.
 fn run(rt: &HostRuntime) -> io::Result<()> {
     let Some(number) = asked(rt) else {
         return report_all(rt);
     };
     if request(rt.alloc(), LAST.saturating_sub(number)) > 0 {
-        return println!(rt; "in front of the cases");
+        return println!(rt; "before the cases");
     }
     report_all(rt)?;
     if request(rt.alloc(), number) > 0 {
-        return println!(rt; "behind the cases");
+        return println!(rt; "after the cases");
     }
     Ok(())
 }

@@ -7,7 +7,7 @@ use Rattle.rtui_backend.specs.Screen.{Screen, rows_above}
 use Rattle.rtui_rows.specs.Rows.{RowsFit, IsBlankAt, IsNarrowSheet, nonempty_cells, WritesAtMost}
 use Rattle.rtui_rows.specs.Insertion.{KeepsSizeAndVisibility, HasPlaceAbove, AppendsPart}
 
--- the first k rows of a buffer were scrolled off from the screen's first row, which is blank behind them, and all rows below it are as before;
+-- the first k rows of a buffer were scrolled off from the screen's first row, which is blank after them, and all rows below it are as before;
 -- at most the cells of the rows were written, and of a narrow buffer at most one whole row and else what isn't blank
 pub record HasPushed (s : Sheet) (k : ℕ) (old new : Screen) : Type 0 where
   pub shape : KeepsSizeAndVisibility old new

@@ -20,8 +20,8 @@ where
     draw_fn(buffer)
 }
 
-/// What a closure leaves of an empty buffer of this area. Refused where the buffer has cells and was refused memory,
-/// in which case the closure isn't called, or where the closure refuses.
+/// What a closure leaves of an empty buffer of this area. Refused if the buffer has cells and was refused memory,
+/// in which case the closure isn't called, or if the closure refuses.
 pub fn fill_rows<F>(alloc: Global, area: Rect, draw_fn: F) -> Result<Buffer, AllocError>
 where
     F: FnOnce(&mut Buffer) -> Result<(), AllocError>,

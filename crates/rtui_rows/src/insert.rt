@@ -13,7 +13,7 @@ use rtui_buffer::Buffer;
 use rtui_geometry::Rect;
 
 /// Puts the rows of a buffer on the screen's first row, one after the other, and scrolls each off from there. The first row
-/// is blank behind that, and all rows below it are as before.
+/// is blank after that, and all rows below it are as before.
 pub fn push_rows<B: Backend>(
     backend: &mut B,
     blank: &mut Buffer,
@@ -38,7 +38,7 @@ pub fn push_rows<B: Backend>(
 }
 
 /// Moves a viewport down by as many rows as there are and the screen of `height` rows has room for, and draws the first
-/// rows of a buffer where it stood. Answers how many.
+/// rows of a buffer at the place where it stood. Answers how many.
 pub fn insert_down<B: Backend>(
     backend: &mut B,
     blank: &Buffer,

@@ -29,7 +29,7 @@ module _ {B : Type 0} (screen : B → Screen) where
     pub in_step : IsReady screen s → IsSettledSheet t.older → IsInStep screen t
     pub keeps : IsInStep screen s → IsSized screen s → IsSettledSheet t.older → KeepsAroundViewport screen s t
 
-  -- a draw that was refused for what its closure answered or left: behind the resize only the current buffer changed
+  -- a draw that was refused for what its closure answered or left: after the resize only the current buffer changed
   pub record RefusesFrame (s t : State B) : Type 0 where
     pub sized : State B
     pub autoresized : Autoresizes screen s sized

@@ -104,7 +104,7 @@ module _ {B : Type 0} (screen : B → Screen) where
   IsSteady Refuse s t = HasKnownSize s t
   IsSteady other s t = Unit {0}
 
-  -- the older buffer is as before, or, where a viewport that isn't fixed met another size, empty
+  -- the older buffer is as before, or, if a viewport that isn't fixed met another size, empty
   abbrev pub IsKeptOrEmptied : State B → State B → Type 0
   IsKeptOrEmptied s t = (t.older ≡ s.older) ⊎ ((IsFixed s.viewport → ⊥) × (HasKnownSize s t → ⊥) × IsEmptied t.viewport_area t.older)
 

@@ -21,7 +21,7 @@ use Rattle.rtui_terminal.specs.declared.terminal.error.TerminalError.TheVariants
 abbrev pub inserted_area : {B : Type 0} → State B → ℕ → Rect
 inserted_area s height = record { x = 0; y = 0; width = s.viewport_area.width; height = height }
 
--- the top of an inline viewport behind n rows that came in above it: as far down as there is room
+-- the top of an inline viewport after n rows that came in above it: as far down as there is room
 abbrev pub top_behind : {B : Type 0} → ℕ → State B → ℕ
 top_behind n s = s.viewport_area.y + min n (s.known_area.height - (s.viewport_area.y + s.viewport_area.height))
 

@@ -13,7 +13,7 @@ use Rattle.rtui_terminal.specs.declared.terminal.error.TerminalError.{TerminalEr
 use Rattle.rtui_terminal.specs.declared.terminal.error.TerminalError.TheVariants.{Area, Backend, Closure, Memory}
 use Rattle.rtui_terminal.specs.Cursor.{Stays}
 
--- the same list of cells over another area, cut, or with empty cells behind it
+-- the same list of cells over another area, cut, or with empty cells after them
 pub record IsResized (area : Rect) (old new : Sheet) : Type 0 where
   pub area_is : new.area ≡ area
   pub cells : new.cells ≡ take (area_size area) old.cells ++ empty_cells (area_size area - length old.cells)
@@ -51,13 +51,13 @@ module _ {B : Type 0} (screen : B → Screen) where
     pub on_screen : area ≡ screen_area (screen s.backend) → IsOnScreen t.viewport_area (screen t.backend)
     pub in_step : IsOnScreen t.viewport_area (screen t.backend) → IsInStep screen t
 
-  -- a backend failed in a resize, before the viewport and both buffers had got their new area, or behind that; the last known area stays
+  -- a backend failed in a resize, before the viewport and both buffers had got their new area, or after that; the last known area stays
   pub record FailsResizing (area : Rect) (s t : State B) : Type 0 where
     pub rest : t ≡ record s { backend = t.backend; current = t.current; older = t.older; viewport_area = t.viewport_area }
     pub left : KeepsBuffers s t ⊎ (ResizesBuffers s t × (t.viewport_area ≡ raised s.viewport_area.width (area_in s.viewport area (cursor_offset s) (screen s.backend).cursor_y)))
     pub areas : HasAreas s → HasAreas t
 
-  -- a refused resize: for want of memory, where a buffer had no room, and then nothing changed but the room of the buffers
+  -- a refused resize: for want of memory, if a buffer had no room, and then nothing changed but the room of the buffers
   abbrev pub ResizeErr : {E : Type 0} → Rect → State B → State B → TerminalError E → Type 0
   ResizeErr area s t (Backend error) = FailsResizing area s t
   ResizeErr area s t Memory = LacksRoom area s × (t ≡ record s { current = t.current; older = t.older }) × IsSameSheet s.current t.current × IsSameSheet s.older t.older

@@ -37,7 +37,7 @@ pub record ShowsText (text : List ℕ) (area : Rect) (g : Grid) : Type 0 where
   pub painted : IsPaintedText text sheet
   pub shown : ShowsSheet sheet g
 
--- how a closure renders a text in the first row of a buffer, where the buffer has it
+-- how a closure renders a text in the first row of a buffer, if the buffer has it
 abbrev pub RendersRow : List ℕ → Rect → Sheet → Sheet → Type 0
 RendersRow text area old new = HasFirstRow area old → RendersStr text area old new
 

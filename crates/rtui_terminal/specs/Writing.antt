@@ -39,7 +39,7 @@ abbrev pub last_place : Position → List Update → Position
 last_place p [] = p
 last_place p (u ∷ us) = last_place (record { x = u.x; y = u.y }) us
 
--- the cursor that is known behind some updates; only an inline viewport asks for it
+-- the cursor that is known after some updates; only an inline viewport asks for it
 abbrev pub known_behind : Viewport → Position → List Update → Position
 known_behind Fullscreen p us = p
 known_behind (Inline rows) p us = last_place p us
@@ -48,7 +48,7 @@ known_behind (Fixed r) p us = p
 abbrev pub cursor_behind : {B : Type 0} → State B → Position
 cursor_behind s = known_behind s.viewport s.known_cursor (sheet_updates s.older s.current)
 
--- the cursor that is known behind a frame: a placed one, else the one behind its updates
+-- the cursor that is known after a frame: a placed one, else the one after its updates
 abbrev pub cursor_after : {B : Type 0} → Option Position → State B → Position
 cursor_after None s = cursor_behind s
 cursor_after (Some placed) s = placed
@@ -110,7 +110,7 @@ module _ {B : Type 0} (screen : B → Screen) where
     pub current : IsEmptied s.viewport_area t.current
     pub rest : t ≡ record written { backend = t.backend; current = t.current; older = t.older }
 
-  -- a refused apply: a backend failed before the swap of the buffers, or behind it, or a buffer hadn't the viewport's area
+  -- a refused apply: a backend failed before the swap of the buffers, or after it, or a buffer hadn't the viewport's area
   abbrev pub ApplyErr : {E : Type 0} → Option Position → State B → State B → TerminalError E → Type 0
   ApplyErr cursor s t (Backend error) = FailsWriting cursor s t ⊎ FailsFlushing cursor s t
   ApplyErr cursor s t Memory = ⊥

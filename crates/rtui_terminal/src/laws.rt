@@ -30,13 +30,13 @@ pub fn rows_above_are_those_inserted<B: Backend>()
     ensures { KeepsRows B.screen }
 {}
 
-/// An empty current buffer is still empty, and covers the viewport, where a draw found another size.
+/// An empty current buffer is still empty, and covers the viewport, if a draw found another size.
 pub fn empty_buffers_stay_empty<B: Backend>()
     ensures { (s sized : State B) → Autoresizes B.screen s sized
         → IsEmptied s.viewport_area s.current → IsEmptied sized.viewport_area sized.current }
 {}
 
-/// An empty current buffer is still empty, and covers the viewport, where rows came in above that.
+/// An empty current buffer is still empty, and covers the viewport, if rows came in above that.
 pub fn empty_buffers_move_with_an_insertion<B: Backend>()
     ensures { (inserted : Sheet) (s t : State B) → Inserts B.screen inserted s t
         → IsEmptied s.viewport_area s.current → IsEmptied t.viewport_area t.current }
@@ -48,7 +48,7 @@ pub fn one_row_starts_at_the_cursor<B: Backend>()
         → StartsInRow B.screen b t }
 {}
 
-/// On a blank screen a terminal starts in step where its viewport lies on the screen, which is blank still.
+/// On a blank screen a terminal starts in step if its viewport lies on the screen, which is blank still.
 pub fn blank_screens_start_in_step<B: Backend>()
     ensures in_step { (v : Viewport) (b : B) (t : State B) → Starts B.screen v b t
         → IsOnScreen t.viewport_area (B.screen t.backend) → IsBlank (B.screen b)

@@ -8,7 +8,7 @@ use Rattle.rtui_viewport.specs.Areas.{Empties}
 use Rattle.rtui_viewport.specs.declared.viewport.Viewport.{Viewport}
 use Rattle.rtui_viewport.specs.declared.viewport.Viewport.TheVariants.{Fullscreen, Inline, Fixed}
 
--- the lines that n wanted rows need below the cursor's row, where o of them lie above it
+-- the lines that n wanted rows need below the cursor's row, if o of them lie above it
 abbrev pub lines_below : ℕ → ℕ → ℕ
 lines_below n o = n - o - 1
 

@@ -101,7 +101,7 @@ pub fn clear_area<B: Backend>(
     }
 }
 
-/// Sets the cursor back to a place, where there is one.
+/// Sets the cursor back to a place, if there is one.
 pub fn restore_cursor<B: Backend>(backend: &mut B, cursor: Option<Position>) -> Result<(), B::Error>
     ensures restored { OnOk result
         (B.screen backend.new ≡ cursor_restored cursor (B.screen backend.old)) }

@@ -9,7 +9,7 @@ use crate::viewport::Viewport;
 use rtui_backend::{Backend, ClearType};
 use rtui_geometry::{Position, Rect, Size};
 
-/// Where a viewport went, and the cursor that is to be set again behind an inline one.
+/// Where a viewport went, and the cursor that is to be set again after an inline one.
 #[derive(Debug, Clone, Copy, PartialEq, Eq)]
 pub struct Placed {
     pub area: Rect,
@@ -17,7 +17,7 @@ pub struct Placed {
 }
 
 /// Makes room for an inline viewport of `wanted` rows on a screen of this size, of which `offset` are to lie
-/// above the cursor's row: where they don't fit below it, the screen scrolls. It answers the viewport's area, and
+/// above the cursor's row: if they don't fit below it, the screen scrolls. It answers the viewport's area, and
 /// where the cursor was.
 pub fn place_inline<B: Backend>(
     backend: &mut B,
@@ -51,7 +51,7 @@ pub fn place_inline<B: Backend>(
     Ok((area, cursor))
 }
 
-// Empties the whole screen where a viewport became narrower, which then goes to the top.
+// Empties the whole screen if a viewport became narrower, which then goes to the top.
 fn raise<B: Backend>(backend: &mut B, area: Rect, former_width: u16) -> Result<Rect, B::Error>
     requires { EdgesFit area }
     ensures area { IfOk result (λ r. r ≡ raised former_width area) }

@@ -23,7 +23,7 @@ pub fn first_area<B: Backend>(backend: &mut B, viewport: Viewport) -> Result<Rec
     Ok(Rect::from(backend.size()?))
 }
 
-/// The area that a viewport must be placed on anew: the whole screen, where that isn't the last known one. A fixed
+/// The area that a viewport must be placed on anew: the whole screen, if that isn't the last known one. A fixed
 /// viewport stays, and no call is made for it.
 pub fn changed_area<B: Backend>(
     backend: &mut B,

@@ -38,7 +38,7 @@ inserted_from steps i (suc n) = texts_inserted_by (slice_get steps i) ++ inserte
 abbrev pub scene_size : Scene → Size
 scene_size scene = sight_size (sight_of scene)
 
--- n scenes behind scene i have its size
+-- n scenes after scene i have its size
 abbrev pub KeepsSizeFor : List Scene → ℕ → ℕ → Size → Type 0
 KeepsSizeFor scenes i n size = (k : ℕ) (scene : Scene) → i ≤ k → k ≤ i + n → slice_get scenes k ≡ Some scene → scene_size scene ≡ size
 

@@ -13,7 +13,7 @@ use Rattle.screenplay.specs.declared.scene.Stage.{Stage}
 abbrev pub CountsTexts : Waiting → ℕ → Type 0
 CountsTexts w n = n ≡ min (length w.text.lines) (2 ^ 64 - 1)
 
--- these lines were read: they are good, and these are their stage, how many texts wait behind them, and their commands
+-- these lines were read: they are good, and these are their stage, how many texts wait after them, and their commands
 pub record HasRead (done : List (List ℕ)) (stage : Option Stage) (texts : ℕ) (commands : List Command) : Type 0 where
   pub good : AreGood (length done) done
   pub stage_is : stage ≡ stage_of (commands_of done)
@@ -49,7 +49,7 @@ kept_text text = record text { lines = take 65535 text.lines }
 abbrev pub kept_waiting : Waiting → Waiting
 kept_waiting w = record w { text = kept_text w.text }
 
--- what is kept of what waits behind a command
+-- what is kept of what waits after a command
 abbrev pub kept_after : Command → Waiting → Waiting
 kept_after (SetStage stage) w = w
 kept_after (TakeSize size) w = waiting_after (TakeSize size) w

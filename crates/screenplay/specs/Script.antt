@@ -37,7 +37,7 @@ char_if text (Some c) = if (length text == length (encode_utf8 c)) && (text_widt
 unfoldable pub char_of : List ℕ → Option ℕ
 char_of text = char_if text (slice_get (chars text) 0)
 
--- the words of a text: the first, and what stands behind the blank after it
+-- the words of a text: the first, and what stands after the blank after it
 abbrev pub first_word : List ℕ → List ℕ
 first_word text = before_first is_blank text
 
@@ -186,7 +186,7 @@ without_text w = record w { text = text_of [] }
 abbrev pub with_line : List ℕ → TextData → TextData
 with_line line text = record text { lines = text.lines ++ raw_line line ∷ [] }
 
--- what waits behind a command
+-- what waits after a command
 abbrev pub waiting_after : Command → Waiting → Waiting
 waiting_after (SetStage stage) w = w
 waiting_after (TakeSize size) w = record w { size = Some size }
@@ -197,7 +197,7 @@ waiting_after Insert w = without_text w
 waiting_after Clear w = w
 waiting_after Show w = w
 
--- and behind all of some commands
+-- and after all of some commands
 abbrev pub waiting_behind : List Command → Waiting → Waiting
 waiting_behind [] w = w
 waiting_behind (c ∷ cs) w = waiting_behind cs (waiting_after c w)
@@ -207,12 +207,12 @@ abbrev pub may_insert : Waiting → Command → Bool
 may_insert w Insert = nat_le (length w.text.lines) 65535
 may_insert w other = true
 
--- a command may stand behind others
+-- a command may stand after others
 abbrev pub may_follow : List Command → Option Command → Bool
 may_follow before None = false
 may_follow before (Some c) = may_stand (stage_of before) c && may_insert (waiting_behind before nothing) c
 
--- a line is good behind those before it: it is empty, or its command may follow theirs
+-- a line is good after those before it: it is empty, or its command may follow theirs
 abbrev pub is_good_line : List (List ℕ) → List ℕ → Bool
 is_good_line before line = (length line == 0) || may_follow (commands_of before) (command_of line)
 
@@ -265,7 +265,7 @@ shows_of n (Insert ∷ cs) = shows_of (n + 1) cs
 shows_of n (Clear ∷ cs) = shows_of (n + 1) cs
 shows_of n (Show ∷ cs) = n ∷ shows_of n cs
 
--- the lines are a good script: this stage, these steps, and a scene to print behind each of these numbers of steps
+-- the lines are a good script: this stage, these steps, and a scene to print after each of these numbers of steps
 pub record IsScript (lines : List (List ℕ)) (stage : Option Stage) (steps : List Step) (shows : List ℕ) : Type 0 where
   pub good : AreGood (length lines) lines
   pub stage_is : stage ≡ stage_of (commands_of lines)

@@ -64,7 +64,7 @@ fn script_of(alloc: Global, bytes: &[u8]) -> Result<Script<'_>, RunFault>
     }
 }
 
-// Adds the printed text of what the screen shows, where a command says so.
+// Adds the printed text of what the screen shows, if a command says so.
 fn show(
     text: &mut Vec<u8>,
     terminal: &Terminal<TestBackend>,

@@ -27,7 +27,7 @@ use rtui_viewport::Viewport;
 use rtui_widgets::Widget;
 use std::alloc::{AllocError, Global};
 
-// Sets a character at a place of the screen, where the buffer has it.
+// Sets a character at a place of the screen, if the buffer has it.
 fn set_put(alloc: Global, buffer: &mut Buffer, x: u16, y: u16, ch: char) -> Result<(), AllocError>
     ensures { OnOk result (buffer.new ≡ with_put (x, y, ch) buffer.old) }
 {

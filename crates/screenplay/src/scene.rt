@@ -41,7 +41,7 @@ impl Puts {
         }
     }
 
-    /// One more put behind the others; where memory is refused nothing changes.
+    /// One more put after the others; if memory is refused, nothing changes.
     pub fn push(&mut self, x: u16, y: u16, ch: char) -> Result<(), AllocError>
         ensures ok { OnOk result (self.new ≡ self.old ++ (x, y, ch) ∷ []) }
         ensures err { OnErr result (self.new ≡ self.old) }

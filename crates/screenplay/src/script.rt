@@ -62,7 +62,7 @@ pub enum Command<'a> {
     Show,
 }
 
-// The first word of a text, and what stands behind the blank after it.
+// The first word of a text, and what stands after the blank that follows it.
 fn split_word(text: &str) -> (&str, &str)
     ensures first { result.0.now ≡ first_word text.now }
     ensures behind { result.1.now ≡ behind_word text.now }
@@ -252,7 +252,7 @@ fn read_command(line: &str) -> Option<Command<'_>>
     read_arguments(word, arguments)
 }
 
-// Whether a command may stand where this stage is set, or none.
+// Whether a command may stand if this stage is set, or none.
 fn may_stand(stage: Option<Stage>, command: &Command<'_>) -> bool
     ensures { result ≡ may_stand stage command.now }
 {
@@ -292,7 +292,7 @@ impl From<AllocError> for ScriptFault {
     }
 }
 
-// Whether a command may stand where so many texts wait.
+// Whether a command may stand if so many texts wait.
 fn may_insert(texts: usize, command: &Command<'_>) -> bool
     ensures { (w : Waiting) → CountsTexts w texts → result ≡ may_insert w command.now }
 {
@@ -302,7 +302,7 @@ fn may_insert(texts: usize, command: &Command<'_>) -> bool
     }
 }
 
-// How many texts wait behind a command.
+// How many texts wait after a command.
 fn texts_after(texts: usize, command: &Command<'_>) -> usize
     ensures { (w : Waiting) → CountsTexts w texts
         → CountsTexts (waiting_after command.now w) result }
@@ -314,7 +314,7 @@ fn texts_after(texts: usize, command: &Command<'_>) -> usize
     }
 }
 
-// The stage behind a command.
+// The stage after a command.
 fn stage_after(former: Option<Stage>, command: &Command<'_>) -> Option<Stage>
     ensures { result ≡ stage_after command.now former }
 {
@@ -324,7 +324,7 @@ fn stage_after(former: Option<Stage>, command: &Command<'_>) -> Option<Stage>
     }
 }
 
-// Takes a line into a script behind which so many texts wait; it answers whether it is good.
+// Takes a line into a script after which so many texts wait; it answers whether it is good.
 fn take_line<'a>(
     script: &mut Script<'a>,
     texts: &mut usize,

@@ -29,6 +29,15 @@ impl Answer {
         self.text.is_empty()
     }
 
+    /// Adds the answers of a call.
+    pub fn join(&mut self, answer: &Answer) -> Result<(), Fault> {
+        if !answer.is_empty() {
+            self.part()?;
+            self.text.push_str(answer.text.as_str())?;
+        }
+        Ok(())
+    }
+
     // Parts the next answer from the former one.
     fn part(&mut self) -> Result<(), AllocError> {
         if self.text.is_empty() {

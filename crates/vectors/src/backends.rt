@@ -204,7 +204,22 @@ pub fn clear_type(args: &mut Args<'_>, answer: &mut Answer) -> Result<(), Fault>
     crate::layouts::named::<ClearType>(args, answer)
 }
 
-/// A backend, and calls on it; what is seen of it at the end.
+// One call on a backend.
+fn step(
+    backend: &mut TestBackend,
+    alloc: Global,
+    tokens: &[Token],
+    answer: &mut Answer,
+) -> Result<(), Fault> {
+    let mut args = Args::new(alloc, tokens);
+    let word = args.word()?;
+    if !change(backend, word, &mut args, answer)? {
+        ask(backend, word, &mut args, answer)?;
+    }
+    args.end()
+}
+
+/// A backend, and calls on it; what is seen of it at the end. A call that is refused memory is made once more, over what it left.
 pub fn backend(
     alloc: Global,
     args: &mut Args<'_>,
@@ -212,13 +227,16 @@ pub fn backend(
     answer: &mut Answer,
 ) -> Result<(), Fault> {
     let mut backend = made(args)?;
-    for step in later {
-        let mut args = Args::new(alloc, step.as_slice());
-        let word = args.word()?;
-        if !change(&mut backend, word, &mut args, answer)? {
-            ask(&mut backend, word, &mut args, answer)?;
+    for each in later {
+        let tokens = each.as_slice();
+        let mut own = Answer::new(alloc);
+        let mut done = step(&mut backend, alloc, tokens, &mut own);
+        if let Err(Fault::Memory) = done {
+            own = Answer::new(alloc);
+            done = step(&mut backend, alloc, tokens, &mut own);
         }
-        args.end()?;
+        done?;
+        answer.join(&own)?;
     }
     put_backend(&backend, answer)
 }

@@ -426,7 +426,29 @@ fn both(
     Ok(true)
 }
 
-/// A buffer, and calls on it and on the one before it; then the buffer itself, unless the last call asks something.
+// One call on two buffers; whether it asks something.
+fn step(
+    former: &mut Buffer,
+    buffer: &mut Buffer,
+    alloc: Global,
+    tokens: &[Token],
+    answer: &mut Answer,
+) -> Result<bool, Fault> {
+    let mut args = Args::new(alloc, tokens);
+    let word = args.word()?;
+    let args = &mut args;
+    if !both(former, buffer, word, args, answer)?
+        && !paint(buffer, word, args, answer)?
+        && !reshape(buffer, word, args)?
+    {
+        ask(buffer, word, args, answer)?;
+    }
+    args.end()?;
+    Ok(is_question(word))
+}
+
+/// A buffer, and calls on it and on the one before it; then the buffer itself, unless the last call asks something. A call that
+/// is refused memory is made once more, over what it left.
 pub fn buffer(
     alloc: Global,
     args: &mut Args<'_>,
@@ -436,18 +458,16 @@ pub fn buffer(
     let mut former = Buffer::default_in(alloc);
     let mut buffer = made(args)?;
     let mut asked = false;
-    for step in later {
-        let mut args = Args::new(alloc, step.as_slice());
-        let word = args.word()?;
-        let args = &mut args;
-        if !both(&mut former, &mut buffer, word, args, answer)?
-            && !paint(&mut buffer, word, args, answer)?
-            && !reshape(&mut buffer, word, args)?
-        {
-            ask(&buffer, word, args, answer)?;
+    for each in later {
+        let tokens = each.as_slice();
+        let mut own = Answer::new(alloc);
+        let mut done = step(&mut former, &mut buffer, alloc, tokens, &mut own);
+        if let Err(Fault::Memory) = done {
+            own = Answer::new(alloc);
+            done = step(&mut former, &mut buffer, alloc, tokens, &mut own);
         }
-        asked = is_question(word);
-        args.end()?;
+        asked = done?;
+        answer.join(&own)?;
     }
     if asked { Ok(()) } else { answer.add(buffer) }
 }

@@ -175,7 +175,23 @@ fn made(args: &mut Args<'_>) -> Result<Cell, Fault> {
     }
 }
 
-/// A cell, and calls on it; the cell itself if nothing was asked.
+// One call on a cell.
+fn step(
+    cell: &mut Cell,
+    alloc: Global,
+    tokens: &[Token],
+    answer: &mut Answer,
+) -> Result<(), Fault> {
+    let mut args = Args::new(alloc, tokens);
+    let word = args.word()?;
+    if !change(cell, word, &mut args)? {
+        ask(cell, word, &mut args, answer)?;
+    }
+    args.end()
+}
+
+/// A cell, and calls on it; the cell itself if nothing was asked. A call that is refused memory is made once more, over what it
+/// left.
 pub fn cell(
     alloc: Global,
     args: &mut Args<'_>,
@@ -183,13 +199,16 @@ pub fn cell(
     answer: &mut Answer,
 ) -> Result<(), Fault> {
     let mut cell = made(args)?;
-    for step in later {
-        let mut args = Args::new(alloc, step.as_slice());
-        let word = args.word()?;
-        if !change(&mut cell, word, &mut args)? {
-            ask(&cell, word, &mut args, answer)?;
+    for each in later {
+        let tokens = each.as_slice();
+        let mut own = Answer::new(alloc);
+        let mut done = step(&mut cell, alloc, tokens, &mut own);
+        if let Err(Fault::Memory) = done {
+            own = Answer::new(alloc);
+            done = step(&mut cell, alloc, tokens, &mut own);
         }
-        args.end()?;
+        done?;
+        answer.join(&own)?;
     }
     if answer.is_empty() {
         answer.add(cell)

@@ -10,6 +10,8 @@ pub enum Fault {
     Requires,
     /// Memory was refused.
     Memory,
+    /// Memory was refused to a backend, after which nothing is promised.
+    Lost,
 }
 
 impl From<AllocError> for Fault {
@@ -25,12 +27,17 @@ impl<T: Drop> From<AllocFailed<T>> for Fault {
 }
 
 impl Fault {
+    /// Whether memory was refused.
+    pub fn is_memory(self) -> bool {
+        matches!(self, Fault::Memory | Fault::Lost)
+    }
+
     /// The word that stands for an answer.
     pub fn word(self) -> &'static str {
         match self {
             Fault::Unread => "unread",
             Fault::Requires => "requires",
-            Fault::Memory => "no memory",
+            Fault::Memory | Fault::Lost => "no memory",
         }
     }
 }

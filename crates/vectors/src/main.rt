@@ -1,7 +1,8 @@
 //! The program `vectors`: makes the calls that rows of text name, and compares what they answer with what the rows say.
 //!
 //! `vectors FILE..` reads files of rows. It prints for each file how many rows hold, or each row that doesn't with both answers, and
-//! then ends with status 1. `data/README.md` says what a row is.
+//! then ends with status 1. `data/README.md` says what a row is. For a number in place of a file it makes so many requests for memory
+//! of its own, and says which of them is refused, if one is: so `tools/refusals` chooses the request that is refused.
 #![tactic(auto)]
 
 mod answer;
@@ -49,11 +50,22 @@ fn check_file(rt: &HostRuntime, alloc: Global, name: &str) -> io::Result<usize> 
     Ok(failed)
 }
 
-// Checks the files that are named; how many rows don't hold.
+// Makes so many requests; the number of the one that is refused.
+fn request(alloc: Global, count: usize) -> Option<usize> {
+    (0..count).find(|_| String::from_str(alloc, "request").is_err())
+}
+
+// Does what the words say; how many rows don't hold.
 fn check_files(rt: &HostRuntime) -> io::Result<usize> {
     let mut failed = 0usize;
-    for name in env::args(rt)?.skip(1) {
-        failed = failed.saturating_add(check_file(rt, rt.alloc(), name.as_str())?);
+    for word in env::args(rt)?.skip(1) {
+        if let Ok(count) = word.as_str().parse::<usize>() {
+            if let Some(number) = request(rt.alloc(), count) {
+                println!(rt; "request {number} refused")?;
+            }
+        } else {
+            failed = failed.saturating_add(check_file(rt, rt.alloc(), word.as_str())?);
+        }
     }
     Ok(failed)
 }

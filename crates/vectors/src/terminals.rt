@@ -305,26 +305,35 @@ fn ask(
     Ok(true)
 }
 
+// Says what a call was refused for, if it was; memory only if it is the second time.
+fn report(outcome: Outcome, is_again: bool, answer: &mut Answer) -> Result<(), Fault> {
+    match outcome {
+        Ok(()) => Ok(()),
+        Err(TerminalError::Memory) if !is_again => Err(Fault::Memory),
+        Err(TerminalError::Backend(TestError::Memory)) => Err(Fault::Lost),
+        Err(error) => answer.refused(&error),
+    }
+}
+
 // One call on a terminal, its buffer or its backend.
 fn step(
     terminal: &mut Terminal<TestBackend>,
-    args: &mut Args<'_>,
+    alloc: Global,
+    tokens: &[Token],
+    is_again: bool,
     answer: &mut Answer,
 ) -> Result<(), Fault> {
+    let mut args = Args::new(alloc, tokens);
     let word = args.word()?;
-    if let Some(outcome) = act(terminal, word, args)? {
-        return match outcome {
-            Ok(()) => Ok(()),
-            Err(error) => answer.refused(&error),
-        };
-    }
-    if touch(terminal, word, args, answer)?
-        || ask(terminal, word, answer)?
-        || change(terminal.backend_mut(), word, args, answer)?
+    if let Some(outcome) = act(terminal, word, &mut args)? {
+        report(outcome, is_again, answer)?;
+    } else if !touch(terminal, word, &mut args, answer)?
+        && !ask(terminal, word, answer)?
+        && !change(terminal.backend_mut(), word, &mut args, answer)?
     {
-        return Ok(());
+        see(terminal.backend(), word, &mut args, answer)?;
     }
-    see(terminal.backend(), word, args, answer)
+    args.end()
 }
 
 // Puts a symbol in each column of each row.
@@ -355,7 +364,8 @@ fn screen(args: &mut Args<'_>) -> Result<TestBackend, Fault> {
     Ok(backend)
 }
 
-/// A terminal, and calls on it; what is seen of its screen at the end, and its viewport.
+/// A terminal, and calls on it; what is seen of its screen at the end, and its viewport. A call that is refused memory is made
+/// once more, over what it left.
 pub fn terminal(
     alloc: Global,
     args: &mut Args<'_>,
@@ -371,9 +381,15 @@ pub fn terminal(
         Err(error) => return answer.refused(&error),
     };
     for each in later {
-        let mut args = Args::new(alloc, each.as_slice());
-        step(&mut terminal, &mut args, answer)?;
-        args.end()?;
+        let tokens = each.as_slice();
+        let mut own = Answer::new(alloc);
+        let mut done = step(&mut terminal, alloc, tokens, false, &mut own);
+        if let Err(Fault::Memory) = done {
+            own = Answer::new(alloc);
+            done = step(&mut terminal, alloc, tokens, true, &mut own);
+        }
+        done?;
+        answer.join(&own)?;
     }
     put_backend(terminal.backend(), answer)?;
     answer.word("viewport ")?;

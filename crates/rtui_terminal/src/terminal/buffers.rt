@@ -35,7 +35,7 @@ fn write_differences<B: Backend>(
     backend.draw(older.diff_iter(current))
 }
 
-// The place of the last update from one buffer to another, or the given one where there is none.
+// The place of the last update from one buffer to another, or the given one if there is none.
 fn last_update(older: &Buffer, current: &Buffer, start: Position) -> Position
     requires { current.now.area ≡ older.now.area }
     ensures { result ≡ last_place start (sheet_updates older.now current.now) }
@@ -48,7 +48,7 @@ fn last_update(older: &Buffer, current: &Buffer, start: Position) -> Position
 }
 
 impl<B: Backend> Terminal<B> {
-    // Where the cursor will be known to be behind the updates; only an inline viewport asks for it.
+    // The place of the cursor that is known after the updates; only an inline viewport asks for it.
     fn cursor_behind(&self) -> Position
         requires { HasAreas self.now }
         ensures { result ≡ cursor_behind self.now }
@@ -90,8 +90,11 @@ impl<B: Backend> Terminal<B> {
         &mut self.current
     }
 
-    /// Writes what differs between the older and the current buffer, and leaves both as they are. Where one of
-    /// them hasn't the viewport's area nothing is written, and the answer is `Area`.
+    /// Writes what differs between the older and the current buffer, and leaves both as they are.
+    ///
+    /// # Errors
+    ///
+    /// `Area` if one of them hasn't the viewport's area: then nothing is written.
     pub fn flush(&mut self) -> Result<(), TerminalError<B::Error>>
         ensures outcome { MatchResult result
             (λ _. Flushes B.screen self.old self.new) (FlushErr self.old self.new) }

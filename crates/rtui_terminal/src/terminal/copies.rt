@@ -32,7 +32,7 @@ impl<B: Backend + Default + Drop> Terminal<B> {
 }
 
 impl<B: Backend + Clone> Terminal<B> {
-    /// An equal terminal over a clone of the backend, which has to equal the backend; refused where memory is.
+    /// An equal terminal over a clone of the backend, which has to equal the backend; refused if memory is.
     pub fn clone(&self, alloc: Global) -> Result<Self, AllocError>
         requires { (copy : B) → B.is_clone self.now.backend copy → copy ≡ self.now.backend }
         ensures { IfOk result (IsSameTerminal self.now) }

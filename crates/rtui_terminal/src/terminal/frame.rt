@@ -9,7 +9,7 @@ use rtui_geometry::{Position, Rect};
 use rtui_widgets::{StatefulWidget, Widget};
 use std::alloc::AllocError;
 
-/// What a closure paints on: the current buffer of a terminal, its area, and where the cursor is to be
+/// What a closure paints on: the current buffer of a terminal, its area, and the place the cursor is to have
 /// afterwards.
 ///
 /// ```
@@ -66,8 +66,17 @@ impl Frame<'_> {
         &mut *self.buffer
     }
 
-    /// Renders a widget over an area of the frame's buffer. It is refused where memory is; then no cell outside the
-    /// widget's reach changed, which is the area unless the widget says otherwise.
+    /// Renders a widget over an area of the frame's buffer.
+    ///
+    /// ```
+    /// let area = frame.area();
+    /// frame.render_widget(Line::raw(alloc, "Hello, world!")?.centered(), area)?;
+    /// ```
+    ///
+    /// # Errors
+    ///
+    /// It is refused if memory is. Then no cell outside the widget's reach changed, which is the area unless the widget says
+    /// otherwise.
     pub fn render_widget<W: Widget>(&mut self, widget: W, area: Rect) -> Result<(), AllocError>
         requires { W.can_render widget area self.old.buffer.now }
         ensures keeps { KeepsFrame self.old self.new }
@@ -81,8 +90,12 @@ impl Frame<'_> {
         widget.render(area, self.buffer)
     }
 
-    /// Renders a widget over an area of the frame's buffer, from its state on. It is refused where memory is; then no cell
-    /// outside the widget's reach changed, which is the area unless the widget says otherwise.
+    /// Renders a widget over an area of the frame's buffer, from its state on.
+    ///
+    /// # Errors
+    ///
+    /// It is refused if memory is. Then no cell outside the widget's reach changed, which is the area unless the widget says
+    /// otherwise; the widget says what its state is then.
     pub fn render_stateful_widget<W: StatefulWidget>(
         &mut self,
         widget: W,
@@ -110,7 +123,7 @@ impl Frame<'_> {
     }
 }
 
-/// What a draw that answered Ok painted. Two are equal where their buffers, areas and counts are.
+/// What a draw that answered Ok painted. Two are equal if their buffers, areas and counts are.
 #[derive(Debug, Drop)]
 pub struct CompletedFrame<'a, B: Backend> {
     pub(crate) terminal: &'a mut Terminal<B>,

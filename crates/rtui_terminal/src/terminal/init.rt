@@ -19,8 +19,11 @@ pub struct TerminalOptions {
 }
 
 impl<B: Backend + Drop> Terminal<B> {
-    /// A terminal over the whole screen of a backend, with empty buffers; it is in step where the screen is
-    /// blank. It answers `Memory` only where the screen has cells; a refused call drops the backend.
+    /// A terminal over the whole screen of a backend, with empty buffers; it is in step if the screen is blank.
+    ///
+    /// # Errors
+    ///
+    /// `Memory` only if the screen has cells. A refused call drops the backend.
     pub fn new(alloc: Global, backend: B) -> Result<Self, TerminalError<B::Error>>
         ensures starts { IfOk result (Starts B.screen Fullscreen backend) }
         ensures count { IfOk result (λ t. B.failures t.backend ≡ B.failures backend) }
@@ -33,9 +36,13 @@ impl<B: Backend + Drop> Terminal<B> {
         Terminal::with_options(alloc, backend, options)
     }
 
-    /// A terminal over a part of a backend's screen, with empty buffers; it is in step where that part is on the
-    /// screen and blank. Where an inline viewport doesn't fit below the cursor the screen scrolls. For a fixed one no
-    /// call is made. It answers `Memory` only where the viewport has cells; a refused call drops the backend.
+    /// A terminal over a part of a backend's screen, with empty buffers; it is in step if that part is on the
+    /// screen and blank. If an inline viewport doesn't fit below the cursor, the screen scrolls. For a fixed one no
+    /// call is made.
+    ///
+    /// # Errors
+    ///
+    /// `Memory` only if the viewport has cells. A refused call drops the backend.
     pub fn with_options(
         alloc: Global,
         mut backend: B,

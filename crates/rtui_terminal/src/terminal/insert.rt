@@ -16,7 +16,7 @@ use std::alloc::AllocError;
 
 impl<B: Backend> Terminal<B> {
     // Inserts the rows of a buffer above an inline viewport that covers the screen: each is scrolled off from the first
-    // row, which shows the older buffer's first row again behind that.
+    // row, which shows the older buffer's first row again after that.
     fn insert_covered(
         &mut self,
         blank: &mut Buffer,
@@ -104,7 +104,7 @@ impl<B: Backend> Terminal<B> {
         };
         let known = self.known_area.height;
         let alloc = self.current.allocator();
-        // An empty buffer of the rows' area, of no rows where none are drawn.
+        // An empty buffer of the rows' area, of no rows if none are drawn.
         let blank_area = if known == 0 { Rect::ZERO } else { area };
         let mut blank = match Buffer::empty(alloc, blank_area) {
             Ok(blank) => blank,
@@ -127,13 +127,28 @@ impl<B: Backend> Terminal<B> {
     /// width, its rows come to those above the viewport, which moves down as far as there is room and goes on showing the
     /// last frame; rows that have no room scroll off. Only the rows are written, and if the viewport is as high as the screen
     /// its first row, too; of rows without wide cells only what isn't blank, and then that first row twice. All of it is
-    /// flushed, and the cursor may end anywhere: a draw places it. Of a viewport without rows, or of another width than the screen's,
-    /// nothing is promised of the rows above. Where the screen was known to have no rows nothing is written. On another
-    /// viewport the closure isn't called, and nothing changes.
+    /// flushed, and the cursor may end anywhere: a draw places it. On another viewport the closure isn't called, and nothing
+    /// changes.
     ///
-    /// It answers `Memory` where the buffer has cells and memory was refused, in which case the closure isn't called, or
-    /// where the closure did, and `Area` where the closure changed the buffer's area; then nothing changed. After `Backend`
-    /// the screen may show anything, and the viewport may have moved.
+    /// ```
+    /// terminal.insert_before(1, |rows| {
+    ///     let area = *rows.area();
+    ///     "a line above".render(area, rows)
+    /// })?;
+    /// ```
+    ///
+    /// # Conditions
+    ///
+    /// What is promised of the rows above holds of a viewport with a row, as wide as the screen, whose size is the last known
+    /// one. If the screen was known to have no rows, nothing is written.
+    ///
+    /// # Errors
+    ///
+    /// - `Memory`: the buffer has cells and memory was refused, in which case the closure isn't called; or the closure
+    ///   answered so. Then nothing changed.
+    /// - `Area`: the closure changed the buffer's area. Then nothing changed.
+    /// - `Backend`: a call of the backend failed. The screen may show anything. The viewport is where it was, or it has moved,
+    ///   and its rows on the screen with it.
     pub fn insert_before<F>(
         &mut self,
         height: u16,

@@ -139,13 +139,26 @@ impl<B: Backend> Terminal<B> {
         }
     }
 
-    /// Draws a frame: the viewport is resized where the screen has another size, the closure paints on the current
-    /// buffer, what differs from the older one is written, and the cursor is hidden, or shown where the closure put
-    /// it. The painted buffer becomes the older one, and an empty one current.
+    /// Draws a frame. If the screen has another size than the last known one, the viewport is resized first. The closure paints
+    /// on the current buffer, what differs from the older one is written and flushed, and the cursor is hidden, or shown where
+    /// the closure put it. The painted buffer becomes the older one, and an empty one current.
     ///
-    /// It answers `Memory` where the closure did, or where a resize was refused memory, which changes nothing; and
-    /// `Area` where a buffer hasn't the viewport's area. Then nothing was written behind the resize, and the current
-    /// buffer keeps what the closure left. After `Backend` the screen may show anything.
+    /// ```
+    /// let mut terminal = Terminal::new(alloc, TestBackend::new(alloc, 5, 1)?)?;
+    /// terminal.draw(|frame| {
+    ///     let area = frame.area();
+    ///     frame.render_widget("Ready", area)
+    /// })?;
+    /// assert!(rt; terminal.backend().lines_are(&["Ready"]));
+    /// ```
+    ///
+    /// # Errors
+    ///
+    /// - `Memory`: the resize was refused memory, and nothing changed; or the closure answered so. Then nothing was written
+    ///   after the resize, and the current buffer keeps what the closure left.
+    /// - `Area`: a buffer hasn't the viewport's area. Nothing was written after the resize, and the current buffer keeps what
+    ///   the closure left.
+    /// - `Backend`: a call of the backend failed. The screen may show anything until the next `clear`.
     pub fn draw<F>(
         &mut self,
         render_callback: F,
@@ -179,7 +192,12 @@ impl<B: Backend> Terminal<B> {
         })
     }
 
-    /// The same as `draw` with a closure that answers the backend's error, which is given back as `Closure`.
+    /// The same as `draw` with a closure that may answer the backend's error.
+    ///
+    /// # Errors
+    ///
+    /// Those of `draw`, and `Closure` with what the closure answered. Then nothing was written after the resize, and the
+    /// current buffer keeps what the closure left.
     pub fn try_draw<F>(
         &mut self,
         render_callback: F,
@@ -213,7 +231,11 @@ impl<B: Backend> Terminal<B> {
         })
     }
 
-    /// Draws the current buffer as it is, and hides the cursor.
+    /// Draws the current buffer as it is, and hides the cursor. It takes no memory.
+    ///
+    /// # Errors
+    ///
+    /// `Area` if a buffer hasn't the viewport's area: then nothing changed. After `Backend` the screen may show anything.
     pub fn apply_buffer(&mut self) -> Result<CompletedFrame<'_, B>, TerminalError<B::Error>>
         ensures* refused { let row = the_row B.row B.Error.row B.Backend B.Error.Debug
             B.Error.Display in
@@ -231,8 +253,11 @@ impl<B: Backend> Terminal<B> {
         self.apply_buffer_with_cursor(None)
     }
 
-    /// Draws the current buffer as it is, and hides the cursor, or shows it at a place. It takes no memory; it
-    /// answers `Area` where a buffer hasn't the viewport's area, and then nothing changed.
+    /// Draws the current buffer as it is, and hides the cursor, or shows it at a place. It takes no memory.
+    ///
+    /// # Errors
+    ///
+    /// `Area` if a buffer hasn't the viewport's area: then nothing changed. After `Backend` the screen may show anything.
     pub fn apply_buffer_with_cursor(
         &mut self,
         cursor_position: Option<Position>,

@@ -15,7 +15,7 @@ use std::alloc::AllocError;
 
 impl<B: Backend> Terminal<B> {
     /// Empties the viewport and the older buffer, so that the next draw writes the whole frame; the current buffer
-    /// and the cursor stay. The terminal is in step then, where the viewport is on the screen and the older buffer has
+    /// and the cursor stay. The terminal is in step then if the viewport is on the screen and the older buffer has
     /// its area. It takes no memory.
     pub fn clear(&mut self) -> Result<(), TerminalError<B::Error>>
         ensures ok { OnOk result (ClearsViewport B.screen self.old self.new) }
@@ -68,10 +68,13 @@ impl<B: Backend> Terminal<B> {
     }
 
     /// Places the viewport on a new area of the screen, in columns and rows, sizes both buffers to it, and empties
-    /// it: an inline viewport goes around the cursor, any other takes the area. Where it became narrower it goes to
-    /// the top, and the whole screen is emptied. The terminal is in step then, where the viewport is on the screen, as it
-    /// is where the area is the screen's own. Memory is taken first, where a buffer has no room for the area: after
-    /// `Memory` nothing changed.
+    /// it: an inline viewport goes around the cursor, any other takes the area. If it became narrower, it goes to
+    /// the top, and the whole screen is emptied. The terminal is in step then if the viewport is on the screen, as it
+    /// is if the area is the screen's own.
+    ///
+    /// # Errors
+    ///
+    /// `Memory` if a buffer had no room for the area: memory is taken first, and nothing changed.
     pub fn resize(&mut self, area: Rect) -> Result<(), TerminalError<B::Error>>
         requires { EdgesFit area }
         ensures outcome { MatchResult result (λ _. Resizes B.screen area self.old self.new)
@@ -114,7 +117,7 @@ impl<B: Backend> Terminal<B> {
         Ok(())
     }
 
-    /// Resizes where the screen has another size than the last known one; a fixed viewport stays.
+    /// Resizes if the screen has another size than the last known one; a fixed viewport stays.
     pub fn autoresize(&mut self) -> Result<(), TerminalError<B::Error>>
         ensures outcome { MatchResult result (λ _. Autoresizes B.screen self.old self.new)
             (AutoresizeErr B.screen self.old self.new) }
