@@ -6,7 +6,7 @@ use Rattle.ratatui_core.specs.Backend.{Screen, Draws, IsBlankScreen}
 use Rattle.ratatui_ansi.specs.Emulator.{Emulator, rested, fresh}
 use Rattle.ratatui_ansi.specs.Sequences.{feed}
 use Rattle.ratatui_ansi.specs.Screens.{screen_shown}
-use Rattle.ratatui_ansi.specs.Calls.{IsAwaiting, SendsCall, MakesBlank, with_rows_above}
+use Rattle.ratatui_ansi.specs.Calls.{IsAwaiting, SendsCall, MakesBlank, anew, with_rows_above}
 use Rattle.ratatui_ansi.specs.Backend.{reader, IsReadAlike, IsInOrder}
 use Rattle.ratatui_ansi.specs.Columns.{blank_column}
 use Rattle.ratatui_ansi.specs.Flags.{AreBehind}
@@ -131,7 +131,7 @@ blank-sent {w} {h} blank none nothing same e = rw (e, nothing, same) (rw none at
 
 blank-alike : (size : Size) (sent : List ℕ) → MakesBlank size.width size.height [] sent → IsReadAlike size sent
 blank-alike size sent blank t left =
-    ap (λ bytes. feed bytes t) blank.appended ∙ blank.made t left ∙ ap (λ rows. record (fresh size.width size.height) { history = rows }) (sym (append-nil t.history))
+    ap (λ bytes. feed bytes (anew t)) blank.appended ∙ blank.made t left ∙ ap (λ rows. record (fresh size.width size.height) { history = rows }) (sym (append-nil t.history))
     ∙ ap (with_rows_above t.history) (sym (blank-read size sent blank))
 
 blank-awaits : (w h : ℕ) (flags : List Bool) → 0 < h → AreBehind w h flags (λ a b. blank_column) → IsAwaiting w h (record { x = 0; y = 0 }) flags (fresh w h)
