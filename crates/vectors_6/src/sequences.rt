@@ -350,7 +350,12 @@ fn ambiguous_cells(rt: HostRuntime) -> Result<(), Fail> {
     let mut backend = over_kept(alloc, 4, 1)?;
     let plain = Cell::new(alloc, "a")?;
     let accented = Cell::new(alloc, "é")?;
-    let row = [(0, 0, &plain), (1, 0, &accented), (2, 0, &plain), (3, 0, &accented)];
+    let row = [
+        (0, 0, &plain),
+        (1, 0, &accented),
+        (2, 0, &plain),
+        (3, 0, &accented),
+    ];
     assert!(rt; draws(&mut backend, &row, Ok(()), "\u{1b}[1;1Haéaé"));
     backend.set_ambiguous_is_wide(true);
     assert!(rt; draws(&mut backend, &row, Ok(()), "\u{1b}[1;1Haé\u{1b}[1;3Haé"));
