@@ -24,7 +24,7 @@ read-on size sent more out new e f = ap (reader size) (f ∙ ap (λ xs. sent ++ 
 -- what reads alike does so once more was sent
 pub alike-on : (size : Size) (sent out new : List ℕ) → new ≡ sent ++ out → IsReadAlike size sent → IsReadAlike size new
 alike-on size sent out new e alike t left =
-    ap (λ bytes. feed bytes t) e ∙ feed-append sent out t ∙ ap (feed out) (alike t left) ∙ feed-above out t.history (reader size sent)
+    ap (λ bytes. feed bytes (anew t)) e ∙ feed-append sent out (anew t) ∙ ap (feed out) (alike t left) ∙ feed-above out t.history (reader size sent)
     ∙ ap (with_rows_above t.history) (sym (ap (reader size) e ∙ feed-append sent out (fresh size.width size.height)))
 
 -- a terminal awaits the next call once the writer was sent what a call collected
