@@ -29,12 +29,23 @@ impl fmt::Display for Fault {
 }
 
 impl From<TerminalError<AnsiError>> for Fault {
+    ghost use Rattle.std.specs.Prelude.{◌≡◌};
+    ghost use Rattle.follow.specs.declared.fault.Fault.TheVariants.{Terminal};
+
+    ghost from_gives = { λ error fault. fault ≡ Terminal error };
+
     fn from(error: TerminalError<AnsiError>) -> Fault {
         Fault::Terminal(error)
     }
 }
 
 impl From<AllocError> for Fault {
+    ghost use Rattle.std.specs.Prelude.{◌≡◌};
+    ghost use Rattle.ratatui_core.specs.Terminal.{Memory};
+    ghost use Rattle.follow.specs.declared.fault.Fault.TheVariants.{Terminal};
+
+    ghost from_gives = { λ _ fault. fault ≡ Terminal Memory };
+
     fn from(_: AllocError) -> Fault {
         Fault::Terminal(TerminalError::Memory)
     }

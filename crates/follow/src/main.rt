@@ -5,23 +5,28 @@
 //! screen is `ratatui_ansi`'s.
 #![tactic(auto)]
 
-ghost use Rattle.std.specs.Prelude.{◌≡◌, [], Some, IfOk, IfSome, OnOk};
+ghost use Rattle.std.specs.Prelude.{◌≡◌, [], Some, IfOk, IfErr, IfSome, OnOk, string_bytes};
+ghost use Rattle.std.specs.Io.KnownBytes.{Appends};
 ghost use Rattle.ratatui_ansi.specs.Backend.{shown_by};
 ghost use Rattle.logview.specs.Views.{IsViewOf};
+ghost use Rattle.ratatui_ansi.specs.Sends.{Does};
 ghost use Rattle.follow.specs.Lines.{MovesOn, ShowsText};
+ghost use Rattle.follow.specs.Ends.{StopsAt, StopsText, IsOfShowing, EndsBy, left_below};
 
 mod fault;
 mod shown;
 mod size;
+#[cfg(test)]
+mod tests;
 
 use crate::fault::Fault;
 use crate::shown::push_shown;
 use crate::size::{command, size_of};
 use logview::LogView;
-use ratatui_ansi::AnsiBackend;
+use ratatui_ansi::{AnsiBackend, Pen, line_feeds, move_to, push_pen, reset_region, show_cursor};
 use ratatui_core::terminal::TerminalError;
 use rtui_geometry::Size;
-use std::alloc::Global;
+use std::alloc::{AllocError, Global};
 use std::env;
 use std::io::{self, BufRead, BufWriter, Write};
 use std::process::ExitCode;
@@ -33,12 +38,18 @@ fn push_line<R: BufRead, W: Write + Drop>(
     line: &mut String,
     shown: &mut String,
 ) -> Result<bool, Fault>
-    ensures { IfOk result (λ is_more. IfSome (R.remaining reader.old) (λ text.
+    ensures ok { IfOk result (λ is_more. IfSome (R.remaining reader.old) (λ text.
         MovesOn text is_more (R.remaining reader.new) view.old view.new)) }
+    ensures stopped { IfErr result (λ fault. IfSome (R.remaining reader.old) (λ text.
+        StopsAt text view.old view.new fault)) }
 {
     line.clear();
     shown.clear();
-    if reader.read_line(line).map_err(Fault::Read)? == 0 {
+    let count = match reader.read_line(line) {
+        Ok(count) => count,
+        Err(error) => return Err(Fault::Read(error)),
+    };
+    if count == 0 {
         return Ok(false);
     }
     push_shown(shown, line.as_str())?;
@@ -52,9 +63,12 @@ fn push_lines<R: BufRead, W: Write + Drop>(
     reader: &mut R,
     view: &mut LogView<AnsiBackend<W>>,
 ) -> Result<(), Fault>
-    ensures { OnOk result (IfSome (R.remaining reader.old) (λ text. (size : Size)
+    ensures ok { OnOk result (IfSome (R.remaining reader.old) (λ text. (size : Size)
         → IsViewOf shown_by size [] view.old
         → (R.remaining reader.new ≡ Some []) × ShowsText size text view.new)) }
+    ensures stopped { IfErr result (λ fault. IfSome (R.remaining reader.old) (λ text.
+        (size : Size) → IsViewOf shown_by size [] view.old
+        → StopsText size text view.new fault)) }
 {
     let mut line = String::new(alloc);
     let mut shown = String::new(alloc);
@@ -73,8 +87,9 @@ fn show_lines<R: BufRead, W: Write + Drop>(
     writer: W,
     size: Size,
 ) -> Result<(), Fault>
-    ensures { OnOk result
+    ensures ok { OnOk result
         (IfSome (R.remaining reader.old) (λ _. R.remaining reader.new ≡ Some [])) }
+    ensures why { IfErr result IsOfShowing }
 {
     let backend = match AnsiBackend::new(alloc, writer, size) {
         Ok(backend) => backend,
@@ -84,30 +99,49 @@ fn show_lines<R: BufRead, W: Write + Drop>(
     push_lines(alloc, reader, &mut view)
 }
 
-// Leaves the terminal in its own colours and without margins, with its cursor shown below the screen's rows.
-fn leave<W: Write>(writer: &mut W, size: Size) -> io::Result<()> {
-    write!(
-        writer,
-        "\u{1b}[0m\u{1b}[r\u{1b}[?25h\u{1b}[{};1H\r\n",
-        size.height
-    )?;
+// Sends what leaves a terminal of so many rows in its own colours and without margins, with its cursor shown below its rows.
+fn push_leaving(out: &mut String, height: u16) -> Result<(), AllocError>
+    ensures { OnOk result
+        (Does (string_bytes out.old) (string_bytes out.new) (left_below height)) }
+{
+    push_pen(out, &Pen::OWN)?;
+    reset_region(out)?;
+    show_cursor(out)?;
+    move_to(out, 0, height.saturating_sub(1))?;
+    line_feeds(out, 1)
+}
+
+// Writes a text whole, and has it sent on.
+fn send<W: Write>(writer: &mut W, text: &str) -> io::Result<()>
+    ensures { OnOk result
+        (Appends (W.contents writer.old) (W.contents writer.new) text.now) }
+{
+    writer.write_all(text.as_bytes())?;
     writer.flush()
 }
 
-// Shows the lines of a reader to its end, and leaves the terminal so also after a fault.
+// Shows the lines of a reader to its end, and leaves the terminal with its cursor shown below its rows, also after a fault. What that takes
+// is built first, so that no want of memory prevents it.
 fn follow<R: BufRead, W: Write>(
     alloc: Global,
     reader: &mut R,
     writer: &mut W,
     size: Size,
 ) -> Result<(), Fault>
-    ensures { OnOk result
+    ensures ok { OnOk result
         (IfSome (R.remaining reader.old) (λ _. R.remaining reader.new ≡ Some [])) }
+    ensures failed { IfErr result
+        (EndsBy (R.remaining reader.old) (R.remaining reader.new)) }
 {
+    let mut leaving = String::new(alloc);
+    push_leaving(&mut leaving, size.height)?;
     let shown = show_lines(alloc, reader, &mut *writer, size);
-    let left = leave(writer, size);
+    let left = send(writer, leaving.as_str());
     shown?;
-    left.map_err(Fault::Write)
+    match left {
+        Ok(()) => Ok(()),
+        Err(error) => Err(Fault::Write(error)),
+    }
 }
 
 // Shows standard input on a terminal of this size.

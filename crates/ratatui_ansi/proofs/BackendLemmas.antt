@@ -6,7 +6,7 @@ use Rattle.ratatui_core.specs.Backend.{Screen, Draws, IsBlankScreen}
 use Rattle.ratatui_ansi.specs.Emulator.{Emulator, rested, fresh}
 use Rattle.ratatui_ansi.specs.Sequences.{feed}
 use Rattle.ratatui_ansi.specs.Screens.{screen_shown}
-use Rattle.ratatui_ansi.specs.Calls.{IsAwaiting, SendsCall, MakesBlank, with_rows_above}
+use Rattle.ratatui_ansi.specs.Calls.{IsAwaiting, SendsCall, MakesBlank, anew, with_rows_above}
 use Rattle.ratatui_ansi.specs.Backend.{reader, IsReadAlike, IsInOrder}
 use Rattle.ratatui_ansi.specs.Columns.{blank_column}
 use Rattle.ratatui_ansi.specs.Flags.{AreBehind}
@@ -24,7 +24,7 @@ read-on size sent more out new e f = ap (reader size) (f ∙ ap (λ xs. sent ++ 
 -- what reads alike does so once more was sent
 pub alike-on : (size : Size) (sent out new : List ℕ) → new ≡ sent ++ out → IsReadAlike size sent → IsReadAlike size new
 alike-on size sent out new e alike t left =
-    ap (λ bytes. feed bytes t) e ∙ feed-append sent out t ∙ ap (feed out) (alike t left) ∙ feed-above out t.history (reader size sent)
+    ap (λ bytes. feed bytes (anew t)) e ∙ feed-append sent out (anew t) ∙ ap (feed out) (alike t left) ∙ feed-above out t.history (reader size sent)
     ∙ ap (with_rows_above t.history) (sym (ap (reader size) e ∙ feed-append sent out (fresh size.width size.height)))
 
 -- a terminal awaits the next call once the writer was sent what a call collected
@@ -131,7 +131,7 @@ blank-sent {w} {h} blank none nothing same e = rw (e, nothing, same) (rw none at
 
 blank-alike : (size : Size) (sent : List ℕ) → MakesBlank size.width size.height [] sent → IsReadAlike size sent
 blank-alike size sent blank t left =
-    ap (λ bytes. feed bytes t) blank.appended ∙ blank.made t left ∙ ap (λ rows. record (fresh size.width size.height) { history = rows }) (sym (append-nil t.history))
+    ap (λ bytes. feed bytes (anew t)) blank.appended ∙ blank.made t left ∙ ap (λ rows. record (fresh size.width size.height) { history = rows }) (sym (append-nil t.history))
     ∙ ap (with_rows_above t.history) (sym (blank-read size sent blank))
 
 blank-awaits : (w h : ℕ) (flags : List Bool) → 0 < h → AreBehind w h flags (λ a b. blank_column) → IsAwaiting w h (record { x = 0; y = 0 }) flags (fresh w h)

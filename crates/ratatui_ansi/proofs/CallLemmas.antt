@@ -11,7 +11,7 @@ use Rattle.ratatui_ansi.specs.Emulator.{Emulator, rested, printed, fresh, moved,
 use Rattle.ratatui_ansi.specs.Emulator.Phase.{Ground}
 use Rattle.ratatui_ansi.specs.Emulator as terminal
 use Rattle.ratatui_ansi.specs.Sends.{Does}
-use Rattle.ratatui_ansi.specs.Calls.{IsLeft, MakesBlank}
+use Rattle.ratatui_ansi.specs.Calls.{IsLeft, anew, MakesBlank}
 use Rattle.ratatui_ansi.specs.Screens.{screen_shown, IsSized, AreSized, IsWhole, IsWholeAt, IsBlankBeyond, Becomes}
 use Rattle.ratatui_ansi.proofs.ScrollLemmas.{KeepsReady, blank-whole}
 use Rattle.ratatui_ansi.proofs.RegionLemmas.{none_range, ready-columns, keeps-along, moved-placed}
@@ -133,8 +133,8 @@ same-fields s t width height phase text pen x y top bottom columns history visib
 abbrev pub begun : ℕ → ℕ → Emulator → Emulator
 begun w h s = terminal.with_visible true (moved 0 0 (erased Before (moved (w - 1) (h - 1) (without_region (with_pen own_pen s)))))
 
-blank-begun : (w h : ℕ) (s : Emulator) → 0 < w → 0 < h → IsLeft w h s → begun w h s ≡ record (fresh w h) { history = s.history }
-blank-begun w h s wide high left =
+blank-begun : (w h : ℕ) (s : Emulator) → 0 < w → 0 < h → IsLeft w h s → s.sure ≡ true → begun w h s ≡ record (fresh w h) { history = s.history }
+blank-begun w h s wide high left sure =
     let width : s.width ≡ w = left.width in
     let height : s.height ≡ h = left.height in
     let column : min (w - 1) (s.width - 1) ≡ w - 1 = omega arith in
@@ -142,7 +142,7 @@ blank-begun w h s wide high left =
     let side : min 0 (s.width - 1) ≡ 0 = omega arith in
     let top : min 0 (s.height - 1) ≡ 0 = omega arith in
     let inside : nat_lt (min (w - 1) (s.width - 1)) s.width ≡ true = grind (arith, nat_tests) in
-    let still : (begun w h s).sure ≡ true = rw (left.sure, inside) refl in
+    let still : (begun w h s).sure ≡ true = rw (sure, inside) refl in
     let blank : (a b : ℕ) → (begun w h s).columns a b ≡ blank_column = λ a b.
     ap₂ (λ i j. overwritten (part_at Before i j) (λ k r. blank_column) s.columns a b) column row ∙ erased-emptied w h s.columns wide high (λ k r out. left.off k r (inl out)) a b
     ∙ elim (nat_lt b h) as (λ p. nat_lt b h ≡ p → (if p then blank_column else s.columns a b) ≡ blank_column) [
@@ -156,13 +156,18 @@ rested-left w h t left =
     ap (λ xs. record (printed xs t) { text = []; phase = Ground }) left.text
     ∙ ap₂ (λ xs p. record t { text = xs; phase = p }) (sym left.text) (sym left.phase)
 
+left-anew : (w h : ℕ) (t : Emulator) → IsLeft w h t → IsLeft w h (anew t)
+left-anew w h t left = record { phase = left.phase; text = left.text; width = left.width; height = left.height; off = left.off }
+
 pub makes-blank : (w h : ℕ) (old new : List ℕ) → 0 < w → 0 < h → Does old new (begun w h) → MakesBlank w h old new
 makes-blank w h old new wide high does = record {
   bytes = does.bytes;
   appended = does.appended;
-  made = λ t left. does.read t left.phase ∙ ap (begun w h) (rested-left w h t left) ∙ blank-begun w h t wide high left;
+  made = λ t left.
+      let again : IsLeft w h (anew t) = left-anew w h t left in
+      does.read (anew t) again.phase ∙ ap (begun w h) (rested-left w h (anew t) again) ∙ blank-begun w h (anew t) wide high again refl;
 }
 
 -- a new terminal is one that was left so
 pub fresh-left : (w h : ℕ) → IsLeft w h (fresh w h)
-fresh-left w h = record { phase = refl; text = refl; width = refl; height = refl; sure = refl; off = λ a b out. refl }
+fresh-left w h = record { phase = refl; text = refl; width = refl; height = refl; off = λ a b out. refl }

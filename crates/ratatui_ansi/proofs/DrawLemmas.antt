@@ -7,17 +7,18 @@ use Rattle.std.proofs.lemmas.Bool.Decides.{nat_tests}
 use Rattle.std.proofs.lemmas.List.Folds.{list_all-append}
 use Rattle.std.proofs.lemmas.Str.{chars-nil, chars-append, chars-encodes, encodes-chars, IsUtf8-encode, IsUtf8-append, IsUtf8-nil, IsUtf8-from_is_utf8, is_utf8-from_IsUtf8}
 use Rattle.unicode_width.specs.Width.{char_width}
+use Rattle.unicode_segmentation.specs.Grapheme.{graphemes}
 use Rattle.ratatui_core.specs.Buffer.{text_width}
 use Rattle.ratatui_ansi.specs.declared.pen.Pen.{Pen}
 use Rattle.ratatui_ansi.specs.declared.drawing.Brush.{Brush}
 use Rattle.ratatui_ansi.specs.declared.drawing.Printing.TheVariants.{Plain, Whole, Unprinted}
-use Rattle.ratatui_ansi.specs.Emulator.{Emulator, standing, rested, printed, prints, types, moved, is_plain, is_shown, has_columns, is_symbol, begins_anew}
+use Rattle.ratatui_ansi.specs.Emulator.{Emulator, standing, rested, printed, prints, types, moved, is_plain, is_shown, has_columns, is_symbol, is_single, begins_anew}
 use Rattle.ratatui_ansi.specs.Emulator.Phase.{Ground}
 use Rattle.ratatui_ansi.specs.Sequences.{feed}
 use Rattle.ratatui_ansi.specs.Sends.{Sends, Does, typed}
 use Rattle.ratatui_ansi.specs.Drawing.{only_of, is_one_plain, is_printed, printing_by, printing_of, columns_of, is_at, IsDrawnBy, drawn_at, Prints}
 use Rattle.ratatui_ansi.proofs.ReadLemmas.{Sends-then}
-use Rattle.ratatui_ansi.proofs.TextLemmas.{and-both}
+use Rattle.ratatui_ansi.proofs.TextLemmas.{and-both, one-single}
 
 -- how plain characters are printed one after the other
 types-append : (xs ys : List ℕ) (t : Emulator) → types (xs ++ ys) t ≡ types ys (types xs t)
@@ -57,7 +58,7 @@ plain-shown c plain = grind (arith, nat_tests)
 
 by-character : (c : ℕ) (p s u : Bool) → (p ≡ true → s ≡ true)
     → (if p then Plain c else (if s && (p || u) then Whole else Unprinted))
-    ≡ (if (true && (s && true) && (p || u)) && ((true && (p && true)) || not (p && true)) then (if p then Plain c else Whole) else Unprinted)
+    ≡ (if (true && (s && true) && (p || u) && true) && ((true && (p && true)) || not (p && true)) then (if p then Plain c else Whole) else Unprinted)
 by-character c true s u shown = rw (shown refl) refl
 by-character c false true true shown = refl
 by-character c false true false shown = refl
@@ -69,7 +70,7 @@ pub printing-one : (text : List ℕ) (c : ℕ) → IsUtf8 text → only_of (char
     → (if is_plain c then Plain c else (if is_shown c && has_columns c then Whole else Unprinted)) ≡ printing_of text
 printing-one text c utf8 only =
     let one : chars text ≡ c ∷ [] = only-is (chars text) c only in
-    rw (one, is_utf8-from_IsUtf8 text utf8) (by-character c (is_plain c) (is_shown c) (nat_lt 0 (unwrap_or (char_width false c) 0)) (plain-shown c))
+    rw (one-single text c one, one, is_utf8-from_IsUtf8 text utf8) (by-character c (is_plain c) (is_shown c) (nat_lt 0 (unwrap_or (char_width false c) 0)) (plain-shown c))
 
 none-by : (cs : List ℕ) → only_of cs ≡ None → printing_by cs ≡ Whole
 none-by [] e = refl
@@ -94,7 +95,7 @@ printing-several text only = rw (none-single (chars text) only, none-by (chars t
 
 -- a symbol is text in UTF-8
 symbol-utf8 : (symbol : List ℕ) → is_symbol symbol ≡ true → IsUtf8 symbol
-symbol-utf8 symbol is = IsUtf8-from_is_utf8 symbol (and-both (is_utf8 symbol) _ (and-both _ (begins_anew (chars symbol)) is).0).0
+symbol-utf8 symbol is = IsUtf8-from_is_utf8 symbol (and-both (is_utf8 symbol) _ (and-both _ (begins_anew (chars symbol)) (and-both _ (is_single (graphemes true symbol)) is).0).0).0
 
 pub one-encoded : (symbol : List ℕ) (c : ℕ) → IsUtf8 symbol → chars symbol ≡ c ∷ [] → encode c ≡ symbol
 one-encoded symbol c utf8 e = sym (append-nil (encode c)) ∙ ap encodes (sym e) ∙ encodes-chars symbol utf8
@@ -152,7 +153,7 @@ plain-chars c plain = ap chars (sym (append-nil (encode c))) ∙ chars-encodes (
 
 -- one printed as a symbol
 pub plain-printed : (c : ℕ) → is_plain c ≡ true → is_printed (encode c) ≡ true
-plain-printed c plain = rw (plain-chars c plain, is_utf8-from_IsUtf8 (encode c) (IsUtf8-encode c (plain-scalar c plain)), plain, plain-shown c plain) refl
+plain-printed c plain = rw (one-single (encode c) c (plain-chars c plain), plain-chars c plain, is_utf8-from_IsUtf8 (encode c) (IsUtf8-encode c (plain-scalar c plain)), plain, plain-shown c plain) refl
 
 pub plain-single : (c : ℕ) → is_plain c ≡ true → is_one_plain (chars (encode c)) ≡ true
 plain-single c plain = rw (plain-chars c plain, plain) refl

@@ -2,13 +2,15 @@
 use Rattle.std.proofs.Common.{◌≡◌, ℕ, List, [], ◌∷◌, inl, refl, sym, ap, ◌∙◌, true, false, subst}
 use Rattle.ratatui_core.specs.Layout.{Size}
 use Rattle.ratatui_core.specs.Backend.{Screen}
-use Rattle.ratatui_core.specs.Buffer.{ShowsSheet, IsSettledSheet}
+use Rattle.ratatui_core.specs.Buffer.{Grid, ShowsSheet, IsSettledSheet}
 use Rattle.ratatui_core.specs.Terminal.{State, IsInStep, DrawsFrame}
 use Rattle.ratatui_core.specs.Headline.{Event, Along, last_state, IsFaithful, Draw}
 use Rattle.ratatui_ansi.specs.Backend.{BackendState, reader, shown_by, IsReadAlike}
-use Rattle.ratatui_ansi.specs.Calls.{IsLeft, with_rows_above}
+use Rattle.ratatui_ansi.specs.Calls.{IsLeft, anew, with_rows_above}
+use Rattle.ratatui_ansi.specs.Columns.{look_in}
 use Rattle.ratatui_ansi.specs.Emulator.{Emulator, rested}
-use Rattle.ratatui_ansi.specs.Headline.{IsReadBy, IsReadByAll, IsShownToReader, IsShownToAll, IsHeadlineOfBytes}
+use Rattle.ratatui_ansi.specs.Glass.{IsStraight}
+use Rattle.ratatui_ansi.specs.Headline.{IsReadBy, IsReadByAll, below_rows, IsShownToReader, IsShownToAll, IsHeadlineOfBytes}
 use Rattle.ratatui_ansi.specs.Screens.{screen_shown}
 use Rattle.ratatui_ansi.specs.Sequences.{feed}
 use Rattle.ratatui_ansi.proofs.HistoryLemmas.{rested-above}
@@ -18,13 +20,20 @@ pub last-in-step : {B : Type 0} (screen : B → Screen) (s : State B) (events : 
 last-in-step screen s [] step all = step
 last-in-step screen s (e ∷ es) step all = last-in-step screen e.after es all.0.in_step all.1
 
-rested-alike : (size : Size) (sent : List ℕ) → IsReadAlike size sent → (t : Emulator) → IsLeft size.width size.height t → rested (feed sent t) ≡ with_rows_above t.history (rested (reader size sent))
+rested-alike : (size : Size) (sent : List ℕ) → IsReadAlike size sent → (t : Emulator) → IsLeft size.width size.height t → rested (feed sent (anew t)) ≡ with_rows_above t.history (rested (reader size sent))
 rested-alike size sent alike t left = ap rested (alike t left) ∙ rested-above t.history (reader size sent)
 
 pub read-by-all : {W : Type 0} (b : BackendState W) → IsReadAlike b.size b.sent → (rested (reader b.size b.sent)).sure ≡ true → IsReadByAll b
 read-by-all b alike sure t left =
     let e = rested-alike b.size b.sent alike t left in
-    record { sure = ap (λ (u : Emulator). u.sure) e ∙ sure; screen = ap (screen_shown b.written) e }
+    let screen : screen_shown b.written (rested (feed b.sent (anew t))) ≡ below_rows t.history (shown_by b) = ap (screen_shown b.written) e in
+    record {
+      sure = ap (λ (u : Emulator). u.sure) e ∙ sure;
+      screen = screen;
+      glass = λ g may x y straight x_in.
+          let same : (λ i j. look_in ((rested (feed b.sent (anew t))).columns i j)) ≡ (shown_by b).grid = ap (λ (s : Screen). s.grid) screen in
+          may.straight x y (subst (λ grid. IsStraight b.size.width grid y) (sym same) straight) x_in ∙ ap (λ (grid : Grid). grid x y) same;
+    }
 
 pub shown-to-reader : {W : Type 0} (t : State (BackendState W)) (u : Emulator) → IsInStep shown_by t → IsReadBy t.backend u → IsShownToReader t.older t.backend u
 shown-to-reader t u step read = record {

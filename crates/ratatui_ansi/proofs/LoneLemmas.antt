@@ -12,7 +12,7 @@ use Rattle.ratatui_core.proofs.BufferLemmas.{one_character}
 use Rattle.ratatui_ansi.specs.declared.frame.Glyph.TheVariants.{Plain, Whole}
 use Rattle.ratatui_ansi.specs.Emulator.{is_plain, is_shown, columns_of_char}
 use Rattle.ratatui_ansi.specs.Frame.{is_fit, IsGlyph, IsLone}
-use Rattle.ratatui_ansi.proofs.TextLemmas.{and-both}
+use Rattle.ratatui_ansi.proofs.TextLemmas.{and-both, one-single}
 use Rattle.ratatui_ansi.proofs.PenLemmas.{up_to, up_to-at, equal-number}
 use Rattle.ratatui_ansi.proofs.DrawLemmas.{one-encoded}
 use Rattle.ratatui_ansi.proofs.FrameLemmas.{plain-fits}
@@ -65,7 +65,7 @@ pub lone-plain : (room : ℕ) (cell : Cell) (c : ℕ) → IsLone cell c → is_p
 lone-plain room cell c lone plain some =
     plain-fits room cell c plain (sym (one-encoded (symbol_text cell.symbol) c lone.utf8 lone.symbol)) (lone-columns cell c lone ∙ plain-columns c lone.above plain) some
 
-tests : (p q r e : Bool) → e ≡ true → ((true && (p && true) && (false || q) && (false || not false)) && e && q && r) ≡ (p && q && r)
+tests : (p q r e : Bool) → e ≡ true → ((true && (p && true) && (false || q) && true && (false || not false)) && e && q && r) ≡ (p && q && r)
 tests true true true e is = rw is refl
 tests true true false e is = rw is refl
 tests true false r e is = refl
@@ -74,7 +74,7 @@ tests false q r e is = refl
 lone-fit : (room : ℕ) (cell : Cell) (c : ℕ) → IsLone cell c → is_plain c ≡ false → is_fit room cell ≡ (is_shown c && nat_lt 0 (columns_of_char c) && nat_le (columns_of_char c) room)
 lone-fit room cell c lone other =
     let text = symbol_text cell.symbol in
-    rw (lone-columns cell c lone, text-columns text c lone.above lone.utf8 lone.symbol, lone.symbol, is_utf8-from_IsUtf8 text lone.utf8, other)
+    rw (one-single text c lone.symbol, lone-columns cell c lone, text-columns text c lone.above lone.utf8 lone.symbol, lone.symbol, is_utf8-from_IsUtf8 text lone.utf8, other)
     (tests (is_shown c) (nat_lt 0 (columns_of_char c)) (nat_le (columns_of_char c) room) (columns_of_char c == columns_of_char c) (equal-number (columns_of_char c)))
 
 lone-printed : (room : ℕ) (cell : Cell) (c : ℕ) → IsLone cell c → is_plain c ≡ false → is_fit room cell ≡ true → IsGlyph room cell (Whole (columns_of_char c))

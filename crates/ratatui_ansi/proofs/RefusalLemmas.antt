@@ -95,7 +95,7 @@ leaves-error (Err f) error old new is fails = subst (FailsBy old new) (sym is.1)
 
 -- only the count of failures changed
 pub counted-unsent : {W : Type 0} (s : BackendState W) (n : ℕ) → IsUnsent s (record s { failures = n })
-counted-unsent s n = record { writer = refl; start = refl; sent = refl; held = refl; size = refl; colors = refl; written = refl; is_broken = refl }
+counted-unsent s n = record { writer = refl; start = refl; sent = refl; held = refl; size = refl; colors = refl; ambiguous = refl; written = refl; is_broken = refl }
 
 pub refusal-leaves : {W : Type 0} (was old new : BackendState W) (refusal : Refusal) → was ≡ old → was.is_broken ≡ false → IsUnsent was new → FailsBy old new (error_of refusal)
 refusal-leaves was old new refusal same whole still =

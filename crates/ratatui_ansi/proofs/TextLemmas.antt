@@ -6,12 +6,14 @@ use Rattle.std.specs.Str.{is_utf8}
 use Rattle.std.proofs.lemmas.Bool.Decides.{nat_tests}
 use Rattle.std.proofs.lemmas.List.Folds.{list_all-append}
 use Rattle.std.proofs.lemmas.Str.{chars-nil, chars-encodes, chars_past_char, encodes-chars, IsUtf8-past_char, IsUtf8-from_is_utf8, is_utf8-from_IsUtf8}
+use Rattle.unicode_segmentation.specs.Grapheme.{graphemes, is_grapheme_break}
+use Rattle.unicode_segmentation.specs.Segments.{segments, cut}
 use Rattle.ratatui_core.specs.Buffer.{blank}
 use Rattle.ratatui_ansi.specs.Columns.{Column, blank_column, is_known}
 use Rattle.ratatui_ansi.specs.Columns.Column.{Shows, Unknown}
 use Rattle.ratatui_ansi.specs.Drawing.{only_of, columns_of}
 use Rattle.ratatui_ansi.specs.Screens.{IsSized}
-use Rattle.ratatui_ansi.specs.Emulator.{Emulator, is_control, is_directional, is_shown, is_plain, is_symbol, begins_anew}
+use Rattle.ratatui_ansi.specs.Emulator.{Emulator, is_control, is_directional, is_shown, is_plain, is_symbol, is_single, begins_anew}
 use Rattle.ratatui_ansi.specs.Emulator.Phase.{Ground}
 use Rattle.ratatui_ansi.specs.Sequences.{feed, reads_in, is_text}
 use Rattle.ratatui_ansi.specs.Sends.{typed}
@@ -81,7 +83,7 @@ none false = refl
 pub symbol-text : (text : List ℕ) → IsTrue (is_symbol text) → list_all is_text text ≡ true
 symbol-text text is =
     let e : is_symbol text ≡ true = grind (arith, nat_tests) in
-    let utf8 = and-both (is_utf8 text) _ (and-both _ (begins_anew (chars text)) e).0 in
+    let utf8 = and-both (is_utf8 text) _ (and-both _ (begins_anew (chars text)) (and-both _ (is_single (graphemes true text)) e).0).0 in
     ap (list_all is_text) (sym (encodes-chars text (IsUtf8-from_is_utf8 text utf8.0))) ∙ encodes-text (chars text) utf8.1
 
 -- and so are those of a plain character
@@ -90,12 +92,17 @@ plain-text c plain =
     let text : is_text c ≡ true = grind (arith, nat_tests) in
     encode-text c text
 
+-- a text of one character is one grapheme
+pub one-single : (text : List ℕ) (c : ℕ) → chars text ≡ c ∷ [] → is_single (graphemes true text) ≡ true
+unfolding segments cut is_grapheme_break
+one-single text c one = rw one refl
+
 -- what the characters of a text say of it
-pub symbol-then : (text : List ℕ) → IsUtf8 text → begins_anew (chars text) ≡ true → is_symbol text ≡ list_all is_shown (chars text)
-symbol-then text utf8 begins = rw (is_utf8-from_IsUtf8 text utf8, begins) (last (list_all is_shown (chars text)))
+pub symbol-then : (text : List ℕ) → IsUtf8 text → begins_anew (chars text) ≡ true → is_symbol text ≡ (list_all is_shown (chars text) && is_single (graphemes true text))
+symbol-then text utf8 begins = rw (is_utf8-from_IsUtf8 text utf8, begins) (ap (λ b. b && is_single (graphemes true text)) (last (list_all is_shown (chars text))))
 
 pub symbol-else : (text : List ℕ) → begins_anew (chars text) ≡ false → is_symbol text ≡ false
-symbol-else text begins = rw begins (none (is_utf8 text && list_all is_shown (chars text)))
+symbol-else text begins = rw begins (ap (λ b. b && is_single (graphemes true text)) (none (is_utf8 text && list_all is_shown (chars text))))
 
 -- ---- the character of a text that has only one
 

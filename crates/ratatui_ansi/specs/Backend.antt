@@ -5,10 +5,10 @@ use Rattle.ratatui_core.specs.Backend.{Screen}
 use Rattle.ratatui_ansi.specs.Emulator.{Emulator, rested, fresh}
 use Rattle.ratatui_ansi.specs.Sequences.{feed}
 use Rattle.ratatui_ansi.specs.Screens.{screen_shown}
-use Rattle.ratatui_ansi.specs.Calls.{IsAwaiting, IsLeft, with_rows_above}
+use Rattle.ratatui_ansi.specs.Calls.{IsAwaiting, IsLeft, anew, with_rows_above}
 
 -- the writer, what it held as the backend began or began anew, where that is known, what it was sent since, and what of that after the last
--- flush; the terminal's size, how many items were drawn and how many calls failed, and whether a write failed
+-- flush; the terminal's size, whether it is sent colours of the underline, and places after ambiguous characters as if these were wide; how many items were drawn and how many calls failed, and whether a write failed
 pub record BackendState (W : Type 0) : Type 0 where
   pub writer : W
   pub before : Option (List ℕ)
@@ -16,6 +16,7 @@ pub record BackendState (W : Type 0) : Type 0 where
   pub held : List ℕ
   pub size : Size
   pub has_underline_colors : Bool
+  pub ambiguous_is_wide : Bool
   pub written : ℕ
   pub failures : ℕ
   pub is_broken : Bool
@@ -34,7 +35,7 @@ shown_by b = screen_shown b.written (rested (reader b.size b.sent))
 
 -- a terminal of this size that reads these bytes becomes what a new one would, however it was left; its history stays above
 abbrev pub IsReadAlike : Size → List ℕ → Type 0
-IsReadAlike size sent = (t : Emulator) → IsLeft size.width size.height t → feed sent t ≡ with_rows_above t.history (reader size sent)
+IsReadAlike size sent = (t : Emulator) → IsLeft size.width size.height t → feed sent (anew t) ≡ with_rows_above t.history (reader size sent)
 
 -- what a backend keeps is in order: a screen of some columns and rows, flags for all of them, also for a draft, and, unless a write failed, a
 -- terminal that awaits the next call, with its cursor there and these flags, however it was left at first; no write failed where no call did

@@ -40,8 +40,11 @@ pub record IsLeft (w h : ℕ) (t : Emulator) : Type 0 where
   pub text : t.text ≡ []
   pub width : t.width ≡ w
   pub height : t.height ≡ h
-  pub sure : t.sure ≡ true
   pub off : (a b : ℕ) → (w ≤ a) ⊎ (h ≤ b) → t.columns a b ≡ blank_column
+
+-- the same terminal, as it is asked from here on: real terminals agree on all that was read since
+abbrev pub anew : Emulator → Emulator
+anew t = record t { sure = true }
 
 -- a terminal with these rows before those of its history
 abbrev pub with_rows_above : List (List Look) → Emulator → Emulator
@@ -51,4 +54,4 @@ with_rows_above rows t = record t { history = rows ++ t.history }
 pub record MakesBlank (w h : ℕ) (old new : List ℕ) : Type 0 where
   pub bytes : List ℕ
   pub appended : new ≡ old ++ bytes
-  pub made : (t : Emulator) → IsLeft w h t → feed bytes t ≡ record (fresh w h) { history = t.history }
+  pub made : (t : Emulator) → IsLeft w h t → feed bytes (anew t) ≡ record (fresh w h) { history = t.history }

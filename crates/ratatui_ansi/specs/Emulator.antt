@@ -3,6 +3,7 @@ use Rattle.std.specs.Prelude.{ℕ, ◌+◌, ◌-◌, ◌==◌, ◌&&◌, ◌||�
 use Rattle.std.specs.List.{list_all, range_with_len}
 use Rattle.std.specs.Str.{is_utf8}
 use Rattle.unicode_width.specs.Width.{char_width}
+use Rattle.unicode_segmentation.specs.Grapheme.{graphemes}
 use Rattle.ratatui_core.specs.Buffer.{Look, text_width}
 use Rattle.ratatui_ansi.specs.declared.pen.Pen.{Pen}
 use Rattle.ratatui_ansi.specs.Pen.{own_pen, inked, is_own}
@@ -75,9 +76,17 @@ abbrev pub begins_anew : List ℕ → Bool
 begins_anew [] = false
 begins_anew (c ∷ cs) = has_columns c
 
--- a text that terminals show as a symbol
+abbrev pub is_columnless : List ℕ → Bool
+is_columnless grapheme = text_width grapheme == 0
+
+-- whether of these graphemes the first alone has columns: terminals print each that has some by itself
+abbrev pub is_single : List (List ℕ) → Bool
+is_single [] = true
+is_single (g ∷ gs) = list_all is_columnless gs
+
+-- a text that terminals show as one symbol
 abbrev pub is_symbol : List ℕ → Bool
-is_symbol text = is_utf8 text && list_all is_shown (chars text) && begins_anew (chars text)
+is_symbol text = is_utf8 text && list_all is_shown (chars text) && begins_anew (chars text) && is_single (graphemes true text)
 
 -- n columns of a row, from column x on
 abbrev pub run : ℕ → ℕ → ℕ → Area

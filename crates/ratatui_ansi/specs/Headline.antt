@@ -1,12 +1,13 @@
 -- What the headline says of the bytes: a terminal, however it was left, that has read all that a backend's writer was sent.
-use Rattle.std.specs.Prelude.{◌≡◌, true, false, List, ◌++◌}
-use Rattle.ratatui_core.specs.Buffer.{Look, Sheet, ShowsSheet}
+use Rattle.std.specs.Prelude.{◌≡◌, ℕ, ◌<◌, true, false, List, ◌++◌}
+use Rattle.ratatui_core.specs.Buffer.{Look, Grid, Sheet, ShowsSheet}
 use Rattle.ratatui_core.specs.Backend.{Screen}
 use Rattle.ratatui_core.specs.Terminal.{State, IsInStep}
 use Rattle.ratatui_core.specs.Headline.{Event, Along, last_state, Does, IsFair}
 use Rattle.ratatui_ansi.specs.Backend.{BackendState, shown_by}
-use Rattle.ratatui_ansi.specs.Calls.{IsLeft}
+use Rattle.ratatui_ansi.specs.Calls.{IsLeft, anew}
 use Rattle.ratatui_ansi.specs.Columns.{look_in}
+use Rattle.ratatui_ansi.specs.Glass.{MayShow, IsStraight}
 use Rattle.ratatui_ansi.specs.Emulator.{Emulator, rested}
 use Rattle.ratatui_ansi.specs.Screens.{screen_shown}
 use Rattle.ratatui_ansi.specs.Sequences.{feed}
@@ -17,10 +18,13 @@ below_rows rows s = record s { history = rows ++ s.history }
 
 module _ {W : Type 0} where
   -- a terminal that was left so has read what was sent: real terminals don't differ on it, and it shows the backend's screen, its size,
-  -- columns, cursor and whether that is shown, and behind the rows that its history had those of the backend's
+  -- columns, cursor and whether that is shown, and behind the rows that its history had those of the backend's. On the glass each row of the
+  -- backend's screen stands as it is that has no letters written from the right
   pub record IsReadBy (b : BackendState W) (t : Emulator) : Type 0 where
-    pub sure : (rested (feed b.sent t)).sure ≡ true
-    pub screen : screen_shown b.written (rested (feed b.sent t)) ≡ below_rows t.history (shown_by b)
+    pub sure : (rested (feed b.sent (anew t))).sure ≡ true
+    pub screen : screen_shown b.written (rested (feed b.sent (anew t))) ≡ below_rows t.history (shown_by b)
+    pub glass : (g : Grid) → MayShow b.size.width (rested (feed b.sent (anew t))).columns g
+        → (x y : ℕ) → IsStraight b.size.width (shown_by b).grid y → x < b.size.width → g x y ≡ (shown_by b).grid x y
 
   -- so it is for each terminal of the backend's size
   abbrev pub IsReadByAll : BackendState W → Type 0
@@ -29,7 +33,7 @@ module _ {W : Type 0} where
   -- the same, and each unskipped column of a buffer's area has its cell's look
   pub record IsShownToReader (frame : Sheet) (b : BackendState W) (t : Emulator) : Type 0 where
     pub read : IsReadBy b t
-    pub shown : ShowsSheet frame (λ x y. look_in ((rested (feed b.sent t)).columns x y))
+    pub shown : ShowsSheet frame (λ x y. look_in ((rested (feed b.sent (anew t))).columns x y))
 
   -- so it is for each terminal of the backend's size, however it was left
   abbrev pub IsShownToAll : Sheet → BackendState W → Type 0

@@ -1,4 +1,5 @@
 pub mod Columns
+pub mod Glass
 pub mod Flags
 pub mod Pen
 pub mod Emulator

@@ -31,6 +31,7 @@ pub record IsUnsent {W : Type 0} (old new : BackendState W) : Type 0 where
   pub held : new.held ≡ old.held
   pub size : new.size ≡ old.size
   pub colors : new.has_underline_colors ≡ old.has_underline_colors
+  pub ambiguous : new.ambiguous_is_wide ≡ old.ambiguous_is_wide
   pub written : new.written ≡ old.written
   pub is_broken : new.is_broken ≡ old.is_broken
 
@@ -41,6 +42,7 @@ pub record IsWorking {W : Type 0} (old new : BackendState W) : Type 0 where
   pub after : new.is_broken ≡ false
   pub size : new.size ≡ old.size
   pub colors : new.has_underline_colors ≡ old.has_underline_colors
+  pub ambiguous : new.ambiguous_is_wide ≡ old.ambiguous_is_wide
 
 -- a send failed for the first time
 pub record Breaks {W : Type 0} (old new : BackendState W) : Type 0 where
@@ -49,6 +51,7 @@ pub record Breaks {W : Type 0} (old new : BackendState W) : Type 0 where
   pub after : new.is_broken ≡ true
   pub size : new.size ≡ old.size
   pub colors : new.has_underline_colors ≡ old.has_underline_colors
+  pub ambiguous : new.ambiguous_is_wide ≡ old.ambiguous_is_wide
 
 -- a refused call, by its error: after a failed send every call is refused, and only a failed send changes anything
 abbrev pub FailsBy : {W : Type 0} → BackendState W → BackendState W → AnsiError → Type 0

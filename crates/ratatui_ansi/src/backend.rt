@@ -38,6 +38,7 @@ pub struct AnsiBackend<W: Write> {
     sender: Sender<W>,
     size: Size,
     has_underline_colors: bool,
+    ambiguous_is_wide: bool,
     cursor: Position,
     // Whether each column lies behind the first one of its symbol, row by row; and the same within a draw.
     behind: Vec<bool>,
@@ -64,6 +65,7 @@ impl<W: Write> Model for AnsiBackend<W> {
       held = b.sender.held.bytes;
       size = b.size;
       has_underline_colors = b.has_underline_colors;
+      ambiguous_is_wide = b.ambiguous_is_wide;
       written = b.written;
       failures = b.failures;
       is_broken = b.is_broken;
@@ -101,6 +103,7 @@ impl<W: Write + Drop> AnsiBackend<W> {
         ensures sent { IfOk result (λ b. MakesBlank size.width size.height [] b.sent) }
         ensures is_size { IfOk result (λ b. b.size ≡ size) }
         ensures colors { IfOk result (λ b. b.has_underline_colors ≡ false) }
+        ensures ambiguous { IfOk result (λ b. b.ambiguous_is_wide ≡ false) }
         ensures failures { IfOk result (λ b. b.failures ≡ 0) }
         ensures works { IfOk result (λ b. b.is_broken ≡ false) }
         ensures size { OnOk result ((0 < size.width) × (0 < size.height)) }
@@ -122,6 +125,7 @@ impl<W: Write + Drop> AnsiBackend<W> {
             sender,
             size,
             has_underline_colors: false,
+            ambiguous_is_wide: false,
             cursor: Position::ORIGIN,
             behind,
             draft,
@@ -162,6 +166,14 @@ impl<W: Write + Drop> AnsiBackend<W> {
         self.has_underline_colors = has_underline_colors;
     }
 
+    /// From now on a move follows each symbol but ASCII, or not, as at first: some terminals were told to take ambiguous characters,
+    /// such as lines and letters with accents, as wide, and would shift what comes after them.
+    pub fn set_ambiguous_is_wide(&mut self, ambiguous_is_wide: bool)
+        ensures { self.new ≡ record self.old { ambiguous_is_wide = ambiguous_is_wide } }
+    {
+        self.ambiguous_is_wide = ambiguous_is_wide;
+    }
+
     /// Begins anew, also after a failed write, on a terminal that is made blank: what makes it so is written, and is all that counts as
     /// sent. Where memory is refused all stays; after a failed write every call is refused until the next `restart`.
     pub fn restart(&mut self) -> Result<(), AnsiError>
@@ -174,6 +186,7 @@ impl<W: Write + Drop> AnsiBackend<W> {
         ensures refused { IfErr result (FailsToRestart self.old self.new) }
         ensures size { self.new.size ≡ self.old.size }
         ensures colors { self.new.has_underline_colors ≡ self.old.has_underline_colors }
+        ensures ambiguous { self.new.ambiguous_is_wide ≡ self.old.ambiguous_is_wide }
         ensures counts { Counts result self.old.failures self.new.failures }
     {
         let failures = self.failures;
@@ -206,6 +219,7 @@ impl<W: Write + Drop> AnsiBackend<W> {
         ensures works { OnOk result (self.new.is_broken ≡ false) }
         ensures refused { IfErr result (FailsToResize size self.old self.new) }
         ensures colors { self.new.has_underline_colors ≡ self.old.has_underline_colors }
+        ensures ambiguous { self.new.ambiguous_is_wide ≡ self.old.ambiguous_is_wide }
         ensures counts { Counts result self.old.failures self.new.failures }
     {
         let failures = self.failures;
@@ -449,6 +463,7 @@ impl<W: Write + Drop> AnsiBackend<W> {
             width,
             height,
             self.has_underline_colors,
+            self.ambiguous_is_wide,
             self.cursor,
             self.written,
             content,

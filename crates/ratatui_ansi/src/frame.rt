@@ -472,13 +472,14 @@ fn draw_all<C: AsCell, I: Iterator<Item = (u16, u16, C)>>(
 
 /// Draws cells in order on a screen of so many columns and rows, with the cursor there and so many items drawn before; `behind` is
 /// as in `draw_cell`. The terminal awaits text and is ready, and is so again. Answers where the cursor is then, and how many
-/// items were drawn, as far as the count goes; after a refusal what was appended and the flags are to be dropped.
+/// items were drawn, as far as the count goes; if ambiguous characters may be wide, each but ASCII is followed by a move; after a refusal what was appended and the flags are to be dropped.
 pub fn draw_cells<C: AsCell, I: Iterator<Item = (u16, u16, C)>>(
     out: &mut String,
     behind: &mut [bool],
     width: u16,
     height: u16,
     has_underline_colors: bool,
+    ambiguous_is_wide: bool,
     cursor: Position,
     written: u64,
     content: I,
@@ -501,6 +502,7 @@ pub fn draw_cells<C: AsCell, I: Iterator<Item = (u16, u16, C)>>(
         is_placed: false,
         x: 0,
         y: 0,
+        ambiguous_is_wide,
     };
     let mut drawing = Drawing {
         brush,

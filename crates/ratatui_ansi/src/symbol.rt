@@ -1,12 +1,15 @@
 //! Texts that are sent as symbols.
 
-ghost use Rattle.std.specs.Prelude.{◌≡◌, ◌≤◌, [], ◌∷◌, OnOk, IfSome, IsTrue, string_bytes, encode_utf8, chars};
+ghost use Rattle.std.specs.Prelude.{◌≡◌, ◌≤◌, ◌&&◌, true, [], ◌∷◌, OnOk, IfSome, IsTrue, string_bytes, encode_utf8, chars};
 ghost use Rattle.std.specs.List.{list_all};
-ghost use Rattle.ratatui_ansi.specs.Emulator.{is_plain, is_shown, columns_of_char, has_columns, begins_anew, is_symbol};
+ghost use Rattle.unicode_segmentation.specs.Grapheme.{graphemes};
+ghost use Rattle.ratatui_ansi.specs.Emulator.{is_plain, is_shown, columns_of_char, has_columns, begins_anew, is_columnless, is_single, is_symbol};
 ghost use Rattle.ratatui_ansi.specs.Drawing.{only_of};
 ghost use Rattle.ratatui_ansi.specs.Sends.{Sends, typed};
 
+use ratatui_core::buffer::CellWidth;
 use std::alloc::AllocError;
+use unicode_segmentation::UnicodeSegmentation;
 use unicode_width::UnicodeWidthChar;
 
 /// Whether a character is shown, or joins one that is: no control character, and none that turns the direction.
@@ -80,12 +83,40 @@ fn begins_anew(text: &str) -> bool
     }
 }
 
-/// Whether terminals show a text as a symbol: it has no control characters, none that turn the direction, and begins with a
-/// character that has columns of its own.
+// Whether a grapheme has no columns.
+fn is_columnless(grapheme: &str) -> bool
+    ensures { result ≡ is_columnless grapheme.now }
+{
+    grapheme.cell_width() == 0
+}
+
+// Whether of a text's graphemes the first alone has columns.
+fn is_single(text: &str) -> bool
+    ensures { result ≡ is_single (graphemes true text.now) }
+{
+    let mut rest = text.graphemes(true);
+    let _first = rest.next();
+    for grapheme in rest {
+        if !is_columnless(grapheme) {
+            return false;
+        }
+    }
+    true
+}
+
+// Whether all characters of a text are shown, and only the first of its graphemes has columns.
+fn is_shown_as_one(text: &str) -> bool
+    ensures { result ≡ (list_all is_shown (chars text.now) && is_single (graphemes true text.now)) }
+{
+    are_shown(text) && is_single(text)
+}
+
+/// Whether terminals show a text as one symbol: it has no control characters, none that turn the direction, begins with a
+/// character that has columns of its own, and only the first of its graphemes has columns.
 pub fn is_symbol(text: &str) -> bool
     ensures { result ≡ is_symbol text.now }
 {
-    begins_anew(text) && are_shown(text)
+    begins_anew(text) && is_shown_as_one(text)
 }
 
 /// Sends a plain character, to be printed where the cursor is.

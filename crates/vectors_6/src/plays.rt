@@ -37,7 +37,7 @@ impl Random {
     }
 }
 
-const SYMBOLS: [&str; 12] = [
+const SYMBOLS: [&str; 14] = [
     " ",
     "a",
     "~",
@@ -50,6 +50,8 @@ const SYMBOLS: [&str; 12] = [
     "",
     "\u{7}",
     "ab",
+    "日本",
+    "コ\u{200b}",
 ];
 
 const COLORS: [Color; 6] = [
@@ -255,7 +257,7 @@ fn is_reason(
     cell: &Cell,
 ) -> bool {
     let columns = cell.cell_width();
-    let is_one = is_symbol(cell.symbol()) && cell.symbol() != "ab";
+    let is_one = is_symbol(cell.symbol());
     match error {
         AnsiError::Cut(at) => at == place && is_behind,
         AnsiError::Symbol(at) => at == place && !is_behind && (!is_one || room < columns),
@@ -273,6 +275,7 @@ fn is_played(alloc: Global, width: u16, height: u16, seed: u64) -> Result<bool, 
     let mut play = Play::new(alloc, width, height)?;
     play.has_underline_colors = seed % 2 == 0;
     play.backend.set_underline_colors(seed % 2 == 0);
+    play.backend.set_ambiguous_is_wide(seed % 3 == 0);
     let mut random = Random { state: seed };
     for _ in 0..CALLS {
         if !play.calls(&mut random)? || !play.is_shown()? {

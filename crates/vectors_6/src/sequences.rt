@@ -166,6 +166,7 @@ fn symbols(rt: HostRuntime) -> Result<(), Fail> {
         !is_symbol("") && !is_symbol("a\u{1b}[2J") && !is_symbol("\u{9b}2J") && !is_symbol("\u{7f}")
     );
     assert!(rt; !is_symbol("a\u{202e}b") && !is_symbol("\u{301}") && !is_symbol("\n"));
+    assert!(rt; !is_symbol("ab") && !is_symbol("日本") && !is_symbol("コa") && is_symbol("コ\u{200b}"));
     assert!(rt;
         printing_of("─") == Printing::Plain('─') && printing_of("é") == Printing::Plain('é')
     );
@@ -340,6 +341,24 @@ fn cells_in_their_places(rt: HostRuntime) -> Result<(), Fail> {
         )
     );
     assert!(rt; draws(&mut backend, &[(9, 9, &a)], Ok(()), ""));
+    Ok(())
+}
+
+#[test]
+fn ambiguous_cells(rt: HostRuntime) -> Result<(), Fail> {
+    let alloc = rt.alloc();
+    let mut backend = over_kept(alloc, 4, 1)?;
+    let plain = Cell::new(alloc, "a")?;
+    let accented = Cell::new(alloc, "é")?;
+    let row = [
+        (0, 0, &plain),
+        (1, 0, &accented),
+        (2, 0, &plain),
+        (3, 0, &accented),
+    ];
+    assert!(rt; draws(&mut backend, &row, Ok(()), "\u{1b}[1;1Haéaé"));
+    backend.set_ambiguous_is_wide(true);
+    assert!(rt; draws(&mut backend, &row, Ok(()), "\u{1b}[1;1Haé\u{1b}[1;3Haé"));
     Ok(())
 }
 

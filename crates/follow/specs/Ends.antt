@@ -1,0 +1,50 @@
+-- Why the program stops before its input ends, what it has shown then, and how it leaves the terminal.
+use Rattle.std.specs.Prelude.{◌≡◌, ℕ, ◌-◌, ◌^◌, true, IfSome, Option, Some, List, [], ◌++◌, map, length}
+use Rattle.std.specs.Io.BufRead.{take_through}
+use Rattle.ratatui_core.specs.Layout.{Size}
+use Rattle.ratatui_ansi.specs.Backend.{BackendState, shown_by}
+use Rattle.ratatui_ansi.specs.Emulator.{Emulator, fed, returned, moved, with_visible, without_region, with_pen}
+use Rattle.ratatui_ansi.specs.Pen.{own_pen}
+use Rattle.ratatui_ansi.specs.declared.error.AnsiError.{AnsiError}
+use Rattle.logview.specs.Views.{IsFollowing, IsViewOf, RefusesPush}
+use Rattle.logview.specs.declared.view.LogView.{LogView}
+use Rattle.follow.specs.Lines.{shown_line, AreLinesOf}
+use Rattle.follow.specs.declared.fault.Fault.{Fault}
+use Rattle.follow.specs.declared.fault.Fault.TheVariants.{Terminal, Read, Write, Lines}
+
+-- why the next line of a text isn't shown: it can't be read, and the view stays; or the terminal or memory refuses it, as a push is refused
+abbrev pub StopsAt : {W : Type 0} → List ℕ → LogView (BackendState W) AnsiError → LogView (BackendState W) AnsiError → Fault → Type 0
+StopsAt text v w (Terminal error) = IsFollowing shown_by v → RefusesPush shown_by (shown_line (take_through 10 text)) v w error
+StopsAt text v w (Read error) = w ≡ v
+StopsAt text v w (Write error) = ⊥
+StopsAt text v w Lines = ⊥
+
+-- the same after so many lines, of which there may be no more than can be counted
+abbrev pub StopsAfter : {W : Type 0} → ℕ → List ℕ → LogView (BackendState W) AnsiError → LogView (BackendState W) AnsiError → Fault → Type 0
+StopsAfter n text v w (Terminal error) = IsFollowing shown_by v → RefusesPush shown_by (shown_line (take_through 10 text)) v w error
+StopsAfter n text v w (Read error) = w ≡ v
+StopsAfter n text v w (Write error) = ⊥
+StopsAfter n text v w Lines = (w ≡ v) × (n ≡ 2 ^ 64 - 1)
+
+-- lines of a text were shown, each as it is shown, and the line after them isn't
+pub record StopsText {W : Type 0} (size : Size) (text : List ℕ) (v : LogView (BackendState W) AnsiError) (fault : Fault) : Type 0 where
+  pub lines : List (List ℕ)
+  pub rest : List ℕ
+  pub continued : (more : List (List ℕ)) → AreLinesOf rest more → AreLinesOf text (lines ++ more)
+  pub before : LogView (BackendState W) AnsiError
+  pub view : IsViewOf shown_by size (map shown_line lines) before
+  pub stops : StopsAfter (length lines) rest before v fault
+
+-- a fault of showing: not that what leaves the terminal can't be written
+abbrev pub IsOfShowing : Fault → Type 0
+IsOfShowing (Write error) = ⊥
+IsOfShowing _ = Unit {0}
+
+-- what leaves the terminal can't be written only once all input was read
+abbrev pub EndsBy : Option (List ℕ) → Option (List ℕ) → Fault → Type 0
+EndsBy old new (Write error) = IfSome old (λ _. new ≡ Some [])
+EndsBy old new _ = Unit {0}
+
+-- a terminal of so many rows in its own colours, without margins, and with its cursor shown at the beginning of the row below its last one
+abbrev pub left_below : ℕ → Emulator → Emulator
+left_below h t = fed 1 (returned (moved 0 (h - 1) (with_visible true (without_region (with_pen own_pen t)))))

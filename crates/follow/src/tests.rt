@@ -1,0 +1,153 @@
+//! What the program sends, and how it ends where a read, a write or a flush fails.
+
+ghost use Rattle.std.specs.Prelude.{◌≡◌};
+
+use crate::fault::Fault;
+use crate::follow;
+use rtui_geometry::Size;
+use std::alloc::Global;
+use std::io::{self, BufReader, ErrorKind, Read, Write};
+use std::test::Fail;
+
+const SIZE: Size = Size {
+    width: 8,
+    height: 3,
+};
+
+// What leaves the terminal with its cursor shown below the screen.
+const LEAVING: &str = "\u{1b}[0m\u{1b}[r\u{1b}[?25h\u{1b}[3;1H\r\n";
+
+// A writer that keeps what it is given. After so many calls it fails once.
+#[derive(Drop)]
+struct Tearing {
+    sent: Vec<u8>,
+    calls: u64,
+    is_torn: bool,
+}
+
+impl Tearing {
+    fn begin(&mut self) -> io::Result<()>
+        ensures { self.new.sent ≡ self.old.sent }
+    {
+        if self.is_torn {
+            return Ok(());
+        }
+        if self.calls > 0 {
+            self.calls -= 1;
+            return Ok(());
+        }
+        self.is_torn = true;
+        Err(ErrorKind::BrokenPipe.into())
+    }
+}
+
+impl Write for Tearing {
+    fn write(&mut self, buf: &[u8]) -> io::Result<usize> {
+        self.begin()?;
+        self.sent.extend_from_slice(buf)?;
+        Ok(buf.len())
+    }
+
+    fn flush(&mut self) -> io::Result<()> {
+        self.begin()
+    }
+}
+
+fn torn_after(alloc: Global, calls: u64) -> Tearing {
+    Tearing {
+        sent: Vec::new(alloc),
+        calls,
+        is_torn: false,
+    }
+}
+
+// A reader that gives a text, and fails after it.
+#[derive(Drop)]
+struct Failing<'a> {
+    rest: &'a [u8],
+}
+
+impl Read for Failing<'_> {
+    fn read(&mut self, buf: &mut [u8]) -> io::Result<usize> {
+        if self.rest.is_empty() {
+            return Err(ErrorKind::BrokenPipe.into());
+        }
+        self.rest.read(buf)
+    }
+}
+
+// How a run ends.
+#[derive(Debug, Clone, Copy, PartialEq, Eq)]
+enum End {
+    Whole,
+    Terminal,
+    Read,
+    Write,
+    Lines,
+}
+
+fn end_of(ended: Result<(), Fault>) -> End {
+    match ended {
+        Ok(()) => End::Whole,
+        Err(Fault::Terminal(_)) => End::Terminal,
+        Err(Fault::Read(_)) => End::Read,
+        Err(Fault::Write(_)) => End::Write,
+        Err(Fault::Lines) => End::Lines,
+    }
+}
+
+// How a run over a text ends.
+fn runs(alloc: Global, text: &str, writer: &mut Tearing) -> End {
+    let mut reader = text.as_bytes();
+    end_of(follow(alloc, &mut reader, writer, SIZE))
+}
+
+// What a run over a text sends.
+fn sent(alloc: Global, text: &str) -> Vec<u8> {
+    let mut writer = torn_after(alloc, u64::MAX);
+    let _end = runs(alloc, text, &mut writer);
+    writer.sent
+}
+
+#[test]
+fn leaves_the_terminal_after_each_failed_call(rt: HostRuntime) -> Result<(), Fail> {
+    let (mut stopped, mut unwritten) = (0_u64, 0_u64);
+    for calls in 0..40 {
+        let mut writer = torn_after(rt.alloc(), calls);
+        let end = runs(rt.alloc(), "one\ntwo\nthree\n", &mut writer);
+        let is_left = writer.sent.as_slice().ends_with(LEAVING.as_bytes());
+        match end {
+            End::Write => unwritten += 1,
+            End::Terminal => {
+                assert!(rt; writer.is_torn && is_left);
+                stopped += 1;
+            }
+            End::Whole => assert!(rt; is_left),
+            End::Read | End::Lines => assert!(rt; false),
+        }
+    }
+    // What leaves the terminal is one write and one flush; that the cursor is shown again before it isn't told when it fails.
+    assert!(rt; unwritten == 2 && 10 < stopped && stopped < 30);
+    Ok(())
+}
+
+#[test]
+fn shows_what_cannot_be_sent_as_replaced(rt: HostRuntime) {
+    let replaced = sent(rt.alloc(), "a\u{605}x\n");
+    assert!(rt; replaced.as_slice() == sent(rt.alloc(), "a\u{fffd}\n").as_slice());
+    assert!(rt; replaced.as_slice() != sent(rt.alloc(), "a\n").as_slice());
+}
+
+#[test]
+fn a_failed_read_is_not_the_end(rt: HostRuntime) -> Result<(), Fail> {
+    let alloc = rt.alloc();
+    let failing = Failing {
+        rest: "one\ntw".as_bytes(),
+    };
+    let mut reader = BufReader::new(alloc, failing)?;
+    let mut writer = torn_after(alloc, u64::MAX);
+    assert!(rt; end_of(follow(alloc, &mut reader, &mut writer, SIZE)) == End::Read);
+    assert!(rt; writer.sent.as_slice() == sent(alloc, "one\n").as_slice());
+    assert!(rt; runs(alloc, "one\ntw", &mut writer) == End::Whole);
+    Ok(())
+}
