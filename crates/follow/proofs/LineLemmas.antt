@@ -1,5 +1,5 @@
 -- Lines that were read, and the view of them.
-use Rattle.std.proofs.Common.{◌≡◌, ℕ, suc, ◌-◌, ◌^◌, length, true, false, List, [], ◌∷◌, ◌++◌, map, Option, None, Some, IfSome, is_some, unwrap_or, refl, sym, ap, subst, ◌∙◌, append_assoc, append-nil}
+use Rattle.std.proofs.Common.{◌≡◌, ℕ, true, false, List, [], ◌∷◌, ◌++◌, map, Option, None, Some, IfSome, is_some, unwrap_or, refl, sym, ap, subst, ◌∙◌, append_assoc, append-nil}
 use Rattle.std.proofs.lemmas.Bool.{false≢true}
 use Rattle.std.proofs.lemmas.List.{map-append}
 use Rattle.std.specs.Io.BufRead.{take_through, drop_through}
@@ -21,33 +21,27 @@ none-some : {A : Type 0} {a : A} → None ≡ Some a → ⊥
 none-some e = false≢true (ap is_some e)
 
 -- what was read of a text until now, and what is left of it: lines that continue those that were read are lines of the text
-pub record HasRead {W E : Type 0} (n : ℕ) (size : Size) (text : List ℕ) (left : Option (List ℕ)) (v : LogView (BackendState W) E) : Type 0 where
+pub record HasRead {W E : Type 0} (size : Size) (text : List ℕ) (left : Option (List ℕ)) (v : LogView (BackendState W) E) : Type 0 where
   pub lines : List (List ℕ)
-  pub count : length lines ≡ n
   pub rest : List ℕ
   pub rest_is : left ≡ Some rest
   pub continued : (more : List (List ℕ)) → AreLinesOf rest more → AreLinesOf text (lines ++ more)
   pub view : IsViewOf shown_by size (map shown_line lines) v
 
-has-read-none : {W E : Type 0} (size : Size) (text : List ℕ) (v : LogView (BackendState W) E) → IsViewOf shown_by size [] v → HasRead 0 size text (Some text) v
-has-read-none size text v view = record { lines = []; count = refl; rest = text; rest_is = refl; continued = λ more are. are; view = view }
+has-read-none : {W E : Type 0} (size : Size) (text : List ℕ) (v : LogView (BackendState W) E) → IsViewOf shown_by size [] v → HasRead size text (Some text) v
+has-read-none size text v view = record { lines = []; rest = text; rest_is = refl; continued = λ more are. are; view = view }
 
 -- at first nothing was read
-pub begun : {W E : Type 0} (left : Option (List ℕ)) (v : LogView (BackendState W) E) → IfSome left (λ text. (size : Size) → IsViewOf shown_by size [] v → HasRead 0 size text left v)
+pub begun : {W E : Type 0} (left : Option (List ℕ)) (v : LogView (BackendState W) E) → IfSome left (λ text. (size : Size) → IsViewOf shown_by size [] v → HasRead size text left v)
 begun (Some text) v = λ size view. has-read-none size text v view
 begun None v = tt
 
-one-more : (lines : List (List ℕ)) (line : List ℕ) → length (lines ++ line ∷ []) ≡ suc (length lines)
-one-more [] line = refl
-one-more (l ∷ lines) line = ap suc (one-more lines line)
-
-has-read-more : {W E : Type 0} (n : ℕ) (size : Size) (text rest : List ℕ) (now : Option (List ℕ)) (v w : LogView (BackendState W) E) (read : HasRead n size text (Some rest) v) → MovesOn rest true now v w → HasRead (suc n) size text now w
-has-read-more n size text rest now v w read moves =
+has-read-more : {W E : Type 0} (size : Size) (text rest : List ℕ) (now : Option (List ℕ)) (v w : LogView (BackendState W) E) (read : HasRead size text (Some rest) v) → MovesOn rest true now v w → HasRead size text now w
+has-read-more size text rest now v w read moves =
     let same : read.rest ≡ rest = some-same read.rest_is in
     let line = take_through 10 rest in
     record {
       lines = read.lines ++ line ∷ [];
-      count = one-more read.lines line ∙ ap suc read.count;
       rest = drop_through 10 rest;
       rest_is = moves.1;
       continued = λ more are. subst (AreLinesOf text) (sym (append_assoc read.lines (line ∷ []) more))
@@ -57,16 +51,16 @@ has-read-more n size text rest now v w read moves =
     }
 
 -- a line more was read and shown
-pub turned : {W E : Type 0} (n : ℕ) (first left now : Option (List ℕ)) (u v w : LogView (BackendState W) E)
-    → IfSome first (λ text. (size : Size) → IsViewOf shown_by size [] u → HasRead n size text left v) → IfSome left (λ text. MovesOn text true now v w)
-    → IfSome first (λ text. (size : Size) → IsViewOf shown_by size [] u → HasRead (suc n) size text now w)
-turned n None left now u v w read moves = tt
-turned n (Some text) None now u v w read moves = λ size view. absurd (none-some (read size view).rest_is)
-turned n (Some text) (Some rest) now u v w read moves = λ size view. has-read-more n size text rest now v w (read size view) moves
+pub turned : {W E : Type 0} (first left now : Option (List ℕ)) (u v w : LogView (BackendState W) E)
+    → IfSome first (λ text. (size : Size) → IsViewOf shown_by size [] u → HasRead size text left v) → IfSome left (λ text. MovesOn text true now v w)
+    → IfSome first (λ text. (size : Size) → IsViewOf shown_by size [] u → HasRead size text now w)
+turned None left now u v w read moves = tt
+turned (Some text) None now u v w read moves = λ size view. absurd (none-some (read size view).rest_is)
+turned (Some text) (Some rest) now u v w read moves = λ size view. has-read-more size text rest now v w (read size view) moves
 
-has-read-all : {W E : Type 0} (n : ℕ) (size : Size) (text rest : List ℕ) (now : Option (List ℕ)) (v w : LogView (BackendState W) E) (read : HasRead n size text (Some rest) v) → MovesOn rest false now v w
+has-read-all : {W E : Type 0} (size : Size) (text rest : List ℕ) (now : Option (List ℕ)) (v w : LogView (BackendState W) E) (read : HasRead size text (Some rest) v) → MovesOn rest false now v w
     → (now ≡ Some []) × ShowsText size text w
-has-read-all n size text rest now v w read moves =
+has-read-all size text rest now v w read moves =
     let same : read.rest ≡ [] = some-same read.rest_is ∙ moves.0 in (
       moves.1,
       record {
@@ -77,22 +71,22 @@ has-read-all n size text rest now v w read moves =
     )
 
 -- nothing is left
-pub ended : {W E : Type 0} (n : ℕ) (first left now : Option (List ℕ)) (u v w : LogView (BackendState W) E)
-    → IfSome first (λ text. (size : Size) → IsViewOf shown_by size [] u → HasRead n size text left v) → IfSome left (λ text. MovesOn text false now v w)
+pub ended : {W E : Type 0} (first left now : Option (List ℕ)) (u v w : LogView (BackendState W) E)
+    → IfSome first (λ text. (size : Size) → IsViewOf shown_by size [] u → HasRead size text left v) → IfSome left (λ text. MovesOn text false now v w)
     → IfSome first (λ text. (size : Size) → IsViewOf shown_by size [] u → (now ≡ Some []) × ShowsText size text w)
-ended n None left now u v w read moves = tt
-ended n (Some text) None now u v w read moves = λ size view. absurd (none-some (read size view).rest_is)
-ended n (Some text) (Some rest) now u v w read moves = λ size view. has-read-all n size text rest now v w (read size view) moves
+ended None left now u v w read moves = tt
+ended (Some text) None now u v w read moves = λ size view. absurd (none-some (read size view).rest_is)
+ended (Some text) (Some rest) now u v w read moves = λ size view. has-read-all size text rest now v w (read size view) moves
 
-after-some : {W : Type 0} (n : ℕ) (text : List ℕ) (v w : LogView (BackendState W) AnsiError) (fault : Fault) → StopsAt text v w fault → StopsAfter n text v w fault
-after-some n text v w (Terminal error) stops = stops
-after-some n text v w (Read error) stops = stops
-after-some n text v w (Write error) stops = absurd stops
-after-some n text v w Lines stops = absurd stops
+after-some : {W : Type 0} (text : List ℕ) (v w : LogView (BackendState W) AnsiError) (fault : Fault) → StopsAt text v w fault → StopsAfter text v w fault
+after-some text v w (Terminal error) stops = stops
+after-some text v w (Read error) stops = stops
+after-some text v w (Write error) stops = absurd stops
+after-some text v w Lines stops = absurd stops
 
-stops-after : {W : Type 0} (n : ℕ) (size : Size) (text rest : List ℕ) (v w : LogView (BackendState W) AnsiError) (fault : Fault) (read : HasRead n size text (Some rest) v)
-    → StopsAfter (length read.lines) rest v w fault → StopsText size text w fault
-stops-after n size text rest v w fault read stops =
+stops-after : {W : Type 0} (size : Size) (text rest : List ℕ) (v w : LogView (BackendState W) AnsiError) (fault : Fault) → HasRead size text (Some rest) v → StopsAfter rest v w fault
+    → StopsText size text w fault
+stops-after size text rest v w fault read stops =
     let same : read.rest ≡ rest = some-same read.rest_is in
     record {
       lines = read.lines;
@@ -104,24 +98,20 @@ stops-after n size text rest v w fault read stops =
     }
 
 -- the next line isn't shown
-pub stopped : {W : Type 0} (n : ℕ) (first left : Option (List ℕ)) (u v w : LogView (BackendState W) AnsiError) (fault : Fault)
-    → IfSome first (λ text. (size : Size) → IsViewOf shown_by size [] u → HasRead n size text left v) → IfSome left (λ text. StopsAt text v w fault)
+pub stopped : {W : Type 0} (first left : Option (List ℕ)) (u v w : LogView (BackendState W) AnsiError) (fault : Fault)
+    → IfSome first (λ text. (size : Size) → IsViewOf shown_by size [] u → HasRead size text left v) → IfSome left (λ text. StopsAt text v w fault)
     → IfSome first (λ text. (size : Size) → IsViewOf shown_by size [] u → StopsText size text w fault)
-stopped n None left u v w fault read stops = tt
-stopped n (Some text) None u v w fault read stops = λ size view. absurd (none-some (read size view).rest_is)
-stopped n (Some text) (Some rest) u v w fault read stops = λ size view.
-    let been = read size view in
-    stops-after n size text rest v w fault been (after-some (length been.lines) rest v w fault stops)
+stopped None left u v w fault read stops = tt
+stopped (Some text) None u v w fault read stops = λ size view. absurd (none-some (read size view).rest_is)
+stopped (Some text) (Some rest) u v w fault read stops = λ size view. stops-after size text rest v w fault (read size view) (after-some rest v w fault stops)
 
--- all lines were read that can be counted
-pub overrun : {W : Type 0} (n : ℕ) (first left : Option (List ℕ)) (u v : LogView (BackendState W) AnsiError) → n ≡ 2 ^ 64 - 1
-    → IfSome first (λ text. (size : Size) → IsViewOf shown_by size [] u → HasRead n size text left v)
+-- so many lines were read as can be counted
+pub overrun : {W : Type 0} (first left : Option (List ℕ)) (u v : LogView (BackendState W) AnsiError)
+    → IfSome first (λ text. (size : Size) → IsViewOf shown_by size [] u → HasRead size text left v)
     → IfSome first (λ text. (size : Size) → IsViewOf shown_by size [] u → StopsText size text v Lines)
-overrun n None left u v most read = tt
-overrun n (Some text) None u v most read = λ size view. absurd (none-some (read size view).rest_is)
-overrun n (Some text) (Some rest) u v most read = λ size view.
-    let been = read size view in
-    stops-after n size text rest v v Lines been (refl, been.count ∙ most)
+overrun None left u v read = tt
+overrun (Some text) None u v read = λ size view. absurd (none-some (read size view).rest_is)
+overrun (Some text) (Some rest) u v read = λ size view. stops-after size text rest v v Lines (read size view) refl
 
 -- all was read that there was
 pub all-read : {W E : Type 0} (size : Size) (first now : Option (List ℕ)) (v w : LogView (BackendState W) E) → IsViewOf shown_by size [] v

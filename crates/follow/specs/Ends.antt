@@ -1,5 +1,5 @@
 -- Why the program stops before its input ends, what it has shown then, and how it leaves the terminal.
-use Rattle.std.specs.Prelude.{◌≡◌, ℕ, ◌-◌, ◌^◌, true, IfSome, Option, Some, List, [], ◌++◌, map, length}
+use Rattle.std.specs.Prelude.{◌≡◌, ℕ, ◌-◌, true, IfSome, Option, Some, List, [], ◌++◌, map}
 use Rattle.std.specs.Io.BufRead.{take_through}
 use Rattle.ratatui_core.specs.Layout.{Size}
 use Rattle.ratatui_ansi.specs.Backend.{BackendState, shown_by}
@@ -19,12 +19,12 @@ StopsAt text v w (Read error) = w ≡ v
 StopsAt text v w (Write error) = ⊥
 StopsAt text v w Lines = ⊥
 
--- the same after so many lines, of which there may be no more than can be counted
-abbrev pub StopsAfter : {W : Type 0} → ℕ → List ℕ → LogView (BackendState W) AnsiError → LogView (BackendState W) AnsiError → Fault → Type 0
-StopsAfter n text v w (Terminal error) = IsFollowing shown_by v → RefusesPush shown_by (shown_line (take_through 10 text)) v w error
-StopsAfter n text v w (Read error) = w ≡ v
-StopsAfter n text v w (Write error) = ⊥
-StopsAfter n text v w Lines = (w ≡ v) × (n ≡ 2 ^ 64 - 1)
+-- the same, or all lines were read that can be counted, and the view stays
+abbrev pub StopsAfter : {W : Type 0} → List ℕ → LogView (BackendState W) AnsiError → LogView (BackendState W) AnsiError → Fault → Type 0
+StopsAfter text v w (Terminal error) = IsFollowing shown_by v → RefusesPush shown_by (shown_line (take_through 10 text)) v w error
+StopsAfter text v w (Read error) = w ≡ v
+StopsAfter text v w (Write error) = ⊥
+StopsAfter text v w Lines = w ≡ v
 
 -- lines of a text were shown, each as it is shown, and the line after them isn't
 pub record StopsText {W : Type 0} (size : Size) (text : List ℕ) (v : LogView (BackendState W) AnsiError) (fault : Fault) : Type 0 where
@@ -33,7 +33,7 @@ pub record StopsText {W : Type 0} (size : Size) (text : List ℕ) (v : LogView (
   pub continued : (more : List (List ℕ)) → AreLinesOf rest more → AreLinesOf text (lines ++ more)
   pub before : LogView (BackendState W) AnsiError
   pub view : IsViewOf shown_by size (map shown_line lines) before
-  pub stops : StopsAfter (length lines) rest before v fault
+  pub stops : StopsAfter rest before v fault
 
 -- a fault of showing: not that what leaves the terminal can't be written
 abbrev pub IsOfShowing : Fault → Type 0

@@ -42,6 +42,7 @@ fn push_line<R: BufRead, W: Write + Drop>(
         MovesOn text is_more (R.remaining reader.new) view.old view.new)) }
     ensures stopped { IfErr result (λ fault. IfSome (R.remaining reader.old) (λ text.
         StopsAt text view.old view.new fault)) }
+    ensures why { IfErr result IsOfShowing }
 {
     line.clear();
     shown.clear();
@@ -69,6 +70,7 @@ fn push_lines<R: BufRead, W: Write + Drop>(
     ensures stopped { IfErr result (λ fault. IfSome (R.remaining reader.old) (λ text.
         (size : Size) → IsViewOf shown_by size [] view.old
         → StopsText size text view.new fault)) }
+    ensures why { IfErr result IsOfShowing }
 {
     let mut line = String::new(alloc);
     let mut shown = String::new(alloc);

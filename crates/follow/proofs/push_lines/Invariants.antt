@@ -6,4 +6,4 @@ use Rattle.follow.proofs.LineLemmas.{HasRead}
 use Rattle.follow.proofs.push_lines.Given as goal
 
 abbrev pub invariant-loop : goal.invariant-loop
-invariant-loop g l = IfSome (g.R.Read.remaining l.fn.reader) (λ text. (size : Size) → IsViewOf shown_by size [] l.fn.view → HasRead l.counter size text (g.R.Read.remaining l.reader) l.view)
+invariant-loop g l = IfSome (g.R.Read.remaining l.fn.reader) (λ text. (size : Size) → IsViewOf shown_by size [] l.fn.view → HasRead size text (g.R.Read.remaining l.reader) l.view)
