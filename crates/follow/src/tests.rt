@@ -117,10 +117,10 @@ fn leaves_the_terminal_after_each_failed_call(rt: HostRuntime) -> Result<(), Fai
         let end = runs(rt.alloc(), "one\ntwo\nthree\n", &mut writer);
         let is_left = writer.sent.as_slice().ends_with(LEAVING.as_bytes());
         match end {
-            End::Write => unwritten += 1,
+            End::Write => unwritten = unwritten.saturating_add(1),
             End::Terminal => {
                 assert!(rt; writer.is_torn && is_left);
-                stopped += 1;
+                stopped = stopped.saturating_add(1);
             }
             End::Whole => assert!(rt; is_left),
             End::Read | End::Lines => assert!(rt; false),
