@@ -97,8 +97,21 @@ impl<'a> Block<'a> {
         ensures { ChangesWithin row buf.old buf.new }
     {
         let part = area.intersection(row);
+        self.render_styled(line, part, buf)
+    }
+
+    // Renders a title over a part of a row, in the style of the titles.
+    fn render_styled(
+        &self,
+        line: &Line<'a>,
+        part: Rect,
+        buf: &mut Buffer,
+    ) -> Result<(), AllocError>
+        ensures { ChangesWithin part buf.old buf.new }
+    {
         buf.set_style(part, self.titles_style);
-        line.render(part, buf)
+        line.render(part, buf)?;
+        Ok(())
     }
 
     // From the left on, with a column between each two.
