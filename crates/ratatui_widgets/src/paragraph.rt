@@ -1,16 +1,17 @@
 //! A text in an area.
 
-ghost use Rattle.std.specs.Prelude.{◌≡◌, ◌+◌, ◌<◌, ◌≤◌, IfSome, OnOk};
+ghost use Rattle.std.specs.Prelude.{◌≡◌, ◌+◌, ◌<◌, ◌≤◌, IfSome, IfOk, OnOk};
 ghost use Rattle.ratatui_core.specs.Layout.{IsInside};
 ghost use Rattle.ratatui_core.specs.Widgets.{ChangesWithin};
 ghost use Rattle.ratatui_widgets.specs.Boxes.{IsBoxArea};
 ghost use Rattle.ratatui_core.specs.Buffer.{IsSettledSheet};
 ghost use Rattle.ratatui_widgets.specs.Plain.{IsPlainFrom, IsPlainIfBox, IsReadyAt, IsReadyFrom};
 ghost use Rattle.ratatui_widgets.specs.Paragraphs.{inner_if};
+ghost use Rattle.ratatui_widgets.specs.Reflow.{AllFit};
 
 use crate::block::Block;
 use crate::part::part_in;
-use crate::wrap::{columns_of, truncated, wrapped};
+use crate::reflow::{columns_of, fitting, split_row, truncated};
 use ratatui_core::buffer::{Buffer, CellWidth};
 use ratatui_core::layout::{HorizontalAlignment, Position, Rect};
 use ratatui_core::style::Style;
@@ -201,24 +202,74 @@ impl<'a> Paragraph<'a> {
         let mut skip = self.scroll.y;
         let mut k = 0;
         for line in self.text.lines.as_slice() {
-            let alignment = line.alignment.unwrap_or(self.alignment);
-            let rows = wrapped(
-                alloc,
-                line.styled_graphemes(self.text.style),
-                part.width,
-                trim,
-            )?;
-            for row in rows.as_slice() {
-                if skip > 0 {
-                    skip -= 1;
-                } else if k < part.height {
-                    render_row(row.as_slice(), alignment, part, k, buf)?;
-                    k += 1;
-                }
+            if k == part.height {
+                return Ok(());
             }
+            let alignment = line.alignment.unwrap_or(self.alignment);
+            let row = fitting(alloc, line.styled_graphemes(self.text.style), part.width)?;
+            k = render_line(row.as_slice(), alignment, trim, &mut skip, part, k, buf)?;
         }
         Ok(())
     }
+}
+
+// Renders a line broken into rows, the first one in row k of a part, without as many rows as are still to be skipped; answers the row
+// after the last one.
+fn render_line(
+    graphemes: &[StyledGrapheme<'_>],
+    alignment: HorizontalAlignment,
+    trim: bool,
+    skip: &mut u16,
+    part: Rect,
+    k: u16,
+    buf: &mut Buffer,
+) -> Result<u16, AllocError>
+    requires some { IsBoxArea part }
+    requires inside { IsInside part buf.old.area }
+    requires row { k ≤ part.height }
+    requires fit { AllFit part.width graphemes.now }
+    ensures within { ChangesWithin part buf.old buf.new }
+    ensures row { IfOk result (λ n. n ≤ part.height) }
+    ensures ready { IsReadyFrom (part.y + k) buf.old
+        → IfOk result (λ n. IsReadyFrom (part.y + n) buf.new) }
+{
+    let mut k = k;
+    if graphemes.is_empty() {
+        if *skip > 0 {
+            *skip -= 1;
+        } else if k < part.height {
+            k += 1;
+        }
+        return Ok(k);
+    }
+    let mut rest = graphemes;
+    while !rest.is_empty() {
+        let (row, left) = split_row(rest, part.width, trim);
+        rest = left;
+        if *skip > 0 {
+            *skip -= 1;
+        } else if k < part.height {
+            render_row(row, alignment, part, k, buf)?;
+            k += 1;
+        } else {
+            return Ok(k);
+        }
+    }
+    Ok(k)
+}
+
+// How many rows a line takes that is broken in a width: one if it is empty.
+fn row_count(graphemes: &[StyledGrapheme<'_>], width: u16, trim: bool) -> usize
+    requires { AllFit width graphemes.now }
+{
+    let mut count = 0usize;
+    let mut rest = graphemes;
+    while !rest.is_empty() {
+        let (_, left) = split_row(rest, width, trim);
+        rest = left;
+        count = count.saturating_add(1);
+    }
+    count.max(1)
 }
 
 // How many rows a text takes that is broken in a width.
@@ -230,8 +281,8 @@ fn wrapped_rows(
 ) -> Result<usize, AllocError> {
     let mut count = 0usize;
     for line in text.lines.as_slice() {
-        let rows = wrapped(alloc, line.styled_graphemes(text.style), width, trim)?;
-        count = count.saturating_add(rows.len());
+        let row = fitting(alloc, line.styled_graphemes(text.style), width)?;
+        count = count.saturating_add(row_count(row.as_slice(), width, trim));
     }
     Ok(count)
 }
