@@ -3,7 +3,7 @@ use Rattle.std.specs.Prelude.{◌≡◌, ℕ, Bool, true, List, not, nat_le, fil
 use Rattle.std.specs.List.{sum_by, list_all}
 use Rattle.ratatui_core.specs.Text.{is_whitespace_symbol}
 use Rattle.ratatui_core.specs.Buffer.{text_width}
-use Rattle.rtui_text.specs.declared.grapheme.StyledGrapheme.{StyledGrapheme}
+use Rattle.ratatui_core.specs.declared.text.StyledGrapheme.{StyledGrapheme}
 
 -- a blank: a grapheme at which a line may be broken
 abbrev pub is_blank : StyledGrapheme → Bool

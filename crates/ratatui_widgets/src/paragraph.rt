@@ -242,10 +242,10 @@ fn render_line(
         }
         return Ok(k);
     }
-    let mut rest = graphemes;
-    while !rest.is_empty() {
-        let (row, left) = split_row(rest, part.width, trim);
-        rest = left;
+    let mut from = 0;
+    while from < graphemes.len() {
+        let (row, count) = split_row(&graphemes[from..], part.width, trim);
+        from += count;
         if *skip > 0 {
             *skip -= 1;
         } else if k < part.height {
@@ -263,10 +263,10 @@ fn row_count(graphemes: &[StyledGrapheme<'_>], width: u16, trim: bool) -> usize
     requires { AllFit width graphemes.now }
 {
     let mut count = 0usize;
-    let mut rest = graphemes;
-    while !rest.is_empty() {
-        let (_, left) = split_row(rest, width, trim);
-        rest = left;
+    let mut from = 0;
+    while from < graphemes.len() {
+        let (_, taken) = split_row(&graphemes[from..], width, trim);
+        from += taken;
         count = count.saturating_add(1);
     }
     count.max(1)

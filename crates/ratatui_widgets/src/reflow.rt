@@ -1,6 +1,6 @@
 //! Lines of graphemes cut, or broken into rows.
 
-ghost use Rattle.std.specs.Prelude.{◌≡◌, ◌+◌, ◌≤◌, ◌<◌, ◌++◌, [], length, IfOk};
+ghost use Rattle.std.specs.Prelude.{◌≡◌, ◌+◌, ◌≤◌, ◌<◌, [], length, IfOk};
 ghost use Rattle.std.proofs.Math.ListN.{take};
 ghost use Rattle.ratatui_widgets.specs.Reflow.{columns_of, words_of, AllFit};
 
@@ -207,22 +207,21 @@ fn row_ends(graphemes: &[StyledGrapheme<'_>], width: u16) -> (usize, usize)
     }
 }
 
-/// The first row of a line, and what is left of the line. The row has at most the width. Only blanks are left out between them: those at
-/// the front if the row is trimmed, and those at which the line is broken.
+// The row at the front of a line, and how many graphemes stand before the next one. The row has at most the width. Only blanks are left
+// out: those at the front if rows are trimmed, and those at which the line is broken.
 pub(crate) fn split_row<'s, 't>(
     graphemes: &'s [StyledGrapheme<'t>],
     width: u16,
     trim: bool,
-) -> (&'s [StyledGrapheme<'t>], &'s [StyledGrapheme<'t>])
-    requires some { 0 < length graphemes.now }
-    requires fit { AllFit width graphemes.now }
+) -> (&'s [StyledGrapheme<'t>], usize)
+    requires { AllFit width graphemes.now }
     ensures fits { columns_of result.0.now ≤ width }
-    ensures keeps { words_of graphemes.now ≡ words_of result.0.now ++ words_of result.1.now }
-    ensures less { length result.1.now < length graphemes.now }
-    ensures fit { AllFit width result.1.now }
+    ensures keeps { words_of (take result.1 graphemes.now) ≡ words_of result.0.now }
+    ensures some { 0 < length graphemes.now → 0 < result.1 }
+    ensures inside { result.1 ≤ length graphemes.now }
 {
     let start = if trim { leading_blanks(graphemes) } else { 0 };
     let rest = &graphemes[start..];
     let (end, next) = row_ends(rest, width);
-    (&rest[..end], &rest[next..])
+    (&rest[..end], start + next)
 }

@@ -101,12 +101,7 @@ impl<'a> Block<'a> {
     }
 
     // Renders a title over a part of a row, in the style of the titles.
-    fn render_styled(
-        &self,
-        line: &Line<'a>,
-        part: Rect,
-        buf: &mut Buffer,
-    ) -> Result<(), AllocError>
+    fn render_styled(&self, line: &Line<'a>, part: Rect, buf: &mut Buffer) -> Result<(), AllocError>
         ensures { ChangesWithin part buf.old buf.new }
     {
         buf.set_style(part, self.titles_style);

@@ -1,9 +1,8 @@
-use Rattle.std.proofs.Common.{length}
-use Rattle.ratatui_widgets.specs.Reflow.{AllFit}
+use Rattle.std.proofs.Common.{◌≤◌, ◌-◌, length}
 use Rattle.ratatui_widgets.proofs.paragraph.row_count.Given as goal
 
-abbrev pub invariant-loop-rest : goal.invariant-loop-rest
-invariant-loop-rest l = AllFit l.fn.width l.rest
+abbrev pub invariant-loop-from : goal.invariant-loop-from
+invariant-loop-from l = l.from ≤ length l.fn.graphemes
 
-abbrev pub decreases-loop-rest : goal.decreases-loop-rest
-decreases-loop-rest l = length l.rest
+abbrev pub decreases-loop-from : goal.decreases-loop-from
+decreases-loop-from l = length l.fn.graphemes - l.from
