@@ -1,4 +1,4 @@
--- Strokes over the cells of an area, one behind the other.
+-- Strokes over the cells of an area, one after the other.
 use Rattle.std.proofs.Common.{◌≡◌, ℕ, ◌+◌, ◌-◌, ◌<◌, ◌≤◌, ◌⊎◌, ⊎_elim, inl, inr, ◌&&◌, Bool, true, false, nat_le, nat_lt, if◌then◌else◌, List, [], ◌∷◌, ◌++◌, refl, sym, ap, subst, ◌∙◌, arith, min, Result, Ok, Err, OnOk, OnErr, IsOk, IsErr}
 use Rattle.std.proofs.lemmas.Bool.Decides.{nat_tests}
 use Rattle.std.specs.declared.alloc.AllocError.{AllocError}
@@ -86,7 +86,7 @@ each-then b ss ts old mid new first made = record {
       made.at p (rw first.area in_own) ∙ ap (stroked b ts p) (first.at p in_own) ∙ sym (stroked-append b ss ts p (cell_in old p));
 }
 
--- more strokes behind those that were drawn
+-- more strokes after those that were drawn
 module _ {A B : Type 0} (b : Block) (area : Rect) (ss ts : List Stroke) where
   pub draws-then : (x : A) (r : Result B AllocError) (old mid new : Sheet) → Draws b area ss (Ok x) old mid → Draws b area ts r mid new → Draws b area (ss ++ ts) r old new
   draws-then x r old mid new first second = record {

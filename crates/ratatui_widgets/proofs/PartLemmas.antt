@@ -52,7 +52,7 @@ Changes-put s new p f count has is = rw is (record {
       (λ ex ey. let r = has.right in let b = has.bottom in off (record { left = omega arith; right = omega arith; top = omega arith; bottom = omega arith }));
 })
 
--- one change behind another, apart from it
+-- one change after another, apart from it
 pub Changes-join : (r1 r2 r : Rect) (f : Cell → Cell) (old mid new : Sheet) → Changes r1 f old mid → Changes r2 f mid new
     → ((p : Position) → HasPosition old.area p → HasPosition r p → HasPosition r1 p ⊎ HasPosition r2 p)
     → ((p : Position) → HasPosition r1 p → HasPosition r p) → ((p : Position) → HasPosition r2 p → HasPosition r p)
@@ -168,7 +168,7 @@ light-still is_light area r f old mid p light inside here off is = rw (is.outsid
 pub within-same : (area : Rect) (s : Sheet) → ChangesWithin area s s
 within-same area s = record { same_area = refl; same_room = refl; outside = λ p in_own off. refl }
 
--- one change behind another
+-- one change after another
 pub within-then : (area : Rect) (old between new : Sheet) → ChangesWithin area old between → ChangesWithin area between new → ChangesWithin area old new
 within-then area old between new first second = record {
   same_area = second.same_area ∙ first.same_area;

@@ -72,7 +72,7 @@ width-shown : (p : Piece) (c : Cell) → IsUnmarked c → width_of (shown p c) �
 unfolding width_of
 width-shown p c plain = rw plain.option refl
 
--- pieces painted in columns that may be painted: those behind them may be painted still, and other rows are as before
+-- pieces painted in columns that may be painted: those after them may be painted still, and other rows are as before
 module _ (p : Position) (n : ℕ) (ps : List Piece) (old new : Sheet) (edges : EdgesFit old.area) (row : HasRow old.area p.y) (starts : old.area.x ≤ p.x) (fits : p.x + n ≤ old.area.x + old.area.width)
     (le : columns ps ≤ n) (able : IsPaintable p n old) (same : new.area ≡ old.area) (by : PaintsByColumns p ps old new) where
   has : (a : ℕ) → old.area.x ≤ a → a < old.area.x + old.area.width → HasPosition old.area (position_of (a, p.y))

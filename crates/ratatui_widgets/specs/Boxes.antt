@@ -74,7 +74,7 @@ joins Replace = false
 joins Exact = true
 joins Fuzzy = true
 
--- how far a side begins behind this one: where borders are joined, a corner belongs to no side
+-- how far a side begins after this one: if borders are joined, a corner belongs to no side
 abbrev pub inset : Block → Borders → ℕ
 inset b side = one_if (joins b.merge_borders && has_side b side)
 

@@ -64,22 +64,22 @@ impl<'a> Block<'a> {
         Block::new(alloc).borders(Borders::ALL)
     }
 
-    /// The box with a title, which stands where the titles do; refused where memory is.
+    /// The box with a title, which stands where the titles do; refused if memory is.
     pub fn title(self, line: Line<'a>) -> Result<Block<'a>, AllocError> {
         self.with_title(None, line)
     }
 
-    /// The box with a title in its first row; refused where memory is.
+    /// The box with a title in its first row; refused if memory is.
     pub fn title_top(self, line: Line<'a>) -> Result<Block<'a>, AllocError> {
         self.with_title(Some(TitlePosition::Top), line)
     }
 
-    /// The box with a title in its last row; refused where memory is.
+    /// The box with a title in its last row; refused if memory is.
     pub fn title_bottom(self, line: Line<'a>) -> Result<Block<'a>, AllocError> {
         self.with_title(Some(TitlePosition::Bottom), line)
     }
 
-    // The box with a title behind the others.
+    // The box with a title after the others.
     fn with_title(
         mut self,
         position: Option<TitlePosition>,
@@ -97,7 +97,7 @@ impl<'a> Block<'a> {
         self
     }
 
-    /// The box, its titles aligned so where they don't say so themselves.
+    /// The box, its titles aligned so if they don't say so themselves.
     pub fn title_alignment(mut self, alignment: HorizontalAlignment) -> Block<'a>
         ensures { result ≡ record self.entry { titles_alignment = alignment } }
     {
@@ -105,7 +105,7 @@ impl<'a> Block<'a> {
         self
     }
 
-    /// The box, its titles in this row where they don't say so themselves.
+    /// The box, its titles in this row if they don't say so themselves.
     pub fn title_position(mut self, position: TitlePosition) -> Block<'a>
         ensures { result ≡ record self.entry { titles_position = position } }
     {

@@ -32,13 +32,13 @@ pub fn joined_symbols_are_short()
         → IsShort (merged m prev next) }
 {}
 
-/// A box without titles takes no memory where its symbols and those of the cells take none.
+/// A box without titles takes no memory if its symbols and those of the cells take none.
 pub fn boxes_of_short_symbols_take_no_memory()
     ensures { (b : Block) (area : Rect) (s : Sheet) → b.titles.items ≡ [] → HasShortSymbols b
         → AreShortCells s → IsShortBlock b area s }
 {}
 
-/// A cleared buffer is settled where it was.
+/// A cleared buffer is settled if it was settled before.
 pub fn clearing_keeps_settled()
     ensures { (area : Rect) (old new : Sheet) → EdgesFit old.area → RendersClear area old new
         → IsSettledSheet old → IsSettledSheet new }

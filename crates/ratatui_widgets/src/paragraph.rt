@@ -83,7 +83,7 @@ impl<'a> Paragraph<'a> {
         self
     }
 
-    /// The paragraph, its lines aligned so where they don't say so themselves.
+    /// The paragraph, its lines aligned so if they don't say so themselves.
     pub fn alignment(mut self, alignment: HorizontalAlignment) -> Paragraph<'a>
         ensures { result ≡ record self.entry { alignment = alignment } }
     {
@@ -106,7 +106,7 @@ impl<'a> Paragraph<'a> {
         self.alignment(HorizontalAlignment::Right)
     }
 
-    /// How many rows the paragraph takes in so many columns, with those of its box; refused where memory is.
+    /// How many rows the paragraph takes in so many columns, with those of its box; refused if memory is.
     pub fn line_count(&self, alloc: Global, width: u16) -> Result<usize, AllocError> {
         if width < 1 {
             return Ok(0);

@@ -121,7 +121,7 @@ impl<'a> Block<'a> {
         touch_all(buf, part, &stroke)
     }
 
-    // How far a side begins behind this one: where borders are joined a corner belongs to no side.
+    // How far a side begins after this one: if borders are joined a corner belongs to no side.
     fn inset(&self, side: Borders) -> u16
         ensures value { result ≡ inset self.now side }
         ensures bit { result ≤ 1 }
