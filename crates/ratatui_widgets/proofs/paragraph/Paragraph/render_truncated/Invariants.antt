@@ -1,0 +1,7 @@
+use Rattle.std.proofs.Common.{◌+◌}
+use Rattle.ratatui_core.specs.Widgets.{ChangesWithin}
+use Rattle.ratatui_widgets.specs.Plain.{IsReadyFrom}
+use Rattle.ratatui_widgets.proofs.paragraph.Paragraph.render_truncated.Given as goal
+
+abbrev pub invariant-loop-k : goal.invariant-loop-k
+invariant-loop-k l = record { within : ChangesWithin l.fn.part l.fn.buf l.buf; ready : IsReadyFrom l.fn.part.y l.fn.buf → IsReadyFrom (l.fn.part.y + l.k) l.buf }

@@ -1,0 +1,19 @@
+-- A paragraph: what it changes.
+use Rattle.std.specs.Prelude.{◌≡◌, ℕ, ◌<◌, ◌≤◌, Option, Some, None}
+use Rattle.ratatui_core.specs.Layout.{Rect, EdgesFit}
+use Rattle.ratatui_core.specs.Buffer.{Sheet, IsSettledSheet}
+use Rattle.ratatui_core.specs.Widgets.{ChangesWithin}
+use Rattle.ratatui_widgets.specs.declared.block.Block.{Block}
+use Rattle.ratatui_widgets.specs.declared.paragraph.Paragraph.{Paragraph}
+use Rattle.ratatui_widgets.specs.Boxes.{inner_of}
+use Rattle.ratatui_widgets.specs.Plain.{IsPlainFrom, IsPlainIfBox}
+
+-- what is inside the box, if there is one
+abbrev pub inner_if : Option Block → Rect → Rect
+inner_if None r = r
+inner_if (Some b) r = inner_of b r
+
+-- A paragraph: nothing outside the area changes; and of a buffer of plain cells comes a settled one, if the box is plain
+pub record RendersParagraph (paragraph : Paragraph) (area : Rect) (old new : Sheet) : Type 0 where
+  pub within : ChangesWithin area old new
+  pub settled : EdgesFit old.area → IsPlainFrom 0 old → IsPlainIfBox paragraph.block → IsSettledSheet new

@@ -1,0 +1,385 @@
+//! A text in an area.
+
+ghost use Rattle.std.specs.Prelude.{◌≡◌, ◌+◌, ◌<◌, ◌≤◌, IfSome, IfOk, OnOk};
+ghost use Rattle.ratatui_core.specs.Layout.{IsInside};
+ghost use Rattle.ratatui_core.specs.Widgets.{ChangesWithin};
+ghost use Rattle.ratatui_widgets.specs.Boxes.{IsBoxArea};
+ghost use Rattle.ratatui_core.specs.Buffer.{IsSettledSheet};
+ghost use Rattle.ratatui_widgets.specs.Plain.{IsPlainFrom, IsPlainIfBox, IsReadyAt, IsReadyFrom};
+ghost use Rattle.ratatui_widgets.specs.Paragraphs.{inner_if};
+ghost use Rattle.ratatui_widgets.specs.Reflow.{AllFit};
+
+use crate::block::Block;
+use crate::part::part_in;
+use crate::reflow::{columns_of, fitting, split_row, truncated};
+use ratatui_core::buffer::{Buffer, CellWidth};
+use ratatui_core::layout::{HorizontalAlignment, Position, Rect};
+use ratatui_core::style::Style;
+use ratatui_core::text::{StyledGrapheme, Text};
+use ratatui_core::widgets::Widget;
+use std::alloc::{AllocError, Global};
+
+/// How lines are broken that don't fit.
+#[derive(Debug, Clone, Copy, PartialEq, Eq, Hash)]
+pub struct Wrap {
+    /// Whether blanks at the beginning of a row are left out.
+    pub trim: bool,
+}
+
+/// A text in an area, in a box if it has one: each line in a row of its own, cut or broken into rows.
+#[derive(Debug, Drop)]
+pub struct Paragraph<'a> {
+    block: Option<Block<'a>>,
+    style: Style,
+    wrap: Option<Wrap>,
+    text: Text<'a>,
+    scroll: Position,
+    alignment: HorizontalAlignment,
+}
+
+impl<'a> Paragraph<'a> {
+    /// A paragraph of a text; takes no memory.
+    pub fn new(text: Text<'a>) -> Paragraph<'a> {
+        Paragraph {
+            block: None,
+            style: Style::new(),
+            wrap: None,
+            text,
+            scroll: Position { x: 0, y: 0 },
+            alignment: HorizontalAlignment::Left,
+        }
+    }
+
+    /// The paragraph in a box.
+    pub fn block(mut self, block: Block<'a>) -> Paragraph<'a>
+        ensures { result ≡ record self.entry { block = Some block.entry } }
+    {
+        self.block = Some(block);
+        self
+    }
+
+    /// The paragraph in a style.
+    pub fn style(mut self, style: Style) -> Paragraph<'a>
+        ensures { result ≡ record self.entry { style = style } }
+    {
+        self.style = style;
+        self
+    }
+
+    /// The paragraph, its lines broken where they don't fit.
+    pub fn wrap(mut self, wrap: Wrap) -> Paragraph<'a>
+        ensures { result ≡ record self.entry { wrap = Some wrap } }
+    {
+        self.wrap = Some(wrap);
+        self
+    }
+
+    /// The paragraph without its first rows and its first columns, in this order.
+    pub fn scroll(mut self, offset: (u16, u16)) -> Paragraph<'a> {
+        self.scroll = Position {
+            x: offset.1,
+            y: offset.0,
+        };
+        self
+    }
+
+    /// The paragraph, its lines aligned so if they don't say so themselves.
+    pub fn alignment(mut self, alignment: HorizontalAlignment) -> Paragraph<'a>
+        ensures { result ≡ record self.entry { alignment = alignment } }
+    {
+        self.alignment = alignment;
+        self
+    }
+
+    /// The paragraph, aligned to the left.
+    pub fn left_aligned(self) -> Paragraph<'a> {
+        self.alignment(HorizontalAlignment::Left)
+    }
+
+    /// The paragraph, centred.
+    pub fn centered(self) -> Paragraph<'a> {
+        self.alignment(HorizontalAlignment::Center)
+    }
+
+    /// The paragraph, aligned to the right.
+    pub fn right_aligned(self) -> Paragraph<'a> {
+        self.alignment(HorizontalAlignment::Right)
+    }
+
+    /// How many rows the paragraph takes in so many columns, with those of its box; refused if memory is.
+    pub fn line_count(&self, alloc: Global, width: u16) -> Result<usize, AllocError> {
+        if width < 1 {
+            return Ok(0);
+        }
+        let around = self.rows_around();
+        let rows = match self.wrap {
+            None => self.text.height(),
+            Some(wrap) => wrapped_rows(alloc, &self.text, width, wrap.trim)?,
+        };
+        Ok(rows.saturating_add(around))
+    }
+
+    // How many rows a box takes.
+    fn rows_around(&self) -> usize {
+        match &self.block {
+            None => 0,
+            Some(block) => block.rows_around(),
+        }
+    }
+
+    // What is inside the box.
+    fn inner(&self, area: Rect) -> Rect
+        ensures { result ≡ inner_if self.now.block area }
+    {
+        match &self.block {
+            None => area,
+            Some(block) => block.inner(area),
+        }
+    }
+
+    // Renders the box.
+    fn render_block(&self, area: Rect, buf: &mut Buffer) -> Result<(), AllocError>
+        ensures within { ChangesWithin area buf.old buf.new }
+        ensures plain { IsPlainIfBox self.now.block → IsPlainFrom 0 buf.old
+            → OnOk result (IsPlainFrom 0 buf.new) }
+    {
+        match &self.block {
+            None => Ok(()),
+            Some(block) => block.render(area, buf),
+        }
+    }
+
+    // Renders the text in a part of the buffer.
+    fn render_text(&self, part: Rect, buf: &mut Buffer) -> Result<(), AllocError>
+        requires some { IsBoxArea part }
+        requires inside { IsInside part buf.old.area }
+        ensures within { ChangesWithin part buf.old buf.new }
+        ensures settled { IsReadyFrom part.y buf.old → OnOk result (IsSettledSheet buf.new) }
+    {
+        match self.wrap {
+            Some(wrap) => self.render_wrapped(part, wrap.trim, buf),
+            None => self.render_truncated(part, buf),
+        }
+    }
+
+    // Each line cut, in a row of its own.
+    fn render_truncated(&self, part: Rect, buf: &mut Buffer) -> Result<(), AllocError>
+        requires some { IsBoxArea part }
+        requires inside { IsInside part buf.old.area }
+        ensures within { ChangesWithin part buf.old buf.new }
+        ensures settled { IsReadyFrom part.y buf.old → OnOk result (IsSettledSheet buf.new) }
+    {
+        let alloc = buf.allocator();
+        let lines = self.text.lines.as_slice();
+        for k in 0..part.height {
+            let Some(line) = lines.get(usize::from(self.scroll.y) + usize::from(k)) else {
+                return Ok(());
+            };
+            let alignment = line.alignment.unwrap_or(self.alignment);
+            let offset = match alignment {
+                HorizontalAlignment::Left => self.scroll.x,
+                _ => 0,
+            };
+            let row = truncated(
+                alloc,
+                line.styled_graphemes(self.text.style),
+                part.width,
+                offset,
+            )?;
+            render_row(row.as_slice(), alignment, part, k, buf)?;
+        }
+        Ok(())
+    }
+
+    // Each line broken into rows.
+    fn render_wrapped(&self, part: Rect, trim: bool, buf: &mut Buffer) -> Result<(), AllocError>
+        requires some { IsBoxArea part }
+        requires inside { IsInside part buf.old.area }
+        ensures within { ChangesWithin part buf.old buf.new }
+        ensures settled { IsReadyFrom part.y buf.old → OnOk result (IsSettledSheet buf.new) }
+    {
+        let alloc = buf.allocator();
+        let mut skip = self.scroll.y;
+        let mut k = 0;
+        for line in self.text.lines.as_slice() {
+            if k == part.height {
+                return Ok(());
+            }
+            let alignment = line.alignment.unwrap_or(self.alignment);
+            let row = fitting(alloc, line.styled_graphemes(self.text.style), part.width)?;
+            k = render_line(row.as_slice(), alignment, trim, &mut skip, part, k, buf)?;
+        }
+        Ok(())
+    }
+}
+
+// Renders a line broken into rows, the first one in row k of a part, without as many rows as are still to be skipped; answers the row
+// after the last one.
+fn render_line(
+    graphemes: &[StyledGrapheme<'_>],
+    alignment: HorizontalAlignment,
+    trim: bool,
+    skip: &mut u16,
+    part: Rect,
+    k: u16,
+    buf: &mut Buffer,
+) -> Result<u16, AllocError>
+    requires some { IsBoxArea part }
+    requires inside { IsInside part buf.old.area }
+    requires row { k ≤ part.height }
+    requires fit { AllFit part.width graphemes.now }
+    ensures within { ChangesWithin part buf.old buf.new }
+    ensures row { IfOk result (λ n. n ≤ part.height) }
+    ensures ready { IsReadyFrom (part.y + k) buf.old
+        → IfOk result (λ n. IsReadyFrom (part.y + n) buf.new) }
+{
+    let mut k = k;
+    if graphemes.is_empty() {
+        if *skip > 0 {
+            *skip -= 1;
+        } else if k < part.height {
+            k += 1;
+        }
+        return Ok(k);
+    }
+    let mut from = 0;
+    while from < graphemes.len() {
+        let (row, count) = split_row(&graphemes[from..], part.width, trim);
+        from += count;
+        if *skip > 0 {
+            *skip -= 1;
+        } else if k < part.height {
+            render_row(row, alignment, part, k, buf)?;
+            k += 1;
+        } else {
+            return Ok(k);
+        }
+    }
+    Ok(k)
+}
+
+// How many rows a line takes that is broken in a width: one if it is empty.
+fn row_count(graphemes: &[StyledGrapheme<'_>], width: u16, trim: bool) -> usize
+    requires { AllFit width graphemes.now }
+{
+    let mut count = 0usize;
+    let mut from = 0;
+    while from < graphemes.len() {
+        let (_, taken) = split_row(&graphemes[from..], width, trim);
+        from += taken;
+        count = count.saturating_add(1);
+    }
+    count.max(1)
+}
+
+// How many rows a text takes that is broken in a width.
+fn wrapped_rows(
+    alloc: Global,
+    text: &Text<'_>,
+    width: u16,
+    trim: bool,
+) -> Result<usize, AllocError> {
+    let mut count = 0usize;
+    for line in text.lines.as_slice() {
+        let row = fitting(alloc, line.styled_graphemes(text.style), width)?;
+        count = count.saturating_add(row_count(row.as_slice(), width, trim));
+    }
+    Ok(count)
+}
+
+// The column in which a row of this width begins.
+fn indent(width: u16, room: u16, alignment: HorizontalAlignment) -> u16
+    ensures { result ≤ room }
+{
+    match alignment {
+        HorizontalAlignment::Left => 0,
+        HorizontalAlignment::Center => (room / 2).saturating_sub(width / 2),
+        HorizontalAlignment::Right => room.saturating_sub(width),
+    }
+}
+
+// Paints a grapheme in a place of a part, in at most so many columns.
+fn put_grapheme(
+    grapheme: &StyledGrapheme<'_>,
+    columns: u16,
+    part: Rect,
+    x: u16,
+    y: u16,
+    buf: &mut Buffer,
+) -> Result<(), AllocError>
+    requires some { IsBoxArea part }
+    requires inside { IsInside part buf.old.area }
+    requires left { part.x ≤ x }
+    requires right { x + columns ≤ part.x + part.width }
+    requires top { part.y ≤ y }
+    requires bottom { y < part.y + part.height }
+    ensures within { ChangesWithin part buf.old buf.new }
+    ensures ready { IsReadyAt x y buf.old → OnOk result (IsReadyAt (x + columns) y buf.new) }
+{
+    buf.set_stringn(x, y, grapheme.symbol, usize::from(columns), grapheme.style)?;
+    Ok(())
+}
+
+// Renders graphemes in row k of a part.
+#[tactic(auto, using(crate::proofs::PartLemmas::within_steps))]
+fn render_row(
+    row: &[StyledGrapheme<'_>],
+    alignment: HorizontalAlignment,
+    part: Rect,
+    k: u16,
+    buf: &mut Buffer,
+) -> Result<(), AllocError>
+    requires some { IsBoxArea part }
+    requires inside { IsInside part buf.old.area }
+    requires row { k < part.height }
+    ensures within { ChangesWithin part buf.old buf.new }
+    ensures ready { IsReadyFrom (part.y + k) buf.old
+        → OnOk result (IsReadyFrom (part.y + k + 1) buf.new) }
+{
+    let mut used = indent(columns_of(row), part.width, alignment);
+    for grapheme in row {
+        let columns = grapheme.symbol.cell_width();
+        if columns > part.width.saturating_sub(used) {
+            return Ok(());
+        }
+        put_grapheme(grapheme, columns, part, part.x + used, part.y + k, buf)?;
+        used += columns;
+    }
+    Ok(())
+}
+
+// The part of a buffer that lies in two areas, if there is one.
+fn part_in_both(buf: &Buffer, area: Rect, other: Rect) -> Option<Rect>
+    ensures { IfSome result (λ r. IsBoxArea r × IsInside r area × IsInside r buf.now.area) }
+{
+    part_in(buf, area.intersection(other))
+}
+
+/// Over the area, as far as the buffer has it: the style, the box, and the text inside it.
+impl<'b, 'a> Widget for &'b Paragraph<'a> {
+    ghost use Rattle.ratatui_widgets.specs.Paragraphs.{RendersParagraph};
+
+    ghost renders = { λ p. RendersParagraph p.now };
+
+    fn render(self, area: Rect, buf: &mut Buffer) -> Result<(), AllocError> {
+        let Some(part) = part_in(buf, area) else {
+            return Ok(());
+        };
+        buf.set_style(part, self.style);
+        self.render_block(part, buf)?;
+        let Some(inside) = part_in_both(buf, part, self.inner(part)) else {
+            return Ok(());
+        };
+        self.render_text(inside, buf)
+    }
+}
+
+impl<'a> Widget for Paragraph<'a> {
+    ghost use Rattle.ratatui_widgets.specs.Paragraphs.{RendersParagraph};
+
+    ghost renders = { RendersParagraph };
+
+    fn render(self, area: Rect, buf: &mut Buffer) -> Result<(), AllocError> {
+        (&self).render(area, buf)
+    }
+}

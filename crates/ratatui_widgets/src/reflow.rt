@@ -1,0 +1,227 @@
+//! Lines of graphemes cut, or broken into rows.
+
+ghost use Rattle.std.specs.Prelude.{◌≡◌, ◌+◌, ◌≤◌, ◌<◌, [], length, IfOk};
+ghost use Rattle.std.proofs.Math.ListN.{take};
+ghost use Rattle.ratatui_widgets.specs.Reflow.{columns_of, words_of, AllFit};
+
+use ratatui_core::buffer::CellWidth;
+use ratatui_core::text::{LineGraphemes, StyledGrapheme};
+use std::alloc::{AllocError, Global};
+
+// Graphemes one after the other.
+pub(crate) type Row<'t> = Vec<StyledGrapheme<'t>>;
+
+// How many columns graphemes take, at most 65535.
+pub(crate) fn columns_of(row: &[StyledGrapheme<'_>]) -> u16 {
+    let mut columns = 0u16;
+    for grapheme in row {
+        columns = columns.saturating_add(grapheme.symbol.cell_width());
+    }
+    columns
+}
+
+// The graphemes of a line from a column on, as many as fit the width; a line that isn't moved begins at its first one.
+pub(crate) fn truncated<'t, 'a>(
+    alloc: Global,
+    graphemes: LineGraphemes<'t, 'a>,
+    width: u16,
+    offset: u16,
+) -> Result<Row<'t>, AllocError> {
+    let mut row = Vec::new(alloc);
+    let mut used = 0u16;
+    let mut offset = offset;
+    for grapheme in graphemes {
+        let columns = grapheme.symbol.cell_width();
+        if columns > width {
+            continue;
+        }
+        if columns > width.saturating_sub(used) {
+            return Ok(row);
+        }
+        if offset > 0 && columns <= offset {
+            offset -= columns;
+            continue;
+        }
+        offset = 0;
+        used += columns;
+        row.push(grapheme)?;
+    }
+    Ok(row)
+}
+
+// The graphemes of a line that fit a row of this width.
+pub(crate) fn fitting<'t, 'a>(
+    alloc: Global,
+    graphemes: LineGraphemes<'t, 'a>,
+    width: u16,
+) -> Result<Row<'t>, AllocError>
+    ensures { IfOk result (λ row. AllFit width row.items) }
+{
+    let mut row = Vec::new(alloc);
+    for grapheme in graphemes {
+        if grapheme.symbol.cell_width() <= width {
+            row.push(grapheme)?;
+        }
+    }
+    Ok(row)
+}
+
+// How many blanks stand first.
+fn leading_blanks(graphemes: &[StyledGrapheme<'_>]) -> usize
+    ensures inside { result ≤ length graphemes.now }
+    ensures blank { words_of (take result graphemes.now) ≡ [] }
+{
+    let mut count = 0;
+    for grapheme in graphemes {
+        if !grapheme.is_whitespace() {
+            return count;
+        }
+        count += 1;
+    }
+    count
+}
+
+// How many graphemes fit the width, counted from the first one.
+fn fitting_count(graphemes: &[StyledGrapheme<'_>], width: u16) -> usize
+    requires { AllFit width graphemes.now }
+    ensures some { 0 < length graphemes.now → 0 < result }
+    ensures inside { result ≤ length graphemes.now }
+    ensures fits { columns_of (take result graphemes.now) ≤ width }
+{
+    let mut used = 0u16;
+    let mut count = 0;
+    for grapheme in graphemes {
+        let columns = grapheme.symbol.cell_width();
+        if columns > width.saturating_sub(used) {
+            return count;
+        }
+        used += columns;
+        count += 1;
+    }
+    count
+}
+
+// Where the last word ends; 0 if there is none.
+fn words_end(graphemes: &[StyledGrapheme<'_>]) -> usize
+    ensures inside { result ≤ length graphemes.now }
+    ensures keeps { words_of (take result graphemes.now) ≡ words_of graphemes.now }
+{
+    let mut end = 0;
+    let mut count = 0;
+    for grapheme in graphemes {
+        count += 1;
+        if !grapheme.is_whitespace() {
+            end = count;
+        }
+    }
+    end
+}
+
+// Where the last word begins: after the last blank; 0 if there is none.
+fn last_word(graphemes: &[StyledGrapheme<'_>]) -> usize
+    ensures inside { result ≤ length graphemes.now }
+{
+    let mut start = 0;
+    let mut count = 0;
+    for grapheme in graphemes {
+        count += 1;
+        if grapheme.is_whitespace() {
+            start = count;
+        }
+    }
+    start
+}
+
+// Whether the word that stands first is wider than a row.
+fn is_wide_word(graphemes: &[StyledGrapheme<'_>], width: u16) -> bool {
+    let mut left = width;
+    for grapheme in graphemes {
+        if grapheme.is_whitespace() {
+            return false;
+        }
+        let columns = grapheme.symbol.cell_width();
+        if columns > left {
+            return true;
+        }
+        left -= columns;
+    }
+    false
+}
+
+// Where a row of so many graphemes ends that a word crosses, and where the next one begins.
+fn break_in_word(graphemes: &[StyledGrapheme<'_>], count: usize, width: u16) -> (usize, usize)
+    requires { count ≤ length graphemes.now }
+    ensures ends { result.0 ≤ result.1 }
+    ensures inside { result.1 ≤ count }
+    ensures some { 0 < count → 0 < result.1 }
+    ensures keeps { words_of (take result.1 graphemes.now)
+        ≡ words_of (take result.0 graphemes.now) }
+{
+    let word = last_word(&graphemes[..count]);
+    let end = words_end(&graphemes[..word]);
+    if end > 0 {
+        return (end, word);
+    }
+    if word == 0 || is_wide_word(&graphemes[word..], width) {
+        return (count, count);
+    }
+    (word, word)
+}
+
+// Where a row of so many graphemes ends that a blank crosses, and where the next one begins: after this blank.
+fn break_at_blank(graphemes: &[StyledGrapheme<'_>], count: usize) -> (usize, usize)
+    requires inside { count < length graphemes.now }
+    requires blank { words_of (take (count + 1) graphemes.now)
+        ≡ words_of (take count graphemes.now) }
+    ensures ends { result.0 ≤ count }
+    ensures next { result.1 ≡ count + 1 }
+    ensures keeps { words_of (take result.1 graphemes.now)
+        ≡ words_of (take result.0 graphemes.now) }
+{
+    let end = words_end(&graphemes[..count]);
+    if end > 0 {
+        return (end, count + 1);
+    }
+    (count, count + 1)
+}
+
+// Where the row at the front ends, and where the next one begins: it has as many words as fit the width, and a word is broken only if it
+// is wider than a row.
+fn row_ends(graphemes: &[StyledGrapheme<'_>], width: u16) -> (usize, usize)
+    requires { AllFit width graphemes.now }
+    ensures ends { result.0 ≤ result.1 }
+    ensures inside { result.1 ≤ length graphemes.now }
+    ensures some { 0 < length graphemes.now → 0 < result.1 }
+    ensures fits { columns_of (take result.0 graphemes.now) ≤ width }
+    ensures keeps { words_of (take result.1 graphemes.now)
+        ≡ words_of (take result.0 graphemes.now) }
+{
+    let count = fitting_count(graphemes, width);
+    if count == graphemes.len() {
+        return (count, count);
+    }
+    if graphemes[count].is_whitespace() {
+        break_at_blank(graphemes, count)
+    } else {
+        break_in_word(graphemes, count, width)
+    }
+}
+
+// The row at the front of a line, and how many graphemes stand before the next one. The row has at most the width. Only blanks are left
+// out: those at the front if rows are trimmed, and those at which the line is broken.
+pub(crate) fn split_row<'s, 't>(
+    graphemes: &'s [StyledGrapheme<'t>],
+    width: u16,
+    trim: bool,
+) -> (&'s [StyledGrapheme<'t>], usize)
+    requires { AllFit width graphemes.now }
+    ensures fits { columns_of result.0.now ≤ width }
+    ensures keeps { words_of (take result.1 graphemes.now) ≡ words_of result.0.now }
+    ensures some { 0 < length graphemes.now → 0 < result.1 }
+    ensures inside { result.1 ≤ length graphemes.now }
+{
+    let start = if trim { leading_blanks(graphemes) } else { 0 };
+    let rest = &graphemes[start..];
+    let (end, next) = row_ends(rest, width);
+    (&rest[..end], start + next)
+}
