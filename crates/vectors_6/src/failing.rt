@@ -4,6 +4,9 @@ ghost use Rattle.std.specs.Prelude.{◌≡◌};
 
 use crate::sequences::{Why, by_kind};
 use ratatui_ansi::{AnsiBackend, AnsiError};
+use ratatui_core::buffer::Buffer;
+use ratatui_core::style::{Color, Style};
+use ratatui_core::terminal::Terminal;
 use rtui_backend::Backend;
 use rtui_cell::Cell;
 use rtui_geometry::{Position, Size};
@@ -135,4 +138,44 @@ fn each_call_of_a_writer_fails(rt: HostRuntime) -> Result<(), Fail> {
 fn the_beginning_fails(rt: HostRuntime) {
     let answer = by_kind(over_tearing(rt.alloc(), 0));
     assert!(rt; matches!(answer, Err(Why::Write(ErrorKind::BrokenPipe))));
+}
+
+// A writer that counts the bytes that it was given since its last flush.
+#[derive(Drop)]
+struct Holding {
+    held: usize,
+}
+
+impl Write for Holding {
+    fn write(&mut self, buf: &[u8]) -> io::Result<usize> {
+        self.held = self.held.saturating_add(buf.len());
+        Ok(buf.len())
+    }
+
+    fn flush(&mut self) -> io::Result<()> {
+        self.held = 0;
+        Ok(())
+    }
+}
+
+fn redden(buffer: &mut Buffer) {
+    let area = *buffer.area();
+    buffer.set_style(area, Style::new().bg(Color::Red));
+}
+
+// How many bytes a writer holds after a draw.
+fn held_after_a_draw(alloc: Global) -> Option<usize> {
+    let backend = AnsiBackend::new(alloc, Holding { held: 0 }, SIZE).ok()?;
+    let mut terminal = Terminal::new(alloc, backend).ok()?;
+    let drawn = terminal.draw(|frame| {
+        redden(frame.buffer_mut());
+        Ok(())
+    });
+    drawn.ok()?;
+    Some(terminal.backend().writer().held)
+}
+
+#[test]
+fn a_draw_flushes_its_writer(rt: HostRuntime) {
+    assert!(rt; held_after_a_draw(rt.alloc()) == Some(0));
 }
