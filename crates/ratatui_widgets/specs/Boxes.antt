@@ -1,9 +1,11 @@
 -- A box: which symbols stand where, and what is inside.
-use Rattle.std.specs.Prelude.{◌≡◌, ℕ, Bool, true, false, ◌&&◌, ◌||◌, ◌==◌, ◌+◌, ◌-◌, ◌≤◌, ◌<◌, nat_le, nat_lt, min, List, [], ◌∷◌, ◌++◌, if◌then◌else◌, unwrap_or, ⊤, Result, IsOk, OnOk, OnErr}
+use Rattle.std.specs.Prelude.{◌≡◌, ℕ, Bool, true, false, ◌&&◌, ◌||◌, ◌==◌, ◌+◌, ◌-◌, ◌≤◌, ◌<◌, nat_le, nat_lt, min, Option, List, [], ◌∷◌, ◌++◌, if◌then◌else◌, unwrap_or, ⊤, Result, IsOk, OnOk, OnErr}
 use Rattle.std.specs.List.{list_any}
 use Rattle.std.specs.Int.RustNames.{bit_and}
 use Rattle.ratatui_core.specs.Layout.{Rect, Position, HasPosition, right_edge, bottom_edge, intersected}
-use Rattle.ratatui_core.specs.Style.{Style}
+use Rattle.ratatui_core.specs.Style.{Style, new_style}
+use Rattle.ratatui_core.specs.Text.{LineData}
+use Rattle.ratatui_core.specs.declared.layout.HorizontalAlignment.TheVariants.{Left}
 use Rattle.ratatui_core.specs.Widgets.{ChangesWithin}
 use Rattle.std.specs.declared.alloc.AllocError.{AllocError}
 use Rattle.ratatui_core.specs.Buffer.{Sheet, Cell, cell_in, styled, with_symbol, joined, symbol_text, IsShort}
@@ -15,6 +17,23 @@ use Rattle.ratatui_widgets.specs.declared.title.Title.{Title}
 use Rattle.ratatui_widgets.specs.declared.title.TitlePosition.{TitlePosition}
 use Rattle.ratatui_widgets.specs.declared.title.TitlePosition.TheVariants.{Top, Bottom}
 use Rattle.ratatui_widgets.specs.Borders.{sides_of}
+
+-- a box with these sides and plain lines, without titles, styles and padding
+pub record IsNewBlock (sides : ℕ) (b : Block) : Type 0 where
+  pub untitled : b.titles.items ≡ []
+  pub titles_plain : b.titles_style ≡ new_style
+  pub titles_left : b.titles_alignment ≡ Left
+  pub titles_top : b.titles_position ≡ Top
+  pub borders : sides_of b.borders ≡ sides
+  pub borders_plain : b.border_style ≡ new_style
+  pub plain : b.style ≡ new_style
+  pub unpadded : b.padding ≡ record { left = 0; right = 0; top = 0; bottom = 0 }
+  pub replaces : b.merge_borders ≡ Replace
+
+-- a box with a title after its others
+pub record AddsTitle (position : Option TitlePosition) (line : LineData) (old new : Block) : Type 0 where
+  pub titles : new.titles.items ≡ old.titles.items ++ record { position = position; line = line } ∷ []
+  pub rest : new ≡ record old { titles = new.titles }
 
 -- 1 for true
 abbrev pub one_if : Bool → ℕ

@@ -1,7 +1,8 @@
 //! A box with borders, titles and padding.
 
-ghost use Rattle.std.specs.Prelude.{◌≡◌, ◌-◌, ◌≤◌};
-ghost use Rattle.ratatui_widgets.specs.Boxes.{has_side, has_row, has_title, is_in_row, one_if, inner_of};
+ghost use Rattle.std.specs.Prelude.{◌≡◌, ◌-◌, ◌≤◌, IfOk, None, Some};
+ghost use Rattle.ratatui_widgets.specs.declared.title.TitlePosition.TheVariants.{Top, Bottom};
+ghost use Rattle.ratatui_widgets.specs.Boxes.{AddsTitle, IsNewBlock, has_side, has_row, has_title, is_in_row, one_if, inner_of};
 
 use crate::border_type::BorderType;
 use crate::borders::Borders;
@@ -44,7 +45,9 @@ pub struct Block<'a> {
 
 impl<'a> Block<'a> {
     /// A box without borders, titles, padding and style; takes no memory.
-    pub fn new(alloc: Global) -> Block<'a> {
+    pub fn new(alloc: Global) -> Block<'a>
+        ensures { IsNewBlock 0 result }
+    {
         Block {
             titles: Vec::new(alloc),
             titles_style: Style::new(),
@@ -60,22 +63,30 @@ impl<'a> Block<'a> {
     }
 
     /// A box with plain lines on each side; takes no memory.
-    pub fn bordered(alloc: Global) -> Block<'a> {
+    pub fn bordered(alloc: Global) -> Block<'a>
+        ensures { IsNewBlock 15 result }
+    {
         Block::new(alloc).borders(Borders::ALL)
     }
 
     /// The box with a title, which stands where the titles do; refused if memory is.
-    pub fn title(self, line: Line<'a>) -> Result<Block<'a>, AllocError> {
+    pub fn title(self, line: Line<'a>) -> Result<Block<'a>, AllocError>
+        ensures { IfOk result (AddsTitle None line.entry self.entry) }
+    {
         self.with_title(None, line)
     }
 
     /// The box with a title in its first row; refused if memory is.
-    pub fn title_top(self, line: Line<'a>) -> Result<Block<'a>, AllocError> {
+    pub fn title_top(self, line: Line<'a>) -> Result<Block<'a>, AllocError>
+        ensures { IfOk result (AddsTitle (Some Top) line.entry self.entry) }
+    {
         self.with_title(Some(TitlePosition::Top), line)
     }
 
     /// The box with a title in its last row; refused if memory is.
-    pub fn title_bottom(self, line: Line<'a>) -> Result<Block<'a>, AllocError> {
+    pub fn title_bottom(self, line: Line<'a>) -> Result<Block<'a>, AllocError>
+        ensures { IfOk result (AddsTitle (Some Bottom) line.entry self.entry) }
+    {
         self.with_title(Some(TitlePosition::Bottom), line)
     }
 
@@ -84,7 +95,9 @@ impl<'a> Block<'a> {
         mut self,
         position: Option<TitlePosition>,
         line: Line<'a>,
-    ) -> Result<Block<'a>, AllocError> {
+    ) -> Result<Block<'a>, AllocError>
+        ensures { IfOk result (AddsTitle position line.entry self.entry) }
+    {
         self.titles.push(Title { position, line })?;
         Ok(self)
     }

@@ -6,7 +6,9 @@ ghost use Rattle.ratatui_core.specs.Widgets.{ChangesWithin};
 ghost use Rattle.ratatui_widgets.specs.Boxes.{IsBoxArea};
 ghost use Rattle.ratatui_core.specs.Buffer.{IsSettledSheet};
 ghost use Rattle.ratatui_widgets.specs.Plain.{IsPlainFrom, IsPlainIfBox, IsReadyAt, IsReadyFrom};
-ghost use Rattle.ratatui_widgets.specs.Paragraphs.{inner_if};
+ghost use Rattle.ratatui_core.specs.Buffer.{position_of};
+ghost use Rattle.ratatui_core.specs.declared.layout.HorizontalAlignment.TheVariants.{Left, Center, Right};
+ghost use Rattle.ratatui_widgets.specs.Paragraphs.{inner_if, IsNewParagraph};
 ghost use Rattle.ratatui_widgets.specs.Reflow.{AllFit};
 
 use crate::block::Block;
@@ -39,7 +41,9 @@ pub struct Paragraph<'a> {
 
 impl<'a> Paragraph<'a> {
     /// A paragraph of a text; takes no memory.
-    pub fn new(text: Text<'a>) -> Paragraph<'a> {
+    pub fn new(text: Text<'a>) -> Paragraph<'a>
+        ensures { IsNewParagraph text.entry result }
+    {
         Paragraph {
             block: None,
             style: Style::new(),
@@ -75,7 +79,10 @@ impl<'a> Paragraph<'a> {
     }
 
     /// The paragraph without its first rows and its first columns, in this order.
-    pub fn scroll(mut self, offset: (u16, u16)) -> Paragraph<'a> {
+    pub fn scroll(mut self, offset: (u16, u16)) -> Paragraph<'a>
+        ensures { let place = position_of (offset.1, offset.0) in
+            result ≡ record self.entry { scroll = place } }
+    {
         self.scroll = Position {
             x: offset.1,
             y: offset.0,
@@ -92,17 +99,23 @@ impl<'a> Paragraph<'a> {
     }
 
     /// The paragraph, aligned to the left.
-    pub fn left_aligned(self) -> Paragraph<'a> {
+    pub fn left_aligned(self) -> Paragraph<'a>
+        ensures { result ≡ record self.entry { alignment = Left } }
+    {
         self.alignment(HorizontalAlignment::Left)
     }
 
     /// The paragraph, centred.
-    pub fn centered(self) -> Paragraph<'a> {
+    pub fn centered(self) -> Paragraph<'a>
+        ensures { result ≡ record self.entry { alignment = Center } }
+    {
         self.alignment(HorizontalAlignment::Center)
     }
 
     /// The paragraph, aligned to the right.
-    pub fn right_aligned(self) -> Paragraph<'a> {
+    pub fn right_aligned(self) -> Paragraph<'a>
+        ensures { result ≡ record self.entry { alignment = Right } }
+    {
         self.alignment(HorizontalAlignment::Right)
     }
 
