@@ -2,4 +2,3 @@ pub mod RowLemmas
 pub mod ViewLemmas
 pub mod StatusLemmas
 pub mod LogLemmas
-pub mod NumberLemmas

@@ -1,14 +1,13 @@
 -- A view of the lines of a log, from its start on.
-use Rattle.std.proofs.Common.{◌≡◌, ℕ, ◌+◌, ◌<◌, ◌&&◌, Bool, true, false, nat_lt, List, [], ◌∷◌, ◌++◌, length, length-append, get_or, drop, Option, Some, None, IfSome, Result, Ok, Err, IfOk, if◌then◌else◌, refl, sym, ap, ap₂, subst, ◌∙◌, arith, inr}
+use Rattle.std.proofs.Common.{◌≡◌, ℕ, ◌+◌, ◌<◌, ◌&&◌, List, [], ◌∷◌, ◌++◌, length, length-append, get_or, drop, Option, Some, None, IfSome, Result, Ok, Err, IfOk, if◌then◌else◌, sym, ap, ap₂, subst, ◌∙◌, arith, inr}
 use Rattle.std.specs.Prelude.{◌==◌}
 use Rattle.std.specs.Result.{result_ok}
-use Rattle.std.specs.List.{before_first, after_first}
-use Rattle.std.proofs.lemmas.Grind.{common_steps}
 use Rattle.ratatui_core.specs.Layout.{Rect, Size}
 use Rattle.ratatui_core.specs.Backend.{Screen, IsBlankScreen, rows_above, TestBackend, TestError, screen_of, printed_screen}
 use Rattle.ratatui_core.specs.Terminal.{IsBlank, IsBlankBelow, row_area, IsPaintedText, IsRowOf, rows_over}
+use Rattle.ratatui_core.proofs.TerminalLemmas.{over-row}
 use Rattle.logview.specs.Rows.{counted, status_text, AreRowsOfLines}
-use Rattle.logview.specs.Size.{parsed_number, size_by, parsed_size}
+use Rattle.script_words.specs.Words.{parsed_size}
 use Rattle.logview.specs.Views.{StartsView, PushesLine, IsViewOf}
 use Rattle.logview.specs.Engine.{ShowsLog, IsLog, IsLogFault, IsLogView, PrintsLog, StopsPushing, size_of_log}
 use Rattle.logview.specs.declared.fault.LogFault.{LogFault}
@@ -34,7 +33,7 @@ module _ {B E : Type 0} (screen : B → Screen) where
         size_is = starts.starts.size ∙ ap₂ (λ w h. record { width = w; height = h }) blank.width blank.height;
         top = starts.starts.top ∙ row ∙ omega arith;
         above = subst (AreRowsOfLines size.width []) (sym (starts.starts.above ∙ ap (rows_above (screen b)) row ∙ ap (λ h. h ++ []) blank.history)) tt;
-        below = starts.starts.below;
+        below = starts.starts.over.rest.below tt;
       }
 
   -- one more line
@@ -52,14 +51,14 @@ module _ {B E : Type 0} (screen : B → Screen) where
         size_is = ins.size ∙ is.size_is;
         top = (let t = ins.top in let f = is.top in omega arith);
         above = subst (AreRowsOfLines size.width (lines ++ line ∷ [])) (sym ins.above) (rows_more size.width line ins.row lines (rows_over screen v.terminal) is.above painted);
-        below = ins.below is.below;
+        below = ins.over.rest.below tt;
       }
 
   -- what its screen shows
   pub shows_log : (size : Size) (lines : List (List ℕ)) (v : LogView B E) → IsViewOf screen size lines v → ShowsLog size lines (screen v.terminal.backend)
   shows_log size lines v is =
       let wide : (screen v.terminal.backend).width ≡ size.width = ap (λ (s : Size). s.width) is.size_is in
-      let place : v.terminal.viewport_area ≡ row_area size.width v.terminal.viewport_area.y = is.following.row ∙ ap (λ n. row_area n v.terminal.viewport_area.y) wide in
+      let place : v.terminal.viewport_area ≡ row_area size.width v.terminal.viewport_area.y = over-row screen v.terminal is.following ∙ ap (λ n. row_area n v.terminal.viewport_area.y) wide in
       record {
         size_is = is.size_is;
         top = v.terminal.viewport_area.y;
@@ -73,28 +72,6 @@ module _ {B E : Type 0} (screen : B → Screen) where
         };
         below = subst (λ (r : Rect). IsBlankBelow r (screen v.terminal.backend)) place is.below;
       }
-
--- a size has columns and rows
-abbrev HasSize : Option Size → Type 0
-HasSize o = IfSome o (λ size. (0 < size.width) × (0 < size.height))
-
-HasSize-if : (w h : ℕ) (a b : Bool) → (a ≡ true → 0 < w) → (b ≡ true → 0 < h) → HasSize (if a && b then Some (record { width = w; height = h }) else None)
-HasSize-if w h true true p q = (p refl, q refl)
-HasSize-if w h true false p q = tt
-HasSize-if w h false b p q = tt
-
-HasSize-by : (a b : Option ℕ) → HasSize (size_by a b)
-HasSize-by None b = tt
-HasSize-by (Some w) None = tt
-HasSize-by (Some w) (Some h) = HasSize-if w h (nat_lt 0 w) (nat_lt 0 h) (λ e. grind (arith, common_steps)) (λ e. grind (arith, common_steps))
-
-HasSize-parsed : (line : List ℕ) → HasSize (parsed_size line)
-unfolding parsed_size
-HasSize-parsed line = HasSize-by (parsed_number (before_first (λ c. c == 32) line)) (parsed_number (after_first (λ c. c == 32) line))
-
-pub HasSize-log : (lines : List (List ℕ)) (size : Size) → size_of_log lines ≡ Some size → 0 < size.height
-HasSize-log [] size e = absurd (cc)
-HasSize-log (line ∷ lines) size e = (subst HasSize e (HasSize-parsed line)).1
 
 -- by the answer of the start
 pub view_opened : {T E : Type 0} {B : Type 0} (screen : B → Screen) (size : Size) (b : B) (result : Result (LogView B E) T) → IsBlankScreen size.width size.height (screen b) → 0 < size.height

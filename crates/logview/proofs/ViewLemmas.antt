@@ -4,18 +4,12 @@ use Rattle.std.specs.declared.alloc.AllocError.{AllocError}
 use Rattle.ratatui_core.specs.Layout.{Rect, Size}
 use Rattle.ratatui_core.specs.Buffer.{Sheet, IsEmptied, IsSettledSheet}
 use Rattle.ratatui_core.specs.Backend.{Screen}
-use Rattle.ratatui_core.specs.Terminal.{State, IsOverRow, DrawsRow, FillsRow, InsertsRow, InsertOk, InsertsBy, TakesRows, HasAreas, IsSized, IsBackendFault, WritesAtMost, TerminalError, Backend, Memory, Area, Closure, inserted_area}
-use Rattle.ratatui_core.proofs.TerminalLemmas.{inserts-and-draws}
+use Rattle.ratatui_core.specs.Terminal.{State, IsOverRow, DrawsRow, FillsRow, InsertsRow, InsertOk, InsertsBy, HasAreas, IsSized, IsBackendFault, WritesAtMost, TerminalError, Backend, Memory, Area, Closure, inserted_area}
+use Rattle.ratatui_core.proofs.TerminalLemmas.{inserts-and-draws, over-row, over-takes}
 use Rattle.ratatui_core.proofs.WidgetLemmas.{has-first-row, text-settled}
 use Rattle.logview.specs.Rows.{counted, status_text}
-use Rattle.logview.specs.Views.{cells_of_row, screen_in, KeepsBelow, PushesLine, RefusesLine, RefusesPush}
+use Rattle.logview.specs.Views.{cells_pushed, screen_in, KeepsBelow, PushesLine, RefusesLine, RefusesPush}
 use Rattle.logview.specs.declared.view.LogView.{LogView}
-
-module _ {B : Type 0} (screen : B → Screen) where
-  takes : (s : State B) → IsOverRow screen s → TakesRows screen s
-  takes s is =
-      let high : s.viewport_area.height ≡ 1 = ap (λ (r : Rect). r.height) is.row in
-      record { inline = is.kind; known = is.known; row = omega arith; width = ap (λ (r : Rect). r.width) is.row }
 
 -- a line rendered on an empty row can be shown
 fills-settled : (line : List ℕ) (area : Rect) (sheet : Sheet) → area.height ≡ 1 → FillsRow line area sheet → IsSettledSheet sheet
@@ -29,25 +23,25 @@ module _ {B : Type 0} (screen : B → Screen) where
   -- an insertion writes no more than the row takes
   inserts-most : (line : List ℕ) (s t : State B) (filled : Result (Unit {0}) AllocError → Sheet → Type 0) → IsOverRow screen s
       → ((sheet : Sheet) → filled (Ok tt) sheet → FillsRow line (inserted_area s 1) sheet)
-      → InsertOk screen (inserted_area s 1) filled s t → WritesAtMost (cells_of_row (screen s.backend)) (screen s.backend) (screen t.backend)
+      → InsertOk screen (inserted_area s 1) filled s t → WritesAtMost (cells_pushed (screen s.backend)) (screen s.backend) (screen t.backend)
   inserts-most line s t filled is only ins room =
-      let may = takes screen s is in
-      let known : (screen s.backend).height ≡ s.known_area.height = ap (λ (r : Rect). r.height) is.known in
-      let high : s.viewport_area.height ≡ 1 = ap (λ (r : Rect). r.height) is.row in
-      let bottom = is.in_step.on_screen.bottom in
+      let may = over-takes screen s is in
+      let known : (screen s.backend).height ≡ s.known_area.height = ap (λ (r : Rect). r.height) (over-takes screen s is).known in
+      let high : s.viewport_area.height ≡ 1 = ap (λ (r : Rect). r.height) (over-row screen s is) in
+      let bottom = is.rest.in_step.on_screen.bottom in
       let inserts = ins.inserts (omega arith) in
       let settled = fills-settled line (inserted_area s 1) ins.inserted refl (only ins.inserted ins.closure) in
       let wide : ins.inserted.area.width ≡ (screen s.backend).width = ap (λ (r : Rect). r.width) ins.over ∙ may.width in
       let tall : ins.inserted.area.height ≡ 1 = ap (λ (r : Rect). r.height) ins.over in
       let again : (if nat_lt s.viewport_area.height s.known_area.height then 0 else ins.inserted.area.width) ≡ (if nat_lt 1 (screen s.backend).height then 0 else (screen s.backend).width) = rw (high, known, wide) refl in
       let own : ins.inserted.area.width * ins.inserted.area.height ≡ (screen s.backend).width = rw (tall, wide) (omega arith) in
-      let most = inserts.most may is.in_step settled (omega (arith, again, own, room)) in
+      let most = inserts.most may is.rest.in_step settled (omega (arith, again, own, room)) in
       omega (arith, again, own, most)
 
   -- by the answer of the insertion
   pub inserts-most-if : {T F : Type 0} (line : List ℕ) (s t : State B) (filled : Result (Unit {0}) AllocError → Sheet → Type 0) (result : Result T (TerminalError F)) → IsOverRow screen s
       → ((sheet : Sheet) → filled (Ok tt) sheet → FillsRow line (inserted_area s 1) sheet)
-      → InsertsBy screen (inserted_area s 1) filled s t result → OnOk result (WritesAtMost (cells_of_row (screen s.backend)) (screen s.backend) (screen t.backend))
+      → InsertsBy screen (inserted_area s 1) filled s t result → OnOk result (WritesAtMost (cells_pushed (screen s.backend)) (screen s.backend) (screen t.backend))
   inserts-most-if line s t filled (Ok x) is only by = inserts-most line s t filled is only by
   inserts-most-if line s t filled (Err e) is only by = tt
 
@@ -58,13 +52,13 @@ module _ {B E : Type 0} (screen : B → Screen) where
       → InsertOk screen (inserted_area v.terminal 1) filled v.terminal w.terminal → KeepsBelow screen v w
   inserts-below line v w filled is only ins =
       let s = v.terminal in
-      let known : (screen s.backend).height ≡ s.known_area.height = ap (λ (r : Rect). r.height) is.known in
-      let high : s.viewport_area.height ≡ 1 = ap (λ (r : Rect). r.height) is.row in
-      let bottom = is.in_step.on_screen.bottom in
+      let known : (screen s.backend).height ≡ s.known_area.height = ap (λ (r : Rect). r.height) (over-takes screen s is).known in
+      let high : s.viewport_area.height ≡ 1 = ap (λ (r : Rect). r.height) (over-row screen s is) in
+      let bottom = is.rest.in_step.on_screen.bottom in
       let inserts = ins.inserts (omega arith) in
       let settled = fills-settled line (inserted_area s 1) ins.inserted refl (only ins.inserted ins.closure) in
       let same : w.terminal.viewport_area.height ≡ s.viewport_area.height = ap (λ (x : State B). x.viewport_area.height) inserts.rest in
-      record { at = λ a b a_in b_in low. inserts.kept (takes screen s is) is.in_step settled a b a_in b_in (omega arith) }
+      record { at = λ a b a_in b_in low. inserts.kept (over-takes screen s is) is.rest.in_step settled a b a_in b_in (omega arith) }
 
   -- by the answer of the insertion
   pub inserts-below-if : {T F : Type 0} (line : List ℕ) (v w : LogView B E) (filled : Result (Unit {0}) AllocError → Sheet → Type 0) (result : Result T (TerminalError F)) → IsOverRow screen v.terminal
@@ -90,7 +84,7 @@ module _ {B E : Type 0} (screen : B → Screen) where
       let width : (screen m.terminal.backend).width ≡ (screen v.terminal.backend).width = ap (λ (z : Size). z.width) inserts.size in
       let height : (screen m.terminal.backend).height ≡ (screen v.terminal.backend).height = ap (λ (z : Size). z.height) inserts.size in
       let top : w.terminal.viewport_area.y ≡ m.terminal.viewport_area.y = ap (λ (r : Rect). r.y) keeps.viewport_area in
-      let high : m.terminal.viewport_area.height ≡ 1 = ap (λ (r : Rect). r.height) inserts.over.row in
+      let high : m.terminal.viewport_area.height ≡ 1 = ap (λ (r : Rect). r.height) (over-row screen m.terminal inserts.over) in
       record {
         at = λ a b a_in b_in low.
             keeps.outside.at a b (omega arith) (omega arith) (λ within. omega (arith, within.bottom, high, low, top)) ∙ kept.at a b a_in b_in (omega (arith, low, top));
@@ -98,7 +92,7 @@ module _ {B E : Type 0} (screen : B → Screen) where
 
   -- by the answer of the draw
   pub pushed_if : {T F : Type 0} (line : List ℕ) (v m w : LogView B E) (result : Result T F) → InsertsRow screen line v.terminal m.terminal → KeepsBelow screen v m
-      → WritesAtMost (cells_of_row (screen_in screen v)) (screen_in screen v) (screen_in screen m)
+      → WritesAtMost (cells_pushed (screen_in screen v)) (screen_in screen v) (screen_in screen m)
       → (IsOverRow screen m.terminal → OnOk result (DrawsRow screen (status_text w.count) m.terminal w.terminal)) → OnOk result (PushesLine screen line v w)
   pushed_if line v m w (Ok x) inserts kept most draws =
       let drawn = draws inserts.over in
@@ -128,4 +122,4 @@ pub refused_if : {B E T : Type 0} (screen : B → Screen) (line : List ℕ) (v m
 refused_if screen line v m w (Ok x) inserts count by = tt
 refused_if screen line v m w (Err e) inserts count by =
     let over = inserts.over in
-    lacks_status screen line v m w e inserts count (by (record { current = over.current.area; older = over.in_step.area }) (inr over.known))
+    lacks_status screen line v m w e inserts count (by (record { current = over.rest.current.area; older = over.rest.in_step.area }) over.rest.sized)

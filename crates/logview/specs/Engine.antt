@@ -10,7 +10,7 @@ use Rattle.ratatui_core.specs.Terminal.{row_area, ShowsText, IsBlankBelow, Termi
 use Rattle.logview.specs.Rows.{counted, status_text, AreRowsOfLines}
 use Rattle.logview.specs.Views.{IsViewOf, RefusesPush}
 use Rattle.logview.specs.declared.view.LogView.{LogView}
-use Rattle.logview.specs.Size.{parsed_size}
+use Rattle.script_words.specs.Words.{parsed_size}
 use Rattle.logview.specs.declared.fault.LogFault.{LogFault}
 use Rattle.logview.specs.declared.fault.LogFault.TheVariants as fault
 
@@ -73,10 +73,10 @@ IsLogFault bytes fault.Memory = Unit {0}
 IsLogFault bytes fault.Write = (size : Size) × IsLog bytes size
 
 -- the line for standard error
-abbrev pub fault_text : LogFault → List ℕ
-fault_text fault.Size = codes "line 1: bad size"
-fault_text (fault.Refused n) = codes "line " ++ decimal n ++ codes ": memory"
-fault_text fault.NotText = codes "input: not text"
-fault_text fault.Read = codes "input: read failed"
-fault_text fault.Memory = codes "input: no memory"
-fault_text fault.Write = []
+abbrev pub log_fault_text : LogFault → List ℕ
+log_fault_text fault.Size = codes "line 1: bad size"
+log_fault_text (fault.Refused n) = codes "line " ++ decimal n ++ codes ": memory"
+log_fault_text fault.NotText = codes "input: not text"
+log_fault_text fault.Read = codes "input: read failed"
+log_fault_text fault.Memory = codes "input: no memory"
+log_fault_text fault.Write = []

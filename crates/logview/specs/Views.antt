@@ -9,8 +9,8 @@ use Rattle.logview.specs.Rows.{counted, status_text, AreRowsOfLines}
 use Rattle.logview.specs.declared.view.LogView.{LogView}
 
 -- how many cells the row of a line takes at most: its own, and on a screen of one row that row again
-abbrev pub cells_of_row : Screen → ℕ
-cells_of_row s = s.width + (if nat_lt 1 s.height then 0 else s.width)
+abbrev pub cells_pushed : Screen → ℕ
+cells_pushed s = s.width + (if nat_lt 1 s.height then 0 else s.width)
 
 module _ {B E : Type 0} (screen : B → Screen) where
   -- the view's screen
@@ -40,7 +40,7 @@ module _ {B E : Type 0} (screen : B → Screen) where
     pub inserts : InsertsRow screen line v.terminal w.terminal
     pub status : ShowsStatus w
     pub kept : KeepsBelow v w
-    pub most : WritesAtMost (cells_of_row (screen_in v) + (screen_in v).width) (screen_in v) (screen_in w)
+    pub most : WritesAtMost (cells_pushed (screen_in v) + (screen_in v).width) (screen_in v) (screen_in w)
 
   -- the backend failed in the insertion of a line's row, before the viewport moved or after it
   pub record StopsLine (line : List ℕ) (v w : LogView B E) : Type 0 where

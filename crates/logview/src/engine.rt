@@ -11,10 +11,10 @@ ghost use Rattle.logview.specs.Engine.{size_of_log, IsLogView, IsLogFault, Print
 ghost use Rattle.logview.specs.declared.fault.LogFault.TheVariants.{Read, Write};
 
 use crate::fault::LogFault;
-use crate::size::read_size;
 use crate::view::LogView;
 use ratatui_core::backend::TestBackend;
 use ratatui_core::layout::Size;
+use script_words::read_size;
 use std::alloc::Global;
 use std::io::{self, ErrorKind, Read, Write};
 use std::str;
@@ -37,7 +37,8 @@ fn read_bytes<R: Read>(alloc: Global, reader: &mut R) -> Result<Vec<u8>, LogFaul
 
 // The size that the first line of a text says.
 fn first_size(text: &str) -> Option<Size>
-    ensures { result ≡ size_of_log (lines text.now) }
+    ensures value { result ≡ size_of_log (lines text.now) }
+    ensures some { IfSome result (λ size. (0 < size.width) × (0 < size.height)) }
 {
     let first = text.lines().next()?;
     read_size(first)

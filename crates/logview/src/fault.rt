@@ -23,9 +23,9 @@ pub enum LogFault {
 /// The line for standard error; for `Write` none.
 impl fmt::Display for LogFault {
     ghost use Rattle.std.specs.Prelude.{Some};
-    ghost use Rattle.logview.specs.Engine.{fault_text};
+    ghost use Rattle.logview.specs.Engine.{log_fault_text};
 
-    ghost output = { λ fault. Some (fault_text fault) };
+    ghost output = { λ fault. Some (log_fault_text fault) };
 
     fn fmt<W: fmt::Write>(&self, f: &mut fmt::Formatter<W>) -> fmt::Result {
         match self {

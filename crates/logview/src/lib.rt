@@ -8,7 +8,6 @@
 
 mod engine;
 mod fault;
-mod size;
 mod status;
 #[cfg(test)]
 mod tests;

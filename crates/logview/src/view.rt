@@ -6,7 +6,7 @@ ghost use Rattle.ratatui_core.specs.Terminal.{KeepsFrame, StartErr, WritesAtMost
 ghost use Rattle.ratatui_core.specs.Widgets.{HasFirstRow, RendersStr, RendersShortStr};
 ghost use Rattle.logview.specs.Rows.{counted, status_text};
 ghost use Rattle.logview.specs.Views.{IsFollowing, KeepsBelow, PushesLine, RefusesLine, RefusesPush, StartsView};
-ghost use Rattle.logview.specs.Views.{cells_of_row, screen_in};
+ghost use Rattle.logview.specs.Views.{cells_pushed, screen_in};
 
 use crate::status::status_text;
 use ratatui_core::backend::Backend;
@@ -107,7 +107,7 @@ impl<B: Backend> LogView<B> {
             → OnOk result (KeepsBelow B.screen self.old self.new) }
         ensures most { IsFollowing B.screen self.old
             → OnOk result (let before = screen_in B.screen self.old in
-            WritesAtMost (cells_of_row before) before (screen_in B.screen self.new)) }
+            WritesAtMost (cells_pushed before) before (screen_in B.screen self.new)) }
         ensures err { IsFollowing B.screen self.old
             → IfErr result (RefusesLine B.screen line.now self.old self.new) }
         ensures faults { Faults result (B.failures self.old.terminal.backend)

@@ -7,7 +7,7 @@
 ghost use Rattle.std.specs.Prelude.{IfOk, IfSome, OnOk};
 ghost use Rattle.std.specs.Io.KnownBytes.{Appends};
 ghost use Rattle.std.specs.Process.{exit_status};
-ghost use Rattle.logview_program.specs.Ending.{Ends, fault_line};
+ghost use Rattle.logview_program.specs.Ending.{EndsLog, log_fault_line};
 
 #[cfg(test)]
 mod tests;
@@ -20,7 +20,7 @@ use std::process::ExitCode;
 // Writes the line that tells a fault.
 fn tell<E: Write>(errors: &mut E, fault: LogFault) -> io::Result<()>
     ensures { OnOk result
-        (Appends (E.contents errors.old) (E.contents errors.new) (fault_line fault)) }
+        (Appends (E.contents errors.old) (E.contents errors.new) (log_fault_line fault)) }
 {
     match fault {
         LogFault::Write => Ok(()),
@@ -36,7 +36,7 @@ fn print_log<R: Read, W: Write, E: Write>(
     errors: &mut E,
 ) -> io::Result<ExitCode>
     ensures { IfOk result (λ status. IfSome (R.remaining reader.old) (λ bytes.
-        Ends W.contents E.contents (exit_status status) bytes
+        EndsLog W.contents E.contents (exit_status status) bytes
         writer.old writer.new errors.old errors.new)) }
 {
     match run(alloc, reader, writer) {

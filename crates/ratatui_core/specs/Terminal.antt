@@ -22,6 +22,8 @@ pub use Rattle.rtui_terminal.specs.Cursor.{Stays, MovesCursor}
 pub use Rattle.rtui_terminal.specs.Clearing.{FailsClearing, ClearsViewport}
 pub use Rattle.rtui_terminal.specs.Drawing.{CompletesFrame, DrawsFrame, RefusesFrame, DrawOk, ClosureErr, FrameOk, PaintedErr, FrameErr, DrawErr, TryDrawErr}
 pub use Rattle.rtui_terminal.specs.Rendered.{IsRendered, OnlyRenders, ShowsRendered}
+pub use Rattle.rtui_viewport.specs.Lying.{at_corner, FitsSize, IsAcross, MayLie}
+pub use Rattle.rtui_terminal.specs.AtRest.{IsAtRest}
 pub use Rattle.rtui_terminal.specs.TextRow.{row_area, IsPaintedText, IsRowOf, ShowsText, RendersRow, FillsRow, IsOverRow, ShowsRow, DrawsRow, InsertsRow, StartsOverRow}
 pub use Rattle.rtui_terminal.specs.Display.{terminal_error_text}
 pub use Rattle.rtui_rows.specs.Filling.{IsNewSheet, AcceptsRows, FillsRows, RefusesFilling}

@@ -25,19 +25,19 @@ use Rattle.rtui_terminal.proofs.KeepLemmas.{rest_of, size_more, placed_size}
 none_appended : (old new : List (List Look)) → new ≡ old → AppendsRows [] old new
 none_appended old new e = record { rows = []; appended = e ∙ sym (append-nil old); agree = refl }
 
-all_append : (ss ts : List Sheet) (xs ys : List (List Look)) → AreRowsOfAll ss xs → AreRowsOfAll ts ys → AreRowsOfAll (ss ++ ts) (xs ++ ys)
+pub all_append : (ss ts : List Sheet) (xs ys : List (List Look)) → AreRowsOfAll ss xs → AreRowsOfAll ts ys → AreRowsOfAll (ss ++ ts) (xs ++ ys)
 all_append [] ts xs ys p q = subst (λ zs. AreRowsOfAll ts (zs ++ ys)) (sym p) q
 all_append (s ∷ ss) ts xs ys p q = (p.0, p.1 ++ ys, ap (λ zs. zs ++ ys) p.2 ∙ append_assoc p.0 p.1 ys, p.3, all_append ss ts p.1 ys p.4 q)
 
 -- what is appended in two steps
-appends_more : (ss ts : List Sheet) (a b c : List (List Look)) → AppendsRows ss a b → AppendsRows ts b c → AppendsRows (ss ++ ts) a c
+pub appends_more : (ss ts : List Sheet) (a b c : List (List Look)) → AppendsRows ss a b → AppendsRows ts b c → AppendsRows (ss ++ ts) a c
 appends_more ss ts a b c p q = record {
   rows = p.rows ++ q.rows;
   appended = q.appended ∙ ap (λ xs. xs ++ q.rows) p.appended ∙ append_assoc a p.rows q.rows;
   agree = all_append ss ts p.rows q.rows p.agree q.agree;
 }
 
-not_both : (kind : Viewport) → IsInline kind → IsFixed kind → ⊥
+pub not_both : (kind : Viewport) → IsInline kind → IsFixed kind → ⊥
 not_both Fullscreen inline fixed = inline
 not_both (Inline n) inline fixed = fixed
 not_both (Fixed r) inline fixed = inline

@@ -8,3 +8,4 @@ pub mod HeadlineLemmas
 pub mod RenderedLemmas
 pub mod StartLemmas
 pub mod TextRowLemmas
+pub mod RestLemmas

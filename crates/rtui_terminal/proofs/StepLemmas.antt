@@ -48,13 +48,6 @@ has_place Fullscreen r s at on = tt
 has_place (Inline n) r s at on = at
 has_place (Fixed f) r s at on = on
 
-raised_x : (w : ℕ) (r : Rect) → (raised w r).x ≡ r.x
-raised_x w r = either (nat_lt r.width w)
-  where
-    either : (b : Bool) → (if b then record r { y = 0 } else r).x ≡ r.x
-    either true = refl
-    either false = refl
-
 -- an emptied screen, or an untouched one
 pub emptied_frame : (narrow : Bool) {s m : Screen} → EmptiesAllIf narrow s m → KeepsAllButLooks s m
 emptied_frame true p = p.frame

@@ -12,8 +12,7 @@ use Rattle.rtui_diff.specs.Updates.{update_at}
 use Rattle.rtui_buffer.specs.Sheet.{Sheet, IsEmptied}
 use Rattle.rtui_buffer.specs.Frame.{IsSettledSheet, common_rows, sheet_updates}
 use Rattle.rtui_widgets.proofs.SettledLemmas.{has-first-row, text-settled}
-use Rattle.rtui_backend.specs.Screen.{Screen}
-use Rattle.rtui_viewport.specs.Viewports.{IsInline}
+use Rattle.rtui_backend.specs.Screen.{Screen, size_of}
 use Rattle.rtui_viewport.specs.declared.viewport.Viewport.TheVariants.{Inline}
 use Rattle.rtui_rows.specs.Insertion.{AppendsRows, AreRowsOf}
 use Rattle.rtui_rows.specs.Rows.{WritesAtMost}
@@ -29,10 +28,9 @@ use Rattle.rtui_terminal.specs.Drawing.{DrawOk, DrawErr}
 use Rattle.rtui_terminal.specs.Rendered.{OnlyRenders}
 use Rattle.rtui_terminal.specs.Insertion.{inserted_area, TakesRows, Inserts, InsertOk, InsertsBy}
 use Rattle.rtui_terminal.specs.TextRow.{row_area, IsPaintedText, IsRowOf, RendersRow, FillsRow, IsOverRow, DrawsRow, InsertsRow, StartsOverRow}
+use Rattle.rtui_terminal.proofs.RestLemmas.{rests-started, rests-drawn, rests-takes, rests-inserted}
 use Rattle.rtui_terminal.proofs.RenderedLemmas.{shows-rendered, sized-stays, refused-by-backend}
-use Rattle.rtui_terminal.proofs.StartLemmas.{starts-in-row, starts-in-step, starts-blank}
-use Rattle.rtui_terminal.proofs.InsertionLemmas.{emptied-moved}
-use Rattle.rtui_terminal.proofs.KeepLemmas.{below-kept}
+use Rattle.rtui_terminal.proofs.StartLemmas.{starts-in-row}
 
 -- a list of one
 record IsOne {X : Type 0} (xs : List X) : Type 0 where
@@ -107,20 +105,26 @@ row_written width y cursor s old new over drawn room =
     omega (arith, count, le, cells, same, is)
 
 module _ {B : Type 0} (screen : B → Screen) where
-  takes : (s : State B) → IsOverRow screen s → TakesRows screen s
-  takes s is =
-      let high : s.viewport_area.height ≡ 1 = ap (λ (r : Rect). r.height) is.row in
-      record { inline = is.kind; known = is.known; row = omega arith; width = ap (λ (r : Rect). r.width) is.row }
+  -- its viewport is one row of the screen's width
+  pub over-row : (t : State B) → IsOverRow screen t → t.viewport_area ≡ row_area (screen t.backend).width t.viewport_area.y
+  over-row t is =
+      let lies = is.rest.lies in
+      let high : t.viewport_area.height ≡ 1 = omega (arith, lies.height, is.some) in
+      ap₂ (λ x w. record t.viewport_area { x = x; width = w }) lies.x lies.width ∙ ap (λ h. record { x = 0; y = t.viewport_area.y; width = (screen t.backend).width; height = h }) high
+
+  -- rows can be inserted above it
+  pub over-takes : (s : State B) → IsOverRow screen s → TakesRows screen s
+  over-takes s is = rests-takes screen (Inline 1) (size_of (screen s.backend)) s tt (omega arith) is.some is.rest
 
   -- the row of a text was inserted
   pub inserts-row : (text : List ℕ) (s t : State B) (filled : Result (Unit {0}) AllocError → Sheet → Type 0) → IsOverRow screen s
       → ((sheet : Sheet) → filled (Ok tt) sheet → FillsRow text (inserted_area s 1) sheet)
       → InsertOk screen (inserted_area s 1) filled s t → InsertsRow screen text s t
   inserts-row text s t filled is only ins =
-      let may = takes s is in
-      let high : s.viewport_area.height ≡ 1 = ap (λ (r : Rect). r.height) is.row in
-      let known : (screen s.backend).height ≡ s.known_area.height = ap (λ (r : Rect). r.height) is.known in
-      let bottom = is.in_step.on_screen.bottom in
+      let may = over-takes s is in
+      let high : s.viewport_area.height ≡ 1 = ap (λ (r : Rect). r.height) (over-row s is) in
+      let known : (screen s.backend).height ≡ s.known_area.height = ap (λ (r : Rect). r.height) may.known in
+      let bottom = is.rest.in_step.on_screen.bottom in
       let sheet = ins.inserted in
       let inserts : Inserts screen sheet s t = ins.inserts (omega arith) in
       let over : sheet.area ≡ row_area (screen s.backend).width 0 = ins.over ∙ ap (λ w. row_area w 0) may.width in
@@ -129,26 +133,15 @@ module _ {B : Type 0} (screen : B → Screen) where
       let renders = subst (λ (r : Rect). RendersRow text r fills.before sheet) (fills.empty.area ∙ sym ins.over) fills.renders in
       let painted : IsPaintedText text sheet = row-painted text 0 (screen s.backend).width fills.before sheet over empty renders in
       let settled : IsSettledSheet sheet = row-settled text sheet painted in
-      let row : HasRow (screen s.backend).width text (rows_over screen s) (rows_over screen t) = row-appended (screen s.backend).width text sheet (rows_over screen s) (rows_over screen t) over painted (inserts.above may is.in_step settled) in
-      let kept = inserts.rest in
-      let area : t.viewport_area ≡ record s.viewport_area { y = t.viewport_area.y } = ap (λ (x : State B). x.viewport_area) kept in
-      let here : t.viewport_area ≡ row_area (screen t.backend).width t.viewport_area.y =
-      area ∙ ap (λ (r : Rect). record r { y = t.viewport_area.y }) is.row ∙ ap (λ w. row_area w t.viewport_area.y) (sym inserts.shape.width) in
+      let row : HasRow (screen s.backend).width text (rows_over screen s) (rows_over screen t) = row-appended (screen s.backend).width text sheet (rows_over screen s) (rows_over screen t) over painted (inserts.above may is.rest.in_step settled) in
       let height : sheet.area.height ≡ 1 = ap (λ (r : Rect). r.height) over in
       record {
-        over = record {
-          kind = subst IsInline (sym (ap (λ (x : State B). x.viewport) kept)) is.kind;
-          known = ap₂ (λ w h. record { x = 0; y = 0; width = w; height = h }) inserts.shape.width inserts.shape.height ∙ is.known ∙ sym (ap (λ (x : State B). x.known_area) kept);
-          row = here;
-          in_step = inserts.in_step may is.in_step settled;
-          current = emptied-moved screen sheet s t inserts is.current;
-        };
+        over = record { rest = rests-inserted screen (Inline 1) sheet s t tt is.rest may settled inserts; some = (let h = inserts.shape.height in let is_some = is.some in omega arith) };
         size = ap₂ (λ w h. record { width = w; height = h }) inserts.shape.width inserts.shape.height;
         top = (let top = inserts.top in omega arith);
         row = row.row;
         painted = row.painted;
         above = row.above;
-        below = inserts.below may is.in_step settled;
       }
 
   -- by the answer of the insertion
@@ -162,32 +155,23 @@ module _ {B : Type 0} (screen : B → Screen) where
   pub draws-row : {X : Type 0} (text : List ℕ) (s t : State B) (ran : State B → Result (Unit {0}) X → Option Position → Sheet → Type 0) → IsOverRow screen s → OnlyRenders ran (RendersRow text) → DrawOk screen ran s t
       → DrawsRow screen text s t
   draws-row text s t ran is only drawn =
-      let sized : IsSized screen s = inr is.known in
-      let shows = shows-rendered screen ran (RendersRow text) s t (inl is.in_step) is.current only drawn in
+      let sized : IsSized screen s = is.rest.sized in
+      let shows = shows-rendered screen ran (RendersRow text) s t (inl is.rest.in_step) is.rest.current only drawn in
       let applied = drawn.draws.applied in
       let stays = sized-stays screen s drawn.draws.sized sized drawn.draws.autoresized in
       let kept : t.viewport_area ≡ s.viewport_area = ap (λ (x : State B). x.viewport_area) applied.rest ∙ ap (λ (x : State B). x.viewport_area) stays.rest in
-      let over : t.older.area ≡ row_area (screen s.backend).width s.viewport_area.y = shows.area ∙ kept ∙ is.row in
+      let over : t.older.area ≡ row_area (screen s.backend).width s.viewport_area.y = shows.area ∙ kept ∙ over-row s is in
       let painted : IsPaintedText text t.older = row-painted text s.viewport_area.y (screen s.backend).width shows.rendered.blank t.older over shows.rendered.emptied shows.rendered.rendered in
       let settled : IsSettledSheet t.older = row-settled text t.older painted in
-      let keeps = drawn.draws.keeps is.in_step sized settled in
-      let step = drawn.draws.in_step (inl is.in_step) settled in
+      let keeps = drawn.draws.keeps is.rest.in_step sized settled in
+      let step = drawn.draws.in_step (inl is.rest.in_step) settled in
       record {
-        over = record {
-          kind = subst IsInline (sym (ap (λ (x : State B). x.viewport) applied.rest ∙ ap (λ (x : State B). x.viewport) stays.rest)) is.kind;
-          known =
-              ap₂ (λ w h. record { x = 0; y = 0; width = w; height = h }) keeps.size.width keeps.size.height
-              ∙ is.known
-              ∙ sym (ap (λ (x : State B). x.known_area) applied.rest ∙ ap (λ (x : State B). x.known_area) stays.rest);
-          row = kept ∙ is.row ∙ ap₂ row_area (sym keeps.size.width) (sym (ap (λ (r : Rect). r.y) kept));
-          in_step = step;
-          current = subst (λ (r : Rect). IsEmptied r t.current) (sym (ap (λ (x : State B). x.viewport_area) applied.rest)) applied.emptied;
-        };
+        over = record { rest = rests-drawn screen (Inline 1) s t is.rest settled drawn.draws; some = (let h = keeps.size.height in let is_some = is.some in omega arith) };
         shown = record { sheet = t.older; over = shows.area; painted = painted; shown = step.shown };
         keeps = keeps;
         most = subst (λ (x : Screen). WritesAtMost (screen s.backend).width x (screen t.backend)) stays.screen_stays
             (row_written (screen s.backend).width s.viewport_area.y drawn.draws.cursor (record drawn.draws.sized { current = t.older }) (screen drawn.draws.sized.backend) (screen t.backend)
-            (applied.areas.older ∙ ap (λ (x : State B). x.viewport_area) stays.rest ∙ is.row) applied.drawn);
+            (applied.areas.older ∙ ap (λ (x : State B). x.viewport_area) stays.rest ∙ over-row s is) applied.drawn);
       }
 
   -- by the answer of a draw that takes no memory
@@ -209,7 +193,6 @@ module _ {B : Type 0} (screen : B → Screen) where
         row = inserts.row;
         painted = inserts.painted;
         above = keeps.above ∙ inserts.above;
-        below = λ blank. below-kept screen s t keeps (inserts.below blank);
       }
 
   -- the terminal of a start over one row knows its screen's size
@@ -224,29 +207,18 @@ module _ {B : Type 0} (screen : B → Screen) where
 
   -- a start on a blank screen
   pub starts-over-row : (b : B) (t : State B) → IsBlank (screen b) → 0 < (screen b).height → Starts screen (Inline 1) b t → IsOverRow screen t
-  starts-over-row b t blank some starts =
-      let row = starts-in-row screen b t some starts in
-      record {
-        kind = subst IsInline (sym starts.kind) tt;
-        known = starts-known b t starts;
-        row = row.viewport_area ∙ ap₂ row_area (sym row.size.width) (sym (ap (λ (r : Rect). r.y) row.viewport_area));
-        in_step = starts-in-step screen (Inline 1) b t starts (starts.on_screen (λ fixed. fixed)) blank;
-        current = starts.current;
-      }
+  starts-over-row b t blank some starts = record { rest = rests-started screen (Inline 1) b t (omega arith) blank starts; some = (let h = starts.scrolls.height in omega arith) }
 
   -- a start on a blank screen, and then a text drawn
   pub starts-and-draws : (text : List ℕ) (b : B) (s t : State B) → IsBlank (screen b) → 0 < (screen b).height → Starts screen (Inline 1) b s → DrawsRow screen text s t → StartsOverRow screen b t
   starts-and-draws text b s t blank some starts drawn =
       let row = starts-in-row screen b s some starts in
       let keeps = drawn.keeps in
-      let still = starts-blank screen (Inline 1) b s starts blank in
       record {
         over = drawn.over;
         size = ap₂ (λ w h. record { width = w; height = h }) (keeps.size.width ∙ row.size.width) (keeps.size.height ∙ row.size.height);
         top = ap (λ (r : Rect). r.y) (keeps.viewport_area ∙ row.viewport_area);
         above = keeps.above ∙ row.above;
-        below = below-kept screen s t keeps
-            (record { at = λ a c a_in c_in low. still.at a c a_in c_in });
       }
 
 -- a start whose first frame was refused, by the backend

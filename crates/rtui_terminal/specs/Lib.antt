@@ -14,3 +14,4 @@ pub mod Display
 pub mod Headline
 pub mod Rendered
 pub mod TextRow
+pub mod AtRest

@@ -1,5 +1,5 @@
 -- A terminal over one row of text, and rows of text above it.
-use Rattle.std.specs.Prelude.{◌≡◌, ℕ, ◌+◌, ◌-◌, min, List, [], ◌∷◌, ◌++◌}
+use Rattle.std.specs.Prelude.{◌≡◌, ℕ, ◌+◌, ◌-◌, ◌<◌, min, List, [], ◌∷◌, ◌++◌}
 use Rattle.rtui_geometry.specs.declared.rect.Rect.{Rect}
 use Rattle.rtui_buffer.specs.Sheet.{Sheet, IsEmptied}
 use Rattle.rtui_cell.specs.Look.{Look}
@@ -7,12 +7,12 @@ use Rattle.rtui_cell.specs.Grid.{Grid}
 use Rattle.rtui_diff.specs.Shows.{RowAgrees}
 use Rattle.rtui_buffer.specs.Frame.{ShowsSheet}
 use Rattle.rtui_widgets.specs.Rendering.{HasFirstRow, RendersStr}
-use Rattle.rtui_backend.specs.Screen.{Screen, size_of, screen_area, rows_above}
-use Rattle.rtui_viewport.specs.Viewports.{IsInline}
-use Rattle.rtui_viewport.specs.Areas.{IsBlankBelow}
+use Rattle.rtui_backend.specs.Screen.{Screen, size_of, rows_above}
+use Rattle.rtui_viewport.specs.declared.viewport.Viewport.TheVariants.{Inline}
 use Rattle.rtui_rows.specs.Rows.{WritesAtMost}
 use Rattle.rtui_terminal.specs.State.{State}
-use Rattle.rtui_terminal.specs.InStep.{IsInStep, KeepsAroundViewport, rows_over}
+use Rattle.rtui_terminal.specs.AtRest.{IsAtRest}
+use Rattle.rtui_terminal.specs.InStep.{KeepsAroundViewport, rows_over}
 use Rattle.rtui_terminal.specs.Rendered.{IsRendered}
 
 -- the area of a row of this width
@@ -48,13 +48,10 @@ pub record FillsRow (text : List ℕ) (area : Rect) (sheet : Sheet) : Type 0 whe
   pub renders : RendersRow text before.area before sheet
 
 module _ {B : Type 0} (screen : B → Screen) where
-  -- the terminal is in step over one row as wide as the screen, whose size it knows, and its next frame begins empty
+  -- the terminal is at rest over one row of a screen that has some
   pub record IsOverRow (t : State B) : Type 0 where
-    pub kind : IsInline t.viewport
-    pub known : screen_area (screen t.backend) ≡ t.known_area
-    pub row : t.viewport_area ≡ row_area (screen t.backend).width t.viewport_area.y
-    pub in_step : IsInStep screen t
-    pub current : IsEmptied t.viewport_area t.current
+    pub rest : IsAtRest screen (Inline 1) t
+    pub some : 0 < (screen t.backend).height
 
   -- the viewport shows a text
   abbrev pub ShowsRow : List ℕ → State B → Type 0
@@ -67,8 +64,8 @@ module _ {B : Type 0} (screen : B → Screen) where
     pub keeps : KeepsAroundViewport screen s t
     pub most : WritesAtMost (screen s.backend).width (screen s.backend) (screen t.backend)
 
-  -- a text was inserted: the terminal is still over one row, which went down by one if there was room, exactly one row, the text's, came to those
-  -- above, and blank rows below stay so
+  -- a text was inserted: the terminal is still over one row, which went down by one if there was room, and exactly one row, the text's, came to
+  -- those above
   pub record InsertsRow (text : List ℕ) (s t : State B) : Type 0 where
     pub over : IsOverRow t
     pub size : size_of (screen t.backend) ≡ size_of (screen s.backend)
@@ -76,12 +73,10 @@ module _ {B : Type 0} (screen : B → Screen) where
     pub row : List Look
     pub painted : IsRowOf (screen s.backend).width text row
     pub above : rows_over screen t ≡ rows_over screen s ++ row ∷ []
-    pub below : IsBlankBelow s.viewport_area (screen s.backend) → IsBlankBelow t.viewport_area (screen t.backend)
 
-  -- a start on a blank screen: the terminal is over one row, the cursor's, the rows above are those that were there, and those below are blank
+  -- a start on a blank screen: the terminal is over one row, the cursor's, and the rows above are those that were there
   pub record StartsOverRow (b : B) (t : State B) : Type 0 where
     pub over : IsOverRow t
     pub size : size_of (screen t.backend) ≡ size_of (screen b)
     pub top : t.viewport_area.y ≡ (screen b).cursor_y
     pub above : rows_over screen t ≡ rows_above (screen b) (screen b).cursor_y
-    pub below : IsBlankBelow t.viewport_area (screen t.backend)

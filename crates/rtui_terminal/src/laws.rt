@@ -1,18 +1,26 @@
 //! Laws of terminals that are no single call's clause, stated over the definitions of `specs/` alone; above all the
 //! headline of `specs/Headline`. Calling one of these functions costs nothing and tells the caller's proof its law.
 
-ghost use Rattle.std.specs.Prelude.{ℕ, ◌<◌};
+ghost use Rattle.std.specs.Prelude.{ℕ, ◌<◌, Option};
+ghost use Rattle.rtui_geometry.specs.declared.position.Position.{Position};
+ghost use Rattle.rtui_buffer.specs.Frame.{IsSettledSheet};
 ghost use Rattle.rtui_buffer.specs.Sheet.{Sheet, IsEmptied};
-ghost use Rattle.rtui_backend.specs.Screen.{IsOnScreen};
+ghost use Rattle.rtui_backend.specs.Screen.{IsOnScreen, screen_area, size_of};
 ghost use Rattle.rtui_viewport.specs.declared.viewport.Viewport.{Viewport};
 ghost use Rattle.rtui_viewport.specs.declared.viewport.Viewport.TheVariants.{Inline};
 ghost use Rattle.rtui_viewport.specs.Areas.{IsBlankBelow};
+ghost use Rattle.rtui_viewport.specs.Lying.{FitsSize};
+ghost use Rattle.rtui_viewport.specs.Viewports.{IsFixed, IsInline};
 ghost use Rattle.rtui_terminal.specs.State.{State};
 ghost use Rattle.rtui_terminal.specs.InStep.{IsInStep, IsSized, KeepsAroundViewport};
 ghost use Rattle.rtui_terminal.specs.Starting.{IsBlank, Starts, StartsInRow};
-ghost use Rattle.rtui_terminal.specs.Insertion.{Inserts};
+ghost use Rattle.rtui_terminal.specs.AtRest.{IsAtRest};
+ghost use Rattle.rtui_terminal.specs.Clearing.{ClearsViewport};
+ghost use Rattle.rtui_terminal.specs.Drawing.{DrawsFrame};
+ghost use Rattle.rtui_terminal.specs.Insertion.{Inserts, TakesRows};
 ghost use Rattle.rtui_terminal.specs.Cursor.{Stays};
-ghost use Rattle.rtui_terminal.specs.Resizing.{Autoresizes};
+ghost use Rattle.rtui_terminal.specs.Resizing.{Autoresizes, Resizes};
+ghost use Rattle.rtui_terminal.specs.Writing.{Applies};
 ghost use Rattle.rtui_terminal.specs.Headline.{IsHeadline, KeepsRows};
 
 use rtui_backend::Backend;
@@ -68,4 +76,25 @@ pub fn blank_rows_below_stay<B: Backend>()
 pub fn known_sizes_stay<B: Backend>()
     ensures { (s sized : State B) → IsSized B.screen s → Autoresizes B.screen s sized
         → Stays B.screen s sized }
+{}
+
+/// A start on a blank screen leaves a terminal at rest, and each call of an application that answers Ok keeps it so: a draw
+/// or an apply of a settled buffer, a draw that finds another size, a clear, and an insertion of settled rows.
+pub fn calls_leave_a_terminal_at_rest<B: Backend>()
+    ensures started { (kind : Viewport) (b : B) (t : State B) → FitsSize kind (size_of (B.screen b))
+        → IsBlank (B.screen b) → Starts B.screen kind b t → IsAtRest B.screen kind t }
+    ensures applied { (kind : Viewport) (cursor : Option Position) (frame : Sheet) (s t : State B)
+        → IsAtRest B.screen kind s → IsSettledSheet frame
+        → Applies B.screen cursor (record s { current = frame }) t → IsAtRest B.screen kind t }
+    ensures drawn { (kind : Viewport) (s t : State B) → IsAtRest B.screen kind s
+        → IsSettledSheet t.older → DrawsFrame B.screen s t → IsAtRest B.screen kind t }
+    ensures resized { (kind : Viewport) (b : B) (s t : State B) → (IsFixed kind → ⊥)
+        → IsAtRest B.screen kind s
+        → Resizes B.screen (screen_area (B.screen b)) (record s { backend = b }) t
+        → IsAtRest B.screen kind t }
+    ensures cleared { (kind : Viewport) (s t : State B) → IsAtRest B.screen kind s
+        → ClearsViewport B.screen s t → IsAtRest B.screen kind t }
+    ensures inserted { (kind : Viewport) (rows : Sheet) (s t : State B) → IsInline kind
+        → IsAtRest B.screen kind s → TakesRows B.screen s → IsSettledSheet rows
+        → Inserts B.screen rows s t → IsAtRest B.screen kind t }
 {}

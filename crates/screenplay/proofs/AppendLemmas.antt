@@ -1,15 +1,15 @@
 -- The rows above an inline viewport along a run.
-use Rattle.std.proofs.Common.{◌≡◌, ℕ, zero, suc, ◌+◌, ◌<◌, List, [], ◌∷◌, ◌++◌, length, get_or, Some, sym, ap, ◌∙◌, subst, arith, append_assoc, append-nil, refl}
+use Rattle.std.proofs.Common.{◌≡◌, ℕ, zero, suc, ◌+◌, ◌<◌, List, [], ◌∷◌, ◌++◌, length, get_or, Some, sym, ap, ◌∙◌, subst, arith, append-nil, refl}
 use Rattle.std.specs.Prelude.{slice_get}
 use Rattle.std.proofs.lemmas.Option.{slice_get-get_or, get_or_from_slice_get, slice_get_within}
 use Rattle.rtui_geometry.specs.declared.size.Size.{Size}
 use Rattle.rtui_cell.specs.Look.{Look}
 use Rattle.rtui_text.specs.Text.{TextData}
 use Rattle.rtui_buffer.specs.Sheet.{Sheet}
-use Rattle.rtui_rows.specs.Insertion.{AreRowsOfAll, AppendsRows}
 use Rattle.rtui_viewport.specs.declared.viewport.Viewport.{Viewport}
 use Rattle.rtui_viewport.specs.declared.viewport.Viewport.TheVariants.{Fullscreen, Inline, Fixed}
 use Rattle.rtui_viewport.specs.Viewports.{IsInline}
+use Rattle.rtui_terminal.proofs.HeadlineLemmas.{appends_more}
 use Rattle.screenplay.proofs.PlayLemmas.{kept_rows}
 use Rattle.screenplay.specs.Run.{Sight, sight_of, sight_size, sight_rows_above, InsertsOn, IsAfter, IsRun}
 use Rattle.screenplay.specs.Appending.{AreFrames, AppendsTexts, texts_inserted_by, inserted_from, scene_size, KeepsSizeFor, IsAppending}
@@ -17,18 +17,6 @@ use Rattle.screenplay.specs.declared.scene.Stage.{Stage}
 use Rattle.screenplay.specs.declared.scene.Scene.{Scene}
 use Rattle.screenplay.specs.declared.scene.Step.{Step}
 use Rattle.screenplay.specs.declared.scene.Step.TheVariants.{Draw, Insert, Clear}
-
-all_append : (ss ts : List Sheet) (xs ys : List (List Look)) → AreRowsOfAll ss xs → AreRowsOfAll ts ys → AreRowsOfAll (ss ++ ts) (xs ++ ys)
-all_append [] ts xs ys p q = subst (λ zs. AreRowsOfAll ts (zs ++ ys)) (sym p) q
-all_append (s ∷ ss) ts xs ys p q = (p.0, p.1 ++ ys, ap (λ zs. zs ++ ys) p.2 ∙ append_assoc p.0 p.1 ys, p.3, all_append ss ts p.1 ys p.4 q)
-
--- what is appended in two steps
-appends_more : (ss ts : List Sheet) (a b c : List (List Look)) → AppendsRows ss a b → AppendsRows ts b c → AppendsRows (ss ++ ts) a c
-appends_more ss ts a b c p q = record {
-  rows = p.rows ++ q.rows;
-  appended = q.appended ∙ ap (λ xs. xs ++ q.rows) p.appended ∙ append_assoc a p.rows q.rows;
-  agree = all_append ss ts p.rows q.rows p.agree q.agree;
-}
 
 frames_append : (width : ℕ) (ss ts : List TextData) (fs gs : List Sheet) → AreFrames width ss fs → AreFrames width ts gs → AreFrames width (ss ++ ts) (fs ++ gs)
 frames_append width [] ts [] gs p q = q

@@ -1,10 +1,10 @@
 -- Frames of a script: none has a skipped cell, and lines past the last row that an area can have don't count.
-use Rattle.std.proofs.Common.{◌≡◌, ℕ, zero, suc, ◌+◌, ◌-◌, ◌*◌, ◌<◌, min, max, Bool, true, false, if◌then◌else◌, List, [], ◌∷◌, ◌++◌, length, map, take, drop, Some, refl, sym, ap, ap₂, ◌∙◌, subst, arith}
+use Rattle.std.proofs.Common.{◌≡◌, ℕ, zero, suc, ◌+◌, ◌-◌, ◌*◌, ◌<◌, Bool, true, false, if◌then◌else◌, List, [], ◌∷◌, ◌++◌, length, map, take, drop, Some, refl, sym, ap, ap₂, ◌∙◌, subst, arith}
 use Rattle.std.specs.Prelude.{◌==◌, slice_set, encode_utf8}
 use Rattle.std.proofs.lemmas.List.{get_or-take, get_or-drop}
 use Rattle.std.proofs.lemmas.Bool.Decides.{nat_tests}
 use Rattle.rtui_geometry.specs.declared.rect.Rect.{Rect}
-use Rattle.rtui_geometry.specs.Rect.{EdgesFit, intersected, right_edge, bottom_edge}
+use Rattle.rtui_geometry.specs.Rect.{EdgesFit, intersected}
 use Rattle.rtui_cell.specs.declared.cell.Cell.{Cell}
 use Rattle.rtui_cell.specs.Cell.{empty_cell, is_skipped, styled}
 use Rattle.rtui_cell.specs.Grid.{Grid}
@@ -19,6 +19,7 @@ use Rattle.rtui_buffer.proofs.EmptyLemmas.{cell-empty}
 use Rattle.rtui_widgets.specs.Span.{with_graphemes, those_at, is_behind, column_with, columns_from, span_rendered}
 use Rattle.rtui_widgets.specs.Line.{Part, behind_first, parts, parts_rendered, columns_before, line_rendered}
 use Rattle.rtui_widgets.specs.Rendering.{RendersRows, area_row, alignment_or, text_line, text_row}
+use Rattle.rtui_widgets.proofs.WithinLemmas.{intersected-whole}
 use Rattle.screenplay.specs.Puts.{holds_place, with_put, with_puts}
 use Rattle.screenplay.specs.Run.{IsFrame}
 use Rattle.screenplay.specs.Playing.{IsPlainSheet}
@@ -100,18 +101,6 @@ plain_row : (text : TextData) (k : ℕ) (row : List Cell) → ArePlain row → A
 plain_row text k row p =
     plain_line (alignment_or (text_line text k).alignment text.alignment) (text_line text k) _ (plain_styled text.style row p)
 
--- an area is the part of it that it has itself
-area_whole : (r : Rect) → EdgesFit r → intersected r r ≡ r
-area_whole r fit =
-    let right = fit.right in
-    let bottom = fit.bottom in
-    let x : max r.x r.x ≡ r.x = omega arith in
-    let y : max r.y r.y ≡ r.y = omega arith in
-    let w : min (right_edge r) (right_edge r) - max r.x r.x ≡ r.width = omega arith in
-    let h : min (bottom_edge r) (bottom_edge r) - max r.y r.y ≡ r.height = omega arith in
-    ap₂ (λ a b. record { x = a; y = b; width = min (right_edge r) (right_edge r) - max r.x r.x; height = min (bottom_edge r) (bottom_edge r) - max r.y r.y }) x y
-    ∙ ap₂ (λ a b. record { x = r.x; y = r.y; width = a; height = b }) w h
-
 pub plain-emptied : (r : Rect) (s : Sheet) → IsEmptied r s → IsPlainSheet s
 plain-emptied r s emptied a b a_in b_in =
     ap (λ cs. is_skipped (cell_at s.area.width cs a b)) emptied.cells ∙ ap is_skipped (cell-empty (area_size r) (b * s.area.width + a)) ∙ skipped-empty
@@ -123,7 +112,7 @@ row_cell cells w n a lt = get_or-take w (drop n cells) a empty_cell lt ∙ get_o
 plain_rendered : (text : TextData) (area : Rect) (old new : Sheet) → EdgesFit area → old.area ≡ area → ArePlain old.cells → RendersRows area (text_row text) old new → IsPlainSheet new
 plain_rendered text area old new fit at plain renders a b a_in b_in =
     let there : new.area ≡ area = renders.within.same_area ∙ at in
-    let whole : intersected area old.area ≡ area = ap (intersected area) at ∙ area_whole area fit in
+    let whole : intersected area old.area ≡ area = ap (intersected area) at ∙ intersected-whole area fit in
     let width : new.area.width ≡ area.width = ap (λ (r : Rect). r.width) there in
     let height : new.area.height ≡ area.height = ap (λ (r : Rect). r.height) there in
     let rows : area_row area b new ≡ text_row text b (area_row area b old) =

@@ -1,10 +1,7 @@
-pub mod NumberLemmas
 pub mod ScriptLemmas
 pub mod FrameLemmas
 pub mod PlayLemmas
 pub mod RunLemmas
 pub mod AppendLemmas
 pub mod SceneLemmas
-pub mod StageLemmas
-pub mod CommandLemmas
-pub mod KeptLemmas
+pub mod ActLemmas

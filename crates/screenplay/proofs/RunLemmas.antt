@@ -7,7 +7,7 @@ use Rattle.std.proofs.lemmas.Option.{slice_get-get_or, get_or_from_slice_get, sl
 use Rattle.std.proofs.Math.Seq.{get_or-append_seam}
 use Rattle.rtui_backend.specs.declared.test.TestBackend.{TestBackend}
 use Rattle.rtui_terminal.specs.State.{State}
-use Rattle.screenplay.specs.Run.{sight_of, IsPlainScene, IsStaged, IsStart, IsAfter, IsRun, StopsBehind}
+use Rattle.screenplay.specs.Run.{sight_of, IsPlainScene, IsStaged, IsStart, IsAfter, IsRun, EndsEarly}
 use Rattle.screenplay.specs.Playing.{IsPlaying, sight_in, IsSceneOf, IsCauseOfStep, Plays}
 use Rattle.screenplay.specs.declared.scene.PlayCause.{PlayCause}
 use Rattle.screenplay.specs.declared.scene.PlayCause.TheVariants.{Unsettled}
@@ -39,11 +39,11 @@ one_value xs k x y here there = sym (get_or_from_slice_get xs k x x here) ∙ ge
 
 IsStaged-playing : (stage : Stage) (t : State TestBackend) → IsPlaying stage t → IsStaged stage (sight_in t)
 IsStaged-playing stage t playing =
-    let on = playing.in_step.on_screen in
+    let on = playing.rest.in_step.on_screen in
     record {
-      lies = playing.lies;
+      lies = playing.rest.lies;
       on_screen = record { right = on.right; bottom = on.bottom };
-      below = λ inline. record { at = (playing.below inline).at };
+      below = λ inline. record { at = (playing.rest.below inline).at };
     }
 
 pub IsRun-start : (stage : Stage) (t : State TestBackend) (scene : Scene) → IsPlaying stage t → IsStart stage (sight_in t) → IsSceneOf t scene → IsRun stage [] (scene ∷ [])
@@ -94,9 +94,9 @@ module _ (stage : Stage) (steps : List Step) (step : Step) (scenes : List Scene)
   HasLast-push = let count = run.count in record { scene = scene; here = get_end scenes scene (length steps + 1) (omega arith); shown = made }
 
 -- a fault behind i steps, whose scenes are a run of those
-pub StopsBehind-at : (stage : Stage) (steps : List Step) (i : ℕ) (step : Step) (cause : PlayCause) (scenes : List Scene) (s : State TestBackend) → i < length steps → step ≡ get_or steps i step
-    → IsRun stage (take i steps) scenes → HasLast i scenes s → IsCauseOfStep stage step (sight_in s) cause → StopsBehind stage steps scenes (record { step = i + 1; cause = cause })
-StopsBehind-at stage steps i step cause scenes s inside is run last why =
+pub EndsEarly-at : (stage : Stage) (steps : List Step) (i : ℕ) (step : Step) (cause : PlayCause) (scenes : List Scene) (s : State TestBackend) → i < length steps → step ≡ get_or steps i step
+    → IsRun stage (take i steps) scenes → HasLast i scenes s → IsCauseOfStep stage step (sight_in s) cause → EndsEarly stage steps scenes (record { step = i + 1; cause = cause })
+EndsEarly-at stage steps i step cause scenes s inside is run last why =
     let back : i + 1 - 1 ≡ i = omega arith in
     record {
       inside = omega arith;

@@ -1,5 +1,4 @@
 pub mod Script
-pub mod Reading
 pub mod Puts
 pub mod Run
 pub mod Appending

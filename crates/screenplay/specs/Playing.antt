@@ -1,21 +1,19 @@
 -- A terminal in the middle of a play.
-use Rattle.std.specs.Prelude.{◌≡◌, ℕ, ◌<◌, false, List, Option, None, Some}
+use Rattle.std.specs.Prelude.{◌≡◌, ℕ, ◌<◌, false, List, Option}
 use Rattle.rtui_geometry.specs.declared.size.Size.{Size}
 use Rattle.rtui_cell.specs.Cell.{is_skipped}
 use Rattle.rtui_diff.specs.Cells.{cell_at}
 use Rattle.rtui_text.specs.Text.{TextData}
-use Rattle.rtui_buffer.specs.Sheet.{Sheet, IsEmptied}
+use Rattle.rtui_buffer.specs.Sheet.{Sheet}
 use Rattle.rtui_buffer.specs.Frame.{IsSettledSheet, ShowsSheet}
 use Rattle.rtui_backend.specs.Screen.{size_of, TakesSize}
 use Rattle.rtui_backend.specs.TestBackend.{screen_of, sheet_of}
 use Rattle.rtui_backend.specs.declared.test.TestBackend.{TestBackend}
-use Rattle.rtui_viewport.specs.Viewports.{IsInline}
-use Rattle.rtui_viewport.specs.Areas.{IsBlankBelow}
 use Rattle.rtui_terminal.specs.State.{State}
-use Rattle.rtui_terminal.specs.InStep.{IsInStep, IsSized}
+use Rattle.rtui_terminal.specs.AtRest.{IsAtRest}
 use Rattle.rtui_terminal.specs.Resizing.{Autoresizes}
 use Rattle.rtui_terminal.specs.Insertion.{inserted_area, Inserts}
-use Rattle.screenplay.specs.Run.{Sight, plain_screen, sight_of, IsGoodStage, MayLie, size_after, GoesOn, KeepsSurroundings, IsFrame, IsPlainScene, HasUnsettled, IsUnsettledStep, IsAfter}
+use Rattle.screenplay.specs.Run.{Sight, plain_screen, sight_of, IsGoodStage, size_after, GoesOn, KeepsSurroundings, IsFrame, IsPlainScene, HasUnsettled, IsUnsettledStep, IsAfter}
 use Rattle.screenplay.specs.declared.scene.Stage.{Stage}
 use Rattle.screenplay.specs.declared.scene.Scene.{Scene}
 use Rattle.screenplay.specs.declared.scene.Step.{Step}
@@ -26,16 +24,10 @@ use Rattle.screenplay.specs.declared.scene.PlayCause.TheVariants.{Memory, Unsett
 abbrev pub IsPlainSheet : Sheet → Type 0
 IsPlainSheet s = (a b : ℕ) → a < s.area.width → b < s.area.height → is_skipped (cell_at s.area.width s.cells a b) ≡ false
 
--- the terminal is in step over the stage's kind of viewport and knows the screen's size, no cell of the last frame is skipped, its buffer to
--- paint on is empty, and the rows below an inline viewport are blank
+-- the terminal is at rest over the stage's kind of viewport, and no cell of the last frame is skipped
 pub record IsPlaying (stage : Stage) (t : State TestBackend) : Type 0 where
-  pub kind : t.viewport ≡ stage.viewport
-  pub sized : IsSized screen_of t
-  pub lies : MayLie stage.viewport (size_of (screen_of t.backend)) t.viewport_area
-  pub in_step : IsInStep screen_of t
+  pub rest : IsAtRest screen_of stage.viewport t
   pub plain : IsPlainSheet t.older
-  pub current : IsEmptied t.viewport_area t.current
-  pub below : IsInline stage.viewport → IsBlankBelow t.viewport_area (screen_of t.backend)
 
 -- what a terminal's screen shows
 abbrev pub sight_in : State TestBackend → Sight
@@ -90,13 +82,3 @@ IsCauseOfStep stage step s (Unsettled area) = IsUnsettledStep stage step s area
 pub record Plays (stage : Stage) (step : Step) (s t : State TestBackend) : Type 0 where
   pub playing : IsPlaying stage t
   pub after : IsAfter stage step (sight_in s) (sight_in t)
-
--- a step was played, if there is one
-abbrev pub PlaysAny : Stage → Option Step → State TestBackend → State TestBackend → Type 0
-PlaysAny stage None s t = t ≡ s
-PlaysAny stage (Some step) s t = Plays stage step s t
-
--- why it wasn't
-abbrev pub IsCauseOfAnyStep : Stage → Option Step → Sight → PlayCause → Type 0
-IsCauseOfAnyStep stage None s cause = ⊥
-IsCauseOfAnyStep stage (Some step) s cause = IsCauseOfStep stage step s cause

@@ -13,6 +13,7 @@ use Rattle.rtui_backend.specs.CellGrid.{grid_of, AreUnmarked, AreUnmarkedRows}
 use Rattle.rtui_viewport.specs.declared.viewport.Viewport.{Viewport}
 use Rattle.rtui_viewport.specs.declared.viewport.Viewport.TheVariants.{Fullscreen, Inline, Fixed}
 use Rattle.rtui_viewport.specs.Viewports.{IsInline}
+use Rattle.rtui_viewport.specs.Lying.{at_corner, FitsSize, MayLie}
 use Rattle.rtui_viewport.specs.Areas.{KeepsOutside, IsBlankOver, IsBlankBelow}
 use Rattle.rtui_rows.specs.Insertion.{AppendsRows}
 use Rattle.screenplay.specs.Puts.{with_puts}
@@ -21,7 +22,7 @@ use Rattle.screenplay.specs.declared.scene.Scene.{Scene}
 use Rattle.screenplay.specs.declared.scene.Step.{Step}
 use Rattle.screenplay.specs.declared.scene.Step.TheVariants.{Draw, Insert, Clear}
 use Rattle.screenplay.specs.declared.scene.PlayFault.{PlayFault}
-use Rattle.screenplay.specs.declared.scene.StepFault.{StepFault}
+use Rattle.screenplay.specs.declared.scene.StepError.{StepError}
 use Rattle.screenplay.specs.declared.scene.PlayCause.TheVariants.{Memory, Unsettled}
 
 -- a screen, of whose cursor nothing is said, and the viewport on it
@@ -56,36 +57,14 @@ sight_size s = size_of s.screen
 abbrev pub sight_rows_above : Sight → List (List Look)
 sight_rows_above s = rows_above s.screen s.viewport.y
 
-abbrev pub at_corner : Size → Rect
-at_corner size = record { x = 0; y = 0; width = size.width; height = size.height }
-
 abbrev pub stage_size : Stage → Size
 stage_size stage = record { width = stage.width; height = stage.height }
-
--- an inline viewport has rows, and a fixed one lies on the screen
-abbrev pub IsGoodViewport : Viewport → Size → Type 0
-IsGoodViewport Fullscreen size = Unit {0}
-IsGoodViewport (Inline rows) size = 0 < rows
-IsGoodViewport (Fixed r) size = (r.x + r.width ≤ size.width) × (r.y + r.height ≤ size.height)
 
 -- a stage has columns and rows, and a viewport with a place on it
 pub record IsGoodStage (stage : Stage) : Type 0 where
   pub width : 0 < stage.width
   pub height : 0 < stage.height
-  pub viewport : IsGoodViewport stage.viewport (stage_size stage)
-
--- an inline viewport takes the full width, and its rows or all that there are
-pub record IsAcross (rows : ℕ) (size : Size) (r : Rect) : Type 0 where
-  pub x : r.x ≡ 0
-  pub width : r.width ≡ size.width
-  pub height : r.height ≡ min rows size.height
-  pub bottom : r.y + r.height ≤ size.height
-
--- where a viewport may lie on a screen
-abbrev pub MayLie : Viewport → Size → Rect → Type 0
-MayLie Fullscreen size r = r ≡ at_corner size
-MayLie (Inline rows) size r = IsAcross rows size r
-MayLie (Fixed f) size r = r ≡ f
+  pub viewport : FitsSize stage.viewport (stage_size stage)
 
 -- the viewport lies where it may, on the screen, and the rows below an inline one are blank
 pub record IsStaged (stage : Stage) (s : Sight) : Type 0 where
@@ -228,15 +207,15 @@ IsUnsettledStep stage (Draw given text puts) s area = MayCover stage (size_after
 IsUnsettledStep stage (Insert text) s area = IsInline stage.viewport × (area ≡ s.viewport) × HasUnsettled (text_area s.screen.width text) text []
 IsUnsettledStep stage Clear s area = ⊥
 
--- a play stopped at a step, of which these are the scenes: they are a run of the steps before it, and a step that is called unsettled is
-pub record StopsBehind (stage : Stage) (steps : List Step) (scenes : List Scene) (fault : StepFault) : Type 0 where
-  pub inside : fault.step ≤ length steps
-  pub early : fault.step ≡ 0 → (scenes ≡ []) × (fault.cause ≡ Memory)
-  pub run : 0 < fault.step → IsRun stage (take (fault.step - 1) steps) scenes
-  pub unsettled : (area : Rect) → fault.cause ≡ Unsettled area
-      → (step : Step) × (scene : Scene) × (slice_get steps (fault.step - 1) ≡ Some step) × (slice_get scenes (fault.step - 1) ≡ Some scene)
+-- a play ended early, at a step, of which these are the scenes: they are a run of the steps before it, and a step that is called unsettled is
+pub record EndsEarly (stage : Stage) (steps : List Step) (scenes : List Scene) (error : StepError) : Type 0 where
+  pub inside : error.step ≤ length steps
+  pub early : error.step ≡ 0 → (scenes ≡ []) × (error.cause ≡ Memory)
+  pub run : 0 < error.step → IsRun stage (take (error.step - 1) steps) scenes
+  pub unsettled : (area : Rect) → error.cause ≡ Unsettled area
+      → (step : Step) × (scene : Scene) × (slice_get steps (error.step - 1) ≡ Some step) × (slice_get scenes (error.step - 1) ≡ Some scene)
       × IsUnsettledStep stage step (sight_of scene) area
 
 -- the same of a fault that has the scenes
 abbrev pub IsFault : Stage → List Step → PlayFault → Type 0
-IsFault stage steps fault = StopsBehind stage steps fault.scenes.items (record { step = fault.step; cause = fault.cause })
+IsFault stage steps fault = EndsEarly stage steps fault.scenes.items (record { step = fault.step; cause = fault.cause })

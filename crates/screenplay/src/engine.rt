@@ -1,24 +1,21 @@
 //! The engine: from the bytes of a script to the scenes that it shows, and to their print.
 
-ghost use Rattle.std.specs.Prelude.{◌≡◌, ◌++◌, length, IfOk, IfErr, IfSome, OnOk};
+ghost use Rattle.std.specs.Prelude.{◌≡◌, ◌++◌, IfOk, IfErr, IfSome, OnOk};
 ghost use Rattle.std.specs.Str.{IsUtf8};
 ghost use Rattle.std.specs.Io.KnownBytes.{Appends};
-ghost use Rattle.screenplay.specs.Script.{IsScript, nothing, script_lines, shows_of, steps_of};
+ghost use Rattle.rtui_backend.specs.Print.{printed_screen};
+ghost use Rattle.rtui_backend.specs.TestBackend.{screen_of};
 ghost use Rattle.screenplay.specs.Run.{IsGoodStage};
-ghost use Rattle.screenplay.specs.Engine.{IsRunFault, PrintsCommands, PrintsRun, PrintsText, StopsAtStep};
-ghost use Rattle.screenplay.specs.Print.{text_shown_by};
-ghost use Rattle.screenplay.specs.Playing.{IsCauseOfAnyStep, IsPlaying, PlaysAny, sight_in};
-ghost use Rattle.screenplay.specs.Reading.{as_list};
+ghost use Rattle.screenplay.specs.Engine.{IsRunFault, IsScript, PrintsActs, PrintsRun, PrintsText, StopsAtStep};
 ghost use Rattle.screenplay.specs.declared.fault.RunFault.TheVariants.{Step as AtStep, Read, Memory, Write};
 
+use crate::act::Act;
 use crate::fault::RunFault;
 use crate::playing::{open, play_step};
-use crate::scene::{PlayCause, Stage, Step, StepFault};
-use crate::script::{Command, Script, ScriptFault, read_script};
-use crate::waiting::{nothing_waiting, take_command};
+use crate::scene::{PlayCause, Stage, StepError};
+use crate::script::{Script, ScriptError, read_script};
 use rtui_backend::TestBackend;
 use rtui_terminal::Terminal;
-use rtui_viewport::Viewport;
 use std::alloc::Global;
 use std::io::{self, ErrorKind, Read, Write};
 use std::str;
@@ -48,8 +45,8 @@ fn write_text<W: Write>(writer: &mut W, text: &[u8]) -> io::Result<()>
 
 // The script that these bytes are.
 fn script_of(alloc: Global, bytes: &[u8]) -> Result<Script<'_>, RunFault>
-    ensures ok { IfOk result (λ s. IsUtf8 bytes.now × IsScript (script_lines bytes.now) s.stage
-        (steps_of nothing s.commands.items) (shows_of 0 s.commands.items)) }
+    ensures ok { IfOk result (IsScript bytes.now) }
+    ensures stage { IfOk result (λ script. IfSome script.stage IsGoodStage) }
     ensures err { IfErr result (IsRunFault bytes.now) }
     ensures not_read { IfErr result (λ fault. fault ≡ Read → ⊥) }
     ensures not_write { IfErr result (λ fault. fault ≡ Write → ⊥) }
@@ -59,82 +56,52 @@ fn script_of(alloc: Global, bytes: &[u8]) -> Result<Script<'_>, RunFault>
     };
     match read_script(alloc, text) {
         Ok(script) => Ok(script),
-        Err(ScriptFault::Line(number)) => Err(RunFault::Line(number)),
-        Err(ScriptFault::Memory) => Err(RunFault::Memory),
+        Err(ScriptError::Line(number)) => Err(RunFault::Line(number)),
+        Err(ScriptError::Memory) => Err(RunFault::Memory),
     }
 }
 
-// Adds the printed text of what the screen shows, if a command says so.
-fn show(
-    text: &mut Vec<u8>,
-    terminal: &Terminal<TestBackend>,
-    command: &Command<'_>,
-) -> Result<(), RunFault>
+// Adds the printed text of what the screen shows.
+fn show(text: &mut Vec<u8>, terminal: &Terminal<TestBackend>) -> Result<(), RunFault>
     ensures ok { OnOk result (text.new.items
-        ≡ text.old.items ++ text_shown_by command.now terminal.now) }
+        ≡ text.old.items ++ printed_screen (screen_of terminal.now.backend)) }
     ensures err { IfErr result (λ fault. fault ≡ Memory) }
 {
-    match command {
-        Command::Show => match terminal.backend().write_to(text) {
-            Ok(()) => Ok(()),
-            Err(_) => Err(RunFault::Memory),
-        },
-        _ => Ok(()),
+    match terminal.backend().write_to(text) {
+        Ok(()) => Ok(()),
+        Err(_) => Err(RunFault::Memory),
     }
 }
 
 fn step_fault(step: usize, cause: PlayCause) -> RunFault
     ensures { result ≡ AtStep (record { step = step; cause = cause }) }
 {
-    RunFault::Step(StepFault { step, cause })
+    RunFault::Step(StepError { step, cause })
 }
 
-// Plays a step, if there is one, and answers how many steps that is.
-fn play_taken(
-    alloc: Global,
-    terminal: &mut Terminal<TestBackend>,
-    viewport: Viewport,
-    taken: Option<Step<'_>>,
-) -> Result<usize, PlayCause>
-    ensures count { IfOk result (λ count. count ≡ length (as_list taken.entry)) }
-    ensures ok { OnOk result ((stage : Stage) → stage.viewport ≡ viewport → IsGoodStage stage
-        → IsPlaying stage terminal.old → PlaysAny stage taken.entry terminal.old terminal.new) }
-    ensures err { IfErr result (λ cause. (stage : Stage) → stage.viewport ≡ viewport
-        → IsPlaying stage terminal.old
-        → IsCauseOfAnyStep stage taken.entry (sight_in terminal.old) cause) }
-{
-    let Some(step) = taken else {
-        return Ok(0);
-    };
-    match play_step(alloc, terminal, viewport, &step) {
-        Ok(()) => Ok(1),
-        Err(cause) => Err(cause),
-    }
-}
-
-// Plays the commands of a script on its stage, step by step; it gives the text of what they show.
-fn play_commands(alloc: Global, stage: Stage, commands: &[Command<'_>]) -> Result<Vec<u8>, RunFault>
+// Plays the acts of a script on its stage; it gives the text of what they show.
+fn play_acts(alloc: Global, stage: Stage, acts: &[Act<'_>]) -> Result<Vec<u8>, RunFault>
     requires { IsGoodStage stage }
-    ensures ok { IfOk result (λ text. PrintsCommands stage commands.now text.items) }
-    ensures fault { IfErr result (StopsAtStep stage commands.now) }
+    ensures ok { IfOk result (λ text. PrintsActs stage acts.now text.items) }
+    ensures fault { IfErr result (StopsAtStep stage acts.now) }
 {
-    let mut waiting = nothing_waiting(alloc);
-    let mut steps = 0usize;
     let mut text = Vec::new(alloc);
+    let mut steps = 0usize;
     let mut terminal = match open(alloc, stage) {
         Ok(terminal) => terminal,
         Err(_) => return Err(step_fault(0, PlayCause::Memory)),
     };
-    for command in commands {
-        let taken = match take_command(alloc, &mut waiting, command) {
-            Ok(taken) => taken,
-            Err(_) => return Err(RunFault::Memory),
-        };
-        match play_taken(alloc, &mut terminal, stage.viewport, taken) {
-            Ok(count) => steps += count,
-            Err(cause) => return Err(step_fault(steps + 1, cause)),
+    for act in acts {
+        match act {
+            Act::Play(step) => {
+                steps += 1;
+                match play_step(alloc, &mut terminal, stage.viewport, step) {
+                    Ok(()) => {}
+                    Err(cause) => return Err(step_fault(steps, cause)),
+                }
+            }
+            Act::Show => show(&mut text, &terminal)?,
         }
-        show(&mut text, &terminal, command)?;
     }
     Ok(text)
 }
@@ -152,7 +119,7 @@ pub fn printed_text(alloc: Global, bytes: &[u8]) -> Result<Vec<u8>, RunFault>
 {
     let script = script_of(alloc, bytes)?;
     match script.stage {
-        Some(stage) => play_commands(alloc, stage, script.commands.as_slice()),
+        Some(stage) => play_acts(alloc, stage, script.acts.as_slice()),
         None => Ok(Vec::new(alloc)),
     }
 }

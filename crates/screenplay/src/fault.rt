@@ -1,6 +1,6 @@
 //! Why a script isn't printed.
 
-use crate::scene::{PlayCause, StepFault};
+use crate::scene::{PlayCause, StepError};
 use std::fmt;
 
 /// Why a script wasn't read, played or printed. With any but `Write`, nothing was written.
@@ -9,7 +9,7 @@ pub enum RunFault {
     /// The line of this number, counted from 1, is the first bad one.
     Line(usize),
     /// A step couldn't be played.
-    Step(StepFault),
+    Step(StepError),
     /// The bytes aren't UTF-8.
     NotText,
     /// The reader failed.
@@ -23,9 +23,9 @@ pub enum RunFault {
 /// The line for standard error; for `Write` none.
 impl fmt::Display for RunFault {
     ghost use Rattle.std.specs.Prelude.{Some};
-    ghost use Rattle.screenplay.specs.Engine.{fault_text};
+    ghost use Rattle.screenplay.specs.Engine.{run_fault_text};
 
-    ghost output = { λ fault. Some (fault_text fault) };
+    ghost output = { λ fault. Some (run_fault_text fault) };
 
     fn fmt<W: fmt::Write>(&self, f: &mut fmt::Formatter<W>) -> fmt::Result {
         match self {

@@ -7,15 +7,15 @@
 //! reads a script from any reader, and writes its text to any writer.
 #![tactic(auto)]
 
+mod act;
 mod engine;
 mod fault;
 pub mod laws;
 mod playing;
 mod scene;
 mod script;
-mod waiting;
 
 pub use engine::{printed_text, run};
 pub use fault::RunFault;
 pub use playing::play;
-pub use scene::{PlayCause, PlayFault, Puts, Scene, Stage, Step, StepFault};
+pub use scene::{PlayCause, PlayFault, Puts, Scene, Stage, Step, StepError};

@@ -117,7 +117,7 @@ pub enum PlayCause {
 
 /// A step that couldn't be played, by its number, counted from 1, or 0 for the start.
 #[derive(Debug, Clone, Copy, PartialEq, Eq)]
-pub struct StepFault {
+pub struct StepError {
     pub step: usize,
     pub cause: PlayCause,
 }

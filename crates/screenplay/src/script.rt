@@ -1,20 +1,23 @@
 //! Reading a script.
 
-ghost use Rattle.std.specs.Prelude.{◌≡◌, ℕ, ◌+◌, ◌&&◌, nat_le, List, IfOk, IfErr};
-ghost use Rattle.std.specs.Char.{is_ascii_digit};
-ghost use Rattle.std.specs.List.{list_all};
+ghost use Rattle.std.specs.Prelude.{◌≡◌, ◌+◌, ◌&&◌, nat_le, [], None, Some, IfOk, IfErr, IfSome, if◌then◌else◌};
+ghost use Rattle.std.specs.Str.Lines.{lines};
+ghost use Rattle.script_words.specs.Words.{parsed_size};
 ghost use Rattle.rtui_text.specs.Text.{raw_line};
-ghost use Rattle.screenplay.specs.Script.{parsed_number, char_of, first_word, behind_word, size_by, parsed_size, rect_of, screen_by, inline_of, fixed_of, size_command, put_of, command_with, command_of, may_stand, may_insert, nothing, stage_after, waiting_after, steps_of, shows_of, script_lines, IsScript, IsRefused};
-ghost use Rattle.screenplay.specs.Reading.{CountsTexts, HasRead, TakesLine};
-ghost use Rattle.screenplay.specs.declared.waiting.Waiting.{Waiting};
+ghost use Rattle.screenplay.specs.Run.{IsGoodStage};
+ghost use Rattle.screenplay.specs.Script.{char_of, rect_of, screen_by, inline_of, fixed_of, size_command, put_of, command_with, command_of, IsGoodCommand};
+ghost use Rattle.screenplay.specs.Script.{nothing, draw_of, without_text, after_on, first_after, after, after_line, script_of, IsRefusedScript};
 
-use crate::scene::Stage;
+use crate::act::{Act, Acts};
+use crate::scene::{Puts, Stage, Step};
 use rtui_cell::CellWidth;
 use rtui_geometry::{Rect, Size};
-use rtui_text::Line;
+use rtui_text::{Line, Text};
 use rtui_viewport::Viewport;
+use script_words::{read_number, read_size, size_by, split_word};
 use std::alloc::{AllocError, Global};
 use std::marker::Model;
+use std::mem;
 
 /// The rest of a line.
 #[derive(Debug, Drop)]
@@ -62,34 +65,6 @@ pub enum Command<'a> {
     Show,
 }
 
-// The first word of a text, and what stands after the blank that follows it.
-fn split_word(text: &str) -> (&str, &str)
-    ensures first { result.0.now ≡ first_word text.now }
-    ensures behind { result.1.now ≡ behind_word text.now }
-{
-    match text.split_once(' ') {
-        Some(parts) => parts,
-        None => (text, ""),
-    }
-}
-
-fn are_digits(text: &str) -> bool
-    ensures { result ≡ list_all is_ascii_digit text.now }
-{
-    text.bytes().all(|byte| byte.is_ascii_digit())
-}
-
-// A number of decimal digits, at most 65535.
-fn read_number(text: &str) -> Option<u16>
-    ensures { result ≡ parsed_number text.now }
-{
-    if are_digits(text) {
-        text.parse().ok()
-    } else {
-        None
-    }
-}
-
 // The only character of a text, if it takes one column and isn't a control character.
 #[tactic(auto, unfolding(crate::specs::Script::char_of))]
 fn read_char(text: &str) -> Option<char>
@@ -103,33 +78,13 @@ fn read_char(text: &str) -> Option<char>
     }
 }
 
-// Two numbers as a size, if both are at least 1.
-fn size_by(width: Option<u16>, height: Option<u16>) -> Option<Size>
-    ensures { result ≡ size_by width height }
-{
-    let (width, height) = (width?, height?);
-    if width > 0 && height > 0 {
-        Some(Size { width, height })
-    } else {
-        None
-    }
-}
-
-#[tactic(auto, unfolding(crate::specs::Script::parsed_size))]
-fn read_size(arguments: &str) -> Option<Size>
-    ensures { result ≡ parsed_size arguments.now }
-{
-    let (width, height) = split_word(arguments);
-    size_by(read_number(width), read_number(height))
-}
-
 #[tactic(auto, unfolding(crate::specs::Script::rect_of))]
 fn read_rect(arguments: &str) -> Option<Rect>
     ensures { result ≡ rect_of arguments.now }
 {
-    let (x, behind) = split_word(arguments);
-    let (y, behind) = split_word(behind);
-    let (width, height) = split_word(behind);
+    let (x, rest) = split_word(arguments);
+    let (y, rest) = split_word(rest);
+    let (width, height) = split_word(rest);
     Some(Rect {
         x: read_number(x)?,
         y: read_number(y)?,
@@ -139,7 +94,8 @@ fn read_rect(arguments: &str) -> Option<Rect>
 }
 
 fn read_screen<'a>(arguments: &str) -> Option<Command<'a>>
-    ensures { result ≡ screen_by (parsed_size arguments.now) }
+    ensures command { result ≡ screen_by (parsed_size arguments.now) }
+    ensures good { IfSome result IsGoodCommand }
 {
     let size = read_size(arguments)?;
     Some(Command::SetStage(Stage {
@@ -151,10 +107,11 @@ fn read_screen<'a>(arguments: &str) -> Option<Command<'a>>
 
 #[tactic(auto, unfolding(crate::specs::Script::inline_of))]
 fn read_inline<'a>(arguments: &str) -> Option<Command<'a>>
-    ensures { result ≡ inline_of arguments.now }
+    ensures command { result ≡ inline_of arguments.now }
+    ensures good { IfSome result IsGoodCommand }
 {
-    let (width, behind) = split_word(arguments);
-    let (height, rows) = split_word(behind);
+    let (width, rest) = split_word(arguments);
+    let (height, rows) = split_word(rest);
     let size = size_by(read_number(width), read_number(height))?;
     let rows = read_number(rows)?;
     if rows == 0 {
@@ -178,10 +135,11 @@ fn lies_within(area: Rect, size: Size) -> bool
 
 #[tactic(auto, unfolding(crate::specs::Script::fixed_of))]
 fn read_fixed<'a>(arguments: &str) -> Option<Command<'a>>
-    ensures { result ≡ fixed_of arguments.now }
+    ensures command { result ≡ fixed_of arguments.now }
+    ensures good { IfSome result IsGoodCommand }
 {
-    let (width, behind) = split_word(arguments);
-    let (height, area) = split_word(behind);
+    let (width, rest) = split_word(arguments);
+    let (height, area) = split_word(rest);
     let size = size_by(read_number(width), read_number(height))?;
     let area = read_rect(area)?;
     if !lies_within(area, size) {
@@ -195,24 +153,27 @@ fn read_fixed<'a>(arguments: &str) -> Option<Command<'a>>
 }
 
 fn read_new_size<'a>(arguments: &str) -> Option<Command<'a>>
-    ensures { result ≡ size_command (parsed_size arguments.now) }
+    ensures command { result ≡ size_command (parsed_size arguments.now) }
+    ensures good { IfSome result IsGoodCommand }
 {
     Some(Command::TakeSize(read_size(arguments)?))
 }
 
 #[tactic(auto, unfolding(crate::specs::Script::put_of))]
 fn read_put<'a>(arguments: &str) -> Option<Command<'a>>
-    ensures { result ≡ put_of arguments.now }
+    ensures command { result ≡ put_of arguments.now }
+    ensures good { IfSome result IsGoodCommand }
 {
-    let (x, behind) = split_word(arguments);
-    let (y, symbol) = split_word(behind);
+    let (x, rest) = split_word(arguments);
+    let (y, symbol) = split_word(rest);
     Some(Command::Put(read_number(x)?, read_number(y)?, read_char(symbol)?))
 }
 
 // The command of a line with arguments.
 #[tactic(auto, unfolding(crate::specs::Script::command_with))]
 fn read_arguments<'a>(word: &str, arguments: &'a str) -> Option<Command<'a>>
-    ensures { result ≡ command_with word.now arguments.now }
+    ensures command { result ≡ command_with word.now arguments.now }
+    ensures good { IfSome result IsGoodCommand }
 {
     if word == "screen" {
         read_screen(arguments)
@@ -234,7 +195,8 @@ fn read_arguments<'a>(word: &str, arguments: &'a str) -> Option<Command<'a>>
 // The command of a line.
 #[tactic(auto, unfolding(crate::specs::Script::command_of))]
 fn read_command(line: &str) -> Option<Command<'_>>
-    ensures { result ≡ command_of line.now }
+    ensures command { result ≡ command_of line.now }
+    ensures good { IfSome result IsGoodCommand }
 {
     if line == "draw" {
         return Some(Command::Draw);
@@ -252,122 +214,165 @@ fn read_command(line: &str) -> Option<Command<'_>>
     read_arguments(word, arguments)
 }
 
-// Whether a command may stand if this stage is set, or none.
-fn may_stand(stage: Option<Stage>, command: &Command<'_>) -> bool
-    ensures { result ≡ may_stand stage command.now }
-{
-    match (stage, command) {
-        (None, Command::SetStage(_)) => true,
-        (None, _) => false,
-        (Some(_), Command::SetStage(_)) => false,
-        (Some(stage), Command::TakeSize(_)) => !matches!(stage.viewport, Viewport::Fixed(_)),
-        (Some(_), _) => true,
-    }
-}
-
-/// A script: the stage that it sets, and all its commands in order.
+/// A script as far as it was read: its stage, what it plays, and what waits for its next draw or insertion.
 #[derive(Debug, Drop)]
 pub struct Script<'a> {
     pub stage: Option<Stage>,
-    pub commands: Vec<Command<'a>>,
+    pub acts: Acts<'a>,
+    pub size: Option<Size>,
+    pub text: Text<'a>,
+    pub puts: Puts,
 }
 
 /// Why a script wasn't read.
 #[derive(Debug, Clone, Copy, PartialEq, Eq)]
-pub enum ScriptFault {
+pub enum ScriptError {
     /// The line of this number, counted from 1, is the first bad one.
     Line(usize),
     /// Memory was refused.
     Memory,
 }
 
-impl From<AllocError> for ScriptFault {
+impl From<AllocError> for ScriptError {
     ghost use Rattle.std.specs.Prelude.{◌≡◌};
-    ghost use Rattle.screenplay.specs.declared.script.ScriptFault.TheVariants.{Memory};
+    ghost use Rattle.screenplay.specs.declared.script.ScriptError.TheVariants.{Memory};
 
-    ghost from_gives = { λ _ fault. fault ≡ Memory };
+    ghost from_gives = { λ _ error. error ≡ Memory };
 
-    fn from(_: AllocError) -> ScriptFault {
-        ScriptFault::Memory
+    fn from(_: AllocError) -> ScriptError {
+        ScriptError::Memory
     }
 }
 
-// Whether a command may stand if so many texts wait.
-fn may_insert(texts: usize, command: &Command<'_>) -> bool
-    ensures { (w : Waiting) → CountsTexts w texts → result ≡ may_insert w command.now }
-{
-    match command {
-        Command::Insert => texts <= 65535,
-        _ => true,
+impl<'a> Script<'a> {
+    // A script of no lines; it takes no memory.
+    fn new(alloc: Global) -> Script<'a>
+        ensures { result ≡ nothing }
+    {
+        Script {
+            stage: None,
+            acts: Acts::new(alloc),
+            size: None,
+            text: Text::default_in(alloc),
+            puts: Puts::new(alloc),
+        }
+    }
+
+    // Takes the text that waits, after which none does.
+    fn take_text(&mut self, alloc: Global) -> Text<'a>
+        ensures text { result ≡ self.old.text }
+        ensures rest { self.new ≡ without_text self.old }
+    {
+        mem::replace(&mut self.text, Text::default_in(alloc))
+    }
+
+    // Makes a draw of what waits, after which nothing does.
+    fn take_draw(&mut self, alloc: Global) -> Step<'a>
+        ensures step { result ≡ draw_of self.old }
+        ensures rest { self.new ≡ record (without_text self.old) { size = None; puts = [] } }
+    {
+        Step::Draw {
+            size: self.size.take(),
+            text: self.take_text(alloc),
+            puts: mem::replace(&mut self.puts, Puts::new(alloc)),
+        }
+    }
+
+    // Takes the command that sets the stage; it answers whether it is that one.
+    fn take_first(&mut self, command: &Command<'a>) -> bool
+        ensures taken { first_after command.now self.old ≡ (if result then Some self.new else None) }
+        ensures stage { IsGoodCommand command.now → IfSome self.old.stage IsGoodStage
+            → IfSome self.new.stage IsGoodStage }
+    {
+        match command {
+            Command::SetStage(stage) => {
+                self.stage = Some(*stage);
+                true
+            }
+            _ => false,
+        }
+    }
+
+    // Takes a command on a stage; it answers whether the command may stand there.
+    fn take_on(
+        &mut self,
+        alloc: Global,
+        stage: Stage,
+        command: &Command<'a>,
+    ) -> Result<bool, AllocError>
+        ensures taken { IfOk result (λ good. after_on stage command.now self.old
+            ≡ (if good then Some self.new else None)) }
+        ensures stage { self.new.stage ≡ self.old.stage }
+    {
+        match command {
+            Command::SetStage(_) => return Ok(false),
+            Command::TakeSize(size) => {
+                if let Viewport::Fixed(_) = stage.viewport {
+                    return Ok(false);
+                }
+                self.size = Some(*size);
+            }
+            Command::Put(x, y, ch) => self.puts.push(*x, *y, *ch)?,
+            Command::AddText(line) => self.text.push_line(line.to_line(alloc)?)?,
+            Command::Draw => {
+                let step = self.take_draw(alloc);
+                self.acts.push(Act::Play(step))?;
+            }
+            Command::Insert => {
+                if self.text.height() > 65535 {
+                    return Ok(false);
+                }
+                let text = self.take_text(alloc);
+                self.acts.push(Act::Play(Step::Insert(text)))?;
+            }
+            Command::Clear => self.acts.push(Act::Play(Step::Clear))?,
+            Command::Show => self.acts.push(Act::Show)?,
+        }
+        Ok(true)
+    }
+
+    // Takes a command; it answers whether the command may stand there.
+    fn take(&mut self, alloc: Global, command: &Command<'a>) -> Result<bool, AllocError>
+        ensures taken { IfOk result (λ good. after command.now self.old
+            ≡ (if good then Some self.new else None)) }
+        ensures stage { IsGoodCommand command.now → IfSome self.old.stage IsGoodStage
+            → IfOk result (λ good. IfSome self.new.stage IsGoodStage) }
+    {
+        match self.stage {
+            None => Ok(self.take_first(command)),
+            Some(stage) => self.take_on(alloc, stage, command),
+        }
+    }
+
+    // Takes a line; it answers whether the line is good.
+    fn take_line(&mut self, alloc: Global, line: &'a str) -> Result<bool, AllocError>
+        ensures taken { IfOk result (λ good. after_line line.now self.old
+            ≡ (if good then Some self.new else None)) }
+        ensures stage { IfSome self.old.stage IsGoodStage
+            → IfOk result (λ good. IfSome self.new.stage IsGoodStage) }
+    {
+        if line.is_empty() {
+            return Ok(true);
+        }
+        match read_command(line) {
+            None => Ok(false),
+            Some(command) => self.take(alloc, &command),
+        }
     }
 }
 
-// How many texts wait after a command.
-fn texts_after(texts: usize, command: &Command<'_>) -> usize
-    ensures { (w : Waiting) → CountsTexts w texts
-        → CountsTexts (waiting_after command.now w) result }
+/// Reads a script; an error names the first bad line, or says that memory was refused.
+pub fn read_script(alloc: Global, text: &str) -> Result<Script<'_>, ScriptError>
+    ensures ok { IfOk result (λ script. script_of (lines text.now) ≡ Some script) }
+    ensures stage { IfOk result (λ script. IfSome script.stage IsGoodStage) }
+    ensures err { IfErr result (IsRefusedScript (lines text.now)) }
 {
-    match command {
-        Command::AddText(_) => texts.saturating_add(1),
-        Command::Draw | Command::Insert => 0,
-        _ => texts,
-    }
-}
-
-// The stage after a command.
-fn stage_after(former: Option<Stage>, command: &Command<'_>) -> Option<Stage>
-    ensures { result ≡ stage_after command.now former }
-{
-    match command {
-        Command::SetStage(stage) => Some(*stage),
-        _ => former,
-    }
-}
-
-// Takes a line into a script after which so many texts wait; it answers whether it is good.
-fn take_line<'a>(
-    script: &mut Script<'a>,
-    texts: &mut usize,
-    line: &'a str,
-) -> Result<bool, AllocError>
-    ensures { IfOk result (λ good. (done : List (List ℕ))
-        → HasRead done script.old.stage texts.old script.old.commands.items
-        → TakesLine good done line.now script.new.stage texts.new script.new.commands.items) }
-{
-    if line.is_empty() {
-        return Ok(true);
-    }
-    let Some(command) = read_command(line) else {
-        return Ok(false);
-    };
-    if !may_stand(script.stage, &command) {
-        return Ok(false);
-    }
-    if !may_insert(*texts, &command) {
-        return Ok(false);
-    }
-    *texts = texts_after(*texts, &command);
-    script.stage = stage_after(script.stage, &command);
-    script.commands.push(command)?;
-    Ok(true)
-}
-
-/// Reads a script; it answers the first bad line, or that memory was refused.
-pub fn read_script(alloc: Global, text: &str) -> Result<Script<'_>, ScriptFault>
-    ensures ok { IfOk result (λ s. IsScript (script_lines text.now) s.stage
-        (steps_of nothing s.commands.items) (shows_of 0 s.commands.items)) }
-    ensures err { IfErr result (IsRefused (script_lines text.now)) }
-{
-    let mut script = Script {
-        stage: None,
-        commands: Vec::new(alloc),
-    };
-    let mut texts = 0usize;
+    let mut script = Script::new(alloc);
     let mut number = 0usize;
     for line in text.lines() {
         number += 1;
-        if !take_line(&mut script, &mut texts, line)? {
-            return Err(ScriptFault::Line(number));
+        if !script.take_line(alloc, line)? {
+            return Err(ScriptError::Line(number));
         }
     }
     Ok(script)

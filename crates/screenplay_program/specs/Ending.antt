@@ -1,33 +1,33 @@
 -- How the program ends.
 use Rattle.std.specs.Prelude.{◌≡◌, ℕ, zero, suc, List, [], ◌++◌, Option, codes}
 use Rattle.std.specs.Io.KnownBytes.{Appends}
-use Rattle.screenplay.specs.Engine.{IsRunFault, PrintsRun, fault_text}
+use Rattle.screenplay.specs.Engine.{IsRunFault, PrintsRun, run_fault_text}
 use Rattle.screenplay.specs.declared.fault.RunFault.{RunFault}
 use Rattle.screenplay.specs.declared.fault.RunFault.TheVariants.{Line, Step, NotText, Read, Memory, Write}
 
 -- the line that tells a fault; a failed write has none
-abbrev pub fault_line : RunFault → List ℕ
-fault_line (Line n) = fault_text (Line n) ++ codes "\n"
-fault_line (Step fault) = fault_text (Step fault) ++ codes "\n"
-fault_line NotText = fault_text NotText ++ codes "\n"
-fault_line Read = fault_text Read ++ codes "\n"
-fault_line Memory = fault_text Memory ++ codes "\n"
-fault_line Write = []
+abbrev pub run_fault_line : RunFault → List ℕ
+run_fault_line (Line n) = run_fault_text (Line n) ++ codes "\n"
+run_fault_line (Step fault) = run_fault_text (Step fault) ++ codes "\n"
+run_fault_line NotText = run_fault_text NotText ++ codes "\n"
+run_fault_line Read = run_fault_text Read ++ codes "\n"
+run_fault_line Memory = run_fault_text Memory ++ codes "\n"
+run_fault_line Write = []
 
 -- the script was printed, and nothing told
-pub record Succeeds {W E : Type 0} (contents : W → Option (List ℕ)) (bytes : List ℕ) (w w' : W) (e e' : E) : Type 0 where
+pub record IsScriptPrinted {W E : Type 0} (contents : W → Option (List ℕ)) (bytes : List ℕ) (w w' : W) (e e' : E) : Type 0 where
   pub printed : PrintsRun bytes (contents w) (contents w')
   pub silent : e' ≡ e
 
 -- the script was refused for a fault, which was told; only where the writer failed can anything have been written
-pub record Fails {W E : Type 0} (told_to : E → Option (List ℕ)) (bytes : List ℕ) (w w' : W) (e e' : E) : Type 0 where
+pub record IsScriptRefused {W E : Type 0} (told_to : E → Option (List ℕ)) (bytes : List ℕ) (w w' : W) (e e' : E) : Type 0 where
   pub fault : RunFault
   pub why : IsRunFault bytes fault
-  pub told : Appends (told_to e) (told_to e') (fault_line fault)
+  pub told : Appends (told_to e) (told_to e') (run_fault_line fault)
   pub nothing_written : (fault ≡ Write → ⊥) → w' ≡ w
 
 -- the exit status 0 says that the script was printed, and 1 that it was refused; there is no other
-abbrev pub Ends : {W E : Type 0} → (W → Option (List ℕ)) → (E → Option (List ℕ)) → ℕ → List ℕ → W → W → E → E → Type 0
-Ends contents told_to zero bytes w w' e e' = Succeeds contents bytes w w' e e'
-Ends contents told_to (suc zero) bytes w w' e e' = Fails told_to bytes w w' e e'
-Ends contents told_to (suc (suc n)) bytes w w' e e' = ⊥
+abbrev pub EndsScript : {W E : Type 0} → (W → Option (List ℕ)) → (E → Option (List ℕ)) → ℕ → List ℕ → W → W → E → E → Type 0
+EndsScript contents told_to zero bytes w w' e e' = IsScriptPrinted contents bytes w w' e e'
+EndsScript contents told_to (suc zero) bytes w w' e e' = IsScriptRefused told_to bytes w w' e e'
+EndsScript contents told_to (suc (suc n)) bytes w w' e e' = ⊥

@@ -1,4 +1,4 @@
-use Rattle.screenplay.proofs.CommandLemmas.{prints_run}
+use Rattle.screenplay.proofs.ActLemmas.{prints_run}
 use Rattle.screenplay.proofs.engine.run.Goals as goal
 
 pub returns-in-Ok-clause-printed : goal.returns-in-Ok-clause-printed

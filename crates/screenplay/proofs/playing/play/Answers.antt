@@ -1,7 +1,7 @@
 use Rattle.std.proofs.Common.{◌≡◌, ◌+◌, ◌++◌, ◌∷◌, [], length, take, refl, sym, subst, add-one, length-take, arith}
 use Rattle.std.proofs.Math.Seq.{take-suc}
 use Rattle.screenplay.specs.declared.scene.PlayCause.TheVariants.{Memory}
-use Rattle.screenplay.proofs.RunLemmas.{HasLast, IsRun-start, HasLast-start, IsRun-push, HasLast-push, StopsBehind-at}
+use Rattle.screenplay.proofs.RunLemmas.{HasLast, IsRun-start, HasLast-start, IsRun-push, HasLast-push, EndsEarly-at}
 use Rattle.screenplay.proofs.playing.play.Goals as goal
 
 pub loop-index-init : goal.loop-index-init
@@ -33,12 +33,12 @@ pub returns-in-Err-play_step-clause-fault : goal.returns-in-Err-play_step-clause
 returns-in-Err-play_step-clause-fault c =
     let before = c.loop-index.invariant in
     rw c.fault-in-Err-play_step.ensures
-    (StopsBehind-at c.args.stage c.args.steps.now c.loop-index.index _ c.in-Err-play_step.cause _ _ c.loop-index-test.true c.index-steps-index.is before.run before.last
+    (EndsEarly-at c.args.stage c.args.steps.now c.loop-index.index _ c.in-Err-play_step.cause _ _ c.loop-index-test.true c.index-steps-index.is before.run before.last
     (c.in-Err-play_step.ensures.err c.args.stage refl before.playing))
 
 pub returns-in-Err-add_scene-2-clause-fault : goal.returns-in-Err-add_scene-2-clause-fault
 returns-in-Err-add_scene-2-clause-fault c =
     let before = c.loop-index.invariant in
     rw c.fault-in-Err-add_scene-2.ensures
-    (StopsBehind-at c.args.stage c.args.steps.now c.loop-index.index _ Memory _ c.loop-index.terminal c.loop-index-test.true c.index-steps-index.is
+    (EndsEarly-at c.args.stage c.args.steps.now c.loop-index.index _ Memory _ c.loop-index.terminal c.loop-index-test.true c.index-steps-index.is
     (rw c.in-Err-add_scene-2.ensures.err before.run) (rw c.in-Err-add_scene-2.ensures.err before.last) tt)

@@ -1,12 +1,12 @@
-use Rattle.std.proofs.Common.{List, ℕ, length, map, rules, ap, ◌∙◌, arith}
+use Rattle.std.proofs.Common.{◌≡◌, List, ℕ, length, map, None, Some, rules, ap, sym, ◌∙◌, arith, if◌then◌else◌}
 use Rattle.std.proofs.lemmas.Grind.{common_steps}
-use Rattle.std.proofs.lemmas.List.{length-map, map-append}
+use Rattle.std.proofs.lemmas.List.{map-append}
 use Rattle.std.proofs.lemmas.Iterator.Consumers.{YieldsList-so_far, YieldsList-turn, YieldsList-end}
 use Rattle.std.proofs.lemmas.Iterator.Splits.{YieldsList-from_lines}
 use Rattle.std.specs.Borrow.{Bor}
 use Rattle.std.specs.Str.Iter.{lines_rest}
 use Rattle.std.specs.Str.Lines.{lines}
-use Rattle.screenplay.proofs.ScriptLemmas.{IsScript-read, IsFirstBadLine-read, lines-count}
+use Rattle.screenplay.proofs.ScriptLemmas.{script_of-push, IsFirstBadLine-read, lines-count}
 use Rattle.screenplay.proofs.script.read_script.Goals as goal
 
 pub overflow_add-number : goal.overflow_add-number
@@ -18,10 +18,14 @@ overflow_add-number c =
     omega (arith, turn.0, count, number)
 
 pub loop-line-preserved : goal.loop-line-preserved
-loop-line-preserved c = record {
-  count = grind (arith, common_steps);
-  read = rw map-append (search rules);
-}
+loop-line-preserved c =
+    let taken = c.in_ok-take_line.ensures.taken in
+    let done = map (λ (line : Bor (List ℕ)). line.now) c.loop-line.yielded in
+    record {
+      count = grind (arith, common_steps);
+      read = rw map-append (script_of-push done c.in-Some.line.now _ _ c.loop-line.invariant.read (rw c.if-not-branch.false at taken));
+      stage = c.in_ok-take_line.ensures.stage c.loop-line.invariant.stage;
+    }
 
 pub returns-then-not-branch-clause-err : goal.returns-then-not-branch-clause-err
 returns-then-not-branch-clause-err c =
@@ -31,10 +35,10 @@ returns-then-not-branch-clause-err c =
     let turn = YieldsList-turn road c.loop-line.yielded _ c.loop-line.yielded_by c.next.result _ c.in-Some.line c.in-Some.is c.next.ensures.steps in
     let front = YieldsList-so_far road c.loop-line.yielded _ c.loop-line.yielded_by in
     rw c.loop-line.invariant.count
-    (IsFirstBadLine-read all done c.in-Some.line.now (length c.loop-line.yielded) front (length-map c.loop-line.yielded (λ line. line.now)) turn.0 turn.1 c.loop-line.invariant.read.good (search rules))
+    (IsFirstBadLine-read all done c.in-Some.line.now (length c.loop-line.yielded) _ front turn.0 turn.1 c.loop-line.invariant.read (search rules))
 
 pub returns-clause-ok : goal.returns-clause-ok
 returns-clause-ok c =
     let road = YieldsList-from_lines c.args.text.now (ap lines_rest c.into_iter-line-iterator.ensures.into_iter_gives ∙ c.lines-line-items.ensures.rest) in
     let end = YieldsList-end road c.loop-line.yielded _ c.loop-line.yielded_by _ _ c.in-None.is c.next.ensures.steps in
-    IsScript-read _ _ _ _ (rw end.0 at c.loop-line.invariant.read)
+    rw end.0 at c.loop-line.invariant.read

@@ -1,6 +1,6 @@
 use Rattle.std.proofs.Common.{sym, ◌∙◌}
-use Rattle.screenplay.proofs.NumberLemmas.{number_parsed}
-use Rattle.screenplay.proofs.script.read_number.Goals as goal
+use Rattle.script_words.proofs.NumberLemmas.{number_parsed}
+use Rattle.script_words.proofs.read_number.Goals as goal
 
 pub returns-then-are_digits : goal.returns-then-are_digits
 returns-then-are_digits c =

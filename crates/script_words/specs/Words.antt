@@ -1,9 +1,21 @@
--- The size of a screen, as a line says it.
-use Rattle.std.specs.Prelude.{ℕ, ◌&&◌, ◌==◌, nat_lt, nat_le, List, length, Option, None, Some, if◌then◌else◌}
+-- The words of a line.
+use Rattle.std.specs.Prelude.{ℕ, ◌&&◌, ◌==◌, Bool, nat_lt, nat_le, List, length, Option, None, Some, if◌then◌else◌}
 use Rattle.std.specs.Char.{is_ascii_digit}
 use Rattle.std.specs.List.{list_all, before_first, after_first}
 use Rattle.std.specs.Str.Parse.{digits_value}
-use Rattle.ratatui_core.specs.Layout.{Size}
+use Rattle.rtui_geometry.specs.declared.size.Size.{Size}
+
+-- the blank between two words
+abbrev pub is_space : ℕ → Bool
+is_space b = b == 32
+
+-- the first word of a text
+abbrev pub first_word : List ℕ → List ℕ
+first_word text = before_first is_space text
+
+-- what stands after the blank after it
+abbrev pub after_word : List ℕ → List ℕ
+after_word text = after_first is_space text
 
 -- a number of decimal digits, at most 65535
 abbrev pub parsed_number : List ℕ → Option ℕ
@@ -17,4 +29,4 @@ size_by a b = None
 
 -- columns and rows, with a blank between them
 unfoldable pub parsed_size : List ℕ → Option Size
-parsed_size line = size_by (parsed_number (before_first (λ c. c == 32) line)) (parsed_number (after_first (λ c. c == 32) line))
+parsed_size text = size_by (parsed_number (first_word text)) (parsed_number (after_word text))

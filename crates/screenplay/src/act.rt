@@ -1,0 +1,58 @@
+//! What a script plays and shows, in order.
+
+ghost use Rattle.std.specs.Prelude.{◌≡◌, ◌++◌, ◌∷◌, [], OnOk, OnErr};
+
+use crate::scene::Step;
+use std::alloc::{AllocError, Global};
+use std::marker::Model;
+
+/// One act of a script.
+#[derive(Debug, Drop)]
+pub enum Act<'a> {
+    /// A step is played.
+    Play(Step<'a>),
+    /// The scene is printed.
+    Show,
+}
+
+/// Acts, in order.
+#[derive(Debug, Drop)]
+pub struct Acts<'a> {
+    items: Vec<Act<'a>>,
+}
+
+impl<'a> Model for Acts<'a> {
+    ghost use Rattle.std.specs.Prelude.{List};
+    ghost use Rattle.screenplay.specs.declared.act.Act.{Act};
+
+    ghost Value = { List Act };
+
+    ghost view = { λ acts. acts.items.items };
+}
+
+impl<'a> Acts<'a> {
+    /// No acts; it takes no memory.
+    pub fn new(alloc: Global) -> Acts<'a>
+        ensures { result ≡ [] }
+    {
+        Acts {
+            items: Vec::new(alloc),
+        }
+    }
+
+    /// One more act after the others; if memory is refused, nothing changes.
+    pub fn push(&mut self, act: Act<'a>) -> Result<(), AllocError>
+        ensures ok { OnOk result (self.new ≡ self.old ++ act.entry ∷ []) }
+        ensures err { OnErr result (self.new ≡ self.old) }
+    {
+        self.items.push(act)?;
+        Ok(())
+    }
+
+    /// The acts, in order.
+    pub fn as_slice(&self) -> &[Act<'a>]
+        ensures { result.now ≡ self.now }
+    {
+        self.items.as_slice()
+    }
+}
