@@ -31,4 +31,4 @@ pub use Rattle.rtui_buffer.specs.Bar.{bar_of, PaintsOnBar, ShowsPieces, bar_cell
 unfoldable pub use Rattle.rtui_buffer.specs.Line.{line_pieces, line_row}
 pub use Rattle.rtui_buffer.specs.Line.{line_pieces_at, line_rows, line_at, ShowsLines, lines_area, IsOfLines, raw_lines}
 pub use Rattle.rtui_buffer.specs.RowsDiff.{part_cells, IsRowsDiff}
-pub use Rattle.rtui_buffer.specs.Overlay.{no_area, IsOverlay, IsAround, IsExtended, is_in_block, IsBlockAt, IsBlockIn}
+pub use Rattle.rtui_buffer.specs.Overlay.{no_area, IsOverlay}

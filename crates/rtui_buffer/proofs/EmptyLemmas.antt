@@ -1,5 +1,5 @@
 -- Empty buffers are settled, and blank grids show them.
-use Rattle.std.proofs.Common.{◌≡◌, ℕ, zero, suc, ◌+◌, ◌*◌, ◌<◌, refl, sym, ap, ◌∙◌, arith}
+use Rattle.std.proofs.Common.{◌≡◌, ℕ, zero, suc, ◌+◌, ◌*◌, ◌<◌, refl, sym, ap, ◌∙◌, arith, List, length}
 use Rattle.rtui_cell.specs.Look.{look_of, empty_look}
 use Rattle.rtui_cell.specs.Cell.{empty_cell, width_of}
 use Rattle.rtui_cell.specs.Grid.{Grid}
@@ -10,11 +10,17 @@ use Rattle.rtui_buffer.specs.Sheet.{Sheet, IsEmptied, empty_cells, area_size, ce
 use Rattle.rtui_buffer.specs.PaintedText.{IsPaintable}
 use Rattle.rtui_geometry.specs.declared.position.Position.{Position}
 use Rattle.rtui_buffer.specs.Frame.{IsSettledSheet, ShowsSheet}
+use Rattle.std.proofs.lemmas.List.{ext_get_or, length-replicate}
+use Rattle.rtui_cell.specs.declared.cell.Cell.{Cell}
 
 pub cell-empty : (n i : ℕ) → cell (empty_cells n) i ≡ empty_cell
 cell-empty zero i = refl
 cell-empty (suc n) zero = refl
 cell-empty (suc n) (suc i) = cell-empty n i
+
+-- cells that are all empty
+pub all-empty : (n : ℕ) (cells : List Cell) → length cells ≡ n → ((k : ℕ) → k < n → cell cells k ≡ empty_cell) → cells ≡ empty_cells n
+all-empty n cells count empty = ext_get_or empty_cell cells (empty_cells n) (count ∙ sym (length-replicate n empty_cell)) (λ k k_in. empty k (omega arith) ∙ sym (cell-empty n k))
 
 module _ (r : Rect) (s : Sheet) (emptied : IsEmptied r s) where
   all_empty : (w a b : ℕ) → cell_at w s.cells a b ≡ empty_cell

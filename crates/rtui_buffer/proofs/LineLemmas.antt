@@ -99,7 +99,7 @@ short-front : (ps qs : List Piece) → AreShort (ps ++ qs) → AreShort ps
 short-front [] qs h = All-nil (λ p. IsShort p.symbol)
 short-front (p ∷ ps) qs h = All-cons (λ p. IsShort p.symbol) p ps (All-head (λ p. IsShort p.symbol) p (ps ++ qs) h) (short-front ps qs (All-tail (λ p. IsShort p.symbol) p (ps ++ qs) h))
 
-short-rest : (ps qs : List Piece) → AreShort (ps ++ qs) → AreShort qs
+pub short-rest : (ps qs : List Piece) → AreShort (ps ++ qs) → AreShort qs
 short-rest [] qs h = h
 short-rest (p ∷ ps) qs h = short-rest ps qs (All-tail (λ p. IsShort p.symbol) p (ps ++ qs) h)
 

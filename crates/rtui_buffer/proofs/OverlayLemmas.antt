@@ -1,4 +1,4 @@
--- Blocks of cells in rows of others.
+-- An area that lies around another one.
 use Rattle.std.proofs.Common.{◌≡◌, ◌≢◌, ℕ, ◌+◌, ◌-◌, ◌*◌, ◌<◌, ◌≤◌, ⊎_elim, if◌then◌else◌, List, [], ◌++◌, take, length, set, refl, sym, ap, subst, ◌∙◌, arith, mul_comm}
 use Rattle.std.proofs.Math.Seq.{take-nil}
 use Rattle.std.proofs.lemmas.Bool.{cases_lt}
@@ -13,67 +13,14 @@ use Rattle.rtui_cell.specs.Cell.{empty_cell}
 use Rattle.rtui_diff.specs.Cells.{cell, cell_at}
 use Rattle.rtui_buffer.specs.Sheet.{Sheet, cell_index, empty_cells}
 use Rattle.rtui_buffer.proofs.EmptyLemmas.{cell-empty}
-use Rattle.rtui_buffer.specs.Painting.{IsSameOutside}
-use Rattle.rtui_buffer.specs.Overlay.{IsOverlay, IsExtended, IsAround, is_in_block, IsBlockAt, IsBlockIn}
-
-rows_before : (w b c : ℕ) → b < c → b * w + w ≤ c * w
-rows_before w b c lt = row_fits b w c w lt (omega arith)
-
-module _ (w left top columns row : ℕ) (block old now more given : List Cell) (fits : left + columns ≤ w)
-    (h : IsBlockAt w left top columns row block old now)
-    (moved : (k : ℕ) → k < columns → cell more ((top + row) * w + left + k) ≡ cell given (row * columns + k))
-    (rest : IsSameOutside ((top + row) * w + left) ((top + row) * w + left + columns) now more)
-    (left_over : (k : ℕ) → row * columns ≤ k → cell given k ≡ cell block k) where
-  former : (a : ℕ) → a < w → cell_at w now a (top + row) ≡ cell_at w old a (top + row)
-  former a lt = let e = h.at a (top + row) lt in grind (arith, nat_tests)
-
-  in_row : (a : ℕ) → a < w → cell_at w more a (top + row)
-      ≡ (if is_in_block left top columns (row + 1) a (top + row) then cell_at columns block (a - left) (top + row - top) else cell_at w old a (top + row))
-  in_row a lt =
-      let f = former a lt in
-      ⊎_elim
-      (λ (before : a < left). let e : cell_at w more a (top + row) ≡ cell_at w old a (top + row) = rest.before ((top + row) * w + a) (omega arith) ∙ f in grind (arith, nat_tests))
-      (λ (from_left : left ≤ a).
-      ⊎_elim
-      (λ (inside : a < left + columns).
-      let to : (top + row) * w + left + (a - left) ≡ (top + row) * w + a = omega arith in
-      let from : top + row - top ≡ row = omega arith in
-      let e : cell_at w more a (top + row) ≡ cell_at columns block (a - left) row = ap (cell more) (sym to) ∙ moved (a - left) (omega arith) ∙ left_over (row * columns + (a - left)) (omega arith) in
-      let e2 : cell_at w more a (top + row) ≡ cell_at columns block (a - left) (top + row - top) = e ∙ ap (cell_at columns block (a - left)) (sym from) in
-      grind (arith, nat_tests))
-      (λ (behind : left + columns ≤ a). let e : cell_at w more a (top + row) ≡ cell_at w old a (top + row) = rest.behind ((top + row) * w + a) (omega arith) ∙ f in grind (arith, nat_tests))
-      (cases_lt a (left + columns)))
-      (cases_lt a left)
-
-  above : (a b : ℕ) → a < w → b < top + row → cell_at w more a b ≡ cell_at w now a b
-  above a b lt up = let r = rows_before w b (top + row) up in rest.before (b * w + a) (omega arith)
-
-  below : (a b : ℕ) → a < w → top + row < b → cell_at w more a b ≡ cell_at w now a b
-  below a b lt down = let r = rows_before w (top + row) b down in rest.behind (b * w + a) (omega arith)
-
-  pub IsBlockAt-more : IsBlockAt w left top columns (row + 1) block old more
-  IsBlockAt-more = record {
-    count = rest.count ∙ h.count;
-    at = λ a b lt. ⊎_elim
-        (λ (up : b < top + row). let e = above a b lt up in let f = h.at a b lt in grind (arith, nat_tests))
-        (λ (not_up : top + row ≤ b). ⊎_elim
-        (λ (down : top + row < b). let e = below a b lt down in let f = h.at a b lt in grind (arith, nat_tests))
-        (λ (not_down : b ≤ top + row). let same : top + row ≡ b = omega arith in
-        subst (λ n. cell_at w more a n ≡ (if is_in_block left top columns (row + 1) a n then cell_at columns block (a - left) (n - top) else cell_at w old a n)) same (in_row a lt))
-        (cases_lt (top + row) b))
-        (cases_lt b (top + row));
-  }
-
--- a row of the block ends within the lists
-pub row_ends : (w left columns b rows : ℕ) → left + columns ≤ w → b < rows → b * w + left + columns ≤ w * rows
-row_ends w left columns b rows fits lt =
-    let r = rows_before w b rows lt in let e = mul_comm rows w in omega arith
+use Rattle.rtui_buffer.specs.Overlay.{IsOverlay, IsExtended, IsAround, HasInner}
+use Rattle.std.proofs.Math.Nat.{mul-le-mul_right}
 
 -- the cell at a position, in the list of an area
 abbrev cell_over : Rect → List Cell → Position → Cell
 cell_over r cells p = cell cells (cell_index r p)
 
-module _ (r u : Rect) (edges : EdgesFit u) (around : IsAround r u) (block old new : List Cell) (is : IsBlockIn r u block old new) where
+module _ (r u : Rect) (edges : EdgesFit u) (around : IsAround r u) (block old new : List Cell) (is : HasInner r u block old new) where
   of_block : (p : Position) → HasPosition u p → cell_over r new p ≡ cell_over u block p
   of_block p h =
       let a = h.left in let b = h.right in let c = h.top in let d = h.bottom in
@@ -124,7 +71,7 @@ pub filled-empty : (n m : ℕ) (none filled : List Cell) → filled ≡ take n n
 filled-empty n m none filled e f i = rw (e, f, take-nil n) (cell-empty m i)
 
 pub IsExtended-block : (r : Rect) (old new : Sheet) (empty cells : List Cell) → new.area ≡ r → new.cells ≡ cells → EdgesFit old.area → IsAround r old.area
-    → ((i : ℕ) → cell empty i ≡ empty_cell) → IsBlockIn r old.area old.cells empty cells → IsExtended r old new
+    → ((i : ℕ) → cell empty i ≡ empty_cell) → HasInner r old.area old.cells empty cells → IsExtended r old new
 IsExtended-block r old new empty cells area same edges around blank is = record {
   over = area;
   of_old = λ p h. rw (same, area) (of_block r old.area edges around old.cells empty cells is p h);
@@ -132,7 +79,7 @@ IsExtended-block r old new empty cells area same edges around blank is = record 
 }
 
 pub IsOverlay-block : (lower upper mid new : Sheet) (cells : List Cell) → EdgesFit lower.area → EdgesFit upper.area → IsExtended (united lower.area upper.area) lower mid
-    → new.area ≡ mid.area → new.cells ≡ cells → IsBlockIn (united lower.area upper.area) upper.area upper.cells mid.cells cells → IsOverlay lower upper new
+    → new.area ≡ mid.area → new.cells ≡ cells → HasInner (united lower.area upper.area) upper.area upper.cells mid.cells cells → IsOverlay lower upper new
 IsOverlay-block lower upper mid new cells lower_edges upper_edges extended area same is =
     let r = united lower.area upper.area in
     let around = IsAround-second lower.area upper.area lower_edges upper_edges in
@@ -155,3 +102,9 @@ IsOverlay-block lower upper mid new cells lower_edges upper_edges extended area 
         let l = a.left in let m = a.right in let n = a.top in let o = a.bottom in
         let x = h.left in let y = h.right in let z = h.top in let t = h.bottom in
         record { left = omega arith; right = omega arith; top = omega arith; bottom = omega arith }
+
+-- and its rows reach to the inner one's last
+pub inner-rows : (r u : Rect) → IsAround r u → (u.y - r.y + u.height) * r.width ≤ r.width * r.height
+inner-rows r u a =
+    let top = a.top in let bottom = a.bottom in
+    let e : (u.y - r.y + u.height) * r.width ≤ r.height * r.width = mul-le-mul_right r.width (omega arith) in omega (arith, mul_comm r.height r.width)

@@ -46,14 +46,6 @@ pub painted-cons : (at : ℕ) (p : Piece) (ps : List Piece) (cells : List Cell) 
 unfolding painted
 painted-cons at p ps cells = refl
 
-pub emptied-end : (at to : ℕ) (cells : List Cell) → to ≤ at → emptied at (to - at) cells ≡ cells
-unfolding emptied
-emptied-end at to cells le = let e : to - at ≡ 0 = omega arith in rw e
-
-pub emptied-more : (at to : ℕ) (cells : List Cell) → at < to → emptied at (to - at) cells ≡ emptied (at + 1) (to - (at + 1)) (set cells at empty_cell)
-unfolding emptied
-emptied-more at to cells lt = let e : to - at ≡ suc (to - (at + 1)) = omega arith in rw e
-
 pub IsSameOutside-refl : (from to : ℕ) (cells : List Cell) → IsSameOutside from to cells cells
 IsSameOutside-refl from to cells = record { count = refl; before = λ k h. refl; behind = λ k h. refl }
 
@@ -169,7 +161,5 @@ short-turn s used room width left gs g is wide pos fits h =
     let all : AreShort (pieces s (g ∷ kept (room - used - text_width g) gs)) = subst (λ ks. AreShort (pieces s ks)) (ap (kept (room - used)) is ∙ kept-take (room - used) g gs p fits') h in
     let first : IsShort g = All-head (λ p. IsShort p.symbol) (piece_of s g) (pieces s (kept (room - used - text_width g) gs)) all in
     (first, rw rest (All-tail (λ p. IsShort p.symbol) (piece_of s g) (pieces s (kept (room - used - text_width g) gs)) all))
-
-pub ruleset empty_steps = (emptied-end, emptied-more)
 
 pub ruleset paint_steps = (painted_width-painted, kept-nil, kept-skip, kept-take, kept-full, painted-nil, painted-cons, IsSameOutside-refl, IsSameOutside-wider, unmarked-refl)

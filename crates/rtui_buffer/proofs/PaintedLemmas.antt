@@ -1,7 +1,7 @@
 -- What painting means, column by column.
-use Rattle.std.proofs.Common.{◌≡◌, ℕ, suc, zero, ◌+◌, ◌-◌, ◌<◌, ◌≤◌, ⊎_elim, List, [], ◌∷◌, length, set, take, All, refl, sym, ap, subst, ◌∙◌, arith}
+use Rattle.std.proofs.Common.{◌≡◌, ℕ, suc, zero, ◌+◌, ◌-◌, ◌<◌, ◌≤◌, ⊎_elim, List, [], ◌∷◌, length, set, take, All, refl, sym, ap, subst, ◌∙◌, arith, inl, inr, ◌&&◌, nat_lt, if◌then◌else◌}
 use Rattle.std.proofs.lemmas.Bool.{cases_lt}
-use Rattle.std.proofs.lemmas.List.{get_or-set_same, length-set}
+use Rattle.std.proofs.lemmas.List.{get_or-set_same, length-set, ext_get_or}
 use Rattle.std.proofs.lemmas.List.Elements.{All-nil, All-cons}
 use Rattle.std.proofs.lemmas.List.Sums.{sum_by-cons}
 use Rattle.rtui_style.specs.declared.Style.{Style}
@@ -11,13 +11,15 @@ use Rattle.rtui_cell.specs.Width.{text_width}
 use Rattle.rtui_diff.specs.Cells.{cell}
 use Rattle.rtui_buffer.specs.Painting.{painted_width, kept, Piece, piece_of, pieces, piece_width, columns, shown, emptied, with_piece, painted, piece_at, place_of, IsSameOutside, HasPieces}
 use Rattle.rtui_buffer.proofs.PaintLemmas.{painted_width-painted, kept-nil, kept-skip, kept-take, kept-full, IsSameOutside-refl, IsSameOutside-emptied, IsSameOutside-put, IsSameOutside-then}
+use Rattle.std.specs.Prelude.{nat_le}
+use Rattle.std.proofs.lemmas.Bool.Decides.{nat_tests}
 
 -- every piece takes a column
 abbrev pub AreWide : List Piece → Type 0
 AreWide [] = Unit {0}
 AreWide (p ∷ ps) = (0 < piece_width p) × AreWide ps
 
-emptied-inside : (at n k : ℕ) (cells : List Cell) → at ≤ k → k < at + n → at + n ≤ length cells → cell (emptied at n cells) k ≡ empty_cell
+pub emptied-inside : (at n k : ℕ) (cells : List Cell) → at ≤ k → k < at + n → at + n ≤ length cells → cell (emptied at n cells) k ≡ empty_cell
 unfolding emptied
 emptied-inside at zero k cells le lt fits = absurd (omega arith)
 emptied-inside at (suc n) k cells le lt fits =
@@ -32,12 +34,28 @@ emptied-inside at (suc n) k cells le lt fits =
     ∙ ap (λ i. cell more i) same ∙ get_or-set_same cells at empty_cell empty_cell in_cells)
     (cases_lt at k)
 
+pub emptied-outside : (at n : ℕ) (cells : List Cell) → IsSameOutside at (at + n) cells (emptied at n cells)
+emptied-outside at n cells = IsSameOutside-emptied at (at + n) at n cells cells (omega arith) (omega arith) (IsSameOutside-refl at (at + n) cells)
+
+-- a part that was made blank is emptied
+pub emptied-filled : (from to : ℕ) (old new : List Cell) → from ≤ to → to ≤ length old → length new ≡ length old
+    → ((k : ℕ) → cell new k ≡ (if nat_le from k && nat_lt k to then empty_cell else cell old k)) → new ≡ emptied from (to - from) old
+emptied-filled from to old new order fits count filled =
+    let outside = emptied-outside from (to - from) old in
+    ext_get_or empty_cell new (emptied from (to - from) old) (count ∙ sym outside.count) (λ k _. filled k ∙ elim (cases_lt k from) [
+      | inl before ↦ let e = outside.before k before in grind (arith, nat_tests)
+      | inr within ↦ elim (cases_lt k to) [
+        | inl low ↦ let e = emptied-inside from (to - from) k old within (omega arith) (omega arith) in grind (arith, nat_tests)
+        | inr past ↦ let e = outside.behind k (omega arith) in grind (arith, nat_tests)
+      ]
+    ])
+
 with_piece-first : (at : ℕ) (p : Piece) (cells : List Cell) → at < length cells → cell (with_piece at p cells) at ≡ shown p (cell cells at)
 unfolding with_piece
 with_piece-first at p cells lt =
     let more : List Cell = set cells at (shown p (cell cells at)) in
     let n : ℕ = piece_width p - 1 in
-    (IsSameOutside-emptied (at + 1) (at + 1 + n) (at + 1) n more more (omega arith) (omega arith) (IsSameOutside-refl (at + 1) (at + 1 + n) more)).before at (omega arith)
+    (emptied-outside (at + 1) n more).before at (omega arith)
     ∙ get_or-set_same cells at (shown p (cell cells at)) empty_cell lt
 
 with_piece-behind : (at j : ℕ) (p : Piece) (cells : List Cell) → 0 < j → j < piece_width p → at + piece_width p ≤ length cells → cell (with_piece at p cells) (at + j) ≡ empty_cell

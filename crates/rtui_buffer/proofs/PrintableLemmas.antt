@@ -17,6 +17,7 @@ use Rattle.rtui_buffer.specs.PaintedText.{AreShort}
 use Rattle.rtui_buffer.specs.Painting.{painted_width, kept, Piece, piece_of, pieces, piece_width, columns, shown, emptied, with_piece, painted, text_pieces, IsSameOutside, HasPieces}
 use Rattle.rtui_buffer.proofs.PaintLemmas.{kept-take, painted-nil, painted-cons, IsSameOutside-refl, IsSameOutside-put, IsSameOutside-then}
 use Rattle.rtui_buffer.proofs.PaintedLemmas.{HasPieces-kept}
+use Rattle.rtui_buffer.proofs.LineLemmas.{columns-append, painted-append, short-rest}
 
 -- the width of a byte
 pub one_column : (b : ℕ) → text_width (b ∷ []) ≡ 1
@@ -76,17 +77,6 @@ pub columns-singles : (s : Style) (bs : List ℕ) → columns (pieces s (singles
 columns-singles s [] = refl
 columns-singles s (b ∷ bs) = omega (arith, sum_by-cons piece_width (piece_of s (b ∷ [])) (pieces s (singles bs)), one_column b, columns-singles s bs)
 
-columns-append : (ps qs : List Piece) → columns (ps ++ qs) ≡ columns ps + columns qs
-columns-append [] qs = omega arith
-columns-append (p ∷ ps) qs = omega (arith, sum_by-cons piece_width p (ps ++ qs), sum_by-cons piece_width p ps, columns-append ps qs)
-
-painted-append : (at : ℕ) (ps qs : List Piece) (cells : List Cell) → painted at (ps ++ qs) cells ≡ painted (at + columns ps) qs (painted at ps cells)
-unfolding painted
-painted-append at [] qs cells = let e : at + 0 ≡ at = omega arith in rw e refl
-painted-append at (p ∷ ps) qs cells =
-    let e : at + columns (p ∷ ps) ≡ at + piece_width p + columns ps = omega (arith, sum_by-cons piece_width p ps) in
-    rw e (painted-append (at + piece_width p) ps qs (with_piece at p cells))
-
 outside-singles : (at : ℕ) (s : Style) (bs : List ℕ) (cells : List Cell) → IsSameOutside at (at + length bs) cells (painted at (pieces s (singles bs)) cells)
 outside-singles at s [] cells = rw (painted-nil at cells) (IsSameOutside-refl at (at + 0) cells)
 outside-singles at s (b ∷ bs) cells =
@@ -99,10 +89,6 @@ outside-singles at s (b ∷ bs) cells =
     (IsSameOutside-then at (at + piece_width p) (at + piece_width p + length bs) cells more (painted (at + piece_width p) (pieces s (singles bs)) more) (omega arith) (omega arith)
     (IsSameOutside-put at at p cells cells (omega arith) (omega arith) (IsSameOutside-refl at at cells))
     (outside-singles (at + piece_width p) s bs more)))
-
-AreShort-behind : (ps qs : List Piece) → AreShort (ps ++ qs) → AreShort qs
-AreShort-behind [] qs h = h
-AreShort-behind (p ∷ ps) qs h = AreShort-behind ps qs (All-tail (λ p. IsShort p.symbol) p (ps ++ qs) h)
 
 module _ (text tail : List ℕ) (n room : ℕ) (s : Style) (h : IsPrintableFront text n) (le : n ≤ room) (behind : tail ≡ drop n text) where
   abbrev first : List Piece
@@ -142,7 +128,7 @@ module _ (text tail : List ℕ) (n room : ℕ) (s : Style) (h : IsPrintableFront
       rw end (IsSameOutside-then start (start + n) (start + n + columns rest) cells mid new (omega arith) (omega arith) front o)
 
   pub short-split : AreShort (text_pieces room s text) → AreShort rest
-  short-split short = AreShort-behind first rest (subst AreShort pieces-split short)
+  short-split short = short-rest first rest (subst AreShort pieces-split short)
 
 pub ruleset byte_steps = (bytes-none)
 

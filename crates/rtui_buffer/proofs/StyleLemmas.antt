@@ -9,6 +9,7 @@ use Rattle.rtui_cell.specs.Cell.{empty_cell, styled}
 use Rattle.rtui_diff.specs.Cells.{cell, cell_at}
 use Rattle.rtui_buffer.specs.PaintedText.{IsStyledPart, IsStyledRows}
 use Rattle.rtui_buffer.proofs.PaintLemmas.{IsSameOutside-refl, IsSameOutside-set, IsSameOutside-wider}
+use Rattle.rtui_grid.proofs.PlaceLemmas.{row_ends}
 
 pub IsStyledPart-none : (from : ℕ) (s : Style) (cells : List Cell) → IsStyledPart from from s cells cells
 IsStyledPart-none from s cells = record { inside = λ k le lt. absurd (omega arith); outside = IsSameOutside-refl from from cells }
@@ -28,9 +29,6 @@ IsStyledPart-more from i s old now le lt h = record {
 pub IsStyledRows-none : (w left right top : ℕ) (s : Style) (cells : List Cell) → IsStyledRows w left right top top s cells cells
 IsStyledRows-none w left right top s cells = record { count = refl; at = λ a b lt. grind (arith, nat_tests) }
 
-rows_before : (w b c : ℕ) → b < c → b * w + w ≤ c * w
-rows_before w b c lt = let k : c ≡ suc b + (c - suc b) = omega arith in rw k (omega arith)
-
 module _ (w left right top row : ℕ) (s : Style) (old now more : List Cell) (fits : right ≤ w) (order : left ≤ right) (from : top ≤ row)
     (h : IsStyledRows w left right top row s old now) (g : IsStyledPart (row * w + left) (row * w + right) s now more) where
   former : (a : ℕ) → a < w → cell_at w now a row ≡ cell_at w old a row
@@ -49,10 +47,10 @@ module _ (w left right top row : ℕ) (s : Style) (old now more : List Cell) (fi
       (cases_lt a left)
 
   above : (a b : ℕ) → a < w → b < row → cell_at w more a b ≡ cell_at w now a b
-  above a b lt up = let r = rows_before w b row up in g.outside.before (b * w + a) (omega arith)
+  above a b lt up = let r = row_ends w b row up in g.outside.before (b * w + a) (omega arith)
 
   below : (a b : ℕ) → a < w → row < b → cell_at w more a b ≡ cell_at w now a b
-  below a b lt down = let r = rows_before w row b down in g.outside.behind (b * w + a) (omega arith)
+  below a b lt down = let r = row_ends w row b down in g.outside.behind (b * w + a) (omega arith)
 
   pub IsStyledRows-more : IsStyledRows w left right top (row + 1) s old more
   IsStyledRows-more = record {

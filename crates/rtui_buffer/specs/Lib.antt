@@ -6,3 +6,4 @@ pub mod Bar
 pub mod Line
 pub mod Overlay
 pub mod RowsDiff
+pub mod Clipped

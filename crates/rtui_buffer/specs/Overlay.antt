@@ -5,7 +5,8 @@ use Rattle.rtui_geometry.specs.declared.rect.Rect.{Rect}
 use Rattle.rtui_geometry.specs.Rect.{HasPosition, united}
 use Rattle.rtui_cell.specs.declared.cell.Cell.{Cell}
 use Rattle.rtui_cell.specs.Cell.{empty_cell}
-use Rattle.rtui_diff.specs.Cells.{cell_at}
+use Rattle.rtui_grid.specs.declared.block.Block.{Block}
+use Rattle.rtui_grid.specs.Blocks.{HasBlock}
 use Rattle.rtui_buffer.specs.Sheet.{Sheet, cell_in}
 
 -- the empty area in the corner of the grid
@@ -32,15 +33,10 @@ pub record IsExtended (area : Rect) (old new : Sheet) : Type 0 where
   pub of_old : (p : Position) → HasPosition old.area p → cell_in new p ≡ cell_in old p
   pub of_none : (p : Position) → HasPosition area p → ¬ (HasPosition old.area p) → cell_in new p ≡ empty_cell
 
--- column a of row b is one of the rows and columns of a block
-abbrev pub is_in_block : ℕ → ℕ → ℕ → ℕ → ℕ → ℕ → Bool
-is_in_block left top columns rows a b = nat_le left a && nat_lt a (left + columns) && nat_le top b && nat_lt b (top + rows)
-
--- in rows of w columns: a block of some columns and rows, from a column and a row on, all else as before
-pub record IsBlockAt (w left top columns rows : ℕ) (block old new : List Cell) : Type 0 where
-  pub count : length new ≡ length old
-  pub at : (a b : ℕ) → a < w → cell_at w new a b ≡ (if is_in_block left top columns rows a b then cell_at columns block (a - left) (b - top) else cell_at w old a b)
+-- where an inner area is in the rows and columns of one around it
+abbrev pub place_in : Rect → Rect → Block
+place_in outer inner = record { left = inner.x - outer.x; top = inner.y - outer.y; columns = inner.width; rows = inner.height }
 
 -- in the list of an area: the cells of an inner area at their positions, all else as before
-abbrev pub IsBlockIn : Rect → Rect → List Cell → List Cell → List Cell → Type 0
-IsBlockIn outer inner block old new = IsBlockAt outer.width (inner.x - outer.x) (inner.y - outer.y) inner.width inner.height block old new
+abbrev pub HasInner : Rect → Rect → List Cell → List Cell → List Cell → Type 0
+HasInner outer inner block old new = HasBlock empty_cell outer.width (place_in outer inner) inner.width block old new

@@ -1,6 +1,7 @@
-ghost use Rattle.std.specs.Prelude.{◌≡◌, ◌<◌, ◌≤◌, ◌↔◌, length, IsTrue, IsOk, IsSome, IfSome, OnOk, OnErr, IfOk, replicate};
+ghost use Rattle.std.specs.Prelude.{◌≡◌, ◌<◌, ◌≤◌, ◌↔◌, ◌⊎◌, MatchOption, length, IsTrue, IsOk, IsSome, IfSome, OnOk, OnErr, IfOk, replicate};
 ghost use Rattle.std.specs.Borrow.{sem, Lends, LendsIf, Array};
-ghost use Rattle.rtui_geometry.specs.Rect.{HasPosition, EdgesFit};
+ghost use Rattle.rtui_geometry.specs.Rect.{HasPosition, EdgesFit, intersected};
+ghost use Rattle.rtui_buffer.specs.Clipped.{IsClipped};
 ghost use Rattle.rtui_cell.specs.contracts.cell.Cell.{the_row as cell_row};
 ghost use Rattle.rtui_buffer.specs.contracts.buffer.Buffer.{the_row};
 ghost use Rattle.rtui_buffer.specs.Sheet.{area_size, cell_index, place_position, position_of, cell_in, with_cell, with_cells, resized, moved_to, sheet_row, HasRow, IsEmptied, HasRoomFor, IsSameSheet};
@@ -19,7 +20,7 @@ mod painting;
 mod sized;
 
 pub use lines::{lines_width, texts_width};
-pub use painting::{paint_printable, painted_width};
+pub use painting::{empty_part, paint_printable, painted_width};
 use sized::{copied, copies, cut_or_fill, empty_all};
 
 /// A grid of cells over an area of a screen, row by row. There are always as many cells as the area has, and
@@ -123,8 +124,21 @@ impl Buffer {
     pub fn area(&self) -> &Rect
         ensures area { result.now ≡ self.now.area }
         ensures edges { EdgesFit self.now.area }
+        ensures count { length self.now.cells ≡ area_size self.now.area }
     {
         &self.area
+    }
+
+    /// The part of an area that the buffer has, if there is one.
+    pub fn part(&self, area: Rect) -> Option<Rect>
+        ensures { let r = intersected area self.now.area in
+            MatchOption result ((r.width ≡ 0) ⊎ (r.height ≡ 0)) (IsClipped area self.now.area) }
+    {
+        let part = area.intersection(self.area);
+        if part.is_empty() {
+            return None;
+        }
+        Some(part)
     }
 
     /// The cell in a column and a row of the area.

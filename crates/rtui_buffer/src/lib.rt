@@ -12,7 +12,7 @@ mod buffer;
 mod diff;
 pub mod laws;
 
-pub use buffer::{Buffer, lines_width, paint_printable, painted_width, texts_width};
+pub use buffer::{Buffer, empty_part, lines_width, paint_printable, painted_width, texts_width};
 pub use diff::diff_rows;
 pub use rtui_cell::{Cell, CellDiffOption, CellWidth};
 pub use rtui_diff::BufferDiff;

@@ -1,7 +1,7 @@
 -- What equal cells have in common, and what the empty cell is.
 use Rattle.std.proofs.Common.{◌≡◌, ℕ, Bool, true, false, ◌&&◌, ◌==◌, length, nat_eq, refl, sym, ap, ◌∙◌}
 use Rattle.std.specs.Prelude.{if◌then◌else◌}
-use Rattle.std.proofs.lemmas.Bool.{false≢true}
+use Rattle.std.proofs.lemmas.Bool.{false≢true, and_parts, and_from}
 use Rattle.std.proofs.lemmas.Bool.Decides.{Decides-eqb}
 use Rattle.std.specs.Int.NonZero.{non_zero_u16_get}
 use Rattle.std.specs.declared.num.NonZeroU16.{NonZeroU16}
@@ -14,7 +14,7 @@ use Rattle.rtui_style.specs.contracts.color.Color as color
 use Rattle.rtui_style.specs.contracts.color.ColorPartialEq.TheImpl as color_equality
 use Rattle.rtui_style.specs.contracts.color.ColorEq.TheImpl.Laws.{laws-law as color_laws}
 use Rattle.rtui_style.specs.contracts.ModifierEq.TheImpl.Laws.{laws-law as modifier_laws}
-use Rattle.rtui_style.specs.Modifier.{modifier_of}
+use Rattle.rtui_style.specs.Modifier.{modifier_of, bits_of}
 use Rattle.rtui_style.specs.contracts.ModifierPartialEq.TheImpl as modifier_equality
 use Rattle.std.specs.contracts.prelude.BoolPartialEq.TheImpl as flag_equality
 use Rattle.rtui_cell.specs.declared.cell.Cell.{Cell}
@@ -29,19 +29,12 @@ use Rattle.rtui_cell.specs.Cell.{empty_cell, width_by, width_of, is_skipped, has
 use Rattle.rtui_cell.specs.contracts.cell.CellDiffOptionEq.TheImpl.Laws.{laws-law as option_laws}
 use Rattle.rtui_cell.specs.Equality.{is_same, is_same_symbol, IsEqual}
 use Rattle.rtui_cell.proofs.DerivedLemmas.{same_value}
-
-and_left : (a b : Bool) → (a && b) ≡ true → a ≡ true
-and_left true b e = refl
-and_left false b e = e
-
-and_right : (a b : Bool) → (a && b) ≡ true → b ≡ true
-and_right true b e = e
-and_right false b e = absurd (false≢true e)
+use Rattle.rtui_style.specs.declared.Modifier.{Modifier}
 
 no_field : (a b : Unit {0}) → true ≡ true → a ≡ b
 no_field a b e = refl
 
-same_number : (a b : ℕ) → nat_eq a b ≡ true → a ≡ b
+pub same_number : (a b : ℕ) → nat_eq a b ≡ true → a ≡ b
 same_number a b e = (Decides-eqb a b).0 e
 
 same_index : (a b : ℕ × Unit {0}) → nat_eq a.0 b.0 ≡ true → a ≡ b
@@ -49,20 +42,24 @@ same_index a b e = ap (λ n. (n, tt)) (same_number a.0 b.0 e)
 
 same_channels : (a b : ℕ × (ℕ × (ℕ × Unit {0}))) → (nat_eq a.0 b.0 && (nat_eq a.1.0 b.1.0 && nat_eq a.1.1.0 b.1.1.0)) ≡ true → a ≡ b
 same_channels a b e =
-    let first = same_number a.0 b.0 (and_left _ _ e) in
-    let others : (nat_eq a.1.0 b.1.0 && nat_eq a.1.1.0 b.1.1.0) ≡ true = and_right (nat_eq a.0 b.0) _ e in
-    let second = same_number a.1.0 b.1.0 (and_left _ _ others) in
-    let third = same_number a.1.1.0 b.1.1.0 (and_right (nat_eq a.1.0 b.1.0) _ others) in
+    let outer = and_parts (nat_eq a.0 b.0) (nat_eq a.1.0 b.1.0 && nat_eq a.1.1.0 b.1.1.0) e in
+    let inner = and_parts (nat_eq a.1.0 b.1.0) (nat_eq a.1.1.0 b.1.1.0) outer.1 in
+    let first = same_number a.0 b.0 outer.0 in
+    let second = same_number a.1.0 b.1.0 inner.0 in
+    let third = same_number a.1.1.0 b.1.1.0 inner.1 in
     rw (first, second, third) refl
 
 same_width_given : (a b : NonZeroU16 × Unit {0}) → nat_eq (non_zero_u16_get a.0) (non_zero_u16_get b.0) ≡ true → a ≡ b
 same_width_given a b e = ap (λ n. (n, tt)) (nonzero.the_field.into_one a.0 b.0 (ap (λ n. (n, tt)) (same_number a.0.value b.0.value e)))
 
-same_color : (a b : Color) → color_equality.eq-value.it a b ≡ true → a ≡ b
+pub same_color : (a b : Color) → color_equality.eq-value.it a b ≡ true → a ≡ b
 same_color =
     let n = no_field in
     same_value color.enum _
     (n, (n, (n, (n, (n, (n, (n, (n, (n, (n, (n, (n, (n, (n, (n, (n, (n, (same_channels, (same_index, tt)))))))))))))))))))
+
+pub same_modifier : (a b : Modifier) → modifier_equality.eq-value.it a b ≡ true → a ≡ b
+same_modifier a b e = ap modifier_of (same_number (bits_of a) (bits_of b) e)
 
 same_option : (a b : CellDiffOption) → option_equality.eq-value.it a b ≡ true → a ≡ b
 same_option =
@@ -82,14 +79,14 @@ pub record HasSameParts (a b : Cell) : Type 0 where
 -- seven tests that hold together
 all_seven : (a b c d e f g : Bool) → (a && (b && (c && (d && (e && (f && g)))))) ≡ true
     → (a ≡ true) × (b ≡ true) × (c ≡ true) × (d ≡ true) × (e ≡ true) × (f ≡ true) × (g ≡ true)
-all_seven true true true true true true true h = (refl, refl, refl, refl, refl, refl, refl)
-all_seven true true true true true true false h = absurd (false≢true h)
-all_seven true true true true true false g h = absurd (false≢true h)
-all_seven true true true true false f g h = absurd (false≢true h)
-all_seven true true true false e f g h = absurd (false≢true h)
-all_seven true true false d e f g h = absurd (false≢true h)
-all_seven true false c d e f g h = absurd (false≢true h)
-all_seven false b c d e f g h = absurd (false≢true h)
+all_seven a b c d e f g h =
+    let p = and_parts a (b && (c && (d && (e && (f && g))))) h in
+    let q = and_parts b (c && (d && (e && (f && g)))) p.1 in
+    let r = and_parts c (d && (e && (f && g))) q.1 in
+    let s = and_parts d (e && (f && g)) r.1 in
+    let t = and_parts e (f && g) s.1 in
+    let u = and_parts f g t.1 in
+    (p.0, q.0, r.0, s.0, t.0, u.0, u.1)
 
 same_flag : (a b : Bool) → flag_equality.eq-value.it a b ≡ true → a ≡ b
 same_flag true true e = refl
@@ -108,7 +105,7 @@ same_parts a b e =
       fg = same_color _ _ h.0;
       bg = same_color _ _ h.1;
       underline_color = same_color _ _ h.2;
-      modifier = ap modifier_of (same_number a.modifier.0 b.modifier.0 h.3);
+      modifier = same_modifier _ _ h.3;
       option = same_option _ _ h.4;
       skip = same_flag _ _ h.5;
       symbol = same_text _ _ (sym h.6);
@@ -119,10 +116,6 @@ unfolding look_of
 same_meaning a b e =
     let h = same_parts a b e in
     record { look = rw (h.fg, h.bg, h.underline_color, h.modifier, h.symbol) refl; option = h.option; flag = h.skip }
-
-both : (a b : Bool) → a ≡ true → b ≡ true → (a && b) ≡ true
-both true b h k = k
-both false b h k = absurd (false≢true h)
 
 -- a test that is true of each value and itself is true of equal values
 true_along : {A : Type 0} (E : A → A → Bool) → ((x : A) → E x x ≡ true) → (x y : A) → x ≡ y → E x y ≡ true
@@ -135,12 +128,12 @@ same_as_itself false = refl
 pub equal_parts : (a b : Cell) → IsEqual a b → is_same a b ≡ true
 unfolding is_same look_of
 equal_parts a b h =
-    both _ _ (true_along color_equality.eq-value.it color_laws.refl a.fg b.fg (ap (λ l. l.fg) h.look))
-    (both _ _ (true_along color_equality.eq-value.it color_laws.refl a.bg b.bg (ap (λ l. l.bg) h.look))
-    (both _ _ (true_along color_equality.eq-value.it color_laws.refl a.underline_color b.underline_color (ap (λ l. l.underline_color) h.look))
-    (both _ _ (true_along modifier_equality.eq-value.it modifier_laws.refl a.modifier b.modifier (ap (λ l. l.modifier) h.look))
-    (both _ _ (true_along option_equality.eq-value.it option_laws.refl a.diff_option b.diff_option h.option)
-    (both _ _ (true_along flag_equality.eq-value.it same_as_itself a.skip b.skip h.flag)
+    and_from _ _ (true_along color_equality.eq-value.it color_laws.refl a.fg b.fg (ap (λ l. l.fg) h.look))
+    (and_from _ _ (true_along color_equality.eq-value.it color_laws.refl a.bg b.bg (ap (λ l. l.bg) h.look))
+    (and_from _ _ (true_along color_equality.eq-value.it color_laws.refl a.underline_color b.underline_color (ap (λ l. l.underline_color) h.look))
+    (and_from _ _ (true_along modifier_equality.eq-value.it modifier_laws.refl a.modifier b.modifier (ap (λ l. l.modifier) h.look))
+    (and_from _ _ (true_along option_equality.eq-value.it option_laws.refl a.diff_option b.diff_option h.option)
+    (and_from _ _ (true_along flag_equality.eq-value.it same_as_itself a.skip b.skip h.flag)
     ((bytes_eq-Decides (symbol_text a.symbol) (symbol_text b.symbol)).1 (ap (λ l. l.symbol) h.look)))))))
 
 -- cells that differ in colours and modifiers alone
@@ -181,9 +174,6 @@ pub skipped-empty : is_skipped empty_cell ≡ false
 unfolding is_skipped
 skipped-empty = refl
 
-single_by : (o : CellDiffOption) (one : Bool) → (has_no_option o && one) ≡ true → (has_no_option o ≡ true) × (one ≡ true)
-single_by o one e = (and_left (has_no_option o) one e, and_right (has_no_option o) one e)
-
 plain_width : (o : CellDiffOption) (n : ℕ) → has_no_option o ≡ true → width_by o n ≡ n
 plain_width DiffOption.None n e = refl
 plain_width DiffOption.Skip n e = absurd (false≢true e)
@@ -198,10 +188,10 @@ one_byte_width false n e = absurd (false≢true e)
 pub single_byte_width : (c : Cell) → is_single_byte c ≡ true → width_of c ≡ 1
 unfolding is_single_byte width_of text_width
 single_byte_width c e =
-    let h = single_by c.diff_option (length (symbol_text c.symbol) == 1) e in
+    let h = and_parts (has_no_option c.diff_option) (length (symbol_text c.symbol) == 1) e in
     plain_width c.diff_option (text_width (symbol_text c.symbol)) h.0 ∙ one_byte_width (length (symbol_text c.symbol) == 1) _ h.1
 
 -- and has no option
 pub single_byte_option : (c : Cell) → is_single_byte c ≡ true → has_no_option c.diff_option ≡ true
 unfolding is_single_byte
-single_byte_option c e = (single_by c.diff_option _ e).0
+single_byte_option c e = (and_parts (has_no_option c.diff_option) _ e).0

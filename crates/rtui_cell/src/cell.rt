@@ -4,6 +4,7 @@ ghost use Rattle.rtui_cell.specs.Cell.{empty_cell, cell_of, with_symbol, styled,
 
 use crate::symbol::Symbol;
 use bitflags::Flags;
+use rtui_grid::Blank;
 use rtui_merge::MergeStrategy;
 use rtui_style::{Color, Modifier, Style};
 use std::alloc::{AllocError, Global};
@@ -48,6 +49,14 @@ pub struct Cell {
     /// Whether the cell is skipped where it has no option.
     pub skip: bool,
     symbol: Symbol,
+}
+
+impl Blank for Cell {
+    ghost blank = { empty_cell };
+
+    fn make_blank(&mut self) {
+        self.reset();
+    }
 }
 
 impl Cell {

@@ -3,7 +3,7 @@ use Rattle.std.proofs.Common.{◌≡◌, ℕ, zero, suc, ◌+◌, ◌-◌, ◌*�
 use Rattle.std.specs.Prelude.{nat_lt, Contains, All, if◌then◌else◌}
 use Rattle.std.proofs.lemmas.List.Elements.{All-contains}
 use Rattle.std.proofs.lemmas.Nat.{row_fits}
-use Rattle.std.proofs.lemmas.Bool.{cases_Bool, cases_lt, false≢true}
+use Rattle.std.proofs.lemmas.Bool.{cases_Bool, cases_lt, false≢true, and_parts}
 use Rattle.std.proofs.lemmas.Bool.Decides.{nat_tests}
 use Rattle.rtui_cell.specs.declared.cell.Cell.{Cell}
 use Rattle.rtui_cell.specs.Cell.{width_of, is_skipped}
@@ -130,17 +130,13 @@ sources_step len ps ns zero zero force i st lt o =
         before = omega arith;
         plain = shown (omega arith);
         covers = omega arith;
-        visible = and_right (nat_lt (width_of (cell ns i)) (width_of (cell ps i))) (shows_on_blank (cell ps i)) vis;
+        visible = (and_parts (nat_lt (width_of (cell ns i)) (width_of (cell ps i))) (shows_on_blank (cell ps i)) vis).1;
       };
     })
     (λ _ _. none)
   where
     none : Sources ps start (i + 1)
     none = record { shone = λ f c a b. absurd (omega arith) }
-
-    and_right : (a b : Bool) → (a && b) ≡ true → b ≡ true
-    and_right true b e = e
-    and_right false b e = absurd (false≢true e)
 
     shown : 1 < width_of (cell ps i) → is_skipped (cell ps i) ≡ false
     shown wide = elim (cases_Bool (is_skipped (cell ps i))) [

@@ -4,7 +4,7 @@ use Rattle.std.specs.Prelude.{nat_lt, filter, cond, Contains}
 use Rattle.std.specs.List.{range_with_len}
 use Rattle.std.proofs.lemmas.Nat.{row_fits, mod-mul-add, div-mul-add}
 use Rattle.std.proofs.lemmas.List.{get_or-map, length-map}
-use Rattle.std.proofs.lemmas.Bool.{cases_Bool, cases_lt, false≢true}
+use Rattle.std.proofs.lemmas.Bool.{cases_Bool, cases_lt, false≢true, and_parts}
 use Rattle.std.proofs.lemmas.Bool.Decides.{nat_tests}
 use Rattle.std.proofs.lemmas.List.Elements.{All-nil, All-cons, All-head, All-tail, All-contains, All-contains_itself, Contains-get_or}
 use Rattle.rtui_cell.specs.declared.cell.Cell.{Cell}
@@ -101,10 +101,6 @@ former_on ps ns Q i left i' left' le fits o = record {
   narrow = o.narrow;
 }
 
-and_right : (a b : Bool) → (a && b) ≡ true → b ≡ true
-and_right true b e = e
-and_right false b e = absurd (false≢true e)
-
 origins_step : (len : ℕ) (ps ns : List Cell) (Q : ℕ → Type 0) (over left : ℕ) (force : Bool) (i : ℕ) → Settled len ps → i < len →
     (let s : Walk = record { over = over; left = left; force = force } in
     (gives s (cell ps i) (cell ns i) ≡ true → Q i) → Origins ps ns Q s i → Origins ps ns Q (step s (cell ps i) (cell ns i)) (i + 1))
@@ -130,7 +126,7 @@ origins_step len ps ns Q zero zero force i st lt q o =
         before = omega arith;
         plain = shown p;
         covers = omega arith;
-        visible = and_right (nat_lt (width_of (cell ns i)) (width_of (cell ps i))) (shows_on_blank (cell ps i)) vis;
+        visible = (and_parts (nat_lt (width_of (cell ns i)) (width_of (cell ps i))) (shows_on_blank (cell ps i)) vis).1;
         given = q gave;
         narrow = grind (arith, nat_tests);
       };

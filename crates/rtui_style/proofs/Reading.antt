@@ -8,6 +8,7 @@ use Rattle.rtui_style.specs.declared.color.Color.{Color}
 use Rattle.rtui_style.specs.declared.color.Color.TheVariants.{Indexed}
 use Rattle.rtui_style.specs.declared.color.ParseColorError.{ParseColorError}
 use Rattle.rtui_style.specs.Color.{named_color, color_index, hex_color, color_of, color_or_error, first_of}
+use Rattle.std.proofs.lemmas.Bool.{and_parts, and_from}
 
 abbrev is_digit : ℕ → Bool
 is_digit c = nat_lt (digit_value c) 10
@@ -18,26 +19,14 @@ true_from_lt a b h = grind (arith, nat_tests)
 lt_from_true : (a b : ℕ) → nat_lt a b ≡ true → a < b
 lt_from_true a b h = grind (arith, nat_tests)
 
-both : (a b : Bool) → a ≡ true → b ≡ true → (a && b) ≡ true
-both true b ha hb = hb
-both false b ha hb = ha
-
-first : (a b : Bool) → (a && b) ≡ true → a ≡ true
-first true b h = refl
-first false b h = h
-
-second : (a b : Bool) → (a && b) ≡ true → b ≡ true
-second true b h = h
-second false b h = absurd (cc)
-
 all_pass : (ds : List ℕ) → AllDigits 10 ds → list_all is_digit ds ≡ true
 all_pass [] h = refl
-all_pass (d ∷ ds) h = both (is_digit d) (list_all is_digit ds) (true_from_lt (digit_value d) 10 h.0) (all_pass ds h.1)
+all_pass (d ∷ ds) h = and_from (is_digit d) (list_all is_digit ds) (true_from_lt (digit_value d) 10 h.0) (all_pass ds h.1)
 
 all_digits : (ds : List ℕ) → list_all is_digit ds ≡ true → AllDigits 10 ds
 all_digits [] h = tt
 all_digits (d ∷ ds) h =
-    (lt_from_true (digit_value d) 10 (first (is_digit d) (list_all is_digit ds) h), all_digits ds (second (is_digit d) (list_all is_digit ds) h))
+    let parts = and_parts (is_digit d) (list_all is_digit ds) h in (lt_from_true (digit_value d) 10 parts.0, all_digits ds parts.1)
 
 -- whether these digits are a number of at most 255
 abbrev is_small : List ℕ → Bool
@@ -45,19 +34,15 @@ is_small ds = nat_lt 0 (length ds) && list_all is_digit ds && nat_lt (digits_val
 
 small : (ds : List ℕ) → IsNumeral 10 ds → digits_value 10 ds < 256 → is_small ds ≡ true
 small ds numeral below =
-    both (nat_lt 0 (length ds) && list_all is_digit ds) (nat_lt (digits_value 10 ds) 256)
-    (both (nat_lt 0 (length ds)) (list_all is_digit ds) (true_from_lt 0 (length ds) numeral.0) (all_pass ds numeral.1))
+    and_from (nat_lt 0 (length ds) && list_all is_digit ds) (nat_lt (digits_value 10 ds) 256)
+    (and_from (nat_lt 0 (length ds)) (list_all is_digit ds) (true_from_lt 0 (length ds) numeral.0) (all_pass ds numeral.1))
     (true_from_lt (digits_value 10 ds) 256 below)
 
 from_small : (ds : List ℕ) → is_small ds ≡ true → IsNumeral 10 ds × (digits_value 10 ds < 256)
 from_small ds h =
-    let digits = first (nat_lt 0 (length ds) && list_all is_digit ds) (nat_lt (digits_value 10 ds) 256) h in (
-      (
-        lt_from_true 0 (length ds) (first (nat_lt 0 (length ds)) (list_all is_digit ds) digits),
-        all_digits ds (second (nat_lt 0 (length ds)) (list_all is_digit ds) digits),
-      ),
-      lt_from_true (digits_value 10 ds) 256 (second (nat_lt 0 (length ds) && list_all is_digit ds) (nat_lt (digits_value 10 ds) 256) h),
-    )
+    let parts = and_parts (nat_lt 0 (length ds) && list_all is_digit ds) (nat_lt (digits_value 10 ds) 256) h in
+    let digits = and_parts (nat_lt 0 (length ds)) (list_all is_digit ds) parts.0 in
+    ((lt_from_true 0 (length ds) digits.0, all_digits ds digits.1), lt_from_true (digits_value 10 ds) 256 parts.1)
 
 some_if : ℕ → Bool → Option ℕ
 some_if n b = if b then Some n else None

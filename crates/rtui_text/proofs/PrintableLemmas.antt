@@ -1,6 +1,6 @@
 -- A printable character of ASCII before another character of ASCII is a grapheme of its own.
 use Rattle.std.proofs.Common.{◌≡◌, ℕ, zero, suc, ◌-◌, ◌<◌, ◌≤◌, Bool, true, false, cond, not, ◌&&◌, ◌||◌, ◌==◌, nat_le, nat_lt, List, [], ◌∷◌, ◌++◌, map, length, unwrap_or, refl, sym, ap, ◌∙◌, arith, append-nil, eqb-true, ◌⊎◌, ⊎_elim, inl, inr, take, drop, slice_index, subst, add-one, count_by}
-use Rattle.std.proofs.lemmas.Bool.{false≢true, cases_lt}
+use Rattle.std.proofs.lemmas.Bool.{false≢true, cases_lt, or_parts}
 use Rattle.std.proofs.lemmas.Bool.Decides.{nat_tests}
 use Rattle.std.proofs.lemmas.Str.{encode_ascii, chars-nil, chars-IsAscii, IsCharBoundary-start}
 use Rattle.std.specs.Prelude.{encode_utf8, encode_utf8_all}
@@ -30,6 +30,7 @@ use Rattle.unicode_width.specs.Width.{str_width, read_before, step, past_emoji, 
 use Rattle.rtui_cell.specs.Width.{is_sound_mark, text_columns, text_width}
 use Rattle.rtui_text.specs.Graphemes.{has_control}
 use Rattle.rtui_text.specs.Printable.{IsPrintable, ArePrintable, IsPrintableFront, singles}
+use Rattle.std.proofs.Math.Bool.{and-false}
 
 -- ---- what the tables say of ASCII
 
@@ -130,16 +131,12 @@ breaks_before_kind Lf rest h k = refl
 breaks_before_kind Other rest h k = k
 breaks_before_kind _ rest h k = absurd (false≢true h)
 
-and_false : (b : Bool) → (b && false) ≡ false
-and_false true = refl
-and_false false = refl
-
 breaks_behind : (b : ℕ) → IsPrintable b → (next : ℕ) (after : List ℕ) → next < 0x80 → is_grapheme_break true (b ∷ []) (next ∷ after) ≡ true
 unfolding is_grapheme_break ends_in_linker
 breaks_behind b p next after below =
     rw (is_other b p, is_no_conjunct b (omega (arith, p.high)))
     (breaks_before_kind (grapheme_cluster_break next) _ (is_ascii_kind-of next below)
-    (rw (no_regional (grapheme_cluster_break next) (is_ascii_kind-of next below), and_false) refl))
+    (rw (no_regional (grapheme_cluster_break next) (is_ascii_kind-of next below), and-false) refl))
 
 -- ---- such a character is a grapheme of its own
 
@@ -336,7 +333,7 @@ rest_breaks : (b next : ℕ) → b < 0x80 → next < 0x80
     → not ((true && joins_conjunct (b ∷ []) next) || joins_emoji (b ∷ []) next || joins_flag (b ∷ []) next) ≡ true
 unfolding ends_in_linker
 rest_breaks b next below lower =
-    rw (is_no_conjunct b below, no_joiner (grapheme_cluster_break b) (is_ascii_kind-of b below), no_regional (grapheme_cluster_break next) (is_ascii_kind-of next lower), and_false) refl
+    rw (is_no_conjunct b below, no_joiner (grapheme_cluster_break b) (is_ascii_kind-of b below), no_regional (grapheme_cluster_break next) (is_ascii_kind-of next lower), and-false) refl
 
 ascii-pair : (b next : ℕ) (after : List ℕ) → b < 0x80 → next < 0x80 → (is_grapheme_break true (b ∷ []) (next ∷ after) ≡ true) ⊎ (grapheme_cluster_break next ≡ Lf)
 unfolding is_grapheme_break
@@ -422,10 +419,6 @@ ascii-graphemes text ascii =
 -- one without a control character is printable
 printable-byte : (b : ℕ) → b < 0x80 → is_control b ≡ false → IsPrintable b
 printable-byte b low plain = record { low = grind (arith, nat_tests, plain); high = grind (arith, nat_tests, plain) }
-
-or_parts : (a b : Bool) → (a || b) ≡ false → (a ≡ false) × (b ≡ false)
-or_parts false b e = (refl, e)
-or_parts true b e = absurd (false≢true (sym e))
 
 plain-printable : (cs : List ℕ) → AreAsciiChars cs → list_any is_control cs ≡ false → (k : ℕ) → k < length cs → IsPrintable (slice_index cs k)
 plain-printable [] low plain k lt = absurd (omega arith)

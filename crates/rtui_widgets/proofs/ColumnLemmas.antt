@@ -3,7 +3,7 @@ use Rattle.std.proofs.Common.{◌≡◌, ◌≢◌, ℕ, ◌+◌, ◌-◌, ◌<�
 use Rattle.std.specs.Prelude.{◌==◌, ◌||◌, ◌&&◌, nat_lt, Some, None, Option}
 use Rattle.std.specs.List.{concat}
 use Rattle.std.specs.Int.RustNames.{bit_and, bit_or}
-use Rattle.std.proofs.lemmas.Bool.{cases_lt}
+use Rattle.std.proofs.lemmas.Bool.{cases_lt, or_parts}
 use Rattle.std.proofs.lemmas.Bool.Decides.{nat_tests}
 use Rattle.std.proofs.lemmas.List.{append-nil}
 use Rattle.std.proofs.lemmas.Nat.Bits.{same_from_bits, bit_at_and, bit_at_or}
@@ -102,10 +102,6 @@ cond-cons-here : (b : Bool) (h : List ℕ) (us : List (List ℕ)) → b ≡ true
 cond-cons-here true h us n e = cc
 cond-cons-here false h us n e = cc
 
-or-false : (a b : Bool) → (a || b) ≡ false → (a ≡ false) × (b ≡ false)
-or-false true b h = cc
-or-false false b h = (refl, h)
-
 goes-here : (k x : ℕ) (g : List ℕ) → x ≤ k → k < x + text_width g → hides k x g ≡ false → (goes_to x g == k) ≡ true
 goes-here k x g le lt h = grind (arith, nat_tests)
 
@@ -114,7 +110,7 @@ pub reached : (k x : ℕ) (gs : List (List ℕ)) → x ≤ k → k < end_of_thos
 unfolding those_at is_behind end_of_those
 reached k x [] le lt h = absurd (omega arith)
 reached k x (g ∷ gs) le lt h =
-    let parts = or-false (hides k x g) (is_behind k (x + text_width g) gs) h in
+    let parts = or_parts (hides k x g) (is_behind k (x + text_width g) gs) h in
     ⊎_elim
     (λ (in_it : k < x + text_width g). cond-cons-here (goes_to x g == k) g (those_at k (x + text_width g) gs) (goes-here k x g le in_it parts.0))
     (λ (past : x + text_width g ≤ k). cond-cons-some (goes_to x g == k) g (those_at k (x + text_width g) gs) (reached k (x + text_width g) gs past lt parts.1))

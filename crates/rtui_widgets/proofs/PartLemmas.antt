@@ -15,8 +15,9 @@ use Rattle.rtui_buffer.specs.Line.{line_pieces_at}
 use Rattle.rtui_buffer.proofs.ColumnLemmas.{line-ends, line-keeps}
 use Rattle.rtui_buffer.proofs.ShownLemmas.{IsSettledSheet-styled, IsPaintable-styled}
 use Rattle.rtui_widgets.specs.Rendering.{ChangesWithin}
-use Rattle.rtui_widgets.specs.Clipped.{IsClipped, OnPart}
+use Rattle.rtui_widgets.specs.Clipped.{OnPart}
 use Rattle.rtui_widgets.proofs.WithinLemmas.{intersected-whole, part-row, part-left, part-starts, within-then, within-styled, within-refused}
+use Rattle.rtui_buffer.specs.Clipped.{IsClipped}
 
 -- the buffer has no part of the area
 pub OnPart-none : (f : Rect → Sheet → Sheet → Type 0) (area : Rect) (s : Sheet) → ((intersected area s.area).width ≡ 0) ⊎ ((intersected area s.area).height ≡ 0) → OnPart f area s s

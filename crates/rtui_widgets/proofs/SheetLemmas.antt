@@ -19,10 +19,10 @@ use Rattle.rtui_buffer.specs.PaintedText.{room_at, pieces_at, IsSameBeside}
 use Rattle.rtui_buffer.proofs.PaintedLemmas.{columns-kept}
 use Rattle.rtui_widgets.specs.Rendering.{area_row, ChangesWithin, RendersRows, in_first_row, first_row}
 use Rattle.rtui_widgets.specs.Rows.{Rows, place, cells_of_row, IsOutside, KeepsOthers, MakesRows}
-use Rattle.rtui_widgets.specs.Clipped.{IsClipped}
 use Rattle.rtui_buffer.specs.Painting.{KeepsUnmarked}
 use Rattle.rtui_widgets.proofs.SpanLemmas.{unmarked-written}
 use Rattle.rtui_widgets.proofs.RowLemmas.{length-written, written-before, written-behind, written-there, same-row, rows_before, other}
+use Rattle.rtui_buffer.specs.Clipped.{IsClipped}
 
 pub refilled-same : (cells w : List Cell) → length w ≡ length cells → refilled cells w ≡ w
 refilled-same cells w e =

@@ -10,7 +10,7 @@ use Rattle.rtui_buffer.specs.Painting.{Piece, columns}
 use Rattle.rtui_buffer.specs.PaintedText.{IsStyled, IsBeside, IsSameBeside}
 use Rattle.rtui_buffer.proofs.ColumnLemmas.{same-beside}
 use Rattle.rtui_widgets.specs.Rendering.{ChangesWithin}
-use Rattle.rtui_widgets.specs.Clipped.{IsClipped}
+use Rattle.rtui_buffer.specs.Clipped.{IsClipped}
 
 -- a buffer has the whole of its own area
 pub intersected-whole : (r : Rect) → EdgesFit r → intersected r r ≡ r

@@ -1,9 +1,8 @@
 //! Spans, lines and texts in a buffer.
 
-ghost use Rattle.std.specs.Prelude.{◌≡◌, ◌⊎◌, MatchOption, IsOk, OnOk, OnErr};
+ghost use Rattle.std.specs.Prelude.{◌≡◌, IsOk, OnOk, OnErr};
 ghost use Rattle.rtui_geometry.specs.Rect.{intersected};
 ghost use Rattle.rtui_widgets.specs.Rendering.{RendersSpan, RendersLine, RendersText, RendersShortSpan, RendersShortLine, RendersShortText, ChangesWithin, first_row};
-ghost use Rattle.rtui_widgets.specs.Clipped.{IsClipped};
 ghost use Rattle.rtui_buffer.specs.Painting.{KeepsUnmarked};
 
 use crate::line::render_line;
@@ -14,18 +13,6 @@ use rtui_geometry::Rect;
 use rtui_text::{Line, Span, Text};
 use std::alloc::AllocError;
 
-// The part of an area that a buffer has, if there is one.
-fn part_in(buf: &Buffer, area: Rect) -> Option<Rect>
-    ensures { let r = intersected area buf.now.area in
-        MatchOption result ((r.width ≡ 0) ⊎ (r.height ≡ 0)) (IsClipped area buf.now.area) }
-{
-    let part = area.intersection(*buf.area());
-    if part.is_empty() {
-        return None;
-    }
-    Some(part)
-}
-
 // Renders a span in the first row of an area.
 pub(crate) fn span_in(span: &Span<'_>, area: Rect, buf: &mut Buffer) -> Result<(), AllocError>
     ensures ok { OnOk result (RendersSpan span.now area buf.old buf.new) }
@@ -35,7 +22,7 @@ pub(crate) fn span_in(span: &Span<'_>, area: Rect, buf: &mut Buffer) -> Result<(
     ensures short { RendersShortSpan span.now area buf.old → IsOk result }
     ensures marks { KeepsUnmarked buf.old.cells buf.new.cells }
 {
-    let Some(part) = part_in(buf, area) else {
+    let Some(part) = buf.part(area) else {
         return Ok(());
     };
     let start = buf.index_of(part.x, part.y);
@@ -54,7 +41,7 @@ pub(crate) fn line_in(line: &Line<'_>, area: Rect, buf: &mut Buffer) -> Result<(
     ensures short { RendersShortLine line.now area buf.old → IsOk result }
     ensures marks { KeepsUnmarked buf.old.cells buf.new.cells }
 {
-    let Some(part) = part_in(buf, area) else {
+    let Some(part) = buf.part(area) else {
         return Ok(());
     };
     let start = buf.index_of(part.x, part.y);
@@ -71,7 +58,7 @@ pub(crate) fn text_in(text: &Text<'_>, area: Rect, buf: &mut Buffer) -> Result<(
     ensures short { RendersShortText text.now area buf.old → IsOk result }
     ensures marks { KeepsUnmarked buf.old.cells buf.new.cells }
 {
-    let Some(part) = part_in(buf, area) else {
+    let Some(part) = buf.part(area) else {
         return Ok(());
     };
     let start = buf.index_of(part.x, part.y);

@@ -2,17 +2,15 @@
 
 ghost use Rattle.std.specs.Prelude.{ℕ, ◌≡◌, ◌+◌, ◌*◌, ◌<◌, ◌≤◌, length, OnOk, OnErr, []};
 ghost use Rattle.rtui_geometry.specs.Rect.{EdgesFit};
-ghost use Rattle.rtui_diff.specs.Cells.{cell};
 ghost use Rattle.rtui_buffer.specs.Sheet.{area_size};
-ghost use Rattle.rtui_buffer.specs.Painting.{IsSameOutside};
-ghost use Rattle.rtui_buffer.specs.Overlay.{IsOverlay, IsExtended, IsAround, IsBlockIn, no_area};
+ghost use Rattle.rtui_buffer.specs.Overlay.{IsOverlay, IsExtended, IsAround, HasInner, no_area};
 
 use crate::buffer::Buffer;
 use crate::buffer::sized::{copied, cut_or_fill};
 use rtui_cell::Cell;
 use rtui_geometry::Rect;
+use rtui_grid::{Block, move_block};
 use std::alloc::{AllocError, Global};
-use std::mem;
 
 impl Buffer {
     /// A buffer without cells, over the empty area in the corner of the grid; takes no memory.
@@ -39,7 +37,7 @@ impl Buffer {
         let mut upper = copied(alloc, other.content())?;
         let area = self.area.union(upper_area);
         self.extend(area)?;
-        move_block(
+        move_inner(
             self.content.as_mut_slice(),
             area,
             upper.as_mut_slice(),
@@ -63,7 +61,7 @@ impl Buffer {
         let room = count.max(self.content.capacity());
         let mut content = Vec::with_capacity(*self.content.allocator(), room)?;
         cut_or_fill(&mut content, count)?;
-        move_block(
+        move_inner(
             content.as_mut_slice(),
             area,
             self.content.as_mut_slice(),
@@ -76,36 +74,17 @@ impl Buffer {
 }
 
 // Moves the cells of an inner area to their positions in the list of an area around it.
-fn move_block(cells: &mut [Cell], area: Rect, block: &mut [Cell], inner: Rect)
+fn move_inner(cells: &mut [Cell], area: Rect, block: &mut [Cell], inner: Rect)
     requires count { length cells.old ≡ area_size area }
     requires block_count { length block.old ≡ area_size inner }
     requires around { IsAround area inner }
-    ensures { IsBlockIn area inner block.old cells.old cells.new }
+    ensures { HasInner area inner block.old cells.old cells.new }
 {
-    let width = usize::from(area.width);
-    let columns = usize::from(inner.width);
-    let left = usize::from(inner.x - area.x);
-    let top = usize::from(inner.y - area.y);
-    for row in 0..usize::from(inner.height) {
-        swap_cells(
-            cells,
-            (top + row) * width + left,
-            block,
-            row * columns,
-            columns,
-        );
-    }
-}
-
-// Swaps some cells from a place on with those of another list from a place on.
-fn swap_cells(cells: &mut [Cell], to: usize, block: &mut [Cell], from: usize, count: usize)
-    requires inside { to + count ≤ length cells.old }
-    requires block_inside { from + count ≤ length block.old }
-    ensures moved { (k : ℕ) → k < count → cell cells.new (to + k) ≡ cell block.old (from + k) }
-    ensures rest { IsSameOutside to (to + count) cells.old cells.new }
-    ensures block_rest { IsSameOutside from (from + count) block.old block.new }
-{
-    for k in 0..count {
-        mem::swap(&mut cells[to + k], &mut block[from + k]);
-    }
+    let place = Block {
+        left: inner.x - area.x,
+        top: inner.y - area.y,
+        columns: inner.width,
+        rows: inner.height,
+    };
+    move_block(cells, area.width, place, block, inner.width);
 }

@@ -14,6 +14,7 @@ ghost use Rattle.rtui_buffer.specs.PaintedText.{room_at, pieces_at, AreShort, Pa
 use crate::buffer::Buffer;
 use rtui_cell::{Cell, CellWidth};
 use rtui_geometry::Rect;
+use rtui_grid::fill;
 use rtui_style::Style;
 use rtui_text::{has_control, printable_front};
 use std::alloc::{AllocError, Global};
@@ -253,16 +254,13 @@ fn show(alloc: Global, cell: &mut Cell, symbol: &str, style: Style) -> Result<()
     Ok(())
 }
 
-// Empties the cells of a part.
-#[tactic(auto, using(crate::proofs::PaintLemmas::empty_steps))]
-fn empty_part(cells: &mut [Cell], from: usize, to: usize)
+/// Empties the cells of a part.
+pub fn empty_part(cells: &mut [Cell], from: usize, to: usize)
     requires order { from ≤ to }
     requires inside { to ≤ length cells.old }
     ensures { cells.new ≡ emptied from (to - from) cells.old }
 {
-    for i in from..to {
-        cells[i].reset();
-    }
+    fill(cells, from, to);
 }
 
 // Lays a style over the columns from left to right of the rows from top to bottom.

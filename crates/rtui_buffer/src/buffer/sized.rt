@@ -6,6 +6,7 @@ ghost use Rattle.rtui_cell.specs.Cell.{empty_cell};
 ghost use Rattle.rtui_buffer.specs.Sheet.{empty_cells, resized};
 
 use rtui_cell::Cell;
+use rtui_grid::fill;
 use std::alloc::{AllocError, Global};
 
 // A cell, this many times.
@@ -82,7 +83,6 @@ fn fill_up(cells: &mut Vec<Cell>, count: usize)
 pub fn empty_all(cells: &mut [Cell])
     ensures { cells.new ≡ empty_cells (length cells.old) }
 {
-    for cell in cells.iter_mut() {
-        cell.reset();
-    }
+    let count = cells.len();
+    fill(cells, 0, count);
 }

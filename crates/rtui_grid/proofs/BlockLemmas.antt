@@ -1,0 +1,47 @@
+-- One more row of a block.
+use Rattle.std.proofs.Common.{◌≡◌, ℕ, ◌+◌, ◌-◌, ◌*◌, ◌<◌, ◌≤◌, if◌then◌else◌, List, sym, ap, subst, ◌∙◌, arith, inl, inr}
+use Rattle.std.proofs.lemmas.Bool.{cases_lt}
+use Rattle.std.proofs.lemmas.Bool.Decides.{nat_tests}
+use Rattle.rtui_grid.specs.declared.block.Block.{Block}
+use Rattle.rtui_grid.specs.Items.{item, item_at}
+use Rattle.rtui_grid.specs.Blocks.{is_in_block, HasBlock}
+use Rattle.rtui_grid.proofs.PlaceLemmas.{row_ends}
+
+-- the first rows of a block
+abbrev pub front : Block → ℕ → Block
+front k row = record k { rows = row }
+
+module _ {T : Type 0} (d : T) (w stride row : ℕ) (k : Block) (others old now more given : List T) (fits : k.left + k.columns ≤ w) (h : HasBlock d w (front k row) stride others old now)
+    (moved : (j : ℕ) → j < k.columns → item d more ((k.top + row) * w + k.left + j) ≡ item d given (row * stride + j))
+    (before : (j : ℕ) → j < (k.top + row) * w + k.left → item d more j ≡ item d now j)
+    (after : (j : ℕ) → (k.top + row) * w + k.left + k.columns ≤ j → item d more j ≡ item d now j)
+    (left_over : (j : ℕ) → row * stride ≤ j → item d given j ≡ item d others j) where
+  abbrev Shown : ℕ → ℕ → Type 0
+  Shown a b = item_at d w more a b ≡ (if is_in_block (front k (row + 1)) a b then item_at d stride others (a - k.left) (b - k.top) else item_at d w old a b)
+
+  in_row : (a : ℕ) → a < w → Shown a (k.top + row)
+  in_row a lt =
+      let former : item_at d w now a (k.top + row) ≡ item_at d w old a (k.top + row) = (let e = h.at a (k.top + row) lt in grind (arith, nat_tests)) in
+      elim (cases_lt a k.left) [
+        | inl left_of ↦ let e : item_at d w more a (k.top + row) ≡ item_at d w old a (k.top + row) = before ((k.top + row) * w + a) (omega arith) ∙ former in grind (arith, nat_tests)
+        | inr from_left ↦ elim (cases_lt a (k.left + k.columns)) [
+          | inl inside ↦
+              let to : (k.top + row) * w + k.left + (a - k.left) ≡ (k.top + row) * w + a = omega arith in
+              let here : k.top + row - k.top ≡ row = omega arith in
+              let e : item_at d w more a (k.top + row) ≡ item_at d stride others (a - k.left) (k.top + row - k.top) =
+              ap (item d more) (sym to) ∙ moved (a - k.left) (omega arith) ∙ left_over (row * stride + (a - k.left)) (omega arith) ∙ ap (item_at d stride others (a - k.left)) (sym here) in
+              grind (arith, nat_tests)
+          | inr right_of ↦ let e : item_at d w more a (k.top + row) ≡ item_at d w old a (k.top + row) = after ((k.top + row) * w + a) (omega arith) ∙ former in grind (arith, nat_tests)
+        ]
+      ]
+
+  pub block-more : HasBlock d w (front k (row + 1)) stride others old more
+  block-more = record {
+    at = λ a b lt. elim (cases_lt b (k.top + row)) [
+      | inl above ↦ let r = row_ends w b (k.top + row) above in let e = before (b * w + a) (omega arith) in let f = h.at a b lt in grind (arith, nat_tests)
+      | inr not_above ↦ elim (cases_lt (k.top + row) b) [
+        | inl below ↦ let r = row_ends w (k.top + row) b below in let e = after (b * w + a) (omega arith) in let f = h.at a b lt in grind (arith, nat_tests)
+        | inr not_below ↦ let same : k.top + row ≡ b = omega arith in subst (Shown a) same (in_row a lt)
+      ]
+    ];
+  }
