@@ -6,6 +6,7 @@ use Rattle.std.proofs.lemmas.Bool.Decides.{nat_tests}
 use Rattle.rtui_geometry.specs.declared.position.Position.{Position}
 use Rattle.rtui_geometry.specs.declared.rect.Rect.{Rect}
 use Rattle.rtui_geometry.specs.declared.size.Size.{Size}
+use Rattle.rtui_geometry.specs.Rect.{EdgesFit}
 use Rattle.rtui_buffer.specs.Sheet.{Sheet, IsEmptied}
 use Rattle.rtui_buffer.specs.Frame.{IsSettledSheet, ShowsSheet}
 use Rattle.rtui_backend.specs.Screen.{Screen, IsOnScreen, screen_area, size_of}
@@ -129,18 +130,24 @@ has_place (Inline n) size r s lies on = lies.x
 has_place (Fixed f) size r s lies on = on
 
 -- a clear of a viewport that lies where it may changes nothing outside it, and the rows below an inline one stay blank
-cleared_outside : (kind : Viewport) (size : Size) (r : Rect) (old new : Screen) → FitsSize kind size → old.width ≤ 65535 → old.height ≤ 65535 → MayLie kind (size_of old) r → IsOnScreen r old
+cleared_outside : (kind : Viewport) (size : Size) (r : Rect) (old new : Screen) → FitsSize kind size → EdgesFit r → MayLie kind (size_of old) r → IsOnScreen r old
     → (IsInline kind → IsBlankBelow r old) → Empties (is_emptied kind r old.height) old new → KeepsOutside r old new
-cleared_outside Fullscreen size r old new fits columns rows lies on below empties = rw lies (record {
-  at = λ a b a_in b_in out. absurd (out (record { left = omega arith; right = omega arith; top = omega arith; bottom = omega arith }));
-})
-cleared_outside (Inline n) size r old new fits columns rows lies on below empties = record {
+cleared_outside Fullscreen size r old new fits edges lies on below empties =
+    let whole = subst EdgesFit lies edges in
+    let right = whole.right in
+    let bottom = whole.bottom in
+    rw lies (record {
+      at = λ a b a_in b_in out. absurd (out (record { left = omega arith; right = omega arith; top = omega arith; bottom = omega arith }));
+    })
+cleared_outside (Inline n) size r old new fits edges lies on below empties = record {
   at = λ a b a_in b_in out.
       let is = empties.grid a b a_in b_in in
       let left = lies.x in
       let width = lies.width in
       let height = lies.height in
       let bottom = lies.bottom in
+      let right_fits = edges.right in
+      let bottom_fits = edges.bottom in
       elim (cases_lt b r.y) [
         | inl above ↦
             let kept : nat_le (min r.y (old.height - 1)) b ≡ false = grind (arith, nat_tests) in
@@ -153,7 +160,7 @@ cleared_outside (Inline n) size r old new fits columns rows lies on below emptie
         ]
       ];
 }
-cleared_outside (Fixed f) size r old new fits columns rows lies on below empties = keeps_outside r empties
+cleared_outside (Fixed f) size r old new fits edges lies on below empties = keeps_outside r empties
 
 module _ {B : Type 0} (screen : B → Screen) where
   sized_kept : (s t : State B) → t.viewport ≡ s.viewport → t.known_area ≡ s.known_area → (screen t.backend).width ≡ (screen s.backend).width → (screen t.backend).height ≡ (screen s.backend).height → IsSized screen s → IsSized screen t
@@ -254,12 +261,12 @@ module _ {B : Type 0} (screen : B → Screen) where
       }
 
   -- a clear
-  pub keeps-cleared : (kind : Viewport) (size : Size) (s t : State B) → FitsSize kind size → (screen s.backend).width ≤ 65535 → (screen s.backend).height ≤ 65535 → IsAtRest screen kind s → ClearsViewport screen s t
+  pub keeps-cleared : (kind : Viewport) (size : Size) (s t : State B) → FitsSize kind size → IsAtRest screen kind s → ClearsViewport screen s t
       → KeepsOutside s.viewport_area (screen s.backend) (screen t.backend)
-  keeps-cleared kind size s t fits columns rows rest clears =
+  keeps-cleared kind size s t fits rest clears =
       let old : Screen = screen s.backend in
       let on = rest.in_step.on_screen in
-      cleared_outside kind size s.viewport_area old (screen t.backend) fits columns rows rest.lies on rest.below
+      cleared_outside kind size s.viewport_area old (screen t.backend) fits clears.edges rest.lies on rest.below
       (subst (λ k. ClearsArea k s.viewport_area old (screen t.backend)) rest.kind_is clears.clears (has_place kind (size_of old) s.viewport_area old rest.lies on))
 
   pub rests-cleared : (kind : Viewport) (s t : State B) → IsAtRest screen kind s → ClearsViewport screen s t → IsAtRest screen kind t

@@ -1,5 +1,6 @@
 -- What a clear does.
 use Rattle.std.specs.Prelude.{◌≡◌, ◌⊎◌, ◌<◌}
+use Rattle.rtui_geometry.specs.Rect.{EdgesFit}
 use Rattle.rtui_buffer.specs.Sheet.{IsEmptied}
 use Rattle.rtui_backend.specs.Screen.{IsOnScreen, Screen, cursor_of}
 use Rattle.rtui_viewport.specs.Viewports.{IsFixed, IsInline}
@@ -9,8 +10,9 @@ use Rattle.rtui_terminal.specs.State.{State}
 use Rattle.rtui_terminal.specs.InStep.{IsInStep, KeepsAroundViewport, rows_over}
 
 module _ {B : Type 0} (screen : B → Screen) where
-  -- a clear: the older buffer is empty, and so is the viewport; the size, the history and the cursor stay
+  -- a clear: the older buffer is empty, and so is the viewport, whose edges fit; the size, the history and the cursor stay
   pub record ClearsViewport (s t : State B) : Type 0 where
+    pub edges : EdgesFit s.viewport_area
     pub rest : t ≡ record s { backend = t.backend; older = t.older }
     pub older : IsEmptied s.older.area t.older
     pub frame : KeepsAllButLooks (screen s.backend) (screen t.backend)

@@ -258,8 +258,8 @@ is_other own given differs same =
     let height = ap (λ (z : Size). z.height) same in
     grind (arith, nat_tests)
 
-pub Plays-cleared : (stage : Stage) (s t : State TestBackend) → IsGoodStage stage → (screen_of s.backend).width ≤ 65535 → (screen_of s.backend).height ≤ 65535 → IsPlaying stage s → ClearsViewport screen_of s t → Plays stage steps.Clear s t
-Plays-cleared stage s t good columns rows playing clears =
+pub Plays-cleared : (stage : Stage) (s t : State TestBackend) → IsGoodStage stage → IsPlaying stage s → ClearsViewport screen_of s t → Plays stage steps.Clear s t
+Plays-cleared stage s t good playing clears =
     let old : Screen = screen_of s.backend in
     let new : Screen = screen_of t.backend in
     let kind = stage.viewport in
@@ -267,7 +267,7 @@ Plays-cleared stage s t good columns rows playing clears =
     let on = playing.rest.in_step.on_screen in
     let view : t.viewport_area ≡ r = ap (λ t. t.viewport_area) clears.rest in
     let empties = subst (λ k. ClearsArea k r old new) playing.rest.kind_is clears.clears (has_place kind (size_of old) r old playing.rest.lies on) in
-    let outside : KeepsOutside r old new = keeps-cleared screen_of kind (stage_size stage) s t good.viewport columns rows playing.rest clears in
+    let outside : KeepsOutside r old new = keeps-cleared screen_of kind (stage_size stage) s t good.viewport playing.rest clears in
     let blank : IsBlankOver r new = blank_over kind r on empties in
     record {
       playing = record { rest = rests-cleared screen_of kind s t playing.rest clears; plain = plain-emptied s.older.area t.older clears.older };

@@ -258,8 +258,6 @@ fn clear(terminal: &mut Terminal<TestBackend>) -> Result<(), PlayCause>
     ensures { OnOk result ((stage : Stage) → IsGoodStage stage → IsPlaying stage terminal.old
         → Plays stage Clear terminal.old terminal.new) }
 {
-    // The screen's edges fit 16 bits.
-    let _area = terminal.backend().buffer().area();
     match terminal.clear() {
         Ok(()) => Ok(()),
         Err(_) => Err(PlayCause::Memory),

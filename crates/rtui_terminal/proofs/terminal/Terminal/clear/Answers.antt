@@ -21,6 +21,7 @@ returns-clause-ok g c = elim c.match-restore_cursor.branch [
       let cleared : ClearsArea c.self.inside.viewport c.self.inside.viewport_area start (screen c.restore_cursor.new.backend) =
       clears_restored c.self.inside.viewport c.self.inside.viewport_area found restored (rw stays at c.in-Ok-clear_area.ensures.cleared) in
       rw w.result-is (rw (← c.self.view_is) (record {
+        edges = c.self.invariant.0;
         rest = refl;
         older = c.reset.ensures.emptied;
         frame = frame;
