@@ -2,10 +2,10 @@
 use Rattle.std.proofs.Common.{◌≡◌, ℕ, ◌+◌, ◌-◌, ◌*◌, ◌<◌, ◌≤◌, List, [], refl, sym, ap, subst, ◌∙◌, arith, min, inl, inr, append-nil}
 use Rattle.rtui_geometry.specs.declared.rect.Rect.{Rect}
 use Rattle.rtui_cell.specs.Look.{Look}
-use Rattle.rtui_buffer.specs.Sheet.{Sheet, IsEmptied, empty_cells, area_size}
+use Rattle.rtui_buffer.specs.Sheet.{Sheet, IsEmptied}
 use Rattle.rtui_buffer.specs.Frame.{IsSettledSheet}
 use Rattle.rtui_backend.specs.Screen.{Screen, rows_above}
-use Rattle.rtui_rows.specs.Rows.{DrawsRows, DrawsFirstRow, RowsFit, ShowsRows, IsNarrowSheet, nonempty_cells, WritesAtMost}
+use Rattle.rtui_rows.specs.Rows.{IsBlankFor, DrawsRows, DrawsFirstRow, RowsFit, ShowsRows, IsNarrowSheet, nonempty_cells, WritesAtMost}
 use Rattle.rtui_rows.specs.Insertion.{KeepsSizeAndVisibility, AppendsPart}
 use Rattle.rtui_rows.specs.Scrolling.{HasPushed, HasRaised, HasLowered}
 use Rattle.rtui_backend.specs.Screen.{ScrollsUp, ScrollsDown}
@@ -24,12 +24,13 @@ no_part s i rows = record {
   agree = record { count = refl; agree = λ b low. absurd (omega arith) };
 }
 
--- an empty buffer, whatever it is said to be the area of
-pub own_area : {over : Rect} {blank : Sheet} → IsEmptied over blank → IsEmptied blank.area blank
-own_area emptied = record { area = refl; cells = emptied.cells ∙ ap (λ r. empty_cells (area_size r)) (sym emptied.area) }
-
-same_width : (s blank : Sheet) → IsEmptied s.area blank → s.area.width ≡ blank.area.width
-same_width s blank emptied = ap (λ (r : Rect). r.width) (sym emptied.area)
+-- an empty buffer that was emptied again
+pub still_blank : {m : ℕ} {s old new : Sheet} → IsBlankFor m s old → IsEmptied old.area new → IsBlankFor m s new
+still_blank {m} {s} {old} {new} is emptied = record {
+  width = is.width ∙ ap (λ (r : Rect). r.width) (sym emptied.area);
+  rows = subst (λ (r : Rect). m ≤ r.height) (sym emptied.area) is.rows;
+  empty = subst (λ r. IsEmptied r new) (sym emptied.area) emptied;
+}
 
 -- no rows have no cells
 no_cells : (s : Sheet) (i : ℕ) → nonempty_cells s i 0 ≡ 0
@@ -102,14 +103,14 @@ module _ (s : Sheet) (k : ℕ) (old cur mid new : Screen) (before : HasPushed s 
       omega (arith, one, none, so_far, whole, row))
 
   -- any further one, over the row that is blank then
-  pub pushed_next : (blank : Sheet) → IsEmptied s.area blank → 0 < k → DrawsRows blank s k 1 0 cur mid → HasPushed s (k + 1) old new
-  pushed_next blank emptied more drew =
-      let wide : s.area.width ≡ blank.area.width = same_width s blank emptied in
+  pub pushed_next : {m : ℕ} (blank : Sheet) → IsBlankFor m s blank → 0 < k → DrawsRows blank s k 1 0 cur mid → HasPushed s (k + 1) old new
+  pushed_next blank is more drew =
+      let wide : s.area.width ≡ blank.area.width = is.width in
       let shown : ShowsRows s k 1 0 cur mid = rows_shown blank s wide k 1 0 (omega arith) drew (record {
         fit = fit_now;
         inside = inside;
         settled = settled;
-        shown = blank_first blank 1 0 cur (own_area emptied) (sym wide ∙ fit_now.width) (before.blank more);
+        shown = blank_first blank 1 0 cur is.empty (sym wide ∙ fit_now.width) (before.blank more);
       }) in
       pushed_one shown (subst (λ w. WritesAtMost (w * 1) cur mid) (sym wide) (writes_rows drew)) (λ narrow room.
       let same : min (k + 1) 1 ≡ min k 1 = omega arith in
@@ -117,12 +118,12 @@ module _ (s : Sheet) (k : ℕ) (old cur mid new : Screen) (before : HasPushed s 
       let place : 0 + k ≡ k = omega arith in
       let parts : nonempty_cells s 0 (k + 1) ≡ nonempty_cells s 0 k + nonempty_cells s k 1 = nonempty_parts s 0 k 1 ∙ ap (λ j. nonempty_cells s 0 k + nonempty_cells s j 1) place in
       let so_far : cur.written ≤ old.written + (min k 1 * s.area.width + nonempty_cells s 0 k) = before.few narrow (omega (arith, parts, whole)) in
-      let row : mid.written ≤ cur.written + nonempty_cells s k 1 = writes_nonempty drew wide (own_area emptied) narrow (omega (arith, parts, whole, so_far)) in
+      let row : mid.written ≤ cur.written + nonempty_cells s k 1 = writes_nonempty drew wide is.empty narrow (omega (arith, parts, whole, so_far)) in
       omega (arith, parts, whole, so_far, row))
 
 -- the rows above row d scrolled up by t, and t rows more drawn above it
 module _ (s : Sheet) (i n j d t : ℕ) (old cur mid new : Screen) (j_is : j ≡ i + n) (before : HasRaised s i n d old cur) (width : s.area.width ≡ old.width) (fits : d ≤ old.height) (settled : IsSettledSheet s)
-    (inside : j + t ≤ s.area.height) (some : 0 < d) (le : t ≤ d) (up : ScrollsUp 0 d t cur mid) (blank : Sheet) (emptied : IsEmptied s.area blank) (small : d ≤ 65535) (drew : DrawsRows blank s j t (d - t) mid new) where
+    (inside : j + t ≤ s.area.height) (some : 0 < d) (le : t ≤ d) (up : ScrollsUp 0 d t cur mid) {m : ℕ} (blank : Sheet) (is : IsBlankFor m s blank) (small : d ≤ 65535) (drew : DrawsRows blank s j t (d - t) mid new) where
   high : d ≤ cur.height
   high = omega (arith, fits, before.shape.height)
 
@@ -130,11 +131,11 @@ module _ (s : Sheet) (i n j d t : ℕ) (old cur mid new : Screen) (j_is : j ≡ 
   fit_up = record { width = width ∙ sym before.shape.width ∙ sym up.width; bottom = omega (arith, up.height, high) }
 
   shown : ShowsRows s j t (d - t) mid new
-  shown = rows_shown blank s (same_width s blank emptied) j t (d - t) (omega arith) drew (record {
+  shown = rows_shown blank s is.width j t (d - t) (omega arith) drew (record {
     fit = fit_up;
     inside = inside;
     settled = settled;
-    shown = blank_first blank t (d - t) mid (own_area emptied) (sym (same_width s blank emptied) ∙ fit_up.width) (record { at = λ a b a_in b_in. blank_scrolled some high up le a b (omega (arith, up.width)) b_in });
+    shown = blank_first blank t (d - t) mid is.empty (sym is.width ∙ fit_up.width) (record { at = λ a b a_in b_in. blank_scrolled some high up le a b (omega (arith, up.width)) b_in });
   })
 
   pub raised_more : HasRaised s i (n + t) d old new
@@ -156,27 +157,27 @@ module _ (s : Sheet) (i n j d t : ℕ) (old cur mid new : Screen) (j_is : j ≡ 
     few = λ narrow room.
         let parts : nonempty_cells s i (n + t) ≡ nonempty_cells s i n + nonempty_cells s j t = nonempty_parts s i n t ∙ ap (λ e. nonempty_cells s i n + nonempty_cells s e t) (sym j_is) in
         let so_far : cur.written ≤ old.written + nonempty_cells s i n = before.few narrow (omega (arith, parts)) in
-        let rows : new.written ≤ mid.written + nonempty_cells s j t = writes_nonempty drew (same_width s blank emptied) (own_area emptied) narrow (omega (arith, parts, so_far, up.written)) in
+        let rows : new.written ≤ mid.written + nonempty_cells s j t = writes_nonempty drew is.width is.empty narrow (omega (arith, parts, so_far, up.written)) in
         omega (arith, parts, so_far, rows, up.written);
     most = λ room.
         let parts : s.area.width * (n + t) ≡ s.area.width * n + s.area.width * t = more_rows s.area.width n t in
         let so_far : cur.written ≤ old.written + s.area.width * n = before.most (omega (arith, parts)) in
-        let rows : new.written ≤ mid.written + s.area.width * t = subst (λ w. WritesAtMost (w * t) mid new) (sym (same_width s blank emptied)) (writes_rows drew) (omega (arith, parts, so_far, up.written)) in
+        let rows : new.written ≤ mid.written + s.area.width * t = subst (λ w. WritesAtMost (w * t) mid new) (sym is.width) (writes_rows drew) (omega (arith, parts, so_far, up.written)) in
         omega (arith, parts, so_far, rows, up.written);
   }
 
 -- a viewport's rows moved down by n, and n rows drawn where it stood
 module _ (s : Sheet) (n : ℕ) (r : Rect) (old mid new : Screen) (width : s.area.width ≡ old.width) (fits : r.y + n + r.height ≤ old.height) (settled : IsSettledSheet s)
-    (inside : n ≤ s.area.height) (down : ScrollsDown r.y (r.y + r.height + n) n old mid) (blank : Sheet) (emptied : IsEmptied s.area blank) (small : r.y + n ≤ 65535) (drew : DrawsRows blank s 0 n r.y mid new) where
+    (inside : n ≤ s.area.height) (down : ScrollsDown r.y (r.y + r.height + n) n old mid) {m : ℕ} (blank : Sheet) (is : IsBlankFor m s blank) (small : r.y + n ≤ 65535) (drew : DrawsRows blank s 0 n r.y mid new) where
   fit_mid : RowsFit s n r.y mid
   fit_mid = record { width = width ∙ sym down.width; bottom = omega (arith, down.height) }
 
   drawn : ShowsRows s 0 n r.y mid new
-  drawn = rows_shown blank s (same_width s blank emptied) 0 n r.y small drew (record {
+  drawn = rows_shown blank s is.width 0 n r.y small drew (record {
     fit = fit_mid;
     inside = omega arith;
     settled = settled;
-    shown = blank_first blank n r.y mid (own_area emptied) (sym (same_width s blank emptied) ∙ fit_mid.width) (record { at = λ a b a_in b_in. blank_lowered down (omega arith) (omega arith) a b (omega (arith, down.width)) b_in });
+    shown = blank_first blank n r.y mid is.empty (sym is.width ∙ fit_mid.width) (record { at = λ a b a_in b_in. blank_lowered down (omega arith) (omega arith) a b (omega (arith, down.width)) b_in });
   })
 
   pub lowered_rows : HasLowered s n r old new
@@ -188,9 +189,9 @@ module _ (s : Sheet) (n : ℕ) (r : Rect) (old mid new : Screen) (width : s.area
         (above_grown s 0 n r.y mid new drawn.history drawn.width drawn.height (λ a b a_in b_in. (drawn.shown a b a_in b_in).look) (λ a b low. drawn.outside a b (inl low)) fit_mid);
     moved = λ a b a_in b_in. drawn.outside a (r.y + n + b) (inr (omega arith)) ∙ moved_lowered down (omega arith) a b a_in (omega arith);
     below = λ a b a_in b_in low. drawn.outside a b (inr (omega arith)) ∙ below_lowered down a b a_in b_in (omega arith);
-    few = λ narrow room. let rows : new.written ≤ mid.written + nonempty_cells s 0 n = writes_nonempty drew (same_width s blank emptied) (own_area emptied) narrow (omega (arith, down.written)) in omega (arith, rows, down.written);
+    few = λ narrow room. let rows : new.written ≤ mid.written + nonempty_cells s 0 n = writes_nonempty drew is.width is.empty narrow (omega (arith, down.written)) in omega (arith, rows, down.written);
     most = λ room.
-        let rows : new.written ≤ mid.written + s.area.width * n = subst (λ w. WritesAtMost (w * n) mid new) (sym (same_width s blank emptied)) (writes_rows drew) (omega (arith, down.written)) in
+        let rows : new.written ≤ mid.written + s.area.width * n = subst (λ w. WritesAtMost (w * n) mid new) (sym is.width) (writes_rows drew) (omega (arith, down.written)) in
         omega (arith, rows, down.written);
   }
 

@@ -8,7 +8,7 @@ use Rattle.rtui_cell.specs.Grid.{Update}
 use Rattle.rtui_diff.specs.Cells.{is_always, cell, cell_at}
 use Rattle.rtui_diff.specs.Settled.{IsSettled}
 use Rattle.rtui_diff.specs.Shows.{Shows, ShowsColumn}
-use Rattle.rtui_buffer.specs.Sheet.{Sheet}
+use Rattle.rtui_buffer.specs.Sheet.{Sheet, IsEmptied}
 use Rattle.rtui_buffer.specs.Frame.{IsSettledSheet}
 use Rattle.rtui_buffer.specs.RowsDiff.{part_cells, IsRowsDiff}
 use Rattle.rtui_backend.specs.Screen.{Screen, Draws}
@@ -22,6 +22,12 @@ pub record DrawsRows (former next : Sheet) (i n y : ℕ) (old new : Screen) : Ty
   pub updates : List Update
   pub diff : IsRowsDiff former 0 next i n updates
   pub drawn : Draws old (map (lowered_update y) updates) new
+
+-- an empty buffer as wide as another one, of n rows at least
+pub record IsBlankFor (n : ℕ) (s blank : Sheet) : Type 0 where
+  pub width : s.area.width ≡ blank.area.width
+  pub rows : n ≤ blank.area.height
+  pub empty : IsEmptied blank.area blank
 
 -- the cells of a buffer's first row are skipped, so that any screen shows it
 pub record IsUnknownRow (s : Sheet) : Type 0 where

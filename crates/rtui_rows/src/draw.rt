@@ -3,7 +3,7 @@
 ghost use Rattle.std.specs.Prelude.{◌≡◌, ◌+◌, ◌<◌, ◌≤◌, true, OnOk};
 ghost use Rattle.rtui_buffer.specs.Sheet.{IsEmptied};
 ghost use Rattle.rtui_backend.specs.Failures.{Counts};
-ghost use Rattle.rtui_rows.specs.Rows.{DrawsRows, DrawsFirstRow};
+ghost use Rattle.rtui_rows.specs.Rows.{IsBlankFor, DrawsRows, DrawsFirstRow};
 ghost use Rattle.rtui_rows.specs.Insertion.{KeepsSizeAndVisibility};
 
 use crate::marks::{empty_front, skip_front};
@@ -38,17 +38,17 @@ pub fn draw_rows<B: Backend>(
 }
 
 /// Draws the first row of a buffer on the screen's first row, whatever stands there: each cell but skipped ones and
-/// those that a wide one covers. An empty buffer of the same area is written to meanwhile.
+/// those that a wide one covers. The first row of an empty buffer is written to meanwhile.
 pub fn draw_first_row<B: Backend>(
     backend: &mut B,
     blank: &mut Buffer,
     rows: &Buffer,
 ) -> Result<(), B::Error>
-    requires blank { IsEmptied rows.now.area blank.old }
+    requires blank { IsBlankFor 1 rows.now blank.old }
     requires row { 0 < rows.now.area.height }
     ensures ok { OnOk result
         (DrawsFirstRow rows.now (B.screen backend.old) (B.screen backend.new)) }
-    ensures blank { IsEmptied rows.now.area blank.new }
+    ensures blank { IsEmptied blank.old.area blank.new }
     ensures shape { OnOk result
         (KeepsSizeAndVisibility (B.screen backend.old) (B.screen backend.new)) }
     ensures flushed { OnOk result (B.is_flushed backend.new ≡ true) }

@@ -5,6 +5,7 @@ ghost use Rattle.rtui_geometry.specs.Rect.{EdgesFit};
 ghost use Rattle.rtui_buffer.specs.Sheet.{IsEmptied};
 ghost use Rattle.rtui_backend.specs.Failures.{Counts};
 ghost use Rattle.rtui_rows.specs.Insertion.{KeepsSizeAndVisibility};
+ghost use Rattle.rtui_rows.specs.Rows.{IsBlankFor};
 ghost use Rattle.rtui_rows.specs.Scrolling.{PushesRows, InsertsDown, InsertsUp, rows_down};
 
 use crate::draw::{draw_first_row, draw_rows};
@@ -19,8 +20,8 @@ pub fn push_rows<B: Backend>(
     blank: &mut Buffer,
     rows: &Buffer,
 ) -> Result<(), B::Error>
-    requires blank { IsEmptied rows.now.area blank.old }
-    ensures blank { IsEmptied rows.now.area blank.new }
+    requires blank { IsBlankFor 1 rows.now blank.old }
+    ensures blank { IsEmptied blank.old.area blank.new }
     ensures ok { OnOk result (PushesRows rows.now (B.screen backend.old) (B.screen backend.new)) }
     ensures shape { OnOk result
         (KeepsSizeAndVisibility (B.screen backend.old) (B.screen backend.new)) }
@@ -46,7 +47,8 @@ pub fn insert_down<B: Backend>(
     viewport: Rect,
     height: u16,
 ) -> Result<u16, B::Error>
-    requires blank { IsEmptied rows.now.area blank.now }
+    requires blank { IsBlankFor (rows_down rows.now.area.height viewport height)
+        rows.now blank.now }
     requires edges { EdgesFit viewport }
     ensures ok { IfOk result (InsertsDown rows.now viewport height
         (B.screen backend.old) (B.screen backend.new)) }
@@ -75,7 +77,7 @@ pub fn insert_up<B: Backend>(
     first: u16,
     top: u16,
 ) -> Result<(), B::Error>
-    requires blank { IsEmptied rows.now.area blank.now }
+    requires blank { IsBlankFor (min (rows.now.area.height - first) top) rows.now blank.now }
     requires first { first ≤ rows.now.area.height }
     requires room { first < rows.now.area.height → 0 < top }
     ensures ok { OnOk result (InsertsUp rows.now first top

@@ -13,7 +13,7 @@ use Rattle.std.specs.declared.alloc.AllocError.{AllocError}
 use Rattle.rtui_terminal.specs.Faults.{FailsOnlyByBackend}
 use Rattle.rtui_terminal.specs.declared.terminal.error.TerminalError.{TerminalError}
 use Rattle.rtui_terminal.specs.declared.terminal.error.TerminalError.TheVariants.{Backend, Memory, Area, Closure}
-use Rattle.rtui_rows.specs.Rows.{DrawsRows, ShowsRows, nonempty_cells}
+use Rattle.rtui_rows.specs.Rows.{IsBlankFor, DrawsRows, ShowsRows, nonempty_cells}
 use Rattle.rtui_rows.specs.Insertion.{AppendsRows, KeepsSizeAndVisibility, HasPlaceAbove, AppendsPart}
 use Rattle.rtui_rows.specs.Scrolling.{HasPushed, HasRaised, HasLowered, PushesRows, InsertsDown, InsertsUp, rows_down}
 use Rattle.rtui_rows.specs.Following.{Follows}
@@ -22,7 +22,7 @@ use Rattle.rtui_terminal.specs.InStep.{IsInStep, rows_over}
 use Rattle.rtui_terminal.specs.Insertion.{inserted_area, TakesRows}
 use Rattle.rtui_rows.proofs.ShownLemmas.{parts_join, rows_shown, blank_first}
 use Rattle.rtui_rows.proofs.CountLemmas.{writes_rows, nonempty_parts}
-use Rattle.rtui_rows.proofs.PushLemmas.{more_rows, no_part, own_area}
+use Rattle.rtui_rows.proofs.PushLemmas.{more_rows, no_part}
 use Rattle.rtui_terminal.specs.Insertion.{Inserts, StopsInserting, InsertsBy}
 
 -- all rows of a buffer were appended
@@ -69,7 +69,7 @@ module _ {B : Type 0} (screen : B → Screen) (s : State B) (inserted : Sheet) (
   module _ (covers : s.known_area.height ≤ s.viewport_area.height) (some : 0 < inserted.area.height) (mid b : B)
       (shape_mid : KeepsSizeAndVisibility (screen s.backend) (screen mid)) (shape : KeepsSizeAndVisibility (screen mid) (screen b))
       (pushed : PushesRows inserted (screen s.backend) (screen mid))
-      (blank : Sheet) (emptied : IsEmptied inserted.area blank) (redrawn : s.older.area ≡ s.viewport_area → DrawsRows blank s.older 0 1 0 (screen mid) (screen b)) where
+      {m : ℕ} (blank : Sheet) (is : IsBlankFor m inserted blank) (redrawn : s.older.area ≡ s.viewport_area → DrawsRows blank s.older 0 1 0 (screen mid) (screen b)) where
     abbrev pub covered : State B
     covered = record s { backend = b }
 
@@ -83,12 +83,12 @@ module _ {B : Type 0} (screen : B → Screen) (s : State B) (inserted : Sheet) (
     shown takes step settled =
         let width : s.older.area.width ≡ s.viewport_area.width = ap (λ (r : Rect). r.width) step.area in
         let height : s.older.area.height ≡ s.viewport_area.height = ap (λ (r : Rect). r.height) step.area in
-        let columns : blank.area.width ≡ s.viewport_area.width = ap (λ (r : Rect). r.width) (emptied.area ∙ over) in
+        let columns : blank.area.width ≡ s.viewport_area.width = sym is.width ∙ ap (λ (r : Rect). r.width) over in
         rows_shown blank s.older (width ∙ sym columns) 0 1 0 (omega arith) (redrawn step.area) (record {
           fit = record { width = width ∙ takes.width ∙ sym shape_mid.width; bottom = omega (arith, shape_mid.height, same_height takes) };
           inside = omega (arith, height);
           settled = step.settled;
-          shown = blank_first blank 1 0 (screen mid) (own_area emptied) (columns ∙ takes.width ∙ sym shape_mid.width) ((has_pushed takes settled).blank some);
+          shown = blank_first blank 1 0 (screen mid) is.empty (columns ∙ takes.width ∙ sym shape_mid.width) ((has_pushed takes settled).blank some);
         })
 
     -- each column of the viewport shows what it did
@@ -141,14 +141,14 @@ module _ {B : Type 0} (screen : B → Screen) (s : State B) (inserted : Sheet) (
       few = λ takes step settled narrow room.
           let covered : (if nat_lt s.viewport_area.height s.known_area.height then 0 else 2 * inserted.area.width) ≡ 2 * inserted.area.width = grind (arith, nat_tests) in
           let once : min inserted.area.height 1 * inserted.area.width ≡ inserted.area.width = ap (λ m. m * inserted.area.width) (let one : min inserted.area.height 1 ≡ 1 = omega arith in one) ∙ omega arith in
-          let columns : blank.area.width * 1 ≡ inserted.area.width = omega (arith, ap (λ (r : Rect). r.width) emptied.area) in
+          let columns : blank.area.width * 1 ≡ inserted.area.width = omega (arith, is.width) in
           let pushes : (screen mid).written ≤ (screen s.backend).written + (min inserted.area.height 1 * inserted.area.width + nonempty_cells inserted 0 inserted.area.height) =
           (has_pushed takes settled).few narrow (omega (arith, covered, once, room)) in
           let repairs : (screen b).written ≤ (screen mid).written + blank.area.width * 1 = writes_rows (redrawn step.area) (omega (arith, covered, once, columns, pushes, room)) in
           omega (arith, covered, once, columns, pushes, repairs);
       most = λ takes step settled room.
           let covered : (if nat_lt s.viewport_area.height s.known_area.height then 0 else inserted.area.width) ≡ inserted.area.width = grind (arith, nat_tests) in
-          let columns : blank.area.width * 1 ≡ inserted.area.width = omega (arith, ap (λ (r : Rect). r.width) emptied.area) in
+          let columns : blank.area.width * 1 ≡ inserted.area.width = omega (arith, is.width) in
           let pushes : (screen mid).written ≤ (screen s.backend).written + inserted.area.width * inserted.area.height = (has_pushed takes settled).most (omega (arith, covered, room)) in
           let repairs : (screen b).written ≤ (screen mid).written + blank.area.width * 1 = writes_rows (redrawn step.area) (omega (arith, covered, columns, pushes, room)) in
           omega (arith, covered, columns, pushes, repairs);

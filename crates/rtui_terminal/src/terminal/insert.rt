@@ -1,9 +1,9 @@
 ghost use Rattle.std.specs.Prelude.{◌≡◌, ◌<◌, ◌≤◌, true, Ok, OnOk, OnErr};
-ghost use Rattle.rtui_buffer.specs.Sheet.{IsEmptied};
 ghost use Rattle.rtui_viewport.specs.Viewports.{IsInline};
 ghost use Rattle.rtui_rows.specs.Filling.{AcceptsRows, FillsRows};
+ghost use Rattle.rtui_rows.specs.Rows.{IsBlankFor};
 ghost use Rattle.rtui_terminal.specs.Faults.{Faults, FailsOnlyByBackend};
-ghost use Rattle.rtui_terminal.specs.Insertion.{inserted_area, Inserts, StopsInserting, InsertsBy};
+ghost use Rattle.rtui_terminal.specs.Insertion.{inserted_area, rows_at_once, Inserts, StopsInserting, InsertsBy};
 
 use crate::terminal::Terminal;
 use crate::terminal::error::TerminalError;
@@ -23,7 +23,7 @@ impl<B: Backend> Terminal<B> {
         rows: &Buffer,
     ) -> Result<(), TerminalError<B::Error>>
         requires over { rows.now.area ≡ inserted_area self.old rows.now.area.height }
-        requires blank { IsEmptied rows.now.area blank.old }
+        requires blank { IsBlankFor 1 rows.now blank.old }
         requires some { 0 < rows.now.area.height }
         requires known { 0 < self.old.known_area.height }
         requires covers { self.old.known_area.height ≤ self.old.viewport_area.height }
@@ -56,7 +56,8 @@ impl<B: Backend> Terminal<B> {
         rows: &Buffer,
     ) -> Result<(), TerminalError<B::Error>>
         requires over { rows.now.area ≡ inserted_area self.old rows.now.area.height }
-        requires blank { IsEmptied rows.now.area blank.old }
+        requires blank { IsBlankFor (rows_at_once rows.now.area.height self.old)
+            rows.now blank.old }
         requires some { 0 < rows.now.area.height }
         requires known { 0 < self.old.known_area.height }
         ensures ok { OnOk result (Inserts B.screen rows.now self.old self.new) }
@@ -104,8 +105,16 @@ impl<B: Backend> Terminal<B> {
         };
         let known = self.known_area.height;
         let alloc = self.current.allocator();
-        // An empty buffer of the rows' area, of no rows if none are drawn.
-        let blank_area = if known == 0 { Rect::ZERO } else { area };
+        // As many empty rows as are drawn at once, and none if none are drawn.
+        let most = if known == 0 {
+            0
+        } else {
+            known.max(self.viewport_area.y)
+        };
+        let blank_area = Rect {
+            height: height.min(most),
+            ..area
+        };
         let mut blank = match Buffer::empty(alloc, blank_area) {
             Ok(blank) => blank,
             Err(_) => return Err(TerminalError::Memory),

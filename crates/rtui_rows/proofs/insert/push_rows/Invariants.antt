@@ -1,7 +1,6 @@
 use Rattle.std.proofs.Common.{◌≡◌}
-use Rattle.rtui_buffer.specs.Sheet.{IsEmptied}
 use Rattle.rtui_buffer.specs.Frame.{IsSettledSheet}
-use Rattle.rtui_rows.specs.Rows.{RowsFit}
+use Rattle.rtui_rows.specs.Rows.{IsBlankFor, RowsFit}
 use Rattle.rtui_rows.specs.Insertion.{KeepsSizeAndVisibility}
 use Rattle.rtui_rows.specs.Scrolling.{HasPushed}
 use Rattle.rtui_rows.proofs.insert.push_rows.Given as goal
@@ -10,6 +9,7 @@ abbrev pub invariant-loop-row : goal.invariant-loop-row
 invariant-loop-row g l = record {
   counts : g.B.Backend.failures l.backend ≡ g.B.Backend.failures l.fn.backend;
   shape : KeepsSizeAndVisibility (g.B.Backend.screen l.fn.backend) (g.B.Backend.screen l.backend);
-  blank : IsEmptied l.rows.area l.blank;
+  blank : IsBlankFor 1 l.rows l.blank;
+  same : l.blank.area ≡ l.fn.blank.area;
   pushed : RowsFit l.rows 1 0 (g.B.Backend.screen l.fn.backend) → IsSettledSheet l.rows → HasPushed l.rows l.row (g.B.Backend.screen l.fn.backend) (g.B.Backend.screen l.backend);
 }
