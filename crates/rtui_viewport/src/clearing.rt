@@ -1,11 +1,12 @@
 ghost use Rattle.std.specs.Prelude.{◌≡◌, ◌*◌, ◌≤◌, ◌<◌, OnOk};
 ghost use Rattle.rtui_geometry.specs.Rect.{EdgesFit};
 ghost use Rattle.rtui_backend.specs.Failures.{Counts};
-ghost use Rattle.rtui_backend.specs.Screen.{IsOnScreen, cursor_of};
+ghost use Rattle.rtui_backend.specs.declared.clear_type.ClearType.TheVariants.{AfterCursor};
+ghost use Rattle.rtui_backend.specs.Screen.{Clears, IsOnScreen, cursor_of, with_cursor};
 ghost use Rattle.rtui_viewport.specs.Areas.{KeepsAllButLooks, Empties, is_between, is_within};
 ghost use Rattle.rtui_viewport.specs.Clearing.{ClearsArea, WritesItems, WritesBlanks, blanks_needed};
 ghost use Rattle.rtui_viewport.specs.declared.viewport.Viewport.TheVariants.{Fullscreen};
-ghost use Rattle.rtui_viewport.specs.Viewports.{IsFixed};
+ghost use Rattle.rtui_viewport.specs.Viewports.{IsFixed, IsInline};
 ghost use Rattle.rtui_viewport.specs.Placing.{cursor_restored};
 
 use crate::blanks::Blanks;
@@ -84,6 +85,8 @@ pub fn clear_area<B: Backend>(
         (ClearsArea viewport area (B.screen backend.old) (B.screen backend.new)) }
     ensures cut { OnOk result (IsFixed viewport → area.y < (B.screen backend.old).height
         → Empties (is_within area) (B.screen backend.old) (B.screen backend.new)) }
+    ensures corner { OnOk result (IsInline viewport → Clears
+        (with_cursor area.x area.y (B.screen backend.old)) AfterCursor (B.screen backend.new)) }
     ensures frame { OnOk result (KeepsAllButLooks (B.screen backend.old) (B.screen backend.new)) }
     ensures cursor { OnOk result (viewport ≡ Fullscreen
         → cursor_of (B.screen backend.new) ≡ cursor_of (B.screen backend.old)) }
