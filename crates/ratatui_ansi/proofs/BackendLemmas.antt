@@ -3,29 +3,30 @@ use Rattle.std.proofs.Common.{◌≡◌, ℕ, ◌+◌, ◌*◌, ◌^◌, Bool, t
 use Rattle.ratatui_core.specs.Layout.{Position, Size}
 use Rattle.ratatui_core.specs.Buffer.{Update}
 use Rattle.ratatui_core.specs.Backend.{Screen, Draws, IsBlankScreen}
-use Rattle.ratatui_ansi.specs.Emulator.{Emulator, rested, fresh}
-use Rattle.ratatui_ansi.specs.Sequences.{feed}
-use Rattle.ratatui_ansi.specs.Screens.{screen_shown}
-use Rattle.ratatui_ansi.specs.Calls.{IsAwaiting, SendsCall, MakesBlank, anew, with_rows_above}
+use Rattle.ansi_model.specs.Emulator.{Emulator, rested, blank_terminal}
+use Rattle.ansi_model.specs.Sequences.{feed}
+use Rattle.ansi_model.specs.Screens.{screen_shown}
+use Rattle.ratatui_ansi.specs.Calls.{IsAwaiting, SendsCall}
+use Rattle.ansi_model.specs.Beginnings.{MakesBlank, anew, with_rows_above}
 use Rattle.ratatui_ansi.specs.Backend.{reader, IsReadAlike, IsInOrder}
-use Rattle.ratatui_ansi.specs.Columns.{blank_column}
-use Rattle.ratatui_ansi.specs.Flags.{AreBehind}
+use Rattle.ansi_model.specs.Columns.{blank_column}
+use Rattle.ratatui_ansi.specs.Flags.{AreContinuations}
 use Rattle.ratatui_ansi.specs.Frame.{SendsDraw}
-use Rattle.ratatui_ansi.proofs.ScrollLemmas.{blank-whole}
-use Rattle.ratatui_ansi.proofs.ReadLemmas.{feed-append}
-use Rattle.ratatui_ansi.proofs.TextLemmas.{blank-sized}
-use Rattle.ratatui_ansi.proofs.CallLemmas.{fresh-left}
-use Rattle.ratatui_ansi.proofs.HistoryLemmas.{feed-above}
+use Rattle.ansi_model.proofs.ScrollLemmas.{blank-whole}
+use Rattle.ansi_model.proofs.ReadLemmas.{feed-append}
+use Rattle.ansi_model.proofs.TextLemmas.{blank-sized}
+use Rattle.ansi_model.proofs.CallLemmas.{fresh-left}
+use Rattle.ansi_model.proofs.HistoryLemmas.{feed-above}
 
 -- the terminal once the writer was sent more
 read-on : (size : Size) (sent more out new : List ℕ) → out ≡ more → new ≡ sent ++ out → reader size new ≡ feed more (reader size sent)
-read-on size sent more out new e f = ap (reader size) (f ∙ ap (λ xs. sent ++ xs) e) ∙ feed-append sent more (fresh size.width size.height)
+read-on size sent more out new e f = ap (reader size) (f ∙ ap (λ xs. sent ++ xs) e) ∙ feed-append sent more (blank_terminal size.width size.height)
 
 -- what reads alike does so once more was sent
 pub alike-on : (size : Size) (sent out new : List ℕ) → new ≡ sent ++ out → IsReadAlike size sent → IsReadAlike size new
 alike-on size sent out new e alike t left =
     ap (λ bytes. feed bytes (anew t)) e ∙ feed-append sent out (anew t) ∙ ap (feed out) (alike t left) ∙ feed-above out t.history (reader size sent)
-    ∙ ap (with_rows_above t.history) (sym (ap (reader size) e ∙ feed-append sent out (fresh size.width size.height)))
+    ∙ ap (with_rows_above t.history) (sym (ap (reader size) e ∙ feed-append sent out (blank_terminal size.width size.height)))
 
 -- a terminal awaits the next call once the writer was sent what a call collected
 pub awaiting-on : {size : Size} (sent : List ℕ) {out new : List ℕ} {place place_after : Position} {flags flags_after : List Bool} {related : Screen → Screen → Type 0}
@@ -122,8 +123,8 @@ drawn-on {size} sent {out} {new} {written = written} {written_after} {us = us} s
 
 -- ---- the beginning
 
-pub blank-read : (size : Size) (sent : List ℕ) → MakesBlank size.width size.height [] sent → reader size sent ≡ fresh size.width size.height
-blank-read size sent blank = ap (reader size) blank.appended ∙ blank.made (fresh size.width size.height) (fresh-left size.width size.height)
+pub blank-read : (size : Size) (sent : List ℕ) → MakesBlank size.width size.height [] sent → reader size sent ≡ blank_terminal size.width size.height
+blank-read size sent blank = ap (reader size) blank.appended ∙ blank.made (blank_terminal size.width size.height) (fresh-left size.width size.height)
 
 -- what makes a terminal blank was all that was sent
 pub blank-sent : {w h : ℕ} {out first made text sent : List ℕ} → MakesBlank w h out made → out ≡ [] → first ≡ [] → text ≡ made → sent ≡ first ++ text → MakesBlank w h [] sent
@@ -131,10 +132,10 @@ blank-sent {w} {h} blank none nothing same e = rw (e, nothing, same) (rw none at
 
 blank-alike : (size : Size) (sent : List ℕ) → MakesBlank size.width size.height [] sent → IsReadAlike size sent
 blank-alike size sent blank t left =
-    ap (λ bytes. feed bytes (anew t)) blank.appended ∙ blank.made t left ∙ ap (λ rows. record (fresh size.width size.height) { history = rows }) (sym (append-nil t.history))
+    ap (λ bytes. feed bytes (anew t)) blank.appended ∙ blank.made t left ∙ ap (λ rows. record (blank_terminal size.width size.height) { history = rows }) (sym (append-nil t.history))
     ∙ ap (with_rows_above t.history) (sym (blank-read size sent blank))
 
-blank-awaits : (w h : ℕ) (flags : List Bool) → 0 < h → AreBehind w h flags (λ a b. blank_column) → IsAwaiting w h (record { x = 0; y = 0 }) flags (fresh w h)
+blank-awaits : (w h : ℕ) (flags : List Bool) → 0 < h → AreContinuations w h flags (λ a b. blank_column) → IsAwaiting w h (record { x = 0; y = 0 }) flags (blank_terminal w h)
 blank-awaits w h flags some behind =
     let column : min 0 (w - 1) ≡ 0 = omega arith in
     record {
@@ -144,7 +145,7 @@ blank-awaits w h flags some behind =
         text = refl;
         width = refl;
         height = refl;
-        pen = refl;
+        sgr = refl;
         top = refl;
         bottom = refl;
         row = some;
@@ -158,7 +159,7 @@ blank-awaits w h flags some behind =
     }
 
 pub begun : {size : Size} {sent : List ℕ} {failures : ℕ} {flags draft : List Bool} → MakesBlank size.width size.height [] sent → 0 < size.width → 0 < size.height
-    → AreBehind size.width size.height flags (λ a b. blank_column) → length draft ≡ size.width * size.height → IsInOrder size (record { x = 0; y = 0 }) flags draft false failures sent
+    → AreContinuations size.width size.height flags (λ a b. blank_column) → length draft ≡ size.width * size.height → IsInOrder size (record { x = 0; y = 0 }) flags draft false failures sent
 begun {size} {sent} {flags} {draft} blank wide high behind count = record {
   columns = wide;
   rows = high;

@@ -10,10 +10,10 @@ use Rattle.unicode_width.proofs.Rules.{width_or_zero-le}
 use Rattle.ratatui_core.specs.Buffer.{symbol_text, text_width, width_of, Cell}
 use Rattle.ratatui_core.proofs.BufferLemmas.{one_character}
 use Rattle.ratatui_ansi.specs.declared.frame.Glyph.TheVariants.{Plain, Whole}
-use Rattle.ratatui_ansi.specs.Emulator.{is_plain, is_shown, columns_of_char}
+use Rattle.ansi_model.specs.Symbols.{is_plain_char, is_shown, columns_of_char}
 use Rattle.ratatui_ansi.specs.Frame.{is_fit, IsGlyph, IsLone}
-use Rattle.ratatui_ansi.proofs.TextLemmas.{and-both, one-single}
-use Rattle.ratatui_ansi.proofs.PenLemmas.{up_to, up_to-at, equal-number}
+use Rattle.ansi_model.proofs.TextLemmas.{and-both, one-single}
+use Rattle.ansi_model.proofs.SgrLemmas.{up_to, up_to-at, equal-number}
 use Rattle.ratatui_ansi.proofs.DrawLemmas.{one-encoded}
 use Rattle.ratatui_ansi.proofs.FrameLemmas.{plain-fits}
 
@@ -33,7 +33,7 @@ within first n c all low high =
     let one = subst (λ d. nat_eq (columns_of_char d) 1 ≡ true) place (up_to-at (λ i. nat_eq (columns_of_char (first + i)) 1) n (c - first) all (omega arith)) in
     grind (arith, nat_tests)
 
-plain-columns : (c : ℕ) → 0xA0 < c → is_plain c ≡ true → columns_of_char c ≡ 1
+plain-columns : (c : ℕ) → 0xA0 < c → is_plain_char c ≡ true → columns_of_char c ≡ 1
 plain-columns c above plain = elim (nat_le c 0x17F) as (λ b. nat_le c 0x17F ≡ b → columns_of_char c ≡ 1) [
   | true ↦ λ letter. within 0xC0 192 c letters (grind (arith, nat_tests)) (grind (arith, nat_tests))
   | false ↦ λ line. within 0x2500 160 c lines (grind (arith, nat_tests)) (grind (arith, nat_tests))
@@ -61,7 +61,7 @@ lone-columns cell c lone = lone.width ∙ text-columns (symbol_text cell.symbol)
 
 -- ---- how it is printed
 
-pub lone-plain : (room : ℕ) (cell : Cell) (c : ℕ) → IsLone cell c → is_plain c ≡ true → 0 < room → IsGlyph room cell (Plain c)
+pub lone-plain : (room : ℕ) (cell : Cell) (c : ℕ) → IsLone cell c → is_plain_char c ≡ true → 0 < room → IsGlyph room cell (Plain c)
 lone-plain room cell c lone plain some =
     plain-fits room cell c plain (sym (one-encoded (symbol_text cell.symbol) c lone.utf8 lone.symbol)) (lone-columns cell c lone ∙ plain-columns c lone.above plain) some
 
@@ -71,18 +71,18 @@ tests true true false e is = rw is refl
 tests true false r e is = refl
 tests false q r e is = refl
 
-lone-fit : (room : ℕ) (cell : Cell) (c : ℕ) → IsLone cell c → is_plain c ≡ false → is_fit room cell ≡ (is_shown c && nat_lt 0 (columns_of_char c) && nat_le (columns_of_char c) room)
+lone-fit : (room : ℕ) (cell : Cell) (c : ℕ) → IsLone cell c → is_plain_char c ≡ false → is_fit room cell ≡ (is_shown c && nat_lt 0 (columns_of_char c) && nat_le (columns_of_char c) room)
 lone-fit room cell c lone other =
     let text = symbol_text cell.symbol in
     rw (one-single text c lone.symbol, lone-columns cell c lone, text-columns text c lone.above lone.utf8 lone.symbol, lone.symbol, is_utf8-from_IsUtf8 text lone.utf8, other)
     (tests (is_shown c) (nat_lt 0 (columns_of_char c)) (nat_le (columns_of_char c) room) (columns_of_char c == columns_of_char c) (equal-number (columns_of_char c)))
 
-lone-printed : (room : ℕ) (cell : Cell) (c : ℕ) → IsLone cell c → is_plain c ≡ false → is_fit room cell ≡ true → IsGlyph room cell (Whole (columns_of_char c))
+lone-printed : (room : ℕ) (cell : Cell) (c : ℕ) → IsLone cell c → is_plain_char c ≡ false → is_fit room cell ≡ true → IsGlyph room cell (Whole (columns_of_char c))
 lone-printed room cell c lone other fits =
     let printed = and-both _ _ (and-both _ _ (and-both _ _ fits).0).0 in
     record { fits = fits; columns = sym (lone-columns cell c lone); symbol = printed.0 }
 
-pub lone-whole : (room : ℕ) (cell : Cell) (c : ℕ) (b : Bool) → IsLone cell c → is_plain c ≡ false → b ≡ (is_shown c && nat_lt 0 (columns_of_char c) && nat_le (columns_of_char c) room)
+pub lone-whole : (room : ℕ) (cell : Cell) (c : ℕ) (b : Bool) → IsLone cell c → is_plain_char c ≡ false → b ≡ (is_shown c && nat_lt 0 (columns_of_char c) && nat_le (columns_of_char c) room)
     → MatchOption (then_some b (Whole (columns_of_char c))) (is_fit room cell ≡ false) (IsGlyph room cell)
 lone-whole room cell c true lone other test = lone-printed room cell c lone other (lone-fit room cell c lone other ∙ sym test)
 lone-whole room cell c false lone other test = lone-fit room cell c lone other ∙ sym test

@@ -13,23 +13,23 @@ use Rattle.ratatui_ansi.specs.Backend.{BackendState}
 use Rattle.ratatui_ansi.specs.Calls.{IsAwaiting}
 use Rattle.ratatui_ansi.specs.Errors.{error_of}
 use Rattle.ratatui_ansi.specs.Flags.{flag, is_clear_cut}
-use Rattle.ratatui_ansi.specs.Frame.{IsRefused, IsDrawing}
-use Rattle.ratatui_ansi.specs.Pen.{own_pen}
-use Rattle.ratatui_ansi.specs.Refusals.{IsOfClearing, IsUnsent, FailsBy, Leaves, names_cell, has_place, IsRefusedOn, StopsWithin, StopsDraw}
-use Rattle.ratatui_ansi.specs.Screens.{screen_shown}
-use Rattle.ratatui_ansi.specs.Sequences.{feed}
-use Rattle.ratatui_ansi.specs.Emulator.{Emulator, rested}
+use Rattle.ratatui_ansi.specs.Frame.{RefusesUpdate, IsDrawing}
+use Rattle.ansi_model.specs.Sgr.{default_sgr}
+use Rattle.ratatui_ansi.specs.Refusals.{IsOfClearing, IsUnsent, FailsBy, Answers, names_cell, has_place, IsRefusedOn, StopsWithin, StopsDraw}
+use Rattle.ansi_model.specs.Screens.{screen_shown}
+use Rattle.ansi_model.specs.Sequences.{feed}
+use Rattle.ansi_model.specs.Emulator.{Emulator, rested}
 use Rattle.ratatui_ansi.proofs.BackendLemmas.{cursor-column, cursor-row}
 use Rattle.ratatui_ansi.proofs.CoverLemmas.{covered-behind}
 use Rattle.ratatui_ansi.proofs.FrameLemmas.{begins}
 
 -- ---- where a draw stops
 
-refused-on : (w h : ℕ) (colors : Bool) (d : Drawing) (flags : List Bool) (t : Emulator) (u : Update) (refusal : Refusal) → IsDrawing w h d flags t → IsRefused w h colors flags u refusal
+refused-on : (w h : ℕ) (colors : Bool) (d : Drawing) (flags : List Bool) (t : Emulator) (u : Update) (refusal : Refusal) → IsDrawing w h d flags t → RefusesUpdate w h colors flags u refusal
     → IsRefusedOn colors (screen_shown d.written (rested t)) u refusal
 refused-on w h colors d flags t u Refused.Memory is because = tt
 refused-on w h colors d flags t u (Refused.Symbol p) is because = (rw (is.ready.width, is.ready.height) because.0, rw is.ready.width because.2)
-refused-on w h colors d flags t u (Refused.Pen p) is because = (rw (is.ready.width, is.ready.height) because.0, because.2)
+refused-on w h colors d flags t u (Refused.Style p) is because = (rw (is.ready.width, is.ready.height) because.0, because.2)
 refused-on w h colors d flags t u (Refused.Cut p) is because = (
   rw (is.ready.width, is.ready.height) because.0,
   covered-behind (rested t).columns is.ready.sized is.ready.whole u.x u.y (sym (is.behind.each u.x u.y because.0.column because.0.row) ∙ because.1),
@@ -37,7 +37,7 @@ refused-on w h colors d flags t u (Refused.Cut p) is because = (
 )
 
 pub stops-draw : {S A : Type 0} (steps : S → Option A → S → Type 0) (content : S) (update : A → Update) (w h : ℕ) (colors : Bool) (old : List ℕ) (d : Drawing) (cursor : Position) (written : ℕ) (flags : List Bool)
-    (refusal : Refusal) → d.brush.pen ≡ own_pen → d.brush.is_placed ≡ false → d.cursor ≡ cursor → d.written ≡ written → StopsWithin steps content update w h colors old d flags refusal
+    (refusal : Refusal) → d.brush.sgr ≡ default_sgr → d.brush.is_placed ≡ false → d.cursor ≡ cursor → d.written ≡ written → StopsWithin steps content update w h colors old d flags refusal
     → StopsDraw steps content update w h colors cursor written flags refusal
 stops-draw steps content update w h colors old d cursor written flags refusal own unplaced at count stops = record {
   stops = λ t is.
@@ -58,7 +58,7 @@ stops-draw steps content update w h colors old d cursor written flags refusal ow
 pub named-place : (refusal : Refusal) → IsTrue (names_cell (error_of refusal)) → IsTrue (has_place refusal)
 named-place Refused.Memory named = named
 named-place (Refused.Symbol p) named = named
-named-place (Refused.Pen p) named = named
+named-place (Refused.Style p) named = named
 named-place (Refused.Cut p) named = named
 
 -- a clear that would cut a symbol has its cursor on a column that the symbol covers
@@ -89,7 +89,7 @@ pub if-error : {A F : Type 0} (P : F → Type 0) (answer : Result A F) (error : 
 if-error P (Ok x) error is holds = tt
 if-error P (Err f) error is holds = subst P (sym is.1) holds
 
-pub leaves-error : {W A : Type 0} (answer : Result A AnsiError) (error : AnsiError) (old new : BackendState W) → Refuses answer error → FailsBy old new error → Leaves answer old new
+pub leaves-error : {W A : Type 0} (answer : Result A AnsiError) (error : AnsiError) (old new : BackendState W) → Refuses answer error → FailsBy old new error → Answers answer old new
 leaves-error (Ok x) error old new is fails = absurd (false≢true is.0)
 leaves-error (Err f) error old new is fails = subst (FailsBy old new) (sym is.1) fails
 
@@ -104,5 +104,5 @@ refusal-leaves was old new refusal same whole still =
     by_refusal : (r : Refusal) → FailsBy was new (error_of r)
     by_refusal Refused.Memory = (whole, still)
     by_refusal (Refused.Symbol p) = (whole, still)
-    by_refusal (Refused.Pen p) = (whole, still)
+    by_refusal (Refused.Style p) = (whole, still)
     by_refusal (Refused.Cut p) = (whole, still)

@@ -4,21 +4,19 @@ use Rattle.std.proofs.lemmas.Bool.Decides.{nat_tests}
 use Rattle.ratatui_core.specs.Layout.{Position}
 use Rattle.ratatui_core.specs.Buffer.{empty_look}
 use Rattle.ratatui_core.specs.Backend.{Screen, ScrollsUp, ScrollsDown, Appends, Clears, with_cursor, with_visible, cursor_of, ClearType, All, AfterCursor, BeforeCursor, CurrentLine, UntilNewLine, is_cleared}
-use Rattle.ratatui_ansi.specs.declared.part.Part.{Part}
-use Rattle.ratatui_ansi.specs.declared.part.Part.TheVariants.{After, Before, Line, LineEnd}
-use Rattle.ratatui_ansi.specs.Columns.{Column, Columns, look_in, is_behind, blank_column}
-use Rattle.ratatui_ansi.specs.Columns.Column.{Shows, Unknown}
-use Rattle.ratatui_ansi.specs.Emulator.{Emulator, rested, raised, lowered, part_at, part_emptied, moved, erased, keeps_history}
-use Rattle.ratatui_ansi.specs.Sequences.{feed}
-use Rattle.ratatui_ansi.specs.Screens.{screen_shown, IsReady, Turns, Becomes}
-use Rattle.ratatui_ansi.specs.Flags.{flag, AreBehind, is_cut}
-use Rattle.ratatui_ansi.specs.Calls.{IsAwaiting, SendsCall, Empties}
-use Rattle.ratatui_ansi.proofs.ReadLemmas.{feed-append}
+use Rattle.ansi_model.specs.Columns.{Column, Columns, look_in, is_continuation, blank_column}
+use Rattle.ansi_model.specs.Columns.Column.{Shows, Unknown}
+use Rattle.ansi_model.specs.Emulator.{Emulator, rested, rows_raised, rows_lowered, columns_cleared, cursor_moved, erased, keeps_history}
+use Rattle.ansi_model.specs.Sequences.{feed}
+use Rattle.ansi_model.specs.Screens.{screen_shown, IsIdle, Turns, Becomes}
+use Rattle.ratatui_ansi.specs.Flags.{flag, AreContinuations, is_cut}
+use Rattle.ratatui_ansi.specs.Calls.{IsAwaiting, SendsCall, Erases}
+use Rattle.ansi_model.proofs.ReadLemmas.{feed-append}
 use Rattle.ratatui_ansi.proofs.FlagLemmas.{AreBehind-along}
 use Rattle.ratatui_ansi.proofs.EraseLemmas.{part-erased, part-whole, part-sized, part-beyond}
-use Rattle.ratatui_ansi.proofs.ScrollLemmas.{rested-ready}
-use Rattle.ratatui_ansi.proofs.RegionLemmas.{ready-columns, moved-placed}
-use Rattle.ratatui_ansi.specs.Sends.{Does}
+use Rattle.ansi_model.proofs.ScrollLemmas.{rested-ready}
+use Rattle.ansi_model.proofs.RegionLemmas.{ready-columns, moved-placed}
+use Rattle.ansi_model.specs.Sends.{Performs}
 
 -- one after the other
 pub Turns-then : (w h : ℕ) (a b c : List ℕ) (first second : Emulator → Emulator → Type 0) → Turns w h a b first → Turns w h b c second → Turns w h a c (λ s u. (t : Emulator) × first s t × second t u)
@@ -28,7 +26,7 @@ Turns-then w h a b c first second one two =
       bytes = one.bytes ++ two.bytes;
       appended = two.appended ∙ ap (λ xs. xs ++ two.bytes) one.appended ∙ append_assoc a one.bytes two.bytes;
       phase = λ t ground ready. ap (λ (u : Emulator). u.phase) (joined t) ∙ two.phase (feed one.bytes t) (one.phase t ground ready) (one.ready t ground ready);
-      ready = λ t ground ready. subst (λ u. IsReady w h (rested u)) (sym (joined t)) (two.ready (feed one.bytes t) (one.phase t ground ready) (one.ready t ground ready));
+      ready = λ t ground ready. subst (λ u. IsIdle w h (rested u)) (sym (joined t)) (two.ready (feed one.bytes t) (one.phase t ground ready) (one.ready t ground ready));
       turned = λ t ground ready. subst (λ u. (m : Emulator) × first (rested t) m × second m (rested u)) (sym (joined t))
           (rested (feed one.bytes t), one.turned t ground ready, two.turned (feed one.bytes t) (one.phase t ground ready) (one.ready t ground ready));
     }
@@ -36,12 +34,12 @@ Turns-then w h a b c first second one two =
 -- what is known of a ready terminal behind a call
 pub record IsKept (w h : ℕ) (place : Position) (flags : List Bool) (related : Screen → Screen → Type 0) (s t : Emulator) : Type 0 where
   pub cursor : cursor_of (screen_shown 0 t) ≡ place
-  pub behind : AreBehind w h flags t.columns
+  pub behind : AreContinuations w h flags t.columns
   pub screens : (written : ℕ) → related (screen_shown written s) (screen_shown written t)
 
 pub call-from : (w h : ℕ) (a b : List ℕ) (place place_after : Position) (flags flags_after : List Bool) (turned : Emulator → Emulator → Type 0) (related : Screen → Screen → Type 0)
     → Turns w h a b turned
-    → ((s t : Emulator) → IsReady w h s → cursor_of (screen_shown 0 s) ≡ place → AreBehind w h flags s.columns → turned s t → IsKept w h place_after flags_after related s t)
+    → ((s t : Emulator) → IsIdle w h s → cursor_of (screen_shown 0 s) ≡ place → AreContinuations w h flags s.columns → turned s t → IsKept w h place_after flags_after related s t)
     → SendsCall w h a b place flags place_after flags_after related
 call-from w h a b place place_after flags flags_after turned related turns kept =
     let all = λ (t : Emulator) (awaiting : IsAwaiting w h place flags t). kept (rested t) (rested (feed turns.bytes t)) awaiting.ready awaiting.placed awaiting.behind (turns.turned t awaiting.phase awaiting.ready) in
@@ -59,7 +57,7 @@ call-from w h a b place place_after flags flags_after turned related turns kept 
 
 -- ---- the cursor
 
-pub visible-kept : (w h : ℕ) (visible : Bool) (place : Position) (flags : List Bool) (s t : Emulator) → IsReady w h s → cursor_of (screen_shown 0 s) ≡ place → AreBehind w h flags s.columns
+pub visible-kept : (w h : ℕ) (visible : Bool) (place : Position) (flags : List Bool) (s t : Emulator) → IsIdle w h s → cursor_of (screen_shown 0 s) ≡ place → AreContinuations w h flags s.columns
     → Becomes (λ p q. q ≡ with_visible visible p) s.columns s t → IsKept w h place flags (λ p q. q ≡ with_visible visible p) s t
 visible-kept w h visible place flags s t ready at behind became = record {
   cursor = ap cursor_of (became.screens 0) ∙ at;
@@ -67,7 +65,7 @@ visible-kept w h visible place flags s t ready at behind became = record {
   screens = became.screens;
 }
 
-pub cursor-kept : (w h x y : ℕ) (flags : List Bool) (s t : Emulator) → IsReady w h s → AreBehind w h flags s.columns
+pub cursor-kept : (w h x y : ℕ) (flags : List Bool) (s t : Emulator) → IsIdle w h s → AreContinuations w h flags s.columns
     → Becomes (λ p q. q ≡ with_cursor x y p) s.columns s t → IsKept w h (record { x = min x (w - 1); y = min y (h - 1) }) flags (λ p q. q ≡ with_cursor x y p) s t
 cursor-kept w h x y flags s t ready behind became =
     let at : cursor_of (screen_shown 0 t) ≡ record { x = min x (s.width - 1); y = min y (s.height - 1) } = ap cursor_of (became.screens 0) in
@@ -79,11 +77,11 @@ cursor-kept w h x y flags s t ready behind became =
 
 -- ---- rows that move
 
-pub append-kept : (w h n : ℕ) (place : Position) (flags flags_after : List Bool) (s t : Emulator) → IsReady w h s → cursor_of (screen_shown 0 s) ≡ place → place.y < h
-    → ((c : Columns) → AreBehind w h flags c → AreBehind w h flags_after (raised 0 (min h h) (n - (h - 1 - place.y)) c)) → AreBehind w h flags s.columns
-    → Becomes (λ p q. Appends p n q × (q.cursor_x ≡ 0)) (raised 0 h (s.y + n - (h - 1)) s.columns) s t
+pub append-kept : (w h n : ℕ) (place : Position) (flags flags_after : List Bool) (s t : Emulator) → IsIdle w h s → cursor_of (screen_shown 0 s) ≡ place → place.y < h
+    → ((c : Columns) → AreContinuations w h flags c → AreContinuations w h flags_after (rows_raised 0 (min h h) (n - (h - 1 - place.y)) c)) → AreContinuations w h flags s.columns
+    → Becomes (λ p q. Appends p n q × (q.cursor_x ≡ 0)) (rows_raised 0 h (s.y + n - (h - 1)) s.columns) s t
     → IsKept w h (record { x = 0; y = min (place.y + n) (h - 1) }) flags_after (λ p q. Appends p n q) s t
-append-kept w h n place flags flags_after s t ready at row moved behind became =
+append-kept w h n place flags flags_after s t ready at row cursor_moved behind became =
     let high : s.height ≡ h = ready.height in
     let y : s.y ≡ place.y = ap (λ (p : Position). p.y) at in
     let both = became.screens 0 in
@@ -92,7 +90,7 @@ append-kept w h n place flags flags_after s t ready at row moved behind became =
     let past : n - (h - 1 - place.y) ≡ s.y + n - (h - 1) = omega arith in
     record {
       cursor = ap₂ (λ i j. record { x = i; y = j }) both.1 rows;
-      behind = AreBehind-along w h flags_after (raised 0 h (s.y + n - (h - 1)) s.columns) t.columns became.columns (rw (end, past) at (moved s.columns behind));
+      behind = AreBehind-along w h flags_after (rows_raised 0 h (s.y + n - (h - 1)) s.columns) t.columns became.columns (rw (end, past) at (cursor_moved s.columns behind));
       screens = λ written. (became.screens written).0;
     }
 
@@ -126,17 +124,17 @@ module _ (x y : ℕ) (p q : Screen) (width : q.width ≡ p.width) (height : q.he
     no_rows = λ none. back (scrolled.no_rows none);
   }
 
-module _ (w h : ℕ) (place : Position) (flags flags_after : List Bool) (x_in : place.x < w) (y_in : place.y < h) (s u : Emulator) (ready : IsReady w h s) (at : cursor_of (screen_shown 0 s) ≡ place) where
+module _ (w h : ℕ) (place : Position) (flags flags_after : List Bool) (x_in : place.x < w) (y_in : place.y < h) (s u : Emulator) (ready : IsIdle w h s) (at : cursor_of (screen_shown 0 s) ≡ place) where
   cursor-back : (t : Emulator) → t.width ≡ w → t.height ≡ h → u.width ≡ t.width → Becomes (λ p q. q ≡ with_cursor place.x place.y p) t.columns t u → cursor_of (screen_shown 0 u) ≡ place
   cursor-back t wide high same became =
       let ex : min place.x (t.width - 1) ≡ place.x = omega arith in
       let ey : min place.y (t.height - 1) ≡ place.y = omega arith in
       ap cursor_of (became.screens 0) ∙ ap₂ (λ i j. record { x = i; y = j }) ex ey
 
-  pub up-kept : (a b n : ℕ) → ((c : Columns) → AreBehind w h flags c → AreBehind w h flags_after (raised a (min b h) n c)) → AreBehind w h flags s.columns
-      → (t : Emulator) × Becomes (ScrollsUp a b n) (raised a (min b h) n s.columns) s t × Becomes (λ p q. q ≡ with_cursor place.x place.y p) t.columns t u
+  pub up-kept : (a b n : ℕ) → ((c : Columns) → AreContinuations w h flags c → AreContinuations w h flags_after (rows_raised a (min b h) n c)) → AreContinuations w h flags s.columns
+      → (t : Emulator) × Becomes (ScrollsUp a b n) (rows_raised a (min b h) n s.columns) s t × Becomes (λ p q. q ≡ with_cursor place.x place.y p) t.columns t u
       → IsKept w h place flags_after (ScrollsUp a b n) s u
-  up-kept a b n moved behind both =
+  up-kept a b n cursor_moved behind both =
       let t : Emulator = both.0 in
       let wide : t.width ≡ s.width = (both.1.screens 0).width in
       let high : t.height ≡ s.height = (both.1.screens 0).height in
@@ -147,15 +145,15 @@ module _ (w h : ℕ) (place : Position) (flags flags_after : List Bool) (x_in : 
       let same : u.width ≡ t.width = ap (λ (p : Screen). p.width) (both.2.screens 0) in
       record {
         cursor = cursor-back t (wide ∙ s_wide) (high ∙ s_high) same both.2;
-        behind = AreBehind-along w h flags_after (raised a (min b h) n s.columns) u.columns (λ i j. both.2.columns i j ∙ both.1.columns i j) (moved s.columns behind);
+        behind = AreBehind-along w h flags_after (rows_raised a (min b h) n s.columns) u.columns (λ i j. both.2.columns i j ∙ both.1.columns i j) (cursor_moved s.columns behind);
         screens = λ written. subst (ScrollsUp a b n (screen_shown written s)) (sym (both.2.screens written))
             (up-back place.x place.y (screen_shown written s) (screen_shown written t) wide high x_at y_at (omega arith) (omega arith) a b n (both.1.screens written));
       }
 
-  pub down-kept : (a b n : ℕ) → ((c : Columns) → AreBehind w h flags c → AreBehind w h flags_after (lowered a (min b h) n c)) → AreBehind w h flags s.columns
-      → (t : Emulator) × Becomes (ScrollsDown a b n) (lowered a (min b h) n s.columns) s t × Becomes (λ p q. q ≡ with_cursor place.x place.y p) t.columns t u
+  pub down-kept : (a b n : ℕ) → ((c : Columns) → AreContinuations w h flags c → AreContinuations w h flags_after (rows_lowered a (min b h) n c)) → AreContinuations w h flags s.columns
+      → (t : Emulator) × Becomes (ScrollsDown a b n) (rows_lowered a (min b h) n s.columns) s t × Becomes (λ p q. q ≡ with_cursor place.x place.y p) t.columns t u
       → IsKept w h place flags_after (ScrollsDown a b n) s u
-  down-kept a b n moved behind both =
+  down-kept a b n cursor_moved behind both =
       let t : Emulator = both.0 in
       let wide : t.width ≡ s.width = (both.1.screens 0).width in
       let high : t.height ≡ s.height = (both.1.screens 0).height in
@@ -166,7 +164,7 @@ module _ (w h : ℕ) (place : Position) (flags flags_after : List Bool) (x_in : 
       let same : u.width ≡ t.width = ap (λ (p : Screen). p.width) (both.2.screens 0) in
       record {
         cursor = cursor-back t (wide ∙ s_wide) (high ∙ s_high) same both.2;
-        behind = AreBehind-along w h flags_after (lowered a (min b h) n s.columns) u.columns (λ i j. both.2.columns i j ∙ both.1.columns i j) (moved s.columns behind);
+        behind = AreBehind-along w h flags_after (rows_lowered a (min b h) n s.columns) u.columns (λ i j. both.2.columns i j ∙ both.1.columns i j) (cursor_moved s.columns behind);
         screens = λ written. subst (ScrollsDown a b n (screen_shown written s)) (sym (both.2.screens written))
             (down-back place.x place.y (screen_shown written s) (screen_shown written t) wide high x_at y_at (omega arith) (omega arith) a b n (both.1.screens written));
       }
@@ -174,7 +172,7 @@ module _ (w h : ℕ) (place : Position) (flags flags_after : List Bool) (x_in : 
 -- ---- the screen emptied, and parts of it
 
 pub emptied-kept : (w h : ℕ) (place : Position) (flags flags_after : List Bool) (s t : Emulator) (columns : Columns) → cursor_of (screen_shown 0 s) ≡ place
-    → AreBehind w h flags_after columns
+    → AreContinuations w h flags_after columns
     → Becomes (λ p q. p.cursor_x ≡ place.x → p.cursor_y ≡ place.y → Clears p All q) columns s t → IsKept w h place flags_after (λ p q. Clears p All q) s t
 emptied-kept w h place flags flags_after s t columns at behind became =
     let x : min s.x (s.width - 1) ≡ place.x = ap (λ (p : Position). p.x) at in
@@ -186,8 +184,8 @@ emptied-kept w h place flags flags_after s t columns at behind became =
     }
 
 -- bytes whose action keeps a terminal awaiting
-pub call-does : (w h : ℕ) (a b : List ℕ) (place place_after : Position) (flags flags_after : List Bool) (f : Emulator → Emulator) (related : Screen → Screen → Type 0) → Does a b f
-    → ((s : Emulator) → IsReady w h s → cursor_of (screen_shown 0 s) ≡ place → AreBehind w h flags s.columns → IsReady w h (f s) × IsKept w h place_after flags_after related s (f s))
+pub call-does : (w h : ℕ) (a b : List ℕ) (place place_after : Position) (flags flags_after : List Bool) (f : Emulator → Emulator) (related : Screen → Screen → Type 0) → Performs a b f
+    → ((s : Emulator) → IsIdle w h s → cursor_of (screen_shown 0 s) ≡ place → AreContinuations w h flags s.columns → IsIdle w h (f s) × IsKept w h place_after flags_after related s (f s))
     → SendsCall w h a b place flags place_after flags_after related
 call-does w h a b place place_after flags flags_after f related does kept = record {
   bytes = does.bytes;
@@ -198,9 +196,9 @@ call-does w h a b place place_after flags flags_after f related does kept = reco
       let stays : rested u ≡ u = rested-ready w h u both.0 in
       let after : IsAwaiting w h place_after flags_after u = record {
         phase = both.0.phase;
-        ready = subst (IsReady w h) (sym stays) both.0;
+        ready = subst (IsIdle w h) (sym stays) both.0;
         placed = ap (λ v. cursor_of (screen_shown 0 v)) stays ∙ both.1.cursor;
-        behind = subst (λ v. AreBehind w h flags_after v.columns) (sym stays) both.1.behind;
+        behind = subst (λ v. AreContinuations w h flags_after v.columns) (sym stays) both.1.behind;
       } in
       subst (IsAwaiting w h place_after flags_after) (sym (does.read t awaiting.phase)) after;
   shows = λ written t awaiting.
@@ -213,31 +211,31 @@ emptied-look : (p : Bool) (c : Column) → look_in (if p then blank_column else 
 emptied-look true c = refl
 emptied-look false c = refl
 
-pub part-kept : (w h x y : ℕ) (part : Part) (place : Position) (flags flags_after : List Bool) → x < w → y < h → place.x < w → place.y < h → is_cut part w x y flags ≡ false → keeps_history part x y ≡ true
-    → ((c : Columns) → AreBehind w h flags c → AreBehind w h flags_after (part_emptied part x y c))
-    → (s : Emulator) → IsReady w h s → cursor_of (screen_shown 0 s) ≡ place → AreBehind w h flags s.columns
-    → IsReady w h (moved place.x place.y (erased part (moved x y s))) × IsKept w h place flags_after (Empties part x y) s (moved place.x place.y (erased part (moved x y s)))
+pub part-kept : (w h x y : ℕ) (part : ClearType) (place : Position) (flags flags_after : List Bool) → x < w → y < h → place.x < w → place.y < h → is_cut part w x y flags ≡ false → keeps_history part x y ≡ true
+    → ((c : Columns) → AreContinuations w h flags c → AreContinuations w h flags_after (columns_cleared part x y c))
+    → (s : Emulator) → IsIdle w h s → cursor_of (screen_shown 0 s) ≡ place → AreContinuations w h flags s.columns
+    → IsIdle w h (cursor_moved place.x place.y (erased part (cursor_moved x y s))) × IsKept w h place flags_after (Erases part x y) s (cursor_moved place.x place.y (erased part (cursor_moved x y s)))
 part-kept w h x y part place flags flags_after x_in y_in at_x at_y uncut history cleared s ready at behind =
     let width : s.width ≡ w = ready.width in
     let height : s.height ≡ h = ready.height in
-    let u : Emulator = moved place.x place.y (erased part (record s { x = x; y = y })) in
-    let there : u ≡ moved place.x place.y (erased part (moved x y s)) = ap (λ t. moved place.x place.y (erased part t)) (moved-placed x y s (omega arith) (omega arith)) in
-    let same : (a b : ℕ) → u.columns a b ≡ part_emptied part x y s.columns a b = part-erased part w h x y flags s.columns x_in y_in ready.beyond behind uncut ready.whole in
+    let u : Emulator = cursor_moved place.x place.y (erased part (record s { x = x; y = y })) in
+    let there : u ≡ cursor_moved place.x place.y (erased part (cursor_moved x y s)) = ap (λ t. cursor_moved place.x place.y (erased part t)) (moved-placed x y s (omega arith) (omega arith)) in
+    let same : (a b : ℕ) → u.columns a b ≡ columns_cleared part x y s.columns a b = part-erased part w h x y flags s.columns x_in y_in ready.beyond behind uncut ready.whole in
     let x_test : nat_lt x s.width ≡ true = grind (arith, nat_tests) in
-    let sure : u.sure ≡ true = rw (ready.sure, ready.pen, x_test, history) refl in
+    let sure : u.sure ≡ true = rw (ready.sure, ready.sgr, x_test, history) refl in
     let x_at : min s.x (s.width - 1) ≡ place.x = ap (λ (p : Position). p.x) at in
     let y_at : s.y ≡ place.y = ap (λ (p : Position). p.y) at in
     let cursor_x : min (min place.x (s.width - 1)) (s.width - 1) ≡ min s.x (s.width - 1) = omega arith in
     let cursor_y : min place.y (s.height - 1) ≡ s.y = omega arith in
-    subst (λ v. IsReady w h v × IsKept w h place flags_after (Empties part x y) s v) there (
-      ready-columns w h s u (part_emptied part x y s.columns) ready ready.phase ready.text refl refl ready.pen ready.top (ready.bottom ∙ sym height) (omega arith) sure same
+    subst (λ v. IsIdle w h v × IsKept w h place flags_after (Erases part x y) s v) there (
+      ready-columns w h s u (columns_cleared part x y s.columns) ready ready.phase ready.text refl refl ready.sgr ready.top (ready.bottom ∙ sym height) (omega arith) sure same
           (part-sized part x y s.columns ready.sized) (part-whole part w h x y flags s.columns x_in y_in ready.beyond behind uncut ready.whole) (part-beyond part w x y s.columns ready.beyond),
       record {
         cursor = ap₂ (λ i j. record { x = i; y = j }) cursor_x cursor_y ∙ at;
-        behind = AreBehind-along w h flags_after (part_emptied part x y s.columns) u.columns same (cleared s.columns behind);
+        behind = AreBehind-along w h flags_after (columns_cleared part x y s.columns) u.columns same (cleared s.columns behind);
         screens = λ written. record {
           rest = ap₂ (λ i j. record (screen_shown written s) { grid = λ a b. look_in (u.columns a b); cursor_x = i; cursor_y = j }) cursor_x cursor_y;
-          grid = λ a b a_in b_in. ap look_in (same a b) ∙ emptied-look (part_at part x y a b) (s.columns a b);
+          grid = λ a b a_in b_in. ap look_in (same a b) ∙ emptied-look (is_cleared part x y a b) (s.columns a b);
         };
       },
     )
@@ -254,7 +252,7 @@ call-weaker w h a b place place_after flags flags_after first second sends weake
   shows = λ written t awaiting. weaker written t (screen_shown written (rested (feed sends.bytes t))) awaiting (sends.shows written t awaiting);
 }
 
-clears-from : (kind : ClearType) (part : Part) (x y : ℕ) (p q : Screen) → ((a b : ℕ) → is_cleared kind p.cursor_x p.cursor_y a b ≡ part_at part x y a b) → Empties part x y p q → Clears p kind q
+clears-from : (kind : ClearType) (part : ClearType) (x y : ℕ) (p q : Screen) → ((a b : ℕ) → is_cleared kind p.cursor_x p.cursor_y a b ≡ is_cleared part x y a b) → Erases part x y p q → Clears p kind q
 clears-from kind part x y p q same emptied = record {
   rest = emptied.rest;
   grid = λ a b a_in b_in. rw (same a b) (emptied.grid a b a_in b_in);
@@ -271,19 +269,19 @@ module _ (w h : ℕ) (a b : List ℕ) (place : Position) (flags flags_after : Li
         grid = λ i j i_in j_in. rw (x, y) (let e : (nat_lt 0 j || (nat_eq j 0 && nat_le 0 i)) ≡ true = grind (arith, nat_tests) in rw e (cleared.grid i j i_in j_in));
       })
 
-  pub clears-after : SendsCall w h a b place flags place flags_after (Empties After place.x place.y) → SendsCall w h a b place flags place flags_after (λ p q. Clears p AfterCursor q)
-  clears-after sends = call-weaker w h a b place place flags flags_after (Empties After place.x place.y) (λ p q. Clears p AfterCursor q) sends (λ written t q awaiting emptied.
-      clears-from AfterCursor After place.x place.y (screen_shown written (rested t)) q (λ i j. ap (λ (k : Position). part_at After k.x k.y i j) awaiting.placed) emptied)
+  pub clears-after : SendsCall w h a b place flags place flags_after (Erases AfterCursor place.x place.y) → SendsCall w h a b place flags place flags_after (λ p q. Clears p AfterCursor q)
+  clears-after sends = call-weaker w h a b place place flags flags_after (Erases AfterCursor place.x place.y) (λ p q. Clears p AfterCursor q) sends (λ written t q awaiting emptied.
+      clears-from AfterCursor AfterCursor place.x place.y (screen_shown written (rested t)) q (λ i j. ap (λ (k : Position). is_cleared AfterCursor k.x k.y i j) awaiting.placed) emptied)
 
-  pub clears-line : SendsCall w h a b place flags place flags_after (Empties Line place.x place.y) → SendsCall w h a b place flags place flags_after (λ p q. Clears p CurrentLine q)
-  clears-line sends = call-weaker w h a b place place flags flags_after (Empties Line place.x place.y) (λ p q. Clears p CurrentLine q) sends (λ written t q awaiting emptied.
-      clears-from CurrentLine Line place.x place.y (screen_shown written (rested t)) q (λ i j. ap (λ (k : Position). part_at Line k.x k.y i j) awaiting.placed) emptied)
+  pub clears-line : SendsCall w h a b place flags place flags_after (Erases CurrentLine place.x place.y) → SendsCall w h a b place flags place flags_after (λ p q. Clears p CurrentLine q)
+  clears-line sends = call-weaker w h a b place place flags flags_after (Erases CurrentLine place.x place.y) (λ p q. Clears p CurrentLine q) sends (λ written t q awaiting emptied.
+      clears-from CurrentLine CurrentLine place.x place.y (screen_shown written (rested t)) q (λ i j. ap (λ (k : Position). is_cleared CurrentLine k.x k.y i j) awaiting.placed) emptied)
 
-  pub clears-line-end : SendsCall w h a b place flags place flags_after (Empties LineEnd place.x place.y) → SendsCall w h a b place flags place flags_after (λ p q. Clears p UntilNewLine q)
-  clears-line-end sends = call-weaker w h a b place place flags flags_after (Empties LineEnd place.x place.y) (λ p q. Clears p UntilNewLine q) sends (λ written t q awaiting emptied.
-      clears-from UntilNewLine LineEnd place.x place.y (screen_shown written (rested t)) q (λ i j. ap (λ (k : Position). part_at LineEnd k.x k.y i j) awaiting.placed) emptied)
+  pub clears-line-end : SendsCall w h a b place flags place flags_after (Erases UntilNewLine place.x place.y) → SendsCall w h a b place flags place flags_after (λ p q. Clears p UntilNewLine q)
+  clears-line-end sends = call-weaker w h a b place place flags flags_after (Erases UntilNewLine place.x place.y) (λ p q. Clears p UntilNewLine q) sends (λ written t q awaiting emptied.
+      clears-from UntilNewLine UntilNewLine place.x place.y (screen_shown written (rested t)) q (λ i j. ap (λ (k : Position). is_cleared UntilNewLine k.x k.y i j) awaiting.placed) emptied)
 
-  shown-behind : (c : Column) → is_behind c ≡ true → look_in c ≡ empty_look
+  shown-behind : (c : Column) → is_continuation c ≡ true → look_in c ≡ empty_look
   shown-behind (Shows look index count) e = elim (index == 0) as (λ z. (if z then false else true) ≡ true → (if z then look else empty_look) ≡ empty_look) [
     | true ↦ λ f. let none : ⊥ = cc in absurd none
     | false ↦ λ f. refl
@@ -291,8 +289,8 @@ module _ (w h : ℕ) (a b : List ℕ) (place : Position) (flags flags_after : Li
   shown-behind Unknown e = refl
 
   pub clears-before : (end : ℕ) → place.x ≤ end → end < w → ((k : ℕ) → place.x < k → k ≤ end → flag flags (place.y * w + k) ≡ true)
-      → SendsCall w h a b place flags place flags_after (Empties Before end place.y) → SendsCall w h a b place flags place flags_after (λ p q. Clears p BeforeCursor q)
-  clears-before end from inside rest sends = call-weaker w h a b place place flags flags_after (Empties Before end place.y) (λ p q. Clears p BeforeCursor q) sends (λ written t q awaiting emptied.
+      → SendsCall w h a b place flags place flags_after (Erases BeforeCursor end place.y) → SendsCall w h a b place flags place flags_after (λ p q. Clears p BeforeCursor q)
+  clears-before end from inside rest sends = call-weaker w h a b place place flags flags_after (Erases BeforeCursor end place.y) (λ p q. Clears p BeforeCursor q) sends (λ written t q awaiting emptied.
       let s : Emulator = rested t in
       let x_at : min s.x (s.width - 1) ≡ place.x = ap (λ (k : Position). k.x) awaiting.placed in
       let y_at : s.y ≡ place.y = ap (λ (k : Position). k.y) awaiting.placed in
@@ -302,11 +300,11 @@ module _ (w h : ℕ) (a b : List ℕ) (place : Position) (flags flags_after : Li
         grid = λ i j i_in j_in. rw (x_at, y_at) (emptied.grid i j i_in j_in ∙ before s awaiting.behind i j (omega arith));
       })
     where
-      before : (s : Emulator) → AreBehind w h flags s.columns → (i j : ℕ) → j < h
-          → (if part_at Before end place.y i j then empty_look else look_in (s.columns i j)) ≡ (if is_cleared BeforeCursor place.x place.y i j then empty_look else look_in (s.columns i j))
-      before s behind i j j_in = elim (is_cleared BeforeCursor place.x place.y i j) as (λ p. is_cleared BeforeCursor place.x place.y i j ≡ p → (if part_at Before end place.y i j then empty_look else look_in (s.columns i j)) ≡ (if p then empty_look else look_in (s.columns i j))) [
-        | true ↦ λ e. let f : part_at Before end place.y i j ≡ true = grind (arith, nat_tests) in rw f refl
-        | false ↦ λ e. elim (part_at Before end place.y i j) as (λ r. part_at Before end place.y i j ≡ r → (if r then empty_look else look_in (s.columns i j)) ≡ look_in (s.columns i j)) [
+      before : (s : Emulator) → AreContinuations w h flags s.columns → (i j : ℕ) → j < h
+          → (if is_cleared BeforeCursor end place.y i j then empty_look else look_in (s.columns i j)) ≡ (if is_cleared BeforeCursor place.x place.y i j then empty_look else look_in (s.columns i j))
+      before s behind i j j_in = elim (is_cleared BeforeCursor place.x place.y i j) as (λ p. is_cleared BeforeCursor place.x place.y i j ≡ p → (if is_cleared BeforeCursor end place.y i j then empty_look else look_in (s.columns i j)) ≡ (if p then empty_look else look_in (s.columns i j))) [
+        | true ↦ λ e. let f : is_cleared BeforeCursor end place.y i j ≡ true = grind (arith, nat_tests) in rw f refl
+        | false ↦ λ e. elim (is_cleared BeforeCursor end place.y i j) as (λ r. is_cleared BeforeCursor end place.y i j ≡ r → (if r then empty_look else look_in (s.columns i j)) ≡ look_in (s.columns i j)) [
           | true ↦ λ f.
               let row : j ≡ place.y = grind (arith, nat_tests) in
               let low : place.x < i = grind (arith, nat_tests) in

@@ -1,21 +1,19 @@
 -- What a backend keeps of its terminal between two calls, and what it knows of the bytes that a call sends.
-use Rattle.std.specs.Prelude.{◌≡◌, ◌⊎◌, ℕ, ◌<◌, ◌≤◌, Bool, true, if◌then◌else◌, List, [], ◌++◌}
+use Rattle.std.specs.Prelude.{◌≡◌, ℕ, ◌<◌, Bool, if◌then◌else◌, List, ◌++◌}
 use Rattle.ratatui_core.specs.Layout.{Position}
-use Rattle.ratatui_core.specs.Buffer.{Look, empty_look}
-use Rattle.ratatui_core.specs.Backend.{Screen, cursor_of}
-use Rattle.ratatui_ansi.specs.declared.part.Part.{Part}
-use Rattle.ratatui_ansi.specs.Columns.{blank_column}
-use Rattle.ratatui_ansi.specs.Emulator.{Emulator, rested, part_at, fresh}
-use Rattle.ratatui_ansi.specs.Emulator.Phase.{Ground}
-use Rattle.ratatui_ansi.specs.Sequences.{feed}
-use Rattle.ratatui_ansi.specs.Screens.{screen_shown, IsReady}
-use Rattle.ratatui_ansi.specs.Flags.{AreBehind}
+use Rattle.ratatui_core.specs.Buffer.{empty_look}
+use Rattle.ratatui_core.specs.Backend.{Screen, cursor_of, ClearType, is_cleared}
+use Rattle.ansi_model.specs.Emulator.{Emulator, rested}
+use Rattle.ansi_model.specs.Emulator.Phase.{Ground}
+use Rattle.ansi_model.specs.Sequences.{feed}
+use Rattle.ansi_model.specs.Screens.{screen_shown, IsIdle}
+use Rattle.ratatui_ansi.specs.Flags.{AreContinuations}
 
 -- a terminal between two calls: it awaits text and is ready, with its cursor there and these flags
 pub record IsAwaiting (w h : ℕ) (cursor : Position) (flags : List Bool) (t : Emulator) : Type 0 where
   pub phase : t.phase ≡ Ground
-  pub ready : IsReady w h (rested t)
-  pub behind : AreBehind w h flags (rested t).columns
+  pub ready : IsIdle w h (rested t)
+  pub behind : AreContinuations w h flags (rested t).columns
   pub placed : cursor_of (screen_shown 0 (rested t)) ≡ cursor
 
 -- bytes were appended, behind which a terminal that awaited a call awaits the next one, with the cursor and the flags after it, and its
@@ -28,30 +26,7 @@ pub record SendsCall (w h : ℕ) (old new : List ℕ) (cursor : Position) (flags
   pub shows : (written : ℕ) (t : Emulator) → IsAwaiting w h cursor flags t
       → related (screen_shown written (rested t)) (screen_shown written (rested (feed bytes t)))
 
--- a part of a screen was emptied, for a cursor in column x of row y, and all else stays
-pub record Empties (part : Part) (x y : ℕ) (old new : Screen) : Type 0 where
+-- what a clear of this kind empties, for a cursor in column x of row y, was emptied, and all else stays
+pub record Erases (kind : ClearType) (x y : ℕ) (old new : Screen) : Type 0 where
   pub rest : new ≡ record old { grid = new.grid }
-  pub grid : (a b : ℕ) → a < old.width → b < old.height → new.grid a b ≡ if part_at part x y a b then empty_look else old.grid a b
-
--- a terminal of this size as another program may have left it, whatever its pen, margins, cursor and contents: it isn't in the middle of a
--- sequence, and nothing stands off its screen
-pub record IsLeft (w h : ℕ) (t : Emulator) : Type 0 where
-  pub phase : t.phase ≡ Ground
-  pub text : t.text ≡ []
-  pub width : t.width ≡ w
-  pub height : t.height ≡ h
-  pub off : (a b : ℕ) → (w ≤ a) ⊎ (h ≤ b) → t.columns a b ≡ blank_column
-
--- the same terminal, as it is asked from here on: real terminals agree on all that was read since
-abbrev pub anew : Emulator → Emulator
-anew t = record t { sure = true }
-
--- a terminal with these rows before those of its history
-abbrev pub with_rows_above : List (List Look) → Emulator → Emulator
-with_rows_above rows t = record t { history = rows ++ t.history }
-
--- bytes were appended that make each terminal of this size a new one, however it was left; its history stays
-pub record MakesBlank (w h : ℕ) (old new : List ℕ) : Type 0 where
-  pub bytes : List ℕ
-  pub appended : new ≡ old ++ bytes
-  pub made : (t : Emulator) → IsLeft w h t → feed bytes (anew t) ≡ record (fresh w h) { history = t.history }
+  pub grid : (a b : ℕ) → a < old.width → b < old.height → new.grid a b ≡ if is_cleared kind x y a b then empty_look else old.grid a b

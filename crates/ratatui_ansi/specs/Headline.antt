@@ -5,12 +5,12 @@ use Rattle.ratatui_core.specs.Backend.{Screen}
 use Rattle.ratatui_core.specs.Terminal.{State, IsInStep}
 use Rattle.ratatui_core.specs.Headline.{Event, Along, last_state, Does, IsFair}
 use Rattle.ratatui_ansi.specs.Backend.{BackendState, shown_by}
-use Rattle.ratatui_ansi.specs.Calls.{IsLeft, anew}
-use Rattle.ratatui_ansi.specs.Columns.{look_in}
-use Rattle.ratatui_ansi.specs.Glass.{MayShow, IsStraight}
-use Rattle.ratatui_ansi.specs.Emulator.{Emulator, rested}
-use Rattle.ratatui_ansi.specs.Screens.{screen_shown}
-use Rattle.ratatui_ansi.specs.Sequences.{feed}
+use Rattle.ansi_model.specs.Beginnings.{IsAsFound, anew}
+use Rattle.ansi_model.specs.Columns.{look_in}
+use Rattle.ansi_model.specs.Glass.{MayShow, IsStraight}
+use Rattle.ansi_model.specs.Emulator.{Emulator, rested}
+use Rattle.ansi_model.specs.Screens.{screen_shown}
+use Rattle.ansi_model.specs.Sequences.{feed}
 
 -- a screen with these rows before those of its history
 abbrev pub below_rows : List (List Look) → Screen → Screen
@@ -28,7 +28,7 @@ module _ {W : Type 0} where
 
   -- so it is for each terminal of the backend's size
   abbrev pub IsReadByAll : BackendState W → Type 0
-  IsReadByAll b = (t : Emulator) → IsLeft b.size.width b.size.height t → IsReadBy b t
+  IsReadByAll b = (t : Emulator) → IsAsFound b.size.width b.size.height t → IsReadBy b t
 
   -- the same, and each unskipped column of a buffer's area has its cell's look
   pub record IsShownToReader (frame : Sheet) (b : BackendState W) (t : Emulator) : Type 0 where
@@ -37,7 +37,7 @@ module _ {W : Type 0} where
 
   -- so it is for each terminal of the backend's size, however it was left
   abbrev pub IsShownToAll : Sheet → BackendState W → Type 0
-  IsShownToAll frame b = (t : Emulator) → IsLeft b.size.width b.size.height t → IsShownToReader frame b t
+  IsShownToAll frame b = (t : Emulator) → IsAsFound b.size.width b.size.height t → IsShownToReader frame b t
 
   -- from in step, behind any list of calls that answered Ok, and unless a write failed since the backend began or began anew, each terminal of
   -- its size that reads what was sent since shows the buffer that the last call left, however it was left before

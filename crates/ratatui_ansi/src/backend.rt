@@ -6,21 +6,20 @@ ghost use Rattle.std.specs.List.{list_all};
 ghost use Rattle.std.specs.Iterator.{IsFinite, Drains};
 ghost use Rattle.ratatui_core.specs.Buffer.{update_by};
 ghost use Rattle.ratatui_core.specs.Backend.{Counts, IsBlankScreen, IsOnGrid, Draws, Appends, Clears, ScrollsUp, ScrollsDown, with_visible, with_cursor, cursor_of, size_of, All};
-ghost use Rattle.ratatui_ansi.specs.Calls.{MakesBlank};
-ghost use Rattle.ratatui_ansi.specs.Columns.{blank_column};
-ghost use Rattle.ratatui_ansi.specs.Flags.{AreBehind};
+ghost use Rattle.ansi_model.specs.Beginnings.{MakesBlank};
+ghost use Rattle.ansi_model.specs.Columns.{blank_column};
+ghost use Rattle.ratatui_ansi.specs.Flags.{AreContinuations};
 ghost use Rattle.ratatui_ansi.specs.Backend.{BackendState, shown_by, is_flushed};
 ghost use Rattle.ratatui_ansi.specs.Frame.{is_sendable_on};
 ghost use Rattle.ratatui_ansi.specs.Headline.{IsReadByAll};
-ghost use Rattle.ratatui_ansi.specs.Refusals.{IsUnsent, Leaves, RefusesToBegin, FailsToRestart, FailsToResize, StopsBy};
-ghost use Rattle.ratatui_ansi.specs.Refusals.{IsOfWriting, IsOfFlushing, IsOfClearing};
+ghost use Rattle.ratatui_ansi.specs.Refusals.{IsUnsent, Answers, RefusesToBegin, FailsToRestart, FailsToResize, StopsBy, IsOfWriting, IsOfFlushing, IsOfClearing};
 ghost use Rattle.ratatui_ansi.specs.declared.error.AnsiError.TheVariants.{Broken};
 
-use crate::calls::make_blank;
 use crate::error::AnsiError;
 use crate::frame::draw_cells;
 use crate::sender::Sender;
 use crate::tracked::{append, clear_region, cuts, place_cursor, scroll_down, scroll_up, show};
+use ansi_model::make_blank;
 use ratatui_core::backend::{AsCell, Backend, ClearType, WindowSize};
 use ratatui_core::layout::{Position, Size};
 use std::alloc::{AllocError, Global};
@@ -40,7 +39,7 @@ pub struct AnsiBackend<W: Write> {
     has_underline_colors: bool,
     ambiguous_is_wide: bool,
     cursor: Position,
-    // Whether each column lies behind the first one of its symbol, row by row; and the same within a draw.
+    // Whether each column is a continuation column, row by row; and the same within a draw.
     behind: Vec<bool>,
     draft: Vec<bool>,
     // What the call at hand writes.
@@ -54,7 +53,7 @@ pub struct AnsiBackend<W: Write> {
 impl<W: Write> Model for AnsiBackend<W> {
     ghost use Rattle.std.specs.Prelude.{◌≡◌, false};
     ghost use Rattle.std.specs.Io.KnownBytes.{Appends};
-    ghost use Rattle.ratatui_ansi.specs.Backend.{BackendState, IsInOrder};
+    ghost use Rattle.ratatui_ansi.specs.Backend.{BackendState, IsInOrder, shown_by, is_flushed};
 
     ghost Value = { BackendState W };
 
@@ -79,7 +78,7 @@ impl<W: Write> Model for AnsiBackend<W> {
 
 // The flags of a blank screen.
 fn blank_flags(alloc: Global, size: Size) -> Result<Vec<bool>, AllocError>
-    ensures { IfOk result (λ flags. AreBehind size.width size.height flags.items
+    ensures { IfOk result (λ flags. AreContinuations size.width size.height flags.items
         (λ a b. blank_column)) }
 {
     let count = usize::from(size.width) * usize::from(size.height);
@@ -89,7 +88,7 @@ fn blank_flags(alloc: Global, size: Size) -> Result<Vec<bool>, AllocError>
 // Makes flags those of a blank screen.
 fn unset_flags(flags: &mut [bool], size: Size)
     requires { length flags.old ≡ size.width * size.height }
-    ensures { AreBehind size.width size.height flags.new (λ a b. blank_column) }
+    ensures { AreContinuations size.width size.height flags.new (λ a b. blank_column) }
 {
     flags.fill(false);
 }
@@ -252,7 +251,7 @@ impl<W: Write + Drop> AnsiBackend<W> {
         ensures ok { OnOk result (shown_by self.new
             ≡ with_cursor position.x position.y (shown_by self.old)) }
         ensures why { IfErr result IsOfWriting }
-        ensures state { Leaves result self.old self.new }
+        ensures state { Answers result self.old self.new }
         ensures counts { Counts result self.old.failures self.new.failures }
     {
         let failures = self.failures;
@@ -278,7 +277,7 @@ impl<W: Write + Drop> AnsiBackend<W> {
         ensures ok { OnOk result (shown_by self.new
             ≡ with_visible visible (shown_by self.old)) }
         ensures why { IfErr result IsOfWriting }
-        ensures state { Leaves result self.old self.new }
+        ensures state { Answers result self.old self.new }
         ensures counts { Counts result self.old.failures self.new.failures }
     {
         let failures = self.failures;
@@ -304,7 +303,7 @@ impl<W: Write + Drop> AnsiBackend<W> {
         ensures flushed { OnOk result (is_flushed self.new ≡ true) }
         ensures sent { OnOk result (self.new.sent ≡ self.old.sent) }
         ensures why { IfErr result IsOfFlushing }
-        ensures state { Leaves result self.old self.new }
+        ensures state { Answers result self.old self.new }
         ensures counts { Counts result self.old.failures self.new.failures }
     {
         let failures = self.failures;
@@ -326,7 +325,7 @@ impl<W: Write + Drop> AnsiBackend<W> {
     fn send_lines(&mut self, n: u16) -> Result<(), AnsiError>
         ensures ok { OnOk result (Appends (shown_by self.old) n (shown_by self.new)) }
         ensures why { IfErr result IsOfWriting }
-        ensures state { Leaves result self.old self.new }
+        ensures state { Answers result self.old self.new }
         ensures counts { Counts result self.old.failures self.new.failures }
     {
         let failures = self.failures;
@@ -353,7 +352,7 @@ impl<W: Write + Drop> AnsiBackend<W> {
         ensures ok { OnOk result (ScrollsUp region.start region.end n
             (shown_by self.old) (shown_by self.new)) }
         ensures why { IfErr result IsOfWriting }
-        ensures state { Leaves result self.old self.new }
+        ensures state { Answers result self.old self.new }
         ensures counts { Counts result self.old.failures self.new.failures }
     {
         let failures = self.failures;
@@ -379,7 +378,7 @@ impl<W: Write + Drop> AnsiBackend<W> {
         ensures ok { OnOk result (ScrollsDown region.start region.end n
             (shown_by self.old) (shown_by self.new)) }
         ensures why { IfErr result IsOfWriting }
-        ensures state { Leaves result self.old self.new }
+        ensures state { Answers result self.old self.new }
         ensures counts { Counts result self.old.failures self.new.failures }
     {
         let failures = self.failures;
@@ -404,7 +403,7 @@ impl<W: Write + Drop> AnsiBackend<W> {
     fn send_clear(&mut self, clear_type: ClearType) -> Result<(), AnsiError>
         ensures ok { OnOk result (Clears (shown_by self.old) clear_type (shown_by self.new)) }
         ensures why { IfErr result (IsOfClearing (shown_by self.old)) }
-        ensures state { Leaves result self.old self.new }
+        ensures state { Answers result self.old self.new }
         ensures counts { Counts result self.old.failures self.new.failures }
     {
         let failures = self.failures;
@@ -445,7 +444,7 @@ impl<W: Write + Drop> AnsiBackend<W> {
             self.old.has_underline_colors) (map (update_by C.cell) items) ≡ true)) }
         ensures stopped { IfErr result (StopsBy I.next_gives content (update_by C.cell)
             self.old.has_underline_colors (shown_by self.old)) }
-        ensures state { Leaves result self.old self.new }
+        ensures state { Answers result self.old self.new }
         ensures counts { Counts result self.old.failures self.new.failures }
     {
         let failures = self.failures;
@@ -494,8 +493,6 @@ impl<W: Write + Drop> AnsiBackend<W> {
 }
 
 impl<W: Write + Drop> Backend for AnsiBackend<W> {
-    ghost use Rattle.ratatui_ansi.specs.Backend.{shown_by, is_flushed};
-
     type Error = AnsiError;
 
     ghost screen = { shown_by };
@@ -520,7 +517,7 @@ impl<W: Write + Drop> Backend for AnsiBackend<W> {
             self.old.has_underline_colors) (map (update_by C.cell) items) ≡ true)) }
         ensures stopped { IfErr result (StopsBy I.next_gives content (update_by C.cell)
             self.old.has_underline_colors (shown_by self.old)) }
-        ensures state { Leaves result self.old self.new }
+        ensures state { Answers result self.old self.new }
         ensures counts { Counts result self.old.failures self.new.failures }
     {
         self.send_cells(content)
@@ -529,7 +526,7 @@ impl<W: Write + Drop> Backend for AnsiBackend<W> {
     fn append_lines(&mut self, n: u16) -> Result<(), AnsiError>
         ensures ok { OnOk result (Appends (shown_by self.old) n (shown_by self.new)) }
         ensures why { IfErr result IsOfWriting }
-        ensures state { Leaves result self.old self.new }
+        ensures state { Answers result self.old self.new }
         ensures counts { Counts result self.old.failures self.new.failures }
     {
         self.send_lines(n)
@@ -539,7 +536,7 @@ impl<W: Write + Drop> Backend for AnsiBackend<W> {
         ensures ok { OnOk result (ScrollsUp region.start region.end n
             (shown_by self.old) (shown_by self.new)) }
         ensures why { IfErr result IsOfWriting }
-        ensures state { Leaves result self.old self.new }
+        ensures state { Answers result self.old self.new }
         ensures counts { Counts result self.old.failures self.new.failures }
     {
         self.send_up(region, n)
@@ -549,7 +546,7 @@ impl<W: Write + Drop> Backend for AnsiBackend<W> {
         ensures ok { OnOk result (ScrollsDown region.start region.end n
             (shown_by self.old) (shown_by self.new)) }
         ensures why { IfErr result IsOfWriting }
-        ensures state { Leaves result self.old self.new }
+        ensures state { Answers result self.old self.new }
         ensures counts { Counts result self.old.failures self.new.failures }
     {
         self.send_down(region, n)
@@ -559,7 +556,7 @@ impl<W: Write + Drop> Backend for AnsiBackend<W> {
         ensures ok { OnOk result (shown_by self.new
             ≡ with_visible false (shown_by self.old)) }
         ensures why { IfErr result IsOfWriting }
-        ensures state { Leaves result self.old self.new }
+        ensures state { Answers result self.old self.new }
         ensures counts { Counts result self.old.failures self.new.failures }
     {
         self.send_visible(false)
@@ -569,7 +566,7 @@ impl<W: Write + Drop> Backend for AnsiBackend<W> {
         ensures ok { OnOk result (shown_by self.new
             ≡ with_visible true (shown_by self.old)) }
         ensures why { IfErr result IsOfWriting }
-        ensures state { Leaves result self.old self.new }
+        ensures state { Answers result self.old self.new }
         ensures counts { Counts result self.old.failures self.new.failures }
     {
         self.send_visible(true)
@@ -582,7 +579,7 @@ impl<W: Write + Drop> Backend for AnsiBackend<W> {
         ensures stays { OnOk result (shown_by self.new ≡ shown_by self.old) }
         ensures held { OnOk result (is_flushed self.new ≡ is_flushed self.old) }
         ensures why { IfErr result (λ error. error ≡ Broken) }
-        ensures state { Leaves result self.old self.new }
+        ensures state { Answers result self.old self.new }
         ensures counts { Counts result self.old.failures self.new.failures }
     {
         if self.is_broken {
@@ -595,7 +592,7 @@ impl<W: Write + Drop> Backend for AnsiBackend<W> {
         ensures ok { OnOk result (shown_by self.new
             ≡ with_cursor position.x position.y (shown_by self.old)) }
         ensures why { IfErr result IsOfWriting }
-        ensures state { Leaves result self.old self.new }
+        ensures state { Answers result self.old self.new }
         ensures counts { Counts result self.old.failures self.new.failures }
     {
         self.send_position(position)
@@ -605,7 +602,7 @@ impl<W: Write + Drop> Backend for AnsiBackend<W> {
         ensures ok { OnOk result (Clears (shown_by self.old) All
             (shown_by self.new)) }
         ensures why { IfErr result (IsOfClearing (shown_by self.old)) }
-        ensures state { Leaves result self.old self.new }
+        ensures state { Answers result self.old self.new }
         ensures counts { Counts result self.old.failures self.new.failures }
     {
         self.clear_region(ClearType::All)
@@ -615,7 +612,7 @@ impl<W: Write + Drop> Backend for AnsiBackend<W> {
         ensures ok { OnOk result (Clears (shown_by self.old) clear_type
             (shown_by self.new)) }
         ensures why { IfErr result (IsOfClearing (shown_by self.old)) }
-        ensures state { Leaves result self.old self.new }
+        ensures state { Answers result self.old self.new }
         ensures counts { Counts result self.old.failures self.new.failures }
     {
         self.send_clear(clear_type)
@@ -626,7 +623,7 @@ impl<W: Write + Drop> Backend for AnsiBackend<W> {
         ensures stays { OnOk result (shown_by self.new ≡ shown_by self.old) }
         ensures held { OnOk result (is_flushed self.new ≡ is_flushed self.old) }
         ensures why { IfErr result (λ error. error ≡ Broken) }
-        ensures state { Leaves result self.old self.new }
+        ensures state { Answers result self.old self.new }
         ensures counts { Counts result self.old.failures self.new.failures }
     {
         if self.is_broken {
@@ -643,7 +640,7 @@ impl<W: Write + Drop> Backend for AnsiBackend<W> {
         ensures stays { OnOk result (shown_by self.new ≡ shown_by self.old) }
         ensures held { OnOk result (is_flushed self.new ≡ is_flushed self.old) }
         ensures why { IfErr result (λ error. error ≡ Broken) }
-        ensures state { Leaves result self.old self.new }
+        ensures state { Answers result self.old self.new }
         ensures counts { Counts result self.old.failures self.new.failures }
     {
         let columns_rows = self.size()?;
@@ -658,7 +655,7 @@ impl<W: Write + Drop> Backend for AnsiBackend<W> {
         ensures flushed { OnOk result (is_flushed self.new ≡ true) }
         ensures sent { OnOk result (self.new.sent ≡ self.old.sent) }
         ensures why { IfErr result IsOfFlushing }
-        ensures state { Leaves result self.old self.new }
+        ensures state { Answers result self.old self.new }
         ensures counts { Counts result self.old.failures self.new.failures }
     {
         self.flush_writer()

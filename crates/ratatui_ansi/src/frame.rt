@@ -4,17 +4,19 @@ ghost use Rattle.std.specs.Prelude.{◌≡◌, ℕ, ◌+◌, ◌-◌, ◌*◌, �
 ghost use Rattle.std.specs.List.{list_all};
 ghost use Rattle.std.specs.Iterator.{IsFinite, Drains};
 ghost use Rattle.ratatui_core.specs.Buffer.{blank, symbol_text, text_width, width_of, update_by, Cell};
-ghost use Rattle.ratatui_ansi.specs.declared.drawing.Printing.TheVariants.{Whole};
+ghost use Rattle.ansi_model.specs.declared.glyph.Printing.TheVariants.{Whole};
 ghost use Rattle.ratatui_ansi.specs.declared.frame.Glyph.TheVariants.{Plain};
-ghost use Rattle.ratatui_ansi.specs.Pen.{own_pen, pen_of};
-ghost use Rattle.ratatui_ansi.specs.Parameters.{is_sendable_by};
-ghost use Rattle.ratatui_ansi.specs.Drawing.{printing_of, columns_of, blanked, Changes, Paints, Prints};
-ghost use Rattle.ratatui_ansi.specs.Frame.{glyph_columns, is_fit, is_sendable_on, IsPrintedAs, IsGlyph, IsLone, IsVacant, IsUnsendablePen, IsRefused, Covers, SendsUpdates, SendsDraw};
+ghost use Rattle.ansi_model.specs.Sgr.{default_sgr, sgr_of};
+ghost use Rattle.ansi_model.specs.Parameters.{is_sendable_by};
+ghost use Rattle.ansi_model.specs.Symbols.{printing_of, printed_columns};
+ghost use Rattle.ratatui_ansi.specs.Drawing.{blanked, ChangesSgr, Paints, Prints};
+ghost use Rattle.ratatui_ansi.specs.Frame.{glyph_columns, is_fit, is_sendable_on, IsPrintedAs, IsGlyph, IsLone, IsVacant, IsUnsendableSgr, RefusesUpdate, Covers, SendsUpdates, SendsDraw};
 ghost use Rattle.ratatui_ansi.specs.Refusals.{has_place, StopsWithin, StopsDraw};
 
-use crate::drawing::{Brush, Printing, change_pen, printing_of, put_plain, put_symbol, set_pen};
-use crate::pen::Pen;
-use crate::symbol::{columns_of_char, is_plain, is_shown, only_char, only_printable};
+use crate::drawing::{Brush, change_sgr, put_plain, put_symbol, set_sgr};
+use ansi_model::{
+    Printing, Sgr, columns_of_char, is_plain, is_shown, only_char, only_printable, printing_of,
+};
 use ratatui_core::backend::AsCell;
 use ratatui_core::buffer::{Cell, CellDiffOption, CellWidth};
 use ratatui_core::layout::Position;
@@ -37,8 +39,8 @@ pub enum Refusal {
     Memory,
     /// The symbol in this place isn't printed as one, or not in the columns that its cell takes, or not within its row.
     Symbol(Position),
-    /// The pen in this place can't be sent.
-    Pen(Position),
+    /// The rendition in this place can't be sent.
+    Style(Position),
     /// The cell would cut the symbol that covers this place, of which the first column stays.
     Cut(Position),
 }
@@ -78,7 +80,7 @@ impl Glyph {
 fn printed_columns(cell: &Cell, columns: u16) -> u16
     requires whole { printing_of (symbol_text cell.now.symbol) ≡ Whole }
     requires columns { columns ≡ width_of cell.now }
-    ensures { result ≡ columns_of (symbol_text cell.now.symbol) }
+    ensures { result ≡ printed_columns (symbol_text cell.now.symbol) }
 {
     match cell.diff_option {
         CellDiffOption::ForcedWidth(_) => cell.symbol().cell_width(),
@@ -167,7 +169,7 @@ fn is_blank(symbol: &str) -> bool
 fn is_vacant(cell: &Cell) -> bool
     ensures { IsTrue result ↔ IsVacant cell.now }
 {
-    is_blank(cell.symbol()) && Pen::OWN.is_of(cell) && cell.cell_width() == 1
+    is_blank(cell.symbol()) && Sgr::DEFAULT.is_of(cell) && cell.cell_width() == 1
 }
 
 // The first column from `from` on whose flag isn't set, or the row's end. The row begins at `start`.
@@ -200,9 +202,9 @@ fn put_blanks(
     requires { x < end }
     ensures paints { OnOk result ((w h : ℕ) → end ≤ w → y < h → Paints w h (string_bytes out.old)
         brush.old (blanked x y (end - x)) (string_bytes out.new) brush.new) }
-    ensures pen { OnOk result (brush.new.pen ≡ own_pen) }
+    ensures sgr { OnOk result (brush.new.sgr ≡ default_sgr) }
 {
-    change_pen(out, brush, &Pen::OWN)?;
+    change_sgr(out, brush, &Sgr::DEFAULT)?;
     for column in x..end {
         put_plain(out, brush, column, y, ' ')?;
     }
@@ -259,7 +261,7 @@ fn cover(
     Ok(end)
 }
 
-// Prints a cell's symbol in a column and a row of a screen, in the brush's pen.
+// Prints a cell's symbol in a column and a row of a screen, in the brush's rendition.
 #[inline(always)]
 fn put(
     out: &mut String,
@@ -272,8 +274,8 @@ fn put(
     requires column { x < 65535 }
     requires glyph { IsPrintedAs (symbol_text cell.now.symbol) glyph }
     ensures prints { OnOk result ((w h : ℕ) → x < w → y < h → Prints w h (string_bytes out.old)
-        brush.old x y brush.old.pen (symbol_text cell.now.symbol) (string_bytes out.new) brush.new) }
-    ensures pen { OnOk result (brush.new.pen ≡ brush.old.pen) }
+        brush.old x y brush.old.sgr (symbol_text cell.now.symbol) (string_bytes out.new) brush.new) }
+    ensures sgr { OnOk result (brush.new.sgr ≡ brush.old.sgr) }
 {
     match glyph {
         Glyph::Plain(c) => put_plain(out, brush, x, y, c),
@@ -281,49 +283,49 @@ fn put(
     }
 }
 
-// Sets the pen of the cell in a place; apart, so that the path of a cell in the brush's pen stays short.
+// Sets the rendition of the cell in a place; apart, so that the path of a cell in the brush's rendition stays short.
 #[inline(never)]
-fn set_pen_of(
+fn set_sgr_of(
     out: &mut String,
     brush: &mut Brush,
     has_underline_colors: bool,
     place: Position,
     cell: &Cell,
 ) -> Result<(), Refusal>
-    ensures changes { OnOk result (Changes brush.old.pen (pen_of cell.now) (string_bytes out.old)
+    ensures changes { OnOk result (ChangesSgr brush.old.sgr (sgr_of cell.now) (string_bytes out.old)
         (string_bytes out.new)) }
-    ensures pen { OnOk result (brush.new ≡ record brush.old { pen = pen_of cell.now }) }
-    ensures sent { OnOk result (is_sendable_by has_underline_colors (pen_of cell.now) ≡ true) }
-    ensures refused { IfErr result (IsUnsendablePen has_underline_colors place (pen_of cell.now)) }
+    ensures sgr { OnOk result (brush.new ≡ record brush.old { sgr = sgr_of cell.now }) }
+    ensures sent { OnOk result (is_sendable_by has_underline_colors (sgr_of cell.now) ≡ true) }
+    ensures refused { IfErr result (IsUnsendableSgr has_underline_colors place (sgr_of cell.now)) }
 {
-    let pen = Pen::of(cell);
-    if !pen.is_sendable_by(has_underline_colors) {
-        return Err(Refusal::Pen(place));
+    let sgr = Sgr::of(cell);
+    if !sgr.is_sendable_by(has_underline_colors) {
+        return Err(Refusal::Style(place));
     }
-    set_pen(out, brush, &pen)?;
+    set_sgr(out, brush, &sgr)?;
     Ok(())
 }
 
-// Sets the pen of the cell in a place, where the brush has another.
+// Sets the rendition of the cell in a place, where the brush has another.
 #[inline(always)]
-fn take_pen(
+fn take_sgr(
     out: &mut String,
     brush: &mut Brush,
     has_underline_colors: bool,
     place: Position,
     cell: &Cell,
 ) -> Result<(), Refusal>
-    requires { is_sendable_by has_underline_colors brush.old.pen ≡ true }
-    ensures changes { OnOk result (Changes brush.old.pen (pen_of cell.now) (string_bytes out.old)
+    requires { is_sendable_by has_underline_colors brush.old.sgr ≡ true }
+    ensures changes { OnOk result (ChangesSgr brush.old.sgr (sgr_of cell.now) (string_bytes out.old)
         (string_bytes out.new)) }
-    ensures pen { OnOk result (brush.new ≡ record brush.old { pen = pen_of cell.now }) }
-    ensures sent { OnOk result (is_sendable_by has_underline_colors (pen_of cell.now) ≡ true) }
-    ensures refused { IfErr result (IsUnsendablePen has_underline_colors place (pen_of cell.now)) }
+    ensures sgr { OnOk result (brush.new ≡ record brush.old { sgr = sgr_of cell.now }) }
+    ensures sent { OnOk result (is_sendable_by has_underline_colors (sgr_of cell.now) ≡ true) }
+    ensures refused { IfErr result (IsUnsendableSgr has_underline_colors place (sgr_of cell.now)) }
 {
-    if brush.pen.is_of(cell) {
+    if brush.sgr.is_of(cell) {
         return Ok(());
     }
-    set_pen_of(out, brush, has_underline_colors, place, cell)
+    set_sgr_of(out, brush, has_underline_colors, place, cell)
 }
 
 // Draws a cell in a place of a screen of so many columns, where no symbol covers it from the left; it was counted before.
@@ -342,19 +344,19 @@ fn draw_glyph(
     requires row { place.y * width + width ≤ length behind.old }
     requires uncut { slice_index_or behind.old (place.y * width + place.x) false ≡ false }
     requires glyph { IsGlyph (width - place.x) cell.now glyph }
-    requires pen { is_sendable_by has_underline_colors drawing.old.brush.pen ≡ true }
+    requires sgr { is_sendable_by has_underline_colors drawing.old.brush.sgr ≡ true }
     ensures drawn { OnOk result ((h n : ℕ) → place.y < h
         → drawing.old.written ≡ min (n + 1) (2 ^ 64 - 1)
         → SendsUpdates width h (string_bytes out.old) (record drawing.old { written = n })
         behind.old (record { x = place.x; y = place.y; cell = cell.now } ∷ [])
         (string_bytes out.new) drawing.new behind.new) }
-    ensures sent { OnOk result (is_sendable_by has_underline_colors (pen_of cell.now) ≡ true) }
-    ensures pen { OnOk result (is_sendable_by has_underline_colors drawing.new.brush.pen ≡ true) }
-    ensures refused { IfErr result (IsUnsendablePen has_underline_colors place (pen_of cell.now)) }
+    ensures sent { OnOk result (is_sendable_by has_underline_colors (sgr_of cell.now) ≡ true) }
+    ensures sgr { OnOk result (is_sendable_by has_underline_colors drawing.new.brush.sgr ≡ true) }
+    ensures refused { IfErr result (IsUnsendableSgr has_underline_colors place (sgr_of cell.now)) }
 {
     let Position { x, y } = place;
     let brush = &mut drawing.brush;
-    take_pen(out, brush, has_underline_colors, place, cell)?;
+    take_sgr(out, brush, has_underline_colors, place, cell)?;
     put(out, brush, x, y, cell, glyph)?;
     let end = cover(out, behind, width, brush, x, y, glyph.columns())?;
     drawing.cursor = Position {
@@ -365,9 +367,9 @@ fn draw_glyph(
 }
 
 /// Draws a cell in a column and a row of a screen of so many columns and rows, and counts it. `behind` has a flag for each column,
-/// row by row: whether it lies behind the first one of its symbol. Off the screen nothing is sent, and neither is a vacant cell
+/// row by row: whether it is a continuation column. Off the screen nothing is sent, and neither is a vacant cell
 /// behind the first column of a symbol, where it would tear the symbol. Refused with its place is a cell whose symbol terminals
-/// don't print as one in just the cell's columns, or not within its row; one whose pen can't be sent; and one that would cut a
+/// don't print as one in just the cell's columns, or not within its row; one whose rendition can't be sent; and one that would cut a
 /// symbol of which the first column stays.
 pub fn draw_cell(
     out: &mut String,
@@ -381,14 +383,14 @@ pub fn draw_cell(
     cell: &Cell,
 ) -> Result<(), Refusal>
     requires flags { length behind.old ≡ width * height }
-    requires pen { is_sendable_by has_underline_colors drawing.old.brush.pen ≡ true }
+    requires sgr { is_sendable_by has_underline_colors drawing.old.brush.sgr ≡ true }
     ensures drawn { OnOk result (SendsUpdates width height (string_bytes out.old)
         drawing.old behind.old (record { x = x; y = y; cell = cell.now } ∷ [])
         (string_bytes out.new) drawing.new behind.new) }
     ensures sent { OnOk result (is_sendable_on width height has_underline_colors
         (record { x = x; y = y; cell = cell.now }) ≡ true) }
-    ensures pen { OnOk result (is_sendable_by has_underline_colors drawing.new.brush.pen ≡ true) }
-    ensures refused { IfErr result (IsRefused width height has_underline_colors behind.old
+    ensures sgr { OnOk result (is_sendable_by has_underline_colors drawing.new.brush.sgr ≡ true) }
+    ensures refused { IfErr result (RefusesUpdate width height has_underline_colors behind.old
         (record { x = x; y = y; cell = cell.now })) }
 {
     drawing.written = drawing.written.saturating_add(1);
@@ -442,7 +444,7 @@ fn draw_all<C: AsCell, I: Iterator<Item = (u16, u16, C)>>(
     content: I,
 ) -> Result<(), Refusal>
     requires flags { length behind.old ≡ width * height }
-    requires pen { is_sendable_by has_underline_colors drawing.old.brush.pen ≡ true }
+    requires sgr { is_sendable_by has_underline_colors drawing.old.brush.sgr ≡ true }
     requires can { I.can_next content }
     requires finite { IsFinite (I.remaining content) }
     ensures drawn { OnOk result ((items : List (ℕ × ℕ × C))
@@ -498,7 +500,7 @@ pub fn draw_cells<C: AsCell, I: Iterator<Item = (u16, u16, C)>>(
         written behind.old refusal) }
 {
     let brush = Brush {
-        pen: Pen::OWN,
+        sgr: Sgr::DEFAULT,
         is_placed: false,
         x: 0,
         y: 0,
@@ -518,6 +520,6 @@ pub fn draw_cells<C: AsCell, I: Iterator<Item = (u16, u16, C)>>(
         &mut drawing,
         content,
     )?;
-    change_pen(out, &mut drawing.brush, &Pen::OWN)?;
+    change_sgr(out, &mut drawing.brush, &Sgr::DEFAULT)?;
     Ok((drawing.cursor, drawing.written))
 }

@@ -4,17 +4,17 @@
 ghost use Rattle.std.specs.Prelude.{◌≡◌, ℕ, ◌*◌, ◌<◌, true, false, Bool, List, length, OnOk, IfOk, OnErr, string_bytes};
 ghost use Rattle.ratatui_core.specs.Layout.{Position};
 ghost use Rattle.ratatui_core.specs.Backend.{Appends, Clears, ScrollsUp, ScrollsDown, with_cursor, with_visible, All};
-ghost use Rattle.ratatui_ansi.specs.Emulator.{keeps_history};
+ghost use Rattle.ansi_model.specs.Emulator.{keeps_history};
 ghost use Rattle.ratatui_ansi.specs.Flags.{is_cut, is_clear_cut};
-ghost use Rattle.ratatui_ansi.specs.Calls.{SendsCall, Empties};
+ghost use Rattle.ratatui_ansi.specs.Calls.{SendsCall, Erases};
 
-use crate::calls::{clear_screen, set_cursor_position, set_visible};
 use crate::flags::{
     clear_flags, clear_part_flags, is_flagged, lower_flags, raise_flags, symbol_end,
 };
-use crate::part::Part;
-use crate::scrolling::{append_lines, scroll_region_down, scroll_region_up};
-use crate::sequences::{erase, move_to};
+use ansi_model::{
+    append_lines, clear_screen, erase, move_to, scroll_region_down, scroll_region_up,
+    set_cursor_position, set_visible,
+};
 use ratatui_core::backend::ClearType;
 use ratatui_core::layout::{Position, Size};
 use std::alloc::AllocError;
@@ -139,7 +139,7 @@ pub fn cuts(behind: &[bool], size: Size, place: Position, clear_type: ClearType)
     }
 }
 
-// Empties the screen; the cursor stays.
+// Erases the screen; the cursor stays.
 fn empty_screen(
     out: &mut String,
     behind: &mut [bool],
@@ -157,13 +157,13 @@ fn empty_screen(
     Ok(())
 }
 
-// Empties a part of the screen, for a cursor in column x and row y; the cursor stays.
+// Erases a part of the screen, for a cursor in column x and row y; the cursor stays.
 fn empty_part(
     out: &mut String,
     behind: &mut [bool],
     size: Size,
     place: Position,
-    part: Part,
+    part: ClearType,
     x: u16,
     y: u16,
 ) -> Result<(), AllocError>
@@ -175,7 +175,7 @@ fn empty_part(
     requires uncut { is_cut part size.width x y behind.old ≡ false }
     requires sure { keeps_history part x y ≡ true }
     ensures ok { OnOk result (SendsCall size.width size.height (string_bytes out.old)
-        (string_bytes out.new) place behind.old place behind.new (Empties part x y)) }
+        (string_bytes out.new) place behind.old place behind.new (Erases part x y)) }
     ensures err { OnErr result (behind.new ≡ behind.old) }
 {
     move_to(out, x, y)?;
@@ -185,7 +185,7 @@ fn empty_part(
     Ok(())
 }
 
-/// Empties a part of the screen; the cursor stays.
+/// Erases a part of the screen; the cursor stays.
 pub fn clear_region(
     out: &mut String,
     behind: &mut [bool],
@@ -208,18 +208,50 @@ pub fn clear_region(
             if place == Position::ORIGIN {
                 empty_screen(out, behind, size, place)
             } else {
-                empty_part(out, behind, size, place, Part::After, place.x, place.y)
+                empty_part(
+                    out,
+                    behind,
+                    size,
+                    place,
+                    ClearType::AfterCursor,
+                    place.x,
+                    place.y,
+                )
             }
         }
         ClearType::BeforeCursor => {
             let end = symbol_end(behind, size, place.x, place.y);
-            empty_part(out, behind, size, place, Part::Before, end, place.y)
+            empty_part(
+                out,
+                behind,
+                size,
+                place,
+                ClearType::BeforeCursor,
+                end,
+                place.y,
+            )
         }
         ClearType::CurrentLine => {
-            empty_part(out, behind, size, place, Part::Line, place.x, place.y)
+            empty_part(
+                out,
+                behind,
+                size,
+                place,
+                ClearType::CurrentLine,
+                place.x,
+                place.y,
+            )
         }
         ClearType::UntilNewLine => {
-            empty_part(out, behind, size, place, Part::LineEnd, place.x, place.y)
+            empty_part(
+                out,
+                behind,
+                size,
+                place,
+                ClearType::UntilNewLine,
+                place.x,
+                place.y,
+            )
         }
     }
 }

@@ -13,8 +13,8 @@ returns-after-behind_it-end c = record {
     | then-behind_it-end+in_ok-put_blanks v ↦ rw (v.out-is, v.brush-is) (v.in_ok-put_blanks.ensures.paints c.args.width h c.tail_end-end.ensures.high row)
     | else-behind_it-end v ↦ rw (v.out-is, v.brush-is) (blanks-none c.args.width h _ _ (c.args.x + c.args.columns) c.args.y (c.tail_end-end.result - (c.args.x + c.args.columns)) (omega arith))
   ];
-  pen = elim c.if-behind_it-end.branch [
-    | then-behind_it-end+in_ok-put_blanks v ↦ inr (rw v.brush-is v.in_ok-put_blanks.ensures.pen)
+  sgr = elim c.if-behind_it-end.branch [
+    | then-behind_it-end+in_ok-put_blanks v ↦ inr (rw v.brush-is v.in_ok-put_blanks.ensures.sgr)
     | else-behind_it-end v ↦ inl (rw v.brush-is refl)
   ];
   marked = record {
@@ -30,7 +30,7 @@ returns-else-x-end c = record {
   set = λ k low high. rw (c.from.ensures, c.from-2.ensures) at (c.tail_end-end.ensures.behind k low high);
   unset = λ within. rw (c.from.ensures, c.from-2.ensures) at (c.tail_end-end.ensures.ended within);
   paints = λ h row. blanks-none c.args.width h _ _ (c.args.x + c.args.columns) c.args.y (c.tail_end-end.result - (c.args.x + c.args.columns)) (omega arith);
-  pen = inl refl;
+  sgr = inl refl;
   marked = record {
     count = refl;
     each = one-marked (c.args.y * c.args.width + c.args.x) (c.args.y * c.args.width + (c.args.x + c.args.columns)) (c.args.y * c.args.width + c.tail_end-end.result) c.args.behind.now c.requires.uncut (omega arith);

@@ -2,7 +2,7 @@ use Rattle.std.proofs.Common.{◌≡◌, MatchOption, nat_lt, nat_le, ◌&&◌, 
 use Rattle.std.specs.Bool.{then_some}
 use Rattle.std.proofs.lemmas.Bool.Decides.{nat_tests}
 use Rattle.ratatui_ansi.specs.declared.frame.Glyph.TheVariants.{Whole}
-use Rattle.ratatui_ansi.specs.Emulator.{is_shown}
+use Rattle.ansi_model.specs.Symbols.{is_shown}
 use Rattle.ratatui_ansi.specs.Frame.{is_fit, IsGlyph}
 use Rattle.ratatui_ansi.proofs.LoneLemmas.{lone-plain, lone-whole}
 use Rattle.ratatui_ansi.proofs.frame.lone_glyph.Goals.{then-is_shown, else-is_shown, then-columns-gt0, else-columns-gt0}

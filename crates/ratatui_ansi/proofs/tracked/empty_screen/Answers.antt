@@ -1,5 +1,5 @@
 use Rattle.std.proofs.Common.{arith}
-use Rattle.ratatui_ansi.specs.Emulator.{emptied}
+use Rattle.ansi_model.specs.Emulator.{rows_emptied}
 use Rattle.ratatui_ansi.proofs.TrackLemmas.{call-from, emptied-kept}
 use Rattle.ratatui_ansi.proofs.tracked.empty_screen.Goals as goal
 
@@ -9,4 +9,4 @@ returns-clause-ok c =
     let h = c.args.size.height in
     let place = c.args.place in
     call-from w h _ _ place place c.args.behind.now _ _ _ (c.in_ok-clear_screen.ensures (omega arith) (omega arith))
-    (λ s t ready at behind became. emptied-kept w h place c.args.behind.now _ s t (emptied h s.columns) at (c.clear_flags.ensures w h s.columns behind) became)
+    (λ s t ready at behind became. emptied-kept w h place c.args.behind.now _ s t (rows_emptied h s.columns) at (c.clear_flags.ensures w h s.columns behind) became)

@@ -1,9 +1,9 @@
 use Rattle.std.proofs.Common.{ap, sym, ◌∙◌, ◌++◌}
 use Rattle.std.proofs.lemmas.List.{with_items_is}
 use Rattle.ratatui_ansi.specs.Backend.{reader}
-use Rattle.ratatui_ansi.specs.Emulator.{rested}
+use Rattle.ansi_model.specs.Emulator.{rested}
 use Rattle.ratatui_ansi.specs.Refusals.{IsOfClearing}
-use Rattle.ratatui_ansi.specs.Screens.{screen_shown}
+use Rattle.ansi_model.specs.Screens.{screen_shown}
 use Rattle.ratatui_ansi.proofs.BackendLemmas.{in-order-on, in-order-by, related-on, count-kept}
 use Rattle.ratatui_ansi.proofs.RefusalLemmas.{if-error, cut-is-covered, leaves-error, counted-unsent}
 use Rattle.ratatui_ansi.proofs.backend.AnsiBackend.send_clear.Goals as goal

@@ -1,0 +1,9 @@
+pub mod ReadLemmas
+pub mod TextLemmas
+pub mod SgrLemmas
+pub mod SymbolLemmas
+pub mod ScrollLemmas
+pub mod RegionLemmas
+pub mod CallLemmas
+pub mod HistoryLemmas
+pub mod PutLemmas

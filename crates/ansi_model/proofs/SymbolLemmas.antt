@@ -1,0 +1,196 @@
+-- How terminals print symbols.
+use Rattle.std.proofs.Common.{◌≡◌, ℕ, ◌+◌, ◌-◌, ◌<◌, ◌&&◌, ◌||◌, not, min, Bool, List, [], ◌∷◌, ◌++◌, ◌==◌, length, IsTrue, IsUtf8, chars, true, false, refl, sym, ap, ap₂, ◌∙◌, arith, append-nil, if◌then◌else◌, subst, nat_lt, unwrap_or, Some, None}
+use lib.Utf8.{scalar, encode, encodes, low_scalar}
+use Rattle.std.specs.List.{list_all}
+use Rattle.std.specs.Str.{is_utf8}
+use Rattle.std.proofs.lemmas.Bool.Decides.{nat_tests}
+use Rattle.std.proofs.lemmas.List.Folds.{list_all-append}
+use Rattle.std.proofs.lemmas.Str.{chars-nil, chars-append, chars-encodes, encodes-chars, IsUtf8-encode, IsUtf8-append, IsUtf8-nil, IsUtf8-from_is_utf8, is_utf8-from_IsUtf8}
+use Rattle.unicode_width.specs.Width.{char_width}
+use Rattle.unicode_segmentation.specs.Grapheme.{graphemes}
+use Rattle.ratatui_core.specs.Buffer.{text_width}
+use Rattle.ansi_model.specs.declared.sgr.Sgr.{Sgr}
+use Rattle.ratatui_ansi.specs.declared.drawing.Brush.{Brush}
+use Rattle.ansi_model.specs.declared.glyph.Printing.TheVariants.{Plain, Whole, Unprinted}
+use Rattle.ansi_model.specs.Emulator.{Emulator, standing, rested, printed, prints, types, cursor_moved}
+use Rattle.ansi_model.specs.Symbols.{is_plain_char, is_shown, has_columns, is_symbol, is_single, begins_anew, only_of, is_one_plain, is_printed, printing_by, printing_of, printed_columns}
+use Rattle.ansi_model.specs.Emulator.Phase.{Ground}
+use Rattle.ansi_model.specs.Sequences.{feed}
+use Rattle.ansi_model.specs.Sends.{Sends, Performs, typed}
+use Rattle.ratatui_ansi.specs.Drawing.{is_at, IsDrawnBy, drawn_at, Prints}
+use Rattle.ansi_model.proofs.ReadLemmas.{Sends-then}
+use Rattle.ansi_model.proofs.TextLemmas.{and-both, one-single}
+
+-- how plain characters are printed one after the other
+types-append : (xs ys : List ℕ) (t : Emulator) → types (xs ++ ys) t ≡ types ys (types xs t)
+types-append [] ys t = refl
+types-append (x ∷ xs) ys t = types-append xs ys (prints (encode x) 1 t)
+
+types-text : (xs text : List ℕ) (t : Emulator) → types xs (record t { text = text }) ≡ record (types xs t) { text = text }
+types-text [] text t = refl
+types-text (x ∷ xs) text t = types-text xs text (prints (encode x) 1 t)
+
+printed-plain : (xs : List ℕ) (t : Emulator) → list_all is_plain_char (chars xs) ≡ true → printed xs t ≡ types (chars xs) t
+printed-plain [] t e = ap (λ cs. types cs t) (sym chars-nil)
+printed-plain (x ∷ xs) t e = rw e refl
+
+and-true : (b : Bool) → (b && true) ≡ b
+and-true true = refl
+and-true false = refl
+
+-- a text of one plain character
+one-char : (cs : List ℕ) → is_one_plain cs ≡ true → (c : ℕ) × ((cs ≡ c ∷ []) × (is_plain_char c ≡ true))
+one-char [] e = let h : ⊥ = cc in absurd h
+one-char (c ∷ []) e = (c, (refl, sym (and-true (is_plain_char c)) ∙ e))
+one-char (c ∷ d ∷ cs) e =
+    let two : (length (c ∷ d ∷ cs) == 1) ≡ false = grind (arith, nat_tests) in
+    let h : ⊥ = cc in
+    absurd h
+
+-- ---- how a text is printed
+
+only-is : (cs : List ℕ) (c : ℕ) → only_of cs ≡ Some c → cs ≡ c ∷ []
+only-is [] c e = let h : ⊥ = cc in absurd h
+only-is (d ∷ []) c e = let same : d ≡ c = cc in ap (λ k. k ∷ []) same
+only-is (d ∷ f ∷ cs) c e = let h : ⊥ = cc in absurd h
+
+plain-shown : (c : ℕ) → is_plain_char c ≡ true → is_shown c ≡ true
+plain-shown c plain = grind (arith, nat_tests)
+
+by-character : (c : ℕ) (p s u : Bool) → (p ≡ true → s ≡ true)
+    → (if p then Plain c else (if s && (p || u) then Whole else Unprinted))
+    ≡ (if (true && (s && true) && (p || u) && true) && ((true && (p && true)) || not (p && true)) then (if p then Plain c else Whole) else Unprinted)
+by-character c true s u shown = rw (shown refl) refl
+by-character c false true true shown = refl
+by-character c false true false shown = refl
+by-character c false false true shown = refl
+by-character c false false false shown = refl
+
+-- a text of one character
+pub printing-one : (text : List ℕ) (c : ℕ) → IsUtf8 text → only_of (chars text) ≡ Some c
+    → (if is_plain_char c then Plain c else (if is_shown c && has_columns c then Whole else Unprinted)) ≡ printing_of text
+printing-one text c utf8 only =
+    let one : chars text ≡ c ∷ [] = only-is (chars text) c only in
+    rw (one-single text c one, one, is_utf8-from_IsUtf8 text utf8) (by-character c (is_plain_char c) (is_shown c) (nat_lt 0 (unwrap_or (char_width false c) 0)) (plain-shown c))
+
+none-by : (cs : List ℕ) → only_of cs ≡ None → printing_by cs ≡ Whole
+none-by [] e = refl
+none-by (c ∷ []) e = let h : ⊥ = cc in absurd h
+none-by (c ∷ d ∷ cs) e = refl
+
+none-single : (cs : List ℕ) → only_of cs ≡ None → is_one_plain cs ≡ false
+none-single [] e = refl
+none-single (c ∷ []) e = let h : ⊥ = cc in absurd h
+none-single (c ∷ d ∷ cs) e =
+    let two : (length (c ∷ d ∷ cs) == 1) ≡ false = grind (arith, nat_tests) in
+    rw two refl
+
+by-symbol : (s p : Bool) → (if s && not p then Whole else Unprinted) ≡ (if s && (false || not p) then Whole else Unprinted)
+by-symbol true true = refl
+by-symbol true false = refl
+by-symbol false p = refl
+
+-- a text of several, or of none
+pub printing-several : (text : List ℕ) → only_of (chars text) ≡ None → (if is_symbol text && not (list_all is_plain_char (chars text)) then Whole else Unprinted) ≡ printing_of text
+printing-several text only = rw (none-single (chars text) only, none-by (chars text) only) (by-symbol (is_symbol text) (list_all is_plain_char (chars text)))
+
+-- a symbol is text in UTF-8
+symbol-utf8 : (symbol : List ℕ) → is_symbol symbol ≡ true → IsUtf8 symbol
+symbol-utf8 symbol is = IsUtf8-from_is_utf8 symbol (and-both (is_utf8 symbol) _ (and-both _ (begins_anew (chars symbol)) (and-both _ (is_single (graphemes true symbol)) is).0).0).0
+
+pub one-encoded : (symbol : List ℕ) (c : ℕ) → IsUtf8 symbol → chars symbol ≡ c ∷ [] → encode c ≡ symbol
+one-encoded symbol c utf8 e = sym (append-nil (encode c)) ∙ ap encodes (sym e) ∙ encodes-chars symbol utf8
+
+-- a plain character behind plain text is printed behind it
+pub behind-standing : (symbol : List ℕ) (t : Emulator) → is_symbol symbol ≡ true → is_one_plain (chars symbol) ≡ true → IsUtf8 t.text → list_all is_plain_char (chars t.text) ≡ true
+    → standing (typed symbol t) ≡ prints symbol 1 (standing t)
+behind-standing symbol t is one utf8 plain =
+    let found = one-char (chars symbol) one in
+    let c = found.0 in
+    let e : chars symbol ≡ c ∷ [] = found.1.0 in
+    let text = t.text ++ symbol in
+    let all_chars : chars text ≡ chars t.text ++ c ∷ [] = chars-append t.text symbol utf8 ∙ ap (λ cs. chars t.text ++ cs) e in
+    let all : list_all is_plain_char (chars text) ≡ true = ap (list_all is_plain_char) all_chars ∙ list_all-append is_plain_char (chars t.text) (c ∷ []) ∙ rw (plain, found.1.1) refl in
+    ap (λ (v : Emulator). record v { text = [] }) (printed-plain text (typed symbol t) all ∙ ap (λ cs. types cs (typed symbol t)) all_chars
+    ∙ types-append (chars t.text) (c ∷ []) (typed symbol t) ∙ ap (prints (encode c) 1) (types-text (chars t.text) text t))
+    ∙ ap (λ (v : Emulator). prints (encode c) 1 (record v { text = [] })) (sym (printed-plain t.text t plain))
+    ∙ ap (λ bs. prints bs 1 (standing t)) (one-encoded symbol c (symbol-utf8 symbol is) e)
+
+flip : (b : Bool) → not b ≡ true → b ≡ false
+flip true e = let h : ⊥ = cc in absurd h
+flip false e = refl
+
+printed-other : (symbol : List ℕ) (t : Emulator) → is_symbol symbol ≡ true → list_all is_plain_char (chars symbol) ≡ false → printed symbol t ≡ prints symbol (text_width symbol) t
+printed-other [] t is other =
+    let e : list_all is_plain_char (chars []) ≡ true = ap (list_all is_plain_char) chars-nil in
+    let h : ⊥ = cc in
+    absurd h
+printed-other (b ∷ bs) t is other =
+    let u : Emulator = prints (b ∷ bs) (text_width (b ∷ bs)) t in
+    rw other (ap (λ v. record u { sure = v }) (ap (λ v. u.sure && v) is ∙ and-true u.sure))
+
+-- a symbol that stands alone between two sequences
+pub alone-standing : (symbol : List ℕ) (t : Emulator) → is_printed symbol ≡ true → t.text ≡ [] → standing (typed symbol t) ≡ prints symbol (printed_columns symbol) (standing t)
+alone-standing symbol t is none =
+    let both = and-both (is_symbol symbol) (is_one_plain (chars symbol) || not (list_all is_plain_char (chars symbol))) is in
+    elim (is_one_plain (chars symbol)) as (λ v. is_one_plain (chars symbol) ≡ v → standing (typed symbol t) ≡ prints symbol (if v then 1 else text_width symbol) (standing t)) [
+      | true ↦ λ one. behind-standing symbol t both.0 one (rw none IsUtf8-nil) (rw none (ap (list_all is_plain_char) chars-nil))
+      | false ↦ λ many.
+          let not_plain : not (list_all is_plain_char (chars symbol)) ≡ true = rw many at both.1 in
+          let other : list_all is_plain_char (chars symbol) ≡ false = flip (list_all is_plain_char (chars symbol)) not_plain in
+          let text : t.text ++ symbol ≡ symbol = ap (λ xs. xs ++ symbol) none in
+          ap (λ xs. record (printed xs (record t { text = xs })) { text = [] }) text
+          ∙ ap (λ (v : Emulator). record v { text = [] }) (printed-other symbol (record t { text = symbol }) both.0 other)
+          ∙ sym (ap (λ xs. prints symbol (text_width symbol) (record (printed xs t) { text = [] })) none)
+    ] refl
+
+-- ---- a plain character
+
+plain-scalar : (c : ℕ) → is_plain_char c ≡ true → scalar c ≡ true
+plain-scalar c plain = low_scalar c (grind (arith, nat_tests))
+
+plain-chars : (c : ℕ) → is_plain_char c ≡ true → chars (encode c) ≡ c ∷ []
+plain-chars c plain = ap chars (sym (append-nil (encode c))) ∙ chars-encodes (c ∷ []) (rw (plain-scalar c plain) refl)
+
+-- one printed as a symbol
+pub plain-printed : (c : ℕ) → is_plain_char c ≡ true → is_printed (encode c) ≡ true
+plain-printed c plain = rw (one-single (encode c) c (plain-chars c plain), plain-chars c plain, is_utf8-from_IsUtf8 (encode c) (IsUtf8-encode c (plain-scalar c plain)), plain, plain-shown c plain) refl
+
+pub plain-single : (c : ℕ) → is_plain_char c ≡ true → is_one_plain (chars (encode c)) ≡ true
+plain-single c plain = rw (plain-chars c plain, plain) refl
+
+-- ---- by how a text is printed
+
+pub by-plain : (p : Bool) (cs : List ℕ) (c : ℕ) → (if p then printing_by cs else Unprinted) ≡ Plain c → (p ≡ true) × ((cs ≡ c ∷ []) × (is_plain_char c ≡ true))
+by-plain true [] c e = let h : ⊥ = cc in absurd h
+by-plain true (d ∷ []) c e =
+    elim (is_plain_char d) as (λ q. is_plain_char d ≡ q → (if q then Plain d else Whole) ≡ Plain c → (true ≡ true) × ((d ∷ [] ≡ c ∷ []) × (is_plain_char c ≡ true))) [
+      | true ↦ λ plain f. let same : d ≡ c = cc in (refl, (ap (λ k. k ∷ []) same, ap is_plain_char (sym same) ∙ plain))
+      | false ↦ λ plain f. let h : ⊥ = cc in absurd h
+    ] refl e
+by-plain true (d ∷ f ∷ cs) c e = let h : ⊥ = cc in absurd h
+by-plain false cs c e = let h : ⊥ = cc in absurd h
+
+pub by-whole : (p : Bool) (cs : List ℕ) → (if p then printing_by cs else Unprinted) ≡ Whole → (p ≡ true) × (is_one_plain cs ≡ false)
+by-whole true [] e = (refl, refl)
+by-whole true (c ∷ []) e =
+    elim (is_plain_char c) as (λ q. is_plain_char c ≡ q → (if q then Plain c else Whole) ≡ Whole → (true ≡ true) × (is_one_plain (c ∷ []) ≡ false)) [
+      | true ↦ λ plain f. let h : ⊥ = cc in absurd h
+      | false ↦ λ plain f. (refl, rw plain refl)
+    ] refl e
+by-whole true (c ∷ d ∷ cs) e = let two : (length (c ∷ d ∷ cs) == 1) ≡ false = grind (arith, nat_tests) in (refl, rw two refl)
+by-whole false cs e = let h : ⊥ = cc in absurd h
+
+printing-some : (cs : List ℕ) → printing_by cs ≡ Unprinted → ⊥
+printing-some [] e = cc
+printing-some (c ∷ []) e =
+    elim (is_plain_char c) as (λ q. (if q then Plain c else Whole) ≡ Unprinted → ⊥) [ true ↦ λ f. cc | false ↦ λ f. cc ] e
+printing-some (c ∷ d ∷ cs) e = cc
+
+pub by-none : (p : Bool) (cs : List ℕ) → (if p then printing_by cs else Unprinted) ≡ Unprinted → p ≡ false
+by-none true cs e = absurd (printing-some cs e)
+by-none false cs e = refl
+
+-- a symbol that isn't plain is printed in the columns of its text
+pub whole-columns : (text : List ℕ) → printing_of text ≡ Whole → text_width text ≡ printed_columns text
+whole-columns text e = rw (by-whole (is_printed text) (chars text) e).1 refl
