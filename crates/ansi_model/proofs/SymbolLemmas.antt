@@ -10,14 +10,12 @@ use Rattle.unicode_width.specs.Width.{char_width}
 use Rattle.unicode_segmentation.specs.Grapheme.{graphemes}
 use Rattle.ratatui_core.specs.Buffer.{text_width}
 use Rattle.ansi_model.specs.declared.sgr.Sgr.{Sgr}
-use Rattle.ratatui_ansi.specs.declared.drawing.Brush.{Brush}
 use Rattle.ansi_model.specs.declared.glyph.Printing.TheVariants.{Plain, Whole, Unprinted}
 use Rattle.ansi_model.specs.Emulator.{Emulator, standing, rested, printed, prints, types, cursor_moved}
 use Rattle.ansi_model.specs.Symbols.{is_plain_char, is_shown, has_columns, is_symbol, is_single, begins_anew, only_of, is_one_plain, is_printed, printing_by, printing_of, printed_columns}
 use Rattle.ansi_model.specs.Emulator.Phase.{Ground}
 use Rattle.ansi_model.specs.Sequences.{feed}
 use Rattle.ansi_model.specs.Sends.{Sends, Performs, typed}
-use Rattle.ratatui_ansi.specs.Drawing.{is_at, IsDrawnBy, drawn_at, Prints}
 use Rattle.ansi_model.proofs.ReadLemmas.{Sends-then}
 use Rattle.ansi_model.proofs.TextLemmas.{and-both, one-single}
 
@@ -95,7 +93,7 @@ pub printing-several : (text : List ℕ) → only_of (chars text) ≡ None → (
 printing-several text only = rw (none-single (chars text) only, none-by (chars text) only) (by-symbol (is_symbol text) (list_all is_plain_char (chars text)))
 
 -- a symbol is text in UTF-8
-symbol-utf8 : (symbol : List ℕ) → is_symbol symbol ≡ true → IsUtf8 symbol
+pub symbol-utf8 : (symbol : List ℕ) → is_symbol symbol ≡ true → IsUtf8 symbol
 symbol-utf8 symbol is = IsUtf8-from_is_utf8 symbol (and-both (is_utf8 symbol) _ (and-both _ (begins_anew (chars symbol)) (and-both _ (is_single (graphemes true symbol)) is).0).0).0
 
 pub one-encoded : (symbol : List ℕ) (c : ℕ) → IsUtf8 symbol → chars symbol ≡ c ∷ [] → encode c ≡ symbol

@@ -19,7 +19,8 @@ use Rattle.ansi_model.specs.Sequences.{feed}
 use Rattle.ansi_model.specs.Sends.{Sends, Performs, typed}
 use Rattle.ratatui_ansi.specs.Drawing.{is_at, IsDrawnBy, drawn_at, Prints}
 use Rattle.ansi_model.proofs.ReadLemmas.{Sends-then}
-use Rattle.ansi_model.proofs.TextLemmas.{and-both, one-single}
+use Rattle.ansi_model.proofs.TextLemmas.{and-both}
+use Rattle.ansi_model.proofs.SymbolLemmas.{symbol-utf8, behind-standing, alone-standing, plain-printed, plain-single}
 
 -- ---- a symbol in its place
 

@@ -33,7 +33,7 @@ use Rattle.ratatui_ansi.specs.Calls.{IsAwaiting}
 use Rattle.ratatui_ansi.specs.Frame.{IsTail, laid, is_fit, glyph_columns, is_sendable_on, IsGlyph, IsVacant, IsDrawing, AreMarked, Covers, SendsUpdates, SendsDraw}
 use Rattle.ansi_model.proofs.ReadLemmas.{feed-append}
 use Rattle.ansi_model.proofs.ScrollLemmas.{whole_along}
-use Rattle.ratatui_ansi.proofs.DrawLemmas.{plain-printed, plain-single, one-encoded}
+use Rattle.ansi_model.proofs.SymbolLemmas.{plain-printed, plain-single, one-encoded, by-plain, by-whole, by-none}
 use Rattle.ansi_model.proofs.TextLemmas.{and-both, blank-one}
 use Rattle.ratatui_ansi.proofs.TailLemmas.{behind_empty, torn, put-torn, torn-more, torn-all, laid-sized, laid-whole, laid-beyond, laid-behind, laid-shown}
 

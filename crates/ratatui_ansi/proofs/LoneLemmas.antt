@@ -14,7 +14,7 @@ use Rattle.ansi_model.specs.Symbols.{is_plain_char, is_shown, columns_of_char}
 use Rattle.ratatui_ansi.specs.Frame.{is_fit, IsGlyph, IsLone}
 use Rattle.ansi_model.proofs.TextLemmas.{and-both, one-single}
 use Rattle.ansi_model.proofs.SgrLemmas.{up_to, up_to-at, equal-number}
-use Rattle.ratatui_ansi.proofs.DrawLemmas.{one-encoded}
+use Rattle.ansi_model.proofs.SymbolLemmas.{one-encoded}
 use Rattle.ratatui_ansi.proofs.FrameLemmas.{plain-fits}
 
 -- ---- a plain character takes one column

@@ -1,6 +1,6 @@
 use Rattle.std.proofs.Common.{chars, sym, ◌∙◌}
 use Rattle.ansi_model.specs.Symbols.{is_printed}
-use Rattle.ratatui_ansi.proofs.FrameLemmas.{by-plain, by-whole, by-none}
+use Rattle.ansi_model.proofs.SymbolLemmas.{by-plain, by-whole, by-none}
 use Rattle.ansi_model.proofs.glyph.is_printed.Goals as goal
 
 pub returns-in-Plain : goal.returns-in-Plain

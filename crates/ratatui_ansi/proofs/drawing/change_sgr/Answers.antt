@@ -1,6 +1,7 @@
 use Rattle.std.proofs.Common.{refl, sym, ◌∙◌}
 use Rattle.ratatui_ansi.specs.Drawing.ChangesSgr.{Stays}
-use Rattle.ansi_model.proofs.SgrLemmas.{same_sgr, brush-kept}
+use Rattle.ansi_model.proofs.SgrLemmas.{same_sgr}
+use Rattle.ratatui_ansi.proofs.DrawLemmas.{brush-kept}
 use Rattle.ratatui_ansi.proofs.drawing.change_sgr.Goals as goal
 
 pub returns-then-eq-clause-changes : goal.returns-then-eq-clause-changes

@@ -1,5 +1,6 @@
 use Rattle.std.proofs.Common.{◌∙◌}
-use Rattle.ratatui_ansi.proofs.FrameLemmas.{whole-columns, own-width}
+use Rattle.ansi_model.proofs.SymbolLemmas.{whole-columns}
+use Rattle.ratatui_ansi.proofs.FrameLemmas.{own-width}
 use Rattle.ratatui_ansi.proofs.frame.printed_columns.Goals as goal
 
 pub returns-in-ForcedWidth : goal.returns-in-ForcedWidth

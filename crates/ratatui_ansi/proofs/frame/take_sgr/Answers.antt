@@ -2,7 +2,7 @@ use Rattle.std.proofs.Common.{◌≡◌, true, refl, subst}
 use Rattle.ratatui_ansi.specs.Drawing.ChangesSgr.{Stays}
 use Rattle.ansi_model.specs.Parameters.{is_sendable_by}
 use Rattle.ansi_model.specs.Sgr.{sgr_of}
-use Rattle.ansi_model.proofs.SgrLemmas.{brush-kept}
+use Rattle.ratatui_ansi.proofs.DrawLemmas.{brush-kept}
 use Rattle.ratatui_ansi.proofs.frame.take_sgr.Goals as goal
 
 pub returns-then-is_of-clause-changes : goal.returns-then-is_of-clause-changes
