@@ -2,6 +2,7 @@ pub mod ReadLemmas
 pub mod TextLemmas
 pub mod SgrLemmas
 pub mod SymbolLemmas
+pub mod GlyphLemmas
 pub mod ScrollLemmas
 pub mod RegionLemmas
 pub mod CallLemmas

@@ -10,9 +10,8 @@ use Rattle.unicode_width.specs.Width.{char_width}
 use Rattle.unicode_segmentation.specs.Grapheme.{graphemes}
 use Rattle.ratatui_core.specs.Buffer.{text_width}
 use Rattle.ansi_model.specs.declared.sgr.Sgr.{Sgr}
-use Rattle.ansi_model.specs.declared.glyph.Printing.TheVariants.{Plain, Whole, Unprinted}
 use Rattle.ansi_model.specs.Emulator.{Emulator, standing, rested, printed, prints, types, cursor_moved}
-use Rattle.ansi_model.specs.Symbols.{is_plain_char, is_shown, has_columns, is_symbol, is_single, begins_anew, only_of, is_one_plain, is_printed, printing_by, printing_of, printed_columns}
+use Rattle.ansi_model.specs.Symbols.{is_plain_char, is_shown, has_columns, is_symbol, is_single, begins_anew, only_of, is_one_plain, is_printed, printed_columns}
 use Rattle.ansi_model.specs.Emulator.Phase.{Ground}
 use Rattle.ansi_model.specs.Sequences.{feed}
 use Rattle.ansi_model.specs.Sends.{Sends, Performs, typed}
@@ -37,7 +36,7 @@ and-true true = refl
 and-true false = refl
 
 -- a text of one plain character
-one-char : (cs : List ℕ) → is_one_plain cs ≡ true → (c : ℕ) × ((cs ≡ c ∷ []) × (is_plain_char c ≡ true))
+pub one-char : (cs : List ℕ) → is_one_plain cs ≡ true → (c : ℕ) × ((cs ≡ c ∷ []) × (is_plain_char c ≡ true))
 one-char [] e = let h : ⊥ = cc in absurd h
 one-char (c ∷ []) e = (c, (refl, sym (and-true (is_plain_char c)) ∙ e))
 one-char (c ∷ d ∷ cs) e =
@@ -45,52 +44,15 @@ one-char (c ∷ d ∷ cs) e =
     let h : ⊥ = cc in
     absurd h
 
--- ---- how a text is printed
-
-only-is : (cs : List ℕ) (c : ℕ) → only_of cs ≡ Some c → cs ≡ c ∷ []
-only-is [] c e = let h : ⊥ = cc in absurd h
-only-is (d ∷ []) c e = let same : d ≡ c = cc in ap (λ k. k ∷ []) same
-only-is (d ∷ f ∷ cs) c e = let h : ⊥ = cc in absurd h
-
 plain-shown : (c : ℕ) → is_plain_char c ≡ true → is_shown c ≡ true
 plain-shown c plain = grind (arith, nat_tests)
 
-by-character : (c : ℕ) (p s u : Bool) → (p ≡ true → s ≡ true)
-    → (if p then Plain c else (if s && (p || u) then Whole else Unprinted))
-    ≡ (if (true && (s && true) && (p || u) && true) && ((true && (p && true)) || not (p && true)) then (if p then Plain c else Whole) else Unprinted)
-by-character c true s u shown = rw (shown refl) refl
-by-character c false true true shown = refl
-by-character c false true false shown = refl
-by-character c false false true shown = refl
-by-character c false false false shown = refl
-
--- a text of one character
-pub printing-one : (text : List ℕ) (c : ℕ) → IsUtf8 text → only_of (chars text) ≡ Some c
-    → (if is_plain_char c then Plain c else (if is_shown c && has_columns c then Whole else Unprinted)) ≡ printing_of text
-printing-one text c utf8 only =
-    let one : chars text ≡ c ∷ [] = only-is (chars text) c only in
-    rw (one-single text c one, one, is_utf8-from_IsUtf8 text utf8) (by-character c (is_plain_char c) (is_shown c) (nat_lt 0 (unwrap_or (char_width false c) 0)) (plain-shown c))
-
-none-by : (cs : List ℕ) → only_of cs ≡ None → printing_by cs ≡ Whole
-none-by [] e = refl
-none-by (c ∷ []) e = let h : ⊥ = cc in absurd h
-none-by (c ∷ d ∷ cs) e = refl
-
-none-single : (cs : List ℕ) → only_of cs ≡ None → is_one_plain cs ≡ false
+pub none-single : (cs : List ℕ) → only_of cs ≡ None → is_one_plain cs ≡ false
 none-single [] e = refl
 none-single (c ∷ []) e = let h : ⊥ = cc in absurd h
 none-single (c ∷ d ∷ cs) e =
     let two : (length (c ∷ d ∷ cs) == 1) ≡ false = grind (arith, nat_tests) in
     rw two refl
-
-by-symbol : (s p : Bool) → (if s && not p then Whole else Unprinted) ≡ (if s && (false || not p) then Whole else Unprinted)
-by-symbol true true = refl
-by-symbol true false = refl
-by-symbol false p = refl
-
--- a text of several, or of none
-pub printing-several : (text : List ℕ) → only_of (chars text) ≡ None → (if is_symbol text && not (list_all is_plain_char (chars text)) then Whole else Unprinted) ≡ printing_of text
-printing-several text only = rw (none-single (chars text) only, none-by (chars text) only) (by-symbol (is_symbol text) (list_all is_plain_char (chars text)))
 
 -- a symbol is text in UTF-8
 pub symbol-utf8 : (symbol : List ℕ) → is_symbol symbol ≡ true → IsUtf8 symbol
@@ -156,39 +118,3 @@ plain-printed c plain = rw (one-single (encode c) c (plain-chars c plain), plain
 
 pub plain-single : (c : ℕ) → is_plain_char c ≡ true → is_one_plain (chars (encode c)) ≡ true
 plain-single c plain = rw (plain-chars c plain, plain) refl
-
--- ---- by how a text is printed
-
-pub by-plain : (p : Bool) (cs : List ℕ) (c : ℕ) → (if p then printing_by cs else Unprinted) ≡ Plain c → (p ≡ true) × ((cs ≡ c ∷ []) × (is_plain_char c ≡ true))
-by-plain true [] c e = let h : ⊥ = cc in absurd h
-by-plain true (d ∷ []) c e =
-    elim (is_plain_char d) as (λ q. is_plain_char d ≡ q → (if q then Plain d else Whole) ≡ Plain c → (true ≡ true) × ((d ∷ [] ≡ c ∷ []) × (is_plain_char c ≡ true))) [
-      | true ↦ λ plain f. let same : d ≡ c = cc in (refl, (ap (λ k. k ∷ []) same, ap is_plain_char (sym same) ∙ plain))
-      | false ↦ λ plain f. let h : ⊥ = cc in absurd h
-    ] refl e
-by-plain true (d ∷ f ∷ cs) c e = let h : ⊥ = cc in absurd h
-by-plain false cs c e = let h : ⊥ = cc in absurd h
-
-pub by-whole : (p : Bool) (cs : List ℕ) → (if p then printing_by cs else Unprinted) ≡ Whole → (p ≡ true) × (is_one_plain cs ≡ false)
-by-whole true [] e = (refl, refl)
-by-whole true (c ∷ []) e =
-    elim (is_plain_char c) as (λ q. is_plain_char c ≡ q → (if q then Plain c else Whole) ≡ Whole → (true ≡ true) × (is_one_plain (c ∷ []) ≡ false)) [
-      | true ↦ λ plain f. let h : ⊥ = cc in absurd h
-      | false ↦ λ plain f. (refl, rw plain refl)
-    ] refl e
-by-whole true (c ∷ d ∷ cs) e = let two : (length (c ∷ d ∷ cs) == 1) ≡ false = grind (arith, nat_tests) in (refl, rw two refl)
-by-whole false cs e = let h : ⊥ = cc in absurd h
-
-printing-some : (cs : List ℕ) → printing_by cs ≡ Unprinted → ⊥
-printing-some [] e = cc
-printing-some (c ∷ []) e =
-    elim (is_plain_char c) as (λ q. (if q then Plain c else Whole) ≡ Unprinted → ⊥) [ true ↦ λ f. cc | false ↦ λ f. cc ] e
-printing-some (c ∷ d ∷ cs) e = cc
-
-pub by-none : (p : Bool) (cs : List ℕ) → (if p then printing_by cs else Unprinted) ≡ Unprinted → p ≡ false
-by-none true cs e = absurd (printing-some cs e)
-by-none false cs e = refl
-
--- a symbol that isn't plain is printed in the columns of its text
-pub whole-columns : (text : List ℕ) → printing_of text ≡ Whole → text_width text ≡ printed_columns text
-whole-columns text e = rw (by-whole (is_printed text) (chars text) e).1 refl

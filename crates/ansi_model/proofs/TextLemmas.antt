@@ -75,7 +75,7 @@ last : (b : Bool) → (b && true) ≡ b
 last true = refl
 last false = refl
 
-none : (b : Bool) → (b && false) ≡ false
+pub none : (b : Bool) → (b && false) ≡ false
 none true = refl
 none false = refl
 

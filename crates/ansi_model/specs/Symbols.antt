@@ -1,12 +1,12 @@
 -- What terminals print a text as: characters, and the columns that they take.
-use Rattle.std.specs.Prelude.{ℕ, ◌==◌, ◌&&◌, ◌||◌, not, nat_lt, nat_le, Bool, true, false, if◌then◌else◌, List, [], ◌∷◌, length, unwrap_or, chars, Option, Some, None}
+use Rattle.std.specs.Prelude.{◌≡◌, ℕ, ◌==◌, ◌&&◌, ◌||◌, not, nat_lt, nat_le, Bool, true, false, if◌then◌else◌, List, [], ◌∷◌, length, unwrap_or, chars, encode_utf8, Option, Some, None}
 use Rattle.std.specs.List.{list_all}
 use Rattle.std.specs.Str.{is_utf8}
 use Rattle.unicode_width.specs.Width.{char_width}
 use Rattle.unicode_segmentation.specs.Grapheme.{graphemes}
 use Rattle.ratatui_core.specs.Buffer.{text_width}
-use Rattle.ansi_model.specs.declared.glyph.Printing.{Printing}
-use Rattle.ansi_model.specs.declared.glyph.Printing.TheVariants.{Plain, Whole, Unprinted}
+use Rattle.ansi_model.specs.declared.glyph.Glyph.{Glyph}
+use Rattle.ansi_model.specs.declared.glyph.Glyph.TheVariants.{Plain, Whole}
 
 -- control characters, which terminals obey in place of showing them
 abbrev pub is_control : ℕ → Bool
@@ -63,15 +63,22 @@ is_one_plain cs = (length cs == 1) && list_all is_plain_char cs
 abbrev pub is_printed : List ℕ → Bool
 is_printed text = is_symbol text && (is_one_plain (chars text) || not (list_all is_plain_char (chars text)))
 
--- how a text is printed that is printed as one symbol
-abbrev pub printing_by : List ℕ → Printing
-printing_by (c ∷ []) = if is_plain_char c then Plain c else Whole
-printing_by _ = Whole
-
--- how a text is printed
-abbrev pub printing_of : List ℕ → Printing
-printing_of text = if is_printed text then printing_by (chars text) else Unprinted
-
--- its columns
+-- in how many columns such a symbol is printed
 abbrev pub printed_columns : List ℕ → ℕ
 printed_columns text = if is_one_plain (chars text) then 1 else text_width text
+
+-- the columns of a glyph
+abbrev pub glyph_columns : Glyph → ℕ
+glyph_columns (Plain c) = 1
+glyph_columns (Whole n) = n
+
+-- a plain glyph's character is all of a text
+abbrev pub IsPlainIn : List ℕ → Glyph → Type 0
+IsPlainIn text (Plain c) = (is_plain_char c ≡ true) × (text ≡ encode_utf8 c)
+IsPlainIn text (Whole n) = Unit {0}
+
+-- a text is printed as one symbol, and as this glyph
+pub record IsGlyphOf (text : List ℕ) (glyph : Glyph) : Type 0 where
+  pub printed : is_printed text ≡ true
+  pub columns : glyph_columns glyph ≡ printed_columns text
+  pub plain : IsPlainIn text glyph

@@ -1,21 +1,31 @@
-//! How terminals print texts.
+//! Symbols, as terminals print them.
 
-ghost use Rattle.std.specs.Prelude.{◌≡◌, ◌&&◌, if◌then◌else◌, chars};
+ghost use Rattle.std.specs.Prelude.{◌≡◌, ◌∷◌, [], List, ℕ, false, chars, IsUtf8, MatchOption, None};
 ghost use Rattle.std.specs.List.{list_all};
-ghost use Rattle.ansi_model.specs.declared.glyph.Printing.TheVariants.{Plain, Whole, Unprinted};
-ghost use Rattle.ansi_model.specs.Symbols.{is_plain_char, is_shown, has_columns, is_printed, printing_of};
+ghost use Rattle.ansi_model.specs.Symbols.{is_plain_char, is_printed, only_of, glyph_columns, IsGlyphOf};
 
-use crate::symbol::{has_columns, is_plain, is_shown, is_symbol, only_char};
+use crate::symbol::{columns_of_char, is_plain, is_shown, is_symbol, only_char};
+use ratatui_core::buffer::CellWidth;
 
-/// How a terminal prints a text.
+/// A symbol, as terminals print it.
 #[derive(Debug, Clone, Copy, PartialEq, Eq)]
-pub enum Printing {
-    /// As this plain character.
+pub enum Glyph {
+    /// As this plain character, in one column.
     Plain(char),
-    /// As one symbol that isn't plain.
-    Whole,
-    /// Not as one symbol.
-    Unprinted,
+    /// As one symbol that isn't plain, in so many columns.
+    Whole(u16),
+}
+
+impl Glyph {
+    /// In how many columns it is printed.
+    pub fn columns(self) -> u16
+        ensures { result ≡ glyph_columns self }
+    {
+        match self {
+            Glyph::Plain(_) => 1,
+            Glyph::Whole(columns) => columns,
+        }
+    }
 }
 
 // Whether all characters of a text are plain.
@@ -25,43 +35,54 @@ fn are_plain(text: &str) -> bool
     text.chars().all(|c| is_plain(c))
 }
 
-// How a terminal prints a text of one character.
-fn printing_of_char(c: char) -> Printing
-    ensures { result ≡ (if is_plain_char c then Plain c
-        else (if is_shown c && has_columns c then Whole else Unprinted)) }
+// How terminals print a text of this one character.
+fn glyph_of_char(c: char) -> Option<Glyph>
+    ensures { (text : List ℕ) → IsUtf8 text → chars text ≡ c ∷ []
+        → MatchOption result (is_printed text ≡ false) (IsGlyphOf text) }
 {
     if is_plain(c) {
-        Printing::Plain(c)
-    } else if is_shown(c) && has_columns(c) {
-        Printing::Whole
-    } else {
-        Printing::Unprinted
+        return Some(Glyph::Plain(c));
     }
+    if !is_shown(c) {
+        return None;
+    }
+    let columns = columns_of_char(c);
+    if columns == 0 {
+        return None;
+    }
+    Some(Glyph::Whole(columns))
 }
 
-/// How a terminal prints a text: one plain character, or a symbol that isn't plain throughout, as one symbol.
-pub fn printing_of(text: &str) -> Printing
-    ensures { result ≡ printing_of text.now }
+// How terminals print a text of several characters, or of none.
+fn glyph_of_text(text: &str) -> Option<Glyph>
+    requires { only_of (chars text.now) ≡ None }
+    ensures { MatchOption result (is_printed text.now ≡ false) (IsGlyphOf text.now) }
+{
+    if !is_symbol(text) {
+        return None;
+    }
+    if are_plain(text) {
+        return None;
+    }
+    Some(Glyph::Whole(text.cell_width()))
+}
+
+/// How terminals print a text as one symbol: one plain character, or a symbol that isn't plain throughout. None if they don't.
+pub fn glyph_of(text: &str) -> Option<Glyph>
+    ensures { MatchOption result (is_printed text.now ≡ false) (IsGlyphOf text.now) }
 {
     match only_char(text) {
-        Some(c) => printing_of_char(c),
-        None => {
-            if is_symbol(text) && !are_plain(text) {
-                Printing::Whole
-            } else {
-                Printing::Unprinted
-            }
-        }
+        Some(c) => glyph_of_char(c),
+        None => glyph_of_text(text),
     }
 }
 
-/// Whether a terminal prints a text as one symbol.
+/// Whether terminals print a text as one symbol.
 pub fn is_printed(text: &str) -> bool
     ensures { result ≡ is_printed text.now }
 {
-    match printing_of(text) {
-        Printing::Plain(_) => true,
-        Printing::Whole => true,
-        Printing::Unprinted => false,
+    match glyph_of(text) {
+        Some(_) => true,
+        None => false,
     }
 }

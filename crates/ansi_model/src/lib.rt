@@ -16,14 +16,11 @@ mod sgr;
 mod symbol;
 
 pub use calls::{clear_screen, make_blank, set_cursor_position, set_visible};
-pub use glyph::{Printing, is_printed, printing_of};
+pub use glyph::{Glyph, glyph_of, is_printed};
 pub use scrolling::{append_lines, scroll_region_down, scroll_region_up};
 pub use sequences::{
     delete_lines, erase, erase_all, hide_cursor, insert_lines, line_feeds, move_to, reset_region,
     set_region, show_cursor,
 };
 pub use sgr::{Sgr, push_sgr};
-pub use symbol::{
-    columns_of_char, is_plain, is_shown, is_symbol, only_char, only_printable, push_plain,
-    push_symbol,
-};
+pub use symbol::{is_plain, is_symbol, only_printable, push_plain, push_symbol};

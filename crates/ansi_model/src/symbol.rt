@@ -42,8 +42,8 @@ pub fn columns_of_char(c: char) -> u16
     }
 }
 
-/// Whether a character has columns of its own.
-pub fn has_columns(c: char) -> bool
+// Whether a character has columns of its own.
+fn has_columns(c: char) -> bool
     ensures { result ≡ has_columns c }
 {
     is_plain(c) || columns_of_char(c) > 0

@@ -15,25 +15,26 @@ use Rattle.ratatui_core.proofs.BackendLemmas.{Draws-none, Draws-push}
 use Rattle.ratatui_core.specs.DiffOption as DiffOption
 use Rattle.ansi_model.specs.declared.sgr.Sgr.{Sgr}
 use Rattle.ratatui_ansi.specs.declared.drawing.Brush.{Brush}
-use Rattle.ansi_model.specs.declared.glyph.Printing.TheVariants.{Plain, Whole, Unprinted}
 use Rattle.ratatui_ansi.specs.declared.frame.Drawing.{Drawing}
-use Rattle.ratatui_ansi.specs.declared.frame.Glyph.{Glyph}
-use Rattle.ratatui_ansi.specs.declared.frame.Glyph.TheVariants as Glyphs
+use Rattle.ansi_model.specs.declared.glyph.Glyph.{Glyph}
+use Rattle.ansi_model.specs.declared.glyph.Glyph.TheVariants.{Plain}
 use Rattle.ansi_model.specs.Columns.{Columns, look_in, is_continuation}
 use Rattle.ratatui_ansi.specs.Flags.{AreContinuations, flag}
 use Rattle.ansi_model.specs.Parameters.{is_sendable_by}
 use Rattle.ansi_model.specs.Sgr.{default_sgr, inked, sgr_of}
 use Rattle.ansi_model.specs.Emulator.{Emulator, rested, run, with_sgr}
-use Rattle.ansi_model.specs.Symbols.{is_plain_char, is_one_plain, is_printed, printing_by, printing_of, printed_columns}
+use Rattle.ansi_model.specs.Symbols.{is_plain_char, is_one_plain, is_printed, printed_columns, glyph_columns}
 use Rattle.ansi_model.specs.Sequences.{feed}
 use Rattle.ansi_model.specs.Screens.{screen_shown, HasOwnWidth, IsWhole, IsBlankBeyond, IsIdle, put_columns}
 use Rattle.ratatui_ansi.specs.Drawing.{printed_at, blanked, IsDrawnBy, ChangesSgr, Paints, Prints}
 use Rattle.ratatui_ansi.specs.Drawing.ChangesSgr.{Stays, Sets}
 use Rattle.ratatui_ansi.specs.Calls.{IsAwaiting}
-use Rattle.ratatui_ansi.specs.Frame.{IsTail, laid, is_fit, glyph_columns, is_sendable_on, IsGlyph, IsVacant, IsDrawing, AreMarked, Covers, SendsUpdates, SendsDraw}
+use Rattle.ratatui_ansi.specs.Frame.{IsTail, laid, is_fit, is_sendable_on, IsGlyph, IsVacant, IsDrawing, AreMarked, Covers, SendsUpdates, SendsDraw}
 use Rattle.ansi_model.proofs.ReadLemmas.{feed-append}
 use Rattle.ansi_model.proofs.ScrollLemmas.{whole_along}
-use Rattle.ansi_model.proofs.SymbolLemmas.{plain-printed, plain-single, one-encoded, by-plain, by-whole, by-none}
+use Rattle.ansi_model.proofs.SymbolLemmas.{plain-printed, plain-single}
+use Rattle.ansi_model.proofs.GlyphLemmas.{printed-width, one-byte}
+use Rattle.ansi_model.proofs.SgrLemmas.{equal-number}
 use Rattle.ansi_model.proofs.TextLemmas.{and-both, blank-one}
 use Rattle.ratatui_ansi.proofs.TailLemmas.{behind_empty, torn, put-torn, torn-more, torn-all, laid-sized, laid-whole, laid-beyond, laid-behind, laid-shown}
 
@@ -356,59 +357,28 @@ own-width c (inr (inr e)) = rw e refl
 
 -- ---- how a cell is printed
 
-abbrev Gives : ℕ → Cell → Bool → Glyph → Type 0
-Gives room c b glyph = MatchOption (then_some b glyph) (is_fit room c ≡ false) (IsGlyph room c)
-
-gives-by : (room : ℕ) (c : Cell) (b : Bool) (glyph : Glyph) → b ≡ is_fit room c → (is_fit room c ≡ true → IsGlyph room c glyph) → Gives room c b glyph
-gives-by room c true glyph e is = is (sym e)
-gives-by room c false glyph e is = sym e
-
--- a cell with one plain character
-pub plain-gives : (room : ℕ) (c : Cell) (ch : ℕ) (b : Bool) → IsUtf8 (symbol_text c.symbol) → 0 < room → printing_of (symbol_text c.symbol) ≡ Plain ch → b ≡ nat_eq (width_of c) 1 → Gives room c b (Glyphs.Plain ch)
-plain-gives room c ch b utf8 some e test =
-    let text = symbol_text c.symbol in
-    let is = by-plain (is_printed text) (chars text) ch e in
-    let one : is_one_plain (chars text) ≡ true = rw (is.1.0, is.1.1) refl in
-    let single : 1 ≡ printed_columns text = rw one refl in
-    let fit : is_fit room c ≡ ((1 == width_of c) && nat_lt 0 (width_of c) && nat_le (width_of c) room) = rw (is.0, one) refl in
-    let same : ((1 == width_of c) && nat_lt 0 (width_of c) && nat_le (width_of c) room) ≡ nat_eq (width_of c) 1 = grind (arith, nat_tests) in
-    gives-by room c b (Glyphs.Plain ch) (test ∙ sym (fit ∙ same)) (λ fits. record {
-      fits = fits;
-      columns = single ∙ (fit-parts room c (rw fits refl)).columns;
-      symbol = (is.1.1, sym (one-encoded text ch utf8 is.1.0));
-    })
-
-pub plain-fits : (room : ℕ) (c : Cell) (ch : ℕ) → is_plain_char ch ≡ true → symbol_text c.symbol ≡ encode ch → width_of c ≡ 1 → 0 < room → IsGlyph room c (Glyphs.Plain ch)
-plain-fits room c ch plain same wide some =
-    let one : is_one_plain (chars (encode ch)) ≡ true = plain-single ch plain in
-    let inside : nat_le 1 room ≡ true = grind (arith, nat_tests) in
-    record { fits = rw (same, plain-printed ch plain, one, wide, inside) refl; columns = sym wide; symbol = (plain, same) }
+pub takes-own : (c : Cell) (n : ℕ) → IsUtf8 (symbol_text c.symbol) → n ≡ printed_columns (symbol_text c.symbol)
+    → (c.diff_option ≡ DiffOption.None) ⊎ (c.diff_option ≡ DiffOption.Skip) ⊎ (c.diff_option ≡ DiffOption.AlwaysUpdate) → true ≡ nat_eq n (width_of c)
+takes-own c n utf8 e own =
+    let same : n ≡ width_of c = e ∙ printed-width (symbol_text c.symbol) utf8 ∙ sym (own-width c own) in
+    rw same (sym (equal-number (width_of c)))
 
 -- a cell with one printable character of ASCII
-one-byte : (text : List ℕ) (b : ℕ) → text ≡ b ∷ [] → text_width text ≡ 1
-unfolding text_width
-one-byte text b e = rw e refl
-
-printable-fits : (room : ℕ) (c : Cell) (b : ℕ) → symbol_text c.symbol ≡ b ∷ [] → 32 ≤ b → b ≤ 126 → width_of c ≡ text_width (symbol_text c.symbol) → 0 < room → IsGlyph room c (Glyphs.Plain b)
+printable-fits : (room : ℕ) (c : Cell) (b : ℕ) → symbol_text c.symbol ≡ b ∷ [] → 32 ≤ b → b ≤ 126 → width_of c ≡ text_width (symbol_text c.symbol) → 0 < room → IsGlyph room c (Plain b)
 printable-fits room c b text low high own some =
     let small : b < 128 = omega arith in
-    plain-fits room c b (grind (arith, nat_tests)) (text ∙ sym (encode_ascii b small)) (own ∙ one-byte (symbol_text c.symbol) b text) some
+    let plain : is_plain_char b ≡ true = grind (arith, nat_tests) in
+    let same : encode b ≡ symbol_text c.symbol = encode_ascii b small ∙ sym text in
+    let printed : is_printed (symbol_text c.symbol) ≡ true = subst (λ xs. is_printed xs ≡ true) same (plain-printed b plain) in
+    let one : is_one_plain (chars (symbol_text c.symbol)) ≡ true = subst (λ xs. is_one_plain (chars xs) ≡ true) same (plain-single b plain) in
+    let wide : width_of c ≡ 1 = own ∙ ap text_width text ∙ one-byte b in
+    let inside : nat_le 1 room ≡ true = grind (arith, nat_tests) in
+    record { fits = rw (printed, one, wide, inside) refl; symbol = record { printed = printed; columns = rw one refl; plain = (plain, sym same) } }
 
 pub printable-gives : (c : Cell) (found : Option ℕ) → IfSome found (λ b. (symbol_text c.symbol ≡ b ∷ []) × (32 ≤ b) × (b ≤ 126)) → width_of c ≡ text_width (symbol_text c.symbol)
-    → IfSome found (λ b. (room : ℕ) → 0 < room → IsGlyph room c (Glyphs.Plain b))
+    → IfSome found (λ b. (room : ℕ) → 0 < room → IsGlyph room c (Plain b))
 printable-gives c None is own = tt
 printable-gives c (Some b) is own = λ room some. printable-fits room c b is.0 is.1 is.2 own some
-
--- a cell with another symbol
-pub whole-gives : (room : ℕ) (c : Cell) (n : ℕ) (b : Bool) → printing_of (symbol_text c.symbol) ≡ Whole → n ≡ width_of c
-    → b ≡ ((printed_columns (symbol_text c.symbol) == width_of c) && nat_lt 0 (width_of c) && nat_le (width_of c) room) → Gives room c b (Glyphs.Whole n)
-whole-gives room c n b e takes test =
-    let text = symbol_text c.symbol in
-    let is = by-whole (is_printed text) (chars text) e in
-    gives-by room c b (Glyphs.Whole n) (test ∙ rw is.0 refl) (λ fits. record { fits = fits; columns = takes; symbol = is.0 })
-
-pub none-fits : (room : ℕ) (c : Cell) → printing_of (symbol_text c.symbol) ≡ Unprinted → is_fit room c ≡ false
-none-fits room c e = rw (by-none (is_printed (symbol_text c.symbol)) (chars (symbol_text c.symbol)) e) refl
 
 cursor-at : (end y w ux uy uw : ℕ) → ux ≡ end → uy ≡ y → uw ≡ w → let at : Position = record { x = min ux (uw - 1); y = uy } in let goal : Position = record { x = min end (w - 1); y = y } in at ≡ goal
 cursor-at end y w ux uy uw ex ey ew = rw (ex, ey, ew) refl
@@ -466,7 +436,8 @@ cell-sends w h x y cell glyph end before after inked drawn flags flags_after old
     let two : Paints w h old before.brush (printed_at x y sgr symbol) mid drawn = Paints-then w h old first mid before.brush inked drawn (with_sgr sgr) (printed_at x y sgr symbol) (λ t. (refl, refl)) sgr_set here in
     let both : Paints w h old before.brush (λ t. blanked (x + n) y m (printed_at x y sgr symbol t)) new after.brush
     = Paints-then w h old mid new before.brush drawn after.brush (printed_at x y sgr symbol) (blanked (x + n) y m) (λ t. (refl, refl)) two (covers.paints h row) in
-    lay-sends w h x y n end cell before after flags flags_after old new (fit-parts (w - x) cell (rw is.fits refl)) (sym is.columns) column row both uncut covers.ordered covers.inside covers.set covers.unset covers.marked cursor count
+    let fit = fit-parts (w - x) cell (rw is.fits refl) in
+    lay-sends w h x y n end cell before after flags flags_after old new fit (sym (is.symbol.columns ∙ fit.columns)) column row both uncut covers.ordered covers.inside covers.set covers.unset covers.marked cursor count
 
 -- what a rendition that was kept, or given back, can be sent to
 pub sgr-sendable : (colors : Bool) (before after : Sgr) → (after ≡ before) ⊎ (after ≡ default_sgr) → is_sendable_by colors before ≡ true → is_sendable_by colors after ≡ true

@@ -2,7 +2,6 @@ pub mod DrawLemmas
 pub mod TailLemmas
 pub mod CoverLemmas
 pub mod FrameLemmas
-pub mod LoneLemmas
 pub mod FlagLemmas
 pub mod EraseLemmas
 pub mod TrackLemmas

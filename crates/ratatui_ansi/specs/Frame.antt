@@ -5,8 +5,7 @@ use Rattle.ratatui_core.specs.Buffer.{symbol_text, text_width, Look, look_of, em
 use Rattle.ratatui_core.specs.Backend.{Draws, cursor_of}
 use Rattle.ratatui_ansi.specs.declared.drawing.Brush.{Brush}
 use Rattle.ratatui_ansi.specs.declared.frame.Drawing.{Drawing}
-use Rattle.ratatui_ansi.specs.declared.frame.Glyph.{Glyph}
-use Rattle.ratatui_ansi.specs.declared.frame.Glyph.TheVariants.{Plain, Whole}
+use Rattle.ansi_model.specs.declared.glyph.Glyph.{Glyph}
 use Rattle.ratatui_ansi.specs.declared.frame.Refusal.{Refusal}
 use Rattle.ratatui_ansi.specs.declared.frame.Refusal.TheVariants as Refused
 use Rattle.ansi_model.specs.declared.sgr.Sgr.{Sgr}
@@ -43,28 +42,10 @@ abbrev pub is_fit : ℕ → Cell → Bool
 is_fit room c =
     is_printed (symbol_text c.symbol) && (printed_columns (symbol_text c.symbol) == width_of c) && nat_lt 0 (width_of c) && nat_le (width_of c) room
 
--- in how many columns a symbol is printed
-abbrev pub glyph_columns : Glyph → ℕ
-glyph_columns (Plain ch) = 1
-glyph_columns (Whole n) = n
-
--- a text is printed so
-abbrev pub IsPrintedAs : List ℕ → Glyph → Type 0
-IsPrintedAs text (Plain ch) = (is_plain_char ch ≡ true) × (text ≡ encode_utf8 ch)
-IsPrintedAs text (Whole n) = is_printed text ≡ true
-
 -- a cell that fits into a room is printed so
 pub record IsGlyph (room : ℕ) (c : Cell) (glyph : Glyph) : Type 0 where
   pub fits : is_fit room c ≡ true
-  pub columns : glyph_columns glyph ≡ width_of c
-  pub symbol : IsPrintedAs (symbol_text c.symbol) glyph
-
--- a cell's symbol is this character alone, one above U+00A0, and the cell takes the columns of its text
-pub record IsLone (c : Cell) (ch : ℕ) : Type 0 where
-  pub above : 0xA0 < ch
-  pub utf8 : IsUtf8 (symbol_text c.symbol)
-  pub symbol : chars (symbol_text c.symbol) ≡ ch ∷ []
-  pub width : width_of c ≡ text_width (symbol_text c.symbol)
+  pub symbol : IsGlyphOf (symbol_text c.symbol) glyph
 
 -- a cell of one column that looks like an empty one
 pub record IsVacant (c : Cell) : Type 0 where

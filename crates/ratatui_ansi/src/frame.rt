@@ -4,19 +4,16 @@ ghost use Rattle.std.specs.Prelude.{◌≡◌, ℕ, ◌+◌, ◌-◌, ◌*◌, �
 ghost use Rattle.std.specs.List.{list_all};
 ghost use Rattle.std.specs.Iterator.{IsFinite, Drains};
 ghost use Rattle.ratatui_core.specs.Buffer.{blank, symbol_text, text_width, width_of, update_by, Cell};
-ghost use Rattle.ansi_model.specs.declared.glyph.Printing.TheVariants.{Whole};
-ghost use Rattle.ratatui_ansi.specs.declared.frame.Glyph.TheVariants.{Plain};
+ghost use Rattle.ansi_model.specs.declared.glyph.Glyph.TheVariants.{Plain};
 ghost use Rattle.ansi_model.specs.Sgr.{default_sgr, sgr_of};
 ghost use Rattle.ansi_model.specs.Parameters.{is_sendable_by};
-ghost use Rattle.ansi_model.specs.Symbols.{printing_of, printed_columns};
+ghost use Rattle.ansi_model.specs.Symbols.{printed_columns, glyph_columns, IsGlyphOf};
 ghost use Rattle.ratatui_ansi.specs.Drawing.{blanked, ChangesSgr, Paints, Prints};
-ghost use Rattle.ratatui_ansi.specs.Frame.{glyph_columns, is_fit, is_sendable_on, IsPrintedAs, IsGlyph, IsLone, IsVacant, IsUnsendableSgr, RefusesUpdate, Covers, SendsUpdates, SendsDraw};
+ghost use Rattle.ratatui_ansi.specs.Frame.{is_fit, is_sendable_on, IsGlyph, IsVacant, IsUnsendableSgr, RefusesUpdate, Covers, SendsUpdates, SendsDraw};
 ghost use Rattle.ratatui_ansi.specs.Refusals.{has_place, StopsWithin, StopsDraw};
 
 use crate::drawing::{Brush, change_sgr, put_plain, put_symbol, set_sgr};
-use ansi_model::{
-    Printing, Sgr, columns_of_char, is_plain, is_shown, only_char, only_printable, printing_of,
-};
+use ansi_model::{Glyph, Sgr, glyph_of, only_printable};
 use ratatui_core::backend::AsCell;
 use ratatui_core::buffer::{Cell, CellDiffOption, CellWidth};
 use ratatui_core::layout::Position;
@@ -56,105 +53,39 @@ impl From<AllocError> for Refusal {
     }
 }
 
-// A cell's symbol, as it is printed.
-#[derive(Debug, Clone, Copy, PartialEq, Eq)]
-enum Glyph {
-    // As this plain character, in one column.
-    Plain(char),
-    // As a symbol that isn't plain, in so many columns.
-    Whole(u16),
-}
-
-impl Glyph {
-    fn columns(self) -> u16
-        ensures { result ≡ glyph_columns self }
-    {
-        match self {
-            Glyph::Plain(_) => 1,
-            Glyph::Whole(columns) => columns,
-        }
-    }
-}
-
-// In how many columns a cell's symbol, which isn't plain, is printed; the cell takes `columns`.
-fn printed_columns(cell: &Cell, columns: u16) -> u16
-    requires whole { printing_of (symbol_text cell.now.symbol) ≡ Whole }
-    requires columns { columns ≡ width_of cell.now }
-    ensures { result ≡ printed_columns (symbol_text cell.now.symbol) }
+// Whether a cell takes just the columns in which its symbol is printed.
+fn takes(cell: &Cell, columns: u16) -> bool
+    requires { columns ≡ printed_columns (symbol_text cell.now.symbol) }
+    ensures { result ≡ (columns == width_of cell.now) }
 {
     match cell.diff_option {
-        CellDiffOption::ForcedWidth(_) => cell.symbol().cell_width(),
-        CellDiffOption::None | CellDiffOption::Skip | CellDiffOption::AlwaysUpdate => columns,
+        CellDiffOption::ForcedWidth(_) => columns == cell.cell_width(),
+        CellDiffOption::None | CellDiffOption::Skip | CellDiffOption::AlwaysUpdate => true,
     }
 }
 
-// Whether a symbol that is printed in so many columns takes just these, and they are some and fit into a room.
-fn fits(room: u16, columns: u16, printed: u16) -> bool
-    ensures { result ≡ ((printed == columns) && nat_lt 0 columns && nat_le columns room) }
-{
-    printed == columns && 0 < columns && columns <= room
-}
-
-// A cell's symbol, where the cell takes the columns of its text.
-fn unforced_symbol(cell: &Cell) -> Option<&str>
-    ensures { IfSome result (λ text. (text.now ≡ symbol_text cell.now.symbol)
-        × (width_of cell.now ≡ text_width text.now)) }
+// The printable ASCII character that is all of a cell's symbol, if the cell's width isn't forced.
+fn printable_of(cell: &Cell) -> Option<char>
+    ensures { IfSome result (λ c. (room : ℕ) → 0 < room → IsGlyph room cell.now (Plain c)) }
 {
     match cell.diff_option {
         CellDiffOption::ForcedWidth(_) => None,
         CellDiffOption::None | CellDiffOption::Skip | CellDiffOption::AlwaysUpdate => {
-            Some(cell.symbol())
+            only_printable(cell.symbol())
         }
     }
 }
 
-// The printable ASCII character that is all of a cell's symbol, where the cell's width isn't forced.
-fn printable_of(cell: &Cell) -> Option<char>
-    ensures { IfSome result (λ c. (room : ℕ) → 0 < room → IsGlyph room cell.now (Plain c)) }
-{
-    only_printable(unforced_symbol(cell)?)
-}
-
-// The character above U+00A0 that is all of a cell's symbol, where the cell's width isn't forced.
-fn lone_of(cell: &Cell) -> Option<char>
-    ensures { IfSome result (IsLone cell.now) }
-{
-    match only_char(unforced_symbol(cell)?) {
-        Some(c) if c > '\u{a0}' => Some(c),
-        _ => None,
-    }
-}
-
-// Such a character, as it is printed in some columns: none where it isn't, or takes more than there are.
-fn lone_glyph(room: u16, c: char) -> Option<Glyph>
-    requires room { 0 < room }
-    requires above { 0xA0 < c }
-    ensures { (cell : Cell) → IsLone cell c
-        → MatchOption result (is_fit room cell ≡ false) (IsGlyph room cell) }
-{
-    if is_plain(c) {
-        return Some(Glyph::Plain(c));
-    }
-    let columns = columns_of_char(c);
-    (is_shown(c) && 0 < columns && columns <= room).then_some(Glyph::Whole(columns))
-}
-
-// A cell's symbol, as it is printed in some columns: none where it isn't, where the cell takes others, or more than there are.
+// A cell's symbol, as it is printed in some columns: none if it isn't, if the cell takes others, or more than there are.
 fn glyph_in(room: u16, cell: &Cell) -> Option<Glyph>
-    requires { 0 < room }
     ensures { MatchOption result (is_fit room cell.now ≡ false) (IsGlyph room cell.now) }
 {
-    if let Some(c) = lone_of(cell) {
-        return lone_glyph(room, c);
+    let glyph = glyph_of(cell.symbol())?;
+    let columns = glyph.columns();
+    if columns == 0 || room < columns || !takes(cell, columns) {
+        return None;
     }
-    let columns = cell.cell_width();
-    match printing_of(cell.symbol()) {
-        Printing::Plain(c) => (columns == 1).then_some(Glyph::Plain(c)),
-        Printing::Whole => {
-            fits(room, columns, printed_columns(cell, columns)).then_some(Glyph::Whole(columns))
-        }
-        Printing::Unprinted => None,
-    }
+    Some(glyph)
 }
 
 // Whether a text is one blank.
@@ -272,7 +203,7 @@ fn put(
     glyph: Glyph,
 ) -> Result<(), AllocError>
     requires column { x < 65535 }
-    requires glyph { IsPrintedAs (symbol_text cell.now.symbol) glyph }
+    requires glyph { IsGlyphOf (symbol_text cell.now.symbol) glyph }
     ensures prints { OnOk result ((w h : ℕ) → x < w → y < h → Prints w h (string_bytes out.old)
         brush.old x y brush.old.sgr (symbol_text cell.now.symbol) (string_bytes out.new) brush.new) }
     ensures sgr { OnOk result (brush.new.sgr ≡ brush.old.sgr) }

@@ -1,8 +1,8 @@
 //! Bytes that are sent, beside those of a terminal's manual.
 use ansi_model::{
-    Printing, Sgr, append_lines, delete_lines, erase, erase_all, hide_cursor, insert_lines,
-    is_symbol, move_to, printing_of, push_plain, push_sgr, reset_region, scroll_region_down,
-    scroll_region_up, set_region, show_cursor,
+    Glyph, Sgr, append_lines, delete_lines, erase, erase_all, glyph_of, hide_cursor, insert_lines,
+    is_symbol, move_to, push_plain, push_sgr, reset_region, scroll_region_down, scroll_region_up,
+    set_region, show_cursor,
 };
 use bitflags::Flags;
 use ratatui_ansi::{AnsiBackend, AnsiError};
@@ -169,11 +169,13 @@ fn symbols(rt: HostRuntime) -> Result<(), Fail> {
     assert!(rt; !is_symbol("a\u{202e}b") && !is_symbol("\u{301}") && !is_symbol("\n"));
     assert!(rt; !is_symbol("ab") && !is_symbol("日本") && !is_symbol("コa") && is_symbol("コ\u{200b}"));
     assert!(rt;
-        printing_of("─") == Printing::Plain('─') && printing_of("é") == Printing::Plain('é')
+        glyph_of("─") == Some(Glyph::Plain('─')) && glyph_of("é") == Some(Glyph::Plain('é'))
     );
-    assert!(rt; printing_of("コ") == Printing::Whole && printing_of("e\u{301}") == Printing::Whole);
-    assert!(rt; printing_of("ab") == Printing::Unprinted && printing_of("") == Printing::Unprinted);
-    assert!(rt; printing_of("\u{9b}") == Printing::Unprinted);
+    assert!(rt;
+        glyph_of("コ") == Some(Glyph::Whole(2)) && glyph_of("e\u{301}") == Some(Glyph::Whole(1))
+    );
+    assert!(rt; glyph_of("ab").is_none() && glyph_of("").is_none());
+    assert!(rt; glyph_of("\u{9b}").is_none());
     let mut out = String::new(rt.alloc());
     push_plain(&mut out, '~')?;
     assert!(rt; out.as_str() == "~");
