@@ -41,7 +41,7 @@ cursor-moved w h x y wide high s ready =
       },
     )
 
-pub cursor-visible : (w h : ℕ) (visible : Bool) → KeepsReady w h (terminal.with_visible visible) (λ s. Becomes (λ p q. q ≡ with_visible visible p) s.columns s)
+pub cursor-visible : (w h : ℕ) (visible : Bool) → KeepsReady w h (terminal.cursor_shown visible) (λ s. Becomes (λ p q. q ≡ with_visible visible p) s.columns s)
 cursor-visible w h visible s ready = (
   record {
     phase = ready.phase;
@@ -130,7 +130,7 @@ same-fields : (s t : Emulator) → s.width ≡ t.width → s.height ≡ t.height
 same-fields s t width height phase text sgr x y top bottom columns history visible sure = rw (width, height, phase, text, sgr, x, y, top, bottom, columns, history, visible, sure) refl
 
 abbrev pub begun : ℕ → ℕ → Emulator → Emulator
-begun w h s = terminal.with_visible true (cursor_moved 0 0 (erased BeforeCursor (cursor_moved (w - 1) (h - 1) (without_region (with_sgr default_sgr s)))))
+begun w h s = terminal.cursor_shown true (cursor_moved 0 0 (erased BeforeCursor (cursor_moved (w - 1) (h - 1) (without_region (with_sgr default_sgr s)))))
 
 blank-begun : (w h : ℕ) (s : Emulator) → 0 < w → 0 < h → IsAsFound w h s → s.sure ≡ true → begun w h s ≡ record (blank_terminal w h) { history = s.history }
 blank-begun w h s wide high left sure =

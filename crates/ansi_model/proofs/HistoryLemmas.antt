@@ -33,7 +33,7 @@ line_fed-above rows t = either (nat_eq (t.y + 1) t.bottom) rows _ _ _ _ (scrolle
 
 ED-above : (ps : List ℕ) (rows : List (List Look)) (t : Emulator) → performs_ED ps (with_rows_above rows t) ≡ with_rows_above rows (performs_ED ps t)
 ED-above [] rows t = refl
-ED-above (n ∷ []) rows t = either (n == 0) rows _ _ _ _ refl (either (n == 1) rows _ _ _ _ refl refl)
+ED-above (n ∷ []) rows t = either (n == 0) rows _ _ _ _ refl (either (n == 1) rows _ _ _ _ refl (either (n == 2) rows _ _ _ _ refl refl))
 ED-above (n ∷ m ∷ ps) rows t = refl
 
 EL-above : (ps : List ℕ) (rows : List (List Look)) (t : Emulator) → performs_EL ps (with_rows_above rows t) ≡ with_rows_above rows (performs_EL ps t)

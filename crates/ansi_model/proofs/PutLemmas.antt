@@ -13,9 +13,9 @@ pub none_between : (f : ℕ → Bool) (k n : ℕ) → ((j : ℕ) → k ≤ j →
 none_between f k zero e = refl
 none_between f k (suc n) e = rw (e k (omega arith) (omega arith), none_between f (k + 1) n (λ j low high. e j (omega arith) (omega arith))) refl
 
--- a later column of a symbol lies behind its first
-behind-later : (look : Look) (j count : ℕ) (c : Column) → c ≡ Shows look j count → 0 < j → is_continuation c ≡ false → ⊥
-behind-later look j count c e some not =
+-- a later column of a symbol lies after its first
+later-continues : (look : Look) (j count : ℕ) (c : Column) → c ≡ Shows look j count → 0 < j → is_continuation c ≡ false → ⊥
+later-continues look j count c e some not =
     let zero : (j == 0) ≡ false = grind (arith, nat_tests) in
     let shown : is_continuation c ≡ true = ap is_continuation e ∙ rw zero refl in
     cc
@@ -42,11 +42,11 @@ apart-at x y n a b i m look c whole left right out k low high = not_in (run x y 
     (λ before.
     let before_x : a < x = grind (arith, nat_tests) in
     let there : (a - i) + (x - (a - i)) ≡ x = omega arith in
-    behind-later look (x - (a - i)) m (c x y) (ap₂ (λ p q. c p q) (sym there) (sym row) ∙ whole.2 (x - (a - i)) (omega arith)) (omega arith) left)
+    later-continues look (x - (a - i)) m (c x y) (ap₂ (λ p q. c p q) (sym there) (sym row) ∙ whole.2 (x - (a - i)) (omega arith)) (omega arith) left)
     (λ after.
     let after_x : x + n ≤ a = grind (arith, nat_tests) in
     let there : (a - i) + (x + n - (a - i)) ≡ x + n = omega arith in
-    behind-later look (x + n - (a - i)) m (c (x + n) y) (ap₂ (λ p q. c p q) (sym there) (sym row) ∙ whole.2 (x + n - (a - i)) (omega arith)) (omega arith) right))
+    later-continues look (x + n - (a - i)) m (c (x + n) y) (ap₂ (λ p q. c p q) (sym there) (sym row) ∙ whole.2 (x + n - (a - i)) (omega arith)) (omega arith) right))
 
 apart : (x y n a b : ℕ) (c : Columns) (d : Column) → IsWholeAt (λ k. c k b) a d → is_continuation (c x y) ≡ false → is_continuation (c (x + n) y) ≡ false → run x y n a b ≡ false → is_met (run x y n) a b d ≡ false
 apart x y n a b c Unknown whole left right out = refl
@@ -58,8 +58,8 @@ put-inside x y n look c a b e = rw e refl
 put-outside : (x y n : ℕ) (look : Look) (c : Columns) (a b : ℕ) → IsWhole c → IsUncut x y n c → run x y n a b ≡ false → put_columns x y n look c a b ≡ c a b
 put-outside x y n look c a b whole uncut e = rw (e, apart x y n a b c (c a b) (whole a b) uncut.left uncut.right e) refl
 
-pub first-or-behind : (x a : ℕ) (look old : Look) → x ≤ a → look_in (Shows look (a - x) 1) ≡ (if nat_eq a x then look else (if nat_lt x a && true && true then empty_look else old))
-first-or-behind x a look old low =
+pub first-or-later : (x a : ℕ) (look old : Look) → x ≤ a → look_in (Shows look (a - x) 1) ≡ (if nat_eq a x then look else (if nat_lt x a && true && true then empty_look else old))
+first-or-later x a look old low =
     elim (nat_eq a x) as (λ p. nat_eq a x ≡ p → (if (a - x) == 0 then look else empty_look) ≡ (if p then look else (if nat_lt x a && true && true then empty_look else old))) [
       | true ↦ λ e. let f : ((a - x) == 0) ≡ true = grind (arith, nat_tests) in rw f refl
       | false ↦ λ e. let f : ((a - x) == 0) ≡ false = grind (arith, nat_tests) in let g : nat_lt x a ≡ true = grind (arith, nat_tests) in rw (f, g) refl
@@ -81,7 +81,7 @@ put-shown w h x y n u c whole uncut ex ey en some fits y_in a b =
           let row : nat_eq b y ≡ true = grind (arith, nat_tests) in
           let high : nat_lt a (x + n) ≡ true = grind (arith, nat_tests) in
           let wide : nat_lt a w ≡ true = grind (arith, nat_tests) in
-          ap look_in (put-inside x y n (look_of u.cell) c a b e) ∙ rw (row, high, wide) (first-or-behind x a (look_of u.cell) (look_in (c a b)) (grind (arith, nat_tests)))
+          ap look_in (put-inside x y n (look_of u.cell) c a b e) ∙ rw (row, high, wide) (first-or-later x a (look_of u.cell) (look_in (c a b)) (grind (arith, nat_tests)))
       | false ↦ λ e. ap look_in (put-outside x y n (look_of u.cell) c a b whole uncut e) ∙ rest-same (nat_eq b y) (nat_eq a x) (nat_lt x a && nat_lt a (x + n) && nat_lt a w) (look_of u.cell) (look_in (c a b)) empty_look
           (λ row. grind (arith, nat_tests)) (λ row. grind (arith, nat_tests))
     ] refl)
@@ -138,9 +138,9 @@ later x a =
       | false ↦ λ e. let f : (a - x == 0) ≡ true = grind (arith, nat_tests) in rw f refl
     ] refl
 
--- which columns lie behind the first of their symbol
-pub put-behind : (x y n : ℕ) (look : Look) (c : Columns) → IsWhole c → IsUncut x y n c → (a b : ℕ) → is_continuation (put_columns x y n look c a b) ≡ (if run x y n a b then nat_lt x a else is_continuation (c a b))
-put-behind x y n look c whole uncut a b =
+-- which columns lie after the first of their symbol
+pub put-continuations : (x y n : ℕ) (look : Look) (c : Columns) → IsWhole c → IsUncut x y n c → (a b : ℕ) → is_continuation (put_columns x y n look c a b) ≡ (if run x y n a b then nat_lt x a else is_continuation (c a b))
+put-continuations x y n look c whole uncut a b =
     elim (run x y n a b) as (λ p. run x y n a b ≡ p → is_continuation (put_columns x y n look c a b) ≡ (if p then nat_lt x a else is_continuation (c a b))) [
       | true ↦ λ e. ap is_continuation (put-inside x y n look c a b e) ∙ later x a
       | false ↦ λ e. ap is_continuation (put-outside x y n look c a b whole uncut e)

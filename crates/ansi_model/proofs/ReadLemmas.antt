@@ -138,14 +138,14 @@ digits-more n old pre new big small first last =
 pub digits-one : (n : ℕ) (old new : List ℕ) → n < 10 → new ≡ old ++ (48 + n) ∷ [] → new ≡ old ++ decimal n
 digits-one n old new small last = last ∙ ap (λ ds. old ++ ds) (sym (decimal_digit n small))
 
-pub behind-those : (old mid new a b : List ℕ) → mid ≡ old ++ a → new ≡ mid ++ b → new ≡ old ++ (a ++ b)
-behind-those old mid new a b first second = second ∙ ap (λ xs. xs ++ b) first ∙ append_assoc old a b
+pub after-those : (old mid new a b : List ℕ) → mid ≡ old ++ a → new ≡ mid ++ b → new ≡ old ++ (a ++ b)
+after-those old mid new a b first second = second ∙ ap (λ xs. xs ++ b) first ∙ append_assoc old a b
 
 pub move-appended : (x y fx fy : ℕ) (old first second third fourth new semicolon last : List ℕ) → first ≡ old ++ 27 ∷ 91 ∷ [] → second ≡ first ++ decimal (fy + 1) → third ≡ second ++ semicolon
     → fourth ≡ third ++ decimal (fx + 1) → new ≡ fourth ++ last → fy ≡ y → fx ≡ x → semicolon ≡ 59 ∷ [] → last ≡ 72 ∷ [] → new ≡ old ++ CUP x y
 move-appended x y fx fy old first second third fourth new semicolon last e1 e2 e3 e4 e5 row column is_semicolon is_last =
     let all : new ≡ old ++ ((27 ∷ 91 ∷ []) ++ (decimal (fy + 1) ++ (semicolon ++ (decimal (fx + 1) ++ last)))) =
-    behind-those old first new _ _ e1 (behind-those first second new _ _ e2 (behind-those second third new _ _ e3 (behind-those third fourth new _ _ e4 e5))) in
+    after-those old first new _ _ e1 (after-those first second new _ _ e2 (after-those second third new _ _ e3 (after-those third fourth new _ _ e4 e5))) in
     rw (row, column, is_semicolon, is_last) at all
 
 abbrev pub erasing : ClearType → List ℕ

@@ -16,7 +16,7 @@ use Rattle.ansi_model.proofs.ReadLemmas.{Sends-then, line_fed-rested}
 use Rattle.ansi_model.proofs.ScrollLemmas.{KeepsReady, Feeds, fed-feeds, feeds-ready, region_row, map_same, shift, all_range, seen-raised, raised-again, raised-none, raised-sized, raised-whole, raised-beyond, whole_along, blank-whole}
 use Rattle.ansi_model.proofs.TextLemmas.{blank-sized, sized-known}
 
--- one action behind another
+-- one action after another
 pub Does-then : (a b c : List ℕ) (f g : Emulator → Emulator) → Performs a b f → Performs b c g → ((t : Emulator) → rested (f (rested t)) ≡ f (rested t)) → Performs a c (λ t. g (f t))
 Does-then a b c f g first second stays =
     let both = Sends-then a b c (λ t. f (rested t)) (λ t. g (rested t)) first second (λ t. ap (λ (u : Emulator). u.phase) (sym (stays t))) in

@@ -31,7 +31,7 @@ semicolons-append [] qs = refl
 semicolons-append (p ∷ ps) qs =
     ap (λ rest. 59 ∷ (decimal p ++ rest)) (semicolons-append ps qs) ∙ ap (λ rest. 59 ∷ rest) (sym (append_assoc (decimal p) (semicolons ps) (semicolons qs)))
 
--- parameters behind others
+-- parameters after others
 pub Parameters-then : (a b c ps qs : List ℕ) → AddsParameters a b ps → AddsParameters b c qs → AddsParameters a c (ps ++ qs)
 Parameters-then a b c ps qs first second = record {
   appended = second.appended ∙ ap (λ xs. xs ++ semicolons qs) first.appended ∙ append_assoc a (semicolons ps) (semicolons qs) ∙ ap (λ xs. a ++ xs) (sym (semicolons-append ps qs));

@@ -61,10 +61,10 @@ symbol-utf8 symbol is = IsUtf8-from_is_utf8 symbol (and-both (is_utf8 symbol) _ 
 pub one-encoded : (symbol : List ℕ) (c : ℕ) → IsUtf8 symbol → chars symbol ≡ c ∷ [] → encode c ≡ symbol
 one-encoded symbol c utf8 e = sym (append-nil (encode c)) ∙ ap encodes (sym e) ∙ encodes-chars symbol utf8
 
--- a plain character behind plain text is printed behind it
-pub behind-standing : (symbol : List ℕ) (t : Emulator) → is_symbol symbol ≡ true → is_one_plain (chars symbol) ≡ true → IsUtf8 t.text → list_all is_plain_char (chars t.text) ≡ true
+-- a plain character after plain text is printed after it
+pub after-standing : (symbol : List ℕ) (t : Emulator) → is_symbol symbol ≡ true → is_one_plain (chars symbol) ≡ true → IsUtf8 t.text → list_all is_plain_char (chars t.text) ≡ true
     → standing (typed symbol t) ≡ prints symbol 1 (standing t)
-behind-standing symbol t is one utf8 plain =
+after-standing symbol t is one utf8 plain =
     let found = one-char (chars symbol) one in
     let c = found.0 in
     let e : chars symbol ≡ c ∷ [] = found.1.0 in
@@ -94,7 +94,7 @@ pub alone-standing : (symbol : List ℕ) (t : Emulator) → is_printed symbol �
 alone-standing symbol t is none =
     let both = and-both (is_symbol symbol) (is_one_plain (chars symbol) || not (list_all is_plain_char (chars symbol))) is in
     elim (is_one_plain (chars symbol)) as (λ v. is_one_plain (chars symbol) ≡ v → standing (typed symbol t) ≡ prints symbol (if v then 1 else text_width symbol) (standing t)) [
-      | true ↦ λ one. behind-standing symbol t both.0 one (rw none IsUtf8-nil) (rw none (ap (list_all is_plain_char) chars-nil))
+      | true ↦ λ one. after-standing symbol t both.0 one (rw none IsUtf8-nil) (rw none (ap (list_all is_plain_char) chars-nil))
       | false ↦ λ many.
           let not_plain : not (list_all is_plain_char (chars symbol)) ≡ true = rw many at both.1 in
           let other : list_all is_plain_char (chars symbol) ≡ false = flip (list_all is_plain_char (chars symbol)) not_plain in

@@ -15,7 +15,7 @@ Columns = ℕ → ℕ → Column
 abbrev pub blank_column : Column
 blank_column = Shows empty_look 0 1
 
--- what a column shows: behind the first column of its symbol nothing of its own
+-- what a column shows: after the first column of its symbol nothing of its own
 abbrev pub look_in : Column → Look
 look_in (Shows look index count) = if index == 0 then look else empty_look
 look_in Unknown = empty_look

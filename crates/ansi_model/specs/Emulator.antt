@@ -17,7 +17,7 @@ pub data Phase : Type 0 where
   Opened : Phase
   Sequence : (mark : Bool) (done : List ℕ) (number : ℕ) → Phase
 
--- a terminal: `text` is what it has read since the last sequence; a cursor in column `width` is behind the last one; line feeds scroll the
+-- a terminal: `text` is what it has read since the last sequence; a cursor in column `width` is after the last one; line feeds scroll the
 -- rows from `top` up to `bottom`, its scroll region. Once it isn't sure, real terminals differ
 pub record Emulator : Type 0 where
   pub width : ℕ
@@ -95,7 +95,7 @@ cursor_shown visible t = record t { visible = visible }
 abbrev pub with_sgr : Sgr → Emulator → Emulator
 with_sgr sgr t = record t { sgr = sgr }
 
--- ---- erasing: terminals differ where the rendition isn't their own, or the cursor is behind the last column
+-- ---- erasing: terminals differ where the rendition isn't their own, or the cursor is after the last column
 
 -- some put the screen into their history if all of it is erased at once, or from the corner on
 abbrev pub keeps_history : ClearType → ℕ → ℕ → Bool

@@ -7,7 +7,7 @@ use Rattle.ratatui_core.specs.Style.{Color, Reset, Black, Red, Green, Yellow, Bl
 use Rattle.ansi_model.specs.Sgr.{is_default_color}
 use Rattle.ansi_model.specs.declared.sgr.Sgr.{Sgr}
 
--- of a colour: those of the text count from 30, those behind it from 40
+-- of a colour: those of the text count from 30, those after it from 40
 abbrev pub color_parameters : ℕ → Color → List ℕ
 color_parameters base Reset = []
 color_parameters base Black = base ∷ []
@@ -60,11 +60,11 @@ modifier_parameters bits =
     ++ (modifier_parameter bits 16 5 ++ (modifier_parameter bits 32 6 ++ (modifier_parameter bits 64 7 ++ (modifier_parameter bits 128 8
     ++ modifier_parameter bits 256 9)))))))
 
--- all parameters behind the one that resets the rendition
+-- all parameters after the one that resets the rendition
 abbrev pub sgr_parameters : Sgr → List ℕ
 sgr_parameters p = modifier_parameters (bits_of p.modifier) ++ (color_parameters 30 p.fg ++ (color_parameters 40 p.bg ++ underline_parameters p.underline_color))
 
--- parameters as they are written, each behind a semicolon
+-- parameters as they are written, each after a semicolon
 abbrev pub semicolons : List ℕ → List ℕ
 semicolons [] = []
 semicolons (p ∷ ps) = 59 ∷ (decimal p ++ semicolons ps)

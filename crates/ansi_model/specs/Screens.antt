@@ -10,7 +10,7 @@ use Rattle.ansi_model.specs.Emulator.Phase.{Ground}
 use Rattle.ansi_model.specs.Sequences.{feed}
 use Rattle.ansi_model.specs.Symbols.{printed_columns}
 
--- the screen of a terminal, on which so many items were drawn; a cursor behind the last column is shown in it
+-- the screen of a terminal, on which so many items were drawn; a cursor after the last column is shown in it
 abbrev pub screen_shown : ℕ → Emulator → Screen
 screen_shown written t = record {
   history = t.history;

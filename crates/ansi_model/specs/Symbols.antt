@@ -12,7 +12,7 @@ use Rattle.ansi_model.specs.declared.glyph.Glyph.TheVariants.{Plain, Whole}
 abbrev pub is_control : ℕ → Bool
 is_control c = nat_lt c 32 || (nat_le 127 c && nat_lt c 160)
 
--- characters that turn the direction of what is behind them
+-- characters that turn the direction of what is after them
 abbrev pub is_directional : ℕ → Bool
 is_directional c = (c == 0x61C) || (nat_le 0x200E c && nat_le c 0x200F) || (nat_le 0x202A c && nat_le c 0x202E) || (nat_le 0x2066 c && nat_le c 0x2069)
 

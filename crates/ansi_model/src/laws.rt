@@ -22,7 +22,7 @@ pub fn a_printed_symbol_is_put()
 {}
 
 /// Behind such a symbol, if it takes just those columns, all columns are known and sized that were, all symbols are whole,
-/// nothing stands right of the screen, and of the symbol's columns all but the first lie behind it.
+/// nothing stands right of the screen, and of the symbol's columns all but the first lie after it.
 pub fn a_printed_symbol_keeps_the_others()
     ensures sized { (x y n : ℕ) (look : Look) (c : Columns) → IsWhole c → IsUncut x y n c
         → n ≡ printed_columns look.symbol → HaveOwnWidths c → HaveOwnWidths (put_columns x y n look c) }
@@ -30,7 +30,7 @@ pub fn a_printed_symbol_keeps_the_others()
         → IsWhole (put_columns x y n look c) }
     ensures beyond { (w x y n : ℕ) (look : Look) (c : Columns) → IsWhole c → IsUncut x y n c
         → x + n ≤ w → IsBlankBeyond w c → IsBlankBeyond w (put_columns x y n look c) }
-    ensures behind { (x y n : ℕ) (look : Look) (c : Columns) → IsWhole c → IsUncut x y n c
+    ensures continuations { (x y n : ℕ) (look : Look) (c : Columns) → IsWhole c → IsUncut x y n c
         → (a b : ℕ) → is_continuation (put_columns x y n look c a b)
         ≡ if run x y n a b then nat_lt x a else is_continuation (c a b) }
 {}

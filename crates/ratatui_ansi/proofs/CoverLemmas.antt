@@ -19,10 +19,10 @@ use Rattle.ratatui_ansi.specs.Refusals.{lent_update, StopsInDiff}
 use Rattle.ratatui_ansi.specs.declared.frame.Refusal.TheVariants.{Cut}
 use Rattle.ansi_model.specs.Screens.{HasOwnWidth, HaveOwnWidths, IsWhole, IsWholeAt}
 
--- ---- a column behind the first one of its symbol is covered
+-- ---- a column after the first one of its symbol is covered
 
 covered-at : (c : Columns) (a b : ℕ) (column : Column) → HasOwnWidth column → IsWholeAt (λ k. c k b) a column → is_continuation column ≡ true → IsCovered (λ i j. look_in (c i j)) a b
-covered-at c a b (Standing look index count) takes whole behind =
+covered-at c a b (Standing look index count) takes whole continuations =
     let inside : index < count = whole.0 in
     let in_row : index ≤ a = whole.1 in
     let some : 0 < index = grind (arith, nat_tests) in
@@ -30,10 +30,10 @@ covered-at c a b (Standing look index count) takes whole behind =
     let head : c (a - index) b ≡ Standing look 0 count = ap (λ k. c k b) first ∙ whole.2 0 (omega arith) in
     let columns : printed_columns (look_in (c (a - index) b)).symbol ≡ count = ap (λ column. printed_columns (look_in column).symbol) head ∙ sym takes in
     record { start = a - index; left = omega arith; reaches = omega arith }
-covered-at c a b Unknown takes whole behind = absurd takes
+covered-at c a b Unknown takes whole continuations = absurd takes
 
-pub covered-behind : (c : Columns) → HaveOwnWidths c → IsWhole c → (a b : ℕ) → is_continuation (c a b) ≡ true → IsCovered (λ i j. look_in (c i j)) a b
-covered-behind c sized whole a b behind = covered-at c a b (c a b) (sized a b) (whole a b) behind
+pub covered-continuation : (c : Columns) → HaveOwnWidths c → IsWhole c → (a b : ℕ) → is_continuation (c a b) ≡ true → IsCovered (λ i j. look_in (c i j)) a b
+covered-continuation c sized whole a b continuations = covered-at c a b (c a b) (sized a b) (whole a b) continuations
 
 -- ---- what puts leave
 
@@ -146,7 +146,7 @@ cuts-none x y w h width height former next g before u after diff settled_former 
           let look : seen start u.y ≡ look_of c = sym final ∙ ap₂ all at row ∙ shown.look is.unskipped in
           let over : printed_columns (seen start u.y).symbol ≡ printed_columns (look_of c).symbol = ap (λ (look : Look). printed_columns look.symbol) look in
           let wide : width_of c ≡ printed_columns (look_of c).symbol = ordinary-width c is.unforced (omega arith) in
-          elim (settled.behind j own.b own.a j_in own.in_rows is.unskipped (omega arith) (omega arith)) [
+          elim (settled.continuations j own.b own.a j_in own.in_rows is.unskipped (omega arith) (omega arith)) [
             | inl blank ↦ record {
               look = ap look_of own.own ∙ same_look (cell_at w next own.a own.b) empty_cell blank ∙ look-empty;
               width = ap width_of own.own ∙ same_width (cell_at w next own.a own.b) empty_cell blank ∙ width-empty;

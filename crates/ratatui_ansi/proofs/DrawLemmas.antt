@@ -20,18 +20,18 @@ use Rattle.ansi_model.specs.Sends.{Sends, Performs, typed}
 use Rattle.ratatui_ansi.specs.Drawing.{is_at, IsDrawnBy, drawn_at, Prints}
 use Rattle.ansi_model.proofs.ReadLemmas.{Sends-then}
 use Rattle.ansi_model.proofs.TextLemmas.{and-both}
-use Rattle.ansi_model.proofs.SymbolLemmas.{symbol-utf8, behind-standing, alone-standing, plain-printed, plain-single}
+use Rattle.ansi_model.proofs.SymbolLemmas.{symbol-utf8, after-standing, alone-standing, plain-printed, plain-single}
 
 -- ---- a symbol in its place
 
--- a brush knows where the next plain character would be printed only behind a plain one
+-- a brush knows where the next plain character would be printed only after a plain one
 abbrev pub KnowsPlace : ℕ → ℕ → List ℕ → Brush → Type 0
 KnowsPlace x y symbol after = IsTrue after.is_placed → (after.x ≡ x + 1) × (after.y ≡ y) × (is_one_plain (chars symbol) ≡ true)
 
--- behind a symbol that was printed the terminal is drawn as the brush says
-drawn-behind : (x y : ℕ) (sgr : Sgr) (symbol : List ℕ) (after : Brush) (t u : Emulator) → u.phase ≡ Ground → after.sgr ≡ sgr → KnowsPlace x y symbol after
+-- after a symbol that was printed the terminal is drawn as the brush says
+drawn-after : (x y : ℕ) (sgr : Sgr) (symbol : List ℕ) (after : Brush) (t u : Emulator) → u.phase ≡ Ground → after.sgr ≡ sgr → KnowsPlace x y symbol after
     → rested u ≡ prints symbol (printed_columns symbol) (drawn_at x y sgr t) → (IsTrue after.is_placed → IsUtf8 u.text × (list_all is_plain_char (chars u.text) ≡ true)) → IsDrawnBy after u
-drawn-behind x y sgr symbol after t u ground same knows e placed = record {
+drawn-after x y sgr symbol after t u ground same knows e placed = record {
   phase = ground;
   sgr = ap (λ (v : Emulator). v.sgr) e ∙ sym same;
   placed = λ known.
@@ -79,7 +79,7 @@ put-here w h x y before after c old new sends plain placed at_x at_y same column
     let columns : 1 ≡ printed_columns symbol = rw single refl in
     let shown : (t : Emulator) → IsDrawnBy before t → rested (feed sends.bytes t) ≡ prints symbol (printed_columns symbol) (drawn_at x y before.sgr (rested t)) = λ t drawn.
     let here = drawn.placed placed in
-    ap rested (sends.read t drawn.phase) ∙ ap (λ (v : Emulator). record v { phase = Ground }) (behind-standing symbol t text single here.utf8 here.plain)
+    ap rested (sends.read t drawn.phase) ∙ ap (λ (v : Emulator). record v { phase = Ground }) (after-standing symbol t text single here.utf8 here.plain)
     ∙ ap₂ (λ n v. prints symbol n v) columns (at-drawn x y before.sgr (rested t) (here.column ∙ at_x) (here.row ∙ at_y) drawn.sgr) in
     record {
       bytes = sends.bytes;
@@ -87,7 +87,7 @@ put-here w h x y before after c old new sends plain placed at_x at_y same column
       drawn = λ t wide high drawn.
           let here = drawn.placed placed in
           let e : feed sends.bytes t ≡ typed symbol t = sends.read t drawn.phase in
-          drawn-behind x y before.sgr symbol after (rested t) (feed sends.bytes t) (ap (λ (v : Emulator). v.phase) e ∙ drawn.phase) same (λ known. (column, row, single)) (shown t drawn)
+          drawn-after x y before.sgr symbol after (rested t) (feed sends.bytes t) (ap (λ (v : Emulator). v.phase) e ∙ drawn.phase) same (λ known. (column, row, single)) (shown t drawn)
           (λ known. (
             subst IsUtf8 (sym (ap (λ (v : Emulator). v.text) e)) (IsUtf8-append t.text symbol here.utf8 utf8),
             ap (λ (v : Emulator). list_all is_plain_char (chars v.text)) e ∙ more-plain t.text symbol here.utf8 here.plain (one-plain (chars symbol) single),
@@ -115,12 +115,12 @@ put-there w h x y before after symbol old first new x_in y_in moves sends is sam
       drawn = λ t wide high drawn.
           let e : feed both.bytes t ≡ typed symbol (cursor_moved x y (rested t)) = both.read t drawn.phase in
           let only : (feed both.bytes t).text ≡ symbol = ap (λ (v : Emulator). v.text) e in
-          drawn-behind x y sgr symbol after (rested t) (feed both.bytes t) (ap (λ (v : Emulator). v.phase) e) same knows (shown t wide high drawn)
+          drawn-after x y sgr symbol after (rested t) (feed both.bytes t) (ap (λ (v : Emulator). v.phase) e) same knows (shown t wide high drawn)
           (λ known. (subst IsUtf8 (sym only) (symbol-utf8 symbol text), ap (λ xs. list_all is_plain_char (chars xs)) only ∙ one-plain (chars symbol) (knows known).2));
       printed = shown;
     }
 
--- a symbol behind which no place is known
+-- a symbol after which no place is known
 pub put_unplaced : (w h x y : ℕ) (before after : Brush) (symbol old first new : List ℕ) → Performs old first (cursor_moved x y) → Sends first new (typed symbol) → is_printed symbol ≡ true
     → after.sgr ≡ before.sgr → after.is_placed ≡ false → x < w → y < h → Prints w h old before x y before.sgr symbol new after
 put_unplaced w h x y before after symbol old first new moves sends is same unplaced column row =

@@ -16,14 +16,14 @@ none_between : (f : ℕ → Bool) (k n : ℕ) → ((j : ℕ) → k ≤ j → j <
 none_between f k zero e = refl
 none_between f k (suc n) e = rw (e k (omega arith) (omega arith), none_between f (k + 1) n (λ j low high. e j (omega arith) (omega arith))) refl
 
--- a later column of a symbol lies behind its first
-behind-later : (look : Look) (j count : ℕ) (c : Column) → c ≡ Shows look j count → 0 < j → is_continuation c ≡ false → ⊥
-behind-later look j count c e some not =
+-- a later column of a symbol lies after its first
+later-continues : (look : Look) (j count : ℕ) (c : Column) → c ≡ Shows look j count → 0 < j → is_continuation c ≡ false → ⊥
+later-continues look j count c e some not =
     let zero : (j == 0) ≡ false = grind (arith, nat_tests) in
     let shown : is_continuation c ≡ true = ap is_continuation e ∙ rw zero refl in
     cc
 
--- a symbol that begins left of a column that isn't behind ends there, and one that has a column right of such an end begins behind it
+-- a symbol that begins left of a column that isn't after ends there, and one that has a column right of such an end begins after it
 ends-before : (row : ℕ → Column) (x a i m k : ℕ) (look : Look) → IsWholeAt row a (Shows look i m) → is_continuation (row x) ≡ false → a < x → k < (a - i) + m → k < x
 ends-before row x a i m k look whole not left high = elim (cases_lt k x) [
   | inl done ↦ done
@@ -31,17 +31,17 @@ ends-before row x a i m k look whole not left high = elim (cases_lt k x) [
       let index : i < m = whole.0 in
       let first : i ≤ a = whole.1 in
       let there : (a - i) + (x - (a - i)) ≡ x = omega arith in
-      absurd (behind-later look (x - (a - i)) m (row x) (ap row (sym there) ∙ whole.2 (x - (a - i)) (omega arith)) (omega arith) not)
+      absurd (later-continues look (x - (a - i)) m (row x) (ap row (sym there) ∙ whole.2 (x - (a - i)) (omega arith)) (omega arith) not)
 ]
 
-begins-behind : (row : ℕ → Column) (x a i m k : ℕ) (look : Look) → IsWholeAt row a (Shows look i m) → is_continuation (row (x + 1)) ≡ false → x < a → a - i ≤ k → x < k
-begins-behind row x a i m k look whole not right low = elim (cases_lt x k) [
+begins-after : (row : ℕ → Column) (x a i m k : ℕ) (look : Look) → IsWholeAt row a (Shows look i m) → is_continuation (row (x + 1)) ≡ false → x < a → a - i ≤ k → x < k
+begins-after row x a i m k look whole not right low = elim (cases_lt x k) [
   | inl done ↦ done
   | inr past ↦
       let index : i < m = whole.0 in
       let first : i ≤ a = whole.1 in
       let there : (a - i) + (x + 1 - (a - i)) ≡ x + 1 = omega arith in
-      absurd (behind-later look (x + 1 - (a - i)) m (row (x + 1)) (ap row (sym there) ∙ whole.2 (x + 1 - (a - i)) (omega arith)) (omega arith) not)
+      absurd (later-continues look (x + 1 - (a - i)) m (row (x + 1)) (ap row (sym there) ∙ whole.2 (x + 1 - (a - i)) (omega arith)) (omega arith) not)
 ]
 
 -- what isn't in an area has no column of its symbol there
@@ -71,7 +71,7 @@ part-apart BeforeCursor x y c uncut a b i m k look whole out low high = elim (ca
   | inr other ↦
       let row : b ≡ y = grind (arith, nat_tests) in
       let right : x < a = grind (arith, nat_tests) in
-      let e : x < k = begins-behind (λ j. c j b) x a i m k look whole (ap (λ r. is_continuation (c (x + 1) r)) row ∙ uncut) right low in
+      let e : x < k = begins-after (λ j. c j b) x a i m k look whole (ap (λ r. is_continuation (c (x + 1) r)) row ∙ uncut) right low in
       grind (arith, nat_tests)
 ]
 part-apart CurrentLine x y c uncut a b i m k look whole out low high = out
@@ -122,20 +122,20 @@ module _ (area : Area) (c : Columns) (apart : IsApart area c) where
 
 -- the flags tell whether a part cuts
 flags-tell : (part : ClearType) (w h x y : ℕ) (flags : List Bool) (c : Columns) → x < w → y < h → IsBlankBeyond w c → AreContinuations w h flags c → is_cut part w x y flags ≡ false → cuts part x y c ≡ false
-flags-tell All w h x y flags c x_in y_in beyond behind uncut = refl
-flags-tell AfterCursor w h x y flags c x_in y_in beyond behind uncut = sym (behind.each x y x_in y_in) ∙ uncut
-flags-tell BeforeCursor w h x y flags c x_in y_in beyond behind uncut = elim (cases_lt (x + 1) w) [
+flags-tell All w h x y flags c x_in y_in beyond continuations uncut = refl
+flags-tell AfterCursor w h x y flags c x_in y_in beyond continuations uncut = sym (continuations.each x y x_in y_in) ∙ uncut
+flags-tell BeforeCursor w h x y flags c x_in y_in beyond continuations uncut = elim (cases_lt (x + 1) w) [
   | inl inside ↦
       let test : nat_lt (x + 1) w ≡ true = grind (arith, nat_tests) in
-      sym (behind.each (x + 1) y inside y_in) ∙ (rw test at uncut)
+      sym (continuations.each (x + 1) y inside y_in) ∙ (rw test at uncut)
   | inr past ↦ ap is_continuation (beyond (x + 1) y past)
 ]
-flags-tell CurrentLine w h x y flags c x_in y_in beyond behind uncut = refl
-flags-tell UntilNewLine w h x y flags c x_in y_in beyond behind uncut = sym (behind.each x y x_in y_in) ∙ uncut
+flags-tell CurrentLine w h x y flags c x_in y_in beyond continuations uncut = refl
+flags-tell UntilNewLine w h x y flags c x_in y_in beyond continuations uncut = sym (continuations.each x y x_in y_in) ∙ uncut
 
-module _ (part : ClearType) (w h x y : ℕ) (flags : List Bool) (c : Columns) (x_in : x < w) (y_in : y < h) (beyond : IsBlankBeyond w c) (behind : AreContinuations w h flags c) (uncut : is_cut part w x y flags ≡ false) where
+module _ (part : ClearType) (w h x y : ℕ) (flags : List Bool) (c : Columns) (x_in : x < w) (y_in : y < h) (beyond : IsBlankBeyond w c) (continuations : AreContinuations w h flags c) (uncut : is_cut part w x y flags ≡ false) where
   apart : IsApart (is_cleared part x y) c
-  apart = part-apart part x y c (flags-tell part w h x y flags c x_in y_in beyond behind uncut)
+  apart = part-apart part x y c (flags-tell part w h x y flags c x_in y_in beyond continuations uncut)
 
   pub part-erased : IsWhole c → (a b : ℕ) → overwritten (is_cleared part x y) (λ i j. blank_column) c a b ≡ columns_cleared part x y c a b
   part-erased whole = area-erased (is_cleared part x y) c apart whole

@@ -82,57 +82,57 @@ module _ (w x : ℕ) (x_in : x < w) where
           rw some (rw (yes, back, place_before y e, place_from y a) at (moved (y * w + x)))
     ]
 
-module _ (w h : ℕ) (old new : List Bool) (c : Columns) (from to n : ℕ) (fits : to ≤ h) (same : length new ≡ length old) (behind : AreContinuations w h old c) where
-  pub raised-behind : ((k : ℕ) → flag new k ≡ if nat_le (from * w) k && nat_lt k (to * w) then (if nat_lt (k + n * w) (to * w) then flag old (k + n * w) else false) else flag old k)
+module _ (w h : ℕ) (old new : List Bool) (c : Columns) (from to n : ℕ) (fits : to ≤ h) (same : length new ≡ length old) (continuations : AreContinuations w h old c) where
+  pub raised-flags : ((k : ℕ) → flag new k ≡ if nat_le (from * w) k && nat_lt k (to * w) then (if nat_lt (k + n * w) (to * w) then flag old (k + n * w) else false) else flag old k)
       → AreContinuations w h new (rows_raised from to n c)
-  raised-behind moved = record {
-    count = same ∙ behind.count;
+  raised-flags moved = record {
+    count = same ∙ continuations.count;
     each = λ a b a_in b_in. flag_moved_up w a a_in old new from to n moved b
         ∙ elim (nat_le from b && nat_lt b to) as (λ p. (if p then (if nat_lt (b + n) to then flag old ((b + n) * w + a) else false) else flag old (b * w + a))
         ≡ is_continuation (if p then (if nat_lt (b + n) to then c a (b + n) else blank_column) else c a b)) [
           | true ↦ elim (nat_lt (b + n) to) as (λ q. nat_lt (b + n) to ≡ q → (if q then flag old ((b + n) * w + a) else false) ≡ is_continuation (if q then c a (b + n) else blank_column))
-              [ true ↦ λ e. behind.each a (b + n) a_in (grind (arith, nat_tests)) | false ↦ λ e. refl ] refl
-          | false ↦ behind.each a b a_in b_in
+              [ true ↦ λ e. continuations.each a (b + n) a_in (grind (arith, nat_tests)) | false ↦ λ e. refl ] refl
+          | false ↦ continuations.each a b a_in b_in
         ];
   }
 
-  pub lowered-behind : ((k : ℕ) → flag new k ≡ if nat_le (from * w) k && nat_lt k (to * w) then (if nat_le (from * w + n * w) k then flag old (k - n * w) else false) else flag old k)
+  pub lowered-flags : ((k : ℕ) → flag new k ≡ if nat_le (from * w) k && nat_lt k (to * w) then (if nat_le (from * w + n * w) k then flag old (k - n * w) else false) else flag old k)
       → AreContinuations w h new (rows_lowered from to n c)
-  lowered-behind moved = record {
-    count = same ∙ behind.count;
+  lowered-flags moved = record {
+    count = same ∙ continuations.count;
     each = λ a b a_in b_in. flag_moved_down w a a_in old new from to n moved b
         ∙ elim (nat_le from b && nat_lt b to) as (λ p. (if p then (if nat_le (from + n) b then flag old ((b - n) * w + a) else false) else flag old (b * w + a))
         ≡ is_continuation (if p then (if nat_le (from + n) b then c a (b - n) else blank_column) else c a b)) [
           | true ↦ elim (nat_le (from + n) b) as (λ q. (if q then flag old ((b - n) * w + a) else false) ≡ is_continuation (if q then c a (b - n) else blank_column))
-              [ true ↦ behind.each a (b - n) a_in (omega arith) | false ↦ refl ]
-          | false ↦ behind.each a b a_in b_in
+              [ true ↦ continuations.each a (b - n) a_in (omega arith) | false ↦ refl ]
+          | false ↦ continuations.each a b a_in b_in
         ];
   }
 
 -- columns that are the same have the same flags
-pub AreBehind-along : (w h : ℕ) (flags : List Bool) (c d : Columns) → ((a b : ℕ) → d a b ≡ c a b) → AreContinuations w h flags c → AreContinuations w h flags d
-AreBehind-along w h flags c d same behind = record { count = behind.count; each = λ a b a_in b_in. behind.each a b a_in b_in ∙ ap is_continuation (sym (same a b)) }
+pub AreContinuations-along : (w h : ℕ) (flags : List Bool) (c d : Columns) → ((a b : ℕ) → d a b ≡ c a b) → AreContinuations w h flags c → AreContinuations w h flags d
+AreContinuations-along w h flags c d same continuations = record { count = continuations.count; each = λ a b a_in b_in. continuations.each a b a_in b_in ∙ ap is_continuation (sym (same a b)) }
 
 -- ---- flags that were cleared
 
-module _ (w h : ℕ) (old new : List Bool) (c : Columns) (same : length new ≡ length old) (behind : AreContinuations w h old c) where
-  pub emptied-behind : ((k : ℕ) → flag new k ≡ if nat_le 0 k && nat_lt k (length old) then false else flag old k) → AreContinuations w h new (rows_emptied h c)
-  emptied-behind cleared = record {
-    count = same ∙ behind.count;
+module _ (w h : ℕ) (old new : List Bool) (c : Columns) (same : length new ≡ length old) (continuations : AreContinuations w h old c) where
+  pub emptied-flags : ((k : ℕ) → flag new k ≡ if nat_le 0 k && nat_lt k (length old) then false else flag old k) → AreContinuations w h new (rows_emptied h c)
+  emptied-flags cleared = record {
+    count = same ∙ continuations.count;
     each = λ a b a_in b_in.
         let place : b * w + a < w * h = mul-add-lt b w a h b_in a_in in
-        let count : length old ≡ w * h = behind.count in
+        let count : length old ≡ w * h = continuations.count in
         let inside : (nat_le 0 (b * w + a) && nat_lt (b * w + a) (length old)) ≡ true = grind (arith, nat_tests) in
         let row : nat_lt b h ≡ true = grind (arith, nat_tests) in
         rw row (rw inside at (cleared (b * w + a)));
   }
 
-  pub part-behind : (part : ClearType) (x y from to : ℕ) → ((a b : ℕ) → a < w → b < h → (nat_le from (b * w + a) && nat_lt (b * w + a) to) ≡ is_cleared part x y a b)
+  pub part-flags : (part : ClearType) (x y from to : ℕ) → ((a b : ℕ) → a < w → b < h → (nat_le from (b * w + a) && nat_lt (b * w + a) to) ≡ is_cleared part x y a b)
       → ((k : ℕ) → flag new k ≡ if nat_le from k && nat_lt k to then false else flag old k) → AreContinuations w h new (columns_cleared part x y c)
-  part-behind part x y from to places cleared = record {
-    count = same ∙ behind.count;
+  part-flags part x y from to places cleared = record {
+    count = same ∙ continuations.count;
     each = λ a b a_in b_in. (rw (places a b a_in b_in) at (cleared (b * w + a)))
-        ∙ elim (is_cleared part x y a b) as (λ p. (if p then false else flag old (b * w + a)) ≡ is_continuation (if p then blank_column else c a b)) [ true ↦ refl | false ↦ behind.each a b a_in b_in ];
+        ∙ elim (is_cleared part x y a b) as (λ p. (if p then false else flag old (b * w + a)) ≡ is_continuation (if p then blank_column else c a b)) [ true ↦ refl | false ↦ continuations.each a b a_in b_in ];
   }
 
 -- which places a part takes

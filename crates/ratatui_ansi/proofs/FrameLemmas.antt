@@ -28,7 +28,7 @@ use Rattle.ansi_model.specs.Sequences.{feed}
 use Rattle.ansi_model.specs.Screens.{screen_shown, HasOwnWidth, IsWhole, IsBlankBeyond, IsIdle, put_columns}
 use Rattle.ratatui_ansi.specs.Drawing.{printed_at, blanked, IsDrawnBy, ChangesSgr, Paints, Prints}
 use Rattle.ratatui_ansi.specs.Drawing.ChangesSgr.{Stays, Sets}
-use Rattle.ratatui_ansi.specs.Calls.{IsAwaiting}
+use Rattle.ratatui_ansi.specs.Tracker.{IsAwaiting}
 use Rattle.ratatui_ansi.specs.Frame.{IsTail, laid, is_fit, is_sendable_on, IsGlyph, IsVacant, IsDrawing, AreMarked, Covers, SendsUpdates, SendsDraw}
 use Rattle.ansi_model.proofs.ReadLemmas.{feed-append}
 use Rattle.ansi_model.proofs.ScrollLemmas.{whole_along}
@@ -36,7 +36,7 @@ use Rattle.ansi_model.proofs.SymbolLemmas.{plain-printed, plain-single}
 use Rattle.ansi_model.proofs.GlyphLemmas.{printed-width, one-byte}
 use Rattle.ansi_model.proofs.SgrLemmas.{equal-number}
 use Rattle.ansi_model.proofs.TextLemmas.{and-both, blank-one}
-use Rattle.ratatui_ansi.proofs.TailLemmas.{behind_empty, torn, put-torn, torn-more, torn-all, laid-sized, laid-whole, laid-beyond, laid-behind, laid-shown}
+use Rattle.ratatui_ansi.proofs.TailLemmas.{continuation-empty, torn, put-torn, torn-more, torn-all, laid-sized, laid-whole, laid-beyond, laid-continuations, laid-shown}
 
 -- ---- blanks
 
@@ -91,7 +91,7 @@ blanked-torn x y n end (suc m) k look c t whole left tail same reached high a b 
     ∙ torn-more x y n (x + n + m) end look c (blanked (x + n) y m t).columns whole left tail (omega arith) (omega arith) before a b
     ∙ ap (λ j. torn x y n j end look c a b) e
 
--- bytes that do nothing, and bytes behind others
+-- bytes that do nothing, and bytes after others
 abbrev pub KeepsSize : (Emulator → Emulator) → Type 0
 KeepsSize effect = (t : Emulator) → ((effect t).width ≡ t.width) × ((effect t).height ≡ t.height)
 
@@ -161,7 +161,7 @@ blanked-sgr : (x y n : ℕ) (t : Emulator) → blanked x y (suc n) (with_sgr def
 blanked-sgr x y zero t = refl
 blanked-sgr x y (suc n) t = ap (printed_at (x + suc n) y default_sgr blank) (blanked-sgr x y n t)
 
--- blanks behind the own rendition
+-- blanks after the own rendition
 pub blanks-own : (w h x y n m : ℕ) (old mid new : List ℕ) (before between after : Brush) → ChangesSgr before.sgr default_sgr old mid → between ≡ record before { sgr = default_sgr }
     → Paints w h mid between (blanked x y n) new after → n ≡ suc m → Paints w h old before (blanked x y n) new after
 blanks-own w h x y n m old mid new before between after changes pens done some =
@@ -269,11 +269,11 @@ marked-at w x y n end a b old new is was ordered inside column some e f g =
     ]
 
 -- a symbol of one column over no part of another one leaves the flags as they are
-pub one-marked : (first behind_it end : ℕ) (flags : List Bool) → slice_index_or flags first false ≡ false → end ≤ first + 1
-    → (k : ℕ) → slice_index_or flags k false ≡ (if nat_le first k && nat_lt k end then nat_lt first k && nat_lt k behind_it else slice_index_or flags k false)
-one-marked first behind_it end flags unset short k =
+pub one-marked : (first past_it end : ℕ) (flags : List Bool) → slice_index_or flags first false ≡ false → end ≤ first + 1
+    → (k : ℕ) → slice_index_or flags k false ≡ (if nat_le first k && nat_lt k end then nat_lt first k && nat_lt k past_it else slice_index_or flags k false)
+one-marked first past_it end flags unset short k =
     elim (nat_le first k && nat_lt k end) as (λ p. (nat_le first k && nat_lt k end) ≡ p
-    → slice_index_or flags k false ≡ (if p then nat_lt first k && nat_lt k behind_it else slice_index_or flags k false)) [
+    → slice_index_or flags k false ≡ (if p then nat_lt first k && nat_lt k past_it else slice_index_or flags k false)) [
       | true ↦ λ e.
           let same : k ≡ first = grind (arith, nat_tests) in
           let not_behind : nat_lt first k ≡ false = grind (arith, nat_tests) in
@@ -285,7 +285,7 @@ pub tail-of : (w h from end y : ℕ) (flags : List Bool) (c : Columns) → AreCo
     → ((k : ℕ) → from ≤ k → k < end → slice_index_or flags (y * w + k) false ≡ true) → (end < w → slice_index_or flags (y * w + end) false ≡ false) → IsTail from end y c
 tail-of w h from end y flags c are beyond row ordered inside set unset = record {
   ordered = ordered;
-  behind = λ k low high. sym (are.each k y (omega arith) row) ∙ set k low high;
+  continuations = λ k low high. sym (are.each k y (omega arith) row) ∙ set k low high;
   ended = elim (cases_lt end w) [
     | inl within ↦ sym (are.each end y within row) ∙ unset within
     | inr past ↦ ap is_continuation (beyond end y (omega arith))
@@ -298,7 +298,7 @@ laid-flags w h x y n end look s u flags after are ordered inside some is marked 
   count = marked.count ∙ are.count;
   each = λ a b column row.
       marked-at w x y n end a b (slice_index_or flags (b * w + a) false) (slice_index_or after (b * w + a) false) (is_continuation (u.columns a b)) (is_continuation (s.columns a b)) ordered inside column some
-      (marked.each (b * w + a)) (are.each a b column row) (ap is_continuation (is.columns a b) ∙ laid-behind x y n end look s.columns a b);
+      (marked.each (b * w + a)) (are.each a b column row) (ap is_continuation (is.columns a b) ∙ laid-continuations x y n end look s.columns a b);
 }
 
 -- ---- what the screen shows
@@ -396,9 +396,9 @@ lay-sends w h x y n end cell before after flags flags_after old new fit en colum
     let columns : printed_columns symbol ≡ n = fit.columns ∙ en in
     let some : 0 < n = let s = fit.some in omega arith in
     let fits : x + n ≤ w = let i = fit.inside in omega arith in
-    let left : (t : Emulator) → IsDrawing w h before flags t → is_continuation ((rested t).columns x y) ≡ false = λ t is. sym (is.behind.each x y column row) ∙ uncut in
+    let left : (t : Emulator) → IsDrawing w h before flags t → is_continuation ((rested t).columns x y) ≡ false = λ t is. sym (is.continuations.each x y column row) ∙ uncut in
     let tail : (t : Emulator) → IsDrawing w h before flags t → IsTail (x + n) end y (rested t).columns =
-    λ t is. tail-of w h (x + n) end y flags (rested t).columns is.behind is.ready.beyond row ordered inside set unset in
+    λ t is. tail-of w h (x + n) end y flags (rested t).columns is.continuations is.ready.beyond row ordered inside set unset in
     let laid_at : (t : Emulator) → IsDrawing w h before flags t → IsLaid x y n end (look_of cell) (rested t) (rested (feed both.bytes t)) = λ t is.
     subst (IsLaid x y n end (look_of cell) (rested t)) (sym (both.printed t is.ready.width is.ready.height is.drawn))
     (subst (λ look. IsLaid x y n end look (rested t) (blanked (x + n) y m (printed_at x y (sgr_of cell) symbol (rested t)))) (ink-look cell)
@@ -413,7 +413,7 @@ lay-sends w h x y n end cell before after flags flags_after old new fit en colum
           record {
             drawn = both.drawn t is.ready.width is.ready.height is.drawn;
             ready = laid-ready w h x y n end (look_of cell) (rested t) u is.ready (sym columns ∙ ap (λ (look : Look). printed_columns look.symbol) (ink-look cell)) fits row (left t is) (tail t is) at;
-            behind = laid-flags w h x y n end (look_of cell) (rested t) u flags flags_after is.behind ordered inside some at marked;
+            continuations = laid-flags w h x y n end (look_of cell) (rested t) u flags flags_after is.continuations ordered inside some at marked;
             cursor = cursor-at end y w u.x u.y u.width at.x_at at.y_at wide ∙ sym cursor;
           };
       draws = λ t is.
@@ -467,7 +467,7 @@ still-sends w h u before after flags old brush cursor count same = record {
   drawing = λ t is. record {
     drawn = subst (λ b. IsDrawnBy b t) (sym brush) is.drawn;
     ready = is.ready;
-    behind = is.behind;
+    continuations = is.continuations;
     cursor = is.cursor ∙ sym cursor;
   };
   draws = λ t is. record {
@@ -475,7 +475,7 @@ still-sends w h u before after flags old brush cursor count same = record {
     width = refl;
     height = refl;
     visible = refl;
-    grid = λ a b. rw (is.ready.width, is.ready.height) (same (rested t).columns is.behind a b);
+    grid = λ a b. rw (is.ready.width, is.ready.height) (same (rested t).columns is.continuations a b);
     written = λ below. omega arith;
     full = λ above. omega arith;
   };
@@ -503,7 +503,7 @@ pub put-vacant : (w h : ℕ) (u : Update) (flags : List Bool) → u.x < w → u.
 put-vacant w h u flags column row covered vacant c are a b =
     let x_test : nat_lt u.x w ≡ true = grind (arith, nat_tests) in
     let y_test : nat_lt u.y h ≡ true = grind (arith, nat_tests) in
-    let shows : look_in (c u.x u.y) ≡ empty_look = behind_empty (c u.x u.y) (sym (are.each u.x u.y column row) ∙ covered) in
+    let shows : look_in (c u.x u.y) ≡ empty_look = continuation-empty (c u.x u.y) (sym (are.each u.x u.y column row) ∙ covered) in
     rw (x_test, y_test, vacant.look, vacant.width) (kept w u.x u.y a b c shows)
 
 -- ---- which renditions are sent
@@ -571,7 +571,7 @@ begins w h d cursor flags t own unplaced at is = record {
     whole = is.ready.whole;
     beyond = is.ready.beyond;
   };
-  behind = is.behind;
+  continuations = is.continuations;
   cursor = is.placed ∙ sym at;
 }
 
@@ -606,7 +606,7 @@ draw-sends w h old mid new before after cursor written flags flags_after us own 
             record {
               phase = end.drawn.phase;
               ready = with-own w h (rested (feed sends.bytes t)) (end.drawn.sgr ∙ same) end.ready;
-              behind = end.behind;
+              continuations = end.continuations;
               placed = end.cursor;
             };
         draws = λ t is. subst (λ n. Draws (screen_shown n (rested t)) us (screen_shown after.written (rested (feed sends.bytes t)))) count (sends.draws t (start t is));
@@ -619,7 +619,7 @@ draw-sends w h old mid new before after cursor written flags flags_after us own 
             appended = does.appended ∙ ap (λ xs. xs ++ does.bytes) sends.appended ∙ append_assoc old sends.bytes does.bytes;
             awaiting = λ t is.
                 let end = sends.drawing t (start t is) in
-                let last : IsAwaiting w h after.cursor flags_after (with_sgr default_sgr (rested (feed sends.bytes t))) = record { phase = refl; ready = end.ready; behind = end.behind; placed = end.cursor } in
+                let last : IsAwaiting w h after.cursor flags_after (with_sgr default_sgr (rested (feed sends.bytes t))) = record { phase = refl; ready = end.ready; continuations = end.continuations; placed = end.cursor } in
                 subst (IsAwaiting w h after.cursor flags_after) (sym (fed t is)) last;
             draws = λ t is.
                 let before_count = subst (λ n. Draws (screen_shown n (rested t)) us (screen_shown after.written (rested (feed sends.bytes t)))) count (sends.draws t (start t is)) in

@@ -10,7 +10,7 @@ use Rattle.ratatui_ansi.specs.declared.frame.Drawing.{Drawing}
 use Rattle.ratatui_ansi.specs.declared.frame.Refusal.{Refusal}
 use Rattle.ratatui_ansi.specs.declared.frame.Refusal.TheVariants as Refused
 use Rattle.ratatui_ansi.specs.Backend.{BackendState}
-use Rattle.ratatui_ansi.specs.Calls.{IsAwaiting}
+use Rattle.ratatui_ansi.specs.Tracker.{IsAwaiting}
 use Rattle.ratatui_ansi.specs.Errors.{error_of}
 use Rattle.ratatui_ansi.specs.Flags.{flag, is_clear_cut}
 use Rattle.ratatui_ansi.specs.Frame.{RefusesUpdate, IsDrawing}
@@ -20,7 +20,7 @@ use Rattle.ansi_model.specs.Screens.{screen_shown}
 use Rattle.ansi_model.specs.Sequences.{feed}
 use Rattle.ansi_model.specs.Emulator.{Emulator, rested}
 use Rattle.ratatui_ansi.proofs.BackendLemmas.{cursor-column, cursor-row}
-use Rattle.ratatui_ansi.proofs.CoverLemmas.{covered-behind}
+use Rattle.ratatui_ansi.proofs.CoverLemmas.{covered-continuation}
 use Rattle.ratatui_ansi.proofs.FrameLemmas.{begins}
 
 -- ---- where a draw stops
@@ -32,7 +32,7 @@ refused-on w h colors d flags t u (Refused.Symbol p) is because = (rw (is.ready.
 refused-on w h colors d flags t u (Refused.Style p) is because = (rw (is.ready.width, is.ready.height) because.0, because.2)
 refused-on w h colors d flags t u (Refused.Cut p) is because = (
   rw (is.ready.width, is.ready.height) because.0,
-  covered-behind (rested t).columns is.ready.sized is.ready.whole u.x u.y (sym (is.behind.each u.x u.y because.0.column because.0.row) ∙ because.1),
+  covered-continuation (rested t).columns is.ready.sized is.ready.whole u.x u.y (sym (is.continuations.each u.x u.y because.0.column because.0.row) ∙ because.1),
   because.2,
 )
 
@@ -69,7 +69,7 @@ cut-is-covered {w} {h} {place} {flags} {t} written kind wide is cut =
     let x_in : place.x < w = cursor-column wide is in
     let y_in : place.y < h = cursor-row is in (
       sym is.placed,
-      covered-behind (rested t).columns is.ready.sized is.ready.whole place.x place.y (sym (is.behind.each place.x place.y x_in y_in) ∙ set),
+      covered-continuation (rested t).columns is.ready.sized is.ready.whole place.x place.y (sym (is.continuations.each place.x place.y x_in y_in) ∙ set),
     )
   where
     by_kind : (k : ClearType) → is_clear_cut k w place.x place.y flags ≡ true → flag flags (place.y * w + place.x) ≡ true

@@ -8,11 +8,11 @@ use Rattle.ansi_model.specs.Columns.Column.{Shows, Unknown}
 use Rattle.ansi_model.specs.Emulator.{run}
 use Rattle.ansi_model.specs.Screens.{HasOwnWidth, HaveOwnWidths, IsWhole, IsWholeAt, IsBlankBeyond, put_columns}
 use Rattle.ratatui_ansi.specs.Frame.{IsTail, laid}
-use Rattle.ansi_model.proofs.PutLemmas.{none_between, apart-at, first-or-behind, rest-same}
+use Rattle.ansi_model.proofs.PutLemmas.{none_between, apart-at, first-or-later, rest-same}
 use Rattle.ansi_model.proofs.TextLemmas.{blank-sized}
 use Rattle.ansi_model.specs.Symbols.{printed_columns}
 
--- a symbol of n columns stands in column x of row y, blanks behind it up to column k, and from there up to column `end` nothing is known
+-- a symbol of n columns stands in column x of row y, blanks after it up to column k, and from there up to column `end` nothing is known
 abbrev pub torn : ℕ → ℕ → ℕ → ℕ → ℕ → Look → Columns → Columns
 torn x y n k end look c a b = if run k y (end - k) a b then Unknown else laid x y n k look c a b
 
@@ -85,9 +85,9 @@ part_behind x a low =
       | false ↦ λ e. let f : ((a - x) == 0) ≡ true = grind (arith, nat_tests) in rw f refl
     ] refl
 
-pub laid-behind : (x y n end : ℕ) (look : Look) (c : Columns) (a b : ℕ)
+pub laid-continuations : (x y n end : ℕ) (look : Look) (c : Columns) (a b : ℕ)
     → is_continuation (laid x y n end look c a b) ≡ (if run x y n a b then nat_lt x a else (if run (x + n) y (end - (x + n)) a b then false else is_continuation (c a b)))
-laid-behind x y n end look c a b =
+laid-continuations x y n end look c a b =
     elim (run x y n a b) as (λ p. run x y n a b ≡ p → is_continuation (if p then Shows look (a - x) n else (if run (x + n) y (end - (x + n)) a b then blank_column else c a b))
     ≡ (if p then nat_lt x a else (if run (x + n) y (end - (x + n)) a b then false else is_continuation (c a b)))) [
       | true ↦ λ e. part_behind x a (grind (arith, nat_tests))
@@ -132,10 +132,10 @@ laid-whole x y n end look c whole left tail a b =
     ))
     (λ e f. whole_outside x y n end a b look c (c a b) left tail (outside x y n end a b ordered e f) (whole a b))
 
--- behind the first column of a symbol a column shows nothing of its own
-pub behind_empty : (d : Column) → is_continuation d ≡ true → look_in d ≡ empty_look
-behind_empty Unknown e = refl
-behind_empty (Shows look index count) e =
+-- after the first column of a symbol a column shows nothing of its own
+pub continuation-empty : (d : Column) → is_continuation d ≡ true → look_in d ≡ empty_look
+continuation-empty Unknown e = refl
+continuation-empty (Shows look index count) e =
     elim (index == 0) as (λ p. (if p then false else true) ≡ true → (if p then look else empty_look) ≡ empty_look) [
       | true ↦ λ f. let h : ⊥ = cc in absurd h
       | false ↦ λ f. refl
@@ -158,7 +158,7 @@ laid-shown w h x y n end u c tail ex ey en some fits y_in a b =
     let row : nat_eq b y ≡ true = grind (arith, nat_tests) in
     let high : nat_lt a (x + n) ≡ true = grind (arith, nat_tests) in
     let wide : nat_lt a w ≡ true = grind (arith, nat_tests) in
-    rw (row, high, wide) (first-or-behind x a (look_of u.cell) (look_in (c a b)) (grind (arith, nat_tests))))
+    rw (row, high, wide) (first-or-later x a (look_of u.cell) (look_in (c a b)) (grind (arith, nat_tests))))
     (λ e f.
     let row : nat_eq b y ≡ true = grind (arith, nat_tests) in
     let same_row : b ≡ y = grind (arith, nat_tests) in
@@ -166,8 +166,8 @@ laid-shown w h x y n end u c tail ex ey en some fits y_in a b =
     let past : nat_lt a (x + n) ≡ false = grind (arith, nat_tests) in
     let low : x + n ≤ a = grind (arith, nat_tests) in
     let high : a < end = grind (arith, nat_tests) in
-    let behind : is_continuation (c a b) ≡ true = ap (λ k. is_continuation (c a k)) same_row ∙ tail.behind a low high in
-    rw (row, other, past) (sym (if_past (nat_lt x a) (nat_lt a w) empty_look (look_in (c a b)) ∙ behind_empty (c a b) behind)))
+    let continuations : is_continuation (c a b) ≡ true = ap (λ k. is_continuation (c a k)) same_row ∙ tail.continuations a low high in
+    rw (row, other, past) (sym (if_past (nat_lt x a) (nat_lt a w) empty_look (look_in (c a b)) ∙ continuation-empty (c a b) continuations)))
     (λ e f. rest-same (nat_eq b y) (nat_eq a x) (nat_lt x a && nat_lt a (x + n) && nat_lt a w) (look_of u.cell) (look_in (c a b)) empty_look
     (λ row. grind (arith, nat_tests)) (λ row. grind (arith, nat_tests))))
 
@@ -191,18 +191,18 @@ before x y n end a b look i m c whole some tail row high =
           let there : (a - i) + 0 ≡ a - i = omega arith in
           let shows : c (a - i) y ≡ Shows look 0 m = ap₂ (λ k j. c k j) (sym there) (sym row) ∙ whole.2 0 (omega arith) in
           let not : is_continuation (c (a - i) y) ≡ false = ap is_continuation shows in
-          let is : is_continuation (c (a - i) y) ≡ true = tail.behind (a - i) from (omega arith) in
+          let is : is_continuation (c (a - i) y) ≡ true = tail.continuations (a - i) from (omega arith) in
           let h : ⊥ = cc in
           absurd h
     ] refl
 
 tail-met : (x y n end a b : ℕ) (c : Columns) (d : Column) → IsWholeAt (λ k. c k b) a d → is_continuation d ≡ true → IsTail (x + n) end y c → 0 < n → b ≡ y → x + n ≤ a → a < end
     → is_met (run x y n) a b d ≡ true
-tail-met x y n end a b c Unknown whole behind tail some row low high = let h : ⊥ = cc in absurd h
-tail-met x y n end a b c (Shows look i m) whole behind tail some row low high =
+tail-met x y n end a b c Unknown whole continuations tail some row low high = let h : ⊥ = cc in absurd h
+tail-met x y n end a b c (Shows look i m) whole continuations tail some row low high =
     let index : i < m = whole.0 in
     let first : i ≤ a = whole.1 in
-    let starts : a - i < x + n = before x y n end a b look i m c whole (later i behind) tail row high in
+    let starts : a - i < x + n = before x y n end a b look i m c whole (later i continuations) tail row high in
     let inside : run x y n (x + n - 1) b ≡ true = grind (arith, nat_tests) in
     some_between (λ k. run x y n k b) (a - i) m (x + n - 1) (omega arith) (omega arith) inside
 
@@ -226,8 +226,8 @@ put-torn x y n end look c whole left tail some a b =
             let row : b ≡ y = grind (arith, nat_tests) in
             let low : x + n ≤ a = grind (arith, nat_tests) in
             let high : a < end = grind (arith, nat_tests) in
-            let behind : is_continuation (c a b) ≡ true = ap (λ k. is_continuation (c a k)) row ∙ tail.behind a low high in
-            let met : is_met (run x y n) a b (c a b) ≡ true = tail-met x y n end a b c (c a b) (whole a b) behind tail some row low high in
+            let continuations : is_continuation (c a b) ≡ true = ap (λ k. is_continuation (c a k)) row ∙ tail.continuations a low high in
+            let met : is_met (run x y n) a b (c a b) ≡ true = tail-met x y n end a b c (c a b) (whole a b) continuations tail some row low high in
             rw (e, f, met) refl
         | false ↦ λ f.
             let g : run (x + n) y (x + n - (x + n)) a b ≡ false = grind (arith, nat_tests) in

@@ -10,9 +10,9 @@ use Rattle.ansi_model.specs.Emulator.{Emulator, rested, rows_raised, rows_lowere
 use Rattle.ansi_model.specs.Sequences.{feed}
 use Rattle.ansi_model.specs.Screens.{screen_shown, IsIdle, Turns, Becomes}
 use Rattle.ratatui_ansi.specs.Flags.{flag, AreContinuations, is_cut}
-use Rattle.ratatui_ansi.specs.Calls.{IsAwaiting, SendsCall, Erases}
+use Rattle.ratatui_ansi.specs.Tracker.{IsAwaiting, SendsCall, Erases}
 use Rattle.ansi_model.proofs.ReadLemmas.{feed-append}
-use Rattle.ratatui_ansi.proofs.FlagLemmas.{AreBehind-along}
+use Rattle.ratatui_ansi.proofs.FlagLemmas.{AreContinuations-along}
 use Rattle.ratatui_ansi.proofs.EraseLemmas.{part-erased, part-whole, part-sized, part-beyond}
 use Rattle.ansi_model.proofs.ScrollLemmas.{rested-ready}
 use Rattle.ansi_model.proofs.RegionLemmas.{ready-columns, moved-placed}
@@ -31,10 +31,10 @@ Turns-then w h a b c first second one two =
           (rested (feed one.bytes t), one.turned t ground ready, two.turned (feed one.bytes t) (one.phase t ground ready) (one.ready t ground ready));
     }
 
--- what is known of a ready terminal behind a call
+-- what is known of a ready terminal after a call
 pub record IsKept (w h : ℕ) (place : Position) (flags : List Bool) (related : Screen → Screen → Type 0) (s t : Emulator) : Type 0 where
   pub cursor : cursor_of (screen_shown 0 t) ≡ place
-  pub behind : AreContinuations w h flags t.columns
+  pub continuations : AreContinuations w h flags t.columns
   pub screens : (written : ℕ) → related (screen_shown written s) (screen_shown written t)
 
 pub call-from : (w h : ℕ) (a b : List ℕ) (place place_after : Position) (flags flags_after : List Bool) (turned : Emulator → Emulator → Type 0) (related : Screen → Screen → Type 0)
@@ -42,7 +42,7 @@ pub call-from : (w h : ℕ) (a b : List ℕ) (place place_after : Position) (fla
     → ((s t : Emulator) → IsIdle w h s → cursor_of (screen_shown 0 s) ≡ place → AreContinuations w h flags s.columns → turned s t → IsKept w h place_after flags_after related s t)
     → SendsCall w h a b place flags place_after flags_after related
 call-from w h a b place place_after flags flags_after turned related turns kept =
-    let all = λ (t : Emulator) (awaiting : IsAwaiting w h place flags t). kept (rested t) (rested (feed turns.bytes t)) awaiting.ready awaiting.placed awaiting.behind (turns.turned t awaiting.phase awaiting.ready) in
+    let all = λ (t : Emulator) (awaiting : IsAwaiting w h place flags t). kept (rested t) (rested (feed turns.bytes t)) awaiting.ready awaiting.placed awaiting.continuations (turns.turned t awaiting.phase awaiting.ready) in
     record {
       bytes = turns.bytes;
       appended = turns.appended;
@@ -50,7 +50,7 @@ call-from w h a b place place_after flags flags_after turned related turns kept 
         phase = turns.phase t awaiting.phase awaiting.ready;
         ready = turns.ready t awaiting.phase awaiting.ready;
         placed = (all t awaiting).cursor;
-        behind = (all t awaiting).behind;
+        continuations = (all t awaiting).continuations;
       };
       shows = λ written t awaiting. (all t awaiting).screens written;
     }
@@ -59,19 +59,19 @@ call-from w h a b place place_after flags flags_after turned related turns kept 
 
 pub visible-kept : (w h : ℕ) (visible : Bool) (place : Position) (flags : List Bool) (s t : Emulator) → IsIdle w h s → cursor_of (screen_shown 0 s) ≡ place → AreContinuations w h flags s.columns
     → Becomes (λ p q. q ≡ with_visible visible p) s.columns s t → IsKept w h place flags (λ p q. q ≡ with_visible visible p) s t
-visible-kept w h visible place flags s t ready at behind became = record {
+visible-kept w h visible place flags s t ready at continuations became = record {
   cursor = ap cursor_of (became.screens 0) ∙ at;
-  behind = AreBehind-along w h flags s.columns t.columns became.columns behind;
+  continuations = AreContinuations-along w h flags s.columns t.columns became.columns continuations;
   screens = became.screens;
 }
 
 pub cursor-kept : (w h x y : ℕ) (flags : List Bool) (s t : Emulator) → IsIdle w h s → AreContinuations w h flags s.columns
     → Becomes (λ p q. q ≡ with_cursor x y p) s.columns s t → IsKept w h (record { x = min x (w - 1); y = min y (h - 1) }) flags (λ p q. q ≡ with_cursor x y p) s t
-cursor-kept w h x y flags s t ready behind became =
+cursor-kept w h x y flags s t ready continuations became =
     let at : cursor_of (screen_shown 0 t) ≡ record { x = min x (s.width - 1); y = min y (s.height - 1) } = ap cursor_of (became.screens 0) in
     record {
       cursor = at ∙ ap₂ (λ i j. record { x = min x (i - 1); y = min y (j - 1) }) ready.width ready.height;
-      behind = AreBehind-along w h flags s.columns t.columns became.columns behind;
+      continuations = AreContinuations-along w h flags s.columns t.columns became.columns continuations;
       screens = became.screens;
     }
 
@@ -81,7 +81,7 @@ pub append-kept : (w h n : ℕ) (place : Position) (flags flags_after : List Boo
     → ((c : Columns) → AreContinuations w h flags c → AreContinuations w h flags_after (rows_raised 0 (min h h) (n - (h - 1 - place.y)) c)) → AreContinuations w h flags s.columns
     → Becomes (λ p q. Appends p n q × (q.cursor_x ≡ 0)) (rows_raised 0 h (s.y + n - (h - 1)) s.columns) s t
     → IsKept w h (record { x = 0; y = min (place.y + n) (h - 1) }) flags_after (λ p q. Appends p n q) s t
-append-kept w h n place flags flags_after s t ready at row cursor_moved behind became =
+append-kept w h n place flags flags_after s t ready at row cursor_moved continuations became =
     let high : s.height ≡ h = ready.height in
     let y : s.y ≡ place.y = ap (λ (p : Position). p.y) at in
     let both = became.screens 0 in
@@ -90,7 +90,7 @@ append-kept w h n place flags flags_after s t ready at row cursor_moved behind b
     let past : n - (h - 1 - place.y) ≡ s.y + n - (h - 1) = omega arith in
     record {
       cursor = ap₂ (λ i j. record { x = i; y = j }) both.1 rows;
-      behind = AreBehind-along w h flags_after (rows_raised 0 h (s.y + n - (h - 1)) s.columns) t.columns became.columns (rw (end, past) at (cursor_moved s.columns behind));
+      continuations = AreContinuations-along w h flags_after (rows_raised 0 h (s.y + n - (h - 1)) s.columns) t.columns became.columns (rw (end, past) at (cursor_moved s.columns continuations));
       screens = λ written. (became.screens written).0;
     }
 
@@ -134,7 +134,7 @@ module _ (w h : ℕ) (place : Position) (flags flags_after : List Bool) (x_in : 
   pub up-kept : (a b n : ℕ) → ((c : Columns) → AreContinuations w h flags c → AreContinuations w h flags_after (rows_raised a (min b h) n c)) → AreContinuations w h flags s.columns
       → (t : Emulator) × Becomes (ScrollsUp a b n) (rows_raised a (min b h) n s.columns) s t × Becomes (λ p q. q ≡ with_cursor place.x place.y p) t.columns t u
       → IsKept w h place flags_after (ScrollsUp a b n) s u
-  up-kept a b n cursor_moved behind both =
+  up-kept a b n cursor_moved continuations both =
       let t : Emulator = both.0 in
       let wide : t.width ≡ s.width = (both.1.screens 0).width in
       let high : t.height ≡ s.height = (both.1.screens 0).height in
@@ -145,7 +145,7 @@ module _ (w h : ℕ) (place : Position) (flags flags_after : List Bool) (x_in : 
       let same : u.width ≡ t.width = ap (λ (p : Screen). p.width) (both.2.screens 0) in
       record {
         cursor = cursor-back t (wide ∙ s_wide) (high ∙ s_high) same both.2;
-        behind = AreBehind-along w h flags_after (rows_raised a (min b h) n s.columns) u.columns (λ i j. both.2.columns i j ∙ both.1.columns i j) (cursor_moved s.columns behind);
+        continuations = AreContinuations-along w h flags_after (rows_raised a (min b h) n s.columns) u.columns (λ i j. both.2.columns i j ∙ both.1.columns i j) (cursor_moved s.columns continuations);
         screens = λ written. subst (ScrollsUp a b n (screen_shown written s)) (sym (both.2.screens written))
             (up-back place.x place.y (screen_shown written s) (screen_shown written t) wide high x_at y_at (omega arith) (omega arith) a b n (both.1.screens written));
       }
@@ -153,7 +153,7 @@ module _ (w h : ℕ) (place : Position) (flags flags_after : List Bool) (x_in : 
   pub down-kept : (a b n : ℕ) → ((c : Columns) → AreContinuations w h flags c → AreContinuations w h flags_after (rows_lowered a (min b h) n c)) → AreContinuations w h flags s.columns
       → (t : Emulator) × Becomes (ScrollsDown a b n) (rows_lowered a (min b h) n s.columns) s t × Becomes (λ p q. q ≡ with_cursor place.x place.y p) t.columns t u
       → IsKept w h place flags_after (ScrollsDown a b n) s u
-  down-kept a b n cursor_moved behind both =
+  down-kept a b n cursor_moved continuations both =
       let t : Emulator = both.0 in
       let wide : t.width ≡ s.width = (both.1.screens 0).width in
       let high : t.height ≡ s.height = (both.1.screens 0).height in
@@ -164,7 +164,7 @@ module _ (w h : ℕ) (place : Position) (flags flags_after : List Bool) (x_in : 
       let same : u.width ≡ t.width = ap (λ (p : Screen). p.width) (both.2.screens 0) in
       record {
         cursor = cursor-back t (wide ∙ s_wide) (high ∙ s_high) same both.2;
-        behind = AreBehind-along w h flags_after (rows_lowered a (min b h) n s.columns) u.columns (λ i j. both.2.columns i j ∙ both.1.columns i j) (cursor_moved s.columns behind);
+        continuations = AreContinuations-along w h flags_after (rows_lowered a (min b h) n s.columns) u.columns (λ i j. both.2.columns i j ∙ both.1.columns i j) (cursor_moved s.columns continuations);
         screens = λ written. subst (ScrollsDown a b n (screen_shown written s)) (sym (both.2.screens written))
             (down-back place.x place.y (screen_shown written s) (screen_shown written t) wide high x_at y_at (omega arith) (omega arith) a b n (both.1.screens written));
       }
@@ -174,12 +174,12 @@ module _ (w h : ℕ) (place : Position) (flags flags_after : List Bool) (x_in : 
 pub emptied-kept : (w h : ℕ) (place : Position) (flags flags_after : List Bool) (s t : Emulator) (columns : Columns) → cursor_of (screen_shown 0 s) ≡ place
     → AreContinuations w h flags_after columns
     → Becomes (λ p q. p.cursor_x ≡ place.x → p.cursor_y ≡ place.y → Clears p All q) columns s t → IsKept w h place flags_after (λ p q. Clears p All q) s t
-emptied-kept w h place flags flags_after s t columns at behind became =
+emptied-kept w h place flags flags_after s t columns at continuations became =
     let x : min s.x (s.width - 1) ≡ place.x = ap (λ (p : Position). p.x) at in
     let y : s.y ≡ place.y = ap (λ (p : Position). p.y) at in
     record {
       cursor = ap cursor_of (became.screens 0 x y).rest ∙ at;
-      behind = AreBehind-along w h flags_after columns t.columns became.columns behind;
+      continuations = AreContinuations-along w h flags_after columns t.columns became.columns continuations;
       screens = λ written. became.screens written x y;
     }
 
@@ -191,18 +191,18 @@ call-does w h a b place place_after flags flags_after f related does kept = reco
   bytes = does.bytes;
   appended = does.appended;
   awaiting = λ t awaiting.
-      let both = kept (rested t) awaiting.ready awaiting.placed awaiting.behind in
+      let both = kept (rested t) awaiting.ready awaiting.placed awaiting.continuations in
       let u : Emulator = f (rested t) in
       let stays : rested u ≡ u = rested-ready w h u both.0 in
       let after : IsAwaiting w h place_after flags_after u = record {
         phase = both.0.phase;
         ready = subst (IsIdle w h) (sym stays) both.0;
         placed = ap (λ v. cursor_of (screen_shown 0 v)) stays ∙ both.1.cursor;
-        behind = subst (λ v. AreContinuations w h flags_after v.columns) (sym stays) both.1.behind;
+        continuations = subst (λ v. AreContinuations w h flags_after v.columns) (sym stays) both.1.continuations;
       } in
       subst (IsAwaiting w h place_after flags_after) (sym (does.read t awaiting.phase)) after;
   shows = λ written t awaiting.
-      let both = kept (rested t) awaiting.ready awaiting.placed awaiting.behind in
+      let both = kept (rested t) awaiting.ready awaiting.placed awaiting.continuations in
       let e : rested (feed does.bytes t) ≡ f (rested t) = ap rested (does.read t awaiting.phase) ∙ rested-ready w h (f (rested t)) both.0 in
       subst (λ v. related (screen_shown written (rested t)) (screen_shown written v)) (sym e) (both.1.screens written);
 }
@@ -215,12 +215,12 @@ pub part-kept : (w h x y : ℕ) (part : ClearType) (place : Position) (flags fla
     → ((c : Columns) → AreContinuations w h flags c → AreContinuations w h flags_after (columns_cleared part x y c))
     → (s : Emulator) → IsIdle w h s → cursor_of (screen_shown 0 s) ≡ place → AreContinuations w h flags s.columns
     → IsIdle w h (cursor_moved place.x place.y (erased part (cursor_moved x y s))) × IsKept w h place flags_after (Erases part x y) s (cursor_moved place.x place.y (erased part (cursor_moved x y s)))
-part-kept w h x y part place flags flags_after x_in y_in at_x at_y uncut history cleared s ready at behind =
+part-kept w h x y part place flags flags_after x_in y_in at_x at_y uncut history cleared s ready at continuations =
     let width : s.width ≡ w = ready.width in
     let height : s.height ≡ h = ready.height in
     let u : Emulator = cursor_moved place.x place.y (erased part (record s { x = x; y = y })) in
     let there : u ≡ cursor_moved place.x place.y (erased part (cursor_moved x y s)) = ap (λ t. cursor_moved place.x place.y (erased part t)) (moved-placed x y s (omega arith) (omega arith)) in
-    let same : (a b : ℕ) → u.columns a b ≡ columns_cleared part x y s.columns a b = part-erased part w h x y flags s.columns x_in y_in ready.beyond behind uncut ready.whole in
+    let same : (a b : ℕ) → u.columns a b ≡ columns_cleared part x y s.columns a b = part-erased part w h x y flags s.columns x_in y_in ready.beyond continuations uncut ready.whole in
     let x_test : nat_lt x s.width ≡ true = grind (arith, nat_tests) in
     let sure : u.sure ≡ true = rw (ready.sure, ready.sgr, x_test, history) refl in
     let x_at : min s.x (s.width - 1) ≡ place.x = ap (λ (p : Position). p.x) at in
@@ -229,10 +229,10 @@ part-kept w h x y part place flags flags_after x_in y_in at_x at_y uncut history
     let cursor_y : min place.y (s.height - 1) ≡ s.y = omega arith in
     subst (λ v. IsIdle w h v × IsKept w h place flags_after (Erases part x y) s v) there (
       ready-columns w h s u (columns_cleared part x y s.columns) ready ready.phase ready.text refl refl ready.sgr ready.top (ready.bottom ∙ sym height) (omega arith) sure same
-          (part-sized part x y s.columns ready.sized) (part-whole part w h x y flags s.columns x_in y_in ready.beyond behind uncut ready.whole) (part-beyond part w x y s.columns ready.beyond),
+          (part-sized part x y s.columns ready.sized) (part-whole part w h x y flags s.columns x_in y_in ready.beyond continuations uncut ready.whole) (part-beyond part w x y s.columns ready.beyond),
       record {
         cursor = ap₂ (λ i j. record { x = i; y = j }) cursor_x cursor_y ∙ at;
-        behind = AreBehind-along w h flags_after (columns_cleared part x y s.columns) u.columns same (cleared s.columns behind);
+        continuations = AreContinuations-along w h flags_after (columns_cleared part x y s.columns) u.columns same (cleared s.columns continuations);
         screens = λ written. record {
           rest = ap₂ (λ i j. record (screen_shown written s) { grid = λ a b. look_in (u.columns a b); cursor_x = i; cursor_y = j }) cursor_x cursor_y;
           grid = λ a b a_in b_in. ap look_in (same a b) ∙ emptied-look (is_cleared part x y a b) (s.columns a b);
@@ -281,12 +281,12 @@ module _ (w h : ℕ) (a b : List ℕ) (place : Position) (flags flags_after : Li
   clears-line-end sends = call-weaker w h a b place place flags flags_after (Erases UntilNewLine place.x place.y) (λ p q. Clears p UntilNewLine q) sends (λ written t q awaiting emptied.
       clears-from UntilNewLine UntilNewLine place.x place.y (screen_shown written (rested t)) q (λ i j. ap (λ (k : Position). is_cleared UntilNewLine k.x k.y i j) awaiting.placed) emptied)
 
-  shown-behind : (c : Column) → is_continuation c ≡ true → look_in c ≡ empty_look
-  shown-behind (Shows look index count) e = elim (index == 0) as (λ z. (if z then false else true) ≡ true → (if z then look else empty_look) ≡ empty_look) [
+  shown-continuation : (c : Column) → is_continuation c ≡ true → look_in c ≡ empty_look
+  shown-continuation (Shows look index count) e = elim (index == 0) as (λ z. (if z then false else true) ≡ true → (if z then look else empty_look) ≡ empty_look) [
     | true ↦ λ f. let none : ⊥ = cc in absurd none
     | false ↦ λ f. refl
   ] e
-  shown-behind Unknown e = refl
+  shown-continuation Unknown e = refl
 
   pub clears-before : (end : ℕ) → place.x ≤ end → end < w → ((k : ℕ) → place.x < k → k ≤ end → flag flags (place.y * w + k) ≡ true)
       → SendsCall w h a b place flags place flags_after (Erases BeforeCursor end place.y) → SendsCall w h a b place flags place flags_after (λ p q. Clears p BeforeCursor q)
@@ -297,12 +297,12 @@ module _ (w h : ℕ) (a b : List ℕ) (place : Position) (flags flags_after : Li
       let height : s.height ≡ h = awaiting.ready.height in
       record {
         rest = emptied.rest;
-        grid = λ i j i_in j_in. rw (x_at, y_at) (emptied.grid i j i_in j_in ∙ before s awaiting.behind i j (omega arith));
+        grid = λ i j i_in j_in. rw (x_at, y_at) (emptied.grid i j i_in j_in ∙ before s awaiting.continuations i j (omega arith));
       })
     where
       before : (s : Emulator) → AreContinuations w h flags s.columns → (i j : ℕ) → j < h
           → (if is_cleared BeforeCursor end place.y i j then empty_look else look_in (s.columns i j)) ≡ (if is_cleared BeforeCursor place.x place.y i j then empty_look else look_in (s.columns i j))
-      before s behind i j j_in = elim (is_cleared BeforeCursor place.x place.y i j) as (λ p. is_cleared BeforeCursor place.x place.y i j ≡ p → (if is_cleared BeforeCursor end place.y i j then empty_look else look_in (s.columns i j)) ≡ (if p then empty_look else look_in (s.columns i j))) [
+      before s continuations i j j_in = elim (is_cleared BeforeCursor place.x place.y i j) as (λ p. is_cleared BeforeCursor place.x place.y i j ≡ p → (if is_cleared BeforeCursor end place.y i j then empty_look else look_in (s.columns i j)) ≡ (if p then empty_look else look_in (s.columns i j))) [
         | true ↦ λ e. let f : is_cleared BeforeCursor end place.y i j ≡ true = grind (arith, nat_tests) in rw f refl
         | false ↦ λ e. elim (is_cleared BeforeCursor end place.y i j) as (λ r. is_cleared BeforeCursor end place.y i j ≡ r → (if r then empty_look else look_in (s.columns i j)) ≡ look_in (s.columns i j)) [
           | true ↦ λ f.
@@ -310,7 +310,7 @@ module _ (w h : ℕ) (a b : List ℕ) (place : Position) (flags flags_after : Li
               let low : place.x < i = grind (arith, nat_tests) in
               let high : i ≤ end = grind (arith, nat_tests) in
               let flagged : flag flags (j * w + i) ≡ true = ap (λ r. flag flags (r * w + i)) row ∙ rest i low high in
-              sym (shown-behind (s.columns i j) (sym (behind.each i j (omega arith) j_in) ∙ flagged))
+              sym (shown-continuation (s.columns i j) (sym (continuations.each i j (omega arith) j_in) ∙ flagged))
           | false ↦ λ f. refl
         ] refl
       ] refl

@@ -5,7 +5,7 @@ use Rattle.ratatui_core.specs.Backend.{Screen}
 use Rattle.ansi_model.specs.Emulator.{Emulator, rested, blank_terminal}
 use Rattle.ansi_model.specs.Sequences.{feed}
 use Rattle.ansi_model.specs.Screens.{screen_shown}
-use Rattle.ratatui_ansi.specs.Calls.{IsAwaiting}
+use Rattle.ratatui_ansi.specs.Tracker.{FitsScreen, IsAwaiting}
 use Rattle.ansi_model.specs.Beginnings.{IsAsFound, anew, with_rows_above}
 
 -- the writer, what it held as the backend began or began anew, where that is known, what it was sent since, and what of that after the last
@@ -38,13 +38,10 @@ shown_by b = screen_shown b.written (rested (reader b.size b.sent))
 abbrev pub IsReadAlike : Size → List ℕ → Type 0
 IsReadAlike size sent = (t : Emulator) → IsAsFound size.width size.height t → feed sent (anew t) ≡ with_rows_above t.history (reader size sent)
 
--- what a backend keeps is in order: a screen of some columns and rows, flags for all of them, also for a draft, and, unless a write failed, a
--- terminal that awaits the next call, with its cursor there and these flags, however it was left at first; no write failed where no call did
-pub record IsInOrder (size : Size) (cursor : Position) (behind draft : List Bool) (is_broken : Bool) (failures : ℕ) (sent : List ℕ) : Type 0 where
-  pub columns : 0 < size.width
-  pub rows : 0 < size.height
-  pub behind_count : length behind ≡ size.width * size.height
-  pub draft_count : length draft ≡ size.width * size.height
+-- what a backend keeps is in order: its tracker fits its screen, and unless a write failed, the new terminal that has read what was sent awaits
+-- the next call as it is tracked, however it was left at first; no write failed if no call did
+pub record IsInOrder (size : Size) (cursor : Position) (flags draft : List Bool) (is_broken : Bool) (failures : ℕ) (sent : List ℕ) : Type 0 where
+  pub tracker : FitsScreen size flags draft
   pub unfailed : failures ≡ 0 → is_broken ≡ false
-  pub awaiting : is_broken ≡ false → IsAwaiting size.width size.height cursor behind (reader size sent)
+  pub awaiting : is_broken ≡ false → IsAwaiting size.width size.height cursor flags (reader size sent)
   pub alike : is_broken ≡ false → IsReadAlike size sent

@@ -11,7 +11,7 @@ use Rattle.ratatui_ansi.specs.declared.frame.Refusal.TheVariants as Refused
 use Rattle.ansi_model.specs.declared.sgr.Sgr.{Sgr}
 use Rattle.ansi_model.specs.Columns.{Columns, blank_column, is_continuation}
 use Rattle.ansi_model.specs.Columns.Column.{Shows}
-use Rattle.ratatui_ansi.specs.Calls.{IsAwaiting}
+use Rattle.ratatui_ansi.specs.Tracker.{IsAwaiting}
 use Rattle.ratatui_ansi.specs.Flags.{AreContinuations, flag}
 use Rattle.ansi_model.specs.Sgr.{default_sgr, sgr_of}
 use Rattle.ansi_model.specs.Parameters.{is_sendable_by}
@@ -26,10 +26,10 @@ use Rattle.ratatui_ansi.specs.Drawing.{blanked, IsDrawnBy, Paints}
 -- the columns of a row from `from` up to `end` is a continuation column, and the column at `end` doesn't
 pub record IsTail (from end y : ℕ) (c : Columns) : Type 0 where
   pub ordered : from ≤ end
-  pub behind : (k : ℕ) → from ≤ k → k < end → is_continuation (c k y) ≡ true
+  pub continuations : (k : ℕ) → from ≤ k → k < end → is_continuation (c k y) ≡ true
   pub ended : is_continuation (c end y) ≡ false
 
--- the columns once a symbol of n columns stands in column x of row y, and blanks behind it up to column `end`
+-- the columns once a symbol of n columns stands in column x of row y, and blanks after it up to column `end`
 abbrev pub laid : ℕ → ℕ → ℕ → ℕ → Look → Columns → Columns
 laid x y n end look c a b =
     if run x y n a b then Shows look (a - x) n
@@ -78,13 +78,13 @@ IsUnsendableSgr colors place sgr _ = ⊥
 
 -- ---- draws
 
--- flags were set anew from the place `first` up to `end`: set up to `behind_it`, but for the first one
-pub record AreMarked (first behind_it end : ℕ) (flags after : List Bool) : Type 0 where
+-- flags were set anew from the place `first` up to `end`: set up to `after_it`, but for the first one
+pub record AreMarked (first past_it end : ℕ) (flags after : List Bool) : Type 0 where
   pub count : length after ≡ length flags
   pub each : (k : ℕ) → flag after k
-      ≡ (if nat_le first k && nat_lt k end then nat_lt first k && nat_lt k behind_it else flag flags k)
+      ≡ (if nat_le first k && nat_lt k end then nat_lt first k && nat_lt k past_it else flag flags k)
 
--- behind a symbol of n columns what is left of another one, up to column `end`, was emptied, and the flags are those of the symbol
+-- after a symbol of n columns what is left of another one, up to column `end`, was emptied, and the flags are those of the symbol
 pub record Covers (w x y n : ℕ) (old : List ℕ) (flags : List Bool) (before : Brush) (end : ℕ) (new : List ℕ) (flags_after : List Bool)
     (after : Brush) : Type 0 where
   pub ordered : x + n ≤ end
@@ -99,7 +99,7 @@ pub record Covers (w x y n : ℕ) (old : List ℕ) (flags : List Bool) (before :
 pub record IsDrawing (w h : ℕ) (d : Drawing) (flags : List Bool) (t : Emulator) : Type 0 where
   pub drawn : IsDrawnBy d.brush t
   pub ready : IsIdle w h (with_sgr default_sgr (rested t))
-  pub behind : AreContinuations w h flags (rested t).columns
+  pub continuations : AreContinuations w h flags (rested t).columns
   pub cursor : cursor_of (screen_shown d.written (rested t)) ≡ d.cursor
 
 -- bytes were appended that draw these updates, in order, on each terminal within such a draw

@@ -18,7 +18,7 @@ below_rows rows s = record s { history = rows ++ s.history }
 
 module _ {W : Type 0} where
   -- a terminal that was left so has read what was sent: real terminals don't differ on it, and it shows the backend's screen, its size,
-  -- columns, cursor and whether that is shown, and behind the rows that its history had those of the backend's. On the glass each row of the
+  -- columns, cursor and whether that is shown, and after the rows that its history had those of the backend's. On the glass each row of the
   -- backend's screen stands as it is that has no letters written from the right
   pub record IsReadBy (b : BackendState W) (t : Emulator) : Type 0 where
     pub sure : (rested (feed b.sent (anew t))).sure ≡ true
@@ -39,7 +39,7 @@ module _ {W : Type 0} where
   abbrev pub IsShownToAll : Sheet → BackendState W → Type 0
   IsShownToAll frame b = (t : Emulator) → IsAsFound b.size.width b.size.height t → IsShownToReader frame b t
 
-  -- from in step, behind any list of calls that answered Ok, and unless a write failed since the backend began or began anew, each terminal of
+  -- from in step, after any list of calls that answered Ok, and unless a write failed since the backend began or began anew, each terminal of
   -- its size that reads what was sent since shows the buffer that the last call left, however it was left before
   abbrev pub IsHeadlineOfBytes : State (BackendState W) → Type 0
   IsHeadlineOfBytes t = (s : State (BackendState W)) (events : List (Event (BackendState W))) → IsInStep shown_by s

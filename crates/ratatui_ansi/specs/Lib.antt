@@ -2,7 +2,7 @@ pub mod Flags
 pub mod Drawing
 pub mod Covered
 pub mod Frame
-pub mod Calls
+pub mod Tracker
 pub mod Errors
 pub mod Backend
 pub mod Refusals

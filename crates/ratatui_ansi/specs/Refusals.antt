@@ -11,8 +11,10 @@ use Rattle.ratatui_ansi.specs.declared.error.AnsiError.TheVariants.{Memory, Symb
 use Rattle.ratatui_ansi.specs.declared.frame.Drawing.{Drawing}
 use Rattle.ratatui_ansi.specs.declared.frame.Refusal.{Refusal}
 use Rattle.ratatui_ansi.specs.declared.frame.Refusal.TheVariants as Refused
+use Rattle.ratatui_ansi.specs.declared.tracker.Call.{Call}
+use Rattle.ratatui_ansi.specs.declared.tracker.Call.TheVariants as Called
 use Rattle.ratatui_ansi.specs.Backend.{BackendState}
-use Rattle.ratatui_ansi.specs.Calls.{IsAwaiting}
+use Rattle.ratatui_ansi.specs.Tracker.{IsAwaiting}
 use Rattle.ratatui_ansi.specs.Covered.{IsCovered}
 use Rattle.ratatui_ansi.specs.Errors.{error_of}
 use Rattle.ratatui_ansi.specs.Frame.{is_fit, IsVacant, IsOnScreenAt, RefusesUpdate, SendsUpdates}
@@ -88,6 +90,15 @@ IsOfClearing s (Write error) = Unit {0}
 IsOfClearing s (Cut p) = (p ≡ cursor_of s) × IsCovered s.grid p.x p.y
 IsOfClearing s _ = ⊥
 
+-- an error of a call that draws no cells
+abbrev pub IsOfCall : Call → Screen → AnsiError → Type 0
+IsOfCall (Called.Move p) s error = IsOfWriting error
+IsOfCall (Called.Show visible) s error = IsOfWriting error
+IsOfCall (Called.Append n) s error = IsOfWriting error
+IsOfCall (Called.ScrollUp region n) s error = IsOfWriting error
+IsOfCall (Called.ScrollDown region n) s error = IsOfWriting error
+IsOfCall (Called.Clear kind) s error = IsOfClearing s error
+
 -- ---- beginnings
 
 -- why a backend of this size doesn't begin: it has no columns or no rows, memory was refused, or a write failed
@@ -96,6 +107,12 @@ RefusesToBegin w h Size = (w ≡ 0) ⊎ (h ≡ 0)
 RefusesToBegin w h Memory = (0 < w) × (0 < h)
 RefusesToBegin w h (Write error) = (0 < w) × (0 < h)
 RefusesToBegin w h _ = ⊥
+
+-- why no blank screen of this size is tracked: it has no columns or no rows, or memory was refused
+abbrev pub RefusesTracker : ℕ → ℕ → AnsiError → Type 0
+RefusesTracker w h Size = (w ≡ 0) ⊎ (h ≡ 0)
+RefusesTracker w h Memory = (0 < w) × (0 < h)
+RefusesTracker w h _ = ⊥
 
 -- a backend that doesn't begin anew: memory was refused, which changes nothing, or a write failed
 abbrev pub FailsToRestart : {W : Type 0} → BackendState W → BackendState W → AnsiError → Type 0

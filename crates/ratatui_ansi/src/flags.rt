@@ -22,7 +22,7 @@ fn clear(flags: &mut [bool], from: usize, to: usize)
     }
 }
 
-// Moves flags up by so many places; false comes in behind them.
+// Moves flags up by so many places; false comes in after them.
 fn shift_up(flags: &mut [bool], by: usize)
     ensures { (k : ℕ) → flag flags.new k ≡ flag flags.old (k + by) }
 {
@@ -41,7 +41,7 @@ fn shift_down(flags: &mut [bool], by: usize)
     clear(flags, 0, count);
 }
 
-// Moves the flags from one place up to another up by so many places; false comes in behind them.
+// Moves the flags from one place up to another up by so many places; false comes in after them.
 fn shift_part_up(flags: &mut [bool], from: usize, to: usize, by: usize)
     requires order { from ≤ to }
     requires end { to ≤ length flags.old }
@@ -139,7 +139,7 @@ pub fn clear_part_flags(flags: &mut [bool], size: Size, part: ClearType, x: u16,
 }
 
 /// Whether the column in this place is a continuation column.
-pub fn is_flagged(flags: &[bool], size: Size, x: u16, y: u16) -> bool
+pub fn is_continuation(flags: &[bool], size: Size, x: u16, y: u16) -> bool
     requires count { length flags.now ≡ size.width * size.height }
     requires column { x < size.width }
     requires row { y < size.height }
@@ -155,11 +155,11 @@ pub fn symbol_end(flags: &[bool], size: Size, x: u16, y: u16) -> u16
     requires row { y < size.height }
     ensures from { x ≤ result }
     ensures column { result < size.width }
-    ensures behind { (k : ℕ) → x < k → k ≤ result → flag flags.now (y * size.width + k) ≡ true }
+    ensures continuations { (k : ℕ) → x < k → k ≤ result → flag flags.now (y * size.width + k) ≡ true }
     ensures ended { is_cut BeforeCursor size.width result y flags.now ≡ false }
 {
     let mut end = x;
-    while end + 1 < size.width && is_flagged(flags, size, end + 1, y) {
+    while end + 1 < size.width && is_continuation(flags, size, end + 1, y) {
         end += 1;
     }
     end

@@ -104,17 +104,17 @@ fn is_vacant(cell: &Cell) -> bool
 }
 
 // The first column from `from` on whose flag isn't set, or the row's end. The row begins at `start`.
-fn tail_end(behind: &[bool], start: usize, from: u16, width: u16) -> u16
-    requires row { start + width ≤ length behind.now }
+fn tail_end(continuations: &[bool], start: usize, from: u16, width: u16) -> u16
+    requires row { start + width ≤ length continuations.now }
     requires fits { from ≤ width }
     ensures low { from ≤ result }
     ensures high { result ≤ width }
-    ensures behind { (k : ℕ) → from ≤ k → k < result
-        → slice_index_or behind.now (start + k) false ≡ true }
-    ensures ended { result < width → slice_index_or behind.now (start + result) false ≡ false }
+    ensures continuations { (k : ℕ) → from ≤ k → k < result
+        → slice_index_or continuations.now (start + k) false ≡ true }
+    ensures ended { result < width → slice_index_or continuations.now (start + result) false ≡ false }
 {
     for column in from..width {
-        if !behind[start + usize::from(column)] {
+        if !continuations[start + usize::from(column)] {
             return column;
         }
     }
@@ -142,26 +142,26 @@ fn put_blanks(
     Ok(())
 }
 
-// Sets the flags of a symbol's columns, from the place `first` up to `behind_it`, and unsets those from there up to `end`.
+// Sets the flags of a symbol's columns, from the place `first` up to `after_it`, and unsets those from there up to `end`.
 #[inline(never)]
-fn mark(behind: &mut [bool], first: usize, behind_it: usize, end: usize)
+fn mark(continuations: &mut [bool], first: usize, past_it: usize, end: usize)
     requires ordered { first ≤ end }
-    requires row { end ≤ length behind.old }
-    ensures { (k : ℕ) → slice_index_or behind.new k false
-        ≡ if nat_le first k && nat_lt k end then nat_lt first k && nat_lt k behind_it
-        else slice_index_or behind.old k false }
+    requires row { end ≤ length continuations.old }
+    ensures { (k : ℕ) → slice_index_or continuations.new k false
+        ≡ if nat_le first k && nat_lt k end then nat_lt first k && nat_lt k past_it
+        else slice_index_or continuations.old k false }
 {
     for place in first..end {
-        behind[place] = first < place && place < behind_it;
+        continuations[place] = first < place && place < past_it;
     }
 }
 
 // Sets the flags of a symbol of so many columns, and empties what is left of another one of which it covers the first part.
-// Answers the column behind all these.
+// Answers the column after all these.
 #[inline(always)]
 fn cover(
     out: &mut String,
-    behind: &mut [bool],
+    continuations: &mut [bool],
     width: u16,
     brush: &mut Brush,
     x: u16,
@@ -170,22 +170,22 @@ fn cover(
 ) -> Result<u16, AllocError>
     requires some { 0 < columns }
     requires fits { x + columns ≤ width }
-    requires row { y * width + width ≤ length behind.old }
-    requires uncut { slice_index_or behind.old (y * width + x) false ≡ false }
-    ensures { IfOk result (λ end. Covers width x y columns (string_bytes out.old) behind.old
-        brush.old end (string_bytes out.new) behind.new brush.new) }
+    requires row { y * width + width ≤ length continuations.old }
+    requires uncut { slice_index_or continuations.old (y * width + x) false ≡ false }
+    ensures { IfOk result (λ end. Covers width x y columns (string_bytes out.old) continuations.old
+        brush.old end (string_bytes out.new) continuations.new brush.new) }
 {
     let start = usize::from(y) * usize::from(width);
-    let behind_it = x + columns;
-    let end = tail_end(behind, start, behind_it, width);
+    let past_it = x + columns;
+    let end = tail_end(continuations, start, past_it, width);
     if x + 1 < end {
-        if behind_it < end {
-            put_blanks(out, brush, behind_it, y, end)?;
+        if past_it < end {
+            put_blanks(out, brush, past_it, y, end)?;
         }
         mark(
-            behind,
+            continuations,
             start + usize::from(x),
-            start + usize::from(behind_it),
+            start + usize::from(past_it),
             start + usize::from(end),
         );
     }
@@ -263,7 +263,7 @@ fn take_sgr(
 #[inline(always)]
 fn draw_glyph(
     out: &mut String,
-    behind: &mut [bool],
+    continuations: &mut [bool],
     width: u16,
     has_underline_colors: bool,
     drawing: &mut Drawing,
@@ -272,15 +272,15 @@ fn draw_glyph(
     glyph: Glyph,
 ) -> Result<(), Refusal>
     requires column { place.x < width }
-    requires row { place.y * width + width ≤ length behind.old }
-    requires uncut { slice_index_or behind.old (place.y * width + place.x) false ≡ false }
+    requires row { place.y * width + width ≤ length continuations.old }
+    requires uncut { slice_index_or continuations.old (place.y * width + place.x) false ≡ false }
     requires glyph { IsGlyph (width - place.x) cell.now glyph }
     requires sgr { is_sendable_by has_underline_colors drawing.old.brush.sgr ≡ true }
     ensures drawn { OnOk result ((h n : ℕ) → place.y < h
         → drawing.old.written ≡ min (n + 1) (2 ^ 64 - 1)
         → SendsUpdates width h (string_bytes out.old) (record drawing.old { written = n })
-        behind.old (record { x = place.x; y = place.y; cell = cell.now } ∷ [])
-        (string_bytes out.new) drawing.new behind.new) }
+        continuations.old (record { x = place.x; y = place.y; cell = cell.now } ∷ [])
+        (string_bytes out.new) drawing.new continuations.new) }
     ensures sent { OnOk result (is_sendable_by has_underline_colors (sgr_of cell.now) ≡ true) }
     ensures sgr { OnOk result (is_sendable_by has_underline_colors drawing.new.brush.sgr ≡ true) }
     ensures refused { IfErr result (IsUnsendableSgr has_underline_colors place (sgr_of cell.now)) }
@@ -289,7 +289,7 @@ fn draw_glyph(
     let brush = &mut drawing.brush;
     take_sgr(out, brush, has_underline_colors, place, cell)?;
     put(out, brush, x, y, cell, glyph)?;
-    let end = cover(out, behind, width, brush, x, y, glyph.columns())?;
+    let end = cover(out, continuations, width, brush, x, y, glyph.columns())?;
     drawing.cursor = Position {
         x: end.min(width - 1),
         y,
@@ -297,14 +297,14 @@ fn draw_glyph(
     Ok(())
 }
 
-/// Draws a cell in a column and a row of a screen of so many columns and rows, and counts it. `behind` has a flag for each column,
+/// Draws a cell in a column and a row of a screen of so many columns and rows, and counts it. `after` has a flag for each column,
 /// row by row: whether it is a continuation column. Off the screen nothing is sent, and neither is a vacant cell
-/// behind the first column of a symbol, where it would tear the symbol. Refused with its place is a cell whose symbol terminals
+/// after the first column of a symbol, where it would tear the symbol. Refused with its place is a cell whose symbol terminals
 /// don't print as one in just the cell's columns, or not within its row; one whose rendition can't be sent; and one that would cut a
 /// symbol of which the first column stays.
 pub fn draw_cell(
     out: &mut String,
-    behind: &mut [bool],
+    continuations: &mut [bool],
     width: u16,
     height: u16,
     has_underline_colors: bool,
@@ -313,15 +313,15 @@ pub fn draw_cell(
     y: u16,
     cell: &Cell,
 ) -> Result<(), Refusal>
-    requires flags { length behind.old ≡ width * height }
+    requires flags { length continuations.old ≡ width * height }
     requires sgr { is_sendable_by has_underline_colors drawing.old.brush.sgr ≡ true }
     ensures drawn { OnOk result (SendsUpdates width height (string_bytes out.old)
-        drawing.old behind.old (record { x = x; y = y; cell = cell.now } ∷ [])
-        (string_bytes out.new) drawing.new behind.new) }
+        drawing.old continuations.old (record { x = x; y = y; cell = cell.now } ∷ [])
+        (string_bytes out.new) drawing.new continuations.new) }
     ensures sent { OnOk result (is_sendable_on width height has_underline_colors
         (record { x = x; y = y; cell = cell.now }) ≡ true) }
     ensures sgr { OnOk result (is_sendable_by has_underline_colors drawing.new.brush.sgr ≡ true) }
-    ensures refused { IfErr result (RefusesUpdate width height has_underline_colors behind.old
+    ensures refused { IfErr result (RefusesUpdate width height has_underline_colors continuations.old
         (record { x = x; y = y; cell = cell.now })) }
 {
     drawing.written = drawing.written.saturating_add(1);
@@ -329,7 +329,7 @@ pub fn draw_cell(
         return Ok(());
     }
     let place = Position { x, y };
-    if behind[usize::from(y) * usize::from(width) + usize::from(x)] {
+    if continuations[usize::from(y) * usize::from(width) + usize::from(x)] {
         if is_vacant(cell) {
             return Ok(());
         }
@@ -340,7 +340,7 @@ pub fn draw_cell(
         let glyph = Glyph::Plain(c);
         return draw_glyph(
             out,
-            behind,
+            continuations,
             width,
             has_underline_colors,
             drawing,
@@ -354,7 +354,7 @@ pub fn draw_cell(
     };
     draw_glyph(
         out,
-        behind,
+        continuations,
         width,
         has_underline_colors,
         drawing,
@@ -367,30 +367,30 @@ pub fn draw_cell(
 // Draws cells in order.
 fn draw_all<C: AsCell, I: Iterator<Item = (u16, u16, C)>>(
     out: &mut String,
-    behind: &mut [bool],
+    continuations: &mut [bool],
     width: u16,
     height: u16,
     has_underline_colors: bool,
     drawing: &mut Drawing,
     content: I,
 ) -> Result<(), Refusal>
-    requires flags { length behind.old ≡ width * height }
+    requires flags { length continuations.old ≡ width * height }
     requires sgr { is_sendable_by has_underline_colors drawing.old.brush.sgr ≡ true }
     requires can { I.can_next content }
     requires finite { IsFinite (I.remaining content) }
     ensures drawn { OnOk result ((items : List (ℕ × ℕ × C))
         × Drains I.next_gives content items
-        × SendsUpdates width height (string_bytes out.old) drawing.old behind.old
-        (map (update_by C.cell) items) (string_bytes out.new) drawing.new behind.new
+        × SendsUpdates width height (string_bytes out.old) drawing.old continuations.old
+        (map (update_by C.cell) items) (string_bytes out.new) drawing.new continuations.new
         × (list_all (is_sendable_on width height has_underline_colors)
         (map (update_by C.cell) items) ≡ true)) }
     ensures refused { IfErr result (StopsWithin I.next_gives content (update_by C.cell)
-        width height has_underline_colors (string_bytes out.old) drawing.old behind.old) }
+        width height has_underline_colors (string_bytes out.old) drawing.old continuations.old) }
 {
     for (x, y, cell) in content {
         draw_cell(
             out,
-            behind,
+            continuations,
             width,
             height,
             has_underline_colors,
@@ -403,12 +403,12 @@ fn draw_all<C: AsCell, I: Iterator<Item = (u16, u16, C)>>(
     Ok(())
 }
 
-/// Draws cells in order on a screen of so many columns and rows, with the cursor there and so many items drawn before; `behind` is
+/// Draws cells in order on a screen of so many columns and rows, with the cursor there and so many items drawn before; `after` is
 /// as in `draw_cell`. The terminal awaits text and is ready, and is so again. Answers where the cursor is then, and how many
 /// items were drawn, as far as the count goes; if ambiguous characters may be wide, each but ASCII is followed by a move; after a refusal what was appended and the flags are to be dropped.
 pub fn draw_cells<C: AsCell, I: Iterator<Item = (u16, u16, C)>>(
     out: &mut String,
-    behind: &mut [bool],
+    continuations: &mut [bool],
     width: u16,
     height: u16,
     has_underline_colors: bool,
@@ -417,18 +417,18 @@ pub fn draw_cells<C: AsCell, I: Iterator<Item = (u16, u16, C)>>(
     written: u64,
     content: I,
 ) -> Result<(Position, u64), Refusal>
-    requires flags { length behind.old ≡ width * height }
+    requires flags { length continuations.old ≡ width * height }
     requires can { I.can_next content }
     requires finite { IsFinite (I.remaining content) }
     ensures drawn { IfOk result (λ after. (items : List (ℕ × ℕ × C))
         × Drains I.next_gives content items
-        × SendsDraw width height (string_bytes out.old) cursor written behind.old
-        (map (update_by C.cell) items) (string_bytes out.new) after.0 after.1 behind.new
+        × SendsDraw width height (string_bytes out.old) cursor written continuations.old
+        (map (update_by C.cell) items) (string_bytes out.new) after.0 after.1 continuations.new
         × (list_all (is_sendable_on width height has_underline_colors)
         (map (update_by C.cell) items) ≡ true)) }
     ensures refused { IfErr result (λ refusal. IsTrue (has_place refusal)
         → StopsDraw I.next_gives content (update_by C.cell) width height has_underline_colors cursor
-        written behind.old refusal) }
+        written continuations.old refusal) }
 {
     let brush = Brush {
         sgr: Sgr::DEFAULT,
@@ -444,7 +444,7 @@ pub fn draw_cells<C: AsCell, I: Iterator<Item = (u16, u16, C)>>(
     };
     draw_all(
         out,
-        behind,
+        continuations,
         width,
         height,
         has_underline_colors,

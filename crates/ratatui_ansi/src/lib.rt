@@ -14,7 +14,7 @@ mod frame;
 pub mod laws;
 mod sender;
 mod sent;
-mod tracked;
+mod tracker;
 
 pub use backend::AnsiBackend;
 pub use checked::draw_for_all;

@@ -9,4 +9,4 @@ returns-clause-ok c =
     let place = c.args.place in
     let row : c.min.result ≡ min (place.y + c.args.n) (h - 1) = omega arith in
     rw row (call-from w h _ _ place _ _ _ _ _ (c.in_ok-append_lines.ensures w h c.requires.columns (omega arith))
-    (λ s t ready at behind became. append-kept w h c.args.n place _ _ s t ready at c.requires.row (rw c.saturating_sub.ensures at c.raise_flags.ensures) behind became))
+    (λ s t ready at continuations became. append-kept w h c.args.n place _ _ s t ready at c.requires.row (rw c.saturating_sub.ensures at c.raise_flags.ensures) continuations became))

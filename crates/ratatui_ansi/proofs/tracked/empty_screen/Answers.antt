@@ -8,5 +8,5 @@ returns-clause-ok c =
     let w = c.args.size.width in
     let h = c.args.size.height in
     let place = c.args.place in
-    call-from w h _ _ place place c.args.behind.now _ _ _ (c.in_ok-clear_screen.ensures (omega arith) (omega arith))
-    (λ s t ready at behind became. emptied-kept w h place c.args.behind.now _ s t (rows_emptied h s.columns) at (c.clear_flags.ensures w h s.columns behind) became)
+    call-from w h _ _ place place c.args.continuations.now _ _ _ (c.in_ok-clear_screen.ensures (omega arith) (omega arith))
+    (λ s t ready at continuations became. emptied-kept w h place c.args.continuations.now _ s t (rows_emptied h s.columns) at (c.clear_flags.ensures w h s.columns continuations) became)

@@ -7,4 +7,4 @@ returns c = λ place flags.
     let h = c.args.size.height in
     rw (c.min.ensures, c.min-2.ensures)
     (call-from w h _ _ place _ flags flags _ _ (c.in_ok-set_cursor_position.ensures w h c.requires.columns c.requires.rows)
-    (λ s t ready at behind became. cursor-kept w h c.args.position.x c.args.position.y flags s t ready behind became))
+    (λ s t ready at continuations became. cursor-kept w h c.args.position.x c.args.position.y flags s t ready continuations became))

@@ -10,4 +10,4 @@ returns-clause-ok c =
     let wide : 0 < w = omega arith in
     let high : 0 < h = omega arith in
     call-from w h _ _ place place _ _ _ _ (Turns-then w h _ _ _ _ _ (c.in_ok-scroll_region_up.ensures w wide) (c.in_ok-set_cursor_position.ensures w h wide high))
-    (λ s u ready at behind both. up-kept w h place _ _ c.requires.column c.requires.row s u ready at c.args.region.start c.args.region.end c.args.n c.raise_flags.ensures behind both)
+    (λ s u ready at continuations both. up-kept w h place _ _ c.requires.column c.requires.row s u ready at c.args.region.start c.args.region.end c.args.n c.raise_flags.ensures continuations both)

@@ -10,7 +10,7 @@ invariant_of-self-2 g c =
     let kept = c.self.invariant.0 in
     let blank = blank-sent (c.in_ok-make_blank.ensures kept.columns kept.rows) c.clear.ensures.bytes c.renew.ensures.sent c.as_str.ensures.value c.in-Ok.ensures.sent in
     let after = begun blank kept.columns kept.rows c.unset_flags.ensures kept.draft_count in
-    (in-order-by _ (with_items_is b.behind flags (count-kept flags kept.behind_count after.behind_count lent.value lent.len)) after, λ _. c.in-Ok.ensures.tied c.renew.ensures.tied)
+    (in-order-by _ (with_items_is b.continuations flags (count-kept flags kept.count after.count lent.value lent.len)) after, λ _. c.in-Ok.ensures.tied c.renew.ensures.tied)
 
 pub returns-clause-blank : goal.returns-clause-blank
 returns-clause-blank g c =

@@ -13,8 +13,8 @@ invariant_of-self-2 g c =
     let copied = c.copy_from_slice.ensures.after ∙ c.as_slice.ensures.value in
     let drawn = rw (c.clear.ensures.bytes, copied) at c.in_ok-cursor.ensures.drawn in
     let after = in-order-drawn b.sender.sent.bytes c.self.invariant.0 c.if-self.false drawn.2 sent in
-    let count = count-kept c.draw_cells.new.behind c.self.invariant.0.draft_count after.behind_count lent.value lent.len in
-    let taken = ap (λ v. v.items) c.swap.ensures.x_after ∙ with_items_is b.draft c.draw_cells.new.behind count in
+    let count = count-kept c.draw_cells.new.continuations c.self.invariant.0.draft_count after.count lent.value lent.len in
+    let taken = ap (λ v. v.items) c.swap.ensures.x_after ∙ with_items_is b.draft c.draw_cells.new.continuations count in
     let kept = ap (λ v. v.items) c.swap.ensures.y_after in
     (rw (taken, kept) after, λ _. c.in-Ok.ensures.tied (c.self.invariant.1 c.if-self.false))
 
@@ -25,8 +25,8 @@ invariant_of-self-in-Err g c =
     let copied = c.copy_from_slice.ensures.after ∙ c.as_slice.ensures.value in
     let drawn = rw copied at c.in_ok-cursor.ensures.drawn in
     let flags = drawn-count drawn.2 (c.self.invariant.0.awaiting c.if-self.false) in
-    let count = count-kept c.draw_cells.new.behind c.self.invariant.0.draft_count flags lent.value lent.len in (
-      in-order-broken c.saturating_add-self-inside.ensures refl (ap length (with_items_is b.draft c.draw_cells.new.behind count) ∙ flags ∙ sym c.self.invariant.0.draft_count) c.self.invariant.0,
+    let count = count-kept c.draw_cells.new.continuations c.self.invariant.0.draft_count flags lent.value lent.len in (
+      in-order-broken c.saturating_add-self-inside.ensures refl (ap length (with_items_is b.draft c.draw_cells.new.continuations count) ∙ flags ∙ sym c.self.invariant.0.draft_count) c.self.invariant.0,
       λ whole. let h : ⊥ = cc in absurd h,
     )
 

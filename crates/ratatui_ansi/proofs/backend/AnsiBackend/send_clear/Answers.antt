@@ -14,8 +14,8 @@ invariant_of-self-2 g c =
     let lent = c.as_mut_slice-behind.ensures in
     let sent = c.in-Ok.ensures.sent ∙ ap (λ xs. b.sender.sent.bytes ++ xs) c.as_str.ensures.value in
     let after = in-order-on b.sender.sent.bytes c.self.invariant.0 c.if-self.false (rw (c.clear.ensures.bytes, lent.value) at c.in_ok-clear_region.ensures.ok) sent in
-    let flags = c.clear_region.new.behind in (
-      in-order-by _ (with_items_is b.behind flags (count-kept flags c.self.invariant.0.behind_count after.behind_count lent.value lent.len)) after,
+    let flags = c.clear_region.new.continuations in (
+      in-order-by _ (with_items_is b.continuations flags (count-kept flags c.self.invariant.0.count after.count lent.value lent.len)) after,
       λ _. c.in-Ok.ensures.tied (c.self.invariant.1 c.if-self.false),
     )
 
