@@ -58,9 +58,9 @@ in-order-still {size} {place} {flags} kept whole same = record {
 }
 
 -- a call that failed to be sent
-pub in-order-broken : {size : Size} {sent : List ℕ} {place : Position} {flags draft : List Bool} {failures after : ℕ} → after ≡ min (failures + 1) (2 ^ 64 - 1) → FitsScreen size flags draft
+pub in-order-broken : {size : Size} {sent : List ℕ} {place : Position} {flags draft : List Bool} (failures : ℕ) {after : ℕ} → after ≡ min (failures + 1) (2 ^ 64 - 1) → FitsScreen size flags draft
     → IsInOrder size place flags draft true after sent
-in-order-broken {failures = failures} count fits = record {
+in-order-broken failures count fits = record {
   tracker = fits;
   unfailed = λ none. absurd (omega arith);
   awaiting = λ whole. let h : ⊥ = cc in absurd h;
@@ -143,7 +143,7 @@ begun {size} {k} {sent} {failures} begins blank =
     subst (λ s. IsInOrder s k.cursor k.continuations.items k.draft.items false failures sent) (sym begins.size)
     (subst (λ p. IsInOrder size p k.continuations.items k.draft.items false failures sent) (sym begins.cursor) order)
 
-pub blank-shown : (size : Size) (sent : List ℕ) → MakesBlank size.width size.height [] sent → IsBlankScreen size.width size.height (screen_shown 0 (rested (reader size sent)))
+blank-shown : (size : Size) (sent : List ℕ) → MakesBlank size.width size.height [] sent → IsBlankScreen size.width size.height (screen_shown 0 (rested (reader size sent)))
 blank-shown size sent blank =
     let column : min 0 (size.width - 1) ≡ 0 = omega arith in
     subst (λ t. IsBlankScreen size.width size.height (screen_shown 0 (rested t))) (sym (blank-read size sent blank)) (record {
@@ -155,3 +155,9 @@ blank-shown size sent blank =
       visible = refl;
       written = refl;
     })
+
+pub blank-shown-by : {size : Size} {k : Tracker} {sent : List ℕ} → BeginsBlank size k → MakesBlank size.width size.height [] sent
+    → IsBlankScreen size.width size.height (screen_shown k.written (rested (reader k.size sent)))
+blank-shown-by {size} {k} {sent} begins blank =
+    subst (λ n. IsBlankScreen size.width size.height (screen_shown n (rested (reader k.size sent)))) (sym begins.written)
+    (subst (λ s. IsBlankScreen size.width size.height (screen_shown 0 (rested (reader s sent)))) (sym begins.size) (blank-shown size sent blank))

@@ -146,7 +146,7 @@ cuts-none x y w h width height former next g before u after diff settled_former 
           let look : seen start u.y ≡ look_of c = sym final ∙ ap₂ all at row ∙ shown.look is.unskipped in
           let over : printed_columns (seen start u.y).symbol ≡ printed_columns (look_of c).symbol = ap (λ (look : Look). printed_columns look.symbol) look in
           let wide : width_of c ≡ printed_columns (look_of c).symbol = ordinary-width c is.unforced (omega arith) in
-          elim (settled.continuations j own.b own.a j_in own.in_rows is.unskipped (omega arith) (omega arith)) [
+          elim (settled.behind j own.b own.a j_in own.in_rows is.unskipped (omega arith) (omega arith)) [
             | inl blank ↦ record {
               look = ap look_of own.own ∙ same_look (cell_at w next own.a own.b) empty_cell blank ∙ look-empty;
               width = ap width_of own.own ∙ same_width (cell_at w next own.a own.b) empty_cell blank ∙ width-empty;

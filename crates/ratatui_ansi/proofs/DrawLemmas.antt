@@ -6,14 +6,11 @@ use Rattle.std.specs.Str.{is_utf8}
 use Rattle.std.proofs.lemmas.Bool.Decides.{nat_tests}
 use Rattle.std.proofs.lemmas.List.Folds.{list_all-append}
 use Rattle.std.proofs.lemmas.Str.{chars-nil, chars-append, chars-encodes, encodes-chars, IsUtf8-encode, IsUtf8-append, IsUtf8-nil, IsUtf8-from_is_utf8, is_utf8-from_IsUtf8}
-use Rattle.unicode_width.specs.Width.{char_width}
-use Rattle.unicode_segmentation.specs.Grapheme.{graphemes}
 use Rattle.ratatui_core.specs.Buffer.{text_width}
 use Rattle.ansi_model.specs.declared.sgr.Sgr.{Sgr}
 use Rattle.ratatui_ansi.specs.declared.drawing.Brush.{Brush}
-use Rattle.ansi_model.specs.declared.glyph.Printing.TheVariants.{Plain, Whole, Unprinted}
 use Rattle.ansi_model.specs.Emulator.{Emulator, standing, rested, printed, prints, types, cursor_moved}
-use Rattle.ansi_model.specs.Symbols.{is_plain_char, is_shown, has_columns, is_symbol, is_single, begins_anew, only_of, is_one_plain, is_printed, printing_by, printing_of, printed_columns}
+use Rattle.ansi_model.specs.Symbols.{is_plain_char, is_shown, has_columns, is_symbol, is_single, begins_anew, only_of, is_one_plain, is_printed, printed_columns}
 use Rattle.ansi_model.specs.Emulator.Phase.{Ground}
 use Rattle.ansi_model.specs.Sequences.{feed}
 use Rattle.ansi_model.specs.Sends.{Sends, Performs, typed}

@@ -1,21 +1,25 @@
 -- What refused calls leave, and where a draw stops.
-use Rattle.std.proofs.Common.{◌≡◌, ℕ, ◌+◌, ◌*◌, ◌<◌, Bool, true, false, IsTrue, List, map, Option, Result, Ok, Err, IsErr, IsErrAnd, IfErr, refl, sym, subst, ◌∙◌}
+use Rattle.std.proofs.Common.{◌≡◌, ℕ, ◌+◌, ◌*◌, ◌<◌, Bool, true, false, IsTrue, List, map, Option, Result, Ok, Err, IsErr, IsErrAnd, IfErr, OnOk, refl, sym, subst, ◌∙◌}
 use Rattle.std.proofs.lemmas.Bool.{false≢true}
 use Rattle.ratatui_core.specs.Layout.{Position}
+use Rattle.ratatui_core.specs.Layout as layout
 use Rattle.ratatui_core.specs.Buffer.{Update}
 use Rattle.ratatui_core.specs.Backend.{Draws, ClearType, All, AfterCursor, BeforeCursor, CurrentLine, UntilNewLine}
 use Rattle.ratatui_ansi.specs.declared.error.AnsiError.{AnsiError}
-use Rattle.ratatui_ansi.specs.declared.error.AnsiError.TheVariants.{Cut}
+use Rattle.ratatui_ansi.specs.declared.error.AnsiError.TheVariants.{Memory, Symbol, Style, Cut, Size, Broken, Write}
+use Rattle.ratatui_ansi.specs.declared.tracker.Tracker.{Tracker}
+use Rattle.ratatui_ansi.specs.declared.tracker.Call.{Call}
+use Rattle.ratatui_ansi.specs.declared.tracker.Call.TheVariants as Called
 use Rattle.ratatui_ansi.specs.declared.frame.Drawing.{Drawing}
 use Rattle.ratatui_ansi.specs.declared.frame.Refusal.{Refusal}
 use Rattle.ratatui_ansi.specs.declared.frame.Refusal.TheVariants as Refused
 use Rattle.ratatui_ansi.specs.Backend.{BackendState}
-use Rattle.ratatui_ansi.specs.Tracker.{IsAwaiting}
+use Rattle.ratatui_ansi.specs.Tracker.{IsAwaiting, IsTracked, IsUncollected}
 use Rattle.ratatui_ansi.specs.Errors.{error_of}
 use Rattle.ratatui_ansi.specs.Flags.{flag, is_clear_cut}
 use Rattle.ratatui_ansi.specs.Frame.{RefusesUpdate, IsDrawing}
 use Rattle.ansi_model.specs.Sgr.{default_sgr}
-use Rattle.ratatui_ansi.specs.Refusals.{IsOfClearing, IsUnsent, FailsBy, Answers, names_cell, has_place, IsRefusedOn, StopsWithin, StopsDraw}
+use Rattle.ratatui_ansi.specs.Refusals.{IsOfClearing, IsOfCall, FailsToResize, IsUnsent, FailsBy, Answers, names_cell, has_place, IsRefusedOn, StopsWithin, StopsDraw}
 use Rattle.ansi_model.specs.Screens.{screen_shown}
 use Rattle.ansi_model.specs.Sequences.{feed}
 use Rattle.ansi_model.specs.Emulator.{Emulator, rested}
@@ -106,3 +110,32 @@ refusal-leaves was old new refusal same whole still =
     by_refusal (Refused.Symbol p) = (whole, still)
     by_refusal (Refused.Style p) = (whole, still)
     by_refusal (Refused.Cut p) = (whole, still)
+
+-- a backend that takes its own size again keeps it
+pub size-stays : {W A : Type 0} (answer : Result A AnsiError) (size : layout.Size) (old new : BackendState W) → OnOk answer (new.size ≡ size) → IfErr answer (FailsToResize size old new) → old.size ≡ size → new.size ≡ size
+size-stays (Ok x) size old new same fails own = same
+size-stays (Err Memory) size old new same fails own = fails.size ∙ own
+size-stays (Err (Symbol p)) size old new same fails own = absurd fails
+size-stays (Err (Style p)) size old new same fails own = absurd fails
+size-stays (Err (Cut p)) size old new same fails own = absurd fails
+size-stays (Err Size) size old new same fails own = fails.1.size ∙ own
+size-stays (Err Broken) size old new same fails own = absurd fails
+size-stays (Err (Write error)) size old new same fails own = fails.1 ∙ own
+
+-- why a call wasn't sent
+pub uncollected-why : (k : Tracker) (t : Emulator) (call : Call) (written : ℕ) (refusal : Refusal) → 0 < k.size.width → IsTracked k t → IsUncollected call k refusal → IsOfCall call (screen_shown written (rested t)) (error_of refusal)
+uncollected-why k t (Called.Move p) written Refused.Memory wide is why = tt
+uncollected-why k t (Called.Show visible) written Refused.Memory wide is why = tt
+uncollected-why k t (Called.Append n) written Refused.Memory wide is why = tt
+uncollected-why k t (Called.ScrollUp region n) written Refused.Memory wide is why = tt
+uncollected-why k t (Called.ScrollDown region n) written Refused.Memory wide is why = tt
+uncollected-why k t (Called.Clear kind) written Refused.Memory wide is why = tt
+uncollected-why k t call written (Refused.Symbol p) wide is why = absurd why
+uncollected-why k t call written (Refused.Style p) wide is why = absurd why
+uncollected-why k t (Called.Move q) written (Refused.Cut p) wide is why = absurd why.1
+uncollected-why k t (Called.Show visible) written (Refused.Cut p) wide is why = absurd why.1
+uncollected-why k t (Called.Append n) written (Refused.Cut p) wide is why = absurd why.1
+uncollected-why k t (Called.ScrollUp region n) written (Refused.Cut p) wide is why = absurd why.1
+uncollected-why k t (Called.ScrollDown region n) written (Refused.Cut p) wide is why = absurd why.1
+uncollected-why k t (Called.Clear kind) written (Refused.Cut p) wide is why =
+    subst (λ q. IsOfClearing (screen_shown written (rested t)) (Cut q)) (sym why.0) (cut-is-covered written kind wide is why.1)

@@ -1,16 +1,18 @@
 -- From what bytes do to a ready terminal to what a backend keeps of it.
-use Rattle.std.proofs.Common.{◌≡◌, ℕ, ◌+◌, ◌-◌, ◌*◌, ◌<◌, ◌≤◌, ◌++◌, ◌&&◌, ◌||◌, ◌==◌, min, nat_lt, nat_le, nat_eq, if◌then◌else◌, Bool, List, true, false, refl, sym, ap, ap₂, ◌∙◌, arith, append_assoc, subst}
+use Rattle.std.proofs.Common.{◌≡◌, ℕ, ◌+◌, ◌-◌, ◌*◌, ◌<◌, ◌≤◌, ◌++◌, ◌&&◌, ◌||◌, ◌==◌, min, nat_lt, nat_le, nat_eq, if◌then◌else◌, Bool, List, length, true, false, string_bytes, refl, sym, ap, ap₂, ◌∙◌, arith, append_assoc, subst}
 use Rattle.std.proofs.lemmas.Bool.Decides.{nat_tests}
-use Rattle.ratatui_core.specs.Layout.{Position}
-use Rattle.ratatui_core.specs.Buffer.{empty_look}
-use Rattle.ratatui_core.specs.Backend.{Screen, ScrollsUp, ScrollsDown, Appends, Clears, with_cursor, with_visible, cursor_of, ClearType, All, AfterCursor, BeforeCursor, CurrentLine, UntilNewLine, is_cleared}
+use Rattle.ratatui_core.specs.Layout.{Position, Size}
+use Rattle.ratatui_core.specs.Buffer.{empty_look, Update}
+use Rattle.ratatui_core.specs.Backend.{Screen, Draws, ScrollsUp, ScrollsDown, Appends, Clears, with_cursor, with_visible, cursor_of, ClearType, All, AfterCursor, BeforeCursor, CurrentLine, UntilNewLine, is_cleared}
 use Rattle.ansi_model.specs.Columns.{Column, Columns, look_in, is_continuation, blank_column}
 use Rattle.ansi_model.specs.Columns.Column.{Shows, Unknown}
 use Rattle.ansi_model.specs.Emulator.{Emulator, rested, rows_raised, rows_lowered, columns_cleared, cursor_moved, erased, keeps_history}
 use Rattle.ansi_model.specs.Sequences.{feed}
 use Rattle.ansi_model.specs.Screens.{screen_shown, IsIdle, Turns, Becomes}
 use Rattle.ratatui_ansi.specs.Flags.{flag, AreContinuations, is_cut}
-use Rattle.ratatui_ansi.specs.Tracker.{IsAwaiting, SendsCall, Erases}
+use Rattle.ratatui_ansi.specs.declared.tracker.Tracker.{Tracker}
+use Rattle.ratatui_ansi.specs.Frame.{SendsDraw}
+use Rattle.ratatui_ansi.specs.Tracker.{IsAwaiting, IsTracked, IsTracker, SendsCall, Collects, Erases}
 use Rattle.ansi_model.proofs.ReadLemmas.{feed-append}
 use Rattle.ratatui_ansi.proofs.FlagLemmas.{AreContinuations-along}
 use Rattle.ratatui_ansi.proofs.EraseLemmas.{part-erased, part-whole, part-sized, part-beyond}
@@ -240,77 +242,119 @@ part-kept w h x y part place flags flags_after x_in y_in at_x at_y uncut history
       },
     )
 
--- ---- the five clears
+-- ---- what a tracker keeps
 
-pub call-weaker : (w h : ℕ) (a b : List ℕ) (place place_after : Position) (flags flags_after : List Bool) (first second : Screen → Screen → Type 0) → SendsCall w h a b place flags place_after flags_after first
-    → ((written : ℕ) (t : Emulator) (q : Screen) → IsAwaiting w h place flags t → first (screen_shown written (rested t)) q → second (screen_shown written (rested t)) q)
-    → SendsCall w h a b place flags place_after flags_after second
-call-weaker w h a b place place_after flags flags_after first second sends weaker = record {
-  bytes = sends.bytes;
-  appended = sends.appended;
-  awaiting = sends.awaiting;
-  shows = λ written t awaiting. weaker written t (screen_shown written (rested (feed sends.bytes t))) awaiting (sends.shows written t awaiting);
+module _ (old new : Tracker) (place : Position) (written : ℕ) (flags : List Bool) {related : Screen → Screen → Type 0} (is : IsTracker old)
+    (rest : new ≡ record old { out = new.out; cursor = place; written = written; continuations = new.continuations; draft = new.draft })
+    (draft : length new.draft.items ≡ old.size.width * old.size.height) (same : new.continuations.items ≡ flags) (count : length flags ≡ length old.continuations.items) where
+  -- bytes that keep a tracked terminal so were collected
+  gathers : (bytes : List ℕ) → string_bytes new.out ≡ string_bytes old.out ++ bytes
+      → ((t : Emulator) → IsTracked old t → IsAwaiting old.size.width old.size.height place flags (feed bytes t))
+      → ((t : Emulator) → IsTracked old t → related (screen_shown old.written (rested t)) (screen_shown written (rested (feed bytes t)))) → Collects old related new
+  gathers bytes appended tracks shows =
+      let size : new.size ≡ old.size = ap (λ (k : Tracker). k.size) rest in
+      record {
+        tracker = record {
+          columns = subst (λ (s : Size). 0 < s.width) (sym size) is.columns;
+          rows = subst (λ (s : Size). 0 < s.height) (sym size) is.rows;
+          count = ap length same ∙ count ∙ is.count ∙ ap (λ (s : Size). s.width * s.height) (sym size);
+          draft_count = draft ∙ ap (λ (s : Size). s.width * s.height) (sym size);
+        };
+        size = size;
+        colors = ap (λ (k : Tracker). k.has_underline_colors) rest;
+        ambiguous = ap (λ (k : Tracker). k.ambiguous_is_wide) rest;
+        bytes = bytes;
+        appended = appended;
+        tracks = λ t awaits.
+            subst (λ (s : Size). IsAwaiting s.width s.height new.cursor new.continuations.items (feed bytes t)) (sym size)
+            (subst (λ p. IsAwaiting old.size.width old.size.height p new.continuations.items (feed bytes t)) (sym (ap (λ (k : Tracker). k.cursor) rest))
+            (subst (λ xs. IsAwaiting old.size.width old.size.height place xs (feed bytes t)) (sym same) (tracks t awaits)));
+        shows = λ t awaits. subst (λ n. related (screen_shown old.written (rested t)) (screen_shown n (rested (feed bytes t)))) (sym (ap (λ (k : Tracker). k.written) rest)) (shows t awaits);
+      }
+
+-- a call that draws no cells was collected
+pub collected : (old new : Tracker) (place : Position) (flags : List Bool) {related : Screen → Screen → Type 0} → IsTracker old
+    → new ≡ record old { out = new.out; cursor = place; continuations = new.continuations } → new.continuations.items ≡ flags → length flags ≡ length old.continuations.items
+    → SendsCall old.size.width old.size.height (string_bytes old.out) (string_bytes new.out) old.cursor old.continuations.items place flags related → Collects old related new
+collected old new place flags is rest same count sends =
+    let draft : new.draft ≡ old.draft = ap (λ (k : Tracker). k.draft) rest in
+    let whole : new ≡ record old { out = new.out; cursor = place; written = old.written; continuations = new.continuations; draft = new.draft }
+    = rest ∙ ap (λ d. record old { out = new.out; cursor = place; continuations = new.continuations; draft = d }) (sym draft) in
+    gathers old new place old.written flags is whole (ap (λ (k : Tracker). length k.draft.items) rest ∙ is.draft_count) same count sends.bytes sends.appended sends.awaiting (sends.shows old.written)
+
+-- a draw was
+pub drawn-collected : (old new : Tracker) (place : Position) (written : ℕ) (flags : List Bool) {us : List Update} → IsTracker old
+    → new ≡ record old { out = new.out; cursor = place; written = written; continuations = new.continuations; draft = new.draft } → new.draft.items ≡ old.continuations.items → new.continuations.items ≡ flags
+    → length flags ≡ length old.continuations.items → SendsDraw old.size.width old.size.height (string_bytes old.out) old.cursor old.written old.continuations.items us (string_bytes new.out) place written flags
+    → Collects old (λ s t. Draws s us t) new
+drawn-collected old new place written flags is rest draft same count sends =
+    gathers old new place written flags is rest (ap length draft ∙ is.count) same count sends.bytes sends.appended sends.awaiting sends.draws
+
+-- ---- the clears
+
+weaker : (old new : Tracker) (first second : Screen → Screen → Type 0) → Collects old first new
+    → ((t : Emulator) (q : Screen) → IsTracked old t → first (screen_shown old.written (rested t)) q → second (screen_shown old.written (rested t)) q) → Collects old second new
+weaker old new first second call follows = record {
+  tracker = call.tracker;
+  size = call.size;
+  colors = call.colors;
+  ambiguous = call.ambiguous;
+  bytes = call.bytes;
+  appended = call.appended;
+  tracks = call.tracks;
+  shows = λ t awaits. follows t (screen_shown new.written (rested (feed call.bytes t))) awaits (call.shows t awaits);
 }
 
-clears-from : (kind : ClearType) (part : ClearType) (x y : ℕ) (p q : Screen) → ((a b : ℕ) → is_cleared kind p.cursor_x p.cursor_y a b ≡ is_cleared part x y a b) → Erases part x y p q → Clears p kind q
-clears-from kind part x y p q same emptied = record {
-  rest = emptied.rest;
-  grid = λ a b a_in b_in. rw (same a b) (emptied.grid a b a_in b_in);
-}
+clears-by : (kind done : ClearType) (x y : ℕ) (p q : Screen) → ((a b : ℕ) → b < p.height → (if is_cleared done x y a b then empty_look else p.grid a b) ≡ (if is_cleared kind p.cursor_x p.cursor_y a b then empty_look else p.grid a b))
+    → Erases done x y p q → Clears p kind q
+clears-by kind done x y p q same erased = record { rest = erased.rest; grid = λ a b a_in b_in. erased.grid a b a_in b_in ∙ same a b b_in }
 
-module _ (w h : ℕ) (a b : List ℕ) (place : Position) (flags flags_after : List Bool) where
-  pub clears-all-after : place ≡ record { x = 0; y = 0 } → SendsCall w h a b place flags place flags_after (λ p q. Clears p All q) → SendsCall w h a b place flags place flags_after (λ p q. Clears p AfterCursor q)
-  clears-all-after corner sends = call-weaker w h a b place place flags flags_after (λ p q. Clears p All q) (λ p q. Clears p AfterCursor q) sends (λ written t q awaiting cleared.
-      let p : Screen = screen_shown written (rested t) in
-      let x : p.cursor_x ≡ 0 = ap (λ (k : Position). k.x) (awaiting.placed ∙ corner) in
-      let y : p.cursor_y ≡ 0 = ap (λ (k : Position). k.y) (awaiting.placed ∙ corner) in
-      record {
-        rest = cleared.rest;
-        grid = λ i j i_in j_in. rw (x, y) (let e : (nat_lt 0 j || (nat_eq j 0 && nat_le 0 i)) ≡ true = grind (arith, nat_tests) in rw e (cleared.grid i j i_in j_in));
-      })
+pub clears-at : (old new : Tracker) (kind : ClearType) → Collects old (Erases kind old.cursor.x old.cursor.y) new → Collects old (λ p q. Clears p kind q) new
+clears-at old new kind call = weaker old new (Erases kind old.cursor.x old.cursor.y) (λ p q. Clears p kind q) call (λ t q awaits erased.
+    clears-by kind kind old.cursor.x old.cursor.y (screen_shown old.written (rested t)) q
+    (λ i j j_in. ap (λ (k : Position). if is_cleared kind k.x k.y i j then empty_look else look_in ((rested t).columns i j)) (sym awaits.placed)) erased)
 
-  pub clears-after : SendsCall w h a b place flags place flags_after (Erases AfterCursor place.x place.y) → SendsCall w h a b place flags place flags_after (λ p q. Clears p AfterCursor q)
-  clears-after sends = call-weaker w h a b place place flags flags_after (Erases AfterCursor place.x place.y) (λ p q. Clears p AfterCursor q) sends (λ written t q awaiting emptied.
-      clears-from AfterCursor AfterCursor place.x place.y (screen_shown written (rested t)) q (λ i j. ap (λ (k : Position). is_cleared AfterCursor k.x k.y i j) awaiting.placed) emptied)
+pub clears-corner : (old new : Tracker) → old.cursor.x ≡ 0 → old.cursor.y ≡ 0 → Collects old (λ p q. Clears p All q) new → Collects old (λ p q. Clears p AfterCursor q) new
+clears-corner old new at_x at_y call = weaker old new (λ p q. Clears p All q) (λ p q. Clears p AfterCursor q) call (λ t q awaits cleared.
+    let p : Screen = screen_shown old.written (rested t) in
+    let x : p.cursor_x ≡ 0 = ap (λ (k : Position). k.x) awaits.placed ∙ at_x in
+    let y : p.cursor_y ≡ 0 = ap (λ (k : Position). k.y) awaits.placed ∙ at_y in
+    record {
+      rest = cleared.rest;
+      grid = λ i j i_in j_in. rw (x, y) (let e : (nat_lt 0 j || (nat_eq j 0 && nat_le 0 i)) ≡ true = grind (arith, nat_tests) in rw e (cleared.grid i j i_in j_in));
+    })
 
-  pub clears-line : SendsCall w h a b place flags place flags_after (Erases CurrentLine place.x place.y) → SendsCall w h a b place flags place flags_after (λ p q. Clears p CurrentLine q)
-  clears-line sends = call-weaker w h a b place place flags flags_after (Erases CurrentLine place.x place.y) (λ p q. Clears p CurrentLine q) sends (λ written t q awaiting emptied.
-      clears-from CurrentLine CurrentLine place.x place.y (screen_shown written (rested t)) q (λ i j. ap (λ (k : Position). is_cleared CurrentLine k.x k.y i j) awaiting.placed) emptied)
+shown-continuation : (c : Column) → is_continuation c ≡ true → look_in c ≡ empty_look
+shown-continuation (Shows look index count) e = elim (index == 0) as (λ z. (if z then false else true) ≡ true → (if z then look else empty_look) ≡ empty_look) [
+  | true ↦ λ f. let none : ⊥ = cc in absurd none
+  | false ↦ λ f. refl
+] e
+shown-continuation Unknown e = refl
 
-  pub clears-line-end : SendsCall w h a b place flags place flags_after (Erases UntilNewLine place.x place.y) → SendsCall w h a b place flags place flags_after (λ p q. Clears p UntilNewLine q)
-  clears-line-end sends = call-weaker w h a b place place flags flags_after (Erases UntilNewLine place.x place.y) (λ p q. Clears p UntilNewLine q) sends (λ written t q awaiting emptied.
-      clears-from UntilNewLine UntilNewLine place.x place.y (screen_shown written (rested t)) q (λ i j. ap (λ (k : Position). is_cleared UntilNewLine k.x k.y i j) awaiting.placed) emptied)
+-- up to the end of the symbol at the cursor, whose other columns show nothing of their own
+module _ (w h end : ℕ) (place : Position) (flags : List Bool) (from : place.x ≤ end) (inside : end < w) (rest : (k : ℕ) → place.x < k → k ≤ end → flag flags (place.y * w + k) ≡ true) where
+  before : (s : Emulator) → AreContinuations w h flags s.columns → (i j : ℕ) → j < h
+      → (if is_cleared BeforeCursor end place.y i j then empty_look else look_in (s.columns i j)) ≡ (if is_cleared BeforeCursor place.x place.y i j then empty_look else look_in (s.columns i j))
+  before s continuations i j j_in = elim (is_cleared BeforeCursor place.x place.y i j) as (λ p. is_cleared BeforeCursor place.x place.y i j ≡ p → (if is_cleared BeforeCursor end place.y i j then empty_look else look_in (s.columns i j)) ≡ (if p then empty_look else look_in (s.columns i j))) [
+    | true ↦ λ e. let f : is_cleared BeforeCursor end place.y i j ≡ true = grind (arith, nat_tests) in rw f refl
+    | false ↦ λ e. elim (is_cleared BeforeCursor end place.y i j) as (λ r. is_cleared BeforeCursor end place.y i j ≡ r → (if r then empty_look else look_in (s.columns i j)) ≡ look_in (s.columns i j)) [
+      | true ↦ λ f.
+          let row : j ≡ place.y = grind (arith, nat_tests) in
+          let low : place.x < i = grind (arith, nat_tests) in
+          let high : i ≤ end = grind (arith, nat_tests) in
+          let flagged : flag flags (j * w + i) ≡ true = ap (λ r. flag flags (r * w + i)) row ∙ rest i low high in
+          sym (shown-continuation (s.columns i j) (sym (continuations.each i j (omega arith) j_in) ∙ flagged))
+      | false ↦ λ f. refl
+    ] refl
+  ] refl
 
-  shown-continuation : (c : Column) → is_continuation c ≡ true → look_in c ≡ empty_look
-  shown-continuation (Shows look index count) e = elim (index == 0) as (λ z. (if z then false else true) ≡ true → (if z then look else empty_look) ≡ empty_look) [
-    | true ↦ λ f. let none : ⊥ = cc in absurd none
-    | false ↦ λ f. refl
-  ] e
-  shown-continuation Unknown e = refl
-
-  pub clears-before : (end : ℕ) → place.x ≤ end → end < w → ((k : ℕ) → place.x < k → k ≤ end → flag flags (place.y * w + k) ≡ true)
-      → SendsCall w h a b place flags place flags_after (Erases BeforeCursor end place.y) → SendsCall w h a b place flags place flags_after (λ p q. Clears p BeforeCursor q)
-  clears-before end from inside rest sends = call-weaker w h a b place place flags flags_after (Erases BeforeCursor end place.y) (λ p q. Clears p BeforeCursor q) sends (λ written t q awaiting emptied.
-      let s : Emulator = rested t in
-      let x_at : min s.x (s.width - 1) ≡ place.x = ap (λ (k : Position). k.x) awaiting.placed in
-      let y_at : s.y ≡ place.y = ap (λ (k : Position). k.y) awaiting.placed in
-      let height : s.height ≡ h = awaiting.ready.height in
-      record {
-        rest = emptied.rest;
-        grid = λ i j i_in j_in. rw (x_at, y_at) (emptied.grid i j i_in j_in ∙ before s awaiting.continuations i j (omega arith));
-      })
-    where
-      before : (s : Emulator) → AreContinuations w h flags s.columns → (i j : ℕ) → j < h
-          → (if is_cleared BeforeCursor end place.y i j then empty_look else look_in (s.columns i j)) ≡ (if is_cleared BeforeCursor place.x place.y i j then empty_look else look_in (s.columns i j))
-      before s continuations i j j_in = elim (is_cleared BeforeCursor place.x place.y i j) as (λ p. is_cleared BeforeCursor place.x place.y i j ≡ p → (if is_cleared BeforeCursor end place.y i j then empty_look else look_in (s.columns i j)) ≡ (if p then empty_look else look_in (s.columns i j))) [
-        | true ↦ λ e. let f : is_cleared BeforeCursor end place.y i j ≡ true = grind (arith, nat_tests) in rw f refl
-        | false ↦ λ e. elim (is_cleared BeforeCursor end place.y i j) as (λ r. is_cleared BeforeCursor end place.y i j ≡ r → (if r then empty_look else look_in (s.columns i j)) ≡ look_in (s.columns i j)) [
-          | true ↦ λ f.
-              let row : j ≡ place.y = grind (arith, nat_tests) in
-              let low : place.x < i = grind (arith, nat_tests) in
-              let high : i ≤ end = grind (arith, nat_tests) in
-              let flagged : flag flags (j * w + i) ≡ true = ap (λ r. flag flags (r * w + i)) row ∙ rest i low high in
-              sym (shown-continuation (s.columns i j) (sym (continuations.each i j (omega arith) j_in) ∙ flagged))
-          | false ↦ λ f. refl
-        ] refl
-      ] refl
+pub clears-before : (old new : Tracker) (end : ℕ) → old.cursor.x ≤ end → end < old.size.width
+    → ((k : ℕ) → old.cursor.x < k → k ≤ end → flag old.continuations.items (old.cursor.y * old.size.width + k) ≡ true)
+    → Collects old (Erases BeforeCursor end old.cursor.y) new → Collects old (λ p q. Clears p BeforeCursor q) new
+clears-before old new end from inside rest call = weaker old new (Erases BeforeCursor end old.cursor.y) (λ p q. Clears p BeforeCursor q) call (λ t q awaits erased.
+    let s : Emulator = rested t in
+    let x_at : min s.x (s.width - 1) ≡ old.cursor.x = ap (λ (k : Position). k.x) awaits.placed in
+    let y_at : s.y ≡ old.cursor.y = ap (λ (k : Position). k.y) awaits.placed in
+    let height : s.height ≡ old.size.height = awaits.ready.height in
+    clears-by BeforeCursor BeforeCursor end old.cursor.y (screen_shown old.written s) q
+    (λ i j j_in. rw (x_at, y_at) (before old.size.width old.size.height end old.cursor old.continuations.items from inside rest s awaits.continuations i j (omega arith))) erased)

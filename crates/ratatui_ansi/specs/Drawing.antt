@@ -4,11 +4,9 @@ use Rattle.std.specs.List.{list_all}
 use Rattle.ratatui_core.specs.Buffer.{blank, text_width}
 use Rattle.ansi_model.specs.declared.sgr.Sgr.{Sgr}
 use Rattle.ratatui_ansi.specs.declared.drawing.Brush.{Brush}
-use Rattle.ansi_model.specs.declared.glyph.Printing.{Printing}
-use Rattle.ansi_model.specs.declared.glyph.Printing.TheVariants.{Plain, Whole, Unprinted}
 use Rattle.ansi_model.specs.Sgr.{default_sgr}
 use Rattle.ansi_model.specs.Emulator.{Emulator, rested, prints, with_sgr}
-use Rattle.ansi_model.specs.Symbols.{is_plain_char, is_symbol}
+use Rattle.ansi_model.specs.Symbols.{is_plain_char, printed_columns}
 use Rattle.ansi_model.specs.Emulator.Phase.{Ground}
 use Rattle.ansi_model.specs.Sequences.{feed}
 use Rattle.ansi_model.specs.Sends.{Performs}

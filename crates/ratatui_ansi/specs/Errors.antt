@@ -20,5 +20,5 @@ ansi_error_text (Write error) = None
 abbrev pub error_of : Refusal → AnsiError
 error_of Refused.Memory = Memory
 error_of (Refused.Symbol p) = Symbol p
-error_of (Refused.Style p) = Sgr p
+error_of (Refused.Style p) = Style p
 error_of (Refused.Cut p) = Cut p

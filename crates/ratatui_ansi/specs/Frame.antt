@@ -16,7 +16,7 @@ use Rattle.ratatui_ansi.specs.Flags.{AreContinuations, flag}
 use Rattle.ansi_model.specs.Sgr.{default_sgr, sgr_of}
 use Rattle.ansi_model.specs.Parameters.{is_sendable_by}
 use Rattle.ansi_model.specs.Emulator.{Emulator, rested, with_sgr, run}
-use Rattle.ansi_model.specs.Symbols.{is_plain_char, is_printed, printed_columns}
+use Rattle.ansi_model.specs.Symbols.{is_printed, printed_columns, IsGlyphOf}
 use Rattle.ansi_model.specs.Sequences.{feed}
 use Rattle.ansi_model.specs.Screens.{screen_shown, IsIdle}
 use Rattle.ratatui_ansi.specs.Drawing.{blanked, IsDrawnBy, Paints}

@@ -124,7 +124,7 @@ FailsToRestart old new _ = ⊥
 abbrev pub FailsToResize : {W : Type 0} → layout.Size → BackendState W → BackendState W → AnsiError → Type 0
 FailsToResize size old new Size = ((size.width ≡ 0) ⊎ (size.height ≡ 0)) × IsUnsent old new
 FailsToResize size old new Memory = IsUnsent old new
-FailsToResize size old new (Write error) = new.is_broken ≡ true
+FailsToResize size old new (Write error) = (new.is_broken ≡ true) × (new.size ≡ old.size)
 FailsToResize size old new _ = ⊥
 
 -- ---- cells that aren't drawn

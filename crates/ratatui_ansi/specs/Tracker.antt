@@ -70,13 +70,13 @@ pub record KeepsTracked (old new : Tracker) : Type 0 where
   pub draft_count : length new.draft.items ≡ length old.draft.items
 
 -- a blank screen of this size is tracked, and what makes a terminal show it was collected
-pub record BeginsBlank (size : Size) (k : Tracker) : Type 0 where
+pub record BeginsBlank (given : Size) (k : Tracker) : Type 0 where
   pub tracker : IsTracker k
-  pub size : k.size ≡ size
+  pub size : k.size ≡ given
   pub cursor : k.cursor ≡ record { x = 0; y = 0 }
-  pub continuations : AreContinuations size.width size.height k.continuations.items (λ a b. blank_column)
+  pub continuations : AreContinuations given.width given.height k.continuations.items (λ a b. blank_column)
   pub written : k.written ≡ 0
-  pub blank : MakesBlank size.width size.height [] (string_bytes k.out)
+  pub blank : MakesBlank given.width given.height [] (string_bytes k.out)
 
 -- what a call does to the screen
 abbrev pub CallDoes : Call → Screen → Screen → Type 0

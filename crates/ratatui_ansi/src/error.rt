@@ -57,6 +57,7 @@ impl From<AllocError> for AnsiError {
 }
 
 impl From<Refusal> for AnsiError {
+    ghost use Rattle.std.specs.Prelude.{◌≡◌};
     ghost use Rattle.ratatui_ansi.specs.Errors.{error_of};
 
     ghost from_gives = { λ refusal error. error ≡ error_of refusal };

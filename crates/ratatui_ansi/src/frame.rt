@@ -1,6 +1,6 @@
 //! Cells in their places, as a backend draws them.
 
-ghost use Rattle.std.specs.Prelude.{◌≡◌, ℕ, ◌+◌, ◌-◌, ◌*◌, ◌^◌, ◌<◌, ◌≤◌, ◌&&◌, min, nat_lt, nat_le, if◌then◌else◌, true, false, IsTrue, ◌↔◌, IfOk, IfErr, IfSome, OnOk, OnErr, List, [], ◌∷◌, map, length, slice_index_or, string_bytes, MatchOption, ◌==◌};
+ghost use Rattle.std.specs.Prelude.{◌≡◌, ℕ, ◌+◌, ◌-◌, ◌*◌, ◌^◌, ◌<◌, ◌≤◌, ◌&&◌, min, nat_lt, nat_le, if◌then◌else◌, true, false, IsTrue, ◌↔◌, IfOk, IfErr, IfSome, OnOk, OnErr, List, [], ◌∷◌, map, length, slice_index_or, string_bytes, MatchOption, ◌==◌, IsUtf8};
 ghost use Rattle.std.specs.List.{list_all};
 ghost use Rattle.std.specs.Iterator.{IsFinite, Drains};
 ghost use Rattle.ratatui_core.specs.Buffer.{blank, symbol_text, text_width, width_of, update_by, Cell};
@@ -55,7 +55,8 @@ impl From<AllocError> for Refusal {
 
 // Whether a cell takes just the columns in which its symbol is printed.
 fn takes(cell: &Cell, columns: u16) -> bool
-    requires { columns ≡ printed_columns (symbol_text cell.now.symbol) }
+    requires columns { columns ≡ printed_columns (symbol_text cell.now.symbol) }
+    requires utf8 { IsUtf8 (symbol_text cell.now.symbol) }
     ensures { result ≡ (columns == width_of cell.now) }
 {
     match cell.diff_option {

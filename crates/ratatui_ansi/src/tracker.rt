@@ -300,7 +300,9 @@ impl Tracker {
             self.old.has_underline_colors) (map (update_by C.cell) items) ≡ true)) }
         ensures err { OnErr result (KeepsTracked self.old self.new) }
         ensures stopped { IfErr result (λ refusal. IsTrue (has_place refusal)
-            → StopsDraw I.next_gives content (update_by C.cell) self.old refusal) }
+            → StopsDraw I.next_gives content (update_by C.cell) self.old.size.width
+            self.old.size.height self.old.has_underline_colors self.old.cursor self.old.written
+            self.old.continuations.items refusal) }
     {
         let draft = self.draft.as_mut_slice();
         draft.copy_from_slice(self.continuations.as_slice());
