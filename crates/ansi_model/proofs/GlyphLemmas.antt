@@ -103,25 +103,7 @@ other-printed : (text : List ℕ) (c : ℕ) → is_plain_char c ≡ false → Is
 other-printed text c other utf8 only =
     rw (one-single text c only, only, is_utf8-from_IsUtf8 text utf8, other) (shown-by (is_shown c) (nat_lt 0 (columns_of_char c)))
 
-pub hidden-printed : (text : List ℕ) (c : ℕ) → is_plain_char c ≡ false → is_shown c ≡ false → IsUtf8 text → chars text ≡ c ∷ [] → is_printed text ≡ false
-hidden-printed text c other hidden utf8 only = other-printed text c other utf8 only ∙ rw hidden refl
-
-pub joined-printed : (text : List ℕ) (c : ℕ) → is_plain_char c ≡ false → columns_of_char c ≡ 0 → IsUtf8 text → chars text ≡ c ∷ [] → is_printed text ≡ false
-joined-printed text c other no_columns utf8 only = other-printed text c other utf8 only ∙ rw no_columns (none (is_shown c))
-
 pub whole-glyph : (text : List ℕ) (c : ℕ) → is_plain_char c ≡ false → is_shown c ≡ true → (nat_eq (columns_of_char c) 0) ≡ false → IsUtf8 text → chars text ≡ c ∷ [] → IsGlyphOf text (Whole (columns_of_char c))
 whole-glyph text c other shown some utf8 only =
     let test : nat_lt 0 (columns_of_char c) ≡ true = grind (arith, nat_tests) in
     record { printed = other-printed text c other utf8 only ∙ rw (shown, test) refl; columns = rw (only, other) (sym (other-columns text c shown other utf8 only)); plain = tt }
-
--- ---- a text of several characters, or of none
-
-pub several-glyph : (text : List ℕ) (n : ℕ) → only_of (chars text) ≡ None → is_symbol text ≡ true → list_all is_plain_char (chars text) ≡ false → n ≡ text_width text → IsGlyphOf text (Whole n)
-several-glyph text n only symbol other width = record {
-  printed = rw (none-single (chars text) only, symbol, other) refl;
-  columns = width ∙ rw (none-single (chars text) only) refl;
-  plain = tt;
-}
-
-pub several-plain : (text : List ℕ) → only_of (chars text) ≡ None → list_all is_plain_char (chars text) ≡ true → is_printed text ≡ false
-several-plain text only plain = rw (none-single (chars text) only, plain) (none (is_symbol text))

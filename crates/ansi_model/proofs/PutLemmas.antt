@@ -14,7 +14,7 @@ none_between f k zero e = refl
 none_between f k (suc n) e = rw (e k (omega arith) (omega arith), none_between f (k + 1) n (λ j low high. e j (omega arith) (omega arith))) refl
 
 -- a later column of a symbol lies after its first
-later-continues : (look : Look) (j count : ℕ) (c : Column) → c ≡ Shows look j count → 0 < j → is_continuation c ≡ false → ⊥
+pub later-continues : (look : Look) (j count : ℕ) (c : Column) → c ≡ Shows look j count → 0 < j → is_continuation c ≡ false → ⊥
 later-continues look j count c e some not =
     let zero : (j == 0) ≡ false = grind (arith, nat_tests) in
     let shown : is_continuation c ≡ true = ap is_continuation e ∙ rw zero refl in

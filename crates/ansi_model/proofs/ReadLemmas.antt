@@ -233,10 +233,3 @@ feeds-more a b c k first next =
       appended = both.appended;
       read = λ t ground. both.read t ground ∙ ap line_fed (sym (rests t)) ∙ sym (fed-more k (returned (rested t))) ∙ ap (λ n. fed n (returned (rested t))) e;
     }
-
-pub feeds-all : (a b : List ℕ) (k n : ℕ) → k ≡ n → Performs a b (λ t. fed k (returned t)) → Performs a b (λ t. fed n (returned t))
-feeds-all a b k n e first = record {
-  bytes = first.bytes;
-  appended = first.appended;
-  read = λ t ground. first.read t ground ∙ ap (λ m. fed m (returned (rested t))) e;
-}

@@ -19,7 +19,7 @@ use Rattle.ansi_model.specs.Sequences.{feed, performs}
 use Rattle.ansi_model.specs.Parameters.{color_parameters, underline_parameters, modifier_parameters, modifier_parameter, sgr_parameters, semicolons, sgr_bytes, is_underline, is_sendable, AddsParameters}
 use Rattle.ansi_model.specs.Sends.{Performs}
 use Rattle.ansi_model.proofs.ReadLemmas.{feed-append, number-read, begun}
-use Rattle.ansi_model.proofs.TextLemmas.{and-both}
+use Rattle.ansi_model.proofs.TextLemmas.{and-both, and-true}
 
 fits : (p : ℕ) → nat_lt p 256 ≡ true → p < 2 ^ 64
 fits p small =
@@ -37,15 +37,6 @@ Parameters-then a b c ps qs first second = record {
   appended = second.appended ∙ ap (λ xs. xs ++ semicolons qs) first.appended ∙ append_assoc a (semicolons ps) (semicolons qs) ∙ ap (λ xs. a ++ xs) (sym (semicolons-append ps qs));
   small = list_all-append (λ p. nat_lt p 256) ps qs ∙ rw (first.small, second.small) refl;
 }
-
--- one parameter
-pub parameter-sendable : (n byte : ℕ) (old mid new semicolon : List ℕ) → mid ≡ old ++ semicolon → semicolon ≡ 59 ∷ [] → new ≡ mid ++ decimal byte → byte ≡ n → n < 256 → AddsParameters old new (n ∷ [])
-parameter-sendable n byte old mid new semicolon first is second same small =
-    let below : nat_lt n 256 ≡ true = grind (arith, nat_tests) in
-    record {
-      appended = second ∙ ap₂ (λ xs k. xs ++ decimal k) (first ∙ ap (λ xs. old ++ xs) is) same ∙ append_assoc old (59 ∷ []) (decimal n) ∙ ap (λ ds. old ++ (59 ∷ ds)) (sym (append-nil (decimal n)));
-      small = rw below refl;
-    }
 
 -- written parameters are the ones that a sequence performs
 pub parameters-read : (ps : List ℕ) → list_all (λ p. nat_lt p 256) ps ≡ true → (done : List ℕ) (n : ℕ) (t : Emulator)
@@ -334,10 +325,6 @@ sgr-known p sent small =
     known-append m (f ++ (b ++ u)) Nothing (modifiers-known (bits_of p.modifier))
     (known-append f (b ++ u) Nothing (fg-known p.fg two.0) (known-append b u Nothing (bg-known p.bg three.0) (underline-known p.underline_color sent three.1)))
 
-still-sure : (b : Bool) → (b && true) ≡ b
-still-sure true = refl
-still-sure false = refl
-
 -- a rendition that can be sent is read back
 sgr-read : (p : Sgr) (t : Emulator) → bits_of p.modifier < 512 → IsTrue (is_underline p.underline_color) → list_all (λ q. nat_lt q 256) (sgr_parameters p) ≡ true → t.phase ≡ Ground
     → feed (sgr_bytes p) t ≡ with_sgr p (rested t)
@@ -348,7 +335,7 @@ sgr-read p t bits sent small ground =
     begun (48 ∷ (semicolons ps ++ 109 ∷ [])) t ground
     ∙ parameters-read ps small [] 0 s
     ∙ ap₂ (λ known (i : Inking). if_so known (with_sgr i.sgr s)) (sgr-known p sent small) (inks-reset ps s.sgr ∙ inks-sgr p bits sent)
-    ∙ ap (λ sure. record (with_sgr p s) { sure = sure }) (still-sure s.sure)
+    ∙ ap (λ sure. record (with_sgr p s) { sure = sure }) (and-true s.sure)
 
 -- the bytes of a rendition that can be sent set it
 pub sgr-sent : (p : Sgr) (old mid new : List ℕ) → IsTrue (is_sendable p) → AddsParameters (old ++ (27 ∷ 91 ∷ 48 ∷ [])) mid (sgr_parameters p) → new ≡ mid ++ 109 ∷ [] → Performs old new (with_sgr p)

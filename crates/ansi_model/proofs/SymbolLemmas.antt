@@ -16,7 +16,7 @@ use Rattle.ansi_model.specs.Emulator.Phase.{Ground}
 use Rattle.ansi_model.specs.Sequences.{feed}
 use Rattle.ansi_model.specs.Sends.{Sends, Performs, typed}
 use Rattle.ansi_model.proofs.ReadLemmas.{Sends-then}
-use Rattle.ansi_model.proofs.TextLemmas.{and-both, one-single}
+use Rattle.ansi_model.proofs.TextLemmas.{and-both, and-true, one-single}
 
 -- how plain characters are printed one after the other
 types-append : (xs ys : List ℕ) (t : Emulator) → types (xs ++ ys) t ≡ types ys (types xs t)
@@ -31,10 +31,6 @@ printed-plain : (xs : List ℕ) (t : Emulator) → list_all is_plain_char (chars
 printed-plain [] t e = ap (λ cs. types cs t) (sym chars-nil)
 printed-plain (x ∷ xs) t e = rw e refl
 
-and-true : (b : Bool) → (b && true) ≡ b
-and-true true = refl
-and-true false = refl
-
 -- a text of one plain character
 pub one-char : (cs : List ℕ) → is_one_plain cs ≡ true → (c : ℕ) × ((cs ≡ c ∷ []) × (is_plain_char c ≡ true))
 one-char [] e = let h : ⊥ = cc in absurd h
@@ -46,13 +42,6 @@ one-char (c ∷ d ∷ cs) e =
 
 plain-shown : (c : ℕ) → is_plain_char c ≡ true → is_shown c ≡ true
 plain-shown c plain = grind (arith, nat_tests)
-
-pub none-single : (cs : List ℕ) → only_of cs ≡ None → is_one_plain cs ≡ false
-none-single [] e = refl
-none-single (c ∷ []) e = let h : ⊥ = cc in absurd h
-none-single (c ∷ d ∷ cs) e =
-    let two : (length (c ∷ d ∷ cs) == 1) ≡ false = grind (arith, nat_tests) in
-    rw two refl
 
 -- a symbol is text in UTF-8
 pub symbol-utf8 : (symbol : List ℕ) → is_symbol symbol ≡ true → IsUtf8 symbol

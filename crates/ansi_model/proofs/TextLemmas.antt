@@ -71,9 +71,9 @@ encodes-text (c ∷ cs) all =
     let text : is_text c ≡ true = grind (arith, nat_tests) in
     list_all-append is_text (encode c) (encodes cs) ∙ rw (encode-text c text, encodes-text cs both.1) refl
 
-last : (b : Bool) → (b && true) ≡ b
-last true = refl
-last false = refl
+pub and-true : (b : Bool) → (b && true) ≡ b
+and-true true = refl
+and-true false = refl
 
 pub none : (b : Bool) → (b && false) ≡ false
 none true = refl
@@ -99,7 +99,7 @@ one-single text c one = rw one refl
 
 -- what the characters of a text say of it
 pub symbol-then : (text : List ℕ) → IsUtf8 text → begins_anew (chars text) ≡ true → is_symbol text ≡ (list_all is_shown (chars text) && is_single (graphemes true text))
-symbol-then text utf8 begins = rw (is_utf8-from_IsUtf8 text utf8, begins) (ap (λ b. b && is_single (graphemes true text)) (last (list_all is_shown (chars text))))
+symbol-then text utf8 begins = rw (is_utf8-from_IsUtf8 text utf8, begins) (ap (λ b. b && is_single (graphemes true text)) (and-true (list_all is_shown (chars text))))
 
 pub symbol-else : (text : List ℕ) → begins_anew (chars text) ≡ false → is_symbol text ≡ false
 symbol-else text begins = rw begins (ap (λ b. b && is_single (graphemes true text)) (none (is_utf8 text && list_all is_shown (chars text))))

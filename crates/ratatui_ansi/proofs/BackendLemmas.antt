@@ -57,28 +57,6 @@ in-order-still {size} {place} {flags} kept whole same = record {
   alike = λ _. subst (IsReadAlike size) (sym same) (kept.alike whole);
 }
 
--- a call that failed to be sent
-pub in-order-broken : {size : Size} {sent : List ℕ} {place : Position} {flags draft : List Bool} (failures : ℕ) {after : ℕ} → after ≡ min (failures + 1) (2 ^ 64 - 1) → FitsScreen size flags draft
-    → IsInOrder size place flags draft true after sent
-in-order-broken failures count fits = record {
-  tracker = fits;
-  unfailed = λ none. absurd (omega arith);
-  awaiting = λ whole. let h : ⊥ = cc in absurd h;
-  alike = λ whole. let h : ⊥ = cc in absurd h;
-}
-
--- a call that wasn't collected
-pub in-order-kept : {old new : Tracker} {sent : List ℕ} {broken : Bool} {failures after : ℕ} → KeepsTracked old new → after ≡ min (failures + 1) (2 ^ 64 - 1)
-    → IsInOrder old.size old.cursor old.continuations.items old.draft.items broken failures sent → IsInOrder new.size new.cursor new.continuations.items new.draft.items broken after sent
-in-order-kept {old} {new} {sent} {broken} {failures} {after} keeps count kept =
-    let still : IsInOrder old.size old.cursor old.continuations.items new.draft.items broken after sent = record {
-      tracker = record { columns = kept.tracker.columns; rows = kept.tracker.rows; count = kept.tracker.count; draft_count = keeps.draft_count ∙ kept.tracker.draft_count };
-      unfailed = λ none. absurd (omega arith);
-      awaiting = kept.awaiting;
-      alike = kept.alike;
-    } in
-    subst (λ (k : Tracker). IsInOrder k.size k.cursor k.continuations.items new.draft.items broken after sent) (sym keeps.rest) still
-
 -- the cursor stands on the screen
 pub cursor-column : {w h : ℕ} {place : Position} {flags : List Bool} {t : Emulator} → 0 < w → IsAwaiting w h place flags t → place.x < w
 cursor-column {w} {place = place} {t = t} some awaits =

@@ -11,17 +11,7 @@ use Rattle.ansi_model.specs.Emulator.{columns_cleared}
 use Rattle.ansi_model.specs.Screens.{HasOwnWidth, HaveOwnWidths, IsWhole, IsWholeAt, IsBlankBeyond}
 use Rattle.ratatui_ansi.specs.Flags.{AreContinuations, is_cut}
 use Rattle.ansi_model.proofs.TextLemmas.{blank-sized}
-
-none_between : (f : ℕ → Bool) (k n : ℕ) → ((j : ℕ) → k ≤ j → j < k + n → f j ≡ false) → list_any f (range_with_len k n) ≡ false
-none_between f k zero e = refl
-none_between f k (suc n) e = rw (e k (omega arith) (omega arith), none_between f (k + 1) n (λ j low high. e j (omega arith) (omega arith))) refl
-
--- a later column of a symbol lies after its first
-later-continues : (look : Look) (j count : ℕ) (c : Column) → c ≡ Shows look j count → 0 < j → is_continuation c ≡ false → ⊥
-later-continues look j count c e some not =
-    let zero : (j == 0) ≡ false = grind (arith, nat_tests) in
-    let shown : is_continuation c ≡ true = ap is_continuation e ∙ rw zero refl in
-    cc
+use Rattle.ansi_model.proofs.PutLemmas.{none_between, later-continues}
 
 -- a symbol that begins left of a column that isn't after ends there, and one that has a column right of such an end begins after it
 ends-before : (row : ℕ → Column) (x a i m k : ℕ) (look : Look) → IsWholeAt row a (Shows look i m) → is_continuation (row x) ≡ false → a < x → k < (a - i) + m → k < x

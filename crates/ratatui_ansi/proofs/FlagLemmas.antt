@@ -12,9 +12,6 @@ use Rattle.ansi_model.specs.Emulator.{rows_raised, rows_lowered, rows_emptied, c
 use Rattle.ratatui_core.specs.Backend.{is_cleared, ClearType, AfterCursor, BeforeCursor, CurrentLine, UntilNewLine}
 use Rattle.ratatui_ansi.specs.Flags.{flag, AreContinuations}
 
-pub flag-set : (flags : List Bool) (i j : ℕ) (v : Bool) → i < length flags → flag (set flags i v) j ≡ if nat_eq j i then v else flag flags j
-flag-set flags i j v inside = grind (arith, common_steps)
-
 pub past_end : (flags : List Bool) (k : ℕ) → length flags ≤ k → flag flags k ≡ false
 past_end flags k past = get_or_past flags k false past
 
@@ -116,25 +113,6 @@ AreContinuations-along w h flags c d same continuations = record { count = conti
 -- ---- flags that were cleared
 
 module _ (w h : ℕ) (old new : List Bool) (c : Columns) (same : length new ≡ length old) (continuations : AreContinuations w h old c) where
-  pub emptied-flags : ((k : ℕ) → flag new k ≡ if nat_le 0 k && nat_lt k (length old) then false else flag old k) → AreContinuations w h new (rows_emptied h c)
-  emptied-flags cleared = record {
-    count = same ∙ continuations.count;
-    each = λ a b a_in b_in.
-        let place : b * w + a < w * h = mul-add-lt b w a h b_in a_in in
-        let count : length old ≡ w * h = continuations.count in
-        let inside : (nat_le 0 (b * w + a) && nat_lt (b * w + a) (length old)) ≡ true = grind (arith, nat_tests) in
-        let row : nat_lt b h ≡ true = grind (arith, nat_tests) in
-        rw row (rw inside at (cleared (b * w + a)));
-  }
-
-  pub part-flags : (part : ClearType) (x y from to : ℕ) → ((a b : ℕ) → a < w → b < h → (nat_le from (b * w + a) && nat_lt (b * w + a) to) ≡ is_cleared part x y a b)
-      → ((k : ℕ) → flag new k ≡ if nat_le from k && nat_lt k to then false else flag old k) → AreContinuations w h new (columns_cleared part x y c)
-  part-flags part x y from to places cleared = record {
-    count = same ∙ continuations.count;
-    each = λ a b a_in b_in. (rw (places a b a_in b_in) at (cleared (b * w + a)))
-        ∙ elim (is_cleared part x y a b) as (λ p. (if p then false else flag old (b * w + a)) ≡ is_continuation (if p then blank_column else c a b)) [ true ↦ refl | false ↦ continuations.each a b a_in b_in ];
-  }
-
 -- which places a part takes
 module _ (w h x y a b : ℕ) (a_in : a < w) (b_in : b < h) (x_in : x < w) (y_in : y < h) where
   pub places_after : (nat_le (y * w + x) (b * w + a) && nat_lt (b * w + a) (w * h)) ≡ is_cleared AfterCursor x y a b
@@ -148,15 +126,6 @@ module _ (w h x y a b : ℕ) (a_in : a < w) (b_in : b < h) (x_in : x < w) (y_in 
 
   pub places_before : (nat_le 0 (b * w + a) && nat_lt (b * w + a) (y * w + x + 1)) ≡ is_cleared BeforeCursor x y a b
   places_before = elim (cases_lt b y) [
-    | inl above ↦ let e = row_below w b y above in grind (arith, nat_tests)
-    | inr other ↦ elim (cases_lt y b) [
-      | inl below ↦ let e = row_below w y b below in grind (arith, nat_tests)
-      | inr here ↦ let e : b ≡ y = omega arith in grind (arith, nat_tests)
-    ]
-  ]
-
-  pub places_line : (nat_le (y * w) (b * w + a) && nat_lt (b * w + a) (y * w + w)) ≡ is_cleared CurrentLine x y a b
-  places_line = elim (cases_lt b y) [
     | inl above ↦ let e = row_below w b y above in grind (arith, nat_tests)
     | inr other ↦ elim (cases_lt y b) [
       | inl below ↦ let e = row_below w y b below in grind (arith, nat_tests)

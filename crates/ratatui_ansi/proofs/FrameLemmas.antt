@@ -36,7 +36,8 @@ use Rattle.ansi_model.proofs.SymbolLemmas.{plain-printed, plain-single}
 use Rattle.ansi_model.proofs.GlyphLemmas.{printed-width, one-byte}
 use Rattle.ansi_model.proofs.SgrLemmas.{equal-number}
 use Rattle.ansi_model.proofs.TextLemmas.{and-both, blank-one}
-use Rattle.ratatui_ansi.proofs.TailLemmas.{continuation-empty, torn, put-torn, torn-more, torn-all, laid-sized, laid-whole, laid-beyond, laid-continuations, laid-shown}
+use Rattle.ratatui_ansi.proofs.FlagLemmas.{row_below}
+use Rattle.ratatui_ansi.proofs.TailLemmas.{or_true, continuation-empty, torn, put-torn, torn-more, torn-all, laid-sized, laid-whole, laid-beyond, laid-continuations, laid-shown}
 
 -- ---- blanks
 
@@ -228,10 +229,6 @@ laid-ready w h x y n end look s u ready takes fits row left tail is = record {
 }
 
 -- ---- the flags
-
--- rows do not overlap
-row_below : (w b y : ℕ) → b < y → b * w + w ≤ y * w
-row_below w b y lower = let e : (b + 1) * w ≤ y * w = mul-le-mul_right w (omega arith) in omega arith
 
 marked-in : (w x y n end a : ℕ) (old new is was : Bool) → x + n ≤ end → end ≤ w
     → new ≡ (if nat_le (y * w + x) (y * w + a) && nat_lt (y * w + a) (y * w + end) then nat_lt (y * w + x) (y * w + a) && nat_lt (y * w + a) (y * w + (x + n)) else old)
@@ -439,11 +436,6 @@ cell-sends w h x y cell glyph end before after inked drawn flags flags_after old
     let fit = fit-parts (w - x) cell (rw is.fits refl) in
     lay-sends w h x y n end cell before after flags flags_after old new fit (sym (is.symbol.columns ∙ fit.columns)) column row both uncut covers.ordered covers.inside covers.set covers.unset covers.marked cursor count
 
--- what a rendition that was kept, or given back, can be sent to
-pub sgr-sendable : (colors : Bool) (before after : Sgr) → (after ≡ before) ⊎ (after ≡ default_sgr) → is_sendable_by colors before ≡ true → is_sendable_by colors after ≡ true
-sgr-sendable colors before after (inl same) sent = ap (is_sendable_by colors) same ∙ sent
-sgr-sendable colors before after (inr own) sent = ap (is_sendable_by colors) own ∙ own-sendable colors
-
 -- ---- a vacant cell
 
 pub vacant-is : (c : Cell) → symbol_text c.symbol ≡ blank → sgr_of c ≡ default_sgr → width_of c ≡ 1 → IsVacant c
@@ -511,12 +503,8 @@ put-vacant w h u flags column row covered vacant c are a b =
 pub sendable-off : (w h : ℕ) (colors : Bool) (u : Update) → (nat_lt u.x w && nat_lt u.y h) ≡ false → is_sendable_on w h colors u ≡ true
 sendable-off w h colors u off = rw off refl
 
-sendable-either : (p : Bool) → (p || true) ≡ true
-sendable-either true = refl
-sendable-either false = refl
-
 pub sendable-sgr : (w h : ℕ) (colors : Bool) (u : Update) → is_sendable_by colors (sgr_of u.cell) ≡ true → is_sendable_on w h colors u ≡ true
-sendable-sgr w h colors u sent = rw sent (sendable-either (not (nat_lt u.x w && nat_lt u.y h)))
+sendable-sgr w h colors u sent = rw sent (or_true (not (nat_lt u.x w && nat_lt u.y h)))
 
 pub sendable-vacant : (w h : ℕ) (colors : Bool) (u : Update) → IsVacant u.cell → is_sendable_on w h colors u ≡ true
 sendable-vacant w h colors u vacant = sendable-sgr w h colors u (ap (is_sendable_by colors) (vacant-sgr u.cell vacant) ∙ own-sendable colors)

@@ -93,24 +93,6 @@ pub if-error : {A F : Type 0} (P : F → Type 0) (answer : Result A F) (error : 
 if-error P (Ok x) error is holds = tt
 if-error P (Err f) error is holds = subst P (sym is.1) holds
 
-pub leaves-error : {W A : Type 0} (answer : Result A AnsiError) (error : AnsiError) (old new : BackendState W) → Refuses answer error → FailsBy old new error → Answers answer old new
-leaves-error (Ok x) error old new is fails = absurd (false≢true is.0)
-leaves-error (Err f) error old new is fails = subst (FailsBy old new) (sym is.1) fails
-
--- only the count of failures changed
-pub counted-unsent : {W : Type 0} (s : BackendState W) (n : ℕ) → IsUnsent s (record s { failures = n })
-counted-unsent s n = record { writer = refl; start = refl; sent = refl; held = refl; size = refl; colors = refl; ambiguous = refl; written = refl; is_broken = refl }
-
-pub refusal-leaves : {W : Type 0} (was old new : BackendState W) (refusal : Refusal) → was ≡ old → was.is_broken ≡ false → IsUnsent was new → FailsBy old new (error_of refusal)
-refusal-leaves was old new refusal same whole still =
-    subst (λ s. FailsBy s new (error_of refusal)) same (by_refusal refusal)
-  where
-    by_refusal : (r : Refusal) → FailsBy was new (error_of r)
-    by_refusal Refused.Memory = (whole, still)
-    by_refusal (Refused.Symbol p) = (whole, still)
-    by_refusal (Refused.Style p) = (whole, still)
-    by_refusal (Refused.Cut p) = (whole, still)
-
 -- a backend that takes its own size again keeps it
 pub size-stays : {W A : Type 0} (answer : Result A AnsiError) (size : layout.Size) (old new : BackendState W) → OnOk answer (new.size ≡ size) → IfErr answer (FailsToResize size old new) → old.size ≡ size → new.size ≡ size
 size-stays (Ok x) size old new same fails own = same

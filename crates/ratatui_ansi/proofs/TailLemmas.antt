@@ -16,7 +16,7 @@ use Rattle.ansi_model.specs.Symbols.{printed_columns}
 abbrev pub torn : ℕ → ℕ → ℕ → ℕ → ℕ → Look → Columns → Columns
 torn x y n k end look c a b = if run k y (end - k) a b then Unknown else laid x y n k look c a b
 
-or_true : (p : Bool) → (p || true) ≡ true
+pub or_true : (p : Bool) → (p || true) ≡ true
 or_true true = refl
 or_true false = refl
 

@@ -14,6 +14,7 @@ use Rattle.ratatui_ansi.specs.declared.tracker.Tracker.{Tracker}
 use Rattle.ratatui_ansi.specs.Frame.{SendsDraw}
 use Rattle.ratatui_ansi.specs.Tracker.{IsAwaiting, IsTracked, IsTracker, SendsCall, Collects, Erases}
 use Rattle.ansi_model.proofs.ReadLemmas.{feed-append}
+use Rattle.ratatui_ansi.proofs.TailLemmas.{continuation-empty}
 use Rattle.ratatui_ansi.proofs.FlagLemmas.{AreContinuations-along}
 use Rattle.ratatui_ansi.proofs.EraseLemmas.{part-erased, part-whole, part-sized, part-beyond}
 use Rattle.ansi_model.proofs.ScrollLemmas.{rested-ready}
@@ -324,13 +325,6 @@ clears-corner old new at_x at_y call = weaker old new (λ p q. Clears p All q) (
       grid = λ i j i_in j_in. rw (x, y) (let e : (nat_lt 0 j || (nat_eq j 0 && nat_le 0 i)) ≡ true = grind (arith, nat_tests) in rw e (cleared.grid i j i_in j_in));
     })
 
-shown-continuation : (c : Column) → is_continuation c ≡ true → look_in c ≡ empty_look
-shown-continuation (Shows look index count) e = elim (index == 0) as (λ z. (if z then false else true) ≡ true → (if z then look else empty_look) ≡ empty_look) [
-  | true ↦ λ f. let none : ⊥ = cc in absurd none
-  | false ↦ λ f. refl
-] e
-shown-continuation Unknown e = refl
-
 -- up to the end of the symbol at the cursor, whose other columns show nothing of their own
 module _ (w h end : ℕ) (place : Position) (flags : List Bool) (from : place.x ≤ end) (inside : end < w) (rest : (k : ℕ) → place.x < k → k ≤ end → flag flags (place.y * w + k) ≡ true) where
   before : (s : Emulator) → AreContinuations w h flags s.columns → (i j : ℕ) → j < h
@@ -343,7 +337,7 @@ module _ (w h end : ℕ) (place : Position) (flags : List Bool) (from : place.x 
           let low : place.x < i = grind (arith, nat_tests) in
           let high : i ≤ end = grind (arith, nat_tests) in
           let flagged : flag flags (j * w + i) ≡ true = ap (λ r. flag flags (r * w + i)) row ∙ rest i low high in
-          sym (shown-continuation (s.columns i j) (sym (continuations.each i j (omega arith) j_in) ∙ flagged))
+          sym (continuation-empty (s.columns i j) (sym (continuations.each i j (omega arith) j_in) ∙ flagged))
       | false ↦ λ f. refl
     ] refl
   ] refl
