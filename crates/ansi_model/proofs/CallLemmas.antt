@@ -18,22 +18,13 @@ use Rattle.ansi_model.proofs.TextLemmas.{blank-sized}
 
 pub cursor-moved : (w h x y : ℕ) → 0 < w → 0 < h → KeepsReady w h (cursor_moved x y) (λ s. Becomes (λ p q. q ≡ with_cursor x y p) s.columns s)
 cursor-moved w h x y wide high s ready =
-    let width : s.width ≡ w = ready.width in
-    let height : s.height ≡ h = ready.height in
+    let width : s.width ≡ w = ready.rest.width in
+    let height : s.height ≡ h = ready.rest.height in
     let kept : min (min x (s.width - 1)) (s.width - 1) ≡ min x (s.width - 1) = omega arith in (
       record {
-        phase = ready.phase;
-        text = ready.text;
-        width = width;
-        height = height;
-        sgr = ready.sgr;
-        top = ready.top;
-        bottom = ready.bottom;
+        rest = ready.rest;
         row = omega arith;
-        sure = ready.sure;
-        sized = ready.sized;
-        whole = ready.whole;
-        beyond = ready.beyond;
+        tidy = ready.tidy;
       },
       record {
         screens = λ written. ap (λ k. record (screen_shown written s) { cursor_x = k; cursor_y = min y (s.height - 1) }) kept;
@@ -44,18 +35,9 @@ cursor-moved w h x y wide high s ready =
 pub cursor-visible : (w h : ℕ) (visible : Bool) → KeepsReady w h (terminal.cursor_shown visible) (λ s. Becomes (λ p q. q ≡ with_visible visible p) s.columns s)
 cursor-visible w h visible s ready = (
   record {
-    phase = ready.phase;
-    text = ready.text;
-    width = ready.width;
-    height = ready.height;
-    sgr = ready.sgr;
-    top = ready.top;
-    bottom = ready.bottom;
+    rest = ready.rest;
     row = ready.row;
-    sure = ready.sure;
-    sized = ready.sized;
-    whole = ready.whole;
-    beyond = ready.beyond;
+    tidy = ready.tidy;
   },
   record { screens = λ written. refl; columns = λ a b. refl },
 )
@@ -99,17 +81,17 @@ erased-emptied w h c wide high beyond a b =
 pub screen-emptied : (w h x y : ℕ) → 0 < w → 0 < h → KeepsReady w h (λ t. cursor_moved x y (erased BeforeCursor (cursor_moved (w - 1) (h - 1) t))) (λ s. Becomes (λ p q. p.cursor_x ≡ x → p.cursor_y ≡ y → Clears p All q) (rows_emptied h s.columns) s)
 screen-emptied w h x y wide high = keeps-along w h (λ t. cursor_moved x y (erased BeforeCursor (cursor_moved (w - 1) (h - 1) t))) (λ t. cursor_moved x y (erased BeforeCursor (record t { x = w - 1; y = h - 1 })))
     (λ s. Becomes (λ p q. p.cursor_x ≡ x → p.cursor_y ≡ y → Clears p All q) (rows_emptied h s.columns) s)
-    (λ s ready. let width : s.width ≡ w = ready.width in let height : s.height ≡ h = ready.height in
+    (λ s ready. let width : s.width ≡ w = ready.rest.width in let height : s.height ≡ h = ready.rest.height in
     ap (λ t. cursor_moved x y (erased BeforeCursor t)) (moved-placed (w - 1) (h - 1) s (omega arith) (omega arith)))
     (λ s ready.
-    let width : s.width ≡ w = ready.width in
-    let height : s.height ≡ h = ready.height in
+    let width : s.width ≡ w = ready.rest.width in
+    let height : s.height ≡ h = ready.rest.height in
     let u : Emulator = cursor_moved x y (erased BeforeCursor (record s { x = w - 1; y = h - 1 })) in
-    let same : (a b : ℕ) → u.columns a b ≡ rows_emptied h s.columns a b = erased-emptied w h s.columns wide high ready.beyond in
+    let same : (a b : ℕ) → u.columns a b ≡ rows_emptied h s.columns a b = erased-emptied w h s.columns wide high ready.tidy.beyond in
     let x_in : nat_lt (w - 1) s.width ≡ true = grind (arith, nat_tests) in
-    let sure : u.sure ≡ true = rw (ready.sure, ready.sgr, x_in) refl in (
-      ready-columns w h s u (rows_emptied h s.columns) ready ready.phase ready.text refl refl ready.sgr ready.top (ready.bottom ∙ sym height) (omega arith) sure same
-          (emptied-sized h s.columns ready.sized) (emptied-whole h s.columns ready.whole) (emptied-beyond w h s.columns ready.beyond),
+    let sure : u.sure ≡ true = rw (ready.rest.sure, ready.rest.sgr, x_in) refl in (
+      ready-columns w h s u (rows_emptied h s.columns) ready ready.rest.phase ready.rest.text refl refl ready.rest.sgr ready.rest.top (ready.rest.bottom ∙ sym height) (omega arith) sure same
+          (record { sized = emptied-sized h s.columns ready.tidy.sized; whole = emptied-whole h s.columns ready.tidy.whole; beyond = emptied-beyond w h s.columns ready.tidy.beyond }),
       record {
         columns = same;
         screens = λ written at_x at_y.

@@ -12,9 +12,9 @@ use Rattle.ratatui_core.specs.Buffer.{text_width}
 use Rattle.ratatui_core.proofs.BufferLemmas.{one_character}
 use Rattle.ansi_model.specs.declared.glyph.Glyph.TheVariants.{Plain, Whole}
 use Rattle.ansi_model.specs.Symbols.{is_plain_char, is_shown, columns_of_char, is_symbol, only_of, is_one_plain, is_printed, printed_columns, IsGlyphOf}
-use Rattle.ansi_model.proofs.TextLemmas.{one-single, none}
+use Rattle.ansi_model.proofs.TextLemmas.{one-single}
 use Rattle.ansi_model.proofs.SgrLemmas.{up_to, up_to-at}
-use Rattle.ansi_model.proofs.SymbolLemmas.{one-char, one-encoded, none-single, plain-printed}
+use Rattle.ansi_model.proofs.SymbolLemmas.{one-char, one-encoded, plain-printed}
 
 -- ---- a plain character takes one column
 

@@ -9,11 +9,11 @@ use Rattle.ansi_model.specs.Columns.Column.{Shows, Unknown}
 use Rattle.ansi_model.specs.Sgr.{default_sgr}
 use Rattle.ansi_model.specs.Emulator.{Emulator, rested, cursor_moved, erased, line_fed, fed, scrolled, if_so, row_shown, is_row_known, returned, rows_raised, rows_lowered, fed_and_lowered, fed_and_lowered_by, with_region, without_region, lines_deleted, lines_inserted}
 use Rattle.ansi_model.specs.Emulator.Phase.{Ground}
-use Rattle.ansi_model.specs.Screens.{screen_shown, HasOwnWidth, HaveOwnWidths, IsWhole, IsWholeAt, IsBlankBeyond, IsIdle, Turns, Becomes}
+use Rattle.ansi_model.specs.Screens.{screen_shown, HasOwnWidth, HaveOwnWidths, IsWhole, IsWholeAt, IsBlankBeyond, IsTidy, IsIdle, Turns, Becomes}
 use Rattle.ansi_model.specs.Sequences.{feed}
 use Rattle.ansi_model.specs.Sends.{Performs}
 use Rattle.ansi_model.proofs.ReadLemmas.{Sends-then, line_fed-rested}
-use Rattle.ansi_model.proofs.ScrollLemmas.{KeepsReady, Feeds, fed-feeds, feeds-ready, region_row, map_same, shift, all_range, seen-raised, raised-again, raised-none, raised-sized, raised-whole, raised-beyond, whole_along, blank-whole}
+use Rattle.ansi_model.proofs.ScrollLemmas.{KeepsReady, Feeds, fed-feeds, feeds-ready, region_row, map_same, shift, all_range, seen-raised, raised-again, raised-none, raised-sized, raised-tidy, tidy-along, blank-whole}
 use Rattle.ansi_model.proofs.TextLemmas.{blank-sized, sized-known}
 
 -- one action after another
@@ -47,6 +47,9 @@ lowered-sized from to n c sized a b =
       | false ↦ sized a b
     ]
 
+pub lowered-tidy : (w from to n : ℕ) (c : Columns) → IsTidy w c → IsTidy w (rows_lowered from to n c)
+lowered-tidy w from to n c tidy = record { sized = lowered-sized from to n c tidy.sized; whole = lowered-whole from to n c tidy.whole; beyond = lowered-beyond w from to n c tidy.beyond }
+
 -- ---- what a screen shows
 
 -- a region's end, and the same cut at the screen's end
@@ -79,7 +82,7 @@ pub record OnlyColumns (s u : Emulator) (c : Columns) : Type 0 where
 pub up-below : (w h a b n written : ℕ) (s u : Emulator) → IsIdle w h s → 0 < a → a < min b h → OnlyColumns s u (rows_raised a (min b h) n s.columns)
     → ScrollsUp a b n (screen_shown written s) (screen_shown written u)
 up-below w h a b n written s u ready below some only =
-    let high : s.height ≡ h = ready.height in
+    let high : s.height ≡ h = ready.rest.height in
     let e : (a == 0) ≡ false = grind (arith, nat_tests) in
     record {
       history = rw e only.history;
@@ -95,7 +98,7 @@ up-below w h a b n written s u ready below some only =
 pub down-shows : (w h a b n written : ℕ) (s u : Emulator) → IsIdle w h s → a < min b h → OnlyColumns s u (rows_lowered a (min b h) n s.columns)
     → ScrollsDown a b n (screen_shown written s) (screen_shown written u)
 down-shows w h a b n written s u ready some only =
-    let high : s.height ≡ h = ready.height in
+    let high : s.height ≡ h = ready.rest.height in
     record {
       history = only.history;
       width = only.width;
@@ -134,20 +137,20 @@ row-lowered r n c a b some =
 -- ---- a terminal that stays ready where its columns change
 
 pub ready-columns : (w h : ℕ) (s u : Emulator) (c : Columns) → IsIdle w h s → u.phase ≡ Ground → u.text ≡ [] → u.width ≡ s.width → u.height ≡ s.height → u.sgr ≡ default_sgr
-    → u.top ≡ 0 → u.bottom ≡ s.height → u.y < h → u.sure ≡ true → ((x y : ℕ) → u.columns x y ≡ c x y) → HaveOwnWidths c → IsWhole c → IsBlankBeyond w c → IsIdle w h u
-ready-columns w h s u c ready phase text width height sgr top bottom row sure columns sized whole beyond = record {
-  phase = phase;
-  text = text;
-  width = width ∙ ready.width;
-  height = height ∙ ready.height;
-  sgr = sgr;
-  top = top;
-  bottom = bottom ∙ ready.height;
+    → u.top ≡ 0 → u.bottom ≡ s.height → u.y < h → u.sure ≡ true → ((x y : ℕ) → u.columns x y ≡ c x y) → IsTidy w c → IsIdle w h u
+ready-columns w h s u c ready phase text width height sgr top bottom row sure columns tidy = record {
+  rest = record {
+    phase = phase;
+    text = text;
+    width = width ∙ ready.rest.width;
+    height = height ∙ ready.rest.height;
+    sgr = sgr;
+    top = top;
+    bottom = bottom ∙ ready.rest.height;
+    sure = sure;
+  };
   row = row;
-  sure = sure;
-  sized = λ x y. subst HasOwnWidth (sym (columns x y)) (sized x y);
-  whole = λ x y. whole_along (λ k. c k y) (λ k. u.columns k y) x (λ k. sym (columns k y)) (whole x y);
-  beyond = λ x y out. columns x y ∙ beyond x y out;
+  tidy = tidy-along w c u.columns columns tidy;
 }
 
 pub keeps-along : (w h : ℕ) (f g : Emulator → Emulator) (related : Emulator → Emulator → Type 0) → ((s : Emulator) → IsIdle w h s → g s ≡ f s) → KeepsReady w h g related → KeepsReady w h f related
@@ -176,31 +179,31 @@ Turns-none w h old related same = record {
 
 pub row-up : (w h a b n : ℕ) → 0 < w → 0 < a → a < h → min b h ≡ a + 1 → 0 < n → KeepsReady w h (λ t. erased CurrentLine (cursor_moved 0 a t)) (λ s. Becomes (ScrollsUp a b n) (rows_raised a (min b h) n s.columns) s)
 row-up w h a b n some_columns below a_in one some = keeps-along w h (λ t. erased CurrentLine (cursor_moved 0 a t)) (λ t. erased CurrentLine (record t { x = 0; y = a })) (λ s. Becomes (ScrollsUp a b n) (rows_raised a (min b h) n s.columns) s)
-    (λ s ready. let wide : s.width ≡ w = ready.width in let high : s.height ≡ h = ready.height in ap (erased CurrentLine) (moved-placed 0 a s (omega arith) (omega arith)))
+    (λ s ready. let wide : s.width ≡ w = ready.rest.width in let high : s.height ≡ h = ready.rest.height in ap (erased CurrentLine) (moved-placed 0 a s (omega arith) (omega arith)))
     (λ s ready.
     let u : Emulator = erased CurrentLine (record s { x = 0; y = a }) in
-    let wide : s.width ≡ w = ready.width in
+    let wide : s.width ≡ w = ready.rest.width in
     let c = rows_raised a (min b h) n s.columns in
     let same : (x y : ℕ) → u.columns x y ≡ c x y = λ x y. row-raised a n s.columns x y some ∙ ap (λ to. rows_raised a to n s.columns x y) (sym one) in
     let x_in : nat_lt 0 s.width ≡ true = grind (arith, nat_tests) in
-    let sure : u.sure ≡ true = rw (ready.sure, ready.sgr, x_in) refl in (
-      ready-columns w h s u c ready ready.phase ready.text refl refl ready.sgr ready.top (ready.bottom ∙ sym ready.height) a_in sure same
-          (raised-sized a (min b h) n s.columns ready.sized) (raised-whole a (min b h) n s.columns ready.whole) (raised-beyond w a (min b h) n s.columns ready.beyond),
+    let sure : u.sure ≡ true = rw (ready.rest.sure, ready.rest.sgr, x_in) refl in (
+      ready-columns w h s u c ready ready.rest.phase ready.rest.text refl refl ready.rest.sgr ready.rest.top (ready.rest.bottom ∙ sym ready.rest.height) a_in sure same
+          (raised-tidy w a (min b h) n s.columns ready.tidy),
       record { screens = λ written. up-below w h a b n written s u ready below (omega arith) (record { history = refl; width = refl; height = refl; visible = refl; columns = same }); columns = same },
     ))
 
 pub row-down : (w h a b n : ℕ) → 0 < w → a < h → min b h ≡ a + 1 → 0 < n → KeepsReady w h (λ t. erased CurrentLine (cursor_moved 0 a t)) (λ s. Becomes (ScrollsDown a b n) (rows_lowered a (min b h) n s.columns) s)
 row-down w h a b n some_columns a_in one some = keeps-along w h (λ t. erased CurrentLine (cursor_moved 0 a t)) (λ t. erased CurrentLine (record t { x = 0; y = a })) (λ s. Becomes (ScrollsDown a b n) (rows_lowered a (min b h) n s.columns) s)
-    (λ s ready. let wide : s.width ≡ w = ready.width in let high : s.height ≡ h = ready.height in ap (erased CurrentLine) (moved-placed 0 a s (omega arith) (omega arith)))
+    (λ s ready. let wide : s.width ≡ w = ready.rest.width in let high : s.height ≡ h = ready.rest.height in ap (erased CurrentLine) (moved-placed 0 a s (omega arith) (omega arith)))
     (λ s ready.
     let u : Emulator = erased CurrentLine (record s { x = 0; y = a }) in
-    let wide : s.width ≡ w = ready.width in
+    let wide : s.width ≡ w = ready.rest.width in
     let c = rows_lowered a (min b h) n s.columns in
     let same : (x y : ℕ) → u.columns x y ≡ c x y = λ x y. row-lowered a n s.columns x y some ∙ ap (λ to. rows_lowered a to n s.columns x y) (sym one) in
     let x_in : nat_lt 0 s.width ≡ true = grind (arith, nat_tests) in
-    let sure : u.sure ≡ true = rw (ready.sure, ready.sgr, x_in) refl in (
-      ready-columns w h s u c ready ready.phase ready.text refl refl ready.sgr ready.top (ready.bottom ∙ sym ready.height) a_in sure same
-          (lowered-sized a (min b h) n s.columns ready.sized) (lowered-whole a (min b h) n s.columns ready.whole) (lowered-beyond w a (min b h) n s.columns ready.beyond),
+    let sure : u.sure ≡ true = rw (ready.rest.sure, ready.rest.sgr, x_in) refl in (
+      ready-columns w h s u c ready ready.rest.phase ready.rest.text refl refl ready.rest.sgr ready.rest.top (ready.rest.bottom ∙ sym ready.rest.height) a_in sure same
+          (lowered-tidy w a (min b h) n s.columns ready.tidy),
       record { screens = λ written. down-shows w h a b n written s u ready (omega arith) (record { history = refl; width = refl; height = refl; visible = refl; columns = same }); columns = same },
     ))
 
@@ -209,20 +212,20 @@ rows-up w h a b n some_columns below two =
     let f : Emulator → Emulator = λ t. without_region (lines_deleted n (cursor_moved 0 a (with_region a (min b h) t))) in
     let g : Emulator → Emulator = λ t. without_region (lines_deleted n (record (with_region a (min b h) t) { x = 0; y = a })) in
     keeps-along w h f g (λ s. Becomes (ScrollsUp a b n) (rows_raised a (min b h) n s.columns) s)
-    (λ s ready. let wide : s.width ≡ w = ready.width in let high : s.height ≡ h = ready.height in
+    (λ s ready. let wide : s.width ≡ w = ready.rest.width in let high : s.height ≡ h = ready.rest.height in
     ap (λ t. without_region (lines_deleted n t)) (moved-placed 0 a (with_region a (min b h) s) (omega arith) (omega arith)))
     (λ s ready.
     let u : Emulator = g s in
-    let high : s.height ≡ h = ready.height in
+    let high : s.height ≡ h = ready.rest.height in
     let c = rows_raised a (min b h) n s.columns in
     let t1 : nat_lt (a + 1) (min b h) ≡ true = grind (arith, nat_tests) in
     let t2 : nat_le (min b h) s.height ≡ true = grind (arith, nat_tests) in
     let t3 : nat_lt 0 a ≡ true = grind (arith, nat_tests) in
     let t4 : nat_le a a ≡ true = grind (arith, nat_tests) in
     let t5 : nat_lt a (min b h) ≡ true = grind (arith, nat_tests) in
-    let sure : u.sure ≡ true = rw (ready.sure, t1, t2, ready.sgr, t3, t4, t5) refl in (
-      ready-columns w h s u c ready ready.phase ready.text refl refl ready.sgr refl refl (omega arith) sure (λ x y. refl)
-          (raised-sized a (min b h) n s.columns ready.sized) (raised-whole a (min b h) n s.columns ready.whole) (raised-beyond w a (min b h) n s.columns ready.beyond),
+    let sure : u.sure ≡ true = rw (ready.rest.sure, t1, t2, ready.rest.sgr, t3, t4, t5) refl in (
+      ready-columns w h s u c ready ready.rest.phase ready.rest.text refl refl ready.rest.sgr refl refl (omega arith) sure (λ x y. refl)
+          (raised-tidy w a (min b h) n s.columns ready.tidy),
       record { screens = λ written. up-below w h a b n written s u ready below (omega arith) (record { history = refl; width = refl; height = refl; visible = refl; columns = λ x y. refl }); columns = λ x y. refl },
     ))
 
@@ -231,19 +234,19 @@ rows-down w h a b n some_columns two =
     let f : Emulator → Emulator = λ t. without_region (lines_inserted n (cursor_moved 0 a (with_region a (min b h) t))) in
     let g : Emulator → Emulator = λ t. without_region (lines_inserted n (record (with_region a (min b h) t) { x = 0; y = a })) in
     keeps-along w h f g (λ s. Becomes (ScrollsDown a b n) (rows_lowered a (min b h) n s.columns) s)
-    (λ s ready. let wide : s.width ≡ w = ready.width in let high : s.height ≡ h = ready.height in
+    (λ s ready. let wide : s.width ≡ w = ready.rest.width in let high : s.height ≡ h = ready.rest.height in
     ap (λ t. without_region (lines_inserted n t)) (moved-placed 0 a (with_region a (min b h) s) (omega arith) (omega arith)))
     (λ s ready.
     let u : Emulator = g s in
-    let high : s.height ≡ h = ready.height in
+    let high : s.height ≡ h = ready.rest.height in
     let c = rows_lowered a (min b h) n s.columns in
     let t1 : nat_lt (a + 1) (min b h) ≡ true = grind (arith, nat_tests) in
     let t2 : nat_le (min b h) s.height ≡ true = grind (arith, nat_tests) in
     let t4 : nat_le a a ≡ true = grind (arith, nat_tests) in
     let t5 : nat_lt a (min b h) ≡ true = grind (arith, nat_tests) in
-    let sure : u.sure ≡ true = rw (ready.sure, t1, t2, ready.sgr, t4, t5) refl in (
-      ready-columns w h s u c ready ready.phase ready.text refl refl ready.sgr refl refl (omega arith) sure (λ x y. refl)
-          (lowered-sized a (min b h) n s.columns ready.sized) (lowered-whole a (min b h) n s.columns ready.whole) (lowered-beyond w a (min b h) n s.columns ready.beyond),
+    let sure : u.sure ≡ true = rw (ready.rest.sure, t1, t2, ready.rest.sgr, t4, t5) refl in (
+      ready-columns w h s u c ready ready.rest.phase ready.rest.text refl refl ready.rest.sgr refl refl (omega arith) sure (λ x y. refl)
+          (lowered-tidy w a (min b h) n s.columns ready.tidy),
       record { screens = λ written. down-shows w h a b n written s u ready (omega arith) (record { history = refl; width = refl; height = refl; visible = refl; columns = λ x y. refl }); columns = λ x y. refl },
     ))
 
@@ -254,7 +257,7 @@ pub up-first : (w h b n written : ℕ) (s u : Emulator) → IsIdle w h s → 0 <
     → u.width ≡ s.width → u.height ≡ s.height → u.visible ≡ s.visible → ((x y : ℕ) → u.columns x y ≡ rows_raised 0 (min b h) n s.columns x y)
     → ScrollsUp 0 b n (screen_shown written s) (screen_shown written u)
 up-first w h b n written s u ready some history width height visible columns =
-    let high : s.height ≡ h = ready.height in
+    let high : s.height ≡ h = ready.rest.height in
     let e : nat_lt 0 (min b s.height) ≡ true = grind (arith, nat_tests) in
     record {
       history = rw e (history ∙ ap (λ q. s.history ++ map (λ k. map (λ a. if nat_lt k (min b q) then look_in (s.columns a k) else empty_look) (range_with_len 0 s.width)) (range_with_len 0 n)) (sym high));
@@ -272,25 +275,16 @@ screen-up w h b n some_columns some_rows all =
     let f : Emulator → Emulator = λ t. fed n (returned (cursor_moved 0 (h - 1) t)) in
     let g : Emulator → Emulator = λ t. fed n (record t { x = 0; y = h - 1 }) in
     keeps-along w h f g (λ s. Becomes (ScrollsUp 0 b n) (rows_raised 0 (min b h) n s.columns) s)
-    (λ s ready. let wide : s.width ≡ w = ready.width in let high : s.height ≡ h = ready.height in ap (λ t. fed n (returned t)) (moved-placed 0 (h - 1) s (omega arith) (omega arith)))
+    (λ s ready. let wide : s.width ≡ w = ready.rest.width in let high : s.height ≡ h = ready.rest.height in ap (λ t. fed n (returned t)) (moved-placed 0 (h - 1) s (omega arith) (omega arith)))
     (λ s ready.
     let v : Emulator = record s { x = 0; y = h - 1 } in
     let u : Emulator = fed n v in
-    let bottom : s.bottom ≡ h = ready.bottom in
-    let feeds : Feeds n v u = fed-feeds n v ready.top (λ some. omega arith) in
+    let bottom : s.bottom ≡ h = ready.rest.bottom in
+    let feeds : Feeds n v u = fed-feeds n v ready.rest.top (λ some. omega arith) in
     let v_ready : IsIdle w h v = record {
-      phase = ready.phase;
-      text = ready.text;
-      width = ready.width;
-      height = ready.height;
-      sgr = ready.sgr;
-      top = ready.top;
-      bottom = ready.bottom;
+      rest = ready.rest;
       row = omega arith;
-      sure = ready.sure;
-      sized = ready.sized;
-      whole = ready.whole;
-      beyond = ready.beyond;
+      tidy = ready.tidy;
     } in
     let same : s.bottom ≡ min b h = bottom ∙ sym all in (
       feeds-ready w h n v u v_ready some_columns feeds,
@@ -308,21 +302,21 @@ first-up w h b n some_columns two =
     let f : Emulator → Emulator = λ t. without_region (fed n (returned (cursor_moved 0 (to - 1) (with_region 0 to t)))) in
     let g : Emulator → Emulator = λ t. without_region (fed n (record (with_region 0 to t) { x = 0; y = to - 1 })) in
     keeps-along w h f g (λ s. Becomes (ScrollsUp 0 b n) (rows_raised 0 (min b h) n s.columns) s)
-    (λ s ready. let wide : s.width ≡ w = ready.width in let high : s.height ≡ h = ready.height in
+    (λ s ready. let wide : s.width ≡ w = ready.rest.width in let high : s.height ≡ h = ready.rest.height in
     ap (λ t. without_region (fed n (returned t))) (moved-placed 0 (to - 1) (with_region 0 to s) (omega arith) (omega arith)))
     (λ s ready.
     let v : Emulator = record (with_region 0 to s) { x = 0; y = to - 1 } in
     let u : Emulator = fed n v in
-    let wide : s.width ≡ w = ready.width in
-    let high : s.height ≡ h = ready.height in
+    let wide : s.width ≡ w = ready.rest.width in
+    let high : s.height ≡ h = ready.rest.height in
     let feeds : Feeds n v u = fed-feeds n v refl (λ some. omega arith) in
     let t1 : nat_lt (0 + 1) to ≡ true = grind (arith, nat_tests) in
     let t2 : nat_le to s.height ≡ true = grind (arith, nat_tests) in
-    let v_sure : v.sure ≡ true = rw (ready.sure, t1, t2) refl in
-    let sure : u.sure ≡ true = feeds.sure v_sure ready.sgr (omega arith) ready.sized in (
-      ready-columns w h s (without_region u) (rows_raised 0 to n s.columns) ready (ap (λ (t : Emulator). t.phase) feeds.rest ∙ ready.phase) (ap (λ (t : Emulator). t.text) feeds.rest ∙ ready.text)
-          (ap (λ (t : Emulator). t.width) feeds.rest) (ap (λ (t : Emulator). t.height) feeds.rest) (ap (λ (t : Emulator). t.sgr) feeds.rest ∙ ready.sgr) refl
-          (ap (λ (t : Emulator). t.height) feeds.rest) (omega arith) sure feeds.columns (raised-sized 0 to n s.columns ready.sized) (raised-whole 0 to n s.columns ready.whole) (raised-beyond w 0 to n s.columns ready.beyond),
+    let v_sure : v.sure ≡ true = rw (ready.rest.sure, t1, t2) refl in
+    let sure : u.sure ≡ true = feeds.sure v_sure ready.rest.sgr (omega arith) ready.tidy.sized in (
+      ready-columns w h s (without_region u) (rows_raised 0 to n s.columns) ready (ap (λ (t : Emulator). t.phase) feeds.rest ∙ ready.rest.phase) (ap (λ (t : Emulator). t.text) feeds.rest ∙ ready.rest.text)
+          (ap (λ (t : Emulator). t.width) feeds.rest) (ap (λ (t : Emulator). t.height) feeds.rest) (ap (λ (t : Emulator). t.sgr) feeds.rest ∙ ready.rest.sgr) refl
+          (ap (λ (t : Emulator). t.height) feeds.rest) (omega arith) sure feeds.columns (raised-tidy w 0 to n s.columns ready.tidy),
       record {
         screens = λ written. up-first w h b n written s (without_region u) ready (omega arith) feeds.history
             (ap (λ (t : Emulator). t.width) feeds.rest) (ap (λ (t : Emulator). t.height) feeds.rest) (ap (λ (t : Emulator). t.visible) feeds.rest) feeds.columns;
@@ -414,16 +408,16 @@ pub one-up : (w h b n : ℕ) → 0 < w → 1 < h → min b h ≡ 1 → KeepsRead
 one-up w h b n some_columns two one s ready =
     let v : Emulator = with_region 0 2 s in
     let u : Emulator = fed_and_lowered_by n v in
-    let wide : s.width ≡ w = ready.width in
-    let high : s.height ≡ h = ready.height in
+    let wide : s.width ≡ w = ready.rest.width in
+    let high : s.height ≡ h = ready.rest.height in
     let feeds : Rounds n v u = rounds-are n v refl refl refl refl (omega arith) (omega arith) in
     let t2 : nat_le 2 s.height ≡ true = grind (arith, nat_tests) in
-    let v_sure : v.sure ≡ true = rw (ready.sure, t2) refl in
-    let sure : u.sure ≡ true = feeds.sure v_sure ready.sgr (omega arith) ready.sized in
+    let v_sure : v.sure ≡ true = rw (ready.rest.sure, t2) refl in
+    let sure : u.sure ≡ true = feeds.sure v_sure ready.rest.sgr (omega arith) ready.tidy.sized in
     let columns : (x y : ℕ) → u.columns x y ≡ rows_raised 0 (min b h) n s.columns x y = λ x y. feeds.columns x y ∙ ap (λ q. rows_raised 0 q n s.columns x y) (sym one) in (
-      ready-columns w h s (without_region u) (rows_raised 0 (min b h) n s.columns) ready (ap (λ (t : Emulator). t.phase) feeds.rest ∙ ready.phase) (ap (λ (t : Emulator). t.text) feeds.rest ∙ ready.text)
-          (ap (λ (t : Emulator). t.width) feeds.rest) (ap (λ (t : Emulator). t.height) feeds.rest) (ap (λ (t : Emulator). t.sgr) feeds.rest ∙ ready.sgr) refl
-          (ap (λ (t : Emulator). t.height) feeds.rest) (omega arith) sure columns (raised-sized 0 (min b h) n s.columns ready.sized) (raised-whole 0 (min b h) n s.columns ready.whole) (raised-beyond w 0 (min b h) n s.columns ready.beyond),
+      ready-columns w h s (without_region u) (rows_raised 0 (min b h) n s.columns) ready (ap (λ (t : Emulator). t.phase) feeds.rest ∙ ready.rest.phase) (ap (λ (t : Emulator). t.text) feeds.rest ∙ ready.rest.text)
+          (ap (λ (t : Emulator). t.width) feeds.rest) (ap (λ (t : Emulator). t.height) feeds.rest) (ap (λ (t : Emulator). t.sgr) feeds.rest ∙ ready.rest.sgr) refl
+          (ap (λ (t : Emulator). t.height) feeds.rest) (omega arith) sure columns (raised-tidy w 0 (min b h) n s.columns ready.tidy),
       record {
         screens = λ written. up-first w h b n written s (without_region u) ready (omega arith)
             (feeds.history ∙ ap (λ q. s.history ++ map (region_row (record s { bottom = q })) (range_with_len 0 n)) (sym one))
@@ -491,7 +485,7 @@ still-lowered from to n c x y none =
 
 pub still-up : (w h a b n : ℕ) (s : Emulator) → IsIdle w h s → (a < min b h → n ≡ 0) → Becomes (ScrollsUp a b n) (rows_raised a (min b h) n s.columns) s s
 still-up w h a b n s ready none =
-    let high : s.height ≡ h = ready.height in
+    let high : s.height ≡ h = ready.rest.height in
     record {
       columns = λ x y. still-raised a (min b h) n s.columns x y none;
       screens = λ written. record {
@@ -507,7 +501,7 @@ still-up w h a b n s ready none =
 
 pub still-down : (w h a b n : ℕ) (s : Emulator) → IsIdle w h s → (a < min b h → n ≡ 0) → Becomes (ScrollsDown a b n) (rows_lowered a (min b h) n s.columns) s s
 still-down w h a b n s ready none =
-    let high : s.height ≡ h = ready.height in
+    let high : s.height ≡ h = ready.rest.height in
     record {
       columns = λ x y. still-lowered a (min b h) n s.columns x y none;
       screens = λ written. record {

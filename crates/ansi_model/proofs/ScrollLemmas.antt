@@ -7,19 +7,19 @@ use Rattle.ratatui_core.specs.Backend.{Scrolls, Appends, lines_past}
 use Rattle.ansi_model.specs.Columns.{Column, Columns, look_in, is_known_column, blank_column}
 use Rattle.ansi_model.specs.Columns.Column.{Shows, Unknown}
 use Rattle.ansi_model.specs.Sgr.{default_sgr}
-use Rattle.ansi_model.specs.Emulator.{Emulator, rested, printed, line_fed, fed, scrolled, returned, rows_raised, if_so, row_shown, is_row_known}
+use Rattle.ansi_model.specs.Emulator.{Emulator, blank_terminal, rested, printed, line_fed, fed, scrolled, returned, rows_raised, if_so, row_shown, is_row_known}
 use Rattle.ansi_model.specs.Emulator.Phase.{Ground}
 use Rattle.ansi_model.specs.Sequences.{feed}
 use Rattle.ansi_model.specs.Sends.{Performs}
-use Rattle.ansi_model.specs.Screens.{screen_shown, HasOwnWidth, HaveOwnWidths, IsWhole, IsWholeAt, IsBlankBeyond, IsIdle, Turns, Becomes}
+use Rattle.ansi_model.specs.Screens.{screen_shown, HasOwnWidth, HaveOwnWidths, IsWhole, IsWholeAt, IsBlankBeyond, IsTidy, IsIdle, Turns, Becomes}
 use Rattle.ansi_model.proofs.TextLemmas.{blank-sized, sized-known}
 
 -- ---- from what bytes do to what a screen shows
 
 pub rested-ready : (w h : ℕ) (u : Emulator) → IsIdle w h u → rested u ≡ u
 rested-ready w h u ready =
-    ap (λ xs. record (printed xs u) { text = []; phase = Ground }) ready.text
-    ∙ ap₂ (λ xs p. record u { text = xs; phase = p }) (sym ready.text) (sym ready.phase)
+    ap (λ xs. record (printed xs u) { text = []; phase = Ground }) ready.rest.text
+    ∙ ap₂ (λ xs p. record u { text = xs; phase = p }) (sym ready.rest.text) (sym ready.rest.phase)
 
 abbrev pub KeepsReady : ℕ → ℕ → (Emulator → Emulator) → (Emulator → Emulator → Type 0) → Type 0
 KeepsReady w h f related = (s : Emulator) → IsIdle w h s → IsIdle w h (f s) × related s (f s)
@@ -28,7 +28,7 @@ pub turns-from : (w h : ℕ) (old new : List ℕ) (f : Emulator → Emulator) (r
 turns-from w h old new f related does keeps = record {
   bytes = does.bytes;
   appended = does.appended;
-  phase = λ t ground ready. let after = (keeps (rested t) ready).0 in ap (λ (v : Emulator). v.phase) (does.read t ground) ∙ after.phase;
+  phase = λ t ground ready. let after = (keeps (rested t) ready).0 in ap (λ (v : Emulator). v.phase) (does.read t ground) ∙ after.rest.phase;
   ready = λ t ground ready.
       let after = (keeps (rested t) ready).0 in
       let e : rested (feed does.bytes t) ≡ f (rested t) = ap rested (does.read t ground) ∙ rested-ready w h (f (rested t)) after in
@@ -88,6 +88,25 @@ raised-sized from to n c sized a b =
       | true ↦ elim (nat_lt (b + n) to) as (λ q. HasOwnWidth (if q then c a (b + n) else blank_column)) [ true ↦ sized a (b + n) | false ↦ blank-sized ]
       | false ↦ sized a b
     ]
+
+pub raised-tidy : (w from to n : ℕ) (c : Columns) → IsTidy w c → IsTidy w (rows_raised from to n c)
+raised-tidy w from to n c tidy = record { sized = raised-sized from to n c tidy.sized; whole = raised-whole from to n c tidy.whole; beyond = raised-beyond w from to n c tidy.beyond }
+
+-- columns that are the same are as tidy
+pub tidy-along : (w : ℕ) (c d : Columns) → ((a b : ℕ) → d a b ≡ c a b) → IsTidy w c → IsTidy w d
+tidy-along w c d same tidy = record {
+  sized = λ a b. subst HasOwnWidth (sym (same a b)) (tidy.sized a b);
+  whole = λ a b. whole_along (λ k. c k b) (λ k. d k b) a (λ k. sym (same k b)) (tidy.whole a b);
+  beyond = λ a b out. same a b ∙ tidy.beyond a b out;
+}
+
+-- a blank terminal is idle
+pub blank-idle : (w h : ℕ) → 0 < h → IsIdle w h (blank_terminal w h)
+blank-idle w h some = record {
+  rest = record { phase = refl; text = refl; width = refl; height = refl; sgr = refl; top = refl; bottom = refl; sure = refl };
+  row = some;
+  tidy = record { sized = λ a b. blank-sized; whole = λ a b. blank-whole a; beyond = λ a b out. refl };
+}
 
 -- ---- line feeds in the last row of a region that begins with the first row
 
@@ -191,52 +210,52 @@ shown-raised bottom k c a b b_in =
 
 pub feeds-ready : (w h n : ℕ) (t u : Emulator) → IsIdle w h t → t.x < w → Feeds n t u → IsIdle w h u
 feeds-ready w h n t u ready x feeds = record {
-  phase = ap (λ (v : Emulator). v.phase) feeds.rest ∙ ready.phase;
-  text = ap (λ (v : Emulator). v.text) feeds.rest ∙ ready.text;
-  width = ap (λ (v : Emulator). v.width) feeds.rest ∙ ready.width;
-  height = ap (λ (v : Emulator). v.height) feeds.rest ∙ ready.height;
-  sgr = ap (λ (v : Emulator). v.sgr) feeds.rest ∙ ready.sgr;
-  top = ap (λ (v : Emulator). v.top) feeds.rest ∙ ready.top;
-  bottom = ap (λ (v : Emulator). v.bottom) feeds.rest ∙ ready.bottom;
+  rest = record {
+    phase = ap (λ (v : Emulator). v.phase) feeds.rest ∙ ready.rest.phase;
+    text = ap (λ (v : Emulator). v.text) feeds.rest ∙ ready.rest.text;
+    width = ap (λ (v : Emulator). v.width) feeds.rest ∙ ready.rest.width;
+    height = ap (λ (v : Emulator). v.height) feeds.rest ∙ ready.rest.height;
+    sgr = ap (λ (v : Emulator). v.sgr) feeds.rest ∙ ready.rest.sgr;
+    top = ap (λ (v : Emulator). v.top) feeds.rest ∙ ready.rest.top;
+    bottom = ap (λ (v : Emulator). v.bottom) feeds.rest ∙ ready.rest.bottom;
+    sure = feeds.sure ready.rest.sure ready.rest.sgr (rw ready.rest.width x) ready.tidy.sized;
+  };
   row = let e : u.y ≡ t.y = ap (λ (v : Emulator). v.y) feeds.rest in rw e ready.row;
-  sure = feeds.sure ready.sure ready.sgr (rw ready.width x) ready.sized;
-  sized = λ a b. subst HasOwnWidth (sym (feeds.columns a b)) (raised-sized 0 t.bottom n t.columns ready.sized a b);
-  whole = λ a b. whole_along (λ k. rows_raised 0 t.bottom n t.columns k b) (λ k. u.columns k b) a (λ k. sym (feeds.columns k b)) (raised-whole 0 t.bottom n t.columns ready.whole a b);
-  beyond = λ a b out. feeds.columns a b ∙ raised-beyond w 0 t.bottom n t.columns ready.beyond a b out;
+  tidy = tidy-along w (rows_raised 0 t.bottom n t.columns) u.columns feeds.columns (raised-tidy w 0 t.bottom n t.columns ready.tidy);
 }
 
 pub appends-ready : (w h n : ℕ) → 0 < w → 0 < h → KeepsReady w h (λ t. fed n (returned t)) (λ s. Becomes (λ p q. Appends p n q × (q.cursor_x ≡ 0)) (rows_raised 0 h (s.y + n - (h - 1)) s.columns) s)
 appends-ready w h n some_columns some_rows s ready =
     let r : Emulator = returned s in
     let y_in : s.y < h = ready.row in
-    let high : s.height ≡ h = ready.height in
-    let wide : s.width ≡ w = ready.width in
+    let high : s.height ≡ h = ready.rest.height in
+    let wide : s.width ≡ w = ready.rest.width in
     let m = min n (h - 1 - s.y) in
     let k = n - m in
     let v : Emulator = record r { y = s.y + m } in
     let u : Emulator = fed k v in
-    let at_end : 0 < k → v.y + 1 ≡ v.bottom = λ some. let bottom : s.bottom ≡ h = ready.bottom in omega arith in
-    let feeds : Feeds k v u = fed-feeds k v ready.top at_end in
-    let first : fed m r ≡ v = fed-above m r (ready.bottom ∙ sym high) ready.sure (omega arith) (omega arith) in
+    let at_end : 0 < k → v.y + 1 ≡ v.bottom = λ some. let bottom : s.bottom ≡ h = ready.rest.bottom in omega arith in
+    let feeds : Feeds k v u = fed-feeds k v ready.rest.top at_end in
+    let first : fed m r ≡ v = fed-above m r (ready.rest.bottom ∙ sym high) ready.rest.sure (omega arith) (omega arith) in
     let all : fed n r ≡ u = fed-plus m k n r (omega arith) ∙ ap (fed k) first in
     let v_ready : IsIdle w h v = record {
-      phase = ready.phase;
-      text = ready.text;
-      width = wide;
-      height = high;
-      sgr = ready.sgr;
-      top = ready.top;
-      bottom = ready.bottom;
+      rest = record {
+        phase = ready.rest.phase;
+        text = ready.rest.text;
+        width = wide;
+        height = high;
+        sgr = ready.rest.sgr;
+        top = ready.rest.top;
+        bottom = ready.rest.bottom;
+        sure = ready.rest.sure;
+      };
       row = omega arith;
-      sure = ready.sure;
-      sized = ready.sized;
-      whole = ready.whole;
-      beyond = ready.beyond;
+      tidy = ready.tidy;
     } in
     let u_ready : IsIdle w h u = feeds-ready w h k v u v_ready some_columns feeds in
     let row : u.y ≡ s.y + m = ap (λ (z : Emulator). z.y) feeds.rest in
     let first : u.x ≡ 0 = ap (λ (z : Emulator). z.x) feeds.rest in
-    let same : s.bottom ≡ h = ready.bottom in
+    let same : s.bottom ≡ h = ready.rest.bottom in
     let past : s.y + n - (h - 1) ≡ k = omega arith in
     let along = λ (z : Emulator). Becomes (λ p q. Appends p n q × (q.cursor_x ≡ 0)) (rows_raised 0 h (s.y + n - (h - 1)) s.columns) s z in (
       subst (IsIdle w h) (sym all) u_ready,
@@ -244,7 +263,7 @@ appends-ready w h n some_columns some_rows s ready =
         columns = λ a b. feeds.columns a b ∙ ap₂ (λ i j. rows_raised 0 i j s.columns a b) same (sym past);
         screens = λ written.
             let lines : lines_past (screen_shown written s) n ≡ k = let e : nat_lt 0 s.height ≡ true = grind (arith, nat_tests) in rw e (omega arith) in
-            let tall : s.bottom ≡ s.height = ready.bottom ∙ sym high in (
+            let tall : s.bottom ≡ s.height = ready.rest.bottom ∙ sym high in (
               record {
                 scrolled = subst (λ j. Scrolls (screen_shown written s) j (screen_shown written u)) (sym lines) (record {
                   history = feeds.history ∙ ap (λ q. s.history ++ map (λ b. map (λ a. if nat_lt b q then look_in (s.columns a b) else empty_look) (range_with_len 0 s.width)) (range_with_len 0 k)) tall;

@@ -65,46 +65,16 @@ done_with sgr = record { sgr = sgr; awaits = Nothing }
 fg-inks : (c : Color) (sgr : Sgr) → sgr.fg ≡ Reset → inks (color_parameters 30 c) (done_with sgr) ≡ done_with (record sgr { fg = c })
 unfolding inks
 fg-inks Reset sgr e = ap (λ f. done_with (record sgr { fg = f })) e
-fg-inks Black sgr e = refl
-fg-inks Red sgr e = refl
-fg-inks Green sgr e = refl
-fg-inks Yellow sgr e = refl
-fg-inks Blue sgr e = refl
-fg-inks Magenta sgr e = refl
-fg-inks Cyan sgr e = refl
-fg-inks Gray sgr e = refl
-fg-inks DarkGray sgr e = refl
-fg-inks LightRed sgr e = refl
-fg-inks LightGreen sgr e = refl
-fg-inks LightYellow sgr e = refl
-fg-inks LightBlue sgr e = refl
-fg-inks LightMagenta sgr e = refl
-fg-inks LightCyan sgr e = refl
-fg-inks White sgr e = refl
 fg-inks (Rgb r g b) sgr e = refl
 fg-inks (Indexed n) sgr e = refl
+fg-inks _ sgr e = refl
 
 bg-inks : (c : Color) (sgr : Sgr) → sgr.bg ≡ Reset → inks (color_parameters 40 c) (done_with sgr) ≡ done_with (record sgr { bg = c })
 unfolding inks
 bg-inks Reset sgr e = ap (λ f. done_with (record sgr { bg = f })) e
-bg-inks Black sgr e = refl
-bg-inks Red sgr e = refl
-bg-inks Green sgr e = refl
-bg-inks Yellow sgr e = refl
-bg-inks Blue sgr e = refl
-bg-inks Magenta sgr e = refl
-bg-inks Cyan sgr e = refl
-bg-inks Gray sgr e = refl
-bg-inks DarkGray sgr e = refl
-bg-inks LightRed sgr e = refl
-bg-inks LightGreen sgr e = refl
-bg-inks LightYellow sgr e = refl
-bg-inks LightBlue sgr e = refl
-bg-inks LightMagenta sgr e = refl
-bg-inks LightCyan sgr e = refl
-bg-inks White sgr e = refl
 bg-inks (Rgb r g b) sgr e = refl
 bg-inks (Indexed n) sgr e = refl
+bg-inks _ sgr e = refl
 
 underline-inks : (c : Color) (sgr : Sgr) → IsTrue (is_underline c) → sgr.underline_color ≡ Reset → inks (underline_parameters c) (done_with sgr) ≡ done_with (record sgr { underline_color = c })
 unfolding inks
@@ -117,74 +87,29 @@ underline-inks _ sgr sent e = let h : ⊥ = cc in absurd h
 abbrev marks : Bool → ℕ → Modifier → Modifier
 marks b v m = if b then m else modifier_of (bit_or (bits_of m) v)
 
-mark-1 : (b : Bool) (sgr : Sgr) → inks (if b then [] else 1 ∷ []) (done_with sgr) ≡ done_with (record sgr { modifier = marks b 1 sgr.modifier })
-unfolding inks
-mark-1 true sgr = refl
-mark-1 false sgr = refl
+-- a modifier's number, unless it is left out, marks the modifier
+abbrev Marks : ℕ → ℕ → Type 0
+Marks k v = (m : Modifier) → inks (k ∷ []) (done_with (record default_sgr { modifier = m })) ≡ done_with (record default_sgr { modifier = modifier_of (bit_or (bits_of m) v) })
 
-mark-2 : (b : Bool) (sgr : Sgr) → inks (if b then [] else 2 ∷ []) (done_with sgr) ≡ done_with (record sgr { modifier = marks b 2 sgr.modifier })
+mark : (k v : ℕ) (b : Bool) (m : Modifier) → Marks k v → inks (if b then [] else k ∷ []) (done_with (record default_sgr { modifier = m })) ≡ done_with (record default_sgr { modifier = marks b v m })
 unfolding inks
-mark-2 true sgr = refl
-mark-2 false sgr = refl
+mark k v true m does = refl
+mark k v false m does = does m
 
-mark-3 : (b : Bool) (sgr : Sgr) → inks (if b then [] else 3 ∷ []) (done_with sgr) ≡ done_with (record sgr { modifier = marks b 4 sgr.modifier })
-unfolding inks
-mark-3 true sgr = refl
-mark-3 false sgr = refl
-
-mark-4 : (b : Bool) (sgr : Sgr) → inks (if b then [] else 4 ∷ []) (done_with sgr) ≡ done_with (record sgr { modifier = marks b 8 sgr.modifier })
-unfolding inks
-mark-4 true sgr = refl
-mark-4 false sgr = refl
-
-mark-5 : (b : Bool) (sgr : Sgr) → inks (if b then [] else 5 ∷ []) (done_with sgr) ≡ done_with (record sgr { modifier = marks b 16 sgr.modifier })
-unfolding inks
-mark-5 true sgr = refl
-mark-5 false sgr = refl
-
-mark-6 : (b : Bool) (sgr : Sgr) → inks (if b then [] else 6 ∷ []) (done_with sgr) ≡ done_with (record sgr { modifier = marks b 32 sgr.modifier })
-unfolding inks
-mark-6 true sgr = refl
-mark-6 false sgr = refl
-
-mark-7 : (b : Bool) (sgr : Sgr) → inks (if b then [] else 7 ∷ []) (done_with sgr) ≡ done_with (record sgr { modifier = marks b 64 sgr.modifier })
-unfolding inks
-mark-7 true sgr = refl
-mark-7 false sgr = refl
-
-mark-8 : (b : Bool) (sgr : Sgr) → inks (if b then [] else 8 ∷ []) (done_with sgr) ≡ done_with (record sgr { modifier = marks b 128 sgr.modifier })
-unfolding inks
-mark-8 true sgr = refl
-mark-8 false sgr = refl
-
-mark-9 : (b : Bool) (sgr : Sgr) → inks (if b then [] else 9 ∷ []) (done_with sgr) ≡ done_with (record sgr { modifier = marks b 256 sgr.modifier })
-unfolding inks
-mark-9 true sgr = refl
-mark-9 false sgr = refl
+marked : (k v bits : ℕ) (rest : List ℕ) (m : Modifier) → Marks k v
+    → inks (modifier_parameter bits v k ++ rest) (done_with (record default_sgr { modifier = m })) ≡ inks rest (done_with (record default_sgr { modifier = marks (bit_and bits v == 0) v m }))
+marked k v bits rest m does = inks-append (modifier_parameter bits v k) rest (done_with (record default_sgr { modifier = m })) ∙ ap (inks rest) (mark k v (bit_and bits v == 0) m does)
 
 -- the modifiers that are read back
 abbrev read_back : ℕ → ℕ
 read_back bits = (marks (bit_and bits 256 == 0) 256 (marks (bit_and bits 128 == 0) 128 (marks (bit_and bits 64 == 0) 64 (marks (bit_and bits 32 == 0) 32 (marks (bit_and bits 16 == 0) 16 (marks (bit_and bits 8 == 0) 8 (marks (bit_and bits 4 == 0) 4 (marks (bit_and bits 2 == 0) 2 (marks (bit_and bits 1 == 0) 1 no_modifier))))))))).0
 
 modifiers-inked : (bits : ℕ) → inks (modifier_parameters bits) (done_with default_sgr) ≡ done_with (record default_sgr { modifier = modifier_of (read_back bits) })
+unfolding inks
 modifiers-inked bits =
-    inks-append (modifier_parameter bits 1 1) (modifier_parameter bits 2 2 ++ (modifier_parameter bits 4 3 ++ (modifier_parameter bits 8 4 ++ (modifier_parameter bits 16 5 ++ (modifier_parameter bits 32 6 ++ (modifier_parameter bits 64 7 ++ (modifier_parameter bits 128 8 ++ modifier_parameter bits 256 9))))))) (done_with default_sgr)
-    ∙ ap (inks (modifier_parameter bits 2 2 ++ (modifier_parameter bits 4 3 ++ (modifier_parameter bits 8 4 ++ (modifier_parameter bits 16 5 ++ (modifier_parameter bits 32 6 ++ (modifier_parameter bits 64 7 ++ (modifier_parameter bits 128 8 ++ modifier_parameter bits 256 9)))))))) (mark-1 (bit_and bits 1 == 0) default_sgr)
-    ∙ inks-append (modifier_parameter bits 2 2) (modifier_parameter bits 4 3 ++ (modifier_parameter bits 8 4 ++ (modifier_parameter bits 16 5 ++ (modifier_parameter bits 32 6 ++ (modifier_parameter bits 64 7 ++ (modifier_parameter bits 128 8 ++ modifier_parameter bits 256 9)))))) (done_with (record default_sgr { modifier = (marks (bit_and bits 1 == 0) 1 default_sgr.modifier) }))
-    ∙ ap (inks (modifier_parameter bits 4 3 ++ (modifier_parameter bits 8 4 ++ (modifier_parameter bits 16 5 ++ (modifier_parameter bits 32 6 ++ (modifier_parameter bits 64 7 ++ (modifier_parameter bits 128 8 ++ modifier_parameter bits 256 9))))))) (mark-2 (bit_and bits 2 == 0) (record default_sgr { modifier = (marks (bit_and bits 1 == 0) 1 default_sgr.modifier) }))
-    ∙ inks-append (modifier_parameter bits 4 3) (modifier_parameter bits 8 4 ++ (modifier_parameter bits 16 5 ++ (modifier_parameter bits 32 6 ++ (modifier_parameter bits 64 7 ++ (modifier_parameter bits 128 8 ++ modifier_parameter bits 256 9))))) (done_with (record default_sgr { modifier = (marks (bit_and bits 2 == 0) 2 (marks (bit_and bits 1 == 0) 1 default_sgr.modifier)) }))
-    ∙ ap (inks (modifier_parameter bits 8 4 ++ (modifier_parameter bits 16 5 ++ (modifier_parameter bits 32 6 ++ (modifier_parameter bits 64 7 ++ (modifier_parameter bits 128 8 ++ modifier_parameter bits 256 9)))))) (mark-3 (bit_and bits 4 == 0) (record default_sgr { modifier = (marks (bit_and bits 2 == 0) 2 (marks (bit_and bits 1 == 0) 1 default_sgr.modifier)) }))
-    ∙ inks-append (modifier_parameter bits 8 4) (modifier_parameter bits 16 5 ++ (modifier_parameter bits 32 6 ++ (modifier_parameter bits 64 7 ++ (modifier_parameter bits 128 8 ++ modifier_parameter bits 256 9)))) (done_with (record default_sgr { modifier = (marks (bit_and bits 4 == 0) 4 (marks (bit_and bits 2 == 0) 2 (marks (bit_and bits 1 == 0) 1 default_sgr.modifier))) }))
-    ∙ ap (inks (modifier_parameter bits 16 5 ++ (modifier_parameter bits 32 6 ++ (modifier_parameter bits 64 7 ++ (modifier_parameter bits 128 8 ++ modifier_parameter bits 256 9))))) (mark-4 (bit_and bits 8 == 0) (record default_sgr { modifier = (marks (bit_and bits 4 == 0) 4 (marks (bit_and bits 2 == 0) 2 (marks (bit_and bits 1 == 0) 1 default_sgr.modifier))) }))
-    ∙ inks-append (modifier_parameter bits 16 5) (modifier_parameter bits 32 6 ++ (modifier_parameter bits 64 7 ++ (modifier_parameter bits 128 8 ++ modifier_parameter bits 256 9))) (done_with (record default_sgr { modifier = (marks (bit_and bits 8 == 0) 8 (marks (bit_and bits 4 == 0) 4 (marks (bit_and bits 2 == 0) 2 (marks (bit_and bits 1 == 0) 1 default_sgr.modifier)))) }))
-    ∙ ap (inks (modifier_parameter bits 32 6 ++ (modifier_parameter bits 64 7 ++ (modifier_parameter bits 128 8 ++ modifier_parameter bits 256 9)))) (mark-5 (bit_and bits 16 == 0) (record default_sgr { modifier = (marks (bit_and bits 8 == 0) 8 (marks (bit_and bits 4 == 0) 4 (marks (bit_and bits 2 == 0) 2 (marks (bit_and bits 1 == 0) 1 default_sgr.modifier)))) }))
-    ∙ inks-append (modifier_parameter bits 32 6) (modifier_parameter bits 64 7 ++ (modifier_parameter bits 128 8 ++ modifier_parameter bits 256 9)) (done_with (record default_sgr { modifier = (marks (bit_and bits 16 == 0) 16 (marks (bit_and bits 8 == 0) 8 (marks (bit_and bits 4 == 0) 4 (marks (bit_and bits 2 == 0) 2 (marks (bit_and bits 1 == 0) 1 default_sgr.modifier))))) }))
-    ∙ ap (inks (modifier_parameter bits 64 7 ++ (modifier_parameter bits 128 8 ++ modifier_parameter bits 256 9))) (mark-6 (bit_and bits 32 == 0) (record default_sgr { modifier = (marks (bit_and bits 16 == 0) 16 (marks (bit_and bits 8 == 0) 8 (marks (bit_and bits 4 == 0) 4 (marks (bit_and bits 2 == 0) 2 (marks (bit_and bits 1 == 0) 1 default_sgr.modifier))))) }))
-    ∙ inks-append (modifier_parameter bits 64 7) (modifier_parameter bits 128 8 ++ modifier_parameter bits 256 9) (done_with (record default_sgr { modifier = (marks (bit_and bits 32 == 0) 32 (marks (bit_and bits 16 == 0) 16 (marks (bit_and bits 8 == 0) 8 (marks (bit_and bits 4 == 0) 4 (marks (bit_and bits 2 == 0) 2 (marks (bit_and bits 1 == 0) 1 default_sgr.modifier)))))) }))
-    ∙ ap (inks (modifier_parameter bits 128 8 ++ modifier_parameter bits 256 9)) (mark-7 (bit_and bits 64 == 0) (record default_sgr { modifier = (marks (bit_and bits 32 == 0) 32 (marks (bit_and bits 16 == 0) 16 (marks (bit_and bits 8 == 0) 8 (marks (bit_and bits 4 == 0) 4 (marks (bit_and bits 2 == 0) 2 (marks (bit_and bits 1 == 0) 1 default_sgr.modifier)))))) }))
-    ∙ inks-append (modifier_parameter bits 128 8) (modifier_parameter bits 256 9) (done_with (record default_sgr { modifier = (marks (bit_and bits 64 == 0) 64 (marks (bit_and bits 32 == 0) 32 (marks (bit_and bits 16 == 0) 16 (marks (bit_and bits 8 == 0) 8 (marks (bit_and bits 4 == 0) 4 (marks (bit_and bits 2 == 0) 2 (marks (bit_and bits 1 == 0) 1 default_sgr.modifier))))))) }))
-    ∙ ap (inks (modifier_parameter bits 256 9)) (mark-8 (bit_and bits 128 == 0) (record default_sgr { modifier = (marks (bit_and bits 64 == 0) 64 (marks (bit_and bits 32 == 0) 32 (marks (bit_and bits 16 == 0) 16 (marks (bit_and bits 8 == 0) 8 (marks (bit_and bits 4 == 0) 4 (marks (bit_and bits 2 == 0) 2 (marks (bit_and bits 1 == 0) 1 default_sgr.modifier))))))) }))
-    ∙ mark-9 (bit_and bits 256 == 0) (record default_sgr { modifier = (marks (bit_and bits 128 == 0) 128 (marks (bit_and bits 64 == 0) 64 (marks (bit_and bits 32 == 0) 32 (marks (bit_and bits 16 == 0) 16 (marks (bit_and bits 8 == 0) 8 (marks (bit_and bits 4 == 0) 4 (marks (bit_and bits 2 == 0) 2 (marks (bit_and bits 1 == 0) 1 default_sgr.modifier)))))))) })
+    marked 1 1 bits _ _ (λ m. refl) ∙ marked 2 2 bits _ _ (λ m. refl) ∙ marked 3 4 bits _ _ (λ m. refl) ∙ marked 4 8 bits _ _ (λ m. refl)
+    ∙ marked 5 16 bits _ _ (λ m. refl) ∙ marked 6 32 bits _ _ (λ m. refl) ∙ marked 7 64 bits _ _ (λ m. refl) ∙ marked 8 128 bits _ _ (λ m. refl)
+    ∙ mark 9 256 (bit_and bits 256 == 0) _ (λ m. refl)
 
 -- whether a test holds of each number below n
 abbrev pub up_to : (ℕ → Bool) → ℕ → Bool
@@ -264,46 +189,16 @@ are_bytes ps = list_all (λ q. nat_lt q 256) ps
 fg-known : (c : Color) → are_bytes (color_parameters 30 c) ≡ true → are_known (color_parameters 30 c) Nothing ≡ true
 unfolding are_known
 fg-known Reset small = refl
-fg-known Black small = refl
-fg-known Red small = refl
-fg-known Green small = refl
-fg-known Yellow small = refl
-fg-known Blue small = refl
-fg-known Magenta small = refl
-fg-known Cyan small = refl
-fg-known Gray small = refl
-fg-known DarkGray small = refl
-fg-known LightRed small = refl
-fg-known LightGreen small = refl
-fg-known LightYellow small = refl
-fg-known LightBlue small = refl
-fg-known LightMagenta small = refl
-fg-known LightCyan small = refl
-fg-known White small = refl
 fg-known (Rgb r g b) small = small
 fg-known (Indexed n) small = small
+fg-known _ small = refl
 
 bg-known : (c : Color) → are_bytes (color_parameters 40 c) ≡ true → are_known (color_parameters 40 c) Nothing ≡ true
 unfolding are_known
 bg-known Reset small = refl
-bg-known Black small = refl
-bg-known Red small = refl
-bg-known Green small = refl
-bg-known Yellow small = refl
-bg-known Blue small = refl
-bg-known Magenta small = refl
-bg-known Cyan small = refl
-bg-known Gray small = refl
-bg-known DarkGray small = refl
-bg-known LightRed small = refl
-bg-known LightGreen small = refl
-bg-known LightYellow small = refl
-bg-known LightBlue small = refl
-bg-known LightMagenta small = refl
-bg-known LightCyan small = refl
-bg-known White small = refl
 bg-known (Rgb r g b) small = small
 bg-known (Indexed n) small = small
+bg-known _ small = refl
 
 underline-known : (c : Color) → IsTrue (is_underline c) → are_bytes (underline_parameters c) ≡ true → are_known (underline_parameters c) Nothing ≡ true
 unfolding are_known

@@ -1,11 +1,12 @@
 -- What a terminal shows, as the backends' contract speaks of it, and when it is ready for a call of a backend.
-use Rattle.std.specs.Prelude.{◌≡◌, ℕ, ◌+◌, ◌-◌, ◌<◌, ◌≤◌, min, true, false, List, [], ◌++◌}
+use Rattle.std.specs.Prelude.{◌≡◌, ℕ, ◌+◌, ◌-◌, ◌<◌, ◌≤◌, min, Bool, true, false, List, [], ◌++◌}
 use Rattle.ratatui_core.specs.Buffer.{Look}
 use Rattle.ratatui_core.specs.Backend.{Screen}
 use Rattle.ansi_model.specs.Columns.{Column, Columns, blank_column, look_in, is_continuation, overwritten}
 use Rattle.ansi_model.specs.Columns.Column.{Shows, Unknown}
 use Rattle.ansi_model.specs.Sgr.{default_sgr}
-use Rattle.ansi_model.specs.Emulator.{Emulator, rested, run}
+use Rattle.ansi_model.specs.declared.sgr.Sgr.{Sgr}
+use Rattle.ansi_model.specs.Emulator.{Emulator, Phase, rested, run}
 use Rattle.ansi_model.specs.Emulator.Phase.{Ground}
 use Rattle.ansi_model.specs.Sequences.{feed}
 use Rattle.ansi_model.specs.Symbols.{printed_columns}
@@ -45,20 +46,28 @@ IsWhole columns = (a b : ℕ) → IsWholeAt (λ k. columns k b) a (columns a b)
 abbrev pub IsBlankBeyond : ℕ → Columns → Type 0
 IsBlankBeyond w columns = (a b : ℕ) → w ≤ a → columns a b ≡ blank_column
 
--- a terminal of this size that awaits text and is sure, with its own rendition, no margins, all of its symbols whole, and its cursor in its rows
+-- what may stand in the columns of a screen so wide: symbols in their own widths, none of them cut, and nothing right of the screen
+pub record IsTidy (w : ℕ) (columns : Columns) : Type 0 where
+  pub sized : HaveOwnWidths columns
+  pub whole : IsWhole columns
+  pub beyond : IsBlankBeyond w columns
+
+-- a terminal of this size awaits text and is sure, in its default rendition and without margins
+pub record IsResting (w h : ℕ) (at : Phase) (read : List ℕ) (wide high : ℕ) (own : Sgr) (first end : ℕ) (agreed : Bool) : Type 0 where
+  pub phase : at ≡ Ground
+  pub text : read ≡ []
+  pub width : wide ≡ w
+  pub height : high ≡ h
+  pub sgr : own ≡ default_sgr
+  pub top : first ≡ 0
+  pub bottom : end ≡ h
+  pub sure : agreed ≡ true
+
+-- a terminal between two calls of a backend, with its cursor in its rows
 pub record IsIdle (w h : ℕ) (t : Emulator) : Type 0 where
-  pub phase : t.phase ≡ Ground
-  pub text : t.text ≡ []
-  pub width : t.width ≡ w
-  pub height : t.height ≡ h
-  pub sgr : t.sgr ≡ default_sgr
-  pub top : t.top ≡ 0
-  pub bottom : t.bottom ≡ h
+  pub rest : IsResting w h t.phase t.text t.width t.height t.sgr t.top t.bottom t.sure
   pub row : t.y < h
-  pub sure : t.sure ≡ true
-  pub sized : HaveOwnWidths t.columns
-  pub whole : IsWhole t.columns
-  pub beyond : IsBlankBeyond w t.columns
+  pub tidy : IsTidy w t.columns
 
 -- bytes were appended that leave each terminal ready that was so once its text stands, and related to what it was
 pub record Turns (w h : ℕ) (old new : List ℕ) (related : Emulator → Emulator → Type 0) : Type 0 where

@@ -8,9 +8,8 @@ use Rattle.ansi_model.specs.Sequences.{feed}
 use Rattle.ansi_model.specs.Screens.{screen_shown}
 use Rattle.ansi_model.specs.Beginnings.{MakesBlank, anew, with_rows_above}
 use Rattle.ansi_model.specs.Columns.{blank_column}
-use Rattle.ansi_model.proofs.ScrollLemmas.{blank-whole}
+use Rattle.ansi_model.proofs.ScrollLemmas.{blank-idle}
 use Rattle.ansi_model.proofs.ReadLemmas.{feed-append}
-use Rattle.ansi_model.proofs.TextLemmas.{blank-sized}
 use Rattle.ansi_model.proofs.CallLemmas.{fresh-left}
 use Rattle.ansi_model.proofs.HistoryLemmas.{feed-above}
 use Rattle.ratatui_ansi.specs.Tracker.{IsAwaiting, IsTracked, FitsScreen, KeepsTracked, Collects, BeginsBlank}
@@ -61,7 +60,7 @@ in-order-still {size} {place} {flags} kept whole same = record {
 pub cursor-column : {w h : ℕ} {place : Position} {flags : List Bool} {t : Emulator} → 0 < w → IsAwaiting w h place flags t → place.x < w
 cursor-column {w} {place = place} {t = t} some awaits =
     let x : min (rested t).x ((rested t).width - 1) ≡ place.x = ap (λ (p : Position). p.x) awaits.placed in
-    let width : (rested t).width ≡ w = awaits.ready.width in
+    let width : (rested t).width ≡ w = awaits.ready.rest.width in
     omega arith
 
 pub cursor-row : {w h : ℕ} {place : Position} {flags : List Bool} {t : Emulator} → IsAwaiting w h place flags t → place.y < h
@@ -89,20 +88,7 @@ blank-awaits w h flags some continuations =
     let column : min 0 (w - 1) ≡ 0 = omega arith in
     record {
       phase = refl;
-      ready = record {
-        phase = refl;
-        text = refl;
-        width = refl;
-        height = refl;
-        sgr = refl;
-        top = refl;
-        bottom = refl;
-        row = some;
-        sure = refl;
-        sized = λ a b. blank-sized;
-        whole = λ a b. blank-whole a;
-        beyond = λ a b out. refl;
-      };
+      ready = blank-idle w h some;
       continuations = continuations;
       placed = ap (λ k. record { x = k; y = 0 }) column;
     }

@@ -110,9 +110,6 @@ module _ (w h : ℕ) (old new : List Bool) (c : Columns) (from to n : ℕ) (fits
 pub AreContinuations-along : (w h : ℕ) (flags : List Bool) (c d : Columns) → ((a b : ℕ) → d a b ≡ c a b) → AreContinuations w h flags c → AreContinuations w h flags d
 AreContinuations-along w h flags c d same continuations = record { count = continuations.count; each = λ a b a_in b_in. continuations.each a b a_in b_in ∙ ap is_continuation (sym (same a b)) }
 
--- ---- flags that were cleared
-
-module _ (w h : ℕ) (old new : List Bool) (c : Columns) (same : length new ≡ length old) (continuations : AreContinuations w h old c) where
 -- which places a part takes
 module _ (w h x y a b : ℕ) (a_in : a < w) (b_in : b < h) (x_in : x < w) (y_in : y < h) where
   pub places_after : (nat_le (y * w + x) (b * w + a) && nat_lt (b * w + a) (w * h)) ≡ is_cleared AfterCursor x y a b

@@ -191,20 +191,20 @@ laid-by w h x y n end sgr symbol s ready en some fits inside row left tail =
     let ordered : x + n ≤ end = tail.ordered in
     let m = end - (x + n) in
     let t = printed_at x y sgr symbol s in
-    let wide : s.width ≡ w = ready.width in
-    let high : s.height ≡ h = ready.height in
+    let wide : s.width ≡ w = ready.rest.width in
+    let high : s.height ≡ h = ready.rest.height in
     let reached : x + n + m ≡ end = omega arith in
     let look = inked symbol sgr in
     let put : (a b : ℕ) → t.columns a b ≡ torn x y n (x + n) end look s.columns a b =
-    λ a b. ap (λ j. put_columns x y j look s.columns a b) en ∙ put-torn x y n end look s.columns ready.whole left tail some a b in
+    λ a b. ap (λ j. put_columns x y j look s.columns a b) en ∙ put-torn x y n end look s.columns ready.tidy.whole left tail some a b in
     let sure : t.sure ≡ true =
     let one : nat_lt 0 n ≡ true = grind (arith, nat_tests) in
     let two : nat_le (x + n) s.width ≡ true = grind (arith, nat_tests) in
     let three : nat_lt y s.height ≡ true = grind (arith, nat_tests) in
-    rw (ready.sure, en, one, two, three) refl in
+    rw (ready.rest.sure, en, one, two, three) refl in
     record {
       only = only-then s t (blanked (x + n) y m t) refl (blanked-only (x + n) y m t);
-      columns = λ a b. blanked-torn x y n end m end look s.columns t ready.whole left tail put reached (omega arith) a b ∙ torn-all x y n end look s.columns a b;
+      columns = λ a b. blanked-torn x y n end m end look s.columns t ready.tidy.whole left tail put reached (omega arith) a b ∙ torn-all x y n end look s.columns a b;
       x_at = blanked-x (x + n) y m t (ap (λ j. x + j) en) ∙ reached;
       y_at = blanked-y (x + n) y m t refl;
       certain = blanked-sure (x + n) y m t sure (omega arith) (omega arith);
@@ -213,19 +213,23 @@ laid-by w h x y n end sgr symbol s ready en some fits inside row left tail =
 laid-ready : (w h x y n end : ℕ) (look : Look) (s u : Emulator) → IsIdle w h (with_sgr default_sgr s) → n ≡ printed_columns look.symbol → x + n ≤ w → y < h → is_continuation (s.columns x y) ≡ false
     → IsTail (x + n) end y s.columns → IsLaid x y n end look s u → IsIdle w h (with_sgr default_sgr u)
 laid-ready w h x y n end look s u ready takes fits row left tail is = record {
-  phase = ap (λ (v : Emulator). v.phase) is.only ∙ ready.phase;
-  text = ap (λ (v : Emulator). v.text) is.only ∙ ready.text;
-  width = ap (λ (v : Emulator). v.width) is.only ∙ ready.width;
-  height = ap (λ (v : Emulator). v.height) is.only ∙ ready.height;
-  sgr = refl;
-  top = ap (λ (v : Emulator). v.top) is.only ∙ ready.top;
-  bottom = ap (λ (v : Emulator). v.bottom) is.only ∙ ready.bottom;
+  rest = record {
+    phase = ap (λ (v : Emulator). v.phase) is.only ∙ ready.rest.phase;
+    text = ap (λ (v : Emulator). v.text) is.only ∙ ready.rest.text;
+    width = ap (λ (v : Emulator). v.width) is.only ∙ ready.rest.width;
+    height = ap (λ (v : Emulator). v.height) is.only ∙ ready.rest.height;
+    sgr = refl;
+    top = ap (λ (v : Emulator). v.top) is.only ∙ ready.rest.top;
+    bottom = ap (λ (v : Emulator). v.bottom) is.only ∙ ready.rest.bottom;
+    sure = is.certain;
+  };
   row = let at : u.y ≡ y = is.y_at in omega arith;
-  sure = is.certain;
-  sized = λ a b. subst HasOwnWidth (sym (is.columns a b)) (laid-sized x y n end look s.columns takes ready.sized a b);
-  whole = λ a b.
-      whole_along (λ k. laid x y n end look s.columns k b) (λ k. u.columns k b) a (λ k. sym (is.columns k b)) (laid-whole x y n end look s.columns ready.whole left tail a b);
-  beyond = λ a b far. is.columns a b ∙ laid-beyond w x y n end look s.columns fits ready.beyond a b far;
+  tidy = record {
+    sized = λ a b. subst HasOwnWidth (sym (is.columns a b)) (laid-sized x y n end look s.columns takes ready.tidy.sized a b);
+    whole = λ a b.
+        whole_along (λ k. laid x y n end look s.columns k b) (λ k. u.columns k b) a (λ k. sym (is.columns k b)) (laid-whole x y n end look s.columns ready.tidy.whole left tail a b);
+    beyond = λ a b far. is.columns a b ∙ laid-beyond w x y n end look s.columns fits ready.tidy.beyond a b far;
+  };
 }
 
 -- ---- the flags
@@ -395,9 +399,9 @@ lay-sends w h x y n end cell before after flags flags_after old new fit en colum
     let fits : x + n ≤ w = let i = fit.inside in omega arith in
     let left : (t : Emulator) → IsDrawing w h before flags t → is_continuation ((rested t).columns x y) ≡ false = λ t is. sym (is.continuations.each x y column row) ∙ uncut in
     let tail : (t : Emulator) → IsDrawing w h before flags t → IsTail (x + n) end y (rested t).columns =
-    λ t is. tail-of w h (x + n) end y flags (rested t).columns is.continuations is.ready.beyond row ordered inside set unset in
+    λ t is. tail-of w h (x + n) end y flags (rested t).columns is.continuations is.ready.tidy.beyond row ordered inside set unset in
     let laid_at : (t : Emulator) → IsDrawing w h before flags t → IsLaid x y n end (look_of cell) (rested t) (rested (feed both.bytes t)) = λ t is.
-    subst (IsLaid x y n end (look_of cell) (rested t)) (sym (both.printed t is.ready.width is.ready.height is.drawn))
+    subst (IsLaid x y n end (look_of cell) (rested t)) (sym (both.printed t is.ready.rest.width is.ready.rest.height is.drawn))
     (subst (λ look. IsLaid x y n end look (rested t) (blanked (x + n) y m (printed_at x y (sgr_of cell) symbol (rested t)))) (ink-look cell)
     (laid-by w h x y n end (sgr_of cell) symbol (rested t) is.ready columns some fits inside row (left t is) (tail t is))) in
     record {
@@ -406,15 +410,15 @@ lay-sends w h x y n end cell before after flags flags_after old new fit en colum
       drawing = λ t is.
           let at = laid_at t is in
           let u = rested (feed both.bytes t) in
-          let wide : u.width ≡ w = ap (λ (v : Emulator). v.width) at.only ∙ is.ready.width in
+          let wide : u.width ≡ w = ap (λ (v : Emulator). v.width) at.only ∙ is.ready.rest.width in
           record {
-            drawn = both.drawn t is.ready.width is.ready.height is.drawn;
+            drawn = both.drawn t is.ready.rest.width is.ready.rest.height is.drawn;
             ready = laid-ready w h x y n end (look_of cell) (rested t) u is.ready (sym columns ∙ ap (λ (look : Look). printed_columns look.symbol) (ink-look cell)) fits row (left t is) (tail t is) at;
             continuations = laid-flags w h x y n end (look_of cell) (rested t) u flags flags_after is.continuations ordered inside some at marked;
             cursor = cursor-at end y w u.x u.y u.width at.x_at at.y_at wide ∙ sym cursor;
           };
       draws = λ t is.
-          laid-draws w h x y n end cell (rested t) (rested (feed both.bytes t)) before.written after.written is.ready.width is.ready.height (tail t is) en some fits row (laid_at t is) count;
+          laid-draws w h x y n end cell (rested t) (rested (feed both.bytes t)) before.written after.written is.ready.rest.width is.ready.rest.height (tail t is) en some fits row (laid_at t is) count;
     }
 
 -- a rendition, a symbol, and blanks in what is left of another one
@@ -467,7 +471,7 @@ still-sends w h u before after flags old brush cursor count same = record {
     width = refl;
     height = refl;
     visible = refl;
-    grid = λ a b. rw (is.ready.width, is.ready.height) (same (rested t).columns is.continuations a b);
+    grid = λ a b. rw (is.ready.rest.width, is.ready.rest.height) (same (rested t).columns is.continuations a b);
     written = λ below. omega arith;
     full = λ above. omega arith;
   };
@@ -542,22 +546,22 @@ pub begins : (w h : ℕ) (d : Drawing) (cursor : Position) (flags : List Bool) (
 begins w h d cursor flags t own unplaced at is = record {
   drawn = record {
     phase = is.phase;
-    sgr = is.ready.sgr ∙ sym own;
+    sgr = is.ready.rest.sgr ∙ sym own;
     placed = λ placed. let h : ⊥ = cc in absurd h;
   };
   ready = record {
-    phase = is.ready.phase;
-    text = is.ready.text;
-    width = is.ready.width;
-    height = is.ready.height;
-    sgr = refl;
-    top = is.ready.top;
-    bottom = is.ready.bottom;
+    rest = record {
+      phase = is.ready.rest.phase;
+      text = is.ready.rest.text;
+      width = is.ready.rest.width;
+      height = is.ready.rest.height;
+      sgr = refl;
+      top = is.ready.rest.top;
+      bottom = is.ready.rest.bottom;
+      sure = is.ready.rest.sure;
+    };
     row = is.ready.row;
-    sure = is.ready.sure;
-    sized = is.ready.sized;
-    whole = is.ready.whole;
-    beyond = is.ready.beyond;
+    tidy = is.ready.tidy;
   };
   continuations = is.continuations;
   cursor = is.placed ∙ sym at;
@@ -565,18 +569,18 @@ begins w h d cursor flags t own unplaced at is = record {
 
 with-own : (w h : ℕ) (t : Emulator) → t.sgr ≡ default_sgr → IsIdle w h (with_sgr default_sgr t) → IsIdle w h t
 with-own w h t own ready = record {
-  phase = ready.phase;
-  text = ready.text;
-  width = ready.width;
-  height = ready.height;
-  sgr = own;
-  top = ready.top;
-  bottom = ready.bottom;
+  rest = record {
+    phase = ready.rest.phase;
+    text = ready.rest.text;
+    width = ready.rest.width;
+    height = ready.rest.height;
+    sgr = own;
+    top = ready.rest.top;
+    bottom = ready.rest.bottom;
+    sure = ready.rest.sure;
+  };
   row = ready.row;
-  sure = ready.sure;
-  sized = ready.sized;
-  whole = ready.whole;
-  beyond = ready.beyond;
+  tidy = ready.tidy;
 }
 
 -- and ends with the own rendition

@@ -32,11 +32,11 @@ use Rattle.ratatui_ansi.proofs.FrameLemmas.{begins}
 refused-on : (w h : ℕ) (colors : Bool) (d : Drawing) (flags : List Bool) (t : Emulator) (u : Update) (refusal : Refusal) → IsDrawing w h d flags t → RefusesUpdate w h colors flags u refusal
     → IsRefusedOn colors (screen_shown d.written (rested t)) u refusal
 refused-on w h colors d flags t u Refused.Memory is because = tt
-refused-on w h colors d flags t u (Refused.Symbol p) is because = (rw (is.ready.width, is.ready.height) because.0, rw is.ready.width because.2)
-refused-on w h colors d flags t u (Refused.Style p) is because = (rw (is.ready.width, is.ready.height) because.0, because.2)
+refused-on w h colors d flags t u (Refused.Symbol p) is because = (rw (is.ready.rest.width, is.ready.rest.height) because.0, rw is.ready.rest.width because.2)
+refused-on w h colors d flags t u (Refused.Style p) is because = (rw (is.ready.rest.width, is.ready.rest.height) because.0, because.2)
 refused-on w h colors d flags t u (Refused.Cut p) is because = (
-  rw (is.ready.width, is.ready.height) because.0,
-  covered-continuation (rested t).columns is.ready.sized is.ready.whole u.x u.y (sym (is.continuations.each u.x u.y because.0.column because.0.row) ∙ because.1),
+  rw (is.ready.rest.width, is.ready.rest.height) because.0,
+  covered-continuation (rested t).columns is.ready.tidy.sized is.ready.tidy.whole u.x u.y (sym (is.continuations.each u.x u.y because.0.column because.0.row) ∙ because.1),
   because.2,
 )
 
@@ -73,7 +73,7 @@ cut-is-covered {w} {h} {place} {flags} {t} written kind wide is cut =
     let x_in : place.x < w = cursor-column wide is in
     let y_in : place.y < h = cursor-row is in (
       sym is.placed,
-      covered-continuation (rested t).columns is.ready.sized is.ready.whole place.x place.y (sym (is.continuations.each place.x place.y x_in y_in) ∙ set),
+      covered-continuation (rested t).columns is.ready.tidy.sized is.ready.tidy.whole place.x place.y (sym (is.continuations.each place.x place.y x_in y_in) ∙ set),
     )
   where
     by_kind : (k : ClearType) → is_clear_cut k w place.x place.y flags ≡ true → flag flags (place.y * w + place.x) ≡ true

@@ -73,7 +73,7 @@ pub cursor-kept : (w h x y : ℕ) (flags : List Bool) (s t : Emulator) → IsIdl
 cursor-kept w h x y flags s t ready continuations became =
     let at : cursor_of (screen_shown 0 t) ≡ record { x = min x (s.width - 1); y = min y (s.height - 1) } = ap cursor_of (became.screens 0) in
     record {
-      cursor = at ∙ ap₂ (λ i j. record { x = min x (i - 1); y = min y (j - 1) }) ready.width ready.height;
+      cursor = at ∙ ap₂ (λ i j. record { x = min x (i - 1); y = min y (j - 1) }) ready.rest.width ready.rest.height;
       continuations = AreContinuations-along w h flags s.columns t.columns became.columns continuations;
       screens = became.screens;
     }
@@ -85,7 +85,7 @@ pub append-kept : (w h n : ℕ) (place : Position) (flags flags_after : List Boo
     → Becomes (λ p q. Appends p n q × (q.cursor_x ≡ 0)) (rows_raised 0 h (s.y + n - (h - 1)) s.columns) s t
     → IsKept w h (record { x = 0; y = min (place.y + n) (h - 1) }) flags_after (λ p q. Appends p n q) s t
 append-kept w h n place flags flags_after s t ready at row cursor_moved continuations became =
-    let high : s.height ≡ h = ready.height in
+    let high : s.height ≡ h = ready.rest.height in
     let y : s.y ≡ place.y = ap (λ (p : Position). p.y) at in
     let both = became.screens 0 in
     let rows : t.y ≡ min (place.y + n) (h - 1) = both.0.row ∙ (let e : min (s.y + n) (s.height - 1) ≡ min (place.y + n) (h - 1) = omega arith in e) in
@@ -105,7 +105,7 @@ module _ (x y : ℕ) (p q : Screen) (width : q.width ≡ p.width) (height : q.he
       let ey : min y (p.height - 1) ≡ p.cursor_y = omega arith in
       ap (with_cursor x y) e ∙ ap₂ (λ i j. record p { cursor_x = i; cursor_y = j }) ex ey
 
-  pub up-back : (a b n : ℕ) → ScrollsUp a b n p q → ScrollsUp a b n p (with_cursor x y q)
+  up-back : (a b n : ℕ) → ScrollsUp a b n p q → ScrollsUp a b n p (with_cursor x y q)
   up-back a b n scrolled = record {
     history = scrolled.history;
     width = scrolled.width;
@@ -116,7 +116,7 @@ module _ (x y : ℕ) (p q : Screen) (width : q.width ≡ p.width) (height : q.he
     no_rows = λ none. back (scrolled.no_rows none);
   }
 
-  pub down-back : (a b n : ℕ) → ScrollsDown a b n p q → ScrollsDown a b n p (with_cursor x y q)
+  down-back : (a b n : ℕ) → ScrollsDown a b n p q → ScrollsDown a b n p (with_cursor x y q)
   down-back a b n scrolled = record {
     history = scrolled.history;
     width = scrolled.width;
@@ -128,49 +128,39 @@ module _ (x y : ℕ) (p q : Screen) (width : q.width ≡ p.width) (height : q.he
   }
 
 module _ (w h : ℕ) (place : Position) (flags flags_after : List Bool) (x_in : place.x < w) (y_in : place.y < h) (s u : Emulator) (ready : IsIdle w h s) (at : cursor_of (screen_shown 0 s) ≡ place) where
-  cursor-back : (t : Emulator) → t.width ≡ w → t.height ≡ h → u.width ≡ t.width → Becomes (λ p q. q ≡ with_cursor place.x place.y p) t.columns t u → cursor_of (screen_shown 0 u) ≡ place
-  cursor-back t wide high same became =
+  -- rows that moved, and then the cursor back
+  moved-kept : (related : Screen → Screen → Type 0) (c : Columns) (t : Emulator) → t.width ≡ s.width → t.height ≡ s.height
+      → ((written : ℕ) → min s.x (s.width - 1) ≡ place.x → s.y ≡ place.y → place.x < s.width → place.y < s.height → related (screen_shown written s) (with_cursor place.x place.y (screen_shown written t)))
+      → AreContinuations w h flags_after c → ((i j : ℕ) → t.columns i j ≡ c i j) → Becomes (λ p q. q ≡ with_cursor place.x place.y p) t.columns t u → IsKept w h place flags_after related s u
+  moved-kept related c t wide high moved continuations same became =
+      let s_wide : s.width ≡ w = ready.rest.width in
+      let s_high : s.height ≡ h = ready.rest.height in
       let ex : min place.x (t.width - 1) ≡ place.x = omega arith in
       let ey : min place.y (t.height - 1) ≡ place.y = omega arith in
-      ap cursor_of (became.screens 0) ∙ ap₂ (λ i j. record { x = i; y = j }) ex ey
+      record {
+        cursor = ap cursor_of (became.screens 0) ∙ ap₂ (λ i j. record { x = i; y = j }) ex ey;
+        continuations = AreContinuations-along w h flags_after c u.columns (λ i j. became.columns i j ∙ same i j) continuations;
+        screens = λ written. subst (related (screen_shown written s)) (sym (became.screens written))
+            (moved written (ap (λ (p : Position). p.x) at) (ap (λ (p : Position). p.y) at) (omega arith) (omega arith));
+      }
 
   pub up-kept : (a b n : ℕ) → ((c : Columns) → AreContinuations w h flags c → AreContinuations w h flags_after (rows_raised a (min b h) n c)) → AreContinuations w h flags s.columns
       → (t : Emulator) × Becomes (ScrollsUp a b n) (rows_raised a (min b h) n s.columns) s t × Becomes (λ p q. q ≡ with_cursor place.x place.y p) t.columns t u
       → IsKept w h place flags_after (ScrollsUp a b n) s u
-  up-kept a b n cursor_moved continuations both =
-      let t : Emulator = both.0 in
-      let wide : t.width ≡ s.width = (both.1.screens 0).width in
-      let high : t.height ≡ s.height = (both.1.screens 0).height in
-      let x_at : min s.x (s.width - 1) ≡ place.x = ap (λ (p : Position). p.x) at in
-      let y_at : s.y ≡ place.y = ap (λ (p : Position). p.y) at in
-      let s_wide : s.width ≡ w = ready.width in
-      let s_high : s.height ≡ h = ready.height in
-      let same : u.width ≡ t.width = ap (λ (p : Screen). p.width) (both.2.screens 0) in
-      record {
-        cursor = cursor-back t (wide ∙ s_wide) (high ∙ s_high) same both.2;
-        continuations = AreContinuations-along w h flags_after (rows_raised a (min b h) n s.columns) u.columns (λ i j. both.2.columns i j ∙ both.1.columns i j) (cursor_moved s.columns continuations);
-        screens = λ written. subst (ScrollsUp a b n (screen_shown written s)) (sym (both.2.screens written))
-            (up-back place.x place.y (screen_shown written s) (screen_shown written t) wide high x_at y_at (omega arith) (omega arith) a b n (both.1.screens written));
-      }
+  up-kept a b n moved continuations both =
+      let wide = (both.1.screens 0).width in
+      let high = (both.1.screens 0).height in
+      moved-kept (ScrollsUp a b n) (rows_raised a (min b h) n s.columns) both.0 wide high
+      (λ written ex ey x_here y_here. up-back place.x place.y (screen_shown written s) (screen_shown written both.0) wide high ex ey x_here y_here a b n (both.1.screens written)) (moved s.columns continuations) both.1.columns both.2
 
   pub down-kept : (a b n : ℕ) → ((c : Columns) → AreContinuations w h flags c → AreContinuations w h flags_after (rows_lowered a (min b h) n c)) → AreContinuations w h flags s.columns
       → (t : Emulator) × Becomes (ScrollsDown a b n) (rows_lowered a (min b h) n s.columns) s t × Becomes (λ p q. q ≡ with_cursor place.x place.y p) t.columns t u
       → IsKept w h place flags_after (ScrollsDown a b n) s u
-  down-kept a b n cursor_moved continuations both =
-      let t : Emulator = both.0 in
-      let wide : t.width ≡ s.width = (both.1.screens 0).width in
-      let high : t.height ≡ s.height = (both.1.screens 0).height in
-      let x_at : min s.x (s.width - 1) ≡ place.x = ap (λ (p : Position). p.x) at in
-      let y_at : s.y ≡ place.y = ap (λ (p : Position). p.y) at in
-      let s_wide : s.width ≡ w = ready.width in
-      let s_high : s.height ≡ h = ready.height in
-      let same : u.width ≡ t.width = ap (λ (p : Screen). p.width) (both.2.screens 0) in
-      record {
-        cursor = cursor-back t (wide ∙ s_wide) (high ∙ s_high) same both.2;
-        continuations = AreContinuations-along w h flags_after (rows_lowered a (min b h) n s.columns) u.columns (λ i j. both.2.columns i j ∙ both.1.columns i j) (cursor_moved s.columns continuations);
-        screens = λ written. subst (ScrollsDown a b n (screen_shown written s)) (sym (both.2.screens written))
-            (down-back place.x place.y (screen_shown written s) (screen_shown written t) wide high x_at y_at (omega arith) (omega arith) a b n (both.1.screens written));
-      }
+  down-kept a b n moved continuations both =
+      let wide = (both.1.screens 0).width in
+      let high = (both.1.screens 0).height in
+      moved-kept (ScrollsDown a b n) (rows_lowered a (min b h) n s.columns) both.0 wide high
+      (λ written ex ey x_here y_here. down-back place.x place.y (screen_shown written s) (screen_shown written both.0) wide high ex ey x_here y_here a b n (both.1.screens written)) (moved s.columns continuations) both.1.columns both.2
 
 -- ---- the screen emptied, and parts of it
 
@@ -198,7 +188,7 @@ call-does w h a b place place_after flags flags_after f related does kept = reco
       let u : Emulator = f (rested t) in
       let stays : rested u ≡ u = rested-ready w h u both.0 in
       let after : IsAwaiting w h place_after flags_after u = record {
-        phase = both.0.phase;
+        phase = both.0.rest.phase;
         ready = subst (IsIdle w h) (sym stays) both.0;
         placed = ap (λ v. cursor_of (screen_shown 0 v)) stays ∙ both.1.cursor;
         continuations = subst (λ v. AreContinuations w h flags_after v.columns) (sym stays) both.1.continuations;
@@ -219,20 +209,20 @@ pub part-kept : (w h x y : ℕ) (part : ClearType) (place : Position) (flags fla
     → (s : Emulator) → IsIdle w h s → cursor_of (screen_shown 0 s) ≡ place → AreContinuations w h flags s.columns
     → IsIdle w h (cursor_moved place.x place.y (erased part (cursor_moved x y s))) × IsKept w h place flags_after (Erases part x y) s (cursor_moved place.x place.y (erased part (cursor_moved x y s)))
 part-kept w h x y part place flags flags_after x_in y_in at_x at_y uncut history cleared s ready at continuations =
-    let width : s.width ≡ w = ready.width in
-    let height : s.height ≡ h = ready.height in
+    let width : s.width ≡ w = ready.rest.width in
+    let height : s.height ≡ h = ready.rest.height in
     let u : Emulator = cursor_moved place.x place.y (erased part (record s { x = x; y = y })) in
     let there : u ≡ cursor_moved place.x place.y (erased part (cursor_moved x y s)) = ap (λ t. cursor_moved place.x place.y (erased part t)) (moved-placed x y s (omega arith) (omega arith)) in
-    let same : (a b : ℕ) → u.columns a b ≡ columns_cleared part x y s.columns a b = part-erased part w h x y flags s.columns x_in y_in ready.beyond continuations uncut ready.whole in
+    let same : (a b : ℕ) → u.columns a b ≡ columns_cleared part x y s.columns a b = part-erased part w h x y flags s.columns x_in y_in ready.tidy.beyond continuations uncut ready.tidy.whole in
     let x_test : nat_lt x s.width ≡ true = grind (arith, nat_tests) in
-    let sure : u.sure ≡ true = rw (ready.sure, ready.sgr, x_test, history) refl in
+    let sure : u.sure ≡ true = rw (ready.rest.sure, ready.rest.sgr, x_test, history) refl in
     let x_at : min s.x (s.width - 1) ≡ place.x = ap (λ (p : Position). p.x) at in
     let y_at : s.y ≡ place.y = ap (λ (p : Position). p.y) at in
     let cursor_x : min (min place.x (s.width - 1)) (s.width - 1) ≡ min s.x (s.width - 1) = omega arith in
     let cursor_y : min place.y (s.height - 1) ≡ s.y = omega arith in
     subst (λ v. IsIdle w h v × IsKept w h place flags_after (Erases part x y) s v) there (
-      ready-columns w h s u (columns_cleared part x y s.columns) ready ready.phase ready.text refl refl ready.sgr ready.top (ready.bottom ∙ sym height) (omega arith) sure same
-          (part-sized part x y s.columns ready.sized) (part-whole part w h x y flags s.columns x_in y_in ready.beyond continuations uncut ready.whole) (part-beyond part w x y s.columns ready.beyond),
+      ready-columns w h s u (columns_cleared part x y s.columns) ready ready.rest.phase ready.rest.text refl refl ready.rest.sgr ready.rest.top (ready.rest.bottom ∙ sym height) (omega arith) sure same
+          (record { sized = part-sized part x y s.columns ready.tidy.sized; whole = part-whole part w h x y flags s.columns x_in y_in ready.tidy.beyond continuations uncut ready.tidy.whole; beyond = part-beyond part w x y s.columns ready.tidy.beyond }),
       record {
         cursor = ap₂ (λ i j. record { x = i; y = j }) cursor_x cursor_y ∙ at;
         continuations = AreContinuations-along w h flags_after (columns_cleared part x y s.columns) u.columns same (cleared s.columns continuations);
@@ -349,6 +339,6 @@ clears-before old new end from inside rest call = weaker old new (Erases BeforeC
     let s : Emulator = rested t in
     let x_at : min s.x (s.width - 1) ≡ old.cursor.x = ap (λ (k : Position). k.x) awaits.placed in
     let y_at : s.y ≡ old.cursor.y = ap (λ (k : Position). k.y) awaits.placed in
-    let height : s.height ≡ old.size.height = awaits.ready.height in
+    let height : s.height ≡ old.size.height = awaits.ready.rest.height in
     clears-by BeforeCursor BeforeCursor end old.cursor.y (screen_shown old.written s) q
     (λ i j j_in. rw (x_at, y_at) (before old.size.width old.size.height end old.cursor old.continuations.items from inside rest s awaits.continuations i j (omega arith))) erased)
