@@ -3,8 +3,8 @@ use Rattle.std.specs.Prelude.{◌≡◌, ℕ, ◌-◌, true, IfSome, Option, Som
 use Rattle.std.specs.Io.BufRead.{take_through}
 use Rattle.ratatui_core.specs.Layout.{Size}
 use Rattle.ratatui_ansi.specs.Backend.{BackendState, shown_by}
-use Rattle.ratatui_ansi.specs.Emulator.{Emulator, fed, returned, moved, with_visible, without_region, with_pen}
-use Rattle.ratatui_ansi.specs.Pen.{own_pen}
+use Rattle.ansi_model.specs.Emulator.{Emulator, fed, returned, cursor_moved, cursor_shown, without_region, with_sgr}
+use Rattle.ansi_model.specs.Sgr.{default_sgr}
 use Rattle.ratatui_ansi.specs.declared.error.AnsiError.{AnsiError}
 use Rattle.logview.specs.Views.{IsFollowing, IsViewOf, RefusesPush}
 use Rattle.logview.specs.declared.view.LogView.{LogView}
@@ -47,4 +47,4 @@ EndsBy old new _ = Unit {0}
 
 -- a terminal of so many rows in its own colours, without margins, and with its cursor shown at the beginning of the row below its last one
 abbrev pub left_below : ℕ → Emulator → Emulator
-left_below h t = fed 1 (returned (moved 0 (h - 1) (with_visible true (without_region (with_pen own_pen t)))))
+left_below h t = fed 1 (returned (cursor_moved 0 (h - 1) (cursor_shown true (without_region (with_sgr default_sgr t)))))

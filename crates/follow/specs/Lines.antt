@@ -7,7 +7,7 @@ use Rattle.ratatui_core.specs.Layout.{Size}
 use Rattle.ratatui_core.specs.Buffer.{text_width}
 use Rattle.ratatui_core.specs.Text.{has_control}
 use Rattle.ratatui_ansi.specs.Backend.{BackendState, shown_by}
-use Rattle.ratatui_ansi.specs.Drawing.{is_printed}
+use Rattle.ansi_model.specs.Symbols.{is_printed}
 use Rattle.logview.specs.Rows.{counted}
 use Rattle.logview.specs.Views.{IsFollowing, IsViewOf, PushesLine}
 use Rattle.logview.specs.declared.view.LogView.{LogView}

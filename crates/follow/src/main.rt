@@ -9,7 +9,7 @@ ghost use Rattle.std.specs.Prelude.{◌≡◌, [], Some, IfOk, IfErr, IfSome, On
 ghost use Rattle.std.specs.Io.KnownBytes.{Appends};
 ghost use Rattle.ratatui_ansi.specs.Backend.{shown_by};
 ghost use Rattle.logview.specs.Views.{IsViewOf};
-ghost use Rattle.ratatui_ansi.specs.Sends.{Does};
+ghost use Rattle.ansi_model.specs.Sends.{Performs};
 ghost use Rattle.follow.specs.Lines.{MovesOn, ShowsText};
 ghost use Rattle.follow.specs.Ends.{StopsAt, StopsText, IsOfShowing, EndsBy, left_below};
 
@@ -22,8 +22,9 @@ mod tests;
 use crate::fault::Fault;
 use crate::shown::push_shown;
 use crate::size::{command, size_of};
+use ansi_model::{Sgr, line_feeds, move_to, push_sgr, reset_region, show_cursor};
 use logview::LogView;
-use ratatui_ansi::{AnsiBackend, Pen, line_feeds, move_to, push_pen, reset_region, show_cursor};
+use ratatui_ansi::AnsiBackend;
 use ratatui_core::terminal::TerminalError;
 use rtui_geometry::Size;
 use std::alloc::{AllocError, Global};
@@ -104,9 +105,9 @@ fn show_lines<R: BufRead, W: Write + Drop>(
 // Sends what leaves a terminal of so many rows in its own colours and without margins, with its cursor shown below its rows.
 fn push_leaving(out: &mut String, height: u16) -> Result<(), AllocError>
     ensures { OnOk result
-        (Does (string_bytes out.old) (string_bytes out.new) (left_below height)) }
+        (Performs (string_bytes out.old) (string_bytes out.new) (left_below height)) }
 {
-    push_pen(out, &Pen::OWN)?;
+    push_sgr(out, &Sgr::DEFAULT)?;
     reset_region(out)?;
     show_cursor(out)?;
     move_to(out, 0, height.saturating_sub(1))?;

@@ -2,10 +2,10 @@
 
 ghost use Rattle.std.specs.Prelude.{◌≡◌, ◌<◌, ◌++◌, ◌||◌, OnOk, string_bytes};
 ghost use Rattle.ratatui_core.specs.Text.{has_control};
-ghost use Rattle.ratatui_ansi.specs.Drawing.{is_printed};
+ghost use Rattle.ansi_model.specs.Symbols.{is_printed};
 ghost use Rattle.follow.specs.Lines.{is_unpainted, replacement, shown_grapheme, shown_line};
 
-use ratatui_ansi::is_printed;
+use ansi_model::is_printed;
 use ratatui_core::buffer::CellWidth;
 use std::alloc::AllocError;
 use unicode_segmentation::UnicodeSegmentation;

@@ -10,31 +10,30 @@ use Rattle.ratatui_core.proofs.BufferLemmas.{same_look, same_width, look-empty, 
 use Rattle.ratatui_core.specs.DiffOption as DiffOption
 use Rattle.ratatui_core.specs.Layout.{Position}
 use Rattle.ratatui_core.specs.Backend.{Screen}
-use Rattle.ratatui_ansi.specs.Columns.{Column, Columns, look_in, is_behind}
-use Rattle.ratatui_ansi.specs.Columns.Column.{Unknown}
-use Rattle.ratatui_ansi.specs.Columns.Column.{Shows as Standing}
+use Rattle.ansi_model.specs.Columns.{Column, Columns, look_in, is_continuation}
+use Rattle.ansi_model.specs.Columns.Column.{Unknown, Shows as Standing}
 use Rattle.ratatui_ansi.specs.Covered.{IsCovered, IsOpen, IsOrdinary}
-use Rattle.ratatui_ansi.specs.Drawing.{is_one_plain, columns_of}
+use Rattle.ansi_model.specs.Symbols.{is_one_plain, printed_columns}
 use Rattle.ratatui_ansi.specs.Frame.{IsVacant}
 use Rattle.ratatui_ansi.specs.Refusals.{lent_update, StopsInDiff}
 use Rattle.ratatui_ansi.specs.declared.frame.Refusal.TheVariants.{Cut}
-use Rattle.ratatui_ansi.specs.Screens.{IsSized, AreSized, IsWhole, IsWholeAt}
+use Rattle.ansi_model.specs.Screens.{HasOwnWidth, HaveOwnWidths, IsWhole, IsWholeAt}
 
--- ---- a column behind the first one of its symbol is covered
+-- ---- a column after the first one of its symbol is covered
 
-covered-at : (c : Columns) (a b : ℕ) (column : Column) → IsSized column → IsWholeAt (λ k. c k b) a column → is_behind column ≡ true → IsCovered (λ i j. look_in (c i j)) a b
-covered-at c a b (Standing look index count) takes whole behind =
+covered-at : (c : Columns) (a b : ℕ) (column : Column) → HasOwnWidth column → IsWholeAt (λ k. c k b) a column → is_continuation column ≡ true → IsCovered (λ i j. look_in (c i j)) a b
+covered-at c a b (Standing look index count) takes whole continuations =
     let inside : index < count = whole.0 in
     let in_row : index ≤ a = whole.1 in
     let some : 0 < index = grind (arith, nat_tests) in
     let first : a - index ≡ (a - index) + 0 = omega arith in
     let head : c (a - index) b ≡ Standing look 0 count = ap (λ k. c k b) first ∙ whole.2 0 (omega arith) in
-    let columns : columns_of (look_in (c (a - index) b)).symbol ≡ count = ap (λ column. columns_of (look_in column).symbol) head ∙ sym takes in
+    let columns : printed_columns (look_in (c (a - index) b)).symbol ≡ count = ap (λ column. printed_columns (look_in column).symbol) head ∙ sym takes in
     record { start = a - index; left = omega arith; reaches = omega arith }
-covered-at c a b Unknown takes whole behind = absurd takes
+covered-at c a b Unknown takes whole continuations = absurd takes
 
-pub covered-behind : (c : Columns) → AreSized c → IsWhole c → (a b : ℕ) → is_behind (c a b) ≡ true → IsCovered (λ i j. look_in (c i j)) a b
-covered-behind c sized whole a b behind = covered-at c a b (c a b) (sized a b) (whole a b) behind
+pub covered-continuation : (c : Columns) → HaveOwnWidths c → IsWhole c → (a b : ℕ) → is_continuation (c a b) ≡ true → IsCovered (λ i j. look_in (c i j)) a b
+covered-continuation c sized whole a b continuations = covered-at c a b (c a b) (sized a b) (whole a b) continuations
 
 -- ---- what puts leave
 
@@ -93,7 +92,7 @@ unforced-width c e = elim c.diff_option as (λ o. is_forced_by o ≡ false → w
   | DiffOption.ForcedWidth forced ↦ λ f. absurd (false≢true (sym f))
 ] e
 
-wide-columns : (text : List ℕ) → 1 < columns_of text → columns_of text ≡ text_width text
+wide-columns : (text : List ℕ) → 1 < printed_columns text → printed_columns text ≡ text_width text
 wide-columns text wide = elim (is_one_plain (chars text)) as (λ p. 1 < (if p then 1 else text_width text) → (if p then 1 else text_width text) ≡ text_width text) [
   | true ↦ λ e. absurd (omega arith)
   | false ↦ λ e. refl
@@ -104,9 +103,9 @@ unfolding look_of
 look-text c = refl
 
 -- an unforced cell of more than one column takes those of its text
-pub ordinary-width : (c : Cell) → is_forced c ≡ false → 1 < columns_of (look_of c).symbol → width_of c ≡ columns_of (look_of c).symbol
+pub ordinary-width : (c : Cell) → is_forced c ≡ false → 1 < printed_columns (look_of c).symbol → width_of c ≡ printed_columns (look_of c).symbol
 ordinary-width c unforced wide =
-    let columns : columns_of (look_of c).symbol ≡ text_width (look_of c).symbol = wide-columns (look_of c).symbol wide in
+    let columns : printed_columns (look_of c).symbol ≡ text_width (look_of c).symbol = wide-columns (look_of c).symbol wide in
     unforced-width c unforced ∙ sym (columns ∙ ap text_width (look-text c))
 
 -- ---- updates between settled frames
@@ -122,13 +121,13 @@ cuts-none x y w h width height former next g before u after diff settled_former 
     let start = covered.start in
     let left : start < u.x = covered.left in
     let seen : Grid = puts width height before g in
-    let reaches : u.x < start + columns_of (seen start u.y).symbol = covered.reaches in
+    let reaches : u.x < start + printed_columns (seen start u.y).symbol = covered.reaches in
     elim (cases_lt start x) [
       | inl outside ↦
           let same : seen start u.y ≡ g start u.y =
           puts-right width height before (u ∷ after) g start u.y (IsCellOfNext x y w h next) diff.own (λ v is at. let place = is.x in omega arith) in
           let there : seen start u.y ≡ g start (y + own.b) = same ∙ ap (g start) row in
-          let over : columns_of (seen start u.y).symbol ≡ columns_of (g start (y + own.b)).symbol = ap (λ (look : Look). columns_of look.symbol) there in
+          let over : printed_columns (seen start u.y).symbol ≡ printed_columns (g start (y + own.b)).symbol = ap (λ (look : Look). printed_columns look.symbol) there in
           absurd (clear own.b own.in_rows (record { start = start; left = outside; reaches = omega arith }))
       | inr inside ↦
           let j = start - x in
@@ -145,8 +144,8 @@ cuts-none x y w h width height former next g before u after diff settled_former 
           let c : Cell = cell_at w next j own.b in
           let is : IsOrdinary c = ordinary j own.b j_in own.in_rows in
           let look : seen start u.y ≡ look_of c = sym final ∙ ap₂ all at row ∙ shown.look is.unskipped in
-          let over : columns_of (seen start u.y).symbol ≡ columns_of (look_of c).symbol = ap (λ (look : Look). columns_of look.symbol) look in
-          let wide : width_of c ≡ columns_of (look_of c).symbol = ordinary-width c is.unforced (omega arith) in
+          let over : printed_columns (seen start u.y).symbol ≡ printed_columns (look_of c).symbol = ap (λ (look : Look). printed_columns look.symbol) look in
+          let wide : width_of c ≡ printed_columns (look_of c).symbol = ordinary-width c is.unforced (omega arith) in
           elim (settled.behind j own.b own.a j_in own.in_rows is.unskipped (omega arith) (omega arith)) [
             | inl blank ↦ record {
               look = ap look_of own.own ∙ same_look (cell_at w next own.a own.b) empty_cell blank ∙ look-empty;
@@ -168,7 +167,7 @@ gave-front us (item ∷ front) left gave = gave.1 ∙ ap (λ rest. lent_update i
 
 covered-same : (f g : Grid) → ((a b : ℕ) → f a b ≡ g a b) → (a b : ℕ) → IsCovered f a b → IsCovered g a b
 covered-same f g same a b covered =
-    let columns : columns_of (f covered.start b).symbol ≡ columns_of (g covered.start b).symbol = ap (λ (look : Look). columns_of look.symbol) (same covered.start b) in
+    let columns : printed_columns (f covered.start b).symbol ≡ printed_columns (g covered.start b).symbol = ap (λ (look : Look). printed_columns look.symbol) (same covered.start b) in
     let reaches = covered.reaches in
     record { start = covered.start; left = covered.left; reaches = omega arith }
 

@@ -4,45 +4,34 @@ use Rattle.std.proofs.lemmas.Bool.{cases_lt}
 use Rattle.std.proofs.lemmas.Bool.Decides.{nat_tests}
 use Rattle.std.specs.List.{list_any, range_with_len}
 use Rattle.ratatui_core.specs.Buffer.{Look, empty_look}
-use Rattle.ratatui_ansi.specs.declared.part.Part.{Part}
-use Rattle.ratatui_ansi.specs.declared.part.Part.TheVariants.{After, Before, Line, LineEnd}
-use Rattle.ratatui_ansi.specs.Columns.{Column, Columns, Area, is_behind, is_met, blank_column, overwritten}
-use Rattle.ratatui_ansi.specs.Columns.Column.{Shows, Unknown}
-use Rattle.ratatui_ansi.specs.Emulator.{part_at, part_emptied}
-use Rattle.ratatui_ansi.specs.Screens.{IsSized, AreSized, IsWhole, IsWholeAt, IsBlankBeyond}
-use Rattle.ratatui_ansi.specs.Flags.{AreBehind, is_cut}
-use Rattle.ratatui_ansi.proofs.TextLemmas.{blank-sized}
+use Rattle.ratatui_core.specs.Backend.{ClearType, All, AfterCursor, BeforeCursor, CurrentLine, UntilNewLine, is_cleared}
+use Rattle.ansi_model.specs.Columns.{Column, Columns, Area, is_continuation, is_met, blank_column, overwritten}
+use Rattle.ansi_model.specs.Columns.Column.{Shows, Unknown}
+use Rattle.ansi_model.specs.Emulator.{columns_cleared}
+use Rattle.ansi_model.specs.Screens.{HasOwnWidth, HaveOwnWidths, IsWhole, IsWholeAt, IsBlankBeyond}
+use Rattle.ratatui_ansi.specs.Flags.{AreContinuations, is_cut}
+use Rattle.ansi_model.proofs.TextLemmas.{blank-sized}
+use Rattle.ansi_model.proofs.PutLemmas.{none_between, later-continues}
 
-none_between : (f : ℕ → Bool) (k n : ℕ) → ((j : ℕ) → k ≤ j → j < k + n → f j ≡ false) → list_any f (range_with_len k n) ≡ false
-none_between f k zero e = refl
-none_between f k (suc n) e = rw (e k (omega arith) (omega arith), none_between f (k + 1) n (λ j low high. e j (omega arith) (omega arith))) refl
-
--- a later column of a symbol lies behind its first
-behind-later : (look : Look) (j count : ℕ) (c : Column) → c ≡ Shows look j count → 0 < j → is_behind c ≡ false → ⊥
-behind-later look j count c e some not =
-    let zero : (j == 0) ≡ false = grind (arith, nat_tests) in
-    let shown : is_behind c ≡ true = ap is_behind e ∙ rw zero refl in
-    cc
-
--- a symbol that begins left of a column that isn't behind ends there, and one that has a column right of such an end begins behind it
-ends-before : (row : ℕ → Column) (x a i m k : ℕ) (look : Look) → IsWholeAt row a (Shows look i m) → is_behind (row x) ≡ false → a < x → k < (a - i) + m → k < x
+-- a symbol that begins left of a column that isn't after ends there, and one that has a column right of such an end begins after it
+ends-before : (row : ℕ → Column) (x a i m k : ℕ) (look : Look) → IsWholeAt row a (Shows look i m) → is_continuation (row x) ≡ false → a < x → k < (a - i) + m → k < x
 ends-before row x a i m k look whole not left high = elim (cases_lt k x) [
   | inl done ↦ done
   | inr past ↦
       let index : i < m = whole.0 in
       let first : i ≤ a = whole.1 in
       let there : (a - i) + (x - (a - i)) ≡ x = omega arith in
-      absurd (behind-later look (x - (a - i)) m (row x) (ap row (sym there) ∙ whole.2 (x - (a - i)) (omega arith)) (omega arith) not)
+      absurd (later-continues look (x - (a - i)) m (row x) (ap row (sym there) ∙ whole.2 (x - (a - i)) (omega arith)) (omega arith) not)
 ]
 
-begins-behind : (row : ℕ → Column) (x a i m k : ℕ) (look : Look) → IsWholeAt row a (Shows look i m) → is_behind (row (x + 1)) ≡ false → x < a → a - i ≤ k → x < k
-begins-behind row x a i m k look whole not right low = elim (cases_lt x k) [
+begins-after : (row : ℕ → Column) (x a i m k : ℕ) (look : Look) → IsWholeAt row a (Shows look i m) → is_continuation (row (x + 1)) ≡ false → x < a → a - i ≤ k → x < k
+begins-after row x a i m k look whole not right low = elim (cases_lt x k) [
   | inl done ↦ done
   | inr past ↦
       let index : i < m = whole.0 in
       let first : i ≤ a = whole.1 in
       let there : (a - i) + (x + 1 - (a - i)) ≡ x + 1 = omega arith in
-      absurd (behind-later look (x + 1 - (a - i)) m (row (x + 1)) (ap row (sym there) ∙ whole.2 (x + 1 - (a - i)) (omega arith)) (omega arith) not)
+      absurd (later-continues look (x + 1 - (a - i)) m (row (x + 1)) (ap row (sym there) ∙ whole.2 (x + 1 - (a - i)) (omega arith)) (omega arith) not)
 ]
 
 -- what isn't in an area has no column of its symbol there
@@ -50,38 +39,40 @@ abbrev pub IsApart : Area → Columns → Type 0
 IsApart area c = (a b i m k : ℕ) (look : Look) → IsWholeAt (λ j. c j b) a (Shows look i m) → area a b ≡ false → a - i ≤ k → k < (a - i) + m → area k b ≡ false
 
 -- whether a symbol is cut at the end of a part
-abbrev cuts : Part → ℕ → ℕ → Columns → Bool
-cuts After x y c = is_behind (c x y)
-cuts Before x y c = is_behind (c (x + 1) y)
-cuts Line x y c = false
-cuts LineEnd x y c = is_behind (c x y)
+abbrev cuts : ClearType → ℕ → ℕ → Columns → Bool
+cuts All x y c = false
+cuts AfterCursor x y c = is_continuation (c x y)
+cuts BeforeCursor x y c = is_continuation (c (x + 1) y)
+cuts CurrentLine x y c = false
+cuts UntilNewLine x y c = is_continuation (c x y)
 
-part-apart : (part : Part) (x y : ℕ) (c : Columns) → cuts part x y c ≡ false → IsApart (part_at part x y) c
-part-apart After x y c uncut a b i m k look whole out low high = elim (cases_lt b y) [
+part-apart : (part : ClearType) (x y : ℕ) (c : Columns) → cuts part x y c ≡ false → IsApart (is_cleared part x y) c
+part-apart All x y c uncut a b i m k look whole out low high = out
+part-apart AfterCursor x y c uncut a b i m k look whole out low high = elim (cases_lt b y) [
   | inl above ↦ grind (arith, nat_tests)
   | inr other ↦
       let row : b ≡ y = grind (arith, nat_tests) in
       let left : a < x = grind (arith, nat_tests) in
-      let e : k < x = ends-before (λ j. c j b) x a i m k look whole (ap (λ r. is_behind (c x r)) row ∙ uncut) left high in
+      let e : k < x = ends-before (λ j. c j b) x a i m k look whole (ap (λ r. is_continuation (c x r)) row ∙ uncut) left high in
       grind (arith, nat_tests)
 ]
-part-apart Before x y c uncut a b i m k look whole out low high = elim (cases_lt y b) [
+part-apart BeforeCursor x y c uncut a b i m k look whole out low high = elim (cases_lt y b) [
   | inl below ↦ grind (arith, nat_tests)
   | inr other ↦
       let row : b ≡ y = grind (arith, nat_tests) in
       let right : x < a = grind (arith, nat_tests) in
-      let e : x < k = begins-behind (λ j. c j b) x a i m k look whole (ap (λ r. is_behind (c (x + 1) r)) row ∙ uncut) right low in
+      let e : x < k = begins-after (λ j. c j b) x a i m k look whole (ap (λ r. is_continuation (c (x + 1) r)) row ∙ uncut) right low in
       grind (arith, nat_tests)
 ]
-part-apart Line x y c uncut a b i m k look whole out low high = out
-part-apart LineEnd x y c uncut a b i m k look whole out low high = elim (cases_lt b y) [
+part-apart CurrentLine x y c uncut a b i m k look whole out low high = out
+part-apart UntilNewLine x y c uncut a b i m k look whole out low high = elim (cases_lt b y) [
   | inl above ↦ grind (arith, nat_tests)
   | inr other ↦ elim (cases_lt y b) [
     | inl below ↦ grind (arith, nat_tests)
     | inr here ↦
         let row : b ≡ y = omega arith in
         let left : a < x = grind (arith, nat_tests) in
-        let e : k < x = ends-before (λ j. c j b) x a i m k look whole (ap (λ r. is_behind (c x r)) row ∙ uncut) left high in
+        let e : k < x = ends-before (λ j. c j b) x a i m k look whole (ap (λ r. is_continuation (c x r)) row ∙ uncut) left high in
         grind (arith, nat_tests)
   ]
 ]
@@ -120,29 +111,30 @@ module _ (area : Area) (c : Columns) (apart : IsApart area c) where
       )
 
 -- the flags tell whether a part cuts
-flags-tell : (part : Part) (w h x y : ℕ) (flags : List Bool) (c : Columns) → x < w → y < h → IsBlankBeyond w c → AreBehind w h flags c → is_cut part w x y flags ≡ false → cuts part x y c ≡ false
-flags-tell After w h x y flags c x_in y_in beyond behind uncut = sym (behind.each x y x_in y_in) ∙ uncut
-flags-tell Before w h x y flags c x_in y_in beyond behind uncut = elim (cases_lt (x + 1) w) [
+flags-tell : (part : ClearType) (w h x y : ℕ) (flags : List Bool) (c : Columns) → x < w → y < h → IsBlankBeyond w c → AreContinuations w h flags c → is_cut part w x y flags ≡ false → cuts part x y c ≡ false
+flags-tell All w h x y flags c x_in y_in beyond continuations uncut = refl
+flags-tell AfterCursor w h x y flags c x_in y_in beyond continuations uncut = sym (continuations.each x y x_in y_in) ∙ uncut
+flags-tell BeforeCursor w h x y flags c x_in y_in beyond continuations uncut = elim (cases_lt (x + 1) w) [
   | inl inside ↦
       let test : nat_lt (x + 1) w ≡ true = grind (arith, nat_tests) in
-      sym (behind.each (x + 1) y inside y_in) ∙ (rw test at uncut)
-  | inr past ↦ ap is_behind (beyond (x + 1) y past)
+      sym (continuations.each (x + 1) y inside y_in) ∙ (rw test at uncut)
+  | inr past ↦ ap is_continuation (beyond (x + 1) y past)
 ]
-flags-tell Line w h x y flags c x_in y_in beyond behind uncut = refl
-flags-tell LineEnd w h x y flags c x_in y_in beyond behind uncut = sym (behind.each x y x_in y_in) ∙ uncut
+flags-tell CurrentLine w h x y flags c x_in y_in beyond continuations uncut = refl
+flags-tell UntilNewLine w h x y flags c x_in y_in beyond continuations uncut = sym (continuations.each x y x_in y_in) ∙ uncut
 
-module _ (part : Part) (w h x y : ℕ) (flags : List Bool) (c : Columns) (x_in : x < w) (y_in : y < h) (beyond : IsBlankBeyond w c) (behind : AreBehind w h flags c) (uncut : is_cut part w x y flags ≡ false) where
-  apart : IsApart (part_at part x y) c
-  apart = part-apart part x y c (flags-tell part w h x y flags c x_in y_in beyond behind uncut)
+module _ (part : ClearType) (w h x y : ℕ) (flags : List Bool) (c : Columns) (x_in : x < w) (y_in : y < h) (beyond : IsBlankBeyond w c) (continuations : AreContinuations w h flags c) (uncut : is_cut part w x y flags ≡ false) where
+  apart : IsApart (is_cleared part x y) c
+  apart = part-apart part x y c (flags-tell part w h x y flags c x_in y_in beyond continuations uncut)
 
-  pub part-erased : IsWhole c → (a b : ℕ) → overwritten (part_at part x y) (λ i j. blank_column) c a b ≡ part_emptied part x y c a b
-  part-erased whole = area-erased (part_at part x y) c apart whole
+  pub part-erased : IsWhole c → (a b : ℕ) → overwritten (is_cleared part x y) (λ i j. blank_column) c a b ≡ columns_cleared part x y c a b
+  part-erased whole = area-erased (is_cleared part x y) c apart whole
 
-  pub part-whole : IsWhole c → IsWhole (part_emptied part x y c)
-  part-whole whole = area-whole (part_at part x y) c apart whole
+  pub part-whole : IsWhole c → IsWhole (columns_cleared part x y c)
+  part-whole whole = area-whole (is_cleared part x y) c apart whole
 
-pub part-sized : (part : Part) (x y : ℕ) (c : Columns) → AreSized c → AreSized (part_emptied part x y c)
-part-sized part x y c sized a b = elim (part_at part x y a b) as (λ p. IsSized (if p then blank_column else c a b)) [ true ↦ blank-sized | false ↦ sized a b ]
+pub part-sized : (part : ClearType) (x y : ℕ) (c : Columns) → HaveOwnWidths c → HaveOwnWidths (columns_cleared part x y c)
+part-sized part x y c sized a b = elim (is_cleared part x y a b) as (λ p. HasOwnWidth (if p then blank_column else c a b)) [ true ↦ blank-sized | false ↦ sized a b ]
 
-pub part-beyond : (part : Part) (w x y : ℕ) (c : Columns) → IsBlankBeyond w c → IsBlankBeyond w (part_emptied part x y c)
-part-beyond part w x y c beyond a b out = rw (beyond a b out) (elim (part_at part x y a b) as (λ p. (if p then blank_column else blank_column) ≡ blank_column) [ true ↦ refl | false ↦ refl ])
+pub part-beyond : (part : ClearType) (w x y : ℕ) (c : Columns) → IsBlankBeyond w c → IsBlankBeyond w (columns_cleared part x y c)
+part-beyond part w x y c beyond a b out = rw (beyond a b out) (elim (is_cleared part x y a b) as (λ p. (if p then blank_column else blank_column) ≡ blank_column) [ true ↦ refl | false ↦ refl ])

@@ -7,14 +7,10 @@ use Rattle.std.proofs.lemmas.Grind.{common_steps}
 use Rattle.std.proofs.lemmas.List.{get_or_append_left, get_or-append_right, get_or-take, get_or-drop, get_or_past}
 use Rattle.std.proofs.lemmas.Bool.{cases_lt}
 use Rattle.std.proofs.lemmas.Bool.Decides.{nat_tests}
-use Rattle.ratatui_ansi.specs.Columns.{Columns, is_behind, blank_column}
-use Rattle.ratatui_ansi.specs.Emulator.{raised, lowered, emptied, part_at, part_emptied}
-use Rattle.ratatui_ansi.specs.declared.part.Part.{Part}
-use Rattle.ratatui_ansi.specs.declared.part.Part.TheVariants.{After, Before, Line, LineEnd}
-use Rattle.ratatui_ansi.specs.Flags.{flag, AreBehind}
-
-pub flag-set : (flags : List Bool) (i j : ℕ) (v : Bool) → i < length flags → flag (set flags i v) j ≡ if nat_eq j i then v else flag flags j
-flag-set flags i j v inside = grind (arith, common_steps)
+use Rattle.ansi_model.specs.Columns.{Columns, is_continuation, blank_column}
+use Rattle.ansi_model.specs.Emulator.{rows_raised, rows_lowered, rows_emptied, columns_cleared}
+use Rattle.ratatui_core.specs.Backend.{is_cleared, ClearType, AfterCursor, BeforeCursor, CurrentLine, UntilNewLine}
+use Rattle.ratatui_ansi.specs.Flags.{flag, AreContinuations}
 
 pub past_end : (flags : List Bool) (k : ℕ) → length flags ≤ k → flag flags k ≡ false
 past_end flags k past = get_or_past flags k false past
@@ -83,62 +79,40 @@ module _ (w x : ℕ) (x_in : x < w) where
           rw some (rw (yes, back, place_before y e, place_from y a) at (moved (y * w + x)))
     ]
 
-module _ (w h : ℕ) (old new : List Bool) (c : Columns) (from to n : ℕ) (fits : to ≤ h) (same : length new ≡ length old) (behind : AreBehind w h old c) where
-  pub raised-behind : ((k : ℕ) → flag new k ≡ if nat_le (from * w) k && nat_lt k (to * w) then (if nat_lt (k + n * w) (to * w) then flag old (k + n * w) else false) else flag old k)
-      → AreBehind w h new (raised from to n c)
-  raised-behind moved = record {
-    count = same ∙ behind.count;
+module _ (w h : ℕ) (old new : List Bool) (c : Columns) (from to n : ℕ) (fits : to ≤ h) (same : length new ≡ length old) (continuations : AreContinuations w h old c) where
+  pub raised-flags : ((k : ℕ) → flag new k ≡ if nat_le (from * w) k && nat_lt k (to * w) then (if nat_lt (k + n * w) (to * w) then flag old (k + n * w) else false) else flag old k)
+      → AreContinuations w h new (rows_raised from to n c)
+  raised-flags moved = record {
+    count = same ∙ continuations.count;
     each = λ a b a_in b_in. flag_moved_up w a a_in old new from to n moved b
         ∙ elim (nat_le from b && nat_lt b to) as (λ p. (if p then (if nat_lt (b + n) to then flag old ((b + n) * w + a) else false) else flag old (b * w + a))
-        ≡ is_behind (if p then (if nat_lt (b + n) to then c a (b + n) else blank_column) else c a b)) [
-          | true ↦ elim (nat_lt (b + n) to) as (λ q. nat_lt (b + n) to ≡ q → (if q then flag old ((b + n) * w + a) else false) ≡ is_behind (if q then c a (b + n) else blank_column))
-              [ true ↦ λ e. behind.each a (b + n) a_in (grind (arith, nat_tests)) | false ↦ λ e. refl ] refl
-          | false ↦ behind.each a b a_in b_in
+        ≡ is_continuation (if p then (if nat_lt (b + n) to then c a (b + n) else blank_column) else c a b)) [
+          | true ↦ elim (nat_lt (b + n) to) as (λ q. nat_lt (b + n) to ≡ q → (if q then flag old ((b + n) * w + a) else false) ≡ is_continuation (if q then c a (b + n) else blank_column))
+              [ true ↦ λ e. continuations.each a (b + n) a_in (grind (arith, nat_tests)) | false ↦ λ e. refl ] refl
+          | false ↦ continuations.each a b a_in b_in
         ];
   }
 
-  pub lowered-behind : ((k : ℕ) → flag new k ≡ if nat_le (from * w) k && nat_lt k (to * w) then (if nat_le (from * w + n * w) k then flag old (k - n * w) else false) else flag old k)
-      → AreBehind w h new (lowered from to n c)
-  lowered-behind moved = record {
-    count = same ∙ behind.count;
+  pub lowered-flags : ((k : ℕ) → flag new k ≡ if nat_le (from * w) k && nat_lt k (to * w) then (if nat_le (from * w + n * w) k then flag old (k - n * w) else false) else flag old k)
+      → AreContinuations w h new (rows_lowered from to n c)
+  lowered-flags moved = record {
+    count = same ∙ continuations.count;
     each = λ a b a_in b_in. flag_moved_down w a a_in old new from to n moved b
         ∙ elim (nat_le from b && nat_lt b to) as (λ p. (if p then (if nat_le (from + n) b then flag old ((b - n) * w + a) else false) else flag old (b * w + a))
-        ≡ is_behind (if p then (if nat_le (from + n) b then c a (b - n) else blank_column) else c a b)) [
-          | true ↦ elim (nat_le (from + n) b) as (λ q. (if q then flag old ((b - n) * w + a) else false) ≡ is_behind (if q then c a (b - n) else blank_column))
-              [ true ↦ behind.each a (b - n) a_in (omega arith) | false ↦ refl ]
-          | false ↦ behind.each a b a_in b_in
+        ≡ is_continuation (if p then (if nat_le (from + n) b then c a (b - n) else blank_column) else c a b)) [
+          | true ↦ elim (nat_le (from + n) b) as (λ q. (if q then flag old ((b - n) * w + a) else false) ≡ is_continuation (if q then c a (b - n) else blank_column))
+              [ true ↦ continuations.each a (b - n) a_in (omega arith) | false ↦ refl ]
+          | false ↦ continuations.each a b a_in b_in
         ];
   }
 
 -- columns that are the same have the same flags
-pub AreBehind-along : (w h : ℕ) (flags : List Bool) (c d : Columns) → ((a b : ℕ) → d a b ≡ c a b) → AreBehind w h flags c → AreBehind w h flags d
-AreBehind-along w h flags c d same behind = record { count = behind.count; each = λ a b a_in b_in. behind.each a b a_in b_in ∙ ap is_behind (sym (same a b)) }
-
--- ---- flags that were cleared
-
-module _ (w h : ℕ) (old new : List Bool) (c : Columns) (same : length new ≡ length old) (behind : AreBehind w h old c) where
-  pub emptied-behind : ((k : ℕ) → flag new k ≡ if nat_le 0 k && nat_lt k (length old) then false else flag old k) → AreBehind w h new (emptied h c)
-  emptied-behind cleared = record {
-    count = same ∙ behind.count;
-    each = λ a b a_in b_in.
-        let place : b * w + a < w * h = mul-add-lt b w a h b_in a_in in
-        let count : length old ≡ w * h = behind.count in
-        let inside : (nat_le 0 (b * w + a) && nat_lt (b * w + a) (length old)) ≡ true = grind (arith, nat_tests) in
-        let row : nat_lt b h ≡ true = grind (arith, nat_tests) in
-        rw row (rw inside at (cleared (b * w + a)));
-  }
-
-  pub part-behind : (part : Part) (x y from to : ℕ) → ((a b : ℕ) → a < w → b < h → (nat_le from (b * w + a) && nat_lt (b * w + a) to) ≡ part_at part x y a b)
-      → ((k : ℕ) → flag new k ≡ if nat_le from k && nat_lt k to then false else flag old k) → AreBehind w h new (part_emptied part x y c)
-  part-behind part x y from to places cleared = record {
-    count = same ∙ behind.count;
-    each = λ a b a_in b_in. (rw (places a b a_in b_in) at (cleared (b * w + a)))
-        ∙ elim (part_at part x y a b) as (λ p. (if p then false else flag old (b * w + a)) ≡ is_behind (if p then blank_column else c a b)) [ true ↦ refl | false ↦ behind.each a b a_in b_in ];
-  }
+pub AreContinuations-along : (w h : ℕ) (flags : List Bool) (c d : Columns) → ((a b : ℕ) → d a b ≡ c a b) → AreContinuations w h flags c → AreContinuations w h flags d
+AreContinuations-along w h flags c d same continuations = record { count = continuations.count; each = λ a b a_in b_in. continuations.each a b a_in b_in ∙ ap is_continuation (sym (same a b)) }
 
 -- which places a part takes
 module _ (w h x y a b : ℕ) (a_in : a < w) (b_in : b < h) (x_in : x < w) (y_in : y < h) where
-  pub places_after : (nat_le (y * w + x) (b * w + a) && nat_lt (b * w + a) (w * h)) ≡ part_at After x y a b
+  pub places_after : (nat_le (y * w + x) (b * w + a) && nat_lt (b * w + a) (w * h)) ≡ is_cleared AfterCursor x y a b
   places_after = let inside : b * w + a < w * h = mul-add-lt b w a h b_in a_in in elim (cases_lt b y) [
     | inl above ↦ let e = row_below w b y above in grind (arith, nat_tests)
     | inr other ↦ elim (cases_lt y b) [
@@ -147,7 +121,7 @@ module _ (w h x y a b : ℕ) (a_in : a < w) (b_in : b < h) (x_in : x < w) (y_in 
     ]
   ]
 
-  pub places_before : (nat_le 0 (b * w + a) && nat_lt (b * w + a) (y * w + x + 1)) ≡ part_at Before x y a b
+  pub places_before : (nat_le 0 (b * w + a) && nat_lt (b * w + a) (y * w + x + 1)) ≡ is_cleared BeforeCursor x y a b
   places_before = elim (cases_lt b y) [
     | inl above ↦ let e = row_below w b y above in grind (arith, nat_tests)
     | inr other ↦ elim (cases_lt y b) [
@@ -156,16 +130,7 @@ module _ (w h x y a b : ℕ) (a_in : a < w) (b_in : b < h) (x_in : x < w) (y_in 
     ]
   ]
 
-  pub places_line : (nat_le (y * w) (b * w + a) && nat_lt (b * w + a) (y * w + w)) ≡ part_at Line x y a b
-  places_line = elim (cases_lt b y) [
-    | inl above ↦ let e = row_below w b y above in grind (arith, nat_tests)
-    | inr other ↦ elim (cases_lt y b) [
-      | inl below ↦ let e = row_below w y b below in grind (arith, nat_tests)
-      | inr here ↦ let e : b ≡ y = omega arith in grind (arith, nat_tests)
-    ]
-  ]
-
-  pub places_line_end : (nat_le (y * w + x) (b * w + a) && nat_lt (b * w + a) (y * w + w)) ≡ part_at LineEnd x y a b
+  pub places_line_end : (nat_le (y * w + x) (b * w + a) && nat_lt (b * w + a) (y * w + w)) ≡ is_cleared UntilNewLine x y a b
   places_line_end = elim (cases_lt b y) [
     | inl above ↦ let e = row_below w b y above in grind (arith, nat_tests)
     | inr other ↦ elim (cases_lt y b) [

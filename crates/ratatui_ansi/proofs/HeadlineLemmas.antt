@@ -6,21 +6,21 @@ use Rattle.ratatui_core.specs.Buffer.{Grid, ShowsSheet, IsSettledSheet}
 use Rattle.ratatui_core.specs.Terminal.{State, IsInStep, DrawsFrame}
 use Rattle.ratatui_core.specs.Headline.{Event, Along, last_state, IsFaithful, Draw}
 use Rattle.ratatui_ansi.specs.Backend.{BackendState, reader, shown_by, IsReadAlike}
-use Rattle.ratatui_ansi.specs.Calls.{IsLeft, anew, with_rows_above}
-use Rattle.ratatui_ansi.specs.Columns.{look_in}
-use Rattle.ratatui_ansi.specs.Emulator.{Emulator, rested}
-use Rattle.ratatui_ansi.specs.Glass.{IsStraight}
+use Rattle.ansi_model.specs.Beginnings.{IsAsFound, anew, with_rows_above}
+use Rattle.ansi_model.specs.Columns.{look_in}
+use Rattle.ansi_model.specs.Emulator.{Emulator, rested}
+use Rattle.ansi_model.specs.Glass.{IsStraight}
 use Rattle.ratatui_ansi.specs.Headline.{IsReadBy, IsReadByAll, below_rows, IsShownToReader, IsShownToAll, IsHeadlineOfBytes}
-use Rattle.ratatui_ansi.specs.Screens.{screen_shown}
-use Rattle.ratatui_ansi.specs.Sequences.{feed}
-use Rattle.ratatui_ansi.proofs.HistoryLemmas.{rested-above}
+use Rattle.ansi_model.specs.Screens.{screen_shown}
+use Rattle.ansi_model.specs.Sequences.{feed}
+use Rattle.ansi_model.proofs.HistoryLemmas.{rested-above}
 
 -- faithful calls leave a terminal in step
 pub last-in-step : {B : Type 0} (screen : B → Screen) (s : State B) (events : List (Event B)) → IsInStep screen s → Along (IsFaithful screen) s events → IsInStep screen (last_state s events)
 last-in-step screen s [] step all = step
 last-in-step screen s (e ∷ es) step all = last-in-step screen e.after es all.0.in_step all.1
 
-rested-alike : (size : Size) (sent : List ℕ) → IsReadAlike size sent → (t : Emulator) → IsLeft size.width size.height t → rested (feed sent (anew t)) ≡ with_rows_above t.history (rested (reader size sent))
+rested-alike : (size : Size) (sent : List ℕ) → IsReadAlike size sent → (t : Emulator) → IsAsFound size.width size.height t → rested (feed sent (anew t)) ≡ with_rows_above t.history (rested (reader size sent))
 rested-alike size sent alike t left = ap rested (alike t left) ∙ rested-above t.history (reader size sent)
 
 pub read-by-all : {W : Type 0} (b : BackendState W) → IsReadAlike b.size b.sent → (rested (reader b.size b.sent)).sure ≡ true → IsReadByAll b

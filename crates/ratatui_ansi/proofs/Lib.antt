@@ -1,16 +1,7 @@
-pub mod ReadLemmas
-pub mod TextLemmas
-pub mod PenLemmas
-pub mod ScrollLemmas
-pub mod RegionLemmas
 pub mod DrawLemmas
-pub mod CallLemmas
-pub mod HistoryLemmas
-pub mod PutLemmas
 pub mod TailLemmas
 pub mod CoverLemmas
 pub mod FrameLemmas
-pub mod LoneLemmas
 pub mod FlagLemmas
 pub mod EraseLemmas
 pub mod TrackLemmas

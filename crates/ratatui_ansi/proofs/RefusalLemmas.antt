@@ -1,43 +1,47 @@
 -- What refused calls leave, and where a draw stops.
-use Rattle.std.proofs.Common.{◌≡◌, ℕ, ◌+◌, ◌*◌, ◌<◌, Bool, true, false, IsTrue, List, map, Option, Result, Ok, Err, IsErr, IsErrAnd, IfErr, refl, sym, subst, ◌∙◌}
+use Rattle.std.proofs.Common.{◌≡◌, ℕ, ◌+◌, ◌*◌, ◌<◌, Bool, true, false, IsTrue, List, map, Option, Result, Ok, Err, IsErr, IsErrAnd, IfErr, OnOk, refl, sym, subst, ◌∙◌}
 use Rattle.std.proofs.lemmas.Bool.{false≢true}
 use Rattle.ratatui_core.specs.Layout.{Position}
+use Rattle.ratatui_core.specs.Layout as layout
 use Rattle.ratatui_core.specs.Buffer.{Update}
 use Rattle.ratatui_core.specs.Backend.{Draws, ClearType, All, AfterCursor, BeforeCursor, CurrentLine, UntilNewLine}
 use Rattle.ratatui_ansi.specs.declared.error.AnsiError.{AnsiError}
-use Rattle.ratatui_ansi.specs.declared.error.AnsiError.TheVariants.{Cut}
+use Rattle.ratatui_ansi.specs.declared.error.AnsiError.TheVariants.{Memory, Symbol, Style, Cut, Size, Broken, Write}
+use Rattle.ratatui_ansi.specs.declared.tracker.Tracker.{Tracker}
+use Rattle.ratatui_ansi.specs.declared.tracker.Call.{Call}
+use Rattle.ratatui_ansi.specs.declared.tracker.Call.TheVariants as Called
 use Rattle.ratatui_ansi.specs.declared.frame.Drawing.{Drawing}
 use Rattle.ratatui_ansi.specs.declared.frame.Refusal.{Refusal}
 use Rattle.ratatui_ansi.specs.declared.frame.Refusal.TheVariants as Refused
 use Rattle.ratatui_ansi.specs.Backend.{BackendState}
-use Rattle.ratatui_ansi.specs.Calls.{IsAwaiting}
+use Rattle.ratatui_ansi.specs.Tracker.{IsAwaiting, IsTracked, IsUncollected}
 use Rattle.ratatui_ansi.specs.Errors.{error_of}
 use Rattle.ratatui_ansi.specs.Flags.{flag, is_clear_cut}
-use Rattle.ratatui_ansi.specs.Frame.{IsRefused, IsDrawing}
-use Rattle.ratatui_ansi.specs.Pen.{own_pen}
-use Rattle.ratatui_ansi.specs.Refusals.{IsOfClearing, IsUnsent, FailsBy, Leaves, names_cell, has_place, IsRefusedOn, StopsWithin, StopsDraw}
-use Rattle.ratatui_ansi.specs.Screens.{screen_shown}
-use Rattle.ratatui_ansi.specs.Sequences.{feed}
-use Rattle.ratatui_ansi.specs.Emulator.{Emulator, rested}
+use Rattle.ratatui_ansi.specs.Frame.{RefusesUpdate, IsDrawing}
+use Rattle.ansi_model.specs.Sgr.{default_sgr}
+use Rattle.ratatui_ansi.specs.Refusals.{IsOfClearing, IsOfCall, FailsToResize, IsUnsent, FailsBy, Answers, names_cell, has_place, IsRefusedOn, StopsWithin, StopsDraw}
+use Rattle.ansi_model.specs.Screens.{screen_shown}
+use Rattle.ansi_model.specs.Sequences.{feed}
+use Rattle.ansi_model.specs.Emulator.{Emulator, rested}
 use Rattle.ratatui_ansi.proofs.BackendLemmas.{cursor-column, cursor-row}
-use Rattle.ratatui_ansi.proofs.CoverLemmas.{covered-behind}
+use Rattle.ratatui_ansi.proofs.CoverLemmas.{covered-continuation}
 use Rattle.ratatui_ansi.proofs.FrameLemmas.{begins}
 
 -- ---- where a draw stops
 
-refused-on : (w h : ℕ) (colors : Bool) (d : Drawing) (flags : List Bool) (t : Emulator) (u : Update) (refusal : Refusal) → IsDrawing w h d flags t → IsRefused w h colors flags u refusal
+refused-on : (w h : ℕ) (colors : Bool) (d : Drawing) (flags : List Bool) (t : Emulator) (u : Update) (refusal : Refusal) → IsDrawing w h d flags t → RefusesUpdate w h colors flags u refusal
     → IsRefusedOn colors (screen_shown d.written (rested t)) u refusal
 refused-on w h colors d flags t u Refused.Memory is because = tt
-refused-on w h colors d flags t u (Refused.Symbol p) is because = (rw (is.ready.width, is.ready.height) because.0, rw is.ready.width because.2)
-refused-on w h colors d flags t u (Refused.Pen p) is because = (rw (is.ready.width, is.ready.height) because.0, because.2)
+refused-on w h colors d flags t u (Refused.Symbol p) is because = (rw (is.ready.rest.width, is.ready.rest.height) because.0, rw is.ready.rest.width because.2)
+refused-on w h colors d flags t u (Refused.Style p) is because = (rw (is.ready.rest.width, is.ready.rest.height) because.0, because.2)
 refused-on w h colors d flags t u (Refused.Cut p) is because = (
-  rw (is.ready.width, is.ready.height) because.0,
-  covered-behind (rested t).columns is.ready.sized is.ready.whole u.x u.y (sym (is.behind.each u.x u.y because.0.column because.0.row) ∙ because.1),
+  rw (is.ready.rest.width, is.ready.rest.height) because.0,
+  covered-continuation (rested t).columns is.ready.tidy.sized is.ready.tidy.whole u.x u.y (sym (is.continuations.each u.x u.y because.0.column because.0.row) ∙ because.1),
   because.2,
 )
 
 pub stops-draw : {S A : Type 0} (steps : S → Option A → S → Type 0) (content : S) (update : A → Update) (w h : ℕ) (colors : Bool) (old : List ℕ) (d : Drawing) (cursor : Position) (written : ℕ) (flags : List Bool)
-    (refusal : Refusal) → d.brush.pen ≡ own_pen → d.brush.is_placed ≡ false → d.cursor ≡ cursor → d.written ≡ written → StopsWithin steps content update w h colors old d flags refusal
+    (refusal : Refusal) → d.brush.sgr ≡ default_sgr → d.brush.is_placed ≡ false → d.cursor ≡ cursor → d.written ≡ written → StopsWithin steps content update w h colors old d flags refusal
     → StopsDraw steps content update w h colors cursor written flags refusal
 stops-draw steps content update w h colors old d cursor written flags refusal own unplaced at count stops = record {
   stops = λ t is.
@@ -58,7 +62,7 @@ stops-draw steps content update w h colors old d cursor written flags refusal ow
 pub named-place : (refusal : Refusal) → IsTrue (names_cell (error_of refusal)) → IsTrue (has_place refusal)
 named-place Refused.Memory named = named
 named-place (Refused.Symbol p) named = named
-named-place (Refused.Pen p) named = named
+named-place (Refused.Style p) named = named
 named-place (Refused.Cut p) named = named
 
 -- a clear that would cut a symbol has its cursor on a column that the symbol covers
@@ -69,7 +73,7 @@ cut-is-covered {w} {h} {place} {flags} {t} written kind wide is cut =
     let x_in : place.x < w = cursor-column wide is in
     let y_in : place.y < h = cursor-row is in (
       sym is.placed,
-      covered-behind (rested t).columns is.ready.sized is.ready.whole place.x place.y (sym (is.behind.each place.x place.y x_in y_in) ∙ set),
+      covered-continuation (rested t).columns is.ready.tidy.sized is.ready.tidy.whole place.x place.y (sym (is.continuations.each place.x place.y x_in y_in) ∙ set),
     )
   where
     by_kind : (k : ClearType) → is_clear_cut k w place.x place.y flags ≡ true → flag flags (place.y * w + place.x) ≡ true
@@ -89,20 +93,31 @@ pub if-error : {A F : Type 0} (P : F → Type 0) (answer : Result A F) (error : 
 if-error P (Ok x) error is holds = tt
 if-error P (Err f) error is holds = subst P (sym is.1) holds
 
-pub leaves-error : {W A : Type 0} (answer : Result A AnsiError) (error : AnsiError) (old new : BackendState W) → Refuses answer error → FailsBy old new error → Leaves answer old new
-leaves-error (Ok x) error old new is fails = absurd (false≢true is.0)
-leaves-error (Err f) error old new is fails = subst (FailsBy old new) (sym is.1) fails
+-- a backend that takes its own size again keeps it
+pub size-stays : {W A : Type 0} (answer : Result A AnsiError) (size : layout.Size) (old new : BackendState W) → OnOk answer (new.size ≡ size) → IfErr answer (FailsToResize size old new) → old.size ≡ size → new.size ≡ size
+size-stays (Ok x) size old new same fails own = same
+size-stays (Err Memory) size old new same fails own = fails.size ∙ own
+size-stays (Err (Symbol p)) size old new same fails own = absurd fails
+size-stays (Err (Style p)) size old new same fails own = absurd fails
+size-stays (Err (Cut p)) size old new same fails own = absurd fails
+size-stays (Err Size) size old new same fails own = fails.1.size ∙ own
+size-stays (Err Broken) size old new same fails own = absurd fails
+size-stays (Err (Write error)) size old new same fails own = fails.1 ∙ own
 
--- only the count of failures changed
-pub counted-unsent : {W : Type 0} (s : BackendState W) (n : ℕ) → IsUnsent s (record s { failures = n })
-counted-unsent s n = record { writer = refl; start = refl; sent = refl; held = refl; size = refl; colors = refl; ambiguous = refl; written = refl; is_broken = refl }
-
-pub refusal-leaves : {W : Type 0} (was old new : BackendState W) (refusal : Refusal) → was ≡ old → was.is_broken ≡ false → IsUnsent was new → FailsBy old new (error_of refusal)
-refusal-leaves was old new refusal same whole still =
-    subst (λ s. FailsBy s new (error_of refusal)) same (by_refusal refusal)
-  where
-    by_refusal : (r : Refusal) → FailsBy was new (error_of r)
-    by_refusal Refused.Memory = (whole, still)
-    by_refusal (Refused.Symbol p) = (whole, still)
-    by_refusal (Refused.Pen p) = (whole, still)
-    by_refusal (Refused.Cut p) = (whole, still)
+-- why a call wasn't sent
+pub uncollected-why : (k : Tracker) (t : Emulator) (call : Call) (written : ℕ) (refusal : Refusal) → 0 < k.size.width → IsTracked k t → IsUncollected call k refusal → IsOfCall call (screen_shown written (rested t)) (error_of refusal)
+uncollected-why k t (Called.Move p) written Refused.Memory wide is why = tt
+uncollected-why k t (Called.Show visible) written Refused.Memory wide is why = tt
+uncollected-why k t (Called.Append n) written Refused.Memory wide is why = tt
+uncollected-why k t (Called.ScrollUp region n) written Refused.Memory wide is why = tt
+uncollected-why k t (Called.ScrollDown region n) written Refused.Memory wide is why = tt
+uncollected-why k t (Called.Clear kind) written Refused.Memory wide is why = tt
+uncollected-why k t call written (Refused.Symbol p) wide is why = absurd why
+uncollected-why k t call written (Refused.Style p) wide is why = absurd why
+uncollected-why k t (Called.Move q) written (Refused.Cut p) wide is why = absurd why.1
+uncollected-why k t (Called.Show visible) written (Refused.Cut p) wide is why = absurd why.1
+uncollected-why k t (Called.Append n) written (Refused.Cut p) wide is why = absurd why.1
+uncollected-why k t (Called.ScrollUp region n) written (Refused.Cut p) wide is why = absurd why.1
+uncollected-why k t (Called.ScrollDown region n) written (Refused.Cut p) wide is why = absurd why.1
+uncollected-why k t (Called.Clear kind) written (Refused.Cut p) wide is why =
+    subst (λ q. IsOfClearing (screen_shown written (rested t)) (Cut q)) (sym why.0) (cut-is-covered written kind wide is why.1)

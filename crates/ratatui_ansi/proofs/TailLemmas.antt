@@ -3,20 +3,20 @@ use Rattle.std.proofs.Common.{◌≡◌, ℕ, ◌+◌, ◌-◌, ◌<◌, ◌≤�
 use Rattle.std.proofs.lemmas.Bool.Decides.{nat_tests}
 use Rattle.std.specs.List.{list_any, range_with_len}
 use Rattle.ratatui_core.specs.Buffer.{Look, look_of, empty_look, width_of, Update, put}
-use Rattle.ratatui_ansi.specs.Columns.{Column, Columns, blank_column, look_in, is_behind, is_met}
-use Rattle.ratatui_ansi.specs.Columns.Column.{Shows, Unknown}
-use Rattle.ratatui_ansi.specs.Emulator.{run}
-use Rattle.ratatui_ansi.specs.Screens.{IsSized, AreSized, IsWhole, IsWholeAt, IsBlankBeyond, put_columns}
+use Rattle.ansi_model.specs.Columns.{Column, Columns, blank_column, look_in, is_continuation, is_met}
+use Rattle.ansi_model.specs.Columns.Column.{Shows, Unknown}
+use Rattle.ansi_model.specs.Emulator.{run}
+use Rattle.ansi_model.specs.Screens.{HasOwnWidth, HaveOwnWidths, IsWhole, IsWholeAt, IsBlankBeyond, put_columns}
 use Rattle.ratatui_ansi.specs.Frame.{IsTail, laid}
-use Rattle.ratatui_ansi.proofs.PutLemmas.{none_between, apart-at, first-or-behind, rest-same}
-use Rattle.ratatui_ansi.proofs.TextLemmas.{blank-sized}
-use Rattle.ratatui_ansi.specs.Drawing.{columns_of}
+use Rattle.ansi_model.proofs.PutLemmas.{none_between, apart-at, first-or-later, rest-same}
+use Rattle.ansi_model.proofs.TextLemmas.{blank-sized}
+use Rattle.ansi_model.specs.Symbols.{printed_columns}
 
--- a symbol of n columns stands in column x of row y, blanks behind it up to column k, and from there up to column `end` nothing is known
+-- a symbol of n columns stands in column x of row y, blanks after it up to column k, and from there up to column `end` nothing is known
 abbrev pub torn : ℕ → ℕ → ℕ → ℕ → ℕ → Look → Columns → Columns
 torn x y n k end look c a b = if run k y (end - k) a b then Unknown else laid x y n k look c a b
 
-or_true : (p : Bool) → (p || true) ≡ true
+pub or_true : (p : Bool) → (p || true) ≡ true
 or_true true = refl
 or_true false = refl
 
@@ -62,17 +62,17 @@ laid-outside x y n end look c a b ordered e =
     laid-other x y n end look c a b f g
 
 -- a symbol outside the columns of the new one and the tail has none of its columns in them
-apart_from : (x y n end a b : ℕ) (look : Look) (i m : ℕ) (c : Columns) → is_behind (c x y) ≡ false → IsTail (x + n) end y c → IsWholeAt (λ k. c k b) a (Shows look i m)
+apart_from : (x y n end a b : ℕ) (look : Look) (i m : ℕ) (c : Columns) → is_continuation (c x y) ≡ false → IsTail (x + n) end y c → IsWholeAt (λ k. c k b) a (Shows look i m)
     → run x y (end - x) a b ≡ false → (k : ℕ) → a - i ≤ k → k < (a - i) + m → run x y (end - x) k b ≡ false
 apart_from x y n end a b look i m c left tail whole out =
     let ordered : x + n ≤ end = tail.ordered in
     let there : x + (end - x) ≡ end = omega arith in
-    apart-at x y (end - x) a b i m look c whole left (ap (λ k. is_behind (c k y)) there ∙ tail.ended) out
+    apart-at x y (end - x) a b i m look c whole left (ap (λ k. is_continuation (c k y)) there ∙ tail.ended) out
 
 -- ---- what the columns are
 
-pub laid-sized : (x y n end : ℕ) (look : Look) (c : Columns) → n ≡ columns_of look.symbol → AreSized c → AreSized (laid x y n end look c)
-laid-sized x y n end look c takes sized a b = laid_cases x y n end look c a b IsSized (λ e. takes) (λ e f. blank-sized) (λ e f. sized a b)
+pub laid-sized : (x y n end : ℕ) (look : Look) (c : Columns) → n ≡ printed_columns look.symbol → HaveOwnWidths c → HaveOwnWidths (laid x y n end look c)
+laid-sized x y n end look c takes sized a b = laid_cases x y n end look c a b HasOwnWidth (λ e. takes) (λ e f. blank-sized) (λ e f. sized a b)
 
 pub laid-beyond : (w x y n end : ℕ) (look : Look) (c : Columns) → x + n ≤ w → IsBlankBeyond w c → IsBlankBeyond w (laid x y n end look c)
 laid-beyond w x y n end look c fits beyond a b far =
@@ -85,16 +85,16 @@ part_behind x a low =
       | false ↦ λ e. let f : ((a - x) == 0) ≡ true = grind (arith, nat_tests) in rw f refl
     ] refl
 
-pub laid-behind : (x y n end : ℕ) (look : Look) (c : Columns) (a b : ℕ)
-    → is_behind (laid x y n end look c a b) ≡ (if run x y n a b then nat_lt x a else (if run (x + n) y (end - (x + n)) a b then false else is_behind (c a b)))
-laid-behind x y n end look c a b =
-    elim (run x y n a b) as (λ p. run x y n a b ≡ p → is_behind (if p then Shows look (a - x) n else (if run (x + n) y (end - (x + n)) a b then blank_column else c a b))
-    ≡ (if p then nat_lt x a else (if run (x + n) y (end - (x + n)) a b then false else is_behind (c a b)))) [
+pub laid-continuations : (x y n end : ℕ) (look : Look) (c : Columns) (a b : ℕ)
+    → is_continuation (laid x y n end look c a b) ≡ (if run x y n a b then nat_lt x a else (if run (x + n) y (end - (x + n)) a b then false else is_continuation (c a b)))
+laid-continuations x y n end look c a b =
+    elim (run x y n a b) as (λ p. run x y n a b ≡ p → is_continuation (if p then Shows look (a - x) n else (if run (x + n) y (end - (x + n)) a b then blank_column else c a b))
+    ≡ (if p then nat_lt x a else (if run (x + n) y (end - (x + n)) a b then false else is_continuation (c a b)))) [
       | true ↦ λ e. part_behind x a (grind (arith, nat_tests))
-      | false ↦ λ e. elim (run (x + n) y (end - (x + n)) a b) as (λ q. is_behind (if q then blank_column else c a b) ≡ (if q then false else is_behind (c a b))) [ true ↦ refl | false ↦ refl ]
+      | false ↦ λ e. elim (run (x + n) y (end - (x + n)) a b) as (λ q. is_continuation (if q then blank_column else c a b) ≡ (if q then false else is_continuation (c a b))) [ true ↦ refl | false ↦ refl ]
     ] refl
 
-whole_outside : (x y n end a b : ℕ) (look : Look) (c : Columns) (d : Column) → is_behind (c x y) ≡ false → IsTail (x + n) end y c → run x y (end - x) a b ≡ false
+whole_outside : (x y n end a b : ℕ) (look : Look) (c : Columns) (d : Column) → is_continuation (c x y) ≡ false → IsTail (x + n) end y c → run x y (end - x) a b ≡ false
     → IsWholeAt (λ k. c k b) a d → IsWholeAt (λ k. laid x y n end look c k b) a d
 whole_outside x y n end a b look c Unknown left tail out whole = tt
 whole_outside x y n end a b look c (Shows other i m) left tail out whole = (
@@ -104,7 +104,7 @@ whole_outside x y n end a b look c (Shows other i m) left tail out whole = (
       laid-outside x y n end look c ((a - i) + j) b tail.ordered (apart_from x y n end a b other i m c left tail whole out ((a - i) + j) (omega arith) (omega arith)) ∙ whole.2 j below,
 )
 
-pub laid-whole : (x y n end : ℕ) (look : Look) (c : Columns) → IsWhole c → is_behind (c x y) ≡ false → IsTail (x + n) end y c → IsWhole (laid x y n end look c)
+pub laid-whole : (x y n end : ℕ) (look : Look) (c : Columns) → IsWhole c → is_continuation (c x y) ≡ false → IsTail (x + n) end y c → IsWhole (laid x y n end look c)
 laid-whole x y n end look c whole left tail a b =
     let ordered : x + n ≤ end = tail.ordered in
     laid_cases x y n end look c a b (IsWholeAt (λ k. laid x y n end look c k b) a)
@@ -132,10 +132,10 @@ laid-whole x y n end look c whole left tail a b =
     ))
     (λ e f. whole_outside x y n end a b look c (c a b) left tail (outside x y n end a b ordered e f) (whole a b))
 
--- behind the first column of a symbol a column shows nothing of its own
-pub behind_empty : (d : Column) → is_behind d ≡ true → look_in d ≡ empty_look
-behind_empty Unknown e = refl
-behind_empty (Shows look index count) e =
+-- after the first column of a symbol a column shows nothing of its own
+pub continuation-empty : (d : Column) → is_continuation d ≡ true → look_in d ≡ empty_look
+continuation-empty Unknown e = refl
+continuation-empty (Shows look index count) e =
     elim (index == 0) as (λ p. (if p then false else true) ≡ true → (if p then look else empty_look) ≡ empty_look) [
       | true ↦ λ f. let h : ⊥ = cc in absurd h
       | false ↦ λ f. refl
@@ -158,7 +158,7 @@ laid-shown w h x y n end u c tail ex ey en some fits y_in a b =
     let row : nat_eq b y ≡ true = grind (arith, nat_tests) in
     let high : nat_lt a (x + n) ≡ true = grind (arith, nat_tests) in
     let wide : nat_lt a w ≡ true = grind (arith, nat_tests) in
-    rw (row, high, wide) (first-or-behind x a (look_of u.cell) (look_in (c a b)) (grind (arith, nat_tests))))
+    rw (row, high, wide) (first-or-later x a (look_of u.cell) (look_in (c a b)) (grind (arith, nat_tests))))
     (λ e f.
     let row : nat_eq b y ≡ true = grind (arith, nat_tests) in
     let same_row : b ≡ y = grind (arith, nat_tests) in
@@ -166,8 +166,8 @@ laid-shown w h x y n end u c tail ex ey en some fits y_in a b =
     let past : nat_lt a (x + n) ≡ false = grind (arith, nat_tests) in
     let low : x + n ≤ a = grind (arith, nat_tests) in
     let high : a < end = grind (arith, nat_tests) in
-    let behind : is_behind (c a b) ≡ true = ap (λ k. is_behind (c a k)) same_row ∙ tail.behind a low high in
-    rw (row, other, past) (sym (if_past (nat_lt x a) (nat_lt a w) empty_look (look_in (c a b)) ∙ behind_empty (c a b) behind)))
+    let continuations : is_continuation (c a b) ≡ true = ap (λ k. is_continuation (c a k)) same_row ∙ tail.continuations a low high in
+    rw (row, other, past) (sym (if_past (nat_lt x a) (nat_lt a w) empty_look (look_in (c a b)) ∙ continuation-empty (c a b) continuations)))
     (λ e f. rest-same (nat_eq b y) (nat_eq a x) (nat_lt x a && nat_lt a (x + n) && nat_lt a w) (look_of u.cell) (look_in (c a b)) empty_look
     (λ row. grind (arith, nat_tests)) (λ row. grind (arith, nat_tests))))
 
@@ -190,30 +190,30 @@ before x y n end a b look i m c whole some tail row high =
           let index : i < m = whole.0 in
           let there : (a - i) + 0 ≡ a - i = omega arith in
           let shows : c (a - i) y ≡ Shows look 0 m = ap₂ (λ k j. c k j) (sym there) (sym row) ∙ whole.2 0 (omega arith) in
-          let not : is_behind (c (a - i) y) ≡ false = ap is_behind shows in
-          let is : is_behind (c (a - i) y) ≡ true = tail.behind (a - i) from (omega arith) in
+          let not : is_continuation (c (a - i) y) ≡ false = ap is_continuation shows in
+          let is : is_continuation (c (a - i) y) ≡ true = tail.continuations (a - i) from (omega arith) in
           let h : ⊥ = cc in
           absurd h
     ] refl
 
-tail-met : (x y n end a b : ℕ) (c : Columns) (d : Column) → IsWholeAt (λ k. c k b) a d → is_behind d ≡ true → IsTail (x + n) end y c → 0 < n → b ≡ y → x + n ≤ a → a < end
+tail-met : (x y n end a b : ℕ) (c : Columns) (d : Column) → IsWholeAt (λ k. c k b) a d → is_continuation d ≡ true → IsTail (x + n) end y c → 0 < n → b ≡ y → x + n ≤ a → a < end
     → is_met (run x y n) a b d ≡ true
-tail-met x y n end a b c Unknown whole behind tail some row low high = let h : ⊥ = cc in absurd h
-tail-met x y n end a b c (Shows look i m) whole behind tail some row low high =
+tail-met x y n end a b c Unknown whole continuations tail some row low high = let h : ⊥ = cc in absurd h
+tail-met x y n end a b c (Shows look i m) whole continuations tail some row low high =
     let index : i < m = whole.0 in
     let first : i ≤ a = whole.1 in
-    let starts : a - i < x + n = before x y n end a b look i m c whole (later i behind) tail row high in
+    let starts : a - i < x + n = before x y n end a b look i m c whole (later i continuations) tail row high in
     let inside : run x y n (x + n - 1) b ≡ true = grind (arith, nat_tests) in
     some_between (λ k. run x y n k b) (a - i) m (x + n - 1) (omega arith) (omega arith) inside
 
-met-none : (x y n end a b : ℕ) (area : ℕ → ℕ → Bool) (c : Columns) (d : Column) → is_behind (c x y) ≡ false → IsTail (x + n) end y c → run x y (end - x) a b ≡ false → IsWholeAt (λ k. c k b) a d
+met-none : (x y n end a b : ℕ) (area : ℕ → ℕ → Bool) (c : Columns) (d : Column) → is_continuation (c x y) ≡ false → IsTail (x + n) end y c → run x y (end - x) a b ≡ false → IsWholeAt (λ k. c k b) a d
     → ((k : ℕ) → run x y (end - x) k b ≡ false → area k b ≡ false) → is_met area a b d ≡ false
 met-none x y n end a b area c Unknown left tail out whole within = refl
 met-none x y n end a b area c (Shows look i m) left tail out whole within =
     none_between (λ k. area k b) (a - i) m (λ k low high. within k (apart_from x y n end a b look i m c left tail whole out k low high))
 
 -- the symbol alone: what it cut isn't known
-pub put-torn : (x y n end : ℕ) (look : Look) (c : Columns) → IsWhole c → is_behind (c x y) ≡ false → IsTail (x + n) end y c → 0 < n
+pub put-torn : (x y n end : ℕ) (look : Look) (c : Columns) → IsWhole c → is_continuation (c x y) ≡ false → IsTail (x + n) end y c → 0 < n
     → (a b : ℕ) → put_columns x y n look c a b ≡ torn x y n (x + n) end look c a b
 put-torn x y n end look c whole left tail some a b =
     let ordered : x + n ≤ end = tail.ordered in
@@ -226,8 +226,8 @@ put-torn x y n end look c whole left tail some a b =
             let row : b ≡ y = grind (arith, nat_tests) in
             let low : x + n ≤ a = grind (arith, nat_tests) in
             let high : a < end = grind (arith, nat_tests) in
-            let behind : is_behind (c a b) ≡ true = ap (λ k. is_behind (c a k)) row ∙ tail.behind a low high in
-            let met : is_met (run x y n) a b (c a b) ≡ true = tail-met x y n end a b c (c a b) (whole a b) behind tail some row low high in
+            let continuations : is_continuation (c a b) ≡ true = ap (λ k. is_continuation (c a k)) row ∙ tail.continuations a low high in
+            let met : is_met (run x y n) a b (c a b) ≡ true = tail-met x y n end a b c (c a b) (whole a b) continuations tail some row low high in
             rw (e, f, met) refl
         | false ↦ λ f.
             let g : run (x + n) y (x + n - (x + n)) a b ≡ false = grind (arith, nat_tests) in
@@ -244,7 +244,7 @@ laid-more x y n k look c a b other low =
       | false ↦ λ e. let f : run (x + n) y (k + 1 - (x + n)) a b ≡ false = grind (arith, nat_tests) in rw (e, f) refl
     ] refl
 
-laid-apart : (x y n k end a b : ℕ) (look : Look) (c : Columns) → IsWhole c → is_behind (c x y) ≡ false → IsTail (x + n) end y c → x + n ≤ k → k < end → run k y (end - k) a b ≡ false
+laid-apart : (x y n k end a b : ℕ) (look : Look) (c : Columns) → IsWhole c → is_continuation (c x y) ≡ false → IsTail (x + n) end y c → x + n ≤ k → k < end → run k y (end - k) a b ≡ false
     → is_met (run k y 1) a b (laid x y n k look c a b) ≡ false
 laid-apart x y n k end a b look c whole left tail low high out =
     laid_cases x y n k look c a b (λ d. is_met (run k y 1) a b d ≡ false)
@@ -259,7 +259,7 @@ laid-apart x y n k end a b look c whole left tail low high out =
     met-none x y n end a b (run k y 1) c (c a b) left tail all_out (whole a b) (λ j out_j. grind (arith, nat_tests)))
 
 -- one more blank
-pub torn-more : (x y n k end : ℕ) (look : Look) (c d : Columns) → IsWhole c → is_behind (c x y) ≡ false → IsTail (x + n) end y c → x + n ≤ k → k < end → ((a b : ℕ) → d a b ≡ torn x y n k end look c a b)
+pub torn-more : (x y n k end : ℕ) (look : Look) (c d : Columns) → IsWhole c → is_continuation (c x y) ≡ false → IsTail (x + n) end y c → x + n ≤ k → k < end → ((a b : ℕ) → d a b ≡ torn x y n k end look c a b)
     → (a b : ℕ) → put_columns k y 1 empty_look d a b ≡ torn x y n (k + 1) end look c a b
 torn-more x y n k end look c d whole left tail low high same a b =
     elim (run k y 1 a b) as (λ p. run k y 1 a b ≡ p → put_columns k y 1 empty_look d a b ≡ torn x y n (k + 1) end look c a b) [

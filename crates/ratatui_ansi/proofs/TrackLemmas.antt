@@ -1,24 +1,25 @@
 -- From what bytes do to a ready terminal to what a backend keeps of it.
-use Rattle.std.proofs.Common.{◌≡◌, ℕ, ◌+◌, ◌-◌, ◌*◌, ◌<◌, ◌≤◌, ◌++◌, ◌&&◌, ◌||◌, ◌==◌, min, nat_lt, nat_le, nat_eq, if◌then◌else◌, Bool, List, true, false, refl, sym, ap, ap₂, ◌∙◌, arith, append_assoc, subst}
+use Rattle.std.proofs.Common.{◌≡◌, ℕ, ◌+◌, ◌-◌, ◌*◌, ◌<◌, ◌≤◌, ◌++◌, ◌&&◌, ◌||◌, ◌==◌, min, nat_lt, nat_le, nat_eq, if◌then◌else◌, Bool, List, length, true, false, string_bytes, refl, sym, ap, ap₂, ◌∙◌, arith, append_assoc, subst}
 use Rattle.std.proofs.lemmas.Bool.Decides.{nat_tests}
-use Rattle.ratatui_core.specs.Layout.{Position}
-use Rattle.ratatui_core.specs.Buffer.{empty_look}
-use Rattle.ratatui_core.specs.Backend.{Screen, ScrollsUp, ScrollsDown, Appends, Clears, with_cursor, with_visible, cursor_of, ClearType, All, AfterCursor, BeforeCursor, CurrentLine, UntilNewLine, is_cleared}
-use Rattle.ratatui_ansi.specs.declared.part.Part.{Part}
-use Rattle.ratatui_ansi.specs.declared.part.Part.TheVariants.{After, Before, Line, LineEnd}
-use Rattle.ratatui_ansi.specs.Columns.{Column, Columns, look_in, is_behind, blank_column}
-use Rattle.ratatui_ansi.specs.Columns.Column.{Shows, Unknown}
-use Rattle.ratatui_ansi.specs.Emulator.{Emulator, rested, raised, lowered, part_at, part_emptied, moved, erased, keeps_history}
-use Rattle.ratatui_ansi.specs.Sequences.{feed}
-use Rattle.ratatui_ansi.specs.Screens.{screen_shown, IsReady, Turns, Becomes}
-use Rattle.ratatui_ansi.specs.Flags.{flag, AreBehind, is_cut}
-use Rattle.ratatui_ansi.specs.Calls.{IsAwaiting, SendsCall, Empties}
-use Rattle.ratatui_ansi.proofs.ReadLemmas.{feed-append}
-use Rattle.ratatui_ansi.proofs.FlagLemmas.{AreBehind-along}
+use Rattle.ratatui_core.specs.Layout.{Position, Size}
+use Rattle.ratatui_core.specs.Buffer.{empty_look, Update}
+use Rattle.ratatui_core.specs.Backend.{Screen, Draws, ScrollsUp, ScrollsDown, Appends, Clears, with_cursor, with_visible, cursor_of, ClearType, All, AfterCursor, BeforeCursor, CurrentLine, UntilNewLine, is_cleared}
+use Rattle.ansi_model.specs.Columns.{Column, Columns, look_in, is_continuation, blank_column}
+use Rattle.ansi_model.specs.Columns.Column.{Shows, Unknown}
+use Rattle.ansi_model.specs.Emulator.{Emulator, rested, rows_raised, rows_lowered, columns_cleared, cursor_moved, erased, keeps_history}
+use Rattle.ansi_model.specs.Sequences.{feed}
+use Rattle.ansi_model.specs.Screens.{screen_shown, IsIdle, Turns, Becomes}
+use Rattle.ratatui_ansi.specs.Flags.{flag, AreContinuations, is_cut}
+use Rattle.ratatui_ansi.specs.declared.tracker.Tracker.{Tracker}
+use Rattle.ratatui_ansi.specs.Frame.{SendsDraw}
+use Rattle.ratatui_ansi.specs.Tracker.{IsAwaiting, IsTracked, IsTracker, SendsCall, Collects, Erases}
+use Rattle.ansi_model.proofs.ReadLemmas.{feed-append}
+use Rattle.ratatui_ansi.proofs.TailLemmas.{continuation-empty}
+use Rattle.ratatui_ansi.proofs.FlagLemmas.{AreContinuations-along}
 use Rattle.ratatui_ansi.proofs.EraseLemmas.{part-erased, part-whole, part-sized, part-beyond}
-use Rattle.ratatui_ansi.proofs.ScrollLemmas.{rested-ready}
-use Rattle.ratatui_ansi.proofs.RegionLemmas.{ready-columns, moved-placed}
-use Rattle.ratatui_ansi.specs.Sends.{Does}
+use Rattle.ansi_model.proofs.ScrollLemmas.{rested-ready}
+use Rattle.ansi_model.proofs.RegionLemmas.{ready-columns, moved-placed}
+use Rattle.ansi_model.specs.Sends.{Performs}
 
 -- one after the other
 pub Turns-then : (w h : ℕ) (a b c : List ℕ) (first second : Emulator → Emulator → Type 0) → Turns w h a b first → Turns w h b c second → Turns w h a c (λ s u. (t : Emulator) × first s t × second t u)
@@ -28,23 +29,23 @@ Turns-then w h a b c first second one two =
       bytes = one.bytes ++ two.bytes;
       appended = two.appended ∙ ap (λ xs. xs ++ two.bytes) one.appended ∙ append_assoc a one.bytes two.bytes;
       phase = λ t ground ready. ap (λ (u : Emulator). u.phase) (joined t) ∙ two.phase (feed one.bytes t) (one.phase t ground ready) (one.ready t ground ready);
-      ready = λ t ground ready. subst (λ u. IsReady w h (rested u)) (sym (joined t)) (two.ready (feed one.bytes t) (one.phase t ground ready) (one.ready t ground ready));
+      ready = λ t ground ready. subst (λ u. IsIdle w h (rested u)) (sym (joined t)) (two.ready (feed one.bytes t) (one.phase t ground ready) (one.ready t ground ready));
       turned = λ t ground ready. subst (λ u. (m : Emulator) × first (rested t) m × second m (rested u)) (sym (joined t))
           (rested (feed one.bytes t), one.turned t ground ready, two.turned (feed one.bytes t) (one.phase t ground ready) (one.ready t ground ready));
     }
 
--- what is known of a ready terminal behind a call
+-- what is known of a ready terminal after a call
 pub record IsKept (w h : ℕ) (place : Position) (flags : List Bool) (related : Screen → Screen → Type 0) (s t : Emulator) : Type 0 where
   pub cursor : cursor_of (screen_shown 0 t) ≡ place
-  pub behind : AreBehind w h flags t.columns
+  pub continuations : AreContinuations w h flags t.columns
   pub screens : (written : ℕ) → related (screen_shown written s) (screen_shown written t)
 
 pub call-from : (w h : ℕ) (a b : List ℕ) (place place_after : Position) (flags flags_after : List Bool) (turned : Emulator → Emulator → Type 0) (related : Screen → Screen → Type 0)
     → Turns w h a b turned
-    → ((s t : Emulator) → IsReady w h s → cursor_of (screen_shown 0 s) ≡ place → AreBehind w h flags s.columns → turned s t → IsKept w h place_after flags_after related s t)
+    → ((s t : Emulator) → IsIdle w h s → cursor_of (screen_shown 0 s) ≡ place → AreContinuations w h flags s.columns → turned s t → IsKept w h place_after flags_after related s t)
     → SendsCall w h a b place flags place_after flags_after related
 call-from w h a b place place_after flags flags_after turned related turns kept =
-    let all = λ (t : Emulator) (awaiting : IsAwaiting w h place flags t). kept (rested t) (rested (feed turns.bytes t)) awaiting.ready awaiting.placed awaiting.behind (turns.turned t awaiting.phase awaiting.ready) in
+    let all = λ (t : Emulator) (awaiting : IsAwaiting w h place flags t). kept (rested t) (rested (feed turns.bytes t)) awaiting.ready awaiting.placed awaiting.continuations (turns.turned t awaiting.phase awaiting.ready) in
     record {
       bytes = turns.bytes;
       appended = turns.appended;
@@ -52,39 +53,39 @@ call-from w h a b place place_after flags flags_after turned related turns kept 
         phase = turns.phase t awaiting.phase awaiting.ready;
         ready = turns.ready t awaiting.phase awaiting.ready;
         placed = (all t awaiting).cursor;
-        behind = (all t awaiting).behind;
+        continuations = (all t awaiting).continuations;
       };
       shows = λ written t awaiting. (all t awaiting).screens written;
     }
 
 -- ---- the cursor
 
-pub visible-kept : (w h : ℕ) (visible : Bool) (place : Position) (flags : List Bool) (s t : Emulator) → IsReady w h s → cursor_of (screen_shown 0 s) ≡ place → AreBehind w h flags s.columns
+pub visible-kept : (w h : ℕ) (visible : Bool) (place : Position) (flags : List Bool) (s t : Emulator) → IsIdle w h s → cursor_of (screen_shown 0 s) ≡ place → AreContinuations w h flags s.columns
     → Becomes (λ p q. q ≡ with_visible visible p) s.columns s t → IsKept w h place flags (λ p q. q ≡ with_visible visible p) s t
-visible-kept w h visible place flags s t ready at behind became = record {
+visible-kept w h visible place flags s t ready at continuations became = record {
   cursor = ap cursor_of (became.screens 0) ∙ at;
-  behind = AreBehind-along w h flags s.columns t.columns became.columns behind;
+  continuations = AreContinuations-along w h flags s.columns t.columns became.columns continuations;
   screens = became.screens;
 }
 
-pub cursor-kept : (w h x y : ℕ) (flags : List Bool) (s t : Emulator) → IsReady w h s → AreBehind w h flags s.columns
+pub cursor-kept : (w h x y : ℕ) (flags : List Bool) (s t : Emulator) → IsIdle w h s → AreContinuations w h flags s.columns
     → Becomes (λ p q. q ≡ with_cursor x y p) s.columns s t → IsKept w h (record { x = min x (w - 1); y = min y (h - 1) }) flags (λ p q. q ≡ with_cursor x y p) s t
-cursor-kept w h x y flags s t ready behind became =
+cursor-kept w h x y flags s t ready continuations became =
     let at : cursor_of (screen_shown 0 t) ≡ record { x = min x (s.width - 1); y = min y (s.height - 1) } = ap cursor_of (became.screens 0) in
     record {
-      cursor = at ∙ ap₂ (λ i j. record { x = min x (i - 1); y = min y (j - 1) }) ready.width ready.height;
-      behind = AreBehind-along w h flags s.columns t.columns became.columns behind;
+      cursor = at ∙ ap₂ (λ i j. record { x = min x (i - 1); y = min y (j - 1) }) ready.rest.width ready.rest.height;
+      continuations = AreContinuations-along w h flags s.columns t.columns became.columns continuations;
       screens = became.screens;
     }
 
 -- ---- rows that move
 
-pub append-kept : (w h n : ℕ) (place : Position) (flags flags_after : List Bool) (s t : Emulator) → IsReady w h s → cursor_of (screen_shown 0 s) ≡ place → place.y < h
-    → ((c : Columns) → AreBehind w h flags c → AreBehind w h flags_after (raised 0 (min h h) (n - (h - 1 - place.y)) c)) → AreBehind w h flags s.columns
-    → Becomes (λ p q. Appends p n q × (q.cursor_x ≡ 0)) (raised 0 h (s.y + n - (h - 1)) s.columns) s t
+pub append-kept : (w h n : ℕ) (place : Position) (flags flags_after : List Bool) (s t : Emulator) → IsIdle w h s → cursor_of (screen_shown 0 s) ≡ place → place.y < h
+    → ((c : Columns) → AreContinuations w h flags c → AreContinuations w h flags_after (rows_raised 0 (min h h) (n - (h - 1 - place.y)) c)) → AreContinuations w h flags s.columns
+    → Becomes (λ p q. Appends p n q × (q.cursor_x ≡ 0)) (rows_raised 0 h (s.y + n - (h - 1)) s.columns) s t
     → IsKept w h (record { x = 0; y = min (place.y + n) (h - 1) }) flags_after (λ p q. Appends p n q) s t
-append-kept w h n place flags flags_after s t ready at row moved behind became =
-    let high : s.height ≡ h = ready.height in
+append-kept w h n place flags flags_after s t ready at row cursor_moved continuations became =
+    let high : s.height ≡ h = ready.rest.height in
     let y : s.y ≡ place.y = ap (λ (p : Position). p.y) at in
     let both = became.screens 0 in
     let rows : t.y ≡ min (place.y + n) (h - 1) = both.0.row ∙ (let e : min (s.y + n) (s.height - 1) ≡ min (place.y + n) (h - 1) = omega arith in e) in
@@ -92,7 +93,7 @@ append-kept w h n place flags flags_after s t ready at row moved behind became =
     let past : n - (h - 1 - place.y) ≡ s.y + n - (h - 1) = omega arith in
     record {
       cursor = ap₂ (λ i j. record { x = i; y = j }) both.1 rows;
-      behind = AreBehind-along w h flags_after (raised 0 h (s.y + n - (h - 1)) s.columns) t.columns became.columns (rw (end, past) at (moved s.columns behind));
+      continuations = AreContinuations-along w h flags_after (rows_raised 0 h (s.y + n - (h - 1)) s.columns) t.columns became.columns (rw (end, past) at (cursor_moved s.columns continuations));
       screens = λ written. (became.screens written).0;
     }
 
@@ -104,7 +105,7 @@ module _ (x y : ℕ) (p q : Screen) (width : q.width ≡ p.width) (height : q.he
       let ey : min y (p.height - 1) ≡ p.cursor_y = omega arith in
       ap (with_cursor x y) e ∙ ap₂ (λ i j. record p { cursor_x = i; cursor_y = j }) ex ey
 
-  pub up-back : (a b n : ℕ) → ScrollsUp a b n p q → ScrollsUp a b n p (with_cursor x y q)
+  up-back : (a b n : ℕ) → ScrollsUp a b n p q → ScrollsUp a b n p (with_cursor x y q)
   up-back a b n scrolled = record {
     history = scrolled.history;
     width = scrolled.width;
@@ -115,7 +116,7 @@ module _ (x y : ℕ) (p q : Screen) (width : q.width ≡ p.width) (height : q.he
     no_rows = λ none. back (scrolled.no_rows none);
   }
 
-  pub down-back : (a b n : ℕ) → ScrollsDown a b n p q → ScrollsDown a b n p (with_cursor x y q)
+  down-back : (a b n : ℕ) → ScrollsDown a b n p q → ScrollsDown a b n p (with_cursor x y q)
   down-back a b n scrolled = record {
     history = scrolled.history;
     width = scrolled.width;
@@ -126,85 +127,75 @@ module _ (x y : ℕ) (p q : Screen) (width : q.width ≡ p.width) (height : q.he
     no_rows = λ none. back (scrolled.no_rows none);
   }
 
-module _ (w h : ℕ) (place : Position) (flags flags_after : List Bool) (x_in : place.x < w) (y_in : place.y < h) (s u : Emulator) (ready : IsReady w h s) (at : cursor_of (screen_shown 0 s) ≡ place) where
-  cursor-back : (t : Emulator) → t.width ≡ w → t.height ≡ h → u.width ≡ t.width → Becomes (λ p q. q ≡ with_cursor place.x place.y p) t.columns t u → cursor_of (screen_shown 0 u) ≡ place
-  cursor-back t wide high same became =
+module _ (w h : ℕ) (place : Position) (flags flags_after : List Bool) (x_in : place.x < w) (y_in : place.y < h) (s u : Emulator) (ready : IsIdle w h s) (at : cursor_of (screen_shown 0 s) ≡ place) where
+  -- rows that moved, and then the cursor back
+  moved-kept : (related : Screen → Screen → Type 0) (c : Columns) (t : Emulator) → t.width ≡ s.width → t.height ≡ s.height
+      → ((written : ℕ) → min s.x (s.width - 1) ≡ place.x → s.y ≡ place.y → place.x < s.width → place.y < s.height → related (screen_shown written s) (with_cursor place.x place.y (screen_shown written t)))
+      → AreContinuations w h flags_after c → ((i j : ℕ) → t.columns i j ≡ c i j) → Becomes (λ p q. q ≡ with_cursor place.x place.y p) t.columns t u → IsKept w h place flags_after related s u
+  moved-kept related c t wide high moved continuations same became =
+      let s_wide : s.width ≡ w = ready.rest.width in
+      let s_high : s.height ≡ h = ready.rest.height in
       let ex : min place.x (t.width - 1) ≡ place.x = omega arith in
       let ey : min place.y (t.height - 1) ≡ place.y = omega arith in
-      ap cursor_of (became.screens 0) ∙ ap₂ (λ i j. record { x = i; y = j }) ex ey
+      record {
+        cursor = ap cursor_of (became.screens 0) ∙ ap₂ (λ i j. record { x = i; y = j }) ex ey;
+        continuations = AreContinuations-along w h flags_after c u.columns (λ i j. became.columns i j ∙ same i j) continuations;
+        screens = λ written. subst (related (screen_shown written s)) (sym (became.screens written))
+            (moved written (ap (λ (p : Position). p.x) at) (ap (λ (p : Position). p.y) at) (omega arith) (omega arith));
+      }
 
-  pub up-kept : (a b n : ℕ) → ((c : Columns) → AreBehind w h flags c → AreBehind w h flags_after (raised a (min b h) n c)) → AreBehind w h flags s.columns
-      → (t : Emulator) × Becomes (ScrollsUp a b n) (raised a (min b h) n s.columns) s t × Becomes (λ p q. q ≡ with_cursor place.x place.y p) t.columns t u
+  pub up-kept : (a b n : ℕ) → ((c : Columns) → AreContinuations w h flags c → AreContinuations w h flags_after (rows_raised a (min b h) n c)) → AreContinuations w h flags s.columns
+      → (t : Emulator) × Becomes (ScrollsUp a b n) (rows_raised a (min b h) n s.columns) s t × Becomes (λ p q. q ≡ with_cursor place.x place.y p) t.columns t u
       → IsKept w h place flags_after (ScrollsUp a b n) s u
-  up-kept a b n moved behind both =
-      let t : Emulator = both.0 in
-      let wide : t.width ≡ s.width = (both.1.screens 0).width in
-      let high : t.height ≡ s.height = (both.1.screens 0).height in
-      let x_at : min s.x (s.width - 1) ≡ place.x = ap (λ (p : Position). p.x) at in
-      let y_at : s.y ≡ place.y = ap (λ (p : Position). p.y) at in
-      let s_wide : s.width ≡ w = ready.width in
-      let s_high : s.height ≡ h = ready.height in
-      let same : u.width ≡ t.width = ap (λ (p : Screen). p.width) (both.2.screens 0) in
-      record {
-        cursor = cursor-back t (wide ∙ s_wide) (high ∙ s_high) same both.2;
-        behind = AreBehind-along w h flags_after (raised a (min b h) n s.columns) u.columns (λ i j. both.2.columns i j ∙ both.1.columns i j) (moved s.columns behind);
-        screens = λ written. subst (ScrollsUp a b n (screen_shown written s)) (sym (both.2.screens written))
-            (up-back place.x place.y (screen_shown written s) (screen_shown written t) wide high x_at y_at (omega arith) (omega arith) a b n (both.1.screens written));
-      }
+  up-kept a b n moved continuations both =
+      let wide = (both.1.screens 0).width in
+      let high = (both.1.screens 0).height in
+      moved-kept (ScrollsUp a b n) (rows_raised a (min b h) n s.columns) both.0 wide high
+      (λ written ex ey x_here y_here. up-back place.x place.y (screen_shown written s) (screen_shown written both.0) wide high ex ey x_here y_here a b n (both.1.screens written)) (moved s.columns continuations) both.1.columns both.2
 
-  pub down-kept : (a b n : ℕ) → ((c : Columns) → AreBehind w h flags c → AreBehind w h flags_after (lowered a (min b h) n c)) → AreBehind w h flags s.columns
-      → (t : Emulator) × Becomes (ScrollsDown a b n) (lowered a (min b h) n s.columns) s t × Becomes (λ p q. q ≡ with_cursor place.x place.y p) t.columns t u
+  pub down-kept : (a b n : ℕ) → ((c : Columns) → AreContinuations w h flags c → AreContinuations w h flags_after (rows_lowered a (min b h) n c)) → AreContinuations w h flags s.columns
+      → (t : Emulator) × Becomes (ScrollsDown a b n) (rows_lowered a (min b h) n s.columns) s t × Becomes (λ p q. q ≡ with_cursor place.x place.y p) t.columns t u
       → IsKept w h place flags_after (ScrollsDown a b n) s u
-  down-kept a b n moved behind both =
-      let t : Emulator = both.0 in
-      let wide : t.width ≡ s.width = (both.1.screens 0).width in
-      let high : t.height ≡ s.height = (both.1.screens 0).height in
-      let x_at : min s.x (s.width - 1) ≡ place.x = ap (λ (p : Position). p.x) at in
-      let y_at : s.y ≡ place.y = ap (λ (p : Position). p.y) at in
-      let s_wide : s.width ≡ w = ready.width in
-      let s_high : s.height ≡ h = ready.height in
-      let same : u.width ≡ t.width = ap (λ (p : Screen). p.width) (both.2.screens 0) in
-      record {
-        cursor = cursor-back t (wide ∙ s_wide) (high ∙ s_high) same both.2;
-        behind = AreBehind-along w h flags_after (lowered a (min b h) n s.columns) u.columns (λ i j. both.2.columns i j ∙ both.1.columns i j) (moved s.columns behind);
-        screens = λ written. subst (ScrollsDown a b n (screen_shown written s)) (sym (both.2.screens written))
-            (down-back place.x place.y (screen_shown written s) (screen_shown written t) wide high x_at y_at (omega arith) (omega arith) a b n (both.1.screens written));
-      }
+  down-kept a b n moved continuations both =
+      let wide = (both.1.screens 0).width in
+      let high = (both.1.screens 0).height in
+      moved-kept (ScrollsDown a b n) (rows_lowered a (min b h) n s.columns) both.0 wide high
+      (λ written ex ey x_here y_here. down-back place.x place.y (screen_shown written s) (screen_shown written both.0) wide high ex ey x_here y_here a b n (both.1.screens written)) (moved s.columns continuations) both.1.columns both.2
 
 -- ---- the screen emptied, and parts of it
 
 pub emptied-kept : (w h : ℕ) (place : Position) (flags flags_after : List Bool) (s t : Emulator) (columns : Columns) → cursor_of (screen_shown 0 s) ≡ place
-    → AreBehind w h flags_after columns
+    → AreContinuations w h flags_after columns
     → Becomes (λ p q. p.cursor_x ≡ place.x → p.cursor_y ≡ place.y → Clears p All q) columns s t → IsKept w h place flags_after (λ p q. Clears p All q) s t
-emptied-kept w h place flags flags_after s t columns at behind became =
+emptied-kept w h place flags flags_after s t columns at continuations became =
     let x : min s.x (s.width - 1) ≡ place.x = ap (λ (p : Position). p.x) at in
     let y : s.y ≡ place.y = ap (λ (p : Position). p.y) at in
     record {
       cursor = ap cursor_of (became.screens 0 x y).rest ∙ at;
-      behind = AreBehind-along w h flags_after columns t.columns became.columns behind;
+      continuations = AreContinuations-along w h flags_after columns t.columns became.columns continuations;
       screens = λ written. became.screens written x y;
     }
 
 -- bytes whose action keeps a terminal awaiting
-pub call-does : (w h : ℕ) (a b : List ℕ) (place place_after : Position) (flags flags_after : List Bool) (f : Emulator → Emulator) (related : Screen → Screen → Type 0) → Does a b f
-    → ((s : Emulator) → IsReady w h s → cursor_of (screen_shown 0 s) ≡ place → AreBehind w h flags s.columns → IsReady w h (f s) × IsKept w h place_after flags_after related s (f s))
+pub call-does : (w h : ℕ) (a b : List ℕ) (place place_after : Position) (flags flags_after : List Bool) (f : Emulator → Emulator) (related : Screen → Screen → Type 0) → Performs a b f
+    → ((s : Emulator) → IsIdle w h s → cursor_of (screen_shown 0 s) ≡ place → AreContinuations w h flags s.columns → IsIdle w h (f s) × IsKept w h place_after flags_after related s (f s))
     → SendsCall w h a b place flags place_after flags_after related
 call-does w h a b place place_after flags flags_after f related does kept = record {
   bytes = does.bytes;
   appended = does.appended;
   awaiting = λ t awaiting.
-      let both = kept (rested t) awaiting.ready awaiting.placed awaiting.behind in
+      let both = kept (rested t) awaiting.ready awaiting.placed awaiting.continuations in
       let u : Emulator = f (rested t) in
       let stays : rested u ≡ u = rested-ready w h u both.0 in
       let after : IsAwaiting w h place_after flags_after u = record {
-        phase = both.0.phase;
-        ready = subst (IsReady w h) (sym stays) both.0;
+        phase = both.0.rest.phase;
+        ready = subst (IsIdle w h) (sym stays) both.0;
         placed = ap (λ v. cursor_of (screen_shown 0 v)) stays ∙ both.1.cursor;
-        behind = subst (λ v. AreBehind w h flags_after v.columns) (sym stays) both.1.behind;
+        continuations = subst (λ v. AreContinuations w h flags_after v.columns) (sym stays) both.1.continuations;
       } in
       subst (IsAwaiting w h place_after flags_after) (sym (does.read t awaiting.phase)) after;
   shows = λ written t awaiting.
-      let both = kept (rested t) awaiting.ready awaiting.placed awaiting.behind in
+      let both = kept (rested t) awaiting.ready awaiting.placed awaiting.continuations in
       let e : rested (feed does.bytes t) ≡ f (rested t) = ap rested (does.read t awaiting.phase) ∙ rested-ready w h (f (rested t)) both.0 in
       subst (λ v. related (screen_shown written (rested t)) (screen_shown written v)) (sym e) (both.1.screens written);
 }
@@ -213,106 +204,141 @@ emptied-look : (p : Bool) (c : Column) → look_in (if p then blank_column else 
 emptied-look true c = refl
 emptied-look false c = refl
 
-pub part-kept : (w h x y : ℕ) (part : Part) (place : Position) (flags flags_after : List Bool) → x < w → y < h → place.x < w → place.y < h → is_cut part w x y flags ≡ false → keeps_history part x y ≡ true
-    → ((c : Columns) → AreBehind w h flags c → AreBehind w h flags_after (part_emptied part x y c))
-    → (s : Emulator) → IsReady w h s → cursor_of (screen_shown 0 s) ≡ place → AreBehind w h flags s.columns
-    → IsReady w h (moved place.x place.y (erased part (moved x y s))) × IsKept w h place flags_after (Empties part x y) s (moved place.x place.y (erased part (moved x y s)))
-part-kept w h x y part place flags flags_after x_in y_in at_x at_y uncut history cleared s ready at behind =
-    let width : s.width ≡ w = ready.width in
-    let height : s.height ≡ h = ready.height in
-    let u : Emulator = moved place.x place.y (erased part (record s { x = x; y = y })) in
-    let there : u ≡ moved place.x place.y (erased part (moved x y s)) = ap (λ t. moved place.x place.y (erased part t)) (moved-placed x y s (omega arith) (omega arith)) in
-    let same : (a b : ℕ) → u.columns a b ≡ part_emptied part x y s.columns a b = part-erased part w h x y flags s.columns x_in y_in ready.beyond behind uncut ready.whole in
+pub part-kept : (w h x y : ℕ) (part : ClearType) (place : Position) (flags flags_after : List Bool) → x < w → y < h → place.x < w → place.y < h → is_cut part w x y flags ≡ false → keeps_history part x y ≡ true
+    → ((c : Columns) → AreContinuations w h flags c → AreContinuations w h flags_after (columns_cleared part x y c))
+    → (s : Emulator) → IsIdle w h s → cursor_of (screen_shown 0 s) ≡ place → AreContinuations w h flags s.columns
+    → IsIdle w h (cursor_moved place.x place.y (erased part (cursor_moved x y s))) × IsKept w h place flags_after (Erases part x y) s (cursor_moved place.x place.y (erased part (cursor_moved x y s)))
+part-kept w h x y part place flags flags_after x_in y_in at_x at_y uncut history cleared s ready at continuations =
+    let width : s.width ≡ w = ready.rest.width in
+    let height : s.height ≡ h = ready.rest.height in
+    let u : Emulator = cursor_moved place.x place.y (erased part (record s { x = x; y = y })) in
+    let there : u ≡ cursor_moved place.x place.y (erased part (cursor_moved x y s)) = ap (λ t. cursor_moved place.x place.y (erased part t)) (moved-placed x y s (omega arith) (omega arith)) in
+    let same : (a b : ℕ) → u.columns a b ≡ columns_cleared part x y s.columns a b = part-erased part w h x y flags s.columns x_in y_in ready.tidy.beyond continuations uncut ready.tidy.whole in
     let x_test : nat_lt x s.width ≡ true = grind (arith, nat_tests) in
-    let sure : u.sure ≡ true = rw (ready.sure, ready.pen, x_test, history) refl in
+    let sure : u.sure ≡ true = rw (ready.rest.sure, ready.rest.sgr, x_test, history) refl in
     let x_at : min s.x (s.width - 1) ≡ place.x = ap (λ (p : Position). p.x) at in
     let y_at : s.y ≡ place.y = ap (λ (p : Position). p.y) at in
     let cursor_x : min (min place.x (s.width - 1)) (s.width - 1) ≡ min s.x (s.width - 1) = omega arith in
     let cursor_y : min place.y (s.height - 1) ≡ s.y = omega arith in
-    subst (λ v. IsReady w h v × IsKept w h place flags_after (Empties part x y) s v) there (
-      ready-columns w h s u (part_emptied part x y s.columns) ready ready.phase ready.text refl refl ready.pen ready.top (ready.bottom ∙ sym height) (omega arith) sure same
-          (part-sized part x y s.columns ready.sized) (part-whole part w h x y flags s.columns x_in y_in ready.beyond behind uncut ready.whole) (part-beyond part w x y s.columns ready.beyond),
+    subst (λ v. IsIdle w h v × IsKept w h place flags_after (Erases part x y) s v) there (
+      ready-columns w h s u (columns_cleared part x y s.columns) ready ready.rest.phase ready.rest.text refl refl ready.rest.sgr ready.rest.top (ready.rest.bottom ∙ sym height) (omega arith) sure same
+          (record { sized = part-sized part x y s.columns ready.tidy.sized; whole = part-whole part w h x y flags s.columns x_in y_in ready.tidy.beyond continuations uncut ready.tidy.whole; beyond = part-beyond part w x y s.columns ready.tidy.beyond }),
       record {
         cursor = ap₂ (λ i j. record { x = i; y = j }) cursor_x cursor_y ∙ at;
-        behind = AreBehind-along w h flags_after (part_emptied part x y s.columns) u.columns same (cleared s.columns behind);
+        continuations = AreContinuations-along w h flags_after (columns_cleared part x y s.columns) u.columns same (cleared s.columns continuations);
         screens = λ written. record {
           rest = ap₂ (λ i j. record (screen_shown written s) { grid = λ a b. look_in (u.columns a b); cursor_x = i; cursor_y = j }) cursor_x cursor_y;
-          grid = λ a b a_in b_in. ap look_in (same a b) ∙ emptied-look (part_at part x y a b) (s.columns a b);
+          grid = λ a b a_in b_in. ap look_in (same a b) ∙ emptied-look (is_cleared part x y a b) (s.columns a b);
         };
       },
     )
 
--- ---- the five clears
+-- ---- what a tracker keeps
 
-pub call-weaker : (w h : ℕ) (a b : List ℕ) (place place_after : Position) (flags flags_after : List Bool) (first second : Screen → Screen → Type 0) → SendsCall w h a b place flags place_after flags_after first
-    → ((written : ℕ) (t : Emulator) (q : Screen) → IsAwaiting w h place flags t → first (screen_shown written (rested t)) q → second (screen_shown written (rested t)) q)
-    → SendsCall w h a b place flags place_after flags_after second
-call-weaker w h a b place place_after flags flags_after first second sends weaker = record {
-  bytes = sends.bytes;
-  appended = sends.appended;
-  awaiting = sends.awaiting;
-  shows = λ written t awaiting. weaker written t (screen_shown written (rested (feed sends.bytes t))) awaiting (sends.shows written t awaiting);
+module _ (old new : Tracker) (place : Position) (written : ℕ) (flags : List Bool) {related : Screen → Screen → Type 0} (is : IsTracker old)
+    (rest : new ≡ record old { out = new.out; cursor = place; written = written; continuations = new.continuations; draft = new.draft })
+    (draft : length new.draft.items ≡ old.size.width * old.size.height) (same : new.continuations.items ≡ flags) (count : length flags ≡ length old.continuations.items) where
+  -- bytes that keep a tracked terminal so were collected
+  gathers : (bytes : List ℕ) → string_bytes new.out ≡ string_bytes old.out ++ bytes
+      → ((t : Emulator) → IsTracked old t → IsAwaiting old.size.width old.size.height place flags (feed bytes t))
+      → ((t : Emulator) → IsTracked old t → related (screen_shown old.written (rested t)) (screen_shown written (rested (feed bytes t)))) → Collects old related new
+  gathers bytes appended tracks shows =
+      let size : new.size ≡ old.size = ap (λ (k : Tracker). k.size) rest in
+      record {
+        tracker = record {
+          columns = subst (λ (s : Size). 0 < s.width) (sym size) is.columns;
+          rows = subst (λ (s : Size). 0 < s.height) (sym size) is.rows;
+          count = ap length same ∙ count ∙ is.count ∙ ap (λ (s : Size). s.width * s.height) (sym size);
+          draft_count = draft ∙ ap (λ (s : Size). s.width * s.height) (sym size);
+        };
+        size = size;
+        colors = ap (λ (k : Tracker). k.has_underline_colors) rest;
+        ambiguous = ap (λ (k : Tracker). k.ambiguous_is_wide) rest;
+        bytes = bytes;
+        appended = appended;
+        tracks = λ t awaits.
+            subst (λ (s : Size). IsAwaiting s.width s.height new.cursor new.continuations.items (feed bytes t)) (sym size)
+            (subst (λ p. IsAwaiting old.size.width old.size.height p new.continuations.items (feed bytes t)) (sym (ap (λ (k : Tracker). k.cursor) rest))
+            (subst (λ xs. IsAwaiting old.size.width old.size.height place xs (feed bytes t)) (sym same) (tracks t awaits)));
+        shows = λ t awaits. subst (λ n. related (screen_shown old.written (rested t)) (screen_shown n (rested (feed bytes t)))) (sym (ap (λ (k : Tracker). k.written) rest)) (shows t awaits);
+      }
+
+-- a call that draws no cells was collected
+pub collected : (old new : Tracker) (place : Position) (flags : List Bool) {related : Screen → Screen → Type 0} → IsTracker old
+    → new ≡ record old { out = new.out; cursor = place; continuations = new.continuations } → new.continuations.items ≡ flags → length flags ≡ length old.continuations.items
+    → SendsCall old.size.width old.size.height (string_bytes old.out) (string_bytes new.out) old.cursor old.continuations.items place flags related → Collects old related new
+collected old new place flags is rest same count sends =
+    let draft : new.draft ≡ old.draft = ap (λ (k : Tracker). k.draft) rest in
+    let whole : new ≡ record old { out = new.out; cursor = place; written = old.written; continuations = new.continuations; draft = new.draft }
+    = rest ∙ ap (λ d. record old { out = new.out; cursor = place; continuations = new.continuations; draft = d }) (sym draft) in
+    gathers old new place old.written flags is whole (ap (λ (k : Tracker). length k.draft.items) rest ∙ is.draft_count) same count sends.bytes sends.appended sends.awaiting (sends.shows old.written)
+
+-- a draw was
+pub drawn-collected : (old new : Tracker) (place : Position) (written : ℕ) (flags : List Bool) {us : List Update} → IsTracker old
+    → new ≡ record old { out = new.out; cursor = place; written = written; continuations = new.continuations; draft = new.draft } → new.draft.items ≡ old.continuations.items → new.continuations.items ≡ flags
+    → length flags ≡ length old.continuations.items → SendsDraw old.size.width old.size.height (string_bytes old.out) old.cursor old.written old.continuations.items us (string_bytes new.out) place written flags
+    → Collects old (λ s t. Draws s us t) new
+drawn-collected old new place written flags is rest draft same count sends =
+    gathers old new place written flags is rest (ap length draft ∙ is.count) same count sends.bytes sends.appended sends.awaiting sends.draws
+
+-- ---- the clears
+
+weaker : (old new : Tracker) (first second : Screen → Screen → Type 0) → Collects old first new
+    → ((t : Emulator) (q : Screen) → IsTracked old t → first (screen_shown old.written (rested t)) q → second (screen_shown old.written (rested t)) q) → Collects old second new
+weaker old new first second call follows = record {
+  tracker = call.tracker;
+  size = call.size;
+  colors = call.colors;
+  ambiguous = call.ambiguous;
+  bytes = call.bytes;
+  appended = call.appended;
+  tracks = call.tracks;
+  shows = λ t awaits. follows t (screen_shown new.written (rested (feed call.bytes t))) awaits (call.shows t awaits);
 }
 
-clears-from : (kind : ClearType) (part : Part) (x y : ℕ) (p q : Screen) → ((a b : ℕ) → is_cleared kind p.cursor_x p.cursor_y a b ≡ part_at part x y a b) → Empties part x y p q → Clears p kind q
-clears-from kind part x y p q same emptied = record {
-  rest = emptied.rest;
-  grid = λ a b a_in b_in. rw (same a b) (emptied.grid a b a_in b_in);
-}
+clears-by : (kind done : ClearType) (x y : ℕ) (p q : Screen) → ((a b : ℕ) → b < p.height → (if is_cleared done x y a b then empty_look else p.grid a b) ≡ (if is_cleared kind p.cursor_x p.cursor_y a b then empty_look else p.grid a b))
+    → Erases done x y p q → Clears p kind q
+clears-by kind done x y p q same erased = record { rest = erased.rest; grid = λ a b a_in b_in. erased.grid a b a_in b_in ∙ same a b b_in }
 
-module _ (w h : ℕ) (a b : List ℕ) (place : Position) (flags flags_after : List Bool) where
-  pub clears-all-after : place ≡ record { x = 0; y = 0 } → SendsCall w h a b place flags place flags_after (λ p q. Clears p All q) → SendsCall w h a b place flags place flags_after (λ p q. Clears p AfterCursor q)
-  clears-all-after corner sends = call-weaker w h a b place place flags flags_after (λ p q. Clears p All q) (λ p q. Clears p AfterCursor q) sends (λ written t q awaiting cleared.
-      let p : Screen = screen_shown written (rested t) in
-      let x : p.cursor_x ≡ 0 = ap (λ (k : Position). k.x) (awaiting.placed ∙ corner) in
-      let y : p.cursor_y ≡ 0 = ap (λ (k : Position). k.y) (awaiting.placed ∙ corner) in
-      record {
-        rest = cleared.rest;
-        grid = λ i j i_in j_in. rw (x, y) (let e : (nat_lt 0 j || (nat_eq j 0 && nat_le 0 i)) ≡ true = grind (arith, nat_tests) in rw e (cleared.grid i j i_in j_in));
-      })
+pub clears-at : (old new : Tracker) (kind : ClearType) → Collects old (Erases kind old.cursor.x old.cursor.y) new → Collects old (λ p q. Clears p kind q) new
+clears-at old new kind call = weaker old new (Erases kind old.cursor.x old.cursor.y) (λ p q. Clears p kind q) call (λ t q awaits erased.
+    clears-by kind kind old.cursor.x old.cursor.y (screen_shown old.written (rested t)) q
+    (λ i j j_in. ap (λ (k : Position). if is_cleared kind k.x k.y i j then empty_look else look_in ((rested t).columns i j)) (sym awaits.placed)) erased)
 
-  pub clears-after : SendsCall w h a b place flags place flags_after (Empties After place.x place.y) → SendsCall w h a b place flags place flags_after (λ p q. Clears p AfterCursor q)
-  clears-after sends = call-weaker w h a b place place flags flags_after (Empties After place.x place.y) (λ p q. Clears p AfterCursor q) sends (λ written t q awaiting emptied.
-      clears-from AfterCursor After place.x place.y (screen_shown written (rested t)) q (λ i j. ap (λ (k : Position). part_at After k.x k.y i j) awaiting.placed) emptied)
+pub clears-corner : (old new : Tracker) → old.cursor.x ≡ 0 → old.cursor.y ≡ 0 → Collects old (λ p q. Clears p All q) new → Collects old (λ p q. Clears p AfterCursor q) new
+clears-corner old new at_x at_y call = weaker old new (λ p q. Clears p All q) (λ p q. Clears p AfterCursor q) call (λ t q awaits cleared.
+    let p : Screen = screen_shown old.written (rested t) in
+    let x : p.cursor_x ≡ 0 = ap (λ (k : Position). k.x) awaits.placed ∙ at_x in
+    let y : p.cursor_y ≡ 0 = ap (λ (k : Position). k.y) awaits.placed ∙ at_y in
+    record {
+      rest = cleared.rest;
+      grid = λ i j i_in j_in. rw (x, y) (let e : (nat_lt 0 j || (nat_eq j 0 && nat_le 0 i)) ≡ true = grind (arith, nat_tests) in rw e (cleared.grid i j i_in j_in));
+    })
 
-  pub clears-line : SendsCall w h a b place flags place flags_after (Empties Line place.x place.y) → SendsCall w h a b place flags place flags_after (λ p q. Clears p CurrentLine q)
-  clears-line sends = call-weaker w h a b place place flags flags_after (Empties Line place.x place.y) (λ p q. Clears p CurrentLine q) sends (λ written t q awaiting emptied.
-      clears-from CurrentLine Line place.x place.y (screen_shown written (rested t)) q (λ i j. ap (λ (k : Position). part_at Line k.x k.y i j) awaiting.placed) emptied)
+-- up to the end of the symbol at the cursor, whose other columns show nothing of their own
+module _ (w h end : ℕ) (place : Position) (flags : List Bool) (from : place.x ≤ end) (inside : end < w) (rest : (k : ℕ) → place.x < k → k ≤ end → flag flags (place.y * w + k) ≡ true) where
+  before : (s : Emulator) → AreContinuations w h flags s.columns → (i j : ℕ) → j < h
+      → (if is_cleared BeforeCursor end place.y i j then empty_look else look_in (s.columns i j)) ≡ (if is_cleared BeforeCursor place.x place.y i j then empty_look else look_in (s.columns i j))
+  before s continuations i j j_in = elim (is_cleared BeforeCursor place.x place.y i j) as (λ p. is_cleared BeforeCursor place.x place.y i j ≡ p → (if is_cleared BeforeCursor end place.y i j then empty_look else look_in (s.columns i j)) ≡ (if p then empty_look else look_in (s.columns i j))) [
+    | true ↦ λ e. let f : is_cleared BeforeCursor end place.y i j ≡ true = grind (arith, nat_tests) in rw f refl
+    | false ↦ λ e. elim (is_cleared BeforeCursor end place.y i j) as (λ r. is_cleared BeforeCursor end place.y i j ≡ r → (if r then empty_look else look_in (s.columns i j)) ≡ look_in (s.columns i j)) [
+      | true ↦ λ f.
+          let row : j ≡ place.y = grind (arith, nat_tests) in
+          let low : place.x < i = grind (arith, nat_tests) in
+          let high : i ≤ end = grind (arith, nat_tests) in
+          let flagged : flag flags (j * w + i) ≡ true = ap (λ r. flag flags (r * w + i)) row ∙ rest i low high in
+          sym (continuation-empty (s.columns i j) (sym (continuations.each i j (omega arith) j_in) ∙ flagged))
+      | false ↦ λ f. refl
+    ] refl
+  ] refl
 
-  pub clears-line-end : SendsCall w h a b place flags place flags_after (Empties LineEnd place.x place.y) → SendsCall w h a b place flags place flags_after (λ p q. Clears p UntilNewLine q)
-  clears-line-end sends = call-weaker w h a b place place flags flags_after (Empties LineEnd place.x place.y) (λ p q. Clears p UntilNewLine q) sends (λ written t q awaiting emptied.
-      clears-from UntilNewLine LineEnd place.x place.y (screen_shown written (rested t)) q (λ i j. ap (λ (k : Position). part_at LineEnd k.x k.y i j) awaiting.placed) emptied)
-
-  shown-behind : (c : Column) → is_behind c ≡ true → look_in c ≡ empty_look
-  shown-behind (Shows look index count) e = elim (index == 0) as (λ z. (if z then false else true) ≡ true → (if z then look else empty_look) ≡ empty_look) [
-    | true ↦ λ f. let none : ⊥ = cc in absurd none
-    | false ↦ λ f. refl
-  ] e
-  shown-behind Unknown e = refl
-
-  pub clears-before : (end : ℕ) → place.x ≤ end → end < w → ((k : ℕ) → place.x < k → k ≤ end → flag flags (place.y * w + k) ≡ true)
-      → SendsCall w h a b place flags place flags_after (Empties Before end place.y) → SendsCall w h a b place flags place flags_after (λ p q. Clears p BeforeCursor q)
-  clears-before end from inside rest sends = call-weaker w h a b place place flags flags_after (Empties Before end place.y) (λ p q. Clears p BeforeCursor q) sends (λ written t q awaiting emptied.
-      let s : Emulator = rested t in
-      let x_at : min s.x (s.width - 1) ≡ place.x = ap (λ (k : Position). k.x) awaiting.placed in
-      let y_at : s.y ≡ place.y = ap (λ (k : Position). k.y) awaiting.placed in
-      let height : s.height ≡ h = awaiting.ready.height in
-      record {
-        rest = emptied.rest;
-        grid = λ i j i_in j_in. rw (x_at, y_at) (emptied.grid i j i_in j_in ∙ before s awaiting.behind i j (omega arith));
-      })
-    where
-      before : (s : Emulator) → AreBehind w h flags s.columns → (i j : ℕ) → j < h
-          → (if part_at Before end place.y i j then empty_look else look_in (s.columns i j)) ≡ (if is_cleared BeforeCursor place.x place.y i j then empty_look else look_in (s.columns i j))
-      before s behind i j j_in = elim (is_cleared BeforeCursor place.x place.y i j) as (λ p. is_cleared BeforeCursor place.x place.y i j ≡ p → (if part_at Before end place.y i j then empty_look else look_in (s.columns i j)) ≡ (if p then empty_look else look_in (s.columns i j))) [
-        | true ↦ λ e. let f : part_at Before end place.y i j ≡ true = grind (arith, nat_tests) in rw f refl
-        | false ↦ λ e. elim (part_at Before end place.y i j) as (λ r. part_at Before end place.y i j ≡ r → (if r then empty_look else look_in (s.columns i j)) ≡ look_in (s.columns i j)) [
-          | true ↦ λ f.
-              let row : j ≡ place.y = grind (arith, nat_tests) in
-              let low : place.x < i = grind (arith, nat_tests) in
-              let high : i ≤ end = grind (arith, nat_tests) in
-              let flagged : flag flags (j * w + i) ≡ true = ap (λ r. flag flags (r * w + i)) row ∙ rest i low high in
-              sym (shown-behind (s.columns i j) (sym (behind.each i j (omega arith) j_in) ∙ flagged))
-          | false ↦ λ f. refl
-        ] refl
-      ] refl
+pub clears-before : (old new : Tracker) (end : ℕ) → old.cursor.x ≤ end → end < old.size.width
+    → ((k : ℕ) → old.cursor.x < k → k ≤ end → flag old.continuations.items (old.cursor.y * old.size.width + k) ≡ true)
+    → Collects old (Erases BeforeCursor end old.cursor.y) new → Collects old (λ p q. Clears p BeforeCursor q) new
+clears-before old new end from inside rest call = weaker old new (Erases BeforeCursor end old.cursor.y) (λ p q. Clears p BeforeCursor q) call (λ t q awaits erased.
+    let s : Emulator = rested t in
+    let x_at : min s.x (s.width - 1) ≡ old.cursor.x = ap (λ (k : Position). k.x) awaits.placed in
+    let y_at : s.y ≡ old.cursor.y = ap (λ (k : Position). k.y) awaits.placed in
+    let height : s.height ≡ old.size.height = awaits.ready.rest.height in
+    clears-by BeforeCursor BeforeCursor end old.cursor.y (screen_shown old.written s) q
+    (λ i j j_in. rw (x_at, y_at) (before old.size.width old.size.height end old.cursor old.continuations.items from inside rest s awaits.continuations i j (omega arith))) erased)

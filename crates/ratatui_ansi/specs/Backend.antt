@@ -2,10 +2,11 @@
 use Rattle.std.specs.Prelude.{◌≡◌, ℕ, ◌*◌, ◌<◌, Bool, false, List, Option, length, nat_eq}
 use Rattle.ratatui_core.specs.Layout.{Position, Size}
 use Rattle.ratatui_core.specs.Backend.{Screen}
-use Rattle.ratatui_ansi.specs.Emulator.{Emulator, rested, fresh}
-use Rattle.ratatui_ansi.specs.Sequences.{feed}
-use Rattle.ratatui_ansi.specs.Screens.{screen_shown}
-use Rattle.ratatui_ansi.specs.Calls.{IsAwaiting, IsLeft, anew, with_rows_above}
+use Rattle.ansi_model.specs.Emulator.{Emulator, rested, blank_terminal}
+use Rattle.ansi_model.specs.Sequences.{feed}
+use Rattle.ansi_model.specs.Screens.{screen_shown}
+use Rattle.ratatui_ansi.specs.Tracker.{FitsScreen, IsAwaiting}
+use Rattle.ansi_model.specs.Beginnings.{IsAsFound, anew, with_rows_above}
 
 -- the writer, what it held as the backend began or began anew, where that is known, what it was sent since, and what of that after the last
 -- flush; the terminal's size, whether it is sent colours of the underline, and places after ambiguous characters as if these were wide; how many items were drawn and how many calls failed, and whether a write failed
@@ -27,7 +28,7 @@ is_flushed b = nat_eq (length b.held) 0
 
 -- a new terminal of a size that has read these bytes
 abbrev pub reader : Size → List ℕ → Emulator
-reader size bytes = feed bytes (fresh size.width size.height)
+reader size bytes = feed bytes (blank_terminal size.width size.height)
 
 -- the screen of the new terminal that has read what the writer was sent
 abbrev pub shown_by : {W : Type 0} → BackendState W → Screen
@@ -35,15 +36,12 @@ shown_by b = screen_shown b.written (rested (reader b.size b.sent))
 
 -- a terminal of this size that reads these bytes becomes what a new one would, however it was left; its history stays above
 abbrev pub IsReadAlike : Size → List ℕ → Type 0
-IsReadAlike size sent = (t : Emulator) → IsLeft size.width size.height t → feed sent (anew t) ≡ with_rows_above t.history (reader size sent)
+IsReadAlike size sent = (t : Emulator) → IsAsFound size.width size.height t → feed sent (anew t) ≡ with_rows_above t.history (reader size sent)
 
--- what a backend keeps is in order: a screen of some columns and rows, flags for all of them, also for a draft, and, unless a write failed, a
--- terminal that awaits the next call, with its cursor there and these flags, however it was left at first; no write failed where no call did
-pub record IsInOrder (size : Size) (cursor : Position) (behind draft : List Bool) (is_broken : Bool) (failures : ℕ) (sent : List ℕ) : Type 0 where
-  pub columns : 0 < size.width
-  pub rows : 0 < size.height
-  pub behind_count : length behind ≡ size.width * size.height
-  pub draft_count : length draft ≡ size.width * size.height
+-- what a backend keeps is in order: its tracker fits its screen, and unless a write failed, the new terminal that has read what was sent awaits
+-- the next call as it is tracked, however it was left at first; no write failed if no call did
+pub record IsInOrder (size : Size) (cursor : Position) (flags draft : List Bool) (is_broken : Bool) (failures : ℕ) (sent : List ℕ) : Type 0 where
+  pub tracker : FitsScreen size flags draft
   pub unfailed : failures ≡ 0 → is_broken ≡ false
-  pub awaiting : is_broken ≡ false → IsAwaiting size.width size.height cursor behind (reader size sent)
+  pub awaiting : is_broken ≡ false → IsAwaiting size.width size.height cursor flags (reader size sent)
   pub alike : is_broken ≡ false → IsReadAlike size sent

@@ -1,13 +1,13 @@
 -- Columns that are covered by a symbol which begins left of them.
 use Rattle.std.specs.Prelude.{◌≡◌, ℕ, ◌+◌, ◌<◌, false}
 use Rattle.ratatui_core.specs.Buffer.{is_skipped, Grid, Cell, is_forced}
-use Rattle.ratatui_ansi.specs.Drawing.{columns_of}
+use Rattle.ansi_model.specs.Symbols.{printed_columns}
 
 -- a symbol that begins left of column a, in row b, reaches over that column
 pub record IsCovered (g : Grid) (a b : ℕ) : Type 0 where
   pub start : ℕ
   pub left : start < a
-  pub reaches : a < start + columns_of (g start b).symbol
+  pub reaches : a < start + printed_columns (g start b).symbol
 
 -- no symbol reaches from the left into column x of the h rows from y on
 abbrev pub IsOpen : Grid → ℕ → ℕ → ℕ → Type 0

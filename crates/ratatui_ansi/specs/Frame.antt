@@ -5,31 +5,31 @@ use Rattle.ratatui_core.specs.Buffer.{symbol_text, text_width, Look, look_of, em
 use Rattle.ratatui_core.specs.Backend.{Draws, cursor_of}
 use Rattle.ratatui_ansi.specs.declared.drawing.Brush.{Brush}
 use Rattle.ratatui_ansi.specs.declared.frame.Drawing.{Drawing}
-use Rattle.ratatui_ansi.specs.declared.frame.Glyph.{Glyph}
-use Rattle.ratatui_ansi.specs.declared.frame.Glyph.TheVariants.{Plain, Whole}
+use Rattle.ansi_model.specs.declared.glyph.Glyph.{Glyph}
 use Rattle.ratatui_ansi.specs.declared.frame.Refusal.{Refusal}
 use Rattle.ratatui_ansi.specs.declared.frame.Refusal.TheVariants as Refused
-use Rattle.ratatui_ansi.specs.declared.pen.Pen.{Pen}
-use Rattle.ratatui_ansi.specs.Columns.{Columns, blank_column, is_behind}
-use Rattle.ratatui_ansi.specs.Columns.Column.{Shows}
-use Rattle.ratatui_ansi.specs.Calls.{IsAwaiting}
-use Rattle.ratatui_ansi.specs.Flags.{AreBehind, flag}
-use Rattle.ratatui_ansi.specs.Pen.{own_pen, pen_of}
-use Rattle.ratatui_ansi.specs.Parameters.{is_sendable_by}
-use Rattle.ratatui_ansi.specs.Emulator.{Emulator, rested, with_pen, run, is_plain}
-use Rattle.ratatui_ansi.specs.Sequences.{feed}
-use Rattle.ratatui_ansi.specs.Screens.{screen_shown, IsReady}
-use Rattle.ratatui_ansi.specs.Drawing.{is_printed, columns_of, blanked, IsDrawnBy, Paints}
+use Rattle.ansi_model.specs.declared.sgr.Sgr.{Sgr}
+use Rattle.ansi_model.specs.Columns.{Columns, blank_column, is_continuation}
+use Rattle.ansi_model.specs.Columns.Column.{Shows}
+use Rattle.ratatui_ansi.specs.Tracker.{IsAwaiting}
+use Rattle.ratatui_ansi.specs.Flags.{AreContinuations, flag}
+use Rattle.ansi_model.specs.Sgr.{default_sgr, sgr_of}
+use Rattle.ansi_model.specs.Parameters.{is_sendable_by}
+use Rattle.ansi_model.specs.Emulator.{Emulator, rested, with_sgr, run}
+use Rattle.ansi_model.specs.Symbols.{is_printed, printed_columns, IsGlyphOf}
+use Rattle.ansi_model.specs.Sequences.{feed}
+use Rattle.ansi_model.specs.Screens.{screen_shown, IsIdle}
+use Rattle.ratatui_ansi.specs.Drawing.{blanked, IsDrawnBy, Paints}
 
 -- ---- a symbol over a part of another one
 
--- the columns of a row from `from` up to `end` lie behind the first one of their symbol, and the column at `end` doesn't
+-- the columns of a row from `from` up to `end` is a continuation column, and the column at `end` doesn't
 pub record IsTail (from end y : ℕ) (c : Columns) : Type 0 where
   pub ordered : from ≤ end
-  pub behind : (k : ℕ) → from ≤ k → k < end → is_behind (c k y) ≡ true
-  pub ended : is_behind (c end y) ≡ false
+  pub continuations : (k : ℕ) → from ≤ k → k < end → is_continuation (c k y) ≡ true
+  pub ended : is_continuation (c end y) ≡ false
 
--- the columns once a symbol of n columns stands in column x of row y, and blanks behind it up to column `end`
+-- the columns once a symbol of n columns stands in column x of row y, and blanks after it up to column `end`
 abbrev pub laid : ℕ → ℕ → ℕ → ℕ → Look → Columns → Columns
 laid x y n end look c a b =
     if run x y n a b then Shows look (a - x) n
@@ -40,30 +40,12 @@ laid x y n end look c a b =
 -- whether a cell's symbol is printed in just the columns that the cell takes, and these are some and fit into a room
 abbrev pub is_fit : ℕ → Cell → Bool
 is_fit room c =
-    is_printed (symbol_text c.symbol) && (columns_of (symbol_text c.symbol) == width_of c) && nat_lt 0 (width_of c) && nat_le (width_of c) room
-
--- in how many columns a symbol is printed
-abbrev pub glyph_columns : Glyph → ℕ
-glyph_columns (Plain ch) = 1
-glyph_columns (Whole n) = n
-
--- a text is printed so
-abbrev pub IsPrintedAs : List ℕ → Glyph → Type 0
-IsPrintedAs text (Plain ch) = (is_plain ch ≡ true) × (text ≡ encode_utf8 ch)
-IsPrintedAs text (Whole n) = is_printed text ≡ true
+    is_printed (symbol_text c.symbol) && (printed_columns (symbol_text c.symbol) == width_of c) && nat_lt 0 (width_of c) && nat_le (width_of c) room
 
 -- a cell that fits into a room is printed so
 pub record IsGlyph (room : ℕ) (c : Cell) (glyph : Glyph) : Type 0 where
   pub fits : is_fit room c ≡ true
-  pub columns : glyph_columns glyph ≡ width_of c
-  pub symbol : IsPrintedAs (symbol_text c.symbol) glyph
-
--- a cell's symbol is this character alone, one above U+00A0, and the cell takes the columns of its text
-pub record IsLone (c : Cell) (ch : ℕ) : Type 0 where
-  pub above : 0xA0 < ch
-  pub utf8 : IsUtf8 (symbol_text c.symbol)
-  pub symbol : chars (symbol_text c.symbol) ≡ ch ∷ []
-  pub width : width_of c ≡ text_width (symbol_text c.symbol)
+  pub symbol : IsGlyphOf (symbol_text c.symbol) glyph
 
 -- a cell of one column that looks like an empty one
 pub record IsVacant (c : Cell) : Type 0 where
@@ -71,38 +53,38 @@ pub record IsVacant (c : Cell) : Type 0 where
   pub width : width_of c ≡ 1
 
 -- an update lies in this place of a screen of this size
-pub record IsPlaced (w h : ℕ) (p : Position) (u : Update) : Type 0 where
+pub record IsOnScreenAt (w h : ℕ) (p : Position) (u : Update) : Type 0 where
   pub column : u.x < w
   pub row : u.y < h
   pub place : p ≡ record { x = u.x; y = u.y }
 
--- whether an update that lies on a screen of this size has a pen that a terminal can be sent, one with colours of the line under the text or without
+-- whether an update that lies on a screen of this size has a rendition that a terminal can be sent, one with colours of the underline or without
 abbrev pub is_sendable_on : ℕ → ℕ → Bool → Update → Bool
-is_sendable_on w h colors u = not (nat_lt u.x w && nat_lt u.y h) || is_sendable_by colors (pen_of u.cell)
+is_sendable_on w h colors u = not (nat_lt u.x w && nat_lt u.y h) || is_sendable_by colors (sgr_of u.cell)
 
--- an update was refused: for want of memory, or in its place, which isn't covered from the left, because its symbol doesn't fit or its pen
--- can't be sent to a terminal with colours of the line under the text or without, or because it isn't vacant and the place is covered
-abbrev pub IsRefused : ℕ → ℕ → Bool → List Bool → Update → Refusal → Type 0
-IsRefused w h colors flags u Refused.Memory = Unit {0}
-IsRefused w h colors flags u (Refused.Symbol p) = IsPlaced w h p u × (flag flags (u.y * w + u.x) ≡ false) × (is_fit (w - u.x) u.cell ≡ false)
-IsRefused w h colors flags u (Refused.Pen p) = IsPlaced w h p u × (flag flags (u.y * w + u.x) ≡ false) × (is_sendable_by colors (pen_of u.cell) ≡ false)
-IsRefused w h colors flags u (Refused.Cut p) = IsPlaced w h p u × (flag flags (u.y * w + u.x) ≡ true) × (IsVacant u.cell → ⊥)
+-- an update was refused: for want of memory, or in its place, which isn't covered from the left, because its symbol doesn't fit or its rendition
+-- can't be sent to a terminal with colours of the underline or without, or because it isn't vacant and the place is covered
+abbrev pub RefusesUpdate : ℕ → ℕ → Bool → List Bool → Update → Refusal → Type 0
+RefusesUpdate w h colors flags u Refused.Memory = Unit {0}
+RefusesUpdate w h colors flags u (Refused.Symbol p) = IsOnScreenAt w h p u × (flag flags (u.y * w + u.x) ≡ false) × (is_fit (w - u.x) u.cell ≡ false)
+RefusesUpdate w h colors flags u (Refused.Style p) = IsOnScreenAt w h p u × (flag flags (u.y * w + u.x) ≡ false) × (is_sendable_by colors (sgr_of u.cell) ≡ false)
+RefusesUpdate w h colors flags u (Refused.Cut p) = IsOnScreenAt w h p u × (flag flags (u.y * w + u.x) ≡ true) × (IsVacant u.cell → ⊥)
 
--- a pen wasn't set: for want of memory, or since it can't be sent
-abbrev pub IsUnsendablePen : Bool → Position → Pen → Refusal → Type 0
-IsUnsendablePen colors place pen Refused.Memory = Unit {0}
-IsUnsendablePen colors place pen (Refused.Pen p) = (p ≡ place) × (is_sendable_by colors pen ≡ false)
-IsUnsendablePen colors place pen _ = ⊥
+-- a rendition wasn't set: for want of memory, or since it can't be sent
+abbrev pub IsUnsendableSgr : Bool → Position → Sgr → Refusal → Type 0
+IsUnsendableSgr colors place sgr Refused.Memory = Unit {0}
+IsUnsendableSgr colors place sgr (Refused.Style p) = (p ≡ place) × (is_sendable_by colors sgr ≡ false)
+IsUnsendableSgr colors place sgr _ = ⊥
 
 -- ---- draws
 
--- flags were set anew from the place `first` up to `end`: set up to `behind_it`, but for the first one
-pub record AreMarked (first behind_it end : ℕ) (flags after : List Bool) : Type 0 where
+-- flags were set anew from the place `first` up to `end`: set up to `after_it`, but for the first one
+pub record AreMarked (first past_it end : ℕ) (flags after : List Bool) : Type 0 where
   pub count : length after ≡ length flags
   pub each : (k : ℕ) → flag after k
-      ≡ (if nat_le first k && nat_lt k end then nat_lt first k && nat_lt k behind_it else flag flags k)
+      ≡ (if nat_le first k && nat_lt k end then nat_lt first k && nat_lt k past_it else flag flags k)
 
--- behind a symbol of n columns what is left of another one, up to column `end`, was emptied, and the flags are those of the symbol
+-- after a symbol of n columns what is left of another one, up to column `end`, was emptied, and the flags are those of the symbol
 pub record Covers (w x y n : ℕ) (old : List ℕ) (flags : List Bool) (before : Brush) (end : ℕ) (new : List ℕ) (flags_after : List Bool)
     (after : Brush) : Type 0 where
   pub ordered : x + n ≤ end
@@ -110,14 +92,14 @@ pub record Covers (w x y n : ℕ) (old : List ℕ) (flags : List Bool) (before :
   pub set : (k : ℕ) → x + n ≤ k → k < end → flag flags (y * w + k) ≡ true
   pub unset : end < w → flag flags (y * w + end) ≡ false
   pub paints : (h : ℕ) → y < h → Paints w h old before (blanked (x + n) y (end - (x + n))) new after
-  pub pen : (after.pen ≡ before.pen) ⊎ (after.pen ≡ own_pen)
+  pub sgr : (after.sgr ≡ before.sgr) ⊎ (after.sgr ≡ default_sgr)
   pub marked : AreMarked (y * w + x) (y * w + (x + n)) (y * w + end) flags flags_after
 
--- a terminal within a draw on a screen of this size: with its own pen it would be ready; the flags are those of its columns
+-- a terminal within a draw on a screen of this size: with its own rendition it would be ready; the flags are those of its columns
 pub record IsDrawing (w h : ℕ) (d : Drawing) (flags : List Bool) (t : Emulator) : Type 0 where
   pub drawn : IsDrawnBy d.brush t
-  pub ready : IsReady w h (with_pen own_pen (rested t))
-  pub behind : AreBehind w h flags (rested t).columns
+  pub ready : IsIdle w h (with_sgr default_sgr (rested t))
+  pub continuations : AreContinuations w h flags (rested t).columns
   pub cursor : cursor_of (screen_shown d.written (rested t)) ≡ d.cursor
 
 -- bytes were appended that draw these updates, in order, on each terminal within such a draw

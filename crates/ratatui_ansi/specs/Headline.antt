@@ -5,12 +5,12 @@ use Rattle.ratatui_core.specs.Backend.{Screen}
 use Rattle.ratatui_core.specs.Terminal.{State, IsInStep}
 use Rattle.ratatui_core.specs.Headline.{Event, Along, last_state, Does, IsFair}
 use Rattle.ratatui_ansi.specs.Backend.{BackendState, shown_by}
-use Rattle.ratatui_ansi.specs.Calls.{IsLeft, anew}
-use Rattle.ratatui_ansi.specs.Columns.{look_in}
-use Rattle.ratatui_ansi.specs.Glass.{MayShow, IsStraight}
-use Rattle.ratatui_ansi.specs.Emulator.{Emulator, rested}
-use Rattle.ratatui_ansi.specs.Screens.{screen_shown}
-use Rattle.ratatui_ansi.specs.Sequences.{feed}
+use Rattle.ansi_model.specs.Beginnings.{IsAsFound, anew}
+use Rattle.ansi_model.specs.Columns.{look_in}
+use Rattle.ansi_model.specs.Glass.{MayShow, IsStraight}
+use Rattle.ansi_model.specs.Emulator.{Emulator, rested}
+use Rattle.ansi_model.specs.Screens.{screen_shown}
+use Rattle.ansi_model.specs.Sequences.{feed}
 
 -- a screen with these rows before those of its history
 abbrev pub below_rows : List (List Look) → Screen → Screen
@@ -18,7 +18,7 @@ below_rows rows s = record s { history = rows ++ s.history }
 
 module _ {W : Type 0} where
   -- a terminal that was left so has read what was sent: real terminals don't differ on it, and it shows the backend's screen, its size,
-  -- columns, cursor and whether that is shown, and behind the rows that its history had those of the backend's. On the glass each row of the
+  -- columns, cursor and whether that is shown, and after the rows that its history had those of the backend's. On the glass each row of the
   -- backend's screen stands as it is that has no letters written from the right
   pub record IsReadBy (b : BackendState W) (t : Emulator) : Type 0 where
     pub sure : (rested (feed b.sent (anew t))).sure ≡ true
@@ -28,7 +28,7 @@ module _ {W : Type 0} where
 
   -- so it is for each terminal of the backend's size
   abbrev pub IsReadByAll : BackendState W → Type 0
-  IsReadByAll b = (t : Emulator) → IsLeft b.size.width b.size.height t → IsReadBy b t
+  IsReadByAll b = (t : Emulator) → IsAsFound b.size.width b.size.height t → IsReadBy b t
 
   -- the same, and each unskipped column of a buffer's area has its cell's look
   pub record IsShownToReader (frame : Sheet) (b : BackendState W) (t : Emulator) : Type 0 where
@@ -37,9 +37,9 @@ module _ {W : Type 0} where
 
   -- so it is for each terminal of the backend's size, however it was left
   abbrev pub IsShownToAll : Sheet → BackendState W → Type 0
-  IsShownToAll frame b = (t : Emulator) → IsLeft b.size.width b.size.height t → IsShownToReader frame b t
+  IsShownToAll frame b = (t : Emulator) → IsAsFound b.size.width b.size.height t → IsShownToReader frame b t
 
-  -- from in step, behind any list of calls that answered Ok, and unless a write failed since the backend began or began anew, each terminal of
+  -- from in step, after any list of calls that answered Ok, and unless a write failed since the backend began or began anew, each terminal of
   -- its size that reads what was sent since shows the buffer that the last call left, however it was left before
   abbrev pub IsHeadlineOfBytes : State (BackendState W) → Type 0
   IsHeadlineOfBytes t = (s : State (BackendState W)) (events : List (Event (BackendState W))) → IsInStep shown_by s

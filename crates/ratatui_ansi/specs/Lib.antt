@@ -1,16 +1,8 @@
-pub mod Columns
-pub mod Glass
 pub mod Flags
-pub mod Pen
-pub mod Emulator
-pub mod Sequences
-pub mod Parameters
-pub mod Sends
 pub mod Drawing
-pub mod Screens
 pub mod Covered
 pub mod Frame
-pub mod Calls
+pub mod Tracker
 pub mod Errors
 pub mod Backend
 pub mod Refusals

@@ -7,19 +7,21 @@ use Rattle.ratatui_core.specs.Layout as layout
 use Rattle.ratatui_core.specs.Buffer.{Update, Cell, update_by}
 use Rattle.ratatui_core.specs.Backend.{Screen, Draws, cursor_of}
 use Rattle.ratatui_ansi.specs.declared.error.AnsiError.{AnsiError}
-use Rattle.ratatui_ansi.specs.declared.error.AnsiError.TheVariants.{Memory, Symbol, Pen, Cut, Size, Broken, Write}
+use Rattle.ratatui_ansi.specs.declared.error.AnsiError.TheVariants.{Memory, Symbol, Style, Cut, Size, Broken, Write}
 use Rattle.ratatui_ansi.specs.declared.frame.Drawing.{Drawing}
 use Rattle.ratatui_ansi.specs.declared.frame.Refusal.{Refusal}
 use Rattle.ratatui_ansi.specs.declared.frame.Refusal.TheVariants as Refused
+use Rattle.ratatui_ansi.specs.declared.tracker.Call.{Call}
+use Rattle.ratatui_ansi.specs.declared.tracker.Call.TheVariants as Called
 use Rattle.ratatui_ansi.specs.Backend.{BackendState}
-use Rattle.ratatui_ansi.specs.Calls.{IsAwaiting}
+use Rattle.ratatui_ansi.specs.Tracker.{IsAwaiting}
 use Rattle.ratatui_ansi.specs.Covered.{IsCovered}
 use Rattle.ratatui_ansi.specs.Errors.{error_of}
-use Rattle.ratatui_ansi.specs.Frame.{is_fit, IsVacant, IsPlaced, IsRefused, SendsUpdates}
-use Rattle.ratatui_ansi.specs.Parameters.{is_sendable_by}
-use Rattle.ratatui_ansi.specs.Pen.{pen_of}
-use Rattle.ratatui_ansi.specs.Screens.{screen_shown}
-use Rattle.ratatui_ansi.specs.Emulator.{Emulator, rested}
+use Rattle.ratatui_ansi.specs.Frame.{is_fit, IsVacant, IsOnScreenAt, RefusesUpdate, SendsUpdates}
+use Rattle.ansi_model.specs.Parameters.{is_sendable_by}
+use Rattle.ansi_model.specs.Sgr.{sgr_of}
+use Rattle.ansi_model.specs.Screens.{screen_shown}
+use Rattle.ansi_model.specs.Emulator.{Emulator, rested}
 
 -- ---- what is left
 
@@ -57,15 +59,15 @@ pub record Breaks {W : Type 0} (old new : BackendState W) : Type 0 where
 abbrev pub FailsBy : {W : Type 0} → BackendState W → BackendState W → AnsiError → Type 0
 FailsBy old new Memory = (old.is_broken ≡ false) × IsUnsent old new
 FailsBy old new (Symbol p) = (old.is_broken ≡ false) × IsUnsent old new
-FailsBy old new (Pen p) = (old.is_broken ≡ false) × IsUnsent old new
+FailsBy old new (Style p) = (old.is_broken ≡ false) × IsUnsent old new
 FailsBy old new (Cut p) = (old.is_broken ≡ false) × IsUnsent old new
 FailsBy old new Size = ⊥
 FailsBy old new Broken = (old.is_broken ≡ true) × IsUnsent old new
 FailsBy old new (Write error) = Breaks old new
 
 -- a call that answers this
-abbrev pub Leaves : {W A : Type 0} → Result A AnsiError → BackendState W → BackendState W → Type 0
-Leaves answer old new = MatchResult answer (λ _. IsWorking old new) (FailsBy old new)
+abbrev pub Answers : {W A : Type 0} → Result A AnsiError → BackendState W → BackendState W → Type 0
+Answers answer old new = MatchResult answer (λ _. IsWorking old new) (FailsBy old new)
 
 -- an error of a call that writes: it names no cell
 abbrev pub IsOfWriting : AnsiError → Type 0
@@ -88,6 +90,15 @@ IsOfClearing s (Write error) = Unit {0}
 IsOfClearing s (Cut p) = (p ≡ cursor_of s) × IsCovered s.grid p.x p.y
 IsOfClearing s _ = ⊥
 
+-- an error of a call that draws no cells
+abbrev pub IsOfCall : Call → Screen → AnsiError → Type 0
+IsOfCall (Called.Move p) s error = IsOfWriting error
+IsOfCall (Called.Show visible) s error = IsOfWriting error
+IsOfCall (Called.Append n) s error = IsOfWriting error
+IsOfCall (Called.ScrollUp region n) s error = IsOfWriting error
+IsOfCall (Called.ScrollDown region n) s error = IsOfWriting error
+IsOfCall (Called.Clear kind) s error = IsOfClearing s error
+
 -- ---- beginnings
 
 -- why a backend of this size doesn't begin: it has no columns or no rows, memory was refused, or a write failed
@@ -96,6 +107,12 @@ RefusesToBegin w h Size = (w ≡ 0) ⊎ (h ≡ 0)
 RefusesToBegin w h Memory = (0 < w) × (0 < h)
 RefusesToBegin w h (Write error) = (0 < w) × (0 < h)
 RefusesToBegin w h _ = ⊥
+
+-- why no blank screen of this size is tracked: it has no columns or no rows, or memory was refused
+abbrev pub RefusesTracker : ℕ → ℕ → AnsiError → Type 0
+RefusesTracker w h Size = (w ≡ 0) ⊎ (h ≡ 0)
+RefusesTracker w h Memory = (0 < w) × (0 < h)
+RefusesTracker w h _ = ⊥
 
 -- a backend that doesn't begin anew: memory was refused, which changes nothing, or a write failed
 abbrev pub FailsToRestart : {W : Type 0} → BackendState W → BackendState W → AnsiError → Type 0
@@ -107,7 +124,7 @@ FailsToRestart old new _ = ⊥
 abbrev pub FailsToResize : {W : Type 0} → layout.Size → BackendState W → BackendState W → AnsiError → Type 0
 FailsToResize size old new Size = ((size.width ≡ 0) ⊎ (size.height ≡ 0)) × IsUnsent old new
 FailsToResize size old new Memory = IsUnsent old new
-FailsToResize size old new (Write error) = new.is_broken ≡ true
+FailsToResize size old new (Write error) = (new.is_broken ≡ true) × (new.size ≡ old.size)
 FailsToResize size old new _ = ⊥
 
 -- ---- cells that aren't drawn
@@ -116,24 +133,24 @@ FailsToResize size old new _ = ⊥
 abbrev pub has_place : Refusal → Bool
 has_place Refused.Memory = false
 has_place (Refused.Symbol p) = true
-has_place (Refused.Pen p) = true
+has_place (Refused.Style p) = true
 has_place (Refused.Cut p) = true
 
 abbrev pub names_cell : AnsiError → Bool
 names_cell Memory = false
 names_cell (Symbol p) = true
-names_cell (Pen p) = true
+names_cell (Style p) = true
 names_cell (Cut p) = true
 names_cell Size = false
 names_cell Broken = false
 names_cell (Write error) = false
 
--- why an update isn't drawn on a screen: its symbol doesn't fit, its pen can't be sent, or it isn't vacant where a symbol covers its place
+-- why an update isn't drawn on a screen: its symbol doesn't fit, its rendition can't be sent, or it isn't vacant where a symbol covers its place
 abbrev pub IsRefusedOn : Bool → Screen → Update → Refusal → Type 0
 IsRefusedOn colors s u Refused.Memory = Unit {0}
-IsRefusedOn colors s u (Refused.Symbol p) = IsPlaced s.width s.height p u × (is_fit (s.width - u.x) u.cell ≡ false)
-IsRefusedOn colors s u (Refused.Pen p) = IsPlaced s.width s.height p u × (is_sendable_by colors (pen_of u.cell) ≡ false)
-IsRefusedOn colors s u (Refused.Cut p) = IsPlaced s.width s.height p u × IsCovered s.grid u.x u.y × (IsVacant u.cell → ⊥)
+IsRefusedOn colors s u (Refused.Symbol p) = IsOnScreenAt s.width s.height p u × (is_fit (s.width - u.x) u.cell ≡ false)
+IsRefusedOn colors s u (Refused.Style p) = IsOnScreenAt s.width s.height p u × (is_sendable_by colors (sgr_of u.cell) ≡ false)
+IsRefusedOn colors s u (Refused.Cut p) = IsOnScreenAt s.width s.height p u × IsCovered s.grid u.x u.y × (IsVacant u.cell → ⊥)
 
 -- an item of a diff, which lends its cell, as an update
 abbrev pub lent_update : ℕ × ℕ × Bor Cell → Update
@@ -169,7 +186,7 @@ pub record StopsWithin {S A : Type 0} (steps : S → Option A → S → Type 0) 
   pub after : Drawing
   pub flags_after : List Bool
   pub sends : SendsUpdates w h old before flags (map update front) new after flags_after
-  pub refused : IsRefused w h colors flags_after (update item) refusal
+  pub refused : RefusesUpdate w h colors flags_after (update item) refusal
 
 -- the same for each terminal between two calls
 pub record StopsDraw {S A : Type 0} (steps : S → Option A → S → Type 0) (content : S) (update : A → Update) (w h : ℕ) (colors : Bool) (cursor : Position) (written : ℕ)

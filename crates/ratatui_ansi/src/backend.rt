@@ -6,27 +6,23 @@ ghost use Rattle.std.specs.List.{list_all};
 ghost use Rattle.std.specs.Iterator.{IsFinite, Drains};
 ghost use Rattle.ratatui_core.specs.Buffer.{update_by};
 ghost use Rattle.ratatui_core.specs.Backend.{Counts, IsBlankScreen, IsOnGrid, Draws, Appends, Clears, ScrollsUp, ScrollsDown, with_visible, with_cursor, cursor_of, size_of, All};
-ghost use Rattle.ratatui_ansi.specs.Calls.{MakesBlank};
-ghost use Rattle.ratatui_ansi.specs.Columns.{blank_column};
-ghost use Rattle.ratatui_ansi.specs.Flags.{AreBehind};
+ghost use Rattle.ansi_model.specs.Beginnings.{MakesBlank};
 ghost use Rattle.ratatui_ansi.specs.Backend.{BackendState, shown_by, is_flushed};
 ghost use Rattle.ratatui_ansi.specs.Frame.{is_sendable_on};
 ghost use Rattle.ratatui_ansi.specs.Headline.{IsReadByAll};
-ghost use Rattle.ratatui_ansi.specs.Refusals.{IsUnsent, Leaves, RefusesToBegin, FailsToRestart, FailsToResize, StopsBy};
-ghost use Rattle.ratatui_ansi.specs.Refusals.{IsOfWriting, IsOfFlushing, IsOfClearing};
+ghost use Rattle.ratatui_ansi.specs.Tracker.{CallDoes};
+ghost use Rattle.ratatui_ansi.specs.Refusals.{IsUnsent, Answers, RefusesToBegin, FailsToRestart, FailsToResize, StopsBy};
+ghost use Rattle.ratatui_ansi.specs.Refusals.{IsOfWriting, IsOfFlushing, IsOfClearing, IsOfCall};
 ghost use Rattle.ratatui_ansi.specs.declared.error.AnsiError.TheVariants.{Broken};
 
-use crate::calls::make_blank;
 use crate::error::AnsiError;
-use crate::frame::draw_cells;
 use crate::sender::Sender;
-use crate::tracked::{append, clear_region, cuts, place_cursor, scroll_down, scroll_up, show};
+use crate::tracker::{Call, Tracker};
 use ratatui_core::backend::{AsCell, Backend, ClearType, WindowSize};
 use ratatui_core::layout::{Position, Size};
-use std::alloc::{AllocError, Global};
-use std::io::{self, Write};
+use std::alloc::Global;
+use std::io::Write;
 use std::marker::Model;
-use std::mem;
 use std::ops::Range;
 
 /// A backend that writes escape sequences to a writer. It begins with those that make any terminal of its size blank, and its screen
@@ -36,16 +32,7 @@ use std::ops::Range;
 #[derive(Drop)]
 pub struct AnsiBackend<W: Write> {
     sender: Sender<W>,
-    size: Size,
-    has_underline_colors: bool,
-    ambiguous_is_wide: bool,
-    cursor: Position,
-    // Whether each column lies behind the first one of its symbol, row by row; and the same within a draw.
-    behind: Vec<bool>,
-    draft: Vec<bool>,
-    // What the call at hand writes.
-    out: String,
-    written: u64,
+    tracker: Tracker,
     failures: u64,
     is_broken: bool,
     alloc: Global,
@@ -63,35 +50,18 @@ impl<W: Write> Model for AnsiBackend<W> {
       before = b.sender.sent.before;
       sent = b.sender.sent.bytes;
       held = b.sender.held.bytes;
-      size = b.size;
-      has_underline_colors = b.has_underline_colors;
-      ambiguous_is_wide = b.ambiguous_is_wide;
-      written = b.written;
+      size = b.tracker.size;
+      has_underline_colors = b.tracker.has_underline_colors;
+      ambiguous_is_wide = b.tracker.ambiguous_is_wide;
+      written = b.tracker.written;
       failures = b.failures;
       is_broken = b.is_broken;
     } };
 
-    ghost invariant = { λ b. IsInOrder b.size b.cursor b.behind.items b.draft.items b.is_broken
-        b.failures b.sender.sent.bytes
+    ghost invariant = { λ b. IsInOrder b.tracker.size b.tracker.cursor b.tracker.continuations.items
+        b.tracker.draft.items b.is_broken b.failures b.sender.sent.bytes
         × (b.is_broken ≡ false
         → Appends b.sender.sent.before (W.contents b.sender.writer) b.sender.sent.bytes) };
-}
-
-// The flags of a blank screen.
-fn blank_flags(alloc: Global, size: Size) -> Result<Vec<bool>, AllocError>
-    ensures { IfOk result (λ flags. AreBehind size.width size.height flags.items
-        (λ a b. blank_column)) }
-{
-    let count = usize::from(size.width) * usize::from(size.height);
-    Vec::from_elem(alloc, false, count)
-}
-
-// Makes flags those of a blank screen.
-fn unset_flags(flags: &mut [bool], size: Size)
-    requires { length flags.old ≡ size.width * size.height }
-    ensures { AreBehind size.width size.height flags.new (λ a b. blank_column) }
-{
-    flags.fill(false);
 }
 
 impl<W: Write + Drop> AnsiBackend<W> {
@@ -109,28 +79,15 @@ impl<W: Write + Drop> AnsiBackend<W> {
         ensures size { OnOk result ((0 < size.width) × (0 < size.height)) }
         ensures refused { IfErr result (RefusesToBegin size.width size.height) }
     {
-        if size.width == 0 || size.height == 0 {
-            return Err(AnsiError::Size);
-        }
-        let behind = blank_flags(alloc, size)?;
-        let draft = blank_flags(alloc, size)?;
-        let mut out = String::new(alloc);
-        make_blank(&mut out, size.width, size.height)?;
+        let tracker = Tracker::new(alloc, size)?;
         let mut sender = Sender::new(writer);
-        match sender.send(out.as_str()) {
+        match sender.send(tracker.out.as_str()) {
             Ok(()) => {}
             Err(error) => return Err(AnsiError::Write(error)),
         }
         Ok(AnsiBackend {
             sender,
-            size,
-            has_underline_colors: false,
-            ambiguous_is_wide: false,
-            cursor: Position::ORIGIN,
-            behind,
-            draft,
-            out,
-            written: 0,
+            tracker,
             failures: 0,
             is_broken: false,
             alloc,
@@ -163,7 +120,7 @@ impl<W: Write + Drop> AnsiBackend<W> {
     pub fn set_underline_colors(&mut self, has_underline_colors: bool)
         ensures { self.new ≡ record self.old { has_underline_colors = has_underline_colors } }
     {
-        self.has_underline_colors = has_underline_colors;
+        self.tracker.has_underline_colors = has_underline_colors;
     }
 
     /// From now on a move follows each symbol but ASCII, or not, as at first: some terminals were told to take ambiguous characters,
@@ -171,7 +128,7 @@ impl<W: Write + Drop> AnsiBackend<W> {
     pub fn set_ambiguous_is_wide(&mut self, ambiguous_is_wide: bool)
         ensures { self.new ≡ record self.old { ambiguous_is_wide = ambiguous_is_wide } }
     {
-        self.ambiguous_is_wide = ambiguous_is_wide;
+        self.tracker.ambiguous_is_wide = ambiguous_is_wide;
     }
 
     /// Begins anew, also after a failed write, on a terminal that is made blank: what makes it so is written, and is all that counts as
@@ -189,23 +146,8 @@ impl<W: Write + Drop> AnsiBackend<W> {
         ensures ambiguous { self.new.ambiguous_is_wide ≡ self.old.ambiguous_is_wide }
         ensures counts { Counts result self.old.failures self.new.failures }
     {
-        let failures = self.failures;
-        self.failures = failures.saturating_add(1);
-        self.out.clear();
-        make_blank(&mut self.out, self.size.width, self.size.height)?;
-        self.is_broken = true;
-        self.sender.renew();
-        match self.sender.send(self.out.as_str()) {
-            Ok(()) => {}
-            Err(error) => return Err(AnsiError::Write(error)),
-        }
-        let behind = self.behind.as_mut_slice();
-        unset_flags(behind, self.size);
-        self.cursor = Position::ORIGIN;
-        self.written = 0;
-        self.is_broken = false;
-        self.failures = failures;
-        Ok(())
+        let size = self.tracker.size;
+        self.resize(size)
     }
 
     /// The window has another size: the backend begins anew on a terminal of this size, which is made blank. So the next draw of a
@@ -224,35 +166,26 @@ impl<W: Write + Drop> AnsiBackend<W> {
     {
         let failures = self.failures;
         self.failures = failures.saturating_add(1);
-        if size.width == 0 || size.height == 0 {
-            return Err(AnsiError::Size);
-        }
-        let behind = blank_flags(self.alloc, size)?;
-        let draft = blank_flags(self.alloc, size)?;
-        self.out.clear();
-        make_blank(&mut self.out, size.width, size.height)?;
+        let mut tracker = Tracker::new(self.alloc, size)?;
+        tracker.has_underline_colors = self.tracker.has_underline_colors;
+        tracker.ambiguous_is_wide = self.tracker.ambiguous_is_wide;
         self.is_broken = true;
         self.sender.renew();
-        match self.sender.send(self.out.as_str()) {
+        match self.sender.send(tracker.out.as_str()) {
             Ok(()) => {}
             Err(error) => return Err(AnsiError::Write(error)),
         }
-        self.size = size;
-        self.behind = behind;
-        self.draft = draft;
-        self.cursor = Position::ORIGIN;
-        self.written = 0;
+        self.tracker = tracker;
         self.is_broken = false;
         self.failures = failures;
         Ok(())
     }
 
-    // Moves the cursor.
-    fn send_position(&mut self, position: Position) -> Result<(), AnsiError>
-        ensures ok { OnOk result (shown_by self.new
-            ≡ with_cursor position.x position.y (shown_by self.old)) }
-        ensures why { IfErr result IsOfWriting }
-        ensures state { Leaves result self.old self.new }
+    // Makes a call that draws no cells.
+    fn send(&mut self, call: Call) -> Result<(), AnsiError>
+        ensures ok { OnOk result (CallDoes call (shown_by self.old) (shown_by self.new)) }
+        ensures why { IfErr result (IsOfCall call (shown_by self.old)) }
+        ensures state { Answers result self.old self.new }
         ensures counts { Counts result self.old.failures self.new.failures }
     {
         let failures = self.failures;
@@ -260,36 +193,10 @@ impl<W: Write + Drop> AnsiBackend<W> {
         if self.is_broken {
             return Err(AnsiError::Broken);
         }
-        self.out.clear();
-        let cursor = place_cursor(&mut self.out, self.size, position)?;
+        self.tracker.out.clear();
+        self.tracker.collect(call)?;
         self.is_broken = true;
-        match self.sender.send(self.out.as_str()) {
-            Ok(()) => {}
-            Err(error) => return Err(AnsiError::Write(error)),
-        }
-        self.cursor = cursor;
-        self.is_broken = false;
-        self.failures = failures;
-        Ok(())
-    }
-
-    // Shows or hides the cursor.
-    fn send_visible(&mut self, visible: bool) -> Result<(), AnsiError>
-        ensures ok { OnOk result (shown_by self.new
-            ≡ with_visible visible (shown_by self.old)) }
-        ensures why { IfErr result IsOfWriting }
-        ensures state { Leaves result self.old self.new }
-        ensures counts { Counts result self.old.failures self.new.failures }
-    {
-        let failures = self.failures;
-        self.failures = failures.saturating_add(1);
-        if self.is_broken {
-            return Err(AnsiError::Broken);
-        }
-        self.out.clear();
-        show(&mut self.out, visible)?;
-        self.is_broken = true;
-        match self.sender.send(self.out.as_str()) {
+        match self.sender.send(self.tracker.out.as_str()) {
             Ok(()) => {}
             Err(error) => return Err(AnsiError::Write(error)),
         }
@@ -304,7 +211,7 @@ impl<W: Write + Drop> AnsiBackend<W> {
         ensures flushed { OnOk result (is_flushed self.new ≡ true) }
         ensures sent { OnOk result (self.new.sent ≡ self.old.sent) }
         ensures why { IfErr result IsOfFlushing }
-        ensures state { Leaves result self.old self.new }
+        ensures state { Answers result self.old self.new }
         ensures counts { Counts result self.old.failures self.new.failures }
     {
         let failures = self.failures;
@@ -314,112 +221,6 @@ impl<W: Write + Drop> AnsiBackend<W> {
         }
         self.is_broken = true;
         match self.sender.flush() {
-            Ok(()) => {}
-            Err(error) => return Err(AnsiError::Write(error)),
-        }
-        self.is_broken = false;
-        self.failures = failures;
-        Ok(())
-    }
-
-    // Moves the cursor's row down.
-    fn send_lines(&mut self, n: u16) -> Result<(), AnsiError>
-        ensures ok { OnOk result (Appends (shown_by self.old) n (shown_by self.new)) }
-        ensures why { IfErr result IsOfWriting }
-        ensures state { Leaves result self.old self.new }
-        ensures counts { Counts result self.old.failures self.new.failures }
-    {
-        let failures = self.failures;
-        self.failures = failures.saturating_add(1);
-        if self.is_broken {
-            return Err(AnsiError::Broken);
-        }
-        self.out.clear();
-        let behind = self.behind.as_mut_slice();
-        let cursor = append(&mut self.out, behind, self.size, self.cursor, n)?;
-        self.is_broken = true;
-        match self.sender.send(self.out.as_str()) {
-            Ok(()) => {}
-            Err(error) => return Err(AnsiError::Write(error)),
-        }
-        self.cursor = cursor;
-        self.is_broken = false;
-        self.failures = failures;
-        Ok(())
-    }
-
-    // Moves the rows of a region up.
-    fn send_up(&mut self, region: Range<u16>, n: u16) -> Result<(), AnsiError>
-        ensures ok { OnOk result (ScrollsUp region.start region.end n
-            (shown_by self.old) (shown_by self.new)) }
-        ensures why { IfErr result IsOfWriting }
-        ensures state { Leaves result self.old self.new }
-        ensures counts { Counts result self.old.failures self.new.failures }
-    {
-        let failures = self.failures;
-        self.failures = failures.saturating_add(1);
-        if self.is_broken {
-            return Err(AnsiError::Broken);
-        }
-        self.out.clear();
-        let behind = self.behind.as_mut_slice();
-        scroll_up(&mut self.out, behind, self.size, self.cursor, region, n)?;
-        self.is_broken = true;
-        match self.sender.send(self.out.as_str()) {
-            Ok(()) => {}
-            Err(error) => return Err(AnsiError::Write(error)),
-        }
-        self.is_broken = false;
-        self.failures = failures;
-        Ok(())
-    }
-
-    // Moves the rows of a region down.
-    fn send_down(&mut self, region: Range<u16>, n: u16) -> Result<(), AnsiError>
-        ensures ok { OnOk result (ScrollsDown region.start region.end n
-            (shown_by self.old) (shown_by self.new)) }
-        ensures why { IfErr result IsOfWriting }
-        ensures state { Leaves result self.old self.new }
-        ensures counts { Counts result self.old.failures self.new.failures }
-    {
-        let failures = self.failures;
-        self.failures = failures.saturating_add(1);
-        if self.is_broken {
-            return Err(AnsiError::Broken);
-        }
-        self.out.clear();
-        let behind = self.behind.as_mut_slice();
-        scroll_down(&mut self.out, behind, self.size, self.cursor, region, n)?;
-        self.is_broken = true;
-        match self.sender.send(self.out.as_str()) {
-            Ok(()) => {}
-            Err(error) => return Err(AnsiError::Write(error)),
-        }
-        self.is_broken = false;
-        self.failures = failures;
-        Ok(())
-    }
-
-    // Empties a part of the screen.
-    fn send_clear(&mut self, clear_type: ClearType) -> Result<(), AnsiError>
-        ensures ok { OnOk result (Clears (shown_by self.old) clear_type (shown_by self.new)) }
-        ensures why { IfErr result (IsOfClearing (shown_by self.old)) }
-        ensures state { Leaves result self.old self.new }
-        ensures counts { Counts result self.old.failures self.new.failures }
-    {
-        let failures = self.failures;
-        self.failures = failures.saturating_add(1);
-        if self.is_broken {
-            return Err(AnsiError::Broken);
-        }
-        self.out.clear();
-        if cuts(self.behind.as_slice(), self.size, self.cursor, clear_type) {
-            return Err(AnsiError::Cut(self.cursor));
-        }
-        let behind = self.behind.as_mut_slice();
-        clear_region(&mut self.out, behind, self.size, self.cursor, clear_type)?;
-        self.is_broken = true;
-        match self.sender.send(self.out.as_str()) {
             Ok(()) => {}
             Err(error) => return Err(AnsiError::Write(error)),
         }
@@ -445,7 +246,7 @@ impl<W: Write + Drop> AnsiBackend<W> {
             self.old.has_underline_colors) (map (update_by C.cell) items) ≡ true)) }
         ensures stopped { IfErr result (StopsBy I.next_gives content (update_by C.cell)
             self.old.has_underline_colors (shown_by self.old)) }
-        ensures state { Leaves result self.old self.new }
+        ensures state { Answers result self.old self.new }
         ensures counts { Counts result self.old.failures self.new.failures }
     {
         let failures = self.failures;
@@ -453,29 +254,13 @@ impl<W: Write + Drop> AnsiBackend<W> {
         if self.is_broken {
             return Err(AnsiError::Broken);
         }
-        self.out.clear();
-        let Size { width, height } = self.size;
-        let draft = self.draft.as_mut_slice();
-        draft.copy_from_slice(self.behind.as_slice());
-        let (cursor, written) = draw_cells(
-            &mut self.out,
-            draft,
-            width,
-            height,
-            self.has_underline_colors,
-            self.ambiguous_is_wide,
-            self.cursor,
-            self.written,
-            content,
-        )?;
+        self.tracker.out.clear();
+        self.tracker.draw(content)?;
         self.is_broken = true;
-        match self.sender.send(self.out.as_str()) {
+        match self.sender.send(self.tracker.out.as_str()) {
             Ok(()) => {}
             Err(error) => return Err(AnsiError::Write(error)),
         }
-        mem::swap(&mut self.behind, &mut self.draft);
-        self.cursor = cursor;
-        self.written = written;
         self.is_broken = false;
         self.failures = failures;
         Ok(())
@@ -520,7 +305,7 @@ impl<W: Write + Drop> Backend for AnsiBackend<W> {
             self.old.has_underline_colors) (map (update_by C.cell) items) ≡ true)) }
         ensures stopped { IfErr result (StopsBy I.next_gives content (update_by C.cell)
             self.old.has_underline_colors (shown_by self.old)) }
-        ensures state { Leaves result self.old self.new }
+        ensures state { Answers result self.old self.new }
         ensures counts { Counts result self.old.failures self.new.failures }
     {
         self.send_cells(content)
@@ -529,50 +314,50 @@ impl<W: Write + Drop> Backend for AnsiBackend<W> {
     fn append_lines(&mut self, n: u16) -> Result<(), AnsiError>
         ensures ok { OnOk result (Appends (shown_by self.old) n (shown_by self.new)) }
         ensures why { IfErr result IsOfWriting }
-        ensures state { Leaves result self.old self.new }
+        ensures state { Answers result self.old self.new }
         ensures counts { Counts result self.old.failures self.new.failures }
     {
-        self.send_lines(n)
+        self.send(Call::Append(n))
     }
 
     fn scroll_region_up(&mut self, region: Range<u16>, n: u16) -> Result<(), AnsiError>
         ensures ok { OnOk result (ScrollsUp region.start region.end n
             (shown_by self.old) (shown_by self.new)) }
         ensures why { IfErr result IsOfWriting }
-        ensures state { Leaves result self.old self.new }
+        ensures state { Answers result self.old self.new }
         ensures counts { Counts result self.old.failures self.new.failures }
     {
-        self.send_up(region, n)
+        self.send(Call::ScrollUp(region, n))
     }
 
     fn scroll_region_down(&mut self, region: Range<u16>, n: u16) -> Result<(), AnsiError>
         ensures ok { OnOk result (ScrollsDown region.start region.end n
             (shown_by self.old) (shown_by self.new)) }
         ensures why { IfErr result IsOfWriting }
-        ensures state { Leaves result self.old self.new }
+        ensures state { Answers result self.old self.new }
         ensures counts { Counts result self.old.failures self.new.failures }
     {
-        self.send_down(region, n)
+        self.send(Call::ScrollDown(region, n))
     }
 
     fn hide_cursor(&mut self) -> Result<(), AnsiError>
         ensures ok { OnOk result (shown_by self.new
             ≡ with_visible false (shown_by self.old)) }
         ensures why { IfErr result IsOfWriting }
-        ensures state { Leaves result self.old self.new }
+        ensures state { Answers result self.old self.new }
         ensures counts { Counts result self.old.failures self.new.failures }
     {
-        self.send_visible(false)
+        self.send(Call::Show(false))
     }
 
     fn show_cursor(&mut self) -> Result<(), AnsiError>
         ensures ok { OnOk result (shown_by self.new
             ≡ with_visible true (shown_by self.old)) }
         ensures why { IfErr result IsOfWriting }
-        ensures state { Leaves result self.old self.new }
+        ensures state { Answers result self.old self.new }
         ensures counts { Counts result self.old.failures self.new.failures }
     {
-        self.send_visible(true)
+        self.send(Call::Show(true))
     }
 
     fn get_cursor_position(&mut self) -> Result<Position, AnsiError>
@@ -582,30 +367,30 @@ impl<W: Write + Drop> Backend for AnsiBackend<W> {
         ensures stays { OnOk result (shown_by self.new ≡ shown_by self.old) }
         ensures held { OnOk result (is_flushed self.new ≡ is_flushed self.old) }
         ensures why { IfErr result (λ error. error ≡ Broken) }
-        ensures state { Leaves result self.old self.new }
+        ensures state { Answers result self.old self.new }
         ensures counts { Counts result self.old.failures self.new.failures }
     {
         if self.is_broken {
             return Err(self.failed(AnsiError::Broken));
         }
-        Ok(self.cursor)
+        Ok(self.tracker.cursor)
     }
 
     fn set_cursor_position(&mut self, position: Position) -> Result<(), AnsiError>
         ensures ok { OnOk result (shown_by self.new
             ≡ with_cursor position.x position.y (shown_by self.old)) }
         ensures why { IfErr result IsOfWriting }
-        ensures state { Leaves result self.old self.new }
+        ensures state { Answers result self.old self.new }
         ensures counts { Counts result self.old.failures self.new.failures }
     {
-        self.send_position(position)
+        self.send(Call::Move(position))
     }
 
     fn clear(&mut self) -> Result<(), AnsiError>
         ensures ok { OnOk result (Clears (shown_by self.old) All
             (shown_by self.new)) }
         ensures why { IfErr result (IsOfClearing (shown_by self.old)) }
-        ensures state { Leaves result self.old self.new }
+        ensures state { Answers result self.old self.new }
         ensures counts { Counts result self.old.failures self.new.failures }
     {
         self.clear_region(ClearType::All)
@@ -615,10 +400,10 @@ impl<W: Write + Drop> Backend for AnsiBackend<W> {
         ensures ok { OnOk result (Clears (shown_by self.old) clear_type
             (shown_by self.new)) }
         ensures why { IfErr result (IsOfClearing (shown_by self.old)) }
-        ensures state { Leaves result self.old self.new }
+        ensures state { Answers result self.old self.new }
         ensures counts { Counts result self.old.failures self.new.failures }
     {
-        self.send_clear(clear_type)
+        self.send(Call::Clear(clear_type))
     }
 
     fn size(&mut self) -> Result<Size, AnsiError>
@@ -626,13 +411,13 @@ impl<W: Write + Drop> Backend for AnsiBackend<W> {
         ensures stays { OnOk result (shown_by self.new ≡ shown_by self.old) }
         ensures held { OnOk result (is_flushed self.new ≡ is_flushed self.old) }
         ensures why { IfErr result (λ error. error ≡ Broken) }
-        ensures state { Leaves result self.old self.new }
+        ensures state { Answers result self.old self.new }
         ensures counts { Counts result self.old.failures self.new.failures }
     {
         if self.is_broken {
             return Err(self.failed(AnsiError::Broken));
         }
-        Ok(self.size)
+        Ok(self.tracker.size)
     }
 
     fn window_size(&mut self) -> Result<WindowSize, AnsiError>
@@ -643,7 +428,7 @@ impl<W: Write + Drop> Backend for AnsiBackend<W> {
         ensures stays { OnOk result (shown_by self.new ≡ shown_by self.old) }
         ensures held { OnOk result (is_flushed self.new ≡ is_flushed self.old) }
         ensures why { IfErr result (λ error. error ≡ Broken) }
-        ensures state { Leaves result self.old self.new }
+        ensures state { Answers result self.old self.new }
         ensures counts { Counts result self.old.failures self.new.failures }
     {
         let columns_rows = self.size()?;
@@ -658,7 +443,7 @@ impl<W: Write + Drop> Backend for AnsiBackend<W> {
         ensures flushed { OnOk result (is_flushed self.new ≡ true) }
         ensures sent { OnOk result (self.new.sent ≡ self.old.sent) }
         ensures why { IfErr result IsOfFlushing }
-        ensures state { Leaves result self.old self.new }
+        ensures state { Answers result self.old self.new }
         ensures counts { Counts result self.old.failures self.new.failures }
     {
         self.flush_writer()

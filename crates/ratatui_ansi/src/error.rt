@@ -16,7 +16,7 @@ pub enum AnsiError {
     /// The symbol in this place isn't shown as one by terminals, or not in the columns that its cell takes; nothing was sent.
     Symbol(Position),
     /// The style in this place can't be sent to terminals; nothing was sent.
-    Pen(Position),
+    Style(Position),
     /// In this place a part of a symbol would go of which the first column stays; nothing was sent.
     Cut(Position),
     /// A screen has columns and rows.
@@ -34,7 +34,7 @@ impl fmt::Display for AnsiError {
         match self {
             AnsiError::Memory => write!(f, "no memory"),
             AnsiError::Symbol(position) => write!(f, "symbol at {position}"),
-            AnsiError::Pen(position) => write!(f, "style at {position}"),
+            AnsiError::Style(position) => write!(f, "style at {position}"),
             AnsiError::Cut(position) => write!(f, "symbol cut at {position}"),
             AnsiError::Size => write!(f, "no columns or rows"),
             AnsiError::Broken => write!(f, "broken"),
@@ -66,7 +66,7 @@ impl From<Refusal> for AnsiError {
         match refusal {
             Refusal::Memory => AnsiError::Memory,
             Refusal::Symbol(place) => AnsiError::Symbol(place),
-            Refusal::Pen(place) => AnsiError::Pen(place),
+            Refusal::Style(place) => AnsiError::Style(place),
             Refusal::Cut(place) => AnsiError::Cut(place),
         }
     }

@@ -1,12 +1,12 @@
-//! The flags of a screen's columns, one for each and row by row, which tell the columns that lie behind the first one of their symbol.
+//! The flags of a screen's columns, one for each and row by row, which tell the columns that is a continuation column.
 
 ghost use Rattle.std.specs.Prelude.{◌≡◌, ℕ, ◌+◌, ◌-◌, ◌*◌, ◌<◌, ◌≤◌, ◌&&◌, min, nat_le, nat_lt, if◌then◌else◌, true, false, length};
-ghost use Rattle.ratatui_ansi.specs.declared.part.Part.TheVariants.{Before};
-ghost use Rattle.ratatui_ansi.specs.Columns.{Columns};
-ghost use Rattle.ratatui_ansi.specs.Emulator.{raised, lowered, emptied, part_at, part_emptied};
-ghost use Rattle.ratatui_ansi.specs.Flags.{flag, AreBehind, is_cut};
+ghost use Rattle.ratatui_core.specs.Backend.{BeforeCursor, is_cleared};
+ghost use Rattle.ansi_model.specs.Columns.{Columns};
+ghost use Rattle.ansi_model.specs.Emulator.{rows_raised, rows_lowered, rows_emptied, columns_cleared};
+ghost use Rattle.ratatui_ansi.specs.Flags.{flag, AreContinuations, is_cut};
 
-use crate::part::Part;
+use ratatui_core::backend::ClearType;
 use ratatui_core::layout::Size;
 use std::ops::Range;
 
@@ -22,7 +22,7 @@ fn clear(flags: &mut [bool], from: usize, to: usize)
     }
 }
 
-// Moves flags up by so many places; false comes in behind them.
+// Moves flags up by so many places; false comes in after them.
 fn shift_up(flags: &mut [bool], by: usize)
     ensures { (k : ℕ) → flag flags.new k ≡ flag flags.old (k + by) }
 {
@@ -41,7 +41,7 @@ fn shift_down(flags: &mut [bool], by: usize)
     clear(flags, 0, count);
 }
 
-// Moves the flags from one place up to another up by so many places; false comes in behind them.
+// Moves the flags from one place up to another up by so many places; false comes in after them.
 fn shift_part_up(flags: &mut [bool], from: usize, to: usize, by: usize)
     requires order { from ≤ to }
     requires end { to ≤ length flags.old }
@@ -66,9 +66,9 @@ fn shift_part_down(flags: &mut [bool], from: usize, to: usize, by: usize)
 /// Moves the flags of a region's rows up by `n` rows, as the rows themselves; the region ends at the screen's last row at the latest.
 pub fn raise_flags(flags: &mut [bool], size: Size, region: Range<u16>, n: u16)
     requires { length flags.old ≡ size.width * size.height }
-    ensures { (c : Columns) → AreBehind size.width size.height flags.old c
-        → AreBehind size.width size.height flags.new
-        (raised region.start (min region.end size.height) n c) }
+    ensures { (c : Columns) → AreContinuations size.width size.height flags.old c
+        → AreContinuations size.width size.height flags.new
+        (rows_raised region.start (min region.end size.height) n c) }
 {
     let end = region.end.min(size.height);
     if region.start < end {
@@ -82,9 +82,9 @@ pub fn raise_flags(flags: &mut [bool], size: Size, region: Range<u16>, n: u16)
 /// Moves the flags of a region's rows down by `n` rows, as the rows themselves; the region ends at the screen's last row at the latest.
 pub fn lower_flags(flags: &mut [bool], size: Size, region: Range<u16>, n: u16)
     requires { length flags.old ≡ size.width * size.height }
-    ensures { (c : Columns) → AreBehind size.width size.height flags.old c
-        → AreBehind size.width size.height flags.new
-        (lowered region.start (min region.end size.height) n c) }
+    ensures { (c : Columns) → AreContinuations size.width size.height flags.old c
+        → AreContinuations size.width size.height flags.new
+        (rows_lowered region.start (min region.end size.height) n c) }
 {
     let end = region.end.min(size.height);
     if region.start < end {
@@ -97,48 +97,49 @@ pub fn lower_flags(flags: &mut [bool], size: Size, region: Range<u16>, n: u16)
 
 /// Clears all flags of a screen.
 pub fn clear_flags(flags: &mut [bool])
-    ensures { (w h : ℕ) (c : Columns) → AreBehind w h flags.old c
-        → AreBehind w h flags.new (emptied h c) }
+    ensures { (w h : ℕ) (c : Columns) → AreContinuations w h flags.old c
+        → AreContinuations w h flags.new (rows_emptied h c) }
 {
     let count = flags.len();
     clear(flags, 0, count);
 }
 
 // The places of the flags of a part's columns.
-fn part_places(size: Size, part: Part, x: u16, y: u16) -> (usize, usize)
+fn part_places(size: Size, part: ClearType, x: u16, y: u16) -> (usize, usize)
     requires column { x < size.width }
     requires row { y < size.height }
     ensures order { result.0 ≤ result.1 }
     ensures end { result.1 ≤ size.width * size.height }
     ensures places { (a b : ℕ) → a < size.width → b < size.height
         → (nat_le result.0 (b * size.width + a) && nat_lt (b * size.width + a) result.1)
-        ≡ part_at part x y a b }
+        ≡ is_cleared part x y a b }
 {
     let width = usize::from(size.width);
     let line = usize::from(y) * width;
     let at = line + usize::from(x);
     match part {
-        Part::After => (at, width * usize::from(size.height)),
-        Part::Before => (0, at + 1),
-        Part::Line => (line, line + width),
-        Part::LineEnd => (at, line + width),
+        ClearType::All => (0, width * usize::from(size.height)),
+        ClearType::AfterCursor => (at, width * usize::from(size.height)),
+        ClearType::BeforeCursor => (0, at + 1),
+        ClearType::CurrentLine => (line, line + width),
+        ClearType::UntilNewLine => (at, line + width),
     }
 }
 
 /// Clears the flags of a part of the screen, for a cursor in this column and row.
-pub fn clear_part_flags(flags: &mut [bool], size: Size, part: Part, x: u16, y: u16)
+pub fn clear_part_flags(flags: &mut [bool], size: Size, part: ClearType, x: u16, y: u16)
     requires count { length flags.old ≡ size.width * size.height }
     requires column { x < size.width }
     requires row { y < size.height }
-    ensures { (c : Columns) → AreBehind size.width size.height flags.old c
-        → AreBehind size.width size.height flags.new (part_emptied part x y c) }
+    ensures { (c : Columns) → AreContinuations size.width size.height flags.old c
+        → AreContinuations size.width size.height flags.new (columns_cleared part x y c) }
 {
     let (from, to) = part_places(size, part, x, y);
     clear(flags, from, to);
 }
 
-/// Whether the column in this place lies behind the first one of its symbol.
-pub fn is_flagged(flags: &[bool], size: Size, x: u16, y: u16) -> bool
+/// Whether the column in this place is a continuation column.
+pub fn is_continuation(flags: &[bool], size: Size, x: u16, y: u16) -> bool
     requires count { length flags.now ≡ size.width * size.height }
     requires column { x < size.width }
     requires row { y < size.height }
@@ -154,11 +155,11 @@ pub fn symbol_end(flags: &[bool], size: Size, x: u16, y: u16) -> u16
     requires row { y < size.height }
     ensures from { x ≤ result }
     ensures column { result < size.width }
-    ensures behind { (k : ℕ) → x < k → k ≤ result → flag flags.now (y * size.width + k) ≡ true }
-    ensures ended { is_cut Before size.width result y flags.now ≡ false }
+    ensures continuations { (k : ℕ) → x < k → k ≤ result → flag flags.now (y * size.width + k) ≡ true }
+    ensures ended { is_cut BeforeCursor size.width result y flags.now ≡ false }
 {
     let mut end = x;
-    while end + 1 < size.width && is_flagged(flags, size, end + 1, y) {
+    while end + 1 < size.width && is_continuation(flags, size, end + 1, y) {
         end += 1;
     }
     end

@@ -1,20 +1,19 @@
 //! Cells in their places, as a backend draws them.
 
-ghost use Rattle.std.specs.Prelude.{◌≡◌, ℕ, ◌+◌, ◌-◌, ◌*◌, ◌^◌, ◌<◌, ◌≤◌, ◌&&◌, min, nat_lt, nat_le, if◌then◌else◌, true, false, IsTrue, ◌↔◌, IfOk, IfErr, IfSome, OnOk, OnErr, List, [], ◌∷◌, map, length, slice_index_or, string_bytes, MatchOption, ◌==◌};
+ghost use Rattle.std.specs.Prelude.{◌≡◌, ℕ, ◌+◌, ◌-◌, ◌*◌, ◌^◌, ◌<◌, ◌≤◌, ◌&&◌, min, nat_lt, nat_le, if◌then◌else◌, true, false, IsTrue, ◌↔◌, IfOk, IfErr, IfSome, OnOk, OnErr, List, [], ◌∷◌, map, length, slice_index_or, string_bytes, MatchOption, ◌==◌, IsUtf8};
 ghost use Rattle.std.specs.List.{list_all};
 ghost use Rattle.std.specs.Iterator.{IsFinite, Drains};
 ghost use Rattle.ratatui_core.specs.Buffer.{blank, symbol_text, text_width, width_of, update_by, Cell};
-ghost use Rattle.ratatui_ansi.specs.declared.drawing.Printing.TheVariants.{Whole};
-ghost use Rattle.ratatui_ansi.specs.declared.frame.Glyph.TheVariants.{Plain};
-ghost use Rattle.ratatui_ansi.specs.Pen.{own_pen, pen_of};
-ghost use Rattle.ratatui_ansi.specs.Parameters.{is_sendable_by};
-ghost use Rattle.ratatui_ansi.specs.Drawing.{printing_of, columns_of, blanked, Changes, Paints, Prints};
-ghost use Rattle.ratatui_ansi.specs.Frame.{glyph_columns, is_fit, is_sendable_on, IsPrintedAs, IsGlyph, IsLone, IsVacant, IsUnsendablePen, IsRefused, Covers, SendsUpdates, SendsDraw};
+ghost use Rattle.ansi_model.specs.declared.glyph.Glyph.TheVariants.{Plain};
+ghost use Rattle.ansi_model.specs.Sgr.{default_sgr, sgr_of};
+ghost use Rattle.ansi_model.specs.Parameters.{is_sendable_by};
+ghost use Rattle.ansi_model.specs.Symbols.{printed_columns, glyph_columns, IsGlyphOf};
+ghost use Rattle.ratatui_ansi.specs.Drawing.{blanked, ChangesSgr, Paints, Prints};
+ghost use Rattle.ratatui_ansi.specs.Frame.{is_fit, is_sendable_on, IsGlyph, IsVacant, IsUnsendableSgr, RefusesUpdate, Covers, SendsUpdates, SendsDraw};
 ghost use Rattle.ratatui_ansi.specs.Refusals.{has_place, StopsWithin, StopsDraw};
 
-use crate::drawing::{Brush, Printing, change_pen, printing_of, put_plain, put_symbol, set_pen};
-use crate::pen::Pen;
-use crate::symbol::{columns_of_char, is_plain, is_shown, only_char, only_printable};
+use crate::drawing::{Brush, change_sgr, put_plain, put_symbol, set_sgr};
+use ansi_model::{Glyph, Sgr, glyph_of, only_printable};
 use ratatui_core::backend::AsCell;
 use ratatui_core::buffer::{Cell, CellDiffOption, CellWidth};
 use ratatui_core::layout::Position;
@@ -37,8 +36,8 @@ pub enum Refusal {
     Memory,
     /// The symbol in this place isn't printed as one, or not in the columns that its cell takes, or not within its row.
     Symbol(Position),
-    /// The pen in this place can't be sent.
-    Pen(Position),
+    /// The rendition in this place can't be sent.
+    Style(Position),
     /// The cell would cut the symbol that covers this place, of which the first column stays.
     Cut(Position),
 }
@@ -54,105 +53,40 @@ impl From<AllocError> for Refusal {
     }
 }
 
-// A cell's symbol, as it is printed.
-#[derive(Debug, Clone, Copy, PartialEq, Eq)]
-enum Glyph {
-    // As this plain character, in one column.
-    Plain(char),
-    // As a symbol that isn't plain, in so many columns.
-    Whole(u16),
-}
-
-impl Glyph {
-    fn columns(self) -> u16
-        ensures { result ≡ glyph_columns self }
-    {
-        match self {
-            Glyph::Plain(_) => 1,
-            Glyph::Whole(columns) => columns,
-        }
-    }
-}
-
-// In how many columns a cell's symbol, which isn't plain, is printed; the cell takes `columns`.
-fn printed_columns(cell: &Cell, columns: u16) -> u16
-    requires whole { printing_of (symbol_text cell.now.symbol) ≡ Whole }
-    requires columns { columns ≡ width_of cell.now }
-    ensures { result ≡ columns_of (symbol_text cell.now.symbol) }
+// Whether a cell takes just the columns in which its symbol is printed.
+fn takes(cell: &Cell, columns: u16) -> bool
+    requires columns { columns ≡ printed_columns (symbol_text cell.now.symbol) }
+    requires utf8 { IsUtf8 (symbol_text cell.now.symbol) }
+    ensures { result ≡ (columns == width_of cell.now) }
 {
     match cell.diff_option {
-        CellDiffOption::ForcedWidth(_) => cell.symbol().cell_width(),
-        CellDiffOption::None | CellDiffOption::Skip | CellDiffOption::AlwaysUpdate => columns,
+        CellDiffOption::ForcedWidth(_) => columns == cell.cell_width(),
+        CellDiffOption::None | CellDiffOption::Skip | CellDiffOption::AlwaysUpdate => true,
     }
 }
 
-// Whether a symbol that is printed in so many columns takes just these, and they are some and fit into a room.
-fn fits(room: u16, columns: u16, printed: u16) -> bool
-    ensures { result ≡ ((printed == columns) && nat_lt 0 columns && nat_le columns room) }
-{
-    printed == columns && 0 < columns && columns <= room
-}
-
-// A cell's symbol, where the cell takes the columns of its text.
-fn unforced_symbol(cell: &Cell) -> Option<&str>
-    ensures { IfSome result (λ text. (text.now ≡ symbol_text cell.now.symbol)
-        × (width_of cell.now ≡ text_width text.now)) }
+// The printable ASCII character that is all of a cell's symbol, if the cell's width isn't forced.
+fn printable_of(cell: &Cell) -> Option<char>
+    ensures { IfSome result (λ c. (room : ℕ) → 0 < room → IsGlyph room cell.now (Plain c)) }
 {
     match cell.diff_option {
         CellDiffOption::ForcedWidth(_) => None,
         CellDiffOption::None | CellDiffOption::Skip | CellDiffOption::AlwaysUpdate => {
-            Some(cell.symbol())
+            only_printable(cell.symbol())
         }
     }
 }
 
-// The printable ASCII character that is all of a cell's symbol, where the cell's width isn't forced.
-fn printable_of(cell: &Cell) -> Option<char>
-    ensures { IfSome result (λ c. (room : ℕ) → 0 < room → IsGlyph room cell.now (Plain c)) }
-{
-    only_printable(unforced_symbol(cell)?)
-}
-
-// The character above U+00A0 that is all of a cell's symbol, where the cell's width isn't forced.
-fn lone_of(cell: &Cell) -> Option<char>
-    ensures { IfSome result (IsLone cell.now) }
-{
-    match only_char(unforced_symbol(cell)?) {
-        Some(c) if c > '\u{a0}' => Some(c),
-        _ => None,
-    }
-}
-
-// Such a character, as it is printed in some columns: none where it isn't, or takes more than there are.
-fn lone_glyph(room: u16, c: char) -> Option<Glyph>
-    requires room { 0 < room }
-    requires above { 0xA0 < c }
-    ensures { (cell : Cell) → IsLone cell c
-        → MatchOption result (is_fit room cell ≡ false) (IsGlyph room cell) }
-{
-    if is_plain(c) {
-        return Some(Glyph::Plain(c));
-    }
-    let columns = columns_of_char(c);
-    (is_shown(c) && 0 < columns && columns <= room).then_some(Glyph::Whole(columns))
-}
-
-// A cell's symbol, as it is printed in some columns: none where it isn't, where the cell takes others, or more than there are.
+// A cell's symbol, as it is printed in some columns: none if it isn't, if the cell takes others, or more than there are.
 fn glyph_in(room: u16, cell: &Cell) -> Option<Glyph>
-    requires { 0 < room }
     ensures { MatchOption result (is_fit room cell.now ≡ false) (IsGlyph room cell.now) }
 {
-    if let Some(c) = lone_of(cell) {
-        return lone_glyph(room, c);
+    let glyph = glyph_of(cell.symbol())?;
+    let columns = glyph.columns();
+    if columns == 0 || room < columns || !takes(cell, columns) {
+        return None;
     }
-    let columns = cell.cell_width();
-    match printing_of(cell.symbol()) {
-        Printing::Plain(c) => (columns == 1).then_some(Glyph::Plain(c)),
-        Printing::Whole => {
-            fits(room, columns, printed_columns(cell, columns)).then_some(Glyph::Whole(columns))
-        }
-        Printing::Unprinted => None,
-    }
+    Some(glyph)
 }
 
 // Whether a text is one blank.
@@ -167,21 +101,21 @@ fn is_blank(symbol: &str) -> bool
 fn is_vacant(cell: &Cell) -> bool
     ensures { IsTrue result ↔ IsVacant cell.now }
 {
-    is_blank(cell.symbol()) && Pen::OWN.is_of(cell) && cell.cell_width() == 1
+    is_blank(cell.symbol()) && Sgr::DEFAULT.is_of(cell) && cell.cell_width() == 1
 }
 
 // The first column from `from` on whose flag isn't set, or the row's end. The row begins at `start`.
-fn tail_end(behind: &[bool], start: usize, from: u16, width: u16) -> u16
-    requires row { start + width ≤ length behind.now }
+fn tail_end(continuations: &[bool], start: usize, from: u16, width: u16) -> u16
+    requires row { start + width ≤ length continuations.now }
     requires fits { from ≤ width }
     ensures low { from ≤ result }
     ensures high { result ≤ width }
-    ensures behind { (k : ℕ) → from ≤ k → k < result
-        → slice_index_or behind.now (start + k) false ≡ true }
-    ensures ended { result < width → slice_index_or behind.now (start + result) false ≡ false }
+    ensures continuations { (k : ℕ) → from ≤ k → k < result
+        → slice_index_or continuations.now (start + k) false ≡ true }
+    ensures ended { result < width → slice_index_or continuations.now (start + result) false ≡ false }
 {
     for column in from..width {
-        if !behind[start + usize::from(column)] {
+        if !continuations[start + usize::from(column)] {
             return column;
         }
     }
@@ -200,35 +134,35 @@ fn put_blanks(
     requires { x < end }
     ensures paints { OnOk result ((w h : ℕ) → end ≤ w → y < h → Paints w h (string_bytes out.old)
         brush.old (blanked x y (end - x)) (string_bytes out.new) brush.new) }
-    ensures pen { OnOk result (brush.new.pen ≡ own_pen) }
+    ensures sgr { OnOk result (brush.new.sgr ≡ default_sgr) }
 {
-    change_pen(out, brush, &Pen::OWN)?;
+    change_sgr(out, brush, &Sgr::DEFAULT)?;
     for column in x..end {
         put_plain(out, brush, column, y, ' ')?;
     }
     Ok(())
 }
 
-// Sets the flags of a symbol's columns, from the place `first` up to `behind_it`, and unsets those from there up to `end`.
+// Sets the flags of a symbol's columns, from the place `first` up to `after_it`, and unsets those from there up to `end`.
 #[inline(never)]
-fn mark(behind: &mut [bool], first: usize, behind_it: usize, end: usize)
+fn mark(continuations: &mut [bool], first: usize, past_it: usize, end: usize)
     requires ordered { first ≤ end }
-    requires row { end ≤ length behind.old }
-    ensures { (k : ℕ) → slice_index_or behind.new k false
-        ≡ if nat_le first k && nat_lt k end then nat_lt first k && nat_lt k behind_it
-        else slice_index_or behind.old k false }
+    requires row { end ≤ length continuations.old }
+    ensures { (k : ℕ) → slice_index_or continuations.new k false
+        ≡ if nat_le first k && nat_lt k end then nat_lt first k && nat_lt k past_it
+        else slice_index_or continuations.old k false }
 {
     for place in first..end {
-        behind[place] = first < place && place < behind_it;
+        continuations[place] = first < place && place < past_it;
     }
 }
 
 // Sets the flags of a symbol of so many columns, and empties what is left of another one of which it covers the first part.
-// Answers the column behind all these.
+// Answers the column after all these.
 #[inline(always)]
 fn cover(
     out: &mut String,
-    behind: &mut [bool],
+    continuations: &mut [bool],
     width: u16,
     brush: &mut Brush,
     x: u16,
@@ -237,29 +171,29 @@ fn cover(
 ) -> Result<u16, AllocError>
     requires some { 0 < columns }
     requires fits { x + columns ≤ width }
-    requires row { y * width + width ≤ length behind.old }
-    requires uncut { slice_index_or behind.old (y * width + x) false ≡ false }
-    ensures { IfOk result (λ end. Covers width x y columns (string_bytes out.old) behind.old
-        brush.old end (string_bytes out.new) behind.new brush.new) }
+    requires row { y * width + width ≤ length continuations.old }
+    requires uncut { slice_index_or continuations.old (y * width + x) false ≡ false }
+    ensures { IfOk result (λ end. Covers width x y columns (string_bytes out.old) continuations.old
+        brush.old end (string_bytes out.new) continuations.new brush.new) }
 {
     let start = usize::from(y) * usize::from(width);
-    let behind_it = x + columns;
-    let end = tail_end(behind, start, behind_it, width);
+    let past_it = x + columns;
+    let end = tail_end(continuations, start, past_it, width);
     if x + 1 < end {
-        if behind_it < end {
-            put_blanks(out, brush, behind_it, y, end)?;
+        if past_it < end {
+            put_blanks(out, brush, past_it, y, end)?;
         }
         mark(
-            behind,
+            continuations,
             start + usize::from(x),
-            start + usize::from(behind_it),
+            start + usize::from(past_it),
             start + usize::from(end),
         );
     }
     Ok(end)
 }
 
-// Prints a cell's symbol in a column and a row of a screen, in the brush's pen.
+// Prints a cell's symbol in a column and a row of a screen, in the brush's rendition.
 #[inline(always)]
 fn put(
     out: &mut String,
@@ -270,10 +204,10 @@ fn put(
     glyph: Glyph,
 ) -> Result<(), AllocError>
     requires column { x < 65535 }
-    requires glyph { IsPrintedAs (symbol_text cell.now.symbol) glyph }
+    requires glyph { IsGlyphOf (symbol_text cell.now.symbol) glyph }
     ensures prints { OnOk result ((w h : ℕ) → x < w → y < h → Prints w h (string_bytes out.old)
-        brush.old x y brush.old.pen (symbol_text cell.now.symbol) (string_bytes out.new) brush.new) }
-    ensures pen { OnOk result (brush.new.pen ≡ brush.old.pen) }
+        brush.old x y brush.old.sgr (symbol_text cell.now.symbol) (string_bytes out.new) brush.new) }
+    ensures sgr { OnOk result (brush.new.sgr ≡ brush.old.sgr) }
 {
     match glyph {
         Glyph::Plain(c) => put_plain(out, brush, x, y, c),
@@ -281,56 +215,56 @@ fn put(
     }
 }
 
-// Sets the pen of the cell in a place; apart, so that the path of a cell in the brush's pen stays short.
+// Sets the rendition of the cell in a place; apart, so that the path of a cell in the brush's rendition stays short.
 #[inline(never)]
-fn set_pen_of(
+fn set_sgr_of(
     out: &mut String,
     brush: &mut Brush,
     has_underline_colors: bool,
     place: Position,
     cell: &Cell,
 ) -> Result<(), Refusal>
-    ensures changes { OnOk result (Changes brush.old.pen (pen_of cell.now) (string_bytes out.old)
+    ensures changes { OnOk result (ChangesSgr brush.old.sgr (sgr_of cell.now) (string_bytes out.old)
         (string_bytes out.new)) }
-    ensures pen { OnOk result (brush.new ≡ record brush.old { pen = pen_of cell.now }) }
-    ensures sent { OnOk result (is_sendable_by has_underline_colors (pen_of cell.now) ≡ true) }
-    ensures refused { IfErr result (IsUnsendablePen has_underline_colors place (pen_of cell.now)) }
+    ensures sgr { OnOk result (brush.new ≡ record brush.old { sgr = sgr_of cell.now }) }
+    ensures sent { OnOk result (is_sendable_by has_underline_colors (sgr_of cell.now) ≡ true) }
+    ensures refused { IfErr result (IsUnsendableSgr has_underline_colors place (sgr_of cell.now)) }
 {
-    let pen = Pen::of(cell);
-    if !pen.is_sendable_by(has_underline_colors) {
-        return Err(Refusal::Pen(place));
+    let sgr = Sgr::of(cell);
+    if !sgr.is_sendable_by(has_underline_colors) {
+        return Err(Refusal::Style(place));
     }
-    set_pen(out, brush, &pen)?;
+    set_sgr(out, brush, &sgr)?;
     Ok(())
 }
 
-// Sets the pen of the cell in a place, where the brush has another.
+// Sets the rendition of the cell in a place, where the brush has another.
 #[inline(always)]
-fn take_pen(
+fn take_sgr(
     out: &mut String,
     brush: &mut Brush,
     has_underline_colors: bool,
     place: Position,
     cell: &Cell,
 ) -> Result<(), Refusal>
-    requires { is_sendable_by has_underline_colors brush.old.pen ≡ true }
-    ensures changes { OnOk result (Changes brush.old.pen (pen_of cell.now) (string_bytes out.old)
+    requires { is_sendable_by has_underline_colors brush.old.sgr ≡ true }
+    ensures changes { OnOk result (ChangesSgr brush.old.sgr (sgr_of cell.now) (string_bytes out.old)
         (string_bytes out.new)) }
-    ensures pen { OnOk result (brush.new ≡ record brush.old { pen = pen_of cell.now }) }
-    ensures sent { OnOk result (is_sendable_by has_underline_colors (pen_of cell.now) ≡ true) }
-    ensures refused { IfErr result (IsUnsendablePen has_underline_colors place (pen_of cell.now)) }
+    ensures sgr { OnOk result (brush.new ≡ record brush.old { sgr = sgr_of cell.now }) }
+    ensures sent { OnOk result (is_sendable_by has_underline_colors (sgr_of cell.now) ≡ true) }
+    ensures refused { IfErr result (IsUnsendableSgr has_underline_colors place (sgr_of cell.now)) }
 {
-    if brush.pen.is_of(cell) {
+    if brush.sgr.is_of(cell) {
         return Ok(());
     }
-    set_pen_of(out, brush, has_underline_colors, place, cell)
+    set_sgr_of(out, brush, has_underline_colors, place, cell)
 }
 
 // Draws a cell in a place of a screen of so many columns, where no symbol covers it from the left; it was counted before.
 #[inline(always)]
 fn draw_glyph(
     out: &mut String,
-    behind: &mut [bool],
+    continuations: &mut [bool],
     width: u16,
     has_underline_colors: bool,
     drawing: &mut Drawing,
@@ -339,24 +273,24 @@ fn draw_glyph(
     glyph: Glyph,
 ) -> Result<(), Refusal>
     requires column { place.x < width }
-    requires row { place.y * width + width ≤ length behind.old }
-    requires uncut { slice_index_or behind.old (place.y * width + place.x) false ≡ false }
+    requires row { place.y * width + width ≤ length continuations.old }
+    requires uncut { slice_index_or continuations.old (place.y * width + place.x) false ≡ false }
     requires glyph { IsGlyph (width - place.x) cell.now glyph }
-    requires pen { is_sendable_by has_underline_colors drawing.old.brush.pen ≡ true }
+    requires sgr { is_sendable_by has_underline_colors drawing.old.brush.sgr ≡ true }
     ensures drawn { OnOk result ((h n : ℕ) → place.y < h
         → drawing.old.written ≡ min (n + 1) (2 ^ 64 - 1)
         → SendsUpdates width h (string_bytes out.old) (record drawing.old { written = n })
-        behind.old (record { x = place.x; y = place.y; cell = cell.now } ∷ [])
-        (string_bytes out.new) drawing.new behind.new) }
-    ensures sent { OnOk result (is_sendable_by has_underline_colors (pen_of cell.now) ≡ true) }
-    ensures pen { OnOk result (is_sendable_by has_underline_colors drawing.new.brush.pen ≡ true) }
-    ensures refused { IfErr result (IsUnsendablePen has_underline_colors place (pen_of cell.now)) }
+        continuations.old (record { x = place.x; y = place.y; cell = cell.now } ∷ [])
+        (string_bytes out.new) drawing.new continuations.new) }
+    ensures sent { OnOk result (is_sendable_by has_underline_colors (sgr_of cell.now) ≡ true) }
+    ensures sgr { OnOk result (is_sendable_by has_underline_colors drawing.new.brush.sgr ≡ true) }
+    ensures refused { IfErr result (IsUnsendableSgr has_underline_colors place (sgr_of cell.now)) }
 {
     let Position { x, y } = place;
     let brush = &mut drawing.brush;
-    take_pen(out, brush, has_underline_colors, place, cell)?;
+    take_sgr(out, brush, has_underline_colors, place, cell)?;
     put(out, brush, x, y, cell, glyph)?;
-    let end = cover(out, behind, width, brush, x, y, glyph.columns())?;
+    let end = cover(out, continuations, width, brush, x, y, glyph.columns())?;
     drawing.cursor = Position {
         x: end.min(width - 1),
         y,
@@ -364,14 +298,14 @@ fn draw_glyph(
     Ok(())
 }
 
-/// Draws a cell in a column and a row of a screen of so many columns and rows, and counts it. `behind` has a flag for each column,
-/// row by row: whether it lies behind the first one of its symbol. Off the screen nothing is sent, and neither is a vacant cell
-/// behind the first column of a symbol, where it would tear the symbol. Refused with its place is a cell whose symbol terminals
-/// don't print as one in just the cell's columns, or not within its row; one whose pen can't be sent; and one that would cut a
+/// Draws a cell in a column and a row of a screen of so many columns and rows, and counts it. `after` has a flag for each column,
+/// row by row: whether it is a continuation column. Off the screen nothing is sent, and neither is a vacant cell
+/// after the first column of a symbol, where it would tear the symbol. Refused with its place is a cell whose symbol terminals
+/// don't print as one in just the cell's columns, or not within its row; one whose rendition can't be sent; and one that would cut a
 /// symbol of which the first column stays.
 pub fn draw_cell(
     out: &mut String,
-    behind: &mut [bool],
+    continuations: &mut [bool],
     width: u16,
     height: u16,
     has_underline_colors: bool,
@@ -380,15 +314,15 @@ pub fn draw_cell(
     y: u16,
     cell: &Cell,
 ) -> Result<(), Refusal>
-    requires flags { length behind.old ≡ width * height }
-    requires pen { is_sendable_by has_underline_colors drawing.old.brush.pen ≡ true }
+    requires flags { length continuations.old ≡ width * height }
+    requires sgr { is_sendable_by has_underline_colors drawing.old.brush.sgr ≡ true }
     ensures drawn { OnOk result (SendsUpdates width height (string_bytes out.old)
-        drawing.old behind.old (record { x = x; y = y; cell = cell.now } ∷ [])
-        (string_bytes out.new) drawing.new behind.new) }
+        drawing.old continuations.old (record { x = x; y = y; cell = cell.now } ∷ [])
+        (string_bytes out.new) drawing.new continuations.new) }
     ensures sent { OnOk result (is_sendable_on width height has_underline_colors
         (record { x = x; y = y; cell = cell.now }) ≡ true) }
-    ensures pen { OnOk result (is_sendable_by has_underline_colors drawing.new.brush.pen ≡ true) }
-    ensures refused { IfErr result (IsRefused width height has_underline_colors behind.old
+    ensures sgr { OnOk result (is_sendable_by has_underline_colors drawing.new.brush.sgr ≡ true) }
+    ensures refused { IfErr result (RefusesUpdate width height has_underline_colors continuations.old
         (record { x = x; y = y; cell = cell.now })) }
 {
     drawing.written = drawing.written.saturating_add(1);
@@ -396,7 +330,7 @@ pub fn draw_cell(
         return Ok(());
     }
     let place = Position { x, y };
-    if behind[usize::from(y) * usize::from(width) + usize::from(x)] {
+    if continuations[usize::from(y) * usize::from(width) + usize::from(x)] {
         if is_vacant(cell) {
             return Ok(());
         }
@@ -407,7 +341,7 @@ pub fn draw_cell(
         let glyph = Glyph::Plain(c);
         return draw_glyph(
             out,
-            behind,
+            continuations,
             width,
             has_underline_colors,
             drawing,
@@ -421,7 +355,7 @@ pub fn draw_cell(
     };
     draw_glyph(
         out,
-        behind,
+        continuations,
         width,
         has_underline_colors,
         drawing,
@@ -434,30 +368,30 @@ pub fn draw_cell(
 // Draws cells in order.
 fn draw_all<C: AsCell, I: Iterator<Item = (u16, u16, C)>>(
     out: &mut String,
-    behind: &mut [bool],
+    continuations: &mut [bool],
     width: u16,
     height: u16,
     has_underline_colors: bool,
     drawing: &mut Drawing,
     content: I,
 ) -> Result<(), Refusal>
-    requires flags { length behind.old ≡ width * height }
-    requires pen { is_sendable_by has_underline_colors drawing.old.brush.pen ≡ true }
+    requires flags { length continuations.old ≡ width * height }
+    requires sgr { is_sendable_by has_underline_colors drawing.old.brush.sgr ≡ true }
     requires can { I.can_next content }
     requires finite { IsFinite (I.remaining content) }
     ensures drawn { OnOk result ((items : List (ℕ × ℕ × C))
         × Drains I.next_gives content items
-        × SendsUpdates width height (string_bytes out.old) drawing.old behind.old
-        (map (update_by C.cell) items) (string_bytes out.new) drawing.new behind.new
+        × SendsUpdates width height (string_bytes out.old) drawing.old continuations.old
+        (map (update_by C.cell) items) (string_bytes out.new) drawing.new continuations.new
         × (list_all (is_sendable_on width height has_underline_colors)
         (map (update_by C.cell) items) ≡ true)) }
     ensures refused { IfErr result (StopsWithin I.next_gives content (update_by C.cell)
-        width height has_underline_colors (string_bytes out.old) drawing.old behind.old) }
+        width height has_underline_colors (string_bytes out.old) drawing.old continuations.old) }
 {
     for (x, y, cell) in content {
         draw_cell(
             out,
-            behind,
+            continuations,
             width,
             height,
             has_underline_colors,
@@ -470,12 +404,12 @@ fn draw_all<C: AsCell, I: Iterator<Item = (u16, u16, C)>>(
     Ok(())
 }
 
-/// Draws cells in order on a screen of so many columns and rows, with the cursor there and so many items drawn before; `behind` is
+/// Draws cells in order on a screen of so many columns and rows, with the cursor there and so many items drawn before; `after` is
 /// as in `draw_cell`. The terminal awaits text and is ready, and is so again. Answers where the cursor is then, and how many
 /// items were drawn, as far as the count goes; if ambiguous characters may be wide, each but ASCII is followed by a move; after a refusal what was appended and the flags are to be dropped.
 pub fn draw_cells<C: AsCell, I: Iterator<Item = (u16, u16, C)>>(
     out: &mut String,
-    behind: &mut [bool],
+    continuations: &mut [bool],
     width: u16,
     height: u16,
     has_underline_colors: bool,
@@ -484,21 +418,21 @@ pub fn draw_cells<C: AsCell, I: Iterator<Item = (u16, u16, C)>>(
     written: u64,
     content: I,
 ) -> Result<(Position, u64), Refusal>
-    requires flags { length behind.old ≡ width * height }
+    requires flags { length continuations.old ≡ width * height }
     requires can { I.can_next content }
     requires finite { IsFinite (I.remaining content) }
     ensures drawn { IfOk result (λ after. (items : List (ℕ × ℕ × C))
         × Drains I.next_gives content items
-        × SendsDraw width height (string_bytes out.old) cursor written behind.old
-        (map (update_by C.cell) items) (string_bytes out.new) after.0 after.1 behind.new
+        × SendsDraw width height (string_bytes out.old) cursor written continuations.old
+        (map (update_by C.cell) items) (string_bytes out.new) after.0 after.1 continuations.new
         × (list_all (is_sendable_on width height has_underline_colors)
         (map (update_by C.cell) items) ≡ true)) }
     ensures refused { IfErr result (λ refusal. IsTrue (has_place refusal)
         → StopsDraw I.next_gives content (update_by C.cell) width height has_underline_colors cursor
-        written behind.old refusal) }
+        written continuations.old refusal) }
 {
     let brush = Brush {
-        pen: Pen::OWN,
+        sgr: Sgr::DEFAULT,
         is_placed: false,
         x: 0,
         y: 0,
@@ -511,13 +445,13 @@ pub fn draw_cells<C: AsCell, I: Iterator<Item = (u16, u16, C)>>(
     };
     draw_all(
         out,
-        behind,
+        continuations,
         width,
         height,
         has_underline_colors,
         &mut drawing,
         content,
     )?;
-    change_pen(out, &mut drawing.brush, &Pen::OWN)?;
+    change_sgr(out, &mut drawing.brush, &Sgr::DEFAULT)?;
     Ok((drawing.cursor, drawing.written))
 }

@@ -1,8 +1,9 @@
 //! Random plays of a backend, read by a terminal, beside a screen in memory.
 use crate::reader::Reader;
 use crate::sequences::{Kept, over_kept, sent};
+use ansi_model::is_symbol;
 use bitflags::Flags;
-use ratatui_ansi::{AnsiError, is_symbol};
+use ratatui_ansi::AnsiError;
 use rtui_backend::{Backend, ClearType, TestBackend};
 use rtui_cell::{Cell, CellWidth};
 use rtui_geometry::Position;
@@ -261,7 +262,7 @@ fn is_reason(
     match error {
         AnsiError::Cut(at) => at == place && is_behind,
         AnsiError::Symbol(at) => at == place && !is_behind && (!is_one || room < columns),
-        AnsiError::Pen(at) => {
+        AnsiError::Style(at) => {
             let is_colored = cell.underline_color != Color::Reset;
             let is_sent = cell.modifier.bits() < 512 && (has_underline_colors || !is_colored);
             at == place && !is_behind && is_one && columns <= room && !is_sent
@@ -310,7 +311,7 @@ fn plays_are_shown(rt: HostRuntime) -> Result<(), Fail> {
     Ok(())
 }
 
-// What another program leaves: rows that scrolled off, a symbol over halves of others, a pen, margins, and a hidden cursor.
+// What another program leaves: rows that scrolled off, a symbol over halves of others, a rendition, margins, and a hidden cursor.
 pub(crate) const LEFT: &str =
     "ab\n\n\n\n\r\u{1b}[1;1Hコココ\u{1b}[1;2Hコ\u{1b}[?25l\u{1b}[0;1;31m\u{1b}[2;3r";
 

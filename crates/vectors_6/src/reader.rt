@@ -1,7 +1,7 @@
 //! A terminal that reads what a writer was sent: the model, computed.
+use ansi_model::{Sgr, is_plain, is_symbol};
 use bitflags::Flags;
-use ratatui_ansi::{Part, Pen, is_plain, is_symbol};
-use rtui_backend::TestBackend;
+use rtui_backend::{ClearType, TestBackend};
 use rtui_cell::{Cell, CellWidth};
 use rtui_geometry::Position;
 use rtui_style::{Color, Modifier};
@@ -11,14 +11,14 @@ use std::alloc::{AllocError, Global};
 #[derive(Clone, Copy)]
 struct Column<'a> {
     symbol: &'a str,
-    pen: Pen,
+    sgr: Sgr,
     index: u16,
     count: u16,
 }
 
 const BLANK: Column<'static> = Column {
     symbol: " ",
-    pen: Pen::OWN,
+    sgr: Sgr::DEFAULT,
     index: 0,
     count: 1,
 };
@@ -27,17 +27,18 @@ const BLANK: Column<'static> = Column {
 #[derive(Clone, Copy)]
 enum Area {
     Run(Position, u16),
-    Part(Part, Position),
+    Part(ClearType, Position),
 }
 
 impl Area {
     fn has(self, a: u16, b: u16) -> bool {
         match self {
             Area::Run(from, count) => { b == from.y && from.x <= a && a - from.x < count }
-            Area::Part(Part::After, at) => at.y < b || (b == at.y && at.x <= a),
-            Area::Part(Part::Before, at) => b < at.y || (b == at.y && a <= at.x),
-            Area::Part(Part::Line, at) => b == at.y,
-            Area::Part(Part::LineEnd, at) => b == at.y && at.x <= a,
+            Area::Part(ClearType::All, _) => true,
+            Area::Part(ClearType::AfterCursor, at) => at.y < b || (b == at.y && at.x <= a),
+            Area::Part(ClearType::BeforeCursor, at) => b < at.y || (b == at.y && a <= at.x),
+            Area::Part(ClearType::CurrentLine, at) => b == at.y,
+            Area::Part(ClearType::UntilNewLine, at) => b == at.y && at.x <= a,
         }
     }
 
@@ -53,7 +54,7 @@ impl Area {
     }
 }
 
-// What the next parameter of a pen belongs to.
+// What the next parameter of a rendition belongs to.
 #[derive(Clone, Copy)]
 enum Awaits {
     Nothing,
@@ -90,35 +91,35 @@ fn named(number: u16) -> Color {
     }
 }
 
-fn colored(pen: Pen, target: u16, color: Color) -> Pen {
+fn colored(sgr: Sgr, target: u16, color: Color) -> Sgr {
     match target {
-        38 => Pen { fg: color, ..pen },
-        48 => Pen { bg: color, ..pen },
-        _ => Pen {
+        38 => Sgr { fg: color, ..sgr },
+        48 => Sgr { bg: color, ..sgr },
+        _ => Sgr {
             underline_color: color,
-            ..pen
+            ..sgr
         },
     }
 }
 
 const MODIFIERS: [u16; 9] = [1, 2, 4, 8, 16, 32, 64, 128, 256];
 
-// A pen after a parameter that stands for itself.
-fn inked(pen: Pen, number: u16) -> Pen {
+// A rendition after a parameter that stands for itself.
+fn inked(sgr: Sgr, number: u16) -> Sgr {
     match number {
-        0 => Pen::OWN,
+        0 => Sgr::DEFAULT,
         1..=9 => match MODIFIERS.get(usize::from(number) - 1) {
-            Some(bit) => Pen {
-                modifier: pen.modifier | Modifier::from_bits_retain(*bit),
-                ..pen
+            Some(bit) => Sgr {
+                modifier: sgr.modifier | Modifier::from_bits_retain(*bit),
+                ..sgr
             },
-            None => pen,
+            None => sgr,
         },
-        30..=37 => colored(pen, 38, named(number - 30)),
-        40..=47 => colored(pen, 48, named(number - 40)),
-        90..=97 => colored(pen, 38, named(number - 82)),
-        100..=107 => colored(pen, 48, named(number - 92)),
-        _ => pen,
+        30..=37 => colored(sgr, 38, named(number - 30)),
+        40..=47 => colored(sgr, 48, named(number - 40)),
+        90..=97 => colored(sgr, 38, named(number - 82)),
+        100..=107 => colored(sgr, 48, named(number - 92)),
+        _ => sgr,
     }
 }
 
@@ -137,9 +138,9 @@ fn is_known(awaits: Awaits, number: u16) -> bool {
     }
 }
 
-// A pen after the parameters of a whole sequence, and whether terminals take these alike.
-fn inked_by(pen: Pen, parameters: &str) -> (Pen, bool) {
-    let mut pen = pen;
+// A rendition after the parameters of a whole sequence, and whether terminals take these alike.
+fn inked_by(sgr: Sgr, parameters: &str) -> (Sgr, bool) {
+    let mut sgr = sgr;
     let mut awaits = Awaits::Nothing;
     let mut are_known = true;
     for parameter in parameters.split(';') {
@@ -148,24 +149,24 @@ fn inked_by(pen: Pen, parameters: &str) -> (Pen, bool) {
         awaits = match awaits {
             Awaits::Nothing if number == 38 || number == 48 || number == 58 => Awaits::Kind(number),
             Awaits::Nothing => {
-                pen = inked(pen, number);
+                sgr = inked(sgr, number);
                 Awaits::Nothing
             }
             Awaits::Kind(target) if number == 5 => Awaits::Number(target),
             Awaits::Kind(target) => Awaits::Red(target),
             Awaits::Number(target) => {
-                pen = colored(pen, target, Color::Indexed(byte(number)));
+                sgr = colored(sgr, target, Color::Indexed(byte(number)));
                 Awaits::Nothing
             }
             Awaits::Red(target) => Awaits::Green(target, byte(number)),
             Awaits::Green(target, red) => Awaits::Blue(target, red, byte(number)),
             Awaits::Blue(target, red, green) => {
-                pen = colored(pen, target, Color::Rgb(red, green, byte(number)));
+                sgr = colored(sgr, target, Color::Rgb(red, green, byte(number)));
                 Awaits::Nothing
             }
         };
     }
-    (pen, are_known && matches!(awaits, Awaits::Nothing))
+    (sgr, are_known && matches!(awaits, Awaits::Nothing))
 }
 
 // A terminal that was blank; `sure` until real terminals would differ.
@@ -173,7 +174,7 @@ fn inked_by(pen: Pen, parameters: &str) -> (Pen, bool) {
 pub struct Reader<'a> {
     width: u16,
     height: u16,
-    pen: Pen,
+    sgr: Sgr,
     x: u16,
     y: u16,
     top: u16,
@@ -200,7 +201,7 @@ impl<'a> Reader<'a> {
         let mut reader = Reader {
             width,
             height,
-            pen: Pen::OWN,
+            sgr: Sgr::DEFAULT,
             x: 0,
             y: 0,
             top: 0,
@@ -265,8 +266,8 @@ impl<'a> Reader<'a> {
 
     fn perform(&mut self, parameters: &str, last: char) {
         if last == 'm' {
-            let (pen, is_known) = inked_by(self.pen, parameters);
-            self.pen = pen;
+            let (sgr, is_known) = inked_by(self.sgr, parameters);
+            self.sgr = sgr;
             self.sure = self.sure && is_known;
             return;
         }
@@ -299,27 +300,27 @@ impl<'a> Reader<'a> {
 
     fn perform_one(&mut self, last: char, n: u16) {
         match (last, n) {
-            ('J', 0) => self.erase(Part::After),
-            ('J', 1) => self.erase(Part::Before),
-            ('K', 0) => self.erase(Part::LineEnd),
-            ('K', 2) => self.erase(Part::Line),
+            ('J', 0) => self.erase(ClearType::AfterCursor),
+            ('J', 1) => self.erase(ClearType::BeforeCursor),
+            ('K', 0) => self.erase(ClearType::UntilNewLine),
+            ('K', 2) => self.erase(ClearType::CurrentLine),
             ('r', 0) => self.set_region(0, self.height),
             ('M', _) => {
                 let is_row = 0 < self.y && self.top <= self.y && self.y < self.bottom;
-                self.sure = self.sure && self.has_own_pen() && is_row && self.x == 0 && 0 < n;
+                self.sure = self.sure && self.has_own_sgr() && is_row && self.x == 0 && 0 < n;
                 self.raise(self.y, self.bottom, n);
             }
             ('L', _) => {
                 let is_row = self.top <= self.y && self.y < self.bottom;
-                self.sure = self.sure && self.has_own_pen() && is_row && self.x == 0 && 0 < n;
+                self.sure = self.sure && self.has_own_sgr() && is_row && self.x == 0 && 0 < n;
                 self.lower(self.y, self.bottom, n);
             }
             _ => self.sure = false,
         }
     }
 
-    fn has_own_pen(&self) -> bool {
-        self.pen == Pen::OWN
+    fn has_own_sgr(&self) -> bool {
+        self.sgr == Sgr::DEFAULT
     }
 
     fn set_region(&mut self, top: u16, bottom: u16) {
@@ -348,22 +349,22 @@ impl<'a> Reader<'a> {
             x: self.x,
             y: self.y,
         };
-        self.overwrite(Area::Run(at, count), symbol, self.pen, count);
+        self.overwrite(Area::Run(at, count), symbol, self.sgr, count);
         self.x = self.x.saturating_add(count);
     }
 
-    fn erase(&mut self, part: Part) {
-        let is_kept = !matches!(part, Part::After) || 0 < self.x || 0 < self.y;
-        self.sure = self.sure && self.has_own_pen() && self.x < self.width && is_kept;
+    fn erase(&mut self, part: ClearType) {
+        let is_kept = !matches!(part, ClearType::AfterCursor) || 0 < self.x || 0 < self.y;
+        self.sure = self.sure && self.has_own_sgr() && self.x < self.width && is_kept;
         let at = Position {
             x: self.x,
             y: self.y,
         };
-        self.overwrite(Area::Part(part, at), " ", Pen::OWN, 1);
+        self.overwrite(Area::Part(part, at), " ", Sgr::DEFAULT, 1);
     }
 
     // Writes an area over: with one symbol of so many columns, or with symbols of one column each.
-    fn overwrite(&mut self, area: Area, symbol: &'a str, pen: Pen, count: u16) {
+    fn overwrite(&mut self, area: Area, symbol: &'a str, sgr: Sgr, count: u16) {
         let width = self.width;
         let first = self.x;
         let mut a: u16 = 0;
@@ -377,7 +378,7 @@ impl<'a> Reader<'a> {
                 };
                 *slot = Some(Column {
                     symbol,
-                    pen,
+                    sgr,
                     index,
                     count,
                 });
@@ -450,7 +451,7 @@ impl<'a> Reader<'a> {
             row.push(column)?;
         }
         self.history.push(row)?;
-        self.sure = self.sure && self.has_own_pen() && self.top == 0;
+        self.sure = self.sure && self.has_own_sgr() && self.top == 0;
         self.raise(self.top, self.bottom, 1);
         Ok(())
     }
@@ -467,7 +468,7 @@ impl<'a> Reader<'a> {
     pub fn shows(&self, cursor: Position, screen: &TestBackend) -> bool {
         let x = self.x.min(self.width.saturating_sub(1));
         let is_calm = self.sure
-            && self.has_own_pen()
+            && self.has_own_sgr()
             && self.top == 0
             && self.bottom == self.height;
         if !is_calm
@@ -492,9 +493,9 @@ impl<'a> Reader<'a> {
 fn is_shown(column: Option<Column<'_>>, cell: &Cell) -> bool {
     match column {
         Some(column) if column.index == 0 => {
-            cell.symbol() == column.symbol && Pen::of(cell) == column.pen
+            cell.symbol() == column.symbol && Sgr::of(cell) == column.sgr
         }
-        Some(_) => cell.symbol() == " " && Pen::of(cell) == Pen::OWN,
+        Some(_) => cell.symbol() == " " && Sgr::of(cell) == Sgr::DEFAULT,
         None => false,
     }
 }

@@ -1,10 +1,11 @@
 //! Bytes that are sent, beside those of a terminal's manual.
-use bitflags::Flags;
-use ratatui_ansi::{
-    AnsiBackend, AnsiError, Part, Pen, Printing, append_lines, delete_lines, erase, erase_all,
-    hide_cursor, insert_lines, is_symbol, move_to, printing_of, push_pen, push_plain, reset_region,
-    scroll_region_down, scroll_region_up, set_region, show_cursor,
+use ansi_model::{
+    Glyph, Sgr, append_lines, delete_lines, erase, erase_all, glyph_of, hide_cursor, insert_lines,
+    is_symbol, move_to, push_plain, push_sgr, reset_region, scroll_region_down, scroll_region_up,
+    set_region, show_cursor,
 };
+use bitflags::Flags;
+use ratatui_ansi::{AnsiBackend, AnsiError};
 use rtui_backend::{Backend, ClearType};
 use rtui_cell::Cell;
 use rtui_geometry::{Position, Size};
@@ -19,10 +20,10 @@ use std::test::Fail;
 fn moves_and_erases(rt: HostRuntime) -> Result<(), Fail> {
     let mut out = String::new(rt.alloc());
     move_to(&mut out, 4, 2)?;
-    erase(&mut out, Part::After)?;
-    erase(&mut out, Part::Before)?;
-    erase(&mut out, Part::Line)?;
-    erase(&mut out, Part::LineEnd)?;
+    erase(&mut out, ClearType::AfterCursor)?;
+    erase(&mut out, ClearType::BeforeCursor)?;
+    erase(&mut out, ClearType::CurrentLine)?;
+    erase(&mut out, ClearType::UntilNewLine)?;
     erase_all(&mut out, 80, 24)?;
     assert!(rt;
         out.as_str() == "\u{1b}[3;5H\u{1b}[J\u{1b}[1J\u{1b}[2K\u{1b}[K\u{1b}[24;80H\u{1b}[1J"
@@ -95,8 +96,8 @@ fn regions_that_scroll(rt: HostRuntime) -> Result<(), Fail> {
     Ok(())
 }
 
-// Whether a pen with these colours and modifiers is sent so.
-fn pen_is(
+// Whether a rendition with these colours and modifiers is sent so.
+fn sgr_is(
     alloc: Global,
     fg: Color,
     bg: Color,
@@ -109,10 +110,10 @@ fn pen_is(
     cell.bg = bg;
     cell.underline_color = line;
     cell.modifier = Modifier::from_bits_retain(bits);
-    let pen = Pen::of(&cell);
+    let sgr = Sgr::of(&cell);
     let mut out = String::new(alloc);
-    if pen.is_sendable() {
-        push_pen(&mut out, &pen)?;
+    if sgr.is_sendable() {
+        push_sgr(&mut out, &sgr)?;
     }
     Ok(out.as_str() == sent)
 }
@@ -121,9 +122,9 @@ fn pen_is(
 fn pens(rt: HostRuntime) -> Result<(), Fail> {
     let alloc = rt.alloc();
     let own = Color::Reset;
-    assert!(rt; pen_is(alloc, own, own, own, 0, "\u{1b}[0m")?);
+    assert!(rt; sgr_is(alloc, own, own, own, 0, "\u{1b}[0m")?);
     assert!(rt;
-        pen_is(
+        sgr_is(
             alloc,
             Color::Red,
             Color::LightBlue,
@@ -133,7 +134,7 @@ fn pens(rt: HostRuntime) -> Result<(), Fail> {
         )?
     );
     assert!(rt;
-        pen_is(
+        sgr_is(
             alloc,
             Color::White,
             Color::Black,
@@ -143,7 +144,7 @@ fn pens(rt: HostRuntime) -> Result<(), Fail> {
         )?
     );
     assert!(rt;
-        pen_is(
+        sgr_is(
             alloc,
             Color::Indexed(9),
             Color::Rgb(1, 20, 255),
@@ -152,8 +153,8 @@ fn pens(rt: HostRuntime) -> Result<(), Fail> {
             "\u{1b}[0;38;5;9;48;2;1;20;255;58;5;0m"
         )?
     );
-    assert!(rt; pen_is(alloc, own, own, Color::Red, 0, "")?);
-    assert!(rt; pen_is(alloc, own, own, own, 512, "")?);
+    assert!(rt; sgr_is(alloc, own, own, Color::Red, 0, "")?);
+    assert!(rt; sgr_is(alloc, own, own, own, 512, "")?);
     Ok(())
 }
 
@@ -168,11 +169,13 @@ fn symbols(rt: HostRuntime) -> Result<(), Fail> {
     assert!(rt; !is_symbol("a\u{202e}b") && !is_symbol("\u{301}") && !is_symbol("\n"));
     assert!(rt; !is_symbol("ab") && !is_symbol("日本") && !is_symbol("コa") && is_symbol("コ\u{200b}"));
     assert!(rt;
-        printing_of("─") == Printing::Plain('─') && printing_of("é") == Printing::Plain('é')
+        glyph_of("─") == Some(Glyph::Plain('─')) && glyph_of("é") == Some(Glyph::Plain('é'))
     );
-    assert!(rt; printing_of("コ") == Printing::Whole && printing_of("e\u{301}") == Printing::Whole);
-    assert!(rt; printing_of("ab") == Printing::Unprinted && printing_of("") == Printing::Unprinted);
-    assert!(rt; printing_of("\u{9b}") == Printing::Unprinted);
+    assert!(rt;
+        glyph_of("コ") == Some(Glyph::Whole(2)) && glyph_of("e\u{301}") == Some(Glyph::Whole(1))
+    );
+    assert!(rt; glyph_of("ab").is_none() && glyph_of("").is_none());
+    assert!(rt; glyph_of("\u{9b}").is_none());
     let mut out = String::new(rt.alloc());
     push_plain(&mut out, '~')?;
     assert!(rt; out.as_str() == "~");
@@ -201,7 +204,7 @@ pub(crate) fn sent(backend: &Kept) -> &str {
 pub(crate) enum Why {
     Memory,
     Symbol(Position),
-    Pen(Position),
+    Style(Position),
     Cut(Position),
     Size,
     Broken,
@@ -213,7 +216,7 @@ pub(crate) fn by_kind<T>(answer: Result<T, AnsiError>) -> Result<T, Why> {
     answer.map_err(|error| match error {
         AnsiError::Memory => Why::Memory,
         AnsiError::Symbol(place) => Why::Symbol(place),
-        AnsiError::Pen(place) => Why::Pen(place),
+        AnsiError::Style(place) => Why::Style(place),
         AnsiError::Cut(place) => Why::Cut(place),
         AnsiError::Size => Why::Size,
         AnsiError::Broken => Why::Broken,
@@ -378,9 +381,9 @@ fn cells_that_are_refused(rt: HostRuntime) -> Result<(), Fail> {
     assert!(rt; draws(&mut backend, &[(1, 0, &cell)], symbol, ""));
     cell.set_symbol(alloc, "a")?;
     cell.underline_color = Color::Red;
-    assert!(rt; draws(&mut backend, &[(1, 0, &cell)], Err(Why::Pen(place)), ""));
+    assert!(rt; draws(&mut backend, &[(1, 0, &cell)], Err(Why::Style(place)), ""));
     cell.underline_color = Color::Indexed(3);
-    assert!(rt; draws(&mut backend, &[(1, 0, &cell)], Err(Why::Pen(place)), ""));
+    assert!(rt; draws(&mut backend, &[(1, 0, &cell)], Err(Why::Style(place)), ""));
     backend.set_underline_colors(true);
     let wanted = "\u{1b}[0;58;5;3m\u{1b}[1;2Ha\u{1b}[0m";
     assert!(rt; draws(&mut backend, &[(1, 0, &cell)], Ok(()), wanted));

@@ -1,7 +1,8 @@
 use Rattle.std.proofs.Common.{◌≡◌, true, encode_utf8, string_bytes, refl, sym, subst, ◌∙◌, arith}
 use Rattle.std.proofs.lemmas.Bool.Decides.{nat_tests}
-use Rattle.ratatui_ansi.specs.Sends.{Sends, typed}
-use Rattle.ratatui_ansi.proofs.DrawLemmas.{plain-printed, plain-single, at-parts, put-here, put-there}
+use Rattle.ansi_model.specs.Sends.{Sends, typed}
+use Rattle.ansi_model.proofs.SymbolLemmas.{plain-printed, plain-single}
+use Rattle.ratatui_ansi.proofs.DrawLemmas.{at-parts, put-here, put-there}
 use Rattle.ratatui_ansi.proofs.drawing.put_plain.Goals.{then-not-is_at+in_ok-move_to, else-not-is_at}
 use Rattle.ratatui_ansi.proofs.drawing.put_plain.Goals as goal
 

@@ -6,7 +6,7 @@ abbrev pub invariant-loop-end : goal.invariant-loop-end
 invariant-loop-end l = record {
   from : l.x ≤ l.end;
   column : l.end < l.size.width;
-  behind : (k : ℕ) → l.x < k → k ≤ l.end → flag l.flags (l.y * l.size.width + k) ≡ true;
+  continuations : (k : ℕ) → l.x < k → k ≤ l.end → flag l.flags (l.y * l.size.width + k) ≡ true;
 }
 
 abbrev pub decreases-loop-end : goal.decreases-loop-end

@@ -11,7 +11,7 @@ loop-x-init g c = record {
   is_finite = search rules;
   sends = sends-none _ _ _ _ _;
   sent = refl;
-  pen = c.requires.pen;
+  sgr = c.requires.sgr;
 }
 
 pub loop-x-preserved : goal.loop-x-preserved
@@ -21,7 +21,7 @@ loop-x-preserved g c = record {
   sends = rw map-append (sends-push _ _ _ _ _ _ _ _ _ _ _ _ _ c.loop-x.invariant.sends (rw c.as_cell.ensures at c.in_ok-draw_cell.ensures.drawn));
   sent = rw map-append (sendable-push c.args.width c.args.height c.args.has_underline_colors (map (update_by g.C.AsCell.cell) c.loop-x.yielded)
       (update_by g.C.AsCell.cell (c.in-Some.x, c.in-Some.y, c.in-Some.cell)) c.loop-x.invariant.sent (rw c.as_cell.ensures at c.in_ok-draw_cell.ensures.sent));
-  pen = c.in_ok-draw_cell.ensures.pen;
+  sgr = c.in_ok-draw_cell.ensures.sgr;
 }
 
 pub returns-in_err-draw_cell-clause-refused : goal.returns-in_err-draw_cell-clause-refused

@@ -24,7 +24,7 @@ returns-then-x-width-clause-sent c =
 pub returns-then-is_vacant-clause-drawn : goal.returns-then-is_vacant-clause-drawn
 returns-then-is_vacant-clause-drawn c =
     still-sends c.args.width c.args.height _ _ _ _ _ refl refl c.saturating_add-drawing.ensures
-    (put-vacant c.args.width c.args.height _ c.args.behind.now (omega arith) (omega arith) (rw (c.from.ensures, c.from-2.ensures, c.from-3.ensures) at c.if-behind-from.true) (c.is_vacant.ensures.0 c.if-is_vacant.true))
+    (put-vacant c.args.width c.args.height _ c.args.continuations.now (omega arith) (omega arith) (rw (c.from.ensures, c.from-2.ensures, c.from-3.ensures) at c.if-continuations-from.true) (c.is_vacant.ensures.0 c.if-is_vacant.true))
 
 pub returns-then-is_vacant-clause-sent : goal.returns-then-is_vacant-clause-sent
 returns-then-is_vacant-clause-sent c = sendable-vacant c.args.width c.args.height c.args.has_underline_colors (record { x = c.args.x; y = c.args.y; cell = c.args.cell.now }) (c.is_vacant.ensures.0 c.if-is_vacant.true)

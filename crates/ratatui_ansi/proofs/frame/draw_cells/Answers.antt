@@ -8,7 +8,7 @@ returns-clause-drawn g c =
     let drawn = c.in_ok-draw_all.ensures.drawn in (
       drawn.0,
       drawn.1,
-      draw-sends _ _ _ _ _ _ _ _ _ _ _ _ refl refl refl refl drawn.2 c.in_ok-change_pen.ensures.changes,
+      draw-sends _ _ _ _ _ _ _ _ _ _ _ _ refl refl refl refl drawn.2 c.in_ok-change_sgr.ensures.changes,
       drawn.3,
     )
 

@@ -1,7 +1,7 @@
 use Rattle.std.proofs.Common.{◌≡◌, ℕ, IsTrue, nat_eq, sym, ◌∙◌, arith}
 use Rattle.std.proofs.lemmas.Bool.Decides.{nat_tests}
 use Rattle.ratatui_core.specs.Buffer.{width_of}
-use Rattle.ratatui_ansi.proofs.FrameLemmas.{vacant-is, vacant-text, vacant-pen}
+use Rattle.ratatui_ansi.proofs.FrameLemmas.{vacant-is, vacant-text, vacant-sgr}
 use Rattle.ratatui_ansi.proofs.frame.is_vacant.Goals.{then-is_blank, else-is_blank}
 use Rattle.ratatui_ansi.proofs.frame.is_vacant.Goals as goal
 
@@ -29,7 +29,7 @@ returns-else-is_of c =
     let cell = c.args.cell.now in (
       λ yes. let not = c.if-is_of.false in let h : ⊥ = cc in absurd h,
       λ is. elim c.if-is_blank.branch [
-        | then-is_blank w ↦ w.value-is ∙ w.is_of.ensures.1 (sym (vacant-pen cell is))
+        | then-is_blank w ↦ w.value-is ∙ w.is_of.ensures.1 (sym (vacant-sgr cell is))
         | else-is_blank w ↦
             let other = w.if-is_blank.false in
             let blank_one = c.is_blank.ensures.1 (c.symbol.ensures ∙ vacant-text cell is) in

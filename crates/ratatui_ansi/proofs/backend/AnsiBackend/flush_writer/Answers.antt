@@ -1,7 +1,7 @@
 use Rattle.std.proofs.Common.{ap}
 use Rattle.ratatui_ansi.specs.Backend.{reader}
-use Rattle.ratatui_ansi.specs.Screens.{screen_shown}
-use Rattle.ratatui_ansi.specs.Emulator.{rested}
+use Rattle.ansi_model.specs.Screens.{screen_shown}
+use Rattle.ansi_model.specs.Emulator.{rested}
 use Rattle.ratatui_ansi.proofs.BackendLemmas.{in-order-still}
 use Rattle.ratatui_ansi.proofs.backend.AnsiBackend.flush_writer.Goals as goal
 
@@ -12,4 +12,4 @@ invariant_of-self-2 g c =
 pub returns-clause-ok : goal.returns-clause-ok
 returns-clause-ok g c =
     let b = c.self.inside in
-    rw (← c.self.view_is) (ap (λ sent. screen_shown b.written (rested (reader b.size sent.bytes))) c.flush.ensures.sent)
+    rw (← c.self.view_is) (ap (λ sent. screen_shown b.tracker.written (rested (reader b.tracker.size sent.bytes))) c.flush.ensures.sent)

@@ -1,23 +1,14 @@
-use Rattle.std.proofs.Common.{arith, ◌<◌}
-use Rattle.std.proofs.lemmas.Bool.Decides.{nat_tests}
-use Rattle.ratatui_ansi.proofs.BackendLemmas.{begun, blank-shown, blank-sent}
+use Rattle.std.proofs.Common.{refl}
+use Rattle.ratatui_ansi.proofs.BackendLemmas.{begun, blank-shown-by, blank-sent}
 use Rattle.ratatui_ansi.proofs.backend.AnsiBackend.resize.Goals as goal
 
 pub invariant_of-self-2 : goal.invariant_of-self-2
 invariant_of-self-2 g c =
-    let wide : 0 < c.args.size.width = let e = c.if-size-eq0.false in grind (arith, nat_tests) in
-    let high : 0 < c.args.size.height = let e = c.if-size-eq0-2.false in grind (arith, nat_tests) in
-    let blank = blank-sent (c.in_ok-make_blank.ensures wide high) c.clear.ensures.bytes c.renew.ensures.sent c.as_str.ensures.value c.in-Ok.ensures.sent in
-    (begun blank wide high c.in_ok-behind.ensures c.in_ok-draft.ensures.count, λ _. c.in-Ok.ensures.tied c.renew.ensures.tied)
+    let begins = c.in_ok-tracker.ensures.ok in
+    let blank = blank-sent begins.blank refl c.renew.ensures.sent c.as_str.ensures.value c.in-Ok.ensures.sent in
+    (begun begins blank, λ _. c.in-Ok.ensures.tied c.renew.ensures.tied)
 
 pub returns-clause-blank : goal.returns-clause-blank
 returns-clause-blank g c =
-    let wide : 0 < c.args.size.width = let e = c.if-size-eq0.false in grind (arith, nat_tests) in
-    let high : 0 < c.args.size.height = let e = c.if-size-eq0-2.false in grind (arith, nat_tests) in
-    blank-shown c.args.size _ (blank-sent (c.in_ok-make_blank.ensures wide high) c.clear.ensures.bytes c.renew.ensures.sent c.as_str.ensures.value c.in-Ok.ensures.sent)
-
-pub returns-clause-sent : goal.returns-clause-sent
-returns-clause-sent g c =
-    let wide : 0 < c.args.size.width = let e = c.if-size-eq0.false in grind (arith, nat_tests) in
-    let high : 0 < c.args.size.height = let e = c.if-size-eq0-2.false in grind (arith, nat_tests) in
-    blank-sent (c.in_ok-make_blank.ensures wide high) c.clear.ensures.bytes c.renew.ensures.sent c.as_str.ensures.value c.in-Ok.ensures.sent
+    let begins = c.in_ok-tracker.ensures.ok in
+    blank-shown-by begins (blank-sent begins.blank refl c.renew.ensures.sent c.as_str.ensures.value c.in-Ok.ensures.sent)

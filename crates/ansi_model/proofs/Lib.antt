@@ -1,0 +1,10 @@
+pub mod ReadLemmas
+pub mod TextLemmas
+pub mod SgrLemmas
+pub mod SymbolLemmas
+pub mod GlyphLemmas
+pub mod ScrollLemmas
+pub mod RegionLemmas
+pub mod CallLemmas
+pub mod HistoryLemmas
+pub mod PutLemmas

@@ -1,0 +1,235 @@
+-- What a terminal makes of appended bytes, of numbers, and of whole sequences.
+use Rattle.std.proofs.Common.{◌≡◌, ℕ, ◌+◌, ◌-◌, ◌*◌, ◌/◌, ◌%◌, ◌<◌, ◌≤◌, ◌^◌, min, List, [], ◌∷◌, ◌++◌, Bool, true, false, zero, suc, refl, sym, ap, ap₂, ◌∙◌, arith, ◌==◌, ◌&&◌, nat_lt, nat_eq, if◌then◌else◌, Result, Ok, Err, OnOk, append_assoc}
+use Rattle.std.specs.Result.{is_ok}
+use Rattle.std.proofs.lemmas.Fmt.{decimal_by_steps, decimal_step, decimal_digit}
+use Rattle.std.proofs.lemmas.Bool.Decides.{nat_tests}
+use Rattle.std.proofs.Math.Nat.{div-add-mod'}
+use Rattle.std.specs.Fmt.{decimal}
+use Rattle.ansi_model.specs.Emulator.{Emulator, Phase, rested, cursor_moved, returned, erased, scrolled, line_fed, fed, if_so, cursor_shown, with_region, without_region, lines_deleted, lines_inserted}
+use Rattle.ansi_model.specs.Emulator.Phase.{Ground, Opened, Sequence}
+use Rattle.ratatui_core.specs.Backend.{ClearType, All, AfterCursor, BeforeCursor, CurrentLine, UntilNewLine}
+use Rattle.ansi_model.specs.Sequences.{feed, reads_in, is_digit}
+use Rattle.ansi_model.specs.Sends.{Sends, Performs}
+
+pub feed-append : (xs ys : List ℕ) (t : Emulator) → feed (xs ++ ys) t ≡ feed ys (feed xs t)
+unfolding feed
+feed-append [] ys t = refl
+feed-append (x ∷ xs) ys t = feed-append xs ys (reads_in t.phase x t)
+
+-- one after the other
+pub Sends-then : (a b c : List ℕ) (f g : Emulator → Emulator) → Sends a b f → Sends b c g → ((t : Emulator) → (f t).phase ≡ Ground) → Sends a c (λ t. g (f t))
+Sends-then a b c f g first second stays = record {
+  bytes = first.bytes ++ second.bytes;
+  appended = second.appended ∙ ap (λ xs. xs ++ second.bytes) first.appended ∙ append_assoc a first.bytes second.bytes;
+  read = λ t ground. feed-append first.bytes second.bytes t ∙ ap (feed second.bytes) (first.read t ground) ∙ second.read (f t) (stays t);
+}
+
+-- a text was pushed
+pub pushed : {E : Type 0} (r : Result (Unit {0}) E) (old new bs : List ℕ) (effect : Emulator → Emulator) → new ≡ (if is_ok r then old ++ bs else old)
+    → ((t : Emulator) → t.phase ≡ Ground → feed bs t ≡ effect t) → OnOk r (Sends old new effect)
+pushed (Ok u) old new bs effect e read = record { bytes = bs; appended = e; read = read }
+pushed (Err f) old new bs effect e read = tt
+
+pub on_push : {E : Type 0} (r : Result (Unit {0}) E) (old new bs : List ℕ) → new ≡ (if is_ok r then old ++ bs else old) → OnOk r (new ≡ old ++ bs)
+on_push (Ok u) old new bs e = e
+on_push (Err f) old new bs e = tt
+
+-- a terminal in a phase
+abbrev pub within : Phase → Emulator → Emulator
+within p t = record t { phase = p }
+
+digit : (d : ℕ) → d < 10 → is_digit (48 + d) ≡ true
+digit d small = grind (arith, nat_tests)
+
+digit-read : (mark : Bool) (done : List ℕ) (m d : ℕ) (t : Emulator) → d < 10
+    → reads_in (Sequence mark done m) (48 + d) t ≡ within (Sequence mark done (m * 10 + d)) t
+digit-read mark done m d t small =
+    let e : 48 + d - 48 ≡ d = omega arith in
+    rw (digit d small, e) refl
+
+abbrev ReadsNumber : ℕ → List ℕ → Type 0
+ReadsNumber n ds = (mark : Bool) (done : List ℕ) (t : Emulator)
+    → feed ds (within (Sequence mark done 0) t) ≡ within (Sequence mark done n) t
+
+one : (n : ℕ) → n < 10 → ReadsNumber n ((48 + n) ∷ [])
+unfolding feed
+one n small mark done t =
+    let e : 0 * 10 + n ≡ n = omega arith in
+    digit-read mark done 0 n (within (Sequence mark done 0) t) small ∙ ap (λ k. within (Sequence mark done k) t) e
+
+more : (n : ℕ) (ds : List ℕ) → 10 ≤ n → ReadsNumber (n / 10) ds → ReadsNumber n (ds ++ ((48 + n % 10) ∷ []))
+unfolding feed
+more n ds big rest mark done t =
+    feed-append ds ((48 + n % 10) ∷ []) (within (Sequence mark done 0) t)
+    ∙ ap (feed ((48 + n % 10) ∷ [])) (rest mark done t)
+    ∙ digit-read mark done (n / 10) (n % 10) (within (Sequence mark done (n / 10)) t) (omega arith)
+    ∙ ap (λ k. within (Sequence mark done k) t) (div-add-mod' n 10)
+
+pub number-read : (n : ℕ) → n < 2 ^ 64 → ReadsNumber n (decimal n)
+number-read n small = decimal_by_steps ReadsNumber one more n small
+
+-- the first number of a sequence
+abbrev ReadsFirst : ℕ → List ℕ → Type 0
+ReadsFirst n ds = (t : Emulator) → feed ds (within Opened t) ≡ within (Sequence false [] n) t
+
+first-one : (n : ℕ) → n < 10 → ReadsFirst n ((48 + n) ∷ [])
+unfolding feed
+first-one n small t =
+    let no_mark : (48 + n == 63) ≡ false = grind (arith, nat_tests) in
+    let e : 0 * 10 + (48 + n - 48) ≡ n = omega arith in
+    rw (no_mark, digit n small, e) refl
+
+first-more : (n : ℕ) (ds : List ℕ) → 10 ≤ n → ReadsFirst (n / 10) ds → ReadsFirst n (ds ++ ((48 + n % 10) ∷ []))
+unfolding feed
+first-more n ds big rest t =
+    feed-append ds ((48 + n % 10) ∷ []) (within Opened t)
+    ∙ ap (feed ((48 + n % 10) ∷ [])) (rest t)
+    ∙ digit-read false [] (n / 10) (n % 10) (within (Sequence false [] (n / 10)) t) (omega arith)
+    ∙ ap (λ k. within (Sequence false [] k) t) (div-add-mod' n 10)
+
+first-read : (n : ℕ) → n < 2 ^ 64 → ReadsFirst n (decimal n)
+first-read n small = decimal_by_steps ReadsFirst first-one first-more n small
+
+-- a sequence begins
+pub begun : (rest : List ℕ) (t : Emulator) → t.phase ≡ Ground → feed (27 ∷ 91 ∷ rest) t ≡ feed rest (within Opened (rested t))
+unfolding feed
+begun rest t ground = ap (λ p. feed (91 ∷ rest) (reads_in p 27 t)) ground
+
+-- one with a single number
+pub with_one : (n final : ℕ) → n < 2 ^ 64 → (t : Emulator) → t.phase ≡ Ground
+    → feed (27 ∷ 91 ∷ (decimal n ++ final ∷ [])) t ≡ reads_in (Sequence false [] n) final (within (Sequence false [] n) (rested t))
+unfolding feed
+with_one n final small t ground =
+    begun (decimal n ++ final ∷ []) t ground
+    ∙ feed-append (decimal n) (final ∷ []) (within Opened (rested t))
+    ∙ ap (feed (final ∷ [])) (first-read n small (rested t))
+
+-- one with two numbers
+pub with_two : (m n final : ℕ) → m < 2 ^ 64 → n < 2 ^ 64 → (t : Emulator) → t.phase ≡ Ground
+    → feed (27 ∷ 91 ∷ (decimal m ++ (59 ∷ (decimal n ++ final ∷ [])))) t
+    ≡ reads_in (Sequence false (m ∷ []) n) final (within (Sequence false (m ∷ []) n) (rested t))
+unfolding feed
+with_two m n final small_m small_n t ground =
+    let s : Emulator = rested t in
+    let back = 59 ∷ (decimal n ++ final ∷ []) in
+    begun (decimal m ++ back) t ground
+    ∙ feed-append (decimal m) back (within Opened s)
+    ∙ ap (feed back) (first-read m small_m s)
+    ∙ feed-append (decimal n) (final ∷ []) (within (Sequence false (m ∷ []) 0) s)
+    ∙ ap (feed (final ∷ [])) (number-read n small_n false (m ∷ []) s)
+
+-- ---- the sequences
+
+abbrev pub CUP : ℕ → ℕ → List ℕ
+CUP x y = 27 ∷ 91 ∷ (decimal (y + 1) ++ (59 ∷ (decimal (x + 1) ++ 72 ∷ [])))
+
+pub CUP-read : (x y : ℕ) → x < 2 ^ 16 → y < 2 ^ 16 → (t : Emulator) → t.phase ≡ Ground → feed (CUP x y) t ≡ cursor_moved x y (rested t)
+CUP-read x y x_in y_in t ground =
+    let ex : x + 1 - 1 ≡ x = omega arith in
+    let ey : y + 1 - 1 ≡ y = omega arith in
+    with_two (y + 1) (x + 1) 72 (omega arith) (omega arith) t ground ∙ ap₂ (λ a b. cursor_moved a b (rested t)) ex ey
+
+-- ---- numbers, digit by digit
+
+pub digits-more : (n : ℕ) (old pre new : List ℕ) → 10 ≤ n → n < 2 ^ 64 → pre ≡ old ++ decimal (n / 10) → new ≡ pre ++ (48 + n % 10) ∷ [] → new ≡ old ++ decimal n
+digits-more n old pre new big small first last =
+    last ∙ ap (λ xs. xs ++ (48 + n % 10) ∷ []) first ∙ append_assoc old (decimal (n / 10)) ((48 + n % 10) ∷ []) ∙ ap (λ ds. old ++ ds) (sym (decimal_step n big small))
+
+pub digits-one : (n : ℕ) (old new : List ℕ) → n < 10 → new ≡ old ++ (48 + n) ∷ [] → new ≡ old ++ decimal n
+digits-one n old new small last = last ∙ ap (λ ds. old ++ ds) (sym (decimal_digit n small))
+
+pub after-those : (old mid new a b : List ℕ) → mid ≡ old ++ a → new ≡ mid ++ b → new ≡ old ++ (a ++ b)
+after-those old mid new a b first second = second ∙ ap (λ xs. xs ++ b) first ∙ append_assoc old a b
+
+pub move-appended : (x y fx fy : ℕ) (old first second third fourth new semicolon last : List ℕ) → first ≡ old ++ 27 ∷ 91 ∷ [] → second ≡ first ++ decimal (fy + 1) → third ≡ second ++ semicolon
+    → fourth ≡ third ++ decimal (fx + 1) → new ≡ fourth ++ last → fy ≡ y → fx ≡ x → semicolon ≡ 59 ∷ [] → last ≡ 72 ∷ [] → new ≡ old ++ CUP x y
+move-appended x y fx fy old first second third fourth new semicolon last e1 e2 e3 e4 e5 row column is_semicolon is_last =
+    let all : new ≡ old ++ ((27 ∷ 91 ∷ []) ++ (decimal (fy + 1) ++ (semicolon ++ (decimal (fx + 1) ++ last)))) =
+    after-those old first new _ _ e1 (after-those first second new _ _ e2 (after-those second third new _ _ e3 (after-those third fourth new _ _ e4 e5))) in
+    rw (row, column, is_semicolon, is_last) at all
+
+abbrev pub erasing : ClearType → List ℕ
+erasing All = 27 ∷ 91 ∷ 50 ∷ 74 ∷ []
+erasing AfterCursor = 27 ∷ 91 ∷ 74 ∷ []
+erasing BeforeCursor = 27 ∷ 91 ∷ 49 ∷ 74 ∷ []
+erasing CurrentLine = 27 ∷ 91 ∷ 50 ∷ 75 ∷ []
+erasing UntilNewLine = 27 ∷ 91 ∷ 75 ∷ []
+
+pub erasing-read : (part : ClearType) (t : Emulator) → t.phase ≡ Ground → feed (erasing part) t ≡ erased part (rested t)
+unfolding feed
+erasing-read All t ground = begun (50 ∷ 74 ∷ []) t ground
+erasing-read AfterCursor t ground = begun (74 ∷ []) t ground
+erasing-read BeforeCursor t ground = begun (49 ∷ 74 ∷ []) t ground
+erasing-read CurrentLine t ground = begun (50 ∷ 75 ∷ []) t ground
+erasing-read UntilNewLine t ground = begun (75 ∷ []) t ground
+
+pub hiding-read : (t : Emulator) → t.phase ≡ Ground → feed (27 ∷ 91 ∷ 63 ∷ 50 ∷ 53 ∷ 108 ∷ []) t ≡ cursor_shown false (rested t)
+unfolding feed
+hiding-read t ground = begun (63 ∷ 50 ∷ 53 ∷ 108 ∷ []) t ground
+
+pub showing-read : (t : Emulator) → t.phase ≡ Ground → feed (27 ∷ 91 ∷ 63 ∷ 50 ∷ 53 ∷ 104 ∷ []) t ≡ cursor_shown true (rested t)
+unfolding feed
+showing-read t ground = begun (63 ∷ 50 ∷ 53 ∷ 104 ∷ []) t ground
+
+pub region-read : (top bottom : ℕ) → top < 2 ^ 16 → bottom < 2 ^ 16 → (t : Emulator) → t.phase ≡ Ground
+    → feed (27 ∷ 91 ∷ (decimal (top + 1) ++ (59 ∷ (decimal bottom ++ 114 ∷ [])))) t ≡ with_region top bottom (rested t)
+region-read top bottom top_in bottom_in t ground =
+    let e : top + 1 - 1 ≡ top = omega arith in
+    with_two (top + 1) bottom 114 (omega arith) (omega arith) t ground ∙ ap (λ a. with_region a bottom (rested t)) e
+
+pub no_region-read : (t : Emulator) → t.phase ≡ Ground → feed (27 ∷ 91 ∷ 114 ∷ []) t ≡ without_region (rested t)
+unfolding feed
+no_region-read t ground = begun (114 ∷ []) t ground
+
+pub deleting-read : (n : ℕ) → 0 < n → n < 2 ^ 16 → (t : Emulator) → t.phase ≡ Ground
+    → feed (27 ∷ 91 ∷ (decimal n ++ 77 ∷ [])) t ≡ lines_deleted n (rested t)
+deleting-read n some n_in t ground =
+    let e : (n == 0) ≡ false = grind (arith, nat_tests) in
+    with_one n 77 (omega arith) t ground ∙ rw e refl
+
+pub inserting-read : (n : ℕ) → 0 < n → n < 2 ^ 16 → (t : Emulator) → t.phase ≡ Ground
+    → feed (27 ∷ 91 ∷ (decimal n ++ 76 ∷ [])) t ≡ lines_inserted n (rested t)
+inserting-read n some n_in t ground =
+    let e : (n == 0) ≡ false = grind (arith, nat_tests) in
+    with_one n 76 (omega arith) t ground ∙ rw e refl
+
+-- ---- line feeds
+
+pub return-read : (t : Emulator) → t.phase ≡ Ground → feed (13 ∷ []) t ≡ returned (rested t)
+unfolding feed
+return-read t ground = ap (λ p. reads_in p 13 t) ground
+
+pub feed-read : (t : Emulator) → t.phase ≡ Ground → feed (10 ∷ []) t ≡ line_fed (rested t)
+unfolding feed
+feed-read t ground = ap (λ p. reads_in p 10 t) ground
+
+-- a rested terminal stays so
+pub line_fed-rested : (t : Emulator) → line_fed (rested t) ≡ rested (line_fed (rested t))
+line_fed-rested t =
+    let s : Emulator = rested t in
+    elim (nat_eq (s.y + 1) s.bottom) as (λ v. (if v then scrolled (if_so (nat_lt s.x s.width) s) else record s { y = min (s.y + 1) (s.height - 1); sure = s.sure && nat_lt s.x s.width })
+    ≡ rested (if v then scrolled (if_so (nat_lt s.x s.width) s) else record s { y = min (s.y + 1) (s.height - 1); sure = s.sure && nat_lt s.x s.width }))
+    [ true ↦ refl | false ↦ refl ]
+
+pub fed-rested : (n : ℕ) (t : Emulator) → fed n (rested t) ≡ rested (fed n (rested t))
+fed-rested zero t = refl
+fed-rested (suc n) t = ap (fed n) (line_fed-rested t) ∙ fed-rested n (line_fed (rested t)) ∙ ap (λ u. rested (fed n u)) (sym (line_fed-rested t))
+
+fed-more : (n : ℕ) (t : Emulator) → fed (suc n) t ≡ line_fed (fed n t)
+fed-more zero t = refl
+fed-more (suc n) t = fed-more n (line_fed t)
+
+-- none, one more, and all line feeds sent
+pub feeds-none : (a b : List ℕ) → Performs a b returned → Performs a b (λ t. fed 0 (returned t))
+feeds-none a b first = record { bytes = first.bytes; appended = first.appended; read = first.read }
+
+pub feeds-more : (a b c : List ℕ) (k : ℕ) → Performs a b (λ t. fed k (returned t)) → Performs b c line_fed → Performs a c (λ t. fed (k + 1) (returned t))
+feeds-more a b c k first next =
+    let rests : (t : Emulator) → fed k (returned (rested t)) ≡ rested (fed k (returned (rested t))) = λ t. fed-rested k (returned (rested t)) in
+    let both = Sends-then a b c (λ t. fed k (returned (rested t))) (λ t. line_fed (rested t)) first next (λ t. ap (λ (u : Emulator). u.phase) (rests t)) in
+    let e : suc k ≡ k + 1 = omega arith in
+    record {
+      bytes = both.bytes;
+      appended = both.appended;
+      read = λ t ground. both.read t ground ∙ ap line_fed (sym (rests t)) ∙ sym (fed-more k (returned (rested t))) ∙ ap (λ n. fed n (returned (rested t))) e;
+    }

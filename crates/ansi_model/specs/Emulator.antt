@@ -1,0 +1,216 @@
+-- A model terminal: what it shows, and what each of its actions does.
+use Rattle.std.specs.Prelude.{ℕ, ◌+◌, ◌-◌, ◌&&◌, min, nat_lt, nat_le, nat_eq, Bool, true, false, if◌then◌else◌, List, [], ◌∷◌, ◌++◌, map, zero, suc, chars, encode_utf8}
+use Rattle.std.specs.List.{list_all, range_with_len}
+use Rattle.ratatui_core.specs.Buffer.{Look, text_width}
+use Rattle.ansi_model.specs.declared.sgr.Sgr.{Sgr}
+use Rattle.ansi_model.specs.Sgr.{default_sgr, inked, is_own}
+use Rattle.ratatui_core.specs.Backend.{ClearType, All, AfterCursor, is_cleared}
+use Rattle.ansi_model.specs.Symbols.{is_plain_char, is_symbol}
+use Rattle.ansi_model.specs.Columns.{Columns, Area, blank_column, look_in, is_known_column, overwritten}
+use Rattle.ansi_model.specs.Columns.Column.{Shows}
+
+-- what the next byte belongs to: text, a sequence that just began, one that is at its first parameter or its mark, or one with a mark, some
+-- parameters and the number at hand
+pub data Phase : Type 0 where
+  Ground : Phase
+  Escape : Phase
+  Opened : Phase
+  Sequence : (mark : Bool) (done : List ℕ) (number : ℕ) → Phase
+
+-- a terminal: `text` is what it has read since the last sequence; a cursor in column `width` is after the last one; line feeds scroll the
+-- rows from `top` up to `bottom`, its scroll region. Once it isn't sure, real terminals differ
+pub record Emulator : Type 0 where
+  pub width : ℕ
+  pub height : ℕ
+  pub phase : Phase
+  pub text : List ℕ
+  pub sgr : Sgr
+  pub x : ℕ
+  pub y : ℕ
+  pub top : ℕ
+  pub bottom : ℕ
+  pub columns : Columns
+  pub history : List (List Look)
+  pub visible : Bool
+  pub sure : Bool
+
+-- sure only if this holds
+abbrev pub if_so : Bool → Emulator → Emulator
+if_so holds t = record t { sure = t.sure && holds }
+
+-- real terminals differ from here on
+abbrev pub unsure : Emulator → Emulator
+unsure t = record t { sure = false }
+
+-- ---- text
+
+-- n columns of a row, from column x on
+abbrev pub run : ℕ → ℕ → ℕ → Area
+run x y n a b = nat_eq b y && nat_le x a && nat_lt a (x + n)
+
+-- a symbol of n columns printed at the cursor
+abbrev pub prints : List ℕ → ℕ → Emulator → Emulator
+prints symbol n t = record t {
+  columns = overwritten (run t.x t.y n) (λ a b. Shows (inked symbol t.sgr) (a - t.x) n) t.columns;
+  x = t.x + n;
+  sure = t.sure && (nat_lt 0 n && nat_le (t.x + n) t.width && nat_lt t.y t.height);
+}
+
+-- characters, each printed by itself
+abbrev pub types : List ℕ → Emulator → Emulator
+types [] t = t
+types (c ∷ cs) t = types cs (prints (encode_utf8 c) 1 t)
+
+-- a text printed: plain characters one by one, any other text as one symbol
+abbrev pub printed : List ℕ → Emulator → Emulator
+printed [] t = t
+printed (b ∷ bs) t =
+    let text = b ∷ bs in
+    if list_all is_plain_char (chars text) then types (chars text) t
+    else if_so (is_symbol text) (prints text (text_width text) t)
+
+-- the text that was read stands on the screen
+abbrev pub standing : Emulator → Emulator
+standing t = record (printed t.text t) { text = [] }
+
+-- the same, and text is awaited
+abbrev pub rested : Emulator → Emulator
+rested t = record (standing t) { phase = Ground }
+
+-- ---- the cursor and the rendition
+
+-- CUP (cursor position): to a column and a row, kept on the screen
+abbrev pub cursor_moved : ℕ → ℕ → Emulator → Emulator
+cursor_moved x y t = record t { x = min x (t.width - 1); y = min y (t.height - 1) }
+
+-- CR (carriage return)
+abbrev pub returned : Emulator → Emulator
+returned t = record t { x = 0 }
+
+-- DECTCEM (text cursor enable mode)
+abbrev pub cursor_shown : Bool → Emulator → Emulator
+cursor_shown visible t = record t { visible = visible }
+
+-- SGR (select graphic rendition) that all terminals know
+abbrev pub with_sgr : Sgr → Emulator → Emulator
+with_sgr sgr t = record t { sgr = sgr }
+
+-- ---- erasing: terminals differ where the rendition isn't their own, or the cursor is after the last column
+
+-- some put the screen into their history if all of it is erased at once, or from the corner on
+abbrev pub keeps_history : ClearType → ℕ → ℕ → Bool
+keeps_history All x y = false
+keeps_history AfterCursor x y = nat_lt 0 (x + y)
+keeps_history _ x y = true
+
+-- ED (erase in display) and EL (erase in line)
+abbrev pub erased : ClearType → Emulator → Emulator
+erased part t = record t {
+  columns = overwritten (is_cleared part t.x t.y) (λ a b. blank_column) t.columns;
+  sure = t.sure && (is_own t.sgr && nat_lt t.x t.width && keeps_history part t.x t.y);
+}
+
+-- the columns of a part are blank, and all others as they were
+abbrev pub columns_cleared : ClearType → ℕ → ℕ → Columns → Columns
+columns_cleared part x y columns a b = if is_cleared part x y a b then blank_column else columns a b
+
+-- the first h rows are blank, and those below them as they were
+abbrev pub rows_emptied : ℕ → Columns → Columns
+rows_emptied h columns a b = if nat_lt b h then blank_column else columns a b
+
+-- ---- scrolling: terminals differ where the rendition isn't their own
+
+-- a row, and whether all of it is known
+abbrev pub row_shown : Emulator → ℕ → List Look
+row_shown t b = map (λ a. look_in (t.columns a b)) (range_with_len 0 t.width)
+
+abbrev pub is_row_known : Emulator → ℕ → Bool
+is_row_known t b = list_all (λ a. is_known_column (t.columns a b)) (range_with_len 0 t.width)
+
+-- DECSTBM (set top and bottom margins): the scroll region, of at least two rows, and the cursor in the corner
+abbrev pub with_region : ℕ → ℕ → Emulator → Emulator
+with_region top bottom t = record t {
+  top = top;
+  bottom = bottom;
+  x = 0;
+  y = 0;
+  sure = t.sure && (nat_lt (top + 1) bottom && nat_le bottom t.height);
+}
+
+-- no margins: the whole screen is the region
+abbrev pub without_region : Emulator → Emulator
+without_region t = record t { top = 0; bottom = t.height; x = 0; y = 0 }
+
+-- the rows from `from` up to `to` moved up by n, blank ones come in below
+abbrev pub rows_raised : ℕ → ℕ → ℕ → Columns → Columns
+rows_raised from to n columns a b =
+    if nat_le from b && nat_lt b to then (if nat_lt (b + n) to then columns a (b + n) else blank_column) else columns a b
+
+-- the same rows moved down, blank ones come in above
+abbrev pub rows_lowered : ℕ → ℕ → ℕ → Columns → Columns
+rows_lowered from to n columns a b =
+    if nat_le from b && nat_lt b to then (if nat_le (from + n) b then columns a (b - n) else blank_column) else columns a b
+
+-- the rows of the region one up; the first row goes to the history. Terminals differ on that where the region begins below the first row
+abbrev pub scrolled : Emulator → Emulator
+scrolled t = record t {
+  history = t.history ++ row_shown t 0 ∷ [];
+  columns = rows_raised t.top t.bottom 1 t.columns;
+  sure = t.sure && (is_own t.sgr && nat_eq t.top 0 && is_row_known t 0);
+}
+
+-- LF (line feed): the cursor one row down; from the last row of the region the region scrolls in place of it
+abbrev pub line_fed : Emulator → Emulator
+line_fed t =
+    if nat_eq (t.y + 1) t.bottom then scrolled (if_so (nat_lt t.x t.width) t)
+    else record t { y = min (t.y + 1) (t.height - 1); sure = t.sure && nat_lt t.x t.width }
+
+-- n line feeds
+abbrev pub fed : ℕ → Emulator → Emulator
+fed zero t = t
+fed (suc n) t = fed n (line_fed t)
+
+-- DL (delete line): n rows from the cursor's on go, those below in the region move up. Terminals differ on the history in the first row, and
+-- on where the cursor ends in another column than the first
+abbrev pub lines_deleted : ℕ → Emulator → Emulator
+lines_deleted n t = record t {
+  columns = rows_raised t.y t.bottom n t.columns;
+  sure = t.sure && (is_own t.sgr && nat_lt 0 t.y && nat_le t.top t.y && nat_lt t.y t.bottom && nat_eq t.x 0);
+}
+
+-- IL (insert line): n blank rows come in at the cursor's row, those from there on in the region move down. Terminals differ on where the cursor
+-- ends in another column than the first
+abbrev pub lines_inserted : ℕ → Emulator → Emulator
+lines_inserted n t = record t {
+  columns = rows_lowered t.y t.bottom n t.columns;
+  sure = t.sure && (is_own t.sgr && nat_le t.top t.y && nat_lt t.y t.bottom && nat_eq t.x 0);
+}
+
+-- a line feed in the second row, and then a blank row in place of the first
+abbrev pub fed_and_lowered : Emulator → Emulator
+fed_and_lowered t = lines_inserted 1 (cursor_moved 0 0 (line_fed (cursor_moved 0 1 t)))
+
+-- the same n times
+abbrev pub fed_and_lowered_by : ℕ → Emulator → Emulator
+fed_and_lowered_by zero t = t
+fed_and_lowered_by (suc n) t = fed_and_lowered_by n (fed_and_lowered t)
+
+-- ---- the beginning
+
+-- a blank terminal of this size
+abbrev pub blank_terminal : ℕ → ℕ → Emulator
+blank_terminal w h = record {
+  width = w;
+  height = h;
+  phase = Ground;
+  text = [];
+  sgr = default_sgr;
+  x = 0;
+  y = 0;
+  top = 0;
+  bottom = h;
+  columns = λ a b. blank_column;
+  history = [];
+  visible = true;
+  sure = true;
+}

@@ -1,0 +1,10 @@
+pub mod Columns
+pub mod Glass
+pub mod Sgr
+pub mod Symbols
+pub mod Emulator
+pub mod Sequences
+pub mod Parameters
+pub mod Sends
+pub mod Screens
+pub mod Beginnings

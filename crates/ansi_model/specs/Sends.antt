@@ -1,0 +1,19 @@
+-- What appended bytes do to each terminal that reads them.
+use Rattle.std.specs.Prelude.{◌≡◌, ℕ, List, ◌++◌}
+use Rattle.ansi_model.specs.Emulator.{Emulator, rested}
+use Rattle.ansi_model.specs.Emulator.Phase.{Ground}
+use Rattle.ansi_model.specs.Sequences.{feed}
+
+-- bytes were appended that do this to each terminal that awaits text
+pub record Sends (old new : List ℕ) (effect : Emulator → Emulator) : Type 0 where
+  pub bytes : List ℕ
+  pub appended : new ≡ old ++ bytes
+  pub read : (t : Emulator) → t.phase ≡ Ground → feed bytes t ≡ effect t
+
+-- bytes were appended that do this to each terminal once its text stands
+abbrev pub Performs : List ℕ → List ℕ → (Emulator → Emulator) → Type 0
+Performs old new action = Sends old new (λ t. action (rested t))
+
+-- text is read, and stands at the next sequence
+abbrev pub typed : List ℕ → Emulator → Emulator
+typed text t = record t { text = t.text ++ text }

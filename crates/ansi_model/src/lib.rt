@@ -1,0 +1,26 @@
+//! A model of a terminal that reads bytes, and the bytes that are sent to one.
+//!
+//! A terminal (`specs/Emulator`) reads bytes one by one (`specs/Sequences`); each function here appends bytes to a text, and its
+//! contract says what they do to every terminal that reads them: a sequence by its standard name (`Performs`), or what a
+//! backend's call does to the screen that the terminal shows (`Turns`). Columns and rows are counted from 0 here, and from 1 in
+//! the bytes. If real terminals differ the model is no longer sure, and what stands in a column isn't known if a part of its
+//! symbol was written over.
+#![tactic(auto)]
+
+mod calls;
+mod glyph;
+pub mod laws;
+mod scrolling;
+mod sequences;
+mod sgr;
+mod symbol;
+
+pub use calls::{clear_screen, make_blank, set_cursor_position, set_visible};
+pub use glyph::{Glyph, glyph_of, is_printed};
+pub use scrolling::{append_lines, scroll_region_down, scroll_region_up};
+pub use sequences::{
+    delete_lines, erase, erase_all, hide_cursor, insert_lines, line_feeds, move_to, reset_region,
+    set_region, show_cursor,
+};
+pub use sgr::{Sgr, push_sgr};
+pub use symbol::{is_plain, is_symbol, only_printable, push_plain, push_symbol};

@@ -1,0 +1,130 @@
+//! Escape sequences by their standard names.
+
+ghost use Rattle.std.specs.Prelude.{◌≡◌, ◌+◌, ◌-◌, ◌<◌, OnOk, true, false, [], ◌∷◌, ◌++◌, string_bytes};
+ghost use Rattle.std.specs.Fmt.{decimal};
+ghost use Rattle.ansi_model.specs.Emulator.{cursor_moved, returned, erased, fed, with_region, without_region, lines_deleted, lines_inserted, cursor_shown};
+ghost use Rattle.ratatui_core.specs.Backend.{BeforeCursor};
+ghost use Rattle.ansi_model.specs.Sends.{Performs};
+
+use ratatui_core::backend::ClearType;
+use std::alloc::AllocError;
+
+// Appends a digit.
+fn push_digit(out: &mut String, digit: u32) -> Result<(), AllocError>
+    requires { digit < 10 }
+    ensures { OnOk result (string_bytes out.new ≡ string_bytes out.old ++ (48 + digit) ∷ []) }
+{
+    out.push(char::from(b'0' + digit as u8))
+}
+
+/// Appends a number in decimal digits.
+pub fn push_number(out: &mut String, n: u32) -> Result<(), AllocError>
+    ensures { OnOk result (string_bytes out.new ≡ string_bytes out.old ++ decimal n) }
+{
+    if n < 10 {
+        return push_digit(out, n);
+    }
+    if n < 100 {
+        push_digit(out, n / 10)?;
+    } else {
+        push_number(out, n / 10)?;
+    }
+    push_digit(out, n % 10)
+}
+
+/// CUP (cursor position): moves the cursor to a column and a row.
+pub fn move_to(out: &mut String, x: u16, y: u16) -> Result<(), AllocError>
+    ensures { OnOk result (Performs (string_bytes out.old) (string_bytes out.new) (cursor_moved x y)) }
+{
+    out.push_str("\u{1b}[")?;
+    push_number(out, u32::from(y) + 1)?;
+    out.push(';')?;
+    push_number(out, u32::from(x) + 1)?;
+    out.push('H')
+}
+
+/// ED and EL (erase in display, erase in line): empties a part of the screen.
+pub fn erase(out: &mut String, part: ClearType) -> Result<(), AllocError>
+    ensures { OnOk result (Performs (string_bytes out.old) (string_bytes out.new) (erased part)) }
+{
+    match part {
+        ClearType::All => out.push_str("\u{1b}[2J"),
+        ClearType::AfterCursor => out.push_str("\u{1b}[J"),
+        ClearType::BeforeCursor => out.push_str("\u{1b}[1J"),
+        ClearType::CurrentLine => out.push_str("\u{1b}[2K"),
+        ClearType::UntilNewLine => out.push_str("\u{1b}[K"),
+    }
+}
+
+/// Empties the whole screen of so many columns and rows: all up to its last place, which no terminal puts into its history.
+pub fn erase_all(out: &mut String, width: u16, height: u16) -> Result<(), AllocError>
+    ensures { OnOk result (Performs (string_bytes out.old) (string_bytes out.new)
+        (λ t. erased BeforeCursor (cursor_moved (width - 1) (height - 1) t))) }
+{
+    move_to(out, width.saturating_sub(1), height.saturating_sub(1))?;
+    erase(out, ClearType::BeforeCursor)
+}
+
+/// DECTCEM (text cursor enable mode): shows the cursor.
+pub fn show_cursor(out: &mut String) -> Result<(), AllocError>
+    ensures { OnOk result (Performs (string_bytes out.old) (string_bytes out.new)
+        (cursor_shown true)) }
+{
+    out.push_str("\u{1b}[?25h")
+}
+
+/// DECTCEM (text cursor enable mode): hides the cursor.
+pub fn hide_cursor(out: &mut String) -> Result<(), AllocError>
+    ensures { OnOk result (Performs (string_bytes out.old) (string_bytes out.new)
+        (cursor_shown false)) }
+{
+    out.push_str("\u{1b}[?25l")
+}
+
+/// CR and LF (carriage return, line feed): to the first column, and `n` rows down; what goes past the end of the scroll region
+/// scrolls.
+pub fn line_feeds(out: &mut String, n: u16) -> Result<(), AllocError>
+    ensures { OnOk result (Performs (string_bytes out.old) (string_bytes out.new)
+        (λ t. fed n (returned t))) }
+{
+    out.push_str("\r")?;
+    for _ in 0..n {
+        out.push_str("\n")?;
+    }
+    Ok(())
+}
+
+/// DECSTBM (set top and bottom margins): the rows from `top` up to `bottom` are the scroll region, and the cursor goes to the
+/// corner. Terminals take at least two rows.
+pub fn set_region(out: &mut String, top: u16, bottom: u16) -> Result<(), AllocError>
+    requires { top + 1 < bottom }
+    ensures { OnOk result (Performs (string_bytes out.old) (string_bytes out.new)
+        (with_region top bottom)) }
+{
+    write!(out, "\u{1b}[{};{}r", u32::from(top) + 1, bottom)
+}
+
+/// DECSTBM without margins: the whole screen is the scroll region, and the cursor goes to the corner.
+pub fn reset_region(out: &mut String) -> Result<(), AllocError>
+    ensures { OnOk result (Performs (string_bytes out.old) (string_bytes out.new) without_region) }
+{
+    out.push_str("\u{1b}[r")
+}
+
+/// DL (delete line): `n` rows from the cursor's on go, and those below them in the scroll region move up.
+pub fn delete_lines(out: &mut String, n: u16) -> Result<(), AllocError>
+    requires { 0 < n }
+    ensures { OnOk result (Performs (string_bytes out.old) (string_bytes out.new)
+        (lines_deleted n)) }
+{
+    write!(out, "\u{1b}[{}M", n)
+}
+
+/// IL (insert line): `n` blank rows come in at the cursor's row, and those from there on in the scroll region move down.
+pub fn insert_lines(out: &mut String, n: u16) -> Result<(), AllocError>
+    requires { 0 < n }
+    ensures { OnOk result (Performs (string_bytes out.old) (string_bytes out.new)
+        (lines_inserted n)) }
+{
+    write!(out, "\u{1b}[{}L", n)
+}

@@ -1,6 +1,0 @@
-use Rattle.std.proofs.Common.{sym, ◌∙◌}
-use Rattle.ratatui_ansi.proofs.DrawLemmas.{printing-one}
-use Rattle.ratatui_ansi.proofs.drawing.printing_of.Goals as goal
-
-pub returns-in-Some : goal.returns-in-Some
-returns-in-Some c = c.printing_of_char.ensures ∙ printing-one c.args.text.now c.in-Some.c c.utf8.text (sym c.only_char.ensures ∙ c.in-Some.is)

@@ -1,7 +1,0 @@
-use Rattle.std.proofs.Common.{refl}
-use Rattle.ratatui_core.specs.Buffer.{width_of}
-use Rattle.ratatui_ansi.proofs.PutLemmas.{put-shown}
-use Rattle.ratatui_ansi.proofs.laws.a_printed_symbol_is_put.Goals as goal
-
-pub returns : goal.returns
-returns c = λ w h u columns whole uncut some fits row. put-shown w h u.x u.y (width_of u.cell) u columns whole uncut refl refl refl some fits row

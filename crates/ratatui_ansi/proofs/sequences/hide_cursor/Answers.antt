@@ -1,5 +1,0 @@
-use Rattle.ratatui_ansi.proofs.ReadLemmas.{pushed, hiding-read}
-use Rattle.ratatui_ansi.proofs.sequences.hide_cursor.Goals as goal
-
-pub returns : goal.returns
-returns c = pushed c.push_str.result _ _ _ _ c.push_str.ensures.bytes hiding-read

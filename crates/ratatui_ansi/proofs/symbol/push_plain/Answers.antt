@@ -1,6 +1,0 @@
-use Rattle.ratatui_ansi.proofs.ReadLemmas.{pushed}
-use Rattle.ratatui_ansi.proofs.TextLemmas.{text-read, plain-text}
-use Rattle.ratatui_ansi.proofs.symbol.push_plain.Goals as goal
-
-pub returns : goal.returns
-returns c = pushed c.push.result _ _ _ _ c.push.ensures.bytes (text-read _ (plain-text c.args.ch c.requires))

@@ -1,0 +1,19 @@
+use Rattle.std.proofs.Common.{◌<◌, ◌≡◌, ◌∙◌, ap, length, refl}
+use Rattle.std.proofs.lemmas.List.{with_items_is}
+use Rattle.ratatui_ansi.proofs.TrackLemmas.{collected, Turns-then, call-from, up-kept}
+use Rattle.ratatui_ansi.proofs.tracker.Tracker.scroll_up.Goals as goal
+
+pub returns-clause-ok : goal.returns-clause-ok
+returns-clause-ok c =
+    let k = c.args.self.now in
+    let w = k.size.width in
+    let h = k.size.height in
+    let lent = c.as_mut_slice.ensures in
+    let flags = c.raise_flags.new.flags in
+    let same = with_items_is k.continuations flags (c.raise_flags.auto.flags ∙ lent.len) in
+    let count : length flags ≡ length k.continuations.items = c.raise_flags.auto.flags ∙ ap length lent.value in
+    let wide = c.requires.tracker.columns in
+    collected k _ k.cursor flags c.requires.tracker refl same count (call-from w h _ _ k.cursor k.cursor k.continuations.items flags _ _
+    (Turns-then w h _ _ _ _ _ (c.in_ok-scroll_region_up.ensures w wide) (c.in_ok-set_cursor_position.ensures w h wide c.requires.tracker.rows))
+    (λ s u ready at continuations both. up-kept w h k.cursor k.continuations.items flags c.requires.column c.requires.row s u ready at c.args.region.start c.args.region.end c.args.n
+    (rw lent.value at c.raise_flags.ensures) continuations both))

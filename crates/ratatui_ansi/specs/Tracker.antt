@@ -1,0 +1,99 @@
+-- What a tracker knows of its terminal between two calls, and of the bytes that it collected for a call.
+use Rattle.std.specs.Prelude.{◌≡◌, ℕ, ◌*◌, ◌<◌, Bool, true, if◌then◌else◌, List, length, [], ◌++◌, string_bytes}
+use Rattle.ratatui_core.specs.Layout.{Position, Size}
+use Rattle.ratatui_core.specs.Buffer.{empty_look}
+use Rattle.ratatui_core.specs.Backend.{Screen, cursor_of, ClearType, is_cleared, Appends, Clears, ScrollsUp, ScrollsDown, with_cursor, with_visible}
+use Rattle.ansi_model.specs.Columns.{blank_column}
+use Rattle.ansi_model.specs.Beginnings.{MakesBlank}
+use Rattle.ansi_model.specs.Emulator.{Emulator, rested}
+use Rattle.ansi_model.specs.Emulator.Phase.{Ground}
+use Rattle.ansi_model.specs.Sequences.{feed}
+use Rattle.ansi_model.specs.Screens.{screen_shown, IsIdle}
+use Rattle.ratatui_ansi.specs.declared.frame.Refusal.{Refusal}
+use Rattle.ratatui_ansi.specs.declared.frame.Refusal.TheVariants as Refused
+use Rattle.ratatui_ansi.specs.declared.tracker.Tracker.{Tracker}
+use Rattle.ratatui_ansi.specs.declared.tracker.Call.{Call}
+use Rattle.ratatui_ansi.specs.declared.tracker.Call.TheVariants as Called
+use Rattle.ratatui_ansi.specs.Flags.{AreContinuations, is_clear_cut}
+
+-- a terminal between two calls: it awaits text and is idle, with its cursor there and these flags
+pub record IsAwaiting (w h : ℕ) (cursor : Position) (flags : List Bool) (t : Emulator) : Type 0 where
+  pub phase : t.phase ≡ Ground
+  pub ready : IsIdle w h (rested t)
+  pub continuations : AreContinuations w h flags (rested t).columns
+  pub placed : cursor_of (screen_shown 0 (rested t)) ≡ cursor
+
+-- bytes were appended, after which a terminal that awaited a call awaits the next one, with the cursor and the flags after it, and its
+-- screen related so to the former
+pub record SendsCall (w h : ℕ) (old new : List ℕ) (cursor : Position) (flags : List Bool) (cursor_after : Position) (flags_after : List Bool)
+    (related : Screen → Screen → Type 0) : Type 0 where
+  pub bytes : List ℕ
+  pub appended : new ≡ old ++ bytes
+  pub awaiting : (t : Emulator) → IsAwaiting w h cursor flags t → IsAwaiting w h cursor_after flags_after (feed bytes t)
+  pub shows : (written : ℕ) (t : Emulator) → IsAwaiting w h cursor flags t
+      → related (screen_shown written (rested t)) (screen_shown written (rested (feed bytes t)))
+
+-- what a clear of this kind empties, for a cursor in column x of row y, was emptied, and all else stays
+pub record Erases (kind : ClearType) (x y : ℕ) (old new : Screen) : Type 0 where
+  pub rest : new ≡ record old { grid = new.grid }
+  pub grid : (a b : ℕ) → a < old.width → b < old.height → new.grid a b ≡ if is_cleared kind x y a b then empty_look else old.grid a b
+
+-- a screen of this size has columns and rows, and a flag for each column, also for a draft
+pub record FitsScreen (size : Size) (flags draft : List Bool) : Type 0 where
+  pub columns : 0 < size.width
+  pub rows : 0 < size.height
+  pub count : length flags ≡ size.width * size.height
+  pub draft_count : length draft ≡ size.width * size.height
+
+-- so it is of what is tracked
+abbrev pub IsTracker : Tracker → Type 0
+IsTracker k = FitsScreen k.size k.continuations.items k.draft.items
+
+-- a terminal between two calls, as it is tracked
+abbrev pub IsTracked : Tracker → Emulator → Type 0
+IsTracked k t = IsAwaiting k.size.width k.size.height k.cursor k.continuations.items t
+
+-- a call's bytes were collected: they relate the screen of each tracked terminal so to the former, and it is tracked as the call left it
+pub record Collects (old : Tracker) (related : Screen → Screen → Type 0) (new : Tracker) : Type 0 where
+  pub tracker : IsTracker new
+  pub size : new.size ≡ old.size
+  pub colors : new.has_underline_colors ≡ old.has_underline_colors
+  pub ambiguous : new.ambiguous_is_wide ≡ old.ambiguous_is_wide
+  pub bytes : List ℕ
+  pub appended : string_bytes new.out ≡ string_bytes old.out ++ bytes
+  pub tracks : (t : Emulator) → IsTracked old t → IsTracked new (feed bytes t)
+  pub shows : (t : Emulator) → IsTracked old t → related (screen_shown old.written (rested t)) (screen_shown new.written (rested (feed bytes t)))
+
+-- all is as it was but what was collected, and the draft
+pub record KeepsTracked (old new : Tracker) : Type 0 where
+  pub rest : new ≡ record old { out = new.out; draft = new.draft }
+  pub draft_count : length new.draft.items ≡ length old.draft.items
+
+-- a blank screen of this size is tracked, and what makes a terminal show it was collected
+pub record BeginsBlank (given : Size) (k : Tracker) : Type 0 where
+  pub tracker : IsTracker k
+  pub size : k.size ≡ given
+  pub cursor : k.cursor ≡ record { x = 0; y = 0 }
+  pub continuations : AreContinuations given.width given.height k.continuations.items (λ a b. blank_column)
+  pub written : k.written ≡ 0
+  pub blank : MakesBlank given.width given.height [] (string_bytes k.out)
+
+-- what a call does to the screen
+abbrev pub CallDoes : Call → Screen → Screen → Type 0
+CallDoes (Called.Move p) s t = t ≡ with_cursor p.x p.y s
+CallDoes (Called.Show visible) s t = t ≡ with_visible visible s
+CallDoes (Called.Append n) s t = Appends s n t
+CallDoes (Called.ScrollUp region n) s t = ScrollsUp region.start region.end n s t
+CallDoes (Called.ScrollDown region n) s t = ScrollsDown region.start region.end n s t
+CallDoes (Called.Clear kind) s t = Clears s kind t
+
+-- a clear would cut a symbol at the cursor
+abbrev pub IsCutByCall : Call → Tracker → Type 0
+IsCutByCall (Called.Clear kind) k = is_clear_cut kind k.size.width k.cursor.x k.cursor.y k.continuations.items ≡ true
+IsCutByCall _ k = ⊥
+
+-- why a call wasn't collected: for want of memory, or since it would cut a symbol
+abbrev pub IsUncollected : Call → Tracker → Refusal → Type 0
+IsUncollected call k Refused.Memory = Unit {0}
+IsUncollected call k (Refused.Cut p) = (p ≡ k.cursor) × IsCutByCall call k
+IsUncollected call k _ = ⊥

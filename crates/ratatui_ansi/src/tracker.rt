@@ -1,0 +1,326 @@
+//! What is known of a terminal between two calls, and the bytes that a call sends to it.
+
+ghost use Rattle.std.specs.Prelude.{◌≡◌, ◌<◌, ◌*◌, ℕ, List, map, length, false, true, OnOk, IfOk, IfErr, OnErr, IsTrue};
+ghost use Rattle.std.specs.List.{list_all};
+ghost use Rattle.std.specs.Iterator.{IsFinite, Drains};
+ghost use Rattle.ratatui_core.specs.Buffer.{update_by};
+ghost use Rattle.ratatui_core.specs.Backend.{Draws, Appends, Clears, ScrollsUp, ScrollsDown, with_cursor, with_visible, All};
+ghost use Rattle.ansi_model.specs.Columns.{blank_column};
+ghost use Rattle.ansi_model.specs.Emulator.{keeps_history};
+ghost use Rattle.ratatui_ansi.specs.declared.tracker.Call.TheVariants as Called;
+ghost use Rattle.ratatui_ansi.specs.Flags.{AreContinuations, is_cut, is_clear_cut};
+ghost use Rattle.ratatui_ansi.specs.Frame.{is_sendable_on};
+ghost use Rattle.ratatui_ansi.specs.Refusals.{has_place, StopsDraw, RefusesTracker};
+ghost use Rattle.ratatui_ansi.specs.Tracker.{IsTracker, KeepsTracked, Collects, CallDoes, IsUncollected, Erases, BeginsBlank};
+
+use crate::error::AnsiError;
+use crate::flags::{
+    clear_flags, clear_part_flags, is_continuation, lower_flags, raise_flags, symbol_end,
+};
+use crate::frame::{Refusal, draw_cells};
+use ansi_model::{
+    append_lines, clear_screen, erase, make_blank, move_to, scroll_region_down, scroll_region_up,
+    set_cursor_position, set_visible,
+};
+use ratatui_core::backend::{AsCell, ClearType};
+use ratatui_core::layout::{Position, Size};
+use std::alloc::{AllocError, Global};
+use std::mem;
+use std::ops::Range;
+
+/// A backend's call that draws no cells.
+#[derive(Drop)]
+pub(crate) enum Call {
+    Move(Position),
+    Show(bool),
+    Append(u16),
+    ScrollUp(Range<u16>, u16),
+    ScrollDown(Range<u16>, u16),
+    Clear(ClearType),
+}
+
+/// A terminal's size, where its cursor is, and which of its columns are continuation columns, row by row; and what is to be sent to it.
+#[derive(Drop)]
+pub(crate) struct Tracker {
+    pub(crate) size: Size,
+    pub(crate) has_underline_colors: bool,
+    pub(crate) ambiguous_is_wide: bool,
+    pub(crate) cursor: Position,
+    pub(crate) continuations: Vec<bool>,
+    // The flags within a draw.
+    pub(crate) draft: Vec<bool>,
+    /// How many items were drawn, as far as the count goes.
+    pub(crate) written: u64,
+    pub(crate) out: String,
+}
+
+// The flags of a blank screen.
+fn blank_flags(alloc: Global, size: Size) -> Result<Vec<bool>, AllocError>
+    ensures { IfOk result (λ flags. AreContinuations size.width size.height flags.items
+        (λ a b. blank_column)) }
+{
+    let count = usize::from(size.width) * usize::from(size.height);
+    Vec::from_elem(alloc, false, count)
+}
+
+impl Tracker {
+    /// That of a blank terminal of this size, and what makes one blank.
+    pub(crate) fn new(alloc: Global, size: Size) -> Result<Tracker, AnsiError>
+        ensures ok { IfOk result (BeginsBlank size) }
+        ensures colors { IfOk result (λ k. k.has_underline_colors ≡ false) }
+        ensures ambiguous { IfOk result (λ k. k.ambiguous_is_wide ≡ false) }
+        ensures size { OnOk result ((0 < size.width) × (0 < size.height)) }
+        ensures refused { IfErr result (RefusesTracker size.width size.height) }
+    {
+        if size.width == 0 || size.height == 0 {
+            return Err(AnsiError::Size);
+        }
+        let continuations = blank_flags(alloc, size)?;
+        let draft = blank_flags(alloc, size)?;
+        let mut out = String::new(alloc);
+        make_blank(&mut out, size.width, size.height)?;
+        Ok(Tracker {
+            size,
+            has_underline_colors: false,
+            ambiguous_is_wide: false,
+            cursor: Position::ORIGIN,
+            continuations,
+            draft,
+            written: 0,
+            out,
+        })
+    }
+
+    // Moves the cursor, each of its column and row kept on the screen.
+    fn move_cursor(&mut self, position: Position) -> Result<(), AllocError>
+        requires { IsTracker self.old }
+        ensures ok { OnOk result (Collects self.old
+            (λ s t. t ≡ with_cursor position.x position.y s) self.new) }
+        ensures err { OnErr result (KeepsTracked self.old self.new) }
+    {
+        set_cursor_position(&mut self.out, position.x, position.y)?;
+        self.cursor = Position {
+            x: position.x.min(self.size.width - 1),
+            y: position.y.min(self.size.height - 1),
+        };
+        Ok(())
+    }
+
+    // Shows the cursor or hides it.
+    fn show(&mut self, visible: bool) -> Result<(), AllocError>
+        requires { IsTracker self.old }
+        ensures ok { OnOk result (Collects self.old (λ s t. t ≡ with_visible visible s) self.new) }
+        ensures err { OnErr result (KeepsTracked self.old self.new) }
+    {
+        set_visible(&mut self.out, visible)
+    }
+
+    // Moves the cursor's row down by `n`, and scrolls what goes past the last row.
+    fn append(&mut self, n: u16) -> Result<(), AllocError>
+        requires tracker { IsTracker self.old }
+        requires column { self.old.cursor.x < self.old.size.width }
+        requires row { self.old.cursor.y < self.old.size.height }
+        ensures ok { OnOk result (Collects self.old (λ s t. Appends s n t) self.new) }
+        ensures err { OnErr result (KeepsTracked self.old self.new) }
+    {
+        append_lines(&mut self.out, n)?;
+        let size = self.size;
+        let last = size.height - 1;
+        let y = self.cursor.y;
+        let flags = self.continuations.as_mut_slice();
+        raise_flags(flags, size, 0..size.height, n.saturating_sub(last - y));
+        self.cursor = Position {
+            x: 0,
+            y: y.saturating_add(n).min(last),
+        };
+        Ok(())
+    }
+
+    // Moves the rows of a region up; the cursor stays.
+    fn scroll_up(&mut self, region: Range<u16>, n: u16) -> Result<(), AllocError>
+        requires tracker { IsTracker self.old }
+        requires column { self.old.cursor.x < self.old.size.width }
+        requires row { self.old.cursor.y < self.old.size.height }
+        ensures ok { OnOk result (Collects self.old
+            (ScrollsUp region.start region.end n) self.new) }
+        ensures err { OnErr result (KeepsTracked self.old self.new) }
+    {
+        let size = self.size;
+        scroll_region_up(&mut self.out, size.height, region.start..region.end, n)?;
+        set_cursor_position(&mut self.out, self.cursor.x, self.cursor.y)?;
+        raise_flags(self.continuations.as_mut_slice(), size, region, n);
+        Ok(())
+    }
+
+    // Moves the rows of a region down; the cursor stays.
+    fn scroll_down(&mut self, region: Range<u16>, n: u16) -> Result<(), AllocError>
+        requires tracker { IsTracker self.old }
+        requires column { self.old.cursor.x < self.old.size.width }
+        requires row { self.old.cursor.y < self.old.size.height }
+        ensures ok { OnOk result (Collects self.old
+            (ScrollsDown region.start region.end n) self.new) }
+        ensures err { OnErr result (KeepsTracked self.old self.new) }
+    {
+        let size = self.size;
+        scroll_region_down(&mut self.out, size.height, region.start..region.end, n)?;
+        set_cursor_position(&mut self.out, self.cursor.x, self.cursor.y)?;
+        lower_flags(self.continuations.as_mut_slice(), size, region, n);
+        Ok(())
+    }
+
+    // Whether a clear would cut a symbol that has to stay, as one does from a cursor on that is in a continuation column.
+    fn cuts(&self, clear_type: ClearType) -> bool
+        requires tracker { IsTracker self.now }
+        requires column { self.now.cursor.x < self.now.size.width }
+        requires row { self.now.cursor.y < self.now.size.height }
+        ensures { result ≡ is_clear_cut clear_type self.now.size.width
+            self.now.cursor.x self.now.cursor.y self.now.continuations.items }
+    {
+        let Position { x, y } = self.cursor;
+        match clear_type {
+            ClearType::AfterCursor | ClearType::UntilNewLine => {
+                is_continuation(self.continuations.as_slice(), self.size, x, y)
+            }
+            ClearType::All | ClearType::BeforeCursor | ClearType::CurrentLine => false,
+        }
+    }
+
+    // Empties the screen; the cursor stays.
+    fn clear_all(&mut self) -> Result<(), AllocError>
+        requires tracker { IsTracker self.old }
+        requires column { self.old.cursor.x < self.old.size.width }
+        requires row { self.old.cursor.y < self.old.size.height }
+        ensures ok { OnOk result (Collects self.old (λ s t. Clears s All t) self.new) }
+        ensures err { OnErr result (KeepsTracked self.old self.new) }
+    {
+        let Size { width, height } = self.size;
+        clear_screen(&mut self.out, width, height, self.cursor.x, self.cursor.y)?;
+        clear_flags(self.continuations.as_mut_slice());
+        Ok(())
+    }
+
+    // Empties what a clear does for a cursor in column x and row y; the cursor stays where it is.
+    fn clear_at(&mut self, clear_type: ClearType, x: u16, y: u16) -> Result<(), AllocError>
+        requires tracker { IsTracker self.old }
+        requires column { self.old.cursor.x < self.old.size.width }
+        requires row { self.old.cursor.y < self.old.size.height }
+        requires at_column { x < self.old.size.width }
+        requires at_row { y < self.old.size.height }
+        requires uncut { is_cut clear_type self.old.size.width x y
+            self.old.continuations.items ≡ false }
+        requires sure { keeps_history clear_type x y ≡ true }
+        ensures ok { OnOk result (Collects self.old (Erases clear_type x y) self.new) }
+        ensures err { OnErr result (KeepsTracked self.old self.new) }
+    {
+        let size = self.size;
+        move_to(&mut self.out, x, y)?;
+        erase(&mut self.out, clear_type)?;
+        move_to(&mut self.out, self.cursor.x, self.cursor.y)?;
+        clear_part_flags(self.continuations.as_mut_slice(), size, clear_type, x, y);
+        Ok(())
+    }
+
+    // Empties a part of the screen; the cursor stays.
+    fn clear(&mut self, clear_type: ClearType) -> Result<(), AllocError>
+        requires tracker { IsTracker self.old }
+        requires column { self.old.cursor.x < self.old.size.width }
+        requires row { self.old.cursor.y < self.old.size.height }
+        requires uncut { is_clear_cut clear_type self.old.size.width
+            self.old.cursor.x self.old.cursor.y self.old.continuations.items ≡ false }
+        ensures ok { OnOk result (Collects self.old (λ s t. Clears s clear_type t) self.new) }
+        ensures err { OnErr result (KeepsTracked self.old self.new) }
+    {
+        let Position { x, y } = self.cursor;
+        match clear_type {
+            ClearType::All => self.clear_all(),
+            ClearType::AfterCursor => {
+                if x == 0 && y == 0 {
+                    self.clear_all()
+                } else {
+                    self.clear_at(ClearType::AfterCursor, x, y)
+                }
+            }
+            ClearType::BeforeCursor => {
+                let end = symbol_end(self.continuations.as_slice(), self.size, x, y);
+                self.clear_at(ClearType::BeforeCursor, end, y)
+            }
+            ClearType::CurrentLine => self.clear_at(ClearType::CurrentLine, x, y),
+            ClearType::UntilNewLine => self.clear_at(ClearType::UntilNewLine, x, y),
+        }
+    }
+
+    // The same, refused with the cursor's place if that would cut a symbol.
+    fn clear_uncut(&mut self, clear_type: ClearType) -> Result<(), Refusal>
+        requires tracker { IsTracker self.old }
+        requires column { self.old.cursor.x < self.old.size.width }
+        requires row { self.old.cursor.y < self.old.size.height }
+        ensures ok { OnOk result (Collects self.old (λ s t. Clears s clear_type t) self.new) }
+        ensures err { OnErr result (KeepsTracked self.old self.new) }
+        ensures why { IfErr result (IsUncollected (Called.Clear clear_type) self.old) }
+    {
+        if self.cuts(clear_type) {
+            return Err(Refusal::Cut(self.cursor));
+        }
+        self.clear(clear_type)?;
+        Ok(())
+    }
+
+    /// Collects what a call sends, after what was collected before. If it is refused all else stays.
+    pub(crate) fn collect(&mut self, call: Call) -> Result<(), Refusal>
+        requires tracker { IsTracker self.old }
+        requires column { self.old.cursor.x < self.old.size.width }
+        requires row { self.old.cursor.y < self.old.size.height }
+        ensures ok { OnOk result (Collects self.old (CallDoes call) self.new) }
+        ensures err { OnErr result (KeepsTracked self.old self.new) }
+        ensures why { IfErr result (IsUncollected call self.old) }
+    {
+        match call {
+            Call::Move(position) => self.move_cursor(position)?,
+            Call::Show(visible) => self.show(visible)?,
+            Call::Append(n) => self.append(n)?,
+            Call::ScrollUp(region, n) => self.scroll_up(region, n)?,
+            Call::ScrollDown(region, n) => self.scroll_down(region, n)?,
+            Call::Clear(clear_type) => self.clear_uncut(clear_type)?,
+        }
+        Ok(())
+    }
+
+    /// Collects what a draw of these cells sends, after what was collected before. If it is refused all else stays.
+    pub(crate) fn draw<C: AsCell, I: Iterator<Item = (u16, u16, C)>>(
+        &mut self,
+        content: I,
+    ) -> Result<(), Refusal>
+        requires tracker { IsTracker self.old }
+        requires can { I.can_next content }
+        requires finite { IsFinite (I.remaining content) }
+        ensures ok { OnOk result (
+            (items : List (ℕ × ℕ × C)) × Drains I.next_gives content items
+            × Collects self.old (λ s t. Draws s (map (update_by C.cell) items) t) self.new
+            × (list_all (is_sendable_on self.old.size.width self.old.size.height
+            self.old.has_underline_colors) (map (update_by C.cell) items) ≡ true)) }
+        ensures err { OnErr result (KeepsTracked self.old self.new) }
+        ensures stopped { IfErr result (λ refusal. IsTrue (has_place refusal)
+            → StopsDraw I.next_gives content (update_by C.cell) self.old.size.width
+            self.old.size.height self.old.has_underline_colors self.old.cursor self.old.written
+            self.old.continuations.items refusal) }
+    {
+        let draft = self.draft.as_mut_slice();
+        draft.copy_from_slice(self.continuations.as_slice());
+        let Size { width, height } = self.size;
+        let (cursor, written) = draw_cells(
+            &mut self.out,
+            draft,
+            width,
+            height,
+            self.has_underline_colors,
+            self.ambiguous_is_wide,
+            self.cursor,
+            self.written,
+            content,
+        )?;
+        mem::swap(&mut self.continuations, &mut self.draft);
+        self.cursor = cursor;
+        self.written = written;
+        Ok(())
+    }
+}
