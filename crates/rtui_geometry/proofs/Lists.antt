@@ -18,7 +18,7 @@ module _ {X : Type 0} (f : ℕ → X) where
   Contains-map_range a n k low high =
       (k - a, omega (arith, length-map-range_with_len f a n), get_or-map-range_with_len f a n (k - a) k (f k) (omega arith) (omega arith))
 
-  -- the elements stand in order where f keeps the order
+  -- the elements stand in order if f keeps the order
   pub AllPairs-map_range : (R : X → X → Type 0) (a n : ℕ) → ((k l : ℕ) → k < l → R (f k) (f l)) → AllPairs R (map f (range_with_len a n))
   AllPairs-map_range R a n h = λ i j d lt last.
       let inside : j < n = omega (arith, length-map-range_with_len f a n) in
@@ -57,7 +57,7 @@ module _ {X : Type 0} (f : ℕ → List X) where
         | inr l ↦ Contains-append_right (f a) more x (Contains-flat_map_range (a + 1) n k x (omega arith) (omega arith) h)
       ]
 
-  -- the whole is in order where each piece is, and each piece comes before the later ones
+  -- the whole is in order if each piece is, and each piece comes before the later ones
   pub AllPairs-flat_map_range : (R : X → X → Type 0) → ((k : ℕ) → AllPairs R (f k)) → ((k l : ℕ) → k < l → All (λ x. All (R x) (f l)) (f k))
       → (a n : ℕ) → AllPairs R (flat_map f (range_with_len a n))
   AllPairs-flat_map_range R within across a zero = λ i j d lt last. absurd (omega arith)

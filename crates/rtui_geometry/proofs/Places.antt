@@ -25,7 +25,7 @@ rows_empty r x h (y ∷ ys) =
 pub left_below : (r : Rect) (x y : ℕ) → bottom_edge r ≤ y → positions_from r x (numbers y (bottom_edge r)) ≡ []
 left_below r x y h = ap (positions_from r x) (numbers_none y (bottom_edge r) h)
 
--- nothing is left where there are no columns
+-- nothing is left if there are no columns
 pub left_narrow : (r : Rect) (x y : ℕ) → right_edge r ≤ r.x → r.x ≤ x → positions_from r x (numbers y (bottom_edge r)) ≡ []
 left_narrow r x y narrow h = narrow_from (numbers y (bottom_edge r))
   where
@@ -85,7 +85,7 @@ positions_fit r =
     let columns : right_edge r - r.x ≤ 65535 = omega arith in
     omega (arith, length-positions r, mul-le-mul rows columns)
 
--- as many as the area, where no edge is cut
+-- as many as the area, if no edge is cut
 pub positions_area : (r : Rect) → EdgesFit r → length (positions_of r) ≡ r.width * r.height
 positions_area r fit =
     let rows : bottom_edge r - r.y ≡ r.height = omega arith in

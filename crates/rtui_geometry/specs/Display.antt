@@ -20,6 +20,6 @@ size_text s = by_text s.width s.height
 abbrev pub margin_text : Margin → List ℕ
 margin_text m = by_text m.horizontal m.vertical
 
--- the size, and the corner behind it with a `+` before each number
+-- the size, and the corner after it with a `+` before each number
 abbrev pub rect_text : Rect → List ℕ
 rect_text r = by_text r.width r.height ++ codes "+" ++ decimal r.x ++ codes "+" ++ decimal r.y

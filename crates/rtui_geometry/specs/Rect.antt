@@ -4,7 +4,7 @@ use Rattle.rtui_geometry.specs.declared.margin.Margin.{Margin}
 use Rattle.rtui_geometry.specs.declared.position.Position.{Position}
 use Rattle.rtui_geometry.specs.declared.rect.Rect.{Rect}
 
--- the column right behind the rectangle
+-- the column right after the rectangle
 abbrev pub right_edge : Rect → ℕ
 right_edge r = min (r.x + r.width) 65535
 
@@ -36,7 +36,7 @@ IsInside a b = (p : Position) → HasPosition a p → HasPosition b p
 abbrev pub cut_rect : ℕ → ℕ → ℕ → ℕ → Rect
 cut_rect x y w h = record { x = x; y = y; width = min w (65535 - x); height = min h (65535 - y) }
 
--- the rectangle from a corner up to two edges, with nothing in it where an edge lies before the corner
+-- the rectangle from a corner up to two edges, with nothing in it if an edge lies before the corner
 abbrev pub spanning : ℕ → ℕ → ℕ → ℕ → Rect
 spanning x y right bottom = record { x = x; y = y; width = right - x; height = bottom - y }
 
@@ -47,7 +47,7 @@ united a b = spanning (min a.x b.x) (min a.y b.y) (max (right_edge a) (right_edg
 abbrev pub intersected : Rect → Rect → Rect
 intersected a b = spanning (max a.x b.x) (max a.y b.y) (min (right_edge a) (right_edge b)) (min (bottom_edge a) (bottom_edge b))
 
--- each edge of the first lies behind the corner of the second, and the other way round
+-- each edge of the first lies after the corner of the second, and the other way round
 pub record Intersects (a b : Rect) : Type 0 where
   pub left : a.x < right_edge b
   pub right : b.x < right_edge a

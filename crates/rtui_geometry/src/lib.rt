@@ -6,7 +6,7 @@
 //! is the least `i32`.
 //!
 //! For the layers above, a rectangle is the set of its positions (`HasPosition`), with edges cut at
-//! 65535 (`right_edge`, `bottom_edge`); where nothing is cut, `EdgesFit` holds. Each call says its exact
+//! 65535 (`right_edge`, `bottom_edge`); if nothing is cut, `EdgesFit` holds. Each call says its exact
 //! result, and `intersection`, `contains`, `inner` and `intersects` also what it means for positions.
 //! `Rows`, `Columns` and `Positions` are seen as the list of what they have left.
 #![tactic(auto)]

@@ -4,7 +4,7 @@ ghost use Rattle.rtui_geometry.specs.Offset.{moved, opposite};
 use crate::position::Position;
 use std::ops::Neg;
 
-/// A move by a number of columns and a number of rows, to the left and upwards where negative.
+/// A move by a number of columns and a number of rows, to the left and upwards if negative.
 #[derive(Debug, Default, Clone, Copy, PartialEq, Eq, Hash)]
 pub struct Offset {
     pub x: i32,

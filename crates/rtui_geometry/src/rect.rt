@@ -106,7 +106,7 @@ impl Rect {
         self.x
     }
 
-    /// The column right behind the last one, at most 65535.
+    /// The column right after the last one, at most 65535.
     pub fn right(self) -> u16
         ensures { result ≡ right_edge self }
     {
@@ -127,7 +127,7 @@ impl Rect {
         self.y.saturating_add(self.height)
     }
 
-    /// The rectangle less a margin on each side, or `ZERO` where it has no room for the margin.
+    /// The rectangle less a margin on each side, or `ZERO` if it has no room for the margin.
     pub fn inner(self, margin: Margin) -> Self
         ensures room { HasRoom self margin → result ≡ shrunk self margin }
         ensures no_room { ¬ (HasRoom self margin) → result ≡ Rect.ZERO }
@@ -181,7 +181,7 @@ impl Rect {
         Rect::new(self.x, self.y, size.width, size.height)
     }
 
-    /// The smallest rectangle that spans both, also where one of them is empty.
+    /// The smallest rectangle that spans both, even if one of them is empty.
     pub fn union(self, other: Self) -> Self
         ensures value { result ≡ united self other }
         ensures fits { EdgesFit result }

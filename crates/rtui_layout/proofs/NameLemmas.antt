@@ -7,7 +7,7 @@ use Rattle.rtui_layout.specs.declared.direction.Direction.TheVariants.{Horizonta
 use Rattle.rtui_layout.specs.declared.flex.Flex.TheVariants as flex
 use Rattle.rtui_layout.specs.Names.{ReadsBack, direction_name, horizontal_name, vertical_name, flex_name}
 
--- where a search through all variants finds each by its name, names read back
+-- if a search through all variants finds each by its name, names read back
 module _ {V : Type 0} (name : V → List ℕ) (all : List V) where
   pub reads_back : ((v : V) → find (λ w. bytes_eq (name w) (name v)) all ≡ Some v) → ReadsBack name
   reads_back finds v (Ok w) same =

@@ -10,7 +10,7 @@ use Rattle.rtui_layout.specs.declared.flex.Flex.{Flex}
 use Rattle.rtui_layout.specs.declared.flex.Flex.TheVariants as flex
 use Rattle.rtui_layout.specs.declared.parse_error.ParseError.{ParseError}
 
--- the text is read as the variant with exactly this name, and refused where no variant has it
+-- the text is read as the variant with exactly this name, and refused if no variant has it
 abbrev pub ReadsName : {V : Type 0} → (V → List ℕ) → List ℕ → Result V ParseError → Type 0
 ReadsName {V} name text r = MatchResult r (λ v. name v ≡ text) (λ _. (v : V) → name v ≢ text)
 

@@ -19,7 +19,7 @@ pub enum Flex {
     Center,
     /// What is left goes between the parts.
     SpaceBetween,
-    /// What is left goes before, between and behind the parts, in equal amounts.
+    /// What is left goes before, between and after the parts, in equal amounts.
     SpaceEvenly,
     /// What is left goes round the parts, so that between two of them there is twice as much as at either end.
     SpaceAround,

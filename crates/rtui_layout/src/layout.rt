@@ -114,7 +114,7 @@ impl Layout {
         }
     }
 
-    /// The default layout with a direction and constraints. Fails where memory runs out.
+    /// The default layout with a direction and constraints. Fails if memory runs out.
     pub fn new(
         alloc: Global,
         direction: Direction,
@@ -128,7 +128,7 @@ impl Layout {
             .constraints(constraints)
     }
 
-    /// The layout from top to bottom with these constraints. Fails where memory runs out.
+    /// The layout from top to bottom with these constraints. Fails if memory runs out.
     pub fn vertical(alloc: Global, constraints: &[Constraint]) -> Result<Self, AllocError>
         ensures { IfOk result (λ l.
             l ≡ record default_layout
@@ -137,7 +137,7 @@ impl Layout {
         Layout::new(alloc, Direction::Vertical, constraints)
     }
 
-    /// The layout from left to right with these constraints. Fails where memory runs out.
+    /// The layout from left to right with these constraints. Fails if memory runs out.
     pub fn horizontal(alloc: Global, constraints: &[Constraint]) -> Result<Self, AllocError>
         ensures { IfOk result (λ l.
             l ≡ record default_layout
@@ -154,7 +154,7 @@ impl Layout {
         self
     }
 
-    /// The layout with other constraints. Fails where memory runs out, and the layout is then gone.
+    /// The layout with other constraints. Fails if memory runs out, and the layout is then gone.
     pub fn constraints(mut self, constraints: &[Constraint]) -> Result<Self, AllocError>
         ensures { IfOk result (λ l. l ≡ record self { constraints = constraints.now }) }
     {
@@ -238,7 +238,7 @@ impl Layout {
         &self.spacing
     }
 
-    /// An equal layout. Fails where memory runs out.
+    /// An equal layout. Fails if memory runs out.
     pub fn clone(&self, alloc: Global) -> Result<Self, AllocError>
         ensures { IfOk result (λ l. l ≡ self.now) }
     {

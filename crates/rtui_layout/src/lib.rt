@@ -2,7 +2,7 @@
 //! them. Nothing here cuts an area into parts.
 //!
 //! It stands on `rtui_geometry`, for the margin. Only lists of constraints take memory, and a call is
-//! refused only where that runs out.
+//! refused only if that runs out.
 //!
 //! For the layers above, a layout is a record of its five parts (`LayoutData`), and each builder
 //! changes its own part alone. Enums print the name of their variant, and exactly that name is read

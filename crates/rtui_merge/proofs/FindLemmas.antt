@@ -1,4 +1,4 @@
--- A search by a key, where every key in the list has a shape.
+-- A search by a key in a list whose keys all have one shape.
 use Rattle.std.proofs.Common.{◌≡◌, List, [], ◌∷◌, Option, None, Some, refl, ap, ◌∙◌, sym, Bool, true, false, inl, inr}
 use Rattle.std.specs.List.{list_all, find}
 use Rattle.std.specs.Option.{option_map}
@@ -25,7 +25,7 @@ find-passes all test (y ∷ ys) x e found =
       | inr fails ↦ find-passes all test ys x parts.1 (rw fails at found)
     ]
 
--- the same where a part of it is asked for
+-- the same if a part of it is asked for
 pub find-part : {X Y : Type 0} (part : X → Y) (all test : X → Bool) (xs : List X) (y : Y) → list_all all xs ≡ true → option_map part (find test xs) ≡ Some y → (x : X) × (all x ≡ true) × (test x ≡ true) × (part x ≡ y)
 find-part {X = X} part all test xs y e found = part_of (find test xs) refl found
   where

@@ -62,7 +62,7 @@ quick_fuzzy-is : (prev next : BorderSymbol) → quick_fuzzy prev next ≡ fuzzy 
 unfolding fuzzy
 quick_fuzzy-is prev next = quick_plain-is (double_or_thick (square_unless_corner (solid_unless_straight (exact prev next))) next) next
 
--- s is a symbol, with an arm just where a or b has one
+-- s is a symbol, with an arm exactly where a or b has one
 abbrev unites : BorderSymbol → BorderSymbol → BorderSymbol → Bool
 unites a b s =
     is_some (looked_up s)

@@ -13,7 +13,7 @@ use Rattle.rtui_merge.specs.declared.border_symbol.BorderSymbol.{BorderSymbol}
 use Rattle.rtui_merge.specs.Symbols.{Symbol, arms_of, symbols}
 use Rattle.rtui_merge.proofs.FindLemmas.{find-other_shape}
 
--- the text of the character n places behind U+2500
+-- the text of the character n places after U+2500
 abbrev pub text_at : ℕ → List ℕ
 text_at n = 226 ∷ (148 + n / 64) ∷ (128 + n % 64) ∷ []
 

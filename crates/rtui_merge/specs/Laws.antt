@@ -11,13 +11,13 @@ use Rattle.rtui_merge.specs.Merge.{exact, merged}
 abbrev pub MergesWithItself : Type 0
 MergesWithItself = (strategy : MergeStrategy) (text : List ℕ) → merged strategy text text ≡ text
 
--- where a symbol has just the arms of both, Fuzzy gives it as Exact does
+-- if a symbol has just the arms of both, Fuzzy gives it as Exact does
 abbrev pub FuzzyKeepsExact : Type 0
 FuzzyKeepsExact =
     (prev next : List ℕ) → IfSome (arms_of prev) (λ a. IfSome (arms_of next) (λ b.
     IsSome (symbol_of (exact a b)) → merged Fuzzy prev next ≡ merged Exact prev next))
 
--- a text has these arms just where it is the symbol that is found by them
+-- a text has these arms exactly if it is the symbol that is found by them
 abbrev pub FoundByArms : Type 0
 FoundByArms = (text : List ℕ) (arms : BorderSymbol) → (arms_of text ≡ Some arms) ↔ (symbol_of arms ≡ Some text)
 

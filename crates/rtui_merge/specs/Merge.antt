@@ -8,7 +8,7 @@ use Rattle.rtui_merge.specs.declared.border_symbol.BorderSymbol.{BorderSymbol}
 use Rattle.rtui_merge.specs.Arms.{is_nothing, contains, is_straight, is_corner, each_arm, replace, solid}
 use Rattle.rtui_merge.specs.Symbols.{arms_of, symbol_of}
 
--- next's arm, or the one before where next has none
+-- next's arm, or the one before if next has none
 abbrev pub over : LineStyle → LineStyle → LineStyle
 over prev next = if is_nothing next then prev else next
 
@@ -36,14 +36,14 @@ double_or_thick s next =
     then (if contains next Double then replace s Thick Double else replace s Double Thick)
     else s
 
--- the fourth: where there is no such symbol, all plain and double arms become double if next has a double arm, else plain
+-- the fourth: if there is no such symbol, all plain and double arms become double if next has a double arm, else plain
 unfoldable pub double_or_plain : BorderSymbol → BorderSymbol → BorderSymbol
 double_or_plain s next =
     if is_some (symbol_of s)
     then s
     else (if contains next Double then replace s Plain Double else replace s Double Plain)
 
--- the four rules in this order, where next was drawn last
+-- the four rules in this order, if next was drawn last
 unfoldable pub fuzzy : BorderSymbol → BorderSymbol → BorderSymbol
 fuzzy s next = double_or_plain (double_or_thick (square_unless_corner (solid_unless_straight s)) next) next
 
@@ -73,7 +73,7 @@ has_arm s up = not (is_nothing s.up)
 has_arm s left = not (is_nothing s.left)
 has_arm s down = not (is_nothing s.down)
 
--- the symbol has an arm just where one of the two has one
+-- the symbol has an arm exactly if one of the two has one
 abbrev pub HasArmsOfBoth : BorderSymbol → BorderSymbol → BorderSymbol → Type 0
 HasArmsOfBoth a b s = (side : Side) → has_arm s side ≡ (has_arm a side || has_arm b side)
 

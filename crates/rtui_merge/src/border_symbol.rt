@@ -43,7 +43,7 @@ impl LineStyle {
         self as usize
     }
 
-    /// The arm `next`, or this one where there is no `next`.
+    /// The arm `next`, or this one if there is no `next`.
     fn merge(self, next: Self) -> Self
         ensures { result ≡ merge.over self next }
     {
@@ -146,7 +146,7 @@ impl BorderSymbol {
 }
 
 impl BorderSymbol {
-    /// Each arm of `next`, or this symbol's where `next` has none.
+    /// Each arm of `next`, or this symbol's if `next` has none.
     #[tactic(auto, unfolding(crate::specs::Merge::exact))]
     pub fn exact(self, next: Self) -> Self
         ensures { result ≡ merge.exact self next }
@@ -216,7 +216,7 @@ impl BorderSymbol {
         }
     }
 
-    /// These arms in styles for which there is a symbol, where `next` was drawn last.
+    /// These arms in styles for which there is a symbol, if `next` was drawn last.
     #[tactic(auto, unfolding(crate::specs::Merge::fuzzy))]
     pub fn fuzzy(self, next: Self) -> Self
         ensures { result ≡ merge.fuzzy self next }

@@ -10,7 +10,7 @@ pub fn merge_with_itself()
     ensures { MergesWithItself }
 {}
 
-/// Fuzzy differs from Exact only where no symbol has just the arms of both.
+/// Fuzzy differs from Exact only if no symbol has just the arms of both.
 #[tactic(auto, using(crate::proofs::LawLemmas::fuzzy_keeps_exact))]
 pub fn fuzzy_keeps_exact()
     ensures { FuzzyKeepsExact }

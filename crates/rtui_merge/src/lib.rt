@@ -30,10 +30,10 @@ pub enum MergeStrategy {
     /// The new text takes the place of the old one.
     #[default]
     Replace,
-    /// Two border symbols give the symbol that has each arm of the new one, and the old one's arms where the new one
+    /// Two border symbols give the symbol that has each arm of the new one, and the old one's arms if the new one
     /// has none. If there is no such symbol, the new one takes the place of the old one.
     Exact,
-    /// As `Exact`, but where there is no such symbol, the arms change their styles until there is one.
+    /// As `Exact`, but if there is no such symbol, the arms change their styles until there is one.
     Fuzzy,
 }
 

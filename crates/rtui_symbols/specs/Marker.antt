@@ -15,6 +15,6 @@ marker_name Sextant = codes "Sextant"
 marker_name Octant = codes "Octant"
 marker_name (Custom c) = codes "Custom"
 
--- a text is read as the marker with exactly this name, at Custom with the null character, and refused where no marker has it
+-- a text is read as the marker with exactly this name, at Custom with the null character, and refused if no marker has it
 abbrev pub ReadsMarker : List ℕ → Result Marker ParseError → Type 0
 ReadsMarker text r = MatchResult r (λ m. (marker_name m ≡ text) × ((c : ℕ) → m ≡ Custom c → c ≡ 0)) (λ _. (m : Marker) → marker_name m ≢ text)

@@ -1,7 +1,7 @@
 //! What can be printed, as a text on the screen.
 //!
 //! It stands on `rtui_text`. Whatever prints is a [`ToSpan`], a [`ToLine`] and a [`ToText`]: its printed text, owned, in the
-//! style that changes nothing. Contracts name that text where the type states what it prints; where it doesn't, they say
+//! style that changes nothing. Contracts name that text if the type states what it prints; if it doesn't, they say
 //! that it is some text, made so.
 #![tactic(auto)]
 
@@ -18,10 +18,10 @@ use std::fmt;
 /// let span = 42.to_span(alloc)?;
 /// ```
 pub trait ToSpan {
-    // what it prints, where that is stated
+    // what it prints, if that is stated
     ghost printed_text: { Self → Option (List ℕ) };
 
-    /// A span of what it prints; refused where memory is.
+    /// A span of what it prints; refused if memory is.
     fn to_span(&self, alloc: Global) -> Result<Span<'static>, AllocError>
         ensures printed { IfSome (printed_text self.now)
             (λ text. IfOk result (λ span. span ≡ plain text)) }
@@ -38,10 +38,10 @@ impl<T: fmt::Display> ToSpan for T {
 
 /// What can be made a line.
 pub trait ToLine {
-    // what it prints, where that is stated
+    // what it prints, if that is stated
     ghost printed_text: { Self → Option (List ℕ) };
 
-    /// A line of what it prints, as `Line::raw_string` makes it; refused where memory is.
+    /// A line of what it prints, as `Line::raw_string` makes it; refused if memory is.
     fn to_line(&self, alloc: Global) -> Result<Line<'static>, AllocError>
         ensures printed { IfSome (printed_text self.now)
             (λ text. IfOk result (λ line. line ≡ raw_line text)) }
@@ -58,10 +58,10 @@ impl<T: fmt::Display> ToLine for T {
 
 /// What can be made a text.
 pub trait ToText {
-    // what it prints, where that is stated
+    // what it prints, if that is stated
     ghost printed_text: { Self → Option (List ℕ) };
 
-    /// A text of what it prints, as `Text::raw_string` makes it; refused where memory is.
+    /// A text of what it prints, as `Text::raw_string` makes it; refused if memory is.
     fn to_text(&self, alloc: Global) -> Result<Text<'static>, AllocError>
         ensures printed { IfSome (printed_text self.now)
             (λ printed. IfOk result (λ text. text ≡ raw_text printed)) }
