@@ -1,3 +1,4 @@
 pub mod GraphemeLemmas
 pub mod PrintableLemmas
 pub mod LineLemmas
+pub mod BreakLemmas

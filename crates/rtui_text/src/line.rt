@@ -12,7 +12,7 @@ ghost use Rattle.rtui_text.specs.contracts.spans.SpansHash.TheImpl.Laws.{respect
 ghost use Rattle.rtui_text.specs.contracts.line.LineHeadEq.TheImpl.Laws.{laws-law as head_laws};
 ghost use Rattle.rtui_text.specs.contracts.line.LineHeadHash.TheImpl.Laws.{respects_eq-law as head_hashes};
 ghost use Rattle.rtui_style.specs.Style.{patch, reset_style};
-ghost use Rattle.rtui_text.specs.Text.{SpanData, line_of, raw_line, text_of, with_span};
+ghost use Rattle.rtui_text.specs.Text.{IsUnbroken, SpanData, line_of, raw_line, text_of, with_span};
 ghost use Rattle.rtui_text.specs.Widths.{line_width};
 ghost use Rattle.rtui_text.specs.Graphemes.{line_graphemes, line_graphemes_left};
 ghost use Rattle.rtui_text.specs.Display.{line_content, printed_spans};
@@ -77,6 +77,16 @@ impl<'a> Line<'a> {
             spans.push(Span::raw(line))?;
         }
         Ok(Line::from(spans))
+    }
+
+    // The line that `raw` makes of a text without line breaks, which aren't looked for.
+    pub(crate) fn unbroken(alloc: Global, content: &'a str) -> Result<Line<'a>, AllocError>
+        ensures { IsUnbroken content.now → IfOk result (λ l. l ≡ raw_line content.now) }
+    {
+        if content.is_empty() {
+            return Ok(Line::default_in(alloc));
+        }
+        Line::from_span(alloc, Span::raw(content))
     }
 
     /// The line that `raw` makes of a text, with a style of the whole; refused where memory is.

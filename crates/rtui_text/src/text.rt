@@ -68,7 +68,7 @@ impl<'a> Text<'a> {
         }
         let mut lines = Lines::new(alloc);
         for line in content.lines() {
-            lines.push(Line::raw(alloc, line)?)?;
+            lines.push(Line::unbroken(alloc, line)?)?;
         }
         Ok(Text::from(lines))
     }

@@ -1,0 +1,70 @@
+-- Lines of a text: none of them has a line break, and a text without one is its only line.
+use Rattle.std.proofs.Common.{◌≡◌, ℕ, zero, suc, ◌<◌, ◌-◌, Bool, true, false, ◌==◌, List, [], ◌∷◌, length, take, get_or, if◌then◌else◌, refl, arith}
+use Rattle.std.specs.Prelude.{◌||◌, slice_index}
+use Rattle.std.proofs.Math.Bool.{cond}
+use Rattle.std.proofs.lemmas.Bool.Decides.{nat_tests}
+use Rattle.std.specs.List.{list_any, slice_split, onto_first}
+use Rattle.std.specs.Str.Lines.{lines, lines_of_parts, strip_carriage_return}
+use Rattle.rtui_text.specs.Text.{IsUnbroken, raw_line, line_of, plain}
+
+none_of : (a b : Bool) → (a || b) ≡ false → (a ≡ false) × (b ≡ false)
+none_of true b e = let h : ⊥ = cc in absurd h
+none_of false b e = (refl, e)
+
+unbroken-one : (x : List ℕ) → IsUnbroken x → slice_split (λ b. b == 10) x ≡ x ∷ []
+unbroken-one [] e = refl
+unbroken-one (b ∷ bs) e = let h = none_of (b == 10) (list_any (λ c. c == 10) bs) e in rw (h.0, unbroken-one bs h.1) refl
+
+-- a text without line breaks is its only line, or has none if it is empty
+pub line-empty : (x : List ℕ) → (length x == 0) ≡ true → raw_line x ≡ line_of []
+line-empty [] none = refl
+line-empty (b ∷ bs) none = let h : ⊥ = grind (arith, nat_tests) in absurd h
+
+pub line-whole : (x : List ℕ) → IsUnbroken x → (length x == 0) ≡ false → raw_line x ≡ line_of (plain x ∷ [])
+line-whole x e some = rw (unbroken-one x e, some) refl
+
+abbrev AreUnbroken : List (List ℕ) → Type 0
+AreUnbroken [] = Unit {0}
+AreUnbroken (x ∷ xs) = IsUnbroken x × AreUnbroken xs
+
+onto-unbroken : (b : ℕ) (parts : List (List ℕ)) → (b == 10) ≡ false → AreUnbroken parts → AreUnbroken (onto_first b parts)
+onto-unbroken b [] e all = (rw e refl, tt)
+onto-unbroken b (x ∷ xs) e all = (rw e all.0, all.1)
+
+more-unbroken : (t : Bool) (b : ℕ) (parts : List (List ℕ)) → (b == 10) ≡ t → AreUnbroken parts → AreUnbroken (cond t ([] ∷ parts) (onto_first b parts))
+more-unbroken true b parts e all = (refl, all)
+more-unbroken false b parts e all = onto-unbroken b parts e all
+
+parts-unbroken : (bs : List ℕ) → AreUnbroken (slice_split (λ b. b == 10) bs)
+parts-unbroken [] = (refl, tt)
+parts-unbroken (b ∷ bs) = more-unbroken (b == 10) b (slice_split (λ c. c == 10) bs) refl (parts-unbroken bs)
+
+take-unbroken : (n : ℕ) (x : List ℕ) → IsUnbroken x → IsUnbroken (take n x)
+take-unbroken zero x e = refl
+take-unbroken (suc n) [] e = refl
+take-unbroken (suc n) (b ∷ bs) e = let h = none_of (b == 10) (list_any (λ c. c == 10) bs) e in rw h.0 (take-unbroken n bs h.1)
+
+either-unbroken : (t : Bool) (x y : List ℕ) → IsUnbroken x → IsUnbroken y → IsUnbroken (if t then x else y)
+either-unbroken true x y p q = p
+either-unbroken false x y p q = q
+
+strip-unbroken : (x : List ℕ) → IsUnbroken x → IsUnbroken (strip_carriage_return x)
+strip-unbroken x e = either-unbroken (slice_index x (length x - 1) == 13) (take (length x - 1) x) x (take-unbroken (length x - 1) x e) e
+
+last-unbroken : (t : Bool) (x : List ℕ) → IsUnbroken x → AreUnbroken (if t then [] else x ∷ [])
+last-unbroken true x e = tt
+last-unbroken false x e = (e, tt)
+
+lines_of_parts-unbroken : (ps : List (List ℕ)) → AreUnbroken ps → AreUnbroken (lines_of_parts ps)
+lines_of_parts-unbroken [] all = tt
+lines_of_parts-unbroken (x ∷ []) all = last-unbroken (length x == 0) x all.0
+lines_of_parts-unbroken (x ∷ y ∷ more) all = (strip-unbroken x all.0, lines_of_parts-unbroken (y ∷ more) all.1)
+
+at-unbroken : (xs : List (List ℕ)) (i : ℕ) (x : List ℕ) → AreUnbroken xs → i < length xs → IsUnbroken (get_or xs i x)
+at-unbroken [] i x all lt = absurd (omega arith)
+at-unbroken (y ∷ ys) zero x all lt = all.0
+at-unbroken (y ∷ ys) (suc i) x all lt = at-unbroken ys i x all.1 (omega arith)
+
+-- no line of a text has a line break
+pub line-unbroken : (bs : List ℕ) (i : ℕ) (x : List ℕ) → i < length (lines bs) → x ≡ get_or (lines bs) i x → IsUnbroken x
+line-unbroken bs i x lt is = rw is (at-unbroken (lines bs) i x (lines_of_parts-unbroken (slice_split (λ b. b == 10) bs) (parts-unbroken bs)) lt)
