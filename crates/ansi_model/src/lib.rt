@@ -7,17 +7,18 @@
 //! symbol was written over.
 #![tactic(auto)]
 
-mod calls;
 mod glyph;
 pub mod laws;
-mod scrolling;
+mod screen;
 mod sequences;
 mod sgr;
 mod symbol;
 
-pub use calls::{clear_screen, make_blank, set_cursor_position, set_visible};
 pub use glyph::{Glyph, glyph_of, is_printed};
-pub use scrolling::{append_lines, scroll_region_down, scroll_region_up};
+pub use screen::{
+    append_lines, clear_screen, make_blank, scroll_region_down, scroll_region_up,
+    set_cursor_position, set_visible,
+};
 pub use sequences::{
     delete_lines, erase, erase_all, hide_cursor, insert_lines, line_feeds, move_to, reset_region,
     set_region, show_cursor,

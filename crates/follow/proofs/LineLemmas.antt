@@ -9,10 +9,10 @@ use Rattle.logview.specs.Views.{IsViewOf}
 use Rattle.logview.specs.declared.view.LogView.{LogView}
 use Rattle.logview.proofs.LogLemmas.{view_more}
 use Rattle.ratatui_ansi.specs.declared.error.AnsiError.{AnsiError}
-use Rattle.follow.specs.Ends.{StopsAt, StopsAfter, StopsText}
+use Rattle.follow.specs.Ends.{StopsAtNext, StopsAfter, StopsText}
 use Rattle.follow.specs.declared.fault.Fault.{Fault}
 use Rattle.follow.specs.declared.fault.Fault.TheVariants.{Terminal, Read, Write, Lines}
-use Rattle.follow.specs.Lines.{shown_line, AreLinesOf, ShowsText, MovesOn}
+use Rattle.follow.specs.Lines.{shown_line, AreLinesOf, ShowsInput, MovesOn}
 
 some-same : {A : Type 0} {a b : A} → Some a ≡ Some b → b ≡ a
 some-same {A} {a} {b} e = ap (λ o. unwrap_or o a) (sym e)
@@ -59,7 +59,7 @@ turned (Some text) None now u v w read moves = λ size view. absurd (none-some (
 turned (Some text) (Some rest) now u v w read moves = λ size view. has-read-more size text rest now v w (read size view) moves
 
 has-read-all : {W E : Type 0} (size : Size) (text rest : List ℕ) (now : Option (List ℕ)) (v w : LogView (BackendState W) E) (read : HasRead size text (Some rest) v) → MovesOn rest false now v w
-    → (now ≡ Some []) × ShowsText size text w
+    → (now ≡ Some []) × ShowsInput size text w
 has-read-all size text rest now v w read moves =
     let same : read.rest ≡ [] = some-same read.rest_is ∙ moves.0 in (
       moves.1,
@@ -73,12 +73,12 @@ has-read-all size text rest now v w read moves =
 -- nothing is left
 pub ended : {W E : Type 0} (first left now : Option (List ℕ)) (u v w : LogView (BackendState W) E)
     → IfSome first (λ text. (size : Size) → IsViewOf shown_by size [] u → HasRead size text left v) → IfSome left (λ text. MovesOn text false now v w)
-    → IfSome first (λ text. (size : Size) → IsViewOf shown_by size [] u → (now ≡ Some []) × ShowsText size text w)
+    → IfSome first (λ text. (size : Size) → IsViewOf shown_by size [] u → (now ≡ Some []) × ShowsInput size text w)
 ended None left now u v w read moves = tt
 ended (Some text) None now u v w read moves = λ size view. absurd (none-some (read size view).rest_is)
 ended (Some text) (Some rest) now u v w read moves = λ size view. has-read-all size text rest now v w (read size view) moves
 
-after-some : {W : Type 0} (text : List ℕ) (v w : LogView (BackendState W) AnsiError) (fault : Fault) → StopsAt text v w fault → StopsAfter text v w fault
+after-some : {W : Type 0} (text : List ℕ) (v w : LogView (BackendState W) AnsiError) (fault : Fault) → StopsAtNext text v w fault → StopsAfter text v w fault
 after-some text v w (Terminal error) stops = stops
 after-some text v w (Read error) stops = stops
 after-some text v w (Write error) stops = absurd stops
@@ -99,7 +99,7 @@ stops-after size text rest v w fault read stops =
 
 -- the next line isn't shown
 pub stopped : {W : Type 0} (first left : Option (List ℕ)) (u v w : LogView (BackendState W) AnsiError) (fault : Fault)
-    → IfSome first (λ text. (size : Size) → IsViewOf shown_by size [] u → HasRead size text left v) → IfSome left (λ text. StopsAt text v w fault)
+    → IfSome first (λ text. (size : Size) → IsViewOf shown_by size [] u → HasRead size text left v) → IfSome left (λ text. StopsAtNext text v w fault)
     → IfSome first (λ text. (size : Size) → IsViewOf shown_by size [] u → StopsText size text w fault)
 stopped None left u v w fault read stops = tt
 stopped (Some text) None u v w fault read stops = λ size view. absurd (none-some (read size view).rest_is)
@@ -115,6 +115,6 @@ overrun (Some text) (Some rest) u v read = λ size view. stops-after size text r
 
 -- all was read that there was
 pub all-read : {W E : Type 0} (size : Size) (first now : Option (List ℕ)) (v w : LogView (BackendState W) E) → IsViewOf shown_by size [] v
-    → IfSome first (λ text. (size : Size) → IsViewOf shown_by size [] v → (now ≡ Some []) × ShowsText size text w) → IfSome first (λ text. now ≡ Some [])
+    → IfSome first (λ text. (size : Size) → IsViewOf shown_by size [] v → (now ≡ Some []) × ShowsInput size text w) → IfSome first (λ text. now ≡ Some [])
 all-read size None now v w view reads = tt
 all-read size (Some text) now v w view reads = (reads size view).0

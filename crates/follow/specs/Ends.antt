@@ -13,11 +13,11 @@ use Rattle.follow.specs.declared.fault.Fault.{Fault}
 use Rattle.follow.specs.declared.fault.Fault.TheVariants.{Terminal, Read, Write, Lines}
 
 -- why the next line of a text isn't shown: it can't be read, and the view stays; or the terminal or memory refuses it, as a push is refused
-abbrev pub StopsAt : {W : Type 0} → List ℕ → LogView (BackendState W) AnsiError → LogView (BackendState W) AnsiError → Fault → Type 0
-StopsAt text v w (Terminal error) = IsFollowing shown_by v → RefusesPush shown_by (shown_line (take_through 10 text)) v w error
-StopsAt text v w (Read error) = w ≡ v
-StopsAt text v w (Write error) = ⊥
-StopsAt text v w Lines = ⊥
+abbrev pub StopsAtNext : {W : Type 0} → List ℕ → LogView (BackendState W) AnsiError → LogView (BackendState W) AnsiError → Fault → Type 0
+StopsAtNext text v w (Terminal error) = IsFollowing shown_by v → RefusesPush shown_by (shown_line (take_through 10 text)) v w error
+StopsAtNext text v w (Read error) = w ≡ v
+StopsAtNext text v w (Write error) = ⊥
+StopsAtNext text v w Lines = ⊥
 
 -- the same, or all lines were read that can be counted, and the view stays
 abbrev pub StopsAfter : {W : Type 0} → List ℕ → LogView (BackendState W) AnsiError → LogView (BackendState W) AnsiError → Fault → Type 0

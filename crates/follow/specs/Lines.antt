@@ -34,7 +34,7 @@ AreLinesOf text [] = text ≡ []
 AreLinesOf text (line ∷ lines) = (0 < length line) × (line ≡ take_through 10 text) × AreLinesOf (drop_through 10 text) lines
 
 -- the view is that of all lines of a text, each as it is shown, on a screen of this size
-pub record ShowsText {W E : Type 0} (size : Size) (text : List ℕ) (v : LogView (BackendState W) E) : Type 0 where
+pub record ShowsInput {W E : Type 0} (size : Size) (text : List ℕ) (v : LogView (BackendState W) E) : Type 0 where
   pub lines : List (List ℕ)
   pub cut : AreLinesOf text lines
   pub view : IsViewOf shown_by size (map shown_line lines) v

@@ -10,8 +10,8 @@ ghost use Rattle.std.specs.Io.KnownBytes.{Appends};
 ghost use Rattle.ratatui_ansi.specs.Backend.{shown_by};
 ghost use Rattle.logview.specs.Views.{IsViewOf};
 ghost use Rattle.ansi_model.specs.Sends.{Performs};
-ghost use Rattle.follow.specs.Lines.{MovesOn, ShowsText};
-ghost use Rattle.follow.specs.Ends.{StopsAt, StopsText, IsOfShowing, EndsBy, left_below};
+ghost use Rattle.follow.specs.Lines.{MovesOn, ShowsInput};
+ghost use Rattle.follow.specs.Ends.{StopsAtNext, StopsText, IsOfShowing, EndsBy, left_below};
 
 mod fault;
 mod shown;
@@ -42,7 +42,7 @@ fn push_line<R: BufRead, W: Write + Drop>(
     ensures ok { IfOk result (λ is_more. IfSome (R.remaining reader.old) (λ text.
         MovesOn text is_more (R.remaining reader.new) view.old view.new)) }
     ensures stopped { IfErr result (λ fault. IfSome (R.remaining reader.old) (λ text.
-        StopsAt text view.old view.new fault)) }
+        StopsAtNext text view.old view.new fault)) }
     ensures why { IfErr result IsOfShowing }
 {
     line.clear();
@@ -67,7 +67,7 @@ fn push_lines<R: BufRead, W: Write + Drop>(
 ) -> Result<(), Fault>
     ensures ok { OnOk result (IfSome (R.remaining reader.old) (λ text. (size : Size)
         → IsViewOf shown_by size [] view.old
-        → (R.remaining reader.new ≡ Some []) × ShowsText size text view.new)) }
+        → (R.remaining reader.new ≡ Some []) × ShowsInput size text view.new)) }
     ensures stopped { IfErr result (λ fault. IfSome (R.remaining reader.old) (λ text.
         (size : Size) → IsViewOf shown_by size [] view.old
         → StopsText size text view.new fault)) }

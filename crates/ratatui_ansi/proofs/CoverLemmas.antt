@@ -16,7 +16,7 @@ use Rattle.ratatui_ansi.specs.Covered.{IsCovered, IsOpen, IsOrdinary}
 use Rattle.ansi_model.specs.Symbols.{is_one_plain, printed_columns}
 use Rattle.ratatui_ansi.specs.Frame.{IsVacant}
 use Rattle.ratatui_ansi.specs.Refusals.{lent_update, StopsInDiff}
-use Rattle.ratatui_ansi.specs.declared.frame.Refusal.TheVariants.{Cut}
+use Rattle.ratatui_ansi.specs.declared.draw.Refusal.TheVariants.{Cut}
 use Rattle.ansi_model.specs.Screens.{HasOwnWidth, HaveOwnWidths, IsWhole, IsWholeAt}
 
 -- ---- a column after the first one of its symbol is covered

@@ -1,20 +1,22 @@
 -- What a sent symbol leaves on a terminal.
-use Rattle.std.proofs.Common.{◌≡◌, ℕ, ◌+◌, ◌-◌, ◌<◌, ◌&&◌, ◌||◌, not, min, Bool, List, [], ◌∷◌, ◌++◌, ◌==◌, length, IsTrue, IsUtf8, chars, true, false, refl, sym, ap, ap₂, ◌∙◌, arith, append-nil, if◌then◌else◌, subst, nat_lt, unwrap_or, Some, None}
+use Rattle.std.proofs.Common.{IfSome, Option, ◌≡◌, ℕ, ◌+◌, ◌-◌, ◌<◌, ◌&&◌, ◌||◌, not, min, Bool, List, [], ◌∷◌, ◌++◌, ◌==◌, length, IsTrue, IsUtf8, chars, true, false, refl, sym, ap, ap₂, ◌∙◌, arith, append-nil, if◌then◌else◌, subst, nat_lt, Some, None}
 use lib.Utf8.{scalar, encode, encodes, low_scalar}
 use Rattle.std.specs.List.{list_all}
+use Rattle.std.specs.Bool.{then_some}
+use Rattle.ratatui_core.specs.Layout.{Position}
 use Rattle.std.specs.Str.{is_utf8}
 use Rattle.std.proofs.lemmas.Bool.Decides.{nat_tests}
 use Rattle.std.proofs.lemmas.List.Folds.{list_all-append}
 use Rattle.std.proofs.lemmas.Str.{chars-nil, chars-append, chars-encodes, encodes-chars, IsUtf8-encode, IsUtf8-append, IsUtf8-nil, IsUtf8-from_is_utf8, is_utf8-from_IsUtf8}
 use Rattle.ratatui_core.specs.Buffer.{text_width}
 use Rattle.ansi_model.specs.declared.sgr.Sgr.{Sgr}
-use Rattle.ratatui_ansi.specs.declared.drawing.Brush.{Brush}
+use Rattle.ratatui_ansi.specs.declared.text_cursor.TextCursor.{TextCursor}
 use Rattle.ansi_model.specs.Emulator.{Emulator, standing, rested, printed, prints, types, cursor_moved}
 use Rattle.ansi_model.specs.Symbols.{is_plain_char, is_shown, has_columns, is_symbol, is_single, begins_anew, only_of, is_one_plain, is_printed, printed_columns}
 use Rattle.ansi_model.specs.Emulator.Phase.{Ground}
 use Rattle.ansi_model.specs.Sequences.{feed}
 use Rattle.ansi_model.specs.Sends.{Sends, Performs, typed}
-use Rattle.ratatui_ansi.specs.Drawing.{is_at, IsDrawnBy, drawn_at, Prints}
+use Rattle.ratatui_ansi.specs.Drawing.{is_at, is_place, WritesAt, IsDrawnBy, drawn_at, Prints}
 use Rattle.ansi_model.proofs.ReadLemmas.{Sends-then}
 use Rattle.ansi_model.proofs.TextLemmas.{and-both}
 use Rattle.ansi_model.proofs.SymbolLemmas.{symbol-utf8, after-standing, alone-standing, plain-printed, plain-single}
@@ -22,26 +24,29 @@ use Rattle.ansi_model.proofs.SymbolLemmas.{symbol-utf8, after-standing, alone-st
 -- ---- a symbol in its place
 
 -- a brush knows where the next plain character would be printed only after a plain one
-abbrev pub KnowsPlace : ℕ → ℕ → List ℕ → Brush → Type 0
-KnowsPlace x y symbol after = IsTrue after.is_placed → (after.x ≡ x + 1) × (after.y ≡ y) × (is_one_plain (chars symbol) ≡ true)
+abbrev pub KnowsPlace : ℕ → ℕ → List ℕ → TextCursor → Type 0
+KnowsPlace x y symbol after = IfSome after.at (λ p. (p.x ≡ x + 1) × (p.y ≡ y) × (is_one_plain (chars symbol) ≡ true))
+
+-- a place that is known after a plain character is the next one
+pub known-by : (b : Bool) (x y : ℕ) (symbol : List ℕ) → is_one_plain (chars symbol) ≡ true → IfSome (then_some b (record { x = x + 1; y = y })) (λ (p : Position). (p.x ≡ x + 1) × (p.y ≡ y) × (is_one_plain (chars symbol) ≡ true))
+known-by true x y symbol one = (refl, refl, one)
+known-by false x y symbol one = tt
 
 -- after a symbol that was printed the terminal is drawn as the brush says
-drawn-after : (x y : ℕ) (sgr : Sgr) (symbol : List ℕ) (after : Brush) (t u : Emulator) → u.phase ≡ Ground → after.sgr ≡ sgr → KnowsPlace x y symbol after
-    → rested u ≡ prints symbol (printed_columns symbol) (drawn_at x y sgr t) → (IsTrue after.is_placed → IsUtf8 u.text × (list_all is_plain_char (chars u.text) ≡ true)) → IsDrawnBy after u
-drawn-after x y sgr symbol after t u ground same knows e placed = record {
-  phase = ground;
-  sgr = ap (λ (v : Emulator). v.sgr) e ∙ sym same;
-  placed = λ known.
-      let p = placed known in
-      let at = knows known in
-      let one : printed_columns symbol ≡ 1 = rw at.2 refl in
-      record {
-        utf8 = p.0;
-        plain = p.1;
-        column = ap (λ (v : Emulator). v.x) e ∙ ap (λ k. x + k) one ∙ sym at.0;
-        row = ap (λ (v : Emulator). v.y) e ∙ sym at.1;
-      };
-}
+drawn-after : (x y : ℕ) (sgr : Sgr) (symbol : List ℕ) (after : TextCursor) (t u : Emulator) → u.phase ≡ Ground → after.sgr ≡ sgr → KnowsPlace x y symbol after
+    → rested u ≡ prints symbol (printed_columns symbol) (drawn_at x y sgr t) → (is_one_plain (chars symbol) ≡ true → IsUtf8 u.text × (list_all is_plain_char (chars u.text) ≡ true)) → IsDrawnBy after u
+drawn-after x y sgr symbol after t u ground same knows e plain = record { phase = ground; sgr = ap (λ (v : Emulator). v.sgr) e ∙ sym same; placed = placed after.at knows }
+  where
+    placed : (at : Option Position) → IfSome at (λ p. (p.x ≡ x + 1) × (p.y ≡ y) × (is_one_plain (chars symbol) ≡ true)) → IfSome at (λ p. WritesAt p.x p.y u)
+    placed None known = tt
+    placed (Some p) known =
+        let one : printed_columns symbol ≡ 1 = rw known.2 refl in
+        record {
+          utf8 = (plain known.2).0;
+          plain = (plain known.2).1;
+          column = ap (λ (v : Emulator). v.x) e ∙ ap (λ k. x + k) one ∙ sym known.0;
+          row = ap (λ (v : Emulator). v.y) e ∙ sym known.1;
+        }
 
 -- one plain character is plain text
 one-plain : (cs : List ℕ) → is_one_plain cs ≡ true → list_all is_plain_char cs ≡ true
@@ -58,34 +63,34 @@ at-drawn x y sgr t ex ey ep = rw (← ex, ← ey, ← ep) refl
 moved-drawn : (x y : ℕ) (sgr : Sgr) (t : Emulator) → drawn_at x y sgr (cursor_moved x y t) ≡ drawn_at x y sgr t
 moved-drawn x y sgr t = refl
 
-pub at-parts : (x y : ℕ) (b : Brush) → is_at x y b ≡ true → IsTrue b.is_placed × (b.x ≡ x) × (b.y ≡ y)
-at-parts x y b e =
-    let placed : IsTrue b.is_placed = grind (arith, nat_tests) in
-    let column : b.x ≡ x = grind (arith, nat_tests) in
-    let row : b.y ≡ y = grind (arith, nat_tests) in
-    (placed, column, row)
+writes-at : (x y : ℕ) (at : Option Position) (t : Emulator) → is_place x y at ≡ true → IfSome at (λ p. WritesAt p.x p.y t) → WritesAt x y t
+writes-at x y None t e known = let h : ⊥ = cc in absurd h
+writes-at x y (Some p) t e known =
+    let column : p.x ≡ x = grind (arith, nat_tests) in
+    let row : p.y ≡ y = grind (arith, nat_tests) in
+    record { utf8 = known.utf8; plain = known.plain; column = known.column ∙ column; row = known.row ∙ row }
 
 -- a plain character where the cursor is
-pub put-here : (w h x y : ℕ) (before after : Brush) (c : ℕ) (old new : List ℕ) → Sends old new (typed (encode c)) → is_plain_char c ≡ true → IsTrue before.is_placed → before.x ≡ x → before.y ≡ y
-    → after.sgr ≡ before.sgr → after.x ≡ x + 1 → after.y ≡ y → Prints w h old before x y before.sgr (encode c) new after
-put-here w h x y before after c old new sends plain placed at_x at_y same column row =
+pub put-here : (w h x y : ℕ) (before after : TextCursor) (c : ℕ) (old new : List ℕ) → Sends old new (typed (encode c)) → is_plain_char c ≡ true → is_at x y before ≡ true
+    → after.sgr ≡ before.sgr → KnowsPlace x y (encode c) after → Prints w h old before x y before.sgr (encode c) new after
+put-here w h x y before after c old new sends plain at same knows =
     let symbol = encode c in
     let single = plain-single c plain in
     let text = (and-both (is_symbol symbol) (is_one_plain (chars symbol) || not (list_all is_plain_char (chars symbol))) (plain-printed c plain)).0 in
     let utf8 = symbol-utf8 symbol text in
     let columns : 1 ≡ printed_columns symbol = rw single refl in
     let shown : (t : Emulator) → IsDrawnBy before t → rested (feed sends.bytes t) ≡ prints symbol (printed_columns symbol) (drawn_at x y before.sgr (rested t)) = λ t drawn.
-    let here = drawn.placed placed in
+    let here = writes-at x y before.at t at drawn.placed in
     ap rested (sends.read t drawn.phase) ∙ ap (λ (v : Emulator). record v { phase = Ground }) (after-standing symbol t text single here.utf8 here.plain)
-    ∙ ap₂ (λ n v. prints symbol n v) columns (at-drawn x y before.sgr (rested t) (here.column ∙ at_x) (here.row ∙ at_y) drawn.sgr) in
+    ∙ ap₂ (λ n v. prints symbol n v) columns (at-drawn x y before.sgr (rested t) here.column here.row drawn.sgr) in
     record {
       bytes = sends.bytes;
       appended = sends.appended;
       drawn = λ t wide high drawn.
-          let here = drawn.placed placed in
+          let here = writes-at x y before.at t at drawn.placed in
           let e : feed sends.bytes t ≡ typed symbol t = sends.read t drawn.phase in
-          drawn-after x y before.sgr symbol after (rested t) (feed sends.bytes t) (ap (λ (v : Emulator). v.phase) e ∙ drawn.phase) same (λ known. (column, row, single)) (shown t drawn)
-          (λ known. (
+          drawn-after x y before.sgr symbol after (rested t) (feed sends.bytes t) (ap (λ (v : Emulator). v.phase) e ∙ drawn.phase) same knows (shown t drawn)
+          (λ one. (
             subst IsUtf8 (sym (ap (λ (v : Emulator). v.text) e)) (IsUtf8-append t.text symbol here.utf8 utf8),
             ap (λ (v : Emulator). list_all is_plain_char (chars v.text)) e ∙ more-plain t.text symbol here.utf8 here.plain (one-plain (chars symbol) single),
           ));
@@ -93,7 +98,7 @@ put-here w h x y before after c old new sends plain placed at_x at_y same column
     }
 
 -- a symbol in a place, with a move
-pub put-there : (w h x y : ℕ) (before after : Brush) (symbol old first new : List ℕ) → x < w → y < h → Performs old first (cursor_moved x y) → Sends first new (typed symbol)
+pub put-there : (w h x y : ℕ) (before after : TextCursor) (symbol old first new : List ℕ) → x < w → y < h → Performs old first (cursor_moved x y) → Sends first new (typed symbol)
     → is_printed symbol ≡ true → after.sgr ≡ before.sgr → KnowsPlace x y symbol after → Prints w h old before x y before.sgr symbol new after
 put-there w h x y before after symbol old first new x_in y_in moves sends is same knows =
     let sgr = before.sgr in
@@ -113,16 +118,17 @@ put-there w h x y before after symbol old first new x_in y_in moves sends is sam
           let e : feed both.bytes t ≡ typed symbol (cursor_moved x y (rested t)) = both.read t drawn.phase in
           let only : (feed both.bytes t).text ≡ symbol = ap (λ (v : Emulator). v.text) e in
           drawn-after x y sgr symbol after (rested t) (feed both.bytes t) (ap (λ (v : Emulator). v.phase) e) same knows (shown t wide high drawn)
-          (λ known. (subst IsUtf8 (sym only) (symbol-utf8 symbol text), ap (λ xs. list_all is_plain_char (chars xs)) only ∙ one-plain (chars symbol) (knows known).2));
+          (λ one. (subst IsUtf8 (sym only) (symbol-utf8 symbol text), ap (λ xs. list_all is_plain_char (chars xs)) only ∙ one-plain (chars symbol) one));
       printed = shown;
     }
 
 -- a symbol after which no place is known
-pub put_unplaced : (w h x y : ℕ) (before after : Brush) (symbol old first new : List ℕ) → Performs old first (cursor_moved x y) → Sends first new (typed symbol) → is_printed symbol ≡ true
-    → after.sgr ≡ before.sgr → after.is_placed ≡ false → x < w → y < h → Prints w h old before x y before.sgr symbol new after
+pub put_unplaced : (w h x y : ℕ) (before after : TextCursor) (symbol old first new : List ℕ) → Performs old first (cursor_moved x y) → Sends first new (typed symbol) → is_printed symbol ≡ true
+    → after.sgr ≡ before.sgr → after.at ≡ None → x < w → y < h → Prints w h old before x y before.sgr symbol new after
 put_unplaced w h x y before after symbol old first new moves sends is same unplaced column row =
-    put-there w h x y before after symbol old first new column row moves sends is same (λ known. let none : ⊥ = cc in absurd none)
+    put-there w h x y before after symbol old first new column row moves sends is same
+    (subst (λ at. IfSome at (λ p. (p.x ≡ x + 1) × (p.y ≡ y) × (is_one_plain (chars symbol) ≡ true))) (sym unplaced) tt)
 
 -- a brush with the rendition that it has
-pub brush-kept : (b : Brush) (sgr : Sgr) → b.sgr ≡ sgr → b ≡ record b { sgr = sgr }
+pub brush-kept : (b : TextCursor) (sgr : Sgr) → b.sgr ≡ sgr → b ≡ record b { sgr = sgr }
 brush-kept b sgr e = rw (← e) refl

@@ -14,8 +14,8 @@ use Rattle.ratatui_core.specs.Backend.{Draws}
 use Rattle.ratatui_core.proofs.BackendLemmas.{Draws-none, Draws-push}
 use Rattle.ratatui_core.specs.DiffOption as DiffOption
 use Rattle.ansi_model.specs.declared.sgr.Sgr.{Sgr}
-use Rattle.ratatui_ansi.specs.declared.drawing.Brush.{Brush}
-use Rattle.ratatui_ansi.specs.declared.frame.Drawing.{Drawing}
+use Rattle.ratatui_ansi.specs.declared.text_cursor.TextCursor.{TextCursor}
+use Rattle.ratatui_ansi.specs.declared.draw.DrawState.{DrawState}
 use Rattle.ansi_model.specs.declared.glyph.Glyph.{Glyph}
 use Rattle.ansi_model.specs.declared.glyph.Glyph.TheVariants.{Plain}
 use Rattle.ansi_model.specs.Columns.{Columns, look_in, is_continuation}
@@ -26,7 +26,7 @@ use Rattle.ansi_model.specs.Emulator.{Emulator, rested, run, with_sgr}
 use Rattle.ansi_model.specs.Symbols.{is_plain_char, is_one_plain, is_printed, printed_columns, glyph_columns}
 use Rattle.ansi_model.specs.Sequences.{feed}
 use Rattle.ansi_model.specs.Screens.{screen_shown, HasOwnWidth, IsWhole, IsBlankBeyond, IsIdle, put_columns}
-use Rattle.ratatui_ansi.specs.Drawing.{printed_at, blanked, IsDrawnBy, ChangesSgr, Paints, Prints}
+use Rattle.ratatui_ansi.specs.Drawing.{printed_at, blanked, WritesAt, IsDrawnBy, ChangesSgr, Paints, Prints}
 use Rattle.ratatui_ansi.specs.Drawing.ChangesSgr.{Stays, Sets}
 use Rattle.ratatui_ansi.specs.Tracker.{IsAwaiting}
 use Rattle.ratatui_ansi.specs.Frame.{IsTail, laid, is_fit, is_sendable_on, IsGlyph, IsVacant, IsDrawing, AreMarked, Covers, SendsUpdates, SendsDraw}
@@ -96,7 +96,7 @@ blanked-torn x y n end (suc m) k look c t whole left tail same reached high a b 
 abbrev pub KeepsSize : (Emulator → Emulator) → Type 0
 KeepsSize effect = (t : Emulator) → ((effect t).width ≡ t.width) × ((effect t).height ≡ t.height)
 
-pub Paints-then : (w h : ℕ) (a b c : List ℕ) (p q r : Brush) (f g : Emulator → Emulator) → KeepsSize f → Paints w h a p f b q → Paints w h b q g c r → Paints w h a p (λ t. g (f t)) c r
+pub Paints-then : (w h : ℕ) (a b c : List ℕ) (p q r : TextCursor) (f g : Emulator → Emulator) → KeepsSize f → Paints w h a p f b q → Paints w h b q g c r → Paints w h a p (λ t. g (f t)) c r
 Paints-then w h a b c p q r f g keeps first second =
     let fed : (t : Emulator) → feed (first.bytes ++ second.bytes) t ≡ feed second.bytes (feed first.bytes t) = feed-append first.bytes second.bytes in
     let wide : (t : Emulator) → (rested t).width ≡ w → (rested t).height ≡ h → IsDrawnBy p t → (rested (feed first.bytes t)).width ≡ w =
@@ -117,7 +117,11 @@ Paints-then w h a b c p q r f g keeps first second =
 with_sgr-same : (sgr : Sgr) (t : Emulator) → t.sgr ≡ sgr → t ≡ with_sgr sgr t
 with_sgr-same sgr t e = rw (← e) refl
 
-pub sgr-paints : (w h : ℕ) (before : Brush) (sgr : Sgr) (old new : List ℕ) → ChangesSgr before.sgr sgr old new → Paints w h old before (with_sgr sgr) new (record before { sgr = sgr })
+placed-with : (sgr : Sgr) (t : Emulator) (at : Option Position) → IfSome at (λ p. WritesAt p.x p.y t) → IfSome at (λ p. WritesAt p.x p.y (with_sgr sgr (rested t)))
+placed-with sgr t None known = tt
+placed-with sgr t (Some p) known = record { utf8 = IsUtf8-nil; plain = ap (list_all is_plain_char) chars-nil; column = known.column; row = known.row }
+
+pub sgr-paints : (w h : ℕ) (before : TextCursor) (sgr : Sgr) (old new : List ℕ) → ChangesSgr before.sgr sgr old new → Paints w h old before (with_sgr sgr) new (record before { sgr = sgr })
 unfolding feed
 sgr-paints w h before sgr old new (Stays same none) = record {
   bytes = [];
@@ -133,14 +137,12 @@ sgr-paints w h before sgr old new (Sets does) =
       drawn = λ t width height drawn. subst (IsDrawnBy (record before { sgr = sgr })) (sym (fed t drawn)) (record {
         phase = refl;
         sgr = refl;
-        placed = λ known.
-            let here = drawn.placed known in
-            record { utf8 = IsUtf8-nil; plain = ap (list_all is_plain_char) chars-nil; column = here.column; row = here.row };
+        placed = placed-with sgr t before.at drawn.placed;
       });
       printed = λ t width height drawn. ap rested (fed t drawn);
     }
 
-pub blanks-none : (w h : ℕ) (old : List ℕ) (brush : Brush) (x y n : ℕ) → n ≡ 0 → Paints w h old brush (blanked x y n) old brush
+pub blanks-none : (w h : ℕ) (old : List ℕ) (brush : TextCursor) (x y n : ℕ) → n ≡ 0 → Paints w h old brush (blanked x y n) old brush
 unfolding feed
 blanks-none w h old brush x y n e = record {
   bytes = [];
@@ -149,7 +151,7 @@ blanks-none w h old brush x y n e = record {
   printed = λ t width height drawn. ap (λ k. blanked x y k (rested t)) (sym e);
 }
 
-pub blanks-more : (w h x y column m k : ℕ) (old mid new : List ℕ) (before between after : Brush) → Paints w h old before (blanked x y m) mid between → between.sgr ≡ default_sgr
+pub blanks-more : (w h x y column m k : ℕ) (old mid new : List ℕ) (before between after : TextCursor) → Paints w h old before (blanked x y m) mid between → between.sgr ≡ default_sgr
     → Prints w h mid between column y between.sgr (encode 32) new after → column ≡ x + m → k ≡ suc m → Paints w h old before (blanked x y k) new after
 blanks-more w h x y column m k old mid new before between after done own more at count =
     let keeps : KeepsSize (blanked x y m) = λ t. (blanked-width x y m t, blanked-height x y m t) in
@@ -163,7 +165,7 @@ blanked-sgr x y zero t = refl
 blanked-sgr x y (suc n) t = ap (printed_at (x + suc n) y default_sgr blank) (blanked-sgr x y n t)
 
 -- blanks after the own rendition
-pub blanks-own : (w h x y n m : ℕ) (old mid new : List ℕ) (before between after : Brush) → ChangesSgr before.sgr default_sgr old mid → between ≡ record before { sgr = default_sgr }
+pub blanks-own : (w h x y n m : ℕ) (old mid new : List ℕ) (before between after : TextCursor) → ChangesSgr before.sgr default_sgr old mid → between ≡ record before { sgr = default_sgr }
     → Paints w h mid between (blanked x y n) new after → n ≡ suc m → Paints w h old before (blanked x y n) new after
 blanks-own w h x y n m old mid new before between after changes pens done some =
     let sgr_set : Paints w h old before (with_sgr default_sgr) mid between = subst (Paints w h old before (with_sgr default_sgr) mid) (sym pens) (sgr-paints w h before default_sgr old mid changes) in
@@ -384,7 +386,7 @@ printable-gives c (Some b) is own = λ room some. printable-fits room c b is.0 i
 cursor-at : (end y w ux uy uw : ℕ) → ux ≡ end → uy ≡ y → uw ≡ w → let at : Position = record { x = min ux (uw - 1); y = uy } in let goal : Position = record { x = min end (w - 1); y = y } in at ≡ goal
 cursor-at end y w ux uy uw ex ey ew = rw (ex, ey, ew) refl
 
-pub lay-sends : (w h x y n end : ℕ) (cell : Cell) (before after : Drawing) (flags flags_after : List Bool) (old new : List ℕ) → Fits (w - x) cell → width_of cell ≡ n → x < w → y < h
+pub lay-sends : (w h x y n end : ℕ) (cell : Cell) (before after : DrawState) (flags flags_after : List Bool) (old new : List ℕ) → Fits (w - x) cell → width_of cell ≡ n → x < w → y < h
     → Paints w h old before.brush (λ t. blanked (x + n) y (end - (x + n)) (printed_at x y (sgr_of cell) (symbol_text cell.symbol) t)) new after.brush
     → slice_index_or flags (y * w + x) false ≡ false → x + n ≤ end → end ≤ w
     → ((k : ℕ) → x + n ≤ k → k < end → slice_index_or flags (y * w + k) false ≡ true) → (end < w → slice_index_or flags (y * w + end) false ≡ false)
@@ -422,7 +424,7 @@ lay-sends w h x y n end cell before after flags flags_after old new fit en colum
     }
 
 -- a rendition, a symbol, and blanks in what is left of another one
-pub cell-sends : (w h x y : ℕ) (cell : Cell) (glyph : Glyph) (end : ℕ) (before after : Drawing) (inked drawn : Brush) (flags flags_after : List Bool) (old first mid new : List ℕ) → x < w → y < h
+pub cell-sends : (w h x y : ℕ) (cell : Cell) (glyph : Glyph) (end : ℕ) (before after : DrawState) (inked drawn : TextCursor) (flags flags_after : List Bool) (old first mid new : List ℕ) → x < w → y < h
     → IsGlyph (w - x) cell glyph → ChangesSgr before.brush.sgr (sgr_of cell) old first → inked ≡ record before.brush { sgr = sgr_of cell }
     → Prints w h first inked x y inked.sgr (symbol_text cell.symbol) mid drawn → Covers w x y (glyph_columns glyph) mid flags drawn end new flags_after after.brush
     → slice_index_or flags (y * w + x) false ≡ false → after.cursor ≡ record { x = min end (w - 1); y = y } → after.written ≡ min (before.written + 1) (2 ^ 64 - 1)
@@ -433,7 +435,7 @@ cell-sends w h x y cell glyph end before after inked drawn flags flags_after old
     let n = glyph_columns glyph in
     let m = end - (x + n) in
     let sgr_set : Paints w h old before.brush (with_sgr sgr) first inked = subst (Paints w h old before.brush (with_sgr sgr) first) (sym pens) (sgr-paints w h before.brush sgr old first changes) in
-    let here : Prints w h first inked x y sgr symbol mid drawn = subst (λ p. Prints w h first inked x y p symbol mid drawn) (ap (λ (b : Brush). b.sgr) pens) prints in
+    let here : Prints w h first inked x y sgr symbol mid drawn = subst (λ p. Prints w h first inked x y p symbol mid drawn) (ap (λ (b : TextCursor). b.sgr) pens) prints in
     let two : Paints w h old before.brush (printed_at x y sgr symbol) mid drawn = Paints-then w h old first mid before.brush inked drawn (with_sgr sgr) (printed_at x y sgr symbol) (λ t. (refl, refl)) sgr_set here in
     let both : Paints w h old before.brush (λ t. blanked (x + n) y m (printed_at x y sgr symbol t)) new after.brush
     = Paints-then w h old mid new before.brush drawn after.brush (printed_at x y sgr symbol) (blanked (x + n) y m) (λ t. (refl, refl)) two (covers.paints h row) in
@@ -454,7 +456,7 @@ vacant-sgr c is =
 
 -- ---- cells of which nothing is sent
 
-pub still-sends : (w h : ℕ) (u : Update) (before after : Drawing) (flags : List Bool) (old : List ℕ) → after.brush ≡ before.brush → after.cursor ≡ before.cursor → after.written ≡ min (before.written + 1) (2 ^ 64 - 1)
+pub still-sends : (w h : ℕ) (u : Update) (before after : DrawState) (flags : List Bool) (old : List ℕ) → after.brush ≡ before.brush → after.cursor ≡ before.cursor → after.written ≡ min (before.written + 1) (2 ^ 64 - 1)
     → ((c : Columns) → AreContinuations w h flags c → (a b : ℕ) → look_in (c a b) ≡ put w h u (λ i j. look_in (c i j)) a b) → SendsUpdates w h old before flags (u ∷ []) old after flags
 unfolding feed
 still-sends w h u before after flags old brush cursor count same = record {
@@ -519,7 +521,7 @@ sendable-push w h colors us u all sent = list_all-append (is_sendable_on w h col
 
 -- ---- a draw
 
-pub sends-none : (w h : ℕ) (old : List ℕ) (d : Drawing) (flags : List Bool) → SendsUpdates w h old d flags [] old d flags
+pub sends-none : (w h : ℕ) (old : List ℕ) (d : DrawState) (flags : List Bool) → SendsUpdates w h old d flags [] old d flags
 unfolding feed
 sends-none w h old d flags = record {
   bytes = [];
@@ -528,7 +530,7 @@ sends-none w h old d flags = record {
   draws = λ t is. Draws-none (screen_shown d.written (rested t));
 }
 
-pub sends-push : (w h : ℕ) (a b c : List ℕ) (p q r : Drawing) (f g k : List Bool) (us : List Update) (u : Update) → SendsUpdates w h a p f us b q g → SendsUpdates w h b q g (u ∷ []) c r k
+pub sends-push : (w h : ℕ) (a b c : List ℕ) (p q r : DrawState) (f g k : List Bool) (us : List Update) (u : Update) → SendsUpdates w h a p f us b q g → SendsUpdates w h b q g (u ∷ []) c r k
     → SendsUpdates w h a p f (us ++ u ∷ []) c r k
 sends-push w h a b c p q r f g k us u first second =
     let fed : (t : Emulator) → feed (first.bytes ++ second.bytes) t ≡ feed second.bytes (feed first.bytes t) = feed-append first.bytes second.bytes in
@@ -542,12 +544,12 @@ sends-push w h a b c p q r f g k us u first second =
     }
 
 -- a draw begins with the own rendition and an unknown place
-pub begins : (w h : ℕ) (d : Drawing) (cursor : Position) (flags : List Bool) (t : Emulator) → d.brush.sgr ≡ default_sgr → d.brush.is_placed ≡ false → d.cursor ≡ cursor → IsAwaiting w h cursor flags t → IsDrawing w h d flags t
+pub begins : (w h : ℕ) (d : DrawState) (cursor : Position) (flags : List Bool) (t : Emulator) → d.brush.sgr ≡ default_sgr → d.brush.at ≡ None → d.cursor ≡ cursor → IsAwaiting w h cursor flags t → IsDrawing w h d flags t
 begins w h d cursor flags t own unplaced at is = record {
   drawn = record {
     phase = is.phase;
     sgr = is.ready.rest.sgr ∙ sym own;
-    placed = λ placed. let h : ⊥ = cc in absurd h;
+    placed = subst (λ at. IfSome at (λ p. WritesAt p.x p.y t)) (sym unplaced) tt;
   };
   ready = record {
     rest = record {
@@ -584,8 +586,8 @@ with-own w h t own ready = record {
 }
 
 -- and ends with the own rendition
-pub draw-sends : (w h : ℕ) (old mid new : List ℕ) (before after : Drawing) (cursor : Position) (written : ℕ) (flags flags_after : List Bool) (us : List Update) → before.brush.sgr ≡ default_sgr
-    → before.brush.is_placed ≡ false → before.cursor ≡ cursor → before.written ≡ written → SendsUpdates w h old before flags us mid after flags_after → ChangesSgr after.brush.sgr default_sgr mid new
+pub draw-sends : (w h : ℕ) (old mid new : List ℕ) (before after : DrawState) (cursor : Position) (written : ℕ) (flags flags_after : List Bool) (us : List Update) → before.brush.sgr ≡ default_sgr
+    → before.brush.at ≡ None → before.cursor ≡ cursor → before.written ≡ written → SendsUpdates w h old before flags us mid after flags_after → ChangesSgr after.brush.sgr default_sgr mid new
     → SendsDraw w h old cursor written flags us new after.cursor after.written flags_after
 draw-sends w h old mid new before after cursor written flags flags_after us own unplaced at count sends changes =
     let start = λ (t : Emulator) (is : IsAwaiting w h cursor flags t). begins w h before cursor flags t own unplaced at is in

@@ -1,5 +1,5 @@
 -- What refused calls leave, and where a draw stops.
-use Rattle.std.proofs.Common.{◌≡◌, ℕ, ◌+◌, ◌*◌, ◌<◌, Bool, true, false, IsTrue, List, map, Option, Result, Ok, Err, IsErr, IsErrAnd, IfErr, OnOk, refl, sym, subst, ◌∙◌}
+use Rattle.std.proofs.Common.{◌≡◌, ℕ, ◌+◌, ◌*◌, ◌<◌, Bool, true, false, IsTrue, List, map, Option, None, Result, Ok, Err, IsErr, IsErrAnd, IfErr, OnOk, refl, sym, subst, ◌∙◌}
 use Rattle.std.proofs.lemmas.Bool.{false≢true}
 use Rattle.ratatui_core.specs.Layout.{Position}
 use Rattle.ratatui_core.specs.Layout as layout
@@ -10,9 +10,9 @@ use Rattle.ratatui_ansi.specs.declared.error.AnsiError.TheVariants.{Memory, Symb
 use Rattle.ratatui_ansi.specs.declared.tracker.Tracker.{Tracker}
 use Rattle.ratatui_ansi.specs.declared.tracker.Call.{Call}
 use Rattle.ratatui_ansi.specs.declared.tracker.Call.TheVariants as Called
-use Rattle.ratatui_ansi.specs.declared.frame.Drawing.{Drawing}
-use Rattle.ratatui_ansi.specs.declared.frame.Refusal.{Refusal}
-use Rattle.ratatui_ansi.specs.declared.frame.Refusal.TheVariants as Refused
+use Rattle.ratatui_ansi.specs.declared.draw.DrawState.{DrawState}
+use Rattle.ratatui_ansi.specs.declared.draw.Refusal.{Refusal}
+use Rattle.ratatui_ansi.specs.declared.draw.Refusal.TheVariants as Refused
 use Rattle.ratatui_ansi.specs.Backend.{BackendState}
 use Rattle.ratatui_ansi.specs.Tracker.{IsAwaiting, IsTracked, IsUncollected}
 use Rattle.ratatui_ansi.specs.Errors.{error_of}
@@ -29,7 +29,7 @@ use Rattle.ratatui_ansi.proofs.FrameLemmas.{begins}
 
 -- ---- where a draw stops
 
-refused-on : (w h : ℕ) (colors : Bool) (d : Drawing) (flags : List Bool) (t : Emulator) (u : Update) (refusal : Refusal) → IsDrawing w h d flags t → RefusesUpdate w h colors flags u refusal
+refused-on : (w h : ℕ) (colors : Bool) (d : DrawState) (flags : List Bool) (t : Emulator) (u : Update) (refusal : Refusal) → IsDrawing w h d flags t → RefusesUpdate w h colors flags u refusal
     → IsRefusedOn colors (screen_shown d.written (rested t)) u refusal
 refused-on w h colors d flags t u Refused.Memory is because = tt
 refused-on w h colors d flags t u (Refused.Symbol p) is because = (rw (is.ready.rest.width, is.ready.rest.height) because.0, rw is.ready.rest.width because.2)
@@ -40,8 +40,8 @@ refused-on w h colors d flags t u (Refused.Cut p) is because = (
   because.2,
 )
 
-pub stops-draw : {S A : Type 0} (steps : S → Option A → S → Type 0) (content : S) (update : A → Update) (w h : ℕ) (colors : Bool) (old : List ℕ) (d : Drawing) (cursor : Position) (written : ℕ) (flags : List Bool)
-    (refusal : Refusal) → d.brush.sgr ≡ default_sgr → d.brush.is_placed ≡ false → d.cursor ≡ cursor → d.written ≡ written → StopsWithin steps content update w h colors old d flags refusal
+pub stops-draw : {S A : Type 0} (steps : S → Option A → S → Type 0) (content : S) (update : A → Update) (w h : ℕ) (colors : Bool) (old : List ℕ) (d : DrawState) (cursor : Position) (written : ℕ) (flags : List Bool)
+    (refusal : Refusal) → d.brush.sgr ≡ default_sgr → d.brush.at ≡ None → d.cursor ≡ cursor → d.written ≡ written → StopsWithin steps content update w h colors old d flags refusal
     → StopsDraw steps content update w h colors cursor written flags refusal
 stops-draw steps content update w h colors old d cursor written flags refusal own unplaced at count stops = record {
   stops = λ t is.

@@ -1,9 +1,10 @@
 -- What a symbol put in its place does to the terminal that reads it.
-use Rattle.std.specs.Prelude.{◌≡◌, ℕ, ◌+◌, zero, suc, ◌&&◌, ◌||◌, not, Bool, true, IsTrue, if◌then◌else◌, List, [], ◌∷◌, ◌++◌, ◌==◌, length, chars, IsUtf8, Option, Some, None}
+use Rattle.std.specs.Prelude.{◌≡◌, ℕ, ◌+◌, zero, suc, ◌&&◌, ◌||◌, not, Bool, true, false, IfSome, if◌then◌else◌, List, [], ◌∷◌, ◌++◌, ◌==◌, length, chars, IsUtf8, Option, Some, None}
 use Rattle.std.specs.List.{list_all}
-use Rattle.ratatui_core.specs.Buffer.{blank, text_width}
+use Rattle.ratatui_core.specs.Layout.{Position}
+use Rattle.ratatui_core.specs.Buffer.{blank}
 use Rattle.ansi_model.specs.declared.sgr.Sgr.{Sgr}
-use Rattle.ratatui_ansi.specs.declared.drawing.Brush.{Brush}
+use Rattle.ratatui_ansi.specs.declared.text_cursor.TextCursor.{TextCursor}
 use Rattle.ansi_model.specs.Sgr.{default_sgr}
 use Rattle.ansi_model.specs.Emulator.{Emulator, rested, prints, with_sgr}
 use Rattle.ansi_model.specs.Symbols.{is_plain_char, printed_columns}
@@ -24,21 +25,26 @@ pub record WritesAt (x y : ℕ) (t : Emulator) : Type 0 where
   pub row : (rested t).y ≡ y
 
 -- a terminal that awaits text and prints as the brush says
-pub record IsDrawnBy (brush : Brush) (t : Emulator) : Type 0 where
+pub record IsDrawnBy (brush : TextCursor) (t : Emulator) : Type 0 where
   pub phase : t.phase ≡ Ground
   pub sgr : (rested t).sgr ≡ brush.sgr
-  pub placed : IsTrue brush.is_placed → WritesAt brush.x brush.y t
+  pub placed : IfSome brush.at (λ p. WritesAt p.x p.y t)
+
+-- whether this is a known column and row
+abbrev pub is_place : ℕ → ℕ → Option Position → Bool
+is_place x y None = false
+is_place x y (Some p) = (p.x == x) && (p.y == y)
 
 -- whether a brush knows that the next plain character would be printed in this column and row
-abbrev pub is_at : ℕ → ℕ → Brush → Bool
-is_at x y brush = brush.is_placed && (brush.x == x) && (brush.y == y)
+abbrev pub is_at : ℕ → ℕ → TextCursor → Bool
+is_at x y brush = is_place x y brush.at
 
 -- with the cursor in a column and a row, and a rendition
 abbrev pub drawn_at : ℕ → ℕ → Sgr → Emulator → Emulator
 drawn_at x y sgr t = record t { x = x; y = y; sgr = sgr }
 
 -- bytes were appended that do this to each terminal of this size that is drawn by a brush, and leave it drawn by another one
-pub record Paints (w h : ℕ) (old : List ℕ) (before : Brush) (effect : Emulator → Emulator) (new : List ℕ) (after : Brush) : Type 0 where
+pub record Paints (w h : ℕ) (old : List ℕ) (before : TextCursor) (effect : Emulator → Emulator) (new : List ℕ) (after : TextCursor) : Type 0 where
   pub bytes : List ℕ
   pub appended : new ≡ old ++ bytes
   pub drawn : (t : Emulator) → (rested t).width ≡ w → (rested t).height ≡ h → IsDrawnBy before t → IsDrawnBy after (feed bytes t)
@@ -49,7 +55,7 @@ abbrev pub printed_at : ℕ → ℕ → Sgr → List ℕ → Emulator → Emulat
 printed_at x y sgr symbol t = prints symbol (printed_columns symbol) (drawn_at x y sgr t)
 
 -- bytes were appended that print a symbol in a column and a row of a screen of this size, in a rendition, and nothing else
-abbrev pub Prints : ℕ → ℕ → List ℕ → Brush → ℕ → ℕ → Sgr → List ℕ → List ℕ → Brush → Type 0
+abbrev pub Prints : ℕ → ℕ → List ℕ → TextCursor → ℕ → ℕ → Sgr → List ℕ → List ℕ → TextCursor → Type 0
 Prints w h old before x y sgr symbol new after = Paints w h old before (printed_at x y sgr symbol) new after
 
 -- blanks printed in so many columns of a row, one by one, in the terminal's own rendition

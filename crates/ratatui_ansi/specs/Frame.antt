@@ -3,11 +3,11 @@ use Rattle.std.specs.Prelude.{◌≡◌, ℕ, ◌+◌, ◌-◌, ◌*◌, ◌<◌
 use Rattle.ratatui_core.specs.Layout.{Position}
 use Rattle.ratatui_core.specs.Buffer.{symbol_text, text_width, Look, look_of, empty_look, width_of, Update, Cell}
 use Rattle.ratatui_core.specs.Backend.{Draws, cursor_of}
-use Rattle.ratatui_ansi.specs.declared.drawing.Brush.{Brush}
-use Rattle.ratatui_ansi.specs.declared.frame.Drawing.{Drawing}
+use Rattle.ratatui_ansi.specs.declared.text_cursor.TextCursor.{TextCursor}
+use Rattle.ratatui_ansi.specs.declared.draw.DrawState.{DrawState}
 use Rattle.ansi_model.specs.declared.glyph.Glyph.{Glyph}
-use Rattle.ratatui_ansi.specs.declared.frame.Refusal.{Refusal}
-use Rattle.ratatui_ansi.specs.declared.frame.Refusal.TheVariants as Refused
+use Rattle.ratatui_ansi.specs.declared.draw.Refusal.{Refusal}
+use Rattle.ratatui_ansi.specs.declared.draw.Refusal.TheVariants as Refused
 use Rattle.ansi_model.specs.declared.sgr.Sgr.{Sgr}
 use Rattle.ansi_model.specs.Columns.{Columns, blank_column, is_continuation}
 use Rattle.ansi_model.specs.Columns.Column.{Shows}
@@ -85,8 +85,8 @@ pub record AreMarked (first past_it end : ℕ) (flags after : List Bool) : Type 
       ≡ (if nat_le first k && nat_lt k end then nat_lt first k && nat_lt k past_it else flag flags k)
 
 -- after a symbol of n columns what is left of another one, up to column `end`, was emptied, and the flags are those of the symbol
-pub record Covers (w x y n : ℕ) (old : List ℕ) (flags : List Bool) (before : Brush) (end : ℕ) (new : List ℕ) (flags_after : List Bool)
-    (after : Brush) : Type 0 where
+pub record Covers (w x y n : ℕ) (old : List ℕ) (flags : List Bool) (before : TextCursor) (end : ℕ) (new : List ℕ) (flags_after : List Bool)
+    (after : TextCursor) : Type 0 where
   pub ordered : x + n ≤ end
   pub inside : end ≤ w
   pub set : (k : ℕ) → x + n ≤ k → k < end → flag flags (y * w + k) ≡ true
@@ -96,14 +96,14 @@ pub record Covers (w x y n : ℕ) (old : List ℕ) (flags : List Bool) (before :
   pub marked : AreMarked (y * w + x) (y * w + (x + n)) (y * w + end) flags flags_after
 
 -- a terminal within a draw on a screen of this size: with its own rendition it would be ready; the flags are those of its columns
-pub record IsDrawing (w h : ℕ) (d : Drawing) (flags : List Bool) (t : Emulator) : Type 0 where
+pub record IsDrawing (w h : ℕ) (d : DrawState) (flags : List Bool) (t : Emulator) : Type 0 where
   pub drawn : IsDrawnBy d.brush t
   pub ready : IsIdle w h (with_sgr default_sgr (rested t))
   pub continuations : AreContinuations w h flags (rested t).columns
   pub cursor : cursor_of (screen_shown d.written (rested t)) ≡ d.cursor
 
 -- bytes were appended that draw these updates, in order, on each terminal within such a draw
-pub record SendsUpdates (w h : ℕ) (old : List ℕ) (before : Drawing) (flags : List Bool) (us : List Update) (new : List ℕ) (after : Drawing)
+pub record SendsUpdates (w h : ℕ) (old : List ℕ) (before : DrawState) (flags : List Bool) (us : List Update) (new : List ℕ) (after : DrawState)
     (flags_after : List Bool) : Type 0 where
   pub bytes : List ℕ
   pub appended : new ≡ old ++ bytes

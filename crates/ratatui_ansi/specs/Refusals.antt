@@ -8,9 +8,9 @@ use Rattle.ratatui_core.specs.Buffer.{Update, Cell, update_by}
 use Rattle.ratatui_core.specs.Backend.{Screen, Draws, cursor_of}
 use Rattle.ratatui_ansi.specs.declared.error.AnsiError.{AnsiError}
 use Rattle.ratatui_ansi.specs.declared.error.AnsiError.TheVariants.{Memory, Symbol, Style, Cut, Size, Broken, Write}
-use Rattle.ratatui_ansi.specs.declared.frame.Drawing.{Drawing}
-use Rattle.ratatui_ansi.specs.declared.frame.Refusal.{Refusal}
-use Rattle.ratatui_ansi.specs.declared.frame.Refusal.TheVariants as Refused
+use Rattle.ratatui_ansi.specs.declared.draw.DrawState.{DrawState}
+use Rattle.ratatui_ansi.specs.declared.draw.Refusal.{Refusal}
+use Rattle.ratatui_ansi.specs.declared.draw.Refusal.TheVariants as Refused
 use Rattle.ratatui_ansi.specs.declared.tracker.Call.{Call}
 use Rattle.ratatui_ansi.specs.declared.tracker.Call.TheVariants as Called
 use Rattle.ratatui_ansi.specs.Backend.{BackendState}
@@ -176,14 +176,14 @@ StopsBy steps content update colors old error =
     IsTrue (names_cell error) → (refusal : Refusal) × (error ≡ error_of refusal) × StopsAt steps content update colors old refusal
 
 -- the same within a draw: the bytes of the items before it were appended
-pub record StopsWithin {S A : Type 0} (steps : S → Option A → S → Type 0) (content : S) (update : A → Update) (w h : ℕ) (colors : Bool) (old : List ℕ) (before : Drawing)
+pub record StopsWithin {S A : Type 0} (steps : S → Option A → S → Type 0) (content : S) (update : A → Update) (w h : ℕ) (colors : Bool) (old : List ℕ) (before : DrawState)
     (flags : List Bool) (refusal : Refusal) : Type 0 where
   pub front : List A
   pub item : A
   pub rest : S
   pub gives : YieldsThen steps content front (Some item) rest
   pub new : List ℕ
-  pub after : Drawing
+  pub after : DrawState
   pub flags_after : List Bool
   pub sends : SendsUpdates w h old before flags (map update front) new after flags_after
   pub refused : RefusesUpdate w h colors flags_after (update item) refusal

@@ -2,7 +2,7 @@
 
 ghost use Rattle.ratatui_ansi.specs.Errors.{ansi_error_text};
 
-use crate::frame::Refusal;
+use crate::draw::Refusal;
 use ratatui_core::layout::Position;
 use std::alloc::AllocError;
 use std::error::Error;

@@ -7,7 +7,7 @@ ghost use Rattle.ratatui_core.specs.Backend.{Screen};
 ghost use Rattle.ratatui_core.specs.Buffer.{Look, look_of, width_of, Update, put, Cell, cell_at, IsDiff, IsSettled, Shows};
 ghost use Rattle.ratatui_ansi.specs.Covered.{IsOpen, IsOrdinary};
 ghost use Rattle.ratatui_ansi.specs.Refusals.{StopsInDiff};
-ghost use Rattle.ratatui_ansi.specs.declared.frame.Refusal.TheVariants.{Cut};
+ghost use Rattle.ratatui_ansi.specs.declared.draw.Refusal.TheVariants.{Cut};
 ghost use Rattle.ratatui_ansi.specs.Headline.{IsHeadlineOfBytes};
 ghost use Rattle.ansi_model.specs.Columns.{Columns, look_in, is_continuation};
 ghost use Rattle.ansi_model.specs.Screens.{HaveOwnWidths, IsWhole, IsBlankBeyond, IsIdle, IsUncut, put_columns};

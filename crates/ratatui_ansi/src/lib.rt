@@ -7,16 +7,16 @@
 
 mod backend;
 mod checked;
-mod drawing;
+mod draw;
 mod error;
 mod flags;
-mod frame;
 pub mod laws;
 mod sender;
 mod sent;
+mod text_cursor;
 mod tracker;
 
 pub use backend::AnsiBackend;
 pub use checked::draw_for_all;
+pub use draw::Refusal;
 pub use error::AnsiError;
-pub use frame::Refusal;

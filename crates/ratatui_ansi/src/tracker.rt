@@ -13,11 +13,11 @@ ghost use Rattle.ratatui_ansi.specs.Frame.{is_sendable_on};
 ghost use Rattle.ratatui_ansi.specs.Refusals.{has_place, StopsDraw, RefusesTracker};
 ghost use Rattle.ratatui_ansi.specs.Tracker.{IsTracker, KeepsTracked, Collects, CallDoes, IsUncollected, Erases, BeginsBlank};
 
+use crate::draw::{Refusal, draw_cells};
 use crate::error::AnsiError;
 use crate::flags::{
     clear_flags, clear_part_flags, is_continuation, lower_flags, raise_flags, symbol_end,
 };
-use crate::frame::{Refusal, draw_cells};
 use ansi_model::{
     append_lines, clear_screen, erase, make_blank, move_to, scroll_region_down, scroll_region_up,
     set_cursor_position, set_visible,

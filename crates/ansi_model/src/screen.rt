@@ -1,0 +1,226 @@
+//! What a backend's calls do to the screen that a terminal shows; and a blank beginning.
+
+ghost use Rattle.std.specs.Prelude.{◌≡◌, ℕ, ◌+◌, ◌-◌, ◌<◌, ◌≤◌, min, OnOk, true, false, string_bytes};
+ghost use Rattle.ratatui_core.specs.Backend.{Appends, ScrollsUp, ScrollsDown, Clears, with_cursor, with_visible, All, CurrentLine};
+ghost use Rattle.ansi_model.specs.Beginnings.{MakesBlank};
+ghost use Rattle.ansi_model.specs.Emulator.{cursor_moved, returned, erased, line_fed, fed, with_region, without_region, lines_deleted, lines_inserted, fed_and_lowered, fed_and_lowered_by, rows_raised, rows_lowered, rows_emptied};
+ghost use Rattle.ansi_model.specs.Sends.{Performs};
+ghost use Rattle.ansi_model.specs.Screens.{Turns, Becomes};
+
+use crate::sequences::{
+    delete_lines, erase, erase_all, hide_cursor, insert_lines, line_feeds, move_to, reset_region,
+    set_region, show_cursor,
+};
+use crate::sgr::{Sgr, push_sgr};
+use ratatui_core::backend::ClearType;
+use std::alloc::AllocError;
+use std::ops::Range;
+
+/// Moves the cursor to a column and a row, each kept on the screen, which has at least one of both.
+pub fn set_cursor_position(out: &mut String, x: u16, y: u16) -> Result<(), AllocError>
+    ensures { OnOk result ((w h : ℕ) → 0 < w → 0 < h → Turns w h (string_bytes out.old)
+        (string_bytes out.new) (λ s. Becomes (λ p q. q ≡ with_cursor x y p) s.columns s)) }
+{
+    move_to(out, x, y)
+}
+
+/// Hides the cursor or shows it.
+pub fn set_visible(out: &mut String, visible: bool) -> Result<(), AllocError>
+    ensures { OnOk result ((w h : ℕ) → Turns w h (string_bytes out.old)
+        (string_bytes out.new) (λ s. Becomes (λ p q. q ≡ with_visible visible p) s.columns s)) }
+{
+    if visible {
+        show_cursor(out)
+    } else {
+        hide_cursor(out)
+    }
+}
+
+/// Empties a screen of so many columns and rows, at least one of both, whose cursor is in this column and row; the cursor stays.
+pub fn clear_screen(
+    out: &mut String,
+    width: u16,
+    height: u16,
+    x: u16,
+    y: u16,
+) -> Result<(), AllocError>
+    ensures { OnOk result (0 < width → 0 < height → Turns width height (string_bytes out.old)
+        (string_bytes out.new) (λ s. Becomes (λ p q. p.cursor_x ≡ x → p.cursor_y ≡ y
+        → Clears p All q) (rows_emptied height s.columns) s)) }
+{
+    erase_all(out, width, height)?;
+    move_to(out, x, y)
+}
+
+/// Makes a terminal of so many columns and rows, at least one of both, as a new one is, however another program left it: in its own
+/// colours, without margins, empty, and with its cursor shown in the corner. Its history stays.
+pub fn make_blank(out: &mut String, width: u16, height: u16) -> Result<(), AllocError>
+    ensures { OnOk result (0 < width → 0 < height
+        → MakesBlank width height (string_bytes out.old) (string_bytes out.new)) }
+{
+    push_sgr(out, &Sgr::DEFAULT)?;
+    reset_region(out)?;
+    erase_all(out, width, height)?;
+    move_to(out, 0, 0)?;
+    show_cursor(out)
+}
+
+/// Moves the cursor's row down by `n` on a screen of at least one row and one column; what goes past the last row scrolls, and
+/// the rows that leave at the top go to the history.
+pub fn append_lines(out: &mut String, n: u16) -> Result<(), AllocError>
+    ensures { OnOk result ((w h : ℕ) → 0 < w → 0 < h
+        → Turns w h (string_bytes out.old) (string_bytes out.new)
+        (λ s. Becomes (λ p q. Appends p n q × (q.cursor_x ≡ 0))
+        (rows_raised 0 h (s.y + n - (h - 1)) s.columns) s)) }
+{
+    line_feeds(out, n)
+}
+
+// LF alone, which keeps the column.
+fn line_feed(out: &mut String) -> Result<(), AllocError>
+    ensures { OnOk result (Performs (string_bytes out.old) (string_bytes out.new) line_fed) }
+{
+    out.push_str("\n")
+}
+
+// Empties a row.
+fn empty_row(out: &mut String, y: u16) -> Result<(), AllocError>
+    ensures { OnOk result (Performs (string_bytes out.old) (string_bytes out.new)
+        (λ t. erased CurrentLine (cursor_moved 0 y t))) }
+{
+    move_to(out, 0, y)?;
+    erase(out, ClearType::CurrentLine)
+}
+
+// Moves rows below the first one up.
+fn raise_rows(out: &mut String, top: u16, end: u16, n: u16) -> Result<(), AllocError>
+    requires rows { top + 1 < end }
+    requires some { 0 < n }
+    ensures { OnOk result (Performs (string_bytes out.old) (string_bytes out.new)
+        (λ t. without_region (lines_deleted n (cursor_moved 0 top (with_region top end t))))) }
+{
+    set_region(out, top, end)?;
+    move_to(out, 0, top)?;
+    delete_lines(out, n)?;
+    reset_region(out)
+}
+
+// Moves rows down.
+fn lower_rows(out: &mut String, top: u16, end: u16, n: u16) -> Result<(), AllocError>
+    requires rows { top + 1 < end }
+    requires some { 0 < n }
+    ensures { OnOk result (Performs (string_bytes out.old) (string_bytes out.new)
+        (λ t. without_region (lines_inserted n (cursor_moved 0 top (with_region top end t))))) }
+{
+    set_region(out, top, end)?;
+    move_to(out, 0, top)?;
+    insert_lines(out, n)?;
+    reset_region(out)
+}
+
+// Moves the rows of the whole screen up; those that leave go to the history.
+fn feed_screen(out: &mut String, height: u16, n: u16) -> Result<(), AllocError>
+    ensures { OnOk result (Performs (string_bytes out.old) (string_bytes out.new)
+        (λ t. fed n (returned (cursor_moved 0 (height - 1) t)))) }
+{
+    move_to(out, 0, height.saturating_sub(1))?;
+    line_feeds(out, n)
+}
+
+// Moves the first rows up; those that leave go to the history.
+fn feed_rows(out: &mut String, end: u16, n: u16) -> Result<(), AllocError>
+    requires { 1 < end }
+    ensures { OnOk result (Performs (string_bytes out.old) (string_bytes out.new)
+        (λ t. without_region (fed n (returned (cursor_moved 0 (end - 1) (with_region 0 end t)))))) }
+{
+    set_region(out, 0, end)?;
+    feed_screen(out, end, n)?;
+    reset_region(out)
+}
+
+// Moves the rows of the region up by one, the first to the history, and the second back down.
+fn feed_and_lower(out: &mut String) -> Result<(), AllocError>
+    ensures { OnOk result (Performs (string_bytes out.old) (string_bytes out.new) fed_and_lowered) }
+{
+    move_to(out, 0, 1)?;
+    line_feed(out)?;
+    move_to(out, 0, 0)?;
+    insert_lines(out, 1)
+}
+
+// Sends the first row to the history, and blank ones after it; margins enclose at least two rows, so that the second one goes up
+// and down again.
+fn feed_first_row(out: &mut String, n: u16) -> Result<(), AllocError>
+    ensures { OnOk result (Performs (string_bytes out.old) (string_bytes out.new)
+        (λ t. without_region (fed_and_lowered_by n (with_region 0 2 t)))) }
+{
+    set_region(out, 0, 2)?;
+    for _ in 0..n {
+        feed_and_lower(out)?;
+    }
+    reset_region(out)
+}
+
+// Moves the first rows up, as many as `end`.
+fn scroll_first_rows(out: &mut String, height: u16, end: u16, n: u16) -> Result<(), AllocError>
+    requires some { 0 < end }
+    requires fits { end ≤ height }
+    ensures { OnOk result ((w b : ℕ) → 0 < w → min b height ≡ end → Turns w height
+        (string_bytes out.old) (string_bytes out.new)
+        (λ s. Becomes (ScrollsUp 0 b n) (rows_raised 0 (min b height) n s.columns) s)) }
+{
+    if end == height {
+        feed_screen(out, height, n)
+    } else if end == 1 {
+        feed_first_row(out, n)
+    } else {
+        feed_rows(out, end, n)
+    }
+}
+
+/// Moves the rows of a region up by `n` on a screen of so many rows and at least one column; blank rows come in below. The region
+/// ends at the screen's last row at the latest. Of a region that begins with the first row `n` rows go to the history.
+pub fn scroll_region_up(
+    out: &mut String,
+    height: u16,
+    region: Range<u16>,
+    n: u16,
+) -> Result<(), AllocError>
+    ensures { OnOk result ((w : ℕ) → 0 < w → Turns w height (string_bytes out.old)
+        (string_bytes out.new) (λ s. Becomes (ScrollsUp region.start region.end n)
+        (rows_raised region.start (min region.end height) n s.columns) s)) }
+{
+    let end = region.end.min(height);
+    if n == 0 || region.start >= end {
+        return Ok(());
+    }
+    if region.start == 0 {
+        return scroll_first_rows(out, height, end, n);
+    }
+    if end - region.start == 1 {
+        return empty_row(out, region.start);
+    }
+    raise_rows(out, region.start, end, n)
+}
+
+/// Moves the rows of a region down by `n` on a screen of so many rows and at least one column; blank rows come in above, and the
+/// rows that leave are lost. The region ends at the screen's last row at the latest.
+pub fn scroll_region_down(
+    out: &mut String,
+    height: u16,
+    region: Range<u16>,
+    n: u16,
+) -> Result<(), AllocError>
+    ensures { OnOk result ((w : ℕ) → 0 < w → Turns w height (string_bytes out.old)
+        (string_bytes out.new) (λ s. Becomes (ScrollsDown region.start region.end n)
+        (rows_lowered region.start (min region.end height) n s.columns) s)) }
+{
+    let end = region.end.min(height);
+    if n == 0 || region.start >= end {
+        return Ok(());
+    }
+    if end - region.start == 1 {
+        return empty_row(out, region.start);
+    }
+    lower_rows(out, region.start, end, n)
+}

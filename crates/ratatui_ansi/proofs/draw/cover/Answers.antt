@@ -1,0 +1,38 @@
+use Rattle.std.proofs.Common.{◌+◌, ◌-◌, ◌*◌, inl, inr, refl, arith}
+use Rattle.ratatui_ansi.proofs.FrameLemmas.{blanks-none, one-marked}
+use Rattle.ratatui_ansi.proofs.draw.cover.Goals.{then-past_it-end+in_ok-put_blanks, else-past_it-end}
+use Rattle.ratatui_ansi.proofs.draw.cover.Goals as goal
+
+pub returns-after-past_it-end : goal.returns-after-past_it-end
+returns-after-past_it-end c = record {
+  ordered = c.tail_end-end.ensures.low;
+  inside = c.tail_end-end.ensures.high;
+  set = λ k low high. rw (c.from.ensures, c.from-2.ensures) at (c.tail_end-end.ensures.continuations k low high);
+  unset = λ within. rw (c.from.ensures, c.from-2.ensures) at (c.tail_end-end.ensures.ended within);
+  paints = λ h row. elim c.if-past_it-end.branch [
+    | then-past_it-end+in_ok-put_blanks v ↦ rw (v.out-is, v.brush-is) (v.in_ok-put_blanks.ensures.paints c.args.width h c.tail_end-end.ensures.high row)
+    | else-past_it-end v ↦ rw (v.out-is, v.brush-is) (blanks-none c.args.width h _ _ (c.args.x + c.args.columns) c.args.y (c.tail_end-end.result - (c.args.x + c.args.columns)) (omega arith))
+  ];
+  sgr = elim c.if-past_it-end.branch [
+    | then-past_it-end+in_ok-put_blanks v ↦ inr (rw v.brush-is v.in_ok-put_blanks.ensures.sgr)
+    | else-past_it-end v ↦ inl (rw v.brush-is refl)
+  ];
+  marked = record {
+    count = c.mark.auto.continuations;
+    each = λ k. rw (c.from.ensures, c.from-2.ensures, c.from-then-x-end.ensures, c.from-then-x-end-2.ensures, c.from-then-x-end-3.ensures) at (c.mark.ensures k);
+  };
+}
+
+pub returns-else-x-end : goal.returns-else-x-end
+returns-else-x-end c = record {
+  ordered = c.tail_end-end.ensures.low;
+  inside = c.tail_end-end.ensures.high;
+  set = λ k low high. rw (c.from.ensures, c.from-2.ensures) at (c.tail_end-end.ensures.continuations k low high);
+  unset = λ within. rw (c.from.ensures, c.from-2.ensures) at (c.tail_end-end.ensures.ended within);
+  paints = λ h row. blanks-none c.args.width h _ _ (c.args.x + c.args.columns) c.args.y (c.tail_end-end.result - (c.args.x + c.args.columns)) (omega arith);
+  sgr = inl refl;
+  marked = record {
+    count = refl;
+    each = one-marked (c.args.y * c.args.width + c.args.x) (c.args.y * c.args.width + (c.args.x + c.args.columns)) (c.args.y * c.args.width + c.tail_end-end.result) c.args.continuations.now c.requires.uncut (omega arith);
+  };
+}

@@ -1,0 +1,16 @@
+use Rattle.std.proofs.Common.{refl}
+use Rattle.ratatui_ansi.proofs.FrameLemmas.{draw-sends}
+use Rattle.ratatui_ansi.proofs.RefusalLemmas.{if-error, stops-draw}
+use Rattle.ratatui_ansi.proofs.draw.draw_cells.Goals as goal
+
+pub returns-clause-drawn : goal.returns-clause-drawn
+returns-clause-drawn g c =
+    let drawn = c.in_ok-draw_all.ensures.drawn in (
+      drawn.0,
+      drawn.1,
+      draw-sends _ _ _ _ _ _ _ _ _ _ _ _ refl refl refl refl drawn.2 c.in_ok-change_sgr.ensures.changes,
+      drawn.3,
+    )
+
+pub returns-in_err-draw_all-clause-refused : goal.returns-in_err-draw_all-clause-refused
+returns-in_err-draw_all-clause-refused g c = if-error _ _ _ c.from_residual.ensures (λ named. stops-draw _ _ _ _ _ _ _ _ _ _ _ _ refl refl refl refl c.in_err-draw_all.ensures.refused)

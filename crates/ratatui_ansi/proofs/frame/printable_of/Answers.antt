@@ -1,7 +1,0 @@
-use Rattle.std.proofs.Common.{sym, ap, ◌∙◌}
-use Rattle.ratatui_core.specs.Buffer.{text_width}
-use Rattle.ratatui_ansi.proofs.FrameLemmas.{own-width, printable-gives}
-use Rattle.ratatui_ansi.proofs.frame.printable_of.Goals as goal
-
-pub returns-in-None : goal.returns-in-None
-returns-in-None c = printable-gives c.args.cell.now _ (rw c.symbol.ensures at c.only_printable.ensures) (own-width c.args.cell.now c.in-None.is)

@@ -1,0 +1,455 @@
+//! Cells in their places, as a backend draws them.
+
+ghost use Rattle.std.specs.Prelude.{◌≡◌, ℕ, ◌+◌, ◌-◌, ◌*◌, ◌^◌, ◌<◌, ◌≤◌, ◌&&◌, min, nat_lt, nat_le, if◌then◌else◌, true, false, IsTrue, ◌↔◌, IfOk, IfErr, IfSome, OnOk, OnErr, List, [], ◌∷◌, map, length, slice_index_or, string_bytes, MatchOption, ◌==◌, IsUtf8};
+ghost use Rattle.std.specs.List.{list_all};
+ghost use Rattle.std.specs.Iterator.{IsFinite, Drains};
+ghost use Rattle.ratatui_core.specs.Buffer.{blank, symbol_text, text_width, width_of, update_by, Cell};
+ghost use Rattle.ansi_model.specs.declared.glyph.Glyph.TheVariants.{Plain};
+ghost use Rattle.ansi_model.specs.Sgr.{default_sgr, sgr_of};
+ghost use Rattle.ansi_model.specs.Parameters.{is_sendable_by};
+ghost use Rattle.ansi_model.specs.Symbols.{printed_columns, glyph_columns, IsGlyphOf};
+ghost use Rattle.ratatui_ansi.specs.Drawing.{blanked, ChangesSgr, Paints, Prints};
+ghost use Rattle.ratatui_ansi.specs.Frame.{is_fit, is_sendable_on, IsGlyph, IsVacant, IsUnsendableSgr, RefusesUpdate, Covers, SendsUpdates, SendsDraw};
+ghost use Rattle.ratatui_ansi.specs.Refusals.{has_place, StopsWithin, StopsDraw};
+
+use crate::text_cursor::{TextCursor, change_sgr, put_plain, put_symbol, set_sgr};
+use ansi_model::{Glyph, Sgr, glyph_of, only_printable};
+use ratatui_core::backend::AsCell;
+use ratatui_core::buffer::{Cell, CellDiffOption, CellWidth};
+use ratatui_core::layout::Position;
+use std::alloc::AllocError;
+
+/// What is known of the terminal within a draw, beside its columns.
+#[derive(Debug, Clone, Copy, PartialEq, Eq)]
+pub struct DrawState {
+    pub brush: TextCursor,
+    /// Where the screen's cursor is.
+    pub cursor: Position,
+    /// How many items were drawn, as far as the count goes.
+    pub written: u64,
+}
+
+/// Why a cell isn't drawn.
+#[derive(Debug, Clone, Copy, PartialEq, Eq)]
+pub enum Refusal {
+    /// Memory was refused.
+    Memory,
+    /// The symbol in this place isn't printed as one, or not in the columns that its cell takes, or not within its row.
+    Symbol(Position),
+    /// The rendition in this place can't be sent.
+    Style(Position),
+    /// The cell would cut the symbol that covers this place, of which the first column stays.
+    Cut(Position),
+}
+
+impl From<AllocError> for Refusal {
+    ghost use Rattle.std.specs.Prelude.{◌≡◌};
+    ghost use Rattle.ratatui_ansi.specs.declared.draw.Refusal.TheVariants.{Memory};
+
+    ghost from_gives = { λ _ refusal. refusal ≡ Memory };
+
+    fn from(_: AllocError) -> Refusal {
+        Refusal::Memory
+    }
+}
+
+// Whether a cell takes just the columns in which its symbol is printed.
+fn takes(cell: &Cell, columns: u16) -> bool
+    requires columns { columns ≡ printed_columns (symbol_text cell.now.symbol) }
+    requires utf8 { IsUtf8 (symbol_text cell.now.symbol) }
+    ensures { result ≡ (columns == width_of cell.now) }
+{
+    match cell.diff_option {
+        CellDiffOption::ForcedWidth(_) => columns == cell.cell_width(),
+        CellDiffOption::None | CellDiffOption::Skip | CellDiffOption::AlwaysUpdate => true,
+    }
+}
+
+// The printable ASCII character that is all of a cell's symbol, if the cell's width isn't forced.
+fn printable_of(cell: &Cell) -> Option<char>
+    ensures { IfSome result (λ c. (room : ℕ) → 0 < room → IsGlyph room cell.now (Plain c)) }
+{
+    match cell.diff_option {
+        CellDiffOption::ForcedWidth(_) => None,
+        CellDiffOption::None | CellDiffOption::Skip | CellDiffOption::AlwaysUpdate => {
+            only_printable(cell.symbol())
+        }
+    }
+}
+
+// A cell's symbol, as it is printed in some columns: none if it isn't, if the cell takes others, or more than there are.
+fn glyph_in(room: u16, cell: &Cell) -> Option<Glyph>
+    ensures { MatchOption result (is_fit room cell.now ≡ false) (IsGlyph room cell.now) }
+{
+    let glyph = glyph_of(cell.symbol())?;
+    let columns = glyph.columns();
+    if columns == 0 || room < columns || !takes(cell, columns) {
+        return None;
+    }
+    Some(glyph)
+}
+
+// Whether a text is one blank.
+fn is_blank(symbol: &str) -> bool
+    ensures { IsTrue result ↔ (symbol.now ≡ blank) }
+{
+    symbol == " "
+}
+
+// Whether a cell takes one column and looks like an empty one; apart, as few cells are asked.
+#[inline(never)]
+fn is_vacant(cell: &Cell) -> bool
+    ensures { IsTrue result ↔ IsVacant cell.now }
+{
+    is_blank(cell.symbol()) && Sgr::DEFAULT.is_of(cell) && cell.cell_width() == 1
+}
+
+// The first column from `from` on whose flag isn't set, or the row's end. The row begins at `start`.
+fn tail_end(continuations: &[bool], start: usize, from: u16, width: u16) -> u16
+    requires row { start + width ≤ length continuations.now }
+    requires fits { from ≤ width }
+    ensures low { from ≤ result }
+    ensures high { result ≤ width }
+    ensures continuations { (k : ℕ) → from ≤ k → k < result
+        → slice_index_or continuations.now (start + k) false ≡ true }
+    ensures ended { result < width → slice_index_or continuations.now (start + result) false ≡ false }
+{
+    for column in from..width {
+        if !continuations[start + usize::from(column)] {
+            return column;
+        }
+    }
+    width
+}
+
+// Prints blanks in the columns of a row from `x` up to `end`, at least one.
+#[inline(never)]
+fn put_blanks(
+    out: &mut String,
+    brush: &mut TextCursor,
+    x: u16,
+    y: u16,
+    end: u16,
+) -> Result<(), AllocError>
+    requires { x < end }
+    ensures paints { OnOk result ((w h : ℕ) → end ≤ w → y < h → Paints w h (string_bytes out.old)
+        brush.old (blanked x y (end - x)) (string_bytes out.new) brush.new) }
+    ensures sgr { OnOk result (brush.new.sgr ≡ default_sgr) }
+{
+    change_sgr(out, brush, &Sgr::DEFAULT)?;
+    for column in x..end {
+        put_plain(out, brush, column, y, ' ')?;
+    }
+    Ok(())
+}
+
+// Sets the flags of a symbol's columns, from the place `first` up to `after_it`, and unsets those from there up to `end`.
+#[inline(never)]
+fn mark(continuations: &mut [bool], first: usize, past_it: usize, end: usize)
+    requires ordered { first ≤ end }
+    requires row { end ≤ length continuations.old }
+    ensures { (k : ℕ) → slice_index_or continuations.new k false
+        ≡ if nat_le first k && nat_lt k end then nat_lt first k && nat_lt k past_it
+        else slice_index_or continuations.old k false }
+{
+    for place in first..end {
+        continuations[place] = first < place && place < past_it;
+    }
+}
+
+// Sets the flags of a symbol of so many columns, and empties what is left of another one of which it covers the first part.
+// Answers the column after all these.
+#[inline(always)]
+fn cover(
+    out: &mut String,
+    continuations: &mut [bool],
+    width: u16,
+    brush: &mut TextCursor,
+    x: u16,
+    y: u16,
+    columns: u16,
+) -> Result<u16, AllocError>
+    requires some { 0 < columns }
+    requires fits { x + columns ≤ width }
+    requires row { y * width + width ≤ length continuations.old }
+    requires uncut { slice_index_or continuations.old (y * width + x) false ≡ false }
+    ensures { IfOk result (λ end. Covers width x y columns (string_bytes out.old) continuations.old
+        brush.old end (string_bytes out.new) continuations.new brush.new) }
+{
+    let start = usize::from(y) * usize::from(width);
+    let past_it = x + columns;
+    let end = tail_end(continuations, start, past_it, width);
+    if x + 1 < end {
+        if past_it < end {
+            put_blanks(out, brush, past_it, y, end)?;
+        }
+        mark(
+            continuations,
+            start + usize::from(x),
+            start + usize::from(past_it),
+            start + usize::from(end),
+        );
+    }
+    Ok(end)
+}
+
+// Prints a cell's symbol in a column and a row of a screen, in the brush's rendition.
+#[inline(always)]
+fn put(
+    out: &mut String,
+    brush: &mut TextCursor,
+    x: u16,
+    y: u16,
+    cell: &Cell,
+    glyph: Glyph,
+) -> Result<(), AllocError>
+    requires column { x < 65535 }
+    requires glyph { IsGlyphOf (symbol_text cell.now.symbol) glyph }
+    ensures prints { OnOk result ((w h : ℕ) → x < w → y < h → Prints w h (string_bytes out.old)
+        brush.old x y brush.old.sgr (symbol_text cell.now.symbol) (string_bytes out.new) brush.new) }
+    ensures sgr { OnOk result (brush.new.sgr ≡ brush.old.sgr) }
+{
+    match glyph {
+        Glyph::Plain(c) => put_plain(out, brush, x, y, c),
+        Glyph::Whole(_) => put_symbol(out, brush, x, y, cell.symbol()),
+    }
+}
+
+// Sets the rendition of the cell in a place; apart, so that the path of a cell in the brush's rendition stays short.
+#[inline(never)]
+fn set_sgr_of(
+    out: &mut String,
+    brush: &mut TextCursor,
+    has_underline_colors: bool,
+    place: Position,
+    cell: &Cell,
+) -> Result<(), Refusal>
+    ensures changes { OnOk result (ChangesSgr brush.old.sgr (sgr_of cell.now) (string_bytes out.old)
+        (string_bytes out.new)) }
+    ensures sgr { OnOk result (brush.new ≡ record brush.old { sgr = sgr_of cell.now }) }
+    ensures sent { OnOk result (is_sendable_by has_underline_colors (sgr_of cell.now) ≡ true) }
+    ensures refused { IfErr result (IsUnsendableSgr has_underline_colors place (sgr_of cell.now)) }
+{
+    let sgr = Sgr::of(cell);
+    if !sgr.is_sendable_by(has_underline_colors) {
+        return Err(Refusal::Style(place));
+    }
+    set_sgr(out, brush, &sgr)?;
+    Ok(())
+}
+
+// Sets the rendition of the cell in a place, where the brush has another.
+#[inline(always)]
+fn take_sgr(
+    out: &mut String,
+    brush: &mut TextCursor,
+    has_underline_colors: bool,
+    place: Position,
+    cell: &Cell,
+) -> Result<(), Refusal>
+    requires { is_sendable_by has_underline_colors brush.old.sgr ≡ true }
+    ensures changes { OnOk result (ChangesSgr brush.old.sgr (sgr_of cell.now) (string_bytes out.old)
+        (string_bytes out.new)) }
+    ensures sgr { OnOk result (brush.new ≡ record brush.old { sgr = sgr_of cell.now }) }
+    ensures sent { OnOk result (is_sendable_by has_underline_colors (sgr_of cell.now) ≡ true) }
+    ensures refused { IfErr result (IsUnsendableSgr has_underline_colors place (sgr_of cell.now)) }
+{
+    if brush.sgr.is_of(cell) {
+        return Ok(());
+    }
+    set_sgr_of(out, brush, has_underline_colors, place, cell)
+}
+
+// Draws a cell in a place of a screen of so many columns, where no symbol covers it from the left; it was counted before.
+#[inline(always)]
+fn draw_glyph(
+    out: &mut String,
+    continuations: &mut [bool],
+    width: u16,
+    has_underline_colors: bool,
+    drawing: &mut DrawState,
+    place: Position,
+    cell: &Cell,
+    glyph: Glyph,
+) -> Result<(), Refusal>
+    requires column { place.x < width }
+    requires row { place.y * width + width ≤ length continuations.old }
+    requires uncut { slice_index_or continuations.old (place.y * width + place.x) false ≡ false }
+    requires glyph { IsGlyph (width - place.x) cell.now glyph }
+    requires sgr { is_sendable_by has_underline_colors drawing.old.brush.sgr ≡ true }
+    ensures drawn { OnOk result ((h n : ℕ) → place.y < h
+        → drawing.old.written ≡ min (n + 1) (2 ^ 64 - 1)
+        → SendsUpdates width h (string_bytes out.old) (record drawing.old { written = n })
+        continuations.old (record { x = place.x; y = place.y; cell = cell.now } ∷ [])
+        (string_bytes out.new) drawing.new continuations.new) }
+    ensures sent { OnOk result (is_sendable_by has_underline_colors (sgr_of cell.now) ≡ true) }
+    ensures sgr { OnOk result (is_sendable_by has_underline_colors drawing.new.brush.sgr ≡ true) }
+    ensures refused { IfErr result (IsUnsendableSgr has_underline_colors place (sgr_of cell.now)) }
+{
+    let Position { x, y } = place;
+    let brush = &mut drawing.brush;
+    take_sgr(out, brush, has_underline_colors, place, cell)?;
+    put(out, brush, x, y, cell, glyph)?;
+    let end = cover(out, continuations, width, brush, x, y, glyph.columns())?;
+    drawing.cursor = Position {
+        x: end.min(width - 1),
+        y,
+    };
+    Ok(())
+}
+
+/// Draws a cell in a column and a row of a screen of so many columns and rows, and counts it. `after` has a flag for each column,
+/// row by row: whether it is a continuation column. Off the screen nothing is sent, and neither is a vacant cell
+/// after the first column of a symbol, where it would tear the symbol. Refused with its place is a cell whose symbol terminals
+/// don't print as one in just the cell's columns, or not within its row; one whose rendition can't be sent; and one that would cut a
+/// symbol of which the first column stays.
+pub fn draw_cell(
+    out: &mut String,
+    continuations: &mut [bool],
+    width: u16,
+    height: u16,
+    has_underline_colors: bool,
+    drawing: &mut DrawState,
+    x: u16,
+    y: u16,
+    cell: &Cell,
+) -> Result<(), Refusal>
+    requires flags { length continuations.old ≡ width * height }
+    requires sgr { is_sendable_by has_underline_colors drawing.old.brush.sgr ≡ true }
+    ensures drawn { OnOk result (SendsUpdates width height (string_bytes out.old)
+        drawing.old continuations.old (record { x = x; y = y; cell = cell.now } ∷ [])
+        (string_bytes out.new) drawing.new continuations.new) }
+    ensures sent { OnOk result (is_sendable_on width height has_underline_colors
+        (record { x = x; y = y; cell = cell.now }) ≡ true) }
+    ensures sgr { OnOk result (is_sendable_by has_underline_colors drawing.new.brush.sgr ≡ true) }
+    ensures refused { IfErr result (RefusesUpdate width height has_underline_colors continuations.old
+        (record { x = x; y = y; cell = cell.now })) }
+{
+    drawing.written = drawing.written.saturating_add(1);
+    if x >= width || y >= height {
+        return Ok(());
+    }
+    let place = Position { x, y };
+    if continuations[usize::from(y) * usize::from(width) + usize::from(x)] {
+        if is_vacant(cell) {
+            return Ok(());
+        }
+        return Err(Refusal::Cut(place));
+    }
+    // Most symbols are printable ASCII: their path stands alone, so that it stays short.
+    if let Some(c) = printable_of(cell) {
+        let glyph = Glyph::Plain(c);
+        return draw_glyph(
+            out,
+            continuations,
+            width,
+            has_underline_colors,
+            drawing,
+            place,
+            cell,
+            glyph,
+        );
+    }
+    let Some(glyph) = glyph_in(width - x, cell) else {
+        return Err(Refusal::Symbol(place));
+    };
+    draw_glyph(
+        out,
+        continuations,
+        width,
+        has_underline_colors,
+        drawing,
+        place,
+        cell,
+        glyph,
+    )
+}
+
+// Draws cells in order.
+fn draw_all<C: AsCell, I: Iterator<Item = (u16, u16, C)>>(
+    out: &mut String,
+    continuations: &mut [bool],
+    width: u16,
+    height: u16,
+    has_underline_colors: bool,
+    drawing: &mut DrawState,
+    content: I,
+) -> Result<(), Refusal>
+    requires flags { length continuations.old ≡ width * height }
+    requires sgr { is_sendable_by has_underline_colors drawing.old.brush.sgr ≡ true }
+    requires can { I.can_next content }
+    requires finite { IsFinite (I.remaining content) }
+    ensures drawn { OnOk result ((items : List (ℕ × ℕ × C))
+        × Drains I.next_gives content items
+        × SendsUpdates width height (string_bytes out.old) drawing.old continuations.old
+        (map (update_by C.cell) items) (string_bytes out.new) drawing.new continuations.new
+        × (list_all (is_sendable_on width height has_underline_colors)
+        (map (update_by C.cell) items) ≡ true)) }
+    ensures refused { IfErr result (StopsWithin I.next_gives content (update_by C.cell)
+        width height has_underline_colors (string_bytes out.old) drawing.old continuations.old) }
+{
+    for (x, y, cell) in content {
+        draw_cell(
+            out,
+            continuations,
+            width,
+            height,
+            has_underline_colors,
+            drawing,
+            x,
+            y,
+            cell.as_cell(),
+        )?;
+    }
+    Ok(())
+}
+
+/// Draws cells in order on a screen of so many columns and rows, with the cursor there and so many items drawn before; `after` is
+/// as in `draw_cell`. The terminal awaits text and is ready, and is so again. Answers where the cursor is then, and how many
+/// items were drawn, as far as the count goes; if ambiguous characters may be wide, each but ASCII is followed by a move; after a refusal what was appended and the flags are to be dropped.
+pub fn draw_cells<C: AsCell, I: Iterator<Item = (u16, u16, C)>>(
+    out: &mut String,
+    continuations: &mut [bool],
+    width: u16,
+    height: u16,
+    has_underline_colors: bool,
+    ambiguous_is_wide: bool,
+    cursor: Position,
+    written: u64,
+    content: I,
+) -> Result<(Position, u64), Refusal>
+    requires flags { length continuations.old ≡ width * height }
+    requires can { I.can_next content }
+    requires finite { IsFinite (I.remaining content) }
+    ensures drawn { IfOk result (λ after. (items : List (ℕ × ℕ × C))
+        × Drains I.next_gives content items
+        × SendsDraw width height (string_bytes out.old) cursor written continuations.old
+        (map (update_by C.cell) items) (string_bytes out.new) after.0 after.1 continuations.new
+        × (list_all (is_sendable_on width height has_underline_colors)
+        (map (update_by C.cell) items) ≡ true)) }
+    ensures refused { IfErr result (λ refusal. IsTrue (has_place refusal)
+        → StopsDraw I.next_gives content (update_by C.cell) width height has_underline_colors cursor
+        written continuations.old refusal) }
+{
+    let brush = TextCursor {
+        sgr: Sgr::DEFAULT,
+        at: None,
+        ambiguous_is_wide,
+    };
+    let mut drawing = DrawState {
+        brush,
+        cursor,
+        written,
+    };
+    draw_all(
+        out,
+        continuations,
+        width,
+        height,
+        has_underline_colors,
+        &mut drawing,
+        content,
+    )?;
+    change_sgr(out, &mut drawing.brush, &Sgr::DEFAULT)?;
+    Ok((drawing.cursor, drawing.written))
+}
