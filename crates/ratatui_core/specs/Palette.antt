@@ -2,5 +2,4 @@
 pub use Rattle.rtui_palette.specs.declared.tailwind.Palette.{Palette}
 pub use Rattle.rtui_palette.specs.declared.material.AccentedPalette.{AccentedPalette}
 pub use Rattle.rtui_palette.specs.declared.material.NonAccentedPalette.{NonAccentedPalette}
-pub use Rattle.rtui_palette.specs.Tailwind.{shades, palettes, shade_numbers}
 pub use Rattle.rtui_palette.specs.Material.{accented_of, non_accented_of, accented_palettes, non_accented_palettes, accented_numbers, non_accented_numbers}

@@ -12,22 +12,22 @@ pub use Rattle.rtui_viewport.specs.Clearing.{is_emptied, HasPlace, ClearsArea, W
 pub use Rattle.rtui_viewport.specs.Remaining.{blank_at, blanks_left}
 pub use Rattle.rtui_terminal.specs.State.{State, IsInPlace, HasAreas, HaveRoom, cursor_offset, IsSameTerminal, IsDefaultOver}
 pub use Rattle.rtui_terminal.specs.InStep.{IsInStep, IsSized, IsReady, rows_over, KeepsAroundViewport}
-pub use Rattle.rtui_terminal.specs.Frames.{IsNewFrame, KeepsFrame, PaintsFrame, IsDrawFrame, AcceptsFrames, AcceptsNewFrame, PaintsCurrent}
+pub use Rattle.rtui_terminal.specs.Frames.{IsNewFrame, KeepsFrame, PaintsFrame, IsDrawFrame, AcceptsFrames, PaintsCurrent}
 pub use Rattle.rtui_terminal.specs.Borrows.{with_buffer, LendsBuffer}
 pub use Rattle.rtui_terminal.specs.Faults.{FaultCounts, Faults, IsBackendFault, FailsOnlyByBackend}
 pub use Rattle.rtui_terminal.specs.Starting.{IsBlank, StartErr, first_cursor, Starts, StartsInRow}
-pub use Rattle.rtui_terminal.specs.Writing.{differing_count, WritesDifferences, cursor_placed, HasDrawn, last_place, known_behind, cursor_behind, cursor_after, FlushErr, Flushes, Writes, FailsWriting, WriteErr, Applies, FailsFlushing, ApplyErr, RefusesArea}
+pub use Rattle.rtui_terminal.specs.Writing.{differing_count, WritesDifferences, cursor_placed, HasDrawn, last_place, known_behind, cursor_behind, cursor_after, FlushErr, Flushes, Writes, FailsWriting, Applies, FailsFlushing, ApplyErr, RefusesArea}
 pub use Rattle.rtui_terminal.specs.Resizing.{IsResized, LacksRoom, KeepsBuffers, ResizesBuffers, Resizes, FailsResizing, ResizeErr, Autoresizes, AutoresizeErr}
 pub use Rattle.rtui_terminal.specs.Cursor.{Stays, MovesCursor}
 pub use Rattle.rtui_terminal.specs.Clearing.{FailsClearing, ClearsViewport}
-pub use Rattle.rtui_terminal.specs.Drawing.{CompletesFrame, DrawsFrame, RefusesFrame, DrawOk, ClosureErr, FrameOk, PaintedErr, FrameErr, DrawErr, TryDrawErr}
-pub use Rattle.rtui_terminal.specs.Rendered.{IsRendered, OnlyRenders, ShowsRendered}
+pub use Rattle.rtui_terminal.specs.Drawing.{CompletesFrame, DrawsFrame, RefusesFrame, DrawOk, ClosureErr, PaintedErr, FrameErr, DrawErr, TryDrawErr}
+pub use Rattle.rtui_terminal.specs.Rendered.{IsRendered, ShowsRendered}
 pub use Rattle.rtui_viewport.specs.Lying.{at_corner, FitsSize, IsAcross, MayLie}
 pub use Rattle.rtui_terminal.specs.AtRest.{IsAtRest}
 pub use Rattle.rtui_terminal.specs.TextRow.{row_area, IsPaintedText, IsRowOf, ShowsText, RendersRow, FillsRow, IsOverRow, ShowsRow, DrawsRow, InsertsRow, StartsOverRow}
 pub use Rattle.rtui_terminal.specs.Display.{terminal_error_text}
 pub use Rattle.rtui_rows.specs.Filling.{IsNewSheet, AcceptsRows, FillsRows, RefusesFilling}
-pub use Rattle.rtui_rows.specs.Rows.{lowered_update, DrawsRows, IsUnknownRow, DrawsFirstRow, RowsFit, ShowsFirst, CanShowRows, ShowsRows, IsBlankAt, is_nonempty, nonempty_cells, IsNarrowSheet, WritesAtMost}
+pub use Rattle.rtui_rows.specs.Rows.{lowered_update, DrawsRows, IsUnknownRow, DrawsFirstRow, RowsFit, IsBlankAt, is_nonempty, nonempty_cells, IsNarrowSheet, WritesAtMost}
 pub use Rattle.rtui_rows.specs.Insertion.{AreRowsOf, AreRowsOfAll, AppendsRows, KeepsSizeAndVisibility, HasPlaceAbove, ArePartOf, AppendsPart}
 pub use Rattle.rtui_rows.specs.Scrolling.{HasPushed, HasRaised, HasLowered, rows_down, PushesRows, InsertsDown, InsertsUp}
 pub use Rattle.rtui_rows.specs.Following.{AreaFollows, Follows}

@@ -6,5 +6,3 @@ pub use Rattle.rtui_widgets.specs.Line.{Part, end_of, part_of, behind_first, col
 pub use Rattle.rtui_widgets.specs.Rendering.{area_row, ChangesWithin, RendersRows, in_first_row, RendersSpan, RendersLine, alignment_or, text_line, text_row, RendersText, first_row, HasFirstRow, RendersStr, IsShortRow, RendersShortSpan, RendersShortLine, RendersShortText, RendersShortStr, AreAscii}
 pub use Rattle.rtui_buffer.specs.Clipped.{IsClipped}
 pub use Rattle.rtui_widgets.specs.Clipped.{OnPart}
-pub use Rattle.rtui_widgets.specs.IsPart.{IsPart}
-pub use Rattle.rtui_widgets.specs.Rows.{Rows, rows_from, place, cells_of_row, IsOutside, KeepsOthers, MakesRows}

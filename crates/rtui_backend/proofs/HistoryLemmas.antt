@@ -1,17 +1,16 @@
 -- Rows of cells that have the symbols of lines.
-use Rattle.std.proofs.Common.{◌≡◌, ℕ, ◌+◌, ◌<◌, true, List, [], ◌∷◌, ◌++◌, length, get_or, take, map, refl, sym, ap, ap₂, ◌∙◌, arith}
-use Rattle.std.proofs.lemmas.List.{length-map, append-nil, get_or-map, map_more, ext_get_or}
+use Rattle.std.proofs.Common.{◌≡◌, ℕ, ◌+◌, ◌<◌, List, [], ◌∷◌, ◌++◌, length, get_or, take, map, refl, sym, ap, ap₂, ◌∙◌, arith}
+use Rattle.std.proofs.lemmas.List.{length-map, get_or-map, map_more, ext_get_or}
 use Rattle.rtui_cell.specs.declared.cell.Cell.{Cell}
 use Rattle.rtui_cell.specs.Cell.{empty_cell}
 use Rattle.rtui_cell.specs.Look.{Look, look_of}
 use Rattle.rtui_cell.specs.Symbol.{blank}
-use Rattle.rtui_text.specs.Text.{LineData, line_of, plain}
+use Rattle.rtui_text.specs.Text.{line_of, plain}
 use Rattle.rtui_buffer.specs.Line.{line_row}
-use Rattle.rtui_buffer.proofs.RowLemmas.{length-rows}
-use Rattle.rtui_backend.specs.ScreenLines.{symbol_in, symbols_of_line}
-use Rattle.rtui_backend.specs.RowPieces.{is_row_of}
+use Rattle.rtui_backend.specs.ScreenLines.{symbols_of_line}
+use Rattle.rtui_backend.specs.Inner.{symbol_in, HasLine}
 use Rattle.rtui_backend.proofs.LineLemmas.{look_at-cell}
-use Rattle.rtui_backend.proofs.RowLemmas.{row-tells, row-told}
+use Rattle.rtui_buffer.proofs.RowLemmas.{length-row}
 
 abbrev pub symbols : List Cell → List (List ℕ)
 symbols cells = map (λ cell. (look_of cell).symbol) cells
@@ -22,28 +21,25 @@ symbol-at cells a a_in = get_or-map (λ (cell : Cell). (look_of cell).symbol) ce
 count : (cells : List Cell) → length (symbols cells) ≡ length cells
 count cells = length-map cells (λ (cell : Cell). (look_of cell).symbol)
 
-length-row : (w : ℕ) (line : LineData) → length (line_row w line) ≡ w
-length-row w line = ap length (sym (append-nil (line_row w line))) ∙ length-rows w (line ∷ []) ∙ omega arith
-
 module _ (w : ℕ) (ts : List (List ℕ)) (cells : List Cell) where
   abbrev shown : List Cell
   shown = line_row w (line_of (map plain ts))
 
-  pub row-shows : length cells ≡ w → is_row_of (symbol_in cells) w (map plain ts) ≡ true → symbols cells ≡ symbols_of_line w (line_of (map plain ts))
+  pub row-shows : length cells ≡ w → HasLine (line_of (map plain ts)) w (symbol_in cells) → symbols cells ≡ symbols_of_line w (line_of (map plain ts))
   row-shows wide told =
       let n = length-row w (line_of (map plain ts)) in
       ext_get_or blank (symbols cells) (symbols shown) (count cells ∙ wide ∙ sym (count shown ∙ n)) (λ a a_in.
       let inside : a < w = omega (arith, count cells) in
-      symbol-at cells a (omega arith) ∙ row-tells w ts (symbol_in cells) told a inside ∙ sym (symbol-at shown a (omega arith)))
+      symbol-at cells a (omega arith) ∙ told a inside ∙ sym (symbol-at shown a (omega arith)))
 
   pub row-count : symbols cells ≡ symbols_of_line w (line_of (map plain ts)) → length cells ≡ w
   row-count same = sym (count cells) ∙ ap length same ∙ count shown ∙ length-row w (line_of (map plain ts))
 
-  pub row-shown : symbols cells ≡ symbols_of_line w (line_of (map plain ts)) → is_row_of (symbol_in cells) w (map plain ts) ≡ true
+  pub row-shown : symbols cells ≡ symbols_of_line w (line_of (map plain ts)) → HasLine (line_of (map plain ts)) w (symbol_in cells)
   row-shown same =
       let n = length-row w (line_of (map plain ts)) in
       let m = row-count same in
-      row-told w ts (symbol_in cells) (λ a a_in. sym (symbol-at cells a (omega arith)) ∙ ap (λ xs. get_or xs a blank) same ∙ symbol-at shown a (omega arith))
+      λ a a_in. sym (symbol-at cells a (omega arith)) ∙ ap (λ xs. get_or xs a blank) same ∙ symbol-at shown a (omega arith)
 
 -- two lists mapped to the same, item by item
 module _ {X Y Z : Type 0} (f : X → Z) (g : Y → Z) (xs : List X) (ys : List Y) (d : X) (e : Y) where

@@ -12,8 +12,6 @@ use Rattle.rtui_backend.specs.CellGrid.{look_at, grid_of}
 pub look_at-set : (cells : List Cell) (i j : ℕ) (c : Cell) → i < length cells → look_at (set cells i c) j ≡ if j == i then look_of c else look_at cells j
 look_at-set cells i j c inside = simp map-set (grind (arith, common_steps, length-map))
 
-pub ruleset looks = (look_at-set, look-empty)
-
 -- empty cells show nothing
 pub look_at-empty : (n i : ℕ) → look_at (empty_cells n) i ≡ empty_look
 look_at-empty zero i = refl

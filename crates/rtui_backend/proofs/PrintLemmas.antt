@@ -1,7 +1,6 @@
 -- Writing a text piece by piece.
 use Rattle.rtui_cell.specs.Look.{Look}
-use Rattle.std.proofs.Common.{◌≡◌, ap, map, ◌∷◌, ℕ, zero, suc, ◌+◌, ◌-◌, ◌<◌, arith, List, [], ◌++◌, Option, Some, None, Result, Ok, Err, OnOk, refl, sym, append_assoc}
-use Rattle.std.proofs.lemmas.List.{append-nil}
+use Rattle.std.proofs.Common.{◌≡◌, ap, map, ◌∷◌, ℕ, zero, suc, ◌+◌, ◌-◌, ◌<◌, arith, List, [], ◌++◌, Option, Some, None, Result, Ok, Err, OnOk, refl, append_assoc}
 use Rattle.std.specs.List.{flat_map, range_with_len}
 use native.Mathlib.Numerals.{unary_clauses}
 use Rattle.std.specs.Io.KnownBytes.{Appends}
@@ -15,10 +14,6 @@ Appends-both None b c xs ys p q = tt
 Appends-both (Some a) None c xs ys p q = absurd p
 Appends-both (Some a) (Some b) None xs ys p q = absurd q
 Appends-both (Some a) (Some b) (Some c) xs ys p q = rw (q, p) (append_assoc a xs ys)
-
-Appends-nothing : (a : Option (List ℕ)) → Appends a a []
-Appends-nothing None = tt
-Appends-nothing (Some a) = sym (append-nil a)
 
 pub HasWritten-more : (old mid new : Option (List ℕ)) (xs ys all : List ℕ) → HasWritten old mid (xs ++ ys) all → Appends mid new xs → HasWritten old new ys all
 HasWritten-more old mid new xs ys all before piece last more = before last (Appends-both mid new last xs ys piece more)

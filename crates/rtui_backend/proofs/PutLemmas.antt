@@ -1,6 +1,5 @@
 -- A cell placed in a row-major list is put on the grid.
-use Rattle.std.proofs.Common.{◌≡◌, ℕ, ◌+◌, ◌*◌, ◌<◌, ◌≤◌, min, max, ◌==◌, ◌&&◌, nat_lt, if◌then◌else◌, List, inl, inr, arith}
-use Rattle.std.proofs.Math.Nat.{mul-le-mul_right}
+use Rattle.std.proofs.Common.{◌≡◌, ℕ, ◌+◌, ◌*◌, ◌<◌, min, max, ◌==◌, ◌&&◌, nat_lt, if◌then◌else◌, List, inl, inr, arith}
 use Rattle.std.proofs.lemmas.Bool.{cases_lt}
 use Rattle.std.proofs.lemmas.Bool.Decides.{nat_tests}
 use Rattle.rtui_cell.specs.declared.cell.Cell.{Cell}
@@ -8,10 +7,7 @@ use Rattle.rtui_cell.specs.Look.{look_of, empty_look}
 use Rattle.rtui_cell.specs.Cell.{width_of}
 use Rattle.rtui_cell.specs.Grid.{Update, put}
 use Rattle.rtui_backend.specs.CellGrid.{look_at, grid_of}
-
--- rows do not overlap
-row_below : (w b y : ℕ) → b < y → b * w + w ≤ y * w
-row_below w b y lower = let e : (b + 1) * w ≤ y * w = mul-le-mul_right w (omega arith) in omega arith
+use Rattle.rtui_grid.proofs.PlaceLemmas.{by_rows}
 
 module _ (w h : ℕ) (u : Update) (old new : List Cell) (x_in : u.x < w) (y_in : u.y < h)
     (placed : (k : ℕ) → look_at new k ≡ if k == u.y * w + u.x then look_of u.cell else (if nat_lt (u.y * w + u.x) k && nat_lt k (u.y * w + min (max (u.x + width_of u.cell) (u.x + 1)) w) then empty_look else look_at old k)) where
@@ -20,12 +16,6 @@ module _ (w h : ℕ) (u : Update) (old new : List Cell) (x_in : u.x < w) (y_in :
 
   pub put_shows : (a b : ℕ) → grid_of w new a b ≡ put w h u (grid_of w old) a b
   put_shows a b = elim (cases_lt a w) [
-    | inl in_row ↦ elim (cases_lt b u.y) [
-      | inl above ↦ let e = row_below w b u.y above in rw (placed (b * w + a)) (grind (arith, nat_tests))
-      | inr below ↦ elim (cases_lt u.y b) [
-        | inl under ↦ let e = row_below w u.y b under in rw (placed (b * w + a)) (grind (arith, nat_tests))
-        | inr over ↦ let e : b ≡ u.y = omega arith in rw e (at_row a in_row)
-      ]
-    ]
+    | inl in_row ↦ by_rows _ w b u.y (λ p q. rw (placed (b * w + a)) (grind (arith, nat_tests))) (λ p q. rw (placed (b * w + a)) (grind (arith, nat_tests))) (λ e. rw e (at_row a in_row))
     | inr past ↦ grind (arith, nat_tests)
   ]

@@ -2,9 +2,9 @@
 use Rattle.std.proofs.Common.{◌≡◌, ℕ, ◌+◌, ◌-◌, ◌<◌, ◌≤◌, ◌++◌, min, nat_lt, sym, ap, ◌∙◌, arith}
 use Rattle.std.proofs.lemmas.Bool.Decides.{nat_tests}
 use Rattle.rtui_cell.specs.Look.{empty_look}
-use Rattle.rtui_backend.specs.Screen.{Screen, seen, row_of, rows_above, Scrolls}
-use Rattle.rtui_backend.proofs.ScrollLemmas.{map_same, above_kept}
-use Rattle.rtui_backend.specs.Screen.{upper_part, ScrollsUp, ScrollsDown}
+use Rattle.rtui_backend.specs.Screen.{Screen, seen, row_of, rows_above, Scrolls, upper_part, ScrollsUp, ScrollsDown}
+use Rattle.rtui_backend.proofs.ScrollLemmas.{above_kept}
+use Rattle.rtui_grid.proofs.RangeLemmas.{map_same}
 
 -- the rows above a row of a screen's upper part
 pub above_upper : (s : Screen) (b e : ℕ) → e ≤ b → e ≤ s.height → rows_above (upper_part b s) e ≡ rows_above s e

@@ -1,31 +1,10 @@
 -- The rows above a row, and what a scroll does to them.
-use Rattle.std.proofs.Common.{◌≡◌, ℕ, zero, suc, add-zero, ◌+◌, ◌++◌, ◌<◌, ◌≤◌, [], ◌∷◌, map, refl, sym, ap, ◌∙◌, arith, append_assoc, inl, inr}
-use Rattle.std.proofs.lemmas.List.{append-nil}
-use Rattle.std.proofs.lemmas.List.FromFn.{map-range_with_len_more}
+use Rattle.std.proofs.Common.{◌≡◌, ℕ, ◌+◌, ◌++◌, ◌<◌, map, sym, ap, ◌∙◌, arith, append_assoc, inl, inr}
 use Rattle.std.proofs.lemmas.Bool.{cases_lt}
 use Rattle.std.proofs.lemmas.Bool.Decides.{nat_tests}
 use Rattle.std.specs.List.{range_with_len}
 use Rattle.rtui_backend.specs.Screen.{Screen, seen, row_of, rows_above, Scrolls}
-
--- a list made from a function depends on the function at its places alone
-pub map_same : {X : Type 0} (f g : ℕ → X) (a n : ℕ) → ((i : ℕ) → a ≤ i → i < a + n → f i ≡ g i) → map f (range_with_len a n) ≡ map g (range_with_len a n)
-map_same f g a zero same = refl
-map_same f g a (suc n) same =
-    let here : f a ≡ g a = same a (omega arith) (omega arith) in
-    let rest : map f (range_with_len (a + 1) n) ≡ map g (range_with_len (a + 1) n) = map_same f g (a + 1) n (λ i low high. same i (omega arith) (omega arith)) in
-    cc
-
--- the first k + e places, as the first k and the e behind them
-pub places_split : {X : Type 0} (f : ℕ → X) (k e : ℕ) → map f (range_with_len 0 (k + e)) ≡ map f (range_with_len 0 k) ++ map (λ i. f (i + k)) (range_with_len 0 e)
-places_split f k zero = rw add-zero (sym (append-nil (map f (range_with_len 0 k))))
-places_split f k (suc e) =
-    let whole : k + suc e ≡ (k + e) + 1 = omega arith in
-    let part : e + 1 ≡ suc e = omega arith in
-    ap (λ n. map f (range_with_len 0 n)) whole
-    ∙ map-range_with_len_more f 0 (k + e) (e + k) (omega arith)
-    ∙ ap (λ xs. xs ++ f (e + k) ∷ []) (places_split f k e)
-    ∙ append_assoc (map f (range_with_len 0 k)) _ _
-    ∙ ap (λ xs. map f (range_with_len 0 k) ++ xs) (sym (map-range_with_len_more (λ i. f (i + k)) 0 e e (omega arith)) ∙ ap (λ n. map (λ i. f (i + k)) (range_with_len 0 n)) part)
+use Rattle.rtui_grid.proofs.RangeLemmas.{map_same, places_split}
 
 -- what is seen after a scroll is what was seen further below
 seen_after : {r s : Screen} {k : ℕ} → Scrolls r k s → (a b : ℕ) → a < r.width → seen s a b ≡ seen r a (b + k)

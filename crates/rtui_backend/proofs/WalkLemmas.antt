@@ -1,78 +1,101 @@
--- How the walk along a row goes on, and what it tells.
-use Rattle.std.proofs.Common.{◌≡◌, ℕ, suc, ◌+◌, ◌-◌, ◌<◌, ◌≤◌, true, false, ◌&&◌, List, [], ◌∷◌, ◌++◌, map, Option, Some, None, refl, sym, ap, ◌∙◌, arith}
-use Rattle.std.proofs.lemmas.List.Sums.{sum_by-cons}
-use Rattle.std.proofs.lemmas.List.{map-append}
+-- How the walk along a row goes on.
+use Rattle.std.proofs.Common.{◌≡◌, ◌↔◌, ℕ, ◌+◌, ◌-◌, ◌<◌, ◌≤◌, true, Bool, List, [], ◌∷◌, ◌++◌, map, Option, Some, None, sym, ap, ◌∙◌, arith, append_assoc}
 use Rattle.std.specs.Borrow.{Bor}
-use Rattle.std.specs.Str.{bytes_eq}
-use Rattle.rtui_style.specs.declared.Style.{Style}
+use Rattle.std.proofs.lemmas.List.{map-append, append-nil}
+use Rattle.std.proofs.lemmas.List.Sums.{sum_by-cons}
 use Rattle.rtui_style.specs.Style.{new_style}
-use Rattle.rtui_cell.specs.Symbol.{blank}
+use Rattle.rtui_text.specs.Text.{plain, line_of}
 use Rattle.rtui_cell.specs.Width.{text_width}
-use Rattle.rtui_text.specs.Text.{SpanData, plain}
 use Rattle.rtui_buffer.specs.Painting.{painted_width, kept, Piece, piece_of, pieces, piece_width, columns, text_pieces}
-use Rattle.rtui_buffer.proofs.PaintLemmas.{painted_width-painted, kept-nil, kept-skip, kept-take, kept-full}
-use Rattle.rtui_backend.specs.RowPieces.{are_blank, is_piece, are_pieces, pieces_end, at_end, spans_end}
+use Rattle.rtui_buffer.proofs.PaintLemmas.{kept-nil, kept-skip, kept-take, kept-full}
+use Rattle.rtui_buffer.specs.Line.{line_pieces}
+use Rattle.rtui_buffer.proofs.LineLemmas.{columns-append, line_pieces-nil, line_pieces-cons}
+use Rattle.rtui_backend.specs.Inner.{AreBlank, HasSymbol, Stand, EndsAfter, HasLine}
+use Rattle.rtui_backend.proofs.RowLemmas.{stand-append, has-line, line-had}
 
 module _ (row : ℕ → List ℕ) where
-  pub are_blank-end : (a b : ℕ) → b ≤ a → are_blank row a (b - a) ≡ true
-  unfolding are_blank
-  are_blank-end a b le = let e : b - a ≡ 0 = omega arith in rw e
+  pub ends-nil : (a : ℕ) → EndsAfter row a [] (Some a)
+  unfolding Stand
+  ends-nil a = (let e : a ≡ a + columns [] = omega arith in e, tt)
 
-  pub are_blank-more : (a b : ℕ) → a < b → are_blank row a (b - a) ≡ (bytes_eq (row a) blank && are_blank row (a + 1) (b - (a + 1)))
-  unfolding are_blank
-  are_blank-more a b lt = let e : b - a ≡ suc (b - (a + 1)) = omega arith in rw e
+  pub ends-cons : (a : ℕ) (p : Piece) (ps : List Piece) (o : Option ℕ) → HasSymbol row a p.symbol → EndsAfter row (a + piece_width p) ps o → EndsAfter row a (p ∷ ps) o
+  unfolding Stand
+  ends-cons a p ps None has off = λ h. off h.1
+  ends-cons a p ps (Some b) has end = (let e : b ≡ a + columns (p ∷ ps) = omega (arith, end.0, sum_by-cons piece_width p ps) in e, (has, end.1))
 
-  pub pieces_end-nil : (a : ℕ) → pieces_end row a [] ≡ Some a
-  unfolding pieces_end are_pieces
-  pieces_end-nil a = let e : a + columns [] ≡ a = omega arith in rw e
+  pub ends-not : (a : ℕ) (p : Piece) (ps : List Piece) → (HasSymbol row a p.symbol → ⊥) → EndsAfter row a (p ∷ ps) None
+  unfolding Stand
+  ends-not a p ps off = λ h. off h.0
 
-  pub pieces_end-cons : (a : ℕ) (p : Piece) (ps : List Piece) → is_piece row a p.symbol ≡ true → pieces_end row a (p ∷ ps) ≡ pieces_end row (a + piece_width p) ps
-  unfolding pieces_end are_pieces
-  pieces_end-cons a p ps h = let e : a + columns (p ∷ ps) ≡ a + piece_width p + columns ps = omega (arith, sum_by-cons piece_width p ps) in rw (h, e)
+  ends-append : (a b : ℕ) (ps qs : List Piece) (o : Option ℕ) → b ≡ a + columns ps → Stand row a ps → EndsAfter row b qs o → EndsAfter row a (ps ++ qs) o
+  ends-append a b ps qs None e stand off = λ h. off (rw e ((stand-append row ps qs a).0 h).1)
+  ends-append a b ps qs (Some c) e stand end =
+      (let sum : c ≡ a + columns (ps ++ qs) = omega (arith, end.0, columns-append ps qs) in sum, (stand-append row ps qs a).1 (stand, rw e at end.1))
 
-  pub pieces_end-not : (a : ℕ) (p : Piece) (ps : List Piece) → is_piece row a p.symbol ≡ false → pieces_end row a (p ∷ ps) ≡ None
-  unfolding pieces_end are_pieces
-  pieces_end-not a p ps h = rw h
+-- a turn of the walk along a text, where what is left of it ends as the whole does
+module _ (row : ℕ → List ℕ) (room at end : ℕ) (all : List Piece) (left : List (List ℕ)) (h : (o : Option ℕ) → EndsAfter row end (pieces new_style (kept (room - end) left)) o → EndsAfter row at all o) where
+  pub text-end : left ≡ [] → EndsAfter row at all (Some end)
+  text-end is = h (Some end) (rw (is, kept-nil (room - end)) (ends-nil row end))
 
-  pub spans_end-one : (w a : ℕ) (s : SpanData) → spans_end row w a (s ∷ []) ≡ pieces_end row a (text_pieces (w - a) new_style s.content)
-  unfolding spans_end
-  spans_end-one w a s = at_end-Some (pieces_end row a (text_pieces (w - a) new_style s.content))
-    where
-      at_end-Some : (o : Option ℕ) → at_end o (λ b. Some b) ≡ o
-      at_end-Some None = refl
-      at_end-Some (Some b) = refl
+  module _ (g : List ℕ) (gs : List (List ℕ)) (is : left ≡ g ∷ gs) where
+    pub text-skip : painted_width g ≡ 0 → (o : Option ℕ) → EndsAfter row end (pieces new_style (kept (room - end) gs)) o → EndsAfter row at all o
+    text-skip none o e = h o (rw (is, kept-skip (room - end) g gs none) e)
 
-  -- spans and one more behind them
-  pub spans_end-push : (w a : ℕ) (ss : List SpanData) (s : SpanData) → spans_end row w a (ss ++ s ∷ []) ≡ at_end (spans_end row w a ss) (λ b. pieces_end row b (text_pieces (w - b) new_style s.content))
-  unfolding spans_end
-  spans_end-push w a [] s = spans_end-one w a s
-  spans_end-push w a (t ∷ ss) s = onward (pieces_end row a (text_pieces (w - a) new_style t.content)) (λ b. spans_end row w b (ss ++ s ∷ [])) (λ b. spans_end row w b ss) _ (λ b. spans_end-push w b ss s)
-    where
-      onward : (o : Option ℕ) (f g h : ℕ → Option ℕ) → ((b : ℕ) → f b ≡ at_end (g b) h) → at_end o f ≡ at_end (at_end o g) h
-      onward None f g h e = refl
-      onward (Some b) f g h e = e b
+    pub text-full : 0 < painted_width g → room - end < text_width g → EndsAfter row at all (Some end)
+    text-full some wide = h (Some end) (rw (is, kept-full (room - end) g gs some wide) (ends-nil row end))
 
-  pub spans_end-nil : (w a : ℕ) → spans_end row w a [] ≡ Some a
-  unfolding spans_end
-  spans_end-nil w a = refl
+    pub text-not : 0 < painted_width g → text_width g ≤ room - end → (HasSymbol row end g → ⊥) → EndsAfter row at all None
+    text-not some fits off = h None (rw (is, kept-take (room - end) g gs some fits) (ends-not row end (piece_of new_style g) (pieces new_style (kept (room - end - text_width g) gs)) off))
 
-  -- a turn of the walk along a line, where its texts so far end in a column, and where they don't stand there
-  module _ (w : ℕ) (texts : List (Bor (List ℕ))) (text : Bor (List ℕ)) (end : Option ℕ) (done : end ≡ spans_end row w 0 (map plain (map (λ (t : Bor (List ℕ)). t.now) texts))) where
-    pushed : spans_end row w 0 (map plain (map (λ (t : Bor (List ℕ)). t.now) (texts ++ text ∷ []))) ≡ at_end end (λ b. pieces_end row b (text_pieces (w - b) new_style text.now))
-    pushed =
-        ap (λ (ts : List (List ℕ)). spans_end row w 0 (map plain ts)) (map-append (λ (t : Bor (List ℕ)). t.now) texts (text ∷ []))
-        ∙ ap (spans_end row w 0) (map-append plain (map (λ (t : Bor (List ℕ)). t.now) texts) (text.now ∷ []))
-        ∙ spans_end-push w 0 (map plain (map (λ (t : Bor (List ℕ)). t.now) texts)) (plain text.now)
-        ∙ ap (λ e. at_end e (λ b. pieces_end row b (text_pieces (w - b) new_style text.now))) (sym done)
+    pub text-take : (width : ℕ) → width ≡ text_width g → 0 < painted_width g → text_width g ≤ room - end → HasSymbol row end g
+        → (o : Option ℕ) → EndsAfter row (end + width) (pieces new_style (kept (room - (end + width)) gs)) o → EndsAfter row at all o
+    text-take width is_width some fits has o e =
+        let rest : room - (end + width) ≡ room - end - text_width g = omega arith in
+        h o (rw (is, kept-take (room - end) g gs some fits) (ends-cons row end (piece_of new_style g) (pieces new_style (kept (room - end - text_width g) gs)) o has (rw (rest, is_width) at e)))
 
-    pub line-turn : (x : ℕ) (result : Option ℕ) → end ≡ Some x → result ≡ pieces_end row x (text_pieces (w - x) new_style text.now) → result ≡ spans_end row w 0 (map plain (map (λ (t : Bor (List ℕ)). t.now) (texts ++ text ∷ [])))
-    line-turn x result is e = e ∙ sym (pushed ∙ ap (λ o. at_end o (λ b. pieces_end row b (text_pieces (w - b) new_style text.now))) is)
+-- the pieces of plain texts and one more after them
+line-push : (w : ℕ) (ts : List (List ℕ)) (t : List ℕ) → line_pieces w new_style (map plain (ts ++ t ∷ []))
+    ≡ line_pieces w new_style (map plain ts) ++ text_pieces (w - columns (line_pieces w new_style (map plain ts))) new_style t
+line-push w [] t =
+    let none = line_pieces-nil w new_style in
+    let all : w - columns [] ≡ w = omega arith in
+    line_pieces-cons w new_style (plain t) [] ∙ ap (λ qs. text_pieces w new_style t ++ qs) (line_pieces-nil (w - columns (text_pieces w new_style t)) new_style) ∙ append-nil (text_pieces w new_style t)
+    ∙ sym (ap (λ ps. ps ++ text_pieces (w - columns ps) new_style t) none ∙ ap (λ n. text_pieces n new_style t) all)
+line-push w (u ∷ ts) t =
+    let ps : List Piece = text_pieces w new_style u in
+    let rest : List Piece = line_pieces (w - columns ps) new_style (map plain ts) in
+    let whole = line_pieces-cons w new_style (plain u) (map plain ts) in
+    let left : w - columns (ps ++ rest) ≡ w - columns ps - columns rest = omega (arith, columns-append ps rest) in
+    line_pieces-cons w new_style (plain u) (map plain (ts ++ t ∷ [])) ∙ ap (λ qs. ps ++ qs) (line-push (w - columns ps) ts t)
+    ∙ sym (ap (λ qs. qs ++ text_pieces (w - columns qs) new_style t) whole ∙ append_assoc ps rest _ ∙ ap (λ n. ps ++ (rest ++ text_pieces n new_style t)) left)
 
-    pub line-over : end ≡ None → None ≡ spans_end row w 0 (map plain (map (λ (t : Bor (List ℕ)). t.now) (texts ++ text ∷ [])))
-    line-over is = sym (pushed ∙ ap (λ o. at_end o (λ b. pieces_end row b (text_pieces (w - b) new_style text.now))) is)
+-- a turn of the walk along a line, where its texts so far end in a column, and where they don't stand there
+module _ (row : ℕ → List ℕ) (w : ℕ) (texts : List (Bor (List ℕ))) (text : Bor (List ℕ)) where
+  abbrev now : List (Bor (List ℕ)) → List (List ℕ)
+  now ts = map (λ (t : Bor (List ℕ)). t.now) ts
 
-pub ruleset blank_steps = (are_blank-end, are_blank-more)
+  abbrev former : List Piece
+  former = line_pieces w new_style (map plain (now texts))
 
-pub ruleset piece_steps = (painted_width-painted, kept-nil, kept-skip, kept-take, kept-full, pieces_end-nil, pieces_end-cons, pieces_end-not)
+  pushed : line_pieces w new_style (map plain (now (texts ++ text ∷ []))) ≡ former ++ text_pieces (w - columns former) new_style text.now
+  pushed = ap (λ (ts : List (List ℕ)). line_pieces w new_style (map plain ts)) (map-append (λ (t : Bor (List ℕ)). t.now) texts (text ∷ [])) ∙ line-push w (now texts) text.now
 
-pub ruleset row_steps = (spans_end-push)
+  pub line-turn : (x : ℕ) (end o : Option ℕ) → EndsAfter row 0 former end → end ≡ Some x → EndsAfter row x (text_pieces (w - x) new_style text.now) o
+      → EndsAfter row 0 (line_pieces w new_style (map plain (now (texts ++ text ∷ [])))) o
+  line-turn x end o done is more =
+      let at = rw is at done in
+      let here : x ≡ columns former = omega (arith, at.0) in
+      rw pushed (ends-append row 0 (columns former) former _ o (omega arith) at.1 (rw here at more))
+
+  pub line-over : (end : Option ℕ) → EndsAfter row 0 former end → end ≡ None → EndsAfter row 0 (line_pieces w new_style (map plain (now (texts ++ text ∷ [])))) None
+  line-over end done is = let off = rw is at done in λ h. off ((stand-append row former (text_pieces (w - columns former) new_style text.now) 0).0 (rw pushed at h)).0
+
+-- where its texts end, a row has a line if blanks are after them, and not where they don't stand
+module _ (row : ℕ → List ℕ) (w : ℕ) (ts : List (List ℕ)) where
+  pub line-if : (end : ℕ) (b : Bool) → EndsAfter row 0 (line_pieces w new_style (map plain ts)) (Some end) → ((b ≡ true) ↔ AreBlank row end w) → (b ≡ true) ↔ HasLine (line_of (map plain ts)) w row
+  line-if end b at blank =
+      let here : end ≡ columns (line_pieces w new_style (map plain ts)) = omega (arith, at.0) in
+      (λ t. has-line w ts row at.1 (rw here at (blank.0 t)), λ h. blank.1 (rw here (line-had w ts row h).1))
+
+  pub no-line : EndsAfter row 0 (line_pieces w new_style (map plain ts)) None → HasLine (line_of (map plain ts)) w row → ⊥
+  no-line off h = off (line-had w ts row h).0

@@ -5,5 +5,5 @@ pub mod CellGrid
 pub mod TestBackend
 pub mod Display
 pub mod ScreenLines
-pub mod RowPieces
 pub mod Print
+pub mod Inner

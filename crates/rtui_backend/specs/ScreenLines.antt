@@ -1,15 +1,10 @@
 -- When a screen shows lines of text, as a buffer made of them does.
 use Rattle.std.specs.Prelude.{◌≡◌, ℕ, ◌<◌, true, List, [], length, map}
-use Rattle.rtui_cell.specs.declared.cell.Cell.{Cell}
 use Rattle.rtui_cell.specs.Look.{look_of}
 use Rattle.rtui_text.specs.Text.{LineData}
 use Rattle.rtui_buffer.specs.Line.{line_row, line_rows, line_at, widest}
 use Rattle.rtui_backend.specs.Screen.{Screen, cursor_of}
 use Rattle.rtui_backend.specs.CellGrid.{look_at, grid_of}
-
--- the symbol at a place of a list of cells, blank past the end
-abbrev pub symbol_in : List Cell → ℕ → List ℕ
-symbol_in cells a = (look_at cells a).symbol
 
 -- the symbol in each column of a row of a screen
 abbrev pub symbols_in : Screen → ℕ → ℕ → List ℕ
@@ -28,10 +23,6 @@ pub record ScreenHasLines (lines : List LineData) (s : Screen) : Type 0 where
 -- the symbols of a line in a row of w columns
 abbrev pub symbols_of_line : ℕ → LineData → List (List ℕ)
 symbols_of_line w line = map (λ cell. (look_of cell).symbol) (line_row w line)
-
--- rows of cells that have, in w columns each, the symbols of these lines, in order
-abbrev pub RowsHaveLines : ℕ → List LineData → List (List Cell) → Type 0
-RowsHaveLines w lines rows = map (map (λ cell. (look_of cell).symbol)) rows ≡ map (symbols_of_line w) lines
 
 -- the rows of the history have the symbols of these lines, in order, each in as many columns as the widest one takes
 abbrev pub HistoryHasLines : List LineData → Screen → Type 0

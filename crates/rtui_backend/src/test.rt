@@ -1,21 +1,20 @@
 //! A backend in memory.
 
-ghost use Rattle.std.specs.Prelude.{◌≡◌, IsTrue, ◌↔◌, ℕ, ◌+◌, ◌-◌, ◌*◌, ◌^◌, ◌<◌, ◌≤◌, ◌==◌, ◌&&◌, true, nat_lt, if◌then◌else◌, List, [], ◌∷◌, map, length, Some, IfOk, OnOk, OnErr};
+ghost use Rattle.std.specs.Prelude.{◌≡◌, IsTrue, ◌↔◌, ℕ, ◌+◌, ◌-◌, ◌*◌, ◌^◌, ◌<◌, ◌≤◌, ◌==◌, true, List, map, length, Some, IfOk, OnOk, OnErr};
 ghost use Rattle.std.specs.Iterator.{IsFinite, Drains};
-ghost use Rattle.rtui_cell.specs.Look.{look_of, empty_look};
-ghost use Rattle.rtui_cell.specs.Cell.{width_of};
+ghost use Rattle.rtui_geometry.specs.Rect.{EdgesFit};
+ghost use Rattle.rtui_cell.specs.Look.{look_of};
 ghost use Rattle.rtui_cell.specs.Grid.{put, update_by};
-ghost use Rattle.rtui_buffer.specs.Sheet.{IsEmptied, IsEqualSheet, sheet_row};
+ghost use Rattle.rtui_buffer.specs.Sheet.{area_size, IsEqualSheet, sheet_row};
 ghost use Rattle.rtui_backend.specs.Screen.{Draws};
-ghost use Rattle.rtui_cell.specs.Cell.{IsUnmarked};
-ghost use Rattle.rtui_backend.specs.CellGrid.{look_at, grid_of, AreUnmarked, AreUnmarkedRows};
+ghost use Rattle.rtui_backend.specs.CellGrid.{grid_of, AreUnmarked, AreUnmarkedRows};
 ghost use Rattle.rtui_backend.specs.Failures.{Counts};
 ghost use Rattle.rtui_backend.specs.Display.{test_error_text};
 
 use crate::backend::{AsCell, Backend, WindowSize};
 use crate::clear_type::ClearType;
 use rtui_buffer::laws::equality_is_by_cells;
-use rtui_buffer::{Buffer, Cell, CellDiffOption, CellWidth};
+use rtui_buffer::{Buffer, Cell};
 use rtui_geometry::{Position, Rect, Size};
 use std::alloc::{AllocError, Global};
 use std::error::Error;
@@ -24,6 +23,7 @@ use std::ops::Range;
 
 mod lines;
 mod print;
+mod put;
 mod scroll;
 
 /// Why a call of a `TestBackend` failed.
@@ -48,64 +48,6 @@ impl fmt::Display for TestError {
 
 impl Error for TestError {}
 
-// Gives a cell the look of another one, without option and flag.
-#[tactic(auto, unfolding(rtui_cell::specs::Look::look_of))]
-fn copy_look(alloc: Global, to: &mut Cell, cell: &Cell) -> Result<(), AllocError>
-    ensures look { OnOk result (look_of to.new ≡ look_of cell.now) }
-    ensures unmarked { OnOk result (IsUnmarked to.new) }
-    ensures err { OnErr result (to.new ≡ to.old) }
-{
-    to.clone_from(alloc, cell)?;
-    to.diff_option = CellDiffOption::None;
-    to.skip = false;
-    Ok(())
-}
-
-// Empties the cells behind a place up to `end`.
-#[tactic(auto, using(crate::proofs::LookLemmas::looks))]
-fn empty_behind(cells: &mut [Cell], at: usize, end: usize)
-    requires at_in { at < end }
-    requires end_in { end ≤ length cells.old }
-    ensures unmarked { AreUnmarked cells.old → AreUnmarked cells.new }
-    ensures looks { (k : ℕ) → look_at cells.new k
-        ≡ (if nat_lt at k && nat_lt k end then empty_look else look_at cells.old k) }
-{
-    for k in at + 1..end {
-        cells[k].reset();
-    }
-}
-
-// Puts a cell in a column and a row; where memory is refused nothing changes.
-#[tactic(auto, using(crate::proofs::LookLemmas::looks))]
-fn put_cell(
-    alloc: Global,
-    cells: &mut [Cell],
-    size: Size,
-    x: u16,
-    y: u16,
-    cell: &Cell,
-) -> Result<(), AllocError>
-    requires covers { length cells.old ≡ size.width * size.height }
-    ensures unmarked { AreUnmarked cells.old → AreUnmarked cells.new }
-    ensures grid { OnOk result ((a b : ℕ) → grid_of size.width cells.new a b
-        ≡ put size.width size.height (record { x = x; y = y; cell = cell.now })
-        (grid_of size.width cells.old) a b) }
-    ensures err { OnErr result (cells.new ≡ cells.old) }
-{
-    if x >= size.width || y >= size.height {
-        return Ok(());
-    }
-    let row = usize::from(y) * usize::from(size.width);
-    let column = usize::from(x);
-    copy_look(alloc, &mut cells[row + column], cell)?;
-    if !cell.is_single_byte() {
-        let behind = column + usize::from(cell.cell_width());
-        let end = behind.max(column + 1).min(usize::from(size.width));
-        empty_behind(cells, row + column, row + end);
-    }
-    Ok(())
-}
-
 /// A screen in memory, for tests: it keeps the contract of `Backend`, shows what it holds, and fails when it is
 /// told to. A draw leaves the cursor where it is, and where memory is refused it has put the items before. Its
 /// cells have no options and no flags.
@@ -127,6 +69,8 @@ pub struct TestBackend {
     fail_after: Option<u64>,
     failures: u64,
     alloc: Global,
+    ghost cells: { length buffer.cells ≡ area_size buffer.area },
+    ghost edges: { EdgesFit buffer.area },
     ghost corner_x: { buffer.area.x ≡ 0 },
     ghost corner_y: { buffer.area.y ≡ 0 },
     ghost column: { cursor.x ≤ buffer.area.width - 1 },
@@ -170,8 +114,6 @@ impl TestBackend {
         ensures value { result.now ≡ sheet_of self.now }
         ensures plain { AreUnmarked result.now.cells }
     {
-        // It has as many cells as its area.
-        let _cells = self.buffer.content();
         &self.buffer
     }
 
@@ -254,43 +196,6 @@ impl TestBackend {
     {
         self.failures = self.failures.saturating_add(1);
         error
-    }
-
-    // Puts and counts one item.
-    fn put(&mut self, x: u16, y: u16, cell: &Cell) -> Result<(), AllocError>
-        ensures ok { OnOk result (Draws (screen_of self.old)
-            (record { x = x; y = y; cell = cell.now } ∷ []) (screen_of self.new)) }
-        ensures memory { OnErr result (self.new ≡ self.old) }
-        ensures cursor { cursor_of (screen_of self.new) ≡ cursor_of (screen_of self.old) }
-        ensures failures { failures_of self.new ≡ failures_of self.old }
-        ensures told { told_after self.new ≡ told_after self.old }
-    {
-        let size = self.buffer.area().as_size();
-        put_cell(self.alloc, self.buffer.cells_mut(), size, x, y, cell)?;
-        self.written = self.written.saturating_add(1);
-        Ok(())
-    }
-
-    // Puts and counts the items in order, as far as memory goes.
-    fn put_all<C: AsCell, I: Iterator<Item = (u16, u16, C)>>(
-        &mut self,
-        content: I,
-    ) -> Result<(), AllocError>
-        requires can { I.can_next content }
-        requires finite { IsFinite (I.remaining content) }
-        ensures ok { OnOk result (
-            (items : List (ℕ × ℕ × C)) × Drains I.next_gives content items
-            × Draws (screen_of self.old) (map (update_by C.cell) items) (screen_of self.new)) }
-        ensures memory { OnErr result (DrawsFront I.next_gives content (update_by C.cell)
-            (screen_of self.old) (screen_of self.new)) }
-        ensures cursor { cursor_of (screen_of self.new) ≡ cursor_of (screen_of self.old) }
-        ensures failures { failures_of self.new ≡ failures_of self.old }
-        ensures told { told_after self.new ≡ told_after self.old }
-    {
-        for (x, y, cell) in content {
-            self.put(x, y, cell.as_cell())?;
-        }
-        Ok(())
     }
 }
 
@@ -425,8 +330,6 @@ impl Backend for TestBackend {
         ensures turn { TakesTurn result self.old self.new }
     {
         self.begin()?;
-        // The area's edges fit 16 bits, and so does the cursor's place.
-        let _area = self.buffer.area();
         Ok(self.cursor)
     }
 

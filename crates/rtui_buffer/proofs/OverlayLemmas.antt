@@ -1,10 +1,8 @@
 -- An area that lies around another one.
-use Rattle.std.proofs.Common.{◌≡◌, ◌≢◌, ℕ, ◌+◌, ◌-◌, ◌*◌, ◌<◌, ◌≤◌, ⊎_elim, if◌then◌else◌, List, [], ◌++◌, take, length, set, refl, sym, ap, subst, ◌∙◌, arith, mul_comm}
+use Rattle.std.proofs.Common.{◌≡◌, ℕ, ◌+◌, ◌-◌, ◌*◌, ◌≤◌, List, [], ◌++◌, take, refl, subst, ◌∙◌, arith, mul_comm, false}
 use Rattle.std.proofs.Math.Seq.{take-nil}
-use Rattle.std.proofs.lemmas.Bool.{cases_lt}
+use Rattle.std.proofs.lemmas.Bool.{false_from_ne_true}
 use Rattle.std.proofs.lemmas.Bool.Decides.{nat_tests}
-use Rattle.std.proofs.lemmas.Nat.{row_fits}
-use Rattle.std.proofs.lemmas.List.{get_or-set_other, get_or-set_same}
 use Rattle.rtui_geometry.specs.declared.position.Position.{Position}
 use Rattle.rtui_geometry.specs.declared.rect.Rect.{Rect}
 use Rattle.rtui_geometry.specs.Rect.{united, HasPosition, EdgesFit}
@@ -13,8 +11,11 @@ use Rattle.rtui_cell.specs.Cell.{empty_cell}
 use Rattle.rtui_diff.specs.Cells.{cell, cell_at}
 use Rattle.rtui_buffer.specs.Sheet.{Sheet, cell_index, empty_cells}
 use Rattle.rtui_buffer.proofs.EmptyLemmas.{cell-empty}
-use Rattle.rtui_buffer.specs.Overlay.{IsOverlay, IsExtended, IsAround, HasInner}
+use Rattle.rtui_buffer.specs.Overlay.{IsOverlay}
+use Rattle.rtui_buffer.specs.Inner.{IsExtended, IsAround, HasInner, place_in}
 use Rattle.std.proofs.Math.Nat.{mul-le-mul_right}
+use Rattle.rtui_grid.proofs.BlockLemmas.{in_block}
+use Rattle.rtui_grid.specs.Blocks.{is_in_block}
 
 -- the cell at a position, in the list of an area
 abbrev cell_over : Rect → List Cell → Position → Cell
@@ -35,25 +36,9 @@ module _ (r u : Rect) (edges : EdgesFit u) (around : IsAround r u) (block old ne
   of_rest p h not_in =
       let a = h.left in let b = h.right in let c = h.top in let d = h.bottom in
       let l = around.left in let n = around.top in
-      let e = is.at (p.x - r.x) (p.y - r.y) (omega arith) in
-      ⊎_elim
-      (λ (before : p.x - r.x < u.x - r.x). grind (arith, nat_tests))
-      (λ (from_left : u.x - r.x ≤ p.x - r.x).
-      ⊎_elim
-      (λ (above : p.y - r.y < u.y - r.y). grind (arith, nat_tests))
-      (λ (from_top : u.y - r.y ≤ p.y - r.y).
-      ⊎_elim
-      (λ (in_columns : p.x - r.x < u.x - r.x + u.width).
-      ⊎_elim
-      (λ (in_rows : p.y - r.y < u.y - r.y + u.height).
-      let right = edges.right in let bottom = edges.bottom in
-      absurd (not_in (record { left = omega arith; right = omega arith; top = omega arith; bottom = omega arith })))
-      (λ (beneath : u.y - r.y + u.height ≤ p.y - r.y). grind (arith, nat_tests))
-      (cases_lt (p.y - r.y) (u.y - r.y + u.height)))
-      (λ (behind : u.x - r.x + u.width ≤ p.x - r.x). grind (arith, nat_tests))
-      (cases_lt (p.x - r.x) (u.x - r.x + u.width)))
-      (cases_lt (p.y - r.y) (u.y - r.y)))
-      (cases_lt (p.x - r.x) (u.x - r.x))
+      let off : is_in_block (place_in r u) (p.x - r.x) (p.y - r.y) ≡ false =
+      false_from_ne_true _ (λ t. not_in (let i = in_block (place_in r u) (p.x - r.x) (p.y - r.y) t in record { left = omega (arith, i.0); right = omega (arith, i.1); top = omega (arith, i.2); bottom = omega (arith, i.3) })) in
+      is.at (p.x - r.x) (p.y - r.y) (omega arith) ∙ rw off refl
 
 -- the union of two areas lies around both
 pub IsAround-first : (a b : Rect) → EdgesFit a → EdgesFit b → IsAround (united a b) a

@@ -88,14 +88,14 @@ unmarked-refl cells = record { at = λ k u. u }
 pub unmarked-then : (a b c : List Cell) → KeepsUnmarked a b → KeepsUnmarked b c → KeepsUnmarked a c
 unmarked-then a b c h g = record { at = λ k u. g.at k (h.at k u) }
 
-unmarked-set : (cells : List Cell) (i : ℕ) (c : Cell) → (IsUnmarked (cell cells i) → IsUnmarked c) → (k : ℕ) → IsUnmarked (cell cells k) → IsUnmarked (cell (set cells i c) k)
+pub unmarked-set : (cells : List Cell) (i : ℕ) (c : Cell) → (IsUnmarked (cell cells i) → IsUnmarked c) → (k : ℕ) → IsUnmarked (cell cells k) → IsUnmarked (cell (set cells i c) k)
 unmarked-set [] i c keep k u = u
 unmarked-set (x ∷ xs) zero c keep zero u = keep u
 unmarked-set (x ∷ xs) zero c keep (suc k) u = u
 unmarked-set (x ∷ xs) (suc i) c keep zero u = u
 unmarked-set (x ∷ xs) (suc i) c keep (suc k) u = unmarked-set xs i c keep k u
 
-unmarked-emptied : (at n : ℕ) (old new : List Cell) → KeepsUnmarked old new → KeepsUnmarked old (emptied at n new)
+pub unmarked-emptied : (at n : ℕ) (old new : List Cell) → KeepsUnmarked old new → KeepsUnmarked old (emptied at n new)
 unfolding emptied
 unmarked-emptied at zero old new h = h
 unmarked-emptied at (suc n) old new h =

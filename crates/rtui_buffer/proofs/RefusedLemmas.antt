@@ -10,7 +10,7 @@ use Rattle.rtui_cell.specs.declared.cell.Cell.{Cell}
 use Rattle.rtui_cell.specs.Width.{text_width}
 use Rattle.rtui_text.specs.Text.{SpanData}
 use Rattle.rtui_text.specs.Printable.{IsPrintableFront, singles}
-use Rattle.rtui_buffer.specs.Painting.{painted_width, kept, Piece, piece_of, piece_width, pieces, text_pieces, columns, with_piece, painted, HasPieces, HasFront}
+use Rattle.rtui_buffer.specs.Painting.{painted_width, kept, Piece, piece_of, piece_width, pieces, text_pieces, columns, with_piece, painted, HasFront}
 use Rattle.rtui_buffer.specs.Sheet.{Sheet, cell_index, position_of}
 use Rattle.rtui_buffer.specs.PaintedText.{PaintsFront}
 use Rattle.rtui_buffer.specs.Line.{line_pieces}

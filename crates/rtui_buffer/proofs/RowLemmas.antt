@@ -9,10 +9,9 @@ use Rattle.rtui_cell.specs.Cell.{empty_cell, width_of, is_skipped}
 use Rattle.rtui_diff.specs.Cells.{cell, cell_at}
 use Rattle.rtui_diff.specs.Settled.{IsSettled, IsBlankOrSkipped}
 use Rattle.rtui_text.specs.Text.{LineData}
-use Rattle.rtui_buffer.specs.Sheet.{empty_cells}
+use Rattle.rtui_buffer.specs.Sheet.{empty_cells, row_cells}
 use Rattle.rtui_buffer.specs.Painting.{Piece, piece_width, columns, shown, emptied, with_piece, painted, HasPieces}
 use Rattle.rtui_buffer.specs.Line.{line_pieces, line_row, line_rows, line_at, ShowsLines}
-use Rattle.rtui_buffer.specs.Sheet.{row_cells}
 use Rattle.rtui_buffer.proofs.EmptyLemmas.{cell-empty}
 use Rattle.rtui_buffer.proofs.PaintLemmas.{painted-nil, painted-cons, IsSameOutside-refl, IsSameOutside-put}
 use Rattle.rtui_buffer.proofs.PaintedLemmas.{AreWide}
@@ -79,7 +78,7 @@ row-is : (w : ℕ) (l : LineData) → painted 0 (line_pieces w l.style l.spans) 
 unfolding line_row
 row-is w l = refl
 
-length-row : (w : ℕ) (l : LineData) → length (line_row w l) ≡ w
+pub length-row : (w : ℕ) (l : LineData) → length (line_row w l) ≡ w
 length-row w l = (HasPieces-row w l).outside.count ∙ length-replicate w empty_cell
 
 pub length-rows : (w : ℕ) (ls : List LineData) → length (line_rows w ls) ≡ w * length ls

@@ -1,5 +1,5 @@
 -- How a style is laid over cells, one after the other.
-use Rattle.std.proofs.Common.{◌≡◌, ◌≢◌, ℕ, suc, ◌+◌, ◌-◌, ◌*◌, ◌<◌, ◌≤◌, ⊎_elim, ◌&&◌, nat_le, nat_lt, if◌then◌else◌, List, length, set, refl, ap, subst, ◌∙◌, arith}
+use Rattle.std.proofs.Common.{◌≡◌, ◌≢◌, ℕ, ◌+◌, ◌-◌, ◌*◌, ◌<◌, ◌≤◌, ⊎_elim, ◌&&◌, nat_le, nat_lt, if◌then◌else◌, List, length, set, refl, ap, subst, ◌∙◌, arith, sym}
 use Rattle.std.proofs.lemmas.Bool.{cases_lt}
 use Rattle.std.proofs.lemmas.Bool.Decides.{nat_tests}
 use Rattle.std.proofs.lemmas.List.{get_or-set_other, get_or-set_same}
@@ -7,9 +7,9 @@ use Rattle.rtui_style.specs.declared.Style.{Style}
 use Rattle.rtui_cell.specs.declared.cell.Cell.{Cell}
 use Rattle.rtui_cell.specs.Cell.{empty_cell, styled}
 use Rattle.rtui_diff.specs.Cells.{cell, cell_at}
-use Rattle.rtui_buffer.specs.PaintedText.{IsStyledPart, IsStyledRows}
+use Rattle.rtui_buffer.specs.Inner.{IsStyledPart, IsStyledRows}
 use Rattle.rtui_buffer.proofs.PaintLemmas.{IsSameOutside-refl, IsSameOutside-set, IsSameOutside-wider}
-use Rattle.rtui_grid.proofs.PlaceLemmas.{row_ends}
+use Rattle.rtui_grid.proofs.PlaceLemmas.{by_rows}
 
 pub IsStyledPart-none : (from : ℕ) (s : Style) (cells : List Cell) → IsStyledPart from from s cells cells
 IsStyledPart-none from s cells = record { inside = λ k le lt. absurd (omega arith); outside = IsSameOutside-refl from from cells }
@@ -46,23 +46,13 @@ module _ (w left right top row : ℕ) (s : Style) (old now more : List Cell) (fi
       (cases_lt a right))
       (cases_lt a left)
 
-  above : (a b : ℕ) → a < w → b < row → cell_at w more a b ≡ cell_at w now a b
-  above a b lt up = let r = row_ends w b row up in g.outside.before (b * w + a) (omega arith)
-
-  below : (a b : ℕ) → a < w → row < b → cell_at w more a b ≡ cell_at w now a b
-  below a b lt down = let r = row_ends w row b down in g.outside.behind (b * w + a) (omega arith)
-
   pub IsStyledRows-more : IsStyledRows w left right top (row + 1) s old more
   IsStyledRows-more = record {
     count = g.outside.count ∙ h.count;
-    at = λ a b lt. ⊎_elim
-        (λ (up : b < row). let e = above a b lt up in let f = h.at a b lt in grind (arith, nat_tests))
-        (λ (not_up : row ≤ b). ⊎_elim
-        (λ (down : row < b). let e = below a b lt down in let f = h.at a b lt in grind (arith, nat_tests))
-        (λ (not_down : b ≤ row). let same : row ≡ b = omega arith in
-        subst (λ n. cell_at w more a n ≡ (if nat_le left a && nat_lt a right && nat_le top n && nat_lt n (row + 1) then styled s (cell_at w old a n) else cell_at w old a n)) same (in_row a lt))
-        (cases_lt row b))
-        (cases_lt b row);
+    at = λ a b lt. by_rows _ w b row
+        (λ up r. let e : cell_at w more a b ≡ cell_at w now a b = g.outside.before (b * w + a) (omega arith) in let f = h.at a b lt in grind (arith, nat_tests))
+        (λ down r. let e : cell_at w more a b ≡ cell_at w now a b = g.outside.behind (b * w + a) (omega arith) in let f = h.at a b lt in grind (arith, nat_tests))
+        (λ same. subst (λ n. cell_at w more a n ≡ (if nat_le left a && nat_lt a right && nat_le top n && nat_lt n (row + 1) then styled s (cell_at w old a n) else cell_at w old a n)) (sym same) (in_row a lt));
   }
 
 pub rows_fit : (w h b n : ℕ) → b ≤ h → n ≡ w * h → b * w ≤ n

@@ -7,3 +7,4 @@ pub mod Line
 pub mod Overlay
 pub mod RowsDiff
 pub mod Clipped
+pub mod Inner

@@ -1,5 +1,5 @@
 -- Painting into a buffer, from a position on.
-use Rattle.std.specs.Prelude.{ℕ, ◌+◌, ◌-◌, ◌≡◌, ◌⊎◌, ◌≤◌, ◌<◌, ◌&&◌, nat_le, nat_lt, if◌then◌else◌, min, true, false, List, ◌++◌, length, take, All, Result, IsOk, OnOk, OnErr}
+use Rattle.std.specs.Prelude.{ℕ, ◌+◌, ◌-◌, ◌≡◌, ◌⊎◌, ◌≤◌, ◌<◌, min, true, false, List, ◌++◌, length, take, All, Result, IsOk, OnOk, OnErr}
 use Rattle.std.specs.declared.alloc.AllocError.{AllocError}
 use Rattle.unicode_segmentation.specs.Grapheme.{graphemes}
 use Rattle.rtui_text.specs.Text.{SpanData}
@@ -7,10 +7,8 @@ use Rattle.rtui_geometry.specs.declared.position.Position.{Position}
 use Rattle.rtui_geometry.specs.declared.rect.Rect.{Rect}
 use Rattle.rtui_style.specs.declared.Style.{Style}
 use Rattle.rtui_geometry.specs.Rect.{HasPosition}
-use Rattle.rtui_cell.specs.declared.cell.Cell.{Cell}
 use Rattle.rtui_cell.specs.Symbol.{IsShort}
 use Rattle.rtui_cell.specs.Cell.{empty_cell, styled, width_of, is_skipped, IsUnmarked}
-use Rattle.rtui_diff.specs.Cells.{cell, cell_at}
 use Rattle.rtui_buffer.specs.Sheet.{Sheet, cell_index, cell_in, position_of}
 use Rattle.rtui_buffer.specs.Frame.{IsSettledSheet}
 use Rattle.rtui_buffer.specs.Painting.{Piece, text_pieces, piece_width, piece_at, columns, shown, IsSameOutside, HasPieces, KeepsUnmarked}
@@ -76,16 +74,6 @@ pub record PaintsOrRefuses {A : Type 0} (p : Position) (ps : List Piece) (result
   pub err : OnErr result (IsSameBeside p ps old new)
   pub marks : OnErr result (KeepsUnmarked old.cells new.cells)
   pub short : AreShort ps → IsOk result
-
--- the cells of a part with a style laid over them
-pub record IsStyledPart (from to : ℕ) (s : Style) (old new : List Cell) : Type 0 where
-  pub inside : (k : ℕ) → from ≤ k → k < to → cell new k ≡ styled s (cell old k)
-  pub outside : IsSameOutside from to old new
-
--- in rows of w columns: the cells of some columns of some rows with a style laid over them, all else as before
-pub record IsStyledRows (w left right top bottom : ℕ) (s : Style) (old new : List Cell) : Type 0 where
-  pub count : length new ≡ length old
-  pub at : (a b : ℕ) → a < w → cell_at w new a b ≡ (if nat_le left a && nat_lt a right && nat_le top b && nat_lt b bottom then styled s (cell_at w old a b) else cell_at w old a b)
 
 -- the buffer with a style laid over the cells of an area
 pub record IsStyled (r : Rect) (s : Style) (old new : Sheet) : Type 0 where

@@ -5,5 +5,5 @@ pub mod Updates
 pub mod DiffRule
 pub mod Completeness
 pub mod Remaining
-pub mod Step
 pub mod Diff
+pub mod Inner

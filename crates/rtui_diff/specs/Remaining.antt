@@ -1,5 +1,5 @@
 -- What a diff has still to give.
-use Rattle.std.specs.Prelude.{◌≡◌, ℕ, ◌-◌, List, map}
+use Rattle.std.specs.Prelude.{ℕ, ◌-◌, List, map}
 use Rattle.rtui_diff.specs.DiffRule.{given}
 use Rattle.rtui_cell.specs.Grid.{Update}
 use Rattle.rtui_diff.specs.Updates.{update_at}
@@ -12,12 +12,3 @@ places_left d = given d.prev.now d.next.now (d.len - d.pos) (record { over = 0; 
 -- the updates that a diff has left
 abbrev pub updates_left : DiffWalk → List Update
 updates_left d = map (update_at d.x d.y d.width d.next.now) (places_left d)
-
--- the same but for where the walk is
-pub record IsSameBut (old new : DiffWalk) : Type 0 where
-  pub prev : new.prev ≡ old.prev
-  pub next : new.next ≡ old.next
-  pub x : new.x ≡ old.x
-  pub y : new.y ≡ old.y
-  pub width : new.width ≡ old.width
-  pub len : new.len ≡ old.len

@@ -104,7 +104,8 @@ struct Row {
 
 impl<'prev, 'next> DiffWalk<'prev, 'next> {
     ghost use Rattle.rtui_diff.specs.DiffRule.{give};
-    ghost use Rattle.rtui_diff.specs.Remaining.{places_left, updates_left, IsSameBut};
+    ghost use Rattle.rtui_diff.specs.Remaining.{places_left, updates_left};
+    ghost use Rattle.rtui_diff.specs.Inner.{IsSameBut};
     ghost use Rattle.rtui_diff.specs.Updates.{update_at, updates};
 
     fn new(

@@ -4,7 +4,7 @@ ghost use Rattle.std.specs.Prelude.{◌≡◌, ◌&&◌, ◌||◌, not, IsTrue};
 ghost use Rattle.rtui_cell.specs.Cell.{is_skipped, is_single_byte};
 ghost use Rattle.rtui_diff.specs.Cells.{is_always};
 ghost use Rattle.rtui_diff.specs.DiffRule.{gives_visited, gives_plain, step_plain};
-ghost use Rattle.rtui_diff.specs.Step.{walk_of};
+ghost use Rattle.rtui_diff.specs.Inner.{walk_of};
 
 use crate::cells::{has_fe0f, has_same_symbol, is_always, is_forced, shows_on_blank};
 use rtui_cell::{Cell, CellWidth};

@@ -1,11 +1,12 @@
 -- One more row of a block.
-use Rattle.std.proofs.Common.{◌≡◌, ℕ, ◌+◌, ◌-◌, ◌*◌, ◌<◌, ◌≤◌, if◌then◌else◌, List, sym, ap, subst, ◌∙◌, arith, inl, inr}
-use Rattle.std.proofs.lemmas.Bool.{cases_lt}
+use Rattle.std.proofs.Common.{◌≡◌, ℕ, ◌+◌, ◌-◌, ◌*◌, ◌<◌, ◌≤◌, if◌then◌else◌, List, sym, ap, subst, ◌∙◌, arith, inl, inr, true, ◌&&◌, nat_lt}
+use Rattle.std.proofs.lemmas.Bool.{cases_lt, and_parts}
 use Rattle.std.proofs.lemmas.Bool.Decides.{nat_tests}
 use Rattle.rtui_grid.specs.declared.block.Block.{Block}
 use Rattle.rtui_grid.specs.Items.{item, item_at}
 use Rattle.rtui_grid.specs.Blocks.{is_in_block, HasBlock}
-use Rattle.rtui_grid.proofs.PlaceLemmas.{row_ends}
+use Rattle.std.specs.Prelude.{nat_le}
+use Rattle.rtui_grid.proofs.PlaceLemmas.{by_rows}
 
 -- the first rows of a block
 abbrev pub front : Block → ℕ → Block
@@ -37,11 +38,16 @@ module _ {T : Type 0} (d : T) (w stride row : ℕ) (k : Block) (others old now m
 
   pub block-more : HasBlock d w (front k (row + 1)) stride others old more
   block-more = record {
-    at = λ a b lt. elim (cases_lt b (k.top + row)) [
-      | inl above ↦ let r = row_ends w b (k.top + row) above in let e = before (b * w + a) (omega arith) in let f = h.at a b lt in grind (arith, nat_tests)
-      | inr not_above ↦ elim (cases_lt (k.top + row) b) [
-        | inl below ↦ let r = row_ends w (k.top + row) b below in let e = after (b * w + a) (omega arith) in let f = h.at a b lt in grind (arith, nat_tests)
-        | inr not_below ↦ let same : k.top + row ≡ b = omega arith in subst (Shown a) same (in_row a lt)
-      ]
-    ];
+    at = λ a b lt. by_rows _ w b (k.top + row)
+        (λ above r. let e = before (b * w + a) (omega arith) in let f = h.at a b lt in grind (arith, nat_tests))
+        (λ below r. let e = after (b * w + a) (omega arith) in let f = h.at a b lt in grind (arith, nat_tests))
+        (λ same. subst (Shown a) (sym same) (in_row a lt));
   }
+
+-- what lies in a block
+pub in_block : (k : Block) (a b : ℕ) → is_in_block k a b ≡ true → (k.left ≤ a) × (a < k.left + k.columns) × (k.top ≤ b) × (b < k.top + k.rows)
+in_block k a b t =
+    let p = and_parts (nat_le k.left a && nat_lt a (k.left + k.columns) && nat_le k.top b) (nat_lt b (k.top + k.rows)) t in
+    let q = and_parts (nat_le k.left a && nat_lt a (k.left + k.columns)) (nat_le k.top b) p.0 in
+    let r = and_parts (nat_le k.left a) (nat_lt a (k.left + k.columns)) q.0 in
+    (grind (arith, nat_tests, r.0), grind (arith, nat_tests, r.1), grind (arith, nat_tests, q.1), grind (arith, nat_tests, p.1))

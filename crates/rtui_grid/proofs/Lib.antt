@@ -1,3 +1,4 @@
 pub mod ItemLemmas
 pub mod PlaceLemmas
-mod BlockLemmas
+pub mod BlockLemmas
+pub mod RangeLemmas

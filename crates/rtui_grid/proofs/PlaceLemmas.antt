@@ -1,5 +1,5 @@
 -- Places in rows of w elements.
-use Rattle.std.proofs.Common.{◌≡◌, ℕ, ◌+◌, ◌*◌, ◌<◌, ◌≤◌, nat_lt, arith, inl, inr}
+use Rattle.std.proofs.Common.{◌≡◌, ℕ, ◌+◌, ◌*◌, ◌<◌, ◌≤◌, nat_lt, arith, inl, inr, ◌⊎◌}
 use Rattle.std.specs.Prelude.{nat_le}
 use Rattle.std.proofs.Math.Nat.{mul-le-mul_right}
 use Rattle.std.proofs.lemmas.Bool.{cases_lt}
@@ -27,3 +27,23 @@ module _ (w x : ℕ) (x_in : x < w) where
     | inl above ↦ let p = row_ends w y e above in grind (arith, nat_tests)
     | inr past ↦ let p : e * w ≤ y * w = mul-le-mul_right w past in grind (arith, nat_tests)
   ]
+
+-- what holds of rows before, after and at a row holds of all
+pub by_rows : (P : Type 0) (w b y : ℕ) → (b < y → b * w + w ≤ y * w → P) → (y < b → y * w + w ≤ b * w → P) → (b ≡ y → P) → P
+by_rows P w b y before after at = elim (cases_lt b y) [
+  | inl lower ↦ before lower (row_ends w b y lower)
+  | inr from ↦ elim (cases_lt y b) [
+    | inl higher ↦ after higher (row_ends w y b higher)
+    | inr to ↦ at (omega arith)
+  ]
+]
+
+-- what is not in a part lies before it or after it
+pub apart : (i from n : ℕ) → (from ≤ i → i < from + n → ⊥) → (i < from) ⊎ (from + n ≤ i)
+apart i from n off = elim (cases_lt i from) [
+  | inl before ↦ inl before
+  | inr after ↦ elim (cases_lt i (from + n)) [
+    | inl inside ↦ absurd (off after inside)
+    | inr past ↦ inr past
+  ]
+]

@@ -1,5 +1,4 @@
 pub mod DrawnLemmas
-pub mod RangeLemmas
 pub mod ShownLemmas
 pub mod CountLemmas
 pub mod MarkLemmas

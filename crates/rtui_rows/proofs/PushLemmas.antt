@@ -4,11 +4,10 @@ use Rattle.rtui_geometry.specs.declared.rect.Rect.{Rect}
 use Rattle.rtui_cell.specs.Look.{Look}
 use Rattle.rtui_buffer.specs.Sheet.{Sheet, IsEmptied}
 use Rattle.rtui_buffer.specs.Frame.{IsSettledSheet}
-use Rattle.rtui_backend.specs.Screen.{Screen, rows_above}
+use Rattle.rtui_backend.specs.Screen.{Screen, rows_above, ScrollsUp, ScrollsDown}
 use Rattle.rtui_rows.specs.Rows.{IsBlankFor, DrawsRows, DrawsFirstRow, RowsFit, ShowsRows, IsNarrowSheet, nonempty_cells, WritesAtMost}
 use Rattle.rtui_rows.specs.Insertion.{KeepsSizeAndVisibility, AppendsPart}
 use Rattle.rtui_rows.specs.Scrolling.{HasPushed, HasRaised, HasLowered}
-use Rattle.rtui_backend.specs.Screen.{ScrollsUp, ScrollsDown}
 use Rattle.rtui_backend.proofs.RegionLemmas.{above_scrolled, blank_scrolled, below_scrolled, above_lowered, blank_lowered, moved_lowered, below_lowered}
 use Rattle.rtui_rows.proofs.ShownLemmas.{above_grown, parts_join, rows_shown, blank_first, unknown_first}
 use Rattle.rtui_rows.proofs.CountLemmas.{writes_rows, writes_nonempty, nonempty_parts}

@@ -24,7 +24,7 @@ use Rattle.rtui_backend.specs.Screen.{Screen, seen, row_of, rows_above, Draws}
 use Rattle.rtui_buffer.specs.RowsDiff.{part_cells, IsRowsDiff}
 use Rattle.rtui_rows.specs.Rows.{DrawsRows, IsUnknownRow, RowsFit, ShowsFirst, CanShowRows, ShowsRows, lowered_update, IsBlankAt}
 use Rattle.rtui_rows.specs.Insertion.{AppendsPart}
-use Rattle.rtui_rows.proofs.RangeLemmas.{range_split, same_places}
+use Rattle.rtui_grid.proofs.RangeLemmas.{range_split, same_places}
 
 zero_and : (a : ℕ) → 0 + a ≡ a
 zero_and a = omega arith

@@ -3,5 +3,4 @@ pub mod Rows
 pub mod Insertion
 pub mod Following
 pub mod Scrolling
-pub mod Marks
 pub mod Remaining

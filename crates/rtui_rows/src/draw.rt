@@ -6,10 +6,11 @@ ghost use Rattle.rtui_backend.specs.Failures.{Counts};
 ghost use Rattle.rtui_rows.specs.Rows.{IsBlankFor, DrawsRows, DrawsFirstRow};
 ghost use Rattle.rtui_rows.specs.Insertion.{KeepsSizeAndVisibility};
 
-use crate::marks::{empty_front, skip_front};
+use crate::marks::skip_front;
 use crate::updates::LoweredUpdates;
 use rtui_backend::Backend;
 use rtui_buffer::{Buffer, diff_rows};
+use rtui_grid::fill;
 
 /// Draws `count` rows of a buffer, from its row `first` on, at row `y` of a screen: what differs in them from the first
 /// `count` rows of a former buffer, which the screen shows there. A flush follows.
@@ -57,6 +58,6 @@ pub fn draw_first_row<B: Backend>(
     let columns = usize::from(rows.area().width);
     skip_front(blank.cells_mut(), columns);
     let drawn = draw_rows(backend, blank, rows, 0, 1, 0);
-    empty_front(blank.cells_mut(), columns);
+    fill(blank.cells_mut(), 0, columns);
     drawn
 }

@@ -1,41 +1,20 @@
 //! Cells of a buffer that are skipped for a while, so that a diff from them gives every cell.
 
-ghost use Rattle.std.specs.Prelude.{◌≡◌, ◌≤◌, length, map};
-ghost use Rattle.rtui_cell.specs.Cell.{empty_cell};
-ghost use Rattle.rtui_rows.specs.Marks.{skipped_cell, skipped_front, emptied_front};
+ghost use Rattle.std.specs.Prelude.{◌≡◌, ◌<◌, ◌≤◌, ℕ, true, length};
+ghost use Rattle.rtui_cell.specs.Cell.{empty_cell, is_skipped, width_of};
+ghost use Rattle.rtui_diff.specs.Cells.{cell};
 
 use rtui_buffer::{Cell, CellDiffOption};
 
-// Skips all cells.
-fn skip(cells: &mut [Cell])
-    ensures { cells.new ≡ map skipped_cell cells.old }
-{
-    for cell in cells.iter_mut() {
-        cell.diff_option = CellDiffOption::Skip;
-    }
-}
-
-// Empties all cells.
-fn empty(cells: &mut [Cell])
-    ensures { cells.new ≡ map (λ c. empty_cell) cells.old }
-{
-    for cell in cells.iter_mut() {
-        cell.reset();
-    }
-}
-
-// Skips the first cells.
+// Skips the first cells, which are empty.
 pub(crate) fn skip_front(cells: &mut [Cell], count: usize)
-    requires { count ≤ length cells.old }
-    ensures { cells.new ≡ skipped_front count cells.old }
+    requires inside { count ≤ length cells.old }
+    requires empty { (k : ℕ) → k < count → cell cells.old k ≡ empty_cell }
+    ensures skipped { (k : ℕ) → k < count → is_skipped (cell cells.new k) ≡ true }
+    ensures narrow { (k : ℕ) → k < count → width_of (cell cells.new k) ≡ 1 }
+    ensures rest { (k : ℕ) → count ≤ k → cell cells.new k ≡ cell cells.old k }
 {
-    skip(&mut cells[..count]);
-}
-
-// Empties the first cells.
-pub(crate) fn empty_front(cells: &mut [Cell], count: usize)
-    requires { count ≤ length cells.old }
-    ensures { cells.new ≡ emptied_front count cells.old }
-{
-    empty(&mut cells[..count]);
+    for k in 0..count {
+        cells[k].diff_option = CellDiffOption::Skip;
+    }
 }

@@ -1,14 +1,10 @@
 -- Where an inline viewport goes.
-use Rattle.std.proofs.Common.{◌≡◌, ℕ, ◌+◌, ◌<◌, ◌≤◌, refl, sym, ap, ◌∙◌, arith, inl, inr}
-use Rattle.std.specs.Prelude.{nat_lt, true, false}
-use Rattle.std.proofs.lemmas.List.{append-nil}
+use Rattle.std.proofs.Common.{◌≡◌, ℕ, ◌+◌, refl, ap, ◌∙◌, arith, inl, inr}
 use Rattle.std.proofs.lemmas.Bool.{cases_lt}
 use Rattle.std.proofs.lemmas.Bool.Decides.{nat_tests}
-use Rattle.rtui_backend.specs.declared.clear_type.ClearType.TheVariants.{All}
-use Rattle.rtui_backend.specs.Screen.{Screen, IsOnGrid, Appends, Scrolls, Clears, lines_past, rows_above}
+use Rattle.rtui_backend.specs.Screen.{Screen, IsOnGrid, Appends, lines_past, rows_above}
 use Rattle.rtui_backend.proofs.ScrollLemmas.{above_kept}
-use Rattle.rtui_viewport.proofs.ClearLemmas.{clears_fullscreen}
-use Rattle.rtui_viewport.specs.Placing.{lines_below, inline_top, inline_area, rows_left, PlacesInline, EmptiesAllIf}
+use Rattle.rtui_viewport.specs.Placing.{lines_below, inline_top, inline_area, rows_left, PlacesInline}
 
 -- the lines that scroll and the top are together the rows that are left
 top_is : (n o : ℕ) (s : Screen) → IsOnGrid s → lines_past s (lines_below n o) + inline_top n s.height o s.cursor_y ≡ rows_left n o s

@@ -15,7 +15,7 @@ use Rattle.rtui_style.specs.declared.color.Color.{Color}
 use Rattle.rtui_style.specs.Style.{color_after}
 use Rattle.rtui_cell.specs.Width.{text_width}
 use Rattle.rtui_widgets.specs.Span.{goes_to, those_at, is_behind, with_graphemes, column_with}
-use Rattle.rtui_widgets.specs.Steps.{with_appended, with_grapheme}
+use Rattle.rtui_widgets.specs.Inner.{with_appended, with_grapheme}
 use Rattle.rtui_widgets.proofs.RowWith.{end_of_those}
 
 -- ---- the end of the graphemes

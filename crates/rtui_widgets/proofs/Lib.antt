@@ -3,7 +3,6 @@ pub mod SpanLemmas
 pub mod PrintableLemmas
 pub mod EmptyLemmas
 pub mod LineLemmas
-pub mod StyleLemmas
 pub mod RowLemmas
 pub mod SheetLemmas
 pub mod WithinLemmas

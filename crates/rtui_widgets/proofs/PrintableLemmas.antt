@@ -13,7 +13,7 @@ use Rattle.rtui_buffer.specs.Painting.{emptied, piece_of, pieces, painted, shown
 use Rattle.rtui_buffer.proofs.PaintLemmas.{painted-nil}
 use Rattle.rtui_buffer.proofs.PrintableLemmas.{one_column, painted-byte}
 use Rattle.rtui_widgets.specs.Span.{showing}
-use Rattle.rtui_widgets.specs.Steps.{with_next}
+use Rattle.rtui_widgets.specs.Inner.{with_next}
 use Rattle.rtui_widgets.proofs.RowWith.{end_of_those, IsRowWith}
 use Rattle.rtui_widgets.proofs.SpanLemmas.{showing-take, IsRowWith-none, IsRowWith-turn}
 

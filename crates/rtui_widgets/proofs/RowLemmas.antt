@@ -1,5 +1,5 @@
 -- Rows made anew, one after the other.
-use Rattle.std.proofs.Common.{◌≡◌, ℕ, suc, ◌+◌, ◌-◌, ◌*◌, ◌<◌, ◌≤◌, ◌⊎◌, ⊎_elim, inl, inr, List, length, get_or, take, drop, refl, sym, ap, subst, ◌∙◌, arith}
+use Rattle.std.proofs.Common.{◌≡◌, ℕ, ◌+◌, ◌*◌, ◌<◌, ◌≤◌, ◌⊎◌, ⊎_elim, inl, inr, List, length, get_or, take, drop, refl, sym, ap, subst, ◌∙◌, arith}
 use Rattle.std.proofs.lemmas.Bool.{cases_lt}
 use Rattle.std.proofs.lemmas.List.{length-append, length-take, length-drop, get_or-take, get_or-drop, take_at, drop_at, ext_get_or}
 use Rattle.std.proofs.lemmas.Slice.{take-put_mid_below, drop-put_mid}
@@ -7,7 +7,8 @@ use borrow.Rule.Slice.PartMut.{put_mid}
 use Rattle.rtui_cell.specs.declared.cell.Cell.{Cell}
 use Rattle.rtui_cell.specs.Cell.{empty_cell}
 use Rattle.rtui_diff.specs.Cells.{cell}
-use Rattle.rtui_widgets.specs.Rows.{Rows, cells_of_row, IsOutside, KeepsOthers, MakesRows}
+use Rattle.rtui_widgets.specs.Inner.{Rows, cells_of_row, IsOutside, KeepsOthers, MakesRows}
+use Rattle.rtui_grid.proofs.PlaceLemmas.{row_ends}
 
 -- ---- a part of a list that was written
 
@@ -49,9 +50,6 @@ same-row from width xs ys len fits h =
 
 -- ---- rows
 
-pub rows_before : (w b c : ℕ) → b < c → b * w + w ≤ c * w
-rows_before w b c lt = let k : c ≡ suc b + (c - suc b) = omega arith in rw k (omega arith)
-
 module _ (start width stride : ℕ) (apart : width ≤ stride) where
   abbrev rows : ℕ → Rows
   rows count = record { start = start; width = width; stride = stride; count = count }
@@ -63,8 +61,8 @@ module _ (start width stride : ℕ) (apart : width ≤ stride) where
   pub other : (j k i : ℕ) → (j < k) ⊎ (k < j) → start + j * stride ≤ i → i < start + j * stride + width → (i < start + k * stride) ⊎ (start + k * stride + width ≤ i)
   other j k i h le lt =
       ⊎_elim
-      (λ (a : j < k). inl (let b = rows_before stride j k a in omega arith))
-      (λ (a : k < j). inr (let b = rows_before stride k j a in omega arith)) h
+      (λ (a : j < k). inl (let b = row_ends stride j k a in omega arith))
+      (λ (a : k < j). inr (let b = row_ends stride k j a in omega arith)) h
 
   pub apart-from : (j k i : ℕ) → k ≤ j → start + j * stride ≤ i → i < start + j * stride + width → IsOutside (rows k) i
   apart-from j k i le from to m lt = other j m i (inr (omega arith)) from to
@@ -94,7 +92,7 @@ module _ (start width stride : ℕ) (apart : width ≤ stride) where
 
     before : (j : ℕ) → j < k → cells_of_row (rows (k + 1)) j more ≡ f j (cells_of_row (rows (k + 1)) j old)
     before j lt =
-        let b = rows_before stride j k lt in
+        let b = row_ends stride j k lt in
         same-row (start + j * stride) width more now (length-written at n now part fits count) (omega arith) (λ i from to. beside i (other j k i (inl lt) from to))
         ∙ h.rows j lt
 

@@ -10,19 +10,18 @@ use Rattle.rtui_geometry.specs.declared.rect.Rect.{Rect}
 use Rattle.rtui_geometry.specs.Rect.{HasPosition, right_edge, bottom_edge, intersected}
 use Rattle.rtui_cell.specs.declared.cell.Cell.{Cell}
 use Rattle.rtui_diff.specs.Cells.{cell}
-use Rattle.rtui_buffer.specs.Sheet.{Sheet, area_size, cell_index, refilled}
+use Rattle.rtui_buffer.specs.Sheet.{Sheet, area_size, cell_index, refilled, HasRow}
 use Rattle.unicode_segmentation.specs.Grapheme.{graphemes}
 use Rattle.rtui_style.specs.declared.Style.{Style}
-use Rattle.rtui_buffer.specs.Painting.{Piece, columns}
-use Rattle.rtui_buffer.specs.Sheet.{HasRow}
+use Rattle.rtui_buffer.specs.Painting.{Piece, columns, KeepsUnmarked}
 use Rattle.rtui_buffer.specs.PaintedText.{room_at, pieces_at, IsSameBeside}
 use Rattle.rtui_buffer.proofs.PaintedLemmas.{columns-kept}
 use Rattle.rtui_widgets.specs.Rendering.{area_row, ChangesWithin, RendersRows, in_first_row, first_row}
-use Rattle.rtui_widgets.specs.Rows.{Rows, place, cells_of_row, IsOutside, KeepsOthers, MakesRows}
-use Rattle.rtui_buffer.specs.Painting.{KeepsUnmarked}
+use Rattle.rtui_widgets.specs.Inner.{Rows, place, cells_of_row, IsOutside, KeepsOthers, MakesRows}
 use Rattle.rtui_widgets.proofs.SpanLemmas.{unmarked-written}
-use Rattle.rtui_widgets.proofs.RowLemmas.{length-written, written-before, written-behind, written-there, same-row, rows_before, other}
+use Rattle.rtui_widgets.proofs.RowLemmas.{length-written, written-before, written-behind, written-there, same-row, other}
 use Rattle.rtui_buffer.specs.Clipped.{IsClipped}
+use Rattle.rtui_grid.proofs.PlaceLemmas.{row_ends, by_rows, apart}
 
 pub refilled-same : (cells w : List Cell) → length w ≡ length cells → refilled cells w ≡ w
 refilled-same cells w e =
@@ -86,20 +85,12 @@ plus-rows : (a k w c : ℕ) → (a + k) * w + c ≡ a * w + c + k * w
 plus-rows a k w c = omega arith
 
 row-fits : (a k w h c width count : ℕ) → a + k < h → c + width ≤ w → count ≡ w * h → a * w + c + k * w + width ≤ count
-row-fits a k w h c width count lt le e = let b = rows_before w (a + k) h lt in omega arith
+row-fits a k w h c width count lt le e = let b = row_ends w (a + k) h lt in omega arith
 
 row-beside : (a k b w c d width : ℕ) → d < w → c + width ≤ w → (b ≡ a + k → (d < c) ⊎ (c + width ≤ d)) → (b * w + d < a * w + c + k * w) ⊎ (a * w + c + k * w + width ≤ b * w + d)
 row-beside a k b w c d width lt le same =
-    ⊎_elim
-    (λ (above : b < a + k). inl (let r = rows_before w b (a + k) above in omega arith))
-    (λ (not_above : a + k ≤ b).
-    ⊎_elim
-    (λ (below : a + k < b). inr (let r = rows_before w (a + k) b below in omega arith))
-    (λ (not_below : b ≤ a + k).
-    let here : b ≡ a + k = omega arith in
-    ⊎_elim (λ (l : d < c). inl (rw here (omega arith))) (λ (r : c + width ≤ d). inr (rw here (omega arith))) (same here))
-    (cases_lt (a + k) b))
-    (cases_lt b (a + k))
+    by_rows _ w b (a + k) (λ p q. inl (omega arith)) (λ p q. inr (omega arith))
+    (λ here. ⊎_elim (λ (l : d < c). inl (rw here (omega arith))) (λ (r : c + width ≤ d). inr (rw here (omega arith))) (same here))
 
 module _ (area : Rect) (old : Sheet) (r : Rect) (h : IsClipped area old.area r) where
   abbrev own : Rect
@@ -157,15 +148,7 @@ module _ (area : Rect) (old : Sheet) (r : Rect) (h : IsClipped area old.area r) 
   not-in p in_own off k lt same =
       let t = top in let b = bottom-cut in let a = left in let c = right-cut in
       let pl = in_own.left in let pt = in_own.top in
-      ⊎_elim
-      (λ (before : p.x - own.x < r.x - own.x). inl before)
-      (λ (from : r.x - own.x ≤ p.x - own.x).
-      ⊎_elim
-      (λ (inside : p.x - own.x < r.x - own.x + r.width).
-      absurd (off (h.of_area p (record { left = omega arith; right = omega arith; top = omega arith; bottom = omega arith }))))
-      (λ (past : r.x - own.x + r.width ≤ p.x - own.x). inr past)
-      (cases_lt (p.x - own.x) (r.x - own.x + r.width)))
-      (cases_lt (p.x - own.x) (r.x - own.x))
+      apart (p.x - own.x) (r.x - own.x) r.width (λ from to. off (h.of_area p (record { left = omega arith; right = omega arith; top = omega arith; bottom = omega arith })))
 
   outside-rows : (p : Position) → HasPosition own p → ¬ (HasPosition area p) → IsOutside rows_of (cell_index own p)
   outside-rows p in_own off k lt =
@@ -180,15 +163,7 @@ module _ (area : Rect) (old : Sheet) (r : Rect) (h : IsClipped area old.area r) 
   not-in-first p in_own off k lt same =
       let t = top in let b = bottom-cut in let a = left in let c = right-cut in let rows = h.rows in
       let pl = in_own.left in let pt = in_own.top in
-      ⊎_elim
-      (λ (before : p.x - own.x < r.x - own.x). inl before)
-      (λ (from : r.x - own.x ≤ p.x - own.x).
-      ⊎_elim
-      (λ (inside : p.x - own.x < r.x - own.x + r.width).
-      absurd (off (record { left = omega arith; right = omega arith; top = omega arith; bottom = omega arith })))
-      (λ (past : r.x - own.x + r.width ≤ p.x - own.x). inr past)
-      (cases_lt (p.x - own.x) (r.x - own.x + r.width)))
-      (cases_lt (p.x - own.x) (r.x - own.x))
+      apart (p.x - own.x) (r.x - own.x) r.width (λ from to. off (record { left = omega arith; right = omega arith; top = omega arith; bottom = omega arith }))
 
   outside-first : (p : Position) → HasPosition own p → ¬ (HasPosition (first_row r) p) → IsOutside (record { start = cell_index own (record { x = r.x; y = r.y }); width = r.width; stride = own.width; count = 1 }) (cell_index own p)
   outside-first p in_own off k lt =
@@ -315,16 +290,10 @@ painted-within area old new ps row le narrow fits same = record {
       ⊎_elim
       (λ (some : 0 < columns ps).
       let beside = row-beside (area.y - old.area.y) 0 (p.y - old.area.y) old.area.width (area.x - old.area.x) (p.x - old.area.x) (columns ps) (omega arith) (omega arith)
-      (λ e. ⊎_elim
-      (λ (before : p.x < area.x). inl (omega arith))
-      (λ (from : area.x ≤ p.x). ⊎_elim
-      (λ (inside : p.x < area.x + columns ps). absurd (off (record { left = from; right = omega arith; top = omega arith; bottom = omega arith })))
-      (λ (past : area.x + columns ps ≤ p.x). inr (omega arith))
-      (cases_lt p.x (area.x + columns ps)))
-      (cases_lt p.x area.x)) in
+      (λ e. apart (p.x - old.area.x) (area.x - old.area.x) (columns ps) (λ from to. off (record { left = omega arith; right = omega arith; top = omega arith; bottom = omega arith }))) in
       ⊎_elim (λ (a : (p.y - old.area.y) * old.area.width + (p.x - old.area.x) < (area.y - old.area.y) * old.area.width + (area.x - old.area.x) + 0 * old.area.width). inl (omega arith))
       (λ (b : (area.y - old.area.y) * old.area.width + (area.x - old.area.x) + 0 * old.area.width + columns ps ≤ (p.y - old.area.y) * old.area.width + (p.x - old.area.x)). inr (omega arith)) beside)
-      (λ (none : columns ps ≤ 0). ⊎_elim (λ (a : cell_index old.area p < start). inl a) (λ (b : start ≤ cell_index old.area p). inr (omega arith)) (cases_lt (cell_index old.area p) start))
+      (λ (none : columns ps ≤ 0). apart (cell_index old.area p) start (columns ps) (λ from to. omega arith))
       (cases_lt 0 (columns ps)) in
       ap (λ r. cell new.cells (cell_index r p)) same.area
       ∙ ⊎_elim (λ (a : cell_index old.area p < start). same.cells.before (cell_index old.area p) a) (λ (b : start + columns ps ≤ cell_index old.area p). same.cells.behind (cell_index old.area p) b) there;

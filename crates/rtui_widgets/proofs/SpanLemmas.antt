@@ -1,6 +1,6 @@
 -- How rendering goes on, a grapheme at a time.
 use Rattle.std.proofs.Common.{◌≡◌, ◌≢◌, ℕ, suc, zero, ◌+◌, ◌-◌, ◌<◌, ◌≤◌, ◌⊎◌, ⊎_elim, inl, inr, Bool, true, false, cond, List, [], ◌∷◌, ◌++◌, length, map, take, drop, get_or, set, refl, sym, ap, ◌∙◌, arith, append_assoc}
-use Rattle.std.specs.Prelude.{◌||◌, ◌&&◌, nat_lt, Some, unwrap_or}
+use Rattle.std.specs.Prelude.{◌||◌, ◌&&◌, nat_lt, Some, unwrap_or, if◌then◌else◌}
 use Rattle.std.specs.List.{concat}
 use Rattle.std.proofs.lemmas.Bool.{cases_lt}
 use Rattle.std.proofs.lemmas.Bool.Decides.{nat_tests}
@@ -9,17 +9,17 @@ use Rattle.unicode_segmentation.specs.Grapheme.{graphemes}
 use Rattle.rtui_cell.specs.declared.cell.Cell.{Cell}
 use Rattle.rtui_cell.specs.Cell.{empty_cell, IsUnmarked, styled}
 use Rattle.rtui_diff.specs.Cells.{cell}
-use Rattle.std.specs.Prelude.{if◌then◌else◌}
 use Rattle.rtui_cell.specs.Symbol.{appended, IsShort}
 use Rattle.rtui_style.specs.declared.Style.{Style}
 use Rattle.rtui_cell.specs.Width.{text_width}
 use Rattle.rtui_text.specs.Graphemes.{has_control}
-use Rattle.rtui_buffer.specs.Painting.{fitting, emptied, Piece, piece_width, with_piece, painted}
+use Rattle.rtui_buffer.specs.Painting.{fitting, KeepsUnmarked}
 use Rattle.rtui_widgets.specs.Span.{showing, goes_to, those_at, is_behind, column_with, columns_from, span_rendered}
-use Rattle.rtui_buffer.specs.Painting.{KeepsUnmarked}
-use Rattle.rtui_widgets.specs.Steps.{with_appended, with_grapheme, with_next, next_symbol}
+use Rattle.rtui_widgets.specs.Inner.{with_appended, with_grapheme, with_next, next_symbol}
 use Rattle.rtui_widgets.proofs.RowWith.{end_of_those, IsRowWith}
 use Rattle.rtui_widgets.proofs.ColumnLemmas.{end-append, those_at-far, is_behind-far, reached, first_reached, front-no_longer, symbol-here, column-behind, column-other, column-set, column-append}
+use Rattle.rtui_buffer.proofs.PaintedLemmas.{emptied-inside, emptied-outside}
+use Rattle.rtui_buffer.proofs.PaintLemmas.{unmarked-set, unmarked-emptied}
 
 pub rendered-nothing : (s : Style) (text : List ℕ) (row : List Cell) → length row ≡ 0 → row ≡ span_rendered s text row
 unfolding span_rendered columns_from
@@ -43,34 +43,6 @@ showing-take room g gs h le = rw h (grind (arith, nat_tests))
 pub showing-full : (room : ℕ) (g : List ℕ) (gs : List (List ℕ)) → has_control g ≡ false → room < text_width g → showing room (g ∷ gs) ≡ []
 unfolding showing fitting
 showing-full room g gs h lt = rw h (grind (arith, nat_tests))
-
--- ---- cells that are emptied
-
-pub length-emptied : (at n : ℕ) (cells : List Cell) → length (emptied at n cells) ≡ length cells
-unfolding emptied
-length-emptied at zero cells = refl
-length-emptied at (suc n) cells = length-emptied (at + 1) n (set cells at empty_cell) ∙ length-set cells at empty_cell
-
-emptied-outside : (at n k : ℕ) (cells : List Cell) → (k < at) ⊎ (at + n ≤ k) → get_or (emptied at n cells) k empty_cell ≡ get_or cells k empty_cell
-unfolding emptied
-emptied-outside at zero k cells h = refl
-emptied-outside at (suc n) k cells h =
-    let ne : k ≢ at = ⊎_elim (λ (a : k < at). omega arith) (λ (b : at + suc n ≤ k). omega arith) h in
-    let h2 : (k < at + 1) ⊎ (at + 1 + n ≤ k) = ⊎_elim (λ (a : k < at). inl (omega arith)) (λ (b : at + suc n ≤ k). inr (omega arith)) h in
-    emptied-outside (at + 1) n k (set cells at empty_cell) h2 ∙ get_or-set_other cells at k empty_cell empty_cell ne
-
-emptied-inside : (at n k : ℕ) (cells : List Cell) → at ≤ k → k < at + n → at + n ≤ length cells → get_or (emptied at n cells) k empty_cell ≡ empty_cell
-unfolding emptied
-emptied-inside at zero k cells le lt fits = absurd (omega arith)
-emptied-inside at (suc n) k cells le lt fits =
-    let len : length (set cells at empty_cell) ≡ length cells = length-set cells at empty_cell in
-    ⊎_elim
-    (λ (past : at < k). emptied-inside (at + 1) n k (set cells at empty_cell) (omega arith) (omega arith) (omega arith))
-    (λ (here : k ≤ at).
-    let same : k ≡ at = omega arith in
-    let in_cells : at < length cells = omega arith in
-    emptied-outside (at + 1) n k (set cells at empty_cell) (inl (omega arith)) ∙ ap (λ i. get_or (set cells at empty_cell) i empty_cell) same ∙ get_or-set_same cells at empty_cell empty_cell in_cells)
-    (cases_lt at k)
 
 -- ---- a turn of the loop
 
@@ -177,7 +149,7 @@ module _ (s : Style) (gs : List (List ℕ)) (g : List ℕ) (x : ℕ) (is_first :
       let place_le = place-le in
       let place_in_row : place < length row = omega (arith, h.count) in
       record {
-        count = length-emptied (x + 1) (text_width g - 1) cells ∙ len;
+        count = (emptied-outside (x + 1) (text_width g - 1) cells).count ∙ len;
         columns = λ k lt.
             ⊎_elim
             (λ (hidden : (x < k) × (k < x + text_width g)).
@@ -187,7 +159,7 @@ module _ (s : Style) (gs : List (List ℕ)) (g : List ℕ) (x : ℕ) (is_first :
             ∙ sym (column-behind s gs g x k (get_or old k empty_cell) ends hidden.0 hidden.1))
             (λ (clear : (k ≤ x) ⊎ (x + text_width g ≤ k)).
             let out = out_of x k (text_width g) clear in
-            emptied-outside (x + 1) (text_width g - 1) k cells out
+            (let o = emptied-outside (x + 1) (text_width g - 1) cells in ⊎_elim (λ (a : k < x + 1). o.before k a) (λ (b : x + 1 + (text_width g - 1) ≤ k). o.behind k b) out)
             ∙ ⊎_elim
             (λ (here : k ≡ place). rw here (get_or-set_same row place new empty_cell place_in_row ∙ own is_set refl))
             (λ (ne : k ≢ place).
@@ -269,32 +241,6 @@ pub ruleset span_steps = (rendered-nothing, end-none, IsRowWith-none)
 
 -- ---- no cell gets an option or the flag
 
-pub unmarked-refl : (cells : List Cell) → KeepsUnmarked cells cells
-unmarked-refl cells = record { at = λ k u. u }
-
-unmarked-set : (cells : List Cell) (i : ℕ) (c : Cell) → (IsUnmarked (cell cells i) → IsUnmarked c) → (k : ℕ) → IsUnmarked (cell cells k) → IsUnmarked (cell (set cells i c) k)
-unmarked-set [] i c keep k u = u
-unmarked-set (x ∷ xs) zero c keep zero u = keep u
-unmarked-set (x ∷ xs) zero c keep (suc k) u = u
-unmarked-set (x ∷ xs) (suc i) c keep zero u = u
-unmarked-set (x ∷ xs) (suc i) c keep (suc k) u = unmarked-set xs i c keep k u
-
-unmarked-emptied : (at n : ℕ) (old new : List Cell) → KeepsUnmarked old new → KeepsUnmarked old (emptied at n new)
-unfolding emptied
-unmarked-emptied at zero old new h = h
-unmarked-emptied at (suc n) old new h =
-    unmarked-emptied (at + 1) n old (set new at empty_cell) (record { at = λ k u. unmarked-set new at empty_cell (λ w. record { option = refl; flag = refl }) k (h.at k u) })
-
-unmarked-piece : (at : ℕ) (p : Piece) (old new : List Cell) → KeepsUnmarked old new → KeepsUnmarked old (with_piece at p new)
-unfolding with_piece
-unmarked-piece at p old new h =
-    unmarked-emptied (at + 1) (piece_width p - 1) old _ (record { at = λ k u. unmarked-set new at _ (λ w. record { option = w.option; flag = w.flag }) k (h.at k u) })
-
-pub unmarked-painted : (ps : List Piece) (at : ℕ) (old new : List Cell) → KeepsUnmarked old new → KeepsUnmarked old (painted at ps new)
-unfolding painted
-unmarked-painted [] at old new h = h
-unmarked-painted (p ∷ ps) at old new h = unmarked-painted ps (at + piece_width p) old (with_piece at p new) (unmarked-piece at p old new h)
-
 next-keeps : (b : Bool) (style : Style) (g : List ℕ) (c : Cell) → IsUnmarked c → IsUnmarked (if b then with_grapheme style g c else with_appended style g c)
 next-keeps true style g c w = record { option = w.option; flag = w.flag }
 next-keeps false style g c w = record { option = w.option; flag = w.flag }
@@ -303,12 +249,6 @@ pub unmarked-next : (is_first : Bool) (x : ℕ) (style : Style) (g : List ℕ) (
 unfolding with_next
 unmarked-next is_first x style g old new h =
     unmarked-emptied (x + 1) (text_width g - 1) old _ (record { at = λ k u. unmarked-set new (goes_to x g) _ (next-keeps (is_first || (nat_lt 0 x && nat_lt 0 (text_width g))) style g _) k (h.at k u) })
-
-pub unmarked-then : (a b c : List Cell) → KeepsUnmarked a b → KeepsUnmarked b c → KeepsUnmarked a c
-unmarked-then a b c h g = record { at = λ k u. g.at k (h.at k u) }
-
-pub unmarked-eq : (a b : List Cell) → b ≡ a → KeepsUnmarked a b
-unmarked-eq a b e = rw e (unmarked-refl a)
 
 styled-keeps : (s : Style) (cells : List Cell) (k : ℕ) → IsUnmarked (cell cells k) → IsUnmarked (cell (map (styled s) cells) k)
 styled-keeps s [] k u = u

@@ -1,6 +1,5 @@
 -- What the author of a widget cites: the part of an area that a buffer has, and what stays within an area.
-use Rattle.std.proofs.Common.{◌≡◌, ◌+◌, ◌-◌, ◌<◌, ◌≤◌, ⊎_elim, inl, inr, List, min, max, refl, ap, ◌∙◌, arith}
-use Rattle.std.proofs.lemmas.Bool.{cases_lt}
+use Rattle.std.proofs.Common.{◌≡◌, ◌+◌, ◌-◌, ◌<◌, ◌≤◌, List, min, max, refl, ap, ◌∙◌, arith}
 use Rattle.rtui_geometry.specs.declared.position.Position.{Position}
 use Rattle.rtui_geometry.specs.declared.rect.Rect.{Rect}
 use Rattle.rtui_geometry.specs.Rect.{HasPosition, EdgesFit, right_edge, bottom_edge, corner, intersected}
@@ -11,6 +10,7 @@ use Rattle.rtui_buffer.specs.PaintedText.{IsStyled, IsBeside, IsSameBeside}
 use Rattle.rtui_buffer.proofs.ColumnLemmas.{same-beside}
 use Rattle.rtui_widgets.specs.Rendering.{ChangesWithin}
 use Rattle.rtui_buffer.specs.Clipped.{IsClipped}
+use Rattle.rtui_grid.proofs.PlaceLemmas.{apart}
 
 -- a buffer has the whole of its own area
 pub intersected-whole : (r : Rect) → EdgesFit r → intersected r r ≡ r
@@ -74,14 +74,6 @@ within-refused area part old new ps is narrow ends refused = record {
   same_area = refused.area;
   same_room = refused.room;
   outside = λ p in_own off.
-      let beside : IsBeside (corner part) (columns ps) p = λ same.
-      ⊎_elim
-      (λ (before : p.x < part.x). inl before)
-      (λ (from : part.x ≤ p.x).
-      ⊎_elim
-      (λ (there : p.x < part.x + columns ps). absurd (off (in-first-row area old.area part is p in_own from (omega arith) same)))
-      (λ (past : part.x + columns ps ≤ p.x). inr past)
-      (cases_lt p.x (part.x + columns ps)))
-      (cases_lt p.x part.x) in
+      let beside : IsBeside (corner part) (columns ps) p = λ same. apart p.x part.x (columns ps) (λ from to. off (in-first-row area old.area part is p in_own from (omega arith) same)) in
       same-beside (corner part) p ps old new (part-row area old.area part is) (part-left area old.area part is) ends refused in_own beside;
 }

@@ -2,6 +2,4 @@ pub mod Span
 pub mod Line
 pub mod Rendering
 pub mod Clipped
-pub mod Steps
-pub mod IsPart
-pub mod Rows
+pub mod Inner

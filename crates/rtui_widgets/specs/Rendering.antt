@@ -8,9 +8,8 @@ use Rattle.rtui_layout.specs.declared.alignment.HorizontalAlignment.{HorizontalA
 use Rattle.rtui_cell.specs.declared.cell.Cell.{Cell}
 use Rattle.rtui_cell.specs.Cell.{styled}
 use Rattle.rtui_text.specs.Text.{SpanData, LineData, TextData, line_of}
-use Rattle.rtui_buffer.specs.Sheet.{Sheet, cell_index, cell_in}
+use Rattle.rtui_buffer.specs.Sheet.{Sheet, cell_index, cell_in, HasRow}
 use Rattle.rtui_style.specs.Style.{new_style}
-use Rattle.rtui_buffer.specs.Sheet.{HasRow}
 use Rattle.rtui_buffer.specs.PaintedText.{pieces_at, AreShort, PaintsFront, PaintsPieces}
 use Rattle.rtui_widgets.specs.Span.{span_rendered, IsShortSpan}
 use Rattle.rtui_widgets.specs.Line.{line_rendered, IsShortLine}

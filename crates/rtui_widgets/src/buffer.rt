@@ -1,6 +1,6 @@
 //! Spans, lines and texts in a buffer.
 
-ghost use Rattle.std.specs.Prelude.{◌≡◌, IsOk, OnOk, OnErr};
+ghost use Rattle.std.specs.Prelude.{IsOk, OnOk, OnErr};
 ghost use Rattle.rtui_geometry.specs.Rect.{intersected};
 ghost use Rattle.rtui_widgets.specs.Rendering.{RendersSpan, RendersLine, RendersText, RendersShortSpan, RendersShortLine, RendersShortText, ChangesWithin, first_row};
 ghost use Rattle.rtui_buffer.specs.Painting.{KeepsUnmarked};

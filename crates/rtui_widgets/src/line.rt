@@ -1,12 +1,12 @@
 //! Lines in a row of cells.
 
-ghost use Rattle.std.specs.Prelude.{true, ◌≡◌, ◌+◌, ◌-◌, ◌<◌, ◌≤◌, List, length, map, sum_by, IsOk, OnOk};
+ghost use Rattle.std.specs.Prelude.{true, ◌≡◌, ◌+◌, ◌-◌, ◌<◌, ◌≤◌, length, map, sum_by, IsOk, OnOk};
 ghost use Rattle.std.specs.List.{concat};
 ghost use Rattle.unicode_segmentation.specs.Grapheme.{graphemes};
 ghost use Rattle.rtui_cell.specs.Cell.{styled};
 ghost use Rattle.rtui_cell.specs.Width.{text_columns};
 ghost use Rattle.rtui_text.specs.Widths.{span_width};
-ghost use Rattle.rtui_widgets.specs.IsPart.{IsPart};
+ghost use Rattle.rtui_widgets.specs.Inner.{IsPart};
 ghost use Rattle.rtui_buffer.specs.Painting.{KeepsUnmarked};
 ghost use Rattle.rtui_widgets.specs.Line.{parts, parts_rendered, part_of, columns_before, line_rendered, last_fitting, AreShortParts, IsShortLine};
 

@@ -6,9 +6,9 @@ ghost use Rattle.rtui_cell.specs.Width.{text_width};
 ghost use Rattle.rtui_buffer.specs.Painting.{emptied};
 ghost use Rattle.rtui_widgets.specs.Span.{span_rendered, IsShortSpan};
 ghost use Rattle.rtui_buffer.specs.Painting.{KeepsUnmarked};
-ghost use Rattle.rtui_widgets.specs.Steps.{with_grapheme, with_appended, with_next, next_symbol};
+ghost use Rattle.rtui_widgets.specs.Inner.{with_grapheme, with_appended, with_next, next_symbol};
 
-use rtui_buffer::paint_printable;
+use rtui_buffer::{empty_part, paint_printable};
 use rtui_cell::{Cell, CellWidth};
 use rtui_style::Style;
 use rtui_text::{has_control, printable_front};
@@ -51,7 +51,7 @@ pub(crate) fn render_span(
 }
 
 // Puts the next grapheme, of this width, which stands at column x.
-#[tactic(auto, unfolding(crate::specs::Steps::with_next))]
+#[tactic(auto, unfolding(crate::specs::Inner::with_next))]
 fn put_next(
     alloc: Global,
     row: &mut [Cell],
@@ -110,17 +110,5 @@ fn empty_behind(row: &mut [Cell], x: usize, width: usize)
 {
     if width > 1 {
         empty_part(row, x + 1, x + width);
-    }
-}
-
-// Empties the cells of a part.
-#[tactic(auto, using(crate::proofs::EmptyLemmas::empty_steps))]
-fn empty_part(row: &mut [Cell], from: usize, to: usize)
-    requires order { from ≤ to }
-    requires inside { to ≤ length row.old }
-    ensures { row.new ≡ emptied from (to - from) row.old }
-{
-    for i in from..to {
-        row[i].reset();
     }
 }

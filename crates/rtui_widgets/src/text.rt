@@ -3,7 +3,7 @@
 ghost use Rattle.std.specs.Prelude.{◌≡◌, ℕ, ◌+◌, ◌*◌, ◌<◌, ◌≤◌, length, IsOk, OnOk, OnErr};
 ghost use Rattle.rtui_widgets.specs.Rendering.{text_row, IsShortRow};
 ghost use Rattle.rtui_buffer.specs.Painting.{KeepsUnmarked};
-ghost use Rattle.rtui_widgets.specs.Rows.{rows_from, KeepsOthers, MakesRows};
+ghost use Rattle.rtui_widgets.specs.Inner.{rows_from, KeepsOthers, MakesRows};
 
 use crate::line::{lay_row, render_line};
 use rtui_cell::Cell;

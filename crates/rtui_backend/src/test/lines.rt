@@ -4,11 +4,11 @@ ghost use Rattle.std.specs.Prelude.{◌≡◌, ◌↔◌, ℕ, ◌+◌, ◌-◌,
 ghost use Rattle.std.specs.Str.Lines.{lines};
 ghost use Rattle.rtui_style.specs.Style.{new_style};
 ghost use Rattle.rtui_cell.specs.Width.{text_width};
-ghost use Rattle.rtui_text.specs.Text.{plain};
+ghost use Rattle.rtui_text.specs.Text.{plain, raw_line};
 ghost use Rattle.rtui_buffer.specs.Painting.{text_pieces};
-ghost use Rattle.rtui_buffer.specs.Line.{widest, raw_lines};
-ghost use Rattle.rtui_backend.specs.ScreenLines.{symbol_in, symbols_in, ScreenHasLines, RowsHaveLines, HistoryHasLines, IsScreenOf};
-ghost use Rattle.rtui_backend.specs.RowPieces.{are_blank, is_piece, pieces_end, spans_end, is_row_of};
+ghost use Rattle.rtui_buffer.specs.Line.{widest, raw_lines, line_pieces};
+ghost use Rattle.rtui_backend.specs.ScreenLines.{symbols_in, ScreenHasLines, HistoryHasLines, IsScreenOf};
+ghost use Rattle.rtui_backend.specs.Inner.{symbol_in, AreBlank, HasSymbol, EndsAfter, HasLine, RowsHaveLines};
 ghost use Rattle.rtui_backend.specs.TestBackend.{screen_of};
 
 use crate::test::TestBackend;
@@ -27,11 +27,10 @@ fn symbol_at(row: &[Cell], x: usize) -> &str
 }
 
 // Whether the columns from one up to another are blank.
-#[tactic(auto, using(crate::proofs::WalkLemmas::blank_steps))]
 fn is_blank(row: &[Cell], from: usize, to: usize) -> bool
     requires order { from ≤ to }
     requires columns { to ≤ length row.now }
-    ensures { result ≡ are_blank (symbol_in row.now) from (to - from) }
+    ensures { IsTrue result ↔ AreBlank (symbol_in row.now) from to }
 {
     for x in from..to {
         if symbol_at(row, x) != " " {
@@ -42,23 +41,21 @@ fn is_blank(row: &[Cell], from: usize, to: usize) -> bool
 }
 
 // Whether a symbol of this width stands in a column, and blanks behind it.
-#[tactic(auto, unfolding(crate::specs::RowPieces::is_piece))]
 fn is_piece(row: &[Cell], x: usize, width: usize, symbol: &str) -> bool
     requires width { width ≡ text_width symbol.now }
     requires wide { 0 < width }
     requires columns { x + width ≤ length row.now }
-    ensures { result ≡ is_piece (symbol_in row.now) x symbol.now }
+    ensures { IsTrue result ↔ HasSymbol (symbol_in row.now) x symbol.now }
 {
     symbol_at(row, x) == symbol && is_blank(row, x + 1, x + width)
 }
 
 // The column behind a text that stands in a row from a column on, if it does.
-#[tactic(auto, using(crate::proofs::WalkLemmas::piece_steps))]
 fn text_end(row: &[Cell], x: usize, text: &str) -> Option<usize>
     requires { x ≤ length row.now }
     ensures within { IfSome result (λ end. end ≤ length row.now) }
-    ensures end { result ≡ pieces_end (symbol_in row.now) x
-        (text_pieces (length row.now - x) new_style text.now) }
+    ensures end { EndsAfter (symbol_in row.now) x
+        (text_pieces (length row.now - x) new_style text.now) result }
 {
     let mut end = x;
     for grapheme in text.graphemes(true) {
@@ -80,8 +77,8 @@ fn text_end(row: &[Cell], x: usize, text: &str) -> Option<usize>
 // The column behind a line that stands in a row, if it does.
 fn line_end(row: &[Cell], line: &str) -> Option<usize>
     ensures within { IfSome result (λ end. end ≤ length row.now) }
-    ensures end { result ≡ spans_end (symbol_in row.now) (length row.now) 0
-        (map plain (lines line.now)) }
+    ensures end { EndsAfter (symbol_in row.now) 0
+        (line_pieces (length row.now) new_style (map plain (lines line.now))) result }
 {
     let mut end = Some(0);
     for text in line.lines() {
@@ -94,9 +91,8 @@ fn line_end(row: &[Cell], line: &str) -> Option<usize>
 }
 
 // Whether a row shows a line.
-#[tactic(auto, using(crate::proofs::WalkLemmas::row_steps), unfolding(crate::specs::RowPieces::is_row_of))]
 fn row_is(row: &[Cell], line: &str) -> bool
-    ensures { result ≡ is_row_of (symbol_in row.now) (length row.now) (map plain (lines line.now)) }
+    ensures { IsTrue result ↔ HasLine (raw_line line.now) (length row.now) (symbol_in row.now) }
 {
     match line_end(row, line) {
         Some(end) => is_blank(row, end, row.len()),

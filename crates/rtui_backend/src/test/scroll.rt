@@ -1,78 +1,18 @@
 //! Rows that leave the screen, and parts of it that are emptied.
 
-ghost use Rattle.std.specs.Prelude.{◌≡◌, ◌+◌, ◌-◌, ◌*◌, ◌^◌, ◌<◌, ◌≤◌, ◌&&◌, min, ℕ, nat_lt, nat_le, ◌==◌, if◌then◌else◌, length, [], map, IsOk, OnOk, OnErr, IfOk};
+ghost use Rattle.std.specs.Prelude.{◌≡◌, ◌+◌, ◌-◌, ◌*◌, ◌^◌, ◌<◌, ◌≤◌, ◌&&◌, min, ℕ, nat_lt, nat_le, ◌==◌, if◌then◌else◌, [], map, IsOk, OnOk, OnErr, IfOk};
 ghost use Rattle.std.specs.List.{range_with_len};
-ghost use Rattle.rtui_cell.specs.Cell.{empty_cell};
 ghost use Rattle.rtui_cell.specs.Look.{look_of};
 ghost use Rattle.rtui_backend.specs.Clear.{is_cleared};
-ghost use Rattle.rtui_diff.specs.Cells.{cell};
 ghost use Rattle.rtui_backend.specs.CellGrid.{look_at, AreUnmarked, AreUnmarkedRows};
 
 use crate::clear_type::ClearType;
 use crate::test::TestBackend;
 use rtui_buffer::{Buffer, Cell};
 use rtui_geometry::{Position, Rect, Size};
+use rtui_grid::{Block, fill, move_block, shift_down, shift_up};
 use std::alloc::{AllocError, Global};
-use std::mem;
 use std::ops::Range;
-
-// Empties the cells from one place up to another.
-fn blank(cells: &mut [Cell], from: usize, to: usize)
-    requires order { from ≤ to }
-    requires end { to ≤ length cells.old }
-    ensures { (k : ℕ) → cell cells.new k
-        ≡ (if nat_le from k && nat_lt k to then empty_cell else cell cells.old k) }
-{
-    for k in from..to {
-        cells[k].reset();
-    }
-}
-
-// Moves the cells up by so many places, and empties those that come free at the end.
-fn shift(cells: &mut [Cell], by: usize)
-    ensures { (k : ℕ) → cell cells.new k ≡ cell cells.old (k + by) }
-{
-    let count = by.min(cells.len());
-    blank(cells, 0, count);
-    cells.rotate_left(count);
-}
-
-// Moves the cells from one place up to another up by so many places, and empties those that come free.
-fn shift_part(cells: &mut [Cell], from: usize, to: usize, by: usize)
-    requires order { from ≤ to }
-    requires end { to ≤ length cells.old }
-    ensures length { length cells.new ≡ length cells.old }
-    ensures moved { (k : ℕ) → cell cells.new k ≡ (if nat_le from k && nat_lt k to
-        then (if nat_lt (k + by) to then cell cells.old (k + by) else empty_cell)
-        else cell cells.old k) }
-    ensures unmarked { AreUnmarked cells.old → AreUnmarked cells.new }
-{
-    shift(&mut cells[from..to], by);
-}
-
-// Moves the cells from one place up to another down by so many places, and empties those that come free.
-fn shift_part_down(cells: &mut [Cell], from: usize, to: usize, by: usize)
-    requires order { from ≤ to }
-    requires end { to ≤ length cells.old }
-    ensures length { length cells.new ≡ length cells.old }
-    ensures moved { (k : ℕ) → cell cells.new k ≡ (if nat_le from k && nat_lt k to
-        then (if nat_le (from + by) k then cell cells.old (k - by) else empty_cell)
-        else cell cells.old k) }
-    ensures unmarked { AreUnmarked cells.old → AreUnmarked cells.new }
-{
-    shift_down(&mut cells[from..to], by);
-}
-
-// Moves the cells down by so many places, and empties those that come free at the start.
-fn shift_down(cells: &mut [Cell], by: usize)
-    ensures length { length cells.new ≡ length cells.old }
-    ensures moved { (k : ℕ) → cell cells.new k ≡ (if nat_lt k (length cells.old)
-        then (if nat_le by k then cell cells.old (k - by) else empty_cell) else empty_cell) }
-{
-    let count = by.min(cells.len());
-    cells.rotate_right(count);
-    blank(cells, 0, count);
-}
 
 // Copies of so many cells, with empty ones past the end.
 fn copied_row(
@@ -142,39 +82,6 @@ fn leaving_rows(
     }
 }
 
-// Exchanges so many cells of a list, from a place on, with those of another from a place on.
-fn swap_cells(from: &mut [Cell], start: usize, to: &mut [Cell], place: usize, count: usize)
-    requires inside { start + count ≤ length from.old }
-    requires fits { place + count ≤ length to.old }
-    ensures moved { (k : ℕ) → k < count → cell to.new (place + k) ≡ cell from.old (start + k) }
-    ensures rest { (k : ℕ) → k < place → cell to.new k ≡ cell to.old k }
-    ensures behind { (k : ℕ) → place + count ≤ k → cell to.new k ≡ cell to.old k }
-    ensures left { (k : ℕ) → start + count ≤ k → cell from.new k ≡ cell from.old k }
-    ensures unmarked { AreUnmarked from.old → AreUnmarked to.old
-        → AreUnmarked from.new × AreUnmarked to.new }
-{
-    for k in 0..count {
-        mem::swap(&mut from[start + k], &mut to[place + k]);
-    }
-}
-
-// Moves the cells of the rows and columns that two sizes share to an empty list.
-fn move_rows(from: &mut [Cell], former: Size, to: &mut [Cell], size: Size)
-    requires from_size { length from.old ≡ former.width * former.height }
-    requires to_size { length to.old ≡ size.width * size.height }
-    requires blank { (k : ℕ) → cell to.old k ≡ empty_cell }
-    ensures grid { (a b : ℕ) → a < size.width → cell to.new (b * size.width + a)
-        ≡ (if nat_lt a former.width && nat_lt b (min former.height size.height)
-        then cell from.old (b * former.width + a) else empty_cell) }
-    ensures unmarked { AreUnmarked from.old → AreUnmarked to.new }
-{
-    let width = usize::from(former.width);
-    let new_width = usize::from(size.width);
-    for row in 0..usize::from(former.height.min(size.height)) {
-        swap_cells(from, row * width, to, row * new_width, width.min(new_width));
-    }
-}
-
 // The places that a clear empties, in rows of cells.
 fn cleared_places(size: Size, cursor: Position, clear_type: ClearType) -> (usize, usize)
     requires column { cursor.x ≤ size.width - 1 }
@@ -220,7 +127,9 @@ impl TestBackend {
         let mut rows = copied_rows(self.alloc, self.buffer.content(), area.width, past)?;
         self.scrollback.append(&mut rows)?;
         let places = past as usize * usize::from(area.width);
-        shift(self.buffer.cells_mut(), places);
+        let cells = self.buffer.cells_mut();
+        let end = cells.len();
+        shift_up(cells, 0, end, places);
         self.cursor.y = self.cursor.y.saturating_add(n).min(last);
         Ok(())
     }
@@ -246,7 +155,7 @@ impl TestBackend {
         let mut rows = leaving_rows(self.alloc, cells, area.width, region.start, n)?;
         self.scrollback.append(&mut rows)?;
         let from = usize::from(region.start) * width;
-        shift_part(self.buffer.cells_mut(), from, to, usize::from(n) * width);
+        shift_up(self.buffer.cells_mut(), from, to, usize::from(n) * width);
         Ok(())
     }
 
@@ -266,7 +175,7 @@ impl TestBackend {
         let width = usize::from(area.width);
         let from = usize::from(region.start) * width;
         let to = usize::from(end) * width;
-        shift_part_down(self.buffer.cells_mut(), from, to, usize::from(n) * width);
+        shift_down(self.buffer.cells_mut(), from, to, usize::from(n) * width);
     }
 
     // Empties a part of the screen.
@@ -277,7 +186,7 @@ impl TestBackend {
     {
         let size = self.buffer.area().as_size();
         let (from, to) = cleared_places(size, self.cursor, clear_type);
-        blank(self.buffer.cells_mut(), from, to);
+        fill(self.buffer.cells_mut(), from, to);
     }
 
     /// Gives the screen another size in columns and rows: rows and columns are cut, or blank ones come in at the right
@@ -292,11 +201,19 @@ impl TestBackend {
     {
         let former = self.buffer.area().as_size();
         let mut buffer = Buffer::empty(self.alloc, Rect::new(0, 0, width, height))?;
-        move_rows(
-            self.buffer.cells_mut(),
-            former,
+        let shared = Block {
+            left: 0,
+            top: 0,
+            columns: former.width.min(width),
+            rows: former.height.min(height),
+        };
+        let former_cells = self.buffer.cells_mut();
+        move_block(
             buffer.cells_mut(),
-            Size { width, height },
+            width,
+            shared,
+            former_cells,
+            former.width,
         );
         self.buffer = buffer;
         self.cursor.x = self.cursor.x.min(width.saturating_sub(1));

@@ -7,7 +7,7 @@ ghost use Rattle.rtui_text.specs.Text.{raw_line};
 ghost use Rattle.rtui_text.specs.Widths.{line_width};
 ghost use Rattle.rtui_buffer.specs.Sheet.{HasRow, position_of, empty_cells, HasRoomFor};
 ghost use Rattle.rtui_buffer.specs.Frame.{IsSettledSheet};
-ghost use Rattle.rtui_buffer.specs.Painting.{text_pieces, columns, painted, IsSameOutside, HasPieces, HasFront, KeepsUnmarked};
+ghost use Rattle.rtui_buffer.specs.Painting.{columns, painted, IsSameOutside, HasPieces, HasFront, KeepsUnmarked};
 ghost use Rattle.rtui_buffer.specs.PaintedText.{room_at, pieces_at, AreShort, PaintsFront, PaintsOrRefuses};
 ghost use Rattle.rtui_buffer.specs.Line.{line_pieces, line_pieces_at, widest, lines_area, line_rows, IsOfLines, raw_lines};
 

@@ -1,9 +1,10 @@
 //! One buffer laid over another.
 
-ghost use Rattle.std.specs.Prelude.{ℕ, ◌≡◌, ◌+◌, ◌*◌, ◌<◌, ◌≤◌, length, OnOk, OnErr, []};
+ghost use Rattle.std.specs.Prelude.{◌≡◌, ◌*◌, ◌<◌, ◌≤◌, length, OnOk, OnErr, []};
 ghost use Rattle.rtui_geometry.specs.Rect.{EdgesFit};
 ghost use Rattle.rtui_buffer.specs.Sheet.{area_size};
-ghost use Rattle.rtui_buffer.specs.Overlay.{IsOverlay, IsExtended, IsAround, HasInner, no_area};
+ghost use Rattle.rtui_buffer.specs.Overlay.{IsOverlay, no_area};
+ghost use Rattle.rtui_buffer.specs.Inner.{IsExtended, IsAround, HasInner};
 
 use crate::buffer::Buffer;
 use crate::buffer::sized::{copied, cut_or_fill};

@@ -4,12 +4,13 @@ ghost use Rattle.std.specs.Prelude.{true, ◌≡◌, ◌+◌, ◌-◌, ◌*◌, 
 ghost use Rattle.unicode_segmentation.specs.Grapheme.{graphemes};
 ghost use Rattle.rtui_geometry.specs.Rect.{EdgesFit};
 ghost use Rattle.rtui_cell.specs.Symbol.{IsShort};
-ghost use Rattle.rtui_cell.specs.Cell.{empty_cell, styled};
+ghost use Rattle.rtui_cell.specs.Cell.{styled};
 ghost use Rattle.rtui_cell.specs.Width.{text_width};
 ghost use Rattle.rtui_text.specs.Printable.{ArePrintable, singles};
-ghost use Rattle.rtui_buffer.specs.Sheet.{HasRow, cell_index, position_of};
+ghost use Rattle.rtui_buffer.specs.Sheet.{HasRow, position_of};
 ghost use Rattle.rtui_buffer.specs.Painting.{KeepsUnmarked, painted_width, piece_of, pieces, text_pieces, columns, shown, emptied, with_piece, painted, IsSameOutside, HasPieces, HasFront};
-ghost use Rattle.rtui_buffer.specs.PaintedText.{room_at, pieces_at, AreShort, PaintsFront, PaintsOrRefuses, IsStyledPart, IsStyledRows, IsStyled};
+ghost use Rattle.rtui_buffer.specs.PaintedText.{room_at, pieces_at, AreShort, PaintsFront, PaintsOrRefuses, IsStyled};
+ghost use Rattle.rtui_buffer.specs.Inner.{IsStyledPart, IsStyledRows};
 
 use crate::buffer::Buffer;
 use rtui_cell::{Cell, CellWidth};

@@ -1,4 +1,4 @@
-use Rattle.std.proofs.Common.{◌+◌, ◌*◌, ◌≤◌, ◌∙◌, arith}
+use Rattle.std.proofs.Common.{◌∙◌, arith}
 use Rattle.rtui_grid.proofs.BlockLemmas.{block-more}
 use Rattle.rtui_grid.proofs.block.move_block.Goals as goal
 

@@ -1,22 +1,27 @@
-use Rattle.std.proofs.Common.{◌≡◌, ◌∙◌, length, ap, refl}
+use Rattle.std.proofs.Common.{◌≡◌, ◌∙◌, length, ap, refl, arith}
+use Rattle.std.proofs.lemmas.Grind.{common_steps}
+use Rattle.std.proofs.lemmas.List.{length-replicate}
 use Rattle.std.proofs.lemmas.Result.{on_ok_weaker}
 use Rattle.rtui_geometry.specs.declared.rect.Rect.{Rect}
 use Rattle.rtui_cell.specs.Cell.{empty_cell}
-use Rattle.rtui_buffer.specs.Sheet.{with_cells}
-use Rattle.rtui_rows.specs.Marks.{skipped_cell, skipped_front, emptied_front}
-use Rattle.rtui_rows.proofs.MarkLemmas.{cells_written, same_count, unknown_row, emptied_again}
+use Rattle.rtui_buffer.specs.Sheet.{with_cells, area_size}
+use Rattle.rtui_buffer.proofs.EmptyLemmas.{cell-empty}
+use Rattle.rtui_rows.proofs.MarkLemmas.{cells_written, unknown_row, emptied_again}
 use Rattle.rtui_rows.proofs.draw.draw_first_row.Goals as goal
+
+pub skip_front-requires-clause-empty : goal.skip_front-requires-clause-empty
+skip_front-requires-clause-empty g c = λ k k_in. rw (c.cells_mut.ensures.cells, c.requires.blank.empty.cells) (cell-empty (area_size c.args.blank.now.area) k)
 
 pub returns-clause-ok : goal.returns-clause-ok
 returns-clause-ok g c =
     let over = c.args.blank.now.area in
     let columns : c.from-columns.result ≡ over.width = c.from-columns.ensures ∙ ap (λ (r : Rect). r.width) c.area.ensures.area ∙ c.requires.blank.width in
-    let marked : c.skip_front.new.cells ≡ skipped_front over.width c.args.blank.now.cells = rw (columns, c.cells_mut.ensures.cells) at c.skip_front.ensures in
-    let size : length c.skip_front.new.cells ≡ length c.args.blank.now.cells = ap length marked ∙ same_count skipped_cell over.width c.args.blank.now.cells in
+    let size : length c.skip_front.new.cells ≡ length c.args.blank.now.cells = grind (arith, common_steps) in
     let mid = with_cells c.args.blank.now c.skip_front.new.cells in
+    let marked = rw columns at c.skip_front.ensures in
     on_ok_weaker c.draw_rows-drawn.result (λ drawn. record {
       former = mid;
-      unknown = unknown_row over c.args.blank.now mid c.requires.blank.empty c.requires.blank.rows refl (cells_written c.args.blank.now c.skip_front.new.cells size ∙ marked);
+      unknown = unknown_row over mid c.skip_front.new.cells c.requires.blank.rows refl (cells_written c.args.blank.now c.skip_front.new.cells size) marked.skipped marked.narrow;
       width = c.requires.blank.width;
       drawn = drawn;
     }) c.draw_rows-drawn.ensures.ok
@@ -24,10 +29,12 @@ returns-clause-ok g c =
 pub returns-clause-blank : goal.returns-clause-blank
 returns-clause-blank g c =
     let over = c.args.blank.now.area in
-    let columns : c.from-columns.result ≡ over.width = c.from-columns.ensures ∙ ap (λ (r : Rect). r.width) c.area.ensures.area ∙ c.requires.blank.width in
-    let marked : c.skip_front.new.cells ≡ skipped_front over.width c.args.blank.now.cells = rw (columns, c.cells_mut.ensures.cells) at c.skip_front.ensures in
-    let size : length c.skip_front.new.cells ≡ length c.args.blank.now.cells = ap length marked ∙ same_count skipped_cell over.width c.args.blank.now.cells in
-    let mid = with_cells c.args.blank.now c.skip_front.new.cells in
-    let emptied : c.empty_front.new.cells ≡ emptied_front over.width mid.cells = rw (columns, c.cells_mut-2.ensures.cells) at c.empty_front.ensures in
-    let same : length c.empty_front.new.cells ≡ length mid.cells = ap length emptied ∙ same_count (λ cell. empty_cell) over.width mid.cells in
-    emptied_again over c.args.blank.now mid (with_cells mid c.empty_front.new.cells) c.requires.blank.empty c.requires.blank.rows (cells_written c.args.blank.now c.skip_front.new.cells size ∙ marked) refl (cells_written mid c.empty_front.new.cells same ∙ emptied)
+    let old = c.args.blank.now in
+    let marked = c.skip_front.new.cells in
+    let size : length marked ≡ length old.cells = grind (arith, common_steps) in
+    let mid = with_cells old marked in
+    let same : mid.cells ≡ marked = cells_written old marked size in
+    let count : length c.fill.new.items ≡ length mid.cells = grind (arith, common_steps) in
+    let whole : length c.fill.new.items ≡ area_size over = count ∙ ap length same ∙ size ∙ ap length c.requires.blank.empty.cells ∙ length-replicate (area_size over) empty_cell in
+    emptied_again over old (with_cells mid c.fill.new.items) marked c.fill.new.items c.from-columns.result c.requires.blank.empty refl (cells_written mid c.fill.new.items count) whole
+    (rw c.cells_mut.ensures.cells at c.skip_front.ensures.rest) (rw (c.cells_mut-2.ensures.cells, same) at c.fill.ensures)

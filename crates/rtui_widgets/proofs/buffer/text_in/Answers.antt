@@ -17,30 +17,22 @@ render_rows-requires-clause-inside c = λ k lt.
     rw (stride, c.index_of-start.ensures.value, c.from.ensures, c.cells_mut.ensures.cells)
     (rows-inside c.args.area c.args.buf.now c.in-Some.part c.in-Some.ensures count k (omega (arith, lt, c.from-2.ensures)))
 
-pub returns-clause-ok : goal.returns-clause-ok
-returns-clause-ok c =
-    let stride : c.from-stride.result ≡ c.args.buf.now.area.width = c.from-stride.ensures ∙ ap (λ a. a.width) c.area.ensures.area in
+pub returns : goal.returns
+returns c =
+    let area = c.args.area in
+    let buf = c.args.buf.now in
+    let part = c.in-Some.part in
+    let is = c.in-Some.ensures in
+    let place = c.index_of-start.ensures.value in
+    let stride : c.from-stride.result ≡ buf.area.width = c.from-stride.ensures ∙ ap (λ a. a.width) c.area.ensures.area in
     let value = c.cells_mut.ensures.cells in
-    let same : length c.render_rows.new.cells ≡ length c.args.buf.now.cells = rw (← value) c.render_rows.auto.cells in
-    on_ok_weaker c.render_rows.result (λ made. lent-renders c.args.area c.args.buf.now c.in-Some.part c.in-Some.ensures _ _ _ _ c.render_rows.new.cells c.index_of-start.ensures.value c.from.ensures stride c.from-2.ensures same (text_row c.args.text.now) (rw (← value) made)) c.render_rows.ensures.ok
-
-pub returns-clause-err : goal.returns-clause-err
-returns-clause-err c =
-    let stride : c.from-stride.result ≡ c.args.buf.now.area.width = c.from-stride.ensures ∙ ap (λ a. a.width) c.area.ensures.area in
-    let value = c.cells_mut.ensures.cells in
-    let same : length c.render_rows.new.cells ≡ length c.args.buf.now.cells = rw (← value) c.render_rows.auto.cells in
-    on_err_weaker c.render_rows.result (λ keeps. lent-changes c.args.area c.args.buf.now c.in-Some.part c.in-Some.ensures _ _ _ _ c.render_rows.new.cells c.index_of-start.ensures.value c.from.ensures stride c.from-2.ensures same (rw (← value) keeps)) c.render_rows.ensures.err
-
-pub returns-clause-short : goal.returns-clause-short
-returns-clause-short c = λ short.
-    c.render_rows.ensures.short (λ k lt.
-    let r = c.in-Some.ensures.value in
-    let width : (intersected c.args.area c.args.buf.now.area).width ≡ c.from.result = sym (c.from.ensures ∙ ap (λ q. q.width) r) in
-    let height : c.from-2.result ≡ (intersected c.args.area c.args.buf.now.area).height = c.from-2.ensures ∙ ap (λ q. q.height) r in
-    subst (λ n. IsShortRow c.args.text.now n k) width (short k (omega arith)))
-
-pub returns-clause-marks : goal.returns-clause-marks
-returns-clause-marks c =
-    let value = c.cells_mut.ensures.cells in
-    let same : length c.render_rows.new.cells ≡ length c.args.buf.now.cells = rw (← value) c.render_rows.auto.cells in
-    refilled-marks c.args.buf.now.cells c.render_rows.new.cells same (rw (← value) c.render_rows.ensures.marks)
+    let cells = c.render_rows.new.cells in
+    let same : length cells ≡ length buf.cells = rw (← value) c.render_rows.auto.cells in
+    let width : (intersected area buf.area).width ≡ c.from.result = sym (c.from.ensures ∙ ap (λ q. q.width) is.value) in
+    let height : c.from-2.result ≡ (intersected area buf.area).height = c.from-2.ensures ∙ ap (λ q. q.height) is.value in
+    record {
+      ok = on_ok_weaker c.render_rows.result (λ made. lent-renders area buf part is _ _ _ _ cells place c.from.ensures stride c.from-2.ensures same (text_row c.args.text.now) (rw (← value) made)) c.render_rows.ensures.ok;
+      err = on_err_weaker c.render_rows.result (λ keeps. lent-changes area buf part is _ _ _ _ cells place c.from.ensures stride c.from-2.ensures same (rw (← value) keeps)) c.render_rows.ensures.err;
+      short = λ short. c.render_rows.ensures.short (λ k lt. subst (λ n. IsShortRow c.args.text.now n k) width (short k (omega arith)));
+      marks = refilled-marks buf.cells cells same (rw (← value) c.render_rows.ensures.marks);
+    }

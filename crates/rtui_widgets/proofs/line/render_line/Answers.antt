@@ -1,6 +1,7 @@
 use Rattle.std.proofs.Common.{◌-◌, length}
 use Rattle.rtui_buffer.specs.Painting.{KeepsUnmarked}
-use Rattle.rtui_widgets.proofs.SpanLemmas.{unmarked-then, unmarked-written, unmarked-styled}
+use Rattle.rtui_widgets.proofs.SpanLemmas.{unmarked-written, unmarked-styled}
+use Rattle.rtui_buffer.proofs.PaintLemmas.{unmarked-then}
 use Rattle.rtui_widgets.proofs.line.render_line.Goals as goal
 
 pub returns-clause-marks : goal.returns-clause-marks

@@ -4,9 +4,10 @@ use Rattle.rtui_text.specs.Text.{SpanData}
 use Rattle.rtui_text.specs.Widths.{span_width}
 use Rattle.rtui_cell.specs.declared.cell.Cell.{Cell}
 use Rattle.rtui_widgets.specs.Span.{span_rendered, IsShortSpan}
-use Rattle.rtui_widgets.proofs.SpanLemmas.{length-span_rendered, unmarked-refl, unmarked-then, unmarked-written}
+use Rattle.rtui_widgets.proofs.SpanLemmas.{length-span_rendered, unmarked-written}
 use Rattle.rtui_widgets.specs.Line.{Part, part_of, parts, parts_rendered, behind_first, AreShortParts}
 use Rattle.rtui_widgets.proofs.LineLemmas.{parts-nil, parts-skip, parts-take, parts-past, part-turn, part-style, length-rest, length-lent, short-part, short-others}
+use Rattle.rtui_buffer.proofs.PaintLemmas.{unmarked-then}
 use Rattle.rtui_widgets.proofs.line.render_spans.Goals as goal
 
 rest-is : (i : ℕ) (spans : List SpanData) (span : SpanData) → i < length spans → span ≡ slice_index_or spans i span → drop i spans ≡ span ∷ drop (i + 1) spans
@@ -71,8 +72,8 @@ loop-span-preserved c =
       marks = unmarked-then _ _ _ c.loop-span.invariant.marks (unmarked-written (start + c.min-start.result) (length row - (start + c.min-start.result)) row c.render_span.new.row c.in_ok-render_span.ensures.marks c.render_span.auto.row);
     }
 
-pub returns-in_err-render_span-clause-short : goal.returns-in_err-render_span-clause-short
-returns-in_err-render_span-clause-short c = λ short.
+pub returns-in_err-render_span : goal.returns-in_err-render_span
+returns-in_err-render_span c =
     let others : List SpanData = drop (c.loop-span.span-index + 1) c.args.spans.now in
     let rest : drop c.loop-span.span-index c.args.spans.now ≡ c.span-item.result ∷ others = rest-is _ _ _ c.loop-span-test.true c.span-item.is in
     let p : Part = part_of c.loop-span.skip c.span-item.result in
@@ -84,11 +85,15 @@ returns-in_err-render_span-clause-short c = λ short.
     ap (λ n. start + n) (rw (← c.part_of-part.ensures.indent) c.min-start.ensures) in
     let columns : length row - start - p.indent ≡ length (take (length row - (start + c.min-start.result)) (drop (start + c.min-start.result) row)) =
     (let e : length row - start - p.indent ≡ length row - (start + c.min-start.result) = omega (arith, start1, c.loop-span.invariant.within) in e) ∙ sym (length-rest (start + c.min-start.result) row) in
-    let span : IsShortSpan (length row - start - p.indent) p.content =
-    short-part (length row - start) p (parts 0 others) (subst (AreShortParts (length row - start)) same (c.loop-span.invariant.short short)) in
-    let no : false ≡ true =
-    c.in_err-render_span.ensures.short (subst (λ n. IsShortSpan n c.part_of-part.result.content.now) columns (subst (IsShortSpan (length row - start - p.indent)) (sym c.part_of-part.ensures.content) span)) in
-    cc
+    record {
+      ok = search rules;
+      short = λ short.
+          let span : IsShortSpan (length row - start - p.indent) p.content = short-part (length row - start) p (parts 0 others) (subst (AreShortParts (length row - start)) same (c.loop-span.invariant.short short)) in
+          let no : false ≡ true =
+          c.in_err-render_span.ensures.short (subst (λ n. IsShortSpan n c.part_of-part.result.content.now) columns (subst (IsShortSpan (length row - start - p.indent)) (sym c.part_of-part.ensures.content) span)) in
+          cc;
+      marks = unmarked-then _ _ _ c.loop-span.invariant.marks (unmarked-written (start + c.min-start.result) (length row - (start + c.min-start.result)) row c.render_span.new.row c.in_err-render_span.ensures.marks c.render_span.auto.row);
+    }
 
 pub returns-clause-ok : goal.returns-clause-ok
 returns-clause-ok c =
@@ -96,9 +101,3 @@ returns-clause-ok c =
     sym (ap (λ spans. behind_first c.loop-span.start (parts_rendered (parts c.loop-span.skip spans)) c.loop-span.row) none
     ∙ ap (λ cells. take c.loop-span.start c.loop-span.row ++ cells) (parts-nil c.loop-span.skip (drop c.loop-span.start c.loop-span.row)) ∙ take-append-drop c.loop-span.start c.loop-span.row)
     ∙ c.loop-span.invariant.left
-
-pub returns-in_err-render_span-clause-marks : goal.returns-in_err-render_span-clause-marks
-returns-in_err-render_span-clause-marks c =
-    let row : List Cell = c.loop-span.row in
-    let start : ℕ = c.loop-span.start in
-    unmarked-then _ _ _ c.loop-span.invariant.marks (unmarked-written (start + c.min-start.result) (length row - (start + c.min-start.result)) row c.render_span.new.row c.in_err-render_span.ensures.marks c.render_span.auto.row)

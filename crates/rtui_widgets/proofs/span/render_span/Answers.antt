@@ -8,7 +8,8 @@ use Rattle.rtui_text.specs.Printable.{singles}
 use Rattle.rtui_buffer.specs.Painting.{pieces, painted}
 use Rattle.rtui_widgets.proofs.PrintableLemmas.{front-at, front-first, front-later, front-shows, front-row}
 use Rattle.rtui_text.specs.Graphemes.{has_control}
-use Rattle.rtui_widgets.proofs.SpanLemmas.{rendered_of, front-skip, front-turn, front-full, front-end, next-short, append-some, end-more, IsRowWith-turn, unmarked-refl, unmarked-painted, unmarked-next}
+use Rattle.rtui_widgets.proofs.SpanLemmas.{rendered_of, front-skip, front-turn, front-full, front-end, next-short, append-some, end-more, IsRowWith-turn, unmarked-next}
+use Rattle.rtui_buffer.proofs.PaintLemmas.{unmarked-refl, unmarked-painted}
 use Rattle.rtui_widgets.proofs.span.render_span.Goals as goal
 
 pub loop-grapheme-init : goal.loop-grapheme-init
@@ -111,16 +112,10 @@ returns-clause-ok c =
     rendered_of _ _ _ _ _ i.row (front-end _ _ _ _ (search rules) i.front)
 
 pub returns-then-width-row-clause-marks : goal.returns-then-width-row-clause-marks
-returns-then-width-row-clause-marks c =
-    let m = c.loop-grapheme.invariant.1.marks in
-    search (rules, m)
+returns-then-width-row-clause-marks c = search (rules, c.loop-grapheme.invariant.1.marks)
 
 pub returns-in_err-put_next-clause-marks : goal.returns-in_err-put_next-clause-marks
-returns-in_err-put_next-clause-marks c =
-    let m = c.loop-grapheme.invariant.1.marks in
-    search (rules, m)
+returns-in_err-put_next-clause-marks c = search (rules, c.loop-grapheme.invariant.1.marks)
 
 pub returns-clause-marks : goal.returns-clause-marks
-returns-clause-marks c =
-    let m = c.loop-grapheme.invariant.1.marks in
-    search (rules, m)
+returns-clause-marks c = search (rules, c.loop-grapheme.invariant.1.marks)

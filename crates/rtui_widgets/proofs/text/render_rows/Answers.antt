@@ -2,7 +2,8 @@ use Rattle.std.proofs.Common.{◌≡◌, false, true, ◌+◌, ◌-◌, ◌*◌,
 use Rattle.std.proofs.lemmas.List.{length-take, length-drop}
 use Rattle.rtui_widgets.specs.Rendering.{text_row, IsShortRow}
 use Rattle.rtui_widgets.proofs.RowLemmas.{makes-row}
-use Rattle.rtui_widgets.proofs.SpanLemmas.{unmarked-then, unmarked-written}
+use Rattle.rtui_widgets.proofs.SpanLemmas.{unmarked-written}
+use Rattle.rtui_buffer.proofs.PaintLemmas.{unmarked-then}
 use Rattle.rtui_widgets.proofs.text.render_rows.Goals as goal
 
 pub loop-k-preserved : goal.loop-k-preserved

@@ -1,15 +1,14 @@
-use Rattle.std.proofs.Common.{◌≡◌, ℕ, ◌+◌, ◌*◌, ◌++◌, length, map, refl, ap, ◌∙◌, arith}
+use Rattle.std.proofs.Common.{◌≡◌, ◌+◌, ◌*◌, ◌++◌, length, map, refl, ap, ◌∙◌, arith, mul_comm}
 use Rattle.std.specs.List.{range_with_len}
 use Rattle.std.proofs.lemmas.List.{map-append}
 use Rattle.std.proofs.lemmas.Bool.Decides.{nat_tests}
 use Rattle.std.proofs.lemmas.Grind.{common_steps}
 use Rattle.rtui_cell.specs.Look.{look_of}
 use Rattle.rtui_buffer.specs.Sheet.{refilled}
-use Rattle.rtui_diff.specs.Cells.{cell}
 use Rattle.rtui_backend.specs.CellGrid.{look_at}
 use Rattle.rtui_backend.specs.Screen.{lines_past}
 use Rattle.rtui_backend.specs.TestBackend.{screen_of}
-use Rattle.rtui_backend.proofs.ShiftLemmas.{unmarked_rows, rows_are, scrolled_grid}
+use Rattle.rtui_backend.proofs.ShiftLemmas.{MovesUp, unmarked_moved, unmarked_rows, rows_are, grid_moved_up}
 use Rattle.rtui_backend.proofs.test.TestBackend.append.Goals as goal
 
 pub returns-clause-ok : goal.returns-clause-ok
@@ -18,15 +17,16 @@ returns-clause-ok c =
     let w = s.buffer.area.width in
     let h = s.buffer.area.height in
     let cells = s.buffer.cells in
-    let new = c.shift.new.cells in
+    let new = c.shift_up.new.items in
     let past = lines_past (screen_of s) c.args.n in
     let size : length cells ≡ w * h = grind (arith, common_steps) in
     let count : c.saturating_sub-past.result ≡ past = grind (arith, common_steps, nat_tests) in
     let items : refilled cells new ≡ new = grind (arith, common_steps) in
     let rows : map (λ r. map look_of r.items) c.in_ok-rows.rows.items ≡ map (λ b. map (λ a. look_at cells (b * w + a)) (range_with_len 0 w)) (range_with_len 0 past) =
     rw (c.content.ensures.cells, c.area-area.ensures.area, count) at c.in_ok-rows.ensures.looks in
-    let moved : (i : ℕ) → cell new i ≡ cell cells (i + past * w) = λ i.
-    rw (c.cells_mut.ensures.cells, c.from-4.ensures, c.area-area.ensures.area, count) at (c.shift.ensures i) in
+    let end : length cells ≡ h * w = size ∙ mul_comm w h in
+    let top : 0 * w ≡ 0 = omega arith in
+    let moved : MovesUp (0 * w) (h * w) (past * w) cells new = rw top (rw (c.cells_mut-cells.ensures.cells, end, c.from-4.ensures, c.area-area.ensures.area, count) at c.shift_up.ensures) in
     record {
       scrolled = record {
         history =
@@ -35,7 +35,7 @@ returns-clause-ok c =
             ∙ ap (λ rs. map (λ r. map look_of r.items) s.scrollback.items ++ rs) (rows ∙ rows_are w h cells size past);
         width = refl;
         height = refl;
-        grid = λ a b a_in b_in. rw items (scrolled_grid w h cells size new past moved a b a_in);
+        grid = λ a b a_in b_in. rw items (grid_moved_up w a a_in cells new 0 h past moved b ∙ grind (arith, nat_tests));
         visible = refl;
         written = refl;
       };
@@ -50,7 +50,5 @@ invariant_of-self-2-clause-plain_history c =
 
 pub invariant_of-self-2-clause-plain : goal.invariant_of-self-2-clause-plain
 invariant_of-self-2-clause-plain c =
-    let cells = c.args.self.now.buffer.cells in
-    let new = c.shift.new.cells in
-    let items : refilled cells new ≡ new = grind (arith, common_steps) in
-    λ i. rw (items, c.shift.ensures i, c.cells_mut.ensures.cells) (c.args.self.now.plain _)
+    let items : refilled c.args.self.now.buffer.cells c.shift_up.new.items ≡ c.shift_up.new.items = grind (arith, common_steps) in
+    λ i. rw (items, c.shift_up.ensures i, c.cells_mut-cells.ensures.cells) (unmarked_moved _ _ _ _ (c.args.self.now.plain _) (c.args.self.now.plain _))

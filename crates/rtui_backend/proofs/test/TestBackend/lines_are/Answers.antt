@@ -1,11 +1,9 @@
 use Rattle.std.proofs.Common.{ℕ, List, [], get_or, rules, arith, sym, ◌∙◌}
 use Rattle.std.proofs.lemmas.Grind.{common_steps}
 use Rattle.std.specs.Borrow.{Bor}
-use Rattle.std.specs.Str.Lines.{lines}
 use Rattle.rtui_text.specs.Text.{raw_line}
-use Rattle.rtui_backend.specs.ScreenLines.{symbol_in}
 use Rattle.rtui_backend.proofs.LineLemmas.{item-map, below-more}
-use Rattle.rtui_backend.proofs.RowLemmas.{row-tells, row-told}
+use Rattle.std.proofs.lemmas.Bool.{false≢true}
 use Rattle.rtui_backend.proofs.test.TestBackend.lines_are.Goals as goal
 
 pub loop-y-preserved : goal.loop-y-preserved
@@ -13,8 +11,8 @@ loop-y-preserved c =
     let none : Bor (List ℕ) = record { ref_ptr = (0, 0); now = [] } in
     let text : List ℕ = (get_or c.args.lines.now c.loop-y.y none).now in
     let line = item-map (λ line. raw_line line.now) none c.args.lines.now c.loop-y.y in
-    let told = rw (c.row.ensures.width, c.from-in-loop-y.ensures) at (sym c.row_is.ensures ∙ c.if-not-row_is.false) in
-    below-more c.loop-y.y c.loop-y.invariant (rw line (λ a a_in. sym (c.row.ensures.symbols a a_in) ∙ row-tells _ (lines text) (symbol_in c.row.result.now) told a a_in))
+    let told = rw (c.row.ensures.width, c.from-in-loop-y.ensures) at (c.row_is.ensures.0 c.if-not-row_is.false) in
+    below-more c.loop-y.y c.loop-y.invariant (rw line (λ a a_in. sym (c.row.ensures.symbols a a_in) ∙ told a a_in))
 
 pub returns-then-not-row_is : goal.returns-then-not-row_is
 returns-then-not-row_is c =
@@ -23,6 +21,6 @@ returns-then-not-row_is c =
     let line = item-map (λ line. raw_line line.now) none c.args.lines.now c.loop-y.y in (
       λ no. search rules,
       λ shows.
-          let told = row-told _ (lines text) (symbol_in c.row.result.now) (λ a a_in. c.row.ensures.symbols a a_in ∙ rw line at (shows.rows c.loop-y.y (grind (arith, common_steps))) a a_in) in
-          sym c.if-not-row_is.true ∙ c.row_is.ensures ∙ rw (c.row.ensures.width, c.from-in-loop-y.ensures) told,
+          absurd (false≢true (sym c.if-not-row_is.true ∙ c.row_is.ensures.1 (rw (c.row.ensures.width, c.from-in-loop-y.ensures)
+          (λ a a_in. c.row.ensures.symbols a a_in ∙ rw line at (shows.rows c.loop-y.y (grind (arith, common_steps))) a a_in)))),
     )

@@ -1,11 +1,8 @@
-use Rattle.std.proofs.Common.{◌≡◌, ℕ, ◌+◌, ◌-◌, ◌*◌, ◌&&◌, min, nat_lt, length, if◌then◌else◌, refl, ap, ◌∙◌, arith}
-use Rattle.std.specs.Prelude.{nat_le}
+use Rattle.std.proofs.Common.{◌≡◌, ◌*◌, min, nat_lt, refl, ◌∙◌, arith}
 use Rattle.std.proofs.lemmas.Bool.Decides.{nat_tests}
 use Rattle.std.proofs.lemmas.Grind.{common_steps}
-use Rattle.rtui_cell.specs.Cell.{empty_cell}
 use Rattle.rtui_buffer.specs.Sheet.{refilled}
-use Rattle.rtui_diff.specs.Cells.{cell}
-use Rattle.rtui_backend.proofs.ShiftLemmas.{grid_moved_down}
+use Rattle.rtui_backend.proofs.ShiftLemmas.{MovesDown, unmarked_moved, grid_moved_down}
 use Rattle.rtui_backend.proofs.test.TestBackend.scroll_down.Goals as goal
 
 pub returns-clause-scrolled : goal.returns-clause-scrolled
@@ -13,13 +10,13 @@ returns-clause-scrolled c =
     let s = c.args.self.now in
     let w = s.buffer.area.width in
     let cells = s.buffer.cells in
-    let new = c.shift_part_down.new.cells in
+    let new = c.shift_down.new.items in
     let a = c.args.region.start in
     let e = min c.args.region.end s.buffer.area.height in
     let items : refilled cells new ≡ new = grind (arith, common_steps) in
     let end : c.min-end.result ≡ e = grind (arith, common_steps) in
-    let moved : (k : ℕ) → cell new k ≡ if nat_le (a * w) k && nat_lt k (e * w) then (if nat_le (a * w + c.args.n * w) k then cell cells (k - c.args.n * w) else empty_cell) else cell cells k = λ k.
-    rw (c.cells_mut.ensures.cells, c.from-3.ensures, c.from-2.ensures, c.from.ensures, c.from-width.ensures, end, c.area-area.ensures.area) at (c.shift_part_down.ensures.moved k) in
+    let moved : MovesDown (a * w) (e * w) (c.args.n * w) cells new =
+    rw (c.cells_mut.ensures.cells, c.from-3.ensures, c.from-2.ensures, c.from.ensures, c.from-width.ensures, end, c.area-area.ensures.area) at c.shift_down.ensures in
     record {
       history = refl;
       width = refl;
@@ -29,3 +26,8 @@ returns-clause-scrolled c =
       written = refl;
       no_rows = λ none. absurd (omega (arith, end));
     }
+
+pub invariant_of-self-clause-plain : goal.invariant_of-self-clause-plain
+invariant_of-self-clause-plain c =
+    let items : refilled c.args.self.now.buffer.cells c.shift_down.new.items ≡ c.shift_down.new.items = grind (arith, common_steps) in
+    λ i. rw (items, c.shift_down.ensures i, c.cells_mut.ensures.cells) (unmarked_moved _ _ _ _ (c.args.self.now.plain _) (c.args.self.now.plain _))

@@ -1,16 +1,12 @@
-use Rattle.std.proofs.Common.{◌≡◌, ◌⊎◌, ℕ, ◌+◌, ◌-◌, ◌*◌, ◌<◌, ◌&&◌, ◌++◌, ◌==◌, true, min, nat_lt, length, take, map, [], if◌then◌else◌, refl, ap, ◌∙◌, arith}
-use Rattle.std.specs.Prelude.{nat_le}
+use Rattle.std.proofs.Common.{◌≡◌, ◌+◌, ◌*◌, ◌++◌, ◌==◌, true, min, nat_lt, length, take, map, [], if◌then◌else◌, refl, ap, ◌∙◌, arith}
 use Rattle.std.specs.List.{range_with_len}
 use Rattle.std.proofs.lemmas.List.{map-append}
 use Rattle.std.proofs.lemmas.Bool.Decides.{nat_tests}
 use Rattle.std.proofs.lemmas.Grind.{common_steps}
-use Rattle.rtui_cell.specs.Cell.{empty_cell}
 use Rattle.rtui_cell.specs.Look.{look_of}
 use Rattle.rtui_buffer.specs.Sheet.{refilled}
-use Rattle.rtui_diff.specs.Cells.{cell}
 use Rattle.rtui_backend.specs.CellGrid.{look_at}
-use Rattle.rtui_backend.specs.TestBackend.{screen_of}
-use Rattle.rtui_backend.proofs.ShiftLemmas.{unmarked_rows, unmarked_front, grid_moved_up, rows_left, history_left}
+use Rattle.rtui_backend.proofs.ShiftLemmas.{MovesUp, unmarked_moved, unmarked_rows, unmarked_front, grid_moved_up, rows_left, history_left}
 use Rattle.rtui_backend.proofs.test.TestBackend.scroll_up.Goals as goal
 
 pub returns-clause-ok : goal.returns-clause-ok
@@ -19,15 +15,15 @@ returns-clause-ok c =
     let w = s.buffer.area.width in
     let h = s.buffer.area.height in
     let cells = s.buffer.cells in
-    let new = c.shift_part.new.cells in
+    let new = c.shift_up.new.items in
     let a = c.args.region.start in
     let b = c.args.region.end in
     let e = min b h in
     let size : length cells ≡ w * h = grind (arith, common_steps) in
     let items : refilled cells new ≡ new = grind (arith, common_steps) in
     let end : c.min-end.result ≡ e = grind (arith, common_steps) in
-    let moved : (k : ℕ) → cell new k ≡ if nat_le (a * w) k && nat_lt k (e * w) then (if nat_lt (k + c.args.n * w) (e * w) then cell cells (k + c.args.n * w) else empty_cell) else cell cells k = λ k.
-    rw (c.cells_mut.ensures.cells, c.from-3.ensures, c.from-2.ensures, c.from.ensures, c.from-width.ensures, end, c.area-area.ensures.area) at (c.shift_part.ensures.moved k) in
+    let moved : MovesUp (a * w) (e * w) (c.args.n * w) cells new =
+    rw (c.cells_mut.ensures.cells, c.from-3.ensures, c.from-2.ensures, c.from.ensures, c.from-width.ensures, end, c.area-area.ensures.area) at c.shift_up.ensures in
     let some : nat_lt 0 e ≡ true = grind (arith, nat_tests) in
     let rows : map (λ r. map look_of r.items) c.in_ok-rows.rows.items ≡ (if a == 0 then map (λ y. map (λ x. look_at (take (e * w) cells) (y * w + x)) (range_with_len 0 w)) (range_with_len 0 c.args.n) else []) =
     rw (c.content.ensures.cells, c.from.ensures, c.from-width.ensures, end, c.area-area.ensures.area) at c.in_ok-rows.ensures.looks in
@@ -52,7 +48,5 @@ invariant_of-self-2-clause-plain_history c =
 
 pub invariant_of-self-2-clause-plain : goal.invariant_of-self-2-clause-plain
 invariant_of-self-2-clause-plain c =
-    let cells = c.args.self.now.buffer.cells in
-    let new = c.shift_part.new.cells in
-    let items : refilled cells new ≡ new = grind (arith, common_steps) in
-    rw items (c.shift_part.ensures.unmarked (rw c.cells_mut.ensures.cells c.args.self.now.plain))
+    let items : refilled c.args.self.now.buffer.cells c.shift_up.new.items ≡ c.shift_up.new.items = grind (arith, common_steps) in
+    λ i. rw (items, c.shift_up.ensures i, c.cells_mut.ensures.cells) (unmarked_moved _ _ _ _ (c.args.self.now.plain _) (c.args.self.now.plain _))

@@ -1,15 +1,15 @@
-use Rattle.std.proofs.Common.{◌≡◌, ℕ, true, List, [], get_or, length, map, rules, sym, ap, ◌∙◌, arith}
+use Rattle.std.proofs.Common.{◌≡◌, ℕ, List, [], get_or, length, map, rules, sym, ap, ◌∙◌, arith}
 use Rattle.std.specs.Borrow.{Bor}
 use Rattle.std.specs.Str.Lines.{lines}
 use Rattle.std.proofs.lemmas.Bool.{false≢true}
 use Rattle.std.proofs.lemmas.Grind.{common_steps}
 use Rattle.std.proofs.lemmas.List.{length-map, get_or-map}
-use Rattle.rtui_text.specs.Text.{plain, raw_line}
+use Rattle.rtui_text.specs.Text.{raw_line}
 use Rattle.rtui_buffer.specs.Line.{raw_lines}
-use Rattle.rtui_backend.specs.ScreenLines.{symbol_in, symbols_of_line}
-use Rattle.rtui_backend.specs.RowPieces.{is_row_of}
+use Rattle.rtui_backend.specs.ScreenLines.{symbols_of_line}
 use Rattle.rtui_backend.proofs.HistoryLemmas.{symbols, row-shows, row-count, row-shown, same-more, same-at}
 use Rattle.rtui_backend.proofs.LineLemmas.{item-map}
+use Rattle.rtui_backend.specs.Inner.{symbol_in, HasLine}
 use Rattle.rtui_backend.proofs.test.lines.rows_are.Goals as goal
 use Rattle.rtui_backend.proofs.test.lines.rows_are.Goals.{then-row-width-via-then-row-width, then-row-width-via-else-row-width+then-not-row_is}
 
@@ -21,7 +21,7 @@ loop-y-preserved c =
     let line = item-map (λ line. raw_line line.now) none c.args.lines.now y in
     let row = get_or-map (λ row. row.items) c.args.rows.now y c.index-rows-y.result [] c.loop-y-test.true ∙ ap (λ row. row.items) (sym c.index-rows-y.is) ∙ sym c.as_slice-row.ensures.value in
     let wide : length c.as_slice-row.result.now ≡ c.args.width = grind (arith, common_steps) in
-    let told : is_row_of (symbol_in c.as_slice-row.result.now) c.args.width (map plain (lines text)) ≡ true = rw wide at (sym c.row_is.ensures ∙ c.if-not-row_is.false) in
+    let told : HasLine (raw_line text) c.args.width (symbol_in c.as_slice-row.result.now) = rw wide at (c.row_is.ensures.0 c.if-not-row_is.false) in
     same-more symbols (symbols_of_line c.args.width) (map (λ row. row.items) c.args.rows.now) (raw_lines c.args.lines.now) [] (raw_line []) y
     (rw length-map c.loop-y-test.true) (rw length-map (grind (arith, common_steps))) c.loop-y.invariant
     (rw (row, line) (row-shows c.args.width (lines text) c.as_slice-row.result.now wide told))
@@ -41,6 +41,6 @@ returns-then-row-width c =
           let shown = row-shown c.args.width (lines text) c.as_slice-row.result.now here in
           elim c.then-row-width.branch [
             | then-row-width-via-then-row-width w ↦ grind (arith, common_steps)
-            | then-row-width-via-else-row-width+then-not-row_is w ↦ absurd (false≢true (sym w.if-not-row_is.true ∙ w.row_is.ensures ∙ rw wide shown))
+            | then-row-width-via-else-row-width+then-not-row_is w ↦ absurd (false≢true (sym w.if-not-row_is.true ∙ w.row_is.ensures.1 (rw wide shown)))
           ],
     )

@@ -5,7 +5,8 @@ use Rattle.std.proofs.lemmas.Grind.{common_steps}
 use Rattle.rtui_cell.specs.Look.{look_of}
 use Rattle.rtui_diff.specs.Cells.{cell}
 use Rattle.rtui_backend.specs.CellGrid.{look_at}
-use Rattle.rtui_backend.proofs.ShiftLemmas.{look_at-cell, unmarked_more}
+use Rattle.rtui_backend.proofs.LineLemmas.{look_at-cell}
+use Rattle.rtui_backend.proofs.ShiftLemmas.{unmarked_more}
 use Rattle.rtui_backend.proofs.test.scroll.copied_row.Goals as goal
 use Rattle.rtui_backend.proofs.test.scroll.copied_row.Goals.{in-Some+in_ok-cell-in-Some, in-None}
 

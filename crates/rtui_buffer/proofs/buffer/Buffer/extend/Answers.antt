@@ -1,6 +1,6 @@
 use Rattle.std.proofs.Common.{◌≡◌, ◌++◌, length, take, drop, refl, ap, arith}
 use Rattle.std.proofs.lemmas.Grind.{common_steps}
-use Rattle.rtui_buffer.specs.Overlay.{IsAround}
+use Rattle.rtui_buffer.specs.Inner.{IsAround}
 use Rattle.rtui_buffer.proofs.OverlayLemmas.{IsExtended-block, filled-empty}
 use Rattle.rtui_buffer.proofs.buffer.Buffer.extend.Goals as goal
 

@@ -1,7 +1,7 @@
 use Rattle.std.proofs.Common.{◌≡◌, ◌++◌, length, take, drop, ap, arith}
 use Rattle.std.proofs.lemmas.Grind.{common_steps}
 use Rattle.rtui_geometry.specs.Rect.{united, EdgesFit}
-use Rattle.rtui_buffer.specs.Overlay.{IsExtended, HasInner}
+use Rattle.rtui_buffer.specs.Inner.{IsExtended, HasInner}
 use Rattle.rtui_buffer.proofs.OverlayLemmas.{IsOverlay-block}
 use Rattle.rtui_buffer.proofs.buffer.Buffer.merge.Goals as goal
 

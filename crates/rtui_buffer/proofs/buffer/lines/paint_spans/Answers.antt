@@ -2,7 +2,7 @@ use Rattle.std.proofs.lemmas.Bool.{false≢true}
 use Rattle.std.proofs.Common.{◌≡◌, ◌∷◌, ◌+◌, rules, arith, drop, ap, ◌∙◌, sym, refl}
 use Rattle.rtui_style.specs.Style.{patch}
 use Rattle.rtui_buffer.proofs.LineLemmas.{span-columns, span-first, span-painted, span-outside, span-refused, span-short, columns-done, painted-done, line_pieces-none, line_pieces-end, spans-more, HasPieces-line}
-use Rattle.rtui_buffer.proofs.PaintLemmas.{unmarked-refl, unmarked-then}
+use Rattle.rtui_buffer.proofs.PaintLemmas.{unmarked-then}
 use Rattle.rtui_buffer.proofs.RefusedLemmas.{so_far-span, HasFront-span}
 use Rattle.rtui_buffer.proofs.buffer.lines.paint_spans.Goals as goal
 
@@ -24,25 +24,27 @@ loop-span-preserved c =
       marks = unmarked-then _ _ _ i.marks c.in_ok-used.ensures.marks;
     }
 
-pub returns-in_err-used-clause-err : goal.returns-in_err-used-clause-err
-returns-in_err-used-clause-err c =
+pub returns-in_err-used : goal.returns-in_err-used
+returns-in_err-used c =
     let i = c.loop-span.invariant in
     let more : drop c.loop-span.span-index c.args.spans.now ≡ c.span-item.result ∷ drop (c.loop-span.span-index + 1) c.args.spans.now =
     spans-more c.args.spans.now c.loop-span.span-index c.span-item.result c.loop-span-test.true ∙ ap (λ s. s ∷ drop (c.loop-span.span-index + 1) c.args.spans.now) (sym c.span-item.is) in
     let style : c.patch-style.result ≡ patch c.args.base c.span-item.result.style = c.patch-style.ensures ∙ ap (λ s. patch c.args.base s.style) c.span.view_is in
-    let err = rw (style, c.text.ensures) at c.in_err-used.ensures.err in
+    let refused = rw (style, c.text.ensures) at c.in_err-used.ensures in
     let le = span-first c.args.base c.args.start c.loop-span.used c.args.room _ _ _ c.span-item.result more refl _ i.columns in
-    let same = span-refused _ _ _ _ _ _ _ i.outside err le in
-    search rules
-
-pub returns-in_err-used-clause-short : goal.returns-in_err-used-clause-short
-returns-in_err-used-clause-short c = λ all.
-    let i = c.loop-span.invariant in
-    let more : drop c.loop-span.span-index c.args.spans.now ≡ c.span-item.result ∷ drop (c.loop-span.span-index + 1) c.args.spans.now =
-    spans-more c.args.spans.now c.loop-span.span-index c.span-item.result c.loop-span-test.true ∙ ap (λ s. s ∷ drop (c.loop-span.span-index + 1) c.args.spans.now) (sym c.span-item.is) in
-    let style : c.patch-style.result ≡ patch c.args.base c.span-item.result.style = c.patch-style.ensures ∙ ap (λ s. patch c.args.base s.style) c.span.view_is in
-    let short = rw (style, c.text.ensures) at c.in_err-used.ensures.short in
-    absurd (false≢true (short (span-short c.args.base c.loop-span.used c.args.room _ _ _ c.span-item.result more refl (i.short all)).0))
+    let same = span-refused _ _ _ _ _ _ _ i.outside refused.err le in
+    let marks = unmarked-then _ _ _ i.marks c.in_err-used.ensures.marks in
+    let front = HasFront-span c.args.base c.args.start c.loop-span.used c.args.room _ _ _ c.span-item.result more refl _ _ _ _ c.requires.inside i.so_far refused.front in
+    record {
+      fits = search rules;
+      columns = search rules;
+      ok = search rules;
+      shown = search rules;
+      err = search (rules, same);
+      front = search (rules, front);
+      marks = search (rules, marks);
+      short = λ all. absurd (false≢true (refused.short (span-short c.args.base c.loop-span.used c.args.room _ _ _ c.span-item.result more refl (i.short all)).0));
+    }
 
 pub returns-then-used-room-clause-columns : goal.returns-then-used-room-clause-columns
 returns-then-used-room-clause-columns c =
@@ -67,18 +69,3 @@ returns-clause-ok c =
 pub returns-clause-shown : goal.returns-clause-shown
 returns-clause-shown c =
     HasPieces-line _ _ _ _ _ _ (painted-done _ _ _ _ (line_pieces-end _ _ _ _ c.loop-span-test.false) c.loop-span.invariant.cells) c.requires.inside
-
-pub returns-in_err-used-clause-marks : goal.returns-in_err-used-clause-marks
-returns-in_err-used-clause-marks c =
-    let o = unmarked-then _ _ _ c.loop-span.invariant.marks c.in_err-used.ensures.marks in
-    search (rules, o)
-
-pub returns-in_err-used-clause-front : goal.returns-in_err-used-clause-front
-returns-in_err-used-clause-front c =
-    let i = c.loop-span.invariant in
-    let more : drop c.loop-span.span-index c.args.spans.now ≡ c.span-item.result ∷ drop (c.loop-span.span-index + 1) c.args.spans.now =
-    spans-more c.args.spans.now c.loop-span.span-index c.span-item.result c.loop-span-test.true ∙ ap (λ s. s ∷ drop (c.loop-span.span-index + 1) c.args.spans.now) (sym c.span-item.is) in
-    let style : c.patch-style.result ≡ patch c.args.base c.span-item.result.style = c.patch-style.ensures ∙ ap (λ s. patch c.args.base s.style) c.span.view_is in
-    let front = rw (style, c.text.ensures) at c.in_err-used.ensures.front in
-    let o = HasFront-span c.args.base c.args.start c.loop-span.used c.args.room _ _ _ c.span-item.result more refl _ _ _ _ c.requires.inside i.so_far front in
-    search (rules, o)

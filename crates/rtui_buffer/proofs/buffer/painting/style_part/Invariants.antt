@@ -1,4 +1,4 @@
-use Rattle.rtui_buffer.specs.PaintedText.{IsStyledPart}
+use Rattle.rtui_buffer.specs.Inner.{IsStyledPart}
 use Rattle.rtui_buffer.proofs.buffer.painting.style_part.Given as goal
 
 abbrev pub invariant-loop-i : goal.invariant-loop-i

@@ -1,5 +1,5 @@
 use Rattle.std.proofs.Common.{◌≡◌, arith, subst}
-use Rattle.rtui_buffer.specs.PaintedText.{IsStyledRows}
+use Rattle.rtui_buffer.specs.Inner.{IsStyledRows}
 use Rattle.rtui_buffer.proofs.StyleLemmas.{IsStyledRows-more}
 use Rattle.rtui_buffer.proofs.buffer.painting.style_rows.Goals as goal
 

@@ -1,4 +1,4 @@
-use Rattle.rtui_buffer.specs.PaintedText.{IsStyledRows}
+use Rattle.rtui_buffer.specs.Inner.{IsStyledRows}
 use Rattle.rtui_buffer.proofs.buffer.painting.style_rows.Given as goal
 
 abbrev pub invariant-loop-row : goal.invariant-loop-row

@@ -1,0 +1,44 @@
+-- What private functions promise one another.
+use Rattle.std.specs.Prelude.{◌≡◌, ℕ, ◌+◌, ◌-◌, ◌<◌, ◌≤◌, ◌&&◌, nat_le, nat_lt, if◌then◌else◌, List, length}
+use Rattle.rtui_geometry.specs.declared.position.Position.{Position}
+use Rattle.rtui_geometry.specs.declared.rect.Rect.{Rect}
+use Rattle.rtui_geometry.specs.Rect.{HasPosition}
+use Rattle.rtui_cell.specs.declared.cell.Cell.{Cell}
+use Rattle.rtui_cell.specs.Cell.{empty_cell, styled}
+use Rattle.rtui_grid.specs.declared.block.Block.{Block}
+use Rattle.rtui_grid.specs.Blocks.{HasBlock}
+use Rattle.rtui_buffer.specs.Sheet.{Sheet, cell_in}
+use Rattle.rtui_style.specs.declared.Style.{Style}
+use Rattle.rtui_diff.specs.Cells.{cell, cell_at}
+use Rattle.rtui_buffer.specs.Painting.{IsSameOutside}
+
+-- the first rectangle spans the second
+pub record IsAround (outer inner : Rect) : Type 0 where
+  pub left : outer.x ≤ inner.x
+  pub right : inner.x + inner.width ≤ outer.x + outer.width
+  pub top : outer.y ≤ inner.y
+  pub bottom : inner.y + inner.height ≤ outer.y + outer.height
+
+-- the sheet over another area: its cells where they stood, else empty ones
+pub record IsExtended (area : Rect) (old new : Sheet) : Type 0 where
+  pub over : new.area ≡ area
+  pub of_old : (p : Position) → HasPosition old.area p → cell_in new p ≡ cell_in old p
+  pub of_none : (p : Position) → HasPosition area p → ¬ (HasPosition old.area p) → cell_in new p ≡ empty_cell
+
+-- where an inner area is in the rows and columns of one around it
+abbrev pub place_in : Rect → Rect → Block
+place_in outer inner = record { left = inner.x - outer.x; top = inner.y - outer.y; columns = inner.width; rows = inner.height }
+
+-- in the list of an area: the cells of an inner area at their positions, all else as before
+abbrev pub HasInner : Rect → Rect → List Cell → List Cell → List Cell → Type 0
+HasInner outer inner block old new = HasBlock empty_cell outer.width (place_in outer inner) inner.width block old new
+
+-- the cells of a part with a style laid over them
+pub record IsStyledPart (from to : ℕ) (s : Style) (old new : List Cell) : Type 0 where
+  pub inside : (k : ℕ) → from ≤ k → k < to → cell new k ≡ styled s (cell old k)
+  pub outside : IsSameOutside from to old new
+
+-- in rows of w columns: the cells of some columns of some rows with a style laid over them, all else as before
+pub record IsStyledRows (w left right top bottom : ℕ) (s : Style) (old new : List Cell) : Type 0 where
+  pub count : length new ≡ length old
+  pub at : (a b : ℕ) → a < w → cell_at w new a b ≡ (if nat_le left a && nat_lt a right && nat_le top b && nat_lt b bottom then styled s (cell_at w old a b) else cell_at w old a b)

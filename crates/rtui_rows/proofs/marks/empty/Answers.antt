@@ -1,7 +1,0 @@
-use Rattle.std.proofs.Common.{arith}
-use Rattle.rtui_cell.specs.Cell.{empty_cell}
-use Rattle.rtui_rows.proofs.MarkLemmas.{mapped}
-use Rattle.rtui_rows.proofs.marks.empty.Goals as goal
-
-pub returns : goal.returns
-returns c = mapped (λ c. empty_cell) _ _ c.loop-cell.auto.cells (λ k lt. c.loop-cell.invariant.done k (omega arith))
