@@ -5,6 +5,7 @@ pub mod SymbolLemmas
 pub mod GlyphLemmas
 pub mod ScrollLemmas
 pub mod RegionLemmas
+pub mod StillLemmas
 pub mod CallLemmas
 pub mod HistoryLemmas
 pub mod PutLemmas

@@ -1,12 +1,12 @@
 -- A rendition is read back as it is written.
-use Rattle.std.proofs.Common.{◌≡◌, ℕ, ◌+◌, ◌<◌, ◌^◌, ◌==◌, nat_lt, nat_eq, List, [], ◌∷◌, ◌++◌, Bool, true, false, IsTrue, zero, suc, inl, inr, ◌⊎◌, ◌&&◌, if◌then◌else◌, refl, sym, ap, ap₂, ◌∙◌, arith, append_assoc, append-nil}
+use Rattle.std.proofs.Common.{◌≡◌, ℕ, ◌+◌, ◌<◌, ◌^◌, ◌==◌, nat_lt, nat_eq, List, [], ◌∷◌, ◌++◌, Bool, true, false, IsTrue, zero, suc, inl, inr, ◌⊎◌, ◌&&◌, if◌then◌else◌, refl, sym, ap, ap₂, ◌∙◌, arith, append_assoc}
 use Rattle.std.specs.Fmt.{decimal}
 use Rattle.std.specs.List.{list_all}
 use Rattle.std.specs.Int.RustNames.{bit_and, bit_or}
 use Rattle.std.proofs.lemmas.Bool.{false≢true}
 use Rattle.std.proofs.lemmas.Bool.Decides.{nat_tests}
 use Rattle.std.proofs.lemmas.List.Folds.{list_all-append}
-use Rattle.ratatui_core.specs.Style.{Color, Reset, Black, Red, Green, Yellow, Blue, Magenta, Cyan, Gray, DarkGray, LightRed, LightGreen, LightYellow, LightBlue, LightMagenta, LightCyan, White, Rgb, Indexed, Modifier, no_modifier, bits_of, modifier_of}
+use Rattle.ratatui_core.specs.Style.{Color, Reset, Rgb, Indexed, Modifier, no_modifier, bits_of, modifier_of}
 use Rattle.ratatui_core.proofs.StyleLemmas.{same_color, same_modifier}
 use Rattle.ansi_model.specs.contracts.sgr.SgrPartialEq.TheImpl as sgr_equality
 use Rattle.ansi_model.specs.declared.sgr.Sgr.{Sgr}
@@ -16,10 +16,18 @@ use Rattle.ansi_model.specs.Sgr.Awaits.{Nothing, Kind, Number, Parts}
 use Rattle.ansi_model.specs.Emulator.{Emulator, rested, if_so, with_sgr}
 use Rattle.ansi_model.specs.Emulator.Phase.{Ground, Sequence}
 use Rattle.ansi_model.specs.Sequences.{feed, performs}
-use Rattle.ansi_model.specs.Parameters.{color_parameters, underline_parameters, modifier_parameters, modifier_parameter, sgr_parameters, semicolons, sgr_bytes, is_underline, is_sendable, AddsParameters}
+use Rattle.ansi_model.specs.Parameters.{color_parameters, underline_parameters, modifier_parameters, modifier_parameter, semicolons, is_underline, is_sendable, AddsParameters}
 use Rattle.ansi_model.specs.Sends.{Performs}
 use Rattle.ansi_model.proofs.ReadLemmas.{feed-append, number-read, begun}
 use Rattle.ansi_model.proofs.TextLemmas.{and-both, and-true}
+
+-- all parameters after the one that resets the rendition
+abbrev pub sgr_parameters : Sgr → List ℕ
+sgr_parameters p = modifier_parameters (bits_of p.modifier) ++ (color_parameters 30 p.fg ++ (color_parameters 40 p.bg ++ underline_parameters p.underline_color))
+
+-- the bytes that set a rendition
+abbrev pub sgr_bytes : Sgr → List ℕ
+sgr_bytes p = 27 ∷ 91 ∷ 48 ∷ (semicolons (sgr_parameters p) ++ 109 ∷ [])
 
 fits : (p : ℕ) → nat_lt p 256 ≡ true → p < 2 ^ 64
 fits p small =

@@ -1,21 +1,16 @@
 -- How terminals print symbols.
-use Rattle.std.proofs.Common.{◌≡◌, ℕ, ◌+◌, ◌-◌, ◌<◌, ◌&&◌, ◌||◌, not, min, Bool, List, [], ◌∷◌, ◌++◌, ◌==◌, length, IsTrue, IsUtf8, chars, true, false, refl, sym, ap, ap₂, ◌∙◌, arith, append-nil, if◌then◌else◌, subst, nat_lt, unwrap_or, Some, None}
+use Rattle.std.proofs.Common.{◌≡◌, ℕ, ◌&&◌, ◌||◌, not, Bool, List, [], ◌∷◌, ◌++◌, ◌==◌, length, IsUtf8, chars, true, false, refl, sym, ap, ◌∙◌, arith, append-nil, if◌then◌else◌}
 use lib.Utf8.{scalar, encode, encodes, low_scalar}
 use Rattle.std.specs.List.{list_all}
 use Rattle.std.specs.Str.{is_utf8}
 use Rattle.std.proofs.lemmas.Bool.Decides.{nat_tests}
 use Rattle.std.proofs.lemmas.List.Folds.{list_all-append}
-use Rattle.std.proofs.lemmas.Str.{chars-nil, chars-append, chars-encodes, encodes-chars, IsUtf8-encode, IsUtf8-append, IsUtf8-nil, IsUtf8-from_is_utf8, is_utf8-from_IsUtf8}
-use Rattle.unicode_width.specs.Width.{char_width}
+use Rattle.std.proofs.lemmas.Str.{chars-nil, chars-append, chars-encodes, encodes-chars, IsUtf8-encode, IsUtf8-nil, IsUtf8-from_is_utf8, is_utf8-from_IsUtf8}
 use Rattle.unicode_segmentation.specs.Grapheme.{graphemes}
 use Rattle.ratatui_core.specs.Buffer.{text_width}
-use Rattle.ansi_model.specs.declared.sgr.Sgr.{Sgr}
-use Rattle.ansi_model.specs.Emulator.{Emulator, standing, rested, printed, prints, types, cursor_moved}
-use Rattle.ansi_model.specs.Symbols.{is_plain_char, is_shown, has_columns, is_symbol, is_single, begins_anew, only_of, is_one_plain, is_printed, printed_columns}
-use Rattle.ansi_model.specs.Emulator.Phase.{Ground}
-use Rattle.ansi_model.specs.Sequences.{feed}
-use Rattle.ansi_model.specs.Sends.{Sends, Performs, typed}
-use Rattle.ansi_model.proofs.ReadLemmas.{Sends-then}
+use Rattle.ansi_model.specs.Emulator.{Emulator, standing, printed, prints, types}
+use Rattle.ansi_model.specs.Symbols.{is_plain_char, is_shown, is_symbol, is_single, begins_anew, is_one_plain, is_printed, printed_columns}
+use Rattle.ansi_model.specs.Sends.{typed}
 use Rattle.ansi_model.proofs.TextLemmas.{and-both, and-true, one-single}
 
 -- how plain characters are printed one after the other

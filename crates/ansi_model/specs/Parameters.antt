@@ -60,18 +60,10 @@ modifier_parameters bits =
     ++ (modifier_parameter bits 16 5 ++ (modifier_parameter bits 32 6 ++ (modifier_parameter bits 64 7 ++ (modifier_parameter bits 128 8
     ++ modifier_parameter bits 256 9)))))))
 
--- all parameters after the one that resets the rendition
-abbrev pub sgr_parameters : Sgr → List ℕ
-sgr_parameters p = modifier_parameters (bits_of p.modifier) ++ (color_parameters 30 p.fg ++ (color_parameters 40 p.bg ++ underline_parameters p.underline_color))
-
 -- parameters as they are written, each after a semicolon
 abbrev pub semicolons : List ℕ → List ℕ
 semicolons [] = []
 semicolons (p ∷ ps) = 59 ∷ (decimal p ++ semicolons ps)
-
--- the bytes that set a rendition
-abbrev pub sgr_bytes : Sgr → List ℕ
-sgr_bytes p = 27 ∷ 91 ∷ 48 ∷ (semicolons (sgr_parameters p) ++ 109 ∷ [])
 
 -- parameters of a byte each were appended
 pub record AddsParameters (old new parameters : List ℕ) : Type 0 where

@@ -1,5 +1,5 @@
 -- What a backend keeps of its terminal once a call was sent.
-use Rattle.std.proofs.Common.{◌≡◌, ℕ, ◌+◌, ◌*◌, ◌^◌, Bool, true, false, length, ◌-◌, ◌<◌, min, arith, List, [], ◌++◌, refl, sym, ap, ◌∙◌, subst, append-nil, string_bytes}
+use Rattle.std.proofs.Common.{◌≡◌, ℕ, Bool, false, ◌-◌, ◌<◌, min, arith, List, [], ◌++◌, refl, sym, ap, ◌∙◌, subst, append-nil, string_bytes}
 use Rattle.ratatui_core.specs.Layout.{Position, Size}
 use Rattle.ratatui_core.specs.Backend.{Screen, IsBlankScreen}
 use Rattle.ratatui_ansi.specs.declared.tracker.Tracker.{Tracker}
@@ -12,7 +12,7 @@ use Rattle.ansi_model.proofs.ScrollLemmas.{blank-idle}
 use Rattle.ansi_model.proofs.ReadLemmas.{feed-append}
 use Rattle.ansi_model.proofs.CallLemmas.{fresh-left}
 use Rattle.ansi_model.proofs.HistoryLemmas.{feed-above}
-use Rattle.ratatui_ansi.specs.Tracker.{IsAwaiting, IsTracked, FitsScreen, KeepsTracked, Collects, BeginsBlank}
+use Rattle.ratatui_ansi.specs.Tracker.{IsAwaiting, IsTracked, FitsScreen, Collects, BeginsBlank}
 use Rattle.ratatui_ansi.specs.Backend.{reader, IsReadAlike, IsInOrder}
 use Rattle.ratatui_ansi.specs.Flags.{AreContinuations}
 

@@ -1,18 +1,16 @@
 -- What a sent symbol leaves on a terminal.
-use Rattle.std.proofs.Common.{IfSome, Option, ◌≡◌, ℕ, ◌+◌, ◌-◌, ◌<◌, ◌&&◌, ◌||◌, not, min, Bool, List, [], ◌∷◌, ◌++◌, ◌==◌, length, IsTrue, IsUtf8, chars, true, false, refl, sym, ap, ap₂, ◌∙◌, arith, append-nil, if◌then◌else◌, subst, nat_lt, Some, None}
-use lib.Utf8.{scalar, encode, encodes, low_scalar}
+use Rattle.std.proofs.Common.{IfSome, Option, ◌≡◌, ℕ, ◌+◌, ◌-◌, ◌<◌, ◌||◌, not, min, Bool, List, ◌++◌, ◌==◌, length, IsUtf8, chars, true, false, refl, sym, ap, ap₂, ◌∙◌, arith, subst, Some, None}
+use lib.Utf8.{encode}
 use Rattle.std.specs.List.{list_all}
 use Rattle.std.specs.Bool.{then_some}
 use Rattle.ratatui_core.specs.Layout.{Position}
-use Rattle.std.specs.Str.{is_utf8}
 use Rattle.std.proofs.lemmas.Bool.Decides.{nat_tests}
 use Rattle.std.proofs.lemmas.List.Folds.{list_all-append}
-use Rattle.std.proofs.lemmas.Str.{chars-nil, chars-append, chars-encodes, encodes-chars, IsUtf8-encode, IsUtf8-append, IsUtf8-nil, IsUtf8-from_is_utf8, is_utf8-from_IsUtf8}
-use Rattle.ratatui_core.specs.Buffer.{text_width}
+use Rattle.std.proofs.lemmas.Str.{chars-append, IsUtf8-append}
 use Rattle.ansi_model.specs.declared.sgr.Sgr.{Sgr}
 use Rattle.ratatui_ansi.specs.declared.text_cursor.TextCursor.{TextCursor}
-use Rattle.ansi_model.specs.Emulator.{Emulator, standing, rested, printed, prints, types, cursor_moved}
-use Rattle.ansi_model.specs.Symbols.{is_plain_char, is_shown, has_columns, is_symbol, is_single, begins_anew, only_of, is_one_plain, is_printed, printed_columns}
+use Rattle.ansi_model.specs.Emulator.{Emulator, rested, prints, cursor_moved}
+use Rattle.ansi_model.specs.Symbols.{is_plain_char, is_symbol, is_one_plain, is_printed, printed_columns}
 use Rattle.ansi_model.specs.Emulator.Phase.{Ground}
 use Rattle.ansi_model.specs.Sequences.{feed}
 use Rattle.ansi_model.specs.Sends.{Sends, Performs, typed}

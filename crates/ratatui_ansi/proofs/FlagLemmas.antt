@@ -1,15 +1,14 @@
 -- Flags that move with their rows.
-use Rattle.std.proofs.Common.{◌≡◌, ℕ, true, false, ◌+◌, ◌-◌, ◌*◌, ◌<◌, ◌≤◌, ◌++◌, ◌&&◌, nat_lt, Bool, List, length, take, drop, set, refl, sym, ap, ◌∙◌, arith, inl, inr, length-drop, length-take, if◌then◌else◌}
-use Rattle.std.specs.Prelude.{nat_le, nat_eq}
+use Rattle.std.proofs.Common.{◌≡◌, ℕ, true, false, ◌+◌, ◌-◌, ◌*◌, ◌<◌, ◌≤◌, ◌++◌, ◌&&◌, nat_lt, Bool, List, length, take, drop, refl, sym, ap, ◌∙◌, arith, inl, inr, length-drop, length-take, if◌then◌else◌}
+use Rattle.std.specs.Prelude.{nat_le}
 use Rattle.std.proofs.Math.Nat.{mul-le-mul_right}
 use Rattle.std.proofs.lemmas.Nat.{mul-add-lt}
-use Rattle.std.proofs.lemmas.Grind.{common_steps}
 use Rattle.std.proofs.lemmas.List.{get_or_append_left, get_or-append_right, get_or-take, get_or-drop, get_or_past}
 use Rattle.std.proofs.lemmas.Bool.{cases_lt}
 use Rattle.std.proofs.lemmas.Bool.Decides.{nat_tests}
 use Rattle.ansi_model.specs.Columns.{Columns, is_continuation, blank_column}
-use Rattle.ansi_model.specs.Emulator.{rows_raised, rows_lowered, rows_emptied, columns_cleared}
-use Rattle.ratatui_core.specs.Backend.{is_cleared, ClearType, AfterCursor, BeforeCursor, CurrentLine, UntilNewLine}
+use Rattle.ansi_model.specs.Emulator.{rows_raised, rows_lowered}
+use Rattle.ratatui_core.specs.Backend.{is_cleared, AfterCursor, BeforeCursor, UntilNewLine}
 use Rattle.ratatui_ansi.specs.Flags.{flag, AreContinuations}
 
 pub past_end : (flags : List Bool) (k : ℕ) → length flags ≤ k → flag flags k ≡ false

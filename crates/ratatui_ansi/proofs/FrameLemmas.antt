@@ -1,13 +1,10 @@
 -- What the bytes of a cell do to a terminal within a draw.
-use Rattle.std.proofs.Common.{◌≡◌, ℕ, ◌+◌, ◌-◌, ◌*◌, ◌^◌, ◌<◌, ◌≤◌, ◌==◌, ◌&&◌, ◌||◌, not, min, nat_lt, nat_le, nat_eq, if◌then◌else◌, Bool, List, [], ◌∷◌, ◌++◌, length, IsTrue, chars, true, false, zero, suc, slice_index_or, IsUtf8, Option, Some, None, IfSome, MatchOption, refl, sym, ap, ap₂, ◌∙◌, arith, subst, inl, inr, append_assoc, append-nil, ◌⊎◌}
-use Rattle.std.specs.Bool.{then_some}
+use Rattle.std.proofs.Common.{◌≡◌, ℕ, ◌+◌, ◌-◌, ◌*◌, ◌^◌, ◌<◌, ◌≤◌, ◌==◌, ◌&&◌, not, min, nat_lt, nat_le, nat_eq, if◌then◌else◌, Bool, List, [], ◌∷◌, ◌++◌, IsTrue, chars, true, false, slice_index_or, IsUtf8, Option, Some, None, IfSome, refl, sym, ap, ap₂, ◌∙◌, arith, subst, inl, inr, append_assoc, append-nil, ◌⊎◌}
 use lib.Utf8.{encode}
-use Rattle.std.proofs.Math.Nat.{mul-le-mul_right}
-use Rattle.std.proofs.lemmas.Bool.{cases_lt}
 use Rattle.std.proofs.lemmas.Bool.Decides.{nat_tests}
 use Rattle.std.specs.List.{list_all}
 use Rattle.std.proofs.lemmas.List.Folds.{list_all-append}
-use Rattle.std.proofs.lemmas.Str.{chars-nil, encode_ascii, IsUtf8-nil}
+use Rattle.std.proofs.lemmas.Str.{encode_ascii}
 use Rattle.ratatui_core.specs.Layout.{Position}
 use Rattle.ratatui_core.specs.Buffer.{blank, symbol_text, Look, look_of, empty_look, width_of, text_width, Update, put, Cell}
 use Rattle.ratatui_core.specs.Backend.{Draws}
@@ -22,287 +19,21 @@ use Rattle.ansi_model.specs.Columns.{Columns, look_in, is_continuation}
 use Rattle.ratatui_ansi.specs.Flags.{AreContinuations, flag}
 use Rattle.ansi_model.specs.Parameters.{is_sendable_by}
 use Rattle.ansi_model.specs.Sgr.{default_sgr, inked, sgr_of}
-use Rattle.ansi_model.specs.Emulator.{Emulator, rested, run, with_sgr}
+use Rattle.ansi_model.specs.Emulator.{Emulator, rested, with_sgr}
 use Rattle.ansi_model.specs.Symbols.{is_plain_char, is_one_plain, is_printed, printed_columns, glyph_columns}
 use Rattle.ansi_model.specs.Sequences.{feed}
-use Rattle.ansi_model.specs.Screens.{screen_shown, HasOwnWidth, IsWhole, IsBlankBeyond, IsIdle, put_columns}
+use Rattle.ansi_model.specs.Screens.{screen_shown, IsIdle}
 use Rattle.ratatui_ansi.specs.Drawing.{printed_at, blanked, WritesAt, IsDrawnBy, ChangesSgr, Paints, Prints}
 use Rattle.ratatui_ansi.specs.Drawing.ChangesSgr.{Stays, Sets}
 use Rattle.ratatui_ansi.specs.Tracker.{IsAwaiting}
-use Rattle.ratatui_ansi.specs.Frame.{IsTail, laid, is_fit, is_sendable_on, IsGlyph, IsVacant, IsDrawing, AreMarked, Covers, SendsUpdates, SendsDraw}
+use Rattle.ratatui_ansi.specs.Frame.{is_fit, is_sendable_on, IsGlyph, IsVacant, IsDrawing, AreMarked, Covers, SendsUpdates, SendsDraw}
 use Rattle.ansi_model.proofs.ReadLemmas.{feed-append}
-use Rattle.ansi_model.proofs.ScrollLemmas.{whole_along}
 use Rattle.ansi_model.proofs.SymbolLemmas.{plain-printed, plain-single}
 use Rattle.ansi_model.proofs.GlyphLemmas.{printed-width, one-byte}
 use Rattle.ansi_model.proofs.SgrLemmas.{equal-number}
-use Rattle.ansi_model.proofs.TextLemmas.{and-both, blank-one}
-use Rattle.ratatui_ansi.proofs.FlagLemmas.{row_below}
-use Rattle.ratatui_ansi.proofs.TailLemmas.{or_true, continuation-empty, torn, put-torn, torn-more, torn-all, laid-sized, laid-whole, laid-beyond, laid-continuations, laid-shown}
-
--- ---- blanks
-
-pub blank-encoded : encode 32 ≡ blank
-unfolding encode
-blank-encoded = refl
-
--- all but the columns, the cursor, the rendition and the doubt stays
-abbrev pub OnlyPrinted : Emulator → Emulator → Type 0
-OnlyPrinted s u = record u { columns = s.columns; x = s.x; y = s.y; sgr = s.sgr; sure = s.sure } ≡ s
-
-only-then : (s t u : Emulator) → OnlyPrinted s t → OnlyPrinted t u → OnlyPrinted s u
-only-then s t u first second = ap (λ (v : Emulator). record v { columns = s.columns; x = s.x; y = s.y; sgr = s.sgr; sure = s.sure }) second ∙ first
-
-blanked-only : (x y n : ℕ) (t : Emulator) → OnlyPrinted t (blanked x y n t)
-blanked-only x y zero t = refl
-blanked-only x y (suc n) t = blanked-only x y n t
-
-blanked-width : (x y n : ℕ) (t : Emulator) → (blanked x y n t).width ≡ t.width
-blanked-width x y n t = ap (λ (v : Emulator). v.width) (blanked-only x y n t)
-
-blanked-height : (x y n : ℕ) (t : Emulator) → (blanked x y n t).height ≡ t.height
-blanked-height x y n t = ap (λ (v : Emulator). v.height) (blanked-only x y n t)
-
-blanked-x : (x y n : ℕ) (t : Emulator) → t.x ≡ x → (blanked x y n t).x ≡ x + n
-blanked-x x y zero t e = e ∙ omega arith
-blanked-x x y (suc n) t e = ap (λ k. x + n + k) blank-one ∙ omega arith
-
-blanked-y : (x y n : ℕ) (t : Emulator) → t.y ≡ y → (blanked x y n t).y ≡ y
-blanked-y x y zero t e = e
-blanked-y x y (suc n) t e = refl
-
-blanked-sure : (x y n : ℕ) (t : Emulator) → t.sure ≡ true → x + n ≤ t.width → y < t.height → (blanked x y n t).sure ≡ true
-blanked-sure x y zero t sure fits row = sure
-blanked-sure x y (suc n) t sure fits row =
-    let before : (blanked x y n t).sure ≡ true = blanked-sure x y n t sure (omega arith) row in
-    let wide = blanked-width x y n t in
-    let high = blanked-height x y n t in
-    let column : nat_le (x + n + 1) t.width ≡ true = grind (arith, nat_tests) in
-    let below : nat_lt y t.height ≡ true = grind (arith, nat_tests) in
-    rw (before, blank-one, wide, high, column, below) refl
-
-blanked-torn : (x y n end m k : ℕ) (look : Look) (c : Columns) (t : Emulator) → IsWhole c → is_continuation (c x y) ≡ false → IsTail (x + n) end y c → ((a b : ℕ) → t.columns a b ≡ torn x y n (x + n) end look c a b)
-    → x + n + m ≡ k → k ≤ end → (a b : ℕ) → (blanked (x + n) y m t).columns a b ≡ torn x y n k end look c a b
-blanked-torn x y n end zero k look c t whole left tail same reached high a b =
-    let e : x + n ≡ k = omega arith in
-    same a b ∙ ap (λ j. torn x y n j end look c a b) e
-blanked-torn x y n end (suc m) k look c t whole left tail same reached high a b =
-    let e : x + n + m + 1 ≡ k = omega arith in
-    let before = λ (i j : ℕ). blanked-torn x y n end m (x + n + m) look c t whole left tail same refl (omega arith) i j in
-    ap (λ j. put_columns (x + n + m) y j empty_look (blanked (x + n) y m t).columns a b) blank-one
-    ∙ torn-more x y n (x + n + m) end look c (blanked (x + n) y m t).columns whole left tail (omega arith) (omega arith) before a b
-    ∙ ap (λ j. torn x y n j end look c a b) e
-
--- bytes that do nothing, and bytes after others
-abbrev pub KeepsSize : (Emulator → Emulator) → Type 0
-KeepsSize effect = (t : Emulator) → ((effect t).width ≡ t.width) × ((effect t).height ≡ t.height)
-
-pub Paints-then : (w h : ℕ) (a b c : List ℕ) (p q r : TextCursor) (f g : Emulator → Emulator) → KeepsSize f → Paints w h a p f b q → Paints w h b q g c r → Paints w h a p (λ t. g (f t)) c r
-Paints-then w h a b c p q r f g keeps first second =
-    let fed : (t : Emulator) → feed (first.bytes ++ second.bytes) t ≡ feed second.bytes (feed first.bytes t) = feed-append first.bytes second.bytes in
-    let wide : (t : Emulator) → (rested t).width ≡ w → (rested t).height ≡ h → IsDrawnBy p t → (rested (feed first.bytes t)).width ≡ w =
-    λ t width height drawn. ap (λ (v : Emulator). v.width) (first.printed t width height drawn) ∙ (keeps (rested t)).0 ∙ width in
-    let high : (t : Emulator) → (rested t).width ≡ w → (rested t).height ≡ h → IsDrawnBy p t → (rested (feed first.bytes t)).height ≡ h =
-    λ t width height drawn. ap (λ (v : Emulator). v.height) (first.printed t width height drawn) ∙ (keeps (rested t)).1 ∙ height in
-    record {
-      bytes = first.bytes ++ second.bytes;
-      appended = second.appended ∙ ap (λ xs. xs ++ second.bytes) first.appended ∙ append_assoc a first.bytes second.bytes;
-      drawn = λ t width height drawn.
-          subst (IsDrawnBy r) (sym (fed t)) (second.drawn (feed first.bytes t) (wide t width height drawn) (high t width height drawn) (first.drawn t width height drawn));
-      printed = λ t width height drawn.
-          ap rested (fed t) ∙ second.printed (feed first.bytes t) (wide t width height drawn) (high t width height drawn) (first.drawn t width height drawn)
-          ∙ ap g (first.printed t width height drawn);
-    }
-
--- a rendition that is set where the terminal has another
-with_sgr-same : (sgr : Sgr) (t : Emulator) → t.sgr ≡ sgr → t ≡ with_sgr sgr t
-with_sgr-same sgr t e = rw (← e) refl
-
-placed-with : (sgr : Sgr) (t : Emulator) (at : Option Position) → IfSome at (λ p. WritesAt p.x p.y t) → IfSome at (λ p. WritesAt p.x p.y (with_sgr sgr (rested t)))
-placed-with sgr t None known = tt
-placed-with sgr t (Some p) known = record { utf8 = IsUtf8-nil; plain = ap (list_all is_plain_char) chars-nil; column = known.column; row = known.row }
-
-pub sgr-paints : (w h : ℕ) (before : TextCursor) (sgr : Sgr) (old new : List ℕ) → ChangesSgr before.sgr sgr old new → Paints w h old before (with_sgr sgr) new (record before { sgr = sgr })
-unfolding feed
-sgr-paints w h before sgr old new (Stays same none) = record {
-  bytes = [];
-  appended = none ∙ sym (append-nil old);
-  drawn = λ t width height drawn. record { phase = drawn.phase; sgr = drawn.sgr ∙ same; placed = drawn.placed };
-  printed = λ t width height drawn. with_sgr-same sgr (rested t) (drawn.sgr ∙ same);
-}
-sgr-paints w h before sgr old new (Sets does) =
-    let fed : (t : Emulator) → IsDrawnBy before t → feed does.bytes t ≡ with_sgr sgr (rested t) = λ t drawn. does.read t drawn.phase in
-    record {
-      bytes = does.bytes;
-      appended = does.appended;
-      drawn = λ t width height drawn. subst (IsDrawnBy (record before { sgr = sgr })) (sym (fed t drawn)) (record {
-        phase = refl;
-        sgr = refl;
-        placed = placed-with sgr t before.at drawn.placed;
-      });
-      printed = λ t width height drawn. ap rested (fed t drawn);
-    }
-
-pub blanks-none : (w h : ℕ) (old : List ℕ) (brush : TextCursor) (x y n : ℕ) → n ≡ 0 → Paints w h old brush (blanked x y n) old brush
-unfolding feed
-blanks-none w h old brush x y n e = record {
-  bytes = [];
-  appended = sym (append-nil old);
-  drawn = λ t width height drawn. drawn;
-  printed = λ t width height drawn. ap (λ k. blanked x y k (rested t)) (sym e);
-}
-
-pub blanks-more : (w h x y column m k : ℕ) (old mid new : List ℕ) (before between after : TextCursor) → Paints w h old before (blanked x y m) mid between → between.sgr ≡ default_sgr
-    → Prints w h mid between column y between.sgr (encode 32) new after → column ≡ x + m → k ≡ suc m → Paints w h old before (blanked x y k) new after
-blanks-more w h x y column m k old mid new before between after done own more at count =
-    let keeps : KeepsSize (blanked x y m) = λ t. (blanked-width x y m t, blanked-height x y m t) in
-    let more_blank : Prints w h mid between column y between.sgr blank new after = subst (λ bs. Prints w h mid between column y between.sgr bs new after) blank-encoded more in
-    let more_own : Prints w h mid between column y default_sgr blank new after = subst (λ p. Prints w h mid between column y p blank new after) own more_blank in
-    let more_at : Prints w h mid between (x + m) y default_sgr blank new after = subst (λ j. Prints w h mid between j y default_sgr blank new after) at more_own in
-    subst (λ j. Paints w h old before (blanked x y j) new after) (sym count) (Paints-then w h old mid new before between after (blanked x y m) (printed_at (x + m) y default_sgr blank) keeps done more_at)
-
-blanked-sgr : (x y n : ℕ) (t : Emulator) → blanked x y (suc n) (with_sgr default_sgr t) ≡ blanked x y (suc n) t
-blanked-sgr x y zero t = refl
-blanked-sgr x y (suc n) t = ap (printed_at (x + suc n) y default_sgr blank) (blanked-sgr x y n t)
-
--- blanks after the own rendition
-pub blanks-own : (w h x y n m : ℕ) (old mid new : List ℕ) (before between after : TextCursor) → ChangesSgr before.sgr default_sgr old mid → between ≡ record before { sgr = default_sgr }
-    → Paints w h mid between (blanked x y n) new after → n ≡ suc m → Paints w h old before (blanked x y n) new after
-blanks-own w h x y n m old mid new before between after changes pens done some =
-    let sgr_set : Paints w h old before (with_sgr default_sgr) mid between = subst (Paints w h old before (with_sgr default_sgr) mid) (sym pens) (sgr-paints w h before default_sgr old mid changes) in
-    let both : Paints w h old before (λ t. blanked x y n (with_sgr default_sgr t)) new after = Paints-then w h old mid new before between after (with_sgr default_sgr) (blanked x y n) (λ t. (refl, refl)) sgr_set done in
-    record {
-      bytes = both.bytes;
-      appended = both.appended;
-      drawn = both.drawn;
-      printed = λ t wide high drawn. both.printed t wide high drawn ∙ ap (λ k. blanked x y k (with_sgr default_sgr (rested t))) some ∙ blanked-sgr x y m (rested t) ∙ ap (λ k. blanked x y k (rested t)) (sym some);
-    }
-
--- ---- a symbol, and blanks in what is left of another one
-
--- a symbol stands in its place, and blanks up to column `end`
-pub record IsLaid (x y n end : ℕ) (look : Look) (s u : Emulator) : Type 0 where
-  pub only : OnlyPrinted s u
-  pub columns : (a b : ℕ) → u.columns a b ≡ laid x y n end look s.columns a b
-  pub x_at : u.x ≡ end
-  pub y_at : u.y ≡ y
-  pub certain : u.sure ≡ true
-
-laid-by : (w h x y n end : ℕ) (sgr : Sgr) (symbol : List ℕ) (s : Emulator) → IsIdle w h (with_sgr default_sgr s) → printed_columns symbol ≡ n → 0 < n → x + n ≤ w → end ≤ w → y < h
-    → is_continuation (s.columns x y) ≡ false → IsTail (x + n) end y s.columns → IsLaid x y n end (inked symbol sgr) s (blanked (x + n) y (end - (x + n)) (printed_at x y sgr symbol s))
-laid-by w h x y n end sgr symbol s ready en some fits inside row left tail =
-    let ordered : x + n ≤ end = tail.ordered in
-    let m = end - (x + n) in
-    let t = printed_at x y sgr symbol s in
-    let wide : s.width ≡ w = ready.rest.width in
-    let high : s.height ≡ h = ready.rest.height in
-    let reached : x + n + m ≡ end = omega arith in
-    let look = inked symbol sgr in
-    let put : (a b : ℕ) → t.columns a b ≡ torn x y n (x + n) end look s.columns a b =
-    λ a b. ap (λ j. put_columns x y j look s.columns a b) en ∙ put-torn x y n end look s.columns ready.tidy.whole left tail some a b in
-    let sure : t.sure ≡ true =
-    let one : nat_lt 0 n ≡ true = grind (arith, nat_tests) in
-    let two : nat_le (x + n) s.width ≡ true = grind (arith, nat_tests) in
-    let three : nat_lt y s.height ≡ true = grind (arith, nat_tests) in
-    rw (ready.rest.sure, en, one, two, three) refl in
-    record {
-      only = only-then s t (blanked (x + n) y m t) refl (blanked-only (x + n) y m t);
-      columns = λ a b. blanked-torn x y n end m end look s.columns t ready.tidy.whole left tail put reached (omega arith) a b ∙ torn-all x y n end look s.columns a b;
-      x_at = blanked-x (x + n) y m t (ap (λ j. x + j) en) ∙ reached;
-      y_at = blanked-y (x + n) y m t refl;
-      certain = blanked-sure (x + n) y m t sure (omega arith) (omega arith);
-    }
-
-laid-ready : (w h x y n end : ℕ) (look : Look) (s u : Emulator) → IsIdle w h (with_sgr default_sgr s) → n ≡ printed_columns look.symbol → x + n ≤ w → y < h → is_continuation (s.columns x y) ≡ false
-    → IsTail (x + n) end y s.columns → IsLaid x y n end look s u → IsIdle w h (with_sgr default_sgr u)
-laid-ready w h x y n end look s u ready takes fits row left tail is = record {
-  rest = record {
-    phase = ap (λ (v : Emulator). v.phase) is.only ∙ ready.rest.phase;
-    text = ap (λ (v : Emulator). v.text) is.only ∙ ready.rest.text;
-    width = ap (λ (v : Emulator). v.width) is.only ∙ ready.rest.width;
-    height = ap (λ (v : Emulator). v.height) is.only ∙ ready.rest.height;
-    sgr = refl;
-    top = ap (λ (v : Emulator). v.top) is.only ∙ ready.rest.top;
-    bottom = ap (λ (v : Emulator). v.bottom) is.only ∙ ready.rest.bottom;
-    sure = is.certain;
-  };
-  row = let at : u.y ≡ y = is.y_at in omega arith;
-  tidy = record {
-    sized = λ a b. subst HasOwnWidth (sym (is.columns a b)) (laid-sized x y n end look s.columns takes ready.tidy.sized a b);
-    whole = λ a b.
-        whole_along (λ k. laid x y n end look s.columns k b) (λ k. u.columns k b) a (λ k. sym (is.columns k b)) (laid-whole x y n end look s.columns ready.tidy.whole left tail a b);
-    beyond = λ a b far. is.columns a b ∙ laid-beyond w x y n end look s.columns fits ready.tidy.beyond a b far;
-  };
-}
-
--- ---- the flags
-
-marked-in : (w x y n end a : ℕ) (old new is was : Bool) → x + n ≤ end → end ≤ w
-    → new ≡ (if nat_le (y * w + x) (y * w + a) && nat_lt (y * w + a) (y * w + end) then nat_lt (y * w + x) (y * w + a) && nat_lt (y * w + a) (y * w + (x + n)) else old)
-    → old ≡ was → is ≡ (if run x y n a y then nat_lt x a else (if run (x + n) y (end - (x + n)) a y then false else was)) → new ≡ is
-marked-in w x y n end a old new is was ordered inside e f g = grind (arith, nat_tests)
-
-aside : (p q r in_p in_q old new is was : Bool) → p ≡ false → q ≡ false → r ≡ false → new ≡ (if p then in_p else old) → old ≡ was → is ≡ (if q then in_q else (if r then false else was)) → new ≡ is
-aside p q r in_p in_q old new is was ep eq er e f g =
-    let is_old : new ≡ old = rw ep at e in
-    let is_was : is ≡ was = rw (eq, er) at g in
-    is_old ∙ f ∙ sym is_was
-
-marked-at : (w x y n end a b : ℕ) (old new is was : Bool) → x + n ≤ end → end ≤ w → a < w → 0 < n
-    → new ≡ (if nat_le (y * w + x) (b * w + a) && nat_lt (b * w + a) (y * w + end) then nat_lt (y * w + x) (b * w + a) && nat_lt (b * w + a) (y * w + (x + n)) else old)
-    → old ≡ was → is ≡ (if run x y n a b then nat_lt x a else (if run (x + n) y (end - (x + n)) a b then false else was)) → new ≡ is
-marked-at w x y n end a b old new is was ordered inside column some e f g =
-    elim (cases_lt b y) [
-      | inl above ↦
-          let apart = row_below w b y above in
-          let no : (nat_le (y * w + x) (b * w + a) && nat_lt (b * w + a) (y * w + end)) ≡ false = grind (arith, nat_tests) in
-          let none : run x y n a b ≡ false = grind (arith, nat_tests) in
-          let blanks : run (x + n) y (end - (x + n)) a b ≡ false = grind (arith, nat_tests) in
-          aside _ _ _ _ _ old new is was no none blanks e f g
-      | inr below ↦ elim (cases_lt y b) [
-        | inl under ↦
-            let apart = row_below w y b under in
-            let no : (nat_le (y * w + x) (b * w + a) && nat_lt (b * w + a) (y * w + end)) ≡ false = grind (arith, nat_tests) in
-            let none : run x y n a b ≡ false = grind (arith, nat_tests) in
-            let blanks : run (x + n) y (end - (x + n)) a b ≡ false = grind (arith, nat_tests) in
-            aside _ _ _ _ _ old new is was no none blanks e f g
-        | inr over ↦
-            let row : b ≡ y = omega arith in
-            marked-in w x y n end a old new is was ordered inside (rw row at e) f (rw row at g)
-      ]
-    ]
-
--- a symbol of one column over no part of another one leaves the flags as they are
-pub one-marked : (first past_it end : ℕ) (flags : List Bool) → slice_index_or flags first false ≡ false → end ≤ first + 1
-    → (k : ℕ) → slice_index_or flags k false ≡ (if nat_le first k && nat_lt k end then nat_lt first k && nat_lt k past_it else slice_index_or flags k false)
-one-marked first past_it end flags unset short k =
-    elim (nat_le first k && nat_lt k end) as (λ p. (nat_le first k && nat_lt k end) ≡ p
-    → slice_index_or flags k false ≡ (if p then nat_lt first k && nat_lt k past_it else slice_index_or flags k false)) [
-      | true ↦ λ e.
-          let same : k ≡ first = grind (arith, nat_tests) in
-          let not_behind : nat_lt first k ≡ false = grind (arith, nat_tests) in
-          ap (λ j. slice_index_or flags j false) same ∙ unset ∙ rw not_behind refl
-      | false ↦ λ e. refl
-    ] refl
-
-pub tail-of : (w h from end y : ℕ) (flags : List Bool) (c : Columns) → AreContinuations w h flags c → IsBlankBeyond w c → y < h → from ≤ end → end ≤ w
-    → ((k : ℕ) → from ≤ k → k < end → slice_index_or flags (y * w + k) false ≡ true) → (end < w → slice_index_or flags (y * w + end) false ≡ false) → IsTail from end y c
-tail-of w h from end y flags c are beyond row ordered inside set unset = record {
-  ordered = ordered;
-  continuations = λ k low high. sym (are.each k y (omega arith) row) ∙ set k low high;
-  ended = elim (cases_lt end w) [
-    | inl within ↦ sym (are.each end y within row) ∙ unset within
-    | inr past ↦ ap is_continuation (beyond end y (omega arith))
-  ];
-}
-
-pub laid-flags : (w h x y n end : ℕ) (look : Look) (s u : Emulator) (flags after : List Bool) → AreContinuations w h flags s.columns → x + n ≤ end → end ≤ w → 0 < n → IsLaid x y n end look s u
-    → AreMarked (y * w + x) (y * w + (x + n)) (y * w + end) flags after → AreContinuations w h after u.columns
-laid-flags w h x y n end look s u flags after are ordered inside some is marked = record {
-  count = marked.count ∙ are.count;
-  each = λ a b column row.
-      marked-at w x y n end a b (slice_index_or flags (b * w + a) false) (slice_index_or after (b * w + a) false) (is_continuation (u.columns a b)) (is_continuation (s.columns a b)) ordered inside column some
-      (marked.each (b * w + a)) (are.each a b column row) (ap is_continuation (is.columns a b) ∙ laid-continuations x y n end look s.columns a b);
-}
+use Rattle.ansi_model.proofs.TextLemmas.{and-both}
+use Rattle.ratatui_ansi.proofs.TailLemmas.{or_true, continuation-empty, laid-shown, IsTail}
+use Rattle.ratatui_ansi.proofs.LayLemmas.{Paints-then, sgr-paints, IsLaid, laid-by, laid-ready, tail-of, laid-flags}
 
 -- ---- what the screen shows
 

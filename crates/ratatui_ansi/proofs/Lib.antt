@@ -1,6 +1,7 @@
 pub mod DrawLemmas
 pub mod TailLemmas
 pub mod CoverLemmas
+pub mod LayLemmas
 pub mod FrameLemmas
 pub mod FlagLemmas
 pub mod EraseLemmas

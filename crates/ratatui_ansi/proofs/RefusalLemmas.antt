@@ -1,5 +1,5 @@
 -- What refused calls leave, and where a draw stops.
-use Rattle.std.proofs.Common.{◌≡◌, ℕ, ◌+◌, ◌*◌, ◌<◌, Bool, true, false, IsTrue, List, map, Option, None, Result, Ok, Err, IsErr, IsErrAnd, IfErr, OnOk, refl, sym, subst, ◌∙◌}
+use Rattle.std.proofs.Common.{◌≡◌, ℕ, ◌+◌, ◌*◌, ◌<◌, Bool, true, IsTrue, List, map, Option, None, Result, Ok, Err, IsErr, IsErrAnd, IfErr, OnOk, sym, subst, ◌∙◌}
 use Rattle.std.proofs.lemmas.Bool.{false≢true}
 use Rattle.ratatui_core.specs.Layout.{Position}
 use Rattle.ratatui_core.specs.Layout as layout
@@ -19,7 +19,7 @@ use Rattle.ratatui_ansi.specs.Errors.{error_of}
 use Rattle.ratatui_ansi.specs.Flags.{flag, is_clear_cut}
 use Rattle.ratatui_ansi.specs.Frame.{RefusesUpdate, IsDrawing}
 use Rattle.ansi_model.specs.Sgr.{default_sgr}
-use Rattle.ratatui_ansi.specs.Refusals.{IsOfClearing, IsOfCall, FailsToResize, IsUnsent, FailsBy, Answers, names_cell, has_place, IsRefusedOn, StopsWithin, StopsDraw}
+use Rattle.ratatui_ansi.specs.Refusals.{IsOfClearing, IsOfCall, FailsToResize, names_cell, has_place, IsRefusedOn, StopsWithin, StopsDraw}
 use Rattle.ansi_model.specs.Screens.{screen_shown}
 use Rattle.ansi_model.specs.Sequences.{feed}
 use Rattle.ansi_model.specs.Emulator.{Emulator, rested}

@@ -7,10 +7,21 @@ use Rattle.ansi_model.specs.Columns.{Column, Columns, blank_column, look_in, is_
 use Rattle.ansi_model.specs.Columns.Column.{Shows, Unknown}
 use Rattle.ansi_model.specs.Emulator.{run}
 use Rattle.ansi_model.specs.Screens.{HasOwnWidth, HaveOwnWidths, IsWhole, IsWholeAt, IsBlankBeyond, put_columns}
-use Rattle.ratatui_ansi.specs.Frame.{IsTail, laid}
 use Rattle.ansi_model.proofs.PutLemmas.{none_between, apart-at, first-or-later, rest-same}
 use Rattle.ansi_model.proofs.TextLemmas.{blank-sized}
 use Rattle.ansi_model.specs.Symbols.{printed_columns}
+
+-- the columns of a row from `from` up to `end` is a continuation column, and the column at `end` doesn't
+pub record IsTail (from end y : ℕ) (c : Columns) : Type 0 where
+  pub ordered : from ≤ end
+  pub continuations : (k : ℕ) → from ≤ k → k < end → is_continuation (c k y) ≡ true
+  pub ended : is_continuation (c end y) ≡ false
+
+-- the columns once a symbol of n columns stands in column x of row y, and blanks after it up to column `end`
+abbrev pub laid : ℕ → ℕ → ℕ → ℕ → Look → Columns → Columns
+laid x y n end look c a b =
+    if run x y n a b then Shows look (a - x) n
+    else (if run (x + n) y (end - (x + n)) a b then blank_column else c a b)
 
 -- a symbol of n columns stands in column x of row y, blanks after it up to column k, and from there up to column `end` nothing is known
 abbrev pub torn : ℕ → ℕ → ℕ → ℕ → ℕ → Look → Columns → Columns

@@ -1,18 +1,17 @@
 -- From what bytes do to a ready terminal to what a backend keeps of it.
-use Rattle.std.proofs.Common.{◌≡◌, ℕ, ◌+◌, ◌-◌, ◌*◌, ◌<◌, ◌≤◌, ◌++◌, ◌&&◌, ◌||◌, ◌==◌, min, nat_lt, nat_le, nat_eq, if◌then◌else◌, Bool, List, length, true, false, string_bytes, refl, sym, ap, ap₂, ◌∙◌, arith, append_assoc, subst}
+use Rattle.std.proofs.Common.{◌≡◌, ℕ, ◌+◌, ◌-◌, ◌*◌, ◌<◌, ◌≤◌, ◌++◌, ◌&&◌, ◌||◌, min, nat_lt, nat_le, nat_eq, if◌then◌else◌, Bool, List, length, true, false, string_bytes, refl, sym, ap, ap₂, ◌∙◌, arith, append_assoc, subst}
 use Rattle.std.proofs.lemmas.Bool.Decides.{nat_tests}
 use Rattle.ratatui_core.specs.Layout.{Position, Size}
 use Rattle.ratatui_core.specs.Buffer.{empty_look, Update}
-use Rattle.ratatui_core.specs.Backend.{Screen, Draws, ScrollsUp, ScrollsDown, Appends, Clears, with_cursor, with_visible, cursor_of, ClearType, All, AfterCursor, BeforeCursor, CurrentLine, UntilNewLine, is_cleared}
-use Rattle.ansi_model.specs.Columns.{Column, Columns, look_in, is_continuation, blank_column}
-use Rattle.ansi_model.specs.Columns.Column.{Shows, Unknown}
+use Rattle.ratatui_core.specs.Backend.{Screen, Draws, ScrollsUp, ScrollsDown, Appends, Clears, with_cursor, with_visible, cursor_of, ClearType, All, AfterCursor, BeforeCursor, is_cleared}
+use Rattle.ansi_model.specs.Columns.{Column, Columns, look_in, blank_column}
 use Rattle.ansi_model.specs.Emulator.{Emulator, rested, rows_raised, rows_lowered, columns_cleared, cursor_moved, erased, keeps_history}
 use Rattle.ansi_model.specs.Sequences.{feed}
 use Rattle.ansi_model.specs.Screens.{screen_shown, IsIdle, Turns, Becomes}
 use Rattle.ratatui_ansi.specs.Flags.{flag, AreContinuations, is_cut}
 use Rattle.ratatui_ansi.specs.declared.tracker.Tracker.{Tracker}
 use Rattle.ratatui_ansi.specs.Frame.{SendsDraw}
-use Rattle.ratatui_ansi.specs.Tracker.{IsAwaiting, IsTracked, IsTracker, SendsCall, Collects, Erases}
+use Rattle.ratatui_ansi.specs.Tracker.{IsAwaiting, IsTracked, IsTracker, Collects, Erases}
 use Rattle.ansi_model.proofs.ReadLemmas.{feed-append}
 use Rattle.ratatui_ansi.proofs.TailLemmas.{continuation-empty}
 use Rattle.ratatui_ansi.proofs.FlagLemmas.{AreContinuations-along}
@@ -20,6 +19,16 @@ use Rattle.ratatui_ansi.proofs.EraseLemmas.{part-erased, part-whole, part-sized,
 use Rattle.ansi_model.proofs.ScrollLemmas.{rested-ready}
 use Rattle.ansi_model.proofs.RegionLemmas.{ready-columns, moved-placed}
 use Rattle.ansi_model.specs.Sends.{Performs}
+
+-- bytes were appended, after which a terminal that awaited a call awaits the next one, with the cursor and the flags after it, and its
+-- screen related so to the former
+pub record SendsCall (w h : ℕ) (old new : List ℕ) (cursor : Position) (flags : List Bool) (cursor_after : Position) (flags_after : List Bool)
+    (related : Screen → Screen → Type 0) : Type 0 where
+  pub bytes : List ℕ
+  pub appended : new ≡ old ++ bytes
+  pub awaiting : (t : Emulator) → IsAwaiting w h cursor flags t → IsAwaiting w h cursor_after flags_after (feed bytes t)
+  pub shows : (written : ℕ) (t : Emulator) → IsAwaiting w h cursor flags t
+      → related (screen_shown written (rested t)) (screen_shown written (rested (feed bytes t)))
 
 -- one after the other
 pub Turns-then : (w h : ℕ) (a b c : List ℕ) (first second : Emulator → Emulator → Type 0) → Turns w h a b first → Turns w h b c second → Turns w h a c (λ s u. (t : Emulator) × first s t × second t u)

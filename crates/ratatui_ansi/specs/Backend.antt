@@ -1,5 +1,5 @@
 -- What callers see of a backend that sends escape sequences, and the screen that it stands for.
-use Rattle.std.specs.Prelude.{◌≡◌, ℕ, ◌*◌, ◌<◌, Bool, false, List, Option, length, nat_eq}
+use Rattle.std.specs.Prelude.{◌≡◌, ℕ, Bool, false, List, Option, length, nat_eq}
 use Rattle.ratatui_core.specs.Layout.{Position, Size}
 use Rattle.ratatui_core.specs.Backend.{Screen}
 use Rattle.ansi_model.specs.Emulator.{Emulator, rested, blank_terminal}

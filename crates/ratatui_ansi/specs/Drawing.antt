@@ -1,5 +1,5 @@
 -- What a symbol put in its place does to the terminal that reads it.
-use Rattle.std.specs.Prelude.{◌≡◌, ℕ, ◌+◌, zero, suc, ◌&&◌, ◌||◌, not, Bool, true, false, IfSome, if◌then◌else◌, List, [], ◌∷◌, ◌++◌, ◌==◌, length, chars, IsUtf8, Option, Some, None}
+use Rattle.std.specs.Prelude.{◌≡◌, ℕ, ◌+◌, zero, suc, ◌&&◌, Bool, true, false, IfSome, List, ◌++◌, ◌==◌, chars, IsUtf8, Option, Some, None}
 use Rattle.std.specs.List.{list_all}
 use Rattle.ratatui_core.specs.Layout.{Position}
 use Rattle.ratatui_core.specs.Buffer.{blank}

@@ -1,7 +1,7 @@
 -- What a draw knows of the terminal, and what its bytes do to it.
-use Rattle.std.specs.Prelude.{◌≡◌, ℕ, ◌+◌, ◌-◌, ◌*◌, ◌<◌, ◌≤◌, ◌==◌, ◌&&◌, ◌||◌, ◌⊎◌, not, nat_lt, nat_le, Bool, true, false, if◌then◌else◌, List, [], ◌∷◌, ◌++◌, length, encode_utf8, chars, IsUtf8}
+use Rattle.std.specs.Prelude.{◌≡◌, ℕ, ◌+◌, ◌-◌, ◌*◌, ◌<◌, ◌≤◌, ◌==◌, ◌&&◌, ◌||◌, ◌⊎◌, not, nat_lt, nat_le, Bool, true, false, if◌then◌else◌, List, ◌++◌, length}
 use Rattle.ratatui_core.specs.Layout.{Position}
-use Rattle.ratatui_core.specs.Buffer.{symbol_text, text_width, Look, look_of, empty_look, width_of, Update, Cell}
+use Rattle.ratatui_core.specs.Buffer.{symbol_text, look_of, empty_look, width_of, Update, Cell}
 use Rattle.ratatui_core.specs.Backend.{Draws, cursor_of}
 use Rattle.ratatui_ansi.specs.declared.text_cursor.TextCursor.{TextCursor}
 use Rattle.ratatui_ansi.specs.declared.draw.DrawState.{DrawState}
@@ -9,31 +9,15 @@ use Rattle.ansi_model.specs.declared.glyph.Glyph.{Glyph}
 use Rattle.ratatui_ansi.specs.declared.draw.Refusal.{Refusal}
 use Rattle.ratatui_ansi.specs.declared.draw.Refusal.TheVariants as Refused
 use Rattle.ansi_model.specs.declared.sgr.Sgr.{Sgr}
-use Rattle.ansi_model.specs.Columns.{Columns, blank_column, is_continuation}
-use Rattle.ansi_model.specs.Columns.Column.{Shows}
 use Rattle.ratatui_ansi.specs.Tracker.{IsAwaiting}
 use Rattle.ratatui_ansi.specs.Flags.{AreContinuations, flag}
 use Rattle.ansi_model.specs.Sgr.{default_sgr, sgr_of}
 use Rattle.ansi_model.specs.Parameters.{is_sendable_by}
-use Rattle.ansi_model.specs.Emulator.{Emulator, rested, with_sgr, run}
+use Rattle.ansi_model.specs.Emulator.{Emulator, rested, with_sgr}
 use Rattle.ansi_model.specs.Symbols.{is_printed, printed_columns, IsGlyphOf}
 use Rattle.ansi_model.specs.Sequences.{feed}
 use Rattle.ansi_model.specs.Screens.{screen_shown, IsIdle}
 use Rattle.ratatui_ansi.specs.Drawing.{blanked, IsDrawnBy, Paints}
-
--- ---- a symbol over a part of another one
-
--- the columns of a row from `from` up to `end` is a continuation column, and the column at `end` doesn't
-pub record IsTail (from end y : ℕ) (c : Columns) : Type 0 where
-  pub ordered : from ≤ end
-  pub continuations : (k : ℕ) → from ≤ k → k < end → is_continuation (c k y) ≡ true
-  pub ended : is_continuation (c end y) ≡ false
-
--- the columns once a symbol of n columns stands in column x of row y, and blanks after it up to column `end`
-abbrev pub laid : ℕ → ℕ → ℕ → ℕ → Look → Columns → Columns
-laid x y n end look c a b =
-    if run x y n a b then Shows look (a - x) n
-    else (if run (x + n) y (end - (x + n)) a b then blank_column else c a b)
 
 -- ---- cells
 

@@ -23,16 +23,6 @@ pub record IsAwaiting (w h : ℕ) (cursor : Position) (flags : List Bool) (t : E
   pub continuations : AreContinuations w h flags (rested t).columns
   pub placed : cursor_of (screen_shown 0 (rested t)) ≡ cursor
 
--- bytes were appended, after which a terminal that awaited a call awaits the next one, with the cursor and the flags after it, and its
--- screen related so to the former
-pub record SendsCall (w h : ℕ) (old new : List ℕ) (cursor : Position) (flags : List Bool) (cursor_after : Position) (flags_after : List Bool)
-    (related : Screen → Screen → Type 0) : Type 0 where
-  pub bytes : List ℕ
-  pub appended : new ≡ old ++ bytes
-  pub awaiting : (t : Emulator) → IsAwaiting w h cursor flags t → IsAwaiting w h cursor_after flags_after (feed bytes t)
-  pub shows : (written : ℕ) (t : Emulator) → IsAwaiting w h cursor flags t
-      → related (screen_shown written (rested t)) (screen_shown written (rested (feed bytes t)))
-
 -- what a clear of this kind empties, for a cursor in column x of row y, was emptied, and all else stays
 pub record Erases (kind : ClearType) (x y : ℕ) (old new : Screen) : Type 0 where
   pub rest : new ≡ record old { grid = new.grid }

@@ -1,5 +1,5 @@
 use Rattle.std.proofs.Common.{◌+◌, ◌-◌, ◌*◌, inl, inr, refl, arith}
-use Rattle.ratatui_ansi.proofs.FrameLemmas.{blanks-none, one-marked}
+use Rattle.ratatui_ansi.proofs.LayLemmas.{blanks-none, one-marked}
 use Rattle.ratatui_ansi.proofs.draw.cover.Goals.{then-past_it-end+in_ok-put_blanks, else-past_it-end}
 use Rattle.ratatui_ansi.proofs.draw.cover.Goals as goal
 

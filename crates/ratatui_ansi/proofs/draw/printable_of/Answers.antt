@@ -1,5 +1,3 @@
-use Rattle.std.proofs.Common.{sym, ap, ◌∙◌}
-use Rattle.ratatui_core.specs.Buffer.{text_width}
 use Rattle.ratatui_ansi.proofs.FrameLemmas.{own-width, printable-gives}
 use Rattle.ratatui_ansi.proofs.draw.printable_of.Goals as goal
 

@@ -1,7 +1,7 @@
 use Rattle.std.proofs.Common.{◌≡◌, ◌+◌, ◌-◌, string_bytes, ap, subst, ◌∙◌, arith}
 use Rattle.ratatui_ansi.specs.declared.text_cursor.TextCursor.{TextCursor}
 use Rattle.ratatui_ansi.specs.Drawing.{blanked, Paints}
-use Rattle.ratatui_ansi.proofs.FrameLemmas.{blanks-none, blanks-more, blanks-own}
+use Rattle.ratatui_ansi.proofs.LayLemmas.{blanks-none, blanks-more, blanks-own}
 use Rattle.ratatui_ansi.proofs.draw.put_blanks.Goals as goal
 
 pub loop-column-init : goal.loop-column-init

@@ -1,4 +1,4 @@
-use Rattle.std.proofs.Common.{◌+◌, ◌-◌, ◌<◌, ◌≡◌, ◌∙◌, ap, length, min, refl, arith}
+use Rattle.std.proofs.Common.{◌+◌, ◌-◌, ◌≡◌, ◌∙◌, ap, length, min, refl, arith}
 use Rattle.std.proofs.lemmas.List.{with_items_is}
 use Rattle.ratatui_ansi.proofs.TrackLemmas.{collected, call-from, append-kept}
 use Rattle.ratatui_ansi.proofs.tracker.Tracker.append.Goals as goal

@@ -1,5 +1,5 @@
 use Rattle.std.proofs.lemmas.Result.{on_ok_weaker}
-use Rattle.ratatui_core.specs.Backend.{AfterCursor, CurrentLine, UntilNewLine}
+use Rattle.ratatui_core.specs.Backend.{UntilNewLine}
 use Rattle.ratatui_ansi.proofs.TrackLemmas.{clears-corner, clears-at, clears-before}
 use Rattle.ratatui_ansi.proofs.tracker.Tracker.clear.Goals as goal
 

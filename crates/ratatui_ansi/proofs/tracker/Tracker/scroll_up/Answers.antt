@@ -1,4 +1,4 @@
-use Rattle.std.proofs.Common.{◌<◌, ◌≡◌, ◌∙◌, ap, length, refl}
+use Rattle.std.proofs.Common.{◌≡◌, ◌∙◌, ap, length, refl}
 use Rattle.std.proofs.lemmas.List.{with_items_is}
 use Rattle.ratatui_ansi.proofs.TrackLemmas.{collected, Turns-then, call-from, up-kept}
 use Rattle.ratatui_ansi.proofs.tracker.Tracker.scroll_up.Goals as goal
