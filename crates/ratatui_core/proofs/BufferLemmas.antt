@@ -9,3 +9,12 @@ pub use Rattle.rtui_buffer.proofs.BarLemmas.{ShowsPieces-bar}
 pub use Rattle.rtui_cell.proofs.CellLemmas.{same_look, same_width, look-empty, width-empty}
 -- The columns of a text of one character above U+00A0 are the character's.
 pub use Rattle.rtui_cell.proofs.WidthLemmas.{one_character}
+-- A change of each cell of an area, one cell of a buffer put, and changes one after the other.
+pub use Rattle.rtui_changes.proofs.ChangeLemmas.{put-here, put-elsewhere, Changes-join, Changes-same, Changes-within, within-same, within-wider, on-ok, clipped-both, clipped-none, has-or-not}
+-- Plain cells are settled, and painting keeps a buffer ready for more.
+pub use Rattle.rtui_changes.proofs.PlainLemmas.{index-at, plain-empty, plain-styled, settled-plain, plain-emptied, paintable-plain, paintable-fewer, put-ready, ready-right, ready-row, ready-end, ready-plain, painted-settled, plain-changed}
+-- Parts that are changed apart from each other.
+pub use Rattle.rtui_changes.proofs.PartLemmas.{Parts-none, Parts-next, Parts-within}
+-- What is joined of narrow symbols is narrow, and so is each symbol of the tables.
+pub use Rattle.rtui_narrow.proofs.NarrowLemmas.{narrow-test, merged-narrow, merged-short, joined-short, joined-columns}
+pub use Rattle.rtui_narrow.proofs.SetLemmas.{blocks-narrow, bars-narrow, plain-border-narrow, line-narrow}

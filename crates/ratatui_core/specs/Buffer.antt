@@ -31,3 +31,7 @@ unfoldable pub use Rattle.rtui_buffer.specs.Line.{line_pieces, line_row}
 pub use Rattle.rtui_buffer.specs.Line.{line_pieces_at, line_rows, line_at, ShowsLines, lines_area, IsOfLines, raw_lines}
 pub use Rattle.rtui_buffer.specs.RowsDiff.{part_cells, IsRowsDiff}
 pub use Rattle.rtui_buffer.specs.Overlay.{no_area, IsOverlay}
+-- Changes of cells by position, plain cells, and parts that are changed apart from each other.
+pub use Rattle.rtui_changes.specs.Changes.{ChangesEach, MakesEach, AreLight, row_part, IsRowOfArea, columns_to, rows_to, place_at}
+pub use Rattle.rtui_changes.specs.Plain.{IsPlain, IsPlainFrom, IsReadyAt, IsReadyFrom}
+pub use Rattle.rtui_changes.specs.Parts.{MakesPart, MakesParts}

@@ -11,3 +11,5 @@ pub use Rattle.rtui_merge.specs.Shapes.{across, upright}
 unfoldable pub use Rattle.rtui_merge.specs.Merge.{exact, solid_unless_straight, square_unless_corner, double_or_thick, double_or_plain, fuzzy, merged, Unites}
 pub use Rattle.rtui_merge.specs.Merge.{over, by_arms, Side, has_arm, HasArmsOfBoth}
 pub use Rattle.rtui_merge.specs.Laws.{MergesWithItself, FuzzyKeepsExact, FoundByArms, DifferInArms, AreBoxDrawings}
+-- Symbols that take at most one column, and no memory in a cell.
+pub use Rattle.rtui_narrow.specs.Narrow.{IsNarrow, is_narrow, AreNarrowTexts}

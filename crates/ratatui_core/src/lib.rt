@@ -13,6 +13,7 @@ pub mod buffer {
     pub use rtui_buffer::{
         Buffer, BufferDiff, Cell, CellDiffOption, CellWidth, diff_rows, lines_width, texts_width,
     };
+    pub use rtui_changes::{CellChange, change_area, part_in};
 
     /// Laws of cells and of buffers.
     pub mod laws {
@@ -27,6 +28,7 @@ pub mod buffer {
             default_option_is_none, equality_is_by_looks, hashing_names_every_field,
             set_style_twice_sets_patch, width_is_columns_and_sound_marks,
         };
+        pub use rtui_changes::laws::plain_buffers_are_settled;
     }
 }
 
@@ -65,6 +67,11 @@ pub mod symbols {
     pub use rtui_symbols::{
         bar, block, border, braille, half_block, laws, line, marker, pixel, scrollbar, shade,
     };
+
+    /// Symbols take one column each.
+    pub mod narrow {
+        pub use rtui_narrow::laws;
+    }
 
     /// Joining the symbols of borders.
     pub mod merge {

@@ -9,68 +9,19 @@ use Rattle.ratatui_core.proofs.BufferLemmas.{PaintsByColumns-paints, same-beside
 use Rattle.ratatui_core.specs.Style.{Style}
 use Rattle.ratatui_core.specs.Buffer.{IsStyled}
 use Rattle.ratatui_core.specs.Widgets.{IsClipped}
-use Rattle.ratatui_core.proofs.WidgetLemmas.{within-styled}
-use Rattle.ratatui_widgets.specs.Boxes.{IsBoxArea}
-use Rattle.ratatui_widgets.proofs.PartLemmas.{within-then}
-use Rattle.ratatui_widgets.proofs.BoxLemmas.{within-wider, is_in-true, is_in-has, test-cases}
+use Rattle.ratatui_core.proofs.WidgetLemmas.{within-styled, within-then}
+use Rattle.rtui_boxes.specs.Boxes.{IsBoxArea}
+use Rattle.rtui_boxes.proofs.BoxLemmas.{is_in-true, is_in-has, test-cases}
+use Rattle.ratatui_core.proofs.BufferLemmas.{within-same, within-wider}
+use Rattle.rtui_boxes.proofs.PaintLemmas.{part-place, part-has_row, part-starts, part-ends, part-right, paints-within}
 use Rattle.ratatui_widgets.specs.declared.paragraph.Paragraph.{Paragraph}
-use Rattle.ratatui_widgets.specs.Boxes.{is_in}
-use Rattle.ratatui_widgets.specs.Plain.{IsPlain, IsPlainFrom, IsPlainIfBox, IsReadyFrom}
+use Rattle.rtui_boxes.specs.Boxes.{is_in}
+use Rattle.ratatui_core.specs.Buffer.{IsPlain, IsPlainFrom, IsReadyFrom}
+use Rattle.rtui_boxes.specs.Boxes.{IsPlainIfBox}
 use Rattle.ratatui_widgets.specs.Paragraphs.{RendersParagraph}
-use Rattle.ratatui_widgets.proofs.PlainLemmas.{plain-styled, settled-plain, ready-plain}
+use Rattle.ratatui_core.proofs.BufferLemmas.{plain-styled, settled-plain, ready-plain}
 use Rattle.ratatui_core.specs.Layout.{EdgesFit}
 use Rattle.ratatui_core.specs.Buffer.{cell_in, IsSettledSheet}
-
--- a place of a part
-pub part-place : (part : Rect) (x y : ℕ) → IsBoxArea part → part.x ≤ x → x < part.x + part.width → part.y ≤ y → y < part.y + part.height → HasPosition part (position_of (x, y))
-part-place part x y box l r t b = let a = box.across in let d = box.down in record { left = l; right = omega arith; top = t; bottom = omega arith }
-
-pub part-has_row : (part own : Rect) (y : ℕ) → IsBoxArea part → IsInside part own → part.y ≤ y → y < part.y + part.height → HasRow own y
-part-has_row part own y box inside t b =
-    let c = box.columns in let h = inside (position_of (part.x, y)) (part-place part part.x y box (omega arith) (omega arith) t b) in
-    let ht = h.top in let hb = h.bottom in record { top = ht; bottom = omega arith }
-
-pub part-starts : (part own : Rect) (x : ℕ) → IsBoxArea part → IsInside part own → part.x ≤ x → own.x ≤ x
-part-starts part own x box inside le =
-    let c = box.columns in let r = box.rows in let h = inside (position_of (part.x, part.y)) (part-place part part.x part.y box (omega arith) (omega arith) (omega arith) (omega arith)) in
-    let l = h.left in omega arith
-
-pub part-ends : (part own : Rect) (x n : ℕ) → IsBoxArea part → IsInside part own → part.x ≤ x → x + n ≤ part.x + part.width → n ≤ own.x + own.width - x
-part-ends part own x n box inside le fits =
-    let c = box.columns in let rows = box.rows in let a = box.across in
-    let h = inside (position_of (part.x + (part.width - 1), part.y)) (part-place part (part.x + (part.width - 1)) part.y box (omega arith) (omega arith) (omega arith) (omega arith)) in
-    let r = h.right in omega arith
-
-pub part-right : (part own : Rect) (x n : ℕ) → IsBoxArea part → IsInside part own → x + n ≤ part.x + part.width → x + n ≤ own.x + own.width
-part-right part own x n box inside fits =
-    let c = box.columns in let rows = box.rows in let a = box.across in
-    let h = inside (position_of (part.x + (part.width - 1), part.y)) (part-place part (part.x + (part.width - 1)) part.y box (omega arith) (omega arith) (omega arith) (omega arith)) in
-    let r = h.right in omega arith
-
-by-result : {A : Type 0} (r : Result A AllocError) (part : Rect) (p : Position) (ps : List Piece) (old new : Sheet) → HasRow old.area p.y → old.area.x ≤ p.x → columns ps ≤ old.area.x + old.area.width - p.x
-    → ((q : Position) → (HasPosition part q → ⊥) → IsBeside p (columns ps) q) → PaintsOrRefuses p ps r old new → ChangesWithin part old new
-by-result (Ok x) part p ps old new row starts ends beside paints =
-    let by = PaintsByColumns-paints p ps old new row starts ends paints.ok in
-    record { same_area = paints.ok.area; same_room = paints.ok.room; outside = λ q in_own off. by.outside q in_own (beside q off) }
-by-result (Err e) part p ps old new row starts ends beside paints =
-    record { same_area = paints.err.area; same_room = paints.err.room; outside = λ q in_own off. same-beside p q ps old new row starts ends paints.err in_own (beside q off) }
-
-pub paints-within : {A : Type 0} (r : Result A AllocError) (part : Rect) (x y : ℕ) (ps : List Piece) (old new : Sheet) → IsBoxArea part → IsInside part old.area → part.x ≤ x → x + columns ps ≤ part.x + part.width
-    → part.y ≤ y → y < part.y + part.height → PaintsOrRefuses (position_of (x, y)) ps r old new → ChangesWithin part old new
-paints-within r part x y ps old new box inside le fits t b paints =
-    let row = part-has_row part old.area y box inside t b in
-    let starts = part-starts part old.area x box inside le in
-    let ends = part-ends part old.area x (columns ps) box inside le fits in
-    let beside : (q : Position) → (HasPosition part q → ⊥) → IsBeside (position_of (x, y)) (columns ps) q = λ q off. λ same.
-    ⊎_elim
-    (λ (before : q.x < x). inl before)
-    (λ (from : x ≤ q.x).
-    ⊎_elim
-    (λ (there : q.x < x + columns ps). absurd (off (let a = box.across in let d = box.down in record { left = omega arith; right = omega arith; top = omega arith; bottom = omega arith })))
-    (λ (past : x + columns ps ≤ q.x). inr past)
-    (cases_lt q.x (x + columns ps)))
-    (cases_lt q.x x) in
-    by-result r part (position_of (x, y)) ps old new row starts ends beside paints
 
 -- a paragraph over the part of an area: the style, the box, and the text inside
 module _ (paragraph : Paragraph) (area part inside : Rect) (old laid boxed : Sheet) (is : IsClipped area old.area part) (style : IsStyled part paragraph.style old laid) (box : ChangesWithin part laid boxed) where
@@ -104,3 +55,5 @@ pub paragraph-ok : {A : Type 0} (r : Result A AllocError) (paragraph : Paragraph
     → (EdgesFit old.area → IsPlainFrom 0 old → IsPlainIfBox paragraph.block → OnOk r (IsSettledSheet new)) → OnOk r (RendersParagraph paragraph area old new)
 paragraph-ok (Ok x) paragraph area old new within settled = record { within = within; settled = settled }
 paragraph-ok (Err e) paragraph area old new within settled = tt
+
+pub ruleset within_steps = (within-same, within-then)

@@ -8,7 +8,7 @@ use Rattle.std.specs.List.{list_all}
 use Rattle.std.proofs.lemmas.List.Sums.{sum_by-take-le}
 use Rattle.ratatui_core.specs.declared.text.StyledGrapheme.{StyledGrapheme}
 use Rattle.ratatui_core.specs.Buffer.{text_width}
-use Rattle.ratatui_widgets.specs.Reflow.{is_blank, columns_of, words_of, AllFit}
+use Rattle.ratatui_widgets.specs.Reflow.{is_break, columns_taken, words_of, AllFit}
 
 take-take : {X : Type 0} → (n m : ℕ) (xs : List X) → n ≤ m → take n (take m xs) ≡ take n xs
 take-take zero m xs le = refl
@@ -17,10 +17,10 @@ take-take (suc n) (suc m) [] le = refl
 take-take (suc n) (suc m) (x ∷ xs) le = ap (λ ys. x ∷ ys) (take-take n m xs (omega arith))
 
 -- a shorter front has no more columns
-pub front-fits : (n m width : ℕ) (gs : List StyledGrapheme) → n ≤ m → columns_of (take m gs) ≤ width → columns_of (take n gs) ≤ width
+pub front-fits : (n m width : ℕ) (gs : List StyledGrapheme) → n ≤ m → columns_taken (take m gs) ≤ width → columns_taken (take n gs) ≤ width
 front-fits n m width gs le fits =
     let h = sum_by-take-le (λ g. text_width g.symbol.now) (take m gs) n in
-    let k : columns_of (take n gs) ≤ columns_of (take m gs) = subst (λ ys. columns_of ys ≤ columns_of (take m gs)) (take-take n m gs le) h in
+    let k : columns_taken (take n gs) ≤ columns_taken (take m gs) = subst (λ ys. columns_taken ys ≤ columns_taken (take m gs)) (take-take n m gs le) h in
     omega arith
 
 -- after blanks a front has the words of what stands there
@@ -29,7 +29,7 @@ words-past start n gs none =
     let parts : take (start + n) gs ≡ take start gs ++ take n (drop start gs) =
     sym (take-append-drop start (take (start + n) gs)) ∙ (ap (λ xs. xs ++ drop start (take (start + n) gs)) (take-take start (start + n) gs (omega arith))
     ∙ ap (λ ys. take start gs ++ ys) (drop-take start n gs)) in
-    ap (λ xs. words_of xs) parts ∙ (filter-append (λ g. not (is_blank g)) (take start gs) (take n (drop start gs)) ∙ ap (λ xs. xs ++ words_of (take n (drop start gs))) none)
+    ap (λ xs. words_of xs) parts ∙ (filter-append (λ g. not (is_break g)) (take start gs) (take n (drop start gs)) ∙ ap (λ xs. xs ++ words_of (take n (drop start gs))) none)
 
 both-right : (a b : Bool) → (a && b) ≡ true → b ≡ true
 both-right true b e = e

@@ -1,15 +1,13 @@
 -- A paragraph: what it changes.
-use Rattle.std.specs.Prelude.{◌≡◌, ℕ, ◌<◌, ◌≤◌, Option, Some, None}
+use Rattle.std.specs.Prelude.{◌≡◌, ℕ, ◌<◌, ◌≤◌, None}
 use Rattle.ratatui_core.specs.Layout.{Rect, EdgesFit}
 use Rattle.ratatui_core.specs.Style.{new_style}
 use Rattle.ratatui_core.specs.Text.{TextData}
 use Rattle.ratatui_core.specs.declared.layout.HorizontalAlignment.TheVariants.{Left}
-use Rattle.ratatui_core.specs.Buffer.{Sheet, IsSettledSheet, position_of}
+use Rattle.ratatui_core.specs.Buffer.{Sheet, IsPlainFrom, IsSettledSheet, position_of}
 use Rattle.ratatui_core.specs.Widgets.{ChangesWithin}
-use Rattle.ratatui_widgets.specs.declared.block.Block.{Block}
 use Rattle.ratatui_widgets.specs.declared.paragraph.Paragraph.{Paragraph}
-use Rattle.ratatui_widgets.specs.Boxes.{inner_of}
-use Rattle.ratatui_widgets.specs.Plain.{IsPlainFrom, IsPlainIfBox}
+use Rattle.rtui_boxes.specs.Boxes.{IsPlainIfBox}
 
 -- a text without a box, from its first row and column on, cut and aligned to the left
 pub record IsNewParagraph (text : TextData) (p : Paragraph) : Type 0 where
@@ -19,11 +17,6 @@ pub record IsNewParagraph (text : TextData) (p : Paragraph) : Type 0 where
   pub cut : p.wrap ≡ None
   pub start : p.scroll ≡ position_of (0, 0)
   pub aligned : p.alignment ≡ Left
-
--- what is inside the box, if there is one
-abbrev pub inner_if : Option Block → Rect → Rect
-inner_if None r = r
-inner_if (Some b) r = inner_of b r
 
 -- A paragraph: nothing outside the area changes; and of a buffer of plain cells comes a settled one, if the box is plain
 pub record RendersParagraph (paragraph : Paragraph) (area : Rect) (old new : Sheet) : Type 0 where

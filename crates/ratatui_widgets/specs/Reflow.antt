@@ -6,16 +6,16 @@ use Rattle.ratatui_core.specs.Buffer.{text_width}
 use Rattle.ratatui_core.specs.declared.text.StyledGrapheme.{StyledGrapheme}
 
 -- a blank: a grapheme at which a line may be broken
-abbrev pub is_blank : StyledGrapheme → Bool
-is_blank g = is_whitespace_symbol g.symbol.now
+abbrev pub is_break : StyledGrapheme → Bool
+is_break g = is_whitespace_symbol g.symbol.now
 
 -- how many columns graphemes take
-abbrev pub columns_of : List StyledGrapheme → ℕ
-columns_of gs = sum_by (λ g. text_width g.symbol.now) gs
+abbrev pub columns_taken : List StyledGrapheme → ℕ
+columns_taken gs = sum_by (λ g. text_width g.symbol.now) gs
 
 -- the graphemes that no break takes: all but the blanks
 abbrev pub words_of : List StyledGrapheme → List StyledGrapheme
-words_of gs = filter (λ g. not (is_blank g)) gs
+words_of gs = filter (λ g. not (is_break g)) gs
 
 -- each grapheme fits a row
 abbrev pub AllFit : ℕ → List StyledGrapheme → Type 0

@@ -3,22 +3,22 @@
 ghost use Rattle.std.specs.Prelude.{◌≡◌, ◌+◌, ◌<◌, ◌≤◌, IfSome, IfOk, OnOk};
 ghost use Rattle.ratatui_core.specs.Layout.{IsInside};
 ghost use Rattle.ratatui_core.specs.Widgets.{ChangesWithin};
-ghost use Rattle.ratatui_widgets.specs.Boxes.{IsBoxArea};
+ghost use Rattle.rtui_boxes.specs.Boxes.{IsBoxArea, IsPlainIfBox};
+ghost use Rattle.rtui_boxes.specs.Framed.{inner_if};
 ghost use Rattle.ratatui_core.specs.Buffer.{IsSettledSheet};
-ghost use Rattle.ratatui_widgets.specs.Plain.{IsPlainFrom, IsPlainIfBox, IsReadyAt, IsReadyFrom};
+ghost use Rattle.ratatui_core.specs.Buffer.{IsPlainFrom, IsReadyAt, IsReadyFrom};
 ghost use Rattle.ratatui_core.specs.Buffer.{position_of};
 ghost use Rattle.ratatui_core.specs.declared.layout.HorizontalAlignment.TheVariants.{Left, Center, Right};
-ghost use Rattle.ratatui_widgets.specs.Paragraphs.{inner_if, IsNewParagraph};
+ghost use Rattle.ratatui_widgets.specs.Paragraphs.{IsNewParagraph};
 ghost use Rattle.ratatui_widgets.specs.Reflow.{AllFit};
 
-use crate::block::Block;
-use crate::part::part_in;
 use crate::reflow::{columns_of, fitting, split_row, truncated};
-use ratatui_core::buffer::{Buffer, CellWidth};
+use ratatui_core::buffer::{Buffer, CellWidth, part_in};
 use ratatui_core::layout::{HorizontalAlignment, Position, Rect};
 use ratatui_core::style::Style;
 use ratatui_core::text::{StyledGrapheme, Text};
 use ratatui_core::widgets::Widget;
+use rtui_boxes::Block;
 use std::alloc::{AllocError, Global};
 
 /// How lines are broken that don't fit.
@@ -334,7 +334,7 @@ fn put_grapheme(
 }
 
 // Renders graphemes in row k of a part.
-#[tactic(auto, using(crate::proofs::PartLemmas::within_steps))]
+#[tactic(auto, using(crate::proofs::ParagraphLemmas::within_steps))]
 fn render_row(
     row: &[StyledGrapheme<'_>],
     alignment: HorizontalAlignment,

@@ -2,7 +2,7 @@
 
 ghost use Rattle.std.specs.Prelude.{◌≡◌, ◌+◌, ◌≤◌, ◌<◌, [], length, IfOk};
 ghost use Rattle.std.proofs.Math.ListN.{take};
-ghost use Rattle.ratatui_widgets.specs.Reflow.{columns_of, words_of, AllFit};
+ghost use Rattle.ratatui_widgets.specs.Reflow.{columns_taken, words_of, AllFit};
 
 use ratatui_core::buffer::CellWidth;
 use ratatui_core::text::{LineGraphemes, StyledGrapheme};
@@ -86,7 +86,7 @@ fn fitting_count(graphemes: &[StyledGrapheme<'_>], width: u16) -> usize
     requires { AllFit width graphemes.now }
     ensures some { 0 < length graphemes.now → 0 < result }
     ensures inside { result ≤ length graphemes.now }
-    ensures fits { columns_of (take result graphemes.now) ≤ width }
+    ensures fits { columns_taken (take result graphemes.now) ≤ width }
 {
     let mut used = 0u16;
     let mut count = 0;
@@ -192,7 +192,7 @@ fn row_ends(graphemes: &[StyledGrapheme<'_>], width: u16) -> (usize, usize)
     ensures ends { result.0 ≤ result.1 }
     ensures inside { result.1 ≤ length graphemes.now }
     ensures some { 0 < length graphemes.now → 0 < result.1 }
-    ensures fits { columns_of (take result.0 graphemes.now) ≤ width }
+    ensures fits { columns_taken (take result.0 graphemes.now) ≤ width }
     ensures keeps { words_of (take result.1 graphemes.now)
         ≡ words_of (take result.0 graphemes.now) }
 {
@@ -215,7 +215,7 @@ pub(crate) fn split_row<'s, 't>(
     trim: bool,
 ) -> (&'s [StyledGrapheme<'t>], usize)
     requires { AllFit width graphemes.now }
-    ensures fits { columns_of result.0.now ≤ width }
+    ensures fits { columns_taken result.0.now ≤ width }
     ensures keeps { words_of (take result.1 graphemes.now) ≡ words_of result.0.now }
     ensures some { 0 < length graphemes.now → 0 < result.1 }
     ensures inside { result.1 ≤ length graphemes.now }

@@ -1,8 +1,8 @@
 use Rattle.std.proofs.Common.{arith, Ok}
 use Rattle.ratatui_core.specs.Buffer.{pieces_at}
 use Rattle.ratatui_core.proofs.BufferLemmas.{text-keeps}
-use Rattle.ratatui_widgets.proofs.ParagraphLemmas.{part-has_row, part-starts, part-right, paints-within}
-use Rattle.ratatui_widgets.proofs.PlainLemmas.{put-ready}
+use Rattle.rtui_boxes.proofs.PaintLemmas.{part-has_row, part-starts, part-right, paints-within}
+use Rattle.ratatui_core.proofs.BufferLemmas.{put-ready}
 use Rattle.ratatui_widgets.proofs.paragraph.put_grapheme.Goals as goal
 
 pub set_stringn-requires-clause-row : goal.set_stringn-requires-clause-row

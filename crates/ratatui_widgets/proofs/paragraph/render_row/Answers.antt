@@ -1,8 +1,8 @@
 use Rattle.std.proofs.Common.{◌+◌, ◌≤◌, arith}
-use Rattle.ratatui_widgets.proofs.PartLemmas.{within-same}
-use Rattle.ratatui_widgets.proofs.BoxLemmas.{inside-within}
-use Rattle.ratatui_widgets.proofs.ParagraphLemmas.{part-has_row, part-right}
-use Rattle.ratatui_widgets.proofs.PlainLemmas.{ready-row}
+use Rattle.ratatui_core.proofs.BufferLemmas.{within-same}
+use Rattle.rtui_boxes.proofs.BoxLemmas.{inside-within}
+use Rattle.rtui_boxes.proofs.PaintLemmas.{part-has_row, part-right}
+use Rattle.ratatui_core.proofs.BufferLemmas.{ready-row}
 use Rattle.ratatui_widgets.proofs.paragraph.render_row.Goals as goal
 
 pub put_grapheme-requires-clause-inside : goal.put_grapheme-requires-clause-inside

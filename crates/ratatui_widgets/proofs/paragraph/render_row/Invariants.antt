@@ -1,6 +1,6 @@
 use Rattle.std.proofs.Common.{◌≤◌, ◌+◌}
 use Rattle.ratatui_core.specs.Widgets.{ChangesWithin}
-use Rattle.ratatui_widgets.specs.Plain.{IsReadyAt, IsReadyFrom}
+use Rattle.ratatui_core.specs.Buffer.{IsReadyAt, IsReadyFrom}
 use Rattle.ratatui_widgets.proofs.paragraph.render_row.Given as goal
 
 abbrev pub invariant-loop-grapheme : goal.invariant-loop-grapheme

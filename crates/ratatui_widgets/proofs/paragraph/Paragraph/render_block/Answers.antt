@@ -1,7 +1,7 @@
 use Rattle.std.proofs.Common.{subst}
-use Rattle.ratatui_widgets.specs.Plain.{IsPlainBox, IsPlainIfBox}
-use Rattle.ratatui_widgets.proofs.PartLemmas.{on-ok}
-use Rattle.ratatui_widgets.proofs.PlainBoxLemmas.{plain-box}
+use Rattle.rtui_boxes.specs.Boxes.{IsPlainBox, IsPlainIfBox}
+use Rattle.ratatui_core.proofs.BufferLemmas.{on-ok}
+use Rattle.rtui_boxes.proofs.PlainBoxLemmas.{plain-box}
 use Rattle.ratatui_widgets.proofs.paragraph.Paragraph.render_block.Goals as goal
 
 pub returns-in-Some-clause-plain : goal.returns-in-Some-clause-plain

@@ -1,4 +1,4 @@
-use Rattle.ratatui_widgets.proofs.BoxLemmas.{inside-within}
+use Rattle.rtui_boxes.proofs.BoxLemmas.{inside-within}
 use Rattle.ratatui_widgets.proofs.paragraph.Paragraph.render_truncated.Goals as goal
 
 pub render_row-requires-clause-inside : goal.render_row-requires-clause-inside

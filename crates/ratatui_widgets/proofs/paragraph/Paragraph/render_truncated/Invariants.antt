@@ -1,6 +1,6 @@
 use Rattle.std.proofs.Common.{◌+◌}
 use Rattle.ratatui_core.specs.Widgets.{ChangesWithin}
-use Rattle.ratatui_widgets.specs.Plain.{IsReadyFrom}
+use Rattle.ratatui_core.specs.Buffer.{IsReadyFrom}
 use Rattle.ratatui_widgets.proofs.paragraph.Paragraph.render_truncated.Given as goal
 
 abbrev pub invariant-loop-k : goal.invariant-loop-k

@@ -1,4 +1,4 @@
-use Rattle.ratatui_widgets.proofs.BoxLemmas.{inside-within}
+use Rattle.rtui_boxes.proofs.BoxLemmas.{inside-within}
 use Rattle.ratatui_widgets.proofs.paragraph.Paragraph.render_wrapped.Goals as goal
 
 pub render_line-requires-clause-inside : goal.render_line-requires-clause-inside

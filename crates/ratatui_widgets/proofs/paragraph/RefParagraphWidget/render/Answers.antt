@@ -1,6 +1,6 @@
 use Rattle.std.proofs.Common.{rules}
-use Rattle.ratatui_widgets.proofs.PartLemmas.{within-same}
-use Rattle.ratatui_widgets.proofs.PlainLemmas.{settled-plain}
+use Rattle.ratatui_core.proofs.BufferLemmas.{within-same}
+use Rattle.ratatui_core.proofs.BufferLemmas.{settled-plain}
 use Rattle.ratatui_widgets.proofs.ParagraphLemmas.{within-text, within-box, boxed-settled, boxed-ready, paragraph-ok}
 use Rattle.ratatui_widgets.proofs.paragraph.RefParagraphWidget.render.Goals as goal
 

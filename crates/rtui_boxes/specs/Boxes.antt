@@ -1,0 +1,245 @@
+-- A box: which symbols stand where, and what is inside.
+use Rattle.std.specs.Prelude.{◌≡◌, ℕ, Bool, true, false, ◌&&◌, ◌||◌, ◌==◌, ◌+◌, ◌-◌, ◌≤◌, ◌<◌, nat_le, nat_lt, min, Option, Some, None, List, [], ◌∷◌, ◌++◌, if◌then◌else◌, unwrap_or, ⊤, Result, IsOk, OnOk, OnErr}
+use Rattle.std.specs.List.{list_any}
+use Rattle.std.specs.Int.RustNames.{bit_and}
+use Rattle.ratatui_core.specs.Layout.{Rect, Position, HasPosition, right_edge, bottom_edge, intersected}
+use Rattle.ratatui_core.specs.Style.{Style, new_style}
+use Rattle.ratatui_core.specs.Text.{LineData}
+use Rattle.ratatui_core.specs.declared.layout.HorizontalAlignment.TheVariants.{Left}
+use Rattle.ratatui_core.specs.Widgets.{ChangesWithin}
+use Rattle.std.specs.declared.alloc.AllocError.{AllocError}
+use Rattle.ratatui_core.specs.Buffer.{Sheet, Cell, MakesEach, place_at, position_of, cell_in, styled, with_symbol, joined, symbol_text, text_width, IsShort}
+use Rattle.ratatui_core.specs.declared.symbols.merge.MergeStrategy.{MergeStrategy}
+use Rattle.ratatui_core.specs.declared.symbols.merge.MergeStrategy.TheVariants.{Replace, Exact, Fuzzy}
+use Rattle.rtui_boxes.specs.declared.borders.Borders.{Borders}
+use Rattle.rtui_boxes.specs.declared.block.Block.{Block}
+use Rattle.rtui_boxes.specs.declared.title.Title.{Title}
+use Rattle.rtui_boxes.specs.declared.title.TitlePosition.{TitlePosition}
+use Rattle.rtui_boxes.specs.declared.title.TitlePosition.TheVariants.{Top, Bottom}
+use Rattle.rtui_boxes.specs.Borders.{sides_of}
+
+-- a box with these sides and plain lines, without titles, styles and padding
+pub record IsNewBlock (sides : ℕ) (b : Block) : Type 0 where
+  pub untitled : b.titles.items ≡ []
+  pub titles_plain : b.titles_style ≡ new_style
+  pub titles_left : b.titles_alignment ≡ Left
+  pub titles_top : b.titles_position ≡ Top
+  pub borders : sides_of b.borders ≡ sides
+  pub borders_plain : b.border_style ≡ new_style
+  pub plain : b.style ≡ new_style
+  pub unpadded : b.padding ≡ record { left = 0; right = 0; top = 0; bottom = 0 }
+  pub replaces : b.merge_borders ≡ Replace
+
+-- a box with a title after its others
+pub record AddsTitle (position : Option TitlePosition) (line : LineData) (old new : Block) : Type 0 where
+  pub titles : new.titles.items ≡ old.titles.items ++ record { position = position; line = line } ∷ []
+  pub rest : new ≡ record old { titles = new.titles }
+
+-- 1 for true
+abbrev pub one_if : Bool → ℕ
+one_if b = if b then 1 else 0
+
+-- whether all of some sides are drawn
+abbrev pub has_side : Block → Borders → Bool
+has_side b sides = bit_and (sides_of b.borders) (sides_of sides) == sides_of sides
+
+abbrev pub top : Borders
+top = record { 0 = 1 }
+
+abbrev pub right : Borders
+right = record { 0 = 2 }
+
+abbrev pub bottom : Borders
+bottom = record { 0 = 4 }
+
+abbrev pub left : Borders
+left = record { 0 = 8 }
+
+abbrev pub is_same_position : TitlePosition → TitlePosition → Bool
+is_same_position Top Top = true
+is_same_position Top Bottom = false
+is_same_position Bottom Top = false
+is_same_position Bottom Bottom = true
+
+-- whether a title stands in a row
+abbrev pub is_in_row : TitlePosition → TitlePosition → Title → Bool
+is_in_row own position title = is_same_position (unwrap_or title.position own) position
+
+abbrev pub has_title : Block → TitlePosition → Bool
+has_title b position = list_any (is_in_row b.titles_position position) b.titles.items
+
+-- whether the first row, or the last one, is no part of the inside
+abbrev pub has_row : Block → Borders → TitlePosition → Bool
+has_row b side position = has_side b side || has_title b position
+
+-- what is inside: the area without the columns and rows of borders and titles, and without the padding
+abbrev pub inner_of : Block → Rect → Rect
+inner_of b r =
+    let l = one_if (has_side b left) in let t = one_if (has_row b top Top) in
+    record {
+      x = min (min (min (r.x + l) 65535) (right_edge r) + b.padding.left) 65535;
+      y = min (min (min (r.y + t) 65535) (bottom_edge r) + b.padding.top) 65535;
+      width = r.width - l - one_if (has_side b right) - min (b.padding.left + b.padding.right) 65535;
+      height = r.height - t - one_if (has_row b bottom Bottom) - min (b.padding.top + b.padding.bottom) 65535;
+    }
+
+-- a cell with a symbol drawn over it by a strategy, in a style
+abbrev pub drawn : MergeStrategy → Style → List ℕ → Cell → Cell
+drawn strategy style symbol c = styled style (with_symbol (joined strategy c.symbol symbol) c)
+
+-- whether borders are joined with what stands there
+abbrev pub joins : MergeStrategy → Bool
+joins Replace = false
+joins Exact = true
+joins Fuzzy = true
+
+-- how far a side begins after this one: if borders are joined, a corner belongs to no side
+abbrev pub inset : Block → Borders → ℕ
+inset b side = one_if (joins b.merge_borders && has_side b side)
+
+-- an area with columns and rows
+pub record IsBoxArea (r : Rect) : Type 0 where
+  pub columns : 0 < r.width
+  pub rows : 0 < r.height
+  pub across : r.x + r.width ≤ 65535
+  pub down : r.y + r.height ≤ 65535
+
+-- the last column and the last row
+abbrev pub last_column : Rect → ℕ
+last_column r = r.x + (r.width - 1)
+
+abbrev pub last_row : Rect → ℕ
+last_row r = r.y + (r.height - 1)
+
+-- the sides
+abbrev pub left_side : Block → Rect → Rect
+left_side b r = record { x = r.x; y = r.y + inset b top; width = 1; height = r.height - inset b top - inset b bottom }
+
+abbrev pub right_side : Block → Rect → Rect
+right_side b r = record (left_side b r) { x = last_column r }
+
+abbrev pub top_side : Block → Rect → Rect
+top_side b r = record { x = r.x + inset b left; y = r.y; width = r.width - inset b left - inset b right; height = 1 }
+
+abbrev pub bottom_side : Block → Rect → Rect
+bottom_side b r = record (top_side b r) { y = last_row r }
+
+-- a symbol over each place of a rectangle, if it is drawn
+pub record Stroke : Type 0 where
+  pub is_drawn : Bool
+  pub part : Rect
+  pub symbol : List ℕ
+
+abbrev pub stroke : Bool → Rect → List ℕ → Stroke
+stroke is_drawn part symbol = record { is_drawn = is_drawn; part = part; symbol = symbol }
+
+abbrev pub side_strokes : Block → Rect → List Stroke
+side_strokes b r =
+    stroke (has_side b left) (left_side b r) b.border_set.vertical_left.now ∷ (stroke (has_side b top) (top_side b r) b.border_set.horizontal_top.now
+    ∷ (stroke (has_side b right) (right_side b r) b.border_set.vertical_right.now ∷ (stroke (has_side b bottom) (bottom_side b r) b.border_set.horizontal_bottom.now ∷ [])))
+
+abbrev pub corner_strokes : Block → Rect → List Stroke
+corner_strokes b r =
+    stroke (has_side b right && has_side b bottom) (place_at (position_of (last_column r, last_row r))) b.border_set.bottom_right.now
+    ∷ (stroke (has_side b right && has_side b top) (place_at (position_of (last_column r, r.y))) b.border_set.top_right.now
+    ∷ (stroke (has_side b left && has_side b bottom) (place_at (position_of (r.x, last_row r))) b.border_set.bottom_left.now
+    ∷ (stroke (has_side b left && has_side b top) (place_at (position_of (r.x, r.y))) b.border_set.top_left.now ∷ [])))
+
+-- the position lies in a rectangle
+abbrev pub is_in : Rect → Position → Bool
+is_in r p = nat_le r.x p.x && nat_lt p.x (right_edge r) && nat_le r.y p.y && nat_lt p.y (bottom_edge r)
+
+-- the stroke is drawn over the position
+abbrev pub strikes : Stroke → Position → Bool
+strikes s p = s.is_drawn && is_in s.part p
+
+-- a cell at a position, with the strokes drawn over it in order
+abbrev pub stroked : Block → List Stroke → Position → Cell → Cell
+stroked b [] p c = c
+stroked b (s ∷ ss) p c = stroked b ss p (if strikes s p then drawn b.merge_borders b.border_style s.symbol c else c)
+
+-- no symbol that comes of it takes memory
+abbrev pub IsShortUnder : Block → List Stroke → Position → Cell → Type 0
+IsShortUnder b [] p c = ⊤
+IsShortUnder b (s ∷ ss) p c =
+    (strikes s p ≡ true → IsShort (joined b.merge_borders c.symbol s.symbol)) × IsShortUnder b ss p (if strikes s p then drawn b.merge_borders b.border_style s.symbol c else c)
+
+-- strokes within an area are drawn, or memory is refused; nothing outside the area changed
+pub record DrawsStrokes {A : Type 0} (b : Block) (area : Rect) (ss : List Stroke) (result : Result A AllocError) (old new : Sheet) : Type 0 where
+  pub within : ChangesWithin area old new
+  pub ok : OnOk result (MakesEach (stroked b ss) old new)
+  pub short : ((p : Position) → HasPosition old.area p → IsShortUnder b ss p (cell_in old p)) → IsOk result
+
+-- all strokes of a box: the sides, and then the corners
+abbrev pub strokes : Block → Rect → List Stroke
+strokes b r = side_strokes b r ++ corner_strokes b r
+
+-- the row in which titles stand
+abbrev pub title_row : Rect → TitlePosition → ℕ
+title_row r Top = r.y
+title_row r Bottom = last_row r
+
+-- where the titles of a row stand: between the borders
+abbrev pub titles_area : Block → Rect → TitlePosition → Rect
+titles_area b r position =
+    record { x = r.x + one_if (has_side b left); y = title_row r position; width = r.width - one_if (has_side b left) - one_if (has_side b right); height = 1 }
+
+-- no title stands at the position
+pub record IsOffTitles (b : Block) (r : Rect) (p : Position) : Type 0 where
+  pub first : has_title b Top ≡ true → ¬ (HasPosition (titles_area b r Top) p)
+  pub last : has_title b Bottom ≡ true → ¬ (HasPosition (titles_area b r Bottom) p)
+
+-- only where titles stand a buffer changed
+pub record KeepsOffTitles (b : Block) (r : Rect) (old new : Sheet) : Type 0 where
+  pub area : new.area ≡ old.area
+  pub room : new.room ≡ old.room
+  pub at : (p : Position) → HasPosition old.area p → IsOffTitles b r p → cell_in new p ≡ cell_in old p
+
+-- a cell at a position of a box over a rectangle: in the style of the box, and the strokes over it; beside the box as before
+abbrev pub box_cell : Block → Rect → Position → Cell → Cell
+box_cell b r p c = if is_in r p then stroked b (strokes b r) p (styled b.style c) else c
+
+-- A box over the part of an area that the buffer has, cell by cell. Nothing is said of the cells in which titles stand, but that they alone
+-- may differ; a row without titles has none.
+pub record RendersBlock (b : Block) (area : Rect) (old new : Sheet) : Type 0 where
+  pub same_area : new.area ≡ old.area
+  pub same_room : new.room ≡ old.room
+  pub at : (p : Position) → HasPosition old.area p → IsOffTitles b (intersected area old.area) p → cell_in new p ≡ box_cell b (intersected area old.area) p (cell_in old p)
+  pub within : ChangesWithin area old new
+
+-- a box without titles takes no memory where no symbol does that comes of it
+pub record IsShortBlock (b : Block) (area : Rect) (s : Sheet) : Type 0 where
+  pub untitled : b.titles.items ≡ []
+  pub short : (p : Position) → HasPosition s.area p → IsShortUnder b (strokes b (intersected area s.area)) p (if is_in (intersected area s.area) p then styled b.style (cell_in s p) else cell_in s p)
+
+-- each symbol of the border takes no memory
+pub record HasShortSymbols (b : Block) : Type 0 where
+  pub left : IsShort b.border_set.vertical_left.now
+  pub top : IsShort b.border_set.horizontal_top.now
+  pub right : IsShort b.border_set.vertical_right.now
+  pub bottom : IsShort b.border_set.horizontal_bottom.now
+  pub bottom_right : IsShort b.border_set.bottom_right.now
+  pub top_right : IsShort b.border_set.top_right.now
+  pub bottom_left : IsShort b.border_set.bottom_left.now
+  pub top_left : IsShort b.border_set.top_left.now
+
+-- no cell's symbol takes memory
+abbrev pub AreShortCells : Sheet → Type 0
+AreShortCells s = (p : Position) → HasPosition s.area p → IsShort (symbol_text (cell_in s p).symbol)
+
+-- a box without titles whose symbols take at most one column each
+pub record IsPlainBox (b : Block) : Type 0 where
+  pub untitled : b.titles.items ≡ []
+  pub left : text_width b.border_set.vertical_left.now ≤ 1
+  pub top : text_width b.border_set.horizontal_top.now ≤ 1
+  pub right : text_width b.border_set.vertical_right.now ≤ 1
+  pub bottom : text_width b.border_set.horizontal_bottom.now ≤ 1
+  pub bottom_right : text_width b.border_set.bottom_right.now ≤ 1
+  pub top_right : text_width b.border_set.top_right.now ≤ 1
+  pub bottom_left : text_width b.border_set.bottom_left.now ≤ 1
+  pub top_left : text_width b.border_set.top_left.now ≤ 1
+
+-- the box is plain, if there is one
+abbrev pub IsPlainIfBox : Option Block → Type 0
+IsPlainIfBox None = ⊤
+IsPlainIfBox (Some b) = IsPlainBox b

@@ -1,0 +1,4 @@
+pub mod Borders
+pub mod Boxes
+pub mod Clears
+pub mod Framed

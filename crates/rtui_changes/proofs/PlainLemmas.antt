@@ -1,0 +1,231 @@
+-- Plain cells are settled, and painting keeps what is still to be painted plain.
+use Rattle.std.proofs.Common.{◌≡◌, ◌≢◌, ℕ, suc, ◌+◌, ◌-◌, ◌*◌, ◌<◌, ◌≤◌, ◌⊎◌, ⊎_elim, inl, inr, true, false, List, [], ◌∷◌, length, take, refl, sym, ap, subst, ◌∙◌, arith, if◌then◌else◌, Result, Ok, Err, OnOk}
+use Rattle.std.proofs.lemmas.Bool.{cases_lt}
+use Rattle.std.proofs.lemmas.List.Sums.{sum_by-cons}
+use Rattle.rtui_buffer.proofs.ColumnLemmas.{PaintsByColumns-paints}
+use Rattle.rtui_buffer.proofs.TextLemmas.{IsSettled-row}
+use Rattle.rtui_changes.specs.Changes.{ChangesEach}
+use Rattle.rtui_changes.proofs.ChangeLemmas.{has-or-not}
+use Rattle.rtui_buffer.proofs.EmptyLemmas.{cell-empty}
+use Rattle.rtui_buffer.specs.Frame.{IsSettledSheet}
+use Rattle.rtui_buffer.specs.PaintedText.{IsStyled, IsPaintable, IsBeside, right_by, PaintsPieces, PaintsByColumns, PaintsOrRefuses}
+use Rattle.rtui_buffer.specs.Painting.{Piece, piece_at, piece_width, columns, shown}
+use Rattle.rtui_buffer.specs.Sheet.{Sheet, cell_in, cell_index, area_size, empty_cells, IsEmptied, HasRow, position_of}
+use Rattle.rtui_cell.proofs.CellLemmas.{width-empty}
+use Rattle.rtui_cell.specs.Cell.{empty_cell, styled, width_of, is_skipped, IsUnmarked, with_symbol}
+use Rattle.rtui_cell.specs.Symbol.{joined, symbol_text}
+use Rattle.rtui_cell.specs.Width.{text_width}
+use Rattle.rtui_cell.specs.declared.cell.Cell.{Cell}
+use Rattle.rtui_diff.specs.Cells.{cell, cell_at}
+use Rattle.rtui_diff.specs.Settled.{IsSettled}
+use Rattle.rtui_geometry.specs.Rect.{HasPosition, EdgesFit, IsInside}
+use Rattle.rtui_geometry.specs.declared.position.Position.{Position}
+use Rattle.rtui_geometry.specs.declared.rect.Rect.{Rect}
+use Rattle.rtui_style.specs.declared.Style.{Style}
+use Rattle.std.specs.declared.alloc.AllocError.{AllocError}
+use Rattle.rtui_changes.specs.Plain.{IsPlain, IsPlainFrom, IsReadyAt, IsReadyFrom}
+
+pub index-at : (x y w a b : ℕ) → (y + b - y) * w + (x + a - x) ≡ b * w + a
+index-at x y w a b =
+    let row : y + b - y ≡ b = omega arith in
+    let column : x + a - x ≡ a = omega arith in
+    rw (row, column) refl
+
+pub plain-empty : IsPlain empty_cell
+plain-empty = record { narrow = rw width-empty (omega arith); unmarked = record { option = refl; flag = refl } }
+
+pub plain-styled : (s : Style) (c : Cell) → IsPlain c → IsPlain (styled s c)
+unfolding width_of
+plain-styled s c is = record { narrow = is.narrow; unmarked = record { option = is.unmarked.option; flag = is.unmarked.flag } }
+
+-- a buffer of plain cells is settled
+module _ (s : Sheet) (edges : EdgesFit s.area) (plain : IsPlainFrom 0 s) where
+  plain-at : (a b : ℕ) → a < s.area.width → b < s.area.height → IsPlain (cell_at s.area.width s.cells a b)
+  plain-at a b a_in b_in =
+      let right = edges.right in let bottom = edges.bottom in
+      subst (λ i. IsPlain (cell s.cells i)) (index-at s.area.x s.area.y s.area.width a b)
+      (plain (position_of (s.area.x + a, s.area.y + b)) (record { left = omega arith; right = omega arith; top = omega arith; bottom = omega arith }) (omega arith))
+
+  pub settled-plain : IsSettledSheet s
+  settled-plain = record {
+    skipped = λ a b a_in b_in skip. (plain-at a b a_in b_in).narrow;
+    within = λ a b a_in b_in off. let one = (plain-at a b a_in b_in).narrow in omega arith;
+    behind = λ a b k a_in b_in off more less. let one = (plain-at a b a_in b_in).narrow in absurd (omega arith);
+  }
+
+empty-there : (r : Rect) (s : Sheet) → IsEmptied r s → (p : Position) → cell_in s p ≡ empty_cell
+empty-there r s emptied p = rw emptied.cells (cell-empty (area_size r) (cell_index s.area p))
+
+pub plain-emptied : (r : Rect) (s : Sheet) → IsEmptied r s → IsPlainFrom 0 s
+plain-emptied r s emptied = λ p has le. subst IsPlain (sym (empty-there r s emptied p)) plain-empty
+
+-- where a column of the pieces lies
+record IsIn (ps : List Piece) (k : ℕ) : Type 0 where
+  piece : ℕ
+  column : ℕ
+  in_list : piece < length ps
+  in_piece : column < piece_width (piece_at ps piece)
+  place : columns (take piece ps) + column ≡ k
+  ends : columns (take piece ps) + piece_width (piece_at ps piece) ≤ columns ps
+
+is_in : (ps : List Piece) (k : ℕ) → k < columns ps → IsIn ps k
+is_in [] k lt = absurd (omega arith)
+is_in (p ∷ ps) k lt =
+    let sum : columns (p ∷ ps) ≡ piece_width p + columns ps = sum_by-cons piece_width p ps in
+    ⊎_elim
+    (λ (first : k < piece_width p). record { piece = 0; column = k; in_list = omega arith; in_piece = first; place = omega arith; ends = omega arith })
+    (λ (more : piece_width p ≤ k).
+    let r : IsIn ps (k - piece_width p) = is_in ps (k - piece_width p) (omega arith) in
+    let front : columns (take (suc r.piece) (p ∷ ps)) ≡ piece_width p + columns (take r.piece ps) = sum_by-cons piece_width p (take r.piece ps) in
+    let at = r.place in
+    let end = r.ends in
+    record { piece = suc r.piece; column = r.column; in_list = (let e = r.in_list in omega arith); in_piece = r.in_piece; place = omega arith; ends = omega arith })
+    (cases_lt k (piece_width p))
+
+width-shown : (p : Piece) (c : Cell) → IsUnmarked c → width_of (shown p c) ≡ piece_width p
+unfolding width_of
+width-shown p c plain = rw plain.option refl
+
+-- pieces painted in columns that may be painted: those after them may be painted still, and other rows are as before
+module _ (p : Position) (n : ℕ) (ps : List Piece) (old new : Sheet) (edges : EdgesFit old.area) (row : HasRow old.area p.y) (starts : old.area.x ≤ p.x) (fits : p.x + n ≤ old.area.x + old.area.width)
+    (le : columns ps ≤ n) (able : IsPaintable p n old) (same : new.area ≡ old.area) (by : PaintsByColumns p ps old new) where
+  has : (a : ℕ) → old.area.x ≤ a → a < old.area.x + old.area.width → HasPosition old.area (position_of (a, p.y))
+  has a from to = let r = edges.right in let b = edges.bottom in let t = row.top in let d = row.bottom in record { left = from; right = omega arith; top = t; bottom = omega arith }
+
+  ends-there : (a : ℕ) → p.x ≤ a → a < p.x + columns ps → a + width_of (cell_in new (position_of (a, p.y))) ≤ p.x + columns ps
+  ends-there a from to =
+      let r : IsIn ps (a - p.x) = is_in ps (a - p.x) (omega arith) in
+      let at = r.place in let inside = r.in_piece in let end = r.ends in
+      ⊎_elim
+      (λ (behind : 0 < r.column).
+      let e : p.x + (columns (take r.piece ps) + r.column) ≡ a = omega arith in
+      let blank : cell_in new (position_of (a, p.y)) ≡ empty_cell = subst (λ x. cell_in new (position_of (x, p.y)) ≡ empty_cell) e (by.behind r.piece r.column r.in_list behind r.in_piece) in
+      let w : width_of (cell_in new (position_of (a, p.y))) ≡ 1 = ap width_of blank ∙ width-empty in omega arith)
+      (λ (first : r.column ≤ 0).
+      let e : p.x + columns (take r.piece ps) ≡ a = omega arith in
+      let here : cell_in new (position_of (a, p.y)) ≡ shown (piece_at ps r.piece) (cell_in old (position_of (a, p.y))) =
+      subst (λ x. cell_in new (position_of (x, p.y)) ≡ shown (piece_at ps r.piece) (cell_in old (position_of (x, p.y)))) e (by.starts r.piece r.in_list) in
+      let w : width_of (cell_in new (position_of (a, p.y))) ≡ piece_width (piece_at ps r.piece) = ap width_of here ∙ width-shown (piece_at ps r.piece) (cell_in old (position_of (a, p.y))) (able.unmarked a from (omega arith)) in
+      omega arith)
+      (cases_lt 0 r.column)
+
+  pub paintable-next : IsPaintable (position_of (p.x + columns ps, p.y)) (n - columns ps) new
+  paintable-next = record {
+    unmarked = λ a from to. subst IsUnmarked (sym (by.outside (position_of (a, p.y)) (has a (omega arith) (omega arith)) (λ e. inr from))) (able.unmarked a (omega arith) (omega arith));
+    uncovered = λ a from to off.
+        let left : new.area.x ≡ old.area.x = ap (λ q. q.x) same in
+        ⊎_elim
+        (λ (before : a < p.x).
+        let stays : cell_in new (position_of (a, p.y)) ≡ cell_in old (position_of (a, p.y)) = by.outside (position_of (a, p.y)) (has a (omega arith) (omega arith)) (λ e. inl before) in
+        let plain : is_skipped (cell_in old (position_of (a, p.y))) ≡ false = subst (λ c. is_skipped c ≡ false) stays off in
+        let end = able.uncovered a (omega arith) before plain in
+        let w : width_of (cell_in new (position_of (a, p.y))) ≡ width_of (cell_in old (position_of (a, p.y))) = ap width_of stays in
+        omega arith)
+        (λ (there : p.x ≤ a). ends-there a there to)
+        (cases_lt a p.x);
+  }
+
+  pub plain-below : IsPlainFrom (p.y + 1) old → IsPlainFrom (p.y + 1) new
+  plain-below plain = λ q in_new below.
+      let in_own : HasPosition old.area q = subst (λ a. HasPosition a q) same in_new in
+      subst IsPlain (sym (by.outside q in_own (λ e. absurd (omega arith)))) (plain q in_own below)
+
+-- a plain row may be painted anywhere
+pub paintable-plain : (p : Position) (n : ℕ) (s : Sheet) → EdgesFit s.area → HasRow s.area p.y → s.area.x ≤ p.x → p.x + n ≤ s.area.x + s.area.width → IsPlainFrom p.y s → IsPaintable p n s
+paintable-plain p n s edges row starts fits plain =
+    let r = edges.right in let b = edges.bottom in let t = row.top in let d = row.bottom in
+    record {
+      unmarked = λ a from to. (plain (position_of (a, p.y)) (record { left = omega arith; right = omega arith; top = t; bottom = omega arith }) (omega arith)).unmarked;
+      uncovered = λ a from to off. let one = (plain (position_of (a, p.y)) (record { left = from; right = omega arith; top = t; bottom = omega arith }) (omega arith)).narrow in omega arith;
+    }
+
+pub paintable-fewer : (p : Position) (m n : ℕ) (s : Sheet) → m ≤ n → IsPaintable p n s → IsPaintable p m s
+paintable-fewer p m n s le able = record { unmarked = λ a from to. able.unmarked a from (omega arith); uncovered = able.uncovered }
+
+pub plain-later : (y z : ℕ) (s : Sheet) → y ≤ z → IsPlainFrom y s → IsPlainFrom z s
+plain-later y z s le plain = λ p has from. plain p has (omega arith)
+
+module _ (x y : ℕ) (s : Sheet) (ready : IsReadyAt x y s) (row : HasRow s.area y) (starts : s.area.x ≤ x) where
+  there : (a : ℕ) → s.area.x ≤ a → a < s.area.x + s.area.width → HasPosition s.area (position_of (a, y))
+  there a from to = let e = ready.edges in let r = e.right in let b = e.bottom in let t = row.top in let d = row.bottom in record { left = from; right = omega arith; top = t; bottom = omega arith }
+
+  pub ready-paintable : (n : ℕ) → x + n ≤ s.area.x + s.area.width → IsPaintable (position_of (x, y)) n s
+  ready-paintable n fits = record {
+    unmarked = λ a from to. (ready.plain (position_of (a, y)) (there a (omega arith) (omega arith)) (inr (refl, from))).unmarked;
+    uncovered = λ a from to off. ready.before a from to off;
+  }
+
+  pub ready-right : (z : ℕ) → x ≤ z → z ≤ s.area.x + s.area.width → IsReadyAt z y s
+  ready-right z le fits = record {
+    edges = ready.edges;
+    settled = ready.settled;
+    plain = λ p has from. ready.plain p has (⊎_elim (λ (below : y < p.y). inl below) (λ (same : (p.y ≡ y) × (z ≤ p.x)). inr (same.0, (let more = same.1 in omega arith))) from);
+    before = λ a from to off.
+        ⊎_elim
+        (λ (lt : a < x). let end = ready.before a from lt off in omega arith)
+        (λ (ge : x ≤ a). let one = (ready.plain (position_of (a, y)) (there a from (omega arith)) (inr (refl, ge))).narrow in omega arith)
+        (cases_lt a x);
+  }
+
+  pub ready-next : (m : ℕ) (ps : List Piece) (new : Sheet) → x + m ≤ s.area.x + s.area.width → columns ps ≤ m → new.area ≡ s.area → PaintsByColumns (position_of (x, y)) ps s new → IsSettledSheet new
+      → IsReadyAt (x + m) y new
+  ready-next m ps new fits le same by settled =
+      let behind = paintable-next (position_of (x, y)) (columns ps) ps s new ready.edges row starts (omega arith) (omega arith) (ready-paintable (columns ps) (omega arith)) same by in
+      let left : new.area.x ≡ s.area.x = ap (λ q. q.x) same in
+      let stays : (p : Position) → HasPosition s.area p → (y < p.y) ⊎ ((p.y ≡ y) × (x + columns ps ≤ p.x)) → IsPlain (cell_in new p) = λ p has from.
+      subst IsPlain
+      (sym (by.outside p has (λ e. ⊎_elim (λ (below : y < p.y). absurd (omega arith)) (λ (at : (p.y ≡ y) × (x + columns ps ≤ p.x)). inr at.1) from)))
+      (ready.plain p has (⊎_elim (λ (below : y < p.y). inl below) (λ (at : (p.y ≡ y) × (x + columns ps ≤ p.x)). inr (at.0, (let more = at.1 in omega arith))) from)) in
+      record {
+        edges = rw same ready.edges;
+        settled = settled;
+        plain = λ p has from. stays p (subst (λ q. HasPosition q p) same has) (⊎_elim (λ (below : y < p.y). inl below) (λ (at : (p.y ≡ y) × (x + m ≤ p.x)). inr (at.0, (let more = at.1 in omega arith))) from);
+        before = λ a from to off.
+            ⊎_elim
+            (λ (lt : a < x + columns ps). let end = behind.uncovered a from lt off in omega arith)
+            (λ (ge : x + columns ps ≤ a). let one = (stays (position_of (a, y)) (there a (omega arith) (omega arith)) (inr (refl, ge))).narrow in omega arith)
+            (cases_lt a (x + columns ps));
+      }
+
+pub put-ready : {A : Type 0} (r : Result A AllocError) (x y m : ℕ) (ps : List Piece) (old new : Sheet) → IsReadyAt x y old → HasRow old.area y → old.area.x ≤ x → x + m ≤ old.area.x + old.area.width → columns ps ≤ m
+    → PaintsOrRefuses (position_of (x, y)) ps r old new → OnOk r (IsReadyAt (x + m) y new)
+put-ready (Ok v) x y m ps old new ready row starts fits le paints =
+    ready-next x y old ready row starts m ps new fits le paints.ok.area
+    (PaintsByColumns-paints (position_of (x, y)) ps old new row starts (omega arith) paints.ok)
+    (paints.settled ready.settled (ready-paintable x y old ready row starts (columns ps) (omega arith)))
+put-ready (Err e) x y m ps old new ready row starts fits le paints = tt
+
+pub ready-row : (x y : ℕ) (s : Sheet) → IsReadyFrom y s → HasRow s.area y → x ≤ s.area.x + s.area.width → IsReadyAt x y s
+ready-row x y s ready row fits = record {
+  edges = ready.edges;
+  settled = ready.settled;
+  plain = λ p has from. ready.plain p has (⊎_elim (λ (below : y < p.y). omega arith) (λ (at : (p.y ≡ y) × (x ≤ p.x)). (let e = at.0 in omega arith)) from);
+  before = λ a from to off.
+      let e = ready.edges in let r = e.right in let b = e.bottom in let t = row.top in let d = row.bottom in
+      let one = (ready.plain (position_of (a, y)) (record { left = from; right = omega arith; top = t; bottom = omega arith }) (omega arith)).narrow in omega arith;
+}
+
+pub ready-end : (x y : ℕ) (s : Sheet) → IsReadyAt x y s → IsReadyFrom (y + 1) s
+ready-end x y s ready = record { edges = ready.edges; settled = ready.settled; plain = λ p has from. ready.plain p has (inl (omega arith)) }
+
+pub ready-plain : (y : ℕ) (s : Sheet) → EdgesFit s.area → IsPlainFrom 0 s → IsReadyFrom y s
+ready-plain y s edges plain = record { edges = edges; settled = settled-plain s edges plain; plain = plain-later 0 y s (omega arith) plain }
+
+-- pieces painted in a row of plain cells
+pub painted-settled : (x y : ℕ) (ps : List Piece) (old new : Sheet) → EdgesFit old.area → IsPlainFrom 0 old → HasRow old.area y → old.area.x ≤ x → x + columns ps ≤ old.area.x + old.area.width
+    → PaintsPieces (position_of (x, y)) ps old new → IsSettledSheet new
+painted-settled x y ps old new edges plain row starts fits paints =
+    subst (λ q. IsSettled q.width q.height new.cells) (sym paints.area)
+    (IsSettled-row old x y ps new.cells paints.cells (settled-plain old edges plain)
+    (paintable-plain (position_of (x, y)) (columns ps) old edges row starts fits (plain-later 0 y old (omega arith) plain)) starts fits)
+
+-- a change that keeps cells plain
+pub plain-changed : (r : Rect) (f : Position → Cell → Cell) (old new : Sheet) → ((p : Position) (c : Cell) → IsPlain c → IsPlain (f p c)) → ChangesEach r f old new → IsPlainFrom 0 old → IsPlainFrom 0 new
+plain-changed r f old new keeps is plain = λ p in_new le.
+    let in_own : HasPosition old.area p = subst (λ a. HasPosition a p) is.area in_new in
+    ⊎_elim
+    (λ (here : HasPosition r p). subst IsPlain (sym (is.inside p in_own here)) (keeps p (cell_in old p) (plain p in_own le)))
+    (λ (off : HasPosition r p → ⊥). subst IsPlain (sym (is.outside p in_own off)) (plain p in_own le))
+    (has-or-not r p)
+
+pub ruleset plain_steps = (settled-plain)

@@ -1,0 +1,108 @@
+//! Changing each cell of an area.
+
+ghost use Rattle.std.specs.Prelude.{◌≡◌, ◌⊎◌, ◌<◌, ◌≤◌, MatchOption, IsOk, OnOk, OnErr};
+ghost use Rattle.rtui_geometry.specs.Rect.{intersected, IsInside, HasPosition};
+ghost use Rattle.rtui_buffer.specs.Sheet.{cell_in, with_cell, position_of};
+ghost use Rattle.rtui_widgets.specs.Clipped.{IsClipped};
+ghost use Rattle.rtui_widgets.specs.Rendering.{ChangesWithin};
+ghost use Rattle.rtui_changes.specs.Changes.{ChangesEach, row_part, IsRowOfArea, AreLight, place_at};
+
+use rtui_buffer::{Buffer, Cell};
+use rtui_geometry::{Position, Rect};
+use std::alloc::{AllocError, Global};
+
+/// The part of an area that a buffer has, if there is one.
+pub fn part_in(buf: &Buffer, area: Rect) -> Option<Rect>
+    ensures { let r = intersected area buf.now.area in
+        MatchOption result ((r.width ≡ 0) ⊎ (r.height ≡ 0)) (IsClipped area buf.now.area) }
+{
+    let part = area.intersection(*buf.area());
+    if part.is_empty() {
+        return None;
+    }
+    Some(part)
+}
+
+/// A change of a cell by its position.
+pub trait CellChange {
+    ghost use Rattle.rtui_cell.specs.declared.cell.Cell.{Cell};
+    ghost use Rattle.rtui_geometry.specs.declared.position.Position.{Position};
+
+    // what it makes of a cell at a position
+    ghost made: { Self → Position → Cell → Cell };
+
+    // where it takes no memory
+    ghost is_light: { Self → Position → Cell → Type 0 };
+
+    /// Changes a cell; where memory is refused it is as before.
+    fn change(&self, alloc: Global, position: Position, cell: &mut Cell) -> Result<(), AllocError>
+        ensures ok { OnOk result (cell.new ≡ made self.now position cell.old) }
+        ensures err { OnErr result (cell.new ≡ cell.old) }
+        ensures short { is_light self.now position cell.old → IsOk result };
+}
+
+// Changes one cell.
+fn change_one<C: CellChange>(buf: &mut Buffer, x: u16, y: u16, change: &C) -> Result<(), AllocError>
+    requires { HasPosition buf.old.area (position_of (x, y)) }
+    ensures changes { OnOk result
+        (ChangesEach (place_at (position_of (x, y))) (C.made change.now) buf.old buf.new) }
+    ensures err { OnErr result (buf.new ≡ buf.old) }
+    ensures short { let p = position_of (x, y) in
+        C.is_light change.now p (cell_in buf.old p) → IsOk result }
+{
+    let alloc = buf.allocator();
+    let _cells = buf.content();
+    change.change(alloc, Position { x, y }, &mut buf[Position { x, y }])
+}
+
+// Changes each cell of a row of a part.
+fn change_row<C: CellChange>(
+    buf: &mut Buffer,
+    part: Rect,
+    y: u16,
+    change: &C,
+) -> Result<(), AllocError>
+    requires inside { IsInside part buf.old.area }
+    requires row { IsRowOfArea part y }
+    ensures area { buf.new.area ≡ buf.old.area }
+    ensures ok { OnOk result
+        (ChangesEach (row_part part y) (C.made change.now) buf.old buf.new) }
+    ensures err { OnErr result (ChangesWithin part buf.old buf.new) }
+    ensures short { AreLight (C.is_light change.now) (row_part part y) buf.old → IsOk result }
+{
+    for x in part.left()..part.right() {
+        change_one(buf, x, y, change)?;
+    }
+    Ok(())
+}
+
+// Changes each cell of a part of a buffer.
+fn change_part<C: CellChange>(buf: &mut Buffer, part: Rect, change: &C) -> Result<(), AllocError>
+    requires { IsInside part buf.old.area }
+    ensures area { buf.new.area ≡ buf.old.area }
+    ensures ok { OnOk result (ChangesEach part (C.made change.now) buf.old buf.new) }
+    ensures err { OnErr result (ChangesWithin part buf.old buf.new) }
+    ensures short { AreLight (C.is_light change.now) part buf.old → IsOk result }
+{
+    for y in part.top()..part.bottom() {
+        change_row(buf, part, y, change)?;
+    }
+    Ok(())
+}
+
+/// Changes each cell of an area, as far as the buffer has it. It is refused if memory is; then no cell outside the area changed.
+pub fn change_area<C: CellChange>(
+    buf: &mut Buffer,
+    area: Rect,
+    change: &C,
+) -> Result<(), AllocError>
+    ensures area { buf.new.area ≡ buf.old.area }
+    ensures ok { OnOk result (ChangesEach area (C.made change.now) buf.old buf.new) }
+    ensures err { OnErr result (ChangesWithin area buf.old buf.new) }
+    ensures short { AreLight (C.is_light change.now) area buf.old → IsOk result }
+{
+    let Some(part) = part_in(buf, area) else {
+        return Ok(());
+    };
+    change_part(buf, part, change)
+}

@@ -1,0 +1,3 @@
+pub mod WindowLemmas
+pub mod ItemLemmas
+pub mod ListLemmas

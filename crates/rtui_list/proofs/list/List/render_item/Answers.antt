@@ -1,0 +1,11 @@
+use Rattle.ratatui_core.proofs.BufferLemmas.{within-wider}
+use Rattle.ratatui_core.proofs.WidgetLemmas.{within-then, within-styled}
+use Rattle.rtui_list.specs.Items.{without_columns}
+use Rattle.rtui_list.proofs.ItemLemmas.{text-in}
+use Rattle.rtui_list.proofs.list.List.render_item.Goals as goal
+
+pub returns-in_err-render-clause-within : goal.returns-in_err-render-clause-within
+returns-in_err-render-clause-within c =
+    within-then c.args.part c.args.buf.now c.set_style.new.self c.render.new.buf
+    (within-styled c.args.part c.args.part _ c.args.buf.now c.set_style.new.self (λ p in_own h. h) c.set_style.ensures)
+    (within-wider (without_columns c.mark_columns-mark.result c.args.part) c.args.part c.set_style.new.self c.render.new.buf (text-in c.mark_columns-mark.result c.args.part c.mark_columns-mark.ensures.within) c.in_err-render.ensures.err)

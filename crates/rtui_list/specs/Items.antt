@@ -1,0 +1,133 @@
+-- What a list makes of a buffer and of its state.
+use Rattle.std.specs.Prelude.{◌≡◌, ℕ, Bool, true, false, ◌+◌, ◌-◌, ◌<◌, ◌==◌, ◌&&◌, ◌||◌, min, List, [], length, codes, Option, Some, None, is_some, if◌then◌else◌, slice_index_or}
+use Rattle.ratatui_core.specs.Layout.{Rect, Position, corner, intersected}
+use Rattle.ratatui_core.specs.Style.{Style, new_style, patch}
+use Rattle.ratatui_core.specs.Text.{text_of}
+use Rattle.ratatui_core.specs.Buffer.{Sheet, Cell, styled, with_symbol, pieces_at, text_columns, IsStyled, PaintsPieces, ChangesEach, MakesParts}
+use Rattle.ratatui_core.specs.Widgets.{RendersText, ChangesWithin, OnPart}
+use Rattle.rtui_boxes.specs.Framed.{IsFramed, IsBare, inner_if}
+use Rattle.rtui_list.specs.declared.list.List.{List as ListData}
+use Rattle.rtui_list.specs.declared.list.ListDirection.{ListDirection}
+use Rattle.rtui_list.specs.declared.list.ListDirection.TheVariants.{TopToBottom, BottomToTop}
+use Rattle.rtui_list.specs.declared.list.HighlightSpacing.{HighlightSpacing}
+use Rattle.rtui_list.specs.declared.list.HighlightSpacing.TheVariants.{Always, WhenSelected, Never}
+use Rattle.rtui_list.specs.declared.item.ListItem.{ListItem}
+use Rattle.rtui_list.specs.declared.state.ListState.{ListState}
+use Rattle.rtui_list.specs.Windows.{item_rows, rows_before, IsCount, IsOffset, last_item}
+
+-- a list of items, without box, styles and highlight symbol
+pub record IsNewList (items : List ListItem) (l : ListData) : Type 0 where
+  pub items_are : l.items.items ≡ items
+  pub no_box : l.block ≡ None
+  pub plain : l.style ≡ new_style
+  pub from_above : l.direction ≡ TopToBottom
+  pub plain_highlight : l.highlight_style ≡ new_style
+  pub no_symbol : l.highlight_symbol.now ≡ []
+  pub once : l.repeat_highlight_symbol ≡ false
+  pub spaced : l.highlight_spacing ≡ WhenSelected
+  pub unpadded : l.scroll_padding ≡ 0
+
+-- whether the highlight symbol's columns stay free
+abbrev pub has_mark_columns : HighlightSpacing → Bool → Bool
+has_mark_columns Always is_selected = true
+has_mark_columns WhenSelected is_selected = is_selected
+has_mark_columns Never is_selected = false
+
+-- how many columns of a part a symbol takes
+abbrev pub mark_width : List ℕ → Rect → ℕ
+mark_width symbol r = min (text_columns symbol) r.width
+
+-- where an item stands that takes so many rows, after others that take so many
+abbrev pub item_part : ListDirection → Rect → ℕ → ℕ → Rect
+item_part TopToBottom r used rows = record r { y = r.y + used; height = rows }
+item_part BottomToTop r used rows = record r { y = r.y + (r.height - used - rows); height = rows }
+
+-- a part without its first columns
+abbrev pub without_columns : ℕ → Rect → Rect
+without_columns n r = record r { x = r.x + n; width = r.width - n }
+
+-- a row of a part
+abbrev pub part_row : Rect → ℕ → Rect
+part_row r j = record r { y = r.y + j; height = 1 }
+
+-- a cell with a blank in a style
+abbrev pub with_blank : Style → Cell → Cell
+with_blank style c = styled style (with_symbol (codes " ") c)
+
+-- in a row the symbol from its start on, or blanks in the symbol's columns
+abbrev pub MarksRow : List ℕ → Style → Bool → Rect → Sheet → Sheet → Type 0
+MarksRow symbol style true r old new = PaintsPieces (corner r) (pieces_at old.area r.x r.width style symbol) old new
+MarksRow symbol style false r old new = ChangesEach (record r { width = mark_width symbol r }) (λ _. with_blank style) old new
+
+-- the symbol stands in a row of an item: in the first one of the selected one, or in each
+abbrev pub is_marked : ListData → Bool → ℕ → Bool
+is_marked l is_selected j = is_selected && ((j == 0) || l.repeat_highlight_symbol)
+
+-- the symbol or blanks in each row of an item
+abbrev pub MarksRows : ListData → Bool → Style → Rect → Sheet → Sheet → Type 0
+MarksRows l is_selected style r = MakesParts r.height (part_row r) (λ j. MarksRow l.highlight_symbol.now style (is_marked l is_selected j) (part_row r j))
+
+-- an effect, or none
+abbrev pub If : Bool → (Sheet → Sheet → Type 0) → Sheet → Sheet → Type 0
+If true f old new = f old new
+If false f old new = new ≡ old
+
+-- An item over its part: its style over the list's, its text beside the symbol's columns, the symbol, and the highlight if it is selected.
+pub record RendersItem (l : ListData) (i : ListItem) (is_selected has_columns : Bool) (r : Rect) (old new : Sheet) : Type 0 where
+  pub laid : Sheet
+  pub texted : Sheet
+  pub marked : Sheet
+  pub style : IsStyled r (patch l.style i.style) old laid
+  pub text : RendersText i.content (without_columns (if has_columns then mark_width l.highlight_symbol.now r else 0) r) laid texted
+  pub marks : If has_columns (MarksRows l is_selected (patch l.style i.style) r) texted marked
+  pub highlight : If is_selected (IsStyled r l.highlight_style) marked new
+
+-- the number is the one that is selected
+abbrev pub is_selected_at : Option ℕ → ℕ → Bool
+is_selected_at None k = false
+is_selected_at (Some selected) k = selected == k
+
+abbrev pub item_at : ListData → ℕ → ListItem
+item_at l k = slice_index_or l.items.items k (record { content = text_of []; style = new_style })
+
+-- where an item stands in a list that begins with another one
+abbrev pub part_of_item : ListData → Rect → ℕ → ℕ → Rect
+part_of_item l r offset k =
+    item_part l.direction r (rows_before l.items.items (offset + k) - rows_before l.items.items offset) (item_rows (item_at l (offset + k)))
+
+-- how an item of it is shown, counted from there
+abbrev pub shown_as : ListData → Option ℕ → ℕ → Rect → ℕ → Sheet → Sheet → Type 0
+shown_as l selected offset r k =
+    RendersItem l (item_at l (offset + k)) (is_selected_at selected (offset + k)) (has_mark_columns l.highlight_spacing (is_some selected)) (part_of_item l r offset k)
+
+-- so many items from one on, each over its part, apart from each other; all else is as before
+abbrev pub ShowsItems : ListData → Option ℕ → ℕ → ℕ → Rect → Sheet → Sheet → Type 0
+ShowsItems l selected offset count r = MakesParts count (part_of_item l r offset) (shown_as l selected offset r)
+
+-- a number, but at most another one
+abbrev pub at_most : ℕ → Option ℕ → Option ℕ
+at_most last None = None
+at_most last (Some n) = Some (min n last)
+
+-- The items of a list over an area, from the state's first one on, as many as fit whole. The selection is at most the last item, and the first
+-- item is such that the selected one is in view. Without items nothing is shown or selected.
+pub record ShowsList (l : ListData) (s t : ListState) (r : Rect) (old new : Sheet) : Type 0 where
+  pub no_items : l.items.items ≡ [] → (new ≡ old) × (t ≡ record { offset = 0; selected = None })
+  pub selected : 0 < length l.items.items → t.selected ≡ at_most (last_item l.items.items) s.selected
+  pub offset : 0 < length l.items.items → IsOffset l.items.items r.height l.scroll_padding t.selected s.offset t.offset
+  pub count : ℕ
+  pub is_count : 0 < length l.items.items → IsCount l.items.items r.height t.offset count
+  pub shown : 0 < length l.items.items → ShowsItems l t.selected t.offset count r old new
+
+-- the list inside its style and its box; without room inside the state stays as it is
+pub record ListInFrame (l : ListData) (s t : ListState) (part : Rect) (old new : Sheet) : Type 0 where
+  pub framed : Sheet
+  pub frame : IsFramed l.style l.block part old framed
+  pub none : IsBare (inner_if l.block part) → (new ≡ framed) × (t ≡ s)
+  pub inside : 0 < (inner_if l.block part).width → 0 < (inner_if l.block part).height → ShowsList l s t (inner_if l.block part) framed new
+
+-- A list over the part of an area that a buffer has. Nothing outside the area changes.
+pub record RendersList (l : ListData) (s t : ListState) (area : Rect) (old new : Sheet) : Type 0 where
+  pub within : ChangesWithin area old new
+  pub no_part : IsBare (intersected area old.area) → t ≡ s
+  pub parts : OnPart (ListInFrame l s t) area old new

@@ -1,0 +1,46 @@
+//! The items of a list.
+
+ghost use Rattle.std.specs.Prelude.{◌≡◌, length};
+ghost use Rattle.ratatui_core.specs.Style.{new_style};
+ghost use Rattle.rtui_list.specs.Windows.{item_rows};
+
+use ratatui_core::style::Style;
+use ratatui_core::text::Text;
+
+/// An item of a list: a text in a style, which takes a row for each of its lines.
+#[derive(Debug, Drop)]
+pub struct ListItem<'a> {
+    pub(crate) content: Text<'a>,
+    pub(crate) style: Style,
+}
+
+impl<'a> ListItem<'a> {
+    /// An item of a text; takes no memory.
+    pub fn new(content: Text<'a>) -> ListItem<'a>
+        ensures { result ≡ record { content = content.entry; style = new_style } }
+    {
+        ListItem {
+            content,
+            style: Style::new(),
+        }
+    }
+
+    /// The item in a style.
+    pub fn style(self, style: Style) -> ListItem<'a>
+        ensures { result ≡ record self.entry { style = style } }
+    {
+        ListItem { style, ..self }
+    }
+
+    /// How many rows it takes.
+    pub fn height(&self) -> usize
+        ensures { result ≡ item_rows self.now }
+    {
+        self.content.height()
+    }
+
+    /// How many columns its widest line takes.
+    pub fn width(&self) -> usize {
+        self.content.width()
+    }
+}

@@ -1,0 +1,14 @@
+//! A list of items, of which one may be selected.
+//!
+//! It stands on `ratatui_core` and `rtui_boxes`. `specs/Windows` says which items are shown, `specs/Items` what an item looks like, and
+//! `specs/Lists` what a list makes of a buffer and of its state.
+#![tactic(auto)]
+
+mod item;
+mod list;
+mod state;
+mod window;
+
+pub use item::ListItem;
+pub use list::{HighlightSpacing, List, ListDirection};
+pub use state::ListState;

@@ -1,0 +1,472 @@
+//! A list of items.
+
+ghost use Rattle.std.specs.Prelude.{◌≡◌, ◌≤◌, ◌<◌, ◌+◌, if◌then◌else◌, Some, OnOk, IsOk, IfSome, length};
+ghost use Rattle.ratatui_core.specs.Layout.{IsInside};
+ghost use Rattle.ratatui_core.specs.Widgets.{ChangesWithin};
+ghost use Rattle.ratatui_core.specs.Buffer.{IsStyled};
+ghost use Rattle.rtui_boxes.specs.Boxes.{IsBoxArea};
+ghost use Rattle.rtui_list.specs.Windows.{Fit};
+ghost use Rattle.rtui_list.specs.Items.{If, is_marked, has_mark_columns, mark_width, item_part, MarksRows, MarksRow, RendersItem, ShowsItems, ShowsList, is_selected_at, at_most, IsNewList};
+
+use crate::item::ListItem;
+use crate::state::ListState;
+use crate::window::{count_from, offset_for};
+use ratatui_core::buffer::{Buffer, Cell, CellChange, change_area, part_in};
+use ratatui_core::layout::{Position, Rect};
+use ratatui_core::style::Style;
+use ratatui_core::text::text_columns;
+use ratatui_core::widgets::{StatefulWidget, Widget};
+use rtui_boxes::{Block, render_frame};
+use std::alloc::{AllocError, Global};
+
+/// From where the items stand one after the other.
+#[derive(Debug, Default, Clone, Copy, PartialEq, Eq, Hash)]
+pub enum ListDirection {
+    /// From above.
+    #[default]
+    TopToBottom,
+    /// From below.
+    BottomToTop,
+}
+
+/// When the columns of the highlight symbol stay free beside the other items.
+#[derive(Debug, Default, Clone, Copy, PartialEq, Eq, Hash)]
+pub enum HighlightSpacing {
+    /// Always.
+    Always,
+    /// If an item is selected.
+    #[default]
+    WhenSelected,
+    /// Never; the symbol isn't shown either.
+    Never,
+}
+
+impl HighlightSpacing {
+    // Whether the columns stay free.
+    fn has_columns(&self, is_selected: bool) -> bool
+        ensures { result ≡ has_mark_columns self.now is_selected }
+    {
+        match self {
+            HighlightSpacing::Always => true,
+            HighlightSpacing::WhenSelected => is_selected,
+            HighlightSpacing::Never => false,
+        }
+    }
+}
+
+/// Items one below the other, of which one may be selected: the one that a state says.
+///
+/// ```
+/// let list = List::new(items).highlight_symbol("> ").highlight_style(Style::new().bg(Color::Blue));
+/// (&list).render(area, buf, &mut state)?;
+/// ```
+#[derive(Debug, Drop)]
+pub struct List<'a> {
+    block: Option<Block<'a>>,
+    items: Vec<ListItem<'a>>,
+    style: Style,
+    direction: ListDirection,
+    highlight_style: Style,
+    highlight_symbol: &'a str,
+    repeat_highlight_symbol: bool,
+    highlight_spacing: HighlightSpacing,
+    scroll_padding: usize,
+}
+
+impl<'a> List<'a> {
+    /// A list of items, without box, styles and highlight symbol; takes no memory.
+    pub fn new(items: Vec<ListItem<'a>>) -> List<'a>
+        ensures { IsNewList items.entry.items result }
+    {
+        List {
+            block: None,
+            items,
+            style: Style::new(),
+            direction: ListDirection::TopToBottom,
+            highlight_style: Style::new(),
+            highlight_symbol: "",
+            repeat_highlight_symbol: false,
+            highlight_spacing: HighlightSpacing::WhenSelected,
+            scroll_padding: 0,
+        }
+    }
+
+    /// The list of other items.
+    pub fn items(mut self, items: Vec<ListItem<'a>>) -> List<'a>
+        ensures { result ≡ record self.entry { items = items.entry } }
+    {
+        self.items = items;
+        self
+    }
+
+    /// The list in a box.
+    pub fn block(mut self, block: Block<'a>) -> List<'a>
+        ensures { result ≡ record self.entry { block = Some block.entry } }
+    {
+        self.block = Some(block);
+        self
+    }
+
+    /// The list in a style.
+    pub fn style(mut self, style: Style) -> List<'a>
+        ensures { result ≡ record self.entry { style = style } }
+    {
+        self.style = style;
+        self
+    }
+
+    /// The list from above or from below.
+    pub fn direction(mut self, direction: ListDirection) -> List<'a>
+        ensures { result ≡ record self.entry { direction = direction } }
+    {
+        self.direction = direction;
+        self
+    }
+
+    /// The list, its selected item in a style.
+    pub fn highlight_style(mut self, style: Style) -> List<'a>
+        ensures { result ≡ record self.entry { highlight_style = style } }
+    {
+        self.highlight_style = style;
+        self
+    }
+
+    /// The list with a symbol before its selected item.
+    pub fn highlight_symbol(mut self, symbol: &'a str) -> List<'a>
+        ensures { result ≡ record self.entry { highlight_symbol = symbol.entry } }
+    {
+        self.highlight_symbol = symbol;
+        self
+    }
+
+    /// The list, its symbol before each line of the selected item, or before the first one.
+    pub fn repeat_highlight_symbol(mut self, repeat: bool) -> List<'a>
+        ensures { result ≡ record self.entry { repeat_highlight_symbol = repeat } }
+    {
+        self.repeat_highlight_symbol = repeat;
+        self
+    }
+
+    /// The list, the symbol's columns kept free so.
+    pub fn highlight_spacing(mut self, spacing: HighlightSpacing) -> List<'a>
+        ensures { result ≡ record self.entry { highlight_spacing = spacing } }
+    {
+        self.highlight_spacing = spacing;
+        self
+    }
+
+    /// The list with so many items before and after the selected one in view, if they fit.
+    pub fn scroll_padding(mut self, padding: usize) -> List<'a>
+        ensures { result ≡ record self.entry { scroll_padding = padding } }
+    {
+        self.scroll_padding = padding;
+        self
+    }
+
+    /// How many items there are.
+    pub fn len(&self) -> usize
+        ensures { result ≡ length self.now.items.items }
+    {
+        self.items.len()
+    }
+
+    /// Whether there are none.
+    pub fn is_empty(&self) -> bool {
+        self.items.is_empty()
+    }
+
+    // Where an item stands that takes so many rows, after so many others.
+    fn item_part(&self, inner: Rect, used: u16, rows: u16) -> Rect
+        requires some { IsBoxArea inner }
+        requires fits { used + rows ≤ inner.height }
+        ensures { result ≡ item_part self.now.direction inner used rows }
+    {
+        let y = match self.direction {
+            ListDirection::TopToBottom => inner.y + used,
+            ListDirection::BottomToTop => inner.y + (inner.height - used - rows),
+        };
+        Rect {
+            y,
+            height: rows,
+            ..inner
+        }
+    }
+
+    // How many columns of a part the symbol takes.
+    fn mark_width(&self, part: Rect) -> u16
+        ensures value { result ≡ mark_width self.now.highlight_symbol.now part }
+        ensures within { result ≤ part.width }
+    {
+        text_columns(self.highlight_symbol).min(usize::from(part.width)) as u16
+    }
+
+    // Whether the symbol stands in a row of an item.
+    fn is_marked(&self, is_selected: bool, j: u16) -> bool
+        ensures { result ≡ is_marked self.now is_selected j }
+    {
+        is_selected && (j == 0 || self.repeat_highlight_symbol)
+    }
+
+    // Renders the symbol in a row of the selected item, or blanks in its columns.
+    fn render_mark(
+        &self,
+        is_marked: bool,
+        style: Style,
+        row: Rect,
+        buf: &mut Buffer,
+    ) -> Result<(), AllocError>
+        requires some { IsBoxArea row }
+        requires inside { IsInside row buf.old.area }
+        ensures within { ChangesWithin row buf.old buf.new }
+        ensures ok { OnOk result
+            (MarksRow self.now.highlight_symbol.now style is_marked row buf.old buf.new) }
+    {
+        if is_marked {
+            let symbol = self.highlight_symbol;
+            buf.set_stringn(row.x, row.y, symbol, usize::from(row.width), style)?;
+            return Ok(());
+        }
+        let blanks = Rect {
+            width: self.mark_width(row),
+            ..row
+        };
+        change_area(buf, blanks, &Blank { style })
+    }
+
+    // How many columns the symbol takes, if they stay free.
+    fn mark_columns(&self, has_columns: bool, part: Rect) -> u16
+        ensures value { let width = mark_width self.now.highlight_symbol.now part in
+            result ≡ (if has_columns then width else 0) }
+        ensures within { result ≤ part.width }
+    {
+        if has_columns {
+            self.mark_width(part)
+        } else {
+            0
+        }
+    }
+
+    // Renders the symbol or blanks in each row of an item, if their columns stay free.
+    fn render_marks_if(
+        &self,
+        has_columns: bool,
+        is_selected: bool,
+        style: Style,
+        part: Rect,
+        buf: &mut Buffer,
+    ) -> Result<(), AllocError>
+        requires width { 0 < part.width }
+        requires across { part.x + part.width ≤ 65535 }
+        requires down { part.y + part.height ≤ 65535 }
+        requires inside { IsInside part buf.old.area }
+        ensures within { ChangesWithin part buf.old buf.new }
+        ensures ok { OnOk result
+            (If has_columns (MarksRows self.now is_selected style part) buf.old buf.new) }
+    {
+        if !has_columns {
+            return Ok(());
+        }
+        self.render_marks(is_selected, style, part, buf)
+    }
+
+    // Lays the highlight's style over the selected item.
+    fn highlight_if(&self, is_selected: bool, part: Rect, buf: &mut Buffer)
+        ensures within { ChangesWithin part buf.old buf.new }
+        ensures styled { If is_selected (IsStyled part self.now.highlight_style) buf.old buf.new }
+    {
+        if is_selected {
+            buf.set_style(part, self.highlight_style);
+        }
+    }
+
+    // Renders the symbol or blanks in each row of an item.
+    fn render_marks(
+        &self,
+        is_selected: bool,
+        style: Style,
+        part: Rect,
+        buf: &mut Buffer,
+    ) -> Result<(), AllocError>
+        requires width { 0 < part.width }
+        requires across { part.x + part.width ≤ 65535 }
+        requires down { part.y + part.height ≤ 65535 }
+        requires inside { IsInside part buf.old.area }
+        ensures within { ChangesWithin part buf.old buf.new }
+        ensures ok { OnOk result (MarksRows self.now is_selected style part buf.old buf.new) }
+    {
+        for j in 0..part.height {
+            let is_marked = self.is_marked(is_selected, j);
+            let row = Rect {
+                y: part.y + j,
+                height: 1,
+                ..part
+            };
+            self.render_mark(is_marked, style, row, buf)?;
+        }
+        Ok(())
+    }
+
+    // Renders an item: its style, its text beside the symbol's columns, the symbol, and the highlight.
+    fn render_item(
+        &self,
+        item: &ListItem<'a>,
+        is_selected: bool,
+        has_columns: bool,
+        part: Rect,
+        buf: &mut Buffer,
+    ) -> Result<(), AllocError>
+        requires width { 0 < part.width }
+        requires across { part.x + part.width ≤ 65535 }
+        requires down { part.y + part.height ≤ 65535 }
+        requires inside { IsInside part buf.old.area }
+        ensures within { ChangesWithin part buf.old buf.new }
+        ensures ok { OnOk result
+            (RendersItem self.now item.now is_selected has_columns part buf.old buf.new) }
+    {
+        let style = self.style.patch(item.style);
+        buf.set_style(part, style);
+        let mark = self.mark_columns(has_columns, part);
+        let text = Rect {
+            x: part.x + mark,
+            width: part.width - mark,
+            ..part
+        };
+        (&item.content).render(text, buf)?;
+        self.render_marks_if(has_columns, is_selected, style, part, buf)?;
+        self.highlight_if(is_selected, part, buf);
+        Ok(())
+    }
+
+    // Renders so many items from one on.
+    fn render_items(
+        &self,
+        selected: Option<usize>,
+        offset: usize,
+        count: usize,
+        inner: Rect,
+        buf: &mut Buffer,
+    ) -> Result<(), AllocError>
+        requires some { IsBoxArea inner }
+        requires inside { IsInside inner buf.old.area }
+        requires items { offset + count ≤ length self.now.items.items }
+        requires fits { Fit self.now.items.items inner.height offset (offset + count) }
+        ensures within { ChangesWithin inner buf.old buf.new }
+        ensures ok { OnOk result
+            (ShowsItems self.now selected offset count inner buf.old buf.new) }
+    {
+        let has_columns = self.highlight_spacing.has_columns(selected.is_some());
+        let items = self.items.as_slice();
+        let mut used = 0;
+        for k in 0..count {
+            let item = &items[offset + k];
+            let rows = item.height() as u16;
+            let part = self.item_part(inner, used, rows);
+            let is_selected = is_at(selected, offset + k);
+            self.render_item(item, is_selected, has_columns, part, buf)?;
+            used += rows;
+        }
+        Ok(())
+    }
+
+    // Renders what is shown of the items, of which there are some, and brings the state up to date.
+    fn render_list(
+        &self,
+        inner: Rect,
+        buf: &mut Buffer,
+        state: &mut ListState,
+    ) -> Result<(), AllocError>
+        requires some { IsBoxArea inner }
+        requires inside { IsInside inner buf.old.area }
+        ensures within { ChangesWithin inner buf.old buf.new }
+        ensures ok { OnOk result
+            (ShowsList self.now state.old state.new inner buf.old buf.new) }
+    {
+        let items = self.items.as_slice();
+        if items.is_empty() {
+            state.select(None);
+            return Ok(());
+        }
+        let height = usize::from(inner.height);
+        let selected = at_most(state.selected, items.len() - 1);
+        let offset = offset_for(items, self.scroll_padding, selected, state.offset, height);
+        state.selected = selected;
+        state.offset = offset;
+        let count = count_from(items, offset, height);
+        self.render_items(selected, offset, count, inner, buf)
+    }
+}
+
+// Whether an item is the selected one.
+fn is_at(selected: Option<usize>, index: usize) -> bool
+    ensures { result ≡ is_selected_at selected index }
+{
+    match selected {
+        Some(selected) => selected == index,
+        None => false,
+    }
+}
+
+// A number, but at most another one.
+fn at_most(number: Option<usize>, last: usize) -> Option<usize>
+    ensures value { result ≡ at_most last number }
+    ensures within { IfSome result (λ n. n ≤ last) }
+{
+    match number {
+        Some(number) => Some(number.min(last)),
+        None => None,
+    }
+}
+
+// A blank in a style.
+#[derive(Drop)]
+pub(crate) struct Blank {
+    style: Style,
+}
+
+impl CellChange for Blank {
+    ghost use Rattle.std.specs.Prelude.{⊤};
+    ghost use Rattle.rtui_list.specs.Items.{with_blank};
+
+    ghost made = { λ b _. with_blank b.style };
+
+    ghost is_light = { λ _ _ _. ⊤ };
+
+    fn change(&self, alloc: Global, position: Position, cell: &mut Cell) -> Result<(), AllocError> {
+        let _ = position;
+        cell.set_symbol(alloc, " ")?;
+        cell.set_style(self.style);
+        Ok(())
+    }
+}
+
+/// Over the area, as far as the buffer has it: the style, the box, and inside the items from the state's first one on, as many as fit
+/// whole. The state's selection is at most the last item, and its first item such that the selected one is in view.
+impl<'b, 'a> StatefulWidget for &'b List<'a> {
+    type State = ListState;
+
+    ghost use Rattle.rtui_list.specs.Items.{RendersList};
+
+    ghost renders = { λ list. RendersList list.now };
+
+    fn render(self, area: Rect, buf: &mut Buffer, state: &mut ListState) -> Result<(), AllocError> {
+        let Some(part) = part_in(buf, area) else {
+            return Ok(());
+        };
+        let Some(inner) = render_frame(self.style, &self.block, part, buf)? else {
+            return Ok(());
+        };
+        self.render_list(inner, buf, state)
+    }
+}
+
+impl<'a> StatefulWidget for List<'a> {
+    type State = ListState;
+
+    ghost use Rattle.rtui_list.specs.Items.{RendersList};
+
+    ghost renders = { RendersList };
+
+    fn render(self, area: Rect, buf: &mut Buffer, state: &mut ListState) -> Result<(), AllocError> {
+        (&self).render(area, buf, state)
+    }
+}

@@ -1,0 +1,2 @@
+pub mod MeterLemmas
+pub mod SettledLemmas

@@ -1,0 +1,140 @@
+-- Gauges and scroll bars of narrow symbols keep a buffer settled.
+use Rattle.std.proofs.Common.{◌≡◌, ℕ, zero, suc, ◌+◌, ◌<◌, ◌≤◌, Bool, true, false, ◌&&◌, if◌then◌else◌, nat_lt, ◌==◌, List, [], ◌∷◌, ◌⊎◌, ⊎_elim, inl, inr, Option, Some, None, refl, sym, ap, subst, ◌∙◌, arith}
+use Rattle.std.specs.Prelude.{codes, slice_index_or, map, drop}
+use Rattle.std.specs.Borrow.{Bor}
+use Rattle.std.proofs.lemmas.Bool.{cases_lt}
+use Rattle.std.specs.List.{list_all}
+use Rattle.std.proofs.Math.ListN.{get_or-map}
+use Rattle.ratatui_core.specs.Layout.{Rect, Position, EdgesFit, IsInside, intersected}
+use Rattle.ratatui_core.specs.Style.{Style}
+use Rattle.ratatui_core.specs.declared.style.Color.{Color}
+use Rattle.ratatui_core.specs.Symbols.{is_narrow, block_levels}
+use Rattle.ratatui_core.specs.Buffer.{Sheet, Cell, with_symbol, styled, width_of, text_width, columns, IsPlain, IsPlainFrom, IsSettledSheet}
+use Rattle.ratatui_core.proofs.BufferLemmas.{narrow-test, blocks-narrow, plain-styled, plain-changed, painted-settled, text-keeps}
+use Rattle.rtui_boxes.specs.Boxes.{IsBoxArea, IsPlainIfBox}
+use Rattle.rtui_boxes.proofs.PaintLemmas.{part-right}
+use Rattle.rtui_boxes.proofs.InnerLemmas.{settled-frame}
+use Rattle.rtui_meters.specs.declared.gauge.Gauge.{Gauge}
+use Rattle.rtui_meters.specs.declared.gauge.Fill.{Fill}
+use Rattle.rtui_meters.specs.declared.gauge.TheConstants.{FULL_BLOCK, TIPS}
+use Rattle.rtui_meters.specs.declared.scrollbar.Scrollbar.{Scrollbar}
+use Rattle.rtui_meters.specs.declared.scrollbar.Marks.{Marks}
+use Rattle.rtui_meters.specs.declared.scrollbar.ScrollbarState.{ScrollbarState}
+use Rattle.rtui_meters.specs.Scrollbars.{bar_area, bar_length, track_length, mark_of, marks_of, marked, marked_cell, place_on_bar, MarksBar, RendersScrollbar, IsNarrowIf, HasNarrowMarks}
+use Rattle.rtui_meters.specs.Shares.{eighths_of}
+use Rattle.rtui_meters.specs.Gauges.{label_part, pieces_on_bar, filled_cell, in_colors, is_under_label, text_of_label, style_of_label, FillsArea, FillsGauge, RendersAreaGauge}
+use Rattle.rtui_meters.proofs.MeterLemmas.{label-in, label-row, label-column}
+
+both : (a b : Bool) → (a && b) ≡ true → (a ≡ true) × (b ≡ true)
+both true b e = (refl, e)
+both false b e = let h : false ≡ true = e in absurd (cc)
+
+and-both : (a b : Bool) → a ≡ true → b ≡ true → (a && b) ≡ true
+and-both a b e k = rw (e, k) refl
+
+pub full-narrow : is_narrow FULL_BLOCK.now ≡ true
+full-narrow = (both (is_narrow FULL_BLOCK.now) (list_all is_narrow (drop 1 block_levels)) blocks-narrow).0
+
+-- each text of a list, and another one after all
+nth-narrow : (ts : List (List ℕ)) (n : ℕ) (d : List ℕ) → list_all is_narrow ts ≡ true → is_narrow d ≡ true → is_narrow (slice_index_or ts n d) ≡ true
+nth-narrow [] n d all e = e
+nth-narrow (t ∷ ts) zero d all e = (both (is_narrow t) (list_all is_narrow ts) all).0
+nth-narrow (t ∷ ts) (suc n) d all e = nth-narrow ts n d (both (is_narrow t) (list_all is_narrow ts) all).1 e
+
+level : (n : ℕ) → is_narrow (slice_index_or block_levels n FULL_BLOCK.now) ≡ true
+level n = nth-narrow block_levels n FULL_BLOCK.now blocks-narrow full-narrow
+
+-- from none to all
+tips-narrow : list_all is_narrow (map (λ t. t.now) TIPS) ≡ true
+tips-narrow =
+    and-both _ _ (level 8) (and-both _ _ (level 7) (and-both _ _ (level 6) (and-both _ _ (level 5) (and-both _ _ (level 4) (and-both _ _ (level 3) (and-both _ _ (level 2) (and-both _ _ (level 1) (and-both _ _ (level 0) refl))))))))
+
+pub tip-narrow : (n : ℕ) → is_narrow (slice_index_or TIPS n FULL_BLOCK).now ≡ true
+tip-narrow n = subst (λ t. is_narrow t ≡ true) (get_or-map (λ t. t.now) TIPS n FULL_BLOCK) (nth-narrow (map (λ t. t.now) TIPS) n FULL_BLOCK.now tips-narrow full-narrow)
+
+-- a cell with a narrow symbol, in a style, in colours
+plain-with : (symbol : List ℕ) (c : Cell) → IsPlain c → is_narrow symbol ≡ true → IsPlain (with_symbol symbol c)
+unfolding width_of
+plain-with symbol c is narrow = let e = is.unmarked.option in let le = (narrow-test symbol narrow).columns in record { narrow = rw e le; unmarked = record { option = is.unmarked.option; flag = is.unmarked.flag } }
+
+plain-colors : (front back : Color) (c : Cell) → IsPlain c → IsPlain (in_colors front back c)
+unfolding width_of
+plain-colors front back c is = record { narrow = is.narrow; unmarked = record { option = is.unmarked.option; flag = is.unmarked.flag } }
+
+plain-if : (t : Bool) (a b : Cell) → IsPlain a → IsPlain b → IsPlain (if t then a else b)
+plain-if true a b pa pb = pa
+plain-if false a b pa pb = pb
+
+blank-narrow : is_narrow (codes " ") ≡ true
+blank-narrow = level 8
+
+plain-filled : (f : Fill) → is_narrow f.tip.now ≡ true → (p : Position) (c : Cell) → IsPlain c → IsPlain (filled_cell f p c)
+plain-filled f tip p c is =
+    plain-if (nat_lt p.x f.end) _ _
+    (plain-if (is_under_label f p) _ _ (plain-colors _ _ _ (plain-styled f.style _ (plain-with (codes " ") c is blank-narrow))) (plain-colors _ _ _ (plain-styled f.style _ (plain-with FULL_BLOCK.now c is full-narrow))))
+    (plain-if (f.has_tip && (p.x == f.end)) _ _ (plain-styled f.style _ (plain-with f.tip.now c is tip)) (plain-styled f.style c is))
+
+-- a bar with its label on plain cells
+pub settled-area : (g : Gauge) (text : List ℕ) (style : Style) (r : Rect) (old new : Sheet) → IsBoxArea r → IsInside r old.area → EdgesFit old.area → IsPlainFrom 0 old → FillsArea g text style r old new → IsSettledSheet new
+settled-area g text style r old new box inside edges plain is =
+    let filled = is.filled in
+    let tip : is_narrow is.fill.tip.now ≡ true = rw is.is_fill.tip (tip-narrow (eighths_of g.share r.width)) in
+    let plain_ = plain-changed r (filled_cell is.fill) old filled (plain-filled is.fill tip) is.bar plain in
+    let inside_ : IsInside r filled.area = λ p h. rw is.bar.area (inside p h) in
+    let edges_ : EdgesFit filled.area = rw is.bar.area edges in
+    let place = label-in text r (label_part text r) box refl in
+    let keeps = text-keeps filled.area (label_part text r).x (label_part text r).width style text in
+    let right = place.right in
+    painted-settled (label_part text r).x (label_part text r).y (pieces_on_bar text style r filled.area) filled new edges_ plain_ (label-row text r filled.area (label_part text r) box inside_ refl)
+    (label-column text r filled.area (label_part text r) box inside_ refl)
+    (part-right r filled.area (label_part text r).x (columns (pieces_on_bar text style r filled.area)) box inside_ (omega arith)) is.label
+
+pub settled-gauge : (g : Gauge) (area : Rect) (old new : Sheet) → EdgesFit old.area → IsPlainFrom 0 old → IsPlainIfBox g.block → RendersAreaGauge g area old new → IsSettledSheet new
+settled-gauge g area old new edges plain box is =
+    settled-frame g.style g.block (FillsGauge g) area old new edges plain box
+    (λ r s t some inside fit cells fills. settled-area g (text_of_label g g.label) (style_of_label g.label) r s t some inside fit cells fills) is
+
+-- a symbol of one column in a style keeps a cell plain
+plain-column : (symbol : List ℕ) (c : Cell) → IsPlain c → text_width symbol ≤ 1 → IsPlain (with_symbol symbol c)
+unfolding width_of
+plain-column symbol c is le = let e = is.unmarked.option in record { narrow = rw e le; unmarked = record { option = is.unmarked.option; flag = is.unmarked.flag } }
+
+plain-marked : (o : Option (Bor (List ℕ))) (style : Style) (c : Cell) → IsNarrowIf o → IsPlain c → IsPlain (marked (o, style) c)
+plain-marked None style c narrow is = is
+plain-marked (Some symbol) style c narrow is = plain-styled style (with_symbol symbol.now c) (plain-column symbol.now c is narrow)
+
+plain-choice : (t : Bool) (a b : Option (Bor (List ℕ)) × Style) (c : Cell) → IsPlain (marked a c) → IsPlain (marked b c) → IsPlain (marked (if t then a else b) c)
+plain-choice true a b c pa pb = pa
+plain-choice false a b c pa pb = pb
+
+plain-mark : (m : Marks) (k : ℕ) (c : Cell) → HasNarrowMarks m.bar → IsPlain c → IsPlain (marked (mark_of m k) c)
+plain-mark m k c narrow is =
+    let track = plain-marked m.bar.track_symbol m.bar.track_style c narrow.track is in
+    plain-choice (nat_lt k m.track) _ _ c (plain-marked m.bar.begin_symbol m.bar.begin_style c narrow.begin is)
+    (plain-choice (nat_lt k m.thumb) _ _ c track
+    (plain-choice (nat_lt k m.after_thumb) _ _ c (plain-marked (Some m.bar.thumb_symbol) m.bar.thumb_style c narrow.thumb is)
+    (plain-choice (nat_lt k m.after_track) _ _ c track (plain-marked m.bar.end_symbol m.bar.end_style c narrow.end is))))
+
+plain-bar : (b : Scrollbar) (s : ScrollbarState) (r : Rect) (old new : Sheet) → HasNarrowMarks b → IsPlainFrom 0 old → MarksBar b s r old new → IsPlainFrom 0 new
+plain-bar b s r old new narrow plain is =
+    let same : (s.content_length ≡ 0) ⊎ (track_length b (bar_length b.orientation r) ≡ 0) → IsPlainFrom 0 new = λ none. rw (is.none none) plain in
+    ⊎_elim
+    (λ (some : 0 < s.content_length).
+    ⊎_elim
+    (λ (room : 0 < track_length b (bar_length b.orientation r)).
+    plain-changed (bar_area b.orientation r) (marked_cell (marks_of b s r)) old new (λ p c cell. plain-mark (marks_of b s r) (place_on_bar (marks_of b s r) p) c narrow cell) (is.some some room) plain)
+    (λ (le : track_length b (bar_length b.orientation r) ≤ 0). same (inr (omega arith)))
+    (cases_lt 0 (track_length b (bar_length b.orientation r))))
+    (λ (le : s.content_length ≤ 0). same (inl (omega arith)))
+    (cases_lt 0 s.content_length)
+
+-- a scroll bar of narrow symbols keeps cells plain
+pub plain-scrollbar : (b : Scrollbar) (s t : ScrollbarState) (area : Rect) (old new : Sheet) → HasNarrowMarks b → IsPlainFrom 0 old → RendersScrollbar b s t area old new → IsPlainFrom 0 new
+plain-scrollbar b s t area old new narrow plain is =
+    let part = intersected area old.area in
+    let nothing : (part.width ≡ 0) ⊎ (part.height ≡ 0) → IsPlainFrom 0 new = λ none. rw (is.bar.nothing none) plain in
+    ⊎_elim
+    (λ (w : 0 < part.width).
+    ⊎_elim (λ (h : 0 < part.height). plain-bar b s part old new narrow plain (is.bar.part w h)) (λ (le : part.height ≤ 0). nothing (inr (omega arith))) (cases_lt 0 part.height))
+    (λ (le : part.width ≤ 0). nothing (inl (omega arith)))
+    (cases_lt 0 part.width)

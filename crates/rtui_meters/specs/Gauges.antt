@@ -1,0 +1,104 @@
+-- A gauge: which cell gets which symbol and style.
+use Rattle.std.specs.Prelude.{◌≡◌, ℕ, Bool, ◌+◌, ◌-◌, ◌/◌, ◌==◌, ◌&&◌, not, nat_le, nat_lt, min, List, codes, Option, Some, None, if◌then◌else◌, unwrap_or, slice_index_or, false}
+use Rattle.ratatui_core.specs.Layout.{Rect, Position, corner, intersected}
+use Rattle.ratatui_core.specs.Style.{Style, new_style}
+use Rattle.ratatui_core.specs.declared.style.Color.{Color}
+use Rattle.ratatui_core.specs.declared.style.Color.TheVariants.{Reset}
+use Rattle.ratatui_core.specs.Text.{SpanData}
+use Rattle.ratatui_core.specs.Buffer.{Sheet, Cell, Piece, styled, with_symbol, pieces_at, text_columns, PaintsPieces, ChangesEach, AreShort}
+use Rattle.ratatui_core.specs.Widgets.{ChangesWithin}
+use Rattle.rtui_boxes.specs.Framed.{RendersInFrame, IsShortFrame, inner_if}
+use Rattle.rtui_meters.specs.declared.gauge.Gauge.{Gauge}
+use Rattle.rtui_meters.specs.declared.gauge.Fill.{Fill}
+use Rattle.rtui_meters.specs.declared.gauge.TheConstants.{FULL_BLOCK, TIPS}
+use Rattle.rtui_meters.specs.Shares.{share_of, filled_part, rounded_part, eighths_of, percent_text, is_full}
+
+-- an empty gauge, without box, label and styles
+pub record IsNewGauge (g : Gauge) : Type 0 where
+  pub no_box : g.block ≡ None
+  pub nothing : g.share ≡ share_of 0 1
+  pub unlabelled : g.label ≡ None
+  pub whole_columns : g.use_unicode ≡ false
+  pub plain : g.style ≡ new_style
+  pub plain_bar : g.gauge_style ≡ new_style
+
+-- how many columns of an area are filled whole
+abbrev pub full_columns : Gauge → ℕ → ℕ
+full_columns g width = if g.use_unicode then filled_part g.share width else rounded_part g.share width
+
+-- how many columns of an area a label takes
+abbrev pub label_width : List ℕ → Rect → ℕ
+label_width text r = min (text_columns text) r.width
+
+-- where a label stands: in the middle of an area
+abbrev pub label_part : List ℕ → Rect → Rect
+label_part text r = record { x = r.x + (r.width - label_width text r) / 2; y = r.y + r.height / 2; width = label_width text r; height = 1 }
+
+-- the symbol of the column after the whole ones
+abbrev pub tip_text : Gauge → Rect → List ℕ
+tip_text g r = (slice_index_or TIPS (eighths_of g.share r.width) FULL_BLOCK).now
+
+-- how a gauge fills an area in which a label stands
+pub record IsFillOf (g : Gauge) (text : List ℕ) (r : Rect) (f : Fill) : Type 0 where
+  pub end : f.end ≡ r.x + full_columns g r.width
+  pub has_tip : f.has_tip ≡ (g.use_unicode && not (is_full g.share))
+  pub tip : f.tip.now ≡ tip_text g r
+  pub label : f.label ≡ label_part text r
+  pub style : f.style ≡ g.gauge_style
+
+-- the position is one of the label's columns, or the one after them
+abbrev pub is_under_label : Fill → Position → Bool
+is_under_label f p = (p.y == f.label.y) && nat_le f.label.x p.x && nat_le (p.x - f.label.x) f.label.width
+
+-- a cell in these colours
+abbrev pub in_colors : Color → Color → Cell → Cell
+in_colors front back c = record c { fg = front; bg = back }
+
+-- a filled cell: a block in the bar's colours, and under the label a blank in the other ones
+abbrev pub full_cell : Fill → Position → Cell → Cell
+full_cell f p c =
+    if is_under_label f p then in_colors (unwrap_or f.style.bg Reset) (unwrap_or f.style.fg Reset) (styled f.style (with_symbol (codes " ") c))
+    else in_colors (unwrap_or f.style.fg Reset) (unwrap_or f.style.bg Reset) (styled f.style (with_symbol FULL_BLOCK.now c))
+
+-- a cell of a bar: filled before its end, the tip in the next column, and otherwise in the bar's style
+abbrev pub filled_cell : Fill → Position → Cell → Cell
+filled_cell f p c =
+    if nat_lt p.x f.end then full_cell f p c
+    else if f.has_tip && (p.x == f.end) then styled f.style (with_symbol f.tip.now c) else styled f.style c
+
+-- the pieces of a label that are painted over an area of a buffer
+abbrev pub pieces_on_bar : List ℕ → Style → Rect → Rect → List Piece
+pieces_on_bar text style r own = pieces_at own (label_part text r).x (label_width text r) style text
+
+-- the bar over an area, and a label on it
+pub record FillsArea (g : Gauge) (text : List ℕ) (style : Style) (r : Rect) (old new : Sheet) : Type 0 where
+  pub fill : Fill
+  pub is_fill : IsFillOf g text r fill
+  pub filled : Sheet
+  pub bar : ChangesEach r (filled_cell fill) old filled
+  pub label : PaintsPieces (corner (label_part text r)) (pieces_on_bar text style r filled.area) filled new
+
+-- the label's text, and its style: without a label the percentage
+abbrev pub text_of_label : Gauge → Option SpanData → List ℕ
+text_of_label g None = percent_text g.share
+text_of_label g (Some label) = label.content
+
+abbrev pub style_of_label : Option SpanData → Style
+style_of_label None = new_style
+style_of_label (Some label) = label.style
+
+-- the bar with its label over an area
+abbrev pub FillsGauge : Gauge → Rect → Sheet → Sheet → Type 0
+FillsGauge g r = FillsArea g (text_of_label g g.label) (style_of_label g.label) r
+
+abbrev pub gauge_pieces : Gauge → Rect → Rect → List Piece
+gauge_pieces g r own = pieces_on_bar (text_of_label g g.label) (style_of_label g.label) r own
+
+-- A gauge over the part of an area that a buffer has: its style, its box, and inside the bar with its label. Nothing outside the area changes.
+abbrev pub RendersAreaGauge : Gauge → Rect → Sheet → Sheet → Type 0
+RendersAreaGauge g = RendersInFrame g.style g.block (FillsGauge g)
+
+-- it takes no memory if its box takes none and the label's graphemes are short
+pub record IsShortGauge (g : Gauge) (area : Rect) (s : Sheet) : Type 0 where
+  pub frame : IsShortFrame g.block s
+  pub label : AreShort (gauge_pieces g (inner_if g.block (intersected area s.area)) s.area)

@@ -1,0 +1,4 @@
+pub mod Shares
+pub mod Gauges
+pub mod LineGauges
+pub mod Scrollbars

@@ -1,0 +1,39 @@
+-- A share of a whole: how much of a number it is.
+use Rattle.std.specs.Prelude.{ℕ, Bool, ◌+◌, ◌*◌, ◌/◌, ◌%◌, ◌++◌, nat_le, min, max, List, codes, decimal}
+use Rattle.rtui_meters.specs.declared.share.Share.{Share}
+
+-- so many parts of a whole
+abbrev pub share_of : ℕ → ℕ → Share
+share_of parts whole = record { parts = parts; whole = whole }
+
+-- the whole, but at least one
+abbrev pub whole_of : Share → ℕ
+whole_of s = max s.whole 1
+
+-- the parts, but at most the whole
+abbrev pub parts_of : Share → ℕ
+parts_of s = min s.parts (max s.whole 1)
+
+-- all of the whole
+abbrev pub is_full : Share → Bool
+is_full s = nat_le (max s.whole 1) s.parts
+
+-- so much of a number, rounded down
+abbrev pub filled_part : Share → ℕ → ℕ
+filled_part s n = n * parts_of s / whole_of s
+
+-- the quotient of two numbers, rounded to the nearest one
+abbrev pub rounded_quotient : ℕ → ℕ → ℕ
+rounded_quotient n d = (2 * n + d) / (2 * d)
+
+-- so much of a number, rounded to the nearest one
+abbrev pub rounded_part : Share → ℕ → ℕ
+rounded_part s n = (2 * n * parts_of s + whole_of s) / (2 * whole_of s)
+
+-- how many eighths of one more are left over, rounded to the nearest one
+abbrev pub eighths_of : Share → ℕ → ℕ
+eighths_of s n = (16 * (n * parts_of s % whole_of s) + whole_of s) / (2 * whole_of s)
+
+-- the share in percent, and a percent sign
+abbrev pub percent_text : Share → List ℕ
+percent_text s = decimal (rounded_part s 100) ++ codes "%"

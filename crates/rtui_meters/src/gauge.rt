@@ -1,0 +1,288 @@
+//! A bar that fills a share of an area.
+
+ghost use Rattle.std.specs.Prelude.{◌≡◌, ◌≤◌, Some, OnOk, OnErr, IsOk};
+ghost use Rattle.ratatui_core.specs.Layout.{IsInside};
+ghost use Rattle.ratatui_core.specs.Buffer.{AreShort, IsShort};
+ghost use Rattle.ratatui_core.specs.Widgets.{ChangesWithin};
+ghost use Rattle.rtui_boxes.specs.Boxes.{IsBoxArea};
+ghost use Rattle.rtui_meters.specs.Shares.{share_of};
+ghost use Rattle.rtui_meters.specs.Gauges.{IsNewGauge, IsFillOf, is_under_label, full_cell, FillsArea, FillsGauge, pieces_on_bar, gauge_pieces};
+
+use crate::share::Share;
+use ratatui_core::buffer::{Buffer, Cell, CellChange, change_area, part_in};
+use ratatui_core::layout::{Position, Rect};
+use ratatui_core::style::{Color, Style};
+use ratatui_core::symbols::block;
+use ratatui_core::text::{Span, text_columns};
+use ratatui_core::widgets::Widget;
+use rtui_boxes::{Block, render_frame};
+use std::alloc::{AllocError, Global};
+
+/// A bar that fills a share of an area from the left, with a label in the middle.
+///
+/// ```
+/// Gauge::new().ratio(sent, total).gauge_style(Style::new().fg(Color::Green)).render(area, buf)?;
+/// ```
+#[derive(Debug, Drop)]
+pub struct Gauge<'a> {
+    block: Option<Block<'a>>,
+    share: Share,
+    label: Option<Span<'a>>,
+    use_unicode: bool,
+    style: Style,
+    gauge_style: Style,
+}
+
+impl<'a> Gauge<'a> {
+    /// An empty gauge, without box, label and styles; takes no memory.
+    pub fn new() -> Gauge<'a>
+        ensures { IsNewGauge result }
+    {
+        Gauge {
+            block: None,
+            share: Share { parts: 0, whole: 1 },
+            label: None,
+            use_unicode: false,
+            style: Style::new(),
+            gauge_style: Style::new(),
+        }
+    }
+
+    /// The gauge in a box.
+    pub fn block(mut self, block: Block<'a>) -> Gauge<'a>
+        ensures { result ≡ record self.entry { block = Some block.entry } }
+    {
+        self.block = Some(block);
+        self
+    }
+
+    /// The gauge, filled by so many hundredths; more than 100 are 100.
+    pub fn percent(self, percent: u16) -> Gauge<'a>
+        ensures { result ≡ record self.entry { share = share_of percent 100 } }
+    {
+        self.ratio(u32::from(percent), 100)
+    }
+
+    /// The gauge, filled by so many parts of a whole; more than the whole are the whole.
+    pub fn ratio(mut self, parts: u32, whole: u32) -> Gauge<'a>
+        ensures { result ≡ record self.entry { share = share_of parts whole } }
+    {
+        self.share = Share { parts, whole };
+        self
+    }
+
+    /// The gauge with a label; without one the percentage is shown.
+    pub fn label(mut self, label: Span<'a>) -> Gauge<'a>
+        ensures { result ≡ record self.entry { label = Some label.entry } }
+    {
+        self.label = Some(label);
+        self
+    }
+
+    /// The gauge, its last column filled by eighths, or by whole columns.
+    pub fn use_unicode(mut self, unicode: bool) -> Gauge<'a>
+        ensures { result ≡ record self.entry { use_unicode = unicode } }
+    {
+        self.use_unicode = unicode;
+        self
+    }
+
+    /// The gauge in a style, with its box.
+    pub fn style(mut self, style: Style) -> Gauge<'a>
+        ensures { result ≡ record self.entry { style = style } }
+    {
+        self.style = style;
+        self
+    }
+
+    /// The gauge, its bar in a style: the foreground is the filled part's colour, the background that of the rest.
+    pub fn gauge_style(mut self, style: Style) -> Gauge<'a>
+        ensures { result ≡ record self.entry { gauge_style = style } }
+    {
+        self.gauge_style = style;
+        self
+    }
+
+    // Renders the bar and its label inside the box.
+    fn render_gauge(&self, inner: Rect, buf: &mut Buffer) -> Result<(), AllocError>
+        requires some { IsBoxArea inner }
+        requires inside { IsInside inner buf.old.area }
+        ensures within { ChangesWithin inner buf.old buf.new }
+        ensures ok { OnOk result (FillsGauge self.now inner buf.old buf.new) }
+        ensures short { AreShort (gauge_pieces self.now inner buf.old.area) → IsOk result }
+    {
+        match &self.label {
+            Some(label) => self.render_labelled(label.text(), label.style, inner, buf),
+            None => {
+                let text = self.share.text();
+                self.render_labelled(text.as_str(), Style::new(), inner, buf)
+            }
+        }
+    }
+
+    // Renders the bar and a label on it.
+    fn render_labelled(
+        &self,
+        text: &str,
+        style: Style,
+        inner: Rect,
+        buf: &mut Buffer,
+    ) -> Result<(), AllocError>
+        requires some { IsBoxArea inner }
+        requires inside { IsInside inner buf.old.area }
+        ensures within { ChangesWithin inner buf.old buf.new }
+        ensures ok { OnOk result (FillsArea self.now text.now style inner buf.old buf.new) }
+        ensures short { let ps = pieces_on_bar text.now style inner buf.old.area in
+            AreShort ps → IsOk result }
+    {
+        let fill = self.fill(text, inner);
+        let label = fill.label;
+        change_area(buf, inner, &fill)?;
+        buf.set_stringn(label.x, label.y, text, usize::from(label.width), style)?;
+        Ok(())
+    }
+
+    // How the bar fills an area in which a label stands.
+    fn fill(&self, text: &str, inner: Rect) -> Fill
+        requires { IsBoxArea inner }
+        ensures fill { IsFillOf self.now text.now inner result }
+        ensures light { IsShort result.tip.now }
+    {
+        let width = text_columns(text).min(usize::from(inner.width)) as u16;
+        let columns = if self.use_unicode {
+            self.share.filled(inner.width)
+        } else {
+            self.share.rounded(inner.width)
+        };
+        Fill {
+            end: inner.x + columns,
+            has_tip: self.use_unicode && !self.share.is_full(),
+            tip: TIPS[self.share.eighths(inner.width)],
+            label: Rect {
+                x: inner.x + (inner.width - width) / 2,
+                y: inner.y + inner.height / 2,
+                width,
+                height: 1,
+            },
+            style: self.gauge_style,
+        }
+    }
+}
+
+impl Default for Gauge<'_> {
+    ghost is_default = { IsNewGauge };
+
+    fn default() -> Self {
+        Gauge::new()
+    }
+}
+
+/// The symbol of a column that is filled.
+pub const FULL_BLOCK: &str = block::FULL;
+
+/// The symbols of a column that is filled by eighths, from none to all.
+pub static TIPS: [&str; 9] = [
+    " ",
+    block::ONE_EIGHTH,
+    block::ONE_QUARTER,
+    block::THREE_EIGHTHS,
+    block::HALF,
+    block::FIVE_EIGHTHS,
+    block::THREE_QUARTERS,
+    block::SEVEN_EIGHTHS,
+    FULL_BLOCK,
+];
+
+// How a bar fills an area: up to which column, by which symbol in the next one, where the label stands, and in which style.
+#[derive(Drop)]
+pub(crate) struct Fill {
+    end: u16,
+    has_tip: bool,
+    tip: &'static str,
+    label: Rect,
+    style: Style,
+}
+
+impl Fill {
+    // Whether a position is one of the label's columns, or the one after them.
+    fn is_under_label(&self, position: Position) -> bool
+        ensures { result ≡ is_under_label self.now position }
+    {
+        let label = self.label;
+        position.y == label.y && label.x <= position.x && position.x - label.x <= label.width
+    }
+
+    // Fills a cell: with a block, or with a blank in the other colours under the label.
+    fn fill(&self, alloc: Global, position: Position, cell: &mut Cell) -> Result<(), AllocError>
+        ensures ok { OnOk result (cell.new ≡ full_cell self.now position cell.old) }
+        ensures err { OnErr result (cell.new ≡ cell.old) }
+        ensures succeeds { IsOk result }
+    {
+        let front = self.style.fg.unwrap_or(Color::Reset);
+        let back = self.style.bg.unwrap_or(Color::Reset);
+        if self.is_under_label(position) {
+            cell.set_symbol(alloc, " ")?;
+            cell.set_style(self.style);
+            cell.fg = back;
+            cell.bg = front;
+        } else {
+            cell.set_symbol(alloc, FULL_BLOCK)?;
+            cell.set_style(self.style);
+            cell.fg = front;
+            cell.bg = back;
+        }
+        Ok(())
+    }
+}
+
+impl CellChange for Fill {
+    ghost use Rattle.std.specs.Prelude.{⊤};
+    ghost use Rattle.rtui_meters.specs.Gauges.{filled_cell};
+    ghost use Rattle.ratatui_core.specs.Buffer.{IsShort};
+
+    ghost made = { filled_cell };
+
+    ghost is_light = { λ f _ _. IsShort f.tip.now };
+
+    fn change(&self, alloc: Global, position: Position, cell: &mut Cell) -> Result<(), AllocError> {
+        if position.x < self.end {
+            return self.fill(alloc, position, cell);
+        }
+        if self.has_tip && position.x == self.end {
+            cell.set_symbol(alloc, self.tip)?;
+        }
+        cell.set_style(self.style);
+        Ok(())
+    }
+}
+
+/// Over the area, as far as the buffer has it: the style, the box, and the bar with its label inside.
+impl<'b, 'a> Widget for &'b Gauge<'a> {
+    ghost use Rattle.rtui_meters.specs.Gauges.{RendersAreaGauge, IsShortGauge};
+
+    ghost renders = { λ gauge. RendersAreaGauge gauge.now };
+
+    ghost is_short = { λ gauge. IsShortGauge gauge.now };
+
+    fn render(self, area: Rect, buf: &mut Buffer) -> Result<(), AllocError> {
+        let Some(part) = part_in(buf, area) else {
+            return Ok(());
+        };
+        let Some(inner) = render_frame(self.style, &self.block, part, buf)? else {
+            return Ok(());
+        };
+        self.render_gauge(inner, buf)
+    }
+}
+
+impl<'a> Widget for Gauge<'a> {
+    ghost use Rattle.rtui_meters.specs.Gauges.{RendersAreaGauge, IsShortGauge};
+
+    ghost renders = { RendersAreaGauge };
+
+    ghost is_short = { IsShortGauge };
+
+    fn render(self, area: Rect, buf: &mut Buffer) -> Result<(), AllocError> {
+        (&self).render(area, buf)
+    }
+}

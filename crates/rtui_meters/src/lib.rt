@@ -1,0 +1,15 @@
+//! Widgets that show how much there is of a whole: gauges in an area and in a row, and scroll bars.
+//!
+//! It stands on `ratatui_core` and `rtui_boxes`. `specs/Shares` says how many columns a share fills, `specs/Gauges` and `specs/LineGauges`
+//! which cell gets which symbol and style, and `specs/Scrollbars` where the thumb of a scroll bar is.
+#![tactic(auto)]
+
+mod gauge;
+pub mod laws;
+mod line_gauge;
+mod scrollbar;
+mod share;
+
+pub use gauge::Gauge;
+pub use line_gauge::LineGauge;
+pub use scrollbar::{ScrollDirection, Scrollbar, ScrollbarOrientation, ScrollbarState};

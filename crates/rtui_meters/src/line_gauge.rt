@@ -1,0 +1,253 @@
+//! A line that is filled by a share of a row.
+
+ghost use Rattle.std.specs.Prelude.{◌≡◌, ◌≤◌, ◌<◌, ◌+◌, Some, OnOk, IfOk, IsOk};
+ghost use Rattle.ratatui_core.specs.Layout.{IsInside, corner};
+ghost use Rattle.ratatui_core.specs.Buffer.{columns, AreShort, PaintsOrRefuses, IsShort};
+ghost use Rattle.ratatui_core.specs.Widgets.{ChangesWithin};
+ghost use Rattle.rtui_boxes.specs.Boxes.{IsBoxArea};
+ghost use Rattle.rtui_meters.specs.Shares.{share_of};
+ghost use Rattle.rtui_meters.specs.LineGauges.{IsNewLineGauge, line_label_pieces, FillsLine, HasShortLine};
+
+use crate::share::Share;
+use ratatui_core::buffer::{Buffer, Cell, CellChange, change_area, part_in};
+use ratatui_core::layout::{Position, Rect};
+use ratatui_core::style::Style;
+use ratatui_core::symbols::line;
+use ratatui_core::text::Line;
+use ratatui_core::widgets::Widget;
+use rtui_boxes::{Block, render_frame};
+use std::alloc::{AllocError, Global};
+
+/// The plain line of which a gauge is if it says nothing else.
+pub const PLAIN_LINE: &str = line::HORIZONTAL;
+
+/// A line in one row that is filled by a share from the left, with a label before it.
+///
+/// ```
+/// LineGauge::new().percent(40).filled_style(Style::new().fg(Color::Green)).render(area, buf)?;
+/// ```
+#[derive(Debug, Drop)]
+pub struct LineGauge<'a> {
+    block: Option<Block<'a>>,
+    share: Share,
+    label: Option<Line<'a>>,
+    filled_symbol: &'a str,
+    unfilled_symbol: &'a str,
+    style: Style,
+    filled_style: Style,
+    unfilled_style: Style,
+}
+
+impl<'a> LineGauge<'a> {
+    /// An empty gauge of plain lines, without box, label and styles; takes no memory.
+    pub fn new() -> LineGauge<'a>
+        ensures { IsNewLineGauge result }
+    {
+        LineGauge {
+            block: None,
+            share: Share { parts: 0, whole: 1 },
+            label: None,
+            filled_symbol: PLAIN_LINE,
+            unfilled_symbol: PLAIN_LINE,
+            style: Style::new(),
+            filled_style: Style::new(),
+            unfilled_style: Style::new(),
+        }
+    }
+
+    /// The gauge in a box.
+    pub fn block(mut self, block: Block<'a>) -> LineGauge<'a>
+        ensures { result ≡ record self.entry { block = Some block.entry } }
+    {
+        self.block = Some(block);
+        self
+    }
+
+    /// The gauge, filled by so many hundredths; more than 100 are 100.
+    pub fn percent(self, percent: u16) -> LineGauge<'a>
+        ensures { result ≡ record self.entry { share = share_of percent 100 } }
+    {
+        self.ratio(u32::from(percent), 100)
+    }
+
+    /// The gauge, filled by so many parts of a whole; more than the whole are the whole.
+    pub fn ratio(mut self, parts: u32, whole: u32) -> LineGauge<'a>
+        ensures { result ≡ record self.entry { share = share_of parts whole } }
+    {
+        self.share = Share { parts, whole };
+        self
+    }
+
+    /// The gauge with a label; without one the percentage is shown.
+    pub fn label(mut self, label: Line<'a>) -> LineGauge<'a>
+        ensures { result ≡ record self.entry { label = Some label.entry } }
+    {
+        self.label = Some(label);
+        self
+    }
+
+    /// The gauge of the level line of a set.
+    pub fn line_set(mut self, set: line::Set<'a>) -> LineGauge<'a>
+        ensures { let symbol = set.entry.horizontal in
+            result ≡ record self.entry { filled_symbol = symbol; unfilled_symbol = symbol } }
+    {
+        self.filled_symbol = set.horizontal;
+        self.unfilled_symbol = set.horizontal;
+        self
+    }
+
+    /// The gauge with this symbol in each column that is filled.
+    pub fn filled_symbol(mut self, symbol: &'a str) -> LineGauge<'a>
+        ensures { result ≡ record self.entry { filled_symbol = symbol.entry } }
+    {
+        self.filled_symbol = symbol;
+        self
+    }
+
+    /// The gauge with this symbol in each other column.
+    pub fn unfilled_symbol(mut self, symbol: &'a str) -> LineGauge<'a>
+        ensures { result ≡ record self.entry { unfilled_symbol = symbol.entry } }
+    {
+        self.unfilled_symbol = symbol;
+        self
+    }
+
+    /// The gauge in a style, with its box and its label.
+    pub fn style(mut self, style: Style) -> LineGauge<'a>
+        ensures { result ≡ record self.entry { style = style } }
+    {
+        self.style = style;
+        self
+    }
+
+    /// The gauge, the filled part of its line in a style.
+    pub fn filled_style(mut self, style: Style) -> LineGauge<'a>
+        ensures { result ≡ record self.entry { filled_style = style } }
+    {
+        self.filled_style = style;
+        self
+    }
+
+    /// The gauge, the other part of its line in a style.
+    pub fn unfilled_style(mut self, style: Style) -> LineGauge<'a>
+        ensures { result ≡ record self.entry { unfilled_style = style } }
+    {
+        self.unfilled_style = style;
+        self
+    }
+
+    // Paints the label, and answers the column after it.
+    fn paint_label(&self, inner: Rect, buf: &mut Buffer) -> Result<u16, AllocError>
+        requires some { IsBoxArea inner }
+        requires inside { IsInside inner buf.old.area }
+        ensures paints { let ps = line_label_pieces self.now inner buf.old.area in
+            PaintsOrRefuses (corner inner) ps result buf.old buf.new }
+        ensures place { let ps = line_label_pieces self.now inner buf.old.area in
+            IfOk result (λ x. x ≡ inner.x + columns ps) }
+    {
+        let (x, _) = match &self.label {
+            Some(label) => buf.set_line(inner.x, inner.y, label, inner.width)?,
+            None => {
+                let text = self.share.text();
+                let width = usize::from(inner.width);
+                buf.set_stringn(inner.x, inner.y, text.as_str(), width, Style::new())?
+            }
+        };
+        Ok(x)
+    }
+
+    // Renders the label and the line inside the box.
+    fn render_line(&self, inner: Rect, buf: &mut Buffer) -> Result<(), AllocError>
+        requires some { IsBoxArea inner }
+        requires inside { IsInside inner buf.old.area }
+        ensures within { ChangesWithin inner buf.old buf.new }
+        ensures ok { OnOk result (FillsLine self.now inner buf.old buf.new) }
+        ensures short { HasShortLine self.now inner buf.old.area → IsOk result }
+    {
+        let start = self.paint_label(inner, buf)?.saturating_add(1);
+        let columns = (inner.x + inner.width).saturating_sub(start);
+        let line = LineFill {
+            end: start.saturating_add(self.share.filled(columns)),
+            filled_symbol: self.filled_symbol,
+            unfilled_symbol: self.unfilled_symbol,
+            filled_style: self.filled_style,
+            unfilled_style: self.unfilled_style,
+        };
+        let part = Rect {
+            x: start,
+            y: inner.y,
+            width: columns,
+            height: 1,
+        };
+        change_area(buf, part, &line)
+    }
+}
+
+impl Default for LineGauge<'_> {
+    ghost is_default = { IsNewLineGauge };
+
+    fn default() -> Self {
+        LineGauge::new()
+    }
+}
+
+// A line that is filled up to a column.
+#[derive(Drop)]
+pub(crate) struct LineFill<'a> {
+    end: u16,
+    filled_symbol: &'a str,
+    unfilled_symbol: &'a str,
+    filled_style: Style,
+    unfilled_style: Style,
+}
+
+impl<'a> CellChange for LineFill<'a> {
+    ghost use Rattle.rtui_meters.specs.LineGauges.{line_cell};
+    ghost use Rattle.ratatui_core.specs.Buffer.{IsShort};
+
+    ghost made = { line_cell };
+
+    ghost is_light = { λ f _ _. IsShort f.filled_symbol.now × IsShort f.unfilled_symbol.now };
+
+    fn change(&self, alloc: Global, position: Position, cell: &mut Cell) -> Result<(), AllocError> {
+        if position.x < self.end {
+            cell.set_symbol(alloc, self.filled_symbol)?;
+            cell.set_style(self.filled_style);
+        } else {
+            cell.set_symbol(alloc, self.unfilled_symbol)?;
+            cell.set_style(self.unfilled_style);
+        }
+        Ok(())
+    }
+}
+
+/// Over the area, as far as the buffer has it: the style, the box, and in the first row inside the label and the line.
+impl<'b, 'a> Widget for &'b LineGauge<'a> {
+    ghost use Rattle.rtui_meters.specs.LineGauges.{RendersLineGauge, IsShortLineGauge};
+
+    ghost renders = { λ gauge. RendersLineGauge gauge.now };
+
+    ghost is_short = { λ gauge. IsShortLineGauge gauge.now };
+
+    fn render(self, area: Rect, buf: &mut Buffer) -> Result<(), AllocError> {
+        let Some(part) = part_in(buf, area) else {
+            return Ok(());
+        };
+        let Some(inner) = render_frame(self.style, &self.block, part, buf)? else {
+            return Ok(());
+        };
+        self.render_line(inner, buf)
+    }
+}
+
+impl<'a> Widget for LineGauge<'a> {
+    ghost use Rattle.rtui_meters.specs.LineGauges.{RendersLineGauge, IsShortLineGauge};
+
+    ghost renders = { RendersLineGauge };
+
+    ghost is_short = { IsShortLineGauge };
+
+    fn render(self, area: Rect, buf: &mut Buffer) -> Result<(), AllocError> {
+        (&self).render(area, buf)
+    }
+}

@@ -1,0 +1,540 @@
+//! A bar that shows which part of a content is seen.
+
+ghost use Rattle.std.specs.Prelude.{◌≡◌, ◌≤◌, ◌<◌, ◌-◌, ◌^◌};
+ghost use Rattle.ratatui_core.specs.Layout.{IsInside};
+ghost use Rattle.rtui_boxes.specs.Boxes.{IsBoxArea};
+ghost use Rattle.rtui_meters.specs.Shares.{rounded_quotient};
+ghost use Rattle.rtui_meters.specs.Scrollbars.{IsNewScrollbar, HasSymbols, moved_on, scrolled_by, IsSetFor, with_bar_symbols, is_upright, bar_area, bar_start, bar_length, arrow_count, track_length, marks_of, seen_rows, thumb_start, thumb_length, mark_of};
+
+use ratatui_core::buffer::{Buffer, Cell, CellChange, change_area, part_in};
+use ratatui_core::layout::{Position, Rect};
+use ratatui_core::style::Style;
+use ratatui_core::symbols::scrollbar::{DOUBLE_HORIZONTAL, DOUBLE_VERTICAL, Set};
+use ratatui_core::widgets::StatefulWidget;
+use std::alloc::{AllocError, Global};
+
+/// At which side of an area a scroll bar stands.
+#[derive(Debug, Default, Clone, Copy, PartialEq, Eq, Hash)]
+pub enum ScrollbarOrientation {
+    /// In the last column.
+    #[default]
+    VerticalRight,
+    /// In the first column.
+    VerticalLeft,
+    /// In the last row.
+    HorizontalBottom,
+    /// In the first row.
+    HorizontalTop,
+}
+
+impl ScrollbarOrientation {
+    /// Whether it goes from above to below.
+    pub fn is_vertical(&self) -> bool
+        ensures { result ≡ is_upright self.now }
+    {
+        match self {
+            ScrollbarOrientation::VerticalRight | ScrollbarOrientation::VerticalLeft => true,
+            ScrollbarOrientation::HorizontalBottom | ScrollbarOrientation::HorizontalTop => false,
+        }
+    }
+}
+
+/// To which side a state is scrolled.
+#[derive(Debug, Default, Clone, Copy, PartialEq, Eq, Hash)]
+pub enum ScrollDirection {
+    /// Down, or to the right.
+    #[default]
+    Forward,
+    /// Up, or to the left.
+    Backward,
+}
+
+/// How long a content is, which of its rows or columns is the first one seen, and how many are seen; 0 stands for as many as the bar is
+/// long.
+#[derive(Debug, Default, Clone, Copy, PartialEq, Eq, Hash)]
+pub struct ScrollbarState {
+    content_length: usize,
+    position: usize,
+    viewport_content_length: usize,
+}
+
+impl ScrollbarState {
+    /// A state at the start of a content of this length.
+    pub fn new(content_length: usize) -> ScrollbarState
+        ensures { result ≡ record
+            { content_length = content_length; position = 0; viewport_content_length = 0 } }
+    {
+        ScrollbarState {
+            content_length,
+            position: 0,
+            viewport_content_length: 0,
+        }
+    }
+
+    /// The state at a position.
+    pub fn position(mut self, position: usize) -> ScrollbarState
+        ensures { result ≡ record self { position = position } }
+    {
+        self.position = position;
+        self
+    }
+
+    /// The state with a content of this length.
+    pub fn content_length(mut self, content_length: usize) -> ScrollbarState
+        ensures { result ≡ record self { content_length = content_length } }
+    {
+        self.content_length = content_length;
+        self
+    }
+
+    /// The state in which so much is seen at once.
+    pub fn viewport_content_length(mut self, length: usize) -> ScrollbarState
+        ensures { result ≡ record self { viewport_content_length = length } }
+    {
+        self.viewport_content_length = length;
+        self
+    }
+
+    /// The position.
+    pub fn get_position(&self) -> usize
+        ensures { result ≡ self.now.position }
+    {
+        self.position
+    }
+
+    /// One back, if there is one.
+    pub fn prev(&mut self)
+        ensures { self.new ≡ record self.old { position = self.old.position - 1 } }
+    {
+        self.position = self.position.saturating_sub(1);
+    }
+
+    /// One on, as far as the content goes.
+    pub fn next(&mut self)
+        ensures { self.new ≡ moved_on self.old }
+    {
+        let last = self.content_length.saturating_sub(1);
+        self.position = self.position.saturating_add(1).min(last);
+    }
+
+    /// To the start.
+    pub fn first(&mut self)
+        ensures { self.new ≡ record self.old { position = 0 } }
+    {
+        self.position = 0;
+    }
+
+    /// To the last row or column.
+    pub fn last(&mut self)
+        ensures { self.new ≡ record self.old { position = self.old.content_length - 1 } }
+    {
+        self.position = self.content_length.saturating_sub(1);
+    }
+
+    /// One on or back.
+    pub fn scroll(&mut self, direction: ScrollDirection)
+        ensures { self.new ≡ scrolled_by direction self.old }
+    {
+        match direction {
+            ScrollDirection::Forward => self.next(),
+            ScrollDirection::Backward => self.prev(),
+        }
+    }
+}
+
+/// A bar at a side of an area: an arrow at each end, a track between them, and on it a thumb where the part that is seen lies.
+///
+/// ```
+/// let mut state = ScrollbarState::new(lines).position(first);
+/// Scrollbar::new(ScrollbarOrientation::VerticalRight).render(area, buf, &mut state)?;
+/// ```
+#[derive(Debug, Clone, Copy)]
+pub struct Scrollbar<'a> {
+    orientation: ScrollbarOrientation,
+    thumb_style: Style,
+    thumb_symbol: &'a str,
+    track_style: Style,
+    track_symbol: Option<&'a str>,
+    begin_symbol: Option<&'a str>,
+    begin_style: Style,
+    end_symbol: Option<&'a str>,
+    end_style: Style,
+}
+
+impl<'a> Scrollbar<'a> {
+    /// A bar of double lines at a side, with arrows; takes no memory.
+    pub fn new(orientation: ScrollbarOrientation) -> Scrollbar<'a>
+        ensures { IsNewScrollbar orientation result }
+    {
+        let set = symbols_for(orientation);
+        Scrollbar {
+            orientation,
+            thumb_style: Style::new(),
+            thumb_symbol: set.thumb,
+            track_style: Style::new(),
+            track_symbol: Some(set.track),
+            begin_symbol: Some(set.begin),
+            begin_style: Style::new(),
+            end_symbol: Some(set.end),
+            end_style: Style::new(),
+        }
+    }
+
+    /// The bar at another side, in double lines.
+    pub fn orientation(self, orientation: ScrollbarOrientation) -> Scrollbar<'a>
+        ensures { HasSymbols orientation self.entry result }
+    {
+        let set = symbols_for(orientation);
+        self.symbols(set).at_side(orientation)
+    }
+
+    /// The bar at another side, of these symbols.
+    pub fn orientation_and_symbol(
+        self,
+        orientation: ScrollbarOrientation,
+        symbols: Set<'a>,
+    ) -> Scrollbar<'a>
+        ensures { result ≡ record (with_bar_symbols symbols.entry self.entry)
+            { orientation = orientation } }
+    {
+        self.symbols(symbols).at_side(orientation)
+    }
+
+    // The bar at another side.
+    fn at_side(mut self, orientation: ScrollbarOrientation) -> Scrollbar<'a>
+        ensures { result ≡ record self.entry { orientation = orientation } }
+    {
+        self.orientation = orientation;
+        self
+    }
+
+    /// The bar of these symbols; what it doesn't show stays away.
+    pub fn symbols(mut self, symbols: Set<'a>) -> Scrollbar<'a>
+        ensures { result ≡ with_bar_symbols symbols.entry self.entry }
+    {
+        self.thumb_symbol = symbols.thumb;
+        if self.track_symbol.is_some() {
+            self.track_symbol = Some(symbols.track);
+        }
+        if self.begin_symbol.is_some() {
+            self.begin_symbol = Some(symbols.begin);
+        }
+        if self.end_symbol.is_some() {
+            self.end_symbol = Some(symbols.end);
+        }
+        self
+    }
+
+    /// The bar with this thumb.
+    pub fn thumb_symbol(mut self, symbol: &'a str) -> Scrollbar<'a>
+        ensures { result ≡ record self.entry { thumb_symbol = symbol.entry } }
+    {
+        self.thumb_symbol = symbol;
+        self
+    }
+
+    /// The bar, its thumb in a style.
+    pub fn thumb_style(mut self, style: Style) -> Scrollbar<'a>
+        ensures { result ≡ record self.entry { thumb_style = style } }
+    {
+        self.thumb_style = style;
+        self
+    }
+
+    /// The bar with this track, or without one.
+    pub fn track_symbol(mut self, symbol: Option<&'a str>) -> Scrollbar<'a>
+        ensures { result ≡ record self.entry { track_symbol = symbol.entry } }
+    {
+        self.track_symbol = symbol;
+        self
+    }
+
+    /// The bar, its track in a style.
+    pub fn track_style(mut self, style: Style) -> Scrollbar<'a>
+        ensures { result ≡ record self.entry { track_style = style } }
+    {
+        self.track_style = style;
+        self
+    }
+
+    /// The bar with this symbol at its start, or without one.
+    pub fn begin_symbol(mut self, symbol: Option<&'a str>) -> Scrollbar<'a>
+        ensures { result ≡ record self.entry { begin_symbol = symbol.entry } }
+    {
+        self.begin_symbol = symbol;
+        self
+    }
+
+    /// The bar, the symbol at its start in a style.
+    pub fn begin_style(mut self, style: Style) -> Scrollbar<'a>
+        ensures { result ≡ record self.entry { begin_style = style } }
+    {
+        self.begin_style = style;
+        self
+    }
+
+    /// The bar with this symbol at its end, or without one.
+    pub fn end_symbol(mut self, symbol: Option<&'a str>) -> Scrollbar<'a>
+        ensures { result ≡ record self.entry { end_symbol = symbol.entry } }
+    {
+        self.end_symbol = symbol;
+        self
+    }
+
+    /// The bar, the symbol at its end in a style.
+    pub fn end_style(mut self, style: Style) -> Scrollbar<'a>
+        ensures { result ≡ record self.entry { end_style = style } }
+    {
+        self.end_style = style;
+        self
+    }
+
+    /// The bar, all of it in a style.
+    pub fn style(mut self, style: Style) -> Scrollbar<'a>
+        ensures { result ≡ record self.entry
+            { thumb_style = style; track_style = style; begin_style = style; end_style = style } }
+    {
+        self.thumb_style = style;
+        self.track_style = style;
+        self.begin_style = style;
+        self.end_style = style;
+        self
+    }
+
+    // Where the bar stands: the row or the column at its side of an area.
+    fn bar_area(&self, area: Rect) -> Rect
+        requires { IsBoxArea area }
+        ensures { result ≡ bar_area self.now.orientation area }
+    {
+        match self.orientation {
+            ScrollbarOrientation::VerticalRight => Rect {
+                x: area.x + (area.width - 1),
+                width: 1,
+                ..area
+            },
+            ScrollbarOrientation::VerticalLeft => Rect { width: 1, ..area },
+            ScrollbarOrientation::HorizontalBottom => Rect {
+                y: area.y + (area.height - 1),
+                height: 1,
+                ..area
+            },
+            ScrollbarOrientation::HorizontalTop => Rect { height: 1, ..area },
+        }
+    }
+
+    // How many cells the bar has.
+    fn length(&self, area: Rect) -> u16
+        ensures { result ≡ bar_length self.now.orientation area }
+    {
+        if self.orientation.is_vertical() {
+            area.height
+        } else {
+            area.width
+        }
+    }
+}
+
+impl<'a> Scrollbar<'a> {
+    // How long the track is over an area: the bar without its arrows.
+    fn track_length(&self, area: Rect) -> u16
+        ensures { let length = bar_length self.now.orientation area in
+            result ≡ track_length self.now length }
+    {
+        let arrows = count_of(self.begin_symbol) + count_of(self.end_symbol);
+        self.length(area).saturating_sub(arrows)
+    }
+
+    // Where the bar begins.
+    fn start(&self, bar: Rect) -> u16
+        ensures { result ≡ bar_start self.now.orientation bar }
+    {
+        if self.orientation.is_vertical() {
+            bar.y
+        } else {
+            bar.x
+        }
+    }
+
+    // The marks of the bar over an area.
+    fn marks(&self, state: &ScrollbarState, area: Rect) -> Marks<'a>
+        requires some { IsBoxArea area }
+        requires track { 0 < track_length self.now (bar_length self.now.orientation area) }
+        ensures { result ≡ marks_of self.now state.now area }
+    {
+        let track = self.track_length(area);
+        let begin = count_of(self.begin_symbol);
+        let (thumb, length) = state.thumb(track, self.length(area));
+        Marks {
+            is_vertical: self.orientation.is_vertical(),
+            start: self.start(self.bar_area(area)),
+            track: begin,
+            thumb: begin + thumb,
+            after_thumb: begin + thumb + length,
+            after_track: begin + track,
+            bar: *self,
+        }
+    }
+}
+
+// The symbols of double lines for a side.
+fn symbols_for<'a>(orientation: ScrollbarOrientation) -> Set<'a>
+    ensures { IsSetFor orientation result }
+{
+    if orientation.is_vertical() {
+        DOUBLE_VERTICAL
+    } else {
+        DOUBLE_HORIZONTAL
+    }
+}
+
+// 1 if there is a symbol.
+fn count_of(symbol: Option<&str>) -> u16
+    ensures value { result ≡ arrow_count symbol.entry }
+    ensures bit { result ≤ 1 }
+{
+    match symbol {
+        Some(_) => 1,
+        None => 0,
+    }
+}
+
+// The quotient of two numbers, rounded to the nearest one.
+fn rounded_quotient(n: u128, d: u128) -> u128
+    requires some { 0 < d }
+    requires number { n < 2 ^ 90 }
+    requires divisor { d < 2 ^ 90 }
+    ensures { result ≡ rounded_quotient n d }
+{
+    (2 * n + d) / (2 * d)
+}
+
+impl ScrollbarState {
+    // How much is seen at once.
+    fn seen(&self, length: u16) -> usize
+        ensures { result ≡ seen_rows self.now length }
+    {
+        if self.viewport_content_length > 0 {
+            self.viewport_content_length
+        } else {
+            usize::from(length)
+        }
+    }
+
+    // Where the thumb begins on a track, and how long it is.
+    fn thumb(&self, track: u16, length: u16) -> (u16, u16)
+        requires some { 0 < track }
+        requires fits { track ≤ length }
+        ensures start { result.0 ≡ thumb_start self.now track length }
+        ensures length { result.1 ≡ thumb_length self.now track length }
+    {
+        let track_length = u128::from(track);
+        let last = self.content_length.saturating_sub(1);
+        let seen = self.seen(length) as u128;
+        let first = self.position.min(last) as u128;
+        let total = last as u128 + seen;
+        let start = rounded_quotient(first * track_length, total).min(track_length - 1);
+        let end = rounded_quotient((first + seen) * track_length, total).min(track_length);
+        (start as u16, end.saturating_sub(start).max(1) as u16)
+    }
+}
+
+// The marks of a bar by their places: an arrow, the track, the thumb, the track, an arrow.
+#[derive(Clone, Copy)]
+pub(crate) struct Marks<'a> {
+    is_vertical: bool,
+    start: u16,
+    track: u16,
+    thumb: u16,
+    after_thumb: u16,
+    after_track: u16,
+    bar: Scrollbar<'a>,
+}
+
+impl<'a> Marks<'a> {
+    // The symbol and the style at a place.
+    fn mark(&self, place: u16) -> (Option<&'a str>, Style)
+        ensures { result ≡ mark_of self.now place }
+    {
+        let bar = &self.bar;
+        if place < self.track {
+            (bar.begin_symbol, bar.begin_style)
+        } else if place < self.thumb {
+            (bar.track_symbol, bar.track_style)
+        } else if place < self.after_thumb {
+            (Some(bar.thumb_symbol), bar.thumb_style)
+        } else if place < self.after_track {
+            (bar.track_symbol, bar.track_style)
+        } else {
+            (bar.end_symbol, bar.end_style)
+        }
+    }
+}
+
+impl<'a> CellChange for Marks<'a> {
+    ghost use Rattle.rtui_meters.specs.Scrollbars.{marked_cell, IsLightMark, mark_of, place_on_bar};
+
+    ghost made = { marked_cell };
+
+    ghost is_light = { λ m p _. IsLightMark (mark_of m (place_on_bar m p)) };
+
+    fn change(&self, alloc: Global, position: Position, cell: &mut Cell) -> Result<(), AllocError> {
+        let place = if self.is_vertical {
+            position.y
+        } else {
+            position.x
+        };
+        let (symbol, style) = self.mark(place.saturating_sub(self.start));
+        let Some(symbol) = symbol else {
+            return Ok(());
+        };
+        cell.set_symbol(alloc, symbol)?;
+        cell.set_style(style);
+        Ok(())
+    }
+}
+
+/// At its side of the area, as far as the buffer has it; a bar without a content or without room for a track shows nothing.
+impl<'b, 'a> StatefulWidget for &'b Scrollbar<'a> {
+    type State = ScrollbarState;
+
+    ghost use Rattle.rtui_meters.specs.Scrollbars.{RendersScrollbar, HasShortMarks};
+
+    ghost renders = { λ bar. RendersScrollbar bar.now };
+
+    ghost is_short = { λ bar _ _ _. HasShortMarks bar.now };
+
+    fn render(
+        self,
+        area: Rect,
+        buf: &mut Buffer,
+        state: &mut ScrollbarState,
+    ) -> Result<(), AllocError> {
+        let Some(part) = part_in(buf, area) else {
+            return Ok(());
+        };
+        if state.content_length == 0 || self.track_length(part) == 0 {
+            return Ok(());
+        }
+        let marks = self.marks(state, part);
+        change_area(buf, self.bar_area(part), &marks)
+    }
+}
+
+impl<'a> StatefulWidget for Scrollbar<'a> {
+    type State = ScrollbarState;
+
+    ghost use Rattle.rtui_meters.specs.Scrollbars.{RendersScrollbar, HasShortMarks};
+
+    ghost renders = { RendersScrollbar };
+
+    ghost is_short = { λ bar _ _ _. HasShortMarks bar };
+
+    fn render(
+        self,
+        area: Rect,
+        buf: &mut Buffer,
+        state: &mut ScrollbarState,
+    ) -> Result<(), AllocError> {
+        (&self).render(area, buf, state)
+    }
+}

@@ -1,0 +1,2 @@
+pub mod NarrowLemmas
+pub mod SetLemmas
