@@ -1,8 +1,6 @@
 //! A labelled bar.
 
-ghost use Rattle.std.specs.Prelude.{◌≡◌, ◌⊎◌, MatchOption};
 ghost use Rattle.ratatui_core.specs.Layout.{intersected};
-ghost use Rattle.ratatui_core.specs.Widgets.{IsClipped};
 
 use ratatui_core::buffer::Buffer;
 use ratatui_core::layout::Rect;
@@ -22,18 +20,6 @@ pub struct Gauge<'a> {
     pub style: Style,
 }
 
-// The part of an area that a buffer has, if there is one.
-fn part_in(buf: &Buffer, area: Rect) -> Option<Rect>
-    ensures { let r = intersected area buf.now.area in
-        MatchOption result ((r.width ≡ 0) ⊎ (r.height ≡ 0)) (IsClipped area buf.now.area) }
-{
-    let part = area.intersection(*buf.area());
-    if part.is_empty() {
-        return None;
-    }
-    Some(part)
-}
-
 /// In the first row of the area, as far as the buffer has it: the bar's style over the columns that are filled, and on them
 /// the label. What doesn't fit is cut.
 impl<'b, 'a> Widget for &'b Gauge<'a> {
@@ -46,7 +32,7 @@ impl<'b, 'a> Widget for &'b Gauge<'a> {
         AreShort (label_pieces gauge.now (intersected area s.area) s.area) };
 
     fn render(self, area: Rect, buf: &mut Buffer) -> Result<(), AllocError> {
-        let Some(part) = part_in(buf, area) else {
+        let Some(part) = buf.part(area) else {
             return Ok(());
         };
         let bar = Rect {

@@ -13,7 +13,7 @@ pub mod buffer {
     pub use rtui_buffer::{
         Buffer, BufferDiff, Cell, CellDiffOption, CellWidth, diff_rows, lines_width, texts_width,
     };
-    pub use rtui_changes::{CellChange, change_area, part_in};
+    pub use rtui_changes::{CellChange, change_area};
 
     /// Laws of cells and of buffers.
     pub mod laws {

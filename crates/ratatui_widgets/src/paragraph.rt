@@ -13,7 +13,7 @@ ghost use Rattle.ratatui_widgets.specs.Paragraphs.{IsNewParagraph};
 ghost use Rattle.ratatui_widgets.specs.Reflow.{AllFit};
 
 use crate::reflow::{columns_of, fitting, split_row, truncated};
-use ratatui_core::buffer::{Buffer, CellWidth, part_in};
+use ratatui_core::buffer::{Buffer, CellWidth};
 use ratatui_core::layout::{HorizontalAlignment, Position, Rect};
 use ratatui_core::style::Style;
 use ratatui_core::text::{StyledGrapheme, Text};
@@ -365,7 +365,7 @@ fn render_row(
 fn part_in_both(buf: &Buffer, area: Rect, other: Rect) -> Option<Rect>
     ensures { IfSome result (λ r. IsBoxArea r × IsInside r area × IsInside r buf.now.area) }
 {
-    part_in(buf, area.intersection(other))
+    buf.part(area.intersection(other))
 }
 
 /// Over the area, as far as the buffer has it: the style, the box, and the text inside it.
@@ -375,7 +375,7 @@ impl<'b, 'a> Widget for &'b Paragraph<'a> {
     ghost renders = { λ p. RendersParagraph p.now };
 
     fn render(self, area: Rect, buf: &mut Buffer) -> Result<(), AllocError> {
-        let Some(part) = part_in(buf, area) else {
+        let Some(part) = buf.part(area) else {
             return Ok(());
         };
         buf.set_style(part, self.style);

@@ -9,7 +9,7 @@ use crate::borders::Borders;
 use crate::padding::Padding;
 use crate::title::{Title, TitlePosition};
 use bitflags::Flags;
-use ratatui_core::buffer::{Buffer, part_in};
+use ratatui_core::buffer::Buffer;
 use ratatui_core::layout::{HorizontalAlignment, Rect};
 use ratatui_core::style::Style;
 use ratatui_core::symbols::border;
@@ -269,7 +269,7 @@ impl<'b, 'a> Widget for &'b Block<'a> {
     ghost is_short = { λ b. IsShortBlock b.now };
 
     fn render(self, area: Rect, buf: &mut Buffer) -> Result<(), AllocError> {
-        let Some(part) = part_in(buf, area) else {
+        let Some(part) = buf.part(area) else {
             return Ok(());
         };
         buf.set_style(part, self.style);

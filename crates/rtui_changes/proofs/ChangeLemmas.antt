@@ -9,7 +9,7 @@ use Rattle.rtui_cell.specs.declared.cell.Cell.{Cell}
 use Rattle.rtui_cell.specs.Cell.{empty_cell}
 use Rattle.rtui_buffer.specs.Sheet.{Sheet, cell_in, with_cell, cell_index, area_size, position_of}
 use Rattle.rtui_widgets.specs.Rendering.{ChangesWithin}
-use Rattle.rtui_widgets.specs.Clipped.{IsClipped}
+use Rattle.rtui_buffer.specs.Clipped.{IsClipped}
 use Rattle.rtui_changes.specs.Changes.{ChangesEach, row_part, columns_to, rows_to, place_at, IsRowOfArea, AreLight}
 
 place-fits : (w h a b : ℕ) → a < w → b < h → b * w + a < w * h

@@ -1,27 +1,14 @@
 //! Changing each cell of an area.
 
-ghost use Rattle.std.specs.Prelude.{◌≡◌, ◌⊎◌, ◌<◌, ◌≤◌, MatchOption, IsOk, OnOk, OnErr};
-ghost use Rattle.rtui_geometry.specs.Rect.{intersected, IsInside, HasPosition};
-ghost use Rattle.rtui_buffer.specs.Sheet.{cell_in, with_cell, position_of};
-ghost use Rattle.rtui_widgets.specs.Clipped.{IsClipped};
+ghost use Rattle.std.specs.Prelude.{◌≡◌, ◌<◌, IsOk, OnOk, OnErr};
+ghost use Rattle.rtui_geometry.specs.Rect.{IsInside, HasPosition};
+ghost use Rattle.rtui_buffer.specs.Sheet.{cell_in, position_of};
 ghost use Rattle.rtui_widgets.specs.Rendering.{ChangesWithin};
 ghost use Rattle.rtui_changes.specs.Changes.{ChangesEach, row_part, IsRowOfArea, AreLight, place_at};
 
 use rtui_buffer::{Buffer, Cell};
 use rtui_geometry::{Position, Rect};
 use std::alloc::{AllocError, Global};
-
-/// The part of an area that a buffer has, if there is one.
-pub fn part_in(buf: &Buffer, area: Rect) -> Option<Rect>
-    ensures { let r = intersected area buf.now.area in
-        MatchOption result ((r.width ≡ 0) ⊎ (r.height ≡ 0)) (IsClipped area buf.now.area) }
-{
-    let part = area.intersection(*buf.area());
-    if part.is_empty() {
-        return None;
-    }
-    Some(part)
-}
 
 /// A change of a cell by its position.
 pub trait CellChange {
@@ -101,7 +88,7 @@ pub fn change_area<C: CellChange>(
     ensures err { OnErr result (ChangesWithin area buf.old buf.new) }
     ensures short { AreLight (C.is_light change.now) area buf.old → IsOk result }
 {
-    let Some(part) = part_in(buf, area) else {
+    let Some(part) = buf.part(area) else {
         return Ok(());
     };
     change_part(buf, part, change)

@@ -8,4 +8,4 @@
 mod change;
 pub mod laws;
 
-pub use change::{CellChange, change_area, part_in};
+pub use change::{CellChange, change_area};

@@ -11,7 +11,7 @@ ghost use Rattle.rtui_list.specs.Items.{If, is_marked, has_mark_columns, mark_wi
 use crate::item::ListItem;
 use crate::state::ListState;
 use crate::window::{count_from, offset_for};
-use ratatui_core::buffer::{Buffer, Cell, CellChange, change_area, part_in};
+use ratatui_core::buffer::{Buffer, Cell, CellChange, change_area};
 use ratatui_core::layout::{Position, Rect};
 use ratatui_core::style::Style;
 use ratatui_core::text::text_columns;
@@ -449,7 +449,7 @@ impl<'b, 'a> StatefulWidget for &'b List<'a> {
     ghost renders = { λ list. RendersList list.now };
 
     fn render(self, area: Rect, buf: &mut Buffer, state: &mut ListState) -> Result<(), AllocError> {
-        let Some(part) = part_in(buf, area) else {
+        let Some(part) = buf.part(area) else {
             return Ok(());
         };
         let Some(inner) = render_frame(self.style, &self.block, part, buf)? else {

@@ -9,7 +9,7 @@ ghost use Rattle.rtui_meters.specs.Shares.{share_of};
 ghost use Rattle.rtui_meters.specs.Gauges.{IsNewGauge, IsFillOf, is_under_label, full_cell, FillsArea, FillsGauge, pieces_on_bar, gauge_pieces};
 
 use crate::share::Share;
-use ratatui_core::buffer::{Buffer, Cell, CellChange, change_area, part_in};
+use ratatui_core::buffer::{Buffer, Cell, CellChange, change_area};
 use ratatui_core::layout::{Position, Rect};
 use ratatui_core::style::{Color, Style};
 use ratatui_core::symbols::block;
@@ -265,7 +265,7 @@ impl<'b, 'a> Widget for &'b Gauge<'a> {
     ghost is_short = { λ gauge. IsShortGauge gauge.now };
 
     fn render(self, area: Rect, buf: &mut Buffer) -> Result<(), AllocError> {
-        let Some(part) = part_in(buf, area) else {
+        let Some(part) = buf.part(area) else {
             return Ok(());
         };
         let Some(inner) = render_frame(self.style, &self.block, part, buf)? else {

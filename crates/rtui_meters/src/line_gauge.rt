@@ -9,7 +9,7 @@ ghost use Rattle.rtui_meters.specs.Shares.{share_of};
 ghost use Rattle.rtui_meters.specs.LineGauges.{IsNewLineGauge, line_label_pieces, FillsLine, HasShortLine};
 
 use crate::share::Share;
-use ratatui_core::buffer::{Buffer, Cell, CellChange, change_area, part_in};
+use ratatui_core::buffer::{Buffer, Cell, CellChange, change_area};
 use ratatui_core::layout::{Position, Rect};
 use ratatui_core::style::Style;
 use ratatui_core::symbols::line;
@@ -230,7 +230,7 @@ impl<'b, 'a> Widget for &'b LineGauge<'a> {
     ghost is_short = { λ gauge. IsShortLineGauge gauge.now };
 
     fn render(self, area: Rect, buf: &mut Buffer) -> Result<(), AllocError> {
-        let Some(part) = part_in(buf, area) else {
+        let Some(part) = buf.part(area) else {
             return Ok(());
         };
         let Some(inner) = render_frame(self.style, &self.block, part, buf)? else {

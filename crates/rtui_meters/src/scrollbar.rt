@@ -6,7 +6,7 @@ ghost use Rattle.rtui_boxes.specs.Boxes.{IsBoxArea};
 ghost use Rattle.rtui_meters.specs.Shares.{rounded_quotient};
 ghost use Rattle.rtui_meters.specs.Scrollbars.{IsNewScrollbar, HasSymbols, moved_on, scrolled_by, IsSetFor, with_bar_symbols, is_upright, bar_area, bar_start, bar_length, arrow_count, track_length, marks_of, seen_rows, thumb_start, thumb_length, mark_of};
 
-use ratatui_core::buffer::{Buffer, Cell, CellChange, change_area, part_in};
+use ratatui_core::buffer::{Buffer, Cell, CellChange, change_area};
 use ratatui_core::layout::{Position, Rect};
 use ratatui_core::style::Style;
 use ratatui_core::symbols::scrollbar::{DOUBLE_HORIZONTAL, DOUBLE_VERTICAL, Set};
@@ -509,7 +509,7 @@ impl<'b, 'a> StatefulWidget for &'b Scrollbar<'a> {
         buf: &mut Buffer,
         state: &mut ScrollbarState,
     ) -> Result<(), AllocError> {
-        let Some(part) = part_in(buf, area) else {
+        let Some(part) = buf.part(area) else {
             return Ok(());
         };
         if state.content_length == 0 || self.track_length(part) == 0 {
