@@ -143,7 +143,7 @@ fn put_blanks(
     Ok(())
 }
 
-// Sets the flags of a symbol's columns, from the place `first` up to `after_it`, and unsets those from there up to `end`.
+// Sets the flags of a symbol's columns, from the place `first` up to `past_it`, and unsets those from there up to `end`.
 #[inline(never)]
 fn mark(continuations: &mut [bool], first: usize, past_it: usize, end: usize)
     requires ordered { first ≤ end }
@@ -193,7 +193,7 @@ fn cover(
     Ok(end)
 }
 
-// Prints a cell's symbol in a column and a row of a screen, in the brush's rendition.
+// Prints a cell's symbol in a column and a row of a screen, in the text cursor's rendition.
 #[inline(always)]
 fn put(
     out: &mut String,
@@ -215,7 +215,7 @@ fn put(
     }
 }
 
-// Sets the rendition of the cell in a place; apart, so that the path of a cell in the brush's rendition stays short.
+// Sets the rendition of the cell in a place; apart, so that the path of a cell in the text cursor's rendition stays short.
 #[inline(never)]
 fn set_sgr_of(
     out: &mut String,
@@ -238,7 +238,7 @@ fn set_sgr_of(
     Ok(())
 }
 
-// Sets the rendition of the cell in a place, where the brush has another.
+// Sets the rendition of the cell in a place, if the text cursor has another.
 #[inline(always)]
 fn take_sgr(
     out: &mut String,
@@ -298,7 +298,7 @@ fn draw_glyph(
     Ok(())
 }
 
-/// Draws a cell in a column and a row of a screen of so many columns and rows, and counts it. `after` has a flag for each column,
+/// Draws a cell in a column and a row of a screen of so many columns and rows, and counts it. `continuations` has a flag for each column,
 /// row by row: whether it is a continuation column. Off the screen nothing is sent, and neither is a vacant cell
 /// after the first column of a symbol, where it would tear the symbol. Refused with its place is a cell whose symbol terminals
 /// don't print as one in just the cell's columns, or not within its row; one whose rendition can't be sent; and one that would cut a
@@ -404,7 +404,7 @@ fn draw_all<C: AsCell, I: Iterator<Item = (u16, u16, C)>>(
     Ok(())
 }
 
-/// Draws cells in order on a screen of so many columns and rows, with the cursor there and so many items drawn before; `after` is
+/// Draws cells in order on a screen of so many columns and rows, with the cursor there and so many items drawn before; `continuations` is
 /// as in `draw_cell`. The terminal awaits text and is ready, and is so again. Answers where the cursor is then, and how many
 /// items were drawn, as far as the count goes; if ambiguous characters may be wide, each but ASCII is followed by a move; after a refusal what was appended and the flags are to be dropped.
 pub fn draw_cells<C: AsCell, I: Iterator<Item = (u16, u16, C)>>(
