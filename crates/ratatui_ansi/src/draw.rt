@@ -112,7 +112,8 @@ fn tail_end(continuations: &[bool], start: usize, from: u16, width: u16) -> u16
     ensures high { result ≤ width }
     ensures continuations { (k : ℕ) → from ≤ k → k < result
         → slice_index_or continuations.now (start + k) false ≡ true }
-    ensures ended { result < width → slice_index_or continuations.now (start + result) false ≡ false }
+    ensures ended { result < width
+        → slice_index_or continuations.now (start + result) false ≡ false }
 {
     for column in from..width {
         if !continuations[start + usize::from(column)] {
@@ -206,7 +207,8 @@ fn put(
     requires column { x < 65535 }
     requires glyph { IsGlyphOf (symbol_text cell.now.symbol) glyph }
     ensures prints { OnOk result ((w h : ℕ) → x < w → y < h → Prints w h (string_bytes out.old)
-        brush.old x y brush.old.sgr (symbol_text cell.now.symbol) (string_bytes out.new) brush.new) }
+        brush.old x y brush.old.sgr (symbol_text cell.now.symbol) (string_bytes out.new)
+        brush.new) }
     ensures sgr { OnOk result (brush.new.sgr ≡ brush.old.sgr) }
 {
     match glyph {
@@ -322,8 +324,8 @@ pub fn draw_cell(
     ensures sent { OnOk result (is_sendable_on width height has_underline_colors
         (record { x = x; y = y; cell = cell.now }) ≡ true) }
     ensures sgr { OnOk result (is_sendable_by has_underline_colors drawing.new.brush.sgr ≡ true) }
-    ensures refused { IfErr result (RefusesUpdate width height has_underline_colors continuations.old
-        (record { x = x; y = y; cell = cell.now })) }
+    ensures refused { IfErr result (RefusesUpdate width height has_underline_colors
+        continuations.old (record { x = x; y = y; cell = cell.now })) }
 {
     drawing.written = drawing.written.saturating_add(1);
     if x >= width || y >= height {
