@@ -95,7 +95,7 @@ cursor_shown visible t = record t { visible = visible }
 abbrev pub with_sgr : Sgr → Emulator → Emulator
 with_sgr sgr t = record t { sgr = sgr }
 
--- ---- erasing: terminals differ where the rendition isn't their own, or the cursor is after the last column
+-- ---- erasing: terminals differ if the rendition isn't their own, or the cursor is after the last column
 
 -- some put the screen into their history if all of it is erased at once, or from the corner on
 abbrev pub keeps_history : ClearType → ℕ → ℕ → Bool
@@ -118,7 +118,7 @@ columns_cleared part x y columns a b = if is_cleared part x y a b then blank_col
 abbrev pub rows_emptied : ℕ → Columns → Columns
 rows_emptied h columns a b = if nat_lt b h then blank_column else columns a b
 
--- ---- scrolling: terminals differ where the rendition isn't their own
+-- ---- scrolling: terminals differ if the rendition isn't their own
 
 -- a row, and whether all of it is known
 abbrev pub row_shown : Emulator → ℕ → List Look
@@ -151,7 +151,7 @@ abbrev pub rows_lowered : ℕ → ℕ → ℕ → Columns → Columns
 rows_lowered from to n columns a b =
     if nat_le from b && nat_lt b to then (if nat_le (from + n) b then columns a (b - n) else blank_column) else columns a b
 
--- the rows of the region one up; the first row goes to the history. Terminals differ on that where the region begins below the first row
+-- the rows of the region one up; the first row goes to the history. Terminals differ on that if the region begins below the first row
 abbrev pub scrolled : Emulator → Emulator
 scrolled t = record t {
   history = t.history ++ row_shown t 0 ∷ [];

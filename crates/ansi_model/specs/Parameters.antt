@@ -1,4 +1,4 @@
--- The parameters that set a rendition, and the bytes that tell them.
+-- The parameters that set a rendition.
 use Rattle.std.specs.Prelude.{◌≡◌, ℕ, ◌+◌, ◌==◌, ◌&&◌, ◌||◌, nat_lt, Bool, true, false, if◌then◌else◌, List, [], ◌∷◌, ◌++◌}
 use Rattle.std.specs.Int.RustNames.{bit_and}
 use Rattle.std.specs.List.{list_all}
@@ -7,7 +7,7 @@ use Rattle.ratatui_core.specs.Style.{Color, Reset, Black, Red, Green, Yellow, Bl
 use Rattle.ansi_model.specs.Sgr.{is_default_color}
 use Rattle.ansi_model.specs.declared.sgr.Sgr.{Sgr}
 
--- of a colour: those of the text count from 30, those after it from 40
+-- of a colour: those of the text count from 30, those of the background from 40
 abbrev pub color_parameters : ℕ → Color → List ℕ
 color_parameters base Reset = []
 color_parameters base Black = base ∷ []

@@ -31,7 +31,7 @@ is_default_color _ = false
 abbrev pub is_own : Sgr → Bool
 is_own sgr = is_default_color sgr.fg && is_default_color sgr.bg && is_default_color sgr.underline_color && (bits_of sgr.modifier == 0)
 
--- what the next parameter belongs to: to itself, to a colour that was begun (38 of the text, 48 after it, 58 of the line under it), to its
+-- what the next parameter belongs to: to itself, to a colour that was begun (38 of the text, 48 of the background, 58 of the underline), to its
 -- number, or to its three parts
 pub data Awaits : Type 0 where
   Nothing : Awaits

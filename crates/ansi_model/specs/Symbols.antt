@@ -24,7 +24,7 @@ is_shown c = not (is_control c) && not (is_directional c)
 abbrev pub is_plain_char : ℕ → Bool
 is_plain_char c = (nat_le 32 c && nat_le c 126) || (nat_le 0xC0 c && nat_le c 0x17F) || (nat_le 0x2500 c && nat_le c 0x259F)
 
--- how many columns a character takes alone: none where it is a control character or joins what is before it
+-- how many columns a character takes alone: none if it is a control character or joins what is before it
 abbrev pub columns_of_char : ℕ → ℕ
 columns_of_char c = unwrap_or (char_width false c) 0
 

@@ -25,7 +25,8 @@ pub fn a_printed_symbol_is_put()
 /// nothing stands right of the screen, and of the symbol's columns all but the first lie after it.
 pub fn a_printed_symbol_keeps_the_others()
     ensures sized { (x y n : ℕ) (look : Look) (c : Columns) → IsWhole c → IsUncut x y n c
-        → n ≡ printed_columns look.symbol → HaveOwnWidths c → HaveOwnWidths (put_columns x y n look c) }
+        → n ≡ printed_columns look.symbol → HaveOwnWidths c
+        → HaveOwnWidths (put_columns x y n look c) }
     ensures whole { (x y n : ℕ) (look : Look) (c : Columns) → IsWhole c → IsUncut x y n c
         → IsWhole (put_columns x y n look c) }
     ensures beyond { (w x y n : ℕ) (look : Look) (c : Columns) → IsWhole c → IsUncut x y n c

@@ -34,7 +34,8 @@ pub fn push_number(out: &mut String, n: u32) -> Result<(), AllocError>
 
 /// CUP (cursor position): moves the cursor to a column and a row.
 pub fn move_to(out: &mut String, x: u16, y: u16) -> Result<(), AllocError>
-    ensures { OnOk result (Performs (string_bytes out.old) (string_bytes out.new) (cursor_moved x y)) }
+    ensures { OnOk result (Performs (string_bytes out.old) (string_bytes out.new)
+        (cursor_moved x y)) }
 {
     out.push_str("\u{1b}[")?;
     push_number(out, u32::from(y) + 1)?;

@@ -32,7 +32,7 @@ pub fn is_plain(c: char) -> bool
     matches!(c, ' '..='~' | '\u{c0}'..='\u{17f}' | '\u{2500}'..='\u{259f}')
 }
 
-/// How many columns a character takes alone: none where it is a control character or joins what is before it.
+/// How many columns a character takes alone: none if it is a control character or joins what is before it.
 pub fn columns_of_char(c: char) -> u16
     ensures { result ≡ columns_of_char c }
 {

@@ -12,7 +12,7 @@ use Rattle.ansi_model.specs.Emulator.Phase.{Ground}
 use Rattle.ansi_model.specs.Sequences.{feed}
 use Rattle.ansi_model.specs.Sends.{Performs}
 
--- bytes were appended that set a rendition where the terminal has another, and none where it has this one
+-- bytes were appended that set a rendition if the terminal has another, and none where it has this one
 pub data ChangesSgr (from to : Sgr) (old new : List ℕ) : Type 0 where
   Stays : from ≡ to → new ≡ old → ChangesSgr from to old new
   Sets : Performs old new (with_sgr to) → ChangesSgr from to old new
@@ -24,7 +24,7 @@ pub record WritesAt (x y : ℕ) (t : Emulator) : Type 0 where
   pub column : (rested t).x ≡ x
   pub row : (rested t).y ≡ y
 
--- a terminal that awaits text and prints as the brush says
+-- a terminal that awaits text and prints as the text cursor says
 pub record IsDrawnBy (brush : TextCursor) (t : Emulator) : Type 0 where
   pub phase : t.phase ≡ Ground
   pub sgr : (rested t).sgr ≡ brush.sgr
@@ -35,7 +35,7 @@ abbrev pub is_place : ℕ → ℕ → Option Position → Bool
 is_place x y None = false
 is_place x y (Some p) = (p.x == x) && (p.y == y)
 
--- whether a brush knows that the next plain character would be printed in this column and row
+-- whether a text cursor knows that the next plain character would be printed in this column and row
 abbrev pub is_at : ℕ → ℕ → TextCursor → Bool
 is_at x y brush = is_place x y brush.at
 
@@ -43,7 +43,7 @@ is_at x y brush = is_place x y brush.at
 abbrev pub drawn_at : ℕ → ℕ → Sgr → Emulator → Emulator
 drawn_at x y sgr t = record t { x = x; y = y; sgr = sgr }
 
--- bytes were appended that do this to each terminal of this size that is drawn by a brush, and leave it drawn by another one
+-- bytes were appended that do this to each terminal of this size that is drawn by a text cursor, and leave it drawn by another one
 pub record Paints (w h : ℕ) (old : List ℕ) (before : TextCursor) (effect : Emulator → Emulator) (new : List ℕ) (after : TextCursor) : Type 0 where
   pub bytes : List ℕ
   pub appended : new ≡ old ++ bytes

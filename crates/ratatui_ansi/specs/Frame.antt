@@ -62,7 +62,7 @@ IsUnsendableSgr colors place sgr _ = ⊥
 
 -- ---- draws
 
--- flags were set anew from the place `first` up to `end`: set up to `after_it`, but for the first one
+-- flags were set anew from the place `first` up to `end`: set up to `past_it`, but for the first one
 pub record AreMarked (first past_it end : ℕ) (flags after : List Bool) : Type 0 where
   pub count : length after ≡ length flags
   pub each : (k : ℕ) → flag after k
@@ -79,7 +79,7 @@ pub record Covers (w x y n : ℕ) (old : List ℕ) (flags : List Bool) (before :
   pub sgr : (after.sgr ≡ before.sgr) ⊎ (after.sgr ≡ default_sgr)
   pub marked : AreMarked (y * w + x) (y * w + (x + n)) (y * w + end) flags flags_after
 
--- a terminal within a draw on a screen of this size: with its own rendition it would be ready; the flags are those of its columns
+-- a terminal within a draw on a screen of this size: with its own rendition it would be idle; the flags are those of its columns
 pub record IsDrawing (w h : ℕ) (d : DrawState) (flags : List Bool) (t : Emulator) : Type 0 where
   pub drawn : IsDrawnBy d.brush t
   pub ready : IsIdle w h (with_sgr default_sgr (rested t))

@@ -26,7 +26,7 @@ use std::marker::Model;
 use std::ops::Range;
 
 /// A backend that writes escape sequences to a writer. It begins with those that make any terminal of its size blank, and its screen
-/// is what such a terminal shows that has read what the writer was sent. Each call writes once, or nothing where it is refused, and
+/// is what such a terminal shows that has read what the writer was sent. Each call writes once, or nothing if it is refused, and
 /// counts as failed until it has succeeded; after a failed write every call is refused until `restart`. It keeps no byte of what it
 /// wrote.
 #[derive(Drop)]
@@ -66,7 +66,7 @@ impl<W: Write> Model for AnsiBackend<W> {
 
 impl<W: Write + Drop> AnsiBackend<W> {
     /// A backend of a screen of this size in columns and rows, over a terminal that is made blank: what makes it so is written. Refused
-    /// where the screen has no columns or no rows, where memory is, or where writing fails; then the writer is dropped.
+    /// if the screen has no columns or no rows, if memory is, or if writing fails; then the writer is dropped.
     pub fn new(alloc: Global, writer: W, size: Size) -> Result<AnsiBackend<W>, AnsiError>
         ensures blank { IfOk result (λ b. IsBlankScreen size.width size.height (shown_by b)) }
         ensures before { IfOk result (λ b. b.before ≡ W.contents writer) }
@@ -132,7 +132,7 @@ impl<W: Write + Drop> AnsiBackend<W> {
     }
 
     /// Begins anew, also after a failed write, on a terminal that is made blank: what makes it so is written, and is all that counts as
-    /// sent. Where memory is refused all stays; after a failed write every call is refused until the next `restart`.
+    /// sent. If memory is refused all stays; after a failed write every call is refused until the next `restart`.
     pub fn restart(&mut self) -> Result<(), AnsiError>
         ensures blank { OnOk result (IsBlankScreen self.old.size.width self.old.size.height
             (shown_by self.new)) }
@@ -151,7 +151,7 @@ impl<W: Write + Drop> AnsiBackend<W> {
     }
 
     /// The window has another size: the backend begins anew on a terminal of this size, which is made blank. So the next draw of a
-    /// terminal over it finds another size. Refused where the size has no columns or no rows, or where memory is, all stays; after a
+    /// terminal over it finds another size. Refused if the size has no columns or no rows, or if memory is, all stays; after a
     /// failed write every call is refused until the next `restart` or `resize`.
     pub fn resize(&mut self, size: Size) -> Result<(), AnsiError>
         ensures blank { OnOk result (IsBlankScreen size.width size.height (shown_by self.new)) }

@@ -112,7 +112,8 @@ fn tail_end(continuations: &[bool], start: usize, from: u16, width: u16) -> u16
     ensures high { result ≤ width }
     ensures continuations { (k : ℕ) → from ≤ k → k < result
         → slice_index_or continuations.now (start + k) false ≡ true }
-    ensures ended { result < width → slice_index_or continuations.now (start + result) false ≡ false }
+    ensures ended { result < width
+        → slice_index_or continuations.now (start + result) false ≡ false }
 {
     for column in from..width {
         if !continuations[start + usize::from(column)] {
@@ -143,7 +144,7 @@ fn put_blanks(
     Ok(())
 }
 
-// Sets the flags of a symbol's columns, from the place `first` up to `after_it`, and unsets those from there up to `end`.
+// Sets the flags of a symbol's columns, from the place `first` up to `past_it`, and unsets those from there up to `end`.
 #[inline(never)]
 fn mark(continuations: &mut [bool], first: usize, past_it: usize, end: usize)
     requires ordered { first ≤ end }
@@ -193,7 +194,7 @@ fn cover(
     Ok(end)
 }
 
-// Prints a cell's symbol in a column and a row of a screen, in the brush's rendition.
+// Prints a cell's symbol in a column and a row of a screen, in the text cursor's rendition.
 #[inline(always)]
 fn put(
     out: &mut String,
@@ -206,7 +207,8 @@ fn put(
     requires column { x < 65535 }
     requires glyph { IsGlyphOf (symbol_text cell.now.symbol) glyph }
     ensures prints { OnOk result ((w h : ℕ) → x < w → y < h → Prints w h (string_bytes out.old)
-        brush.old x y brush.old.sgr (symbol_text cell.now.symbol) (string_bytes out.new) brush.new) }
+        brush.old x y brush.old.sgr (symbol_text cell.now.symbol) (string_bytes out.new)
+        brush.new) }
     ensures sgr { OnOk result (brush.new.sgr ≡ brush.old.sgr) }
 {
     match glyph {
@@ -215,7 +217,7 @@ fn put(
     }
 }
 
-// Sets the rendition of the cell in a place; apart, so that the path of a cell in the brush's rendition stays short.
+// Sets the rendition of the cell in a place; apart, so that the path of a cell in the text cursor's rendition stays short.
 #[inline(never)]
 fn set_sgr_of(
     out: &mut String,
@@ -238,7 +240,7 @@ fn set_sgr_of(
     Ok(())
 }
 
-// Sets the rendition of the cell in a place, where the brush has another.
+// Sets the rendition of the cell in a place, if the text cursor has another.
 #[inline(always)]
 fn take_sgr(
     out: &mut String,
@@ -298,7 +300,7 @@ fn draw_glyph(
     Ok(())
 }
 
-/// Draws a cell in a column and a row of a screen of so many columns and rows, and counts it. `after` has a flag for each column,
+/// Draws a cell in a column and a row of a screen of so many columns and rows, and counts it. `continuations` has a flag for each column,
 /// row by row: whether it is a continuation column. Off the screen nothing is sent, and neither is a vacant cell
 /// after the first column of a symbol, where it would tear the symbol. Refused with its place is a cell whose symbol terminals
 /// don't print as one in just the cell's columns, or not within its row; one whose rendition can't be sent; and one that would cut a
@@ -322,8 +324,8 @@ pub fn draw_cell(
     ensures sent { OnOk result (is_sendable_on width height has_underline_colors
         (record { x = x; y = y; cell = cell.now }) ≡ true) }
     ensures sgr { OnOk result (is_sendable_by has_underline_colors drawing.new.brush.sgr ≡ true) }
-    ensures refused { IfErr result (RefusesUpdate width height has_underline_colors continuations.old
-        (record { x = x; y = y; cell = cell.now })) }
+    ensures refused { IfErr result (RefusesUpdate width height has_underline_colors
+        continuations.old (record { x = x; y = y; cell = cell.now })) }
 {
     drawing.written = drawing.written.saturating_add(1);
     if x >= width || y >= height {
@@ -404,7 +406,7 @@ fn draw_all<C: AsCell, I: Iterator<Item = (u16, u16, C)>>(
     Ok(())
 }
 
-/// Draws cells in order on a screen of so many columns and rows, with the cursor there and so many items drawn before; `after` is
+/// Draws cells in order on a screen of so many columns and rows, with the cursor there and so many items drawn before; `continuations` is
 /// as in `draw_cell`. The terminal awaits text and is ready, and is so again. Answers where the cursor is then, and how many
 /// items were drawn, as far as the count goes; if ambiguous characters may be wide, each but ASCII is followed by a move; after a refusal what was appended and the flags are to be dropped.
 pub fn draw_cells<C: AsCell, I: Iterator<Item = (u16, u16, C)>>(

@@ -155,7 +155,8 @@ pub fn symbol_end(flags: &[bool], size: Size, x: u16, y: u16) -> u16
     requires row { y < size.height }
     ensures from { x ≤ result }
     ensures column { result < size.width }
-    ensures continuations { (k : ℕ) → x < k → k ≤ result → flag flags.now (y * size.width + k) ≡ true }
+    ensures continuations { (k : ℕ) → x < k → k ≤ result
+        → flag flags.now (y * size.width + k) ≡ true }
     ensures ended { is_cut BeforeCursor size.width result y flags.now ≡ false }
 {
     let mut end = x;
