@@ -1,5 +1,5 @@
 -- Strokes over the cells of an area, one after the other.
-use Rattle.std.proofs.Common.{◌≡◌, ℕ, ◌+◌, ◌-◌, ◌<◌, ◌≤◌, ◌⊎◌, ⊎_elim, inl, inr, ◌&&◌, Bool, true, false, nat_le, nat_lt, if◌then◌else◌, List, [], ◌∷◌, ◌++◌, refl, sym, ap, subst, ◌∙◌, arith, min, Result, Ok, Err, OnOk, OnErr, IsOk, IsErr}
+use Rattle.std.proofs.Common.{◌≡◌, ℕ, ◌-◌, ◌⊎◌, ⊎_elim, inl, inr, Bool, true, false, if◌then◌else◌, List, [], ◌∷◌, ◌++◌, refl, sym, ap, subst, ◌∙◌, arith, min, Result, Ok, Err, OnOk, OnErr, IsOk, IsErr}
 use Rattle.std.proofs.lemmas.Bool.Decides.{nat_tests}
 use Rattle.std.specs.declared.alloc.AllocError.{AllocError}
 use Rattle.ratatui_core.specs.Layout.{Rect, Position, HasPosition, right_edge, bottom_edge, IsInside}
@@ -7,7 +7,6 @@ use Rattle.ratatui_core.specs.Buffer.{Sheet, Cell, cell_in, joined, IsShort}
 use Rattle.ratatui_core.specs.Widgets.{ChangesWithin}
 use Rattle.rtui_boxes.specs.declared.block.Block.{Block}
 use Rattle.ratatui_core.specs.Buffer.{ChangesEach, AreLight, MakesEach}
-use Rattle.ratatui_core.specs.Style.{Style}
 use Rattle.ratatui_core.specs.Layout.{intersected}
 use Rattle.ratatui_core.specs.Buffer.{IsStyled, styled}
 use Rattle.ratatui_core.specs.Widgets.{IsClipped}
@@ -42,13 +41,6 @@ module _ (r : Rect) (f : Position → Cell → Cell) (old new : Sheet) (is : Cha
       (λ (e : is_in r p ≡ true). rw e (is.inside p in_own (is_in-has r p e)))
       (λ (e : is_in r p ≡ false). rw e (is.outside p in_own (λ h. let two = is_in-true r p h in (let no : true ≡ false = sym two ∙ e in absurd (cc)))))
       (test-cases (is_in r p))
-
-pub draws-none : {A : Type 0} (b : Block) (area part : Rect) (symbol : List ℕ) (is_drawn : Bool) (x : A) (s : Sheet) → is_drawn ≡ false → DrawsStrokes b area (stroke is_drawn part symbol ∷ []) (Ok x) s s
-draws-none b area part symbol is_drawn x s e = rw e (record {
-  within = within-same area s;
-  ok = record { area = refl; room = refl; at = λ p in_own. refl };
-  short = λ _. refl;
-})
 
 pub draws-one : {A : Type 0} (b : Block) (area part : Rect) (symbol : List ℕ) (is_drawn : Bool) (r : Result A AllocError) (old new : Sheet) → is_drawn ≡ true → IsInside part area
     → OnOk r (ChangesEach part (λ _. drawn b.merge_borders b.border_style symbol) old new) → OnErr r (ChangesWithin part old new)
@@ -169,9 +161,6 @@ box-area area own part is =
     let h : part.height ≡ min (bottom_edge area) (bottom_edge own) - part.y = rw is.value refl in
     let c = is.columns in let r = is.rows in
     record { columns = c; rows = r; across = omega arith; down = omega arith }
-
-pub laid-inside : (part : Rect) (style : Style) (old laid : Sheet) → IsInside part old.area → IsStyled part style old laid → IsInside part laid.area
-laid-inside part style old laid inside is = λ p h. rw is.area (inside p h)
 
 -- a box over the part of an area
 module _ (b : Block) (area part : Rect) (old laid mid : Sheet) (is : IsClipped area old.area part) (style : IsStyled part b.style old laid) where

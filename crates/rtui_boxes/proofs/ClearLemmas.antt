@@ -1,7 +1,7 @@
 -- Clearing keeps a buffer settled.
-use Rattle.std.proofs.Common.{◌≡◌, ℕ, ◌+◌, ◌-◌, ◌*◌, ◌<◌, ◌≤◌, ◌⊎◌, ⊎_elim, inl, inr, true, false, refl, sym, ap, subst, ◌∙◌, arith}
+use Rattle.std.proofs.Common.{◌≡◌, ℕ, ◌+◌, ◌<◌, ◌⊎◌, ⊎_elim, inl, inr, true, false, refl, sym, ap, subst, ◌∙◌, arith}
 use Rattle.ratatui_core.specs.Layout.{Rect, Position, HasPosition, EdgesFit}
-use Rattle.ratatui_core.specs.Buffer.{Sheet, Cell, cell, cell_at, cell_in, cell_index, empty_cell, width_of, is_skipped, is_same, IsSettled, IsSettledSheet, IsBlankOrSkipped, position_of}
+use Rattle.ratatui_core.specs.Buffer.{Sheet, cell, cell_at, cell_index, empty_cell, width_of, is_skipped, is_same, IsSettled, IsSettledSheet, IsBlankOrSkipped, position_of}
 use Rattle.ratatui_core.proofs.BufferLemmas.{width-empty, index-at}
 use Rattle.rtui_boxes.specs.Clears.{RendersClear}
 use Rattle.rtui_boxes.specs.Boxes.{is_in}

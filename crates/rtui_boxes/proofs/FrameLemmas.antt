@@ -1,26 +1,18 @@
 -- A style and a box over a part of a buffer, and what is inside.
-use Rattle.std.proofs.Common.{◌≡◌, ℕ, ◌+◌, ◌-◌, ◌<◌, ◌≤◌, ◌⊎◌, ⊎_elim, inl, inr, Bool, true, false, min, Option, Some, None, refl, sym, ap, subst, ◌∙◌, arith, Result, Ok, Err, OnOk, OnErr, IsOk, IsTrue, ◌↔◌, MatchOption}
+use Rattle.std.proofs.Common.{◌≡◌, ℕ, ◌+◌, ◌-◌, ◌<◌, ◌≤◌, ⊎_elim, inl, inr, Bool, true, false, min, Option, Some, None, refl, sym, ap, subst, ◌∙◌, arith, Result, Ok, Err, OnOk, OnErr, IsTrue, ◌↔◌, MatchOption}
 use Rattle.std.proofs.lemmas.Bool.{cases_lt}
 use Rattle.std.specs.declared.alloc.AllocError.{AllocError}
-use Rattle.ratatui_core.specs.Layout.{Rect, Position, HasPosition, IsInside, right_edge, bottom_edge, intersected}
+use Rattle.ratatui_core.specs.Layout.{Rect, HasPosition, IsInside, intersected}
 use Rattle.ratatui_core.specs.Style.{Style}
-use Rattle.ratatui_core.specs.Buffer.{Sheet, Cell, cell_in, styled, symbol_text, IsShort, IsStyled}
-use Rattle.ratatui_core.specs.Widgets.{ChangesWithin, IsClipped, OnPart}
-use Rattle.ratatui_core.proofs.BufferLemmas.{within-same, within-wider, on-ok}
-use Rattle.ratatui_core.proofs.WidgetLemmas.{within-then, within-styled, OnPart-none, OnPart-clipped}
+use Rattle.ratatui_core.specs.Buffer.{Sheet, IsStyled}
+use Rattle.ratatui_core.specs.Widgets.{ChangesWithin, IsClipped}
+use Rattle.ratatui_core.proofs.BufferLemmas.{within-wider}
+use Rattle.ratatui_core.proofs.WidgetLemmas.{within-then, OnPart-clipped}
 use Rattle.rtui_boxes.specs.declared.block.Block.{Block}
-use Rattle.rtui_boxes.specs.Boxes.{IsBoxArea, RendersBlock, IsShortBlock, HasShortSymbols, AreShortCells, inner_of, one_if, is_in}
-use Rattle.rtui_boxes.specs.Framed.{inner_if, RendersIfBox, IsFramed, IsBare, IsInner, InFrame, RendersInFrame, IsUntitledShort, IsShortFrame}
-use Rattle.rtui_boxes.proofs.BoxLemmas.{is_in-true, is_in-has, test-cases, box-area}
+use Rattle.rtui_boxes.specs.Boxes.{IsBoxArea, IsShortBlock, inner_of, is_in}
+use Rattle.rtui_boxes.specs.Framed.{inner_if, IsFramed, IsBare, IsInner, InFrame, RendersInFrame, IsUntitledShort, IsShortFrame}
+use Rattle.rtui_boxes.proofs.BoxLemmas.{is_in-true, is_in-has, test-cases}
 use Rattle.rtui_boxes.proofs.ShortLemmas.{short-box}
-
--- a box, rendered or refused
-pub block-changes : {A : Type 0} (r : Result A AllocError) (b : Block) (area : Rect) (old new : Sheet) → OnOk r (RendersBlock b area old new) → OnErr r (ChangesWithin area old new) → ChangesWithin area old new
-block-changes (Ok x) b area old new ok err = ok.within
-block-changes (Err e) b area old new ok err = err
-
-pub if-box : {A : Type 0} (r : Result A AllocError) (o : Option Block) (b : Block) (area : Rect) (old new : Sheet) → o ≡ Some b → OnOk r (RendersBlock b area old new) → OnOk r (RendersIfBox o area old new)
-if-box r o b area old new e ok = rw e ok
 
 pub if-short : (o : Option Block) (b : Block) (area : Rect) (s : Sheet) → o ≡ Some b → IsShortFrame o s → IsShortBlock b area s
 if-short o b area s e short =
@@ -38,10 +30,6 @@ short-laid o r style old laid is short = record {
       (λ (e : is_in r p ≡ false). rw (is.outside p in_own (λ h. let two = is_in-true r p h in (let no : true ≡ false = sym two ∙ e in absurd (cc)))) (short.cells p in_own))
       (test-cases (is_in r p));
 }
-
-one-at-most : (b : Bool) → one_if b ≤ 1
-one-at-most true = omega arith
-one-at-most false = omega arith
 
 -- what is left of a span between two sides and two paddings
 starts-in : (x w l r a b : ℕ) → x + w ≤ 65535 → 0 < w - l - r - min (a + b) 65535 → x ≤ min (min (min (x + l) 65535) (min (x + w) 65535) + a) 65535
@@ -73,10 +61,6 @@ inner-in (Some b) part is wide high =
       some = box-in part (inner_of b part) is left right top bottom wide high;
       inside = lies-in part (inner_of b part) is left right top bottom;
     }
-
--- the buffer has no part of the area
-pub framed-none : (style : Style) (o : Option Block) (f : Rect → Sheet → Sheet → Type 0) (area : Rect) (s : Sheet) → IsBare (intersected area s.area) → RendersInFrame style o f area s s
-framed-none style o f area s none = record { within = within-same area s; parts = OnPart-none (InFrame style o f) area s none }
 
 -- a style and a box over a part, and what is done inside
 module _ (style : Style) (o : Option Block) (f : Rect → Sheet → Sheet → Type 0) (area part : Rect) (old framed : Sheet) (clip : IsClipped area old.area part) (within : ChangesWithin part old framed) where

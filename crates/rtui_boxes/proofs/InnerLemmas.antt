@@ -1,14 +1,14 @@
 -- What a style and a box leave of plain cells, and where what is inside lies.
-use Rattle.std.proofs.Common.{◌≡◌, ℕ, ◌+◌, ◌-◌, ◌<◌, ◌≤◌, ◌⊎◌, ⊎_elim, inl, inr, min, max, Option, Some, None, refl, sym, ap, subst, ◌∙◌, arith}
+use Rattle.std.proofs.Common.{◌≡◌, ◌<◌, ◌≤◌, ◌⊎◌, ⊎_elim, inl, inr, Option, Some, None, refl, sym, ap, subst, ◌∙◌, arith}
 use Rattle.std.proofs.lemmas.Bool.{cases_lt}
-use Rattle.ratatui_core.specs.Layout.{Rect, Position, HasPosition, EdgesFit, IsInside, right_edge, bottom_edge, intersected}
+use Rattle.ratatui_core.specs.Layout.{Rect, HasPosition, EdgesFit, IsInside, intersected}
 use Rattle.ratatui_core.specs.Style.{Style}
-use Rattle.ratatui_core.specs.Buffer.{Sheet, Cell, cell_in, IsStyled, IsPlain, IsPlainFrom, IsSettledSheet}
+use Rattle.ratatui_core.specs.Buffer.{Sheet, cell_in, IsStyled, IsPlain, IsPlainFrom, IsSettledSheet}
 use Rattle.ratatui_core.specs.Widgets.{IsClipped}
 use Rattle.ratatui_core.proofs.BufferLemmas.{plain-styled, settled-plain, has-or-not}
 use Rattle.rtui_boxes.specs.declared.block.Block.{Block}
-use Rattle.rtui_boxes.specs.Boxes.{IsBoxArea, IsPlainIfBox, RendersBlock}
-use Rattle.rtui_boxes.specs.Framed.{inner_if, RendersIfBox, IsFramed, IsBare, IsInner, InFrame, RendersInFrame}
+use Rattle.rtui_boxes.specs.Boxes.{IsBoxArea, IsPlainIfBox}
+use Rattle.rtui_boxes.specs.Framed.{inner_if, RendersIfBox, IsFramed, IsBare, RendersInFrame}
 use Rattle.rtui_boxes.proofs.BoxLemmas.{box-area}
 use Rattle.rtui_boxes.proofs.FrameLemmas.{inner-in}
 use Rattle.rtui_boxes.proofs.PlainBoxLemmas.{plain-box}

@@ -1,7 +1,6 @@
 -- A plain box keeps cells plain.
-use Rattle.std.proofs.Common.{◌≡◌, ℕ, ◌≤◌, Bool, true, false, if◌then◌else◌, List, [], ◌∷◌, Option, Some, None, refl, sym, ap, subst, ◌∙◌, arith, Result, Ok, Err, OnOk}
-use Rattle.std.specs.declared.alloc.AllocError.{AllocError}
-use Rattle.ratatui_core.specs.Layout.{Rect, Position, HasPosition, EdgesFit, intersected}
+use Rattle.std.proofs.Common.{◌≡◌, ℕ, ◌≤◌, Bool, true, false, if◌then◌else◌, List, [], ◌∷◌, refl, sym, subst, ◌∙◌}
+use Rattle.ratatui_core.specs.Layout.{Rect, Position, HasPosition, intersected}
 use Rattle.ratatui_core.specs.Style.{Style}
 use Rattle.ratatui_core.specs.Buffer.{Sheet, Cell, cell_in, joined, styled, with_symbol, symbol_text, width_of, text_width}
 use Rattle.ratatui_core.specs.declared.symbols.merge.MergeStrategy.{MergeStrategy}

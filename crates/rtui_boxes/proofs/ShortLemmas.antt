@@ -1,5 +1,5 @@
 -- A box of short symbols takes no memory.
-use Rattle.std.proofs.Common.{◌≡◌, ◌≤◌, Bool, true, false, if◌then◌else◌, List, [], ◌∷◌}
+use Rattle.std.proofs.Common.{◌≡◌, Bool, true, false, if◌then◌else◌, List, [], ◌∷◌}
 use Rattle.ratatui_core.specs.Layout.{Rect, Position, intersected}
 use Rattle.ratatui_core.specs.Buffer.{Sheet, Cell, cell_in, symbol_text, styled, IsShort}
 use Rattle.ratatui_core.proofs.BufferLemmas.{joined-short}

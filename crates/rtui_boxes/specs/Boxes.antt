@@ -1,5 +1,5 @@
 -- A box: which symbols stand where, and what is inside.
-use Rattle.std.specs.Prelude.{◌≡◌, ℕ, Bool, true, false, ◌&&◌, ◌||◌, ◌==◌, ◌+◌, ◌-◌, ◌≤◌, ◌<◌, nat_le, nat_lt, min, Option, Some, None, List, [], ◌∷◌, ◌++◌, if◌then◌else◌, unwrap_or, ⊤, Result, IsOk, OnOk, OnErr}
+use Rattle.std.specs.Prelude.{◌≡◌, ℕ, Bool, true, false, ◌&&◌, ◌||◌, ◌==◌, ◌+◌, ◌-◌, ◌≤◌, ◌<◌, nat_le, nat_lt, min, Option, Some, None, List, [], ◌∷◌, ◌++◌, if◌then◌else◌, unwrap_or, ⊤, Result, IsOk, OnOk}
 use Rattle.std.specs.List.{list_any}
 use Rattle.std.specs.Int.RustNames.{bit_and}
 use Rattle.ratatui_core.specs.Layout.{Rect, Position, HasPosition, right_edge, bottom_edge, intersected}

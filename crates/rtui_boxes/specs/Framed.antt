@@ -1,5 +1,5 @@
 -- A style and a box over a part of a buffer, and what is left to a widget inside.
-use Rattle.std.specs.Prelude.{◌≡◌, ℕ, ◌⊎◌, ◌<◌, [], Option, Some, None, ⊤}
+use Rattle.std.specs.Prelude.{◌≡◌, ◌⊎◌, ◌<◌, [], Option, Some, None, ⊤}
 use Rattle.ratatui_core.specs.Layout.{Rect, IsInside}
 use Rattle.ratatui_core.specs.Style.{Style}
 use Rattle.ratatui_core.specs.Buffer.{Sheet, IsStyled}

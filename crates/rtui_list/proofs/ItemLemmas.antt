@@ -27,14 +27,6 @@ pub record IsItemArea (r : Rect) : Type 0 where
   pub across : r.x + r.width ≤ 65535
   pub down : r.y + r.height ≤ 65535
 
-pub row-box : (r : Rect) (j : ℕ) → IsItemArea r → j < r.height → IsBoxArea (part_row r j)
-row-box r j is lt = let w = is.columns in let a = is.across in let d = is.down in record { columns = w; rows = omega arith; across = a; down = omega arith }
-
-pub row-in : (r : Rect) (j : ℕ) → IsItemArea r → j < r.height → IsInside (part_row r j) r
-row-in r j is lt p h =
-    let d = is.down in let left = h.left in let right = h.right in let top = h.top in let bottom = h.bottom in
-    record { left = left; right = right; top = omega arith; bottom = omega arith }
-
 pub rows-apart : (r : Rect) (k j : ℕ) → k < j → (p : Position) → HasPosition (part_row r k) p → HasPosition (part_row r j) p → ⊥
 rows-apart r k j lt p one two = let b = one.bottom in let t = two.top in omega arith
 
@@ -45,25 +37,12 @@ mark-within res symbol style r old new box inside paints =
     let keeps = text-keeps old.area r.x r.width style symbol in let high = box.rows in
     paints-within res r r.x r.y (pieces_at old.area r.x r.width style symbol) old new box inside (omega arith) (omega arith) (omega arith) (omega arith) paints
 
-pub blanks-in : (symbol : List ℕ) (r : Rect) → IsInside (record r { width = mark_width symbol r }) r
-blanks-in symbol r p h = let left = h.left in let right = h.right in let top = h.top in let bottom = h.bottom in record { left = left; right = omega arith; top = top; bottom = bottom }
-
-pub changed-within : {A : Type 0} (res : Result A AllocError) (part area : Rect) (f : Position → Cell → Cell) (old new : Sheet) → IsInside part area → OnOk res (ChangesEach part f old new) → OnErr res (ChangesWithin part old new)
-    → ChangesWithin area old new
-changed-within (Ok x) part area f old new inside ok err = Changes-within part area f old new inside ok
-changed-within (Err e) part area f old new inside ok err = within-wider part area old new inside err
-
 -- one row more
 pub marks-next : (l : ListData) (is_selected : Bool) (style : Style) (r : Rect) (j : ℕ) (old mid new : Sheet) → MakesParts j (part_row r) (λ i. MarksRow l.highlight_symbol.now style (is_marked l is_selected i) (part_row r i)) old mid
     → MarksRow l.highlight_symbol.now style (is_marked l is_selected j) (part_row r j) mid new → ChangesWithin (part_row r j) mid new
     → MakesParts (j + 1) (part_row r) (λ i. MarksRow l.highlight_symbol.now style (is_marked l is_selected i) (part_row r i)) old new
 marks-next l is_selected style r j old mid new so_far made within =
     Parts-next j (part_row r) (λ i. MarksRow l.highlight_symbol.now style (is_marked l is_selected i) (part_row r i)) old mid new so_far (λ k lt p one two. rows-apart r k j lt p one two) made within
-
-pub marks-within : (l : ListData) (is_selected : Bool) (style : Style) (r : Rect) (j : ℕ) (old mid : Sheet) → IsItemArea r → j ≤ r.height
-    → MakesParts j (part_row r) (λ i. MarksRow l.highlight_symbol.now style (is_marked l is_selected i) (part_row r i)) old mid → ChangesWithin r old mid
-marks-within l is_selected style r j old mid is le made =
-    Parts-within j (part_row r) (λ i. MarksRow l.highlight_symbol.now style (is_marked l is_selected i) (part_row r i)) r old mid made (λ k lt p h. row-in r k is (omega arith) p h)
 
 -- the text beside the symbol's columns
 pub text-in : (n : ℕ) (r : Rect) → n ≤ r.width → IsInside (without_columns n r) r

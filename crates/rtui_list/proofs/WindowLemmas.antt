@@ -44,44 +44,6 @@ first-before items height least last first left rows from to so_far next more =
       nearest = λ k least_ lt. let grow = rows-grow items k (first - 1) (omega arith) in omega arith;
     }
 
-pub first-least : (items : List ListItem) (height least last first left : ℕ) → first ≤ least → least ≤ first → first ≤ last → rows_before items (last + 1) + left ≡ rows_before items first + height → IsFirst items height least last first
-first-least items height least last first left below from to so_far = record {
-  from = from;
-  to = to;
-  fits = λ _. omega arith;
-  nearest = λ k least_ lt. absurd (omega arith);
-}
-
--- the item before those that are kept in view, and the one after
-pub kept-above : (items : List ListItem) (selected padding : ℕ) (item : ListItem) → padding < selected → selected < length items → item ≡ get_or items (selected - padding - 1) item
-    → rows_before items (first_kept selected (padding + 1)) + item_rows item ≡ rows_before items (first_kept selected padding)
-kept-above items selected padding item lt inside is =
-    let next = rows-next items (selected - padding - 1) item (omega arith) is in
-    let here : selected - padding - 1 + 1 ≡ selected - padding = omega arith in
-    let there : selected - (padding + 1) ≡ selected - padding - 1 = omega arith in
-    rw there (sym next ∙ ap (rows_before items) here)
-
-pub kept-below : (items : List ListItem) (selected padding : ℕ) (item : ListItem) → padding < length items - selected - 1 → item ≡ get_or items (selected + padding + 1) item
-    → rows_before items (last_kept items selected padding + 1) + item_rows item ≡ rows_before items (last_kept items selected (padding + 1) + 1)
-kept-below items selected padding item lt is =
-    let next = rows-next items (selected + padding + 1) item (omega arith) is in
-    let here : min (selected + padding) (length items - 1) + 1 ≡ selected + padding + 1 = omega arith in
-    let there : min (selected + (padding + 1)) (length items - 1) + 1 ≡ selected + padding + 1 + 1 = omega arith in
-    rw (here, there) (sym next)
-
-pub kept-all : (items : List ListItem) (selected padding : ℕ) → length items - selected - 1 ≤ padding → selected < length items
-    → rows_before items (last_kept items selected padding + 1) + 0 ≡ rows_before items (last_kept items selected (padding + 1) + 1)
-kept-all items selected padding le inside =
-    let here : min (selected + padding) (length items - 1) ≡ length items - 1 = omega arith in
-    let there : min (selected + (padding + 1)) (length items - 1) ≡ length items - 1 = omega arith in
-    rw (here, there) (omega arith)
-
-pub kept-none : (items : List ListItem) (selected padding : ℕ) → selected ≤ padding → rows_before items (first_kept selected (padding + 1)) + 0 ≡ rows_before items (first_kept selected padding)
-kept-none items selected padding le =
-    let here : selected - (padding + 1) ≡ 0 = omega arith in
-    let there : selected - padding ≡ 0 = omega arith in
-    rw (here, there) (omega arith)
-
 -- more items kept take no fewer rows
 around-grows : (items : List ListItem) (selected n m : ℕ) → n ≤ m
     → (rows_before items (first_kept selected m) ≤ rows_before items (first_kept selected n)) × (rows_before items (last_kept items selected n + 1) ≤ rows_before items (last_kept items selected m + 1))
@@ -114,29 +76,6 @@ padding-full items height asked selected padding left above below le so_far up d
       (cases_lt padding k);
 }
 
-pub padding-all : (items : List ListItem) (height asked selected padding left : ℕ) → padding ≤ min asked (length items) → min asked (length items) ≤ padding
-    → rows_before items (last_kept items selected padding + 1) + left ≡ rows_before items (first_kept selected padding) + height → IsPadding items height asked selected padding
-padding-all items height asked selected padding left le ge so_far = record { asked_for = le; fits = λ _. omega arith; largest = λ k most _. omega arith }
-
-pub padding-start : (items : List ListItem) (height selected rows : ℕ) → selected < length items → rows_before items (selected + 1) ≡ rows_before items selected + rows → rows ≤ height
-    → rows_before items (last_kept items selected 0 + 1) + (height - rows) ≡ rows_before items (first_kept selected 0) + height
-padding-start items height selected rows inside next le =
-    let here : min (selected + 0) (length items - 1) ≡ selected = omega arith in
-    let there : selected - 0 ≡ selected = omega arith in
-    rw (here, there) (omega arith)
-
--- where a list begins
-pub scrolled-above : (items : List ListItem) (height first last was : ℕ) → first ≤ last → last < was → IsScrolled items height first last was first
-scrolled-above items height first last was le above = record { up = λ _. omega arith; down = λ in_view _. absurd (omega arith) }
-
-pub scrolled-down : (items : List ListItem) (height first last was nearest : ℕ) → was ≤ last → IsFirst items height was last nearest → was < nearest → IsScrolled items height first last was nearest
-scrolled-down items height first last was nearest in_view is lt =
-    let over = is.nearest was (omega arith) lt in
-    record {
-      up = λ shown. ⊎_elim (λ (before : last < was). absurd (omega arith)) (λ (fit : Fit items height was (last + 1)). absurd (omega arith)) shown;
-      down = λ _ _. is;
-    }
-
 pub scrolled-stays : (items : List ListItem) (height first last was nearest : ℕ) → first ≤ last → was ≤ last → (first < last → Fit items height first (last + 1)) → IsFirst items height was last nearest → nearest ≤ was
     → IsScrolled items height first last was (min first was)
 scrolled-stays items height first last was nearest order in_view fits is le =
@@ -154,13 +93,3 @@ scrolled-stays items height first last was nearest order in_view fits is le =
           let same : min first was ≡ nearest = omega arith in
           rw same is;
     }
-
-pub around-order : (items : List ListItem) (height asked selected padding : ℕ) → selected < length items → IsPadding items height asked selected padding
-    → (first_kept selected padding ≤ last_kept items selected padding) × (last_kept items selected padding < length items)
-    × (first_kept selected padding < last_kept items selected padding → Fit items height (first_kept selected padding) (last_kept items selected padding + 1))
-around-order items height asked selected padding inside is = (
-  omega arith,
-  omega arith,
-  λ lt.
-      ⊎_elim (λ (some : 0 < padding). is.fits some) (λ (none : padding ≤ 0). absurd (omega arith)) (cases_lt 0 padding),
-)

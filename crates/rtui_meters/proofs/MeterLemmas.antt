@@ -101,11 +101,6 @@ label-paints res text style r l old new box inside e paints =
     let right = is.right in
     paints-within res r l.x l.y (pieces_at old.area l.x l.width style text) old new box inside is.left (omega arith) is.top is.bottom paints
 
-pub fills-area : {A : Type 0} (res : Result A AllocError) (g : Gauge) (text : List ℕ) (style : Style) (r : Rect) (fill : Fill) (old filled new : Sheet) → IsFillOf g text r fill → ChangesEach r (filled_cell fill) old filled
-    → OnOk res (PaintsPieces (position_of (fill.label.x, fill.label.y)) (pieces_at filled.area fill.label.x fill.label.width style text) filled new) → OnOk res (FillsArea g text style r old new)
-fills-area (Ok v) g text style r fill old filled new is bar label = record { fill = fill; is_fill = is; filled = filled; bar = bar; label = rw is.label at label }
-fills-area (Err e) g text style r fill old filled new is bar label = tt
-
 -- a bar lies at its side of a part
 pub bar-inside : (o : ScrollbarOrientation) (r : Rect) → IsBoxArea r → IsInside (bar_area o r) r
 bar-inside VerticalRight r box p h =

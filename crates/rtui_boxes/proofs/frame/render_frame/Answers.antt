@@ -1,4 +1,4 @@
-use Rattle.std.proofs.Common.{◌≡◌, false, true, rules}
+use Rattle.std.proofs.Common.{◌≡◌, false, true}
 use Rattle.ratatui_core.proofs.WidgetLemmas.{within-then, within-styled}
 use Rattle.rtui_boxes.proofs.FrameLemmas.{short-laid, inner-test}
 use Rattle.rtui_boxes.proofs.frame.render_frame.Goals as goal

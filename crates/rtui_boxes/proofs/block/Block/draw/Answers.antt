@@ -1,5 +1,4 @@
-use Rattle.std.proofs.Common.{Ok}
-use Rattle.rtui_boxes.proofs.BoxLemmas.{draws-one, draws-none}
+use Rattle.rtui_boxes.proofs.BoxLemmas.{draws-one}
 use Rattle.rtui_boxes.proofs.block.Block.draw.Goals as goal
 
 pub returns : goal.returns

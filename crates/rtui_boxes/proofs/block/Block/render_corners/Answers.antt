@@ -1,5 +1,5 @@
-use Rattle.std.proofs.Common.{◌≡◌, ◌&&◌, List, [], ◌∷◌}
-use Rattle.rtui_boxes.specs.Boxes.{Stroke, stroke, corner_strokes, has_side, left, right, top, bottom, left_side, right_side, top_side, bottom_side, last_column, last_row}
+use Rattle.std.proofs.Common.{◌&&◌}
+use Rattle.rtui_boxes.specs.Boxes.{stroke, corner_strokes, has_side, left, right, top, bottom, last_column, last_row}
 use Rattle.ratatui_core.specs.Buffer.{place_at, position_of}
 use Rattle.rtui_boxes.proofs.BoxLemmas.{draws-first, draws-two, draws-three, draws-four, inside-within}
 use Rattle.rtui_boxes.proofs.block.Block.render_corners.Goals as goal

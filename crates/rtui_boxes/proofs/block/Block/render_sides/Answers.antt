@@ -1,7 +1,5 @@
-use Rattle.std.proofs.Common.{◌≡◌, ◌&&◌, List, [], ◌∷◌}
-use Rattle.rtui_boxes.specs.Boxes.{Stroke, stroke, side_strokes, has_side, left, right, top, bottom, left_side, right_side, top_side, bottom_side, last_column, last_row}
-use Rattle.ratatui_core.specs.Buffer.{place_at, position_of}
-use Rattle.rtui_boxes.proofs.BoxLemmas.{draws-first, draws-two, draws-three, draws-four, inside-within}
+use Rattle.rtui_boxes.specs.Boxes.{stroke, side_strokes, has_side, right, top, bottom, right_side, top_side, bottom_side}
+use Rattle.rtui_boxes.proofs.BoxLemmas.{draws-first, draws-two, draws-three, draws-four}
 use Rattle.rtui_boxes.proofs.block.Block.render_sides.Goals as goal
 
 pub returns-in_err-draw : goal.returns-in_err-draw

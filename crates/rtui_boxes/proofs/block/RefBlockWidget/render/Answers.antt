@@ -1,4 +1,4 @@
-use Rattle.std.proofs.Common.{rules, ◌≡◌, false, true}
+use Rattle.std.proofs.Common.{rules}
 use Rattle.rtui_boxes.proofs.BoxLemmas.{block-none, block-within, block-short, block-renders, titles-same}
 use Rattle.rtui_boxes.proofs.block.RefBlockWidget.render.Goals as goal
 

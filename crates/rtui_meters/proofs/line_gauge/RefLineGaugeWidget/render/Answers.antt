@@ -1,5 +1,5 @@
 use Rattle.std.proofs.Common.{rules, arith}
-use Rattle.rtui_boxes.proofs.FrameLemmas.{framed-none, framed-bare, framed-some, frame-within, inner-within, inner-some, inner-none, inner-own, any-err}
+use Rattle.rtui_boxes.proofs.FrameLemmas.{framed-bare, framed-some, inner-within, inner-some, inner-none, inner-own, any-err}
 use Rattle.rtui_meters.specs.LineGauges.{FillsLine}
 use Rattle.rtui_meters.proofs.line_gauge.RefLineGaugeWidget.render.Goals as goal
 
