@@ -9,5 +9,5 @@ pub use Rattle.rtui_backend.specs.Failures.{Counts}
 pub use Rattle.rtui_backend.specs.CellGrid.{look_at, grid_of, AreUnmarked, AreUnmarkedRows}
 pub use Rattle.rtui_backend.specs.TestBackend.{screen_of, sheet_of, failures_of, told_after, one_call_less, TakesTurn, IsSameBackend, DrawsFront}
 pub use Rattle.rtui_backend.specs.Display.{test_error_text}
-pub use Rattle.rtui_backend.specs.ScreenLines.{symbols_in, RowHasLine, ScreenHasLines, symbols_of_line, HistoryHasLines, IsScreenOf}
-pub use Rattle.rtui_backend.specs.Print.{row_text, printed_row, printed_screen}
+pub use Rattle.rtui_backend.specs.ScreenLines.{ScreenHasLines, HistoryHasLines, IsScreenOf}
+pub use Rattle.rtui_backend.specs.Print.{printed_screen}

@@ -7,29 +7,29 @@ pub use Rattle.rtui_cell.specs.Width.{is_sound_mark}
 unfoldable pub use Rattle.rtui_cell.specs.Look.{look_of}
 pub use Rattle.rtui_cell.specs.Look.{Look, empty_look}
 unfoldable pub use Rattle.rtui_cell.specs.Cell.{width_of, is_single_byte, is_skipped}
-pub use Rattle.rtui_cell.specs.Cell.{empty_cell, cell_of, with_symbol, styled, style_of, width_by, has_no_option, is_skipped_by, IsUnmarked}
+pub use Rattle.rtui_cell.specs.Cell.{empty_cell, cell_of, with_symbol, styled, style_of, width_by, IsUnmarked}
 unfoldable pub use Rattle.rtui_cell.specs.Equality.{is_same, is_same_symbol}
 pub use Rattle.rtui_cell.specs.Equality.{IsEqual}
 pub use Rattle.rtui_cell.specs.Grid.{Grid, Update, update_by, put, puts}
 unfoldable pub use Rattle.rtui_diff.specs.Cells.{has_fe0f, shows_on_blank, is_forced, is_always}
-pub use Rattle.rtui_diff.specs.Cells.{cell, cell_at, is_reset, shown_on_blank, is_forced_by, is_always_by}
+pub use Rattle.rtui_diff.specs.Cells.{cell, cell_at, is_reset, is_forced_by}
 pub use Rattle.rtui_diff.specs.Settled.{IsBlankOrSkipped, IsSettled}
 pub use Rattle.rtui_diff.specs.Shows.{ShowsColumn, Shows, RowAgrees, is_plain, repaint, Repaints, Replays}
-pub use Rattle.rtui_diff.specs.Updates.{update_at, updates, IsBefore, Rises, IsCellOfNext}
+pub use Rattle.rtui_diff.specs.Updates.{updates, IsBefore, Rises, IsCellOfNext}
 unfoldable pub use Rattle.rtui_diff.specs.DiffRule.{given}
-pub use Rattle.rtui_diff.specs.DiffRule.{Walk, start, gives_visited, gives_plain, gives_at, step_plain, step_at, gives, step, give}
+pub use Rattle.rtui_diff.specs.DiffRule.{Walk, start, gives_visited, gives_plain, step_plain, gives, step, give}
 pub use Rattle.rtui_diff.specs.Completeness.{differing, AreNarrow, IsGiven, Repeats, Uncovers, IsInFrame, CoversColumn, IsUnchanged, IsMinimal, IsFree, IsDark, Varies, Bares, IsComplete}
-pub use Rattle.rtui_diff.specs.Remaining.{places_left, updates_left}
+pub use Rattle.rtui_diff.specs.Remaining.{updates_left}
 pub use Rattle.rtui_diff.specs.Diff.{IsDiff}
-pub use Rattle.rtui_buffer.specs.Sheet.{Sheet, area_size, IsSheet, HasRoomFor, position_of, cell_index, place_position, cell_in, with_cell, refilled, with_cells, moved_to, row_cells, sheet_row, HasRow, empty_cells, resized, IsEmptied, IsSameSheet, IsEqualSheet}
-pub use Rattle.rtui_buffer.specs.Frame.{IsSettledSheet, IsShownByRepaint, ShowsSheet, IsAligned, common_rows, sheet_updates, IsSheetDiff, HaveSettledRows, listed}
+pub use Rattle.rtui_buffer.specs.Sheet.{Sheet, area_size, IsSheet, HasRoomFor, position_of, cell_index, place_position, cell_in, with_cell, with_cells, moved_to, sheet_row, HasRow, empty_cells, resized, IsEmptied, IsSameSheet, IsEqualSheet}
+pub use Rattle.rtui_buffer.specs.Frame.{IsSettledSheet, IsShownByRepaint, ShowsSheet, IsAligned, IsSheetDiff, HaveSettledRows, listed}
 unfoldable pub use Rattle.rtui_buffer.specs.Painting.{painted_width, fitting, kept, emptied, with_piece, painted}
-pub use Rattle.rtui_buffer.specs.Painting.{has_painted_width, IsLongestFront, Piece, piece_of, pieces, text_pieces, piece_width, columns, shown, IsSameOutside, piece_at, place_of, HasPieces}
+pub use Rattle.rtui_buffer.specs.Painting.{has_painted_width, IsLongestFront, Piece, pieces, text_pieces, piece_width, columns, shown, IsSameOutside, piece_at, HasPieces}
 pub use Rattle.rtui_buffer.specs.PaintedText.{room_at, pieces_at, PaintsPieces, right_by, IsBeside, PaintsByColumns, IsSameBeside, AreShort, IsPaintable, PaintsOrRefuses, IsStyled, HasShortGraphemes, HaveShortGraphemes}
 pub use Rattle.rtui_buffer.specs.Bar.{bar_of, PaintsOnBar, ShowsPieces, bar_cell}
-unfoldable pub use Rattle.rtui_buffer.specs.Line.{line_pieces, line_row}
-pub use Rattle.rtui_buffer.specs.Line.{line_pieces_at, line_rows, line_at, ShowsLines, lines_area, IsOfLines, raw_lines}
-pub use Rattle.rtui_buffer.specs.RowsDiff.{part_cells, IsRowsDiff}
+unfoldable pub use Rattle.rtui_buffer.specs.Line.{line_pieces}
+pub use Rattle.rtui_buffer.specs.Line.{line_pieces_at, line_rows, lines_area, IsOfLines, raw_lines}
+pub use Rattle.rtui_buffer.specs.RowsDiff.{IsRowsDiff}
 pub use Rattle.rtui_buffer.specs.Overlay.{no_area, IsOverlay}
 -- Changes of cells by position, plain cells, and parts that are changed apart from each other.
 pub use Rattle.rtui_changes.specs.Changes.{ChangesEach, MakesEach, AreLight, row_part, IsRowOfArea, columns_to, rows_to, place_at}

@@ -1,9 +1,9 @@
 -- Spans, lines and their columns.
-pub use Rattle.rtui_text.specs.Text.{SpanData, plain, LineData, line_of, raw_line, TextData, text_of, text_lines, raw_text, with_span, with_last_span}
+pub use Rattle.rtui_text.specs.Text.{SpanData, plain, LineData, line_of, raw_line, TextData, text_of, raw_text, with_span, with_last_span}
 pub use Rattle.rtui_text.specs.Widths.{span_width, line_width, widest}
-pub use Rattle.rtui_text.specs.Graphemes.{GraphemeData, grapheme_data, has_control, in_style, span_graphemes, line_graphemes, span_graphemes_left, line_graphemes_left, zero_width_space, no_break_space, is_whitespace_symbol}
+pub use Rattle.rtui_text.specs.Graphemes.{GraphemeData, grapheme_data, has_control, span_graphemes, line_graphemes, span_graphemes_left, line_graphemes_left, is_whitespace_symbol}
 pub use Rattle.rtui_text.specs.Display.{printed_span, printed_spans, line_content, printed_lines}
-pub use Rattle.rtui_text.specs.Printable.{IsPrintable, ArePrintable, IsPrintableFront, singles}
+pub use Rattle.rtui_text.specs.Printable.{ArePrintable, IsPrintableFront, singles}
 pub use Rattle.rtui_text.specs.Masked.{MaskedData, mask_value}
 pub use Rattle.rtui_text.specs.LineHead.{line_head, text_head}
 pub use Rattle.rtui_text.specs.Hashing.{text_Alike, char_Alike}

@@ -18,7 +18,7 @@ use Rattle.rtui_list.specs.declared.list.ListDirection.{ListDirection}
 use Rattle.rtui_list.specs.declared.list.ListDirection.TheVariants.{TopToBottom, BottomToTop}
 use Rattle.rtui_list.specs.declared.item.ListItem.{ListItem}
 use Rattle.rtui_list.specs.Windows.{item_rows, rows_before, Fit}
-use Rattle.rtui_list.specs.Items.{mark_width, item_part, without_columns, part_row, MarksRow, MarksRows, is_marked, If, RendersItem, item_at, part_of_item, ShowsItems, is_selected_at, has_mark_columns, with_blank, shown_as}
+use Rattle.rtui_list.specs.Items.{mark_width, item_part, without_columns, part_row, MarksRow, MarksRows, is_marked, If, RendersItem, nth_item, part_of_item, ShowsItems, is_selected_at, has_mark_columns, with_blank, shown_as}
 use Rattle.rtui_list.proofs.WindowLemmas.{rows-next, rows-grow}
 
 -- a part with columns, whose edges fit
@@ -81,8 +81,8 @@ module _ (l : ListData) (offset count k : ℕ) (r : Rect) (box : IsBoxArea r) (i
   abbrev items : List ListItem
   items = l.items.items
 
-  rows-at : rows_before items (offset + k + 1) ≡ rows_before items (offset + k) + item_rows (item_at l (offset + k))
-  rows-at = rows-next items (offset + k) (item_at l (offset + k)) (omega arith) (get_or_default items (offset + k) _ (item_at l (offset + k)) (omega arith))
+  rows-at : rows_before items (offset + k + 1) ≡ rows_before items (offset + k) + item_rows (nth_item l (offset + k))
+  rows-at = rows-next items (offset + k) (nth_item l (offset + k)) (omega arith) (get_or_default items (offset + k) _ (nth_item l (offset + k)) (omega arith))
 
   rows-end : rows_before items (offset + k + 1) ≤ rows_before items (offset + count)
   rows-end = rows-grow items (offset + k + 1) (offset + count) (omega arith)
@@ -93,7 +93,7 @@ module _ (l : ListData) (offset count k : ℕ) (r : Rect) (box : IsBoxArea r) (i
   pub shown-in : IsInside (part_of_item l r offset k) r
   shown-in =
       let a = rows-at in let b = rows-end in let c = rows-start in
-      item-in l.direction r (rows_before items (offset + k) - rows_before items offset) (item_rows (item_at l (offset + k))) box (omega arith)
+      item-in l.direction r (rows_before items (offset + k) - rows_before items offset) (item_rows (nth_item l (offset + k))) box (omega arith)
 
 pub items-within : (l : ListData) (selected : Option ℕ) (offset k count : ℕ) (r : Rect) (old mid : Sheet) → IsBoxArea r → offset + count ≤ length l.items.items → Fit l.items.items r.height offset (offset + count) → k ≤ count
     → ShowsItems l selected offset k r old mid → ChangesWithin r old mid
@@ -107,7 +107,7 @@ shown-apart l offset count k j r box inside fit lt end p one two =
     let items = l.items.items in
     let a = rows-at l offset count k r box inside fit (omega arith) in let b = rows-grow items (offset + k + 1) (offset + j) (omega arith) in let c = rows-start l offset count k r box inside fit (omega arith) in
     let d = rows-at l offset count j r box inside fit end in let e = rows-end l offset count j r box inside fit end in
-    items-apart l.direction r (rows_before items (offset + k) - rows_before items offset) (item_rows (item_at l (offset + k))) (rows_before items (offset + j) - rows_before items offset) (item_rows (item_at l (offset + j)))
+    items-apart l.direction r (rows_before items (offset + k) - rows_before items offset) (item_rows (nth_item l (offset + k))) (rows_before items (offset + j) - rows_before items offset) (item_rows (nth_item l (offset + j)))
     (omega arith) (omega arith) p one two
 
 -- one item more
@@ -118,7 +118,7 @@ pub items-next : (l : ListData) (selected : Option ℕ) (offset k count : ℕ) (
     → ShowsItems l selected offset k r old mid → RendersItem l item is_selected has_columns part mid new → ChangesWithin part mid new → ShowsItems l selected offset (k + 1) r old new
 items-next l selected offset k count r used rows item is_selected has_columns part old mid new box inside fit lt is so_far height at columns_ stands shown made within =
     let items = l.items.items in
-    let same : item_at l (offset + k) ≡ item = any-default items (offset + k) _ item (omega arith) is in
+    let same : nth_item l (offset + k) ≡ item = any-default items (offset + k) _ item (omega arith) is in
     let used_is : used ≡ rows_before items (offset + k) - rows_before items offset = omega arith in
     let place : part ≡ part_of_item l r offset k = stands ∙ rw (same, used_is, height) refl in
     Parts-next k (part_of_item l r offset) (shown_as l selected offset r) old mid new shown (λ i less p one two. shown-apart l offset count i k r box inside fit less lt p one two)

@@ -87,18 +87,18 @@ abbrev pub is_selected_at : Option ℕ → ℕ → Bool
 is_selected_at None k = false
 is_selected_at (Some selected) k = selected == k
 
-abbrev pub item_at : ListData → ℕ → ListItem
-item_at l k = slice_index_or l.items.items k (record { content = text_of []; style = new_style })
+abbrev pub nth_item : ListData → ℕ → ListItem
+nth_item l k = slice_index_or l.items.items k (record { content = text_of []; style = new_style })
 
 -- where an item stands in a list that begins with another one
 abbrev pub part_of_item : ListData → Rect → ℕ → ℕ → Rect
 part_of_item l r offset k =
-    item_part l.direction r (rows_before l.items.items (offset + k) - rows_before l.items.items offset) (item_rows (item_at l (offset + k)))
+    item_part l.direction r (rows_before l.items.items (offset + k) - rows_before l.items.items offset) (item_rows (nth_item l (offset + k)))
 
 -- how an item of it is shown, counted from there
 abbrev pub shown_as : ListData → Option ℕ → ℕ → Rect → ℕ → Sheet → Sheet → Type 0
 shown_as l selected offset r k =
-    RendersItem l (item_at l (offset + k)) (is_selected_at selected (offset + k)) (has_mark_columns l.highlight_spacing (is_some selected)) (part_of_item l r offset k)
+    RendersItem l (nth_item l (offset + k)) (is_selected_at selected (offset + k)) (has_mark_columns l.highlight_spacing (is_some selected)) (part_of_item l r offset k)
 
 -- so many items from one on, each over its part, apart from each other; all else is as before
 abbrev pub ShowsItems : ListData → Option ℕ → ℕ → ℕ → Rect → Sheet → Sheet → Type 0
