@@ -9,12 +9,12 @@ use std::alloc::{AllocError, Global};
 use std::io::{self, Write};
 
 // How many updates lead from one buffer to another of its area.
-fn updates(older: &Buffer, newer: &Buffer) -> u64 {
-    if older.area() != newer.area() {
+fn updates(previous: &Buffer, newer: &Buffer) -> u64 {
+    if previous.area() != newer.area() {
         return 0;
     }
     let mut count: u64 = 0;
-    for _update in older.diff_iter(newer) {
+    for _update in previous.diff_iter(newer) {
         count = count.wrapping_add(1);
     }
     count
@@ -22,13 +22,13 @@ fn updates(older: &Buffer, newer: &Buffer) -> u64 {
 
 // The diffs of two equal buffers.
 fn diffs(alloc: Global, size: Size, picture: Picture) -> Done {
-    let mut older = painted(alloc, size.width, size.height, picture)?;
-    let mut newer = older.clone(alloc)?;
+    let mut previous = painted(alloc, size.width, size.height, picture)?;
+    let mut newer = previous.clone(alloc)?;
     let mut found: u64 = 0;
     for round in 0..size.count {
-        touch(&mut older, round);
+        touch(&mut previous, round);
         touch(&mut newer, round);
-        found = found.wrapping_add(updates(&older, &newer));
+        found = found.wrapping_add(updates(&previous, &newer));
     }
     Ok(Some((found, sum(&newer))))
 }
@@ -53,37 +53,37 @@ impl Write for Counted {
 // How many bytes a frame takes, on a backend that begins anew.
 fn sent(
     backend: &mut AnsiBackend<Counted>,
-    older: &Buffer,
+    previous: &Buffer,
     newer: &Buffer,
 ) -> Result<u64, AllocError> {
-    if older.area() != newer.area() || backend.restart().is_err() {
+    if previous.area() != newer.area() || backend.restart().is_err() {
         return Err(AllocError);
     }
     let before = backend.writer().bytes;
-    match backend.draw(older.diff_iter(newer)) {
+    match backend.draw(previous.diff_iter(newer)) {
         Ok(()) => Ok(backend.writer().bytes.wrapping_sub(before)),
         Err(_) => Err(AllocError),
     }
 }
 
 // A frame as escape sequences.
-fn ansi(alloc: Global, older: &Buffer, newer: &Buffer, count: u64) -> Done {
+fn ansi(alloc: Global, previous: &Buffer, newer: &Buffer, count: u64) -> Done {
     let size = newer.area().as_size();
     let Ok(mut backend) = AnsiBackend::new(alloc, Counted { bytes: 0 }, size) else {
         return Err(AllocError);
     };
     let mut bytes: u64 = 0;
     for _round in 0..count {
-        bytes = bytes.wrapping_add(sent(&mut backend, older, newer)?);
+        bytes = bytes.wrapping_add(sent(&mut backend, previous, newer)?);
     }
     Ok(Some((bytes, sum(newer))))
 }
 
 // The updates of a frame, and nothing made of them.
-fn walk(older: &Buffer, newer: &Buffer, count: u64) -> Done {
+fn walk(previous: &Buffer, newer: &Buffer, count: u64) -> Done {
     let mut cells: u64 = 0;
     for _round in 0..count {
-        cells = cells.wrapping_add(updates(older, newer));
+        cells = cells.wrapping_add(updates(previous, newer));
     }
     Ok(Some((cells, sum(newer))))
 }
@@ -101,11 +101,11 @@ pub fn run(alloc: Global, name: &str, size: Size) -> Done {
         "ansi_few" | "walk_few" => (Picture::Sentence, Picture::Few),
         _ => return Ok(None),
     };
-    let older = painted(alloc, size.width, size.height, before)?;
+    let previous = painted(alloc, size.width, size.height, before)?;
     let newer = painted(alloc, size.width, size.height, after)?;
     if name.starts_with("ansi") {
-        ansi(alloc, &older, &newer, size.count)
+        ansi(alloc, &previous, &newer, size.count)
     } else {
-        walk(&older, &newer, size.count)
+        walk(&previous, &newer, size.count)
     }
 }

@@ -1,7 +1,7 @@
 -- A label on an empty buffer, by columns.
 use Rattle.std.proofs.Common.{◌≡◌, ◌+◌, ◌-◌, ◌≤◌, List, take, refl, sym, ap, ap₂, ◌∙◌, arith, false}
 use Rattle.ratatui_core.specs.Layout.{Position, Rect, HasPosition}
-use Rattle.ratatui_core.specs.Buffer.{look_of, empty_cell, is_skipped, Grid, Sheet, cell_in, cell_index, area_size, ShowsSheet, Piece, columns, shown, piece_at, right_by, HasRow}
+use Rattle.ratatui_core.specs.Buffer.{look_of, empty_cell, is_skipped, Grid, BufferData, cell_in, cell_index, area_size, ShowsBuffer, Piece, columns, shown, piece_at, right_by, HasRow}
 use Rattle.ratatui_core.proofs.BufferLemmas.{cell-empty}
 use Rattle.ratatui_core.proofs.BufferLemmas.{PaintsByColumns-paints}
 use Rattle.guide.specs.Labels.{ShowsLabel, StandsAt}
@@ -11,7 +11,7 @@ unfolding is_skipped
 skip-shown p = refl
 
 -- the look in a column of the area
-look-in : (s : Sheet) (g : Grid) (q : Position) → ShowsSheet s g → HasPosition s.area q → is_skipped (cell_in s q) ≡ false → g q.x q.y ≡ look_of (cell_in s q)
+look-in : (s : BufferData) (g : Grid) (q : Position) → ShowsBuffer s g → HasPosition s.area q → is_skipped (cell_in s q) ≡ false → g q.x q.y ≡ look_of (cell_in s q)
 look-in s g q shows has plain =
     let l = has.left in let r = has.right in let t = has.top in let b = has.bottom in
     let x : s.area.x + (q.x - s.area.x) ≡ q.x = omega arith in

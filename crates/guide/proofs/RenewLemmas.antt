@@ -2,27 +2,27 @@
 use Rattle.std.proofs.Common.{◌≡◌, ◌<◌, ◌∷◌, [], Result, Ok, refl, sym, ap, ◌∙◌, inl, arith}
 use Rattle.std.specs.declared.alloc.AllocError.{AllocError}
 use Rattle.ratatui_core.specs.Layout.{Rect}
-use Rattle.ratatui_core.specs.Buffer.{Sheet, IsSettledSheet}
+use Rattle.ratatui_core.specs.Buffer.{BufferData, IsSettledBuffer}
 use Rattle.ratatui_core.specs.Backend.{Screen, IsOnScreen}
-use Rattle.ratatui_core.specs.Terminal.{State, IsInline, IsInStep, TakesRows, InsertOk, DrawsFrame, ClearsViewport, Resizes, inserted_area}
+use Rattle.ratatui_core.specs.Terminal.{TerminalData, IsInline, IsInStep, TakesRows, InsertOk, DrawsFrame, ClearsViewport, Resizes, inserted_area}
 use Rattle.ratatui_core.specs.Headline.{IsHeadline, Draw, Clear, Resize, Insert}
 use Rattle.guide.specs.Renewing.{Renews}
 
-pub renews : {B : Type 0} (screen : B → Screen) (area : Rect) (over : State B → Rect) (filled : State B → Result (Unit {0}) AllocError → Sheet → Type 0) (s drawn cleared resized t : State B) → IsHeadline screen
-    → IsInStep screen s → DrawsFrame screen s drawn → IsSettledSheet drawn.older → ClearsViewport screen drawn cleared → Resizes screen area cleared resized
+pub renews : {B : Type 0} (screen : B → Screen) (area : Rect) (over : TerminalData B → Rect) (filled : TerminalData B → Result (Unit {0}) AllocError → BufferData → Type 0) (s drawn cleared resized t : TerminalData B) → IsHeadline screen
+    → IsInStep screen s → DrawsFrame screen s drawn → IsSettledBuffer drawn.previous → ClearsViewport screen drawn cleared → Resizes screen area cleared resized
     → (IsInline resized.viewport → InsertOk screen (over resized) (filled resized) resized t) → Renews screen area filled s t
 renews screen area over filled s drawn cleared resized t law step draw settled clear resize insert = record {
   drawn = drawn;
   cleared = cleared;
   resized = resized;
   faithful = λ takes on.
-      let height : (screen resized.backend).height ≡ resized.known_area.height = ap (λ (r : Rect). r.height) takes.known in
+      let height : (screen resized.backend).height ≡ resized.last_known_area.height = ap (λ (r : Rect). r.height) takes.known in
       let rows = insert takes.inline in
-      let some : 0 < resized.known_area.height = omega (arith, takes.row, on.bottom, height) in (
+      let some : 0 < resized.last_known_area.height = omega (arith, takes.row, on.bottom, height) in (
         rows.inserted,
         rows.closure,
         λ fair.
-            law s (record { call = Draw drawn.older; after = drawn } ∷ record { call = Clear; after = cleared } ∷ record { call = Resize area; after = resized } ∷ record { call = Insert rows.inserted; after = t } ∷ []) step
+            law s (record { call = Draw drawn.previous; after = drawn } ∷ record { call = Clear; after = cleared } ∷ record { call = Resize area; after = resized } ∷ record { call = Insert rows.inserted; after = t } ∷ []) step
             ((refl, record { before = s; taken = inl refl; then = draw }), (clear, (resize, (rows.inserts some, tt))))
             (settled, (tt, (on, ((fair, takes), tt)))),
       );

@@ -1,7 +1,7 @@
 //! Frames on a terminal.
 
 ghost use Rattle.std.specs.Prelude.{IfOk, OnOk, IsTrue};
-ghost use Rattle.ratatui_core.specs.Buffer.{IsSettledSheet};
+ghost use Rattle.ratatui_core.specs.Buffer.{IsSettledBuffer};
 ghost use Rattle.ratatui_core.specs.Terminal.{IsInStep, DrawsFrame, AcceptsFrames};
 
 use ratatui_core::backend::Backend;
@@ -17,7 +17,8 @@ where
     F: FnOnce(&mut Frame<'_>) -> Result<(), AllocError>,
     requires { AcceptsFrames F.FnOnce paint terminal.old }
     ensures drawn { OnOk result (DrawsFrame B.screen terminal.old terminal.new) }
-    ensures settled { IfOk result (λ settled. IsTrue settled → IsSettledSheet terminal.new.older) }
+    ensures settled { IfOk result (λ settled. IsTrue settled
+        → IsSettledBuffer terminal.new.previous) }
     ensures in_step { IfOk result (λ settled. IsTrue settled →
         IsInStep B.screen terminal.old → IsInStep B.screen terminal.new) }
 {

@@ -3,7 +3,7 @@
 ghost use Rattle.std.specs.Prelude.{◌≡◌, ◌≤◌, ◌+◌, ◌-◌, List, OnOk};
 ghost use Rattle.ratatui_core.specs.Layout.{Rect, Position, HasPosition};
 ghost use Rattle.ratatui_core.specs.Style.{new_style};
-ghost use Rattle.ratatui_core.specs.Buffer.{Grid, IsEmptied, IsSettledSheet, PaintsPieces, Piece, columns, pieces_at};
+ghost use Rattle.ratatui_core.specs.Buffer.{Grid, IsEmptied, IsSettledBuffer, PaintsPieces, Piece, columns, pieces_at};
 ghost use Rattle.guide.specs.Labels.{StandsAt, ShowsLabel};
 
 use ratatui_core::buffer::Buffer;
@@ -11,13 +11,13 @@ use ratatui_core::layout::Position;
 use ratatui_core::style::Style;
 use std::alloc::AllocError;
 
-/// Paints a text at a position, where the buffer has it.
+/// Paints a text at a position, if the buffer has it.
 pub fn label(buffer: &mut Buffer, position: Position, text: &str) -> Result<(), AllocError>
     ensures painted { HasPosition buffer.old.area position → OnOk result (
         PaintsPieces position (pieces_at buffer.old.area position.x 65535 new_style text.now)
         buffer.old buffer.new) }
     ensures settled { IsEmptied buffer.old.area buffer.old
-        → OnOk result (IsSettledSheet buffer.new) }
+        → OnOk result (IsSettledBuffer buffer.new) }
 {
     if !buffer.area().contains(position) {
         return Ok(());

@@ -1,7 +1,7 @@
 //! Rows that are logged above an inline viewport.
 
 ghost use Rattle.std.specs.Prelude.{IfOk, IsTrue};
-ghost use Rattle.ratatui_core.specs.Terminal.{State, IsInStep, AcceptsFrames, AcceptsRows, FillsRows, TakesRows, inserted_area};
+ghost use Rattle.ratatui_core.specs.Terminal.{TerminalData, IsInStep, AcceptsFrames, AcceptsRows, FillsRows, TakesRows, inserted_area};
 ghost use Rattle.guide.specs.Logging.{Logs};
 
 use crate::frames::draw_checked;
@@ -23,7 +23,7 @@ where
     F: FnOnce(&mut Buffer) -> Result<(), AllocError>,
     G: FnOnce(&mut Frame<'_>) -> Result<(), AllocError>,
     requires fill { AcceptsRows F.FnOnce fill (inserted_area terminal.old height) }
-    requires paint { (t : State B) → AcceptsFrames G.FnOnce paint t }
+    requires paint { (t : TerminalData B) → AcceptsFrames G.FnOnce paint t }
     ensures { let filled = FillsRows F.FnOnce fill (inserted_area terminal.old height) in
         IfOk result (λ settled. IsTrue settled → IsInStep B.screen terminal.old
         → TakesRows B.screen terminal.old → Logs B.screen filled terminal.old terminal.new) }

@@ -2,7 +2,7 @@
 
 ghost use Rattle.std.specs.Prelude.{IfOk, IsTrue};
 ghost use Rattle.ratatui_core.specs.Layout.{EdgesFit};
-ghost use Rattle.ratatui_core.specs.Terminal.{State, IsInStep, AcceptsFrames, AcceptsRows, FillsRows, inserted_area};
+ghost use Rattle.ratatui_core.specs.Terminal.{TerminalData, IsInStep, AcceptsFrames, AcceptsRows, FillsRows, inserted_area};
 ghost use Rattle.guide.specs.Renewing.{Renews};
 
 use crate::frames::draw_checked;
@@ -27,7 +27,7 @@ where
     F: FnOnce(&mut Buffer) -> Result<(), AllocError>,
     G: FnOnce(&mut Frame<'_>) -> Result<(), AllocError>,
     requires edges { EdgesFit area }
-    requires fill { (t : State B) → AcceptsRows F.FnOnce fill (inserted_area t height) }
+    requires fill { (t : TerminalData B) → AcceptsRows F.FnOnce fill (inserted_area t height) }
     requires paint { AcceptsFrames G.FnOnce paint terminal.old }
     ensures { IfOk result (λ settled. IsTrue settled → IsInStep B.screen terminal.old
         → Renews B.screen area (λ t. FillsRows F.FnOnce fill (inserted_area t height))

@@ -26,8 +26,8 @@ pub fn draw_widget<B: Backend, W: Widget + Drop>(
     ensures shown { IsReady B.screen terminal.old
         → IsEmptied terminal.old.viewport_area terminal.old.current
         → OnOk result (ShowsRendered B.screen (W.renders widget) terminal.new) }
-    ensures area { IfOk result (λ area. area ≡ terminal.new.older.area) }
-    ensures edges { OnOk result (EdgesFit terminal.new.older.area) }
+    ensures area { IfOk result (λ area. area ≡ terminal.new.previous.area) }
+    ensures edges { OnOk result (EdgesFit terminal.new.previous.area) }
 {
     let frame = terminal.draw(
         |frame: &mut Frame<'_>| -> Result<(), AllocError>
@@ -63,9 +63,9 @@ pub fn draw_gauge<B: Backend>(
 ) -> Result<Rect, TerminalError<B::Error>>
     ensures shown { IsReady B.screen terminal.old
         → IsEmptied terminal.old.viewport_area terminal.old.current
-        → OnOk result (0 < terminal.new.older.area.height
-        → ShowsGauge gauge.now terminal.new.older.area (B.screen terminal.new.backend).grid) }
-    ensures area { IfOk result (λ area. area ≡ terminal.new.older.area) }
+        → OnOk result (0 < terminal.new.previous.area.height
+        → ShowsGauge gauge.now terminal.new.previous.area (B.screen terminal.new.backend).grid) }
+    ensures area { IfOk result (λ area. area ≡ terminal.new.previous.area) }
 {
     draw_widget(terminal, gauge)
 }

@@ -2,9 +2,9 @@
 use Rattle.std.proofs.Common.{◌≡◌, ℕ, ◌+◌, ◌*◌, nat_lt, if◌then◌else◌, List, Result, Ok, Err, OnOk, IfErr, ap, ap₂, arith, refl, inr, subst, sym, ◌∙◌}
 use Rattle.std.specs.declared.alloc.AllocError.{AllocError}
 use Rattle.ratatui_core.specs.Layout.{Rect, Size}
-use Rattle.ratatui_core.specs.Buffer.{Sheet, IsEmptied, IsSettledSheet}
+use Rattle.ratatui_core.specs.Buffer.{BufferData, IsEmptied, IsSettledBuffer}
 use Rattle.ratatui_core.specs.Backend.{Screen}
-use Rattle.ratatui_core.specs.Terminal.{State, IsOverRow, DrawsRow, FillsRow, InsertsRow, InsertOk, InsertsBy, HasAreas, IsSized, IsBackendFault, WritesAtMost, TerminalError, Backend, Memory, Area, Closure, inserted_area}
+use Rattle.ratatui_core.specs.Terminal.{TerminalData, IsOverRow, DrawsRow, FillsRow, InsertsRow, InsertOk, InsertsBy, HasAreas, IsSized, IsBackendFault, WritesAtMost, TerminalError, Backend, Memory, Area, Closure, inserted_area}
 use Rattle.ratatui_core.proofs.TerminalLemmas.{inserts-and-draws, over-row, over-takes}
 use Rattle.ratatui_core.proofs.WidgetLemmas.{has-first-row, text-settled}
 use Rattle.logview.specs.Rows.{counted, status_text}
@@ -12,7 +12,7 @@ use Rattle.logview.specs.Views.{cells_pushed, screen_in, KeepsBelow, PushesLine,
 use Rattle.logview.specs.declared.view.LogView.{LogView}
 
 -- a line rendered on an empty row can be shown
-fills-settled : (line : List ℕ) (area : Rect) (sheet : Sheet) → area.height ≡ 1 → FillsRow line area sheet → IsSettledSheet sheet
+fills-settled : (line : List ℕ) (area : Rect) (sheet : BufferData) → area.height ≡ 1 → FillsRow line area sheet → IsSettledBuffer sheet
 fills-settled line area sheet one fills =
     let here = fills.empty.area in
     let high : fills.before.area.height ≡ 1 = ap (λ (r : Rect). r.height) here ∙ one in
@@ -21,55 +21,55 @@ fills-settled line area sheet one fills =
 
 module _ {B : Type 0} (screen : B → Screen) where
   -- an insertion writes no more than the row takes
-  inserts-most : (line : List ℕ) (s t : State B) (filled : Result (Unit {0}) AllocError → Sheet → Type 0) → IsOverRow screen s
-      → ((sheet : Sheet) → filled (Ok tt) sheet → FillsRow line (inserted_area s 1) sheet)
+  inserts-most : (line : List ℕ) (s t : TerminalData B) (filled : Result (Unit {0}) AllocError → BufferData → Type 0) → IsOverRow screen s
+      → ((sheet : BufferData) → filled (Ok tt) sheet → FillsRow line (inserted_area s 1) sheet)
       → InsertOk screen (inserted_area s 1) filled s t → WritesAtMost (cells_pushed (screen s.backend)) (screen s.backend) (screen t.backend)
   inserts-most line s t filled is only ins room =
       let may = over-takes screen s is in
-      let known : (screen s.backend).height ≡ s.known_area.height = ap (λ (r : Rect). r.height) (over-takes screen s is).known in
+      let known : (screen s.backend).height ≡ s.last_known_area.height = ap (λ (r : Rect). r.height) (over-takes screen s is).known in
       let high : s.viewport_area.height ≡ 1 = ap (λ (r : Rect). r.height) (over-row screen s is) in
       let bottom = is.rest.in_step.on_screen.bottom in
       let inserts = ins.inserts (omega arith) in
       let settled = fills-settled line (inserted_area s 1) ins.inserted refl (only ins.inserted ins.closure) in
       let wide : ins.inserted.area.width ≡ (screen s.backend).width = ap (λ (r : Rect). r.width) ins.over ∙ may.width in
       let tall : ins.inserted.area.height ≡ 1 = ap (λ (r : Rect). r.height) ins.over in
-      let again : (if nat_lt s.viewport_area.height s.known_area.height then 0 else ins.inserted.area.width) ≡ (if nat_lt 1 (screen s.backend).height then 0 else (screen s.backend).width) = rw (high, known, wide) refl in
+      let again : (if nat_lt s.viewport_area.height s.last_known_area.height then 0 else ins.inserted.area.width) ≡ (if nat_lt 1 (screen s.backend).height then 0 else (screen s.backend).width) = rw (high, known, wide) refl in
       let own : ins.inserted.area.width * ins.inserted.area.height ≡ (screen s.backend).width = rw (tall, wide) (omega arith) in
       let most = inserts.most may is.rest.in_step settled (omega (arith, again, own, room)) in
       omega (arith, again, own, most)
 
   -- by the answer of the insertion
-  pub inserts-most-if : {T F : Type 0} (line : List ℕ) (s t : State B) (filled : Result (Unit {0}) AllocError → Sheet → Type 0) (result : Result T (TerminalError F)) → IsOverRow screen s
-      → ((sheet : Sheet) → filled (Ok tt) sheet → FillsRow line (inserted_area s 1) sheet)
+  pub inserts-most-if : {T F : Type 0} (line : List ℕ) (s t : TerminalData B) (filled : Result (Unit {0}) AllocError → BufferData → Type 0) (result : Result T (TerminalError F)) → IsOverRow screen s
+      → ((sheet : BufferData) → filled (Ok tt) sheet → FillsRow line (inserted_area s 1) sheet)
       → InsertsBy screen (inserted_area s 1) filled s t result → OnOk result (WritesAtMost (cells_pushed (screen s.backend)) (screen s.backend) (screen t.backend))
   inserts-most-if line s t filled (Ok x) is only by = inserts-most line s t filled is only by
   inserts-most-if line s t filled (Err e) is only by = tt
 
 module _ {B E : Type 0} (screen : B → Screen) where
   -- an insertion keeps the rows below the viewport
-  inserts-below : (line : List ℕ) (v w : LogView B E) (filled : Result (Unit {0}) AllocError → Sheet → Type 0) → IsOverRow screen v.terminal
-      → ((sheet : Sheet) → filled (Ok tt) sheet → FillsRow line (inserted_area v.terminal 1) sheet)
+  inserts-below : (line : List ℕ) (v w : LogView B E) (filled : Result (Unit {0}) AllocError → BufferData → Type 0) → IsOverRow screen v.terminal
+      → ((sheet : BufferData) → filled (Ok tt) sheet → FillsRow line (inserted_area v.terminal 1) sheet)
       → InsertOk screen (inserted_area v.terminal 1) filled v.terminal w.terminal → KeepsBelow screen v w
   inserts-below line v w filled is only ins =
       let s = v.terminal in
-      let known : (screen s.backend).height ≡ s.known_area.height = ap (λ (r : Rect). r.height) (over-takes screen s is).known in
+      let known : (screen s.backend).height ≡ s.last_known_area.height = ap (λ (r : Rect). r.height) (over-takes screen s is).known in
       let high : s.viewport_area.height ≡ 1 = ap (λ (r : Rect). r.height) (over-row screen s is) in
       let bottom = is.rest.in_step.on_screen.bottom in
       let inserts = ins.inserts (omega arith) in
       let settled = fills-settled line (inserted_area s 1) ins.inserted refl (only ins.inserted ins.closure) in
-      let same : w.terminal.viewport_area.height ≡ s.viewport_area.height = ap (λ (x : State B). x.viewport_area.height) inserts.rest in
+      let same : w.terminal.viewport_area.height ≡ s.viewport_area.height = ap (λ (x : TerminalData B). x.viewport_area.height) inserts.rest in
       record { at = λ a b a_in b_in low. inserts.kept (over-takes screen s is) is.rest.in_step settled a b a_in b_in (omega arith) }
 
   -- by the answer of the insertion
-  pub inserts-below-if : {T F : Type 0} (line : List ℕ) (v w : LogView B E) (filled : Result (Unit {0}) AllocError → Sheet → Type 0) (result : Result T (TerminalError F)) → IsOverRow screen v.terminal
-      → ((sheet : Sheet) → filled (Ok tt) sheet → FillsRow line (inserted_area v.terminal 1) sheet)
+  pub inserts-below-if : {T F : Type 0} (line : List ℕ) (v w : LogView B E) (filled : Result (Unit {0}) AllocError → BufferData → Type 0) (result : Result T (TerminalError F)) → IsOverRow screen v.terminal
+      → ((sheet : BufferData) → filled (Ok tt) sheet → FillsRow line (inserted_area v.terminal 1) sheet)
       → InsertsBy screen (inserted_area v.terminal 1) filled v.terminal w.terminal result → OnOk result (KeepsBelow screen v w)
   inserts-below-if line v w filled (Ok x) is only by = inserts-below line v w filled is only by
   inserts-below-if line v w filled (Err e) is only by = tt
 
   -- a refused insertion
-  pub refuses-line-if : {T : Type 0} (line : List ℕ) (v w : LogView B E) (filled : Result (Unit {0}) AllocError → Sheet → Type 0) (result : Result T (TerminalError E)) → w.count ≡ v.count
-      → ((sheet : Sheet) → filled (Ok tt) sheet → FillsRow line (inserted_area v.terminal 1) sheet) → ((sheet : Sheet) → filled (Ok tt) sheet → sheet.area ≡ inserted_area v.terminal 1)
+  pub refuses-line-if : {T : Type 0} (line : List ℕ) (v w : LogView B E) (filled : Result (Unit {0}) AllocError → BufferData → Type 0) (result : Result T (TerminalError E)) → w.count ≡ v.count
+      → ((sheet : BufferData) → filled (Ok tt) sheet → FillsRow line (inserted_area v.terminal 1) sheet) → ((sheet : BufferData) → filled (Ok tt) sheet → sheet.area ≡ inserted_area v.terminal 1)
       → InsertsBy screen (inserted_area v.terminal 1) filled v.terminal w.terminal result → IfErr result (RefusesLine screen line v w)
   refuses-line-if line v w filled (Ok x) count only keeps by = tt
   refuses-line-if line v w filled (Err (Backend e)) count only keeps by = record { count = count; row = by.inserted; filled = only by.inserted by.closure; stops = by.stops }
@@ -122,4 +122,4 @@ pub refused_if : {B E T : Type 0} (screen : B → Screen) (line : List ℕ) (v m
 refused_if screen line v m w (Ok x) inserts count by = tt
 refused_if screen line v m w (Err e) inserts count by =
     let over = inserts.over in
-    lacks_status screen line v m w e inserts count (by (record { current = over.rest.current.area; older = over.rest.in_step.area }) over.rest.sized)
+    lacks_status screen line v m w e inserts count (by (record { current = over.rest.current.area; previous = over.rest.in_step.area }) over.rest.sized)

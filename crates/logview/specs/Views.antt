@@ -2,8 +2,8 @@
 use Rattle.std.specs.Prelude.{◌≡◌, ◌⊎◌, ℕ, ◌+◌, ◌-◌, ◌*◌, ◌<◌, min, nat_lt, if◌then◌else◌, List, length}
 use Rattle.ratatui_core.specs.Layout.{Size}
 use Rattle.ratatui_core.specs.Backend.{Screen, size_of}
-use Rattle.ratatui_core.specs.Buffer.{Sheet}
-use Rattle.ratatui_core.specs.Terminal.{IsBlankBelow, IsOverRow, FillsRow, ShowsRow, InsertsRow, StartsOverRow, State, StopsInserting, WritesAtMost, inserted_area, rows_over}
+use Rattle.ratatui_core.specs.Buffer.{BufferData}
+use Rattle.ratatui_core.specs.Terminal.{IsBlankBelow, IsOverRow, FillsRow, ShowsRow, InsertsRow, StartsOverRow, TerminalData, StopsInserting, WritesAtMost, inserted_area, rows_over}
 use Rattle.ratatui_core.specs.Terminal.{TerminalError, Backend, Memory, Area, Closure}
 use Rattle.logview.specs.Rows.{counted, status_text, AreRowsOfLines}
 use Rattle.logview.specs.declared.view.LogView.{LogView}
@@ -45,7 +45,7 @@ module _ {B E : Type 0} (screen : B → Screen) where
   -- the backend failed in the insertion of a line's row, before the viewport moved or after it
   pub record StopsLine (line : List ℕ) (v w : LogView B E) : Type 0 where
     pub count : w.count ≡ v.count
-    pub row : Sheet
+    pub row : BufferData
     pub filled : FillsRow line (inserted_area v.terminal 1) row
     pub stops : StopsInserting screen row v.terminal w.terminal
 
@@ -58,7 +58,7 @@ module _ {B E : Type 0} (screen : B → Screen) where
 
   -- the row of a line was inserted and counted, and then the status line couldn't be drawn
   pub record LacksStatus (line : List ℕ) (v w : LogView B E) : Type 0 where
-    pub inserted : State B
+    pub inserted : TerminalData B
     pub inserts : InsertsRow screen line v.terminal inserted
     pub count : w.count ≡ counted (v.count + 1)
 

@@ -19,7 +19,7 @@ pub record IsLogPrinted {W E : Type 0} (contents : W → Option (List ℕ)) (byt
   pub printed : PrintsLog bytes (contents w) (contents w')
   pub silent : e' ≡ e
 
--- the log was refused for a fault, which was told; only where the writer failed can anything have been written
+-- the log was refused for a fault, which was told; only if the writer failed can anything have been written
 pub record IsLogRefused {W E : Type 0} (told_to : E → Option (List ℕ)) (bytes : List ℕ) (w w' : W) (e e' : E) : Type 0 where
   pub fault : LogFault
   pub why : IsLogFault bytes fault

@@ -2,8 +2,8 @@
 use Rattle.std.proofs.Common.{◌≡◌, ℕ, List, [], ◌∷◌, inl, refl, sym, ap, ◌∙◌, true, false, subst}
 use Rattle.ratatui_core.specs.Layout.{Size}
 use Rattle.ratatui_core.specs.Backend.{Screen}
-use Rattle.ratatui_core.specs.Buffer.{Grid, ShowsSheet, IsSettledSheet}
-use Rattle.ratatui_core.specs.Terminal.{State, IsInStep, DrawsFrame}
+use Rattle.ratatui_core.specs.Buffer.{Grid, ShowsBuffer, IsSettledBuffer}
+use Rattle.ratatui_core.specs.Terminal.{TerminalData, IsInStep, DrawsFrame}
 use Rattle.ratatui_core.specs.Headline.{Event, Along, last_state, IsFaithful, Draw}
 use Rattle.ratatui_ansi.specs.Backend.{BackendState, reader, shown_by, IsReadAlike}
 use Rattle.ansi_model.specs.Beginnings.{IsAsFound, anew, with_rows_above}
@@ -16,7 +16,7 @@ use Rattle.ansi_model.specs.Sequences.{feed}
 use Rattle.ansi_model.proofs.HistoryLemmas.{rested-above}
 
 -- faithful calls leave a terminal in step
-pub last-in-step : {B : Type 0} (screen : B → Screen) (s : State B) (events : List (Event B)) → IsInStep screen s → Along (IsFaithful screen) s events → IsInStep screen (last_state s events)
+pub last-in-step : {B : Type 0} (screen : B → Screen) (s : TerminalData B) (events : List (Event B)) → IsInStep screen s → Along (IsFaithful screen) s events → IsInStep screen (last_state s events)
 last-in-step screen s [] step all = step
 last-in-step screen s (e ∷ es) step all = last-in-step screen e.after es all.0.in_step all.1
 
@@ -35,14 +35,14 @@ read-by-all b alike sure t left =
           may.straight x y (subst (λ grid. IsStraight b.size.width grid y) (sym same) straight) x_in ∙ ap (λ (grid : Grid). grid x y) same;
     }
 
-pub shown-to-reader : {W : Type 0} (t : State (BackendState W)) (u : Emulator) → IsInStep shown_by t → IsReadBy t.backend u → IsShownToReader t.older t.backend u
+pub shown-to-reader : {W : Type 0} (t : TerminalData (BackendState W)) (u : Emulator) → IsInStep shown_by t → IsReadBy t.backend u → IsShownToReader t.previous t.backend u
 shown-to-reader t u step read = record {
   read = read;
-  shown = subst (λ (s : Screen). ShowsSheet t.older s.grid) (sym read.screen) step.shown;
+  shown = subst (λ (s : Screen). ShowsBuffer t.previous s.grid) (sym read.screen) step.shown;
 }
 
 -- the headline of the bytes, for a list of one draw
-pub one-draw-shown : {W : Type 0} (s t : State (BackendState W)) → IsHeadlineOfBytes t → IsInStep shown_by s → DrawsFrame shown_by s t → IsSettledSheet t.older → t.backend.is_broken ≡ false
-    → IsShownToAll t.older t.backend
+pub one-draw-shown : {W : Type 0} (s t : TerminalData (BackendState W)) → IsHeadlineOfBytes t → IsInStep shown_by s → DrawsFrame shown_by s t → IsSettledBuffer t.previous → t.backend.is_broken ≡ false
+    → IsShownToAll t.previous t.backend
 one-draw-shown s t law step draw settled whole =
-    law s (record { call = Draw t.older; after = t } ∷ []) step ((refl, record { before = s; taken = inl refl; then = draw }), tt) (settled, tt) refl whole
+    law s (record { call = Draw t.previous; after = t } ∷ []) step ((refl, record { before = s; taken = inl refl; then = draw }), tt) (settled, tt) refl whole

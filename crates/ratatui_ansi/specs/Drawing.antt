@@ -12,7 +12,7 @@ use Rattle.ansi_model.specs.Emulator.Phase.{Ground}
 use Rattle.ansi_model.specs.Sequences.{feed}
 use Rattle.ansi_model.specs.Sends.{Performs}
 
--- bytes were appended that set a rendition if the terminal has another, and none where it has this one
+-- bytes were appended that set a rendition if the terminal has another, and none if it has this one
 pub data ChangesSgr (from to : Sgr) (old new : List ℕ) : Type 0 where
   Stays : from ≡ to → new ≡ old → ChangesSgr from to old new
   Sets : Performs old new (with_sgr to) → ChangesSgr from to old new

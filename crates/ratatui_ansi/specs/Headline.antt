@@ -1,8 +1,8 @@
 -- What the headline says of the bytes: a terminal, however it was left, that has read all that a backend's writer was sent.
 use Rattle.std.specs.Prelude.{◌≡◌, ℕ, ◌<◌, true, false, List, ◌++◌}
-use Rattle.ratatui_core.specs.Buffer.{Look, Grid, Sheet, ShowsSheet}
+use Rattle.ratatui_core.specs.Buffer.{Look, Grid, BufferData, ShowsBuffer}
 use Rattle.ratatui_core.specs.Backend.{Screen}
-use Rattle.ratatui_core.specs.Terminal.{State, IsInStep}
+use Rattle.ratatui_core.specs.Terminal.{TerminalData, IsInStep}
 use Rattle.ratatui_core.specs.Headline.{Event, Along, last_state, Does, IsFair}
 use Rattle.ratatui_ansi.specs.Backend.{BackendState, shown_by}
 use Rattle.ansi_model.specs.Beginnings.{IsAsFound, anew}
@@ -31,16 +31,16 @@ module _ {W : Type 0} where
   IsReadByAll b = (t : Emulator) → IsAsFound b.size.width b.size.height t → IsReadBy b t
 
   -- the same, and each unskipped column of a buffer's area has its cell's look
-  pub record IsShownToReader (frame : Sheet) (b : BackendState W) (t : Emulator) : Type 0 where
+  pub record IsShownToReader (frame : BufferData) (b : BackendState W) (t : Emulator) : Type 0 where
     pub read : IsReadBy b t
-    pub shown : ShowsSheet frame (λ x y. look_in ((rested (feed b.sent (anew t))).columns x y))
+    pub shown : ShowsBuffer frame (λ x y. look_in ((rested (feed b.sent (anew t))).columns x y))
 
   -- so it is for each terminal of the backend's size, however it was left
-  abbrev pub IsShownToAll : Sheet → BackendState W → Type 0
+  abbrev pub IsShownToAll : BufferData → BackendState W → Type 0
   IsShownToAll frame b = (t : Emulator) → IsAsFound b.size.width b.size.height t → IsShownToReader frame b t
 
   -- from in step, after any list of calls that answered Ok, and unless a write failed since the backend began or began anew, each terminal of
   -- its size that reads what was sent since shows the buffer that the last call left, however it was left before
-  abbrev pub IsHeadlineOfBytes : State (BackendState W) → Type 0
-  IsHeadlineOfBytes t = (s : State (BackendState W)) (events : List (Event (BackendState W))) → IsInStep shown_by s
-      → Along (Does shown_by) s events → Along (IsFair shown_by) s events → last_state s events ≡ t → t.backend.is_broken ≡ false → IsShownToAll t.older t.backend
+  abbrev pub IsHeadlineOfBytes : TerminalData (BackendState W) → Type 0
+  IsHeadlineOfBytes t = (s : TerminalData (BackendState W)) (events : List (Event (BackendState W))) → IsInStep shown_by s
+      → Along (Does shown_by) s events → Along (IsFair shown_by) s events → last_state s events ≡ t → t.backend.is_broken ≡ false → IsShownToAll t.previous t.backend

@@ -2,7 +2,7 @@
 
 ghost use Rattle.std.specs.Prelude.{◌≡◌, false, Some, IfOk, OnOk, IsTrue};
 ghost use Rattle.std.specs.Io.KnownBytes.{Appends};
-ghost use Rattle.ratatui_core.specs.Buffer.{IsSettledSheet};
+ghost use Rattle.ratatui_core.specs.Buffer.{IsSettledBuffer};
 ghost use Rattle.ratatui_core.specs.Terminal.{IsInStep, DrawsFrame, AcceptsFrames};
 ghost use Rattle.ratatui_ansi.specs.Backend.{shown_by};
 ghost use Rattle.ratatui_ansi.specs.Headline.{IsShownToAll};
@@ -23,7 +23,8 @@ where
     F: FnOnce(&mut Frame<'_>) -> Result<(), AllocError>,
     requires { AcceptsFrames F.FnOnce paint terminal.old }
     ensures drawn { OnOk result (DrawsFrame B.screen terminal.old terminal.new) }
-    ensures settled { IfOk result (λ settled. IsTrue settled → IsSettledSheet terminal.new.older) }
+    ensures settled { IfOk result (λ settled. IsTrue settled
+        → IsSettledBuffer terminal.new.previous) }
 {
     let frame = terminal.draw(paint)?;
     Ok(frame.buffer().is_settled())
@@ -44,7 +45,7 @@ where
         terminal.new.backend.sent) }
     ensures shown { IfOk result (λ settled. IsTrue settled → IsInStep shown_by terminal.old
         → terminal.new.backend.is_broken ≡ false
-        → IsShownToAll terminal.new.older terminal.new.backend) }
+        → IsShownToAll terminal.new.previous terminal.new.backend) }
 {
     let is_settled = draw_settled(terminal, paint)?;
     bytes_show_the_last_buffer(terminal);

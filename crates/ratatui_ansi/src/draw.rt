@@ -262,7 +262,7 @@ fn take_sgr(
     set_sgr_of(out, brush, has_underline_colors, place, cell)
 }
 
-// Draws a cell in a place of a screen of so many columns, where no symbol covers it from the left; it was counted before.
+// Draws a cell in a place of a screen of so many columns, if no symbol covers it from the left; it was counted before.
 #[inline(always)]
 fn draw_glyph(
     out: &mut String,

@@ -61,7 +61,8 @@ impl<W: Write> Sender<W> {
         ensures writer { self.new.writer ≡ self.old.writer }
         ensures before { self.new.sent.before ≡ W.contents self.old.writer }
         ensures sent { self.new.sent.bytes ≡ [] }
-        ensures tied { Appends self.new.sent.before (W.contents self.new.writer) self.new.sent.bytes }
+        ensures tied { Appends self.new.sent.before
+            (W.contents self.new.writer) self.new.sent.bytes }
     {
         self.sent = Sent::new(&self.writer);
     }

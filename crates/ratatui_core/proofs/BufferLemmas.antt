@@ -1,8 +1,8 @@
 -- What the author of a widget cites: an empty buffer is settled, may be painted anywhere and has empty cells, and painting is painting by columns.
-pub use Rattle.rtui_buffer.proofs.EmptyLemmas.{IsSettledSheet-empty, IsPaintable-empty, cell-empty}
+pub use Rattle.rtui_buffer.proofs.EmptyLemmas.{IsSettledBuffer-empty, IsPaintable-empty, cell-empty}
 pub use Rattle.rtui_buffer.proofs.ColumnLemmas.{PaintsByColumns-paints, same-beside, text-ends, line-ends, text-keeps, line-keeps}
 -- so is an empty buffer with a style over an area, and a shown buffer's columns have the looks of its cells.
-pub use Rattle.rtui_buffer.proofs.ShownLemmas.{IsSettledSheet-styled, IsPaintable-styled, shown-look, look-painted, look-beside}
+pub use Rattle.rtui_buffer.proofs.ShownLemmas.{IsSettledBuffer-styled, IsPaintable-styled, shown-look, look-painted, look-beside}
 -- A screen that shows pieces on a bar.
 pub use Rattle.rtui_buffer.proofs.BarLemmas.{ShowsPieces-bar}
 -- Cells that are the same have one look and one width, and an empty cell has the empty look and takes one column.

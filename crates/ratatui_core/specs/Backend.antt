@@ -7,7 +7,7 @@ pub use Rattle.rtui_backend.specs.Clear.{is_cleared, clear_name}
 pub use Rattle.rtui_backend.specs.Screen.{Screen, IsOnGrid, cursor_of, size_of, seen, row_of, rows_above, Draws, Scrolls, lines_past, Appends, upper_part, is_in_region, ScrollsUp, ScrollsDown, Clears, TakesSize, KeepsSizeAndHistory, with_visible, with_cursor, screen_area, IsOnScreen, IsWithin, IsBlankScreen}
 pub use Rattle.rtui_backend.specs.Failures.{Counts}
 pub use Rattle.rtui_backend.specs.CellGrid.{look_at, grid_of, AreUnmarked, AreUnmarkedRows}
-pub use Rattle.rtui_backend.specs.TestBackend.{screen_of, sheet_of, failures_of, told_after, one_call_less, TakesTurn, IsSameBackend, DrawsFront}
+pub use Rattle.rtui_backend.specs.TestBackend.{screen_of, buffer_of, failures_of, told_after, one_call_less, TakesTurn, IsSameBackend, DrawsFront}
 pub use Rattle.rtui_backend.specs.Display.{test_error_text}
 pub use Rattle.rtui_backend.specs.ScreenLines.{ScreenHasLines, HistoryHasLines, IsScreenOf}
 pub use Rattle.rtui_backend.specs.Print.{printed_screen}

@@ -21,8 +21,8 @@ pub use Rattle.rtui_diff.specs.DiffRule.{Walk, start, gives_visited, gives_plain
 pub use Rattle.rtui_diff.specs.Completeness.{differing, AreNarrow, IsGiven, Repeats, Uncovers, IsInFrame, CoversColumn, IsUnchanged, IsMinimal, IsFree, IsDark, Varies, Bares, IsComplete}
 pub use Rattle.rtui_diff.specs.Remaining.{updates_left}
 pub use Rattle.rtui_diff.specs.Diff.{IsDiff}
-pub use Rattle.rtui_buffer.specs.Sheet.{Sheet, area_size, IsSheet, HasRoomFor, position_of, cell_index, place_position, cell_in, with_cell, with_cells, moved_to, sheet_row, HasRow, empty_cells, resized, IsEmptied, IsSameSheet, IsEqualSheet}
-pub use Rattle.rtui_buffer.specs.Frame.{IsSettledSheet, IsShownByRepaint, ShowsSheet, IsAligned, IsSheetDiff, HaveSettledRows, listed}
+pub use Rattle.rtui_buffer.specs.BufferData.{BufferData, area_size, IsBuffer, HasRoomFor, position_of, cell_index, place_position, cell_in, with_cell, with_cells, moved_to, buffer_row, HasRow, empty_cells, resized, IsEmptied, IsSameBuffer, IsEqualBuffer}
+pub use Rattle.rtui_buffer.specs.Shown.{IsSettledBuffer, IsShownByRepaint, ShowsBuffer, IsAligned, IsBufferDiff, HaveSettledRows, listed}
 unfoldable pub use Rattle.rtui_buffer.specs.Painting.{painted_width, fitting, kept, emptied, with_piece, painted}
 pub use Rattle.rtui_buffer.specs.Painting.{has_painted_width, IsLongestFront, Piece, pieces, text_pieces, piece_width, columns, shown, IsSameOutside, piece_at, HasPieces}
 pub use Rattle.rtui_buffer.specs.PaintedText.{room_at, pieces_at, PaintsPieces, right_by, IsBeside, PaintsByColumns, IsSameBeside, AreShort, IsPaintable, PaintsOrRefuses, IsStyled, HasShortGraphemes, HaveShortGraphemes}

@@ -10,7 +10,7 @@ pub use Rattle.rtui_viewport.specs.Sizing.{first_area, IsSizeKnown, IsAreaChange
 pub use Rattle.rtui_viewport.specs.Placing.{lines_below, inline_top, inline_area, rows_left, PlacesInline, area_in, raised, unplaced_area, cursor_row_behind, cursor_found, cursor_restored, rows_scrolled, EmptiesAllIf, Places}
 pub use Rattle.rtui_viewport.specs.Clearing.{is_emptied, HasPlace, ClearsArea, WritesItems, blanks_needed, WritesBlanks}
 pub use Rattle.rtui_viewport.specs.Remaining.{blank_at, blanks_left}
-pub use Rattle.rtui_terminal.specs.State.{State, IsInPlace, HasAreas, HaveRoom, cursor_offset, IsSameTerminal, IsDefaultOver}
+pub use Rattle.rtui_terminal.specs.TerminalData.{TerminalData, IsInPlace, HasAreas, HaveRoom, cursor_offset, IsSameTerminal, IsDefaultOver}
 pub use Rattle.rtui_terminal.specs.InStep.{IsInStep, IsSized, IsReady, rows_over, KeepsAroundViewport}
 pub use Rattle.rtui_terminal.specs.Frames.{IsNewFrame, KeepsFrame, PaintsFrame, IsDrawFrame, AcceptsFrames, PaintsCurrent}
 pub use Rattle.rtui_terminal.specs.Borrows.{with_buffer, LendsBuffer}
@@ -26,9 +26,9 @@ pub use Rattle.rtui_viewport.specs.Lying.{at_corner, FitsSize, IsAcross, MayLie}
 pub use Rattle.rtui_terminal.specs.AtRest.{IsAtRest}
 pub use Rattle.rtui_terminal.specs.TextRow.{row_area, IsPaintedText, IsRowOf, ShowsText, RendersRow, FillsRow, IsOverRow, ShowsRow, DrawsRow, InsertsRow, StartsOverRow}
 pub use Rattle.rtui_terminal.specs.Display.{terminal_error_text}
-pub use Rattle.rtui_rows.specs.Filling.{IsNewSheet, AcceptsRows, FillsRows, RefusesFilling}
-pub use Rattle.rtui_rows.specs.Rows.{lowered_update, DrawsRows, IsUnknownRow, DrawsFirstRow, RowsFit, IsBlankAt, is_nonempty, nonempty_cells, IsNarrowSheet, WritesAtMost}
-pub use Rattle.rtui_rows.specs.Insertion.{AreRowsOf, AreRowsOfAll, AppendsRows, KeepsSizeAndVisibility, HasPlaceAbove, ArePartOf, AppendsPart}
-pub use Rattle.rtui_rows.specs.Scrolling.{HasPushed, HasRaised, HasLowered, rows_down, PushesRows, InsertsDown, InsertsUp}
-pub use Rattle.rtui_rows.specs.Following.{AreaFollows, Follows}
+pub use Rattle.rtui_insert.specs.Filling.{IsNewBuffer, AcceptsRows, FillsRows, RefusesFilling}
+pub use Rattle.rtui_insert.specs.Rows.{lowered_update, DrawsRows, IsUnknownRow, DrawsFirstRow, RowsFit, IsBlankAt, is_nonempty, nonempty_cells, IsNarrowBuffer, WritesAtMost}
+pub use Rattle.rtui_insert.specs.Insertion.{AreRowsOf, AreRowsOfAll, AppendsRows, KeepsSizeAndVisibility, HasPlaceAbove, ArePartOf, AppendsPart}
+pub use Rattle.rtui_insert.specs.Scrolling.{HasPushed, HasRaised, HasLowered, rows_down, PushesRows, InsertsDown, InsertsUp}
+pub use Rattle.rtui_insert.specs.Following.{AreaFollows, Follows}
 pub use Rattle.rtui_terminal.specs.Insertion.{inserted_area, top_behind, cells_to_insert, TakesRows, IsLeft, Inserts, HasMovedDown, StopsInserting, InsertOk, FailsInserting, RefusesRows, InsertErr, InsertsBy}

@@ -3,7 +3,7 @@ use Rattle.std.proofs.Common.{◌≡◌, ℕ, ◌+◌, ◌-◌, ◌<◌, ◌≤�
 use Rattle.std.proofs.lemmas.Bool.{cases_lt}
 use Rattle.std.specs.declared.alloc.AllocError.{AllocError}
 use Rattle.ratatui_core.specs.Layout.{Rect, Position, HasPosition, IsInside, right_edge, bottom_edge}
-use Rattle.ratatui_core.specs.Buffer.{Sheet, Piece, columns, HasRow, IsBeside, IsSameBeside, PaintsPieces, PaintsOrRefuses, position_of}
+use Rattle.ratatui_core.specs.Buffer.{BufferData, Piece, columns, HasRow, IsBeside, IsSameBeside, PaintsPieces, PaintsOrRefuses, position_of}
 use Rattle.ratatui_core.specs.Widgets.{ChangesWithin}
 use Rattle.ratatui_core.proofs.BufferLemmas.{PaintsByColumns-paints, same-beside}
 use Rattle.ratatui_core.specs.Style.{Style}
@@ -21,14 +21,14 @@ use Rattle.rtui_boxes.specs.Boxes.{IsPlainIfBox}
 use Rattle.ratatui_widgets.specs.Paragraphs.{RendersParagraph}
 use Rattle.ratatui_core.proofs.BufferLemmas.{plain-styled, settled-plain, ready-plain}
 use Rattle.ratatui_core.specs.Layout.{EdgesFit}
-use Rattle.ratatui_core.specs.Buffer.{cell_in, IsSettledSheet}
+use Rattle.ratatui_core.specs.Buffer.{cell_in, IsSettledBuffer}
 
 -- a paragraph over the part of an area: the style, the box, and the text inside
-module _ (paragraph : Paragraph) (area part inside : Rect) (old laid boxed : Sheet) (is : IsClipped area old.area part) (style : IsStyled part paragraph.style old laid) (box : ChangesWithin part laid boxed) where
+module _ (paragraph : Paragraph) (area part inside : Rect) (old laid boxed : BufferData) (is : IsClipped area old.area part) (style : IsStyled part paragraph.style old laid) (box : ChangesWithin part laid boxed) where
   pub within-boxed : ChangesWithin part old boxed
   within-boxed = within-then part old laid boxed (within-styled part part paragraph.style old laid (λ p in_own h. h) style) box
 
-  pub within-text : (new : Sheet) → IsInside inside part → ChangesWithin inside boxed new → ChangesWithin area old new
+  pub within-text : (new : BufferData) → IsInside inside part → ChangesWithin inside boxed new → ChangesWithin area old new
   within-text new within_part text = within-wider part area old new is.of_area (within-then part old boxed new within-boxed (within-wider inside part boxed new within_part text))
 
   pub within-box : ChangesWithin area old boxed
@@ -45,14 +45,14 @@ module _ (paragraph : Paragraph) (area part inside : Rect) (old laid boxed : She
   boxed-edges : EdgesFit boxed.area
   boxed-edges = rw (box.same_area, style.area) is.edges
 
-  pub boxed-settled : (IsPlainFrom 0 laid → IsPlainFrom 0 boxed) → IsPlainFrom 0 old → IsSettledSheet boxed
+  pub boxed-settled : (IsPlainFrom 0 laid → IsPlainFrom 0 boxed) → IsPlainFrom 0 old → IsSettledBuffer boxed
   boxed-settled keeps plain = settled-plain boxed boxed-edges (keeps (laid-plain plain))
 
   pub boxed-ready : (y : ℕ) → (IsPlainFrom 0 laid → IsPlainFrom 0 boxed) → IsPlainFrom 0 old → IsReadyFrom y boxed
   boxed-ready y keeps plain = ready-plain y boxed boxed-edges (keeps (laid-plain plain))
 
-pub paragraph-ok : {A : Type 0} (r : Result A AllocError) (paragraph : Paragraph) (area : Rect) (old new : Sheet) → ChangesWithin area old new
-    → (EdgesFit old.area → IsPlainFrom 0 old → IsPlainIfBox paragraph.block → OnOk r (IsSettledSheet new)) → OnOk r (RendersParagraph paragraph area old new)
+pub paragraph-ok : {A : Type 0} (r : Result A AllocError) (paragraph : Paragraph) (area : Rect) (old new : BufferData) → ChangesWithin area old new
+    → (EdgesFit old.area → IsPlainFrom 0 old → IsPlainIfBox paragraph.block → OnOk r (IsSettledBuffer new)) → OnOk r (RendersParagraph paragraph area old new)
 paragraph-ok (Ok x) paragraph area old new within settled = record { within = within; settled = settled }
 paragraph-ok (Err e) paragraph area old new within settled = tt
 

@@ -5,7 +5,7 @@ ghost use Rattle.ratatui_core.specs.Layout.{IsInside};
 ghost use Rattle.ratatui_core.specs.Widgets.{ChangesWithin};
 ghost use Rattle.rtui_boxes.specs.Boxes.{IsBoxArea, IsPlainIfBox};
 ghost use Rattle.rtui_boxes.specs.Framed.{inner_if};
-ghost use Rattle.ratatui_core.specs.Buffer.{IsSettledSheet};
+ghost use Rattle.ratatui_core.specs.Buffer.{IsSettledBuffer};
 ghost use Rattle.ratatui_core.specs.Buffer.{IsPlainFrom, IsReadyAt, IsReadyFrom};
 ghost use Rattle.ratatui_core.specs.Buffer.{position_of};
 ghost use Rattle.ratatui_core.specs.declared.layout.HorizontalAlignment.TheVariants.{Left, Center, Right};
@@ -70,7 +70,7 @@ impl<'a> Paragraph<'a> {
         self
     }
 
-    /// The paragraph, its lines broken where they don't fit.
+    /// The paragraph, its lines broken if they don't fit.
     pub fn wrap(mut self, wrap: Wrap) -> Paragraph<'a>
         ensures { result ≡ record self.entry { wrap = Some wrap } }
     {
@@ -167,7 +167,7 @@ impl<'a> Paragraph<'a> {
         requires some { IsBoxArea part }
         requires inside { IsInside part buf.old.area }
         ensures within { ChangesWithin part buf.old buf.new }
-        ensures settled { IsReadyFrom part.y buf.old → OnOk result (IsSettledSheet buf.new) }
+        ensures settled { IsReadyFrom part.y buf.old → OnOk result (IsSettledBuffer buf.new) }
     {
         match self.wrap {
             Some(wrap) => self.render_wrapped(part, wrap.trim, buf),
@@ -180,7 +180,7 @@ impl<'a> Paragraph<'a> {
         requires some { IsBoxArea part }
         requires inside { IsInside part buf.old.area }
         ensures within { ChangesWithin part buf.old buf.new }
-        ensures settled { IsReadyFrom part.y buf.old → OnOk result (IsSettledSheet buf.new) }
+        ensures settled { IsReadyFrom part.y buf.old → OnOk result (IsSettledBuffer buf.new) }
     {
         let alloc = buf.allocator();
         let lines = self.text.lines.as_slice();
@@ -209,7 +209,7 @@ impl<'a> Paragraph<'a> {
         requires some { IsBoxArea part }
         requires inside { IsInside part buf.old.area }
         ensures within { ChangesWithin part buf.old buf.new }
-        ensures settled { IsReadyFrom part.y buf.old → OnOk result (IsSettledSheet buf.new) }
+        ensures settled { IsReadyFrom part.y buf.old → OnOk result (IsSettledBuffer buf.new) }
     {
         let alloc = buf.allocator();
         let mut skip = self.scroll.y;

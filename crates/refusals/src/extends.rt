@@ -15,13 +15,13 @@ static THERE: [&str; 2] = ["a", "b"];
 
 static GIVEN: [&str; 4] = ["c", "d", "e", "f"];
 
-// What stands behind a call that wasn't refused.
+// What stands after a call that wasn't refused.
 static ALL: [&str; 6] = ["a", "b", "c", "d", "e", "f"];
 
-// What stands behind one that was.
+// What stands after one that was.
 static KEPT: [&str; 4] = ["a", "b", "c", "d"];
 
-// What stands behind the one that was made again.
+// What stands after the one that was made again.
 static WITHOUT_THE_REFUSED: [&str; 5] = ["a", "b", "c", "d", "f"];
 
 // The items of a list, said to be more than could ever lie in memory. A list that is to take items asks for room for as many as are

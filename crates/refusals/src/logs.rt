@@ -1,7 +1,7 @@
 //! Views of a log, and runs over one.
 //!
 //! A view is compared with a twin, to which the same lines were pushed but for the refused one. Both backends count their calls
-//! down, so that the two are equal only where the refused push made none.
+//! down, so that the two are equal only if the refused push made none.
 use crate::outcome::{Outcome, judged};
 use logview::{LogFault, LogView, run};
 use rtui_backend::{TestBackend, TestError};
@@ -55,7 +55,7 @@ fn view_of(alloc: Global, lines: u64) -> Result<LogView<TestBackend>, AllocError
     Ok(view)
 }
 
-// Whether a view has a line behind so many empty ones, and shows that.
+// Whether a view has a line after so many empty ones, and shows that.
 fn has_line(view: &LogView<TestBackend>, lines: u64) -> bool {
     if lines == 0 {
         shows(view, &[], &[LINE, "lines: 1"], 1)
@@ -64,7 +64,7 @@ fn has_line(view: &LogView<TestBackend>, lines: u64) -> bool {
     }
 }
 
-// A push behind so many lines. What is refused to the terminal made no call of the backend and changed nothing, so that the
+// A push after so many lines. What is refused to the terminal made no call of the backend and changed nothing, so that the
 // same push is then as if it were the first; what is refused to the backend is told as the backend's.
 fn pushed(alloc: Global, lines: u64) -> Result<Outcome, AllocError> {
     let mut view = view_of(alloc, lines)?;

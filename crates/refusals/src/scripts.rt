@@ -47,7 +47,7 @@ static SCRIPT: &str = "inline 3 2 1\ntext ab\ndraw\ntext cd\nput 2 1 x\ninsert\n
 
 static SHOWN: &str = "|cd \n|ab \n|cd \n|  x\n";
 
-// Whether a run was refused memory; none where something else came of it.
+// Whether a run was refused memory; none if something else came of it.
 fn run_script(alloc: Global, written: &mut Vec<u8>) -> Option<bool> {
     let mut reader = SCRIPT.as_bytes();
     match run(alloc, &mut reader, written) {

@@ -1,7 +1,7 @@
 //! Terminals over a backend in memory.
 //!
 //! A terminal is compared with a twin, to which the same was done but for the refused call. Both backends count their calls
-//! down, so that the two are equal only where the refused call made just those that the twin made by hand.
+//! down, so that the two are equal only if the refused call made just those that the twin made by hand.
 ghost use Rattle.rtui_viewport.specs.Viewports.{FitsEdges};
 
 use crate::outcome::{LONG, Outcome, judged};

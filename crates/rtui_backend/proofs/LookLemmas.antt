@@ -5,7 +5,7 @@ use Rattle.std.proofs.lemmas.Grind.{common_steps}
 use Rattle.rtui_cell.specs.declared.cell.Cell.{Cell}
 use Rattle.rtui_cell.specs.Look.{look_of, empty_look}
 use Rattle.rtui_cell.proofs.CellLemmas.{look-empty}
-use Rattle.rtui_buffer.specs.Sheet.{empty_cells}
+use Rattle.rtui_buffer.specs.BufferData.{empty_cells}
 use Rattle.rtui_backend.specs.CellGrid.{look_at, grid_of}
 
 -- a cell that is written shows its look, and the others what they showed

@@ -7,7 +7,7 @@ use Rattle.std.specs.List.{range_with_len}
 use Rattle.std.proofs.lemmas.List.FromFn.{fill_by_all}
 use Rattle.rtui_cell.specs.declared.cell.Cell.{Cell}
 use Rattle.rtui_cell.specs.Look.{look_of, empty_look}
-use Rattle.rtui_buffer.specs.Sheet.{Sheet, sheet_row, area_size}
+use Rattle.rtui_buffer.specs.BufferData.{BufferData, buffer_row, area_size}
 use Rattle.rtui_backend.specs.Screen.{Screen, seen, row_of}
 use Rattle.rtui_backend.specs.CellGrid.{grid_of, look_at}
 use Rattle.rtui_backend.proofs.SizeLemmas.{row-look}
@@ -29,8 +29,8 @@ row-count w h b cells count b_in =
     let d = length-drop (b * w) cells in
     length-take w (drop (b * w) cells) ∙ omega (arith, d, e, count)
 
-pub row-looks : (s : Screen) (sheet : Sheet) (b : ℕ) → sheet.area.y ≡ 0 → length sheet.cells ≡ area_size sheet.area → s.width ≡ sheet.area.width → s.height ≡ sheet.area.height
-    → ((x y : ℕ) → s.grid x y ≡ grid_of sheet.area.width sheet.cells x y) → b < s.height → map look_of (sheet_row sheet b) ≡ row_of s b
+pub row-looks : (s : Screen) (sheet : BufferData) (b : ℕ) → sheet.area.y ≡ 0 → length sheet.cells ≡ area_size sheet.area → s.width ≡ sheet.area.width → s.height ≡ sheet.area.height
+    → ((x y : ℕ) → s.grid x y ≡ grid_of sheet.area.width sheet.cells x y) → b < s.height → map look_of (buffer_row sheet b) ≡ row_of s b
 row-looks s sheet b top count wide high same b_in =
     let w = sheet.area.width in
     let e : b - sheet.area.y ≡ b = omega arith in

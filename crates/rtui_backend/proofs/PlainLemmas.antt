@@ -3,7 +3,7 @@ use Rattle.std.proofs.Common.{ℕ, zero, suc, List, [], ◌∷◌, ◌++◌, set
 use Rattle.rtui_cell.specs.declared.cell.Cell.{Cell}
 use Rattle.rtui_cell.specs.Cell.{empty_cell, IsUnmarked}
 use Rattle.rtui_text.specs.Text.{LineData}
-use Rattle.rtui_buffer.specs.Sheet.{empty_cells}
+use Rattle.rtui_buffer.specs.BufferData.{empty_cells}
 use Rattle.rtui_buffer.specs.Line.{line_row, line_rows}
 use Rattle.rtui_buffer.proofs.EmptyLemmas.{cell-empty}
 use Rattle.rtui_backend.specs.CellGrid.{AreUnmarked}

@@ -11,7 +11,7 @@ use Rattle.rtui_cell.specs.Symbol.{blank}
 use Rattle.rtui_cell.proofs.CellLemmas.{look-empty}
 use Rattle.rtui_diff.specs.Cells.{cell}
 use Rattle.rtui_text.specs.Text.{line_of, plain}
-use Rattle.rtui_buffer.specs.Sheet.{empty_cells}
+use Rattle.rtui_buffer.specs.BufferData.{empty_cells}
 use Rattle.rtui_buffer.specs.Painting.{Piece, piece_width, piece_at, place_of, columns, shown, painted, HasPieces}
 use Rattle.rtui_buffer.specs.Line.{line_pieces, line_row}
 use Rattle.rtui_buffer.proofs.EmptyLemmas.{cell-empty}

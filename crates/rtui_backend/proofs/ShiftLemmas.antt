@@ -109,7 +109,7 @@ pub cleared_grid : (w from to : ℕ) (old new : List Cell) (is : Bool) → Fills
     → grid_of w new a b ≡ if is then empty_look else grid_of w old a b
 cleared_grid w from to old new is fills a b a_in e = grid_moved (λ k. nat_le from k && nat_lt k to) (λ k. false) (λ k. k) old new fills w a b b is false a_in e refl (λ _. refl)
 
--- the history, with rows that left behind it where there are such
+-- the history, with rows that left after it if there are such
 pub history_left : {X : Type 0} (former : List X) (t s : Bool) {xs ys : List X} → s ≡ true → xs ≡ ys → former ++ (if t then xs else []) ≡ if t && s then former ++ ys else former
 history_left former true s some eq = rw (some, eq) refl
 history_left former false s some eq = append-nil former
@@ -154,6 +154,6 @@ unmarked_front (suc n) [] plain i = unmarked-empty
 unmarked_front (suc n) (c ∷ cells) plain zero = plain 0
 unmarked_front (suc n) (c ∷ cells) plain (suc i) = unmarked_front n cells (λ j. plain (suc j)) i
 
--- rows of unmarked cells behind others
+-- rows of unmarked cells after others
 pub unmarked_rows : {R : Type 0} (items : R → List Cell) (old more : List R) → AreUnmarkedRows (map items old) → AreUnmarkedRows (map items more) → AreUnmarkedRows (map items (old ++ more))
 unmarked_rows items old more p q = rw (map-append items old more) (All-append AreUnmarked (map items old) (map items more) p q)

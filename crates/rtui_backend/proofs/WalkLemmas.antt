@@ -69,7 +69,7 @@ line-push w (u ∷ ts) t =
     line_pieces-cons w new_style (plain u) (map plain (ts ++ t ∷ [])) ∙ ap (λ qs. ps ++ qs) (line-push (w - columns ps) ts t)
     ∙ sym (ap (λ qs. qs ++ text_pieces (w - columns qs) new_style t) whole ∙ append_assoc ps rest _ ∙ ap (λ n. ps ++ (rest ++ text_pieces n new_style t)) left)
 
--- a turn of the walk along a line, where its texts so far end in a column, and where they don't stand there
+-- a turn of the walk along a line, where its texts so far end in a column, and if they don't stand there
 module _ (row : ℕ → List ℕ) (w : ℕ) (texts : List (Bor (List ℕ))) (text : Bor (List ℕ)) where
   abbrev now : List (Bor (List ℕ)) → List (List ℕ)
   now ts = map (λ (t : Bor (List ℕ)). t.now) ts
@@ -90,7 +90,7 @@ module _ (row : ℕ → List ℕ) (w : ℕ) (texts : List (Bor (List ℕ))) (tex
   pub line-over : (end : Option ℕ) → EndsAfter row 0 former end → end ≡ None → EndsAfter row 0 (line_pieces w new_style (map plain (now (texts ++ text ∷ [])))) None
   line-over end done is = let off = rw is at done in λ h. off ((stand-append row former (text_pieces (w - columns former) new_style text.now) 0).0 (rw pushed at h)).0
 
--- where its texts end, a row has a line if blanks are after them, and not where they don't stand
+-- where its texts end, a row has a line if blanks are after them, and not if they don't stand
 module _ (row : ℕ → List ℕ) (w : ℕ) (ts : List (List ℕ)) where
   pub line-if : (end : ℕ) (b : Bool) → EndsAfter row 0 (line_pieces w new_style (map plain ts)) (Some end) → ((b ≡ true) ↔ AreBlank row end w) → (b ≡ true) ↔ HasLine (line_of (map plain ts)) w row
   line-if end b at blank =

@@ -21,7 +21,7 @@ pub record Screen : Type 0 where
   pub visible : Bool
   pub written : ℕ
 
--- the size fits 16 bits, and the cursor lies on the grid, or at 0 where there is none
+-- the size fits 16 bits, and the cursor lies on the grid, or at 0 if there is none
 pub record IsOnGrid (s : Screen) : Type 0 where
   pub columns : s.width < 2 ^ 16
   pub rows : s.height < 2 ^ 16
@@ -65,7 +65,7 @@ pub record Scrolls (old : Screen) (k : ℕ) (new : Screen) : Type 0 where
   pub visible : new.visible ≡ old.visible
   pub written : new.written ≡ old.written
 
--- how many of n lines below the cursor go past the last row; none where there are no rows
+-- how many of n lines below the cursor go past the last row; none if there are no rows
 abbrev pub lines_past : Screen → ℕ → ℕ
 lines_past s n = if nat_lt 0 s.height then s.cursor_y + n - (s.height - 1) else 0
 
@@ -84,7 +84,7 @@ abbrev pub is_in_region : ℕ → ℕ → ℕ → Bool
 is_in_region a b y = nat_le a y && nat_lt y b
 
 -- the rows of the region from a up to b, cut at the screen's end, moved up by n, and blank rows came in below; where the region begins with
--- the first row, n rows went to the history, in order, blank ones behind those that the region has. All other rows stay, the cursor may be
+-- the first row, n rows went to the history, in order, blank ones after those that the region has. All other rows stay, the cursor may be
 -- anywhere, and where the region has no rows nothing changed
 pub record ScrollsUp (a b n : ℕ) (old new : Screen) : Type 0 where
   pub history : new.history ≡ if a == 0 && nat_lt 0 (min b old.height) then rows_above (upper_part b old) n else old.history

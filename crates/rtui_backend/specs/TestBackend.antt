@@ -3,7 +3,7 @@ use Rattle.std.specs.Prelude.{◌≡◌, ◌↔◌, ℕ, ◌-◌, ◌==◌, if�
 use Rattle.std.specs.Iterator.{Yields}
 use Rattle.rtui_cell.specs.Look.{look_of}
 use Rattle.rtui_cell.specs.Grid.{Update}
-use Rattle.rtui_buffer.specs.Sheet.{Sheet}
+use Rattle.rtui_buffer.specs.BufferData.{BufferData}
 use Rattle.rtui_backend.specs.Screen.{Screen, Draws}
 use Rattle.rtui_backend.specs.CellGrid.{grid_of}
 use Rattle.rtui_backend.specs.declared.test.TestBackend.{TestBackend}
@@ -24,8 +24,8 @@ screen_of b = record {
 }
 
 -- its screen as a buffer
-abbrev pub sheet_of : TestBackend → Sheet
-sheet_of b = b.buffer
+abbrev pub buffer_of : TestBackend → BufferData
+buffer_of b = b.buffer
 
 -- how many calls it failed
 abbrev pub failures_of : TestBackend → ℕ

@@ -52,7 +52,7 @@ pub trait Backend {
 
     ghost is_flushed: { Self → Bool };
 
-    /// Puts each cell in its column and row, in order: the column gets the cell's look, and the columns behind
+    /// Puts each cell in its column and row, in order: the column gets the cell's look, and the columns after
     /// it that the cell covers are emptied. Off the screen nothing changes. The cursor may end anywhere.
     fn draw<C: AsCell, I: Iterator<Item = (u16, u16, C)>>(
         &mut self,
@@ -113,7 +113,7 @@ pub trait Backend {
             ≡ with_cursor position.x position.y (screen self.old)) }
         ensures counts { Counts result (failures self.old) (failures self.new) };
 
-    /// The older name of `get_cursor_position`: the column and the row.
+    /// The previous name of `get_cursor_position`: the column and the row.
     fn get_cursor(&mut self) -> Result<(u16, u16), Self::Error>
         ensures ok { IfOk result (λ place. (place.0 ≡ (screen self.old).cursor_x)
             × (place.1 ≡ (screen self.old).cursor_y)) }
@@ -126,7 +126,7 @@ pub trait Backend {
         Ok((position.x, position.y))
     }
 
-    /// The older name of `set_cursor_position`.
+    /// The previous name of `set_cursor_position`.
     fn set_cursor(&mut self, x: u16, y: u16) -> Result<(), Self::Error>
         ensures ok { OnOk result (screen self.new ≡ with_cursor x y (screen self.old)) }
         ensures counts { Counts result (failures self.old) (failures self.new) }

@@ -5,7 +5,7 @@ ghost use Rattle.std.specs.Iterator.{IsFinite, Drains};
 ghost use Rattle.rtui_geometry.specs.Rect.{EdgesFit};
 ghost use Rattle.rtui_cell.specs.Look.{look_of};
 ghost use Rattle.rtui_cell.specs.Grid.{put, update_by};
-ghost use Rattle.rtui_buffer.specs.Sheet.{area_size, IsEqualSheet, sheet_row};
+ghost use Rattle.rtui_buffer.specs.BufferData.{area_size, IsEqualBuffer, buffer_row};
 ghost use Rattle.rtui_backend.specs.Screen.{Draws};
 ghost use Rattle.rtui_backend.specs.CellGrid.{grid_of, AreUnmarked, AreUnmarkedRows};
 ghost use Rattle.rtui_backend.specs.Failures.{Counts};
@@ -49,7 +49,7 @@ impl fmt::Display for TestError {
 impl Error for TestError {}
 
 /// A screen in memory, for tests: it keeps the contract of `Backend`, shows what it holds, and fails when it is
-/// told to. A draw leaves the cursor where it is, and where memory is refused it has put the items before. Its
+/// told to. A draw leaves the cursor where it is, and if memory is refused it has put the items before. Its
 /// cells have no options and no flags.
 ///
 /// ```
@@ -83,9 +83,9 @@ impl TestBackend {
     ghost use Rattle.std.specs.Prelude.{None};
     ghost use Rattle.rtui_cell.specs.declared.cell.Cell.{Cell};
     ghost use Rattle.rtui_backend.specs.Screen.{IsBlankScreen, cursor_of, row_of, screen_area};
-    ghost use Rattle.rtui_backend.specs.TestBackend.{screen_of, sheet_of, failures_of, told_after, TakesTurn, IsSameBackend, DrawsFront};
+    ghost use Rattle.rtui_backend.specs.TestBackend.{screen_of, buffer_of, failures_of, told_after, TakesTurn, IsSameBackend, DrawsFront};
 
-    /// A blank screen of this size in columns and rows, its cursor visible in the corner; refused where memory
+    /// A blank screen of this size in columns and rows, its cursor visible in the corner; refused if memory
     /// is.
     pub fn new(alloc: Global, width: u16, height: u16) -> Result<TestBackend, AllocError>
         ensures screen { IfOk result (λ b. IsBlankScreen width height (screen_of b)) }
@@ -110,8 +110,8 @@ impl TestBackend {
         ensures shown { (a b : ℕ) → grid_of result.now.area.width result.now.cells a b
             ≡ (screen_of self.now).grid a b }
         ensures rows { (b : ℕ) → b < (screen_of self.now).height
-            → map look_of (sheet_row result.now b) ≡ row_of (screen_of self.now) b }
-        ensures value { result.now ≡ sheet_of self.now }
+            → map look_of (buffer_row result.now b) ≡ row_of (screen_of self.now) b }
+        ensures value { result.now ≡ buffer_of self.now }
         ensures plain { AreUnmarked result.now.cells }
     {
         &self.buffer
@@ -120,7 +120,7 @@ impl TestBackend {
     /// Whether the screen, as a buffer with its corner at (0, 0), equals this one: the same size, in each column the
     /// cell's look, and no cell with an option or the flag.
     pub fn buffer_is(&self, buffer: &Buffer) -> bool
-        ensures { IsTrue result ↔ IsEqualSheet (sheet_of self.now) buffer.now }
+        ensures { IsTrue result ↔ IsEqualBuffer (buffer_of self.now) buffer.now }
     {
         equality_is_by_cells();
         self.buffer == *buffer
@@ -167,7 +167,7 @@ impl TestBackend {
         self.fail_after = Some(calls);
     }
 
-    // The start of each call: fails where this is the one that was told to.
+    // The start of each call: fails if this is the one that was told to.
     fn begin(&mut self) -> Result<(), TestError>
         ensures ok { OnOk result (IsSameBackend self.old self.new) }
         ensures counts { Counts result (failures_of self.old) (failures_of self.new) }

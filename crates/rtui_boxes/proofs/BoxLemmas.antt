@@ -3,7 +3,7 @@ use Rattle.std.proofs.Common.{◌≡◌, ℕ, ◌-◌, ◌⊎◌, ⊎_elim, inl,
 use Rattle.std.proofs.lemmas.Bool.Decides.{nat_tests}
 use Rattle.std.specs.declared.alloc.AllocError.{AllocError}
 use Rattle.ratatui_core.specs.Layout.{Rect, Position, HasPosition, right_edge, bottom_edge, IsInside}
-use Rattle.ratatui_core.specs.Buffer.{Sheet, Cell, cell_in, joined, IsShort}
+use Rattle.ratatui_core.specs.Buffer.{BufferData, Cell, cell_in, joined, IsShort}
 use Rattle.ratatui_core.specs.Widgets.{ChangesWithin}
 use Rattle.rtui_boxes.specs.declared.block.Block.{Block}
 use Rattle.ratatui_core.specs.Buffer.{ChangesEach, AreLight, MakesEach}
@@ -34,7 +34,7 @@ pub is_in-false : (r : Rect) (p : Position) → (HasPosition r p → ⊥) → is
 is_in-false r p off = by_test (is_in r p) (λ e. off (is_in-has r p e))
 
 -- a change over a part, at each position
-module _ (r : Rect) (f : Position → Cell → Cell) (old new : Sheet) (is : ChangesEach r f old new) (p : Position) (in_own : HasPosition old.area p) where
+module _ (r : Rect) (f : Position → Cell → Cell) (old new : BufferData) (is : ChangesEach r f old new) (p : Position) (in_own : HasPosition old.area p) where
   pub changed-at : cell_in new p ≡ (if is_in r p then f p (cell_in old p) else cell_in old p)
   changed-at =
       ⊎_elim
@@ -42,7 +42,7 @@ module _ (r : Rect) (f : Position → Cell → Cell) (old new : Sheet) (is : Cha
       (λ (e : is_in r p ≡ false). rw e (is.outside p in_own (λ h. let two = is_in-true r p h in (let no : true ≡ false = sym two ∙ e in absurd (cc)))))
       (test-cases (is_in r p))
 
-pub draws-one : {A : Type 0} (b : Block) (area part : Rect) (symbol : List ℕ) (is_drawn : Bool) (r : Result A AllocError) (old new : Sheet) → is_drawn ≡ true → IsInside part area
+pub draws-one : {A : Type 0} (b : Block) (area part : Rect) (symbol : List ℕ) (is_drawn : Bool) (r : Result A AllocError) (old new : BufferData) → is_drawn ≡ true → IsInside part area
     → OnOk r (ChangesEach part (λ _. drawn b.merge_borders b.border_style symbol) old new) → OnErr r (ChangesWithin part old new)
     → (AreLight (λ _ c. IsShort (joined b.merge_borders c.symbol symbol)) part old → IsOk r)
     → DrawsStrokes b area (stroke is_drawn part symbol ∷ []) r old new
@@ -67,7 +67,7 @@ short-append b (s ∷ ss) ts p c h =
     let more = short-append b ss ts p (if strikes s p then drawn b.merge_borders b.border_style s.symbol c else c) h.1 in
     ((h.0, more.0), more.1)
 
-each-then : (b : Block) (ss ts : List Stroke) (old mid new : Sheet) → MakesEach (stroked b ss) old mid → MakesEach (stroked b ts) mid new → MakesEach (stroked b (ss ++ ts)) old new
+each-then : (b : Block) (ss ts : List Stroke) (old mid new : BufferData) → MakesEach (stroked b ss) old mid → MakesEach (stroked b ts) mid new → MakesEach (stroked b (ss ++ ts)) old new
 each-then b ss ts old mid new first made = record {
   area = made.area ∙ first.area;
   room = made.room ∙ first.room;
@@ -77,7 +77,7 @@ each-then b ss ts old mid new first made = record {
 
 -- more strokes after those that were drawn
 module _ {A B : Type 0} (b : Block) (area : Rect) (ss ts : List Stroke) where
-  pub draws-then : (x : A) (r : Result B AllocError) (old mid new : Sheet) → DrawsStrokes b area ss (Ok x) old mid → DrawsStrokes b area ts r mid new → DrawsStrokes b area (ss ++ ts) r old new
+  pub draws-then : (x : A) (r : Result B AllocError) (old mid new : BufferData) → DrawsStrokes b area ss (Ok x) old mid → DrawsStrokes b area ts r mid new → DrawsStrokes b area (ss ++ ts) r old new
   draws-then x r old mid new first second = record {
     within = within-then area old mid new first.within second.within;
     ok = on-ok r
@@ -88,7 +88,7 @@ module _ {A B : Type 0} (b : Block) (area : Rect) (ss ts : List Stroke) where
         rw (first.ok.at p in_own) (short-append b ss ts p (cell_in old p) (all p in_own)).1);
   }
 
-  pub draws-refused : (x : AllocError) (r : Result B AllocError) (old new : Sheet) → IsErr r → DrawsStrokes {A = A} b area ss (Err x) old new → DrawsStrokes b area (ss ++ ts) r old new
+  pub draws-refused : (x : AllocError) (r : Result B AllocError) (old new : BufferData) → IsErr r → DrawsStrokes {A = A} b area ss (Err x) old new → DrawsStrokes b area (ss ++ ts) r old new
   draws-refused x (Ok y) old new is first = let no : false ≡ true = is in absurd (cc)
   draws-refused x (Err y) old new is first = record {
     within = first.within;
@@ -98,30 +98,30 @@ module _ {A B : Type 0} (b : Block) (area : Rect) (ss ts : List Stroke) where
 
 -- four strokes, as far as memory goes
 module _ (b : Block) (area : Rect) (s1 s2 s3 s4 : Stroke) (all : List Stroke) (is_all : s1 ∷ (s2 ∷ (s3 ∷ (s4 ∷ []))) ≡ all) where
-  pub draws-first : {A B : Type 0} (x : AllocError) (r : Result B AllocError) (old new : Sheet) → DrawsStrokes {A = A} b area (s1 ∷ []) (Err x) old new → IsErr r → DrawsStrokes b area all r old new
+  pub draws-first : {A B : Type 0} (x : AllocError) (r : Result B AllocError) (old new : BufferData) → DrawsStrokes {A = A} b area (s1 ∷ []) (Err x) old new → IsErr r → DrawsStrokes b area all r old new
   draws-first x r old new d1 is = subst (λ ss. DrawsStrokes b area ss r old new) is_all (draws-refused b area (s1 ∷ []) (s2 ∷ (s3 ∷ (s4 ∷ []))) x r old new is d1)
 
-  pub draws-two : {A B : Type 0} (x1 : A) (x : AllocError) (r : Result B AllocError) (old one new : Sheet) → DrawsStrokes b area (s1 ∷ []) (Ok x1) old one → DrawsStrokes {A = A} b area (s2 ∷ []) (Err x) one new → IsErr r
+  pub draws-two : {A B : Type 0} (x1 : A) (x : AllocError) (r : Result B AllocError) (old one new : BufferData) → DrawsStrokes b area (s1 ∷ []) (Ok x1) old one → DrawsStrokes {A = A} b area (s2 ∷ []) (Err x) one new → IsErr r
       → DrawsStrokes b area all r old new
   draws-two x1 x r old one new d1 d2 is =
       subst (λ ss. DrawsStrokes b area ss r old new) is_all
       (draws-refused b area (s1 ∷ (s2 ∷ [])) (s3 ∷ (s4 ∷ [])) x r old new is (draws-then b area (s1 ∷ []) (s2 ∷ []) x1 (Err x) old one new d1 d2))
 
-  pub draws-three : {A B : Type 0} (x1 x2 : A) (x : AllocError) (r : Result B AllocError) (old one two new : Sheet) → DrawsStrokes b area (s1 ∷ []) (Ok x1) old one → DrawsStrokes b area (s2 ∷ []) (Ok x2) one two
+  pub draws-three : {A B : Type 0} (x1 x2 : A) (x : AllocError) (r : Result B AllocError) (old one two new : BufferData) → DrawsStrokes b area (s1 ∷ []) (Ok x1) old one → DrawsStrokes b area (s2 ∷ []) (Ok x2) one two
       → DrawsStrokes {A = A} b area (s3 ∷ []) (Err x) two new → IsErr r → DrawsStrokes b area all r old new
   draws-three x1 x2 x r old one two new d1 d2 d3 is =
       subst (λ ss. DrawsStrokes b area ss r old new) is_all
       (draws-refused b area (s1 ∷ (s2 ∷ (s3 ∷ []))) (s4 ∷ []) x r old new is
       (draws-then b area (s1 ∷ (s2 ∷ [])) (s3 ∷ []) x2 (Err x) old two new (draws-then b area (s1 ∷ []) (s2 ∷ []) x1 (Ok x2) old one two d1 d2) d3))
 
-  pub draws-four : {A : Type 0} (x1 x2 x3 : A) (r : Result A AllocError) (old one two three new : Sheet) → DrawsStrokes b area (s1 ∷ []) (Ok x1) old one → DrawsStrokes b area (s2 ∷ []) (Ok x2) one two
+  pub draws-four : {A : Type 0} (x1 x2 x3 : A) (r : Result A AllocError) (old one two three new : BufferData) → DrawsStrokes b area (s1 ∷ []) (Ok x1) old one → DrawsStrokes b area (s2 ∷ []) (Ok x2) one two
       → DrawsStrokes b area (s3 ∷ []) (Ok x3) two three → DrawsStrokes b area (s4 ∷ []) r three new → DrawsStrokes b area all r old new
   draws-four x1 x2 x3 r old one two three new d1 d2 d3 d4 =
       subst (λ ss. DrawsStrokes b area ss r old new) is_all
       (draws-then b area (s1 ∷ (s2 ∷ (s3 ∷ []))) (s4 ∷ []) x3 r old three new
       (draws-then b area (s1 ∷ (s2 ∷ [])) (s3 ∷ []) x2 (Ok x3) old two three (draws-then b area (s1 ∷ []) (s2 ∷ []) x1 (Ok x2) old one two d1 d2) d3) d4)
 
-pub inside-within : (area : Rect) (old new : Sheet) → IsInside area old.area → ChangesWithin area old new → IsInside area new.area
+pub inside-within : (area : Rect) (old new : BufferData) → IsInside area old.area → ChangesWithin area old new → IsInside area new.area
 inside-within area old new inside is = λ p h. rw is.same_area (inside p h)
 
 titles-inside : (b : Block) (r : Rect) (position : TitlePosition) → IsBoxArea r → IsInside (titles_area b r position) r
@@ -130,12 +130,12 @@ titles-inside b r Top box = λ p h. let x = h.left in let e = h.right in let t =
 titles-inside b r Bottom box = λ p h. let x = h.left in let e = h.right in let t = h.top in let d = h.bottom in let c = box.columns in let o = box.rows in let a = box.across in let w = box.down in
     record { left = omega arith; right = omega arith; top = omega arith; bottom = omega arith }
 
-same-if : (has : Bool) (old new : Sheet) (p : Position) (off : Type 0) → (has ≡ false → new ≡ old) → (has ≡ true → off) → (off → cell_in new p ≡ cell_in old p) → cell_in new p ≡ cell_in old p
+same-if : (has : Bool) (old new : BufferData) (p : Position) (off : Type 0) → (has ≡ false → new ≡ old) → (has ≡ true → off) → (off → cell_in new p ≡ cell_in old p) → cell_in new p ≡ cell_in old p
 same-if true old new p off none has outside = outside (has refl)
 same-if false old new p off none has outside = rw (none refl) refl
 
 -- the titles of both rows
-pub titles-keep : (b : Block) (r : Rect) (old mid new : Sheet) → ChangesWithin (titles_area b r Top) old mid → (has_title b Top ≡ false → mid ≡ old)
+pub titles-keep : (b : Block) (r : Rect) (old mid new : BufferData) → ChangesWithin (titles_area b r Top) old mid → (has_title b Top ≡ false → mid ≡ old)
     → ChangesWithin (titles_area b r Bottom) mid new → (has_title b Bottom ≡ false → new ≡ mid) → KeepsOffTitles b r old new
 titles-keep b r old mid new first no_first second no_second = record {
   area = second.same_area ∙ first.same_area;
@@ -145,14 +145,14 @@ titles-keep b r old mid new first no_first second no_second = record {
       ∙ same-if (has_title b Top) old mid p (HasPosition (titles_area b r Top) p → ⊥) no_first off.first (λ h. first.outside p in_own h);
 }
 
-pub titles-within : (b : Block) (r : Rect) (old new : Sheet) → IsBoxArea r → KeepsOffTitles b r old new → ChangesWithin r old new
+pub titles-within : (b : Block) (r : Rect) (old new : BufferData) → IsBoxArea r → KeepsOffTitles b r old new → ChangesWithin r old new
 titles-within b r old new box is = record {
   same_area = is.area;
   same_room = is.room;
   outside = λ p in_own off. is.at p in_own (record { first = λ e h. off (titles-inside b r Top box p h); last = λ e h. off (titles-inside b r Bottom box p h) });
 }
 
-pub titles-same : (b : Block) (r : Rect) (s : Sheet) → KeepsOffTitles b r s s
+pub titles-same : (b : Block) (r : Rect) (s : BufferData) → KeepsOffTitles b r s s
 titles-same b r s = record { area = refl; room = refl; at = λ p in_own off. refl }
 
 pub box-area : (area own part : Rect) → IsClipped area own part → IsBoxArea part
@@ -163,7 +163,7 @@ box-area area own part is =
     record { columns = c; rows = r; across = omega arith; down = omega arith }
 
 -- a box over the part of an area
-module _ (b : Block) (area part : Rect) (old laid mid : Sheet) (is : IsClipped area old.area part) (style : IsStyled part b.style old laid) where
+module _ (b : Block) (area part : Rect) (old laid mid : BufferData) (is : IsClipped area old.area part) (style : IsStyled part b.style old laid) where
   laid-at : (p : Position) → HasPosition old.area p → cell_in laid p ≡ (if is_in part p then styled b.style (cell_in old p) else cell_in old p)
   laid-at p in_own =
       ⊎_elim
@@ -194,7 +194,7 @@ module _ (b : Block) (area part : Rect) (old laid mid : Sheet) (is : IsClipped a
       draws.within.outside p in_laid off ∙ style.outside p in_own off))
       (test-cases (is_in part p))
 
-  pub block-renders : {A : Type 0} (x : A) (new : Sheet) → DrawsStrokes b part (strokes b part) (Ok x) laid mid → KeepsOffTitles b part mid new → RendersBlock b area old new
+  pub block-renders : {A : Type 0} (x : A) (new : BufferData) → DrawsStrokes b part (strokes b part) (Ok x) laid mid → KeepsOffTitles b part mid new → RendersBlock b area old new
   block-renders x new draws titles =
       let within = within-wider part area old new is.of_area
       (within-then part old mid new (within-then part old laid mid within-laid draws.within) (titles-within b part mid new (box-area area old.area part is) titles)) in
@@ -207,7 +207,7 @@ module _ (b : Block) (area part : Rect) (old laid mid : Sheet) (is : IsClipped a
         within = within;
       }
 
-pub block-none : (b : Block) (area : Rect) (s : Sheet) → ((intersected area s.area).width ≡ 0) ⊎ ((intersected area s.area).height ≡ 0) → RendersBlock b area s s
+pub block-none : (b : Block) (area : Rect) (s : BufferData) → ((intersected area s.area).width ≡ 0) ⊎ ((intersected area s.area).height ≡ 0) → RendersBlock b area s s
 block-none b area s none = record {
   same_area = refl;
   same_room = refl;

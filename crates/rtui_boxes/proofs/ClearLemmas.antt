@@ -1,7 +1,7 @@
 -- Clearing keeps a buffer settled.
 use Rattle.std.proofs.Common.{◌≡◌, ℕ, ◌+◌, ◌<◌, ◌⊎◌, ⊎_elim, inl, inr, true, false, refl, sym, ap, subst, ◌∙◌, arith}
 use Rattle.ratatui_core.specs.Layout.{Rect, Position, HasPosition, EdgesFit}
-use Rattle.ratatui_core.specs.Buffer.{Sheet, cell, cell_at, cell_index, empty_cell, width_of, is_skipped, is_same, IsSettled, IsSettledSheet, IsBlankOrSkipped, position_of}
+use Rattle.ratatui_core.specs.Buffer.{BufferData, cell, cell_at, cell_index, empty_cell, width_of, is_skipped, is_same, IsSettled, IsSettledBuffer, IsBlankOrSkipped, position_of}
 use Rattle.ratatui_core.proofs.BufferLemmas.{width-empty, index-at}
 use Rattle.rtui_boxes.specs.Clears.{RendersClear}
 use Rattle.rtui_boxes.specs.Boxes.{is_in}
@@ -11,7 +11,7 @@ same-empty : is_same empty_cell empty_cell ≡ true
 unfolding is_same
 same-empty = refl
 
-module _ (area : Rect) (old new : Sheet) (edges : EdgesFit old.area) (is : RendersClear area old new) (was : IsSettledSheet old) where
+module _ (area : Rect) (old new : BufferData) (edges : EdgesFit old.area) (is : RendersClear area old new) (was : IsSettledBuffer old) where
   each : (a b : ℕ) → a < old.area.width → b < old.area.height → (cell_at old.area.width new.cells a b ≡ cell_at old.area.width old.cells a b) ⊎ (cell_at old.area.width new.cells a b ≡ empty_cell)
   each a b a_in b_in =
       let right = edges.right in let bottom = edges.bottom in
@@ -25,7 +25,7 @@ module _ (area : Rect) (old new : Sheet) (edges : EdgesFit old.area) (is : Rende
       (is.outside p has (λ h. let two = is_in-true area p h in (let no : true ≡ false = sym two ∙ e in absurd (cc)))))))
       (test-cases (is_in area p))
 
-  pub clear-settled : IsSettledSheet new
+  pub clear-settled : IsSettledBuffer new
   clear-settled = subst (λ q. IsSettled q.width q.height new.cells) (sym is.area) (record {
     skipped = λ a b a_in b_in skip. ⊎_elim
         (λ (same : cell_at old.area.width new.cells a b ≡ cell_at old.area.width old.cells a b). rw same (was.skipped a b a_in b_in (sym (ap is_skipped same) ∙ skip)))

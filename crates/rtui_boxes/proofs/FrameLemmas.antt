@@ -4,7 +4,7 @@ use Rattle.std.proofs.lemmas.Bool.{cases_lt}
 use Rattle.std.specs.declared.alloc.AllocError.{AllocError}
 use Rattle.ratatui_core.specs.Layout.{Rect, HasPosition, IsInside, intersected}
 use Rattle.ratatui_core.specs.Style.{Style}
-use Rattle.ratatui_core.specs.Buffer.{Sheet, IsStyled}
+use Rattle.ratatui_core.specs.Buffer.{BufferData, IsStyled}
 use Rattle.ratatui_core.specs.Widgets.{ChangesWithin, IsClipped}
 use Rattle.ratatui_core.proofs.BufferLemmas.{within-wider}
 use Rattle.ratatui_core.proofs.WidgetLemmas.{within-then, OnPart-clipped}
@@ -14,13 +14,13 @@ use Rattle.rtui_boxes.specs.Framed.{inner_if, IsFramed, IsBare, IsInner, InFrame
 use Rattle.rtui_boxes.proofs.BoxLemmas.{is_in-true, is_in-has, test-cases}
 use Rattle.rtui_boxes.proofs.ShortLemmas.{short-box}
 
-pub if-short : (o : Option Block) (b : Block) (area : Rect) (s : Sheet) → o ≡ Some b → IsShortFrame o s → IsShortBlock b area s
+pub if-short : (o : Option Block) (b : Block) (area : Rect) (s : BufferData) → o ≡ Some b → IsShortFrame o s → IsShortBlock b area s
 if-short o b area s e short =
     let box : IsUntitledShort (Some b) = subst IsUntitledShort e short.box in
     short-box b area s box.0 box.1 short.cells
 
 -- a style changes no symbol
-pub short-laid : (o : Option Block) (r : Rect) (style : Style) (old laid : Sheet) → IsStyled r style old laid → IsShortFrame o old → IsShortFrame o laid
+pub short-laid : (o : Option Block) (r : Rect) (style : Style) (old laid : BufferData) → IsStyled r style old laid → IsShortFrame o old → IsShortFrame o laid
 short-laid o r style old laid is short = record {
   box = short.box;
   cells = λ p in_laid.
@@ -63,11 +63,11 @@ inner-in (Some b) part is wide high =
     }
 
 -- a style and a box over a part, and what is done inside
-module _ (style : Style) (o : Option Block) (f : Rect → Sheet → Sheet → Type 0) (area part : Rect) (old framed : Sheet) (clip : IsClipped area old.area part) (within : ChangesWithin part old framed) where
+module _ (style : Style) (o : Option Block) (f : Rect → BufferData → BufferData → Type 0) (area part : Rect) (old framed : BufferData) (clip : IsClipped area old.area part) (within : ChangesWithin part old framed) where
   pub frame-within : ChangesWithin area old framed
   frame-within = within-wider part area old framed clip.of_area within
 
-  pub inner-within : (inner : Rect) (new : Sheet) → IsInner o part inner → ChangesWithin inner framed new → ChangesWithin area old new
+  pub inner-within : (inner : Rect) (new : BufferData) → IsInner o part inner → ChangesWithin inner framed new → ChangesWithin area old new
   inner-within inner new is done =
       within-wider part area old new clip.of_area (within-then part old framed new within (within-wider inner part framed new is.inside done))
 
@@ -88,7 +88,7 @@ module _ (style : Style) (o : Option Block) (f : Rect → Sheet → Sheet → Ty
       let wide = some.columns in let high = some.rows in
       ⊎_elim (λ (e : (inner_if o part).width ≡ 0). omega arith) (λ (e : (inner_if o part).height ≡ 0). omega arith) bare
 
-  pub framed-some : {A : Type 0} (r : Result A AllocError) (inner : Rect) (new : Sheet) → IsFramed style o part old framed → IsInner o part inner → ChangesWithin inner framed new → OnOk r (f inner framed new)
+  pub framed-some : {A : Type 0} (r : Result A AllocError) (inner : Rect) (new : BufferData) → IsFramed style o part old framed → IsInner o part inner → ChangesWithin inner framed new → OnOk r (f inner framed new)
       → OnOk r (RendersInFrame style o f area old new)
   framed-some (Ok x) inner new frame is done made = record {
     within = inner-within inner new is done;
@@ -121,7 +121,7 @@ pub inner-none : (o : Option Block) (part : Rect) (m : Option Rect) → m ≡ No
 inner-none o part m e is = rw e at is
 
 -- the buffer still has what is inside
-pub inner-own : (o : Option Block) (part inner area : Rect) (old framed : Sheet) → IsClipped area old.area part → ChangesWithin part old framed → IsInner o part inner → IsInside inner framed.area
+pub inner-own : (o : Option Block) (part inner area : Rect) (old framed : BufferData) → IsClipped area old.area part → ChangesWithin part old framed → IsInner o part inner → IsInside inner framed.area
 inner-own o part inner area old framed clip within is = λ p h. rw within.same_area (clip.of_own p (is.inside p h))
 
 pub inner-is : (o : Option Block) (part inner area own : Rect) → IsClipped area own part → IsInner o part inner → inner ≡ inner_if o (intersected area own)

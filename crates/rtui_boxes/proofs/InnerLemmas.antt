@@ -3,7 +3,7 @@ use Rattle.std.proofs.Common.{◌≡◌, ◌<◌, ◌≤◌, ◌⊎◌, ⊎_elim
 use Rattle.std.proofs.lemmas.Bool.{cases_lt}
 use Rattle.ratatui_core.specs.Layout.{Rect, HasPosition, EdgesFit, IsInside, intersected}
 use Rattle.ratatui_core.specs.Style.{Style}
-use Rattle.ratatui_core.specs.Buffer.{Sheet, cell_in, IsStyled, IsPlain, IsPlainFrom, IsSettledSheet}
+use Rattle.ratatui_core.specs.Buffer.{BufferData, cell_in, IsStyled, IsPlain, IsPlainFrom, IsSettledBuffer}
 use Rattle.ratatui_core.specs.Widgets.{IsClipped}
 use Rattle.ratatui_core.proofs.BufferLemmas.{plain-styled, settled-plain, has-or-not}
 use Rattle.rtui_boxes.specs.declared.block.Block.{Block}
@@ -14,7 +14,7 @@ use Rattle.rtui_boxes.proofs.FrameLemmas.{inner-in}
 use Rattle.rtui_boxes.proofs.PlainBoxLemmas.{plain-box}
 
 -- a style keeps cells plain
-pub plain-laid : (r : Rect) (style : Style) (old laid : Sheet) → IsStyled r style old laid → IsPlainFrom 0 old → IsPlainFrom 0 laid
+pub plain-laid : (r : Rect) (style : Style) (old laid : BufferData) → IsStyled r style old laid → IsPlainFrom 0 old → IsPlainFrom 0 laid
 plain-laid r style old laid is plain = λ p in_laid le.
     let in_own : HasPosition old.area p = subst (λ a. HasPosition a p) is.area in_laid in
     ⊎_elim
@@ -22,18 +22,18 @@ plain-laid r style old laid is plain = λ p in_laid le.
     (λ (off : HasPosition r p → ⊥). subst IsPlain (sym (is.outside p in_own off)) (plain p in_own le))
     (has-or-not r p)
 
-plain-boxed : (o : Option Block) (r : Rect) (old new : Sheet) → IsPlainIfBox o → IsPlainFrom 0 old → RendersIfBox o r old new → IsPlainFrom 0 new
+plain-boxed : (o : Option Block) (r : Rect) (old new : BufferData) → IsPlainIfBox o → IsPlainFrom 0 old → RendersIfBox o r old new → IsPlainFrom 0 new
 plain-boxed None r old new is plain same = rw same plain
 plain-boxed (Some b) r old new is plain renders = plain-box b r old new is plain renders
 
-pub plain-framed : (style : Style) (o : Option Block) (r : Rect) (old new : Sheet) → IsPlainIfBox o → IsPlainFrom 0 old → IsFramed style o r old new → IsPlainFrom 0 new
+pub plain-framed : (style : Style) (o : Option Block) (r : Rect) (old new : BufferData) → IsPlainIfBox o → IsPlainFrom 0 old → IsFramed style o r old new → IsPlainFrom 0 new
 plain-framed style o r old new is plain frame = plain-boxed o r frame.laid new is (plain-laid r style old frame.laid frame.styled plain) frame.boxed
 
-boxed-area : (o : Option Block) (r : Rect) (old new : Sheet) → RendersIfBox o r old new → new.area ≡ old.area
+boxed-area : (o : Option Block) (r : Rect) (old new : BufferData) → RendersIfBox o r old new → new.area ≡ old.area
 boxed-area None r old new same = ap (λ s. s.area) same
 boxed-area (Some b) r old new renders = renders.same_area
 
-pub framed-area : (style : Style) (o : Option Block) (r : Rect) (old new : Sheet) → IsFramed style o r old new → new.area ≡ old.area
+pub framed-area : (style : Style) (o : Option Block) (r : Rect) (old new : BufferData) → IsFramed style o r old new → new.area ≡ old.area
 framed-area style o r old new frame = boxed-area o r frame.laid new frame.boxed ∙ frame.styled.area
 
 -- the part of an area that a buffer has, if it has one
@@ -48,20 +48,20 @@ clipped area own edges wide high = record {
 }
 
 -- of plain cells comes a settled buffer, if what is done inside leaves one
-pub settled-frame : (style : Style) (o : Option Block) (f : Rect → Sheet → Sheet → Type 0) (area : Rect) (old new : Sheet) → EdgesFit old.area → IsPlainFrom 0 old → IsPlainIfBox o
-    → ((r : Rect) (s t : Sheet) → IsBoxArea r → IsInside r s.area → EdgesFit s.area → IsPlainFrom 0 s → f r s t → IsSettledSheet t) → RendersInFrame style o f area old new → IsSettledSheet new
+pub settled-frame : (style : Style) (o : Option Block) (f : Rect → BufferData → BufferData → Type 0) (area : Rect) (old new : BufferData) → EdgesFit old.area → IsPlainFrom 0 old → IsPlainIfBox o
+    → ((r : Rect) (s t : BufferData) → IsBoxArea r → IsInside r s.area → EdgesFit s.area → IsPlainFrom 0 s → f r s t → IsSettledBuffer t) → RendersInFrame style o f area old new → IsSettledBuffer new
 settled-frame style o f area old new edges plain box keeps is =
     let part = intersected area old.area in
-    let nothing : (part.width ≡ 0) ⊎ (part.height ≡ 0) → IsSettledSheet new = λ none. rw (is.parts.nothing none) (settled-plain old edges plain) in
-    let some : 0 < part.width → 0 < part.height → IsSettledSheet new = λ wide high.
+    let nothing : (part.width ≡ 0) ⊎ (part.height ≡ 0) → IsSettledBuffer new = λ none. rw (is.parts.nothing none) (settled-plain old edges plain) in
+    let some : 0 < part.width → 0 < part.height → IsSettledBuffer new = λ wide high.
     let clip = clipped area old.area edges wide high in
     let there = is.parts.part wide high in
     let framed = there.framed in
     let same = framed-area style o part old framed there.frame in
     let plain_ = plain-framed style o part old framed box plain there.frame in
     let edges_ : EdgesFit framed.area = rw same edges in
-    let bare : IsBare (inner_if o part) → IsSettledSheet new = λ none. rw (there.none none) (settled-plain framed edges_ plain_) in
-    let full : 0 < (inner_if o part).width → 0 < (inner_if o part).height → IsSettledSheet new = λ w h.
+    let bare : IsBare (inner_if o part) → IsSettledBuffer new = λ none. rw (there.none none) (settled-plain framed edges_ plain_) in
+    let full : 0 < (inner_if o part).width → 0 < (inner_if o part).height → IsSettledBuffer new = λ w h.
     let inner = inner-in o part (box-area area old.area part clip) w h in
     keeps (inner_if o part) framed new inner.some (λ p in_inner. rw same (clip.of_own p (inner.inside p in_inner))) edges_ plain_ (there.inside w h) in
     ⊎_elim

@@ -3,7 +3,7 @@ use Rattle.std.proofs.Common.{ℕ, ◌+◌, ◌-◌, ◌<◌, ◌≤◌, ⊎_eli
 use Rattle.std.proofs.lemmas.Bool.{cases_lt}
 use Rattle.std.specs.declared.alloc.AllocError.{AllocError}
 use Rattle.ratatui_core.specs.Layout.{Rect, Position, HasPosition, IsInside}
-use Rattle.ratatui_core.specs.Buffer.{Sheet, Piece, columns, HasRow, IsBeside, PaintsOrRefuses, position_of}
+use Rattle.ratatui_core.specs.Buffer.{BufferData, Piece, columns, HasRow, IsBeside, PaintsOrRefuses, position_of}
 use Rattle.ratatui_core.specs.Widgets.{ChangesWithin}
 use Rattle.ratatui_core.proofs.BufferLemmas.{PaintsByColumns-paints, same-beside}
 use Rattle.rtui_boxes.specs.Boxes.{IsBoxArea}
@@ -34,7 +34,7 @@ part-right part own x n box inside fits =
     let h = inside (position_of (part.x + (part.width - 1), part.y)) (part-place part (part.x + (part.width - 1)) part.y box (omega arith) (omega arith) (omega arith) (omega arith)) in
     let r = h.right in omega arith
 
-by-result : {A : Type 0} (r : Result A AllocError) (part : Rect) (p : Position) (ps : List Piece) (old new : Sheet) → HasRow old.area p.y → old.area.x ≤ p.x → columns ps ≤ old.area.x + old.area.width - p.x
+by-result : {A : Type 0} (r : Result A AllocError) (part : Rect) (p : Position) (ps : List Piece) (old new : BufferData) → HasRow old.area p.y → old.area.x ≤ p.x → columns ps ≤ old.area.x + old.area.width - p.x
     → ((q : Position) → (HasPosition part q → ⊥) → IsBeside p (columns ps) q) → PaintsOrRefuses p ps r old new → ChangesWithin part old new
 by-result (Ok x) part p ps old new row starts ends beside paints =
     let by = PaintsByColumns-paints p ps old new row starts ends paints.ok in
@@ -42,7 +42,7 @@ by-result (Ok x) part p ps old new row starts ends beside paints =
 by-result (Err e) part p ps old new row starts ends beside paints =
     record { same_area = paints.err.area; same_room = paints.err.room; outside = λ q in_own off. same-beside p q ps old new row starts ends paints.err in_own (beside q off) }
 
-pub paints-within : {A : Type 0} (r : Result A AllocError) (part : Rect) (x y : ℕ) (ps : List Piece) (old new : Sheet) → IsBoxArea part → IsInside part old.area → part.x ≤ x → x + columns ps ≤ part.x + part.width
+pub paints-within : {A : Type 0} (r : Result A AllocError) (part : Rect) (x y : ℕ) (ps : List Piece) (old new : BufferData) → IsBoxArea part → IsInside part old.area → part.x ≤ x → x + columns ps ≤ part.x + part.width
     → part.y ≤ y → y < part.y + part.height → PaintsOrRefuses (position_of (x, y)) ps r old new → ChangesWithin part old new
 paints-within r part x y ps old new box inside le fits t b paints =
     let row = part-has_row part old.area y box inside t b in

@@ -2,7 +2,7 @@
 use Rattle.std.proofs.Common.{◌≡◌, ℕ, ◌≤◌, Bool, true, false, if◌then◌else◌, List, [], ◌∷◌, refl, sym, subst, ◌∙◌}
 use Rattle.ratatui_core.specs.Layout.{Rect, Position, HasPosition, intersected}
 use Rattle.ratatui_core.specs.Style.{Style}
-use Rattle.ratatui_core.specs.Buffer.{Sheet, Cell, cell_in, joined, styled, with_symbol, symbol_text, width_of, text_width}
+use Rattle.ratatui_core.specs.Buffer.{BufferData, Cell, cell_in, joined, styled, with_symbol, symbol_text, width_of, text_width}
 use Rattle.ratatui_core.specs.declared.symbols.merge.MergeStrategy.{MergeStrategy}
 use Rattle.rtui_boxes.specs.declared.block.Block.{Block}
 use Rattle.rtui_boxes.specs.declared.title.TitlePosition.TheVariants.{Top, Bottom}
@@ -51,7 +51,7 @@ off-untitled b r p none = record {
 }
 
 -- a plain box on plain cells
-pub plain-box : (b : Block) (area : Rect) (old new : Sheet) → IsPlainBox b → IsPlainFrom 0 old → RendersBlock b area old new → IsPlainFrom 0 new
+pub plain-box : (b : Block) (area : Rect) (old new : BufferData) → IsPlainBox b → IsPlainFrom 0 old → RendersBlock b area old new → IsPlainFrom 0 new
 plain-box b area old new is plain renders = λ p in_new le.
     let in_own : HasPosition old.area p = subst (λ a. HasPosition a p) renders.same_area in_new in
     subst IsPlain (sym (renders.at p in_own (off-untitled b (intersected area old.area) p is.untitled)))

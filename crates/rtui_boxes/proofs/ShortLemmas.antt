@@ -1,7 +1,7 @@
 -- A box of short symbols takes no memory.
 use Rattle.std.proofs.Common.{◌≡◌, Bool, true, false, if◌then◌else◌, List, [], ◌∷◌}
 use Rattle.ratatui_core.specs.Layout.{Rect, Position, intersected}
-use Rattle.ratatui_core.specs.Buffer.{Sheet, Cell, cell_in, symbol_text, styled, IsShort}
+use Rattle.ratatui_core.specs.Buffer.{BufferData, Cell, cell_in, symbol_text, styled, IsShort}
 use Rattle.ratatui_core.proofs.BufferLemmas.{joined-short}
 use Rattle.rtui_boxes.specs.declared.block.Block.{Block}
 use Rattle.rtui_boxes.specs.Boxes.{Stroke, strokes, strikes, drawn, is_in, IsShortUnder, IsShortBlock, HasShortSymbols, AreShortCells}
@@ -27,7 +27,7 @@ short-strokes : (b : Block) (r : Rect) → HasShortSymbols b → AreShortStrokes
 short-strokes b r is = (is.left, (is.top, (is.right, (is.bottom, (is.bottom_right, (is.top_right, (is.bottom_left, (is.top_left, tt))))))))
 
 -- a box of short symbols on cells with short ones
-pub short-box : (b : Block) (area : Rect) (s : Sheet) → b.titles.items ≡ [] → HasShortSymbols b → AreShortCells s → IsShortBlock b area s
+pub short-box : (b : Block) (area : Rect) (s : BufferData) → b.titles.items ≡ [] → HasShortSymbols b → AreShortCells s → IsShortBlock b area s
 short-box b area s none symbols_ cells = record {
   untitled = none;
   short = λ p has.

@@ -8,7 +8,7 @@ use Rattle.ratatui_core.specs.Text.{LineData}
 use Rattle.ratatui_core.specs.declared.layout.HorizontalAlignment.TheVariants.{Left}
 use Rattle.ratatui_core.specs.Widgets.{ChangesWithin}
 use Rattle.std.specs.declared.alloc.AllocError.{AllocError}
-use Rattle.ratatui_core.specs.Buffer.{Sheet, Cell, MakesEach, place_at, position_of, cell_in, styled, with_symbol, joined, symbol_text, text_width, IsShort}
+use Rattle.ratatui_core.specs.Buffer.{BufferData, Cell, MakesEach, place_at, position_of, cell_in, styled, with_symbol, joined, symbol_text, text_width, IsShort}
 use Rattle.ratatui_core.specs.declared.symbols.merge.MergeStrategy.{MergeStrategy}
 use Rattle.ratatui_core.specs.declared.symbols.merge.MergeStrategy.TheVariants.{Replace, Exact, Fuzzy}
 use Rattle.rtui_boxes.specs.declared.borders.Borders.{Borders}
@@ -165,7 +165,7 @@ IsShortUnder b (s ∷ ss) p c =
     (strikes s p ≡ true → IsShort (joined b.merge_borders c.symbol s.symbol)) × IsShortUnder b ss p (if strikes s p then drawn b.merge_borders b.border_style s.symbol c else c)
 
 -- strokes within an area are drawn, or memory is refused; nothing outside the area changed
-pub record DrawsStrokes {A : Type 0} (b : Block) (area : Rect) (ss : List Stroke) (result : Result A AllocError) (old new : Sheet) : Type 0 where
+pub record DrawsStrokes {A : Type 0} (b : Block) (area : Rect) (ss : List Stroke) (result : Result A AllocError) (old new : BufferData) : Type 0 where
   pub within : ChangesWithin area old new
   pub ok : OnOk result (MakesEach (stroked b ss) old new)
   pub short : ((p : Position) → HasPosition old.area p → IsShortUnder b ss p (cell_in old p)) → IsOk result
@@ -189,8 +189,8 @@ pub record IsOffTitles (b : Block) (r : Rect) (p : Position) : Type 0 where
   pub first : has_title b Top ≡ true → ¬ (HasPosition (titles_area b r Top) p)
   pub last : has_title b Bottom ≡ true → ¬ (HasPosition (titles_area b r Bottom) p)
 
--- only where titles stand a buffer changed
-pub record KeepsOffTitles (b : Block) (r : Rect) (old new : Sheet) : Type 0 where
+-- only if titles stand a buffer changed
+pub record KeepsOffTitles (b : Block) (r : Rect) (old new : BufferData) : Type 0 where
   pub area : new.area ≡ old.area
   pub room : new.room ≡ old.room
   pub at : (p : Position) → HasPosition old.area p → IsOffTitles b r p → cell_in new p ≡ cell_in old p
@@ -201,14 +201,14 @@ box_cell b r p c = if is_in r p then stroked b (strokes b r) p (styled b.style c
 
 -- A box over the part of an area that the buffer has, cell by cell. Nothing is said of the cells in which titles stand, but that they alone
 -- may differ; a row without titles has none.
-pub record RendersBlock (b : Block) (area : Rect) (old new : Sheet) : Type 0 where
+pub record RendersBlock (b : Block) (area : Rect) (old new : BufferData) : Type 0 where
   pub same_area : new.area ≡ old.area
   pub same_room : new.room ≡ old.room
   pub at : (p : Position) → HasPosition old.area p → IsOffTitles b (intersected area old.area) p → cell_in new p ≡ box_cell b (intersected area old.area) p (cell_in old p)
   pub within : ChangesWithin area old new
 
--- a box without titles takes no memory where no symbol does that comes of it
-pub record IsShortBlock (b : Block) (area : Rect) (s : Sheet) : Type 0 where
+-- a box without titles takes no memory if no symbol does that comes of it
+pub record IsShortBlock (b : Block) (area : Rect) (s : BufferData) : Type 0 where
   pub untitled : b.titles.items ≡ []
   pub short : (p : Position) → HasPosition s.area p → IsShortUnder b (strokes b (intersected area s.area)) p (if is_in (intersected area s.area) p then styled b.style (cell_in s p) else cell_in s p)
 
@@ -224,7 +224,7 @@ pub record HasShortSymbols (b : Block) : Type 0 where
   pub top_left : IsShort b.border_set.top_left.now
 
 -- no cell's symbol takes memory
-abbrev pub AreShortCells : Sheet → Type 0
+abbrev pub AreShortCells : BufferData → Type 0
 AreShortCells s = (p : Position) → HasPosition s.area p → IsShort (symbol_text (cell_in s p).symbol)
 
 -- a box without titles whose symbols take at most one column each

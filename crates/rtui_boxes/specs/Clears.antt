@@ -1,7 +1,7 @@
 -- What clearing makes of a buffer.
 use Rattle.ratatui_core.specs.Layout.{Rect}
-use Rattle.ratatui_core.specs.Buffer.{Sheet, ChangesEach, empty_cell}
+use Rattle.ratatui_core.specs.Buffer.{BufferData, ChangesEach, empty_cell}
 
 -- each cell of the area that the buffer has is empty, and all else is as before
-abbrev pub RendersClear : Rect → Sheet → Sheet → Type 0
+abbrev pub RendersClear : Rect → BufferData → BufferData → Type 0
 RendersClear area = ChangesEach area (λ _ _. empty_cell)

@@ -2,7 +2,7 @@
 use Rattle.std.specs.Prelude.{◌≡◌, ◌⊎◌, ◌<◌, [], Option, Some, None, ⊤}
 use Rattle.ratatui_core.specs.Layout.{Rect, IsInside}
 use Rattle.ratatui_core.specs.Style.{Style}
-use Rattle.ratatui_core.specs.Buffer.{Sheet, IsStyled}
+use Rattle.ratatui_core.specs.Buffer.{BufferData, IsStyled}
 use Rattle.ratatui_core.specs.Widgets.{ChangesWithin, OnPart}
 use Rattle.rtui_boxes.specs.declared.block.Block.{Block}
 use Rattle.rtui_boxes.specs.Boxes.{inner_of, RendersBlock, IsBoxArea, HasShortSymbols, AreShortCells}
@@ -13,13 +13,13 @@ inner_if None r = r
 inner_if (Some b) r = inner_of b r
 
 -- the box is rendered, if there is one
-abbrev pub RendersIfBox : Option Block → Rect → Sheet → Sheet → Type 0
+abbrev pub RendersIfBox : Option Block → Rect → BufferData → BufferData → Type 0
 RendersIfBox None r old new = new ≡ old
 RendersIfBox (Some b) r old new = RendersBlock b r old new
 
 -- a style over a part, and a box on it, if there is one
-pub record IsFramed (style : Style) (block : Option Block) (part : Rect) (old new : Sheet) : Type 0 where
-  pub laid : Sheet
+pub record IsFramed (style : Style) (block : Option Block) (part : Rect) (old new : BufferData) : Type 0 where
+  pub laid : BufferData
   pub styled : IsStyled part style old laid
   pub boxed : RendersIfBox block part laid new
 
@@ -34,14 +34,14 @@ pub record IsInner (block : Option Block) (part r : Rect) : Type 0 where
   pub inside : IsInside r part
 
 -- a style over a part, a box on it, and what f does inside, if there are cells
-pub record InFrame (style : Style) (block : Option Block) (f : Rect → Sheet → Sheet → Type 0) (part : Rect) (old new : Sheet) : Type 0 where
-  pub framed : Sheet
+pub record InFrame (style : Style) (block : Option Block) (f : Rect → BufferData → BufferData → Type 0) (part : Rect) (old new : BufferData) : Type 0 where
+  pub framed : BufferData
   pub frame : IsFramed style block part old framed
   pub none : IsBare (inner_if block part) → new ≡ framed
   pub inside : 0 < (inner_if block part).width → 0 < (inner_if block part).height → f (inner_if block part) framed new
 
 -- A widget in a style and a box, over the part of an area that a buffer has; nothing outside the area changes.
-pub record RendersInFrame (style : Style) (block : Option Block) (f : Rect → Sheet → Sheet → Type 0) (area : Rect) (old new : Sheet) : Type 0 where
+pub record RendersInFrame (style : Style) (block : Option Block) (f : Rect → BufferData → BufferData → Type 0) (area : Rect) (old new : BufferData) : Type 0 where
   pub within : ChangesWithin area old new
   pub parts : OnPart (InFrame style block f) area old new
 
@@ -51,6 +51,6 @@ IsUntitledShort None = ⊤
 IsUntitledShort (Some b) = (b.titles.items ≡ []) × HasShortSymbols b
 
 -- the box takes no memory, if there is one: it has no titles, its symbols are short, and so are those of the cells
-pub record IsShortFrame (block : Option Block) (s : Sheet) : Type 0 where
+pub record IsShortFrame (block : Option Block) (s : BufferData) : Type 0 where
   pub box : IsUntitledShort block
   pub cells : AreShortCells s

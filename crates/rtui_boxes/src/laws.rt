@@ -2,7 +2,7 @@
 
 ghost use Rattle.std.specs.Prelude.{◌≡◌, []};
 ghost use Rattle.ratatui_core.specs.Layout.{EdgesFit};
-ghost use Rattle.ratatui_core.specs.Buffer.{Sheet, IsPlainFrom, IsSettledSheet};
+ghost use Rattle.ratatui_core.specs.Buffer.{BufferData, IsPlainFrom, IsSettledBuffer};
 ghost use Rattle.ratatui_core.specs.Layout.{Rect};
 ghost use Rattle.rtui_boxes.specs.declared.block.Block.{Block};
 ghost use Rattle.rtui_boxes.specs.Boxes.{RendersBlock, IsPlainBox, HasShortSymbols, AreShortCells, IsShortBlock};
@@ -12,18 +12,18 @@ ghost use Rattle.rtui_boxes.specs.Clears.{RendersClear};
 /// what stands there.
 #[tactic(auto, using(crate::proofs::PlainBoxLemmas::box_steps))]
 pub fn plain_boxes_keep_cells_plain()
-    ensures { (b : Block) (area : Rect) (old new : Sheet) → IsPlainBox b → IsPlainFrom 0 old
+    ensures { (b : Block) (area : Rect) (old new : BufferData) → IsPlainBox b → IsPlainFrom 0 old
         → RendersBlock b area old new → IsPlainFrom 0 new }
 {}
 
 /// A box without titles takes no memory if its symbols and those of the cells take none.
 pub fn boxes_of_short_symbols_take_no_memory()
-    ensures { (b : Block) (area : Rect) (s : Sheet) → b.titles.items ≡ [] → HasShortSymbols b
+    ensures { (b : Block) (area : Rect) (s : BufferData) → b.titles.items ≡ [] → HasShortSymbols b
         → AreShortCells s → IsShortBlock b area s }
 {}
 
 /// A cleared buffer is settled if it was settled before.
 pub fn clearing_keeps_settled()
-    ensures { (area : Rect) (old new : Sheet) → EdgesFit old.area → RendersClear area old new
-        → IsSettledSheet old → IsSettledSheet new }
+    ensures { (area : Rect) (old new : BufferData) → EdgesFit old.area → RendersClear area old new
+        → IsSettledBuffer old → IsSettledBuffer new }
 {}

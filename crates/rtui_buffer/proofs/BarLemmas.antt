@@ -10,8 +10,8 @@ use Rattle.rtui_style.specs.declared.Style.{Style}
 use Rattle.rtui_cell.specs.Look.{look_of}
 use Rattle.rtui_cell.specs.Cell.{empty_cell, styled, is_skipped}
 use Rattle.rtui_cell.specs.Grid.{Grid}
-use Rattle.rtui_buffer.specs.Sheet.{Sheet, IsEmptied, HasRow, cell_in, cell_index, area_size, position_of}
-use Rattle.rtui_buffer.specs.Frame.{ShowsSheet}
+use Rattle.rtui_buffer.specs.BufferData.{BufferData, IsEmptied, HasRow, cell_in, cell_index, area_size, position_of}
+use Rattle.rtui_buffer.specs.Shown.{ShowsBuffer}
 use Rattle.rtui_buffer.specs.Painting.{Piece, columns, shown, piece_at}
 use Rattle.rtui_buffer.specs.PaintedText.{IsStyled, PaintsPieces}
 use Rattle.rtui_buffer.specs.Bar.{PaintsOnBar, ShowsPieces, bar_of, bar_cell}
@@ -19,8 +19,8 @@ use Rattle.rtui_buffer.proofs.EmptyLemmas.{cell-empty}
 use Rattle.rtui_buffer.proofs.ShownLemmas.{look-painted, look-beside}
 
 -- the bar takes n columns
-module _ (r : Rect) (n : ℕ) (style : Style) (ps : List Piece) (old under new : Sheet) (g : Grid) (edges : EdgesFit r) (some : 0 < r.height) (emptied : IsEmptied r old)
-    (fits : columns ps ≤ r.width) (bar : IsStyled (bar_of n r) style old under) (painted : PaintsPieces (corner r) ps under new) (shows : ShowsSheet new g) where
+module _ (r : Rect) (n : ℕ) (style : Style) (ps : List Piece) (old under new : BufferData) (g : Grid) (edges : EdgesFit r) (some : 0 < r.height) (emptied : IsEmptied r old)
+    (fits : columns ps ≤ r.width) (bar : IsStyled (bar_of n r) style old under) (painted : PaintsPieces (corner r) ps under new) (shows : ShowsBuffer new g) where
   area-is : under.area ≡ r
   area-is = bar.area ∙ emptied.area
 
@@ -85,9 +85,9 @@ module _ (r : Rect) (n : ℕ) (style : Style) (ps : List Piece) (old under new :
     beside = λ a behind to. bar-there a (omega arith) to behind;
   }
 
--- on a screen that shows an empty buffer with a bar and pieces on it; where there is no column, nothing was painted
-pub ShowsPieces-bar : (r : Rect) (n : ℕ) (style : Style) (pieces : Rect → List Piece) (old new : Sheet) (g : Grid) → EdgesFit r → 0 < r.height → IsEmptied r old → columns (pieces r) ≤ r.width
-    → (0 < r.width → PaintsOnBar (bar_of n r) style (corner r) pieces old new) → ShowsSheet new g → ShowsPieces (corner r) r.width (pieces r) (bar_cell style (r.x + n)) g
+-- on a screen that shows an empty buffer with a bar and pieces on it; if there is no column, nothing was painted
+pub ShowsPieces-bar : (r : Rect) (n : ℕ) (style : Style) (pieces : Rect → List Piece) (old new : BufferData) (g : Grid) → EdgesFit r → 0 < r.height → IsEmptied r old → columns (pieces r) ≤ r.width
+    → (0 < r.width → PaintsOnBar (bar_of n r) style (corner r) pieces old new) → ShowsBuffer new g → ShowsPieces (corner r) r.width (pieces r) (bar_cell style (r.x + n)) g
 ShowsPieces-bar r n style pieces old new g edges some emptied fits paints shows =
     let by : 0 < r.width → ShowsPieces (corner r) r.width (pieces r) (bar_cell style (r.x + n)) g = λ wide.
     let p = paints wide in

@@ -11,7 +11,7 @@ use Rattle.rtui_style.specs.declared.Style.{Style}
 use Rattle.rtui_cell.specs.declared.cell.Cell.{Cell}
 use Rattle.rtui_text.specs.Text.{LineData}
 use Rattle.rtui_diff.specs.Cells.{cell}
-use Rattle.rtui_buffer.specs.Sheet.{HasRow, Sheet, cell_index, cell_in}
+use Rattle.rtui_buffer.specs.BufferData.{HasRow, BufferData, cell_index, cell_in}
 use Rattle.rtui_buffer.specs.Painting.{Piece, columns, IsSameOutside}
 use Rattle.rtui_buffer.specs.PaintedText.{room_at, pieces_at, PaintsPieces, right_by, IsBeside, IsSameBeside, PaintsByColumns}
 use Rattle.rtui_buffer.specs.Line.{line_pieces_at}
@@ -37,7 +37,7 @@ place-at r p n le = omega arith
 place-right : (r : Rect) (p : Position) (n j : ℕ) → r.x ≤ p.x → cell_index r (right_by (n + j) p) ≡ cell_index r p + n + j
 place-right r p n j le = omega arith
 
--- a position beside these columns whose place isn't before the first one stands behind the last one
+-- a position beside these columns whose place isn't before the first one stands after the last one
 place-behind : (r : Rect) (p q : Position) (n : ℕ) → HasRow r p.y → r.x ≤ p.x → n ≤ r.x + r.width - p.x → HasPosition r q → IsBeside p n q
     → cell_index r p ≤ cell_index r q → 0 < n → cell_index r p + n ≤ cell_index r q
 place-behind r p q n row le fits h beside ge some =
@@ -68,11 +68,11 @@ beside-same r p q n old new row le fits h beside same =
     (cases_lt (cell_index r q) (cell_index r p))
 
 -- a refused painting changes nothing beside its columns
-pub same-beside : (p q : Position) (ps : List Piece) (old new : Sheet) → HasRow old.area p.y → old.area.x ≤ p.x → columns ps ≤ old.area.x + old.area.width - p.x
+pub same-beside : (p q : Position) (ps : List Piece) (old new : BufferData) → HasRow old.area p.y → old.area.x ≤ p.x → columns ps ≤ old.area.x + old.area.width - p.x
     → IsSameBeside p ps old new → HasPosition old.area q → IsBeside p (columns ps) q → cell_in new q ≡ cell_in old q
 same-beside p q ps old new row le fits h q_in beside = rw h.area (beside-same old.area p q (columns ps) old.cells new.cells row le fits q_in beside h.cells)
 
-pub PaintsByColumns-paints : (p : Position) (ps : List Piece) (old new : Sheet) → HasRow old.area p.y → old.area.x ≤ p.x
+pub PaintsByColumns-paints : (p : Position) (ps : List Piece) (old new : BufferData) → HasRow old.area p.y → old.area.x ≤ p.x
     → columns ps ≤ old.area.x + old.area.width - p.x → PaintsPieces p ps old new → PaintsByColumns p ps old new
 PaintsByColumns-paints p ps old new row le fits h = record {
   starts = λ k k_in. rw (h.area, place-at old.area p (columns (take k ps)) le) (h.cells.starts k k_in);

@@ -24,7 +24,7 @@ AreWide-append : (ps qs : List Piece) → AreWide ps → AreWide qs → AreWide 
 AreWide-append [] qs h g = g
 AreWide-append (p ∷ ps) qs h g = (h.0, AreWide-append ps qs h.1 g)
 
--- painting pieces and then others behind them is painting them all
+-- painting pieces and then others after them is painting them all
 pub painted-append : (at : ℕ) (ps qs : List Piece) (cells : List Cell) → painted at (ps ++ qs) cells ≡ painted (at + columns ps) qs (painted at ps cells)
 painted-append at [] qs cells = let here : at + columns [] ≡ at = omega arith in rw (here, painted-nil at cells)
 painted-append at (p ∷ ps) qs cells =
@@ -69,7 +69,7 @@ HasPieces-line at room base ss cells new e fits =
 pub line-fits : (r : Rect) (x max room : ℕ) (base : Style) (ss : List SpanData) → room ≡ room_at r x max → room ≢ 0 → x + columns (line_pieces room base ss) ≤ r.x + r.width
 line-fits r x max room base ss e some = let k = columns-line room base ss in omega arith
 
--- the pieces that a turn of the loop paints, before those of the spans behind
+-- the pieces that a turn of the loop paints, before those of the spans after
 module _ (base : Style) (start used room w : ℕ) (left ss : List SpanData) (s : SpanData) (is : left ≡ s ∷ ss) (wide : w ≡ columns (text_pieces (room - used) (patch base s.style) s.content)) where
   pub span-pieces : line_pieces (room - used) base left ≡ text_pieces (room - used) (patch base s.style) s.content ++ line_pieces (room - (used + w)) base ss
   span-pieces =
@@ -121,7 +121,7 @@ pub span-refused : (start used n all : ℕ) (old cells more : List Cell) → IsS
 span-refused start used n all old cells more h g le =
     IsSameOutside-wider start (start + used + n) (start + all) old more (omega arith) (IsSameOutside-then start (start + used) (start + used + n) old cells more (omega arith) (omega arith) h g)
 
--- where no span is left, or no room, all is painted
+-- if no span is left, or no room, all is painted
 pub columns-done : (used all : ℕ) (ps : List Piece) → ps ≡ [] → used + columns ps ≡ all → used ≡ all
 columns-done used all ps none h = let e : columns ps ≡ 0 = ap columns none in omega arith
 

@@ -9,7 +9,7 @@ use Rattle.rtui_geometry.specs.Rect.{united, HasPosition, EdgesFit}
 use Rattle.rtui_cell.specs.declared.cell.Cell.{Cell}
 use Rattle.rtui_cell.specs.Cell.{empty_cell}
 use Rattle.rtui_diff.specs.Cells.{cell, cell_at}
-use Rattle.rtui_buffer.specs.Sheet.{Sheet, cell_index, empty_cells}
+use Rattle.rtui_buffer.specs.BufferData.{BufferData, cell_index, empty_cells}
 use Rattle.rtui_buffer.proofs.EmptyLemmas.{cell-empty}
 use Rattle.rtui_buffer.specs.Overlay.{IsOverlay}
 use Rattle.rtui_buffer.specs.Inner.{IsExtended, IsAround, HasInner, place_in}
@@ -55,7 +55,7 @@ IsAround-second a b f g =
 pub filled-empty : (n m : ℕ) (none filled : List Cell) → filled ≡ take n none ++ empty_cells m → none ≡ [] → (i : ℕ) → cell filled i ≡ empty_cell
 filled-empty n m none filled e f i = rw (e, f, take-nil n) (cell-empty m i)
 
-pub IsExtended-block : (r : Rect) (old new : Sheet) (empty cells : List Cell) → new.area ≡ r → new.cells ≡ cells → EdgesFit old.area → IsAround r old.area
+pub IsExtended-block : (r : Rect) (old new : BufferData) (empty cells : List Cell) → new.area ≡ r → new.cells ≡ cells → EdgesFit old.area → IsAround r old.area
     → ((i : ℕ) → cell empty i ≡ empty_cell) → HasInner r old.area old.cells empty cells → IsExtended r old new
 IsExtended-block r old new empty cells area same edges around blank is = record {
   over = area;
@@ -63,7 +63,7 @@ IsExtended-block r old new empty cells area same edges around blank is = record 
   of_none = λ p h not_in. rw (same, area) (of_rest r old.area edges around old.cells empty cells is p h not_in ∙ blank (cell_index r p));
 }
 
-pub IsOverlay-block : (lower upper mid new : Sheet) (cells : List Cell) → EdgesFit lower.area → EdgesFit upper.area → IsExtended (united lower.area upper.area) lower mid
+pub IsOverlay-block : (lower upper mid new : BufferData) (cells : List Cell) → EdgesFit lower.area → EdgesFit upper.area → IsExtended (united lower.area upper.area) lower mid
     → new.area ≡ mid.area → new.cells ≡ cells → HasInner (united lower.area upper.area) upper.area upper.cells mid.cells cells → IsOverlay lower upper new
 IsOverlay-block lower upper mid new cells lower_edges upper_edges extended area same is =
     let r = united lower.area upper.area in

@@ -149,7 +149,7 @@ outside-turn s start used width g old cells more wide pos put h =
     let place : start + (used + width) ≡ start + used + text_width g = omega arith in
     rw (place, put) (IsSameOutside-put start (start + used) (piece_of s g) old cells (omega arith) (omega arith) h)
 
--- of short pieces the first is short, and so are those behind it
+-- of short pieces the first is short, and so are those after it
 pub short-turn : (s : Style) (used room width : ℕ) (left gs : List (List ℕ)) (g : List ℕ)
     → left ≡ g ∷ gs → width ≡ painted_width g → 0 < width → width ≤ room - used
     → AreShort (pieces s (kept (room - used) left)) → IsShort g × AreShort (pieces s (kept (room - (used + width)) gs))

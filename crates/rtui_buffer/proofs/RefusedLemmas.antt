@@ -11,7 +11,7 @@ use Rattle.rtui_cell.specs.Width.{text_width}
 use Rattle.rtui_text.specs.Text.{SpanData}
 use Rattle.rtui_text.specs.Printable.{IsPrintableFront, singles}
 use Rattle.rtui_buffer.specs.Painting.{painted_width, kept, Piece, piece_of, piece_width, pieces, text_pieces, columns, with_piece, painted, HasFront}
-use Rattle.rtui_buffer.specs.Sheet.{Sheet, cell_index, position_of}
+use Rattle.rtui_buffer.specs.BufferData.{BufferData, cell_index, position_of}
 use Rattle.rtui_buffer.specs.PaintedText.{PaintsFront}
 use Rattle.rtui_buffer.specs.Line.{line_pieces}
 use Rattle.rtui_buffer.proofs.PaintLemmas.{painted_width-painted, kept-take, kept-skip, painted-nil, painted-cons}
@@ -83,7 +83,7 @@ HasFront-done at used left ps old new wide fits h =
       shown = rw h.cells (HasPieces-painted at h.done old (AreWide-front h.done left (subst AreWide h.is wide)) (omega arith));
     }
 
--- also where it ends within the next of them
+-- even if it ends within the next of them
 HasFront-within : (at used : ℕ) (qs others left ps : List Piece) (old cells new : List Cell) → AreWide ps → at + columns ps ≤ length old → left ≡ qs ++ others
     → PaintsSoFar at used left ps old cells → HasFront (at + used) qs cells new → HasFront at ps old new
 HasFront-within at used qs others left ps old cells new wide fits e h f =
@@ -132,7 +132,7 @@ module _ (base : Style) (start used room w : ℕ) (left ss : List SpanData) (s :
       HasFront-within start used _ _ _ (line_pieces room base spans) old cells new (AreWide-line room base spans) (omega arith) (span-pieces base start used room w left ss s is wide) h f
 
 -- a front painted on a buffer's cells, which are then written back whole
-pub PaintsFront-written : (s : Sheet) (x y start : ℕ) (ps qs : List Piece) (old items more : List Cell) (n : ℕ) (area : Rect) (room : ℕ) → items ≡ s.cells → old ≡ items → n ≡ length old
+pub PaintsFront-written : (s : BufferData) (x y start : ℕ) (ps qs : List Piece) (old items more : List Cell) (n : ℕ) (area : Rect) (room : ℕ) → items ≡ s.cells → old ≡ items → n ≡ length old
     → HasFront start ps old more → start ≡ cell_index s.area (position_of (x, y)) → ps ≡ qs
     → area ≡ s.area → room ≡ s.room → PaintsFront (position_of (x, y)) qs s (record { area = area; cells = take n (more ++ drop (length more) items); room = room })
 PaintsFront-written s x y start ps qs old items more n area room cells same len f place pieces same_area same_room = record {

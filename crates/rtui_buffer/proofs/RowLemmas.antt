@@ -9,7 +9,7 @@ use Rattle.rtui_cell.specs.Cell.{empty_cell, width_of, is_skipped}
 use Rattle.rtui_diff.specs.Cells.{cell, cell_at}
 use Rattle.rtui_diff.specs.Settled.{IsSettled, IsBlankOrSkipped}
 use Rattle.rtui_text.specs.Text.{LineData}
-use Rattle.rtui_buffer.specs.Sheet.{empty_cells, row_cells}
+use Rattle.rtui_buffer.specs.BufferData.{empty_cells, row_cells}
 use Rattle.rtui_buffer.specs.Painting.{Piece, piece_width, columns, shown, emptied, with_piece, painted, HasPieces}
 use Rattle.rtui_buffer.specs.Line.{line_pieces, line_row, line_rows, line_at, ShowsLines}
 use Rattle.rtui_buffer.proofs.EmptyLemmas.{cell-empty}
@@ -18,7 +18,7 @@ use Rattle.rtui_buffer.proofs.PaintedLemmas.{AreWide}
 use Rattle.rtui_buffer.proofs.SettledLemmas.{IsSettled-empty, IsSettled-painted, unmarked_empty}
 use Rattle.rtui_buffer.proofs.LineLemmas.{columns-line, AreWide-line, HasPieces-line}
 
--- painting behind a front leaves it
+-- painting after a front leaves it
 module _ (front : List Cell) where
   set-behind : (cells : List Cell) (at : ℕ) (c : Cell) → set (front ++ cells) (length front + at) c ≡ front ++ set cells at c
   set-behind cells at c =

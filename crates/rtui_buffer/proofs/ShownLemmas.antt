@@ -12,8 +12,8 @@ use Rattle.rtui_cell.specs.Grid.{Grid}
 use Rattle.rtui_cell.proofs.CellLemmas.{width-empty}
 use Rattle.rtui_diff.specs.Cells.{cell, cell_at}
 use Rattle.rtui_diff.specs.Settled.{IsSettled}
-use Rattle.rtui_buffer.specs.Sheet.{Sheet, IsEmptied, HasRow, area_size, cell_in, cell_index, position_of}
-use Rattle.rtui_buffer.specs.Frame.{IsSettledSheet, ShowsSheet}
+use Rattle.rtui_buffer.specs.BufferData.{BufferData, IsEmptied, HasRow, area_size, cell_in, cell_index, position_of}
+use Rattle.rtui_buffer.specs.Shown.{IsSettledBuffer, ShowsBuffer}
 use Rattle.rtui_buffer.specs.Painting.{Piece, columns, shown, piece_at}
 use Rattle.rtui_buffer.specs.PaintedText.{IsBeside, IsPaintable, IsStyled, PaintsPieces, PaintsByColumns, right_by}
 use Rattle.rtui_buffer.proofs.ColumnLemmas.{PaintsByColumns-paints}
@@ -56,7 +56,7 @@ index-at x y w a b =
     let column : x + a - x ≡ a = omega arith in
     rw (row, column) refl
 
-module _ (r area : Rect) (s : Style) (old new : Sheet) (edges : EdgesFit r) (emptied : IsEmptied r old) (is : IsStyled area s old new) where
+module _ (r area : Rect) (s : Style) (old new : BufferData) (edges : EdgesFit r) (emptied : IsEmptied r old) (is : IsStyled area s old new) where
   own-edges : EdgesFit old.area
   own-edges = subst EdgesFit (sym emptied.area) edges
 
@@ -79,8 +79,8 @@ module _ (r area : Rect) (s : Style) (old new : Sheet) (edges : EdgesFit r) (emp
       subst (λ i. IsPlainBlank (cell new.cells i)) (index-at old.area.x old.area.y old.area.width a b)
       (subst (λ q. IsPlainBlank (cell new.cells (cell_index q p))) is.area (here p has))
 
-  pub IsSettledSheet-styled : IsSettledSheet new
-  IsSettledSheet-styled = subst (λ q. IsSettled q.width q.height new.cells) (sym is.area) (record {
+  pub IsSettledBuffer-styled : IsSettledBuffer new
+  IsSettledBuffer-styled = subst (λ q. IsSettled q.width q.height new.cells) (sym is.area) (record {
     skipped = λ a b a_in b_in skip. let one = (plain-at a b a_in b_in).width in omega arith;
     within = λ a b a_in b_in plain. let one = (plain-at a b a_in b_in).width in omega arith;
     behind = λ a b k a_in b_in plain more less. let one = (plain-at a b a_in b_in).width in absurd (omega arith);
@@ -100,7 +100,7 @@ module _ (r area : Rect) (s : Style) (old new : Sheet) (edges : EdgesFit r) (emp
       }
 
 -- the look in a column of a shown buffer
-pub shown-look : (s : Sheet) (g : Grid) (p : Position) → ShowsSheet s g → HasPosition s.area p → is_skipped (cell_in s p) ≡ false → g p.x p.y ≡ look_of (cell_in s p)
+pub shown-look : (s : BufferData) (g : Grid) (p : Position) → ShowsBuffer s g → HasPosition s.area p → is_skipped (cell_in s p) ≡ false → g p.x p.y ≡ look_of (cell_in s p)
 shown-look s g p shows has plain =
     let l = has.left in let r = has.right in let t = has.top in let b = has.bottom in
     let x : s.area.x + (p.x - s.area.x) ≡ p.x = omega arith in
@@ -112,8 +112,8 @@ unfolding is_skipped
 plain-shown p c plain = plain
 
 -- pieces painted in a row, on a screen that shows them
-module _ (p : Position) (ps : List Piece) (old new : Sheet) (g : Grid) (row : HasRow old.area p.y) (left : old.area.x ≤ p.x) (fits : columns ps ≤ old.area.x + old.area.width - p.x)
-    (painted : PaintsPieces p ps old new) (shows : ShowsSheet new g) where
+module _ (p : Position) (ps : List Piece) (old new : BufferData) (g : Grid) (row : HasRow old.area p.y) (left : old.area.x ≤ p.x) (fits : columns ps ≤ old.area.x + old.area.width - p.x)
+    (painted : PaintsPieces p ps old new) (shows : ShowsBuffer new g) where
   by : PaintsByColumns p ps old new
   by = PaintsByColumns-paints p ps old new row left fits painted
 

@@ -10,8 +10,8 @@ use Rattle.rtui_cell.specs.declared.cell.Cell.{Cell}
 use Rattle.rtui_cell.specs.Cell.{width_of, is_skipped, IsUnmarked}
 use Rattle.rtui_diff.specs.Cells.{cell}
 use Rattle.rtui_diff.specs.Settled.{IsSettled}
-use Rattle.rtui_buffer.specs.Sheet.{Sheet, cell_index, position_of}
-use Rattle.rtui_buffer.specs.Frame.{IsSettledSheet}
+use Rattle.rtui_buffer.specs.BufferData.{BufferData, cell_index, position_of}
+use Rattle.rtui_buffer.specs.Shown.{IsSettledBuffer}
 use Rattle.rtui_buffer.specs.Painting.{Piece, pieces, text_pieces, columns, HasPieces}
 use Rattle.rtui_buffer.specs.PaintedText.{room_at, PaintsPieces, IsPaintable}
 use Rattle.rtui_buffer.proofs.PaintedLemmas.{kept-none, columns-kept, HasPieces-none}
@@ -23,12 +23,12 @@ text_pieces-none room s text e = ap (λ n. text_pieces n s text) e ∙ ap (piece
 pub columns-none : (ps : List Piece) → ps ≡ [] → columns ps ≡ 0
 columns-none ps e = ap columns e
 
-pub PaintsPieces-none : (p : Position) (ps : List Piece) (s : Sheet) → ps ≡ [] → PaintsPieces p ps s s
+pub PaintsPieces-none : (p : Position) (ps : List Piece) (s : BufferData) → ps ≡ [] → PaintsPieces p ps s s
 PaintsPieces-none p ps s e = record { area = refl; room = refl; cells = subst (λ qs. HasPieces (cell_index s.area p) qs s.cells s.cells) (sym e) (HasPieces-none (cell_index s.area p) s.cells) }
 
 -- what is painted within a row keeps a buffer settled
-pub IsSettled-row : (s : Sheet) (x y : ℕ) (ps : List Piece) (new : List Cell) → HasPieces (cell_index s.area (position_of (x, y))) ps s.cells new
-    → IsSettledSheet s → IsPaintable (position_of (x, y)) (columns ps) s → s.area.x ≤ x → x + columns ps ≤ s.area.x + s.area.width → IsSettled s.area.width s.area.height new
+pub IsSettled-row : (s : BufferData) (x y : ℕ) (ps : List Piece) (new : List Cell) → HasPieces (cell_index s.area (position_of (x, y))) ps s.cells new
+    → IsSettledBuffer s → IsPaintable (position_of (x, y)) (columns ps) s → s.area.x ≤ x → x + columns ps ≤ s.area.x + s.area.width → IsSettled s.area.width s.area.height new
 IsSettled-row s x y ps new is was may le fits =
     let r = s.area in
     IsSettled-painted r.width r.height (x - r.x) (y - r.y) ps s.cells new is was
@@ -45,7 +45,7 @@ pub text-fits : (r : Rect) (x max room : ℕ) (s : Style) (text : List ℕ) → 
 text-fits r x max room s text e some = let k = columns-kept s room (graphemes true text) in omega arith
 
 -- what is painted on a buffer's cells, which are then written back whole
-module _ (s : Sheet) (x y start : ℕ) (ps qs : List Piece) (old items more : List Cell) (n : ℕ) (cells : items ≡ s.cells) (same : old ≡ items) (len : n ≡ length old)
+module _ (s : BufferData) (x y start : ℕ) (ps qs : List Piece) (old items more : List Cell) (n : ℕ) (cells : items ≡ s.cells) (same : old ≡ items) (len : n ≡ length old)
     (is : HasPieces start ps old more) (place : start ≡ cell_index s.area (position_of (x, y))) (pieces_same : ps ≡ qs) where
   all : take n (more ++ drop (length more) items) ≡ more
   all = let count : length more ≡ length old = is.outside.count in
@@ -54,7 +54,7 @@ module _ (s : Sheet) (x y start : ℕ) (ps qs : List Piece) (old items more : Li
   pub HasPieces-written : HasPieces (cell_index s.area (position_of (x, y))) qs s.cells (take n (more ++ drop (length more) items))
   HasPieces-written = rw all (rw (place, same ∙ cells, pieces_same) at is)
 
-  pub IsSettled-written : (r : Rect) → r ≡ s.area → s.area.x ≤ x → x + columns ps ≤ s.area.x + s.area.width → IsSettledSheet s → IsPaintable (position_of (x, y)) (columns qs) s
+  pub IsSettled-written : (r : Rect) → r ≡ s.area → s.area.x ≤ x → x + columns ps ≤ s.area.x + s.area.width → IsSettledBuffer s → IsPaintable (position_of (x, y)) (columns qs) s
       → IsSettled r.width r.height (take n (more ++ drop (length more) items))
   IsSettled-written r area le fits was may = rw area (IsSettled-row s x y qs _ HasPieces-written was may le (rw pieces_same at fits))
 

@@ -7,7 +7,7 @@ use Rattle.rtui_cell.specs.declared.cell.Cell.{Cell}
 use Rattle.rtui_cell.specs.Cell.{empty_cell, styled}
 use Rattle.rtui_grid.specs.declared.block.Block.{Block}
 use Rattle.rtui_grid.specs.Blocks.{HasBlock}
-use Rattle.rtui_buffer.specs.Sheet.{Sheet, cell_in}
+use Rattle.rtui_buffer.specs.BufferData.{BufferData, cell_in}
 use Rattle.rtui_style.specs.declared.Style.{Style}
 use Rattle.rtui_diff.specs.Cells.{cell, cell_at}
 use Rattle.rtui_buffer.specs.Painting.{IsSameOutside}
@@ -20,7 +20,7 @@ pub record IsAround (outer inner : Rect) : Type 0 where
   pub bottom : inner.y + inner.height ≤ outer.y + outer.height
 
 -- the sheet over another area: its cells where they stood, else empty ones
-pub record IsExtended (area : Rect) (old new : Sheet) : Type 0 where
+pub record IsExtended (area : Rect) (old new : BufferData) : Type 0 where
   pub over : new.area ≡ area
   pub of_old : (p : Position) → HasPosition old.area p → cell_in new p ≡ cell_in old p
   pub of_none : (p : Position) → HasPosition area p → ¬ (HasPosition old.area p) → cell_in new p ≡ empty_cell

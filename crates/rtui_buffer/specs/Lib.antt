@@ -1,5 +1,5 @@
-pub mod Sheet
-pub mod Frame
+pub mod BufferData
+pub mod Shown
 pub mod Painting
 pub mod PaintedText
 pub mod Bar

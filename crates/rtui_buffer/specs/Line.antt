@@ -8,11 +8,11 @@ use Rattle.rtui_style.specs.Style.{patch}
 use Rattle.rtui_cell.specs.declared.cell.Cell.{Cell}
 use Rattle.rtui_text.specs.Text.{SpanData, LineData, line_of, raw_line}
 pub use Rattle.rtui_text.specs.Widths.{widest}
-use Rattle.rtui_buffer.specs.Sheet.{Sheet, empty_cells, row_cells}
+use Rattle.rtui_buffer.specs.BufferData.{BufferData, empty_cells, row_cells}
 use Rattle.rtui_buffer.specs.Painting.{Piece, text_pieces, columns, painted, HasPieces}
 use Rattle.rtui_buffer.specs.PaintedText.{room_at}
 
--- the pieces of spans one behind the other, each span in the width that is left, its style over the base style
+-- the pieces of spans one after the other, each span in the width that is left, its style over the base style
 unfoldable pub line_pieces : ℕ → Style → List SpanData → List Piece
 line_pieces room base [] = []
 line_pieces room base (s ∷ ss) =
@@ -43,7 +43,7 @@ abbrev pub lines_area : List LineData → Rect
 lines_area ls = record { x = 0; y = 0; width = widest ls; height = length ls }
 
 -- a buffer with a line in each row, as wide as the widest of them
-pub record IsOfLines (ls : List LineData) (s : Sheet) : Type 0 where
+pub record IsOfLines (ls : List LineData) (s : BufferData) : Type 0 where
   pub area : s.area ≡ lines_area ls
   pub cells : s.cells ≡ line_rows (widest ls) ls
   pub rows : ShowsLines (widest ls) ls s.cells

@@ -9,8 +9,8 @@ use Rattle.rtui_style.specs.declared.Style.{Style}
 use Rattle.rtui_geometry.specs.Rect.{HasPosition}
 use Rattle.rtui_cell.specs.Symbol.{IsShort}
 use Rattle.rtui_cell.specs.Cell.{empty_cell, styled, width_of, is_skipped, IsUnmarked}
-use Rattle.rtui_buffer.specs.Sheet.{Sheet, cell_index, cell_in, position_of}
-use Rattle.rtui_buffer.specs.Frame.{IsSettledSheet}
+use Rattle.rtui_buffer.specs.BufferData.{BufferData, cell_index, cell_in, position_of}
+use Rattle.rtui_buffer.specs.Shown.{IsSettledBuffer}
 use Rattle.rtui_buffer.specs.Painting.{Piece, text_pieces, piece_width, piece_at, columns, shown, IsSameOutside, HasPieces, KeepsUnmarked}
 
 -- the columns from x to the area's right edge, at most max and 65535
@@ -22,13 +22,13 @@ abbrev pub pieces_at : Rect → ℕ → ℕ → Style → List ℕ → List Piec
 pieces_at r x max s text = text_pieces (room_at r x max) s text
 
 -- the buffer with the pieces painted from a position on
-pub record PaintsPieces (p : Position) (ps : List Piece) (old new : Sheet) : Type 0 where
+pub record PaintsPieces (p : Position) (ps : List Piece) (old new : BufferData) : Type 0 where
   pub area : new.area ≡ old.area
   pub room : new.room ≡ old.room
   pub cells : HasPieces (cell_index old.area p) ps old.cells new.cells
 
 -- the buffer with a front of the pieces painted from a position on, and no more
-pub record PaintsFront (p : Position) (ps : List Piece) (old new : Sheet) : Type 0 where
+pub record PaintsFront (p : Position) (ps : List Piece) (old new : BufferData) : Type 0 where
   pub front : List Piece
   pub rest : List Piece
   pub is : ps ≡ front ++ rest
@@ -44,13 +44,13 @@ IsBeside p n q = q.y ≡ p.y → (q.x < p.x) ⊎ (p.x + n ≤ q.x)
 
 -- The same by columns: each piece stands in the column at the sum of the widths before it, its symbol and its style over the former
 -- cell; the other columns that it takes are empty; each position beside them is as before.
-pub record PaintsByColumns (p : Position) (ps : List Piece) (old new : Sheet) : Type 0 where
+pub record PaintsByColumns (p : Position) (ps : List Piece) (old new : BufferData) : Type 0 where
   pub starts : (k : ℕ) → k < length ps → cell_in new (right_by (columns (take k ps)) p) ≡ shown (piece_at ps k) (cell_in old (right_by (columns (take k ps)) p))
   pub behind : (k j : ℕ) → k < length ps → 0 < j → j < piece_width (piece_at ps k) → cell_in new (right_by (columns (take k ps) + j) p) ≡ empty_cell
   pub outside : (q : Position) → HasPosition old.area q → IsBeside p (columns ps) q → cell_in new q ≡ cell_in old q
 
 -- the buffers differ at most where the pieces would have been painted
-pub record IsSameBeside (p : Position) (ps : List Piece) (old new : Sheet) : Type 0 where
+pub record IsSameBeside (p : Position) (ps : List Piece) (old new : BufferData) : Type 0 where
   pub area : new.area ≡ old.area
   pub room : new.room ≡ old.room
   pub cells : IsSameOutside (cell_index old.area p) (cell_index old.area p + columns ps) old.cells new.cells
@@ -61,22 +61,22 @@ AreShort ps = All (λ p. IsShort p.symbol) ps
 
 -- n columns from p on may be painted in a settled buffer: no cell of theirs has an option or the flag, and no unskipped cell before
 -- them reaches into them
-pub record IsPaintable (p : Position) (n : ℕ) (s : Sheet) : Type 0 where
+pub record IsPaintable (p : Position) (n : ℕ) (s : BufferData) : Type 0 where
   pub unmarked : (a : ℕ) → p.x ≤ a → a < p.x + n → IsUnmarked (cell_in s (position_of (a, p.y)))
   pub uncovered : (a : ℕ) → s.area.x ≤ a → a < p.x → is_skipped (cell_in s (position_of (a, p.y))) ≡ false
       → a + width_of (cell_in s (position_of (a, p.y))) ≤ p.x
 
 -- What a call does that paints pieces from a position on. Ok, they are painted, and a settled buffer is still settled where their
--- columns may be painted; where memory is refused, at most their columns differ. Short symbols are never refused.
-pub record PaintsOrRefuses {A : Type 0} (p : Position) (ps : List Piece) (result : Result A AllocError) (old new : Sheet) : Type 0 where
+-- columns may be painted; if memory is refused, at most their columns differ. Short symbols are never refused.
+pub record PaintsOrRefuses {A : Type 0} (p : Position) (ps : List Piece) (result : Result A AllocError) (old new : BufferData) : Type 0 where
   pub ok : OnOk result (PaintsPieces p ps old new)
-  pub settled : IsSettledSheet old → IsPaintable p (columns ps) old → OnOk result (IsSettledSheet new)
+  pub settled : IsSettledBuffer old → IsPaintable p (columns ps) old → OnOk result (IsSettledBuffer new)
   pub err : OnErr result (IsSameBeside p ps old new)
   pub marks : OnErr result (KeepsUnmarked old.cells new.cells)
   pub short : AreShort ps → IsOk result
 
 -- the buffer with a style laid over the cells of an area
-pub record IsStyled (r : Rect) (s : Style) (old new : Sheet) : Type 0 where
+pub record IsStyled (r : Rect) (s : Style) (old new : BufferData) : Type 0 where
   pub area : new.area ≡ old.area
   pub room : new.room ≡ old.room
   pub inside : (p : Position) → HasPosition old.area p → HasPosition r p → cell_in new p ≡ styled s (cell_in old p)

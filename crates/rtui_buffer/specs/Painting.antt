@@ -1,4 +1,4 @@
--- Painting pieces of text into a list of cells, one behind the other.
+-- Painting pieces of text into a list of cells, one after the other.
 use Rattle.std.specs.Prelude.{ℕ, Bool, true, ◌+◌, ◌-◌, ◌≡◌, ◌≤◌, ◌<◌, suc, zero, nat_le, nat_lt, List, [], ◌∷◌, ◌++◌, length, take, map, filter, sum_by, if◌then◌else◌, Some, slice_index_or, slice_set}
 use Rattle.unicode_segmentation.specs.Grapheme.{graphemes}
 use Rattle.rtui_style.specs.declared.Style.{Style}
@@ -68,7 +68,7 @@ emptied at (suc n) cells = emptied (at + 1) n (slice_set cells at empty_cell)
 unfoldable pub with_piece : ℕ → Piece → List Cell → List Cell
 with_piece at p cells = emptied (at + 1) (piece_width p - 1) (slice_set cells at (shown p (cell cells at)))
 
--- the cells with pieces from a place on, one behind the other
+-- the cells with pieces from a place on, one after the other
 unfoldable pub painted : ℕ → List Piece → List Cell → List Cell
 painted at [] cells = cells
 painted at (p ∷ ps) cells = painted (at + piece_width p) ps (with_piece at p cells)

@@ -4,8 +4,8 @@ ghost use Rattle.rtui_geometry.specs.Rect.{HasPosition, EdgesFit, intersected};
 ghost use Rattle.rtui_buffer.specs.Clipped.{IsClipped};
 ghost use Rattle.rtui_cell.specs.contracts.cell.Cell.{the_row as cell_row};
 ghost use Rattle.rtui_buffer.specs.contracts.buffer.Buffer.{the_row};
-ghost use Rattle.rtui_buffer.specs.Sheet.{area_size, cell_index, place_position, position_of, cell_in, with_cell, with_cells, resized, moved_to, sheet_row, HasRow, IsEmptied, HasRoomFor, IsSameSheet};
-ghost use Rattle.rtui_buffer.specs.Frame.{IsSettledSheet, IsShownByRepaint, IsAligned, IsSheetDiff, listed};
+ghost use Rattle.rtui_buffer.specs.BufferData.{area_size, cell_index, place_position, position_of, cell_in, with_cell, with_cells, resized, moved_to, buffer_row, HasRow, IsEmptied, HasRoomFor, IsSameBuffer};
+ghost use Rattle.rtui_buffer.specs.Shown.{IsSettledBuffer, IsShownByRepaint, IsAligned, IsBufferDiff, listed};
 
 use rtui_cell::Cell;
 use rtui_diff::{BufferDiff, is_settled};
@@ -41,18 +41,18 @@ pub struct Buffer {
 
 impl Model for Buffer {
     ghost use Rattle.std.specs.Vec.{vec_capacity};
-    ghost use Rattle.rtui_buffer.specs.Sheet.{Sheet, IsSheet};
+    ghost use Rattle.rtui_buffer.specs.BufferData.{BufferData, IsBuffer};
 
-    ghost Value = { Sheet };
+    ghost Value = { BufferData };
 
     ghost view = { λ b. record
         { area = b.area; cells = b.content.items; room = vec_capacity b.content } };
 
-    ghost invariant = { λ b. IsSheet b.area b.content.items (vec_capacity b.content) };
+    ghost invariant = { λ b. IsBuffer b.area b.content.items (vec_capacity b.content) };
 }
 
 impl Buffer {
-    /// A buffer of empty cells; refused where memory is. One without cells takes none.
+    /// A buffer of empty cells; refused if memory is. One without cells takes none.
     pub fn empty(alloc: Global, area: Rect) -> Result<Buffer, AllocError>
         requires { EdgesFit area }
         ensures emptied { IfOk result (IsEmptied area) }
@@ -64,7 +64,7 @@ impl Buffer {
         Ok(Buffer { area, content })
     }
 
-    /// A buffer with this cell everywhere; refused where memory is.
+    /// A buffer with this cell everywhere; refused if memory is.
     pub fn filled(alloc: Global, area: Rect, cell: Cell) -> Result<Buffer, AllocError>
         requires { EdgesFit area }
         ensures area { IfOk result (λ b. b.area ≡ area) }
@@ -76,9 +76,9 @@ impl Buffer {
         Ok(Buffer { area, content })
     }
 
-    /// An equal buffer; refused where memory is.
+    /// An equal buffer; refused if memory is.
     pub fn clone(&self, alloc: Global) -> Result<Buffer, AllocError>
-        ensures same { IfOk result (IsSameSheet self.now) }
+        ensures same { IfOk result (IsSameBuffer self.now) }
         ensures room { IfOk result (HasRoomFor self.now.area) }
     {
         let area = self.area;
@@ -97,7 +97,7 @@ impl Buffer {
     /// The cells of a row of the area, from left to right.
     pub fn row(&self, y: u16) -> &[Cell]
         requires { HasRow self.now.area y }
-        ensures cells { result.now ≡ sheet_row self.now y }
+        ensures cells { result.now ≡ buffer_row self.now y }
         ensures count { length result.now ≡ self.now.area.width }
     {
         let width = usize::from(self.area.width);
@@ -225,7 +225,7 @@ impl Buffer {
     }
 
     /// Gives the buffer another area: its list of cells is cut, or goes on with empty ones. It takes no memory
-    /// within the room that `reserve` made; where memory is refused nothing changes.
+    /// within the room that `reserve` made; if memory is refused nothing changes.
     pub fn resize(&mut self, area: Rect) -> Result<(), AllocError>
         requires { EdgesFit area }
         ensures area { OnOk result (self.new.area ≡ area) }
@@ -240,11 +240,11 @@ impl Buffer {
         Ok(())
     }
 
-    /// Makes room for the cells of an area. It takes no memory within the room that is there; where memory is refused
+    /// Makes room for the cells of an area. It takes no memory within the room that is there; if memory is refused
     /// nothing changes.
     pub fn reserve(&mut self, area: Rect) -> Result<(), AllocError>
         requires { EdgesFit area }
-        ensures same { IsSameSheet self.old self.new }
+        ensures same { IsSameBuffer self.old self.new }
         ensures room { OnOk result (HasRoomFor area self.new) }
         ensures keeps_room { self.old.room ≤ self.new.room }
         ensures succeeds { HasRoomFor area self.old → IsOk result }
@@ -265,10 +265,10 @@ impl Buffer {
     }
 
     /// Whether a screen can show the buffer as it is: each skipped cell takes at most one column, each other
-    /// cell ends within its row, and behind an unskipped wide cell stand only empty or skipped ones. A full
+    /// cell ends within its row, and after an unskipped wide cell stand only empty or skipped ones. A full
     /// repaint of such a buffer shows it, whatever the screen had.
     pub fn is_settled(&self) -> bool
-        ensures settled { IsTrue result ↔ IsSettledSheet self.now }
+        ensures settled { IsTrue result ↔ IsSettledBuffer self.now }
         ensures repaints { IsTrue result → IsShownByRepaint self.now }
     {
         let area = *self.area();
@@ -279,7 +279,7 @@ impl Buffer {
     /// rows, in order, only what differs. Both buffers have the same corner and width.
     pub fn diff_iter<'prev, 'next>(&'prev self, next: &'next Buffer) -> BufferDiff<'prev, 'next>
         requires { IsAligned self.now next.now }
-        ensures { IsSheetDiff self.now next.now result }
+        ensures { IsBufferDiff self.now next.now result }
     {
         let area = *self.area();
         let height = area.height.min(next.area().height);
@@ -293,14 +293,14 @@ impl Buffer {
         )
     }
 
-    /// The updates of `diff_iter` in a list; refused where memory is.
+    /// The updates of `diff_iter` in a list; refused if memory is.
     pub fn diff<'next>(
         &self,
         alloc: Global,
         next: &'next Buffer,
     ) -> Result<Vec<(u16, u16, &'next Cell)>, AllocError>
         requires { IsAligned self.now next.now }
-        ensures { IfOk result (λ all. IsSheetDiff self.now next.now (listed all.items)) }
+        ensures { IfOk result (λ all. IsBufferDiff self.now next.now (listed all.items)) }
     {
         collected(alloc, self.diff_iter(next))
     }

@@ -13,8 +13,8 @@ ghost use Rattle.rtui_cell.specs.Cell.{is_skipped};
 ghost use Rattle.rtui_cell.specs.Grid.{Grid};
 ghost use Rattle.rtui_geometry.specs.declared.rect.Rect.{Rect};
 ghost use Rattle.rtui_geometry.specs.Rect.{HasPosition, EdgesFit};
-ghost use Rattle.rtui_buffer.specs.Sheet.{HasRow, Sheet, IsEmptied, IsEqualSheet, cell_in};
-ghost use Rattle.rtui_buffer.specs.Frame.{IsSettledSheet, ShowsSheet, IsAligned, HaveSettledRows};
+ghost use Rattle.rtui_buffer.specs.BufferData.{HasRow, BufferData, IsEmptied, IsEqualBuffer, cell_in};
+ghost use Rattle.rtui_buffer.specs.Shown.{IsSettledBuffer, ShowsBuffer, IsAligned, HaveSettledRows};
 ghost use Rattle.rtui_buffer.specs.Painting.{Piece, has_painted_width, kept, text_pieces, columns, IsLongestFront};
 ghost use Rattle.rtui_buffer.specs.PaintedText.{pieces_at, AreShort, HasShortGraphemes, HaveShortGraphemes, IsBeside, IsPaintable, IsSameBeside, IsStyled, PaintsPieces, PaintsByColumns};
 ghost use Rattle.rtui_buffer.specs.Line.{line_pieces, line_pieces_at};
@@ -27,31 +27,32 @@ use std::hash::Hash;
 
 /// Two buffers are equal exactly where their areas and their cells are.
 pub fn equality_is_by_cells()
-    ensures { (s t : Sheet) → IsTrue (⟦<Buffer as PartialEq>⟧.eq s t) ↔ IsEqualSheet s t }
+    ensures { (s t : BufferData) → IsTrue (⟦<Buffer as PartialEq>⟧.eq s t) ↔ IsEqualBuffer s t }
 {
     equality_is_by_looks();
 }
 
 /// A buffer feeds a hasher its area and its cells, and equal buffers feed it equally.
 pub fn hashing_names_area_and_cells()
-    ensures alike { (s t : Sheet) → IsTrue (⟦<Buffer as PartialEq>⟧.eq s t)
+    ensures alike { (s t : BufferData) → IsTrue (⟦<Buffer as PartialEq>⟧.eq s t)
         → ⟦<Buffer as Hash>⟧.hash_input s ≡ ⟦<Buffer as Hash>⟧.hash_input t }
-    ensures fields { (s : Sheet) → ⟦<Buffer as Hash>⟧.hash_input s
+    ensures fields { (s : BufferData) → ⟦<Buffer as Hash>⟧.hash_input s
         ≡ ⟦<Rect as Hash>⟧.hash_input s.area ++ fed.slice ⟦<Cell as Hash>⟧.hash_input s.cells }
 {}
 
 /// A screen can show an empty buffer, and each of its columns may be painted.
 pub fn empty_buffers_are_settled()
-    ensures settled { (r : Rect) (s : Sheet) → IsEmptied r s → IsSettledSheet s }
-    ensures paintable { (r : Rect) (s : Sheet) (p : Position) (n : ℕ) → IsEmptied r s
+    ensures settled { (r : Rect) (s : BufferData) → IsEmptied r s → IsSettledBuffer s }
+    ensures paintable { (r : Rect) (s : BufferData) (p : Position) (n : ℕ) → IsEmptied r s
         → IsPaintable p n s }
 {}
 
 /// A screen can show an empty buffer with a style laid over an area of it, and each of its columns may be painted.
 pub fn styled_empty_buffers_are_settled()
-    ensures settled { (r area : Rect) (style : Style) (old new : Sheet)
-        → EdgesFit r → IsEmptied r old → IsStyled area style old new → IsSettledSheet new }
-    ensures paintable { (r area : Rect) (style : Style) (old new : Sheet) (p : Position) (n : ℕ)
+    ensures settled { (r area : Rect) (style : Style) (old new : BufferData)
+        → EdgesFit r → IsEmptied r old → IsStyled area style old new → IsSettledBuffer new }
+    ensures paintable { (r area : Rect) (style : Style) (old new : BufferData) (p : Position)
+        (n : ℕ)
         → EdgesFit r → IsEmptied r old → IsStyled area style old new
         → HasRow old.area p.y → old.area.x ≤ p.x → p.x + n ≤ old.area.x + old.area.width
         → IsPaintable p n new }
@@ -59,13 +60,14 @@ pub fn styled_empty_buffers_are_settled()
 
 /// Where a screen shows a buffer, the column of each unskipped cell has the cell's look.
 pub fn shown_cells_have_their_looks()
-    ensures { (s : Sheet) (g : Grid) (p : Position) → ShowsSheet s g → HasPosition s.area p
+    ensures { (s : BufferData) (g : Grid) (p : Position) → ShowsBuffer s g → HasPosition s.area p
         → is_skipped (cell_in s p) ≡ false → g p.x p.y ≡ look_of (cell_in s p) }
 {}
 
 /// The common rows of two settled buffers are settled in both.
 pub fn common_rows_are_settled()
-    ensures { (prev next : Sheet) → IsAligned prev next → IsSettledSheet prev → IsSettledSheet next
+    ensures { (prev next : BufferData) → IsAligned prev next → IsSettledBuffer prev
+        → IsSettledBuffer next
         → HaveSettledRows prev next }
 {}
 
@@ -109,12 +111,12 @@ pub fn ascii_graphemes_are_short()
     ensures { (text : List ℕ) → IsAscii text → HasShortGraphemes text }
 {}
 
-/// What is painted within a row of the area, seen by columns; and what isn't painted where memory is refused.
+/// What is painted within a row of the area, seen by columns; and what isn't painted if memory is refused.
 pub fn painting_goes_by_columns()
-    ensures painted { (p : Position) (ps : List Piece) (old new : Sheet)
+    ensures painted { (p : Position) (ps : List Piece) (old new : BufferData)
         → HasRow old.area p.y → old.area.x ≤ p.x → columns ps ≤ old.area.x + old.area.width - p.x
         → PaintsPieces p ps old new → PaintsByColumns p ps old new }
-    ensures refused { (p q : Position) (ps : List Piece) (old new : Sheet)
+    ensures refused { (p q : Position) (ps : List Piece) (old new : BufferData)
         → HasRow old.area p.y → old.area.x ≤ p.x → columns ps ≤ old.area.x + old.area.width - p.x
         → IsSameBeside p ps old new → HasPosition old.area q → IsBeside p (columns ps) q
         → cell_in new q ≡ cell_in old q }

@@ -72,7 +72,7 @@ has_no_option (DiffOption.ForcedWidth forced) = false
 unfoldable pub is_single_byte : Cell → Bool
 is_single_byte c = has_no_option c.diff_option && (length (symbol_text c.symbol) == 1)
 
--- the option says so, or the flag where there is no option
+-- the option says so, or the flag if there is no option
 abbrev pub is_skipped_by : CellDiffOption → Bool → Bool
 is_skipped_by DiffOption.None flag = flag
 is_skipped_by DiffOption.Skip flag = true

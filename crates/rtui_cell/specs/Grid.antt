@@ -18,7 +18,7 @@ pub record Update : Type 0 where
 abbrev pub update_by : {C : Type 0} → (C → Cell) → ℕ × ℕ × C → Update
 update_by view item = record { x = item.0; y = item.1; cell = view item.2 }
 
--- a put on a grid of w columns and h rows: the cell's column gets its look, the columns of the row behind it that the cell covers the
+-- a put on a grid of w columns and h rows: the cell's column gets its look, the columns of the row after it that the cell covers the
 -- empty look, and off the grid nothing changes
 abbrev pub put : ℕ → ℕ → Update → Grid → Grid
 put w h u g a b =

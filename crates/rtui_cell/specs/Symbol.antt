@@ -12,7 +12,7 @@ abbrev pub symbol_text : Option (List ℕ) → List ℕ
 symbol_text None = blank
 symbol_text (Some text) = text
 
--- a text behind a stored symbol, or in place of an unset one
+-- a text after a stored symbol, or in place of an unset one
 abbrev pub appended : Option (List ℕ) → List ℕ → List ℕ
 appended None text = text
 appended (Some stored) text = stored ++ text

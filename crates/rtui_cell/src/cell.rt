@@ -38,7 +38,7 @@ pub enum CellDiffOption {
 pub struct Cell {
     /// The colour of the text.
     pub fg: Color,
-    /// The colour behind the text.
+    /// The colour after the text.
     pub bg: Color,
     /// The colour of the underline.
     pub underline_color: Color,
@@ -71,7 +71,7 @@ impl Cell {
         symbol: Symbol::UNSET,
     };
 
-    /// An otherwise empty cell with this text; refused where memory is.
+    /// An otherwise empty cell with this text; refused if memory is.
     pub fn new(alloc: Global, symbol: &str) -> Result<Cell, AllocError>
         ensures value { IfOk result (λ cell. cell ≡ cell_of symbol.now) }
         ensures short { IsShort symbol.now → IsOk result }
@@ -91,14 +91,14 @@ impl Cell {
         Cell::new(alloc, ch.encode_utf8(&mut bytes))
     }
 
-    /// The text, one blank where none is set.
+    /// The text, one blank if none is set.
     pub fn symbol(&self) -> &str
         ensures { result.now ≡ symbol_text self.now.symbol }
     {
         self.symbol.as_str()
     }
 
-    /// Sets the text; where memory is refused the cell is as it was.
+    /// Sets the text; if memory is refused the cell is as it was.
     pub fn set_symbol(&mut self, alloc: Global, symbol: &str) -> Result<(), AllocError>
         ensures ok { OnOk result (self.new ≡ with_symbol symbol.now self.old) }
         ensures err { OnErr result (self.new ≡ self.old) }
@@ -107,7 +107,7 @@ impl Cell {
         self.symbol.set(alloc, symbol)
     }
 
-    /// Puts a text behind the stored one, or in place of an unset one; where memory is refused the cell is as
+    /// Puts a text after the stored one, or in place of an unset one; if memory is refused the cell is as
     /// it was.
     pub fn append_symbol(&mut self, alloc: Global, symbol: &str) -> Result<(), AllocError>
         ensures ok { let text = appended self.old.symbol symbol.now in
@@ -118,7 +118,7 @@ impl Cell {
         self.symbol.append(alloc, symbol)
     }
 
-    /// Draws a text over the stored one by a strategy, or sets an unset one to it; where memory is refused the
+    /// Draws a text over the stored one by a strategy, or sets an unset one to it; if memory is refused the
     /// cell is as it was.
     pub fn merge_symbol(
         &mut self,
@@ -152,7 +152,7 @@ impl Cell {
         self
     }
 
-    /// Sets the colour behind the text.
+    /// Sets the colour after the text.
     pub fn set_bg(&mut self, color: Color) -> &mut Self
         ensures same { result.ghost_name ≡ self.entry.ghost_name }
         ensures value { result.now ≡ record self.old { bg = color } }
@@ -223,7 +223,7 @@ impl Cell {
         }
     }
 
-    /// Whether the text is a single byte, as a blank where none is set, and the cell has no option. It takes one
+    /// Whether the text is a single byte, as a blank if none is set, and the cell has no option. It takes one
     /// column then.
     #[tactic(auto, using(crate::proofs::CellLemmas::single_byte_width), unfolding(crate::specs::Cell::is_single_byte))]
     pub fn is_single_byte(&self) -> bool
@@ -246,7 +246,7 @@ impl Cell {
         self.skip = false;
     }
 
-    /// Makes the cell equal to another one; where memory is refused it is as it was.
+    /// Makes the cell equal to another one; if memory is refused it is as it was.
     #[inline(always)]
     pub fn clone_from(&mut self, alloc: Global, other: &Cell) -> Result<(), AllocError>
         ensures ok { OnOk result (self.new ≡ other.now) }
@@ -263,7 +263,7 @@ impl Cell {
         Ok(())
     }
 
-    /// An equal cell; refused where memory is.
+    /// An equal cell; refused if memory is.
     pub fn clone(&self, alloc: Global) -> Result<Cell, AllocError>
         ensures value { IfOk result (λ cell. cell ≡ self.now) }
         ensures short { IsShort (symbol_text self.now.symbol) → IsOk result }

@@ -27,7 +27,7 @@ enum Text {
 }
 
 /// The text of a cell, or none yet. An unset symbol reads as one blank and equals one. A text of at most 22
-/// bytes takes no memory. Its `Debug` shows the text, one blank where there is none.
+/// bytes takes no memory. Its `Debug` shows the text, one blank if there is none.
 #[derive(Drop)]
 pub struct Symbol {
     text: Text,
@@ -48,7 +48,7 @@ impl Symbol {
     /// No text yet.
     pub const UNSET: Symbol = Symbol { text: Text::Unset };
 
-    /// A symbol with this text; refused where memory is.
+    /// A symbol with this text; refused if memory is.
     pub fn new(alloc: Global, text: &str) -> Result<Symbol, AllocError>
         ensures value { IfOk result (λ s. s ≡ Some text.now) }
         ensures short { IsShort text.now → IsOk result }
@@ -60,7 +60,7 @@ impl Symbol {
         Ok(Symbol { text })
     }
 
-    /// The text, one blank where there is none.
+    /// The text, one blank if there is none.
     pub fn as_str(&self) -> &str
         ensures { result.now ≡ symbol_text self.now }
     {
@@ -71,7 +71,7 @@ impl Symbol {
         }
     }
 
-    /// Sets the text; where memory is refused nothing changes.
+    /// Sets the text; if memory is refused nothing changes.
     pub fn set(&mut self, alloc: Global, text: &str) -> Result<(), AllocError>
         ensures ok { OnOk result (self.new ≡ Some text.now) }
         ensures err { OnErr result (self.new ≡ self.old) }
@@ -114,7 +114,7 @@ impl Symbol {
         }
     }
 
-    /// Puts a text behind the stored one, or in place of an unset symbol; where memory is refused nothing
+    /// Puts a text after the stored one, or in place of an unset symbol; if memory is refused nothing
     /// changes.
     pub fn append(&mut self, alloc: Global, text: &str) -> Result<(), AllocError>
         ensures ok { OnOk result (self.new ≡ Some (appended self.old text.now)) }
@@ -133,7 +133,7 @@ impl Symbol {
         Ok(())
     }
 
-    /// Draws a text over the stored one by a strategy, or takes the place of an unset symbol; where memory is
+    /// Draws a text over the stored one by a strategy, or takes the place of an unset symbol; if memory is
     /// refused nothing changes.
     pub fn merge(
         &mut self,
@@ -165,7 +165,7 @@ impl Symbol {
         }
     }
 
-    /// Makes the symbol equal to another one; where memory is refused it is as it was.
+    /// Makes the symbol equal to another one; if memory is refused it is as it was.
     #[inline(always)]
     pub fn clone_from(&mut self, alloc: Global, other: &Symbol) -> Result<(), AllocError>
         ensures ok { OnOk result (self.new ≡ other.now) }
@@ -184,7 +184,7 @@ impl Symbol {
         Ok(())
     }
 
-    /// An equal symbol; refused where memory is.
+    /// An equal symbol; refused if memory is.
     pub fn clone(&self, alloc: Global) -> Result<Symbol, AllocError>
         ensures value { IfOk result (λ s. s ≡ self.now) }
         ensures short { IsShort (symbol_text self.now) → IsOk result }
@@ -207,7 +207,7 @@ fn copied(alloc: Global, text: &str) -> Result<String, AllocError>
     String::from_str(alloc, text)
 }
 
-// Two texts, one behind the other.
+// Two texts, one after the other.
 #[inline(never)]
 fn concat(alloc: Global, front: &str, back: &str) -> Result<String, AllocError>
     ensures { IfOk result (λ text. string_bytes text ≡ front.now ++ back.now) }

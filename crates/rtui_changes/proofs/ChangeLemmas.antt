@@ -7,7 +7,7 @@ use Rattle.rtui_geometry.specs.declared.position.Position.{Position}
 use Rattle.rtui_geometry.specs.Rect.{HasPosition, right_edge, bottom_edge, IsInside, intersected}
 use Rattle.rtui_cell.specs.declared.cell.Cell.{Cell}
 use Rattle.rtui_cell.specs.Cell.{empty_cell}
-use Rattle.rtui_buffer.specs.Sheet.{Sheet, cell_in, with_cell, cell_index, area_size, position_of}
+use Rattle.rtui_buffer.specs.BufferData.{BufferData, cell_in, with_cell, cell_index, area_size, position_of}
 use Rattle.rtui_widgets.specs.Rendering.{ChangesWithin}
 use Rattle.rtui_buffer.specs.Clipped.{IsClipped}
 use Rattle.rtui_changes.specs.Changes.{ChangesEach, row_part, columns_to, rows_to, place_at, IsRowOfArea, AreLight}
@@ -29,7 +29,7 @@ places-apart w a b c d la lc other e =
     (cases_lt d b))
     (cases_lt b d)
 
-module _ (s : Sheet) (p : Position) (c : Cell) (has : HasPosition s.area p) where
+module _ (s : BufferData) (p : Position) (c : Cell) (has : HasPosition s.area p) where
   pub put-here : length s.cells ≡ area_size s.area → cell_in (with_cell s p c) p ≡ c
   put-here count =
       let l = has.left in let r = has.right in let t = has.top in let b = has.bottom in
@@ -44,7 +44,7 @@ module _ (s : Sheet) (p : Position) (c : Cell) (has : HasPosition s.area p) wher
       (places-apart s.area.width (q.x - s.area.x) (q.y - s.area.y) (p.x - s.area.x) (p.y - s.area.y) (omega arith) (omega arith)
       (λ ex ey. other (omega arith) (omega arith)))
 
-pub Changes-put : (s new : Sheet) (p : Position) (f : Position → Cell → Cell) → length s.cells ≡ area_size s.area → HasPosition s.area p
+pub Changes-put : (s new : BufferData) (p : Position) (f : Position → Cell → Cell) → length s.cells ≡ area_size s.area → HasPosition s.area p
     → new ≡ with_cell s p (f p (cell_in s p)) → ChangesEach (place_at p) f s new
 Changes-put s new p f count has is = rw is (record {
   area = refl;
@@ -58,7 +58,7 @@ Changes-put s new p f count has is = rw is (record {
 })
 
 -- one change after another, apart from it
-pub Changes-join : (r1 r2 r : Rect) (f : Position → Cell → Cell) (old mid new : Sheet) → ChangesEach r1 f old mid → ChangesEach r2 f mid new
+pub Changes-join : (r1 r2 r : Rect) (f : Position → Cell → Cell) (old mid new : BufferData) → ChangesEach r1 f old mid → ChangesEach r2 f mid new
     → ((p : Position) → HasPosition old.area p → HasPosition r p → HasPosition r1 p ⊎ HasPosition r2 p)
     → ((p : Position) → HasPosition r1 p → HasPosition r p) → ((p : Position) → HasPosition r2 p → HasPosition r p)
     → ((p : Position) → HasPosition r1 p → HasPosition r2 p → ⊥)
@@ -75,7 +75,7 @@ Changes-join r1 r2 r f old mid new first second split in1 in2 apart = record {
 }
 
 -- the same positions
-pub Changes-same : (r1 r2 : Rect) (f : Position → Cell → Cell) (old new : Sheet) → IsInside r1 r2 → IsInside r2 r1 → ChangesEach r1 f old new → ChangesEach r2 f old new
+pub Changes-same : (r1 r2 : Rect) (f : Position → Cell → Cell) (old new : BufferData) → IsInside r1 r2 → IsInside r2 r1 → ChangesEach r1 f old new → ChangesEach r2 f old new
 Changes-same r1 r2 f old new there back is = record {
   area = is.area;
   room = is.room;
@@ -83,10 +83,10 @@ Changes-same r1 r2 f old new there back is = record {
   outside = λ p in_own off. is.outside p in_own (λ h. off (there p h));
 }
 
-pub Changes-none : (r : Rect) (f : Position → Cell → Cell) (s : Sheet) → ((p : Position) → HasPosition r p → ⊥) → ChangesEach r f s s
+pub Changes-none : (r : Rect) (f : Position → Cell → Cell) (s : BufferData) → ((p : Position) → HasPosition r p → ⊥) → ChangesEach r f s s
 Changes-none r f s none = record { area = refl; room = refl; inside = λ p in_own here. absurd (none p here); outside = λ p in_own off. refl }
 
-pub Changes-within : (r area : Rect) (f : Position → Cell → Cell) (old new : Sheet) → IsInside r area → ChangesEach r f old new → ChangesWithin area old new
+pub Changes-within : (r area : Rect) (f : Position → Cell → Cell) (old new : BufferData) → IsInside r area → ChangesEach r f old new → ChangesWithin area old new
 Changes-within r area f old new inside is = record {
   same_area = is.area;
   same_room = is.room;
@@ -94,7 +94,7 @@ Changes-within r area f old new inside is = record {
 }
 
 -- the next column of a row
-pub Changes-column : (part : Rect) (x y : ℕ) (f : Position → Cell → Cell) (old mid new : Sheet) → IsInside part old.area → part.x ≤ x → x < right_edge part → IsRowOfArea part y
+pub Changes-column : (part : Rect) (x y : ℕ) (f : Position → Cell → Cell) (old mid new : BufferData) → IsInside part old.area → part.x ≤ x → x < right_edge part → IsRowOfArea part y
     → ChangesEach (columns_to part y x) f old mid → ChangesEach (place_at (position_of (x, y))) f mid new → ChangesEach (columns_to part y (x + 1)) f old new
 Changes-column part x y f old mid new inside from to row first second =
     let top = row.top in let bottom = row.bottom in
@@ -109,7 +109,7 @@ Changes-column part x y f old mid new inside from to row first second =
     (λ p one two. let r = one.right in let l = two.left in omega arith)
 
 -- the next row
-pub Changes-row : (part : Rect) (y : ℕ) (f : Position → Cell → Cell) (old mid new : Sheet) → part.y ≤ y → y < bottom_edge part
+pub Changes-row : (part : Rect) (y : ℕ) (f : Position → Cell → Cell) (old mid new : BufferData) → part.y ≤ y → y < bottom_edge part
     → ChangesEach (rows_to part y) f old mid → ChangesEach (row_part part y) f mid new → ChangesEach (rows_to part (y + 1)) f old new
 Changes-row part y f old mid new from to first second =
     Changes-join (rows_to part y) (row_part part y) (rows_to part (y + 1)) f old mid new first second
@@ -123,7 +123,7 @@ Changes-row part y f old mid new from to first second =
     (λ p one two. let b = one.bottom in let t = two.top in omega arith)
 
 -- all columns of a row, and all rows
-pub Changes-columns : (part : Rect) (x y : ℕ) (f : Position → Cell → Cell) (old new : Sheet) → part.x ≤ 65535 → IsRowOfArea part y → right_edge part ≤ x → (part.x ≤ right_edge part → x ≤ right_edge part)
+pub Changes-columns : (part : Rect) (x y : ℕ) (f : Position → Cell → Cell) (old new : BufferData) → part.x ≤ 65535 → IsRowOfArea part y → right_edge part ≤ x → (part.x ≤ right_edge part → x ≤ right_edge part)
     → ChangesEach (columns_to part y x) f old new → ChangesEach (row_part part y) f old new
 Changes-columns part x y f old new small row past end is =
     let at : x ≡ right_edge part = omega arith in
@@ -132,7 +132,7 @@ Changes-columns part x y f old new small row past end is =
     (λ p here. let l = here.left in let r = here.right in let t = here.top in let b = here.bottom in record { left = omega arith; right = omega arith; top = omega arith; bottom = omega arith })
     is
 
-pub Changes-rows : (part : Rect) (y : ℕ) (f : Position → Cell → Cell) (old new : Sheet) → part.y ≤ 65535 → bottom_edge part ≤ y → (part.y ≤ bottom_edge part → y ≤ bottom_edge part)
+pub Changes-rows : (part : Rect) (y : ℕ) (f : Position → Cell → Cell) (old new : BufferData) → part.y ≤ 65535 → bottom_edge part ≤ y → (part.y ≤ bottom_edge part → y ≤ bottom_edge part)
     → ChangesEach (rows_to part y) f old new → ChangesEach part f old new
 Changes-rows part y f old new small past end is =
     let at : y ≡ bottom_edge part = omega arith in
@@ -159,25 +159,25 @@ no-columns part y x e p here = let l = here.left in let r = here.right in omega 
 no-rows : (part : Rect) (y : ℕ) → y ≡ part.y → (p : Position) → HasPosition (rows_to part y) p → ⊥
 no-rows part y e p here = let t = here.top in let b = here.bottom in omega arith
 
-pub Changes-no_columns : (part : Rect) (y x : ℕ) (f : Position → Cell → Cell) (s : Sheet) → x ≡ part.x → ChangesEach (columns_to part y x) f s s
+pub Changes-no_columns : (part : Rect) (y x : ℕ) (f : Position → Cell → Cell) (s : BufferData) → x ≡ part.x → ChangesEach (columns_to part y x) f s s
 Changes-no_columns part y x f s e = Changes-none (columns_to part y x) f s (no-columns part y x e)
 
-pub Changes-no_rows : (part : Rect) (y : ℕ) (f : Position → Cell → Cell) (s : Sheet) → y ≡ part.y → ChangesEach (rows_to part y) f s s
+pub Changes-no_rows : (part : Rect) (y : ℕ) (f : Position → Cell → Cell) (s : BufferData) → y ≡ part.y → ChangesEach (rows_to part y) f s s
 Changes-no_rows part y f s e = Changes-none (rows_to part y) f s (no-rows part y e)
 
 -- a part still has what an earlier change left outside
-pub light-still : (is_light : Position → Cell → Type 0) (area r : Rect) (f : Position → Cell → Cell) (old mid : Sheet) (p : Position) → AreLight is_light area old → IsInside area old.area → HasPosition area p
+pub light-still : (is_light : Position → Cell → Type 0) (area r : Rect) (f : Position → Cell → Cell) (old mid : BufferData) (p : Position) → AreLight is_light area old → IsInside area old.area → HasPosition area p
     → ¬ (HasPosition r p) → ChangesEach r f old mid → is_light p (cell_in mid p)
 light-still is_light area r f old mid p light inside here off is = rw (is.outside p (inside p here) off) (light p (inside p here) here)
 
-pub within-same : (area : Rect) (s : Sheet) → ChangesWithin area s s
+pub within-same : (area : Rect) (s : BufferData) → ChangesWithin area s s
 within-same area s = record { same_area = refl; same_room = refl; outside = λ p in_own off. refl }
 
 pub on-ok : {A E P Q : Type 0} (r : Result A E) → (P → Q) → OnOk r P → OnOk r Q
 on-ok (Ok x) f p = f p
 on-ok (Err e) f p = tt
 
-pub put-changes : {A E : Type 0} (r : Result A E) (s : Sheet) (p : Position) (c lent : Cell) (f : Position → Cell → Cell) (cells : List Cell) → cells ≡ s.cells → length cells ≡ area_size s.area
+pub put-changes : {A E : Type 0} (r : Result A E) (s : BufferData) (p : Position) (c lent : Cell) (f : Position → Cell → Cell) (cells : List Cell) → cells ≡ s.cells → length cells ≡ area_size s.area
     → HasPosition s.area p → lent ≡ cell_in s p → OnOk r (c ≡ f p lent) → OnOk r (ChangesEach (place_at p) f s (with_cell s p c))
 put-changes (Ok x) s p c lent f cells same count has here made =
     Changes-put s (with_cell s p c) p f (subst (λ cs. length cs ≡ area_size s.area) same count) has (ap (with_cell s p) (made ∙ ap (f p) here))
@@ -192,10 +192,10 @@ row-place_of_row part x y row from to = let t = row.top in let b = row.bottom in
 pub columns-off : (part : Rect) (x y : ℕ) → HasPosition (columns_to part y x) (position_of (x, y)) → ⊥
 columns-off part x y h = let l = h.left in let r = h.right in omega arith
 
-pub inside-still : (part : Rect) (old mid : Sheet) → IsInside part old.area → mid.area ≡ old.area → IsInside part mid.area
+pub inside-still : (part : Rect) (old mid : BufferData) → IsInside part old.area → mid.area ≡ old.area → IsInside part mid.area
 inside-still part old mid inside same = λ p h. rw same (inside p h)
 
-pub light-rows : (is_light : Position → Cell → Type 0) (part : Rect) (y : ℕ) (f : Position → Cell → Cell) (old mid : Sheet) → AreLight is_light part old → IsRowOfArea part y → IsInside part old.area → ChangesEach (rows_to part y) f old mid → AreLight is_light (row_part part y) mid
+pub light-rows : (is_light : Position → Cell → Type 0) (part : Rect) (y : ℕ) (f : Position → Cell → Cell) (old mid : BufferData) → AreLight is_light part old → IsRowOfArea part y → IsInside part old.area → ChangesEach (rows_to part y) f old mid → AreLight is_light (row_part part y) mid
 light-rows is_light part y f old mid light row inside is = λ p in_own here.
     light-still is_light part (rows_to part y) f old mid p light inside (row-inside part y row p here)
     (λ h. let b = h.bottom in let t = here.top in omega arith) is
@@ -222,7 +222,7 @@ clipped-none area own p none here in_own =
     ⊎_elim (λ (e : (intersected area own).width ≡ 0). omega arith) (λ (e : (intersected area own).height ≡ 0). omega arith) none
 
 -- a change of the part that the buffer has is one of the area
-pub Changes-clipped : (area part : Rect) (f : Position → Cell → Cell) (old new : Sheet) → IsClipped area old.area part → ChangesEach part f old new → ChangesEach area f old new
+pub Changes-clipped : (area part : Rect) (f : Position → Cell → Cell) (old new : BufferData) → IsClipped area old.area part → ChangesEach part f old new → ChangesEach area f old new
 Changes-clipped area part f old new clip is = record {
   area = is.area;
   room = is.room;
@@ -230,7 +230,7 @@ Changes-clipped area part f old new clip is = record {
   outside = λ p in_own off. is.outside p in_own (λ h. off (clip.of_area p h));
 }
 
-pub Changes-nowhere : (area : Rect) (f : Position → Cell → Cell) (s : Sheet) → ((intersected area s.area).width ≡ 0) ⊎ ((intersected area s.area).height ≡ 0) → ChangesEach area f s s
+pub Changes-nowhere : (area : Rect) (f : Position → Cell → Cell) (s : BufferData) → ((intersected area s.area).width ≡ 0) ⊎ ((intersected area s.area).height ≡ 0) → ChangesEach area f s s
 Changes-nowhere area f s none = record {
   area = refl;
   room = refl;
@@ -239,18 +239,18 @@ Changes-nowhere area f s none = record {
 }
 
 -- within a smaller area
-pub within-wider : (part area : Rect) (old new : Sheet) → IsInside part area → ChangesWithin part old new → ChangesWithin area old new
+pub within-wider : (part area : Rect) (old new : BufferData) → IsInside part area → ChangesWithin part old new → ChangesWithin area old new
 within-wider part area old new inside is = record { same_area = is.same_area; same_room = is.same_room; outside = λ p in_own off. is.outside p in_own (λ h. off (inside p h)) }
 
-pub light-clipped : (is_light : Position → Cell → Type 0) (area part : Rect) (s : Sheet) → IsClipped area s.area part → AreLight is_light area s → AreLight is_light part s
+pub light-clipped : (is_light : Position → Cell → Type 0) (area part : Rect) (s : BufferData) → IsClipped area s.area part → AreLight is_light area s → AreLight is_light part s
 light-clipped is_light area part s clip light = λ p in_own here. light p in_own (clip.of_area p here)
 
 -- what the change of a part leaves is what that of its area does
-pub clipped-ok : {A E : Type 0} (r : Result A E) (area part : Rect) (f : Position → Cell → Cell) (old new : Sheet) → IsClipped area old.area part → OnOk r (ChangesEach part f old new) → OnOk r (ChangesEach area f old new)
+pub clipped-ok : {A E : Type 0} (r : Result A E) (area part : Rect) (f : Position → Cell → Cell) (old new : BufferData) → IsClipped area old.area part → OnOk r (ChangesEach part f old new) → OnOk r (ChangesEach area f old new)
 clipped-ok (Ok x) area part f old new clip is = Changes-clipped area part f old new clip is
 clipped-ok (Err e) area part f old new clip is = tt
 
-pub clipped-err : {A E : Type 0} (r : Result A E) (area part : Rect) (old new : Sheet) → IsClipped area old.area part → OnErr r (ChangesWithin part old new) → OnErr r (ChangesWithin area old new)
+pub clipped-err : {A E : Type 0} (r : Result A E) (area part : Rect) (old new : BufferData) → IsClipped area old.area part → OnErr r (ChangesWithin part old new) → OnErr r (ChangesWithin area old new)
 clipped-err (Ok x) area part old new clip is = tt
 clipped-err (Err e) area part old new clip is = within-wider part area old new clip.of_area is
 

@@ -4,15 +4,15 @@ use Rattle.std.proofs.lemmas.Bool.{cases_lt}
 use Rattle.rtui_geometry.specs.declared.rect.Rect.{Rect}
 use Rattle.rtui_geometry.specs.declared.position.Position.{Position}
 use Rattle.rtui_geometry.specs.Rect.{HasPosition}
-use Rattle.rtui_buffer.specs.Sheet.{Sheet, cell_in}
+use Rattle.rtui_buffer.specs.BufferData.{BufferData, cell_in}
 use Rattle.rtui_widgets.specs.Rendering.{ChangesWithin}
 use Rattle.rtui_changes.specs.Parts.{MakesPart, MakesParts}
 
-pub Parts-none : (part : ℕ → Rect) (f : ℕ → Sheet → Sheet → Type 0) (s : Sheet) → MakesParts 0 part f s s
+pub Parts-none : (part : ℕ → Rect) (f : ℕ → BufferData → BufferData → Type 0) (s : BufferData) → MakesParts 0 part f s s
 Parts-none part f s = record { area = refl; room = refl; each = λ k lt. absurd (omega arith); rest = λ p in_own off. refl }
 
 -- one part more, apart from those before
-module _ (n : ℕ) (part : ℕ → Rect) (f : ℕ → Sheet → Sheet → Type 0) (old mid new : Sheet) (so_far : MakesParts n part f old mid)
+module _ (n : ℕ) (part : ℕ → Rect) (f : ℕ → BufferData → BufferData → Type 0) (old mid new : BufferData) (so_far : MakesParts n part f old mid)
     (apart : (k : ℕ) → k < n → (p : Position) → HasPosition (part k) p → HasPosition (part n) p → ⊥) (made : f n mid new) (within : ChangesWithin (part n) mid new) where
   earlier : (k : ℕ) → k < n → MakesPart (part k) (f k) old new
   earlier k lt =
@@ -46,7 +46,7 @@ module _ (n : ℕ) (part : ℕ → Rect) (f : ℕ → Sheet → Sheet → Type 0
   }
 
 -- parts of an area change nothing outside it
-pub Parts-within : (n : ℕ) (part : ℕ → Rect) (f : ℕ → Sheet → Sheet → Type 0) (area : Rect) (old new : Sheet) → MakesParts n part f old new
+pub Parts-within : (n : ℕ) (part : ℕ → Rect) (f : ℕ → BufferData → BufferData → Type 0) (area : Rect) (old new : BufferData) → MakesParts n part f old new
     → ((k : ℕ) → k < n → (p : Position) → HasPosition (part k) p → HasPosition area p) → ChangesWithin area old new
 Parts-within n part f area old new is inside = record {
   same_area = is.area;

@@ -7,10 +7,10 @@ use Rattle.rtui_buffer.proofs.TextLemmas.{IsSettled-row}
 use Rattle.rtui_changes.specs.Changes.{ChangesEach}
 use Rattle.rtui_changes.proofs.ChangeLemmas.{has-or-not}
 use Rattle.rtui_buffer.proofs.EmptyLemmas.{cell-empty}
-use Rattle.rtui_buffer.specs.Frame.{IsSettledSheet}
+use Rattle.rtui_buffer.specs.Shown.{IsSettledBuffer}
 use Rattle.rtui_buffer.specs.PaintedText.{IsStyled, IsPaintable, IsBeside, right_by, PaintsPieces, PaintsByColumns, PaintsOrRefuses}
 use Rattle.rtui_buffer.specs.Painting.{Piece, piece_at, piece_width, columns, shown}
-use Rattle.rtui_buffer.specs.Sheet.{Sheet, cell_in, cell_index, area_size, empty_cells, IsEmptied, HasRow, position_of}
+use Rattle.rtui_buffer.specs.BufferData.{BufferData, cell_in, cell_index, area_size, empty_cells, IsEmptied, HasRow, position_of}
 use Rattle.rtui_cell.proofs.CellLemmas.{width-empty}
 use Rattle.rtui_cell.specs.Cell.{empty_cell, styled, width_of, is_skipped, IsUnmarked, with_symbol}
 use Rattle.rtui_cell.specs.Symbol.{joined, symbol_text}
@@ -39,24 +39,24 @@ unfolding width_of
 plain-styled s c is = record { narrow = is.narrow; unmarked = record { option = is.unmarked.option; flag = is.unmarked.flag } }
 
 -- a buffer of plain cells is settled
-module _ (s : Sheet) (edges : EdgesFit s.area) (plain : IsPlainFrom 0 s) where
+module _ (s : BufferData) (edges : EdgesFit s.area) (plain : IsPlainFrom 0 s) where
   plain-at : (a b : ℕ) → a < s.area.width → b < s.area.height → IsPlain (cell_at s.area.width s.cells a b)
   plain-at a b a_in b_in =
       let right = edges.right in let bottom = edges.bottom in
       subst (λ i. IsPlain (cell s.cells i)) (index-at s.area.x s.area.y s.area.width a b)
       (plain (position_of (s.area.x + a, s.area.y + b)) (record { left = omega arith; right = omega arith; top = omega arith; bottom = omega arith }) (omega arith))
 
-  pub settled-plain : IsSettledSheet s
+  pub settled-plain : IsSettledBuffer s
   settled-plain = record {
     skipped = λ a b a_in b_in skip. (plain-at a b a_in b_in).narrow;
     within = λ a b a_in b_in off. let one = (plain-at a b a_in b_in).narrow in omega arith;
     behind = λ a b k a_in b_in off more less. let one = (plain-at a b a_in b_in).narrow in absurd (omega arith);
   }
 
-empty-there : (r : Rect) (s : Sheet) → IsEmptied r s → (p : Position) → cell_in s p ≡ empty_cell
+empty-there : (r : Rect) (s : BufferData) → IsEmptied r s → (p : Position) → cell_in s p ≡ empty_cell
 empty-there r s emptied p = rw emptied.cells (cell-empty (area_size r) (cell_index s.area p))
 
-pub plain-emptied : (r : Rect) (s : Sheet) → IsEmptied r s → IsPlainFrom 0 s
+pub plain-emptied : (r : Rect) (s : BufferData) → IsEmptied r s → IsPlainFrom 0 s
 plain-emptied r s emptied = λ p has le. subst IsPlain (sym (empty-there r s emptied p)) plain-empty
 
 -- where a column of the pieces lies
@@ -87,7 +87,7 @@ unfolding width_of
 width-shown p c plain = rw plain.option refl
 
 -- pieces painted in columns that may be painted: those after them may be painted still, and other rows are as before
-module _ (p : Position) (n : ℕ) (ps : List Piece) (old new : Sheet) (edges : EdgesFit old.area) (row : HasRow old.area p.y) (starts : old.area.x ≤ p.x) (fits : p.x + n ≤ old.area.x + old.area.width)
+module _ (p : Position) (n : ℕ) (ps : List Piece) (old new : BufferData) (edges : EdgesFit old.area) (row : HasRow old.area p.y) (starts : old.area.x ≤ p.x) (fits : p.x + n ≤ old.area.x + old.area.width)
     (le : columns ps ≤ n) (able : IsPaintable p n old) (same : new.area ≡ old.area) (by : PaintsByColumns p ps old new) where
   has : (a : ℕ) → old.area.x ≤ a → a < old.area.x + old.area.width → HasPosition old.area (position_of (a, p.y))
   has a from to = let r = edges.right in let b = edges.bottom in let t = row.top in let d = row.bottom in record { left = from; right = omega arith; top = t; bottom = omega arith }
@@ -131,7 +131,7 @@ module _ (p : Position) (n : ℕ) (ps : List Piece) (old new : Sheet) (edges : E
       subst IsPlain (sym (by.outside q in_own (λ e. absurd (omega arith)))) (plain q in_own below)
 
 -- a plain row may be painted anywhere
-pub paintable-plain : (p : Position) (n : ℕ) (s : Sheet) → EdgesFit s.area → HasRow s.area p.y → s.area.x ≤ p.x → p.x + n ≤ s.area.x + s.area.width → IsPlainFrom p.y s → IsPaintable p n s
+pub paintable-plain : (p : Position) (n : ℕ) (s : BufferData) → EdgesFit s.area → HasRow s.area p.y → s.area.x ≤ p.x → p.x + n ≤ s.area.x + s.area.width → IsPlainFrom p.y s → IsPaintable p n s
 paintable-plain p n s edges row starts fits plain =
     let r = edges.right in let b = edges.bottom in let t = row.top in let d = row.bottom in
     record {
@@ -139,13 +139,13 @@ paintable-plain p n s edges row starts fits plain =
       uncovered = λ a from to off. let one = (plain (position_of (a, p.y)) (record { left = from; right = omega arith; top = t; bottom = omega arith }) (omega arith)).narrow in omega arith;
     }
 
-pub paintable-fewer : (p : Position) (m n : ℕ) (s : Sheet) → m ≤ n → IsPaintable p n s → IsPaintable p m s
+pub paintable-fewer : (p : Position) (m n : ℕ) (s : BufferData) → m ≤ n → IsPaintable p n s → IsPaintable p m s
 paintable-fewer p m n s le able = record { unmarked = λ a from to. able.unmarked a from (omega arith); uncovered = able.uncovered }
 
-pub plain-later : (y z : ℕ) (s : Sheet) → y ≤ z → IsPlainFrom y s → IsPlainFrom z s
+pub plain-later : (y z : ℕ) (s : BufferData) → y ≤ z → IsPlainFrom y s → IsPlainFrom z s
 plain-later y z s le plain = λ p has from. plain p has (omega arith)
 
-module _ (x y : ℕ) (s : Sheet) (ready : IsReadyAt x y s) (row : HasRow s.area y) (starts : s.area.x ≤ x) where
+module _ (x y : ℕ) (s : BufferData) (ready : IsReadyAt x y s) (row : HasRow s.area y) (starts : s.area.x ≤ x) where
   there : (a : ℕ) → s.area.x ≤ a → a < s.area.x + s.area.width → HasPosition s.area (position_of (a, y))
   there a from to = let e = ready.edges in let r = e.right in let b = e.bottom in let t = row.top in let d = row.bottom in record { left = from; right = omega arith; top = t; bottom = omega arith }
 
@@ -167,7 +167,7 @@ module _ (x y : ℕ) (s : Sheet) (ready : IsReadyAt x y s) (row : HasRow s.area 
         (cases_lt a x);
   }
 
-  pub ready-next : (m : ℕ) (ps : List Piece) (new : Sheet) → x + m ≤ s.area.x + s.area.width → columns ps ≤ m → new.area ≡ s.area → PaintsByColumns (position_of (x, y)) ps s new → IsSettledSheet new
+  pub ready-next : (m : ℕ) (ps : List Piece) (new : BufferData) → x + m ≤ s.area.x + s.area.width → columns ps ≤ m → new.area ≡ s.area → PaintsByColumns (position_of (x, y)) ps s new → IsSettledBuffer new
       → IsReadyAt (x + m) y new
   ready-next m ps new fits le same by settled =
       let behind = paintable-next (position_of (x, y)) (columns ps) ps s new ready.edges row starts (omega arith) (omega arith) (ready-paintable (columns ps) (omega arith)) same by in
@@ -187,7 +187,7 @@ module _ (x y : ℕ) (s : Sheet) (ready : IsReadyAt x y s) (row : HasRow s.area 
             (cases_lt a (x + columns ps));
       }
 
-pub put-ready : {A : Type 0} (r : Result A AllocError) (x y m : ℕ) (ps : List Piece) (old new : Sheet) → IsReadyAt x y old → HasRow old.area y → old.area.x ≤ x → x + m ≤ old.area.x + old.area.width → columns ps ≤ m
+pub put-ready : {A : Type 0} (r : Result A AllocError) (x y m : ℕ) (ps : List Piece) (old new : BufferData) → IsReadyAt x y old → HasRow old.area y → old.area.x ≤ x → x + m ≤ old.area.x + old.area.width → columns ps ≤ m
     → PaintsOrRefuses (position_of (x, y)) ps r old new → OnOk r (IsReadyAt (x + m) y new)
 put-ready (Ok v) x y m ps old new ready row starts fits le paints =
     ready-next x y old ready row starts m ps new fits le paints.ok.area
@@ -195,7 +195,7 @@ put-ready (Ok v) x y m ps old new ready row starts fits le paints =
     (paints.settled ready.settled (ready-paintable x y old ready row starts (columns ps) (omega arith)))
 put-ready (Err e) x y m ps old new ready row starts fits le paints = tt
 
-pub ready-row : (x y : ℕ) (s : Sheet) → IsReadyFrom y s → HasRow s.area y → x ≤ s.area.x + s.area.width → IsReadyAt x y s
+pub ready-row : (x y : ℕ) (s : BufferData) → IsReadyFrom y s → HasRow s.area y → x ≤ s.area.x + s.area.width → IsReadyAt x y s
 ready-row x y s ready row fits = record {
   edges = ready.edges;
   settled = ready.settled;
@@ -205,22 +205,22 @@ ready-row x y s ready row fits = record {
       let one = (ready.plain (position_of (a, y)) (record { left = from; right = omega arith; top = t; bottom = omega arith }) (omega arith)).narrow in omega arith;
 }
 
-pub ready-end : (x y : ℕ) (s : Sheet) → IsReadyAt x y s → IsReadyFrom (y + 1) s
+pub ready-end : (x y : ℕ) (s : BufferData) → IsReadyAt x y s → IsReadyFrom (y + 1) s
 ready-end x y s ready = record { edges = ready.edges; settled = ready.settled; plain = λ p has from. ready.plain p has (inl (omega arith)) }
 
-pub ready-plain : (y : ℕ) (s : Sheet) → EdgesFit s.area → IsPlainFrom 0 s → IsReadyFrom y s
+pub ready-plain : (y : ℕ) (s : BufferData) → EdgesFit s.area → IsPlainFrom 0 s → IsReadyFrom y s
 ready-plain y s edges plain = record { edges = edges; settled = settled-plain s edges plain; plain = plain-later 0 y s (omega arith) plain }
 
 -- pieces painted in a row of plain cells
-pub painted-settled : (x y : ℕ) (ps : List Piece) (old new : Sheet) → EdgesFit old.area → IsPlainFrom 0 old → HasRow old.area y → old.area.x ≤ x → x + columns ps ≤ old.area.x + old.area.width
-    → PaintsPieces (position_of (x, y)) ps old new → IsSettledSheet new
+pub painted-settled : (x y : ℕ) (ps : List Piece) (old new : BufferData) → EdgesFit old.area → IsPlainFrom 0 old → HasRow old.area y → old.area.x ≤ x → x + columns ps ≤ old.area.x + old.area.width
+    → PaintsPieces (position_of (x, y)) ps old new → IsSettledBuffer new
 painted-settled x y ps old new edges plain row starts fits paints =
     subst (λ q. IsSettled q.width q.height new.cells) (sym paints.area)
     (IsSettled-row old x y ps new.cells paints.cells (settled-plain old edges plain)
     (paintable-plain (position_of (x, y)) (columns ps) old edges row starts fits (plain-later 0 y old (omega arith) plain)) starts fits)
 
 -- a change that keeps cells plain
-pub plain-changed : (r : Rect) (f : Position → Cell → Cell) (old new : Sheet) → ((p : Position) (c : Cell) → IsPlain c → IsPlain (f p c)) → ChangesEach r f old new → IsPlainFrom 0 old → IsPlainFrom 0 new
+pub plain-changed : (r : Rect) (f : Position → Cell → Cell) (old new : BufferData) → ((p : Position) (c : Cell) → IsPlain c → IsPlain (f p c)) → ChangesEach r f old new → IsPlainFrom 0 old → IsPlainFrom 0 new
 plain-changed r f old new keeps is plain = λ p in_new le.
     let in_own : HasPosition old.area p = subst (λ a. HasPosition a p) is.area in_new in
     ⊎_elim

@@ -1,7 +1,7 @@
 -- Plain cells, of which a settled buffer can be painted on.
 use Rattle.std.specs.Prelude.{◌≡◌, ℕ, ◌+◌, ◌<◌, ◌≤◌, ◌⊎◌, false}
-use Rattle.rtui_buffer.specs.Frame.{IsSettledSheet}
-use Rattle.rtui_buffer.specs.Sheet.{Sheet, cell_in, position_of}
+use Rattle.rtui_buffer.specs.Shown.{IsSettledBuffer}
+use Rattle.rtui_buffer.specs.BufferData.{BufferData, cell_in, position_of}
 use Rattle.rtui_cell.specs.Cell.{width_of, is_skipped, IsUnmarked}
 use Rattle.rtui_cell.specs.Width.{text_width}
 use Rattle.rtui_cell.specs.declared.cell.Cell.{Cell}
@@ -14,18 +14,18 @@ pub record IsPlain (c : Cell) : Type 0 where
   pub unmarked : IsUnmarked c
 
 -- each cell is plain, from a row on
-abbrev pub IsPlainFrom : ℕ → Sheet → Type 0
+abbrev pub IsPlainFrom : ℕ → BufferData → Type 0
 IsPlainFrom y s = (p : Position) → HasPosition s.area p → y ≤ p.y → IsPlain (cell_in s p)
 
 -- a settled buffer that may be painted from a column of a row on: from there each cell is plain, and no cell before reaches there
-pub record IsReadyAt (x y : ℕ) (s : Sheet) : Type 0 where
+pub record IsReadyAt (x y : ℕ) (s : BufferData) : Type 0 where
   pub edges : EdgesFit s.area
-  pub settled : IsSettledSheet s
+  pub settled : IsSettledBuffer s
   pub plain : (p : Position) → HasPosition s.area p → (y < p.y) ⊎ ((p.y ≡ y) × (x ≤ p.x)) → IsPlain (cell_in s p)
   pub before : (a : ℕ) → s.area.x ≤ a → a < x → is_skipped (cell_in s (position_of (a, y))) ≡ false → a + width_of (cell_in s (position_of (a, y))) ≤ x
 
 -- a settled buffer that may be painted from a row on
-pub record IsReadyFrom (y : ℕ) (s : Sheet) : Type 0 where
+pub record IsReadyFrom (y : ℕ) (s : BufferData) : Type 0 where
   pub edges : EdgesFit s.area
-  pub settled : IsSettledSheet s
+  pub settled : IsSettledBuffer s
   pub plain : IsPlainFrom y s

@@ -2,7 +2,7 @@
 
 ghost use Rattle.std.specs.Prelude.{◌≡◌, ◌<◌, IsOk, OnOk, OnErr};
 ghost use Rattle.rtui_geometry.specs.Rect.{IsInside, HasPosition};
-ghost use Rattle.rtui_buffer.specs.Sheet.{cell_in, position_of};
+ghost use Rattle.rtui_buffer.specs.BufferData.{cell_in, position_of};
 ghost use Rattle.rtui_widgets.specs.Rendering.{ChangesWithin};
 ghost use Rattle.rtui_changes.specs.Changes.{ChangesEach, row_part, IsRowOfArea, AreLight, place_at};
 
@@ -21,7 +21,7 @@ pub trait CellChange {
     // where it takes no memory
     ghost is_light: { Self → Position → Cell → Type 0 };
 
-    /// Changes a cell; where memory is refused it is as before.
+    /// Changes a cell; if memory is refused it is as before.
     fn change(&self, alloc: Global, position: Position, cell: &mut Cell) -> Result<(), AllocError>
         ensures ok { OnOk result (cell.new ≡ made self.now position cell.old) }
         ensures err { OnErr result (cell.new ≡ cell.old) }

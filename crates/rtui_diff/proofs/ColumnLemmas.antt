@@ -13,7 +13,7 @@ use Rattle.rtui_diff.specs.Settled.{IsBlankOrSkipped}
 use Rattle.rtui_cell.proofs.CellLemmas.{same_look, same_width, same_skipped, look-empty, width-empty}
 use Rattle.rtui_diff.proofs.WalkLemmas.{step_cases, given-step, given-none, plain_same, unskipped}
 
--- the place k lies behind an unskipped cell that covers it
+-- the place k lies after an unskipped cell that covers it
 pub record Behind (cells : List Cell) (k : ℕ) : Type 0 where
   pub j : ℕ
   pub before : j < k
@@ -78,7 +78,7 @@ wide_plain len ns i k st lt a b = elim (cases_Bool (is_skipped (cell ns i))) [
   | inr e ↦ e
 ]
 
--- what stands behind an unskipped wide cell takes at most one column, and shows the empty look if it is not skipped
+-- what stands after an unskipped wide cell takes at most one column, and shows the empty look if it is not skipped
 pub behind_width : (len : ℕ) (ns : List Cell) (k : ℕ) → Settled len ns → k < len → Behind ns k → width_of (cell ns k) ≤ 1
 behind_width len ns k st lt b = elim (st.behind b.j k (omega (arith, b.before)) b.plain b.before b.covers) [
   | inl e ↦ let w : width_of (cell ns k) ≡ width_of empty_cell = same_width (cell ns k) empty_cell e in omega (arith, w, width-empty)
@@ -203,7 +203,7 @@ forced_moves ps ns i k l false e = moves_skip ns i k l (by (is_skipped (cell ns 
     by true e = refl
     by false e = absurd (false≢true e)
 
--- a visited blank behind a wide cell changes nothing
+-- a visited blank after a wide cell changes nothing
 blank_kept : (len : ℕ) (ns : List Cell) (i k : ℕ) (l : Look) (g : Bool) → Settled len ns → i < len → Behind ns i → (g ≡ true → is_skipped (cell ns i) ≡ false) → (k ≡ i → l ≡ empty_look) → step_look g ns i k l ≡ l
 blank_kept len ns i k l true st lt b plain blank =
     let w : width_of (cell ns i) ≤ 1 = behind_width len ns i st lt b in

@@ -83,7 +83,7 @@ read-plain ps ns len at end over left force g f d e lt hp hn past is turns =
     given-plain ps ns len at end force (record { over = over; left = left; force = f }) lt past (turns ∙ rw (p, n) refl)
     ∙ ap (λ g. give g at (given ps ns (len - (at + 1 + over)) (record { over = 0; left = at + 1 + left - (at + 1 + over); force = f }) (at + 1 + over))) (sym (is ∙ rw (p, n) refl))
 
--- nothing follows a cell of one column where there was one of one column
+-- nothing follows a cell of one column if there was one of one column
 narrow_step : (p n : Cell) → width_of p ≡ 1 → width_of n ≡ 1 → start ≡ step_plain p n
 narrow_step p n former narrow =
     sym (step_cases (λ s. s ≡ start) p n (λ _. refl) (λ _. rw narrow refl) (λ _ _ _ _ _. rw narrow refl)

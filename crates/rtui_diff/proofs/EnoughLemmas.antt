@@ -1,4 +1,4 @@
--- What is given for screens that leave something behind.
+-- What is given for screens that leave something after.
 use Rattle.std.proofs.Common.{◌≡◌, ℕ, zero, suc, ◌+◌, ◌-◌, ◌*◌, ◌/◌, ◌%◌, ◌<◌, ◌≤◌, ◌&&◌, ◌||◌, Bool, true, false, not, List, [], refl, sym, ap, subst, arith, inl, inr}
 use Rattle.std.specs.Prelude.{nat_lt, Contains, All, if◌then◌else◌}
 use Rattle.std.proofs.lemmas.List.Elements.{All-contains}
@@ -69,7 +69,7 @@ forced_range len ps ns (suc n) zero (suc left) i c st e low high lt covered plai
     by true q = absurd (false≢true (sym q))
     by false q = refl
 
--- a range behind a wide cell gives each unskipped column whose symbol changed
+-- a range after a wide cell gives each unskipped column whose symbol changed
 blank_range : (len : ℕ) (ps ns : List Cell) (n left i c : ℕ) → Settled len ns → i + n ≡ len → i ≤ c → c < i + left → c < len →
     ((d : ℕ) → i ≤ d → d < i + left → Behind ns d) → is_skipped (cell ns c) ≡ false → is_same_symbol (cell ps c) (cell ns c) ≡ false →
     Contains (given ps ns n (record { over = 0; left = left; force = false }) i) c
@@ -215,7 +215,7 @@ refreshed len ps ns j c sp st is less lt former covers visible unforced narrow f
         pick_force start _ _ (record { over = 0; left = width_of (cell ps j) - 1; force = true }) (is_skipped (cell ns j)) (is_forced (cell ns j)) (gives_plain (cell ps j) (cell ns j)) (nat_lt 1 (width_of (cell ns j))) (has_fe0f (cell ns j)) (nat_lt (width_of (cell ns j)) (width_of (cell ps j)) && shows_on_blank (cell ps j))
         (unskipped 0 0 force (cell ps j) (cell ns j) gave) unforced gave (grind (arith, nat_tests)) (rw visible (both (nat_lt (width_of (cell ns j)) (width_of (cell ps j))) (grind (arith, nat_tests))))
 
--- behind a given wide cell with U+FE0F each unskipped column is given where something stood
+-- after a given wide cell with U+FE0F each unskipped column is given where something stood
 pub blanked : (len : ℕ) (ps ns : List Cell) (j c : ℕ) → Settled len ps → Settled len ns → Contains (given ps ns len start 0) j → j < c → c < len →
     is_skipped (cell ns j) ≡ false → c < j + width_of (cell ns j) → is_forced (cell ns j) ≡ false → has_fe0f (cell ns j) ≡ true → (Shone ps j → ⊥) →
     is_skipped (cell ns c) ≡ false → is_same_symbol (cell ps c) (cell ns c) ≡ false → Contains (given ps ns len start 0) c

@@ -9,7 +9,7 @@ use Rattle.rtui_diff.specs.Cells.{cell, cell_at}
 abbrev pub IsBlankOrSkipped : Cell → Type 0
 IsBlankOrSkipped c = (is_same c empty_cell ≡ true) ⊎ (is_skipped c ≡ true)
 
--- a skipped cell takes at most one column, any other ends within its row, and behind it stand only empty or skipped cells
+-- a skipped cell takes at most one column, any other ends within its row, and after it stand only empty or skipped cells
 pub record IsSettled (w h : ℕ) (cells : List Cell) : Type 0 where
   pub skipped : (a b : ℕ) → a < w → b < h → is_skipped (cell_at w cells a b) ≡ true → width_of (cell_at w cells a b) ≤ 1
   pub within : (a b : ℕ) → a < w → b < h → is_skipped (cell_at w cells a b) ≡ false → a + width_of (cell_at w cells a b) ≤ w

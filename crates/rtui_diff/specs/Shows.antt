@@ -8,7 +8,7 @@ use Rattle.rtui_cell.specs.Grid.{Grid, Update, puts}
 use Rattle.rtui_diff.specs.Cells.{cell, cell_at}
 use Rattle.rtui_diff.specs.Updates.{update_at}
 
--- an unskipped cell has its look in its column, and the columns behind it that it covers have the empty look
+-- an unskipped cell has its look in its column, and the columns after it that it covers have the empty look
 pub record ShowsColumn (w : ℕ) (cells : List Cell) (a b : ℕ) (seen : Look) : Type 0 where
   pub look : is_skipped (cell_at w cells a b) ≡ false → seen ≡ look_of (cell_at w cells a b)
   pub behind : (j : ℕ) → j < a → is_skipped (cell_at w cells j b) ≡ false → a < j + width_of (cell_at w cells j b) → seen ≡ empty_look

@@ -23,7 +23,7 @@ RisesFrom P lo hi (i ∷ is) = (lo ≤ i) × (i < hi) × P i × RisesFrom P (i +
 abbrev pub IsBefore : Update → Update → Type 0
 IsBefore u v = (u.y < v.y) ⊎ ((u.y ≡ v.y) × (u.x < v.x))
 
--- each update stands before all those behind it
+-- each update stands before all those after it
 abbrev pub Rises : List Update → Type 0
 Rises [] = Unit {0}
 Rises (u ∷ us) = All (IsBefore u) us × Rises us

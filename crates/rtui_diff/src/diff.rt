@@ -29,7 +29,7 @@ impl<'prev, 'next> Model for BufferDiff<'prev, 'next> {
 
 impl<'prev, 'next> BufferDiff<'prev, 'next> {
     /// The updates over the area at (x, y) of this width and height, in columns and rows. Both lists have its
-    /// cells, row by row, and may go on behind it.
+    /// cells, row by row, and may go on after it.
     pub fn new(
         prev: &'prev [Cell],
         next: &'next [Cell],
@@ -84,7 +84,7 @@ struct DiffWalk<'prev, 'next> {
     pos: usize,
     end: usize,
     force: bool,
-    // a row that doesn't begin behind the next place
+    // a row that doesn't begin after the next place
     row: Row,
     ghost prev_covers: { len ≤ length prev.now },
     ghost next_covers: { len ≤ length next.now },
@@ -186,7 +186,7 @@ impl<'prev, 'next> DiffWalk<'prev, 'next> {
     }
 }
 
-// The row that has a place, from one that doesn't begin behind it. A walk comes to few rows anew, so that it counts them where
+// The row that has a place, from one that doesn't begin after it. A walk comes to few rows anew, so that it counts them where
 // a division would be taken for each place.
 #[tactic(auto, using(crate::proofs::FrameLemmas::row_rules))]
 fn row_with(from: Row, width: usize, at: usize) -> Row
@@ -207,7 +207,7 @@ fn row_with(from: Row, width: usize, at: usize) -> Row
     row
 }
 
-// The place behind a cell and the columns that are stepped over. The usual steps stand apart, so that a processor
+// The place after a cell and the columns that are stepped over. The usual steps stand apart, so that a processor
 // that foresees them reads on before the width is known.
 fn place_behind(at: usize, over: u16) -> usize
     requires { at + 65536 < 2 ^ 64 }

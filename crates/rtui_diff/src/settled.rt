@@ -36,7 +36,7 @@ fn is_settled_at(cells: &[Cell], columns: usize, at: usize) -> bool
 }
 
 /// Whether each skipped cell takes at most one column, each other cell ends within its row, and
-/// behind an unskipped wide cell stand only empty or skipped ones.
+/// after an unskipped wide cell stand only empty or skipped ones.
 pub fn is_settled(cells: &[Cell], width: u16, height: u16) -> bool
     requires covers { width * height ≤ length cells.now }
     ensures settled { IsTrue result ↔ IsSettled width height cells.now }

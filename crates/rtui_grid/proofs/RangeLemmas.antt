@@ -4,7 +4,7 @@ use Rattle.std.proofs.lemmas.List.{append-nil}
 use Rattle.std.proofs.lemmas.List.FromFn.{map-range_with_len_more}
 use Rattle.std.specs.List.{range_with_len}
 
--- the first k places from i on, and the n behind them
+-- the first k places from i on, and the n after them
 pub range_split : {X : Type 0} (f : ℕ → X) (i k n : ℕ) → map f (range_with_len i (k + n)) ≡ map f (range_with_len i k) ++ map f (range_with_len (i + k) n)
 range_split f i k zero = rw add-zero (sym (append-nil (map f (range_with_len i k))))
 range_split f i k (suc n) =

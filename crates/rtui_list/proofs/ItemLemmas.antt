@@ -7,7 +7,7 @@ use Rattle.std.proofs.lemmas.Bool.{cases_lt}
 use Rattle.std.specs.declared.alloc.AllocError.{AllocError}
 use Rattle.ratatui_core.specs.Layout.{Rect, Position, HasPosition, IsInside, right_edge, bottom_edge, corner}
 use Rattle.ratatui_core.specs.Style.{Style, patch}
-use Rattle.ratatui_core.specs.Buffer.{Sheet, Cell, Piece, columns, pieces_at, PaintsPieces, PaintsOrRefuses, ChangesEach, MakesParts, IsStyled, position_of}
+use Rattle.ratatui_core.specs.Buffer.{BufferData, Cell, Piece, columns, pieces_at, PaintsPieces, PaintsOrRefuses, ChangesEach, MakesParts, IsStyled, position_of}
 use Rattle.ratatui_core.specs.Widgets.{ChangesWithin, RendersText}
 use Rattle.ratatui_core.proofs.BufferLemmas.{Changes-within, within-same, within-wider, text-keeps, Parts-none, Parts-next, Parts-within}
 use Rattle.ratatui_core.proofs.WidgetLemmas.{within-then, within-styled}
@@ -31,14 +31,14 @@ pub rows-apart : (r : Rect) (k j : ℕ) → k < j → (p : Position) → HasPosi
 rows-apart r k j lt p one two = let b = one.bottom in let t = two.top in omega arith
 
 -- the symbol or blanks in a row
-pub mark-within : {A : Type 0} (res : Result A AllocError) (symbol : List ℕ) (style : Style) (r : Rect) (old new : Sheet) → IsBoxArea r → IsInside r old.area
+pub mark-within : {A : Type 0} (res : Result A AllocError) (symbol : List ℕ) (style : Style) (r : Rect) (old new : BufferData) → IsBoxArea r → IsInside r old.area
     → PaintsOrRefuses (position_of (r.x, r.y)) (pieces_at old.area r.x r.width style symbol) res old new → ChangesWithin r old new
 mark-within res symbol style r old new box inside paints =
     let keeps = text-keeps old.area r.x r.width style symbol in let high = box.rows in
     paints-within res r r.x r.y (pieces_at old.area r.x r.width style symbol) old new box inside (omega arith) (omega arith) (omega arith) (omega arith) paints
 
 -- one row more
-pub marks-next : (l : ListData) (is_selected : Bool) (style : Style) (r : Rect) (j : ℕ) (old mid new : Sheet) → MakesParts j (part_row r) (λ i. MarksRow l.highlight_symbol.now style (is_marked l is_selected i) (part_row r i)) old mid
+pub marks-next : (l : ListData) (is_selected : Bool) (style : Style) (r : Rect) (j : ℕ) (old mid new : BufferData) → MakesParts j (part_row r) (λ i. MarksRow l.highlight_symbol.now style (is_marked l is_selected i) (part_row r i)) old mid
     → MarksRow l.highlight_symbol.now style (is_marked l is_selected j) (part_row r j) mid new → ChangesWithin (part_row r j) mid new
     → MakesParts (j + 1) (part_row r) (λ i. MarksRow l.highlight_symbol.now style (is_marked l is_selected i) (part_row r i)) old new
 marks-next l is_selected style r j old mid new so_far made within =
@@ -95,7 +95,7 @@ module _ (l : ListData) (offset count k : ℕ) (r : Rect) (box : IsBoxArea r) (i
       let a = rows-at in let b = rows-end in let c = rows-start in
       item-in l.direction r (rows_before items (offset + k) - rows_before items offset) (item_rows (nth_item l (offset + k))) box (omega arith)
 
-pub items-within : (l : ListData) (selected : Option ℕ) (offset k count : ℕ) (r : Rect) (old mid : Sheet) → IsBoxArea r → offset + count ≤ length l.items.items → Fit l.items.items r.height offset (offset + count) → k ≤ count
+pub items-within : (l : ListData) (selected : Option ℕ) (offset k count : ℕ) (r : Rect) (old mid : BufferData) → IsBoxArea r → offset + count ≤ length l.items.items → Fit l.items.items r.height offset (offset + count) → k ≤ count
     → ShowsItems l selected offset k r old mid → ChangesWithin r old mid
 items-within l selected offset k count r old mid box inside fit le shown =
     Parts-within k (part_of_item l r offset) (shown_as l selected offset r) r old mid shown (λ i lt p h. shown-in l offset count i r box inside fit (omega arith) p h)
@@ -111,7 +111,7 @@ shown-apart l offset count k j r box inside fit lt end p one two =
     (omega arith) (omega arith) p one two
 
 -- one item more
-pub items-next : (l : ListData) (selected : Option ℕ) (offset k count : ℕ) (r : Rect) (used rows : ℕ) (item : ListItem) (is_selected has_columns : Bool) (part : Rect) (old mid new : Sheet) → IsBoxArea r
+pub items-next : (l : ListData) (selected : Option ℕ) (offset k count : ℕ) (r : Rect) (used rows : ℕ) (item : ListItem) (is_selected has_columns : Bool) (part : Rect) (old mid new : BufferData) → IsBoxArea r
     → offset + count ≤ length l.items.items → Fit l.items.items r.height offset (offset + count) → k < count → item ≡ get_or l.items.items (offset + k) item
     → rows_before l.items.items offset + used ≡ rows_before l.items.items (offset + k) → rows ≡ item_rows item → is_selected ≡ is_selected_at selected (offset + k)
     → has_columns ≡ has_mark_columns l.highlight_spacing (is_some selected) → part ≡ item_part l.direction r used rows

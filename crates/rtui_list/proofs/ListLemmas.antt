@@ -2,7 +2,7 @@
 use Rattle.std.proofs.Common.{◌≡◌, ◌<◌, ◌⊎◌, ⊎_elim, refl, sym, ap, subst, arith, Result, Ok, Err, OnOk}
 use Rattle.std.specs.declared.alloc.AllocError.{AllocError}
 use Rattle.ratatui_core.specs.Layout.{Rect, intersected}
-use Rattle.ratatui_core.specs.Buffer.{Sheet}
+use Rattle.ratatui_core.specs.Buffer.{BufferData}
 use Rattle.ratatui_core.specs.Widgets.{ChangesWithin, IsClipped}
 use Rattle.ratatui_core.proofs.WidgetLemmas.{OnPart-clipped}
 use Rattle.rtui_boxes.specs.Boxes.{IsBoxArea}
@@ -20,7 +20,7 @@ clip-some area own part clip bare =
     ⊎_elim (λ (e : (intersected area own).width ≡ 0). omega arith) (λ (e : (intersected area own).height ≡ 0). omega arith) bare
 
 -- a list over the part of an area, with its style and its box
-module _ (l : ListData) (s : ListState) (area part : Rect) (old framed : Sheet) (clip : IsClipped area old.area part) (within : ChangesWithin part old framed) (frame : IsFramed l.style l.block part old framed) where
+module _ (l : ListData) (s : ListState) (area part : Rect) (old framed : BufferData) (clip : IsClipped area old.area part) (within : ChangesWithin part old framed) (frame : IsFramed l.style l.block part old framed) where
   pub list-bare : IsBare (inner_if l.block part) → RendersList l s s area old framed
   list-bare bare = record {
     within = frame-within l.style l.block (λ r a b. b ≡ a) area part old framed clip within;
@@ -33,7 +33,7 @@ module _ (l : ListData) (s : ListState) (area part : Rect) (old framed : Sheet) 
     });
   }
 
-  pub list-within : (inner : Rect) (new : Sheet) → IsInner l.block part inner → ChangesWithin inner framed new → ChangesWithin area old new
+  pub list-within : (inner : Rect) (new : BufferData) → IsInner l.block part inner → ChangesWithin inner framed new → ChangesWithin area old new
   list-within inner new is done = inner-within l.style l.block (λ r a b. b ≡ a) area part old framed clip within inner new is done
 
   some-inside : (inner : Rect) → IsInner l.block part inner → IsBare (inner_if l.block part) → ⊥
@@ -42,7 +42,7 @@ module _ (l : ListData) (s : ListState) (area part : Rect) (old framed : Sheet) 
       let wide = some.columns in let high = some.rows in
       ⊎_elim (λ (e : (inner_if l.block part).width ≡ 0). omega arith) (λ (e : (inner_if l.block part).height ≡ 0). omega arith) bare
 
-  pub list-some : {A : Type 0} (r : Result A AllocError) (t : ListState) (inner : Rect) (new : Sheet) → IsInner l.block part inner → ChangesWithin inner framed new → OnOk r (ShowsList l s t inner framed new) → OnOk r (RendersList l s t area old new)
+  pub list-some : {A : Type 0} (r : Result A AllocError) (t : ListState) (inner : Rect) (new : BufferData) → IsInner l.block part inner → ChangesWithin inner framed new → OnOk r (ShowsList l s t inner framed new) → OnOk r (RendersList l s t area old new)
   list-some (Ok x) t inner new is done shown = record {
     within = list-within inner new is done;
     no_part = λ none. absurd (clip-some area old.area part clip none);

@@ -3,7 +3,7 @@ use Rattle.std.specs.Prelude.{◌≡◌, ℕ, Bool, true, false, ◌+◌, ◌-�
 use Rattle.ratatui_core.specs.Layout.{Rect, Position, corner, intersected}
 use Rattle.ratatui_core.specs.Style.{Style, new_style, patch}
 use Rattle.ratatui_core.specs.Text.{text_of}
-use Rattle.ratatui_core.specs.Buffer.{Sheet, Cell, styled, with_symbol, pieces_at, text_columns, IsStyled, PaintsPieces, ChangesEach, MakesParts}
+use Rattle.ratatui_core.specs.Buffer.{BufferData, Cell, styled, with_symbol, pieces_at, text_columns, IsStyled, PaintsPieces, ChangesEach, MakesParts}
 use Rattle.ratatui_core.specs.Widgets.{RendersText, ChangesWithin, OnPart}
 use Rattle.rtui_boxes.specs.Framed.{IsFramed, IsBare, inner_if}
 use Rattle.rtui_list.specs.declared.list.List.{List as ListData}
@@ -55,7 +55,7 @@ abbrev pub with_blank : Style → Cell → Cell
 with_blank style c = styled style (with_symbol (codes " ") c)
 
 -- in a row the symbol from its start on, or blanks in the symbol's columns
-abbrev pub MarksRow : List ℕ → Style → Bool → Rect → Sheet → Sheet → Type 0
+abbrev pub MarksRow : List ℕ → Style → Bool → Rect → BufferData → BufferData → Type 0
 MarksRow symbol style true r old new = PaintsPieces (corner r) (pieces_at old.area r.x r.width style symbol) old new
 MarksRow symbol style false r old new = ChangesEach (record r { width = mark_width symbol r }) (λ _. with_blank style) old new
 
@@ -64,19 +64,19 @@ abbrev pub is_marked : ListData → Bool → ℕ → Bool
 is_marked l is_selected j = is_selected && ((j == 0) || l.repeat_highlight_symbol)
 
 -- the symbol or blanks in each row of an item
-abbrev pub MarksRows : ListData → Bool → Style → Rect → Sheet → Sheet → Type 0
+abbrev pub MarksRows : ListData → Bool → Style → Rect → BufferData → BufferData → Type 0
 MarksRows l is_selected style r = MakesParts r.height (part_row r) (λ j. MarksRow l.highlight_symbol.now style (is_marked l is_selected j) (part_row r j))
 
 -- an effect, or none
-abbrev pub If : Bool → (Sheet → Sheet → Type 0) → Sheet → Sheet → Type 0
+abbrev pub If : Bool → (BufferData → BufferData → Type 0) → BufferData → BufferData → Type 0
 If true f old new = f old new
 If false f old new = new ≡ old
 
 -- An item over its part: its style over the list's, its text beside the symbol's columns, the symbol, and the highlight if it is selected.
-pub record RendersItem (l : ListData) (i : ListItem) (is_selected has_columns : Bool) (r : Rect) (old new : Sheet) : Type 0 where
-  pub laid : Sheet
-  pub texted : Sheet
-  pub marked : Sheet
+pub record RendersItem (l : ListData) (i : ListItem) (is_selected has_columns : Bool) (r : Rect) (old new : BufferData) : Type 0 where
+  pub laid : BufferData
+  pub texted : BufferData
+  pub marked : BufferData
   pub style : IsStyled r (patch l.style i.style) old laid
   pub text : RendersText i.content (without_columns (if has_columns then mark_width l.highlight_symbol.now r else 0) r) laid texted
   pub marks : If has_columns (MarksRows l is_selected (patch l.style i.style) r) texted marked
@@ -96,12 +96,12 @@ part_of_item l r offset k =
     item_part l.direction r (rows_before l.items.items (offset + k) - rows_before l.items.items offset) (item_rows (nth_item l (offset + k)))
 
 -- how an item of it is shown, counted from there
-abbrev pub shown_as : ListData → Option ℕ → ℕ → Rect → ℕ → Sheet → Sheet → Type 0
+abbrev pub shown_as : ListData → Option ℕ → ℕ → Rect → ℕ → BufferData → BufferData → Type 0
 shown_as l selected offset r k =
     RendersItem l (nth_item l (offset + k)) (is_selected_at selected (offset + k)) (has_mark_columns l.highlight_spacing (is_some selected)) (part_of_item l r offset k)
 
 -- so many items from one on, each over its part, apart from each other; all else is as before
-abbrev pub ShowsItems : ListData → Option ℕ → ℕ → ℕ → Rect → Sheet → Sheet → Type 0
+abbrev pub ShowsItems : ListData → Option ℕ → ℕ → ℕ → Rect → BufferData → BufferData → Type 0
 ShowsItems l selected offset count r = MakesParts count (part_of_item l r offset) (shown_as l selected offset r)
 
 -- a number, but at most another one
@@ -111,7 +111,7 @@ at_most last (Some n) = Some (min n last)
 
 -- The items of a list over an area, from the state's first one on, as many as fit whole. The selection is at most the last item, and the first
 -- item is such that the selected one is in view. Without items nothing is shown or selected.
-pub record ShowsList (l : ListData) (s t : ListState) (r : Rect) (old new : Sheet) : Type 0 where
+pub record ShowsList (l : ListData) (s t : ListState) (r : Rect) (old new : BufferData) : Type 0 where
   pub no_items : l.items.items ≡ [] → (new ≡ old) × (t ≡ record { offset = 0; selected = None })
   pub selected : 0 < length l.items.items → t.selected ≡ at_most (last_item l.items.items) s.selected
   pub offset : 0 < length l.items.items → IsOffset l.items.items r.height l.scroll_padding t.selected s.offset t.offset
@@ -120,14 +120,14 @@ pub record ShowsList (l : ListData) (s t : ListState) (r : Rect) (old new : Shee
   pub shown : 0 < length l.items.items → ShowsItems l t.selected t.offset count r old new
 
 -- the list inside its style and its box; without room inside the state stays as it is
-pub record ListInFrame (l : ListData) (s t : ListState) (part : Rect) (old new : Sheet) : Type 0 where
-  pub framed : Sheet
+pub record ListInFrame (l : ListData) (s t : ListState) (part : Rect) (old new : BufferData) : Type 0 where
+  pub framed : BufferData
   pub frame : IsFramed l.style l.block part old framed
   pub none : IsBare (inner_if l.block part) → (new ≡ framed) × (t ≡ s)
   pub inside : 0 < (inner_if l.block part).width → 0 < (inner_if l.block part).height → ShowsList l s t (inner_if l.block part) framed new
 
 -- A list over the part of an area that a buffer has. Nothing outside the area changes.
-pub record RendersList (l : ListData) (s t : ListState) (area : Rect) (old new : Sheet) : Type 0 where
+pub record RendersList (l : ListData) (s t : ListState) (area : Rect) (old new : BufferData) : Type 0 where
   pub within : ChangesWithin area old new
   pub no_part : IsBare (intersected area old.area) → t ≡ s
   pub parts : OnPart (ListInFrame l s t) area old new

@@ -3,7 +3,7 @@ use Rattle.std.proofs.Common.{◌≡◌, ℕ, ◌+◌, ◌-◌, ◌*◌, ◌/◌
 use Rattle.std.proofs.Math.Nat.{div-lt_iff_lt-mul}
 use Rattle.std.specs.declared.alloc.AllocError.{AllocError}
 use Rattle.ratatui_core.specs.Layout.{Rect, Position, HasPosition, IsInside, right_edge, bottom_edge, intersected, corner}
-use Rattle.ratatui_core.specs.Buffer.{Sheet, Cell, ChangesEach, Piece, columns, PaintsPieces, PaintsOrRefuses, HasRow, pieces_at, position_of}
+use Rattle.ratatui_core.specs.Buffer.{BufferData, Cell, ChangesEach, Piece, columns, PaintsPieces, PaintsOrRefuses, HasRow, pieces_at, position_of}
 use Rattle.ratatui_core.specs.Widgets.{ChangesWithin, IsClipped}
 use Rattle.ratatui_core.proofs.BufferLemmas.{Changes-within, within-wider, line-ends, text-ends, line-keeps, text-keeps}
 use Rattle.ratatui_core.proofs.WidgetLemmas.{OnPart-clipped}
@@ -39,14 +39,14 @@ rounded-le n p w le some =
     omega arith
 
 -- pieces painted from the corner of a part on, in at most its columns
-pub corner-within : {A : Type 0} (r : Result A AllocError) (part : Rect) (ps : List Piece) (old new : Sheet) → IsBoxArea part → IsInside part old.area → columns ps ≤ part.width → PaintsOrRefuses (corner part) ps r old new
+pub corner-within : {A : Type 0} (r : Result A AllocError) (part : Rect) (ps : List Piece) (old new : BufferData) → IsBoxArea part → IsInside part old.area → columns ps ≤ part.width → PaintsOrRefuses (corner part) ps r old new
     → ChangesWithin part old new
 corner-within r part ps old new box inside le paints =
     let wide = box.columns in let high = box.rows in
     paints-within r part part.x part.y ps old new box inside (omega arith) (omega arith) (omega arith) (omega arith) paints
 
 -- a change within a part, made or refused
-pub changed-within : {A : Type 0} (r : Result A AllocError) (part area : Rect) (f : Position → Cell → Cell) (old new : Sheet) → IsInside part area → OnOk r (ChangesEach part f old new) → OnErr r (ChangesWithin part old new)
+pub changed-within : {A : Type 0} (r : Result A AllocError) (part area : Rect) (f : Position → Cell → Cell) (old new : BufferData) → IsInside part area → OnOk r (ChangesEach part f old new) → OnErr r (ChangesWithin part old new)
     → ChangesWithin area old new
 changed-within (Ok x) part area f old new inside ok err = Changes-within part area f old new inside ok
 changed-within (Err e) part area f old new inside ok err = within-wider part area old new inside err
@@ -56,7 +56,7 @@ pieces-keep : (g : LineGauge) (o : Option LineData) (r own : Rect) → columns (
 pieces-keep g None r own = text-keeps own r.x r.width new_style (percent_text g.share)
 pieces-keep g (Some label) r own = line-keeps own r.x r.width label
 
-pub label-within : {A : Type 0} (res : Result A AllocError) (g : LineGauge) (r : Rect) (old new : Sheet) → IsBoxArea r → IsInside r old.area → PaintsOrRefuses (corner r) (line_label_pieces g r old.area) res old new → ChangesWithin r old new
+pub label-within : {A : Type 0} (res : Result A AllocError) (g : LineGauge) (r : Rect) (old new : BufferData) → IsBoxArea r → IsInside r old.area → PaintsOrRefuses (corner r) (line_label_pieces g r old.area) res old new → ChangesWithin r old new
 label-within res g r old new box inside paints = corner-within res r (line_label_pieces g r old.area) old new box inside (pieces-keep g g.label r old.area) paints
 
 -- what is right of a column in a part's first row
@@ -67,7 +67,7 @@ right-inside r x width box le e p h =
     record { left = omega arith; right = omega arith; top = omega arith; bottom = omega arith }
 
 -- the label, and the line after it
-pub fills-line : {A : Type 0} (res : Result A AllocError) (g : LineGauge) (r : Rect) (start width end : ℕ) (old labelled new : Sheet) → PaintsPieces (corner r) (line_label_pieces g r old.area) old labelled → start ≡ line_start g r old.area
+pub fills-line : {A : Type 0} (res : Result A AllocError) (g : LineGauge) (r : Rect) (start width end : ℕ) (old labelled new : BufferData) → PaintsPieces (corner r) (line_label_pieces g r old.area) old labelled → start ≡ line_start g r old.area
     → width ≡ r.x + r.width - start → end ≡ min (start + filled_part g.share width) 65535
     → OnOk res (ChangesEach (record { x = start; y = r.y; width = width; height = 1 })
     (line_cell (record { end = end; filled_symbol = g.filled_symbol; unfilled_symbol = g.unfilled_symbol; filled_style = g.filled_style; unfilled_style = g.unfilled_style })) labelled new)
@@ -93,7 +93,7 @@ label-row text r own l box inside e = let is = label-in text r l box e in part-h
 pub label-column : (text : List ℕ) (r own l : Rect) → IsBoxArea r → IsInside r own → l ≡ label_part text r → own.x ≤ l.x
 label-column text r own l box inside e = let is = label-in text r l box e in part-starts r own l.x box inside is.left
 
-pub label-paints : {A : Type 0} (res : Result A AllocError) (text : List ℕ) (style : Style) (r l : Rect) (old new : Sheet) → IsBoxArea r → IsInside r old.area → l ≡ label_part text r
+pub label-paints : {A : Type 0} (res : Result A AllocError) (text : List ℕ) (style : Style) (r l : Rect) (old new : BufferData) → IsBoxArea r → IsInside r old.area → l ≡ label_part text r
     → PaintsOrRefuses (position_of (l.x, l.y)) (pieces_at old.area l.x l.width style text) res old new → ChangesWithin r old new
 label-paints res text style r l old new box inside e paints =
     let is = label-in text r l box e in
@@ -116,13 +116,13 @@ bar-inside HorizontalTop r box p h =
     let a = box.across in let d = box.down in let wide = box.columns in let high = box.rows in let left = h.left in let right = h.right in let top = h.top in let bottom = h.bottom in
     record { left = omega arith; right = omega arith; top = omega arith; bottom = omega arith }
 
-pub bar-within : {A : Type 0} (res : Result A AllocError) (b : Scrollbar) (f : Position → Cell → Cell) (area part : Rect) (old new : Sheet) → IsClipped area old.area part → OnOk res (ChangesEach (bar_area b.orientation part) f old new)
+pub bar-within : {A : Type 0} (res : Result A AllocError) (b : Scrollbar) (f : Position → Cell → Cell) (area part : Rect) (old new : BufferData) → IsClipped area old.area part → OnOk res (ChangesEach (bar_area b.orientation part) f old new)
     → OnErr res (ChangesWithin (bar_area b.orientation part) old new) → ChangesWithin area old new
 bar-within res b f area part old new clip ok err =
     let box = box-area area old.area part clip in
     changed-within res (bar_area b.orientation part) area f old new (λ p h. clip.of_area p (bar-inside b.orientation part box p h)) ok err
 
-pub bar-renders : {A : Type 0} (res : Result A AllocError) (b : Scrollbar) (s : ScrollbarState) (area part : Rect) (old new : Sheet) → IsClipped area old.area part → 0 < s.content_length
+pub bar-renders : {A : Type 0} (res : Result A AllocError) (b : Scrollbar) (s : ScrollbarState) (area part : Rect) (old new : BufferData) → IsClipped area old.area part → 0 < s.content_length
     → 0 < track_length b (bar_length b.orientation part) → OnOk res (ChangesEach (bar_area b.orientation part) (marked_cell (marks_of b s part)) old new) → OnErr res (ChangesWithin (bar_area b.orientation part) old new)
     → OnOk res (RendersScrollbar b s s area old new)
 bar-renders (Ok v) b s area part old new clip some track ok err = record {

@@ -9,7 +9,7 @@ use Rattle.ratatui_core.specs.Layout.{Rect, Position, EdgesFit, IsInside, inters
 use Rattle.ratatui_core.specs.Style.{Style}
 use Rattle.ratatui_core.specs.declared.style.Color.{Color}
 use Rattle.ratatui_core.specs.Symbols.{is_narrow, block_levels}
-use Rattle.ratatui_core.specs.Buffer.{Sheet, Cell, with_symbol, styled, width_of, text_width, columns, IsPlain, IsPlainFrom, IsSettledSheet}
+use Rattle.ratatui_core.specs.Buffer.{BufferData, Cell, with_symbol, styled, width_of, text_width, columns, IsPlain, IsPlainFrom, IsSettledBuffer}
 use Rattle.ratatui_core.proofs.BufferLemmas.{narrow-test, blocks-narrow, plain-styled, plain-changed, painted-settled, text-keeps}
 use Rattle.rtui_boxes.specs.Boxes.{IsBoxArea, IsPlainIfBox}
 use Rattle.rtui_boxes.proofs.PaintLemmas.{part-right}
@@ -75,7 +75,7 @@ plain-filled f tip p c is =
     (plain-if (f.has_tip && (p.x == f.end)) _ _ (plain-styled f.style _ (plain-with f.tip.now c is tip)) (plain-styled f.style c is))
 
 -- a bar with its label on plain cells
-pub settled-area : (g : Gauge) (text : List ℕ) (style : Style) (r : Rect) (old new : Sheet) → IsBoxArea r → IsInside r old.area → EdgesFit old.area → IsPlainFrom 0 old → FillsArea g text style r old new → IsSettledSheet new
+pub settled-area : (g : Gauge) (text : List ℕ) (style : Style) (r : Rect) (old new : BufferData) → IsBoxArea r → IsInside r old.area → EdgesFit old.area → IsPlainFrom 0 old → FillsArea g text style r old new → IsSettledBuffer new
 settled-area g text style r old new box inside edges plain is =
     let filled = is.filled in
     let tip : is_narrow is.fill.tip.now ≡ true = rw is.is_fill.tip (tip-narrow (eighths_of g.share r.width)) in
@@ -89,7 +89,7 @@ settled-area g text style r old new box inside edges plain is =
     (label-column text r filled.area (label_part text r) box inside_ refl)
     (part-right r filled.area (label_part text r).x (columns (pieces_on_bar text style r filled.area)) box inside_ (omega arith)) is.label
 
-pub settled-gauge : (g : Gauge) (area : Rect) (old new : Sheet) → EdgesFit old.area → IsPlainFrom 0 old → IsPlainIfBox g.block → RendersAreaGauge g area old new → IsSettledSheet new
+pub settled-gauge : (g : Gauge) (area : Rect) (old new : BufferData) → EdgesFit old.area → IsPlainFrom 0 old → IsPlainIfBox g.block → RendersAreaGauge g area old new → IsSettledBuffer new
 settled-gauge g area old new edges plain box is =
     settled-frame g.style g.block (FillsGauge g) area old new edges plain box
     (λ r s t some inside fit cells fills. settled-area g (text_of_label g g.label) (style_of_label g.label) r s t some inside fit cells fills) is
@@ -115,7 +115,7 @@ plain-mark m k c narrow is =
     (plain-choice (nat_lt k m.after_thumb) _ _ c (plain-marked (Some m.bar.thumb_symbol) m.bar.thumb_style c narrow.thumb is)
     (plain-choice (nat_lt k m.after_track) _ _ c track (plain-marked m.bar.end_symbol m.bar.end_style c narrow.end is))))
 
-plain-bar : (b : Scrollbar) (s : ScrollbarState) (r : Rect) (old new : Sheet) → HasNarrowMarks b → IsPlainFrom 0 old → MarksBar b s r old new → IsPlainFrom 0 new
+plain-bar : (b : Scrollbar) (s : ScrollbarState) (r : Rect) (old new : BufferData) → HasNarrowMarks b → IsPlainFrom 0 old → MarksBar b s r old new → IsPlainFrom 0 new
 plain-bar b s r old new narrow plain is =
     let same : (s.content_length ≡ 0) ⊎ (track_length b (bar_length b.orientation r) ≡ 0) → IsPlainFrom 0 new = λ none. rw (is.none none) plain in
     ⊎_elim
@@ -129,7 +129,7 @@ plain-bar b s r old new narrow plain is =
     (cases_lt 0 s.content_length)
 
 -- a scroll bar of narrow symbols keeps cells plain
-pub plain-scrollbar : (b : Scrollbar) (s t : ScrollbarState) (area : Rect) (old new : Sheet) → HasNarrowMarks b → IsPlainFrom 0 old → RendersScrollbar b s t area old new → IsPlainFrom 0 new
+pub plain-scrollbar : (b : Scrollbar) (s t : ScrollbarState) (area : Rect) (old new : BufferData) → HasNarrowMarks b → IsPlainFrom 0 old → RendersScrollbar b s t area old new → IsPlainFrom 0 new
 plain-scrollbar b s t area old new narrow plain is =
     let part = intersected area old.area in
     let nothing : (part.width ≡ 0) ⊎ (part.height ≡ 0) → IsPlainFrom 0 new = λ none. rw (is.bar.nothing none) plain in

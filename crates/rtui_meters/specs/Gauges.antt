@@ -5,7 +5,7 @@ use Rattle.ratatui_core.specs.Style.{Style, new_style}
 use Rattle.ratatui_core.specs.declared.style.Color.{Color}
 use Rattle.ratatui_core.specs.declared.style.Color.TheVariants.{Reset}
 use Rattle.ratatui_core.specs.Text.{SpanData}
-use Rattle.ratatui_core.specs.Buffer.{Sheet, Cell, Piece, styled, with_symbol, pieces_at, text_columns, PaintsPieces, ChangesEach, AreShort}
+use Rattle.ratatui_core.specs.Buffer.{BufferData, Cell, Piece, styled, with_symbol, pieces_at, text_columns, PaintsPieces, ChangesEach, AreShort}
 use Rattle.ratatui_core.specs.Widgets.{ChangesWithin}
 use Rattle.rtui_boxes.specs.Framed.{RendersInFrame, IsShortFrame, inner_if}
 use Rattle.rtui_meters.specs.declared.gauge.Gauge.{Gauge}
@@ -71,10 +71,10 @@ abbrev pub pieces_on_bar : List ℕ → Style → Rect → Rect → List Piece
 pieces_on_bar text style r own = pieces_at own (label_part text r).x (label_width text r) style text
 
 -- the bar over an area, and a label on it
-pub record FillsArea (g : Gauge) (text : List ℕ) (style : Style) (r : Rect) (old new : Sheet) : Type 0 where
+pub record FillsArea (g : Gauge) (text : List ℕ) (style : Style) (r : Rect) (old new : BufferData) : Type 0 where
   pub fill : Fill
   pub is_fill : IsFillOf g text r fill
-  pub filled : Sheet
+  pub filled : BufferData
   pub bar : ChangesEach r (filled_cell fill) old filled
   pub label : PaintsPieces (corner (label_part text r)) (pieces_on_bar text style r filled.area) filled new
 
@@ -88,17 +88,17 @@ style_of_label None = new_style
 style_of_label (Some label) = label.style
 
 -- the bar with its label over an area
-abbrev pub FillsGauge : Gauge → Rect → Sheet → Sheet → Type 0
+abbrev pub FillsGauge : Gauge → Rect → BufferData → BufferData → Type 0
 FillsGauge g r = FillsArea g (text_of_label g g.label) (style_of_label g.label) r
 
 abbrev pub gauge_pieces : Gauge → Rect → Rect → List Piece
 gauge_pieces g r own = pieces_on_bar (text_of_label g g.label) (style_of_label g.label) r own
 
 -- A gauge over the part of an area that a buffer has: its style, its box, and inside the bar with its label. Nothing outside the area changes.
-abbrev pub RendersAreaGauge : Gauge → Rect → Sheet → Sheet → Type 0
+abbrev pub RendersAreaGauge : Gauge → Rect → BufferData → BufferData → Type 0
 RendersAreaGauge g = RendersInFrame g.style g.block (FillsGauge g)
 
 -- it takes no memory if its box takes none and the label's graphemes are short
-pub record IsShortGauge (g : Gauge) (area : Rect) (s : Sheet) : Type 0 where
+pub record IsShortGauge (g : Gauge) (area : Rect) (s : BufferData) : Type 0 where
   pub frame : IsShortFrame g.block s
   pub label : AreShort (gauge_pieces g (inner_if g.block (intersected area s.area)) s.area)

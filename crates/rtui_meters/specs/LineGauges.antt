@@ -3,7 +3,7 @@ use Rattle.std.specs.Prelude.{◌≡◌, ℕ, ◌+◌, ◌-◌, nat_lt, min, Lis
 use Rattle.ratatui_core.specs.Layout.{Rect, Position, corner, intersected}
 use Rattle.ratatui_core.specs.Style.{new_style}
 use Rattle.ratatui_core.specs.Text.{LineData}
-use Rattle.ratatui_core.specs.Buffer.{Sheet, Cell, Piece, styled, with_symbol, pieces_at, line_pieces_at, columns, PaintsPieces, ChangesEach, AreShort, IsShort}
+use Rattle.ratatui_core.specs.Buffer.{BufferData, Cell, Piece, styled, with_symbol, pieces_at, line_pieces_at, columns, PaintsPieces, ChangesEach, AreShort, IsShort}
 use Rattle.rtui_boxes.specs.Framed.{RendersInFrame, IsShortFrame, inner_if}
 use Rattle.rtui_meters.specs.declared.line_gauge.LineGauge.{LineGauge}
 use Rattle.rtui_meters.specs.declared.line_gauge.LineFill.{LineFill}
@@ -53,13 +53,13 @@ line_cell f p c =
     if nat_lt p.x f.end then styled f.filled_style (with_symbol f.filled_symbol.now c) else styled f.unfilled_style (with_symbol f.unfilled_symbol.now c)
 
 -- the label from an area's corner on, and the line after it
-pub record FillsLine (g : LineGauge) (r : Rect) (old new : Sheet) : Type 0 where
-  pub labelled : Sheet
+pub record FillsLine (g : LineGauge) (r : Rect) (old new : BufferData) : Type 0 where
+  pub labelled : BufferData
   pub label : PaintsPieces (corner r) (line_label_pieces g r old.area) old labelled
   pub line : ChangesEach (line_part g r old.area) (line_cell (line_fill g r old.area)) labelled new
 
 -- A line gauge over the part of an area that a buffer has: its style, its box, and inside the label and the line. Nothing outside the area changes.
-abbrev pub RendersLineGauge : LineGauge → Rect → Sheet → Sheet → Type 0
+abbrev pub RendersLineGauge : LineGauge → Rect → BufferData → BufferData → Type 0
 RendersLineGauge g = RendersInFrame g.style g.block (FillsLine g)
 
 -- the label's graphemes and both symbols are short
@@ -69,6 +69,6 @@ pub record HasShortLine (g : LineGauge) (r own : Rect) : Type 0 where
   pub unfilled : IsShort g.unfilled_symbol.now
 
 -- it takes no memory if its box takes none and all that it shows is short
-pub record IsShortLineGauge (g : LineGauge) (area : Rect) (s : Sheet) : Type 0 where
+pub record IsShortLineGauge (g : LineGauge) (area : Rect) (s : BufferData) : Type 0 where
   pub frame : IsShortFrame g.block s
   pub line : HasShortLine g (inner_if g.block (intersected area s.area)) s.area

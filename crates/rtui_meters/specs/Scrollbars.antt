@@ -5,7 +5,7 @@ use Rattle.ratatui_core.specs.Layout.{Rect, Position, intersected}
 use Rattle.ratatui_core.specs.Symbols.{scrollbar_texts}
 use Rattle.ratatui_core.specs.Style.{Style, new_style}
 use Rattle.ratatui_core.specs.declared.symbols.scrollbar.Set.{Set}
-use Rattle.ratatui_core.specs.Buffer.{Sheet, Cell, styled, with_symbol, ChangesEach, IsShort, text_width}
+use Rattle.ratatui_core.specs.Buffer.{BufferData, Cell, styled, with_symbol, ChangesEach, IsShort, text_width}
 use Rattle.ratatui_core.specs.Widgets.{ChangesWithin, OnPart}
 use Rattle.rtui_boxes.specs.Boxes.{last_column, last_row}
 use Rattle.rtui_meters.specs.declared.scrollbar.Scrollbar.{Scrollbar}
@@ -167,12 +167,12 @@ marks_of b s r =
     }
 
 -- a bar over an area: without a content or without room for a track nothing changes
-pub record MarksBar (b : Scrollbar) (s : ScrollbarState) (r : Rect) (old new : Sheet) : Type 0 where
+pub record MarksBar (b : Scrollbar) (s : ScrollbarState) (r : Rect) (old new : BufferData) : Type 0 where
   pub none : (s.content_length ≡ 0) ⊎ (track_length b (bar_length b.orientation r) ≡ 0) → new ≡ old
   pub some : 0 < s.content_length → 0 < track_length b (bar_length b.orientation r) → ChangesEach (bar_area b.orientation r) (marked_cell (marks_of b s r)) old new
 
 -- A scroll bar over the part of an area that a buffer has. Nothing outside the area changes, and the state stays as it is.
-pub record RendersScrollbar (b : Scrollbar) (s t : ScrollbarState) (area : Rect) (old new : Sheet) : Type 0 where
+pub record RendersScrollbar (b : Scrollbar) (s t : ScrollbarState) (area : Rect) (old new : BufferData) : Type 0 where
   pub state : t ≡ s
   pub within : ChangesWithin area old new
   pub bar : OnPart (MarksBar b s) area old new

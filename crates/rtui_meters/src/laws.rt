@@ -1,7 +1,7 @@
 //! Laws of gauges and of scroll bars that are no single call's clause.
 
 ghost use Rattle.ratatui_core.specs.Layout.{EdgesFit, Rect};
-ghost use Rattle.ratatui_core.specs.Buffer.{Sheet, IsPlainFrom, IsSettledSheet};
+ghost use Rattle.ratatui_core.specs.Buffer.{BufferData, IsPlainFrom, IsSettledBuffer};
 ghost use Rattle.rtui_boxes.specs.Boxes.{IsPlainIfBox};
 ghost use Rattle.rtui_meters.specs.declared.gauge.Gauge.{Gauge};
 ghost use Rattle.rtui_meters.specs.Gauges.{RendersAreaGauge};
@@ -11,13 +11,14 @@ ghost use Rattle.rtui_meters.specs.Scrollbars.{HasNarrowMarks, RendersScrollbar}
 
 /// A gauge on a buffer of plain cells leaves one that a screen can show, if it has no box or a plain one.
 pub fn gauges_on_plain_cells_are_settled()
-    ensures { (g : Gauge) (area : Rect) (old new : Sheet) → EdgesFit old.area → IsPlainFrom 0 old
-        → IsPlainIfBox g.block → RendersAreaGauge g area old new → IsSettledSheet new }
+    ensures { (g : Gauge) (area : Rect) (old new : BufferData) → EdgesFit old.area
+        → IsPlainFrom 0 old
+        → IsPlainIfBox g.block → RendersAreaGauge g area old new → IsSettledBuffer new }
 {}
 
 /// A scroll bar of symbols of one column keeps cells plain.
 pub fn scroll_bars_keep_cells_plain()
-    ensures { (b : Scrollbar) (s t : ScrollbarState) (area : Rect) (old new : Sheet)
+    ensures { (b : Scrollbar) (s t : ScrollbarState) (area : Rect) (old new : BufferData)
         → HasNarrowMarks b → IsPlainFrom 0 old → RendersScrollbar b s t area old new
         → IsPlainFrom 0 new }
 {}

@@ -131,7 +131,7 @@ first_of None other = other
 abbrev pub color_of : List ℕ → Option Color
 color_of text = first_of (named_color text) (first_of (option_map Indexed (color_index text)) (hex_color text))
 
--- a colour, or the error where there is none
+-- a colour, or the error if there is none
 abbrev pub color_or_error : Option Color → Result Color ParseColorError
 color_or_error (Some c) = Ok c
 color_or_error None = Err (record {})

@@ -10,7 +10,7 @@ use std::error::Error;
 use std::fmt;
 use std::str::FromStr;
 
-/// A colour of a text, of what is behind it, or of the line under it.
+/// A colour of a text, of what is after it, or of the line under it.
 #[derive(Debug, Default, Clone, Copy, PartialEq, Eq, Hash)]
 pub enum Color {
     /// The terminal's own colour.

@@ -77,7 +77,7 @@ impl Flags for Modifier {
 pub struct Style {
     /// The colour of the text.
     pub fg: Option<Color>,
-    /// The colour behind the text.
+    /// The colour after the text.
     pub bg: Option<Color>,
     /// The colour of a line under the text.
     pub underline_color: Option<Color>,

@@ -9,8 +9,8 @@ use Rattle.rtui_diff.specs.Settled.{IsSettled}
 use Rattle.rtui_diff.specs.Shows.{ShowsColumn, Shows, Replays}
 use Rattle.rtui_diff.specs.Updates.{update_at}
 use Rattle.rtui_diff.specs.Completeness.{AreNarrow, differing}
-use Rattle.rtui_buffer.specs.Sheet.{Sheet}
-use Rattle.rtui_buffer.specs.Frame.{IsSettledSheet, common_rows, sheet_updates}
+use Rattle.rtui_buffer.specs.BufferData.{BufferData}
+use Rattle.rtui_buffer.specs.Shown.{IsSettledBuffer, common_rows, buffer_updates}
 use Rattle.rtui_backend.specs.Screen.{Screen, Draws, IsWithin}
 use Rattle.rtui_terminal.specs.Writing.{WritesDifferences, differing_count}
 
@@ -30,11 +30,11 @@ beside r a b fit out = elim (cases_lt a r.x) [
   ]
 ]
 
-module _ (p n : Sheet) (us : List Update) (old new : Screen) (fit : EdgesFit p.area) (same : n.area ≡ p.area) (are : us ≡ sheet_updates p n) (drawn : Draws old us new) where
+module _ (p n : BufferData) (us : List Update) (old new : Screen) (fit : EdgesFit p.area) (same : n.area ≡ p.area) (are : us ≡ buffer_updates p n) (drawn : Draws old us new) where
   rows : common_rows p n ≡ p.area.height
   rows = let h : n.area.height ≡ p.area.height = ap (λ r. r.height) same in omega arith
 
-  over : IsSettledSheet n → IsSettled p.area.width p.area.height n.cells
+  over : IsSettledBuffer n → IsSettled p.area.width p.area.height n.cells
   over settled = subst (λ area. IsSettled area.width area.height n.cells) same settled
 
   pub writes_differences :

@@ -5,28 +5,28 @@ use Rattle.std.proofs.lemmas.Bool.Decides.{nat_tests}
 use Rattle.rtui_geometry.specs.declared.rect.Rect.{Rect}
 use Rattle.rtui_cell.specs.Look.{Look}
 use Rattle.rtui_diff.specs.Shows.{ShowsColumn, RowAgrees}
-use Rattle.rtui_buffer.specs.Sheet.{Sheet, IsEmptied, area_size, empty_cells}
-use Rattle.rtui_buffer.specs.Frame.{IsSettledSheet, ShowsSheet}
+use Rattle.rtui_buffer.specs.BufferData.{BufferData, IsEmptied, area_size, empty_cells}
+use Rattle.rtui_buffer.specs.Shown.{IsSettledBuffer, ShowsBuffer}
 use Rattle.rtui_backend.specs.Screen.{Screen, rows_above}
 use Rattle.std.specs.Prelude.{◌⊎◌, Result, Ok, Err, OnOk, OnErr}
 use Rattle.std.specs.declared.alloc.AllocError.{AllocError}
 use Rattle.rtui_terminal.specs.Faults.{FailsOnlyByBackend}
 use Rattle.rtui_terminal.specs.declared.terminal.error.TerminalError.{TerminalError}
 use Rattle.rtui_terminal.specs.declared.terminal.error.TerminalError.TheVariants.{Backend, Memory, Area, Closure}
-use Rattle.rtui_rows.specs.Rows.{IsBlankFor, DrawsRows, ShowsRows, nonempty_cells}
-use Rattle.rtui_rows.specs.Insertion.{AppendsRows, KeepsSizeAndVisibility, HasPlaceAbove, AppendsPart}
-use Rattle.rtui_rows.specs.Scrolling.{HasPushed, HasRaised, HasLowered, PushesRows, InsertsDown, InsertsUp, rows_down}
-use Rattle.rtui_rows.specs.Following.{Follows}
-use Rattle.rtui_terminal.specs.State.{State}
+use Rattle.rtui_insert.specs.Rows.{IsBlankFor, DrawsRows, ShowsRows, nonempty_cells}
+use Rattle.rtui_insert.specs.Insertion.{AppendsRows, KeepsSizeAndVisibility, HasPlaceAbove, AppendsPart}
+use Rattle.rtui_insert.specs.Scrolling.{HasPushed, HasRaised, HasLowered, PushesRows, InsertsDown, InsertsUp, rows_down}
+use Rattle.rtui_insert.specs.Following.{Follows}
+use Rattle.rtui_terminal.specs.TerminalData.{TerminalData}
 use Rattle.rtui_terminal.specs.InStep.{IsInStep, rows_over}
 use Rattle.rtui_terminal.specs.Insertion.{inserted_area, TakesRows}
-use Rattle.rtui_rows.proofs.ShownLemmas.{parts_join, rows_shown, blank_first}
-use Rattle.rtui_rows.proofs.CountLemmas.{writes_rows, nonempty_parts}
-use Rattle.rtui_rows.proofs.PushLemmas.{more_rows, no_part}
+use Rattle.rtui_insert.proofs.ShownLemmas.{parts_join, rows_shown, blank_first}
+use Rattle.rtui_insert.proofs.CountLemmas.{writes_rows, nonempty_parts}
+use Rattle.rtui_insert.proofs.PushLemmas.{more_rows, no_part}
 use Rattle.rtui_terminal.specs.Insertion.{Inserts, StopsInserting, InsertsBy}
 
 -- all rows of a buffer were appended
-pub AppendsRows-part : (s : Sheet) (n : ℕ) (old new : List (List Look)) → n ≡ s.area.height → AppendsPart s 0 n old new → AppendsRows (s ∷ []) old new
+pub AppendsRows-part : (s : BufferData) (n : ℕ) (old new : List (List Look)) → n ≡ s.area.height → AppendsPart s 0 n old new → AppendsRows (s ∷ []) old new
 AppendsRows-part s n old new all part = record {
   rows = part.rows;
   appended = part.appended;
@@ -43,22 +43,22 @@ AppendsRows-part s n old new all part = record {
 }
 
 -- a buffer that nothing moves
-stays_put : (r : Rect) (s : Sheet) → Follows r r s s
+stays_put : (r : Rect) (s : BufferData) → Follows r r s s
 stays_put r s = record { area = record { moved = λ is. is; stays = λ no. refl }; rest = refl }
 
 -- a buffer's cells, shown further down
-shows_moved : (s : Sheet) (y : ℕ) (old new : Screen) → ShowsSheet s old.grid → ((a b : ℕ) → a < s.area.width → b < s.area.height → new.grid (s.area.x + a) (y + b) ≡ old.grid (s.area.x + a) (s.area.y + b))
-    → ShowsSheet (record s { area = record s.area { y = y } }) new.grid
+shows_moved : (s : BufferData) (y : ℕ) (old new : Screen) → ShowsBuffer s old.grid → ((a b : ℕ) → a < s.area.width → b < s.area.height → new.grid (s.area.x + a) (y + b) ≡ old.grid (s.area.x + a) (s.area.y + b))
+    → ShowsBuffer (record s { area = record s.area { y = y } }) new.grid
 shows_moved s y old new shown same = record { at = λ a b a_in b_in. subst (ShowsColumn s.area.width s.cells a b) (sym (same a b a_in b_in)) (shown.at a b a_in b_in) }
 
-module _ {B : Type 0} (screen : B → Screen) (s : State B) (inserted : Sheet) (over : inserted.area ≡ inserted_area s inserted.area.height) (known : 0 < s.known_area.height) where
-  same_height : TakesRows screen s → s.known_area.height ≡ (screen s.backend).height
+module _ {B : Type 0} (screen : B → Screen) (s : TerminalData B) (inserted : BufferData) (over : inserted.area ≡ inserted_area s inserted.area.height) (known : 0 < s.last_known_area.height) where
+  same_height : TakesRows screen s → s.last_known_area.height ≡ (screen s.backend).height
   same_height takes = sym (ap (λ (r : Rect). r.height) takes.known)
 
   wide : TakesRows screen s → inserted.area.width ≡ (screen s.backend).width
   wide takes = ap (λ (r : Rect). r.width) over ∙ takes.width
 
-  has_place : TakesRows screen s → IsInStep screen s → HasPlaceAbove inserted s.viewport_area s.known_area.height (screen s.backend)
+  has_place : TakesRows screen s → IsInStep screen s → HasPlaceAbove inserted s.viewport_area s.last_known_area.height (screen s.backend)
   has_place takes step = record {
     width = wide takes;
     height = same_height takes;
@@ -66,25 +66,25 @@ module _ {B : Type 0} (screen : B → Screen) (s : State B) (inserted : Sheet) (
   }
 
   -- above a viewport that covers the screen
-  module _ (covers : s.known_area.height ≤ s.viewport_area.height) (some : 0 < inserted.area.height) (mid b : B)
+  module _ (covers : s.last_known_area.height ≤ s.viewport_area.height) (some : 0 < inserted.area.height) (mid b : B)
       (shape_mid : KeepsSizeAndVisibility (screen s.backend) (screen mid)) (shape : KeepsSizeAndVisibility (screen mid) (screen b))
       (pushed : PushesRows inserted (screen s.backend) (screen mid))
-      {m : ℕ} (blank : Sheet) (is : IsBlankFor m inserted blank) (redrawn : s.older.area ≡ s.viewport_area → DrawsRows blank s.older 0 1 0 (screen mid) (screen b)) where
-    abbrev pub covered : State B
+      {m : ℕ} (blank : BufferData) (is : IsBlankFor m inserted blank) (redrawn : s.previous.area ≡ s.viewport_area → DrawsRows blank s.previous 0 1 0 (screen mid) (screen b)) where
+    abbrev pub covered : TerminalData B
     covered = record s { backend = b }
 
     at_top : TakesRows screen s → IsInStep screen s → s.viewport_area.y ≡ 0
     at_top takes step = omega (arith, step.on_screen.bottom, same_height takes)
 
-    has_pushed : TakesRows screen s → IsSettledSheet inserted → HasPushed inserted inserted.area.height (screen s.backend) (screen mid)
+    has_pushed : TakesRows screen s → IsSettledBuffer inserted → HasPushed inserted inserted.area.height (screen s.backend) (screen mid)
     has_pushed takes settled = pushed (record { width = wide takes; bottom = omega (arith, same_height takes) }) settled
 
-    shown : TakesRows screen s → IsInStep screen s → IsSettledSheet inserted → ShowsRows s.older 0 1 0 (screen mid) (screen b)
+    shown : TakesRows screen s → IsInStep screen s → IsSettledBuffer inserted → ShowsRows s.previous 0 1 0 (screen mid) (screen b)
     shown takes step settled =
-        let width : s.older.area.width ≡ s.viewport_area.width = ap (λ (r : Rect). r.width) step.area in
-        let height : s.older.area.height ≡ s.viewport_area.height = ap (λ (r : Rect). r.height) step.area in
+        let width : s.previous.area.width ≡ s.viewport_area.width = ap (λ (r : Rect). r.width) step.area in
+        let height : s.previous.area.height ≡ s.viewport_area.height = ap (λ (r : Rect). r.height) step.area in
         let columns : blank.area.width ≡ s.viewport_area.width = sym is.width ∙ ap (λ (r : Rect). r.width) over in
-        rows_shown blank s.older (width ∙ sym columns) 0 1 0 (omega arith) (redrawn step.area) (record {
+        rows_shown blank s.previous (width ∙ sym columns) 0 1 0 (omega arith) (redrawn step.area) (record {
           fit = record { width = width ∙ takes.width ∙ sym shape_mid.width; bottom = omega (arith, shape_mid.height, same_height takes) };
           inside = omega (arith, height);
           settled = step.settled;
@@ -92,22 +92,22 @@ module _ {B : Type 0} (screen : B → Screen) (s : State B) (inserted : Sheet) (
         })
 
     -- each column of the viewport shows what it did
-    shown_again : TakesRows screen s → IsInStep screen s → IsSettledSheet inserted → ShowsSheet s.older (screen b).grid
+    shown_again : TakesRows screen s → IsInStep screen s → IsSettledBuffer inserted → ShowsBuffer s.previous (screen b).grid
     shown_again takes step settled = record {
       at = λ x y x_in y_in.
-          let top : s.older.area.y ≡ 0 = ap (λ (r : Rect). r.y) step.area ∙ at_top takes step in
-          let left : s.older.area.x ≡ s.viewport_area.x = ap (λ (r : Rect). r.x) step.area in
-          let width : s.older.area.width ≡ s.viewport_area.width = ap (λ (r : Rect). r.width) step.area in
-          let height : s.older.area.height ≡ s.viewport_area.height = ap (λ (r : Rect). r.height) step.area in
-          let corner : s.older.area.x ≡ 0 = omega (arith, left, step.on_screen.right, takes.width) in
-          let column : s.older.area.x + x ≡ x = omega (arith, corner) in
-          let row : s.older.area.y + y ≡ y = omega (arith, top) in
+          let top : s.previous.area.y ≡ 0 = ap (λ (r : Rect). r.y) step.area ∙ at_top takes step in
+          let left : s.previous.area.x ≡ s.viewport_area.x = ap (λ (r : Rect). r.x) step.area in
+          let width : s.previous.area.width ≡ s.viewport_area.width = ap (λ (r : Rect). r.width) step.area in
+          let height : s.previous.area.height ≡ s.viewport_area.height = ap (λ (r : Rect). r.height) step.area in
+          let corner : s.previous.area.x ≡ 0 = omega (arith, left, step.on_screen.right, takes.width) in
+          let column : s.previous.area.x + x ≡ x = omega (arith, corner) in
+          let row : s.previous.area.y + y ≡ y = omega (arith, top) in
           elim (cases_lt 0 y) [
             | inl low ↦
                 let same : (screen b).grid x y ≡ (screen s.backend).grid x y =
                 (shown takes step settled).outside x y (inr (omega arith))
                 ∙ (has_pushed takes settled).below x y (omega (arith, width, takes.width)) (omega (arith, height, step.on_screen.bottom)) low in
-                rw (column, row) (subst (ShowsColumn s.older.area.width s.older.cells x y) (sym same) (rw (column, row) at (step.shown.at x y x_in y_in)))
+                rw (column, row) (subst (ShowsColumn s.previous.area.width s.previous.cells x y) (sym same) (rw (column, row) at (step.shown.at x y x_in y_in)))
             | inr first ↦
                 let zero_row : y ≡ 0 = omega arith in
                 rw (column, row, zero_row) ((shown takes step settled).shown x 0 x_in (omega arith))
@@ -120,7 +120,7 @@ module _ {B : Type 0} (screen : B → Screen) (s : State B) (inserted : Sheet) (
       over = over;
       top = omega arith;
       current = stays_put s.viewport_area s.current;
-      older = stays_put s.viewport_area s.older;
+      previous = stays_put s.viewport_area s.previous;
       shape = record { width = shape.width ∙ shape_mid.width; height = shape.height ∙ shape_mid.height; visible = shape.visible ∙ shape_mid.visible };
       above = λ takes step settled.
           let top = at_top takes step in
@@ -131,7 +131,7 @@ module _ {B : Type 0} (screen : B → Screen) (s : State B) (inserted : Sheet) (
       below = λ takes step settled blank. record { at = λ x y x_in y_in past. absurd (omega (arith, shape.height, shape_mid.height, same_height takes)) };
       moved = λ takes step settled lower a b a_in b_in. absurd (omega arith);
       kept = λ takes step settled a b a_in b_in past. absurd (omega (arith, same_height takes));
-      left = λ takes step. ap (λ r. record s.older { area = r }) step.area;
+      left = λ takes step. ap (λ r. record s.previous { area = r }) step.area;
       in_step = λ takes step settled. record {
         on_screen = record { right = omega (arith, step.on_screen.right, shape.width, shape_mid.width); bottom = omega (arith, step.on_screen.bottom, shape.height, shape_mid.height) };
         area = step.area;
@@ -139,7 +139,7 @@ module _ {B : Type 0} (screen : B → Screen) (s : State B) (inserted : Sheet) (
         shown = shown_again takes step settled;
       };
       few = λ takes step settled narrow room.
-          let covered : (if nat_lt s.viewport_area.height s.known_area.height then 0 else 2 * inserted.area.width) ≡ 2 * inserted.area.width = grind (arith, nat_tests) in
+          let covered : (if nat_lt s.viewport_area.height s.last_known_area.height then 0 else 2 * inserted.area.width) ≡ 2 * inserted.area.width = grind (arith, nat_tests) in
           let once : min inserted.area.height 1 * inserted.area.width ≡ inserted.area.width = ap (λ m. m * inserted.area.width) (let one : min inserted.area.height 1 ≡ 1 = omega arith in one) ∙ omega arith in
           let columns : blank.area.width * 1 ≡ inserted.area.width = omega (arith, is.width) in
           let pushes : (screen mid).written ≤ (screen s.backend).written + (min inserted.area.height 1 * inserted.area.width + nonempty_cells inserted 0 inserted.area.height) =
@@ -147,7 +147,7 @@ module _ {B : Type 0} (screen : B → Screen) (s : State B) (inserted : Sheet) (
           let repairs : (screen b).written ≤ (screen mid).written + blank.area.width * 1 = writes_rows (redrawn step.area) (omega (arith, covered, once, columns, pushes, room)) in
           omega (arith, covered, once, columns, pushes, repairs);
       most = λ takes step settled room.
-          let covered : (if nat_lt s.viewport_area.height s.known_area.height then 0 else inserted.area.width) ≡ inserted.area.width = grind (arith, nat_tests) in
+          let covered : (if nat_lt s.viewport_area.height s.last_known_area.height then 0 else inserted.area.width) ≡ inserted.area.width = grind (arith, nat_tests) in
           let columns : blank.area.width * 1 ≡ inserted.area.width = omega (arith, is.width) in
           let pushes : (screen mid).written ≤ (screen s.backend).written + inserted.area.width * inserted.area.height = (has_pushed takes settled).most (omega (arith, covered, room)) in
           let repairs : (screen b).written ≤ (screen mid).written + blank.area.width * 1 = writes_rows (redrawn step.area) (omega (arith, covered, columns, pushes, room)) in
@@ -155,29 +155,29 @@ module _ {B : Type 0} (screen : B → Screen) (s : State B) (inserted : Sheet) (
     }
 
   -- above one that doesn't: first it moves down, then the rows above it move up
-  module _ (n : ℕ) (n_is : n ≡ rows_down inserted.area.height s.viewport_area s.known_area.height) (mid b : B) (current older : Sheet)
+  module _ (n : ℕ) (n_is : n ≡ rows_down inserted.area.height s.viewport_area s.last_known_area.height) (mid b : B) (current previous : BufferData)
       (shape_mid : KeepsSizeAndVisibility (screen s.backend) (screen mid)) (shape : KeepsSizeAndVisibility (screen mid) (screen b))
-      (down : InsertsDown inserted s.viewport_area s.known_area.height (screen s.backend) (screen mid) n)
+      (down : InsertsDown inserted s.viewport_area s.last_known_area.height (screen s.backend) (screen mid) n)
       (up : InsertsUp inserted n (s.viewport_area.y + n) (screen mid) (screen b))
       (with_current : Follows s.viewport_area (record s.viewport_area { y = s.viewport_area.y + n }) s.current current)
-      (with_older : Follows s.viewport_area (record s.viewport_area { y = s.viewport_area.y + n }) s.older older) where
-    abbrev pub moved : State B
-    moved = record s { backend = b; current = current; older = older; viewport_area = record s.viewport_area { y = s.viewport_area.y + n } }
+      (with_older : Follows s.viewport_area (record s.viewport_area { y = s.viewport_area.y + n }) s.previous previous) where
+    abbrev pub moved : TerminalData B
+    moved = record s { backend = b; current = current; previous = previous; viewport_area = record s.viewport_area { y = s.viewport_area.y + n } }
 
     fits : TakesRows screen s → IsInStep screen s → s.viewport_area.y + n + s.viewport_area.height ≤ (screen s.backend).height
     fits takes step = omega (arith, n_is, step.on_screen.bottom, same_height takes)
 
-    lowered : TakesRows screen s → IsInStep screen s → IsSettledSheet inserted → HasLowered inserted n s.viewport_area (screen s.backend) (screen mid)
+    lowered : TakesRows screen s → IsInStep screen s → IsSettledBuffer inserted → HasLowered inserted n s.viewport_area (screen s.backend) (screen mid)
     lowered takes step settled = down (has_place takes step) settled
 
-    raised : TakesRows screen s → IsInStep screen s → IsSettledSheet inserted → HasRaised inserted n (inserted.area.height - n) (s.viewport_area.y + n) (screen mid) (screen b)
+    raised : TakesRows screen s → IsInStep screen s → IsSettledBuffer inserted → HasRaised inserted n (inserted.area.height - n) (s.viewport_area.y + n) (screen mid) (screen b)
     raised takes step settled = up (wide takes ∙ sym shape_mid.width) (omega (arith, fits takes step, shape_mid.height)) settled
 
-    left_older : TakesRows screen s → IsInStep screen s → older ≡ record s.older { area = record s.viewport_area { y = s.viewport_area.y + n } }
-    left_older takes step = with_older.rest ∙ ap (λ r. record s.older { area = r }) (with_older.area.moved step.area)
+    left_older : TakesRows screen s → IsInStep screen s → previous ≡ record s.previous { area = record s.viewport_area { y = s.viewport_area.y + n } }
+    left_older takes step = with_older.rest ∙ ap (λ r. record s.previous { area = r }) (with_older.area.moved step.area)
 
     -- a row of the viewport, and of what lies below, is where it went
-    viewport_moved : TakesRows screen s → IsInStep screen s → IsSettledSheet inserted → (x y : ℕ) → x < (screen s.backend).width → y < s.viewport_area.height
+    viewport_moved : TakesRows screen s → IsInStep screen s → IsSettledBuffer inserted → (x y : ℕ) → x < (screen s.backend).width → y < s.viewport_area.height
         → (screen b).grid x (s.viewport_area.y + n + y) ≡ (screen s.backend).grid x (s.viewport_area.y + y)
     viewport_moved takes step settled x y x_in y_in =
         (raised takes step settled).below x (s.viewport_area.y + n + y) (omega (arith, shape_mid.width)) (omega (arith, shape_mid.height, fits takes step)) (omega arith)
@@ -189,7 +189,7 @@ module _ {B : Type 0} (screen : B → Screen) (s : State B) (inserted : Sheet) (
       over = over;
       top = ap (λ k. s.viewport_area.y + k) n_is;
       current = with_current;
-      older = with_older;
+      previous = with_older;
       shape = record { width = shape.width ∙ shape_mid.width; height = shape.height ∙ shape_mid.height; visible = shape.visible ∙ shape_mid.visible };
       above = λ takes step settled.
           AppendsRows-part inserted inserted.area.height _ _ refl
@@ -207,20 +207,20 @@ module _ {B : Type 0} (screen : B → Screen) (s : State B) (inserted : Sheet) (
           ∙ (lowered takes step settled).below a b a_in b_in (omega arith);
       in_step = λ takes step settled.
           let e = left_older takes step in
-          let x : s.older.area.x ≡ s.viewport_area.x = ap (λ (r : Rect). r.x) step.area in
-          let y : s.older.area.y ≡ s.viewport_area.y = ap (λ (r : Rect). r.y) step.area in
-          let width : s.older.area.width ≡ s.viewport_area.width = ap (λ (r : Rect). r.width) step.area in
-          let height : s.older.area.height ≡ s.viewport_area.height = ap (λ (r : Rect). r.height) step.area in
-          let shown : ShowsSheet (record s.older { area = record s.older.area { y = s.viewport_area.y + n } }) (screen b).grid =
-          shows_moved s.older (s.viewport_area.y + n) (screen s.backend) (screen b) step.shown (λ a r a_in r_in.
-          viewport_moved takes step settled (s.older.area.x + a) r (omega (arith, x, width, step.on_screen.right)) (omega (arith, height))
-          ∙ ap (λ k. (screen s.backend).grid (s.older.area.x + a) (k + r)) (sym y)) in
-          let whole : ShowsSheet (record s.older { area = record s.viewport_area { y = s.viewport_area.y + n } }) (screen b).grid = rw step.area at shown in
+          let x : s.previous.area.x ≡ s.viewport_area.x = ap (λ (r : Rect). r.x) step.area in
+          let y : s.previous.area.y ≡ s.viewport_area.y = ap (λ (r : Rect). r.y) step.area in
+          let width : s.previous.area.width ≡ s.viewport_area.width = ap (λ (r : Rect). r.width) step.area in
+          let height : s.previous.area.height ≡ s.viewport_area.height = ap (λ (r : Rect). r.height) step.area in
+          let shown : ShowsBuffer (record s.previous { area = record s.previous.area { y = s.viewport_area.y + n } }) (screen b).grid =
+          shows_moved s.previous (s.viewport_area.y + n) (screen s.backend) (screen b) step.shown (λ a r a_in r_in.
+          viewport_moved takes step settled (s.previous.area.x + a) r (omega (arith, x, width, step.on_screen.right)) (omega (arith, height))
+          ∙ ap (λ k. (screen s.backend).grid (s.previous.area.x + a) (k + r)) (sym y)) in
+          let whole : ShowsBuffer (record s.previous { area = record s.viewport_area { y = s.viewport_area.y + n } }) (screen b).grid = rw step.area at shown in
           record {
             on_screen = record { right = omega (arith, step.on_screen.right, shape.width, shape_mid.width); bottom = omega (arith, fits takes step, shape.height, shape_mid.height) };
-            area = ap (λ (o : Sheet). o.area) e;
-            settled = subst IsSettledSheet (sym e) (rw step.area at step.settled);
-            shown = subst (λ o. ShowsSheet o (screen b).grid) (sym e) whole;
+            area = ap (λ (o : BufferData). o.area) e;
+            settled = subst IsSettledBuffer (sym e) (rw step.area at step.settled);
+            shown = subst (λ o. ShowsBuffer o (screen b).grid) (sym e) whole;
           };
       few = λ takes step settled narrow room.
           let place : 0 + n ≡ n = omega arith in
@@ -240,10 +240,10 @@ module _ {B : Type 0} (screen : B → Screen) (s : State B) (inserted : Sheet) (
     }
 
   -- a backend failed after that move
-  pub stopped_moved : (n : ℕ) → n ≡ rows_down inserted.area.height s.viewport_area s.known_area.height → (mid b : B) (current older : Sheet) → InsertsDown inserted s.viewport_area s.known_area.height (screen s.backend) (screen mid) n
-      → Follows s.viewport_area (record s.viewport_area { y = s.viewport_area.y + n }) s.current current → Follows s.viewport_area (record s.viewport_area { y = s.viewport_area.y + n }) s.older older
-      → StopsInserting screen inserted s (record s { backend = b; current = current; older = older; viewport_area = record s.viewport_area { y = s.viewport_area.y + n } })
-  stopped_moved n n_is mid b current older down with_current with_older = record {
+  pub stopped_moved : (n : ℕ) → n ≡ rows_down inserted.area.height s.viewport_area s.last_known_area.height → (mid b : B) (current previous : BufferData) → InsertsDown inserted s.viewport_area s.last_known_area.height (screen s.backend) (screen mid) n
+      → Follows s.viewport_area (record s.viewport_area { y = s.viewport_area.y + n }) s.current current → Follows s.viewport_area (record s.viewport_area { y = s.viewport_area.y + n }) s.previous previous
+      → StopsInserting screen inserted s (record s { backend = b; current = current; previous = previous; viewport_area = record s.viewport_area { y = s.viewport_area.y + n } })
+  stopped_moved n n_is mid b current previous down with_current with_older = record {
     rest = refl;
     moved = inr (record {
       top = ap (λ k. s.viewport_area.y + k) n_is;
@@ -251,12 +251,12 @@ module _ {B : Type 0} (screen : B → Screen) (s : State B) (inserted : Sheet) (
       lowered = λ takes step settled. subst (λ k. HasLowered inserted k s.viewport_area (screen s.backend) (screen mid)) n_is (down (has_place takes step) settled);
     });
     current = with_current;
-    older = with_older;
+    previous = with_older;
   }
 
 module _ {B : Type 0} (screen : B → Screen) where
   -- no rows
-  pub inserted_none : (s : State B) (inserted : Sheet) (height : ℕ) → inserted.area ≡ inserted_area s height → height ≡ 0 → Inserts screen inserted s s
+  pub inserted_none : (s : TerminalData B) (inserted : BufferData) (height : ℕ) → inserted.area ≡ inserted_area s height → height ≡ 0 → Inserts screen inserted s s
   inserted_none s inserted height over none =
       let same : inserted.area.height ≡ height = ap (λ (r : Rect). r.height) over in
       let flat : inserted.area.height ≡ 0 = same ∙ none in
@@ -265,11 +265,11 @@ module _ {B : Type 0} (screen : B → Screen) where
         over = over ∙ ap (inserted_area s) (sym same);
         top = omega (arith, flat);
         current = stays_put s.viewport_area s.current;
-        older = stays_put s.viewport_area s.older;
+        previous = stays_put s.viewport_area s.previous;
         shape = record { width = refl; height = refl; visible = refl };
         above = λ takes step settled. AppendsRows-part inserted 0 _ _ (sym flat) (no_part inserted 0 (rows_over screen s));
         below = λ takes step settled blank. blank;
-        left = λ takes step. ap (λ r. record s.older { area = r }) step.area;
+        left = λ takes step. ap (λ r. record s.previous { area = r }) step.area;
         in_step = λ takes step settled. step;
         moved = λ takes step settled lower a b a_in b_in. refl;
         kept = λ takes step settled a b a_in b_in past. refl;
@@ -277,13 +277,13 @@ module _ {B : Type 0} (screen : B → Screen) where
         most = λ takes step settled room. omega arith;
       }
 
-  nothing : {s t : State B} {h k : ℕ} → 0 < h → 0 < k → (h ≡ 0) ⊎ (k ≡ 0) → t ≡ s
+  nothing : {s t : TerminalData B} {h k : ℕ} → 0 < h → 0 < k → (h ≡ 0) ⊎ (k ≡ 0) → t ≡ s
   nothing low some (inl none) = absurd (omega (arith, low, none))
   nothing low some (inr none) = absurd (omega (arith, some, none))
 
   -- rows that a closure filled were inserted, or a backend failed on the way
-  pub inserted_by : {T E : Type 0} (result : Result T (TerminalError E)) (area : Rect) (filled : Result (Unit {0}) AllocError → Sheet → Type 0) (inserted : Sheet) (s t : State B)
-      → filled (Ok tt) inserted → inserted.area ≡ area → 0 < s.known_area.height → 0 < area.height
+  pub inserted_by : {T E : Type 0} (result : Result T (TerminalError E)) (area : Rect) (filled : Result (Unit {0}) AllocError → BufferData → Type 0) (inserted : BufferData) (s t : TerminalData B)
+      → filled (Ok tt) inserted → inserted.area ≡ area → 0 < s.last_known_area.height → 0 < area.height
       → OnOk result (Inserts screen inserted s t) → OnErr result (StopsInserting screen inserted s t) → FailsOnlyByBackend result
       → InsertsBy screen area filled s t result
   inserted_by (Ok answer) area filled inserted s t closure over known some ok err only =
@@ -295,10 +295,10 @@ module _ {B : Type 0} (screen : B → Screen) where
   inserted_by (Err (Closure error)) area filled inserted s t closure over known some ok err only = absurd only
 
 -- an empty current buffer moves with the viewport
-pub emptied-moved : {B : Type 0} (screen : B → Screen) (inserted : Sheet) (s t : State B) → Inserts screen inserted s t → IsEmptied s.viewport_area s.current → IsEmptied t.viewport_area t.current
+pub emptied-moved : {B : Type 0} (screen : B → Screen) (inserted : BufferData) (s t : TerminalData B) → Inserts screen inserted s t → IsEmptied s.viewport_area s.current → IsEmptied t.viewport_area t.current
 emptied-moved {B} screen inserted s t inserts empty =
-    let area : t.viewport_area ≡ record s.viewport_area { y = t.viewport_area.y } = ap (λ (x : State B). x.viewport_area) inserts.rest in
+    let area : t.viewport_area ≡ record s.viewport_area { y = t.viewport_area.y } = ap (λ (x : TerminalData B). x.viewport_area) inserts.rest in
     record {
       area = inserts.current.area.moved empty.area;
-      cells = ap (λ (x : Sheet). x.cells) inserts.current.rest ∙ empty.cells ∙ ap empty_cells (sym (ap area_size area));
+      cells = ap (λ (x : BufferData). x.cells) inserts.current.rest ∙ empty.cells ∙ ap empty_cells (sym (ap area_size area));
     }

@@ -2,8 +2,8 @@
 use Rattle.std.proofs.Common.{◌≡◌, ℕ, ◌+◌, ◌<◌, Option, Some, None, refl, sym, ap, ◌∙◌, subst, inl, inr, arith}
 use Rattle.rtui_geometry.specs.declared.position.Position.{Position}
 use Rattle.rtui_geometry.specs.declared.rect.Rect.{Rect}
-use Rattle.rtui_buffer.specs.Sheet.{Sheet}
-use Rattle.rtui_buffer.specs.Frame.{IsSettledSheet}
+use Rattle.rtui_buffer.specs.BufferData.{BufferData}
+use Rattle.rtui_buffer.specs.Shown.{IsSettledBuffer}
 use Rattle.rtui_backend.specs.Screen.{Screen, KeepsSizeAndHistory, IsOnScreen, IsWithin, rows_above}
 use Rattle.rtui_backend.proofs.ScrollLemmas.{above_same}
 use Rattle.rtui_viewport.specs.Areas.{KeepsOutside, IsBlankBelow}
@@ -12,7 +12,7 @@ use Rattle.rtui_viewport.specs.Viewports.{IsFixed, IsInline}
 use Rattle.rtui_viewport.specs.declared.viewport.Viewport.{Viewport}
 use Rattle.rtui_viewport.specs.declared.viewport.Viewport.TheVariants.{Fullscreen, Inline, Fixed}
 use Rattle.rtui_viewport.proofs.ClearLemmas.{keeps_outside, keeps_above}
-use Rattle.rtui_terminal.specs.State.{State, IsInPlace}
+use Rattle.rtui_terminal.specs.TerminalData.{TerminalData, IsInPlace}
 use Rattle.rtui_terminal.specs.InStep.{IsInStep, IsSized, KeepsAroundViewport, rows_over}
 use Rattle.rtui_terminal.specs.Writing.{HasDrawn, cursor_placed}
 use Rattle.rtui_terminal.specs.Cursor.{Stays}
@@ -43,7 +43,7 @@ outside_cleared (Fixed f) r clears fixed on = keeps_outside r (clears on)
 
 module _ {B : Type 0} (screen : B → Screen) where
   -- what stays outside a viewport stays above it
-  pub rest_of : (s t : State B) → t.viewport_area ≡ s.viewport_area → KeepsSizeAndHistory (screen s.backend) (screen t.backend)
+  pub rest_of : (s t : TerminalData B) → t.viewport_area ≡ s.viewport_area → KeepsSizeAndHistory (screen s.backend) (screen t.backend)
       → KeepsOutside s.viewport_area (screen s.backend) (screen t.backend) → KeepsAroundViewport screen s t
   rest_of s t view size outside = record {
     viewport_area = view;
@@ -55,7 +55,7 @@ module _ {B : Type 0} (screen : B → Screen) where
     outside = outside;
   }
 
-  pub rest_more : (r s t : State B) → KeepsAroundViewport screen r s → KeepsAroundViewport screen s t → KeepsAroundViewport screen r t
+  pub rest_more : (r s t : TerminalData B) → KeepsAroundViewport screen r s → KeepsAroundViewport screen s t → KeepsAroundViewport screen r t
   rest_more r s t p q = record {
     viewport_area = q.viewport_area ∙ p.viewport_area;
     size = size_more p.size q.size;
@@ -68,34 +68,34 @@ module _ {B : Type 0} (screen : B → Screen) where
     };
   }
 
-  pub stays_rest : (s t : State B) → Stays screen s t → KeepsAroundViewport screen s t
-  stays_rest s t stays = rest_of s t (ap (λ (x : State B). x.viewport_area) stays.rest)
+  pub stays_rest : (s t : TerminalData B) → Stays screen s t → KeepsAroundViewport screen s t
+  stays_rest s t stays = rest_of s t (ap (λ (x : TerminalData B). x.viewport_area) stays.rest)
       (record { width = ap (λ (x : Screen). x.width) stays.screen_stays; height = ap (λ (x : Screen). x.height) stays.screen_stays; history = ap (λ (x : Screen). x.history) stays.screen_stays })
       (record { at = λ a b _ _ _. ap (λ (x : Screen). x.grid a b) stays.screen_stays })
 
   -- a drawing of a settled buffer changes nothing outside
-  pub drawn_rest : (cursor : Option Position) (s t : State B) → t.viewport_area ≡ s.viewport_area → HasDrawn cursor s (screen s.backend) (screen t.backend)
-      → IsInStep screen s → IsSettledSheet s.current → KeepsAroundViewport screen s t
+  pub drawn_rest : (cursor : Option Position) (s t : TerminalData B) → t.viewport_area ≡ s.viewport_area → HasDrawn cursor s (screen s.backend) (screen t.backend)
+      → IsInStep screen s → IsSettledBuffer s.current → KeepsAroundViewport screen s t
   drawn_rest cursor s t view (between, writes, is) step settled =
       let placed = placed_size cursor between in
-      let on : IsOnScreen s.older.area (screen s.backend) = subst (λ r. IsOnScreen r (screen s.backend)) (sym step.area) step.on_screen in
+      let on : IsOnScreen s.previous.area (screen s.backend) = subst (λ r. IsOnScreen r (screen s.backend)) (sym step.area) step.on_screen in
       let outside : KeepsOutside s.viewport_area (screen s.backend) between = subst (λ r. KeepsOutside r (screen s.backend) between) step.area (writes.outside on step.settled settled) in
       rest_of s t view
       (subst (λ new. KeepsSizeAndHistory (screen s.backend) new) (sym is) (record { width = placed.width ∙ writes.drawn.width; height = placed.height ∙ writes.drawn.height; history = placed.history ∙ writes.drawn.history }))
       (record { at = λ a b a_in b_in out. ap (λ (x : Screen). x.grid a b) is ∙ placed_grid cursor between a b ∙ outside.at a b a_in b_in out })
 
   -- from in step at the known size a resizing does nothing
-  pub autoresized_rest : (s t : State B) → Autoresizes screen s t → IsSized screen s → KeepsAroundViewport screen s t
+  pub autoresized_rest : (s t : TerminalData B) → Autoresizes screen s t → IsSized screen s → KeepsAroundViewport screen s t
   autoresized_rest s t resizes sized = elim (resizes.case) [
     | inl same ↦ stays_rest s t same.1
     | inr other ↦ absurd (other.0 sized)
   ]
 
-  pub painted_rest : (s t : State B) (painted : Sheet) → KeepsAroundViewport screen (record s { current = painted }) t → KeepsAroundViewport screen s t
+  pub painted_rest : (s t : TerminalData B) (painted : BufferData) → KeepsAroundViewport screen (record s { current = painted }) t → KeepsAroundViewport screen s t
   painted_rest s t painted keeps = record { viewport_area = keeps.viewport_area; size = keeps.size; above = keeps.above; outside = keeps.outside }
 
 -- blank rows below a viewport, all around which stays
-pub below-kept : {B : Type 0} (screen : B → Screen) (s t : State B) → KeepsAroundViewport screen s t → IsBlankBelow s.viewport_area (screen s.backend) → IsBlankBelow t.viewport_area (screen t.backend)
+pub below-kept : {B : Type 0} (screen : B → Screen) (s t : TerminalData B) → KeepsAroundViewport screen s t → IsBlankBelow s.viewport_area (screen s.backend) → IsBlankBelow t.viewport_area (screen t.backend)
 below-kept screen s t keeps blank = record {
   at = λ a b a_in b_in low.
       let bottom : t.viewport_area.y + t.viewport_area.height ≡ s.viewport_area.y + s.viewport_area.height = ap (λ (r : Rect). r.y + r.height) keeps.viewport_area in

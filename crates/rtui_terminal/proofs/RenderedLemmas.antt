@@ -5,9 +5,9 @@ use Rattle.std.specs.declared.alloc.AllocError.{AllocError}
 use Rattle.rtui_geometry.specs.declared.position.Position.{Position}
 use Rattle.rtui_geometry.specs.declared.rect.Rect.{Rect}
 use Rattle.rtui_cell.specs.Cell.{empty_cell}
-use Rattle.rtui_buffer.specs.Sheet.{Sheet, IsEmptied, empty_cells, area_size}
+use Rattle.rtui_buffer.specs.BufferData.{BufferData, IsEmptied, empty_cells, area_size}
 use Rattle.rtui_backend.specs.Screen.{Screen, screen_area}
-use Rattle.rtui_terminal.specs.State.{HasAreas, State}
+use Rattle.rtui_terminal.specs.TerminalData.{HasAreas, TerminalData}
 use Rattle.rtui_terminal.specs.InStep.{IsReady, IsSized}
 use Rattle.rtui_terminal.specs.Faults.{IsBackendFault}
 use Rattle.rtui_terminal.specs.declared.terminal.error.TerminalError.{TerminalError}
@@ -25,38 +25,38 @@ cut-empty (suc m) (suc n) =
     let less : suc n - suc (length (empty_cells m)) ≡ n - length (empty_cells m) = omega arith in
     ap (λ cells. empty_cell ∷ cells) (rw less (cut-empty m n))
 
-pub resized-empty : (r area : Rect) (old new : Sheet) → IsEmptied r old → IsResized area old new → IsEmptied area new
+pub resized-empty : (r area : Rect) (old new : BufferData) → IsEmptied r old → IsResized area old new → IsEmptied area new
 resized-empty r area old new empty is = record {
   area = is.area_is;
   cells = is.cells ∙ ap (λ cells. take (area_size area) cells ++ empty_cells (area_size area - length cells)) empty.cells ∙ cut-empty (area_size r) (area_size area);
 }
 
-pub sized-empty : {B : Type 0} (screen : B → Screen) (s sized : State B) → Autoresizes screen s sized → IsEmptied s.viewport_area s.current → IsEmptied sized.viewport_area sized.current
+pub sized-empty : {B : Type 0} (screen : B → Screen) (s sized : TerminalData B) → Autoresizes screen s sized → IsEmptied s.viewport_area s.current → IsEmptied sized.viewport_area sized.current
 sized-empty {B} screen s sized found empty =
     ⊎_elim
     (λ (stays : IsSized screen s × Stays screen s sized).
     let same = stays.1.rest in
-    subst (λ (t : State B). IsEmptied t.viewport_area t.current) (sym same) empty)
+    subst (λ (t : TerminalData B). IsEmptied t.viewport_area t.current) (sym same) empty)
     (λ (resizes : (IsSized screen s → ⊥) × Resizes screen (screen_area (screen s.backend)) s sized).
     resized-empty s.viewport_area sized.viewport_area s.current sized.current empty resizes.1.current)
     found.case
 
-pub shows-rendered : {B X : Type 0} (screen : B → Screen) (ran : State B → Result (Unit {0}) X → Option Position → Sheet → Type 0) (renders : Rect → Sheet → Sheet → Type 0) (s t : State B)
+pub shows-rendered : {B X : Type 0} (screen : B → Screen) (ran : TerminalData B → Result (Unit {0}) X → Option Position → BufferData → Type 0) (renders : Rect → BufferData → BufferData → Type 0) (s t : TerminalData B)
     → IsReady screen s → IsEmptied s.viewport_area s.current → OnlyRenders ran renders → DrawOk screen ran s t → ShowsRendered screen renders t
 shows-rendered screen ran renders s t ready empty only drawn =
-    let own : t.older.area ≡ drawn.draws.sized.viewport_area = drawn.draws.applied.areas.current in
+    let own : t.previous.area ≡ drawn.draws.sized.viewport_area = drawn.draws.applied.areas.current in
     record {
       area = own ∙ sym (ap (λ q. q.viewport_area) drawn.draws.applied.rest);
       rendered = record {
         blank = drawn.draws.sized.current;
         emptied = subst (λ q. IsEmptied q drawn.draws.sized.current) (sym own) (sized-empty screen s drawn.draws.sized drawn.draws.autoresized empty);
-        rendered = subst (λ q. renders q drawn.draws.sized.current t.older) (sym own) (only drawn.draws.sized drawn.draws.cursor t.older drawn.closure);
+        rendered = subst (λ q. renders q drawn.draws.sized.current t.previous) (sym own) (only drawn.draws.sized drawn.draws.cursor t.previous drawn.closure);
       };
       shown = λ settled. (drawn.draws.in_step ready settled).shown;
     }
 
 -- a draw that finds the last known size changes nothing before its closure is called
-pub sized-stays : {B : Type 0} (screen : B → Screen) (s sized : State B) → IsSized screen s → Autoresizes screen s sized → Stays screen s sized
+pub sized-stays : {B : Type 0} (screen : B → Screen) (s sized : TerminalData B) → IsSized screen s → Autoresizes screen s sized → Stays screen s sized
 sized-stays {B} screen s sized known found =
     ⊎_elim
     (λ (stays : IsSized screen s × Stays screen s sized). stays.1)
@@ -65,9 +65,9 @@ sized-stays {B} screen s sized known found =
 
 -- a draw that finds that size, over buffers of the viewport's area, and whose closure takes no memory and keeps that area is refused by the
 -- backend alone
-pub refused-by-backend : {B E : Type 0} (screen : B → Screen) (ran : State B → Result (Unit {0}) AllocError → Option Position → Sheet → Type 0) (s t : State B) (error : TerminalError E) → IsSized screen s → HasAreas s
-    → ((r : State B) (cursor : Option Position) (painted : Sheet) → ran r (Err alloc_error) cursor painted → ⊥)
-    → ((r : State B) (cursor : Option Position) (painted : Sheet) → ran r (Ok tt) cursor painted → painted.area ≡ r.current.area)
+pub refused-by-backend : {B E : Type 0} (screen : B → Screen) (ran : TerminalData B → Result (Unit {0}) AllocError → Option Position → BufferData → Type 0) (s t : TerminalData B) (error : TerminalError E) → IsSized screen s → HasAreas s
+    → ((r : TerminalData B) (cursor : Option Position) (painted : BufferData) → ran r (Err alloc_error) cursor painted → ⊥)
+    → ((r : TerminalData B) (cursor : Option Position) (painted : BufferData) → ran r (Ok tt) cursor painted → painted.area ≡ r.current.area)
     → DrawErr screen ran s t error → IsBackendFault error
 refused-by-backend screen ran s t (Backend error) known areas never keeps by = tt
 refused-by-backend screen ran s t Memory known areas never keeps by =
@@ -77,9 +77,9 @@ refused-by-backend screen ran s t Memory known areas never keeps by =
     ]
 refused-by-backend {B} screen ran s t Area known areas never keeps by =
     let stays = sized-stays screen s by.sized known by.autoresized in
-    let place : by.sized.viewport_area ≡ s.viewport_area = ap (λ (x : State B). x.viewport_area) stays.rest in
+    let place : by.sized.viewport_area ≡ s.viewport_area = ap (λ (x : TerminalData B). x.viewport_area) stays.rest in
     absurd (by.left.1 (record {
-      current = keeps by.sized by.cursor by.painted by.closure ∙ ap (λ (x : State B). x.current.area) stays.rest ∙ areas.current ∙ sym place;
-      older = ap (λ (x : State B). x.older.area) stays.rest ∙ areas.older ∙ sym place;
+      current = keeps by.sized by.cursor by.painted by.closure ∙ ap (λ (x : TerminalData B). x.current.area) stays.rest ∙ areas.current ∙ sym place;
+      previous = ap (λ (x : TerminalData B). x.previous.area) stays.rest ∙ areas.previous ∙ sym place;
     }))
 refused-by-backend screen ran s t (Closure error) known areas never keeps by = by

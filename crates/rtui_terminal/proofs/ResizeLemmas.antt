@@ -4,21 +4,21 @@ use Rattle.std.specs.Prelude.{Result, Ok, Err, MatchResult}
 use Rattle.rtui_geometry.specs.declared.rect.Rect.{Rect}
 use Rattle.rtui_backend.specs.Screen.{Screen, screen_area}
 use Rattle.rtui_viewport.specs.Viewports.{IsFixed}
-use Rattle.rtui_terminal.specs.State.{State, cursor_offset}
+use Rattle.rtui_terminal.specs.TerminalData.{TerminalData, cursor_offset}
 use Rattle.rtui_viewport.specs.Placing.{area_in, raised}
 use Rattle.rtui_terminal.specs.InStep.{IsSized}
 use Rattle.rtui_terminal.specs.Resizing.{Resizes, ResizeErr, Autoresizes, AutoresizeErr, KeepsBuffers, ResizesBuffers}
 use Rattle.rtui_terminal.specs.declared.terminal.error.TerminalError.{TerminalError}
 use Rattle.rtui_terminal.specs.declared.terminal.error.TerminalError.TheVariants.{Backend, Memory, Area, Closure}
 
--- a resize behind a question that left the screen as it was
-module _ {B : Type 0} (screen : B → Screen) (s : State B) (b : B) (t : State B) where
+-- a resize after a question that left the screen as it was
+module _ {B : Type 0} (screen : B → Screen) (s : TerminalData B) (b : B) (t : TerminalData B) where
   resizes_same : (area : Rect) → screen b ≡ screen s.backend → Resizes screen area (record s { backend = b }) t → Resizes screen area s t
   resizes_same area same r = record {
     rest = r.rest;
     viewport_area = rw same at r.viewport_area;
     current = r.current;
-    older = r.older;
+    previous = r.previous;
     scrolled = r.scrolled;
     scrolls = rw same at r.scrolls;
     frame = r.frame;
@@ -32,8 +32,8 @@ module _ {B : Type 0} (screen : B → Screen) (s : State B) (b : B) (t : State B
   left_same : (area : Rect) → screen b ≡ screen s.backend
       → KeepsBuffers (record s { backend = b }) t ⊎ (ResizesBuffers (record s { backend = b }) t × (t.viewport_area ≡ raised s.viewport_area.width (area_in s.viewport area (cursor_offset s) (screen b).cursor_y)))
       → KeepsBuffers s t ⊎ (ResizesBuffers s t × (t.viewport_area ≡ raised s.viewport_area.width (area_in s.viewport area (cursor_offset s) (screen s.backend).cursor_y)))
-  left_same area same (inl kept) = inl (record { viewport_area = kept.viewport_area; current = kept.current; older = kept.older })
-  left_same area same (inr (resized, placed)) = inr (record { current = resized.current; older = resized.older }, rw same at placed)
+  left_same area same (inl kept) = inl (record { viewport_area = kept.viewport_area; current = kept.current; previous = kept.previous })
+  left_same area same (inr (resized, placed)) = inr (record { current = resized.current; previous = resized.previous }, rw same at placed)
 
   -- the same by its answer, as an autoresize
   pub resized_by : {T E : Type 0} (result : Result T (TerminalError E)) → (IsFixed s.viewport → ⊥) → (IsSized screen s → ⊥) → screen b ≡ screen s.backend
@@ -49,10 +49,10 @@ module _ {B : Type 0} (screen : B → Screen) (s : State B) (b : B) (t : State B
     record {
       rest = r.rest;
       left = left_same _ same r.left;
-      areas = λ had. r.areas (record { current = had.current; older = had.older });
+      areas = λ had. r.areas (record { current = had.current; previous = had.previous });
     },
   )
   resized_by (Err Memory) free other same r =
-      (other, λ room. r.0 (record { current = room.current; older = room.older }), rw r.1 refl, rw r.1 same, r.2, r.3)
+      (other, λ room. r.0 (record { current = room.current; previous = room.previous }), rw r.1 refl, rw r.1 same, r.2, r.3)
   resized_by (Err Area) free other same r = absurd r
   resized_by (Err (Closure error)) free other same r = absurd r

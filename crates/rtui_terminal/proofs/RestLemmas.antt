@@ -7,8 +7,8 @@ use Rattle.rtui_geometry.specs.declared.position.Position.{Position}
 use Rattle.rtui_geometry.specs.declared.rect.Rect.{Rect}
 use Rattle.rtui_geometry.specs.declared.size.Size.{Size}
 use Rattle.rtui_geometry.specs.Rect.{EdgesFit}
-use Rattle.rtui_buffer.specs.Sheet.{Sheet, IsEmptied}
-use Rattle.rtui_buffer.specs.Frame.{IsSettledSheet, ShowsSheet}
+use Rattle.rtui_buffer.specs.BufferData.{BufferData, IsEmptied}
+use Rattle.rtui_buffer.specs.Shown.{IsSettledBuffer, ShowsBuffer}
 use Rattle.rtui_backend.specs.Screen.{Screen, IsOnScreen, screen_area, size_of}
 use Rattle.rtui_viewport.specs.declared.viewport.Viewport.{Viewport}
 use Rattle.rtui_viewport.specs.declared.viewport.Viewport.TheVariants.{Fullscreen, Inline, Fixed}
@@ -19,7 +19,7 @@ use Rattle.rtui_viewport.specs.Placing.{area_in, raised, inline_area}
 use Rattle.rtui_viewport.specs.Clearing.{HasPlace, ClearsArea, is_emptied}
 use Rattle.rtui_viewport.specs.Lying.{FitsSize, MayLie}
 use Rattle.rtui_viewport.proofs.ClearLemmas.{keeps_outside}
-use Rattle.rtui_terminal.specs.State.{State, cursor_offset}
+use Rattle.rtui_terminal.specs.TerminalData.{TerminalData, cursor_offset}
 use Rattle.rtui_terminal.specs.InStep.{IsInStep, IsSized, KeepsAroundViewport}
 use Rattle.rtui_terminal.specs.AtRest.{IsAtRest}
 use Rattle.rtui_terminal.specs.Cursor.{Stays}
@@ -163,27 +163,27 @@ cleared_outside (Inline n) size r old new fits edges lies on below empties = rec
 cleared_outside (Fixed f) size r old new fits edges lies on below empties = keeps_outside r empties
 
 module _ {B : Type 0} (screen : B → Screen) where
-  sized_kept : (s t : State B) → t.viewport ≡ s.viewport → t.known_area ≡ s.known_area → (screen t.backend).width ≡ (screen s.backend).width → (screen t.backend).height ≡ (screen s.backend).height → IsSized screen s → IsSized screen t
+  sized_kept : (s t : TerminalData B) → t.viewport ≡ s.viewport → t.last_known_area ≡ s.last_known_area → (screen t.backend).width ≡ (screen s.backend).width → (screen t.backend).height ≡ (screen s.backend).height → IsSized screen s → IsSized screen t
   sized_kept s t kind known width height sized = elim sized [
     | inl fixed ↦ inl (subst IsFixed (sym kind) fixed)
     | inr is ↦ inr (same_area (screen t.backend) (screen s.backend) width height ∙ is ∙ sym known)
   ]
 
   -- a start on a blank screen
-  pub rests-started : (kind : Viewport) (b : B) (t : State B) → FitsSize kind (size_of (screen b)) → IsBlank (screen b) → Starts screen kind b t → IsAtRest screen kind t
+  pub rests-started : (kind : Viewport) (b : B) (t : TerminalData B) → FitsSize kind (size_of (screen b)) → IsBlank (screen b) → Starts screen kind b t → IsAtRest screen kind t
   rests-started kind b t fits blank starts =
       let s : Screen = screen b in
       let u : Screen = screen t.backend in
       let width : u.width ≡ s.width = starts.scrolls.width in
       let height : u.height ≡ s.height = starts.scrolls.height in
       let size : size_of u ≡ size_of s = same_size u s width height in
-      let view = starts.viewport_area ∙ ap (λ k. area_in kind k 0 s.cursor_y) starts.known_area in
+      let view = starts.viewport_area ∙ ap (λ k. area_in kind k 0 s.cursor_y) starts.last_known_area in
       let lies : MayLie kind (size_of u) t.viewport_area = started_lies kind s u t.viewport_area width height view starts.on_screen in
       let on : IsOnScreen t.viewport_area u = lies_on kind t.viewport_area u (subst (FitsSize kind) (sym size) fits) lies in
       let still = starts-blank screen kind b t starts blank in
       record {
         kind_is = starts.kind;
-        sized = subst (λ k. IsFixed k ⊎ (screen_area u ≡ t.known_area)) (sym starts.kind) (started_sized kind s u t.known_area width height starts.known_area);
+        sized = subst (λ k. IsFixed k ⊎ (screen_area u ≡ t.last_known_area)) (sym starts.kind) (started_sized kind s u t.last_known_area width height starts.last_known_area);
         lies = lies;
         in_step = starts-in-step screen kind b t starts on blank;
         current = starts.current;
@@ -191,7 +191,7 @@ module _ {B : Type 0} (screen : B → Screen) where
       }
 
   -- nothing changed around the viewport
-  rests-kept : (kind : Viewport) (s t : State B) → IsAtRest screen kind s → t.viewport ≡ s.viewport → t.known_area ≡ s.known_area → IsInStep screen t → IsEmptied t.viewport_area t.current → KeepsAroundViewport screen s t → IsAtRest screen kind t
+  rests-kept : (kind : Viewport) (s t : TerminalData B) → IsAtRest screen kind s → t.viewport ≡ s.viewport → t.last_known_area ≡ s.last_known_area → IsInStep screen t → IsEmptied t.viewport_area t.current → KeepsAroundViewport screen s t → IsAtRest screen kind t
   rests-kept kind s t rest same known step current keeps =
       let old : Screen = screen s.backend in
       let new : Screen = screen t.backend in
@@ -206,39 +206,39 @@ module _ {B : Type 0} (screen : B → Screen) where
       }
 
   -- a settled buffer was drawn
-  pub rests-applied : (kind : Viewport) (cursor : Option Position) (frame : Sheet) (s t : State B) → IsAtRest screen kind s → IsSettledSheet frame → Applies screen cursor (record s { current = frame }) t → IsAtRest screen kind t
+  pub rests-applied : (kind : Viewport) (cursor : Option Position) (frame : BufferData) (s t : TerminalData B) → IsAtRest screen kind s → IsSettledBuffer frame → Applies screen cursor (record s { current = frame }) t → IsAtRest screen kind t
   rests-applied kind cursor frame s t rest settled applied =
       let at = rest.in_step in
       let here : IsInStep screen (record s { current = frame }) = record { on_screen = at.on_screen; area = at.area; settled = at.settled; shown = at.shown } in
       let keeps = applied.keeps here settled in
-      let view : t.viewport_area ≡ s.viewport_area = ap (λ (x : State B). x.viewport_area) applied.rest in
-      rests-kept kind s t rest (ap (λ (x : State B). x.viewport) applied.rest) (ap (λ (x : State B). x.known_area) applied.rest) (applied.in_step here settled)
+      let view : t.viewport_area ≡ s.viewport_area = ap (λ (x : TerminalData B). x.viewport_area) applied.rest in
+      rests-kept kind s t rest (ap (λ (x : TerminalData B). x.viewport) applied.rest) (ap (λ (x : TerminalData B). x.last_known_area) applied.rest) (applied.in_step here settled)
       (subst (λ area. IsEmptied area t.current) (sym view) applied.emptied)
       (record { viewport_area = keeps.viewport_area; size = keeps.size; above = keeps.above; outside = keeps.outside })
 
-  rests-stays : (kind : Viewport) (s t : State B) → Stays screen s t → IsAtRest screen kind s → IsAtRest screen kind t
+  rests-stays : (kind : Viewport) (s t : TerminalData B) → Stays screen s t → IsAtRest screen kind s → IsAtRest screen kind t
   rests-stays kind s t stays rest =
       let same = stays.rest in
       let is = stays.screen_stays in
       let at = rest.in_step in
-      let view : t.viewport_area ≡ s.viewport_area = ap (λ (x : State B). x.viewport_area) same in
-      let here : IsInStep screen (record s { backend = t.backend }) = record { on_screen = subst (IsOnScreen s.viewport_area) (sym is) at.on_screen; area = at.area; settled = at.settled; shown = subst (λ (x : Screen). ShowsSheet s.older x.grid) (sym is) at.shown } in
+      let view : t.viewport_area ≡ s.viewport_area = ap (λ (x : TerminalData B). x.viewport_area) same in
+      let here : IsInStep screen (record s { backend = t.backend }) = record { on_screen = subst (IsOnScreen s.viewport_area) (sym is) at.on_screen; area = at.area; settled = at.settled; shown = subst (λ (x : Screen). ShowsBuffer s.previous x.grid) (sym is) at.shown } in
       record {
-        kind_is = ap (λ (x : State B). x.viewport) same ∙ rest.kind_is;
-        sized = sized_kept s t (ap (λ (x : State B). x.viewport) same) (ap (λ (x : State B). x.known_area) same) (ap (λ (x : Screen). x.width) is) (ap (λ (x : Screen). x.height) is) rest.sized;
+        kind_is = ap (λ (x : TerminalData B). x.viewport) same ∙ rest.kind_is;
+        sized = sized_kept s t (ap (λ (x : TerminalData B). x.viewport) same) (ap (λ (x : TerminalData B). x.last_known_area) same) (ap (λ (x : Screen). x.width) is) (ap (λ (x : Screen). x.height) is) rest.sized;
         lies = subst (MayLie kind (size_of (screen t.backend))) (sym view) (subst (λ (x : Screen). MayLie kind (size_of x) s.viewport_area) (sym is) rest.lies);
         in_step = subst (IsInStep screen) (sym same) here;
-        current = subst (λ (x : State B). IsEmptied x.viewport_area x.current) (sym same) rest.current;
+        current = subst (λ (x : TerminalData B). IsEmptied x.viewport_area x.current) (sym same) rest.current;
         below = λ inline. subst (λ r. IsBlankBelow r (screen t.backend)) (sym view) (subst (IsBlankBelow s.viewport_area) (sym is) (rest.below inline));
       }
 
   -- a draw at the known size
-  pub rests-drawn : (kind : Viewport) (s t : State B) → IsAtRest screen kind s → IsSettledSheet t.older → DrawsFrame screen s t → IsAtRest screen kind t
+  pub rests-drawn : (kind : Viewport) (s t : TerminalData B) → IsAtRest screen kind s → IsSettledBuffer t.previous → DrawsFrame screen s t → IsAtRest screen kind t
   rests-drawn kind s t rest settled draws =
-      rests-applied kind draws.cursor t.older draws.sized t (rests-stays kind s draws.sized (sized-stays screen s draws.sized rest.sized draws.autoresized) rest) settled draws.applied
+      rests-applied kind draws.cursor t.previous draws.sized t (rests-stays kind s draws.sized (sized-stays screen s draws.sized rest.sized draws.autoresized) rest) settled draws.applied
 
   -- the screen took another size, and the terminal found it
-  pub rests-resized : (kind : Viewport) (b : B) (s t : State B) → (IsFixed kind → ⊥) → IsAtRest screen kind s → Resizes screen (screen_area (screen b)) (record s { backend = b }) t → IsAtRest screen kind t
+  pub rests-resized : (kind : Viewport) (b : B) (s t : TerminalData B) → (IsFixed kind → ⊥) → IsAtRest screen kind s → Resizes screen (screen_area (screen b)) (record s { backend = b }) t → IsAtRest screen kind t
   rests-resized kind b s t free rest resized =
       let between : Screen = screen b in
       let new : Screen = screen t.backend in
@@ -249,8 +249,8 @@ module _ {B : Type 0} (screen : B → Screen) where
       placed_lies kind s.viewport_area.width (cursor_offset s) between new t.viewport_area free width height
       (subst (λ k. t.viewport_area ≡ raised s.viewport_area.width (area_in k (screen_area between) (cursor_offset s) between.cursor_y)) rest.kind_is resized.viewport_area) on in
       record {
-        kind_is = ap (λ (x : State B). x.viewport) resized.rest ∙ rest.kind_is;
-        sized = inr (same_area new between width height ∙ sym (ap (λ (x : State B). x.known_area) resized.rest));
+        kind_is = ap (λ (x : TerminalData B). x.viewport) resized.rest ∙ rest.kind_is;
+        sized = inr (same_area new between width height ∙ sym (ap (λ (x : TerminalData B). x.last_known_area) resized.rest));
         lies = lies;
         in_step = resized.in_step on;
         current = resized-empty s.viewport_area t.viewport_area s.current t.current rest.current resized.current;
@@ -261,7 +261,7 @@ module _ {B : Type 0} (screen : B → Screen) where
       }
 
   -- a clear
-  pub keeps-cleared : (kind : Viewport) (size : Size) (s t : State B) → FitsSize kind size → IsAtRest screen kind s → ClearsViewport screen s t
+  pub keeps-cleared : (kind : Viewport) (size : Size) (s t : TerminalData B) → FitsSize kind size → IsAtRest screen kind s → ClearsViewport screen s t
       → KeepsOutside s.viewport_area (screen s.backend) (screen t.backend)
   keeps-cleared kind size s t fits rest clears =
       let old : Screen = screen s.backend in
@@ -269,34 +269,34 @@ module _ {B : Type 0} (screen : B → Screen) where
       cleared_outside kind size s.viewport_area old (screen t.backend) fits clears.edges rest.lies on rest.below
       (subst (λ k. ClearsArea k s.viewport_area old (screen t.backend)) rest.kind_is clears.clears (has_place kind (size_of old) s.viewport_area old rest.lies on))
 
-  pub rests-cleared : (kind : Viewport) (s t : State B) → IsAtRest screen kind s → ClearsViewport screen s t → IsAtRest screen kind t
+  pub rests-cleared : (kind : Viewport) (s t : TerminalData B) → IsAtRest screen kind s → ClearsViewport screen s t → IsAtRest screen kind t
   rests-cleared kind s t rest clears =
       let old : Screen = screen s.backend in
       let new : Screen = screen t.backend in
       let r = s.viewport_area in
       let at = rest.in_step in
-      let view : t.viewport_area ≡ r = ap (λ (x : State B). x.viewport_area) clears.rest in
+      let view : t.viewport_area ≡ r = ap (λ (x : TerminalData B). x.viewport_area) clears.rest in
       let width = clears.frame.size.width in
       let height = clears.frame.size.height in
-      let same = ap (λ (x : State B). x.viewport) clears.rest in
+      let same = ap (λ (x : TerminalData B). x.viewport) clears.rest in
       let empties = subst (λ k. ClearsArea k r old new) rest.kind_is clears.clears (has_place kind (size_of old) r old rest.lies at.on_screen) in
       record {
         kind_is = same ∙ rest.kind_is;
-        sized = sized_kept s t same (ap (λ (x : State B). x.known_area) clears.rest) width height rest.sized;
+        sized = sized_kept s t same (ap (λ (x : TerminalData B). x.last_known_area) clears.rest) width height rest.sized;
         lies = subst (MayLie kind (size_of new)) (sym view) (subst (λ z. MayLie kind z r) (sym (same_size new old width height)) rest.lies);
         in_step = clears.in_step at.on_screen at.area;
-        current = subst (λ area. IsEmptied area t.current) (sym view) (subst (IsEmptied r) (sym (ap (λ (x : State B). x.current) clears.rest)) rest.current);
+        current = subst (λ area. IsEmptied area t.current) (sym view) (subst (IsEmptied r) (sym (ap (λ (x : TerminalData B). x.current) clears.rest)) rest.current);
         below = λ inline. subst (λ q. IsBlankBelow q new) (sym view) (cleared_below kind r old new inline width height empties);
       }
 
   -- above an inline viewport rows can be inserted
-  pub rests-known : (kind : Viewport) (s : State B) → IsInline kind → IsAtRest screen kind s → screen_area (screen s.backend) ≡ s.known_area
+  pub rests-known : (kind : Viewport) (s : TerminalData B) → IsInline kind → IsAtRest screen kind s → screen_area (screen s.backend) ≡ s.last_known_area
   rests-known kind s inline rest = elim rest.sized [
     | inl fixed ↦ absurd (not_both kind inline (subst IsFixed rest.kind_is fixed))
     | inr is ↦ is
   ]
 
-  pub rests-takes : (kind : Viewport) (size : Size) (s : State B) → IsInline kind → FitsSize kind size → 0 < (screen s.backend).height → IsAtRest screen kind s → TakesRows screen s
+  pub rests-takes : (kind : Viewport) (size : Size) (s : TerminalData B) → IsInline kind → FitsSize kind size → 0 < (screen s.backend).height → IsAtRest screen kind s → TakesRows screen s
   rests-takes kind size s inline fits some rest =
       let own = size_of (screen s.backend) in
       record {
@@ -306,19 +306,19 @@ module _ {B : Type 0} (screen : B → Screen) where
         width = inline_width kind own s.viewport_area inline rest.lies;
       }
 
-  pub rests-inserted : (kind : Viewport) (rows : Sheet) (s t : State B) → IsInline kind → IsAtRest screen kind s → TakesRows screen s → IsSettledSheet rows → Inserts screen rows s t → IsAtRest screen kind t
+  pub rests-inserted : (kind : Viewport) (rows : BufferData) (s t : TerminalData B) → IsInline kind → IsAtRest screen kind s → TakesRows screen s → IsSettledBuffer rows → Inserts screen rows s t → IsAtRest screen kind t
   rests-inserted kind rows s t inline rest takes settled inserts =
       let old : Screen = screen s.backend in
       let new : Screen = screen t.backend in
       let at = rest.in_step in
       let width = inserts.shape.width in
       let height = inserts.shape.height in
-      let same : t.viewport ≡ s.viewport = ap (λ (x : State B). x.viewport) inserts.rest in
-      let view : t.viewport_area ≡ record s.viewport_area { y = t.viewport_area.y } = ap (λ (x : State B). x.viewport_area) inserts.rest in
-      let known : old.height ≡ s.known_area.height = ap (λ (r : Rect). r.height) takes.known in
+      let same : t.viewport ≡ s.viewport = ap (λ (x : TerminalData B). x.viewport) inserts.rest in
+      let view : t.viewport_area ≡ record s.viewport_area { y = t.viewport_area.y } = ap (λ (x : TerminalData B). x.viewport_area) inserts.rest in
+      let known : old.height ≡ s.last_known_area.height = ap (λ (r : Rect). r.height) takes.known in
       record {
         kind_is = same ∙ rest.kind_is;
-        sized = sized_kept s t same (ap (λ (x : State B). x.known_area) inserts.rest) width height rest.sized;
+        sized = sized_kept s t same (ap (λ (x : TerminalData B). x.last_known_area) inserts.rest) width height rest.sized;
         lies = subst (MayLie kind (size_of new)) (sym view)
             (inline_moved kind (size_of new) s.viewport_area t.viewport_area.y inline (omega (arith, inserts.top, height, known, at.on_screen.bottom))
             (subst (λ z. MayLie kind z s.viewport_area) (sym (same_size new old width height)) rest.lies));

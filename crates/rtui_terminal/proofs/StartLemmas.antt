@@ -9,7 +9,7 @@ use Rattle.rtui_backend.proofs.ScrollLemmas.{above_kept}
 use Rattle.rtui_viewport.specs.declared.viewport.Viewport.{Viewport}
 use Rattle.rtui_viewport.specs.declared.viewport.Viewport.TheVariants.{Inline}
 use Rattle.rtui_viewport.specs.Placing.{area_in, rows_scrolled}
-use Rattle.rtui_terminal.specs.State.{State}
+use Rattle.rtui_terminal.specs.TerminalData.{TerminalData}
 use Rattle.rtui_terminal.specs.InStep.{IsInStep}
 use Rattle.rtui_terminal.specs.Starting.{IsBlank, Starts, StartsInRow}
 
@@ -24,11 +24,11 @@ seen-blank s blank a b a_in = elim (cases_lt b s.height) [
 
 module _ {B : Type 0} (screen : B → Screen) where
   -- one row, at the cursor's
-  pub starts-in-row : (b : B) (t : State B) → 0 < (screen b).height → Starts screen (Inline 1) b t → StartsInRow screen b t
+  pub starts-in-row : (b : B) (t : TerminalData B) → 0 < (screen b).height → Starts screen (Inline 1) b t → StartsInRow screen b t
   starts-in-row b t some starts =
       let s = screen b in
       let n = screen t.backend in
-      let place : t.viewport_area ≡ area_in (Inline 1) (screen_area s) 0 s.cursor_y = starts.viewport_area ∙ ap (λ k. area_in (Inline 1) k 0 s.cursor_y) starts.known_area in
+      let place : t.viewport_area ≡ area_in (Inline 1) (screen_area s) 0 s.cursor_y = starts.viewport_area ∙ ap (λ k. area_in (Inline 1) k 0 s.cursor_y) starts.last_known_area in
       let y : t.viewport_area.y ≡ s.cursor_y = ap (λ (r : Rect). r.y) place ∙ omega arith in
       let high : t.viewport_area.height ≡ 1 = ap (λ (r : Rect). r.height) place ∙ omega arith in
       let on = (starts.on_screen (λ fixed. fixed)).bottom in
@@ -45,7 +45,7 @@ module _ {B : Type 0} (screen : B → Screen) where
       }
 
   -- a blank screen stays blank
-  pub starts-blank : (v : Viewport) (b : B) (t : State B) → Starts screen v b t → IsBlank (screen b) → IsBlank (screen t.backend)
+  pub starts-blank : (v : Viewport) (b : B) (t : TerminalData B) → Starts screen v b t → IsBlank (screen b) → IsBlank (screen t.backend)
   starts-blank v b t starts blank = record {
     at = λ a c a_in' c_in.
         let wide = starts.scrolls.width in
@@ -54,7 +54,7 @@ module _ {B : Type 0} (screen : B → Screen) where
         starts.scrolls.grid a c a_in (omega arith) ∙ seen-blank (screen b) blank a (c + rows_scrolled v 0 (screen b)) a_in;
   }
 
-  pub starts-in-step : (v : Viewport) (b : B) (t : State B) → Starts screen v b t → IsOnScreen t.viewport_area (screen t.backend) → IsBlank (screen b) → IsInStep screen t
+  pub starts-in-step : (v : Viewport) (b : B) (t : TerminalData B) → Starts screen v b t → IsOnScreen t.viewport_area (screen t.backend) → IsBlank (screen b) → IsInStep screen t
   starts-in-step v b t starts on blank =
       let still = starts-blank v b t starts blank in
       starts.in_step on (record {

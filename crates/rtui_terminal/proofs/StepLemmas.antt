@@ -7,8 +7,8 @@ use Rattle.rtui_geometry.specs.declared.position.Position.{Position}
 use Rattle.rtui_geometry.specs.declared.rect.Rect.{Rect}
 use Rattle.rtui_geometry.specs.Rect.{corner, EdgesFit}
 use Rattle.rtui_cell.specs.Look.{Look, empty_look}
-use Rattle.rtui_buffer.specs.Sheet.{Sheet, IsEmptied, IsSameSheet}
-use Rattle.rtui_buffer.proofs.EmptyLemmas.{IsSettledSheet-empty, ShowsSheet-empty}
+use Rattle.rtui_buffer.specs.BufferData.{BufferData, IsEmptied, IsSameBuffer}
+use Rattle.rtui_buffer.proofs.EmptyLemmas.{IsSettledBuffer-empty, ShowsBuffer-empty}
 use Rattle.rtui_backend.specs.Screen.{Screen, Scrolls, IsOnGrid, IsOnScreen, screen_area, cursor_of, with_cursor}
 use Rattle.rtui_viewport.specs.Areas.{KeepsAllButLooks, Empties, IsBlankOver}
 use Rattle.rtui_viewport.specs.Sizing.{first_area}
@@ -18,18 +18,18 @@ use Rattle.rtui_viewport.specs.Viewports.{IsFixed, IsInline, rows_in}
 use Rattle.rtui_viewport.specs.declared.viewport.Viewport.{Viewport}
 use Rattle.rtui_viewport.specs.declared.viewport.Viewport.TheVariants.{Fullscreen, Inline, Fixed}
 use Rattle.rtui_viewport.proofs.ClearLemmas.{empties_more, frame_same}
-use Rattle.rtui_terminal.specs.State.{State, IsInPlace}
+use Rattle.rtui_terminal.specs.TerminalData.{TerminalData, IsInPlace}
 use Rattle.rtui_terminal.specs.InStep.{IsInStep}
 use Rattle.rtui_terminal.specs.Resizing.{IsResized}
 use Rattle.rtui_terminal.specs.Starting.{first_cursor}
 
-pub blank_in_step : {B : Type 0} (screen : B → Screen) (t : State B) → EdgesFit t.viewport_area → IsOnScreen t.viewport_area (screen t.backend) → IsBlankOver t.viewport_area (screen t.backend)
-    → IsEmptied t.viewport_area t.older → IsInStep screen t
-blank_in_step screen t fits on blank older = record {
+pub blank_in_step : {B : Type 0} (screen : B → Screen) (t : TerminalData B) → EdgesFit t.viewport_area → IsOnScreen t.viewport_area (screen t.backend) → IsBlankOver t.viewport_area (screen t.backend)
+    → IsEmptied t.viewport_area t.previous → IsInStep screen t
+blank_in_step screen t fits on blank previous = record {
   on_screen = on;
-  area = older.area;
-  settled = IsSettledSheet-empty _ t.older older;
-  shown = ShowsSheet-empty _ t.older older _ (rw older.area (λ a b a_in b_in. blank.at _ _
+  area = previous.area;
+  settled = IsSettledBuffer-empty _ t.previous previous;
+  shown = ShowsBuffer-empty _ t.previous previous _ (rw previous.area (λ a b a_in b_in. blank.at _ _
       (record { left = omega arith; right = omega (arith, fits.right); top = omega arith; bottom = omega (arith, fits.bottom) })));
 }
 
@@ -53,7 +53,7 @@ pub emptied_frame : (narrow : Bool) {s m : Screen} → EmptiesAllIf narrow s m �
 emptied_frame true p = p.frame
 emptied_frame false {s} same = rw same (frame_same s)
 
--- an emptied viewport behind an emptied screen, or behind an untouched one
+-- an emptied viewport after an emptied screen, or after an untouched one
 pub emptied_after : (v : Viewport) (r : Rect) (narrow : Bool) {s m t : Screen} → EmptiesAllIf narrow s m → ClearsArea v r m t → HasPlace v r s
     → Empties (λ a b. is_emptied v r s.height a b || narrow) s t
 emptied_after v r true {s} {m} {t} first clears place =
@@ -67,7 +67,7 @@ emptied_after v r false {s} {m} {t} same clears place =
     either true look = refl
     either false look = refl
 
-pub resized_same : (r : Rect) {a b c : Sheet} → IsSameSheet a b → IsResized r b c → IsResized r a c
+pub resized_same : (r : Rect) {a b c : BufferData} → IsSameBuffer a b → IsResized r b c → IsResized r a c
 resized_same r p q = record { area_is = q.area_is; cells = rw (← p.cells) q.cells }
 
 -- a fixed viewport isn't inline
@@ -94,7 +94,7 @@ first_area_open (Inline n) s other = refl
 first_area_open (Fixed r) s other = absurd (other tt)
 
 -- an empty buffer of a viewport's size, moved to its place
-pub placed_empty : (v : Viewport) (r : Rect) (o row : ℕ) (next : Rect) (a b : Sheet) → next ≡ area_in v r o row
+pub placed_empty : (v : Viewport) (r : Rect) (o row : ℕ) (next : Rect) (a b : BufferData) → next ≡ area_in v r o row
     → IsEmptied (record { x = 0; y = 0; width = r.width; height = rows_in v r.height }) a → b ≡ record a { area = record a.area { x = next.x; y = next.y } } → IsEmptied next b
 placed_empty Fullscreen r o row next a b is empty moved = rw (moved, empty.area, is) (record { area = refl; cells = empty.cells })
 placed_empty (Inline n) r o row next a b is empty moved = rw (moved, empty.area, is) (record { area = refl; cells = empty.cells })

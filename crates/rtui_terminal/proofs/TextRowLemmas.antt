@@ -9,16 +9,16 @@ use Rattle.rtui_cell.specs.Look.{Look}
 use Rattle.rtui_diff.specs.DiffRule.{given, start}
 use Rattle.rtui_diff.specs.Shows.{RowAgrees}
 use Rattle.rtui_diff.specs.Updates.{update_at}
-use Rattle.rtui_buffer.specs.Sheet.{Sheet, IsEmptied}
-use Rattle.rtui_buffer.specs.Frame.{IsSettledSheet, common_rows, sheet_updates}
+use Rattle.rtui_buffer.specs.BufferData.{BufferData, IsEmptied}
+use Rattle.rtui_buffer.specs.Shown.{IsSettledBuffer, common_rows, buffer_updates}
 use Rattle.rtui_widgets.proofs.SettledLemmas.{has-first-row, text-settled}
 use Rattle.rtui_backend.specs.Screen.{Screen, size_of}
 use Rattle.rtui_viewport.specs.declared.viewport.Viewport.TheVariants.{Inline}
-use Rattle.rtui_rows.specs.Insertion.{AppendsRows, AreRowsOf}
-use Rattle.rtui_rows.specs.Rows.{WritesAtMost}
-use Rattle.rtui_rows.proofs.CountLemmas.{given_count}
+use Rattle.rtui_insert.specs.Insertion.{AppendsRows, AreRowsOf}
+use Rattle.rtui_insert.specs.Rows.{WritesAtMost}
+use Rattle.rtui_insert.proofs.CountLemmas.{given_count}
 use Rattle.rtui_terminal.specs.Writing.{HasDrawn, cursor_placed}
-use Rattle.rtui_terminal.specs.State.{State, HasAreas}
+use Rattle.rtui_terminal.specs.TerminalData.{TerminalData, HasAreas}
 use Rattle.rtui_terminal.specs.InStep.{IsSized, rows_over}
 use Rattle.rtui_terminal.specs.Faults.{FaultCounts, IsBackendFault}
 use Rattle.rtui_terminal.specs.declared.terminal.error.TerminalError.{TerminalError}
@@ -48,7 +48,7 @@ record HasRow (width : ℕ) (text : List ℕ) (old new : List (List Look)) : Typ
   painted : IsRowOf width text row
   above : new ≡ old ++ row ∷ []
 
-row-appended : (width : ℕ) (text : List ℕ) (sheet : Sheet) (old new : List (List Look)) → sheet.area ≡ row_area width 0 → IsPaintedText text sheet → AppendsRows (sheet ∷ []) old new → HasRow width text old new
+row-appended : (width : ℕ) (text : List ℕ) (sheet : BufferData) (old new : List (List Look)) → sheet.area ≡ row_area width 0 → IsPaintedText text sheet → AppendsRows (sheet ∷ []) old new → HasRow width text old new
 row-appended width text sheet old new over painted appends =
     let wide : sheet.area.width ≡ width = ap (λ (r : Rect). r.width) over in
     let high : sheet.area.height ≡ 1 = ap (λ (r : Rect). r.height) over in
@@ -68,13 +68,13 @@ row-appended width text sheet old new over painted appends =
     }
 
 -- a text was rendered in an empty row
-row-painted : (text : List ℕ) (y width : ℕ) (blank sheet : Sheet) → sheet.area ≡ row_area width y → IsEmptied sheet.area blank → RendersRow text sheet.area blank sheet → IsPaintedText text sheet
+row-painted : (text : List ℕ) (y width : ℕ) (blank sheet : BufferData) → sheet.area ≡ row_area width y → IsEmptied sheet.area blank → RendersRow text sheet.area blank sheet → IsPaintedText text sheet
 row-painted text y width blank sheet over empty renders =
     let high : sheet.area.height ≡ 1 = ap (λ (r : Rect). r.height) over in
     record { blank = blank; emptied = empty; rendered = renders (has-first-row sheet.area blank (omega arith) empty) }
 
 -- a screen can show it
-row-settled : (text : List ℕ) (sheet : Sheet) → IsPaintedText text sheet → IsSettledSheet sheet
+row-settled : (text : List ℕ) (sheet : BufferData) → IsPaintedText text sheet → IsSettledBuffer sheet
 row-settled text sheet is =
     let left : is.blank.area.x ≡ sheet.area.x = ap (λ (r : Rect). r.x) is.emptied.area in
     text-settled sheet.area sheet.area text is.blank sheet is.emptied (omega arith) (omega arith) is.rendered
@@ -90,40 +90,40 @@ placed_written None s = refl
 placed_written (Some p) s = refl
 
 -- a drawing of a row's differences writes each column at most once
-row_written : {B : Type 0} (width y : ℕ) (cursor : Option Position) (s : State B) (old new : Screen) → s.older.area ≡ row_area width y → HasDrawn cursor s old new → WritesAtMost width old new
+row_written : {B : Type 0} (width y : ℕ) (cursor : Option Position) (s : TerminalData B) (old new : Screen) → s.previous.area ≡ row_area width y → HasDrawn cursor s old new → WritesAtMost width old new
 row_written width y cursor s old new over drawn room =
-    let wide : s.older.area.width ≡ width = ap (λ (r : Rect). r.width) over in
-    let high : s.older.area.height ≡ 1 = ap (λ (r : Rect). r.height) over in
-    let rows : ℕ = common_rows s.older s.current in
+    let wide : s.previous.area.width ≡ width = ap (λ (r : Rect). r.width) over in
+    let high : s.previous.area.height ≡ 1 = ap (λ (r : Rect). r.height) over in
+    let rows : ℕ = common_rows s.previous s.current in
     let some : rows ≤ 1 = omega (arith, high) in
-    let count : length (sheet_updates s.older s.current) ≡ length (given s.older.cells s.current.cells (s.older.area.width * rows) start 0) =
-    length-map _ (update_at s.older.area.x s.older.area.y s.older.area.width s.current.cells) in
-    let le = given_count s.older.cells s.current.cells (s.older.area.width * rows) start 0 in
-    let cells : s.older.area.width * rows ≤ width = at_most_one_row s.older.area.width rows width wide some in
+    let count : length (buffer_updates s.previous s.current) ≡ length (given s.previous.cells s.current.cells (s.previous.area.width * rows) start 0) =
+    length-map _ (update_at s.previous.area.x s.previous.area.y s.previous.area.width s.current.cells) in
+    let le = given_count s.previous.cells s.current.cells (s.previous.area.width * rows) start 0 in
+    let cells : s.previous.area.width * rows ≤ width = at_most_one_row s.previous.area.width rows width wide some in
     let same : new.written ≡ drawn.0.written = ap (λ (t : Screen). t.written) drawn.2 ∙ placed_written cursor drawn.0 in
     let is = drawn.1.drawn.written (omega (arith, room, count, le, cells)) in
     omega (arith, count, le, cells, same, is)
 
 module _ {B : Type 0} (screen : B → Screen) where
   -- its viewport is one row of the screen's width
-  pub over-row : (t : State B) → IsOverRow screen t → t.viewport_area ≡ row_area (screen t.backend).width t.viewport_area.y
+  pub over-row : (t : TerminalData B) → IsOverRow screen t → t.viewport_area ≡ row_area (screen t.backend).width t.viewport_area.y
   over-row t is =
       let lies = is.rest.lies in
       let high : t.viewport_area.height ≡ 1 = omega (arith, lies.height, is.some) in
       ap₂ (λ x w. record t.viewport_area { x = x; width = w }) lies.x lies.width ∙ ap (λ h. record { x = 0; y = t.viewport_area.y; width = (screen t.backend).width; height = h }) high
 
   -- rows can be inserted above it
-  pub over-takes : (s : State B) → IsOverRow screen s → TakesRows screen s
+  pub over-takes : (s : TerminalData B) → IsOverRow screen s → TakesRows screen s
   over-takes s is = rests-takes screen (Inline 1) (size_of (screen s.backend)) s tt (omega arith) is.some is.rest
 
   -- the row of a text was inserted
-  pub inserts-row : (text : List ℕ) (s t : State B) (filled : Result (Unit {0}) AllocError → Sheet → Type 0) → IsOverRow screen s
-      → ((sheet : Sheet) → filled (Ok tt) sheet → FillsRow text (inserted_area s 1) sheet)
+  pub inserts-row : (text : List ℕ) (s t : TerminalData B) (filled : Result (Unit {0}) AllocError → BufferData → Type 0) → IsOverRow screen s
+      → ((sheet : BufferData) → filled (Ok tt) sheet → FillsRow text (inserted_area s 1) sheet)
       → InsertOk screen (inserted_area s 1) filled s t → InsertsRow screen text s t
   inserts-row text s t filled is only ins =
       let may = over-takes s is in
       let high : s.viewport_area.height ≡ 1 = ap (λ (r : Rect). r.height) (over-row s is) in
-      let known : (screen s.backend).height ≡ s.known_area.height = ap (λ (r : Rect). r.height) may.known in
+      let known : (screen s.backend).height ≡ s.last_known_area.height = ap (λ (r : Rect). r.height) may.known in
       let bottom = is.rest.in_step.on_screen.bottom in
       let sheet = ins.inserted in
       let inserts : Inserts screen sheet s t = ins.inserts (omega arith) in
@@ -132,7 +132,7 @@ module _ {B : Type 0} (screen : B → Screen) where
       let empty : IsEmptied sheet.area fills.before = subst (λ (r : Rect). IsEmptied r fills.before) (sym ins.over) fills.empty in
       let renders = subst (λ (r : Rect). RendersRow text r fills.before sheet) (fills.empty.area ∙ sym ins.over) fills.renders in
       let painted : IsPaintedText text sheet = row-painted text 0 (screen s.backend).width fills.before sheet over empty renders in
-      let settled : IsSettledSheet sheet = row-settled text sheet painted in
+      let settled : IsSettledBuffer sheet = row-settled text sheet painted in
       let row : HasRow (screen s.backend).width text (rows_over screen s) (rows_over screen t) = row-appended (screen s.backend).width text sheet (rows_over screen s) (rows_over screen t) over painted (inserts.above may is.rest.in_step settled) in
       let height : sheet.area.height ≡ 1 = ap (λ (r : Rect). r.height) over in
       record {
@@ -145,45 +145,45 @@ module _ {B : Type 0} (screen : B → Screen) where
       }
 
   -- by the answer of the insertion
-  pub inserts-row-if : {T E : Type 0} (text : List ℕ) (s t : State B) (filled : Result (Unit {0}) AllocError → Sheet → Type 0) (result : Result T (TerminalError E)) → IsOverRow screen s
-      → ((sheet : Sheet) → filled (Ok tt) sheet → FillsRow text (inserted_area s 1) sheet)
+  pub inserts-row-if : {T E : Type 0} (text : List ℕ) (s t : TerminalData B) (filled : Result (Unit {0}) AllocError → BufferData → Type 0) (result : Result T (TerminalError E)) → IsOverRow screen s
+      → ((sheet : BufferData) → filled (Ok tt) sheet → FillsRow text (inserted_area s 1) sheet)
       → InsertsBy screen (inserted_area s 1) filled s t result → OnOk result (InsertsRow screen text s t)
   inserts-row-if text s t filled (Ok x) is only by = inserts-row text s t filled is only by
   inserts-row-if text s t filled (Err e) is only by = tt
 
   -- a text was drawn over the viewport
-  pub draws-row : {X : Type 0} (text : List ℕ) (s t : State B) (ran : State B → Result (Unit {0}) X → Option Position → Sheet → Type 0) → IsOverRow screen s → OnlyRenders ran (RendersRow text) → DrawOk screen ran s t
+  pub draws-row : {X : Type 0} (text : List ℕ) (s t : TerminalData B) (ran : TerminalData B → Result (Unit {0}) X → Option Position → BufferData → Type 0) → IsOverRow screen s → OnlyRenders ran (RendersRow text) → DrawOk screen ran s t
       → DrawsRow screen text s t
   draws-row text s t ran is only drawn =
       let sized : IsSized screen s = is.rest.sized in
       let shows = shows-rendered screen ran (RendersRow text) s t (inl is.rest.in_step) is.rest.current only drawn in
       let applied = drawn.draws.applied in
       let stays = sized-stays screen s drawn.draws.sized sized drawn.draws.autoresized in
-      let kept : t.viewport_area ≡ s.viewport_area = ap (λ (x : State B). x.viewport_area) applied.rest ∙ ap (λ (x : State B). x.viewport_area) stays.rest in
-      let over : t.older.area ≡ row_area (screen s.backend).width s.viewport_area.y = shows.area ∙ kept ∙ over-row s is in
-      let painted : IsPaintedText text t.older = row-painted text s.viewport_area.y (screen s.backend).width shows.rendered.blank t.older over shows.rendered.emptied shows.rendered.rendered in
-      let settled : IsSettledSheet t.older = row-settled text t.older painted in
+      let kept : t.viewport_area ≡ s.viewport_area = ap (λ (x : TerminalData B). x.viewport_area) applied.rest ∙ ap (λ (x : TerminalData B). x.viewport_area) stays.rest in
+      let over : t.previous.area ≡ row_area (screen s.backend).width s.viewport_area.y = shows.area ∙ kept ∙ over-row s is in
+      let painted : IsPaintedText text t.previous = row-painted text s.viewport_area.y (screen s.backend).width shows.rendered.blank t.previous over shows.rendered.emptied shows.rendered.rendered in
+      let settled : IsSettledBuffer t.previous = row-settled text t.previous painted in
       let keeps = drawn.draws.keeps is.rest.in_step sized settled in
       let step = drawn.draws.in_step (inl is.rest.in_step) settled in
       record {
         over = record { rest = rests-drawn screen (Inline 1) s t is.rest settled drawn.draws; some = (let h = keeps.size.height in let is_some = is.some in omega arith) };
-        shown = record { sheet = t.older; over = shows.area; painted = painted; shown = step.shown };
+        shown = record { sheet = t.previous; over = shows.area; painted = painted; shown = step.shown };
         keeps = keeps;
         most = subst (λ (x : Screen). WritesAtMost (screen s.backend).width x (screen t.backend)) stays.screen_stays
-            (row_written (screen s.backend).width s.viewport_area.y drawn.draws.cursor (record drawn.draws.sized { current = t.older }) (screen drawn.draws.sized.backend) (screen t.backend)
-            (applied.areas.older ∙ ap (λ (x : State B). x.viewport_area) stays.rest ∙ over-row s is) applied.drawn);
+            (row_written (screen s.backend).width s.viewport_area.y drawn.draws.cursor (record drawn.draws.sized { current = t.previous }) (screen drawn.draws.sized.backend) (screen t.backend)
+            (applied.areas.previous ∙ ap (λ (x : TerminalData B). x.viewport_area) stays.rest ∙ over-row s is) applied.drawn);
       }
 
   -- by the answer of a draw that takes no memory
-  pub refused-by-backend-if : {T F : Type 0} (X : Type 0) (s t : State B) (ran : State B → Result (Unit {0}) AllocError → Option Position → Sheet → Type 0) (result : Result T (TerminalError F)) → IsSized screen s → HasAreas s
-      → ((r : State B) (cursor : Option Position) (painted : Sheet) → ran r (Err alloc_error) cursor painted → ⊥)
-      → ((r : State B) (cursor : Option Position) (painted : Sheet) → ran r (Ok tt) cursor painted → painted.area ≡ r.current.area)
+  pub refused-by-backend-if : {T F : Type 0} (X : Type 0) (s t : TerminalData B) (ran : TerminalData B → Result (Unit {0}) AllocError → Option Position → BufferData → Type 0) (result : Result T (TerminalError F)) → IsSized screen s → HasAreas s
+      → ((r : TerminalData B) (cursor : Option Position) (painted : BufferData) → ran r (Err alloc_error) cursor painted → ⊥)
+      → ((r : TerminalData B) (cursor : Option Position) (painted : BufferData) → ran r (Ok tt) cursor painted → painted.area ≡ r.current.area)
       → OnErr result (IfErr result (DrawErr screen ran s t) × X) → IfErr result IsBackendFault
   refused-by-backend-if X s t ran (Ok x) sized areas never keeps by = tt
   refused-by-backend-if X s t ran (Err e) sized areas never keeps by = refused-by-backend screen ran s t e sized areas never keeps by.0
 
   -- a text was inserted, and then another one drawn
-  pub inserts-and-draws : (text status : List ℕ) (r s t : State B) → InsertsRow screen text r s → DrawsRow screen status s t → InsertsRow screen text r t
+  pub inserts-and-draws : (text status : List ℕ) (r s t : TerminalData B) → InsertsRow screen text r s → DrawsRow screen status s t → InsertsRow screen text r t
   inserts-and-draws text status r s t inserts drawn =
       let keeps = drawn.keeps in
       record {
@@ -196,21 +196,21 @@ module _ {B : Type 0} (screen : B → Screen) where
       }
 
   -- the terminal of a start over one row knows its screen's size
-  starts-known : (b : B) (t : State B) → Starts screen (Inline 1) b t → record { x = 0; y = 0; width = (screen t.backend).width; height = (screen t.backend).height } ≡ t.known_area
-  starts-known b t starts = ap₂ (λ w h. record { x = 0; y = 0; width = w; height = h }) starts.scrolls.width starts.scrolls.height ∙ sym starts.known_area
+  starts-known : (b : B) (t : TerminalData B) → Starts screen (Inline 1) b t → record { x = 0; y = 0; width = (screen t.backend).width; height = (screen t.backend).height } ≡ t.last_known_area
+  starts-known b t starts = ap₂ (λ w h. record { x = 0; y = 0; width = w; height = h }) starts.scrolls.width starts.scrolls.height ∙ sym starts.last_known_area
 
-  pub starts-sized : (b : B) (t : State B) → Starts screen (Inline 1) b t → IsSized screen t
+  pub starts-sized : (b : B) (t : TerminalData B) → Starts screen (Inline 1) b t → IsSized screen t
   starts-sized b t starts = inr (starts-known b t starts)
 
-  pub starts-areas : (b : B) (t : State B) → Starts screen (Inline 1) b t → HasAreas t
-  starts-areas b t starts = record { current = starts.current.area; older = starts.older.area }
+  pub starts-areas : (b : B) (t : TerminalData B) → Starts screen (Inline 1) b t → HasAreas t
+  starts-areas b t starts = record { current = starts.current.area; previous = starts.previous.area }
 
   -- a start on a blank screen
-  pub starts-over-row : (b : B) (t : State B) → IsBlank (screen b) → 0 < (screen b).height → Starts screen (Inline 1) b t → IsOverRow screen t
+  pub starts-over-row : (b : B) (t : TerminalData B) → IsBlank (screen b) → 0 < (screen b).height → Starts screen (Inline 1) b t → IsOverRow screen t
   starts-over-row b t blank some starts = record { rest = rests-started screen (Inline 1) b t (omega arith) blank starts; some = (let h = starts.scrolls.height in omega arith) }
 
   -- a start on a blank screen, and then a text drawn
-  pub starts-and-draws : (text : List ℕ) (b : B) (s t : State B) → IsBlank (screen b) → 0 < (screen b).height → Starts screen (Inline 1) b s → DrawsRow screen text s t → StartsOverRow screen b t
+  pub starts-and-draws : (text : List ℕ) (b : B) (s t : TerminalData B) → IsBlank (screen b) → 0 < (screen b).height → Starts screen (Inline 1) b s → DrawsRow screen text s t → StartsOverRow screen b t
   starts-and-draws text b s t blank some starts drawn =
       let row = starts-in-row screen b s some starts in
       let keeps = drawn.keeps in
@@ -222,7 +222,7 @@ module _ {B : Type 0} (screen : B → Screen) where
       }
 
 -- a start whose first frame was refused, by the backend
-pub refused-start : {B E : Type 0} (screen : B → Screen) (failures : B → ℕ) (b : B) (t : State B) (dropped : B) (error : TerminalError E) → failures t.backend ≡ failures b → IsBackendFault error
+pub refused-start : {B E : Type 0} (screen : B → Screen) (failures : B → ℕ) (b : B) (t : TerminalData B) (dropped : B) (error : TerminalError E) → failures t.backend ≡ failures b → IsBackendFault error
     → FaultCounts (failures t.backend) (failures dropped) error → StartErr screen failures (Inline 1) b error
 refused-start screen failures b t dropped (Backend error) same by counts = (λ fixed. fixed, (dropped, λ small. rw same at (counts (rw same small))))
 refused-start screen failures b t dropped Memory same by counts = absurd by

@@ -1,18 +1,18 @@
 -- A terminal between two calls of an application.
 use Rattle.std.specs.Prelude.{◌≡◌}
-use Rattle.rtui_buffer.specs.Sheet.{IsEmptied}
+use Rattle.rtui_buffer.specs.BufferData.{IsEmptied}
 use Rattle.rtui_backend.specs.Screen.{Screen, size_of}
 use Rattle.rtui_viewport.specs.declared.viewport.Viewport.{Viewport}
 use Rattle.rtui_viewport.specs.Areas.{IsBlankBelow}
 use Rattle.rtui_viewport.specs.Lying.{MayLie}
 use Rattle.rtui_viewport.specs.Viewports.{IsInline}
-use Rattle.rtui_terminal.specs.State.{State}
+use Rattle.rtui_terminal.specs.TerminalData.{TerminalData}
 use Rattle.rtui_terminal.specs.InStep.{IsInStep, IsSized}
 
 module _ {B : Type 0} (screen : B → Screen) where
   -- the terminal is in step over a viewport of this kind, which lies where it may, it knows the screen's size, its buffer to paint on is
   -- empty, and the rows below an inline viewport are blank
-  pub record IsAtRest (kind : Viewport) (t : State B) : Type 0 where
+  pub record IsAtRest (kind : Viewport) (t : TerminalData B) : Type 0 where
     pub kind_is : t.viewport ≡ kind
     pub sized : IsSized screen t
     pub lies : MayLie kind (size_of (screen t.backend)) t.viewport_area

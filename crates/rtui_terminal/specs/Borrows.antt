@@ -2,15 +2,15 @@
 use Rattle.std.specs.Prelude.{[]}
 use mir.Syntax.{named}
 use Rattle.std.specs.Borrow.{Lends, MutBor, Fml}
-use Rattle.rtui_buffer.specs.Sheet.{Sheet}
+use Rattle.rtui_buffer.specs.BufferData.{BufferData}
 use Rattle.rtui_buffer.specs.contracts.buffer.Buffer as buffer
 use Rattle.rtui_terminal.specs.declared.terminal.frame.Frame.{Frame}
 use Rattle.rtui_terminal.specs.contracts.terminal.frame.Frame.{the_row}
 
 -- the frame with another buffer behind its reference
-abbrev pub with_buffer : Frame → Sheet → Frame
+abbrev pub with_buffer : Frame → BufferData → Frame
 with_buffer frame sheet = record frame { buffer = record frame.buffer { now = sheet } }
 
 -- the frame ends with the last value of the lent buffer behind its own reference
-abbrev pub LendsBuffer : MutBor Frame → MutBor Sheet → Fml
+abbrev pub LendsBuffer : MutBor Frame → MutBor BufferData → Fml
 LendsBuffer frame lent = Lends (the_row (record { mir = named 0; lft = [] })) buffer.the_row frame lent (with_buffer frame.now)

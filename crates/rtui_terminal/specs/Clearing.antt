@@ -1,30 +1,30 @@
 -- What a clear does.
 use Rattle.std.specs.Prelude.{◌≡◌, ◌⊎◌, ◌<◌}
 use Rattle.rtui_geometry.specs.Rect.{EdgesFit}
-use Rattle.rtui_buffer.specs.Sheet.{IsEmptied}
+use Rattle.rtui_buffer.specs.BufferData.{IsEmptied}
 use Rattle.rtui_backend.specs.Screen.{IsOnScreen, Screen, cursor_of}
 use Rattle.rtui_viewport.specs.Viewports.{IsFixed, IsInline}
 use Rattle.rtui_viewport.specs.Areas.{KeepsAllButLooks}
 use Rattle.rtui_viewport.specs.Clearing.{ClearsArea, WritesBlanks}
-use Rattle.rtui_terminal.specs.State.{State}
+use Rattle.rtui_terminal.specs.TerminalData.{TerminalData}
 use Rattle.rtui_terminal.specs.InStep.{IsInStep, KeepsAroundViewport, rows_over}
 
 module _ {B : Type 0} (screen : B → Screen) where
-  -- a clear: the older buffer is empty, and so is the viewport, whose edges fit; the size, the history and the cursor stay
-  pub record ClearsViewport (s t : State B) : Type 0 where
+  -- a clear: the previous buffer is empty, and so is the viewport, whose edges fit; the size, the history and the cursor stay
+  pub record ClearsViewport (s t : TerminalData B) : Type 0 where
     pub edges : EdgesFit s.viewport_area
-    pub rest : t ≡ record s { backend = t.backend; older = t.older }
-    pub older : IsEmptied s.older.area t.older
+    pub rest : t ≡ record s { backend = t.backend; previous = t.previous }
+    pub previous : IsEmptied s.previous.area t.previous
     pub frame : KeepsAllButLooks (screen s.backend) (screen t.backend)
     pub cursor : cursor_of (screen t.backend) ≡ cursor_of (screen s.backend)
     pub clears : ClearsArea s.viewport s.viewport_area (screen s.backend) (screen t.backend)
     pub written : WritesBlanks s.viewport s.viewport_area (screen s.backend) (screen t.backend)
-    pub in_step : IsOnScreen s.viewport_area (screen s.backend) → s.older.area ≡ s.viewport_area → IsInStep screen t
+    pub in_step : IsOnScreen s.viewport_area (screen s.backend) → s.previous.area ≡ s.viewport_area → IsInStep screen t
     pub above : IsInline s.viewport → IsOnScreen s.viewport_area (screen s.backend) → 0 < s.viewport_area.height
         → rows_over screen t ≡ rows_over screen s
     pub keeps : IsFixed s.viewport → IsOnScreen s.viewport_area (screen s.backend) → KeepsAroundViewport screen s t
 
-  -- a backend failed in a clear; where only the cursor wasn't set back, the viewport was emptied, and so is the older buffer
-  pub record FailsClearing (s t : State B) : Type 0 where
-    pub rest : t ≡ record s { backend = t.backend; older = t.older }
-    pub older : (t.older ≡ s.older) ⊎ ((cleared : B) × ClearsArea s.viewport s.viewport_area (screen s.backend) (screen cleared) × IsEmptied s.older.area t.older)
+  -- a backend failed in a clear; where only the cursor wasn't set back, the viewport was emptied, and so is the previous buffer
+  pub record FailsClearing (s t : TerminalData B) : Type 0 where
+    pub rest : t ≡ record s { backend = t.backend; previous = t.previous }
+    pub previous : (t.previous ≡ s.previous) ⊎ ((cleared : B) × ClearsArea s.viewport s.viewport_area (screen s.backend) (screen cleared) × IsEmptied s.previous.area t.previous)

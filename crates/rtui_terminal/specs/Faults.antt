@@ -3,7 +3,7 @@ use Rattle.std.specs.Prelude.{ℕ, ◌≡◌, ◌+◌, ◌-◌, ◌^◌, ◌<◌
 use Rattle.rtui_terminal.specs.declared.terminal.error.TerminalError.{TerminalError}
 use Rattle.rtui_terminal.specs.declared.terminal.error.TerminalError.TheVariants.{Area, Backend, Closure, Memory}
 
--- a backend's fault comes only where the count of failures rose, and any other answer leaves it
+-- a backend's fault comes only if the count of failures rose, and any other answer leaves it
 abbrev pub FaultCounts : {E : Type 0} → ℕ → ℕ → TerminalError E → Type 0
 FaultCounts old new (Backend error) = old < 2 ^ 64 - 1 → new ≡ old + 1
 FaultCounts old new Memory = new ≡ old

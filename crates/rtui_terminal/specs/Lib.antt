@@ -1,4 +1,4 @@
-pub mod State
+pub mod TerminalData
 pub mod InStep
 pub mod Frames
 pub mod Borrows

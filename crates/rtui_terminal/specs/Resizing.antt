@@ -1,46 +1,46 @@
 -- What a resize does, and when a terminal resizes by itself.
 use Rattle.std.specs.Prelude.{◌≡◌, ◌⊎◌, ◌-◌, ◌||◌, nat_lt, ◌++◌, length, take}
 use Rattle.rtui_geometry.specs.declared.rect.Rect.{Rect}
-use Rattle.rtui_buffer.specs.Sheet.{IsEmptied, IsSameSheet, Sheet, area_size, empty_cells}
+use Rattle.rtui_buffer.specs.BufferData.{IsEmptied, IsSameBuffer, BufferData, area_size, empty_cells}
 use Rattle.rtui_backend.specs.Screen.{IsOnScreen, Screen, Scrolls, cursor_of, screen_area}
 use Rattle.rtui_viewport.specs.Viewports.{IsFixed}
 use Rattle.rtui_viewport.specs.Areas.{Empties, KeepsAllButLooks}
 use Rattle.rtui_viewport.specs.Placing.{area_in, raised, rows_scrolled, unplaced_area}
 use Rattle.rtui_viewport.specs.Clearing.{HasPlace, WritesBlanks, is_emptied}
-use Rattle.rtui_terminal.specs.State.{HasAreas, HaveRoom, State, cursor_offset}
+use Rattle.rtui_terminal.specs.TerminalData.{HasAreas, HaveRoom, TerminalData, cursor_offset}
 use Rattle.rtui_terminal.specs.InStep.{IsInStep, IsReady, IsSized}
 use Rattle.rtui_terminal.specs.declared.terminal.error.TerminalError.{TerminalError}
 use Rattle.rtui_terminal.specs.declared.terminal.error.TerminalError.TheVariants.{Area, Backend, Closure, Memory}
 use Rattle.rtui_terminal.specs.Cursor.{Stays}
 
 -- the same list of cells over another area, cut, or with empty cells after them
-pub record IsResized (area : Rect) (old new : Sheet) : Type 0 where
+pub record IsResized (area : Rect) (old new : BufferData) : Type 0 where
   pub area_is : new.area ≡ area
   pub cells : new.cells ≡ take (area_size area) old.cells ++ empty_cells (area_size area - length old.cells)
 
 -- a buffer has no room for the cells that the viewport takes of an area
-abbrev pub LacksRoom : {B : Type 0} → Rect → State B → Type 0
+abbrev pub LacksRoom : {B : Type 0} → Rect → TerminalData B → Type 0
 LacksRoom area s = HaveRoom (unplaced_area s.viewport area) s → ⊥
 
 -- the viewport stays, and both buffers but for their room
-pub record KeepsBuffers {B : Type 0} (s t : State B) : Type 0 where
+pub record KeepsBuffers {B : Type 0} (s t : TerminalData B) : Type 0 where
   pub viewport_area : t.viewport_area ≡ s.viewport_area
-  pub current : IsSameSheet s.current t.current
-  pub older : IsSameSheet s.older t.older
+  pub current : IsSameBuffer s.current t.current
+  pub previous : IsSameBuffer s.previous t.previous
 
--- both buffers were cut or filled up for the viewport's new area; the older one may be empty already
-pub record ResizesBuffers {B : Type 0} (s t : State B) : Type 0 where
+-- both buffers were cut or filled up for the viewport's new area; the previous one may be empty already
+pub record ResizesBuffers {B : Type 0} (s t : TerminalData B) : Type 0 where
   pub current : IsResized t.viewport_area s.current t.current
-  pub older : IsResized t.viewport_area s.older t.older ⊎ IsEmptied t.viewport_area t.older
+  pub previous : IsResized t.viewport_area s.previous t.previous ⊎ IsEmptied t.viewport_area t.previous
 
 module _ {B : Type 0} (screen : B → Screen) where
   -- a resize to an area: the viewport was placed on it, which may scroll, and cleared, or the whole screen where it became narrower; the
-  -- current buffer is cut or filled up, and the older one is empty
-  pub record Resizes (area : Rect) (s t : State B) : Type 0 where
-    pub rest : t ≡ record s { backend = t.backend; current = t.current; older = t.older; viewport_area = t.viewport_area; known_area = area }
+  -- current buffer is cut or filled up, and the previous one is empty
+  pub record Resizes (area : Rect) (s t : TerminalData B) : Type 0 where
+    pub rest : t ≡ record s { backend = t.backend; current = t.current; previous = t.previous; viewport_area = t.viewport_area; last_known_area = area }
     pub viewport_area : t.viewport_area ≡ raised s.viewport_area.width (area_in s.viewport area (cursor_offset s) (screen s.backend).cursor_y)
     pub current : IsResized t.viewport_area s.current t.current
-    pub older : IsEmptied t.viewport_area t.older
+    pub previous : IsEmptied t.viewport_area t.previous
     pub scrolled : Screen
     pub scrolls : Scrolls (screen s.backend) (rows_scrolled s.viewport (cursor_offset s) (screen s.backend)) scrolled
     pub frame : KeepsAllButLooks scrolled (screen t.backend)
@@ -52,27 +52,27 @@ module _ {B : Type 0} (screen : B → Screen) where
     pub in_step : IsOnScreen t.viewport_area (screen t.backend) → IsInStep screen t
 
   -- a backend failed in a resize, before the viewport and both buffers had got their new area, or after that; the last known area stays
-  pub record FailsResizing (area : Rect) (s t : State B) : Type 0 where
-    pub rest : t ≡ record s { backend = t.backend; current = t.current; older = t.older; viewport_area = t.viewport_area }
+  pub record FailsResizing (area : Rect) (s t : TerminalData B) : Type 0 where
+    pub rest : t ≡ record s { backend = t.backend; current = t.current; previous = t.previous; viewport_area = t.viewport_area }
     pub left : KeepsBuffers s t ⊎ (ResizesBuffers s t × (t.viewport_area ≡ raised s.viewport_area.width (area_in s.viewport area (cursor_offset s) (screen s.backend).cursor_y)))
     pub areas : HasAreas s → HasAreas t
 
   -- a refused resize: for want of memory, if a buffer had no room, and then nothing changed but the room of the buffers
-  abbrev pub ResizeErr : {E : Type 0} → Rect → State B → State B → TerminalError E → Type 0
+  abbrev pub ResizeErr : {E : Type 0} → Rect → TerminalData B → TerminalData B → TerminalError E → Type 0
   ResizeErr area s t (Backend error) = FailsResizing area s t
-  ResizeErr area s t Memory = LacksRoom area s × (t ≡ record s { current = t.current; older = t.older }) × IsSameSheet s.current t.current × IsSameSheet s.older t.older
+  ResizeErr area s t Memory = LacksRoom area s × (t ≡ record s { current = t.current; previous = t.previous }) × IsSameBuffer s.current t.current × IsSameBuffer s.previous t.previous
   ResizeErr area s t Area = ⊥
   ResizeErr area s t (Closure error) = ⊥
 
-  -- a resize to the screen's size where that isn't the last known one and the viewport isn't fixed, and else nothing
-  pub record Autoresizes (s t : State B) : Type 0 where
+  -- a resize to the screen's size if that isn't the last known one and the viewport isn't fixed, and else nothing
+  pub record Autoresizes (s t : TerminalData B) : Type 0 where
     pub case : (IsSized screen s × Stays screen s t) ⊎ ((IsSized screen s → ⊥) × Resizes (screen_area (screen s.backend)) s t)
     pub fixed : IsFixed s.viewport → t ≡ s
     pub in_step : IsReady screen s → IsInStep screen t
 
   -- a refused autoresize: the viewport isn't fixed, and the screen's size couldn't be asked for, or the resize was refused
-  abbrev pub AutoresizeErr : {E : Type 0} → State B → State B → TerminalError E → Type 0
+  abbrev pub AutoresizeErr : {E : Type 0} → TerminalData B → TerminalData B → TerminalError E → Type 0
   AutoresizeErr s t (Backend error) = (IsFixed s.viewport → ⊥) × FailsResizing (screen_area (screen s.backend)) s t
-  AutoresizeErr s t Memory = (IsSized screen s → ⊥) × LacksRoom (screen_area (screen s.backend)) s × (t ≡ record s { backend = t.backend; current = t.current; older = t.older }) × (screen t.backend ≡ screen s.backend) × IsSameSheet s.current t.current × IsSameSheet s.older t.older
+  AutoresizeErr s t Memory = (IsSized screen s → ⊥) × LacksRoom (screen_area (screen s.backend)) s × (t ≡ record s { backend = t.backend; current = t.current; previous = t.previous }) × (screen t.backend ≡ screen s.backend) × IsSameBuffer s.current t.current × IsSameBuffer s.previous t.previous
   AutoresizeErr s t Area = ⊥
   AutoresizeErr s t (Closure error) = ⊥

@@ -3,7 +3,7 @@ use Rattle.std.specs.Prelude.{ℕ, ◌≡◌, ◌+◌, ◌-◌, ◌^◌, ◌<◌
 use Rattle.rtui_geometry.specs.declared.position.Position.{Position}
 use Rattle.rtui_geometry.specs.Rect.{corner}
 use Rattle.rtui_cell.specs.Look.{empty_look}
-use Rattle.rtui_buffer.specs.Sheet.{IsEmptied, area_size}
+use Rattle.rtui_buffer.specs.BufferData.{IsEmptied, area_size}
 use Rattle.rtui_backend.specs.Screen.{IsOnScreen, KeepsSizeAndHistory, Screen, Scrolls, cursor_of, rows_above}
 use Rattle.rtui_viewport.specs.declared.viewport.Viewport.{Viewport}
 use Rattle.rtui_viewport.specs.declared.viewport.Viewport.TheVariants.{Fixed, Fullscreen, Inline}
@@ -11,7 +11,7 @@ use Rattle.rtui_viewport.specs.Viewports.{IsFixed, IsInline}
 use Rattle.rtui_viewport.specs.Areas.{IsBlankOver}
 use Rattle.rtui_viewport.specs.Sizing.{first_area}
 use Rattle.rtui_viewport.specs.Placing.{area_in, cursor_row_behind, rows_scrolled, unplaced_area}
-use Rattle.rtui_terminal.specs.State.{State}
+use Rattle.rtui_terminal.specs.TerminalData.{TerminalData}
 use Rattle.rtui_terminal.specs.InStep.{IsInStep, rows_over}
 use Rattle.rtui_terminal.specs.declared.terminal.error.TerminalError.{TerminalError}
 use Rattle.rtui_terminal.specs.declared.terminal.error.TerminalError.TheVariants.{Area, Backend, Closure, Memory}
@@ -26,7 +26,7 @@ first_cursor Fullscreen s = record { x = 0; y = 0 }
 first_cursor (Inline rows) s = cursor_of s
 first_cursor (Fixed r) s = corner r
 
--- a start is refused for want of memory where the viewport has cells, or by the backend where it isn't fixed; the backend was dropped then,
+-- a start is refused for want of memory if the viewport has cells, or by the backend if it isn't fixed; the backend was dropped then,
 -- so that some backend with such a count of failures is all that is said
 abbrev pub StartErr : {B E : Type 0} → (B → Screen) → (B → ℕ) → Viewport → B → TerminalError E → Type 0
 StartErr {B} screen failures viewport b (Backend error) = (IsFixed viewport → ⊥) × ((dropped : B) × (failures b < 2 ^ 64 - 1 → failures dropped ≡ failures b + 1))
@@ -36,14 +36,14 @@ StartErr screen failures viewport b (Closure error) = ⊥
 
 module _ {B : Type 0} (screen : B → Screen) where
   -- a new terminal: empty buffers over the viewport, which was placed; for an inline one the cursor moved down, and the screen may have
-  -- scrolled; in step where the viewport is blank then
-  pub record Starts (viewport : Viewport) (b : B) (t : State B) : Type 0 where
+  -- scrolled; in step if the viewport is blank then
+  pub record Starts (viewport : Viewport) (b : B) (t : TerminalData B) : Type 0 where
     pub kind : t.viewport ≡ viewport
-    pub known_area : t.known_area ≡ first_area viewport (screen b)
-    pub known_cursor : t.known_cursor ≡ first_cursor viewport (screen b)
-    pub viewport_area : t.viewport_area ≡ area_in viewport t.known_area 0 (screen b).cursor_y
+    pub last_known_area : t.last_known_area ≡ first_area viewport (screen b)
+    pub last_known_cursor_pos : t.last_known_cursor_pos ≡ first_cursor viewport (screen b)
+    pub viewport_area : t.viewport_area ≡ area_in viewport t.last_known_area 0 (screen b).cursor_y
     pub current : IsEmptied t.viewport_area t.current
-    pub older : IsEmptied t.viewport_area t.older
+    pub previous : IsEmptied t.viewport_area t.previous
     pub hidden : t.hidden_cursor ≡ false
     pub count : t.frame_count ≡ 0
     pub scrolls : Scrolls (screen b) (rows_scrolled viewport 0 (screen b)) (screen t.backend)
@@ -54,7 +54,7 @@ module _ {B : Type 0} (screen : B → Screen) where
     pub in_step : IsOnScreen t.viewport_area (screen t.backend) → IsBlankOver t.viewport_area (screen t.backend) → IsInStep screen t
 
   -- a new terminal over one row: that of the cursor, on a screen whose rows are as they were
-  pub record StartsInRow (b : B) (t : State B) : Type 0 where
+  pub record StartsInRow (b : B) (t : TerminalData B) : Type 0 where
     pub viewport_area : t.viewport_area ≡ record { x = 0; y = (screen b).cursor_y; width = (screen b).width; height = 1 }
     pub size : KeepsSizeAndHistory (screen b) (screen t.backend)
     pub above : rows_over screen t ≡ rows_above (screen b) (screen b).cursor_y

@@ -1,16 +1,16 @@
 -- A terminal over one row of text, and rows of text above it.
 use Rattle.std.specs.Prelude.{◌≡◌, ℕ, ◌+◌, ◌-◌, ◌<◌, min, List, [], ◌∷◌, ◌++◌}
 use Rattle.rtui_geometry.specs.declared.rect.Rect.{Rect}
-use Rattle.rtui_buffer.specs.Sheet.{Sheet, IsEmptied}
+use Rattle.rtui_buffer.specs.BufferData.{BufferData, IsEmptied}
 use Rattle.rtui_cell.specs.Look.{Look}
 use Rattle.rtui_cell.specs.Grid.{Grid}
 use Rattle.rtui_diff.specs.Shows.{RowAgrees}
-use Rattle.rtui_buffer.specs.Frame.{ShowsSheet}
+use Rattle.rtui_buffer.specs.Shown.{ShowsBuffer}
 use Rattle.rtui_widgets.specs.Rendering.{HasFirstRow, RendersStr}
 use Rattle.rtui_backend.specs.Screen.{Screen, size_of, rows_above}
 use Rattle.rtui_viewport.specs.declared.viewport.Viewport.TheVariants.{Inline}
-use Rattle.rtui_rows.specs.Rows.{WritesAtMost}
-use Rattle.rtui_terminal.specs.State.{State}
+use Rattle.rtui_insert.specs.Rows.{WritesAtMost}
+use Rattle.rtui_terminal.specs.TerminalData.{TerminalData}
 use Rattle.rtui_terminal.specs.AtRest.{IsAtRest}
 use Rattle.rtui_terminal.specs.InStep.{KeepsAroundViewport, rows_over}
 use Rattle.rtui_terminal.specs.Rendered.{IsRendered}
@@ -20,45 +20,45 @@ abbrev pub row_area : ℕ → ℕ → Rect
 row_area width y = record { x = 0; y = y; width = width; height = 1 }
 
 -- the buffer is an empty one on which a text was painted
-abbrev pub IsPaintedText : List ℕ → Sheet → Type 0
+abbrev pub IsPaintedText : List ℕ → BufferData → Type 0
 IsPaintedText text = IsRendered (RendersStr text)
 
 -- a row of looks that agrees with a text painted on an empty row
 pub record IsRowOf (width : ℕ) (text : List ℕ) (row : List Look) : Type 0 where
-  pub sheet : Sheet
+  pub sheet : BufferData
   pub over : sheet.area ≡ row_area width 0
   pub painted : IsPaintedText text sheet
   pub agrees : RowAgrees width sheet.cells 0 row
 
 -- the grid shows a text painted on an empty row
 pub record ShowsText (text : List ℕ) (area : Rect) (g : Grid) : Type 0 where
-  pub sheet : Sheet
+  pub sheet : BufferData
   pub over : sheet.area ≡ area
   pub painted : IsPaintedText text sheet
-  pub shown : ShowsSheet sheet g
+  pub shown : ShowsBuffer sheet g
 
 -- how a closure renders a text in the first row of a buffer, if the buffer has it
-abbrev pub RendersRow : List ℕ → Rect → Sheet → Sheet → Type 0
+abbrev pub RendersRow : List ℕ → Rect → BufferData → BufferData → Type 0
 RendersRow text area old new = HasFirstRow area old → RendersStr text area old new
 
 -- what a closure leaves that renders a text over the whole of an empty buffer
-pub record FillsRow (text : List ℕ) (area : Rect) (sheet : Sheet) : Type 0 where
-  pub before : Sheet
+pub record FillsRow (text : List ℕ) (area : Rect) (sheet : BufferData) : Type 0 where
+  pub before : BufferData
   pub empty : IsEmptied area before
   pub renders : RendersRow text before.area before sheet
 
 module _ {B : Type 0} (screen : B → Screen) where
   -- the terminal is at rest over one row of a screen that has some
-  pub record IsOverRow (t : State B) : Type 0 where
+  pub record IsOverRow (t : TerminalData B) : Type 0 where
     pub rest : IsAtRest screen (Inline 1) t
     pub some : 0 < (screen t.backend).height
 
   -- the viewport shows a text
-  abbrev pub ShowsRow : List ℕ → State B → Type 0
+  abbrev pub ShowsRow : List ℕ → TerminalData B → Type 0
   ShowsRow text t = ShowsText text t.viewport_area (screen t.backend).grid
 
   -- a text was drawn over the viewport, by at most one item for each column, and all else stays
-  pub record DrawsRow (text : List ℕ) (s t : State B) : Type 0 where
+  pub record DrawsRow (text : List ℕ) (s t : TerminalData B) : Type 0 where
     pub over : IsOverRow t
     pub shown : ShowsRow text t
     pub keeps : KeepsAroundViewport screen s t
@@ -66,7 +66,7 @@ module _ {B : Type 0} (screen : B → Screen) where
 
   -- a text was inserted: the terminal is still over one row, which went down by one if there was room, and exactly one row, the text's, came to
   -- those above
-  pub record InsertsRow (text : List ℕ) (s t : State B) : Type 0 where
+  pub record InsertsRow (text : List ℕ) (s t : TerminalData B) : Type 0 where
     pub over : IsOverRow t
     pub size : size_of (screen t.backend) ≡ size_of (screen s.backend)
     pub top : t.viewport_area.y ≡ min (s.viewport_area.y + 1) ((screen s.backend).height - 1)
@@ -75,7 +75,7 @@ module _ {B : Type 0} (screen : B → Screen) where
     pub above : rows_over screen t ≡ rows_over screen s ++ row ∷ []
 
   -- a start on a blank screen: the terminal is over one row, the cursor's, and the rows above are those that were there
-  pub record StartsOverRow (b : B) (t : State B) : Type 0 where
+  pub record StartsOverRow (b : B) (t : TerminalData B) : Type 0 where
     pub over : IsOverRow t
     pub size : size_of (screen t.backend) ≡ size_of (screen b)
     pub top : t.viewport_area.y ≡ (screen b).cursor_y

@@ -30,29 +30,29 @@ mod resize;
 pub struct Terminal<B: Backend> {
     pub(crate) backend: B,
     pub(crate) current: Buffer,
-    pub(crate) older: Buffer,
+    pub(crate) previous: Buffer,
     pub(crate) viewport: Viewport,
     pub(crate) viewport_area: Rect,
-    pub(crate) known_area: Rect,
-    pub(crate) known_cursor: Position,
+    pub(crate) last_known_area: Rect,
+    pub(crate) last_known_cursor_pos: Position,
     pub(crate) hidden_cursor: bool,
     pub(crate) frame_count: usize,
 }
 
 impl<B: Backend> Model for Terminal<B> {
     ghost use Rattle.rtui_geometry.specs.Rect.{EdgesFit};
-    ghost use Rattle.rtui_terminal.specs.State.{State, IsInPlace};
+    ghost use Rattle.rtui_terminal.specs.TerminalData.{TerminalData, IsInPlace};
 
-    ghost Value = { State B };
+    ghost Value = { TerminalData B };
 
     ghost view = { λ t. record {
       backend = t.backend;
       current = t.current;
-      older = t.older;
+      previous = t.previous;
       viewport = t.viewport;
       viewport_area = t.viewport_area;
-      known_area = t.known_area;
-      known_cursor = t.known_cursor;
+      last_known_area = t.last_known_area;
+      last_known_cursor_pos = t.last_known_cursor_pos;
       hidden_cursor = t.hidden_cursor;
       frame_count = t.frame_count;
     } };
@@ -68,11 +68,11 @@ impl<B: Backend + Drop> Drop for Terminal<B> {
         let Terminal {
             backend: _,
             current: _,
-            older: _,
+            previous: _,
             viewport: _,
             viewport_area: _,
-            known_area: _,
-            known_cursor: _,
+            last_known_area: _,
+            last_known_cursor_pos: _,
             hidden_cursor: _,
             frame_count: _,
         } = self;

@@ -4,7 +4,7 @@ use Rattle.rtui_text.specs.Text.{SpanData, LineData, with_span, with_last_span}
 use Rattle.rtui_text.specs.Display.{printed_spans, printed_lines}
 use Rattle.std.specs.List.{flat_map}
 
--- the lines, each with a line break behind it
+-- the lines, each with a line break after it
 abbrev pub broken_lines : List LineData → List ℕ
 broken_lines ls = flat_map (λ line. printed_spans line.spans ++ 10 ∷ []) ls
 

@@ -122,7 +122,7 @@ unfolding cut
 cut-past b below before [] after = refl
 cut-past b below before (c ∷ cs) after = rw (is_break-past b below c before (cs ++ after), cut-past b below (c ∷ before) cs after) refl
 
--- ---- the place behind it is a break
+-- ---- the place after it is a break
 
 breaks_before_kind : (v : GraphemeClusterBreak) (rest : Bool) → is_ascii_kind v ≡ true → rest ≡ true → unwrap_or (break_by_pair true Other v) rest ≡ true
 breaks_before_kind Control rest h k = refl
@@ -194,7 +194,7 @@ begins_at (b ∷ text) zero le h = h (omega arith)
 begins_at [] (suc n) le h = absurd (omega arith)
 begins_at (b ∷ text) (suc n) le h = begins_at text n (omega arith) (λ lt. h (omega arith))
 
--- a text may be cut behind such a front
+-- a text may be cut after such a front
 pub front-boundary : (text : List ℕ) (n : ℕ) → IsUtf8 text → IsPrintableFront text n → IsCharBoundary text n
 front-boundary text zero u h = IsCharBoundary-start text u
 front-boundary text (suc n) u h = (h.within, λ lt high. absurd (let low = h.followed (omega arith) lt in omega arith))

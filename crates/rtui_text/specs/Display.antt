@@ -8,11 +8,11 @@ use Rattle.rtui_text.specs.Text.{SpanData, LineData}
 abbrev pub printed_span : SpanData → List ℕ
 printed_span span = flat_map (λ line. line) (lines span.content)
 
--- the spans, one behind the other
+-- the spans, one after the other
 abbrev pub printed_spans : List SpanData → List ℕ
 printed_spans spans = flat_map printed_span spans
 
--- the contents of spans, one behind the other
+-- the contents of spans, one after the other
 abbrev pub line_content : List SpanData → List ℕ
 line_content spans = flat_map (λ span. span.content) spans
 

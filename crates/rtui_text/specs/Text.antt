@@ -54,7 +54,7 @@ raw_text text = text_of (text_lines text)
 abbrev pub with_span : SpanData → LineData → LineData
 with_span span line = record line { spans = line.spans ++ span ∷ [] }
 
--- lines with one span more at the end of the last one, or in a line of its own where there is none
+-- lines with one span more at the end of the last one, or in a line of its own if there is none
 abbrev pub with_last_span : SpanData → List LineData → List LineData
 with_last_span span [] = line_of (span ∷ []) ∷ []
 with_last_span span (line ∷ []) = with_span span line ∷ []

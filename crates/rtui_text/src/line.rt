@@ -68,7 +68,7 @@ impl<'a> Line<'a> {
         Line::from(Spans::new(alloc))
     }
 
-    /// A plain span for each line of a text, none for the empty text; refused where memory is.
+    /// A plain span for each line of a text, none for the empty text; refused if memory is.
     pub fn raw(alloc: Global, content: &'a str) -> Result<Line<'a>, AllocError>
         ensures { IfOk result (λ l. l ≡ raw_line content.now) }
     {
@@ -89,7 +89,7 @@ impl<'a> Line<'a> {
         Line::from_span(alloc, Span::raw(content))
     }
 
-    /// The line that `raw` makes of a text, with a style of the whole; refused where memory is.
+    /// The line that `raw` makes of a text, with a style of the whole; refused if memory is.
     pub fn styled(alloc: Global, content: &'a str, style: Style) -> Result<Line<'a>, AllocError>
         ensures { IfOk result (λ l. l ≡ record (raw_line content.now) { style = style }) }
     {
@@ -98,7 +98,7 @@ impl<'a> Line<'a> {
         Ok(line)
     }
 
-    /// The same line as `raw` makes of the text, with copies of its lines; refused where memory is.
+    /// The same line as `raw` makes of the text, with copies of its lines; refused if memory is.
     pub fn raw_string(alloc: Global, content: String) -> Result<Line<'a>, AllocError>
         ensures { IfOk result (λ l. l ≡ raw_line (string_bytes content)) }
     {
@@ -116,7 +116,7 @@ impl<'a> Line<'a> {
         Ok(Line::from(spans))
     }
 
-    /// A line of one span; refused where memory is.
+    /// A line of one span; refused if memory is.
     pub fn from_span(alloc: Global, span: Span<'a>) -> Result<Line<'a>, AllocError>
         ensures { IfOk result (λ l. l ≡ line_of (span.entry ∷ [])) }
     {
@@ -125,14 +125,14 @@ impl<'a> Line<'a> {
         Ok(Line::from(spans))
     }
 
-    /// A line of spans equal to these; refused where memory is.
+    /// A line of spans equal to these; refused if memory is.
     pub fn from_slice(alloc: Global, spans: &[Span<'a>]) -> Result<Line<'a>, AllocError>
         ensures { IfOk result (λ l. l ≡ line_of spans.now) }
     {
         Ok(Line::from(Spans::from_slice(alloc, spans)?))
     }
 
-    /// The line with spans equal to these in place of its own; refused where memory is.
+    /// The line with spans equal to these in place of its own; refused if memory is.
     pub fn spans(self, spans: &[Span<'a>]) -> Result<Line<'a>, AllocError>
         ensures { IfOk result (λ l. l ≡ record self.entry { spans = spans.now }) }
     {
@@ -214,7 +214,7 @@ impl<'a> Line<'a> {
         self.spans.iter_mut()
     }
 
-    /// A line of the spans that an iterator gives; refused where memory is.
+    /// A line of the spans that an iterator gives; refused if memory is.
     pub fn try_from_iter<I>(alloc: Global, spans: I) -> Result<Line<'a>, AllocError>
     where
         I: IntoIterator<Item = Span<'a>>,
@@ -227,7 +227,7 @@ impl<'a> Line<'a> {
         Ok(Line::from(Vec::from_iter(alloc, spans)?))
     }
 
-    /// Puts the spans that an iterator gives behind the others; where memory is refused those stay that came before.
+    /// Puts the spans that an iterator gives after the others; if memory is refused those stay that came before.
     pub fn try_extend<I>(&mut self, spans: I) -> Result<(), AllocError>
     where
         I: IntoIterator<Item = Span<'a>>,
@@ -240,7 +240,7 @@ impl<'a> Line<'a> {
         self.spans.extend(spans)
     }
 
-    /// Puts a span behind the others; where memory is refused nothing changes.
+    /// Puts a span after the others; if memory is refused nothing changes.
     pub fn push_span(&mut self, span: Span<'a>) -> Result<(), AllocError>
         ensures ok { OnOk result (self.new ≡ with_span span.entry self.old) }
         ensures err { OnErr result (self.new ≡ self.old) }
@@ -248,7 +248,7 @@ impl<'a> Line<'a> {
         self.spans.push(span)
     }
 
-    /// The line with a span behind the others; refused where memory is.
+    /// The line with a span after the others; refused if memory is.
     pub fn try_add(mut self, span: Span<'a>) -> Result<Line<'a>, AllocError>
         ensures { IfOk result (λ l. l ≡ with_span span.entry self.entry) }
     {
@@ -256,14 +256,14 @@ impl<'a> Line<'a> {
         Ok(self)
     }
 
-    /// A text of this line and another one below it; refused where memory is.
+    /// A text of this line and another one below it; refused if memory is.
     pub fn try_add_line(self, line: Line<'a>) -> Result<Text<'a>, AllocError>
         ensures { IfOk result (λ t. t ≡ text_of (self.entry ∷ line.entry ∷ [])) }
     {
         Text::from_line(self.spans.allocator(), self)?.try_add_line(line)
     }
 
-    /// The texts of the spans, one behind the other; refused where memory is.
+    /// The texts of the spans, one after the other; refused if memory is.
     pub fn try_into_string(self) -> Result<String, AllocError>
         ensures { IfOk result (λ s. string_bytes s ≡ line_content self.entry.spans) }
     {
@@ -285,7 +285,7 @@ impl<'a> Line<'a> {
         width
     }
 
-    /// An equal line; refused where memory is.
+    /// An equal line; refused if memory is.
     pub fn clone(&self, alloc: Global) -> Result<Line<'a>, AllocError>
         ensures { IfOk result (λ l. l ≡ self.now) }
     {
@@ -395,7 +395,7 @@ impl<'a> Hash for Line<'a> {
     }
 }
 
-/// The spans, one behind the other, each without its line breaks.
+/// The spans, one after the other, each without its line breaks.
 impl fmt::Display for Line<'_> {
     ghost output = { λ l. Some (printed_spans l.spans) };
 

@@ -43,7 +43,7 @@ impl<'a> Lines<'a> {
         }
     }
 
-    /// Lines equal to these; refused where memory is.
+    /// Lines equal to these; refused if memory is.
     pub fn from_slice(alloc: Global, lines: &[Line<'a>]) -> Result<Lines<'a>, AllocError>
         ensures { IfOk result (λ l. l ≡ lines.now) }
     {
@@ -54,7 +54,7 @@ impl<'a> Lines<'a> {
         Ok(Lines { items })
     }
 
-    /// Equal lines; refused where memory is.
+    /// Equal lines; refused if memory is.
     pub fn clone(&self, alloc: Global) -> Result<Lines<'a>, AllocError>
         ensures { IfOk result (λ l. l ≡ self.now) }
     {
@@ -116,7 +116,7 @@ impl<'a> Lines<'a> {
         self.items.is_empty()
     }
 
-    /// Puts a line below the others; where memory is refused nothing changes.
+    /// Puts a line below the others; if memory is refused nothing changes.
     pub fn push(&mut self, line: Line<'a>) -> Result<(), AllocError>
         ensures ok { OnOk result (self.new ≡ self.old ++ line.entry ∷ []) }
         ensures err { OnErr result (self.new ≡ self.old) }
@@ -125,7 +125,7 @@ impl<'a> Lines<'a> {
         Ok(())
     }
 
-    /// Puts other lines below these; where memory is refused nothing changes.
+    /// Puts other lines below these; if memory is refused nothing changes.
     pub fn append(&mut self, mut lines: Lines<'a>) -> Result<(), AllocError>
         ensures ok { OnOk result (self.new ≡ self.old ++ lines.entry) }
         ensures err { OnErr result (self.new ≡ self.old) }
@@ -133,7 +133,7 @@ impl<'a> Lines<'a> {
         self.items.append(&mut lines.items)
     }
 
-    /// Puts the lines that an iterator gives below these; where memory is refused those stay that came before.
+    /// Puts the lines that an iterator gives below these; if memory is refused those stay that came before.
     pub fn extend<I: IntoIterator<Item = Line<'a>>>(&mut self, lines: I) -> Result<(), AllocError>
         requires { (it : I.IntoIter) → I.into_iter_gives lines it
             → I.IntoIter.can_next it × IsFinite (I.IntoIter.remaining it) }
@@ -143,7 +143,7 @@ impl<'a> Lines<'a> {
         self.items.extend(lines)
     }
 
-    /// Puts a span at the end of the last line, or into a new line where there is none; where memory is refused
+    /// Puts a span at the end of the last line, or into a new line if there is none; if memory is refused
     /// nothing changes.
     pub fn push_span(&mut self, span: Span<'a>) -> Result<(), AllocError>
         ensures ok { OnOk result (self.new ≡ with_last_span span.entry self.old) }

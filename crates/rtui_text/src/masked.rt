@@ -66,21 +66,21 @@ impl<'a> Masked<'a> {
         self.mask_char
     }
 
-    /// What is shown, in a text of its own; refused where memory is.
+    /// What is shown, in a text of its own; refused if memory is.
     pub fn value(&self, alloc: Global) -> Result<CowStr<'a>, AllocError>
         ensures { IfOk result (λ value. cow_str_bytes value ≡ mask_value self.now) }
     {
         Ok(CowStr::Owned(self.shown(alloc)?))
     }
 
-    /// What is shown, as a text of lines; refused where memory is.
+    /// What is shown, as a text of lines; refused if memory is.
     pub fn to_text(&self, alloc: Global) -> Result<Text<'a>, AllocError>
         ensures { IfOk result (λ text. text ≡ raw_text (mask_value self.now)) }
     {
         Text::raw_string(alloc, self.shown(alloc)?)
     }
 
-    /// An equal one, which borrows what this one borrows; refused where memory is.
+    /// An equal one, which borrows what this one borrows; refused if memory is.
     pub fn clone(&self, alloc: Global) -> Result<Masked<'a>, AllocError>
         ensures { IfOk result (λ m. m ≡ self.now) }
     {

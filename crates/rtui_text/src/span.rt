@@ -118,7 +118,7 @@ impl<'a> Span<'a> {
         SpanGraphemes::new(self.text(), base_style.patch(self.style))
     }
 
-    /// A line of this span, aligned to the left; refused where memory is.
+    /// A line of this span, aligned to the left; refused if memory is.
     pub fn into_left_aligned_line(self, alloc: Global) -> Result<Line<'a>, AllocError>
         ensures { let line = line_of (self.entry ∷ []) in
             IfOk result (λ l. l ≡ record line { alignment = Some HorizontalAlignment.Left }) }
@@ -126,7 +126,7 @@ impl<'a> Span<'a> {
         Ok(Line::from_span(alloc, self)?.left_aligned())
     }
 
-    /// The older name of `into_left_aligned_line`.
+    /// The previous name of `into_left_aligned_line`.
     pub fn to_left_aligned_line(self, alloc: Global) -> Result<Line<'a>, AllocError>
         ensures { let line = line_of (self.entry ∷ []) in
             IfOk result (λ l. l ≡ record line { alignment = Some HorizontalAlignment.Left }) }
@@ -134,7 +134,7 @@ impl<'a> Span<'a> {
         self.into_left_aligned_line(alloc)
     }
 
-    /// A line of this span, centred; refused where memory is.
+    /// A line of this span, centred; refused if memory is.
     pub fn into_centered_line(self, alloc: Global) -> Result<Line<'a>, AllocError>
         ensures { let line = line_of (self.entry ∷ []) in
             IfOk result (λ l. l ≡ record line { alignment = Some HorizontalAlignment.Center }) }
@@ -142,7 +142,7 @@ impl<'a> Span<'a> {
         Ok(Line::from_span(alloc, self)?.centered())
     }
 
-    /// The older name of `into_centered_line`.
+    /// The previous name of `into_centered_line`.
     pub fn to_centered_line(self, alloc: Global) -> Result<Line<'a>, AllocError>
         ensures { let line = line_of (self.entry ∷ []) in
             IfOk result (λ l. l ≡ record line { alignment = Some HorizontalAlignment.Center }) }
@@ -150,7 +150,7 @@ impl<'a> Span<'a> {
         self.into_centered_line(alloc)
     }
 
-    /// A line of this span, aligned to the right; refused where memory is.
+    /// A line of this span, aligned to the right; refused if memory is.
     pub fn into_right_aligned_line(self, alloc: Global) -> Result<Line<'a>, AllocError>
         ensures { let line = line_of (self.entry ∷ []) in
             IfOk result (λ l. l ≡ record line { alignment = Some HorizontalAlignment.Right }) }
@@ -158,7 +158,7 @@ impl<'a> Span<'a> {
         Ok(Line::from_span(alloc, self)?.right_aligned())
     }
 
-    /// The older name of `into_right_aligned_line`.
+    /// The previous name of `into_right_aligned_line`.
     pub fn to_right_aligned_line(self, alloc: Global) -> Result<Line<'a>, AllocError>
         ensures { let line = line_of (self.entry ∷ []) in
             IfOk result (λ l. l ≡ record line { alignment = Some HorizontalAlignment.Right }) }
@@ -166,14 +166,14 @@ impl<'a> Span<'a> {
         self.into_right_aligned_line(alloc)
     }
 
-    /// A line of this span and another behind it; refused where memory is.
+    /// A line of this span and another after it; refused if memory is.
     pub fn try_add(self, alloc: Global, other: Span<'a>) -> Result<Line<'a>, AllocError>
         ensures { IfOk result (λ l. l ≡ line_of (self.entry ∷ other.entry ∷ [])) }
     {
         Line::from_span(alloc, self)?.try_add(other)
     }
 
-    /// An equal span, which borrows what this one borrows; refused where memory is.
+    /// An equal span, which borrows what this one borrows; refused if memory is.
     pub fn clone(&self, alloc: Global) -> Result<Span<'a>, AllocError>
         ensures { IfOk result (λ s. s ≡ self.now) }
     {

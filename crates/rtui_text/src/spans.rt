@@ -41,7 +41,7 @@ impl<'a> Spans<'a> {
         }
     }
 
-    /// Spans equal to these; refused where memory is.
+    /// Spans equal to these; refused if memory is.
     pub fn from_slice(alloc: Global, spans: &[Span<'a>]) -> Result<Spans<'a>, AllocError>
         ensures { IfOk result (λ s. s ≡ spans.now) }
     {
@@ -52,7 +52,7 @@ impl<'a> Spans<'a> {
         Ok(Spans { items })
     }
 
-    /// Equal spans; refused where memory is.
+    /// Equal spans; refused if memory is.
     pub fn clone(&self, alloc: Global) -> Result<Spans<'a>, AllocError>
         ensures { IfOk result (λ s. s ≡ self.now) }
     {
@@ -114,7 +114,7 @@ impl<'a> Spans<'a> {
         self.items.is_empty()
     }
 
-    /// Puts a span behind the others; where memory is refused nothing changes.
+    /// Puts a span after the others; if memory is refused nothing changes.
     pub fn push(&mut self, span: Span<'a>) -> Result<(), AllocError>
         ensures ok { OnOk result (self.new ≡ self.old ++ span.entry ∷ []) }
         ensures err { OnErr result (self.new ≡ self.old) }
@@ -123,7 +123,7 @@ impl<'a> Spans<'a> {
         Ok(())
     }
 
-    /// Puts the spans that an iterator gives behind these; where memory is refused those stay that came before.
+    /// Puts the spans that an iterator gives after these; if memory is refused those stay that came before.
     pub fn extend<I: IntoIterator<Item = Span<'a>>>(&mut self, spans: I) -> Result<(), AllocError>
         requires { (it : I.IntoIter) → I.into_iter_gives spans it
             → I.IntoIter.can_next it × IsFinite (I.IntoIter.remaining it) }

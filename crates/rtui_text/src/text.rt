@@ -59,7 +59,7 @@ impl<'a> Text<'a> {
         Text::from(Lines::new(alloc))
     }
 
-    /// A line for each line of a text, and one without spans for the empty text; refused where memory is.
+    /// A line for each line of a text, and one without spans for the empty text; refused if memory is.
     pub fn raw(alloc: Global, content: &'a str) -> Result<Text<'a>, AllocError>
         ensures { IfOk result (λ t. t ≡ raw_text content.now) }
     {
@@ -73,7 +73,7 @@ impl<'a> Text<'a> {
         Ok(Text::from(lines))
     }
 
-    /// The same text as `raw` makes, with copies of the lines; refused where memory is.
+    /// The same text as `raw` makes, with copies of the lines; refused if memory is.
     pub fn raw_string(alloc: Global, content: String) -> Result<Text<'a>, AllocError>
         ensures { IfOk result (λ t. t ≡ raw_text (string_bytes content)) }
     {
@@ -94,21 +94,21 @@ impl<'a> Text<'a> {
         Ok(Text::from(lines))
     }
 
-    /// The text that `raw` makes, with a style of the whole; refused where memory is.
+    /// The text that `raw` makes, with a style of the whole; refused if memory is.
     pub fn styled(alloc: Global, content: &'a str, style: Style) -> Result<Text<'a>, AllocError>
         ensures { IfOk result (λ t. t ≡ record (raw_text content.now) { style = style }) }
     {
         Ok(Text::raw(alloc, content)?.style(style))
     }
 
-    /// A text of one line of one span; refused where memory is.
+    /// A text of one line of one span; refused if memory is.
     pub fn from_span(alloc: Global, span: Span<'a>) -> Result<Text<'a>, AllocError>
         ensures { IfOk result (λ t. t ≡ text_of (line_of (span.entry ∷ []) ∷ [])) }
     {
         Text::from_line(alloc, Line::from_span(alloc, span)?)
     }
 
-    /// A text of one line; refused where memory is.
+    /// A text of one line; refused if memory is.
     pub fn from_line(alloc: Global, line: Line<'a>) -> Result<Text<'a>, AllocError>
         ensures { IfOk result (λ t. t ≡ text_of (line.entry ∷ [])) }
     {
@@ -117,7 +117,7 @@ impl<'a> Text<'a> {
         Ok(Text::from(lines))
     }
 
-    /// A text of lines equal to these; refused where memory is.
+    /// A text of lines equal to these; refused if memory is.
     pub fn from_slice(alloc: Global, lines: &[Line<'a>]) -> Result<Text<'a>, AllocError>
         ensures { IfOk result (λ t. t ≡ text_of lines.now) }
     {
@@ -165,7 +165,7 @@ impl<'a> Text<'a> {
         self.patch_style(Style::reset())
     }
 
-    /// The text, its lines aligned so where they don't say so themselves.
+    /// The text, its lines aligned so if they don't say so themselves.
     pub fn alignment(mut self, alignment: HorizontalAlignment) -> Text<'a>
         ensures { result ≡ record self.entry { alignment = Some alignment } }
     {
@@ -208,7 +208,7 @@ impl<'a> Text<'a> {
         self.lines.iter_mut()
     }
 
-    /// A text of the lines that an iterator gives; refused where memory is.
+    /// A text of the lines that an iterator gives; refused if memory is.
     pub fn try_from_iter<I>(alloc: Global, lines: I) -> Result<Text<'a>, AllocError>
     where
         I: IntoIterator<Item = Line<'a>>,
@@ -221,7 +221,7 @@ impl<'a> Text<'a> {
         Ok(Text::from(Vec::from_iter(alloc, lines)?))
     }
 
-    /// Puts the lines that an iterator gives below the others; where memory is refused those stay that came before.
+    /// Puts the lines that an iterator gives below the others; if memory is refused those stay that came before.
     pub fn try_extend<I>(&mut self, lines: I) -> Result<(), AllocError>
     where
         I: IntoIterator<Item = Line<'a>>,
@@ -234,7 +234,7 @@ impl<'a> Text<'a> {
         self.lines.extend(lines)
     }
 
-    /// Puts a line below the others; where memory is refused nothing changes.
+    /// Puts a line below the others; if memory is refused nothing changes.
     pub fn push_line(&mut self, line: Line<'a>) -> Result<(), AllocError>
         ensures ok { let lines = self.old.lines ++ line.entry ∷ [] in
             OnOk result (self.new ≡ record self.old { lines = lines }) }
@@ -243,7 +243,7 @@ impl<'a> Text<'a> {
         self.lines.push(line)
     }
 
-    /// Puts a span at the end of the last line, or into a new line where there is none; where memory is refused
+    /// Puts a span at the end of the last line, or into a new line if there is none; if memory is refused
     /// nothing changes.
     pub fn push_span(&mut self, span: Span<'a>) -> Result<(), AllocError>
         ensures ok { let lines = with_last_span span.entry self.old.lines in
@@ -253,7 +253,7 @@ impl<'a> Text<'a> {
         self.lines.push_span(span)
     }
 
-    /// Puts the lines of another text below the others; where memory is refused nothing changes.
+    /// Puts the lines of another text below the others; if memory is refused nothing changes.
     pub fn append(&mut self, text: Text<'a>) -> Result<(), AllocError>
         ensures ok { let lines = self.old.lines ++ text.entry.lines in
             OnOk result (self.new ≡ record self.old { lines = lines }) }
@@ -262,7 +262,7 @@ impl<'a> Text<'a> {
         self.lines.append(text.lines)
     }
 
-    /// The text with a line below the others; refused where memory is.
+    /// The text with a line below the others; refused if memory is.
     pub fn try_add_line(mut self, line: Line<'a>) -> Result<Text<'a>, AllocError>
         ensures { let lines = self.entry.lines ++ line.entry ∷ [] in
             IfOk result (λ t. t ≡ record self.entry { lines = lines }) }
@@ -271,7 +271,7 @@ impl<'a> Text<'a> {
         Ok(self)
     }
 
-    /// The text with the lines of another one below its own; refused where memory is.
+    /// The text with the lines of another one below its own; refused if memory is.
     pub fn try_add(mut self, text: Text<'a>) -> Result<Text<'a>, AllocError>
         ensures { let lines = self.entry.lines ++ text.entry.lines in
             IfOk result (λ t. t ≡ record self.entry { lines = lines }) }
@@ -280,7 +280,7 @@ impl<'a> Text<'a> {
         Ok(self)
     }
 
-    /// An equal text; refused where memory is.
+    /// An equal text; refused if memory is.
     pub fn clone(&self, alloc: Global) -> Result<Text<'a>, AllocError>
         ensures { IfOk result (λ t. t ≡ self.now) }
     {

@@ -79,11 +79,11 @@ empties_drawn r {s} {t} ps fits lists d = record {
 pub clears_fullscreen : {s t : Screen} → Clears s All t → Empties (λ a b. true) s t
 clears_fullscreen p = record { frame = frame_cleared All p; grid = p.grid }
 
--- a clear of all behind the left end of a row
+-- a clear of all after the left end of a row
 pub clears_inline : (n : ℕ) (area : Rect) {s t : Screen} → Clears (with_cursor area.x area.y s) AfterCursor t → ClearsArea (Inline n) area s t
 clears_inline n area p left = empties_cleared area.x area.y AfterCursor _ p (λ a b a_in b_in. grind (arith, nat_tests))
 
--- the cursor may be set behind a clear
+-- the cursor may be set after a clear
 pub empties_set : (x y : ℕ) {which : ℕ → ℕ → Bool} {s t : Screen} → Empties which s t → Empties which s (with_cursor x y t)
 empties_set x y p = record {
   frame = record { size = record { width = p.frame.size.width; height = p.frame.size.height; history = p.frame.size.history }; visible = p.frame.visible };
@@ -104,7 +104,7 @@ empties_more {p} {q} {r} {s} {t} first next = record {
     either true y look = refl
     either false y look = refl
 
--- where a viewport has its place and lies on the screen, it is blank then
+-- if a viewport has its place and lies on the screen, it is blank then
 pub blank_over : (v : Viewport) (r : Rect) {s t : Screen} → IsOnScreen r s → Empties (is_emptied v r s.height) s t → IsBlankOver r t
 blank_over Fullscreen r on p = record { at = λ a b w. p.grid a b (omega (arith, w.right, on.right)) (omega (arith, w.bottom, on.bottom)) }
 blank_over (Inline n) r {s} on p = record {
@@ -136,7 +136,7 @@ keeps_above n r {s} {t} on some p = above_same s t r.y p.frame.size.history p.fr
     let above : nat_le (min r.y (s.height - 1)) b ≡ false = let bottom = on.bottom in grind (arith, nat_tests) in
     p.grid a b a_in b_in ∙ rw above refl)
 
--- a clear, behind which the cursor was set back
+-- a clear, after which the cursor was set back
 module _ (found : Option Position) {r s t : Screen} (restored : t ≡ cursor_restored found s) where
   pub frame_restored : KeepsAllButLooks r s → KeepsAllButLooks r t
   frame_restored p = subst (KeepsAllButLooks r) (sym restored) (either found)

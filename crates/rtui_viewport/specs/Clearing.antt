@@ -26,7 +26,7 @@ ClearsArea v r old new = HasPlace v r old → Empties (is_emptied v r old.height
 abbrev pub WritesItems : ℕ → Screen → Screen → Type 0
 WritesItems n old new = old.written + n < 2 ^ 64 - 1 → new.written ≡ old.written + n
 
--- how many blanks a clear of a rectangle draws: none where it is as wide as the screen, else one for each position
+-- how many blanks a clear of a rectangle draws: none if it is as wide as the screen, else one for each position
 abbrev pub blanks_needed : Rect → Screen → ℕ
 blanks_needed r s = if r.x == 0 && r.width == s.width then 0 else r.width * r.height
 

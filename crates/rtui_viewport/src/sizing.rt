@@ -28,9 +28,9 @@ pub fn first_area<B: Backend>(backend: &mut B, viewport: Viewport) -> Result<Rec
 pub fn changed_area<B: Backend>(
     backend: &mut B,
     viewport: Viewport,
-    known_area: Rect,
+    last_known_area: Rect,
 ) -> Result<Option<Rect>, B::Error>
-    ensures area { IfOk result (IsAreaChange viewport known_area (B.screen backend.old)) }
+    ensures area { IfOk result (IsAreaChange viewport last_known_area (B.screen backend.old)) }
     ensures stays { OnOk result (B.screen backend.new ≡ B.screen backend.old) }
     ensures fixed { IsFixed viewport → IsOk result × (backend.new ≡ backend.old) }
     ensures counts { Counts result (B.failures backend.old) (B.failures backend.new) }
@@ -39,7 +39,7 @@ pub fn changed_area<B: Backend>(
         return Ok(None);
     }
     let area = Rect::from(backend.size()?);
-    if area == known_area {
+    if area == last_known_area {
         return Ok(None);
     }
     Ok(Some(area))

@@ -18,7 +18,7 @@ use Rattle.rtui_text.proofs.PrintableLemmas.{IsAsciiPiece, AreAsciiChars, ascii-
 use Rattle.rtui_buffer.specs.Painting.{fitting}
 use Rattle.rtui_geometry.specs.declared.rect.Rect.{Rect}
 use Rattle.rtui_style.specs.Style.{new_style}
-use Rattle.rtui_buffer.specs.Sheet.{Sheet}
+use Rattle.rtui_buffer.specs.BufferData.{BufferData}
 use Rattle.rtui_buffer.proofs.ShortLemmas.{All-fitting, text-short, ascii-short}
 use Rattle.rtui_widgets.specs.Span.{goes_to, those_at, showing, IsShortSpan}
 use Rattle.rtui_widgets.specs.Rendering.{AreAscii, text_line, RendersShortText, RendersShortStr}
@@ -128,7 +128,7 @@ parts-ascii columns skip (span ∷ spans) all =
 pub line-ascii : (alignment : Option HorizontalAlignment) (line : LineData) (columns : ℕ) → AreAscii line.spans → IsShortLine alignment line columns
 line-ascii alignment line columns all = parts-ascii _ _ line.spans all
 
-pub text-ascii : (text : TextData) (area : Rect) (s : Sheet) → All (λ line. AreAscii line.spans) text.lines → RendersShortText text area s
+pub text-ascii : (text : TextData) (area : Rect) (s : BufferData) → All (λ line. AreAscii line.spans) text.lines → RendersShortText text area s
 text-ascii text area s all = λ k k_in. line-ascii _ (text_line text k) _ (line_at text.lines k all)
   where
     line_at : (ls : List LineData) (k : ℕ) → All (λ line. AreAscii line.spans) ls → AreAscii (slice_index_or ls k (line_of [])).spans
@@ -136,5 +136,5 @@ text-ascii text area s all = λ k k_in. line-ascii _ (text_line text k) _ (line_
     line_at (l ∷ ls) zero all = All-head (λ (line : LineData). AreAscii line.spans) l ls all
     line_at (l ∷ ls) (suc k) all = line_at ls k (All-tail (λ (line : LineData). AreAscii line.spans) l ls all)
 
-pub painted-ascii : (text : List ℕ) (area : Rect) (s : Sheet) → IsAscii text → RendersShortStr text area s
+pub painted-ascii : (text : List ℕ) (area : Rect) (s : BufferData) → IsAscii text → RendersShortStr text area s
 painted-ascii text area s ascii = text-short _ new_style text (ascii-short text ascii)

@@ -105,7 +105,7 @@ cond-cons-here false h us n e = cc
 goes-here : (k x : ℕ) (g : List ℕ) → x ≤ k → k < x + text_width g → hides k x g ≡ false → (goes_to x g == k) ≡ true
 goes-here k x g le lt h = grind (arith, nat_tests)
 
--- a column that the graphemes reach is behind one of them, or one goes there
+-- a column that the graphemes reach is after one of them, or one goes there
 pub reached : (k x : ℕ) (gs : List (List ℕ)) → x ≤ k → k < end_of_those x gs → is_behind k x gs ≡ false → those_at k x gs ≢ []
 unfolding those_at is_behind end_of_those
 reached k x [] le lt h = absurd (omega arith)
@@ -173,7 +173,7 @@ behind-or false c h = absurd (h refl)
 -- ---- each column after one more grapheme, which stands at x
 
 module _ (s : Style) (gs : List (List ℕ)) (g : List ℕ) (x k : ℕ) (c : Cell) (ends : x ≡ end_of_those 0 gs) where
-  -- behind it
+  -- after it
   pub column-behind : x < k → k < x + text_width g → column_with s (gs ++ g ∷ []) k c ≡ empty_cell
   column-behind lt lt2 =
       let far = those_at-far k 0 gs (omega arith) (omega arith) in
@@ -182,7 +182,7 @@ module _ (s : Style) (gs : List (List ℕ)) (g : List ℕ) (x k : ℕ) (c : Cell
       let hidden : (is_behind k 0 gs || hides k (end_of_those 0 gs) g) ≡ true = or-true (is_behind k 0 gs) (hides k (end_of_those 0 gs) g) yes in
       rw (those_at-append, is_behind-append, far, no, hidden)
 
-  -- neither its own nor behind it
+  -- neither its own nor after it
   pub column-other : k ≢ goes_to x g → (k ≤ x) ⊎ (x + text_width g ≤ k) → column_with s (gs ++ g ∷ []) k c ≡ column_with s gs k c
   column-other ne h =
       let no : (goes_to (end_of_those 0 gs) g == k) ≡ false = grind (arith, nat_tests, ends, ne) in

@@ -28,7 +28,7 @@ pub last_fitting-drop : (room : ℕ) (g : List ℕ) (gs : List (List ℕ)) → r
 unfolding last_fitting
 last_fitting-drop room g gs lt = let no : nat_le (sum_by text_columns (g ∷ gs)) room ≡ false = grind (arith, nat_tests, lt) in rw no
 
--- where a grapheme doesn't fit any more, those behind it are the longest end that does
+-- if a grapheme doesn't fit any more, those after it are the longest end that does
 pub last_fitting-behind : (room : ℕ) (front : List (List ℕ)) (g : List ℕ) (kept : List (List ℕ)) → sum_by text_columns kept ≤ room → room < text_columns g + sum_by text_columns kept
     → last_fitting room (front ++ g ∷ kept) ≡ kept
 last_fitting-behind room [] g kept fits over = last_fitting-drop room g kept (omega (arith, over, sum_by-cons text_columns g kept)) ∙ last_fitting-fits room kept fits

@@ -29,7 +29,7 @@ showing-singles (b ∷ bs) room gs all le =
     showing-take room (b ∷ []) (singles bs ++ gs) (printable-plain b (all 0 (omega arith))) (omega (arith, one_column b))
     ∙ rw (one_column b) (ap (λ ks. (b ∷ []) ∷ ks) (showing-singles bs (room - 1) gs (λ k lt. all (suc k) (omega arith)) (omega arith) ∙ rw less refl))
 
--- the next one, at a column behind the others or as the first
+-- the next one, at a column after the others or as the first
 next-byte : (is_first : Bool) (x : ℕ) (s : Style) (b : ℕ) (row : List Cell) → (is_first ≡ false → 0 < x)
     → with_next is_first x s (b ∷ []) row ≡ set row x (shown (piece_of s (b ∷ [])) (cell row x))
 unfolding with_next emptied
@@ -44,7 +44,7 @@ some_first : (cs : List ℕ) → nat_eq (length cs) 0 ≡ false → singles cs �
 some_first [] e = absurd (grind (arith, nat_tests, e))
 some_first (c ∷ cs) e = λ h. cc
 
--- these bytes, behind others that stand in the row
+-- these bytes, after others that stand in the row
 row-bytes : (s : Style) (cs bs : List ℕ) (old row : List Cell) → length cs + length bs ≤ length old → IsRowWith s (singles cs) old row
     → IsRowWith s (singles (cs ++ bs)) old (painted (length cs) (pieces s (singles bs)) row)
 row-bytes s cs [] old row fits h = rw (append-nil cs, painted-nil (length cs) row) h

@@ -6,7 +6,7 @@ use Rattle.rtui_cell.specs.Cell.{empty_cell}
 use Rattle.rtui_cell.specs.Width.{text_width}
 use Rattle.rtui_widgets.specs.Span.{column_with}
 
--- the column behind these graphemes, where the first stands at x
+-- the column after these graphemes, where the first stands at x
 unfoldable pub end_of_those : ℕ → List (List ℕ) → ℕ
 end_of_those x [] = x
 end_of_those x (g ∷ gs) = end_of_those (x + text_width g) gs

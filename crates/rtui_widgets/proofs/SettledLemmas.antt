@@ -3,21 +3,21 @@ use Rattle.std.proofs.Common.{◌≡◌, ℕ, ◌+◌, ◌<◌, ◌≤◌, List,
 use Rattle.rtui_geometry.specs.declared.rect.Rect.{Rect}
 use Rattle.rtui_style.specs.Style.{new_style}
 use Rattle.rtui_diff.specs.Settled.{IsSettled}
-use Rattle.rtui_buffer.specs.Sheet.{Sheet, IsEmptied}
-use Rattle.rtui_buffer.specs.Frame.{IsSettledSheet}
+use Rattle.rtui_buffer.specs.BufferData.{BufferData, IsEmptied}
+use Rattle.rtui_buffer.specs.Shown.{IsSettledBuffer}
 use Rattle.rtui_buffer.specs.PaintedText.{pieces_at}
-use Rattle.rtui_buffer.proofs.EmptyLemmas.{IsSettledSheet-empty, IsPaintable-empty}
+use Rattle.rtui_buffer.proofs.EmptyLemmas.{IsSettledBuffer-empty, IsPaintable-empty}
 use Rattle.rtui_buffer.proofs.TextLemmas.{IsSettled-row}
 use Rattle.rtui_buffer.proofs.ColumnLemmas.{text-ends}
 use Rattle.rtui_widgets.specs.Rendering.{HasFirstRow, RendersStr}
 
-pub text-settled : (r area : Rect) (text : List ℕ) (old new : Sheet) → IsEmptied r old → old.area.x ≤ area.x → area.x ≤ old.area.x + old.area.width → RendersStr text area old new → IsSettledSheet new
+pub text-settled : (r area : Rect) (text : List ℕ) (old new : BufferData) → IsEmptied r old → old.area.x ≤ area.x → area.x ≤ old.area.x + old.area.width → RendersStr text area old new → IsSettledBuffer new
 text-settled r area text old new empty left right paints =
     let ends = text-ends old.area area.x area.width new_style text in
     subst (λ (a : Rect). IsSettled a.width a.height new.cells) (sym paints.area)
-    (IsSettled-row old area.x area.y (pieces_at old.area area.x area.width new_style text) new.cells paints.cells (IsSettledSheet-empty _ _ empty) (IsPaintable-empty _ _ empty _ _) left (omega arith))
+    (IsSettled-row old area.x area.y (pieces_at old.area area.x area.width new_style text) new.cells paints.cells (IsSettledBuffer-empty _ _ empty) (IsPaintable-empty _ _ empty _ _) left (omega arith))
 
-pub has-first-row : (r : Rect) (s : Sheet) → 0 < r.height → IsEmptied r s → HasFirstRow r s
+pub has-first-row : (r : Rect) (s : BufferData) → 0 < r.height → IsEmptied r s → HasFirstRow r s
 has-first-row r s some empty =
     let x : s.area.x ≡ r.x = ap (λ (q : Rect). q.x) empty.area in
     let y : s.area.y ≡ r.y = ap (λ (q : Rect). q.y) empty.area in

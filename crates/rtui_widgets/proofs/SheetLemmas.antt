@@ -10,7 +10,7 @@ use Rattle.rtui_geometry.specs.declared.rect.Rect.{Rect}
 use Rattle.rtui_geometry.specs.Rect.{HasPosition, right_edge, bottom_edge, intersected}
 use Rattle.rtui_cell.specs.declared.cell.Cell.{Cell}
 use Rattle.rtui_diff.specs.Cells.{cell}
-use Rattle.rtui_buffer.specs.Sheet.{Sheet, area_size, cell_index, refilled, HasRow}
+use Rattle.rtui_buffer.specs.BufferData.{BufferData, area_size, cell_index, refilled, HasRow}
 use Rattle.unicode_segmentation.specs.Grapheme.{graphemes}
 use Rattle.rtui_style.specs.declared.Style.{Style}
 use Rattle.rtui_buffer.specs.Painting.{Piece, columns, KeepsUnmarked}
@@ -92,7 +92,7 @@ row-beside a k b w c d width lt le same =
     by_rows _ w b (a + k) (λ p q. inl (omega arith)) (λ p q. inr (omega arith))
     (λ here. ⊎_elim (λ (l : d < c). inl (rw here (omega arith))) (λ (r : c + width ≤ d). inr (rw here (omega arith))) (same here))
 
-module _ (area : Rect) (old : Sheet) (r : Rect) (h : IsClipped area old.area r) where
+module _ (area : Rect) (old : BufferData) (r : Rect) (h : IsClipped area old.area r) where
   abbrev own : Rect
   own = old.area
 
@@ -180,13 +180,13 @@ module _ (area : Rect) (old : Sheet) (r : Rect) (h : IsClipped area old.area r) 
     rows = subst (λ (q : Rect). (k : ℕ) → k < q.height → area_row q k (record old { cells = w }) ≡ f k (area_row q k old)) h.value (rows-made f w made);
   }
 
--- ---- where the buffer has nothing of the area
+-- ---- if the buffer has nothing of the area
 
 no-cells : (xs : List Cell) → length xs ≡ 0 → xs ≡ []
 no-cells [] e = refl
 no-cells (x ∷ xs) e = absurd (omega (arith, e))
 
-pub renders-nothing : (area : Rect) (f : ℕ → List Cell → List Cell) (s : Sheet) → ((k : ℕ) → f k [] ≡ []) → ((intersected area s.area).width ≡ 0) ⊎ ((intersected area s.area).height ≡ 0) → RendersRows area f s s
+pub renders-nothing : (area : Rect) (f : ℕ → List Cell → List Cell) (s : BufferData) → ((k : ℕ) → f k [] ≡ []) → ((intersected area s.area).width ≡ 0) ⊎ ((intersected area s.area).height ≡ 0) → RendersRows area f s s
 renders-nothing area f s none empty = record {
   within = record { same_area = refl; same_room = refl; outside = λ p i o. refl };
   rows = λ k lt.
@@ -207,7 +207,7 @@ first-none g e k = either-none (k == 0) (g []) e
 
 -- ---- a first row that was lent
 
-module _ (area : Rect) (old : Sheet) (r : Rect) (h : IsClipped area old.area r) (at n : ℕ) (part : List Cell)
+module _ (area : Rect) (old : BufferData) (r : Rect) (h : IsClipped area old.area r) (at n : ℕ) (part : List Cell)
     (at-is : at ≡ cell_index old.area (record { x = r.x; y = r.y })) (width-is : n ≡ r.width) (count : length old.cells ≡ area_size old.area)
     (len : length part ≡ length (take n (drop at old.cells))) where
   abbrev first-inside : (k : ℕ) → k < r.height → at + k * old.area.width + r.width ≤ length old.cells
@@ -247,7 +247,7 @@ module _ (area : Rect) (old : Sheet) (r : Rect) (h : IsClipped area old.area r) 
       }))
 
 -- how many columns the row has
-pub first-columns : (area : Rect) (old : Sheet) (r : Rect) (h : IsClipped area old.area r) (at n : ℕ) → at ≡ cell_index old.area (record { x = r.x; y = r.y }) → n ≡ r.width
+pub first-columns : (area : Rect) (old : BufferData) (r : Rect) (h : IsClipped area old.area r) (at n : ℕ) → at ≡ cell_index old.area (record { x = r.x; y = r.y }) → n ≡ r.width
     → length old.cells ≡ area_size old.area → length (take n (drop at old.cells)) ≡ (intersected area old.area).width
 first-columns area old r h at n at-is width-is count = part-count area old r h at n (take n (drop at old.cells)) at-is width-is count refl ∙ ap (λ q. q.width) h.value
 
@@ -256,7 +256,7 @@ refilled-marks old w same keeps = subst (λ cells. KeepsUnmarked old cells) (sym
 
 -- ---- rows that were lent
 
-module _ (area : Rect) (old : Sheet) (r : Rect) (h : IsClipped area old.area r) (start width stride count : ℕ) (w : List Cell)
+module _ (area : Rect) (old : BufferData) (r : Rect) (h : IsClipped area old.area r) (start width stride count : ℕ) (w : List Cell)
     (start-is : start ≡ cell_index old.area (record { x = r.x; y = r.y })) (width-is : width ≡ r.width) (stride-is : stride ≡ old.area.width) (count-is : count ≡ r.height)
     (same : length w ≡ length old.cells) where
   abbrev rows_lent : Rows
@@ -277,7 +277,7 @@ module _ (area : Rect) (old : Sheet) (r : Rect) (h : IsClipped area old.area r) 
 
 -- ---- a text painted at an area's corner
 
-pub painted-within : (area : Rect) (old new : Sheet) (ps : List Piece) → HasRow old.area area.y → old.area.x ≤ area.x → columns ps ≤ area.width → columns ps ≤ old.area.x + old.area.width - area.x
+pub painted-within : (area : Rect) (old new : BufferData) (ps : List Piece) → HasRow old.area area.y → old.area.x ≤ area.x → columns ps ≤ area.width → columns ps ≤ old.area.x + old.area.width - area.x
     → IsSameBeside (record { x = area.x; y = area.y }) ps old new → ChangesWithin (first_row area) old new
 painted-within area old new ps row le narrow fits same = record {
   same_area = same.area;

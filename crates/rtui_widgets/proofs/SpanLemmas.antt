@@ -131,7 +131,7 @@ module _ (s : Style) (gs : List (List ℕ)) (g : List ℕ) (x : ℕ) (is_first :
       ap (λ t. unwrap_or t []) (sym (symbol-cases s g (get_or row place empty_cell) is_set) ∙ ap (λ (c : Cell). c.symbol) (own is_set refl)
       ∙ symbol-here s gs g x place (get_or old place empty_cell) ends refl)
 
-  -- so it is short where each column's join is
+  -- so it is short if each column's join is
   pub next-short : (rest whole : List (List ℕ)) → (gs ++ g ∷ []) ++ rest ≡ whole → ((k : ℕ) → k < length old → IsShort (concat (those_at k 0 whole)))
       → IsShort (next_symbol is_first x g row)
   next-short rest whole e short =

@@ -4,7 +4,7 @@ use Rattle.rtui_geometry.specs.declared.position.Position.{Position}
 use Rattle.rtui_geometry.specs.declared.rect.Rect.{Rect}
 use Rattle.rtui_geometry.specs.Rect.{HasPosition, EdgesFit, right_edge, bottom_edge, corner, intersected}
 use Rattle.rtui_style.specs.declared.Style.{Style}
-use Rattle.rtui_buffer.specs.Sheet.{Sheet, HasRow}
+use Rattle.rtui_buffer.specs.BufferData.{BufferData, HasRow}
 use Rattle.rtui_buffer.specs.Painting.{Piece, columns}
 use Rattle.rtui_buffer.specs.PaintedText.{IsStyled, IsBeside, IsSameBeside}
 use Rattle.rtui_buffer.proofs.ColumnLemmas.{same-beside}
@@ -51,8 +51,8 @@ module _ (area own part : Rect) (is : IsClipped area own part) where
       let r = in_own.right in let b = in_own.bottom in let some = is.rows in
       is.of_area p (record { left = from; right = omega arith; top = omega arith; bottom = omega arith })
 
--- one change behind another
-pub within-then : (area : Rect) (old between new : Sheet) → ChangesWithin area old between → ChangesWithin area between new → ChangesWithin area old new
+-- one change after another
+pub within-then : (area : Rect) (old between new : BufferData) → ChangesWithin area old between → ChangesWithin area between new → ChangesWithin area old new
 within-then area old between new first second = record {
   same_area = second.same_area ∙ first.same_area;
   same_room = second.same_room ∙ first.same_room;
@@ -60,7 +60,7 @@ within-then area old between new first second = record {
 }
 
 -- a style over a smaller area
-pub within-styled : (area r : Rect) (style : Style) (old new : Sheet) → ((p : Position) → HasPosition old.area p → HasPosition r p → HasPosition area p) → IsStyled r style old new → ChangesWithin area old new
+pub within-styled : (area r : Rect) (style : Style) (old new : BufferData) → ((p : Position) → HasPosition old.area p → HasPosition r p → HasPosition area p) → IsStyled r style old new → ChangesWithin area old new
 within-styled area r style old new inside is = record {
   same_area = is.area;
   same_room = is.room;
@@ -68,7 +68,7 @@ within-styled area r style old new inside is = record {
 }
 
 -- a refused painting in the first row of the part
-pub within-refused : (area part : Rect) (old new : Sheet) (ps : List Piece) → IsClipped area old.area part → columns ps ≤ part.width → columns ps ≤ old.area.x + old.area.width - part.x
+pub within-refused : (area part : Rect) (old new : BufferData) (ps : List Piece) → IsClipped area old.area part → columns ps ≤ part.width → columns ps ≤ old.area.x + old.area.width - part.x
     → IsSameBeside (corner part) ps old new → ChangesWithin area old new
 within-refused area part old new ps is narrow ends refused = record {
   same_area = refused.area;

@@ -52,7 +52,7 @@ with_grapheme style g c = styled style (record c { symbol = Some g })
 abbrev pub with_appended : Style → List ℕ → Cell → Cell
 with_appended style g c = styled style (record c { symbol = Some (appended c.symbol g) })
 
--- the symbol that the next grapheme at column x makes of its column's: itself, or it behind what stands there
+-- the symbol that the next grapheme at column x makes of its column's: itself, or it after what stands there
 abbrev pub next_symbol : Bool → ℕ → List ℕ → List Cell → List ℕ
 next_symbol is_first x g row =
     if is_first || (nat_lt 0 x && nat_lt 0 (text_width g)) then g else appended (slice_index_or row (goes_to x g) empty_cell).symbol g

@@ -12,7 +12,7 @@ use Rattle.rtui_text.specs.Text.{SpanData, LineData}
 use Rattle.rtui_text.specs.Widths.{span_width, line_width}
 use Rattle.rtui_widgets.specs.Span.{span_rendered, IsShortSpan}
 
--- what shows of a span: behind an indent a text, which takes this many columns
+-- what shows of a span: after an indent a text, which takes this many columns
 pub record Part : Type 0 where
   pub indent : ℕ
   pub width : ℕ
@@ -48,7 +48,7 @@ parts skip (span ∷ spans) =
 abbrev pub behind_first : ℕ → (List Cell → List Cell) → List Cell → List Cell
 behind_first n f row = take n row ++ f (drop n row)
 
--- a row with these parts, each in the columns that are left behind the one before
+-- a row with these parts, each in the columns that are left after the one before
 unfoldable pub parts_rendered : List Part → List Cell → List Cell
 parts_rendered [] row = row
 parts_rendered (p ∷ ps) row =

@@ -18,12 +18,12 @@ showing columns gs = fitting columns (filter (λ g. not (has_control g)) gs)
 abbrev pub goes_to : ℕ → List ℕ → ℕ
 goes_to x g = if text_width g == 0 then x - 1 else x
 
--- the graphemes that go to column k, where the first stands at x and each other one behind the one before
+-- the graphemes that go to column k, where the first stands at x and each other one after the one before
 unfoldable pub those_at : ℕ → ℕ → List (List ℕ) → List (List ℕ)
 those_at k x [] = []
 those_at k x (g ∷ gs) = if goes_to x g == k then g ∷ those_at k (x + text_width g) gs else those_at k (x + text_width g) gs
 
--- column k is behind one of them: that one takes the column and begins before it
+-- column k is after one of them: that one takes the column and begins before it
 unfoldable pub is_behind : ℕ → ℕ → List (List ℕ) → Bool
 is_behind k x [] = false
 is_behind k x (g ∷ gs) = (nat_lt x k && nat_lt k (x + text_width g)) || is_behind k (x + text_width g) gs
@@ -33,11 +33,11 @@ abbrev pub with_graphemes : Style → List (List ℕ) → Cell → Cell
 with_graphemes style [] c = c
 with_graphemes style (g ∷ gs) c = styled style (record c { symbol = Some (concat (g ∷ gs)) })
 
--- column k with the graphemes that go to it, over its former cell, or over an empty one where it is behind a grapheme
+-- column k with the graphemes that go to it, over its former cell, or over an empty one where it is after a grapheme
 abbrev pub column_with : Style → List (List ℕ) → ℕ → Cell → Cell
 column_with style gs k former = with_graphemes style (those_at k 0 gs) (if is_behind k 0 gs then empty_cell else former)
 
--- what f makes of each column, where the first is column k
+-- what f makes of each column, if the first is column k
 unfoldable pub columns_from : (ℕ → Cell → Cell) → ℕ → List Cell → List Cell
 columns_from f k [] = []
 columns_from f k (c ∷ cs) = f k c ∷ columns_from f (k + 1) cs

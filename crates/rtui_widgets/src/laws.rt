@@ -6,8 +6,8 @@ ghost use Rattle.std.specs.Str.{IsAscii, IsUtf8};
 ghost use Rattle.rtui_geometry.specs.declared.rect.Rect.{Rect};
 ghost use Rattle.rtui_layout.specs.declared.alignment.HorizontalAlignment.{HorizontalAlignment};
 ghost use Rattle.rtui_text.specs.Text.{LineData, TextData};
-ghost use Rattle.rtui_buffer.specs.Sheet.{Sheet, IsEmptied};
-ghost use Rattle.rtui_buffer.specs.Frame.{IsSettledSheet};
+ghost use Rattle.rtui_buffer.specs.BufferData.{BufferData, IsEmptied};
+ghost use Rattle.rtui_buffer.specs.Shown.{IsSettledBuffer};
 ghost use Rattle.rtui_widgets.specs.Span.{IsShortSpan};
 ghost use Rattle.rtui_widgets.specs.Line.{IsShortLine};
 ghost use Rattle.rtui_widgets.specs.Rendering.{AreAscii, HasFirstRow, RendersStr, RendersShortText, RendersShortStr};
@@ -23,17 +23,17 @@ pub fn ascii_texts_take_no_memory()
     ensures span { (columns : ℕ) (text : List ℕ) → IsAscii text → IsShortSpan columns text }
     ensures line { (alignment : Option HorizontalAlignment) (line : LineData) (columns : ℕ)
         → AreAscii line.spans → IsShortLine alignment line columns }
-    ensures text { (text : TextData) (area : Rect) (s : Sheet)
+    ensures text { (text : TextData) (area : Rect) (s : BufferData)
         → All (λ line. AreAscii line.spans) text.lines → RendersShortText text area s }
-    ensures painted { (text : List ℕ) (area : Rect) (s : Sheet) → IsAscii text
+    ensures painted { (text : List ℕ) (area : Rect) (s : BufferData) → IsAscii text
         → RendersShortStr text area s }
 {}
 
 /// An empty buffer with rows has a first one to be rendered in, and a screen can show what a text leaves that is rendered
 /// on an empty buffer, from a column of it on.
 pub fn texts_on_empty_buffers_are_settled()
-    ensures first { (r : Rect) (s : Sheet) → 0 < r.height → IsEmptied r s → HasFirstRow r s }
-    ensures settled { (r area : Rect) (text : List ℕ) (old new : Sheet) → IsEmptied r old
+    ensures first { (r : Rect) (s : BufferData) → 0 < r.height → IsEmptied r s → HasFirstRow r s }
+    ensures settled { (r area : Rect) (text : List ℕ) (old new : BufferData) → IsEmptied r old
         → old.area.x ≤ area.x → area.x ≤ old.area.x + old.area.width
-        → RendersStr text area old new → IsSettledSheet new }
+        → RendersStr text area old new → IsSettledBuffer new }
 {}

@@ -72,7 +72,7 @@ fn columns_before(alignment: Option<HorizontalAlignment>, excess: usize) -> usiz
     }
 }
 
-// Renders spans in a row, one behind the other, without their first columns.
+// Renders spans in a row, one after the other, without their first columns.
 #[tactic(auto, using(crate::proofs::LineLemmas::spans_steps))]
 fn render_spans(
     alloc: Global,
@@ -104,7 +104,7 @@ fn render_spans(
     Ok(())
 }
 
-// What shows of a span: behind an indent a text, which takes this many columns.
+// What shows of a span: after an indent a text, which takes this many columns.
 #[derive(Drop)]
 struct Part<'a> {
     indent: usize,

@@ -16,7 +16,7 @@ use std::alloc::{AllocError, Global};
 use unicode_segmentation::UnicodeSegmentation;
 
 // Renders a text in a style from the first column of a row on: printable characters of ASCII at its start a byte at a time, and
-// behind them grapheme by grapheme.
+// after them grapheme by grapheme.
 #[tactic(auto, using(crate::proofs::SpanLemmas::span_steps))]
 pub(crate) fn render_span(
     alloc: Global,
@@ -102,7 +102,7 @@ fn append(alloc: Global, cell: &mut Cell, symbol: &str, style: Style) -> Result<
     Ok(())
 }
 
-// Empties the columns behind the first one of a grapheme.
+// Empties the columns after the first one of a grapheme.
 #[tactic(auto, using(crate::proofs::EmptyLemmas::empty_steps))]
 fn empty_behind(row: &mut [Cell], x: usize, width: usize)
     requires { x + width ≤ length row.old }

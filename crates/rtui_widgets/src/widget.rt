@@ -1,6 +1,6 @@
 ghost use Rattle.std.specs.Prelude.{⊤, ◌≡◌, MatchOption, IsOk, OnOk, OnErr, option_map, unwrap_or};
 ghost use Rattle.rtui_geometry.specs.declared.rect.Rect.{Rect};
-ghost use Rattle.rtui_buffer.specs.Sheet.{Sheet};
+ghost use Rattle.rtui_buffer.specs.BufferData.{BufferData};
 ghost use Rattle.rtui_widgets.specs.Rendering.{ChangesWithin, first_row};
 ghost use Rattle.rtui_geometry.specs.Rect.{intersected};
 ghost use Rattle.rtui_buffer.specs.Painting.{KeepsUnmarked};
@@ -23,21 +23,21 @@ use std::alloc::AllocError;
 /// relies on these alone.
 pub trait Widget {
     // where it may be rendered: over this area of such a buffer
-    ghost can_render: { Self → Rect → Sheet → Type 0 } = { λ _ _ _. ⊤ };
+    ghost can_render: { Self → Rect → BufferData → Type 0 } = { λ _ _ _. ⊤ };
 
     // what it makes of a buffer over an area
-    ghost renders: { Self → Rect → Sheet → Sheet → Type 0 };
+    ghost renders: { Self → Rect → BufferData → BufferData → Type 0 };
 
     // the area outside which nothing changes where it is refused: the given one, unless it says otherwise
     ghost reach: { Self → Rect → Rect } = { λ _ area. area };
 
     // what else holds of the buffer where it is refused: nothing, unless it says more
-    ghost leaves: { Self → Rect → Sheet → Sheet → Type 0 } = { λ _ _ _ _. ⊤ };
+    ghost leaves: { Self → Rect → BufferData → BufferData → Type 0 } = { λ _ _ _ _. ⊤ };
 
     // where it takes no memory: nowhere, unless it says otherwise
-    ghost is_short: { Self → Rect → Sheet → Type 0 } = { λ _ _ _. ⊥ };
+    ghost is_short: { Self → Rect → BufferData → Type 0 } = { λ _ _ _. ⊥ };
 
-    /// Renders it. It is refused where memory is; then no cell outside its reach changed, which is the area unless the
+    /// Renders it. It is refused if memory is; then no cell outside its reach changed, which is the area unless the
     /// widget says otherwise.
     fn render(self, area: Rect, buf: &mut Buffer) -> Result<(), AllocError>
         requires { can_render self area buf.old }
@@ -54,21 +54,21 @@ pub trait StatefulWidget {
     type State;
 
     // where it may be rendered, in this state
-    ghost can_render: { Self → Self.State → Rect → Sheet → Type 0 } = { λ _ _ _ _. ⊤ };
+    ghost can_render: { Self → Self.State → Rect → BufferData → Type 0 } = { λ _ _ _ _. ⊤ };
 
     // what it makes of a buffer over an area, from one state to the next
-    ghost renders: { Self → Self.State → Self.State → Rect → Sheet → Sheet → Type 0 };
+    ghost renders: { Self → Self.State → Self.State → Rect → BufferData → BufferData → Type 0 };
 
     // the area outside which nothing changes where it is refused: the given one, unless it says otherwise
     ghost reach: { Self → Rect → Rect } = { λ _ area. area };
 
     // what else holds of the state and the buffer where it is refused: nothing, unless it says more
-    ghost leaves: { Self → Self.State → Self.State → Rect → Sheet → Sheet → Type 0 } = { λ _ _ _ _ _ _. ⊤ };
+    ghost leaves: { Self → Self.State → Self.State → Rect → BufferData → BufferData → Type 0 } = { λ _ _ _ _ _ _. ⊤ };
 
     // where it takes no memory: nowhere, unless it says otherwise
-    ghost is_short: { Self → Self.State → Rect → Sheet → Type 0 } = { λ _ _ _ _. ⊥ };
+    ghost is_short: { Self → Self.State → Rect → BufferData → Type 0 } = { λ _ _ _ _. ⊥ };
 
-    /// Renders it. It is refused where memory is; then no cell outside its reach changed, which is the area unless the
+    /// Renders it. It is refused if memory is; then no cell outside its reach changed, which is the area unless the
     /// widget says otherwise.
     fn render(self, area: Rect, buf: &mut Buffer, state: &mut Self::State) -> Result<(), AllocError>
         requires { can_render self state.old area buf.old }
@@ -110,8 +110,8 @@ impl<'a> Widget for Span<'a> {
     }
 }
 
-/// In the first row of the area, aligned as the line says: its spans one behind the other, under them the line's style over the
-/// whole row. What doesn't fit is cut, at the left where the line isn't aligned to the left.
+/// In the first row of the area, aligned as the line says: its spans one after the other, under them the line's style over the
+/// whole row. What doesn't fit is cut, at the left if the line isn't aligned to the left.
 impl<'b, 'a> Widget for &'b Line<'a> {
     ghost use Rattle.rtui_widgets.specs.Rendering.{RendersLine, RendersShortLine};
 

@@ -9,9 +9,9 @@ use Rattle.std.proofs.Math.Seq.{get_or-append_seam, take-append_seam, take-suc}
 use Rattle.rtui_backend.specs.Print.{printed_screen}
 use Rattle.rtui_backend.specs.TestBackend.{screen_of}
 use Rattle.rtui_backend.specs.declared.test.TestBackend.{TestBackend}
-use Rattle.rtui_terminal.specs.State.{State}
+use Rattle.rtui_terminal.specs.TerminalData.{TerminalData}
 use Rattle.screenplay.specs.Run.{IsRun, IsStart, EndsEarly}
-use Rattle.screenplay.specs.Playing.{IsCauseOfStep, IsPlaying, Plays, scene_in, sight_in}
+use Rattle.screenplay.specs.Playing.{IsCauseOfStep, IsPlaying, Plays, scene_in, view_in}
 use Rattle.screenplay.specs.Print.{printed_if, printed_scenes, shows_of, steps_of}
 use Rattle.screenplay.specs.Engine.{IsScript, PrintsActs, PrintsRun, PrintsText}
 use Rattle.screenplay.specs.declared.act.Act.{Act}
@@ -42,7 +42,7 @@ get_left xs ys k x is =
     slice_get-get_or (xs ++ ys) k x (omega (arith, length-append xs ys)) ∙ ap Some (get_or_append_left xs ys x k within ∙ get_or_from_slice_get xs k x x is)
 
 -- acts were played, of which so many are steps, and this is the text of what they showed, whatever scenes follow
-pub record HasPlayed (stage : Stage) (done : List Act) (n : ℕ) (t : State TestBackend) (text : List ℕ) : Type 0 where
+pub record HasPlayed (stage : Stage) (done : List Act) (n : ℕ) (t : TerminalData TestBackend) (text : List ℕ) : Type 0 where
   pub count : n ≡ length (steps_of done)
   pub playing : IsPlaying stage t
   pub scenes : List Scene
@@ -50,7 +50,7 @@ pub record HasPlayed (stage : Stage) (done : List Act) (n : ℕ) (t : State Test
   pub here : slice_get scenes n ≡ Some (scene_in t)
   pub shown : (more : List Scene) → text ≡ printed_scenes (shows_of 0 done) (scenes ++ more)
 
-pub HasPlayed-none : (stage : Stage) (t : State TestBackend) → IsPlaying stage t → IsStart stage (sight_in t) → HasPlayed stage [] 0 t []
+pub HasPlayed-none : (stage : Stage) (t : TerminalData TestBackend) → IsPlaying stage t → IsStart stage (view_in t) → HasPlayed stage [] 0 t []
 HasPlayed-none stage t playing start = record {
   count = refl;
   playing = playing;
@@ -60,12 +60,12 @@ HasPlayed-none stage t playing start = record {
   shown = λ more. refl;
 }
 
-module _ (stage : Stage) (done : List Act) (n : ℕ) (s : State TestBackend) (text : List ℕ) (h : HasPlayed stage done n s text) where
+module _ (stage : Stage) (done : List Act) (n : ℕ) (s : TerminalData TestBackend) (text : List ℕ) (h : HasPlayed stage done n s text) where
   last : HasLast (length (steps_of done)) h.scenes s
   last = record { scene = scene_in s; here = subst (λ k. slice_get h.scenes k ≡ Some (scene_in s)) h.count h.here; shown = IsSceneOf-in s }
 
   -- one more step was played
-  pub HasPlayed-step : (step : Step) (t : State TestBackend) → Plays stage step s t → HasPlayed stage (done ++ Play step ∷ []) (n + 1) t text
+  pub HasPlayed-step : (step : Step) (t : TerminalData TestBackend) → Plays stage step s t → HasPlayed stage (done ++ Play step ∷ []) (n + 1) t text
   HasPlayed-step step t plays =
       let steps : steps_of (done ++ Play step ∷ []) ≡ steps_of done ++ step ∷ [] = steps_of-append done (Play step ∷ []) in
       let shows : shows_of 0 (done ++ Play step ∷ []) ≡ shows_of 0 done = shows_of-append 0 done (Play step ∷ []) ∙ append-nil (shows_of 0 done) in
@@ -103,7 +103,7 @@ module _ (stage : Stage) (done : List Act) (n : ℕ) (s : State TestBackend) (te
   PrintsActs-all = (h.scenes, h.run, h.shown [] ∙ ap (printed_scenes (shows_of 0 done)) (append-nil h.scenes))
 
   -- the next step can't be played
-  pub EndsEarly-next : (step : Step) (rest : List Act) (cause : PlayCause) → IsCauseOfStep stage step (sight_in s) cause
+  pub EndsEarly-next : (step : Step) (rest : List Act) (cause : PlayCause) → IsCauseOfStep stage step (view_in s) cause
       → (scenes : List Scene) × EndsEarly stage (steps_of (done ++ Play step ∷ rest)) scenes (record { step = n + 1; cause = cause })
   EndsEarly-next step rest cause why =
       let before : List Step = steps_of done in

@@ -13,8 +13,8 @@ use Rattle.rtui_diff.specs.Cells.{cell, cell_at}
 use Rattle.rtui_diff.specs.Shows.{Shows}
 use Rattle.rtui_text.specs.Text.{TextData, LineData}
 use Rattle.rtui_text.specs.Widths.{line_width}
-use Rattle.rtui_buffer.specs.Sheet.{Sheet, IsEmptied, area_size, cell_index, cell_in, empty_cells, position_of, with_cell}
-use Rattle.rtui_buffer.specs.Frame.{ShowsSheet}
+use Rattle.rtui_buffer.specs.BufferData.{BufferData, IsEmptied, area_size, cell_index, cell_in, empty_cells, position_of, with_cell}
+use Rattle.rtui_buffer.specs.Shown.{ShowsBuffer}
 use Rattle.rtui_buffer.proofs.EmptyLemmas.{cell-empty}
 use Rattle.rtui_widgets.specs.Span.{with_graphemes, those_at, is_behind, column_with, columns_from, span_rendered}
 use Rattle.rtui_widgets.specs.Line.{Part, behind_first, parts, parts_rendered, columns_before, line_rendered}
@@ -22,7 +22,7 @@ use Rattle.rtui_widgets.specs.Rendering.{RendersRows, area_row, alignment_or, te
 use Rattle.rtui_widgets.proofs.WithinLemmas.{intersected-whole}
 use Rattle.screenplay.specs.Puts.{holds_place, with_put, with_puts}
 use Rattle.screenplay.specs.Run.{IsFrame}
-use Rattle.screenplay.specs.Playing.{IsPlainSheet}
+use Rattle.screenplay.specs.Playing.{IsPlainBuffer}
 
 abbrev IsPlain : Cell → Type 0
 IsPlain c = is_skipped c ≡ false
@@ -101,7 +101,7 @@ plain_row : (text : TextData) (k : ℕ) (row : List Cell) → ArePlain row → A
 plain_row text k row p =
     plain_line (alignment_or (text_line text k).alignment text.alignment) (text_line text k) _ (plain_styled text.style row p)
 
-pub plain-emptied : (r : Rect) (s : Sheet) → IsEmptied r s → IsPlainSheet s
+pub plain-emptied : (r : Rect) (s : BufferData) → IsEmptied r s → IsPlainBuffer s
 plain-emptied r s emptied a b a_in b_in =
     ap (λ cs. is_skipped (cell_at s.area.width cs a b)) emptied.cells ∙ ap is_skipped (cell-empty (area_size r) (b * s.area.width + a)) ∙ skipped-empty
 
@@ -109,7 +109,7 @@ plain-emptied r s emptied a b a_in b_in =
 row_cell : (cells : List Cell) (w n a : ℕ) → a < w → cell (take w (drop n cells)) a ≡ cell cells (n + a)
 row_cell cells w n a lt = get_or-take w (drop n cells) a empty_cell lt ∙ get_or-drop n cells a empty_cell
 
-plain_rendered : (text : TextData) (area : Rect) (old new : Sheet) → EdgesFit area → old.area ≡ area → ArePlain old.cells → RendersRows area (text_row text) old new → IsPlainSheet new
+plain_rendered : (text : TextData) (area : Rect) (old new : BufferData) → EdgesFit area → old.area ≡ area → ArePlain old.cells → RendersRows area (text_row text) old new → IsPlainBuffer new
 plain_rendered text area old new fit at plain renders a b a_in b_in =
     let there : new.area ≡ area = renders.within.same_area ∙ at in
     let whole : intersected area old.area ≡ area = ap (intersected area) at ∙ intersected-whole area fit in
@@ -139,11 +139,11 @@ plain_symbol : (c : Cell) (text : List ℕ) → IsPlain c → IsPlain (record c 
 unfolding is_skipped
 plain_symbol c text p = p
 
-plain_put : (put : ℕ × ℕ × ℕ) (s : Sheet) → IsPlainSheet s → IsPlainSheet (with_put put s)
+plain_put : (put : ℕ × ℕ × ℕ) (s : BufferData) → IsPlainBuffer s → IsPlainBuffer (with_put put s)
 plain_put put s plain = either (holds_place s.area put.0 put.1) refl
   where
     either : (holds : Bool) → holds_place s.area put.0 put.1 ≡ holds
-        → IsPlainSheet (if holds then with_cell s (position_of (put.0, put.1)) (record (cell_in s (position_of (put.0, put.1))) { symbol = Some (encode_utf8 put.2) }) else s)
+        → IsPlainBuffer (if holds then with_cell s (position_of (put.0, put.1)) (record (cell_in s (position_of (put.0, put.1))) { symbol = Some (encode_utf8 put.2) }) else s)
     either false is = plain
     either true is = λ a b a_in b_in.
         let column : put.0 - s.area.x < s.area.width = grind (arith, nat_tests) in
@@ -151,13 +151,13 @@ plain_put put s plain = either (holds_place s.area put.0 put.1) refl
         set_either IsPlain s.cells (cell_index s.area (position_of (put.0, put.1))) (b * s.area.width + a) _
         (plain_symbol (cell_in s (position_of (put.0, put.1))) (encode_utf8 put.2) (plain (put.0 - s.area.x) (put.1 - s.area.y) column row)) (plain a b a_in b_in)
 
-plain_puts : (puts : List (ℕ × ℕ × ℕ)) (s : Sheet) → IsPlainSheet s → IsPlainSheet (with_puts puts s)
+plain_puts : (puts : List (ℕ × ℕ × ℕ)) (s : BufferData) → IsPlainBuffer s → IsPlainBuffer (with_puts puts s)
 plain_puts [] s plain = plain
 plain_puts (put ∷ puts) s plain = plain_puts puts (with_put put s) (plain_put put s plain)
 
-pub plain-frame : (area : Rect) (text : TextData) (puts : List (ℕ × ℕ × ℕ)) (frame : Sheet) → IsFrame area text puts frame → IsPlainSheet frame
+pub plain-frame : (area : Rect) (text : TextData) (puts : List (ℕ × ℕ × ℕ)) (frame : BufferData) → IsFrame area text puts frame → IsPlainBuffer frame
 plain-frame area text puts frame made =
-    subst IsPlainSheet (sym made.painted)
+    subst IsPlainBuffer (sym made.painted)
     (plain_puts puts made.rendered (plain_rendered text area made.blank made.rendered made.edges made.emptied.area (subst ArePlain (sym made.emptied.cells) (plain_empty (area_size area))) made.renders))
 
 -- two grids that show the same cells, none of which is skipped, show the same there
@@ -167,7 +167,7 @@ shown_same x y x' y' w h cells g g' plain shown again a b a_in b_in =
     (again.at a b a_in b_in).look (plain a b a_in b_in) ∙ sym ((shown.at a b a_in b_in).look (plain a b a_in b_in))
 
 -- a plain frame that is shown in an area, and then in another of its size
-pub shown-again : (last : Sheet) (r q : Rect) (g g' : Grid) → last.area ≡ r → q.width ≡ r.width → q.height ≡ r.height → IsPlainSheet last → ShowsSheet last g → ShowsSheet (record last { area = q }) g'
+pub shown-again : (last : BufferData) (r q : Rect) (g g' : Grid) → last.area ≡ r → q.width ≡ r.width → q.height ≡ r.height → IsPlainBuffer last → ShowsBuffer last g → ShowsBuffer (record last { area = q }) g'
     → (a b : ℕ) → a < r.width → b < r.height → g' (q.x + a) (q.y + b) ≡ g (r.x + a) (r.y + b)
 shown-again last r q g g' at width height plain shown again a b a_in b_in =
     let w : last.area.width ≡ r.width = ap (λ (r : Rect). r.width) at in

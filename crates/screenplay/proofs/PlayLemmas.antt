@@ -10,8 +10,8 @@ use Rattle.rtui_cell.specs.Cell.{is_skipped}
 use Rattle.rtui_cell.specs.Look.{empty_look}
 use Rattle.rtui_diff.specs.Cells.{cell_at}
 use Rattle.rtui_text.specs.Text.{TextData}
-use Rattle.rtui_buffer.specs.Sheet.{Sheet}
-use Rattle.rtui_buffer.specs.Frame.{IsSettledSheet, ShowsSheet}
+use Rattle.rtui_buffer.specs.BufferData.{BufferData}
+use Rattle.rtui_buffer.specs.Shown.{IsSettledBuffer, ShowsBuffer}
 use Rattle.rtui_backend.proofs.ScrollLemmas.{above_kept, above_same}
 use Rattle.rtui_backend.specs.Screen.{Screen, IsBlankScreen, TakesSize, IsOnScreen, IsWithin, seen, row_of, rows_above, screen_area, size_of}
 use Rattle.rtui_backend.specs.TestBackend.{screen_of}
@@ -24,7 +24,7 @@ use Rattle.rtui_viewport.specs.Sizing.{first_area}
 use Rattle.rtui_viewport.specs.Placing.{area_in, raised, inline_area, inline_top, rows_scrolled}
 use Rattle.rtui_viewport.specs.Clearing.{HasPlace, ClearsArea, is_emptied}
 use Rattle.rtui_viewport.proofs.ClearLemmas.{blank_over}
-use Rattle.rtui_terminal.specs.State.{State, cursor_offset}
+use Rattle.rtui_terminal.specs.TerminalData.{TerminalData, cursor_offset}
 use Rattle.rtui_terminal.specs.InStep.{IsInStep, IsSized}
 use Rattle.rtui_terminal.proofs.RestLemmas.{same_size, inline_left, inline_width, raised_by, raised_same, has_place, rests-started, rests-applied, rests-resized, rests-cleared, keeps-cleared, rests-known, rests-takes, rests-inserted}
 use Rattle.rtui_terminal.proofs.StartLemmas.{starts-blank}
@@ -34,9 +34,9 @@ use Rattle.rtui_terminal.specs.Insertion.{inserted_area}
 use Rattle.rtui_terminal.specs.Writing.{Applies}
 use Rattle.rtui_terminal.specs.Clearing.{ClearsViewport}
 use Rattle.rtui_terminal.specs.Resizing.{Resizes}
-use Rattle.screenplay.specs.Run.{stage_size, GoesOn, plain_screen, sight_rows_above, IsGoodStage, IsFrame, first_viewport, first_rows, IsStart, KeepsSurroundings, size_after, Sight, row_count, text_area, IsInserted, InsertsOn}
+use Rattle.screenplay.specs.Run.{stage_size, GoesOn, plain_screen, rows_above_view, IsGoodStage, IsFrame, first_viewport, first_rows, IsStart, KeepsSurroundings, size_after, View, row_count, text_area, IsInserted, InsertsOn}
 use Rattle.screenplay.proofs.FrameLemmas.{plain-emptied, plain-frame, shown-again}
-use Rattle.screenplay.specs.Playing.{IsPlainSheet, IsPlaying, sight_in, TakesNewSize, IsSizedFor, ShowsFrame, InsertsBuffer, IsCauseOfFrame, IsCauseOfStep, Plays}
+use Rattle.screenplay.specs.Playing.{IsPlainBuffer, IsPlaying, view_in, TakesNewSize, IsSizedFor, ShowsFrame, InsertsBuffer, IsCauseOfFrame, IsCauseOfStep, Plays}
 use Rattle.screenplay.specs.declared.scene.PlayCause.{PlayCause}
 use Rattle.screenplay.specs.declared.scene.PlayCause.TheVariants.{Memory, Unsettled}
 use Rattle.screenplay.specs.declared.scene.Stage.{Stage}
@@ -82,8 +82,8 @@ module _ (w h : ℕ) (s : Screen) (blank : IsBlankScreen w h s) where
       ap (λ xs. xs ++ map (row_of s) (range_with_len 0 k)) blank.history
       ∙ all_same (row_of s) (replicate w empty_look) 0 k (λ b low high. all_same (λ a. seen s a b) empty_look 0 s.width (λ a low high. seen_blank a b) ∙ ap (λ n. replicate n empty_look) blank.width)
 
-pub IsPlaying-started : (stage : Stage) (b : TestBackend) (t : State TestBackend) → IsGoodStage stage → IsBlankScreen stage.width stage.height (screen_of b) → Starts screen_of stage.viewport b t
-    → IsPlaying stage t × IsStart stage (sight_in t)
+pub IsPlaying-started : (stage : Stage) (b : TestBackend) (t : TerminalData TestBackend) → IsGoodStage stage → IsBlankScreen stage.width stage.height (screen_of b) → Starts screen_of stage.viewport b t
+    → IsPlaying stage t × IsStart stage (view_in t)
 IsPlaying-started stage b t good blank starts =
     let s : Screen = screen_of b in
     let u : Screen = screen_of t.backend in
@@ -94,11 +94,11 @@ IsPlaying-started stage b t good blank starts =
     let size : size_of u ≡ stage_size stage = rw (width, height) refl in
     let own : size_of s ≡ stage_size stage = rw (blank.width, blank.height) refl in
     let view : t.viewport_area ≡ first_viewport kind (size_of u) =
-    starts.viewport_area ∙ ap (λ r. area_in kind r 0 s.cursor_y) starts.known_area ∙ started_area stage.width stage.height s blank kind ∙ ap (first_viewport kind) (sym (same_size u s moved.width moved.height)) in
+    starts.viewport_area ∙ ap (λ r. area_in kind r 0 s.cursor_y) starts.last_known_area ∙ started_area stage.width stage.height s blank kind ∙ ap (first_viewport kind) (sym (same_size u s moved.width moved.height)) in
     let is : IsBlank s = record { at = λ a c a_in c_in. blank.grid a c } in (
       record {
         rest = rests-started screen_of kind b t (subst (FitsSize kind) (sym own) good.viewport) is starts;
-        plain = plain-emptied t.viewport_area t.older starts.older;
+        plain = plain-emptied t.viewport_area t.previous starts.previous;
       },
       record {
         size = size;
@@ -109,7 +109,7 @@ IsPlaying-started stage b t good blank starts =
     )
 
 -- a settled frame painted on the empty buffer and drawn
-pub IsPlaying-drawn : (stage : Stage) (text : TextData) (puts : List (ℕ × ℕ × ℕ)) (frame : Sheet) (s t : State TestBackend) → IsPlaying stage s → IsFrame s.viewport_area text puts frame → IsSettledSheet frame
+pub IsPlaying-drawn : (stage : Stage) (text : TextData) (puts : List (ℕ × ℕ × ℕ)) (frame : BufferData) (s t : TerminalData TestBackend) → IsPlaying stage s → IsFrame s.viewport_area text puts frame → IsSettledBuffer frame
     → Applies screen_of None (record s { current = frame }) t → IsPlaying stage t × ShowsFrame text puts s t
 IsPlaying-drawn stage text puts frame s t playing made settled applied =
     let at = playing.rest.in_step in
@@ -117,14 +117,14 @@ IsPlaying-drawn stage text puts frame s t playing made settled applied =
     let keeps = applied.keeps here settled in (
       record {
         rest = rests-applied screen_of stage.viewport None frame s t playing.rest settled applied;
-        plain = subst IsPlainSheet (sym applied.painted) (plain-frame s.viewport_area text puts frame made);
+        plain = subst IsPlainBuffer (sym applied.painted) (plain-frame s.viewport_area text puts frame made);
       },
       record {
         rest = record { viewport = keeps.viewport_area; size = record { width = keeps.size.width; height = keeps.size.height; history = keeps.size.history }; outside = record { at = keeps.outside.at } };
         frame = frame;
         made = subst (λ r. IsFrame r text puts frame) (sym keeps.viewport_area) made;
         settled = settled;
-        shown = subst (λ f. ShowsSheet f (screen_of t.backend).grid) applied.painted (applied.in_step here settled).shown;
+        shown = subst (λ f. ShowsBuffer f (screen_of t.backend).grid) applied.painted (applied.in_step here settled).shown;
       },
     )
 
@@ -158,7 +158,7 @@ above_emptied (Inline n) size former o b scrolled u r free good width height is 
 above_emptied (Fixed f) size former o b scrolled u r free good width height is left on tall empties x y x_in y_in above = absurd (free tt)
 
 -- a screen took another size, and the terminal found it
-module _ (stage : Stage) (given : Size) (s t : State TestBackend) (free : IsFixed stage.viewport → ⊥) (playing : IsPlaying stage s)
+module _ (stage : Stage) (given : Size) (s t : TerminalData TestBackend) (free : IsFixed stage.viewport → ⊥) (playing : IsPlaying stage s)
     (other : size_of (screen_of s.backend) ≡ given → ⊥) (taken : TakesNewSize given s t) where
   abbrev between : Screen
   between = screen_of taken.backend
@@ -198,7 +198,7 @@ module _ (stage : Stage) (given : Size) (s t : State TestBackend) (free : IsFixe
   pub IsPlaying-resized : IsPlaying stage t
   IsPlaying-resized = record {
     rest = rests-resized screen_of stage.viewport taken.backend s t free playing.rest resized;
-    plain = plain-emptied t.viewport_area t.older resized.older;
+    plain = plain-emptied t.viewport_area t.previous resized.previous;
   }
 
   -- the rows above the viewport are the topmost of the screen in between
@@ -212,7 +212,7 @@ module _ (stage : Stage) (given : Size) (s t : State TestBackend) (free : IsFixe
       (λ inline. inline_left stage.viewport (size_of new) t.viewport_area inline IsPlaying-resized.rest.lies) resized_on resized.frame.size.height
       (subst (λ k. HasPlace k t.viewport_area resized.scrolled → Empties (λ a b. is_emptied k t.viewport_area resized.scrolled.height a b || nat_lt between.width s.viewport_area.width) resized.scrolled new) playing.rest.kind_is resized.empties)
 
-  goes_on : IsGoodStage stage → GoesOn (sight_in s) (sight_in t)
+  goes_on : IsGoodStage stage → GoesOn (view_in s) (view_in t)
   goes_on good = record {
     between = plain_screen between;
     takes = record {
@@ -258,7 +258,7 @@ is_other own given differs same =
     let height = ap (λ (z : Size). z.height) same in
     grind (arith, nat_tests)
 
-pub Plays-cleared : (stage : Stage) (s t : State TestBackend) → IsGoodStage stage → IsPlaying stage s → ClearsViewport screen_of s t → Plays stage steps.Clear s t
+pub Plays-cleared : (stage : Stage) (s t : TerminalData TestBackend) → IsGoodStage stage → IsPlaying stage s → ClearsViewport screen_of s t → Plays stage steps.Clear s t
 Plays-cleared stage s t good playing clears =
     let old : Screen = screen_of s.backend in
     let new : Screen = screen_of t.backend in
@@ -270,7 +270,7 @@ Plays-cleared stage s t good playing clears =
     let outside : KeepsOutside r old new = keeps-cleared screen_of kind (stage_size stage) s t good.viewport playing.rest clears in
     let blank : IsBlankOver r new = blank_over kind r on empties in
     record {
-      playing = record { rest = rests-cleared screen_of kind s t playing.rest clears; plain = plain-emptied s.older.area t.older clears.older };
+      playing = record { rest = rests-cleared screen_of kind s t playing.rest clears; plain = plain-emptied s.previous.area t.previous clears.previous };
       after = record {
         rest = record { viewport = view; size = record { width = clears.frame.size.width; height = clears.frame.size.height; history = clears.frame.size.history }; outside = record { at = outside.at } };
         blank = record { at = λ a b within. blank.at a b (subst (λ r. IsWithin r a b) view within) };
@@ -278,14 +278,14 @@ Plays-cleared stage s t good playing clears =
     }
 
 -- what stays around a viewport keeps the rows above it
-pub kept_rows : (old new : Sight) → KeepsSurroundings old new → sight_rows_above new ≡ sight_rows_above old
+pub kept_rows : (old new : View) → KeepsSurroundings old new → rows_above_view new ≡ rows_above_view old
 kept_rows old new k =
-    subst (λ (r : Rect). rows_above new.screen r.y ≡ sight_rows_above old) (sym k.viewport)
+    subst (λ (r : Rect). rows_above new.screen r.y ≡ rows_above_view old) (sym k.viewport)
     (above_same old.screen new.screen old.viewport.y k.size.history k.size.width k.size.height
     (λ a b a_in b_in above. k.outside.at a b a_in b_in (λ within. omega (arith, within.top, above))))
 
 -- a frame drawn after its size
-pub Plays-drawn : (stage : Stage) (given : Option Size) (text : TextData) (puts : List (ℕ × ℕ × ℕ)) (s m t : State TestBackend) → IsGoodStage stage → IsSizedFor stage given s m → IsPlaying stage t → ShowsFrame text puts m t
+pub Plays-drawn : (stage : Stage) (given : Option Size) (text : TextData) (puts : List (ℕ × ℕ × ℕ)) (s m t : TerminalData TestBackend) → IsGoodStage stage → IsSizedFor stage given s m → IsPlaying stage t → ShowsFrame text puts m t
     → Plays stage (steps.Draw given text puts) s t
 Plays-drawn stage given text puts s m t good sized playing shows =
     let size : size_of (screen_of t.backend) ≡ size_of (screen_of m.backend) = same_size (screen_of t.backend) (screen_of m.backend) shows.rest.size.width shows.rest.size.height in
@@ -297,55 +297,55 @@ Plays-drawn stage given text puts s m t good sized playing shows =
         made = shows.made;
         settled = shows.settled;
         shown = shows.shown;
-        same = λ e. subst (λ x. KeepsSurroundings (sight_in x) (sight_in t)) (sized.same (sym size ∙ e)) shows.rest;
+        same = λ e. subst (λ x. KeepsSurroundings (view_in x) (view_in t)) (sized.same (sym size ∙ e)) shows.rest;
         other = λ out.
             let goes = sized.other (λ e. out (size ∙ e)) good in
             record {
               between = goes.between;
               takes = subst (λ z. TakesSize (plain_screen (screen_of s.backend)) z goes.between) (sym size) goes.takes;
               count = goes.count;
-              above = kept_rows (sight_in m) (sight_in t) shows.rest ∙ goes.above;
+              above = kept_rows (view_in m) (view_in t) shows.rest ∙ goes.above;
               left = goes.left;
               history = shows.rest.size.history ∙ goes.history;
             };
       };
     }
 
--- a frame that isn't settled, behind its size
-pub IsCauseOfStep-drawn : (stage : Stage) (given : Option Size) (text : TextData) (puts : List (ℕ × ℕ × ℕ)) (s m : State TestBackend) (cause : PlayCause) → IsPlaying stage m → IsSizedFor stage given s m → IsCauseOfFrame text puts m cause
-    → IsCauseOfStep stage (steps.Draw given text puts) (sight_in s) cause
+-- a frame that isn't settled, after its size
+pub IsCauseOfStep-drawn : (stage : Stage) (given : Option Size) (text : TextData) (puts : List (ℕ × ℕ × ℕ)) (s m : TerminalData TestBackend) (cause : PlayCause) → IsPlaying stage m → IsSizedFor stage given s m → IsCauseOfFrame text puts m cause
+    → IsCauseOfStep stage (steps.Draw given text puts) (view_in s) cause
 IsCauseOfStep-drawn stage given text puts s m Memory playing sized why = tt
 IsCauseOfStep-drawn stage given text puts s m (Unsettled area) playing sized why = (
   record {
     lies = subst (MayLie stage.viewport _) (sym why.0) (subst (λ z. MayLie stage.viewport z m.viewport_area) sized.size playing.rest.lies);
-    stays = λ e. why.0 ∙ ap (λ (x : State TestBackend). x.viewport_area) (sized.same (sized.size ∙ e));
+    stays = λ e. why.0 ∙ ap (λ (x : TerminalData TestBackend). x.viewport_area) (sized.same (sized.size ∙ e));
   },
   why.1,
 )
 
-inserts_inline : (kind : Viewport) (text : TextData) (before after : Sight) → IsInline kind → IsInserted text before after → InsertsOn kind text before after
+inserts_inline : (kind : Viewport) (text : TextData) (before after : View) → IsInline kind → IsInserted text before after → InsertsOn kind text before after
 inserts_inline Fullscreen text before after inline inserted = absurd inline
 inserts_inline (Inline n) text before after inline inserted = inserted
 inserts_inline (Fixed f) text before after inline inserted = absurd inline
 
 -- the area of the rows of a text
-pub frame_area : (area : Rect) (text : TextData) (rows : Sheet) → IsFrame area text [] rows → rows.area ≡ area
-frame_area area text rows made = ap (λ (x : Sheet). x.area) made.painted ∙ made.renders.within.same_area ∙ made.emptied.area
+pub frame_area : (area : Rect) (text : TextData) (rows : BufferData) → IsFrame area text [] rows → rows.area ≡ area
+frame_area area text rows made = ap (λ (x : BufferData). x.area) made.painted ∙ made.renders.within.same_area ∙ made.emptied.area
 
-pub rows_area : (s : State TestBackend) (text : TextData) (rows : Sheet) → IsFrame (text_area s.viewport_area.width text) text [] rows → rows.area ≡ inserted_area s rows.area.height
+pub rows_area : (s : TerminalData TestBackend) (text : TextData) (rows : BufferData) → IsFrame (text_area s.viewport_area.width text) text [] rows → rows.area ≡ inserted_area s rows.area.height
 rows_area s text rows made =
     let is = frame_area (text_area s.viewport_area.width text) text rows made in
     is ∙ ap (λ h. record { x = 0; y = 0; width = s.viewport_area.width; height = h }) (sym (ap (λ (r : Rect). r.height) is))
 
 -- a plain buffer over another area of its size
-plain_moved : (last : Sheet) (q : Rect) {r : Rect} → last.area ≡ r → q.width ≡ r.width → q.height ≡ r.height → IsPlainSheet last → IsPlainSheet (record last { area = q })
+plain_moved : (last : BufferData) (q : Rect) {r : Rect} → last.area ≡ r → q.width ≡ r.width → q.height ≡ r.height → IsPlainBuffer last → IsPlainBuffer (record last { area = q })
 plain_moved last q at width height plain a b a_in b_in =
     let w : q.width ≡ last.area.width = width ∙ sym (ap (λ (r : Rect). r.width) at) in
     let h : q.height ≡ last.area.height = height ∙ sym (ap (λ (r : Rect). r.height) at) in
     ap (λ n. is_skipped (cell_at n last.cells a b)) w ∙ plain a b (omega (arith, a_in, w)) (omega (arith, b_in, h))
 
 -- rows of a text that were inserted
-module _ (stage : Stage) (text : TextData) (rows : Sheet) (s t : State TestBackend) (inline : IsInline stage.viewport) (playing : IsPlaying stage s)
+module _ (stage : Stage) (text : TextData) (rows : BufferData) (s t : TerminalData TestBackend) (inline : IsInline stage.viewport) (playing : IsPlaying stage s)
     (made : IsFrame (text_area s.viewport_area.width text) text [] rows) where
   abbrev screen_before : Screen
   screen_before = screen_of s.backend
@@ -356,8 +356,8 @@ module _ (stage : Stage) (text : TextData) (rows : Sheet) (s t : State TestBacke
   made_wide : IsFrame (text_area screen_before.width text) text [] rows
   made_wide = subst (λ w. IsFrame (text_area w text) text [] rows) (inline_width stage.viewport (size_of screen_before) s.viewport_area inline playing.rest.lies) made
 
-  module _ (good : IsGoodStage stage) (settled : IsSettledSheet rows) (has : InsertsBuffer rows s t) where
-    known_height : screen_before.height ≡ s.known_area.height
+  module _ (good : IsGoodStage stage) (settled : IsSettledBuffer rows) (has : InsertsBuffer rows s t) where
+    known_height : screen_before.height ≡ s.last_known_area.height
     known_height = ap (λ (r : Rect). r.height) (rests-known screen_of stage.viewport s inline playing.rest)
 
     count : rows.area.height ≡ row_count text
@@ -369,7 +369,7 @@ module _ (stage : Stage) (text : TextData) (rows : Sheet) (s t : State TestBacke
         let top : s.viewport_area.y ≡ min (s.viewport_area.y + row_count text) (screen_before.height - s.viewport_area.height) = omega (arith, on.bottom, flat) in
         record {
           playing = playing;
-          after = inserts_inline stage.viewport text (sight_in s) (sight_in s) inline (record {
+          after = inserts_inline stage.viewport text (view_in s) (view_in s) inline (record {
             size = refl;
             viewport = ap (λ y. record s.viewport_area { y = y }) top;
             frame = rows;
@@ -386,16 +386,16 @@ module _ (stage : Stage) (text : TextData) (rows : Sheet) (s t : State TestBacke
         let at = playing.rest.in_step in
         let inserts = has.inserts (omega (arith, some, known_height)) in
         let takes = rests-takes screen_of stage.viewport (stage_size stage) s inline good.viewport some playing.rest in
-        let view : t.viewport_area ≡ record s.viewport_area { y = t.viewport_area.y } = ap (λ (x : State TestBackend). x.viewport_area) inserts.rest in
+        let view : t.viewport_area ≡ record s.viewport_area { y = t.viewport_area.y } = ap (λ (x : TerminalData TestBackend). x.viewport_area) inserts.rest in
         let top : t.viewport_area.y ≡ min (s.viewport_area.y + row_count text) (screen_before.height - s.viewport_area.height) =
         omega (arith, inserts.top, count, known_height, at.on_screen.bottom) in
         let shown = inserts.in_step takes at settled in
         record {
           playing = record {
             rest = rests-inserted screen_of stage.viewport rows s t inline playing.rest takes settled inserts;
-            plain = subst IsPlainSheet (sym (inserts.left takes at)) (plain_moved s.older t.viewport_area at.area (ap (λ (r : Rect). r.width) view) (ap (λ (r : Rect). r.height) view) playing.plain);
+            plain = subst IsPlainBuffer (sym (inserts.left takes at)) (plain_moved s.previous t.viewport_area at.area (ap (λ (r : Rect). r.width) view) (ap (λ (r : Rect). r.height) view) playing.plain);
           };
-          after = inserts_inline stage.viewport text (sight_in s) (sight_in t) inline (record {
+          after = inserts_inline stage.viewport text (view_in s) (view_in t) inline (record {
             size = same_size screen_after screen_before inserts.shape.width inserts.shape.height;
             viewport = view ∙ ap (λ y. record s.viewport_area { y = y }) top;
             frame = rows;
@@ -403,8 +403,8 @@ module _ (stage : Stage) (text : TextData) (rows : Sheet) (s t : State TestBacke
             settled = settled;
             above = λ _. inserts.above takes at settled;
             shown =
-                shown-again s.older s.viewport_area t.viewport_area screen_before.grid screen_after.grid at.area (ap (λ (r : Rect). r.width) view) (ap (λ (r : Rect). r.height) view) playing.plain at.shown
-                (subst (λ o. ShowsSheet o screen_after.grid) (inserts.left takes at) shown.shown);
+                shown-again s.previous s.viewport_area t.viewport_area screen_before.grid screen_after.grid at.area (ap (λ (r : Rect). r.width) view) (ap (λ (r : Rect). r.height) view) playing.plain at.shown
+                (subst (λ o. ShowsBuffer o screen_after.grid) (inserts.left takes at) shown.shown);
             none = λ flat. absurd (omega (arith, flat, some));
           });
         }

@@ -6,17 +6,17 @@ use Rattle.std.proofs.lemmas.List.{get_or_append_left}
 use Rattle.std.proofs.lemmas.Option.{slice_get-get_or, get_or_from_slice_get, slice_get_within}
 use Rattle.std.proofs.Math.Seq.{get_or-append_seam}
 use Rattle.rtui_backend.specs.declared.test.TestBackend.{TestBackend}
-use Rattle.rtui_terminal.specs.State.{State}
-use Rattle.screenplay.specs.Run.{sight_of, IsPlainScene, IsStaged, IsStart, IsAfter, IsRun, EndsEarly}
-use Rattle.screenplay.specs.Playing.{IsPlaying, sight_in, IsSceneOf, IsCauseOfStep, Plays}
+use Rattle.rtui_terminal.specs.TerminalData.{TerminalData}
+use Rattle.screenplay.specs.Run.{view_of_scene, IsPlainScene, IsStaged, IsStart, IsAfter, IsRun, EndsEarly}
+use Rattle.screenplay.specs.Playing.{IsPlaying, view_in, IsSceneOf, IsCauseOfStep, Plays}
 use Rattle.screenplay.specs.declared.scene.PlayCause.{PlayCause}
 use Rattle.screenplay.specs.declared.scene.PlayCause.TheVariants.{Unsettled}
 use Rattle.screenplay.specs.declared.scene.Scene.{Scene}
 use Rattle.screenplay.specs.declared.scene.Stage.{Stage}
 use Rattle.screenplay.specs.declared.scene.Step.{Step}
 
--- the scene behind n steps shows what the terminal's screen shows
-pub record HasLast (n : ℕ) (scenes : List Scene) (t : State TestBackend) : Type 0 where
+-- the scene after n steps shows what the terminal's screen shows
+pub record HasLast (n : ℕ) (scenes : List Scene) (t : TerminalData TestBackend) : Type 0 where
   pub scene : Scene
   pub here : slice_get scenes n ≡ Some scene
   pub shown : IsSceneOf t scene
@@ -37,7 +37,7 @@ get_end xs y k end =
 one_value : {X : Type 0} (xs : List X) (k : ℕ) (x y : X) → slice_get xs k ≡ Some x → slice_get xs k ≡ Some y → x ≡ y
 one_value xs k x y here there = sym (get_or_from_slice_get xs k x x here) ∙ get_or_from_slice_get xs k y x there
 
-IsStaged-playing : (stage : Stage) (t : State TestBackend) → IsPlaying stage t → IsStaged stage (sight_in t)
+IsStaged-playing : (stage : Stage) (t : TerminalData TestBackend) → IsPlaying stage t → IsStaged stage (view_in t)
 IsStaged-playing stage t playing =
     let on = playing.rest.in_step.on_screen in
     record {
@@ -46,36 +46,36 @@ IsStaged-playing stage t playing =
       below = λ inline. record { at = (playing.rest.below inline).at };
     }
 
-pub IsRun-start : (stage : Stage) (t : State TestBackend) (scene : Scene) → IsPlaying stage t → IsStart stage (sight_in t) → IsSceneOf t scene → IsRun stage [] (scene ∷ [])
+pub IsRun-start : (stage : Stage) (t : TerminalData TestBackend) (scene : Scene) → IsPlaying stage t → IsStart stage (view_in t) → IsSceneOf t scene → IsRun stage [] (scene ∷ [])
 IsRun-start stage t scene playing start made = record {
   count = omega arith;
   staged = λ k sc is.
       let within : k < 1 = slice_get_within (scene ∷ []) k sc is in
       let same : scene ≡ sc = get_last [] scene sc k (omega arith) is in
-      subst (λ x. IsPlainScene x × IsStaged stage (sight_of x)) same (made.plain, subst (IsStaged stage) (sym made.shown) (IsStaged-playing stage t playing));
-  start = λ sc is. subst (λ x. IsStart stage (sight_of x)) (get_last [] scene sc 0 (omega arith) is) (subst (IsStart stage) (sym made.shown) start);
+      subst (λ x. IsPlainScene x × IsStaged stage (view_of_scene x)) same (made.plain, subst (IsStaged stage) (sym made.shown) (IsStaged-playing stage t playing));
+  start = λ sc is. subst (λ x. IsStart stage (view_of_scene x)) (get_last [] scene sc 0 (omega arith) is) (subst (IsStart stage) (sym made.shown) start);
   after = λ k step old new is. absurd (let within : k < 0 = slice_get_within [] k step is in omega arith);
 }
 
-pub HasLast-start : (t : State TestBackend) (scene : Scene) → IsSceneOf t scene → HasLast 0 (scene ∷ []) t
+pub HasLast-start : (t : TerminalData TestBackend) (scene : Scene) → IsSceneOf t scene → HasLast 0 (scene ∷ []) t
 HasLast-start t scene made = record { scene = scene; here = get_end [] scene 0 (omega arith); shown = made }
 
 -- one more step, and the scene after it
-module _ (stage : Stage) (steps : List Step) (step : Step) (scenes : List Scene) (scene : Scene) (s t : State TestBackend)
+module _ (stage : Stage) (steps : List Step) (step : Step) (scenes : List Scene) (scene : Scene) (s t : TerminalData TestBackend)
     (run : IsRun stage steps scenes) (last : HasLast (length steps) scenes s) (plays : Plays stage step s t) (made : IsSceneOf t scene) where
   pub IsRun-push : IsRun stage (steps ++ step ∷ []) (scenes ++ scene ∷ [])
   IsRun-push =
       let count = run.count in
-      let follows : IsAfter stage step (sight_of last.scene) (sight_of scene) =
-      subst (λ x. IsAfter stage step x (sight_of scene)) (sym last.shown.shown) (subst (IsAfter stage step (sight_in s)) (sym made.shown) plays.after) in
-      let fine : IsPlainScene scene × IsStaged stage (sight_of scene) = (made.plain, subst (IsStaged stage) (sym made.shown) (IsStaged-playing stage t plays.playing)) in
+      let follows : IsAfter stage step (view_of_scene last.scene) (view_of_scene scene) =
+      subst (λ x. IsAfter stage step x (view_of_scene scene)) (sym last.shown.shown) (subst (IsAfter stage step (view_in s)) (sym made.shown) plays.after) in
+      let fine : IsPlainScene scene × IsStaged stage (view_of_scene scene) = (made.plain, subst (IsStaged stage) (sym made.shown) (IsStaged-playing stage t plays.playing)) in
       record {
         count = omega (arith, length-append steps (step ∷ []), length-append scenes (scene ∷ []));
         staged = λ k sc is. elim (cases_lt k (length scenes)) [
           | inl less ↦ run.staged k sc (get_front scenes scene sc k less is)
           | inr ge ↦
               let within : k < length (scenes ++ scene ∷ []) = slice_get_within (scenes ++ scene ∷ []) k sc is in
-              subst (λ x. IsPlainScene x × IsStaged stage (sight_of x)) (get_last scenes scene sc k (omega (arith, length-append scenes (scene ∷ []))) is) fine
+              subst (λ x. IsPlainScene x × IsStaged stage (view_of_scene x)) (get_last scenes scene sc k (omega (arith, length-append scenes (scene ∷ []))) is) fine
         ];
         start = λ first e. run.start first (get_front scenes scene first 0 (omega arith) e);
         after = λ k st old new is_step is_old is_new. elim (cases_lt k (length steps)) [
@@ -84,18 +84,18 @@ module _ (stage : Stage) (steps : List Step) (step : Step) (scenes : List Scene)
               let within : k < length (steps ++ step ∷ []) = slice_get_within (steps ++ step ∷ []) k st is_step in
               let end : k ≡ length steps = omega (arith, length-append steps (step ∷ [])) in
               let former : slice_get scenes (length steps) ≡ Some old = subst (λ i. slice_get scenes i ≡ Some old) end (get_front scenes scene old k (omega arith) is_old) in
-              subst (λ x. IsAfter stage x (sight_of old) (sight_of new)) (get_last steps step st k end is_step)
-              (subst (λ x. IsAfter stage step x (sight_of new)) (ap sight_of (one_value scenes (length steps) last.scene old last.here former))
-              (subst (λ x. IsAfter stage step (sight_of last.scene) (sight_of x)) (get_last scenes scene new (k + 1) (omega arith) is_new) follows))
+              subst (λ x. IsAfter stage x (view_of_scene old) (view_of_scene new)) (get_last steps step st k end is_step)
+              (subst (λ x. IsAfter stage step x (view_of_scene new)) (ap view_of_scene (one_value scenes (length steps) last.scene old last.here former))
+              (subst (λ x. IsAfter stage step (view_of_scene last.scene) (view_of_scene x)) (get_last scenes scene new (k + 1) (omega arith) is_new) follows))
         ];
       }
 
   pub HasLast-push : HasLast (length steps + 1) (scenes ++ scene ∷ []) t
   HasLast-push = let count = run.count in record { scene = scene; here = get_end scenes scene (length steps + 1) (omega arith); shown = made }
 
--- a fault behind i steps, whose scenes are a run of those
-pub EndsEarly-at : (stage : Stage) (steps : List Step) (i : ℕ) (step : Step) (cause : PlayCause) (scenes : List Scene) (s : State TestBackend) → i < length steps → step ≡ get_or steps i step
-    → IsRun stage (take i steps) scenes → HasLast i scenes s → IsCauseOfStep stage step (sight_in s) cause → EndsEarly stage steps scenes (record { step = i + 1; cause = cause })
+-- a fault after i steps, whose scenes are a run of those
+pub EndsEarly-at : (stage : Stage) (steps : List Step) (i : ℕ) (step : Step) (cause : PlayCause) (scenes : List Scene) (s : TerminalData TestBackend) → i < length steps → step ≡ get_or steps i step
+    → IsRun stage (take i steps) scenes → HasLast i scenes s → IsCauseOfStep stage step (view_in s) cause → EndsEarly stage steps scenes (record { step = i + 1; cause = cause })
 EndsEarly-at stage steps i step cause scenes s inside is run last why =
     let back : i + 1 - 1 ≡ i = omega arith in
     record {
@@ -107,6 +107,6 @@ EndsEarly-at stage steps i step cause scenes s inside is run last why =
         last.scene,
         rw back (slice_get-get_or steps i step inside ∙ ap Some (sym is)),
         rw back last.here,
-        subst (λ x. IsCauseOfStep stage step x (Unsettled area)) (sym last.shown.shown) (subst (IsCauseOfStep stage step (sight_in s)) is_unsettled why),
+        subst (λ x. IsCauseOfStep stage step x (Unsettled area)) (sym last.shown.shown) (subst (IsCauseOfStep stage step (view_in s)) is_unsettled why),
       );
     }

@@ -5,13 +5,13 @@ use Rattle.std.specs.declared.alloc.Global.{Global}
 use Rattle.rtui_geometry.specs.declared.rect.Rect.{Rect}
 use Rattle.rtui_cell.specs.declared.cell.Cell.{Cell}
 use Rattle.rtui_cell.specs.Look.{Look, look_of}
-use Rattle.rtui_buffer.specs.Sheet.{Sheet, IsSameSheet}
+use Rattle.rtui_buffer.specs.BufferData.{BufferData, IsSameBuffer}
 use Rattle.rtui_backend.specs.Screen.{screen_area}
 use Rattle.rtui_backend.specs.CellGrid.{grid_of, AreUnmarked, AreUnmarkedRows}
-use Rattle.rtui_backend.specs.TestBackend.{screen_of, sheet_of}
+use Rattle.rtui_backend.specs.TestBackend.{screen_of, buffer_of}
 use Rattle.rtui_backend.specs.declared.test.TestBackend.{TestBackend}
-use Rattle.rtui_terminal.specs.State.{State}
-use Rattle.screenplay.specs.Run.{Sight}
+use Rattle.rtui_terminal.specs.TerminalData.{TerminalData}
+use Rattle.screenplay.specs.Run.{View}
 use Rattle.screenplay.specs.Playing.{IsSceneOf, scene_in}
 
 abbrev CellRow : Type 0
@@ -23,7 +23,7 @@ looks_of [] = refl
 looks_of (row ∷ rows) = ap (λ xs. map look_of row.items ∷ xs) (looks_of rows)
 
 -- what stands on a screen with this history, this area and these cells
-abbrev shown_with : Rect → List (List Look) → Rect → List Cell → Sight
+abbrev shown_with : Rect → List (List Look) → Rect → List Cell → View
 shown_with viewport history area cells = record {
   screen = record {
     history = history;
@@ -39,7 +39,7 @@ shown_with viewport history area cells = record {
 }
 
 -- what the terminal's screen shows, as a scene
-pub IsSceneOf-in : (t : State TestBackend) → IsSceneOf t (scene_in t)
+pub IsSceneOf-in : (t : TerminalData TestBackend) → IsSceneOf t (scene_in t)
 IsSceneOf-in t = record {
   plain = record {
     corner = ap₂ (λ x y. record { x = x; y = y; width = t.backend.buffer.area.width; height = t.backend.buffer.area.height }) t.backend.corner_x t.backend.corner_y;
@@ -49,12 +49,12 @@ IsSceneOf-in t = record {
   shown = refl;
 }
 
-pub IsSceneOf-made : (t : State TestBackend) (history : Vec CellRow Global) (rows : List CellRow) (buffer copy : Sheet) → AreUnmarked buffer.cells → AreUnmarkedRows (map (λ (row : CellRow). row.items) rows) → IsSameSheet buffer copy → buffer.area ≡ screen_area (screen_of t.backend) → buffer ≡ sheet_of t.backend
+pub IsSceneOf-made : (t : TerminalData TestBackend) (history : Vec CellRow Global) (rows : List CellRow) (buffer copy : BufferData) → AreUnmarked buffer.cells → AreUnmarkedRows (map (λ (row : CellRow). row.items) rows) → IsSameBuffer buffer copy → buffer.area ≡ screen_area (screen_of t.backend) → buffer ≡ buffer_of t.backend
     → map (λ (row : CellRow). row.items) history.items ≡ map (λ (row : CellRow). row.items) rows → map (λ (row : CellRow). map look_of row.items) rows ≡ (screen_of t.backend).history
     → IsSceneOf t (record { history = history; screen = copy; viewport = t.viewport_area })
 IsSceneOf-made t history rows buffer copy unmarked unmarked_rows same corner value copied left =
-    let area : copy.area ≡ (sheet_of t.backend).area = same.area ∙ ap (λ (s : Sheet). s.area) value in
-    let cells : copy.cells ≡ (sheet_of t.backend).cells = same.cells ∙ ap (λ (s : Sheet). s.cells) value in
+    let area : copy.area ≡ (buffer_of t.backend).area = same.area ∙ ap (λ (s : BufferData). s.area) value in
+    let cells : copy.cells ≡ (buffer_of t.backend).cells = same.cells ∙ ap (λ (s : BufferData). s.cells) value in
     let scrolled = looks_of history.items ∙ ap (map (map look_of)) copied ∙ sym (looks_of rows) ∙ left in
     record {
       plain = record {

@@ -3,15 +3,15 @@ use Rattle.std.specs.Prelude.{◌≡◌, ℕ, zero, suc, ◌+◌, ◌<◌, ◌�
 use Rattle.rtui_geometry.specs.declared.size.Size.{Size}
 use Rattle.rtui_cell.specs.Look.{Look}
 use Rattle.rtui_text.specs.Text.{TextData}
-use Rattle.rtui_buffer.specs.Sheet.{Sheet}
-use Rattle.rtui_rows.specs.Insertion.{AppendsRows}
-use Rattle.screenplay.specs.Run.{sight_of, sight_size, sight_rows_above, text_area, IsFrame}
+use Rattle.rtui_buffer.specs.BufferData.{BufferData}
+use Rattle.rtui_insert.specs.Insertion.{AppendsRows}
+use Rattle.screenplay.specs.Run.{view_of_scene, view_size, rows_above_view, text_area, IsFrame}
 use Rattle.screenplay.specs.declared.scene.Scene.{Scene}
 use Rattle.screenplay.specs.declared.scene.Step.{Step}
 use Rattle.screenplay.specs.declared.scene.Step.TheVariants.{Draw, Insert, Clear}
 
 -- a frame of each text, in order, as wide as the screen
-abbrev pub AreFrames : ℕ → List TextData → List Sheet → Type 0
+abbrev pub AreFrames : ℕ → List TextData → List BufferData → Type 0
 AreFrames width [] [] = Unit {0}
 AreFrames width [] (frame ∷ frames) = ⊥
 AreFrames width (text ∷ texts) [] = ⊥
@@ -19,7 +19,7 @@ AreFrames width (text ∷ texts) (frame ∷ frames) = IsFrame (text_area width t
 
 -- exactly the rows of frames of these texts were appended, in order
 pub record AppendsTexts (width : ℕ) (texts : List TextData) (old new : List (List Look)) : Type 0 where
-  pub frames : List Sheet
+  pub frames : List BufferData
   pub made : AreFrames width texts frames
   pub appends : AppendsRows frames old new
 
@@ -36,7 +36,7 @@ inserted_from steps i zero = []
 inserted_from steps i (suc n) = texts_inserted_by (slice_get steps i) ++ inserted_from steps (i + 1) n
 
 abbrev pub scene_size : Scene → Size
-scene_size scene = sight_size (sight_of scene)
+scene_size scene = view_size (view_of_scene scene)
 
 -- n scenes after scene i have its size
 abbrev pub KeepsSizeFor : List Scene → ℕ → ℕ → Size → Type 0
@@ -47,4 +47,4 @@ abbrev pub IsAppending : List Step → List Scene → Type 0
 IsAppending steps scenes =
     (i n : ℕ) (first last : Scene) → slice_get scenes i ≡ Some first → slice_get scenes (i + n) ≡ Some last
     → 0 < (scene_size first).height → KeepsSizeFor scenes i n (scene_size first)
-    → AppendsTexts (scene_size first).width (inserted_from steps i n) (sight_rows_above (sight_of first)) (sight_rows_above (sight_of last))
+    → AppendsTexts (scene_size first).width (inserted_from steps i n) (rows_above_view (view_of_scene first)) (rows_above_view (view_of_scene last))

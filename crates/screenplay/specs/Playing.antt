@@ -4,16 +4,16 @@ use Rattle.rtui_geometry.specs.declared.size.Size.{Size}
 use Rattle.rtui_cell.specs.Cell.{is_skipped}
 use Rattle.rtui_diff.specs.Cells.{cell_at}
 use Rattle.rtui_text.specs.Text.{TextData}
-use Rattle.rtui_buffer.specs.Sheet.{Sheet}
-use Rattle.rtui_buffer.specs.Frame.{IsSettledSheet, ShowsSheet}
+use Rattle.rtui_buffer.specs.BufferData.{BufferData}
+use Rattle.rtui_buffer.specs.Shown.{IsSettledBuffer, ShowsBuffer}
 use Rattle.rtui_backend.specs.Screen.{size_of, TakesSize}
-use Rattle.rtui_backend.specs.TestBackend.{screen_of, sheet_of}
+use Rattle.rtui_backend.specs.TestBackend.{screen_of, buffer_of}
 use Rattle.rtui_backend.specs.declared.test.TestBackend.{TestBackend}
-use Rattle.rtui_terminal.specs.State.{State}
+use Rattle.rtui_terminal.specs.TerminalData.{TerminalData}
 use Rattle.rtui_terminal.specs.AtRest.{IsAtRest}
 use Rattle.rtui_terminal.specs.Resizing.{Autoresizes}
 use Rattle.rtui_terminal.specs.Insertion.{inserted_area, Inserts}
-use Rattle.screenplay.specs.Run.{Sight, plain_screen, sight_of, IsGoodStage, size_after, GoesOn, KeepsSurroundings, IsFrame, IsPlainScene, HasUnsettled, IsUnsettledStep, IsAfter}
+use Rattle.screenplay.specs.Run.{View, plain_screen, view_of_scene, IsGoodStage, size_after, GoesOn, KeepsSurroundings, IsFrame, IsPlainScene, HasUnsettled, IsUnsettledStep, IsAfter}
 use Rattle.screenplay.specs.declared.scene.Stage.{Stage}
 use Rattle.screenplay.specs.declared.scene.Scene.{Scene}
 use Rattle.screenplay.specs.declared.scene.Step.{Step}
@@ -21,64 +21,64 @@ use Rattle.screenplay.specs.declared.scene.PlayCause.{PlayCause}
 use Rattle.screenplay.specs.declared.scene.PlayCause.TheVariants.{Memory, Unsettled}
 
 -- no cell of a buffer is skipped
-abbrev pub IsPlainSheet : Sheet → Type 0
-IsPlainSheet s = (a b : ℕ) → a < s.area.width → b < s.area.height → is_skipped (cell_at s.area.width s.cells a b) ≡ false
+abbrev pub IsPlainBuffer : BufferData → Type 0
+IsPlainBuffer s = (a b : ℕ) → a < s.area.width → b < s.area.height → is_skipped (cell_at s.area.width s.cells a b) ≡ false
 
 -- the terminal is at rest over the stage's kind of viewport, and no cell of the last frame is skipped
-pub record IsPlaying (stage : Stage) (t : State TestBackend) : Type 0 where
+pub record IsPlaying (stage : Stage) (t : TerminalData TestBackend) : Type 0 where
   pub rest : IsAtRest screen_of stage.viewport t
-  pub plain : IsPlainSheet t.older
+  pub plain : IsPlainBuffer t.previous
 
 -- what a terminal's screen shows
-abbrev pub sight_in : State TestBackend → Sight
-sight_in t = record { screen = plain_screen (screen_of t.backend); viewport = t.viewport_area }
+abbrev pub view_in : TerminalData TestBackend → View
+view_in t = record { screen = plain_screen (screen_of t.backend); viewport = t.viewport_area }
 
 -- and as a scene
-abbrev pub scene_in : State TestBackend → Scene
-scene_in t = record { history = t.backend.scrollback; screen = sheet_of t.backend; viewport = t.viewport_area }
+abbrev pub scene_in : TerminalData TestBackend → Scene
+scene_in t = record { history = t.backend.scrollback; screen = buffer_of t.backend; viewport = t.viewport_area }
 
 -- a scene shows what the terminal's screen shows
-pub record IsSceneOf (t : State TestBackend) (scene : Scene) : Type 0 where
+pub record IsSceneOf (t : TerminalData TestBackend) (scene : Scene) : Type 0 where
   pub plain : IsPlainScene scene
-  pub shown : sight_of scene ≡ sight_in t
+  pub shown : view_of_scene scene ≡ view_in t
 
 -- the screen took a size, and the terminal found it
-pub record TakesNewSize (size : Size) (s t : State TestBackend) : Type 0 where
+pub record TakesNewSize (size : Size) (s t : TerminalData TestBackend) : Type 0 where
   pub backend : TestBackend
   pub takes : TakesSize (screen_of s.backend) size (screen_of backend)
   pub found : Autoresizes screen_of (record s { backend = backend }) t
 
 -- the screen took the size of a draw: where it stays nothing changed, and at another size the history and the rows above go on
-pub record IsSizedFor (stage : Stage) (given : Option Size) (s t : State TestBackend) : Type 0 where
+pub record IsSizedFor (stage : Stage) (given : Option Size) (s t : TerminalData TestBackend) : Type 0 where
   pub size : size_of (screen_of t.backend) ≡ size_after stage.viewport given (size_of (screen_of s.backend))
   pub same : size_of (screen_of t.backend) ≡ size_of (screen_of s.backend) → t ≡ s
-  pub other : (size_of (screen_of t.backend) ≡ size_of (screen_of s.backend) → ⊥) → IsGoodStage stage → GoesOn (sight_in s) (sight_in t)
+  pub other : (size_of (screen_of t.backend) ≡ size_of (screen_of s.backend) → ⊥) → IsGoodStage stage → GoesOn (view_in s) (view_in t)
 
 -- a settled frame over the viewport was drawn, and all else stays
-pub record ShowsFrame (text : TextData) (puts : List (ℕ × ℕ × ℕ)) (s t : State TestBackend) : Type 0 where
-  pub rest : KeepsSurroundings (sight_in s) (sight_in t)
-  pub frame : Sheet
+pub record ShowsFrame (text : TextData) (puts : List (ℕ × ℕ × ℕ)) (s t : TerminalData TestBackend) : Type 0 where
+  pub rest : KeepsSurroundings (view_in s) (view_in t)
+  pub frame : BufferData
   pub made : IsFrame t.viewport_area text puts frame
-  pub settled : IsSettledSheet frame
-  pub shown : ShowsSheet frame (screen_of t.backend).grid
+  pub settled : IsSettledBuffer frame
+  pub shown : ShowsBuffer frame (screen_of t.backend).grid
 
--- the rows of a buffer were inserted above an inline viewport; where the screen was known to have no rows nothing changed
-pub record InsertsBuffer (rows : Sheet) (s t : State TestBackend) : Type 0 where
+-- the rows of a buffer were inserted above an inline viewport; if the screen was known to have no rows nothing changed
+pub record InsertsBuffer (rows : BufferData) (s t : TerminalData TestBackend) : Type 0 where
   pub over : rows.area ≡ inserted_area s rows.area.height
-  pub none : s.known_area.height ≡ 0 → t ≡ s
-  pub inserts : 0 < s.known_area.height → Inserts screen_of rows s t
+  pub none : s.last_known_area.height ≡ 0 → t ≡ s
+  pub inserts : 0 < s.last_known_area.height → Inserts screen_of rows s t
 
 -- why a frame wasn't drawn: want of memory, or it is unsettled
-abbrev pub IsCauseOfFrame : TextData → List (ℕ × ℕ × ℕ) → State TestBackend → PlayCause → Type 0
+abbrev pub IsCauseOfFrame : TextData → List (ℕ × ℕ × ℕ) → TerminalData TestBackend → PlayCause → Type 0
 IsCauseOfFrame text puts s Memory = Unit {0}
 IsCauseOfFrame text puts s (Unsettled area) = (area ≡ s.viewport_area) × HasUnsettled area text puts
 
 -- why a step wasn't played: want of memory, or its frame is unsettled
-abbrev pub IsCauseOfStep : Stage → Step → Sight → PlayCause → Type 0
+abbrev pub IsCauseOfStep : Stage → Step → View → PlayCause → Type 0
 IsCauseOfStep stage step s Memory = Unit {0}
 IsCauseOfStep stage step s (Unsettled area) = IsUnsettledStep stage step s area
 
 -- a step was played
-pub record Plays (stage : Stage) (step : Step) (s t : State TestBackend) : Type 0 where
+pub record Plays (stage : Stage) (step : Step) (s t : TerminalData TestBackend) : Type 0 where
   pub playing : IsPlaying stage t
-  pub after : IsAfter stage step (sight_in s) (sight_in t)
+  pub after : IsAfter stage step (view_in s) (view_in t)

@@ -2,7 +2,7 @@
 use Rattle.std.specs.Prelude.{ℕ, ◌+◌, List, [], ◌∷◌, Option, None, Some, slice_get}
 use Rattle.std.specs.List.{flat_map}
 use Rattle.rtui_backend.specs.Print.{printed_screen}
-use Rattle.screenplay.specs.Run.{sight_of}
+use Rattle.screenplay.specs.Run.{view_of_scene}
 use Rattle.screenplay.specs.declared.act.Act.{Act}
 use Rattle.screenplay.specs.declared.act.Act.TheVariants.{Play, Show}
 use Rattle.screenplay.specs.declared.scene.Scene.{Scene}
@@ -22,7 +22,7 @@ shows_of n (Show ∷ acts) = n ∷ shows_of n acts
 
 -- the history, each row after `^`, and then the screen, each row after `|`
 abbrev pub printed_scene : Scene → List ℕ
-printed_scene scene = printed_screen (sight_of scene).screen
+printed_scene scene = printed_screen (view_of_scene scene).screen
 
 abbrev pub printed_if : Option Scene → List ℕ
 printed_if None = []

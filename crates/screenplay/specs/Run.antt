@@ -5,8 +5,8 @@ use Rattle.rtui_geometry.specs.declared.size.Size.{Size}
 use Rattle.rtui_geometry.specs.Rect.{EdgesFit}
 use Rattle.rtui_cell.specs.Look.{Look, look_of, empty_look}
 use Rattle.rtui_text.specs.Text.{TextData}
-use Rattle.rtui_buffer.specs.Sheet.{Sheet, IsEmptied}
-use Rattle.rtui_buffer.specs.Frame.{IsSettledSheet, ShowsSheet}
+use Rattle.rtui_buffer.specs.BufferData.{BufferData, IsEmptied}
+use Rattle.rtui_buffer.specs.Shown.{IsSettledBuffer, ShowsBuffer}
 use Rattle.rtui_widgets.specs.Rendering.{RendersText}
 use Rattle.rtui_backend.specs.Screen.{Screen, KeepsSizeAndHistory, IsOnScreen, TakesSize, size_of, screen_area, rows_above}
 use Rattle.rtui_backend.specs.CellGrid.{grid_of, AreUnmarked, AreUnmarkedRows}
@@ -15,7 +15,7 @@ use Rattle.rtui_viewport.specs.declared.viewport.Viewport.TheVariants.{Fullscree
 use Rattle.rtui_viewport.specs.Viewports.{IsInline}
 use Rattle.rtui_viewport.specs.Lying.{at_corner, FitsSize, MayLie}
 use Rattle.rtui_viewport.specs.Areas.{KeepsOutside, IsBlankOver, IsBlankBelow}
-use Rattle.rtui_rows.specs.Insertion.{AppendsRows}
+use Rattle.rtui_insert.specs.Insertion.{AppendsRows}
 use Rattle.screenplay.specs.Puts.{with_puts}
 use Rattle.screenplay.specs.declared.scene.Stage.{Stage}
 use Rattle.screenplay.specs.declared.scene.Scene.{Scene}
@@ -26,7 +26,7 @@ use Rattle.screenplay.specs.declared.scene.StepError.{StepError}
 use Rattle.screenplay.specs.declared.scene.PlayCause.TheVariants.{Memory, Unsettled}
 
 -- a screen, of whose cursor nothing is said, and the viewport on it
-pub record Sight : Type 0 where
+pub record View : Type 0 where
   pub screen : Screen
   pub viewport : Rect
 
@@ -35,8 +35,8 @@ abbrev pub plain_screen : Screen → Screen
 plain_screen s = record s { cursor_x = 0; cursor_y = 0; visible = true; written = 0 }
 
 -- what a scene shows
-abbrev pub sight_of : Scene → Sight
-sight_of scene = record {
+abbrev pub view_of_scene : Scene → View
+view_of_scene scene = record {
   screen = record {
     history = map (λ row. map look_of row.items) scene.history.items;
     width = scene.screen.area.width;
@@ -50,12 +50,12 @@ sight_of scene = record {
   viewport = scene.viewport;
 }
 
-abbrev pub sight_size : Sight → Size
-sight_size s = size_of s.screen
+abbrev pub view_size : View → Size
+view_size s = size_of s.screen
 
 -- the rows above the viewport
-abbrev pub sight_rows_above : Sight → List (List Look)
-sight_rows_above s = rows_above s.screen s.viewport.y
+abbrev pub rows_above_view : View → List (List Look)
+rows_above_view s = rows_above s.screen s.viewport.y
 
 abbrev pub stage_size : Stage → Size
 stage_size stage = record { width = stage.width; height = stage.height }
@@ -67,21 +67,21 @@ pub record IsGoodStage (stage : Stage) : Type 0 where
   pub viewport : FitsSize stage.viewport (stage_size stage)
 
 -- the viewport lies where it may, on the screen, and the rows below an inline one are blank
-pub record IsStaged (stage : Stage) (s : Sight) : Type 0 where
-  pub lies : MayLie stage.viewport (sight_size s) s.viewport
+pub record IsStaged (stage : Stage) (s : View) : Type 0 where
+  pub lies : MayLie stage.viewport (view_size s) s.viewport
   pub on_screen : IsOnScreen s.viewport s.screen
   pub below : IsInline stage.viewport → IsBlankBelow s.viewport s.screen
 
 -- the frame of a text and puts over an area: an empty buffer, the text rendered over it, and then the puts set in order
-pub record IsFrame (area : Rect) (text : TextData) (puts : List (ℕ × ℕ × ℕ)) (frame : Sheet) : Type 0 where
+pub record IsFrame (area : Rect) (text : TextData) (puts : List (ℕ × ℕ × ℕ)) (frame : BufferData) : Type 0 where
   pub edges : EdgesFit area
-  pub blank : Sheet
+  pub blank : BufferData
   pub emptied : IsEmptied area blank
-  pub rendered : Sheet
+  pub rendered : BufferData
   pub renders : RendersText text area blank rendered
   pub painted : frame ≡ with_puts puts rendered
 
--- where the viewport is at the start
+-- if the viewport is at the start
 abbrev pub first_viewport : Viewport → Size → Rect
 first_viewport Fullscreen size = at_corner size
 first_viewport (Inline rows) size = record { x = 0; y = 0; width = size.width; height = min rows size.height }
@@ -94,14 +94,14 @@ first_rows (Inline rows) size = rows - size.height
 first_rows (Fixed r) size = 0
 
 -- at the start all is blank
-pub record IsStart (stage : Stage) (s : Sight) : Type 0 where
-  pub size : sight_size s ≡ stage_size stage
+pub record IsStart (stage : Stage) (s : View) : Type 0 where
+  pub size : view_size s ≡ stage_size stage
   pub viewport : s.viewport ≡ first_viewport stage.viewport (stage_size stage)
   pub history : s.screen.history ≡ replicate (first_rows stage.viewport (stage_size stage)) (replicate stage.width empty_look)
   pub blank : (a b : ℕ) → a < stage.width → b < stage.height → s.screen.grid a b ≡ empty_look
 
 -- the size, the viewport, the history and all columns outside the viewport stay
-pub record KeepsSurroundings (old new : Sight) : Type 0 where
+pub record KeepsSurroundings (old new : View) : Type 0 where
   pub viewport : new.viewport ≡ old.viewport
   pub size : KeepsSizeAndHistory old.screen new.screen
   pub outside : KeepsOutside old.viewport old.screen new.screen
@@ -114,27 +114,27 @@ size_after (Inline rows) (Some given) own = given
 size_after (Fixed r) (Some given) own = own
 
 -- the screen took the size that it has, and the rows above the viewport are then the topmost of it, from its history on
-pub record GoesOn (old new : Sight) : Type 0 where
+pub record GoesOn (old new : View) : Type 0 where
   pub between : Screen
-  pub takes : TakesSize old.screen (sight_size new) between
+  pub takes : TakesSize old.screen (view_size new) between
   pub count : ℕ
-  pub above : sight_rows_above new ≡ rows_above between count
+  pub above : rows_above_view new ≡ rows_above between count
   pub left : List (List Look)
   pub history : new.screen.history ≡ old.screen.history ++ left
 
 -- a draw: the screen has its size and shows the settled frame over the viewport; all else stays where the size does, and at another size
 -- the history and the rows above the viewport go on
-pub record IsDrawn (stage : Stage) (given : Option Size) (text : TextData) (puts : List (ℕ × ℕ × ℕ)) (old new : Sight) : Type 0 where
-  pub size : sight_size new ≡ size_after stage.viewport given (sight_size old)
-  pub frame : Sheet
+pub record IsDrawn (stage : Stage) (given : Option Size) (text : TextData) (puts : List (ℕ × ℕ × ℕ)) (old new : View) : Type 0 where
+  pub size : view_size new ≡ size_after stage.viewport given (view_size old)
+  pub frame : BufferData
   pub made : IsFrame new.viewport text puts frame
-  pub settled : IsSettledSheet frame
-  pub shown : ShowsSheet frame new.screen.grid
-  pub same : sight_size new ≡ sight_size old → KeepsSurroundings old new
-  pub other : (sight_size new ≡ sight_size old → ⊥) → GoesOn old new
+  pub settled : IsSettledBuffer frame
+  pub shown : ShowsBuffer frame new.screen.grid
+  pub same : view_size new ≡ view_size old → KeepsSurroundings old new
+  pub other : (view_size new ≡ view_size old → ⊥) → GoesOn old new
 
 -- a clear: the viewport is empty, and all else stays
-pub record IsEmptiedView (old new : Sight) : Type 0 where
+pub record IsEmptiedView (old new : View) : Type 0 where
   pub rest : KeepsSurroundings old new
   pub blank : IsBlankOver new.viewport new.screen
 
@@ -147,63 +147,63 @@ abbrev pub text_area : ℕ → TextData → Rect
 text_area width text = record { x = 0; y = 0; width = width; height = row_count text }
 
 -- each column of the viewport shows what it did
-abbrev pub ShowsAgain : Sight → Sight → Type 0
+abbrev pub ShowsAgain : View → View → Type 0
 ShowsAgain old new =
     (a b : ℕ) → a < old.viewport.width → b < old.viewport.height
     → new.screen.grid (new.viewport.x + a) (new.viewport.y + b) ≡ old.screen.grid (old.viewport.x + a) (old.viewport.y + b)
 
 -- an insertion: exactly the rows of the settled frame of the text came to those above the viewport, which moved down as far as there was
 -- room, and shows what it did; on a screen without rows nothing changes
-pub record IsInserted (text : TextData) (old new : Sight) : Type 0 where
-  pub size : sight_size new ≡ sight_size old
+pub record IsInserted (text : TextData) (old new : View) : Type 0 where
+  pub size : view_size new ≡ view_size old
   pub viewport : new.viewport ≡ record old.viewport { y = min (old.viewport.y + row_count text) (old.screen.height - old.viewport.height) }
-  pub frame : Sheet
+  pub frame : BufferData
   pub made : IsFrame (text_area old.screen.width text) text [] frame
-  pub settled : IsSettledSheet frame
-  pub above : 0 < old.screen.height → AppendsRows (frame ∷ []) (sight_rows_above old) (sight_rows_above new)
+  pub settled : IsSettledBuffer frame
+  pub above : 0 < old.screen.height → AppendsRows (frame ∷ []) (rows_above_view old) (rows_above_view new)
   pub shown : ShowsAgain old new
   pub none : old.screen.height ≡ 0 → new ≡ old
 
 -- only an inline viewport has rows above
-abbrev pub InsertsOn : Viewport → TextData → Sight → Sight → Type 0
+abbrev pub InsertsOn : Viewport → TextData → View → View → Type 0
 InsertsOn Fullscreen text old new = new ≡ old
 InsertsOn (Inline rows) text old new = IsInserted text old new
 InsertsOn (Fixed r) text old new = new ≡ old
 
 -- what stands after a step
-abbrev pub IsAfter : Stage → Step → Sight → Sight → Type 0
+abbrev pub IsAfter : Stage → Step → View → View → Type 0
 IsAfter stage (Draw given text puts) old new = IsDrawn stage given text puts old new
 IsAfter stage (Insert text) old new = InsertsOn stage.viewport text old new
 IsAfter stage Clear old new = IsEmptiedView old new
 
 -- a scene of looks alone: its screen has its corner at (0, 0), and no cell of it or of the history has an option or a flag
 pub record IsPlainScene (scene : Scene) : Type 0 where
-  pub corner : scene.screen.area ≡ screen_area (sight_of scene).screen
+  pub corner : scene.screen.area ≡ screen_area (view_of_scene scene).screen
   pub screen : AreUnmarked scene.screen.cells
   pub history : AreUnmarkedRows (map (λ row. row.items) scene.history.items)
 
 -- the scenes from a start through the steps, one more than those
 pub record IsRun (stage : Stage) (steps : List Step) (scenes : List Scene) : Type 0 where
   pub count : length scenes ≡ length steps + 1
-  pub staged : (k : ℕ) (scene : Scene) → slice_get scenes k ≡ Some scene → IsPlainScene scene × IsStaged stage (sight_of scene)
-  pub start : (scene : Scene) → slice_get scenes 0 ≡ Some scene → IsStart stage (sight_of scene)
+  pub staged : (k : ℕ) (scene : Scene) → slice_get scenes k ≡ Some scene → IsPlainScene scene × IsStaged stage (view_of_scene scene)
+  pub start : (scene : Scene) → slice_get scenes 0 ≡ Some scene → IsStart stage (view_of_scene scene)
   pub after : (k : ℕ) (step : Step) (old new : Scene) → slice_get steps k ≡ Some step → slice_get scenes k ≡ Some old → slice_get scenes (k + 1) ≡ Some new
-      → IsAfter stage step (sight_of old) (sight_of new)
+      → IsAfter stage step (view_of_scene old) (view_of_scene new)
 
 -- a frame that can't be shown
 pub record HasUnsettled (area : Rect) (text : TextData) (puts : List (ℕ × ℕ × ℕ)) : Type 0 where
-  pub frame : Sheet
+  pub frame : BufferData
   pub made : IsFrame area text puts frame
-  pub unsettled : IsSettledSheet frame → ⊥
+  pub unsettled : IsSettledBuffer frame → ⊥
 
--- a draw's viewport: the former one where the size stays, else anywhere that it may lie
-pub record MayCover (stage : Stage) (size : Size) (s : Sight) (area : Rect) : Type 0 where
+-- a draw's viewport: the former one if the size stays, else anywhere that it may lie
+pub record MayCover (stage : Stage) (size : Size) (s : View) (area : Rect) : Type 0 where
   pub lies : MayLie stage.viewport size area
-  pub stays : size ≡ sight_size s → area ≡ s.viewport
+  pub stays : size ≡ view_size s → area ≡ s.viewport
 
 -- the step can't be played: its frame over this viewport can't be shown, or what it is to insert above it
-abbrev pub IsUnsettledStep : Stage → Step → Sight → Rect → Type 0
-IsUnsettledStep stage (Draw given text puts) s area = MayCover stage (size_after stage.viewport given (sight_size s)) s area × HasUnsettled area text puts
+abbrev pub IsUnsettledStep : Stage → Step → View → Rect → Type 0
+IsUnsettledStep stage (Draw given text puts) s area = MayCover stage (size_after stage.viewport given (view_size s)) s area × HasUnsettled area text puts
 IsUnsettledStep stage (Insert text) s area = IsInline stage.viewport × (area ≡ s.viewport) × HasUnsettled (text_area s.screen.width text) text []
 IsUnsettledStep stage Clear s area = ⊥
 
@@ -214,7 +214,7 @@ pub record EndsEarly (stage : Stage) (steps : List Step) (scenes : List Scene) (
   pub run : 0 < error.step → IsRun stage (take (error.step - 1) steps) scenes
   pub unsettled : (area : Rect) → error.cause ≡ Unsettled area
       → (step : Step) × (scene : Scene) × (slice_get steps (error.step - 1) ≡ Some step) × (slice_get scenes (error.step - 1) ≡ Some scene)
-      × IsUnsettledStep stage step (sight_of scene) area
+      × IsUnsettledStep stage step (view_of_scene scene) area
 
 -- the same of a fault that has the scenes
 abbrev pub IsFault : Stage → List Step → PlayFault → Type 0

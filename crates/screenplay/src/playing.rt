@@ -6,11 +6,11 @@ ghost use Rattle.rtui_viewport.specs.Viewports.{IsInline};
 ghost use Rattle.rtui_terminal.specs.Writing.{Applies};
 ghost use Rattle.rtui_terminal.specs.Insertion.{inserted_area};
 ghost use Rattle.screenplay.specs.declared.scene.PlayCause.TheVariants.{Memory};
-ghost use Rattle.rtui_buffer.specs.Frame.{IsSettledSheet};
-ghost use Rattle.rtui_buffer.specs.Sheet.{IsEmptied};
+ghost use Rattle.rtui_buffer.specs.Shown.{IsSettledBuffer};
+ghost use Rattle.rtui_buffer.specs.BufferData.{IsEmptied};
 ghost use Rattle.screenplay.specs.Puts.{with_put, with_puts};
 ghost use Rattle.screenplay.specs.Run.{IsGoodStage, IsFrame, text_area, IsRun, IsFault, IsStart};
-ghost use Rattle.screenplay.specs.Playing.{IsPlaying, IsSceneOf, TakesNewSize, IsSizedFor, ShowsFrame, InsertsBuffer, IsCauseOfFrame, IsCauseOfStep, Plays, sight_in};
+ghost use Rattle.screenplay.specs.Playing.{IsPlaying, IsSceneOf, TakesNewSize, IsSizedFor, ShowsFrame, InsertsBuffer, IsCauseOfFrame, IsCauseOfStep, Plays, view_in};
 ghost use Rattle.rtui_geometry.specs.declared.rect.Rect.{Rect};
 ghost use Rattle.screenplay.specs.declared.scene.Scene.{Scene};
 ghost use Rattle.screenplay.specs.declared.scene.Stage.{Stage};
@@ -56,7 +56,7 @@ fn paint(
 ) -> Result<bool, AllocError>
     ensures painted { OnOk result ((area : Rect)
         → IsEmptied area frame.old → IsFrame area text.now puts.now frame.new) }
-    ensures settled { IfOk result (λ settled. IsTrue settled ↔ IsSettledSheet frame.new) }
+    ensures settled { IfOk result (λ settled. IsTrue settled ↔ IsSettledBuffer frame.new) }
 {
     let area = *frame.area();
     text.render(area, frame)?;
@@ -67,7 +67,7 @@ fn paint(
 /// A terminal over a blank stage.
 pub fn open(alloc: Global, stage: Stage) -> Result<Terminal<TestBackend>, TerminalError<TestError>>
     requires { IsGoodStage stage }
-    ensures { IfOk result (λ t. IsPlaying stage t × IsStart stage (sight_in t)) }
+    ensures { IfOk result (λ t. IsPlaying stage t × IsStart stage (view_in t)) }
 {
     let backend = match TestBackend::new(alloc, stage.width, stage.height) {
         Ok(backend) => backend,
@@ -162,7 +162,7 @@ fn draw(
         → Plays stage (Draw size text.now puts.now) terminal.old terminal.new) }
     ensures err { IfErr result (λ cause. (stage : Stage) → stage.viewport ≡ viewport
         → IsPlaying stage terminal.old
-        → IsCauseOfStep stage (Draw size text.now puts.now) (sight_in terminal.old) cause) }
+        → IsCauseOfStep stage (Draw size text.now puts.now) (view_in terminal.old) cause) }
 {
     match take_size(terminal, viewport, size) {
         Ok(()) => {}
@@ -174,7 +174,7 @@ fn draw(
 // The rows of a text over this many columns, and whether they are settled.
 fn text_rows(alloc: Global, width: u16, text: &Text<'_>) -> Result<(Buffer, bool), AllocError>
     ensures made { IfOk result (λ rows. IsFrame (text_area width text.now) text.now [] rows.0) }
-    ensures settled { IfOk result (λ rows. IsTrue rows.1 ↔ IsSettledSheet rows.0) }
+    ensures settled { IfOk result (λ rows. IsTrue rows.1 ↔ IsSettledBuffer rows.0) }
 {
     let height = text.height().min(65535) as u16;
     let area = Rect {
@@ -217,7 +217,7 @@ fn insert_text(
         → Plays stage (Insert text.now) terminal.old terminal.new) }
     ensures err { IfErr result (λ cause. (stage : Stage) → IsInline stage.viewport
         → IsPlaying stage terminal.old
-        → IsCauseOfStep stage (Insert text.now) (sight_in terminal.old) cause) }
+        → IsCauseOfStep stage (Insert text.now) (view_in terminal.old) cause) }
 {
     let area = terminal.viewport_area();
     let (rows, settled) = match text_rows(alloc, area.width, text) {
@@ -245,7 +245,7 @@ fn insert(
         → Plays stage (Insert text.now) terminal.old terminal.new) }
     ensures err { IfErr result (λ cause. (stage : Stage) → stage.viewport ≡ viewport
         → IsPlaying stage terminal.old
-        → IsCauseOfStep stage (Insert text.now) (sight_in terminal.old) cause) }
+        → IsCauseOfStep stage (Insert text.now) (view_in terminal.old) cause) }
 {
     match viewport {
         Viewport::Inline(_) => insert_text(alloc, terminal, text),
@@ -275,7 +275,7 @@ pub fn play_step(
         → IsPlaying stage terminal.old → Plays stage step.now terminal.old terminal.new) }
     ensures err { IfErr result (λ cause. (stage : Stage) → stage.viewport ≡ viewport
         → IsPlaying stage terminal.old
-        → IsCauseOfStep stage step.now (sight_in terminal.old) cause) }
+        → IsCauseOfStep stage step.now (view_in terminal.old) cause) }
 {
     match step {
         Step::Draw { size, text, puts } => draw(alloc, terminal, viewport, *size, text, puts),

@@ -280,7 +280,8 @@ impl<'a> Script<'a> {
 
     // Takes the command that sets the stage; it answers whether it is that one.
     fn take_first(&mut self, command: &Command<'a>) -> bool
-        ensures taken { first_after command.now self.old ≡ (if result then Some self.new else None) }
+        ensures taken { first_after command.now self.old
+            ≡ (if result then Some self.new else None) }
         ensures stage { IsGoodCommand command.now → IfSome self.old.stage IsGoodStage
             → IfSome self.new.stage IsGoodStage }
     {

@@ -19,7 +19,7 @@ pub record IsScriptPrinted {W E : Type 0} (contents : W → Option (List ℕ)) (
   pub printed : PrintsRun bytes (contents w) (contents w')
   pub silent : e' ≡ e
 
--- the script was refused for a fault, which was told; only where the writer failed can anything have been written
+-- the script was refused for a fault, which was told; only if the writer failed can anything have been written
 pub record IsScriptRefused {W E : Type 0} (told_to : E → Option (List ℕ)) (bytes : List ℕ) (w w' : W) (e e' : E) : Type 0 where
   pub fault : RunFault
   pub why : IsRunFault bytes fault

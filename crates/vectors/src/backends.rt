@@ -25,7 +25,7 @@ impl<'a> Args<'a> {
     }
 }
 
-// Writes a row that left the screen, and how its cells look where that isn't as usual.
+// Writes a row that left the screen, and how its cells look if that isn't as usual.
 fn put_row_above(row: &[Cell], out: &mut String) -> Result<(), AllocError> {
     out.push_str(", above ")?;
     put_row(row, out)?;

@@ -1,6 +1,6 @@
 //! Buffers: as rows of symbols, and calls on one or on two of them.
 ghost use Rattle.std.specs.Prelude.{◌≤◌, OnOk};
-ghost use Rattle.rtui_buffer.specs.Sheet.{HasRow};
+ghost use Rattle.rtui_buffer.specs.BufferData.{HasRow};
 
 use crate::answer::{Answer, Show, escaped};
 use crate::args::Args;

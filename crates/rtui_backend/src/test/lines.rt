@@ -40,7 +40,7 @@ fn is_blank(row: &[Cell], from: usize, to: usize) -> bool
     true
 }
 
-// Whether a symbol of this width stands in a column, and blanks behind it.
+// Whether a symbol of this width stands in a column, and blanks after it.
 fn is_piece(row: &[Cell], x: usize, width: usize, symbol: &str) -> bool
     requires width { width ≡ text_width symbol.now }
     requires wide { 0 < width }
@@ -50,7 +50,7 @@ fn is_piece(row: &[Cell], x: usize, width: usize, symbol: &str) -> bool
     symbol_at(row, x) == symbol && is_blank(row, x + 1, x + width)
 }
 
-// The column behind a text that stands in a row from a column on, if it does.
+// The column after a text that stands in a row from a column on, if it does.
 fn text_end(row: &[Cell], x: usize, text: &str) -> Option<usize>
     requires { x ≤ length row.now }
     ensures within { IfSome result (λ end. end ≤ length row.now) }
@@ -74,7 +74,7 @@ fn text_end(row: &[Cell], x: usize, text: &str) -> Option<usize>
     Some(end)
 }
 
-// The column behind a line that stands in a row, if it does.
+// The column after a line that stands in a row, if it does.
 fn line_end(row: &[Cell], line: &str) -> Option<usize>
     ensures within { IfSome result (λ end. end ≤ length row.now) }
     ensures end { EndsAfter (symbol_in row.now) 0
@@ -122,7 +122,7 @@ impl TestBackend {
     ghost use Rattle.rtui_backend.specs.TestBackend.{failures_of, told_after};
 
     /// A screen that shows these lines, a row each, as a buffer made by `Buffer::from_texts` of them does, its cursor
-    /// visible in the corner; refused where memory is.
+    /// visible in the corner; refused if memory is.
     #[tactic(auto, using(crate::proofs::PlainLemmas::plain_rows))]
     pub fn with_lines(alloc: Global, lines: &[&str]) -> Result<TestBackend, AllocError>
         requires height { length lines.now ≤ 65535 }

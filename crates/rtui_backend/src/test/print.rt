@@ -12,7 +12,7 @@ use crate::test::TestBackend;
 use rtui_buffer::{Cell, CellWidth};
 use std::io::{self, Write};
 
-// Writes the symbols of a row, without the columns behind a wide one.
+// Writes the symbols of a row, without the columns after a wide one.
 #[tactic(auto, unfolding(rtui_cell::specs::Look::look_of))]
 fn write_cells<W: Write>(writer: &mut W, cells: &[Cell]) -> io::Result<()>
     ensures { OnOk result (Appends (W.contents writer.old) (W.contents writer.new)
@@ -69,7 +69,7 @@ fn write_rows<W: Write>(writer: &mut W, backend: &TestBackend) -> io::Result<()>
 }
 
 impl TestBackend {
-    /// Writes the rows that scrolled off, each behind `^`, and those of the screen, each behind `|`. Each row has the
+    /// Writes the rows that scrolled off, each after `^`, and those of the screen, each after `|`. Each row has the
     /// symbols of its columns, but for the columns that a wide symbol covers, and ends in a line break.
     pub fn write_to<W: Write>(&self, writer: &mut W) -> io::Result<()>
         ensures { OnOk result (Appends (W.contents writer.old) (W.contents writer.new)

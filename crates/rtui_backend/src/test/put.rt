@@ -28,7 +28,7 @@ fn copy_look(alloc: Global, to: &mut Cell, cell: &Cell) -> Result<(), AllocError
     Ok(())
 }
 
-// Puts a cell in a column and a row; where memory is refused nothing changes.
+// Puts a cell in a column and a row; if memory is refused nothing changes.
 fn put_cell(
     alloc: Global,
     cells: &mut [Cell],

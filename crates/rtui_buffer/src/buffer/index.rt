@@ -14,7 +14,7 @@ ghost use Rattle.rtui_cell.specs.contracts.cell.Cell.{the_row as cell_row};
 ghost use Rattle.rtui_cell.specs.contracts.cell.CellEq.TheImpl.Laws.{laws-law as cell_laws};
 ghost use Rattle.rtui_cell.specs.contracts.cell.CellHash.TheImpl.Laws.{respects_eq-law as cell_hashes};
 ghost use Rattle.rtui_buffer.specs.contracts.buffer.Buffer.{the_row};
-ghost use Rattle.rtui_buffer.specs.Sheet.{cell_in, with_cell, position_of};
+ghost use Rattle.rtui_buffer.specs.BufferData.{cell_in, with_cell, position_of};
 
 use crate::buffer::Buffer;
 use rtui_cell::Cell;

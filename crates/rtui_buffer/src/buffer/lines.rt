@@ -5,8 +5,8 @@ ghost use Rattle.std.specs.Vec.{vec_capacity};
 ghost use Rattle.rtui_style.specs.Style.{patch};
 ghost use Rattle.rtui_text.specs.Text.{raw_line};
 ghost use Rattle.rtui_text.specs.Widths.{line_width};
-ghost use Rattle.rtui_buffer.specs.Sheet.{HasRow, position_of, empty_cells, HasRoomFor};
-ghost use Rattle.rtui_buffer.specs.Frame.{IsSettledSheet};
+ghost use Rattle.rtui_buffer.specs.BufferData.{HasRow, position_of, empty_cells, HasRoomFor};
+ghost use Rattle.rtui_buffer.specs.Shown.{IsSettledBuffer};
 ghost use Rattle.rtui_buffer.specs.Painting.{columns, painted, IsSameOutside, HasPieces, HasFront, KeepsUnmarked};
 ghost use Rattle.rtui_buffer.specs.PaintedText.{room_at, pieces_at, AreShort, PaintsFront, PaintsOrRefuses};
 ghost use Rattle.rtui_buffer.specs.Line.{line_pieces, line_pieces_at, widest, lines_area, line_rows, IsOfLines, raw_lines};
@@ -41,9 +41,9 @@ impl Buffer {
         self.set_stringn(x, y, span.text(), usize::from(max), span.style)
     }
 
-    /// Paints a line from a column and a row on, span behind span, each in its style over the line's and in the
+    /// Paints a line from a column and a row on, span after span, each in its style over the line's and in the
     /// width that is left of the area and of `max` columns. A span that is cut does not end it. It answers the
-    /// column behind the last one that was painted, and the row. Where memory is refused a front of the line's
+    /// column after the last one that was painted, and the row. Where memory is refused a front of the line's
     /// graphemes is painted, and no more.
     #[tactic(auto, using(crate::proofs::LineLemmas::no_line_steps))]
     pub fn set_line(
@@ -81,12 +81,12 @@ impl Buffer {
     }
 
     /// A buffer at the corner `(0, 0)` with these lines, each in a row of its own: as wide as the widest of them,
-    /// and as high as there are lines, both at most 65535 ([`lines_width`] says how wide). Refused where memory is.
+    /// and as high as there are lines, both at most 65535 ([`lines_width`] says how wide). Refused if memory is.
     pub fn with_lines(alloc: Global, lines: &[Line<'_>]) -> Result<Buffer, AllocError>
         requires height { length lines.now ≤ 65535 }
         requires width { widest lines.now ≤ 65535 }
         ensures lines { IfOk result (IsOfLines lines.now) }
-        ensures settled { IfOk result IsSettledSheet }
+        ensures settled { IfOk result IsSettledBuffer }
         ensures room { IfOk result (HasRoomFor (lines_area lines.now)) }
     {
         let area = Rect {
@@ -100,12 +100,12 @@ impl Buffer {
     }
 
     /// A buffer with a line for each of these texts, as `with_lines` has it ([`texts_width`] says how wide);
-    /// refused where memory is.
+    /// refused if memory is.
     pub fn from_texts(alloc: Global, texts: &[&str]) -> Result<Buffer, AllocError>
         requires height { length texts.now ≤ 65535 }
         requires width { widest (raw_lines texts.now) ≤ 65535 }
         ensures lines { IfOk result (IsOfLines (raw_lines texts.now)) }
-        ensures settled { IfOk result IsSettledSheet }
+        ensures settled { IfOk result IsSettledBuffer }
         ensures room { IfOk result (HasRoomFor (lines_area (raw_lines texts.now))) }
     {
         let mut lines = Vec::with_capacity(alloc, texts.len())?;
@@ -187,7 +187,7 @@ fn paint_lines(
     Ok(())
 }
 
-// Paints spans one behind the other in this room, over a base style, and says how many columns they take.
+// Paints spans one after the other in this room, over a base style, and says how many columns they take.
 #[tactic(auto, using(crate::proofs::LineLemmas::line_steps, crate::proofs::RefusedLemmas::so_far_steps))]
 fn paint_spans(
     alloc: Global,

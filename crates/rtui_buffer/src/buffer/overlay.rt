@@ -2,7 +2,7 @@
 
 ghost use Rattle.std.specs.Prelude.{◌≡◌, ◌*◌, ◌<◌, ◌≤◌, length, OnOk, OnErr, []};
 ghost use Rattle.rtui_geometry.specs.Rect.{EdgesFit};
-ghost use Rattle.rtui_buffer.specs.Sheet.{area_size};
+ghost use Rattle.rtui_buffer.specs.BufferData.{area_size};
 ghost use Rattle.rtui_buffer.specs.Overlay.{IsOverlay, no_area};
 ghost use Rattle.rtui_buffer.specs.Inner.{IsExtended, IsAround, HasInner};
 

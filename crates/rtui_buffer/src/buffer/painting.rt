@@ -7,7 +7,7 @@ ghost use Rattle.rtui_cell.specs.Symbol.{IsShort};
 ghost use Rattle.rtui_cell.specs.Cell.{styled};
 ghost use Rattle.rtui_cell.specs.Width.{text_width};
 ghost use Rattle.rtui_text.specs.Printable.{ArePrintable, singles};
-ghost use Rattle.rtui_buffer.specs.Sheet.{HasRow, position_of};
+ghost use Rattle.rtui_buffer.specs.BufferData.{HasRow, position_of};
 ghost use Rattle.rtui_buffer.specs.Painting.{KeepsUnmarked, painted_width, piece_of, pieces, text_pieces, columns, shown, emptied, with_piece, painted, IsSameOutside, HasPieces, HasFront};
 ghost use Rattle.rtui_buffer.specs.PaintedText.{room_at, pieces_at, AreShort, PaintsFront, PaintsOrRefuses, IsStyled};
 ghost use Rattle.rtui_buffer.specs.Inner.{IsStyledPart, IsStyledRows};
@@ -23,8 +23,8 @@ use unicode_segmentation::UnicodeSegmentation;
 
 impl Buffer {
     /// Paints a text in a style, from a column and a row on: the longest front of its graphemes that fits the
-    /// area and `max` columns, without those that have a control character or no width. The columns behind a
-    /// wide grapheme become empty. It answers the column behind the last one that was painted, and the row.
+    /// area and `max` columns, without those that have a control character or no width. The columns after a
+    /// wide grapheme become empty. It answers the column after the last one that was painted, and the row.
     /// Where memory is refused a front of these is painted, and no more.
     #[tactic(auto, using(crate::proofs::TextLemmas::none_steps))]
     pub fn set_stringn(
@@ -102,7 +102,7 @@ pub fn room_at(area: Rect, x: u16, max: usize) -> u16
 }
 
 // Paints the graphemes of a text that fit the room, and says how many columns they take: printable characters of ASCII at
-// its start a byte at a time, and behind them grapheme by grapheme.
+// its start a byte at a time, and after them grapheme by grapheme.
 pub fn paint_text(
     alloc: Global,
     cells: &mut [Cell],

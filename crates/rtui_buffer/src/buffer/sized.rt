@@ -2,7 +2,7 @@
 
 ghost use Rattle.std.specs.Prelude.{◌≡◌, ◌-◌, ◌≤◌, ◌++◌, length, replicate, OnOk, OnErr, IfOk, IsOk, vec_len};
 ghost use Rattle.std.specs.Vec.{vec_capacity};
-ghost use Rattle.rtui_buffer.specs.Sheet.{empty_cells, resized};
+ghost use Rattle.rtui_buffer.specs.BufferData.{empty_cells, resized};
 
 use rtui_cell::Cell;
 use rtui_grid::fill;

@@ -1,11 +1,11 @@
 ghost use Rattle.std.specs.Prelude.{◌≡◌, MatchResult, OnOk};
 ghost use Rattle.std.specs.Borrow.{sem, Lends, follows};
 ghost use Rattle.rtui_geometry.specs.Rect.{EdgesFit};
-ghost use Rattle.rtui_buffer.specs.Sheet.{IsEmptied};
+ghost use Rattle.rtui_buffer.specs.BufferData.{IsEmptied};
 ghost use Rattle.rtui_buffer.specs.contracts.buffer.Buffer.{the_row as buffer_row};
 ghost use Rattle.rtui_backend.specs.Failures.{Counts};
-ghost use Rattle.rtui_buffer.specs.Frame.{sheet_updates};
-ghost use Rattle.rtui_terminal.specs.State.{HasAreas};
+ghost use Rattle.rtui_buffer.specs.Shown.{buffer_updates};
+ghost use Rattle.rtui_terminal.specs.TerminalData.{HasAreas};
 ghost use Rattle.rtui_terminal.specs.Faults.{Faults};
 ghost use Rattle.rtui_terminal.specs.Writing.{WritesDifferences, Flushes, FlushErr, last_place, cursor_behind};
 ghost use Rattle.rtui_terminal.specs.Frames.{IsNewFrame};
@@ -23,25 +23,25 @@ use std::mem;
 // Writes what differs between two buffers of one area.
 fn write_differences<B: Backend>(
     backend: &mut B,
-    older: &Buffer,
+    previous: &Buffer,
     current: &Buffer,
 ) -> Result<(), B::Error>
-    requires same { current.now.area ≡ older.now.area }
-    requires edges { EdgesFit older.now.area }
+    requires same { current.now.area ≡ previous.now.area }
+    requires edges { EdgesFit previous.now.area }
     ensures ok { OnOk result
-        (WritesDifferences older.now current.now (B.screen backend.old) (B.screen backend.new)) }
+        (WritesDifferences previous.now current.now (B.screen backend.old) (B.screen backend.new)) }
     ensures counts { Counts result (B.failures backend.old) (B.failures backend.new) }
 {
-    backend.draw(older.diff_iter(current))
+    backend.draw(previous.diff_iter(current))
 }
 
 // The place of the last update from one buffer to another, or the given one if there is none.
-fn last_update(older: &Buffer, current: &Buffer, start: Position) -> Position
-    requires { current.now.area ≡ older.now.area }
-    ensures { result ≡ last_place start (sheet_updates older.now current.now) }
+fn last_update(previous: &Buffer, current: &Buffer, start: Position) -> Position
+    requires { current.now.area ≡ previous.now.area }
+    ensures { result ≡ last_place start (buffer_updates previous.now current.now) }
 {
     let mut last = start;
-    for (x, y, _) in older.diff_iter(current) {
+    for (x, y, _) in previous.diff_iter(current) {
         last = Position { x, y };
     }
     last
@@ -54,8 +54,12 @@ impl<B: Backend> Terminal<B> {
         ensures { result ≡ cursor_behind self.now }
     {
         match self.viewport {
-            Viewport::Inline(_) => last_update(&self.older, &self.current, self.known_cursor),
-            _ => self.known_cursor,
+            Viewport::Inline(_) => last_update(
+                &self.previous,
+                &self.current,
+                self.last_known_cursor_pos,
+            ),
+            _ => self.last_known_cursor_pos,
         }
     }
 
@@ -90,7 +94,7 @@ impl<B: Backend> Terminal<B> {
         &mut self.current
     }
 
-    /// Writes what differs between the older and the current buffer, and leaves both as they are.
+    /// Writes what differs between the previous and the current buffer, and leaves both as they are.
     ///
     /// # Errors
     ///
@@ -101,26 +105,26 @@ impl<B: Backend> Terminal<B> {
         ensures faults { Faults result (B.failures self.old.backend) (B.failures self.new.backend) }
     {
         let area = self.viewport_area;
-        if *self.current.area() != area || *self.older.area() != area {
+        if *self.current.area() != area || *self.previous.area() != area {
             return Err(TerminalError::Area);
         }
         let known = self.cursor_behind();
-        match write_differences(&mut self.backend, &self.older, &self.current) {
+        match write_differences(&mut self.backend, &self.previous, &self.current) {
             Ok(()) => {}
             Err(error) => return Err(TerminalError::Backend(error)),
         }
-        self.known_cursor = known;
+        self.last_known_cursor_pos = known;
         Ok(())
     }
 
-    /// Makes the current buffer the older one, and the emptied older one current.
+    /// Makes the current buffer the previous one, and the emptied previous one current.
     pub fn swap_buffers(&mut self)
-        ensures older { self.new.older ≡ self.old.current }
-        ensures current { IsEmptied self.old.older.area self.new.current }
+        ensures previous { self.new.previous ≡ self.old.current }
+        ensures current { IsEmptied self.old.previous.area self.new.current }
         ensures rest { self.new
-            ≡ record self.old { current = self.new.current; older = self.new.older } }
+            ≡ record self.old { current = self.new.current; previous = self.new.previous } }
     {
-        self.older.reset();
-        mem::swap(&mut self.current, &mut self.older);
+        self.previous.reset();
+        mem::swap(&mut self.current, &mut self.previous);
     }
 }

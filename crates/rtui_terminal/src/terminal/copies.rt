@@ -1,7 +1,7 @@
 //! The default terminal, and copies.
 
 ghost use Rattle.std.specs.Prelude.{◌≡◌, IfOk};
-ghost use Rattle.rtui_terminal.specs.State.{IsSameTerminal, IsDefaultOver};
+ghost use Rattle.rtui_terminal.specs.TerminalData.{IsSameTerminal, IsDefaultOver};
 
 use crate::terminal::Terminal;
 use rtui_backend::Backend;
@@ -20,11 +20,11 @@ impl<B: Backend + Default + Drop> Terminal<B> {
         Terminal {
             backend: B::default(),
             current: Buffer::default_in(alloc),
-            older: Buffer::default_in(alloc),
+            previous: Buffer::default_in(alloc),
             viewport: Viewport::Fullscreen,
             viewport_area: Rect::ZERO,
-            known_area: Rect::ZERO,
-            known_cursor: Position::ORIGIN,
+            last_known_area: Rect::ZERO,
+            last_known_cursor_pos: Position::ORIGIN,
             hidden_cursor: false,
             frame_count: 0,
         }
@@ -40,11 +40,11 @@ impl<B: Backend + Clone> Terminal<B> {
         Ok(Terminal {
             backend: self.backend.clone()?,
             current: self.current.clone(alloc)?,
-            older: self.older.clone(alloc)?,
+            previous: self.previous.clone(alloc)?,
             viewport: self.viewport,
             viewport_area: self.viewport_area,
-            known_area: self.known_area,
-            known_cursor: self.known_cursor,
+            last_known_area: self.last_known_area,
+            last_known_cursor_pos: self.last_known_cursor_pos,
             hidden_cursor: self.hidden_cursor,
             frame_count: self.frame_count,
         })

@@ -13,7 +13,7 @@ impl<B: Backend> Terminal<B> {
     /// Hides the cursor.
     pub fn hide_cursor(&mut self) -> Result<(), TerminalError<B::Error>>
         ensures ok { OnOk result
-            (MovesCursor B.screen true self.old.known_cursor (with_visible false) self.old
+            (MovesCursor B.screen true self.old.last_known_cursor_pos (with_visible false) self.old
             self.new) }
         ensures err { OnErr result (self.new ≡ record self.old { backend = self.new.backend }) }
         ensures only { FailsOnlyByBackend result }
@@ -27,7 +27,7 @@ impl<B: Backend> Terminal<B> {
     /// Shows the cursor.
     pub fn show_cursor(&mut self) -> Result<(), TerminalError<B::Error>>
         ensures ok { OnOk result
-            (MovesCursor B.screen false self.old.known_cursor (with_visible true) self.old
+            (MovesCursor B.screen false self.old.last_known_cursor_pos (with_visible true) self.old
             self.new) }
         ensures err { OnErr result (self.new ≡ record self.old { backend = self.new.backend }) }
         ensures only { FailsOnlyByBackend result }
@@ -45,7 +45,7 @@ impl<B: Backend> Terminal<B> {
         self.hidden_cursor
     }
 
-    /// The older name of `get_cursor_position`: the column and the row.
+    /// The previous name of `get_cursor_position`: the column and the row.
     pub fn get_cursor(&mut self) -> Result<(u16, u16), TerminalError<B::Error>>
         ensures ok { IfOk result (λ place.
             place ≡ ((B.screen self.old.backend).cursor_x, (B.screen self.old.backend).cursor_y)) }
@@ -59,7 +59,7 @@ impl<B: Backend> Terminal<B> {
         Ok((position.x, position.y))
     }
 
-    /// The older name of `set_cursor_position`.
+    /// The previous name of `set_cursor_position`.
     pub fn set_cursor(&mut self, x: u16, y: u16) -> Result<(), TerminalError<B::Error>>
         ensures ok { OnOk result
             (MovesCursor B.screen self.old.hidden_cursor (record { x = x; y = y })
@@ -96,7 +96,7 @@ impl<B: Backend> Terminal<B> {
         self.backend
             .set_cursor_position(position)
             .map_err(TerminalError::Backend)?;
-        self.known_cursor = position;
+        self.last_known_cursor_pos = position;
         Ok(())
     }
 }

@@ -37,7 +37,7 @@ impl Frame<'_> {
         self.viewport_area
     }
 
-    /// The older name of `area`.
+    /// The previous name of `area`.
     pub fn size(&self) -> Rect
         ensures { result ≡ self.now.viewport_area }
     {
@@ -51,7 +51,7 @@ impl Frame<'_> {
         self.cursor_position = Some(position);
     }
 
-    /// The older name of `set_cursor_position`.
+    /// The previous name of `set_cursor_position`.
     pub fn set_cursor(&mut self, x: u16, y: u16)
         ensures { self.new ≡ record self.old { cursor_position = Some (record { x = x; y = y }) } }
     {
@@ -136,9 +136,9 @@ pub struct CompletedFrame<'a, B: Backend> {
 impl<B: Backend> CompletedFrame<'_, B> {
     /// The buffer that was painted.
     pub fn buffer(&self) -> &Buffer
-        ensures { result.now ≡ self.now.terminal.now.older }
+        ensures { result.now ≡ self.now.terminal.now.previous }
     {
         let terminal = &*self.terminal;
-        &terminal.older
+        &terminal.previous
     }
 }

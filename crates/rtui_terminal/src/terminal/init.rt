@@ -69,7 +69,7 @@ impl<B: Backend + Drop> Terminal<B> {
             Ok(buffer) => buffer,
             Err(_) => return Err(TerminalError::Memory),
         };
-        let mut older = match Buffer::empty(alloc, rows) {
+        let mut previous = match Buffer::empty(alloc, rows) {
             Ok(buffer) => buffer,
             Err(_) => return Err(TerminalError::Memory),
         };
@@ -78,16 +78,16 @@ impl<B: Backend + Drop> Terminal<B> {
             Err(error) => return Err(TerminalError::Backend(error)),
         };
         current.move_to(placed.area.as_position());
-        older.move_to(placed.area.as_position());
-        let known_cursor = placed.cursor.unwrap_or(area.as_position());
+        previous.move_to(placed.area.as_position());
+        let last_known_cursor_pos = placed.cursor.unwrap_or(area.as_position());
         Ok(Terminal {
             backend,
             current,
-            older,
+            previous,
             viewport,
             viewport_area: placed.area,
-            known_area: area,
-            known_cursor,
+            last_known_area: area,
+            last_known_cursor_pos,
             hidden_cursor: false,
             frame_count: 0,
         })

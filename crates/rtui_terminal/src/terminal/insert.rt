@@ -1,7 +1,7 @@
 ghost use Rattle.std.specs.Prelude.{◌≡◌, ◌<◌, ◌≤◌, true, Ok, OnOk, OnErr};
 ghost use Rattle.rtui_viewport.specs.Viewports.{IsInline};
-ghost use Rattle.rtui_rows.specs.Filling.{AcceptsRows, FillsRows};
-ghost use Rattle.rtui_rows.specs.Rows.{IsBlankFor};
+ghost use Rattle.rtui_insert.specs.Filling.{AcceptsRows, FillsRows};
+ghost use Rattle.rtui_insert.specs.Rows.{IsBlankFor};
 ghost use Rattle.rtui_terminal.specs.Faults.{Faults, FailsOnlyByBackend};
 ghost use Rattle.rtui_terminal.specs.Insertion.{inserted_area, rows_at_once, Inserts, StopsInserting, InsertsBy};
 
@@ -10,13 +10,13 @@ use crate::terminal::error::TerminalError;
 use rtui_backend::Backend;
 use rtui_buffer::Buffer;
 use rtui_geometry::Rect;
-use rtui_rows::{draw_rows, fill_rows, follow_viewport, insert_down, insert_up, push_rows};
+use rtui_insert::{draw_rows, fill_rows, follow_viewport, insert_down, insert_up, push_rows};
 use rtui_viewport::Viewport;
 use std::alloc::AllocError;
 
 impl<B: Backend> Terminal<B> {
     // Inserts the rows of a buffer above an inline viewport that covers the screen: each is scrolled off from the first
-    // row, which shows the older buffer's first row again after that.
+    // row, which shows the previous buffer's first row again after that.
     fn insert_covered(
         &mut self,
         blank: &mut Buffer,
@@ -25,8 +25,8 @@ impl<B: Backend> Terminal<B> {
         requires over { rows.now.area ≡ inserted_area self.old rows.now.area.height }
         requires blank { IsBlankFor 1 rows.now blank.old }
         requires some { 0 < rows.now.area.height }
-        requires known { 0 < self.old.known_area.height }
-        requires covers { self.old.known_area.height ≤ self.old.viewport_area.height }
+        requires known { 0 < self.old.last_known_area.height }
+        requires covers { self.old.last_known_area.height ≤ self.old.viewport_area.height }
         ensures ok { OnOk result (Inserts B.screen rows.now self.old self.new) }
         ensures flushed { OnOk result (B.is_flushed self.new.backend ≡ true) }
         ensures err { OnErr result (StopsInserting B.screen rows.now self.old self.new) }
@@ -37,13 +37,13 @@ impl<B: Backend> Terminal<B> {
             Ok(()) => {}
             Err(error) => return Err(TerminalError::Backend(error)),
         }
-        if *self.older.area() != self.viewport_area {
+        if *self.previous.area() != self.viewport_area {
             return match self.backend.flush() {
                 Ok(()) => Ok(()),
                 Err(error) => Err(TerminalError::Backend(error)),
             };
         }
-        match draw_rows(&mut self.backend, blank, &self.older, 0, 1, 0) {
+        match draw_rows(&mut self.backend, blank, &self.previous, 0, 1, 0) {
             Ok(()) => Ok(()),
             Err(error) => Err(TerminalError::Backend(error)),
         }
@@ -59,7 +59,7 @@ impl<B: Backend> Terminal<B> {
         requires blank { IsBlankFor (rows_at_once rows.now.area.height self.old)
             rows.now blank.old }
         requires some { 0 < rows.now.area.height }
-        requires known { 0 < self.old.known_area.height }
+        requires known { 0 < self.old.last_known_area.height }
         ensures ok { OnOk result (Inserts B.screen rows.now self.old self.new) }
         ensures flushed { OnOk result (B.is_flushed self.new.backend ≡ true) }
         ensures err { OnErr result (StopsInserting B.screen rows.now self.old self.new) }
@@ -67,7 +67,7 @@ impl<B: Backend> Terminal<B> {
         ensures faults { Faults result (B.failures self.old.backend) (B.failures self.new.backend) }
     {
         let former = self.viewport_area;
-        let height = self.known_area.height;
+        let height = self.last_known_area.height;
         if former.height >= height {
             return self.insert_covered(blank, rows);
         }
@@ -77,7 +77,7 @@ impl<B: Backend> Terminal<B> {
         };
         let top = former.y + down;
         follow_viewport(&mut self.current, former, top);
-        follow_viewport(&mut self.older, former, top);
+        follow_viewport(&mut self.previous, former, top);
         self.viewport_area = Rect { y: top, ..former };
         match insert_up(&mut self.backend, blank, rows, down, top) {
             Ok(()) => Ok(()),
@@ -93,7 +93,8 @@ impl<B: Backend> Terminal<B> {
         requires accepts { AcceptsRows F.FnOnce draw_fn (inserted_area self.old height) }
         ensures outcome { let area = inserted_area self.old height in
             InsertsBy B.screen area (FillsRows F.FnOnce draw_fn area) self.old self.new result }
-        ensures flushed { IsInline self.old.viewport → 0 < height → 0 < self.old.known_area.height
+        ensures flushed { IsInline self.old.viewport → 0 < height
+            → 0 < self.old.last_known_area.height
             → OnOk result (B.is_flushed self.new.backend ≡ true) }
         ensures faults { Faults result (B.failures self.old.backend) (B.failures self.new.backend) }
     {
@@ -103,7 +104,7 @@ impl<B: Backend> Terminal<B> {
             width: self.viewport_area.width,
             height,
         };
-        let known = self.known_area.height;
+        let known = self.last_known_area.height;
         let alloc = self.current.allocator();
         // As many empty rows as are drawn at once, and none if none are drawn.
         let most = if known == 0 {
@@ -172,7 +173,8 @@ impl<B: Backend> Terminal<B> {
         ensures outcome { let area = inserted_area self.old height in
             IsInline self.old.viewport →
             InsertsBy B.screen area (FillsRows F.FnOnce draw_fn area) self.old self.new result }
-        ensures flushed { IsInline self.old.viewport → 0 < height → 0 < self.old.known_area.height
+        ensures flushed { IsInline self.old.viewport → 0 < height
+            → 0 < self.old.last_known_area.height
             → OnOk result (B.is_flushed self.new.backend ≡ true) }
         ensures faults { Faults result (B.failures self.old.backend) (B.failures self.new.backend) }
     {

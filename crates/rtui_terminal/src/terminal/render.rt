@@ -1,6 +1,6 @@
 ghost use Rattle.std.specs.Prelude.{◌≡◌, ◌+◌, ◌%◌, ◌^◌, true, None, Ok, Err, IfOk, OnOk, IfErr, MatchResult};
 ghost use Rattle.std.specs.Borrow.{sem, RestsIfErr};
-ghost use Rattle.rtui_buffer.specs.Frame.{IsSettledSheet};
+ghost use Rattle.rtui_buffer.specs.Shown.{IsSettledBuffer};
 ghost use Rattle.rtui_terminal.specs.InStep.{IsInStep, IsReady};
 ghost use Rattle.rtui_terminal.specs.Frames.{PaintsFrame, AcceptsNewFrame, AcceptsFrames, PaintsCurrent};
 ghost use Rattle.rtui_terminal.specs.Faults.{Faults};
@@ -140,8 +140,8 @@ impl<B: Backend> Terminal<B> {
     }
 
     /// Draws a frame. If the screen has another size than the last known one, the viewport is resized first. The closure paints
-    /// on the current buffer, what differs from the older one is written and flushed, and the cursor is hidden, or shown where
-    /// the closure put it. The painted buffer becomes the older one, and an empty one current.
+    /// on the current buffer, what differs from the previous one is written and flushed, and the cursor is hidden, or shown where
+    /// the closure put it. The painted buffer becomes the previous one, and an empty one current.
     ///
     /// ```
     /// let mut terminal = Terminal::new(alloc, TestBackend::new(alloc, 5, 1)?)?;
@@ -176,7 +176,7 @@ impl<B: Backend> Terminal<B> {
         ensures drawn { IfOk result (λ frame.
             DrawOk B.screen (PaintsCurrent F.FnOnce render_callback) self.old frame.terminal.now) }
         ensures in_step { IfOk result (λ frame. IsReady B.screen self.old
-            → IsSettledSheet frame.terminal.now.older → IsInStep B.screen frame.terminal.now) }
+            → IsSettledBuffer frame.terminal.now.previous → IsInStep B.screen frame.terminal.now) }
         ensures flushed { IfOk result (λ frame.
             B.is_flushed frame.terminal.now.backend ≡ true) }
         ensures frame { IfOk result (λ frame. CompletesFrame B.failures self.old
@@ -184,7 +184,7 @@ impl<B: Backend> Terminal<B> {
     {
         let count = self.frame_count;
         self.draw_frame(render_callback)?;
-        let area = self.known_area;
+        let area = self.last_known_area;
         Ok(CompletedFrame {
             terminal: self,
             area,
@@ -215,7 +215,7 @@ impl<B: Backend> Terminal<B> {
         ensures drawn { IfOk result (λ frame.
             DrawOk B.screen (PaintsCurrent F.FnOnce render_callback) self.old frame.terminal.now) }
         ensures in_step { IfOk result (λ frame. IsReady B.screen self.old
-            → IsSettledSheet frame.terminal.now.older → IsInStep B.screen frame.terminal.now) }
+            → IsSettledBuffer frame.terminal.now.previous → IsInStep B.screen frame.terminal.now) }
         ensures flushed { IfOk result (λ frame.
             B.is_flushed frame.terminal.now.backend ≡ true) }
         ensures frame { IfOk result (λ frame. CompletesFrame B.failures self.old
@@ -223,7 +223,7 @@ impl<B: Backend> Terminal<B> {
     {
         let count = self.frame_count;
         self.try_draw_frame(render_callback)?;
-        let area = self.known_area;
+        let area = self.last_known_area;
         Ok(CompletedFrame {
             terminal: self,
             area,
@@ -278,7 +278,7 @@ impl<B: Backend> Terminal<B> {
     {
         let count = self.frame_count;
         self.apply(cursor_position)?;
-        let area = self.known_area;
+        let area = self.last_known_area;
         Ok(CompletedFrame {
             terminal: self,
             area,

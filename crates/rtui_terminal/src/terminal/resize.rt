@@ -1,7 +1,7 @@
 ghost use Rattle.std.specs.Prelude.{◌≡◌, OnOk, OnErr, MatchResult};
 ghost use Rattle.rtui_geometry.specs.Rect.{EdgesFit};
-ghost use Rattle.rtui_buffer.specs.Sheet.{IsSameSheet};
-ghost use Rattle.rtui_terminal.specs.State.{HaveRoom, IsInPlace};
+ghost use Rattle.rtui_buffer.specs.BufferData.{IsSameBuffer};
+ghost use Rattle.rtui_terminal.specs.TerminalData.{HaveRoom, IsInPlace};
 ghost use Rattle.rtui_terminal.specs.Faults.{Faults, FailsOnlyByBackend};
 ghost use Rattle.rtui_terminal.specs.Resizing.{IsResized, Resizes, ResizeErr, Autoresizes, AutoresizeErr};
 ghost use Rattle.rtui_terminal.specs.Clearing.{ClearsViewport, FailsClearing};
@@ -14,8 +14,8 @@ use rtui_viewport::{changed_area, clear_area, place_viewport, restore_cursor};
 use std::alloc::AllocError;
 
 impl<B: Backend> Terminal<B> {
-    /// Empties the viewport and the older buffer, so that the next draw writes the whole frame; the current buffer
-    /// and the cursor stay. The terminal is in step then if the viewport is on the screen and the older buffer has
+    /// Empties the viewport and the previous buffer, so that the next draw writes the whole frame; the current buffer
+    /// and the cursor stay. The terminal is in step then if the viewport is on the screen and the previous buffer has
     /// its area. It takes no memory.
     pub fn clear(&mut self) -> Result<(), TerminalError<B::Error>>
         ensures ok { OnOk result (ClearsViewport B.screen self.old self.new) }
@@ -31,7 +31,7 @@ impl<B: Backend> Terminal<B> {
             Ok(()) => {}
             Err(error) => return Err(TerminalError::Backend(error)),
         }
-        self.older.reset();
+        self.previous.reset();
         match restore_cursor(&mut self.backend, Some(cursor)) {
             Ok(()) => Ok(()),
             Err(error) => Err(TerminalError::Backend(error)),
@@ -41,15 +41,15 @@ impl<B: Backend> Terminal<B> {
     // Makes room in both buffers for the cells of an area.
     fn reserve(&mut self, area: Rect) -> Result<(), AllocError>
         requires { EdgesFit area }
-        ensures current { IsSameSheet self.old.current self.new.current }
-        ensures older { IsSameSheet self.old.older self.new.older }
+        ensures current { IsSameBuffer self.old.current self.new.current }
+        ensures previous { IsSameBuffer self.old.previous self.new.previous }
         ensures rest { self.new
-            ≡ record self.old { current = self.new.current; older = self.new.older } }
+            ≡ record self.old { current = self.new.current; previous = self.new.previous } }
         ensures room { OnOk result (HaveRoom area self.new) }
         ensures lacking { OnErr result (¬ (HaveRoom area self.old)) }
     {
         self.current.reserve(area)?;
-        self.older.reserve(area)
+        self.previous.reserve(area)
     }
 
     // Gives the viewport and both buffers an area, for which there is room.
@@ -58,12 +58,17 @@ impl<B: Backend> Terminal<B> {
         requires place { IsInPlace self.old.viewport area }
         requires room { HaveRoom area self.old }
         ensures current { IsResized area self.old.current self.new.current }
-        ensures older { IsResized area self.old.older self.new.older }
+        ensures previous { IsResized area self.old.previous self.new.previous }
         ensures rest { let t = self.new in
-            t ≡ record self.old { current = t.current; older = t.older; viewport_area = area } }
+            t ≡ record self.old {
+              current = t.current;
+              previous = t.previous;
+              viewport_area =
+                  area;
+            } }
     {
         let _ = self.current.resize(area);
-        let _ = self.older.resize(area);
+        let _ = self.previous.resize(area);
         self.viewport_area = area;
     }
 
@@ -91,7 +96,10 @@ impl<B: Backend> Terminal<B> {
             Ok(()) => {}
             Err(_) => return Err(TerminalError::Memory),
         }
-        let offset = self.known_cursor.y.saturating_sub(self.viewport_area.y);
+        let offset = self
+            .last_known_cursor_pos
+            .y
+            .saturating_sub(self.viewport_area.y);
         let former_width = self.viewport_area.width;
         let placed = match place_viewport(
             &mut self.backend,
@@ -108,12 +116,12 @@ impl<B: Backend> Terminal<B> {
             Ok(()) => {}
             Err(error) => return Err(TerminalError::Backend(error)),
         }
-        self.older.reset();
+        self.previous.reset();
         match restore_cursor(&mut self.backend, placed.cursor) {
             Ok(()) => {}
             Err(error) => return Err(TerminalError::Backend(error)),
         }
-        self.known_area = area;
+        self.last_known_area = area;
         Ok(())
     }
 
@@ -123,7 +131,7 @@ impl<B: Backend> Terminal<B> {
             (AutoresizeErr B.screen self.old self.new) }
         ensures faults { Faults result (B.failures self.old.backend) (B.failures self.new.backend) }
     {
-        match changed_area(&mut self.backend, self.viewport, self.known_area) {
+        match changed_area(&mut self.backend, self.viewport, self.last_known_area) {
             Ok(Some(area)) => self.resize(area),
             Ok(None) => Ok(()),
             Err(error) => Err(TerminalError::Backend(error)),

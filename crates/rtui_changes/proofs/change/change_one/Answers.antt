@@ -1,4 +1,4 @@
-use Rattle.rtui_buffer.specs.Sheet.{position_of}
+use Rattle.rtui_buffer.specs.BufferData.{position_of}
 use Rattle.rtui_changes.proofs.ChangeLemmas.{put-changes}
 use Rattle.rtui_changes.proofs.change.change_one.Goals as goal
 

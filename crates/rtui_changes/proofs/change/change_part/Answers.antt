@@ -1,6 +1,6 @@
 use Rattle.std.proofs.Common.{rules, ◌∙◌, ◌<◌, arith, subst, ◌≡◌, false, true}
 use Rattle.rtui_geometry.specs.Rect.{HasPosition}
-use Rattle.rtui_buffer.specs.Sheet.{position_of, Sheet}
+use Rattle.rtui_buffer.specs.BufferData.{position_of, BufferData}
 use Rattle.rtui_widgets.specs.Rendering.{ChangesWithin}
 use Rattle.rtui_changes.specs.Changes.{rows_to, row_part}
 use Rattle.rtui_changes.proofs.ChangeLemmas.{Changes-row, Changes-rows, Changes-no_rows, Changes-within, rows-inside, light-rows, inside-still}

@@ -1,6 +1,6 @@
 use Rattle.std.proofs.Common.{◌≡◌, length, rules, arith, ap, sym, subst, ◌∙◌}
 use Rattle.std.proofs.lemmas.Result.{on_ok_weaker, on_err_weaker}
-use Rattle.rtui_buffer.specs.Sheet.{area_size}
+use Rattle.rtui_buffer.specs.BufferData.{area_size}
 use Rattle.rtui_geometry.specs.Rect.{intersected}
 use Rattle.rtui_widgets.specs.Rendering.{text_row, IsShortRow}
 use Rattle.rtui_widgets.proofs.LineLemmas.{line-in_none}

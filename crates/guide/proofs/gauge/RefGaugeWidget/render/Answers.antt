@@ -1,12 +1,12 @@
 use Rattle.std.proofs.Common.{rules}
-use Rattle.ratatui_core.proofs.BufferLemmas.{IsSettledSheet-empty}
+use Rattle.ratatui_core.proofs.BufferLemmas.{IsSettledBuffer-empty}
 use Rattle.ratatui_core.proofs.WidgetLemmas.{OnPart-none}
 use Rattle.guide.specs.Gauges.{PaintsGauge}
 use Rattle.guide.proofs.GaugeLemmas.{renders-gauge}
 use Rattle.guide.proofs.gauge.RefGaugeWidget.render.Goals as goal
 
 pub returns-in_default-clause-ok : goal.returns-in_default-clause-ok
-returns-in_default-clause-ok c = record { painted = OnPart-none (PaintsGauge c.args.self.now) c.args.area c.args.buf.now (search rules); settled = λ emptied. IsSettledSheet-empty _ _ emptied }
+returns-in_default-clause-ok c = record { painted = OnPart-none (PaintsGauge c.args.self.now) c.args.area c.args.buf.now (search rules); settled = λ emptied. IsSettledBuffer-empty _ _ emptied }
 
 pub returns-in_err-set_line-clause-err : goal.returns-in_err-set_line-clause-err
 returns-in_err-set_line-clause-err c =

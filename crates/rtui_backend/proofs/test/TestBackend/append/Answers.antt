@@ -4,7 +4,7 @@ use Rattle.std.proofs.lemmas.List.{map-append}
 use Rattle.std.proofs.lemmas.Bool.Decides.{nat_tests}
 use Rattle.std.proofs.lemmas.Grind.{common_steps}
 use Rattle.rtui_cell.specs.Look.{look_of}
-use Rattle.rtui_buffer.specs.Sheet.{refilled}
+use Rattle.rtui_buffer.specs.BufferData.{refilled}
 use Rattle.rtui_backend.specs.CellGrid.{look_at}
 use Rattle.rtui_backend.specs.Screen.{lines_past}
 use Rattle.rtui_backend.specs.TestBackend.{screen_of}

@@ -1,6 +1,6 @@
 use Rattle.std.proofs.Common.{◌≡◌, refl, arith, false}
 use Rattle.std.proofs.lemmas.Grind.{common_steps}
-use Rattle.rtui_buffer.specs.Sheet.{refilled}
+use Rattle.rtui_buffer.specs.BufferData.{refilled}
 use Rattle.rtui_backend.proofs.ShiftLemmas.{cleared_grid, unmarked_moved}
 use Rattle.rtui_cell.specs.Cell.{empty_cell}
 use Rattle.rtui_backend.proofs.PlainLemmas.{unmarked-empty}

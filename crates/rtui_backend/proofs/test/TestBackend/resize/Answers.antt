@@ -3,7 +3,7 @@ use Rattle.std.proofs.lemmas.Grind.{common_steps}
 use Rattle.rtui_geometry.specs.declared.rect.Rect.{Rect}
 use Rattle.rtui_grid.specs.Blocks.{HasBlock}
 use Rattle.rtui_cell.specs.Cell.{empty_cell}
-use Rattle.rtui_buffer.specs.Sheet.{refilled}
+use Rattle.rtui_buffer.specs.BufferData.{refilled}
 use Rattle.rtui_buffer.proofs.EmptyLemmas.{cell-empty}
 use Rattle.rtui_backend.proofs.SizeLemmas.{shared, taken-grid, taken-unmarked}
 use Rattle.rtui_backend.proofs.test.TestBackend.resize.Goals as goal

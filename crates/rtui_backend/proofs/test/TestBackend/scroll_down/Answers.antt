@@ -1,7 +1,7 @@
 use Rattle.std.proofs.Common.{◌≡◌, ◌*◌, min, nat_lt, refl, ◌∙◌, arith}
 use Rattle.std.proofs.lemmas.Bool.Decides.{nat_tests}
 use Rattle.std.proofs.lemmas.Grind.{common_steps}
-use Rattle.rtui_buffer.specs.Sheet.{refilled}
+use Rattle.rtui_buffer.specs.BufferData.{refilled}
 use Rattle.rtui_backend.proofs.ShiftLemmas.{MovesDown, unmarked_moved, grid_moved_down}
 use Rattle.rtui_backend.proofs.test.TestBackend.scroll_down.Goals as goal
 

@@ -1,5 +1,5 @@
 use Rattle.std.proofs.Common.{◌≡◌, ◌-◌, ◌*◌, ◌++◌, length, take}
-use Rattle.rtui_buffer.specs.Sheet.{empty_cells}
+use Rattle.rtui_buffer.specs.BufferData.{empty_cells}
 use Rattle.rtui_buffer.specs.Line.{line_rows}
 use Rattle.rtui_buffer.proofs.buffer.lines.paint_lines.Given as goal
 

@@ -1,6 +1,6 @@
 use Rattle.std.proofs.Common.{◌≡◌, ◌-◌, ◌++◌, vec_len}
 use Rattle.std.specs.Vec.{vec_capacity}
-use Rattle.rtui_buffer.specs.Sheet.{empty_cells}
+use Rattle.rtui_buffer.specs.BufferData.{empty_cells}
 use Rattle.rtui_buffer.proofs.buffer.sized.fill_up.Given as goal
 
 abbrev pub invariant-loop-i : goal.invariant-loop-i

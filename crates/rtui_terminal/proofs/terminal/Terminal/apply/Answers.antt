@@ -8,7 +8,7 @@ returns-in-Err-clause-outcome g c =
     inr (record {
       written = c.write_frame.new.self;
       writes = search rules;
-      older = search rules;
+      previous = search rules;
       current = search rules;
       rest = search rules;
     })

@@ -23,7 +23,7 @@ returns-clause-ok g c = elim c.match-restore_cursor.branch [
       rw w.result-is (rw (← c.self.view_is) (record {
         edges = c.self.invariant.0;
         rest = refl;
-        older = c.reset.ensures.emptied;
+        previous = c.reset.ensures.emptied;
         frame = frame;
         cursor = cursor_kept start (screen c.clear_area.new.backend) (screen c.restore_cursor.new.backend) c.in-Ok.cursor c.in-Ok.ensures.ok c.in-Ok.ensures.on_grid middle.size.width middle.size.height restored;
         clears = cleared;

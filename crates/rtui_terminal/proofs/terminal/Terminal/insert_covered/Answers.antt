@@ -1,6 +1,6 @@
 use Rattle.std.proofs.Common.{◌≡◌, ap, rules}
 use Rattle.rtui_backend.specs.Screen.{Screen}
-use Rattle.rtui_rows.proofs.PushLemmas.{still_blank}
+use Rattle.rtui_insert.proofs.PushLemmas.{still_blank}
 use Rattle.rtui_terminal.proofs.InsertionLemmas.{inserted_covered}
 use Rattle.rtui_terminal.proofs.terminal.Terminal.insert_covered.Goals as goal
 use Rattle.rtui_terminal.proofs.terminal.Terminal.insert_covered.Goals.{in-Ok-draw_rows, in-Err-draw_rows, in-Ok-flush, in-Err-flush}
@@ -20,7 +20,7 @@ returns-clause-ok g c =
 pub returns-then-ne-clause-ok : goal.returns-then-ne-clause-ok
 returns-then-ne-clause-ok g c =
     let pushed = c.in-Ok.ensures in
-    let differs : c.self.inside.older.area ≡ c.self.inside.viewport_area → ⊥ = search rules in
+    let differs : c.self.inside.previous.area ≡ c.self.inside.viewport_area → ⊥ = search rules in
     elim c.match-flush.branch [
       | in-Ok-flush w ↦
           let still = w.in-Ok-flush.ensures.ok in

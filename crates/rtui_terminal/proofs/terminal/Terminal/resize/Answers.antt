@@ -1,5 +1,5 @@
 use Rattle.std.proofs.Common.{◌≡◌, refl, sym, ap, ◌∙◌}
-use Rattle.rtui_buffer.specs.Sheet.{IsEmptied}
+use Rattle.rtui_buffer.specs.BufferData.{IsEmptied}
 use Rattle.rtui_viewport.specs.Areas.{KeepsAllButLooks}
 use Rattle.rtui_viewport.proofs.ClearLemmas.{blank_over, frame_more, frame_restored, clears_restored, written_restored}
 use Rattle.rtui_terminal.specs.Resizing.{IsResized}
@@ -19,17 +19,17 @@ returns-clause-outcome g c =
     let former : c.self-2.inside.backend ≡ s.backend = ap (λ t. t.backend) reserved in
     let viewport_2 : c.self-2.inside.viewport ≡ s.viewport = ap (λ t. t.viewport) reserved in
     let area_2 : c.self-2.inside.viewport_area ≡ s.viewport_area = ap (λ t. t.viewport_area) reserved in
-    let cursor_2 : c.self-2.inside.known_cursor ≡ s.known_cursor = ap (λ t. t.known_cursor) reserved in
+    let cursor_2 : c.self-2.inside.last_known_cursor_pos ≡ s.last_known_cursor_pos = ap (λ t. t.last_known_cursor_pos) reserved in
     let between : c.self-3.inside.backend ≡ c.place_viewport.new.backend = ap (λ t. t.backend) set in
     let viewport : c.self-3.inside.viewport ≡ s.viewport = ap (λ t. t.viewport) set ∙ viewport_2 in
-    let cursor : c.self-3.inside.known_cursor ≡ s.known_cursor = ap (λ t. t.known_cursor) set ∙ cursor_2 in
+    let cursor : c.self-3.inside.last_known_cursor_pos ≡ s.last_known_cursor_pos = ap (λ t. t.last_known_cursor_pos) set ∙ cursor_2 in
     let area : c.self-3.inside.viewport_area ≡ next = ap (λ t. t.viewport_area) set in
     let hidden : c.self-3.inside.hidden_cursor ≡ s.hidden_cursor = ap (λ t. t.hidden_cursor) set ∙ ap (λ t. t.hidden_cursor) reserved in
     let count : c.self-3.inside.frame_count ≡ s.frame_count = ap (λ t. t.frame_count) set ∙ ap (λ t. t.frame_count) reserved in
     let current_2 : c.self-2.inside.current ≡ c.reserve.new.self.current = ap (λ t. t.current) c.self-2.view_is in
     let current_3 : c.set_area.new.self.current ≡ c.self-3.inside.current = sym (ap (λ t. t.current) c.self-3.view_is) in
-    let older_area : c.self-3.inside.older.area ≡ next = ap (λ t. t.older.area) c.self-3.view_is ∙ c.set_area.ensures.older.area_is in
-    let older : IsEmptied next c.reset.new.self = rw older_area at c.reset.ensures.emptied in
+    let older_area : c.self-3.inside.previous.area ≡ next = ap (λ t. t.previous.area) c.self-3.view_is ∙ c.set_area.ensures.previous.area_is in
+    let previous : IsEmptied next c.reset.new.self = rw older_area at c.reset.ensures.emptied in
     let current : IsResized next s.current c.self-3.inside.current =
     resized_same next c.in-Ok.ensures.current (rw (current_2, current_3) at c.set_area.ensures.current) in
     let middle : KeepsAllButLooks (screen c.place_viewport.new.backend) (screen c.clear_area.new.backend) = rw between at cleared.frame in
@@ -44,7 +44,7 @@ returns-clause-outcome g c =
       rest = refl;
       viewport_area = rw (c.saturating_sub-offset.ensures, area_2, viewport_2, cursor_2, former) at found.area;
       current = current;
-      older = older;
+      previous = previous;
       scrolled = places.scrolled;
       scrolls = places.scrolls;
       frame = frame_more emptied frame;
@@ -57,5 +57,5 @@ returns-clause-outcome g c =
           let back = on_same next _ (screen c.place_viewport.new.backend) (sym frame.size.width) (sym frame.size.height) on in
           let in_place = rw (area, viewport) at c.self-3.invariant.1 in
           let fits = rw area at c.self-3.invariant.0 in
-          blank_in_step screen _ fits on (blank_over _ _ back (clears (has_place _ _ _ in_place back))) older;
+          blank_in_step screen _ fits on (blank_over _ _ back (clears (has_place _ _ _ in_place back))) previous;
     })

@@ -1,5 +1,5 @@
 use Rattle.std.proofs.Common.{◌≡◌, refl, ap, ◌∙◌, arith}
-use Rattle.rtui_buffer.specs.Sheet.{IsEmptied}
+use Rattle.rtui_buffer.specs.BufferData.{IsEmptied}
 use Rattle.rtui_viewport.specs.Placing.{area_in}
 use Rattle.rtui_terminal.proofs.StepLemmas.{blank_in_step, never_raised, not_inline, first_cursor_is, first_area_open, placed_empty, placed_scrolls}
 use Rattle.rtui_terminal.proofs.terminal.Terminal.with_options.Goals as goal
@@ -13,15 +13,15 @@ returns-clause-starts g c =
     let stays = c.in-Ok.ensures.stays in
     let known = c.in-Ok.ensures.area in
     let area : next ≡ area_in viewport c.in-Ok.area 0 (screen c.args.backend).cursor_y = (rw stays at placed.area) ∙ never_raised _ in
-    let older : IsEmptied next c.move_to-2.new.self = placed_empty viewport c.in-Ok.area 0 _ next _ _ area (rw c.rows_in.ensures at c.in-Ok-empty-2.ensures.emptied) (rw c.as_position-2.ensures at c.move_to-2.ensures) in
+    let previous : IsEmptied next c.move_to-2.new.self = placed_empty viewport c.in-Ok.area 0 _ next _ _ area (rw c.rows_in.ensures at c.in-Ok-empty-2.ensures.emptied) (rw c.as_position-2.ensures at c.move_to-2.ensures) in
     let current : IsEmptied next c.move_to.new.self = placed_empty viewport c.in-Ok.area 0 _ next _ _ area (rw c.rows_in.ensures at c.in-Ok-empty.ensures.emptied) (rw c.as_position.ensures at c.move_to.ensures) in
     record {
       kind = refl;
-      known_area = known;
-      known_cursor = first_cursor_is viewport (screen c.args.backend) _ _ _ known (rw stays at placed.cursor) (rw c.as_position-3.ensures at c.unwrap_or-known_cursor.ensures);
+      last_known_area = known;
+      last_known_cursor_pos = first_cursor_is viewport (screen c.args.backend) _ _ _ known (rw stays at placed.cursor) (rw c.as_position-3.ensures at c.unwrap_or-last_known_cursor_pos.ensures);
       viewport_area = area;
       current = current;
-      older = older;
+      previous = previous;
       hidden = refl;
       count = refl;
       scrolls = placed_scrolls viewport _ 0 (rw stays at placed.placed);
@@ -29,5 +29,5 @@ returns-clause-starts g c =
       untouched = λ other. ap screen (placed.quiet other (omega arith)).1 ∙ stays;
       fixed = λ fixed. (placed.quiet (not_inline viewport fixed) (omega arith)).1 ∙ (c.in-Ok.ensures.fixed fixed).1;
       on_screen = λ other. placed.on_screen (rw stays (known ∙ first_area_open viewport (screen c.args.backend) other));
-      in_step = λ on blank. blank_in_step screen _ placed.fits on blank older;
+      in_step = λ on blank. blank_in_step screen _ placed.fits on blank previous;
     }

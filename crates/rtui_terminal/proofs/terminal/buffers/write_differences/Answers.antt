@@ -10,5 +10,5 @@ pub returns-clause-ok : goal.returns-clause-ok
 returns-clause-ok g c =
     let diff = c.diff_iter.ensures in
     on_ok_weaker c.draw.result
-    (λ drawn. writes_differences c.args.older.now c.args.current.now _ _ _ c.requires.edges c.requires.same diff.walks drawn diff.replays diff.narrow)
+    (λ drawn. writes_differences c.args.previous.now c.args.current.now _ _ _ c.requires.edges c.requires.same diff.walks drawn diff.replays diff.narrow)
     (Draws-along c.draw.result _ _ c.draw.ensures.ok (YieldsList-from_first (update_by (λ cell. cell.now)) (λ rest. rest) _ refl))

@@ -1,0 +1,59 @@
+-- An empty buffer whose first row is skipped for a while.
+use Rattle.std.proofs.Common.{◌≡◌, ℕ, ◌+◌, ◌*◌, ◌<◌, ◌≤◌, ◌&&◌, nat_lt, true, List, length, drop, if◌then◌else◌, refl, ◌∙◌, arith, inl, inr}
+use Rattle.std.specs.Prelude.{nat_le}
+use Rattle.std.proofs.lemmas.Bool.{cases_lt}
+use Rattle.std.proofs.lemmas.Bool.Decides.{nat_tests}
+use Rattle.std.proofs.lemmas.List.{get_or-take, get_or-drop, get_or_past, length-take, take_at}
+use Rattle.rtui_geometry.specs.declared.rect.Rect.{Rect}
+use Rattle.rtui_cell.specs.declared.cell.Cell.{Cell}
+use Rattle.rtui_cell.specs.declared.cell.CellDiffOption.TheVariants.{Skip}
+use Rattle.rtui_cell.specs.Cell.{empty_cell, width_of, is_skipped}
+use Rattle.rtui_cell.proofs.CellLemmas.{width-empty}
+use Rattle.rtui_diff.specs.Cells.{cell}
+use Rattle.rtui_buffer.specs.BufferData.{BufferData, with_cells, IsEmptied, area_size}
+use Rattle.rtui_buffer.specs.RowsDiff.{part_cells}
+use Rattle.rtui_buffer.proofs.EmptyLemmas.{cell-empty, all-empty}
+use Rattle.rtui_insert.specs.Rows.{IsUnknownRow}
+
+-- a skipped blank takes one column
+pub skipped-option : (c : Cell) → is_skipped (record c { diff_option = Skip }) ≡ true
+unfolding is_skipped
+skipped-option c = refl
+
+pub narrow-option : width_of (record empty_cell { diff_option = Skip }) ≡ 1
+unfolding width_of
+narrow-option = width-empty
+
+-- a part of empty cells has empty ones alone
+pub part_of_empty : (over : Rect) (s : BufferData) → IsEmptied over s → (i n k : ℕ) → cell (part_cells s i n) k ≡ empty_cell
+part_of_empty over s emptied i n k = elim (cases_lt k (s.area.width * n)) [
+  | inl low ↦
+      get_or-take (s.area.width * n) (drop (i * s.area.width) s.cells) k empty_cell low
+      ∙ get_or-drop (i * s.area.width) s.cells k empty_cell
+      ∙ rw emptied.cells (cell-empty (area_size over) (i * s.area.width + k))
+  | inr past ↦ get_or_past (part_cells s i n) k empty_cell (simp length-take (omega arith))
+]
+
+-- all cells of a buffer written anew
+pub cells_written : (s : BufferData) (cells : List Cell) → length cells ≡ length s.cells → (with_cells s cells).cells ≡ cells
+cells_written s cells size = rw size (take_at cells (drop (length s.cells) s.cells) (length s.cells) size)
+
+-- the first row of a buffer whose first cells are skipped
+pub unknown_row : (over : Rect) (new : BufferData) (cells : List Cell) → 0 < over.height → new.area ≡ over → new.cells ≡ cells
+    → ((k : ℕ) → k < over.width → is_skipped (cell cells k) ≡ true) → ((k : ℕ) → k < over.width → width_of (cell cells k) ≡ 1) → IsUnknownRow new
+unknown_row over new cells some area same skipped narrow = rw (area, same) (record {
+  row = some;
+  skipped = λ a low. let place : 0 * over.width + a ≡ a = omega arith in rw place (skipped a low);
+  narrow = λ a low. let place : 0 * over.width + a ≡ a = omega arith in rw place (omega (arith, narrow a low));
+})
+
+-- and a buffer of which they were made blank is empty again
+pub emptied_again : (over : Rect) (old new : BufferData) (mid cells : List Cell) (w : ℕ) → IsEmptied over old → new.area ≡ over → new.cells ≡ cells → length cells ≡ area_size over
+    → ((k : ℕ) → w ≤ k → cell mid k ≡ cell old.cells k) → ((k : ℕ) → cell cells k ≡ (if nat_le 0 k && nat_lt k w then empty_cell else cell mid k)) → IsEmptied over new
+emptied_again over old new mid cells w emptied area same size rest blanked = record {
+  area = area;
+  cells = same ∙ all-empty (area_size over) cells size (λ k _. blanked k ∙ elim (cases_lt k w) [
+    | inl low ↦ grind (arith, nat_tests)
+    | inr past ↦ let e : cell mid k ≡ empty_cell = rest k past ∙ rw emptied.cells (cell-empty (area_size over) k) in grind (arith, nat_tests)
+  ]);
+}

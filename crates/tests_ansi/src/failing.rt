@@ -1,0 +1,181 @@
+//! Each call of the writer failing in turn, and what mends a backend then.
+
+ghost use Rattle.std.specs.Prelude.{◌≡◌};
+
+use crate::sequences::{Why, by_kind};
+use ratatui_ansi::{AnsiBackend, AnsiError};
+use ratatui_core::buffer::Buffer;
+use ratatui_core::style::{Color, Style};
+use ratatui_core::terminal::Terminal;
+use rtui_backend::Backend;
+use rtui_cell::Cell;
+use rtui_geometry::{Position, Size};
+use std::alloc::Global;
+use std::io::{self, ErrorKind, Write};
+use std::iter;
+use std::test::Fail;
+
+// A writer that keeps what it is given. After so many calls it fails once; the backend's beginning is its first.
+#[derive(Drop)]
+struct Tearing {
+    sent: Vec<u8>,
+    calls: u64,
+    is_torn: bool,
+}
+
+impl Tearing {
+    fn begin(&mut self) -> io::Result<()>
+        ensures { self.new.sent ≡ self.old.sent }
+    {
+        if self.is_torn {
+            return Ok(());
+        }
+        if self.calls > 0 {
+            self.calls -= 1;
+            return Ok(());
+        }
+        self.is_torn = true;
+        Err(ErrorKind::BrokenPipe.into())
+    }
+}
+
+impl Write for Tearing {
+    fn write(&mut self, buf: &[u8]) -> io::Result<usize> {
+        self.begin()?;
+        self.sent.extend_from_slice(buf)?;
+        Ok(buf.len())
+    }
+
+    fn flush(&mut self) -> io::Result<()> {
+        self.begin()
+    }
+}
+
+const SIZE: Size = Size {
+    width: 3,
+    height: 2,
+};
+
+// A backend over a writer that fails once after so many calls.
+fn over_tearing(alloc: Global, calls: u64) -> Result<AnsiBackend<Tearing>, AnsiError> {
+    let writer = Tearing {
+        sent: Vec::new(alloc),
+        calls,
+        is_torn: false,
+    };
+    AnsiBackend::new(alloc, writer, SIZE)
+}
+
+const CALLS: u64 = 9;
+
+// The calls that write or flush, each of them once.
+fn call(backend: &mut AnsiBackend<Tearing>, number: u64, cell: &Cell) -> Result<(), Why> {
+    by_kind(match number {
+        0 => backend.draw(iter::once((1, 0, cell))),
+        1 => backend.append_lines(1),
+        2 => backend.scroll_region_up(0..2, 1),
+        3 => backend.scroll_region_down(0..2, 1),
+        4 => backend.hide_cursor(),
+        5 => backend.show_cursor(),
+        6 => backend.set_cursor_position(Position { x: 1, y: 1 }),
+        7 => backend.clear(),
+        _ => backend.flush(),
+    })
+}
+
+// Whether every call is refused as broken, and nothing is sent.
+fn is_broken(backend: &mut AnsiBackend<Tearing>, cell: &Cell) -> bool {
+    let sent = backend.writer().sent.len();
+    for number in 0..CALLS {
+        if call(backend, number, cell) != Err(Why::Broken) {
+            return false;
+        }
+    }
+    by_kind(backend.get_cursor_position()) == Err(Why::Broken)
+        && by_kind(backend.size()) == Err(Why::Broken)
+        && backend.window_size().is_err()
+        && backend.writer().sent.len() == sent
+}
+
+// Whether a backend begins anew: a cell is drawn as on a blank screen.
+fn is_mended(backend: &mut AnsiBackend<Tearing>, cell: &Cell) -> bool {
+    let is_begun = backend.restart().is_ok();
+    let sent = backend.writer().sent.len();
+    is_begun
+        && by_kind(backend.get_cursor_position()) == Ok(Position::ORIGIN)
+        && call(backend, 0, cell).is_ok()
+        && backend.writer().sent.as_slice().get(sent..) == Some(b"\x1b[1;2Ha".as_slice())
+}
+
+// Whether a call is refused if just its own call of the writer fails, all later ones as broken, and a restart mends that.
+fn fails_and_is_mended(alloc: Global, number: u64) -> Result<bool, Fail> {
+    let cell = Cell::new(alloc, "a")?;
+    let Ok(mut backend) = over_tearing(alloc, number.saturating_add(1)) else {
+        return Ok(false);
+    };
+    for before in 0..number {
+        if call(&mut backend, before, &cell).is_err() {
+            return Ok(false);
+        }
+    }
+    let is_sent = call(&mut backend, number, &cell) == Err(Why::Write(ErrorKind::BrokenPipe));
+    if !is_sent || !is_broken(&mut backend, &cell) {
+        return Ok(false);
+    }
+    Ok(is_mended(&mut backend, &cell))
+}
+
+#[test]
+fn each_call_of_a_writer_fails(rt: HostRuntime) -> Result<(), Fail> {
+    let alloc = rt.alloc();
+    for number in 0..CALLS {
+        assert!(rt; fails_and_is_mended(alloc, number)?);
+    }
+    Ok(())
+}
+
+#[test]
+fn the_beginning_fails(rt: HostRuntime) {
+    let answer = by_kind(over_tearing(rt.alloc(), 0));
+    assert!(rt; matches!(answer, Err(Why::Write(ErrorKind::BrokenPipe))));
+}
+
+// A writer that counts the bytes that it was given since its last flush.
+#[derive(Drop)]
+struct Holding {
+    held: usize,
+}
+
+impl Write for Holding {
+    fn write(&mut self, buf: &[u8]) -> io::Result<usize> {
+        self.held = self.held.saturating_add(buf.len());
+        Ok(buf.len())
+    }
+
+    fn flush(&mut self) -> io::Result<()> {
+        self.held = 0;
+        Ok(())
+    }
+}
+
+fn redden(buffer: &mut Buffer) {
+    let area = *buffer.area();
+    buffer.set_style(area, Style::new().bg(Color::Red));
+}
+
+// How many bytes a writer holds after a draw.
+fn held_after_a_draw(alloc: Global) -> Option<usize> {
+    let backend = AnsiBackend::new(alloc, Holding { held: 0 }, SIZE).ok()?;
+    let mut terminal = Terminal::new(alloc, backend).ok()?;
+    let drawn = terminal.draw(|frame| {
+        redden(frame.buffer_mut());
+        Ok(())
+    });
+    drawn.ok()?;
+    Some(terminal.backend().writer().held)
+}
+
+#[test]
+fn a_draw_flushes_its_writer(rt: HostRuntime) {
+    assert!(rt; held_after_a_draw(rt.alloc()) == Some(0));
+}

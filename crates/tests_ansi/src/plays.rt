@@ -1,0 +1,363 @@
+//! Random plays of a backend, read by a terminal, beside a screen in memory.
+use crate::reader::Reader;
+use crate::sequences::{Kept, over_kept, sent};
+use ansi_model::is_symbol;
+use bitflags::Flags;
+use ratatui_ansi::AnsiError;
+use rtui_backend::{Backend, ClearType, TestBackend};
+use rtui_cell::{Cell, CellWidth};
+use rtui_geometry::Position;
+use rtui_style::{Color, Modifier};
+use std::alloc::{AllocError, Global};
+use std::test::Fail;
+use std::{io, iter};
+
+// Numbers that look random.
+#[derive(Clone, Copy)]
+struct Random {
+    state: u64,
+}
+
+impl Random {
+    // One below `n`, or 0.
+    fn below(&mut self, n: u16) -> u16 {
+        self.state = self
+            .state
+            .wrapping_mul(6364136223846793005)
+            .wrapping_add(1442695040888963407);
+        let high = (self.state >> 33) as u32;
+        u16::try_from(high.checked_rem(u32::from(n)).unwrap_or(0)).unwrap_or(0)
+    }
+
+    fn among<T: Copy>(&mut self, choices: &[T], otherwise: T) -> T {
+        let index = self.below(u16::try_from(choices.len()).unwrap_or(u16::MAX));
+        match choices.get(usize::from(index)) {
+            Some(choice) => *choice,
+            None => otherwise,
+        }
+    }
+}
+
+const SYMBOLS: [&str; 14] = [
+    " ",
+    "a",
+    "~",
+    "é",
+    "─",
+    "コ",
+    "ン",
+    "e\u{301}",
+    "👩\u{200d}🔬",
+    "",
+    "\u{7}",
+    "ab",
+    "日本",
+    "コ\u{200b}",
+];
+
+const COLORS: [Color; 6] = [
+    Color::Reset,
+    Color::Reset,
+    Color::Red,
+    Color::White,
+    Color::Indexed(200),
+    Color::Rgb(1, 20, 255),
+];
+
+const MODIFIERS: [u16; 6] = [0, 0, 1, 256, 511, 512];
+
+const CLEARS: [ClearType; 5] = [
+    ClearType::All,
+    ClearType::AfterCursor,
+    ClearType::BeforeCursor,
+    ClearType::CurrentLine,
+    ClearType::UntilNewLine,
+];
+
+fn random_cell(alloc: Global, random: &mut Random) -> Result<Cell, AllocError> {
+    let mut cell = Cell::new(alloc, random.among(&SYMBOLS, "a"))?;
+    cell.fg = random.among(&COLORS, Color::Reset);
+    cell.bg = random.among(&COLORS, Color::Reset);
+    cell.underline_color = random.among(
+        &[Color::Reset, Color::Reset, Color::Indexed(3)],
+        Color::Reset,
+    );
+    cell.modifier = Modifier::from_bits_retain(random.among(&MODIFIERS, 0));
+    Ok(cell)
+}
+
+// A backend and the screen that it should show, of so many columns and rows.
+#[derive(Drop)]
+struct Play {
+    backend: Kept,
+    screen: TestBackend,
+    width: u16,
+    height: u16,
+    has_underline_colors: bool,
+    // What another program left on the terminal.
+    left: &'static str,
+    alloc: Global,
+}
+
+impl Play {
+    fn new(alloc: Global, width: u16, height: u16) -> Result<Play, Fail> {
+        Ok(Play {
+            backend: over_kept(alloc, width, height)?,
+            screen: TestBackend::new(alloc, width, height)?,
+            width,
+            height,
+            has_underline_colors: false,
+            left: LEFT,
+            alloc,
+        })
+    }
+
+    fn read(&self) -> Result<Reader<'_>, AllocError> {
+        Reader::of(
+            self.alloc,
+            self.width,
+            self.height,
+            self.left,
+            sent(&self.backend),
+        )
+    }
+
+    // Whether a terminal that reads what was sent shows the screen, with the cursor where both say it is.
+    fn is_shown(&mut self) -> Result<bool, Fail> {
+        let Ok(cursor) = self.backend.get_cursor_position() else {
+            return Ok(false);
+        };
+        Ok(self.read()?.shows(cursor, &self.screen))
+    }
+
+    // The screen in memory has its cursor if the backend has it.
+    fn follow_cursor(&mut self) -> bool {
+        match self.backend.get_cursor_position() {
+            Ok(cursor) => self.screen.set_cursor_position(cursor).is_ok(),
+            Err(_) => false,
+        }
+    }
+
+    // Draws one cell; whether it is drawn on both, or refused for a reason with nothing sent.
+    fn draws(&mut self, random: &mut Random) -> Result<bool, Fail> {
+        let cell = random_cell(self.alloc, random)?;
+        let (x, y) = (
+            random.below(self.width.saturating_add(1)),
+            random.below(self.height.saturating_add(1)),
+        );
+        let room = self.width.saturating_sub(x);
+        let is_behind = self.read()?.is_behind(x, y);
+        let before = sent(&self.backend).len();
+        match self.backend.draw(iter::once((x, y, &cell))) {
+            Ok(()) => {
+                let is_drawn = self.screen.draw(iter::once((x, y, &cell))).is_ok();
+                Ok(is_drawn && self.follow_cursor())
+            }
+            Err(error) => {
+                let place = Position { x, y };
+                let is_in = x < self.width && y < self.height;
+                let is_unsent = sent(&self.backend).len() == before;
+                let has_colors = self.has_underline_colors;
+                let is_one = is_reason(error, place, is_behind, room, has_colors, &cell);
+                Ok(is_in && is_unsent && is_one)
+            }
+        }
+    }
+
+    // Draws some cells at once; whether they are drawn on both, or refused with nothing sent.
+    fn draws_some(&mut self, random: &mut Random) -> Result<bool, Fail> {
+        let first = random_cell(self.alloc, random)?;
+        let second = random_cell(self.alloc, random)?;
+        let mut items = Vec::new(self.alloc);
+        for at in 0..random.below(9) {
+            let cell = if at % 2 == 0 { &first } else { &second };
+            items.push((random.below(self.width), random.below(self.height), cell))?;
+        }
+        let before = sent(&self.backend).len();
+        if self.backend.draw(items.iter().copied()).is_ok() {
+            let is_drawn = self.screen.draw(items.iter().copied()).is_ok();
+            Ok(is_drawn && self.follow_cursor())
+        } else {
+            Ok(sent(&self.backend).len() == before)
+        }
+    }
+
+    fn moves(&mut self, random: &mut Random) -> bool {
+        let place = Position {
+            x: random.below(self.width.saturating_add(2)),
+            y: random.below(self.height.saturating_add(2)),
+        };
+        self.backend.set_cursor_position(place).is_ok()
+            && self.screen.set_cursor_position(place).is_ok()
+    }
+
+    // Clears a part; whether it is cleared on both, or refused if the cursor is after a symbol's first column.
+    fn clears(&mut self, random: &mut Random) -> Result<bool, Fail> {
+        let clear_type = random.among(&CLEARS, ClearType::All);
+        let cursor = self.screen.cursor_position();
+        let is_behind = self.read()?.is_behind(cursor.x, cursor.y);
+        match self.backend.clear_region(clear_type) {
+            Ok(()) => Ok(self.screen.clear_region(clear_type).is_ok()),
+            Err(error) => Ok(is_behind && matches!(error, AnsiError::Cut(at) if at == cursor)),
+        }
+    }
+
+    fn scrolls(&mut self, random: &mut Random, up: bool) -> bool {
+        let (start, end) = (
+            random.below(self.height.saturating_add(1)),
+            random.below(self.height.saturating_add(2)),
+        );
+        let n = random.below(self.height.saturating_add(2));
+        let are_both = if up {
+            self.backend.scroll_region_up(start..end, n).is_ok()
+                && self.screen.scroll_region_up(start..end, n).is_ok()
+        } else {
+            self.backend.scroll_region_down(start..end, n).is_ok()
+                && self.screen.scroll_region_down(start..end, n).is_ok()
+        };
+        are_both && self.follow_cursor()
+    }
+
+    fn appends(&mut self, random: &mut Random) -> bool {
+        let n = random.below(self.height.saturating_add(2));
+        self.backend.append_lines(n).is_ok()
+            && self.screen.append_lines(n).is_ok()
+            && self.follow_cursor()
+    }
+
+    fn hides(&mut self, random: &mut Random) -> bool {
+        if random.below(2) == 0 {
+            self.backend.hide_cursor().is_ok() && self.screen.hide_cursor().is_ok()
+        } else {
+            self.backend.show_cursor().is_ok() && self.screen.show_cursor().is_ok()
+        }
+    }
+
+    // Makes a call of both; whether both answer as they should.
+    fn calls(&mut self, random: &mut Random) -> Result<bool, Fail> {
+        match random.below(16) {
+            0 => Ok(self.moves(random)),
+            1 => Ok(self.hides(random)),
+            2 => Ok(self.appends(random)),
+            3 => self.clears(random),
+            4 => Ok(self.scrolls(random, true)),
+            5 => Ok(self.scrolls(random, false)),
+            6 | 7 => self.draws_some(random),
+            _ => self.draws(random),
+        }
+    }
+}
+
+// Whether an error is that of drawing a cell in this place.
+fn is_reason(
+    error: AnsiError,
+    place: Position,
+    is_behind: bool,
+    room: u16,
+    has_underline_colors: bool,
+    cell: &Cell,
+) -> bool {
+    let columns = cell.cell_width();
+    let is_one = is_symbol(cell.symbol());
+    match error {
+        AnsiError::Cut(at) => at == place && is_behind,
+        AnsiError::Symbol(at) => at == place && !is_behind && (!is_one || room < columns),
+        AnsiError::Style(at) => {
+            let is_colored = cell.underline_color != Color::Reset;
+            let is_sent = cell.modifier.bits() < 512 && (has_underline_colors || !is_colored);
+            at == place && !is_behind && is_one && columns <= room && !is_sent
+        }
+        _ => false,
+    }
+}
+
+// Whether a terminal that reads each call of a play shows the screen in memory.
+fn is_played(alloc: Global, width: u16, height: u16, seed: u64) -> Result<bool, Fail> {
+    let mut play = Play::new(alloc, width, height)?;
+    play.has_underline_colors = seed % 2 == 0;
+    play.backend.set_underline_colors(seed % 2 == 0);
+    play.backend.set_ambiguous_is_wide(seed % 3 == 0);
+    let mut random = Random { state: seed };
+    for _ in 0..CALLS {
+        if !play.calls(&mut random)? || !play.is_shown()? {
+            return Ok(false);
+        }
+    }
+    Ok(true)
+}
+
+const CALLS: u16 = 40;
+
+// Whether so many plays on a screen of this size are.
+fn are_played(alloc: Global, width: u16, height: u16) -> Result<bool, Fail> {
+    for seed in 0..PLAYS {
+        if !is_played(alloc, width, height, seed)? {
+            return Ok(false);
+        }
+    }
+    Ok(true)
+}
+
+const PLAYS: u64 = 12;
+
+#[test]
+fn plays_are_shown(rt: HostRuntime) -> Result<(), Fail> {
+    let alloc = rt.alloc();
+    assert!(rt; are_played(alloc, 1, 1)?);
+    assert!(rt; are_played(alloc, 2, 3)?);
+    assert!(rt; are_played(alloc, 3, 2)?);
+    assert!(rt; are_played(alloc, 7, 4)?);
+    assert!(rt; are_played(alloc, 12, 5)?);
+    Ok(())
+}
+
+// What another program leaves: rows that scrolled off, a symbol over halves of others, a rendition, margins, and a hidden cursor.
+pub(crate) const LEFT: &str =
+    "ab\n\n\n\n\r\u{1b}[1;1Hコココ\u{1b}[1;2Hコ\u{1b}[?25l\u{1b}[0;1;31m\u{1b}[2;3r";
+
+// Whether a backend that begins anew after a play makes the terminal blank, and its screen is blank, too.
+fn is_begun_anew(alloc: Global, seed: u64) -> Result<bool, Fail> {
+    let mut play = Play::new(alloc, 7, 4)?;
+    let mut random = Random { state: seed };
+    for _ in 0..CALLS {
+        if !play.calls(&mut random)? {
+            return Ok(false);
+        }
+    }
+    let before = sent(&play.backend).len();
+    let is_begun = play.backend.restart().is_ok()
+        && play
+            .backend
+            .draw(iter::empty::<(u16, u16, &Cell)>())
+            .is_ok();
+    let bytes = sent(&play.backend);
+    let (Some(left), Some(rest)) = (bytes.get(..before), bytes.get(before..)) else {
+        return Ok(false);
+    };
+    let blank = TestBackend::new(alloc, 7, 4)?;
+    Ok(is_begun && Reader::of(alloc, 7, 4, left, rest)?.shows(Position::ORIGIN, &blank))
+}
+
+#[test]
+fn used_terminals_are_made_blank(rt: HostRuntime) -> Result<(), Fail> {
+    let alloc = rt.alloc();
+    for seed in 0..PLAYS {
+        assert!(rt; is_begun_anew(alloc, seed)?);
+    }
+    Ok(())
+}
+
+// A screen as wide as a terminal's can be.
+#[test]
+fn the_widest_screen(rt: HostRuntime) -> Result<(), Fail> {
+    let alloc = rt.alloc();
+    let mut play = Play::new(alloc, 65535, 1)?;
+    let wide = Cell::new(alloc, "コ")?;
+    let items = [(0, 0, &wide), (65533, 0, &wide), (65535, 0, &wide)];
+    assert!(rt; play.backend.draw(items.iter().copied()).is_ok());
+    assert!(rt; play.screen.draw(items.iter().copied()).is_ok());
+    assert!(rt; play.follow_cursor() && play.is_shown()?);
+    assert!(rt; play.backend.append_lines(1).is_ok() && play.screen.append_lines(1).is_ok());
+    assert!(rt; play.follow_cursor() && play.is_shown()?);
+    Ok(())
+}

@@ -1,0 +1,509 @@
+//! A terminal that reads what a writer was sent: the model, computed.
+use ansi_model::{Sgr, is_plain, is_symbol};
+use bitflags::Flags;
+use rtui_backend::{ClearType, TestBackend};
+use rtui_cell::{Cell, CellWidth};
+use rtui_geometry::Position;
+use rtui_style::{Color, Modifier};
+use std::alloc::{AllocError, Global};
+
+// One of the columns of a symbol, counted from 0, and how many the symbol takes; none at all if nothing is known.
+#[derive(Clone, Copy)]
+struct Column<'a> {
+    symbol: &'a str,
+    sgr: Sgr,
+    index: u16,
+    count: u16,
+}
+
+const BLANK: Column<'static> = Column {
+    symbol: " ",
+    sgr: Sgr::DEFAULT,
+    index: 0,
+    count: 1,
+};
+
+// Columns that are written over.
+#[derive(Clone, Copy)]
+enum Area {
+    Run(Position, u16),
+    Part(ClearType, Position),
+}
+
+impl Area {
+    fn has(self, a: u16, b: u16) -> bool {
+        match self {
+            Area::Run(from, count) => { b == from.y && from.x <= a && a - from.x < count }
+            Area::Part(ClearType::All, _) => true,
+            Area::Part(ClearType::AfterCursor, at) => at.y < b || (b == at.y && at.x <= a),
+            Area::Part(ClearType::BeforeCursor, at) => b < at.y || (b == at.y && a <= at.x),
+            Area::Part(ClearType::CurrentLine, at) => b == at.y,
+            Area::Part(ClearType::UntilNewLine, at) => b == at.y && at.x <= a,
+        }
+    }
+
+    // Whether a symbol, of which this is column `a` of row `b`, has a column here.
+    fn meets(self, a: u16, b: u16, column: Column<'_>) -> bool {
+        let first = a.saturating_sub(column.index);
+        for k in 0..column.count {
+            if self.has(first.saturating_add(k), b) {
+                return true;
+            }
+        }
+        false
+    }
+}
+
+// What the next parameter of a rendition belongs to.
+#[derive(Clone, Copy)]
+enum Awaits {
+    Nothing,
+    Kind(u16),
+    Number(u16),
+    Red(u16),
+    Green(u16, u8),
+    Blue(u16, u8, u8),
+}
+
+const NAMED: [Color; 16] = [
+    Color::Black,
+    Color::Red,
+    Color::Green,
+    Color::Yellow,
+    Color::Blue,
+    Color::Magenta,
+    Color::Cyan,
+    Color::Gray,
+    Color::DarkGray,
+    Color::LightRed,
+    Color::LightGreen,
+    Color::LightYellow,
+    Color::LightBlue,
+    Color::LightMagenta,
+    Color::LightCyan,
+    Color::White,
+];
+
+fn named(number: u16) -> Color {
+    match NAMED.get(usize::from(number)) {
+        Some(color) => *color,
+        None => Color::Reset,
+    }
+}
+
+fn colored(sgr: Sgr, target: u16, color: Color) -> Sgr {
+    match target {
+        38 => Sgr { fg: color, ..sgr },
+        48 => Sgr { bg: color, ..sgr },
+        _ => Sgr {
+            underline_color: color,
+            ..sgr
+        },
+    }
+}
+
+const MODIFIERS: [u16; 9] = [1, 2, 4, 8, 16, 32, 64, 128, 256];
+
+// A rendition after a parameter that stands for itself.
+fn inked(sgr: Sgr, number: u16) -> Sgr {
+    match number {
+        0 => Sgr::DEFAULT,
+        1..=9 => match MODIFIERS.get(usize::from(number) - 1) {
+            Some(bit) => Sgr {
+                modifier: sgr.modifier | Modifier::from_bits_retain(*bit),
+                ..sgr
+            },
+            None => sgr,
+        },
+        30..=37 => colored(sgr, 38, named(number - 30)),
+        40..=47 => colored(sgr, 48, named(number - 40)),
+        90..=97 => colored(sgr, 38, named(number - 82)),
+        100..=107 => colored(sgr, 48, named(number - 92)),
+        _ => sgr,
+    }
+}
+
+fn byte(number: u16) -> u8 {
+    u8::try_from(number).unwrap_or(255)
+}
+
+// Whether terminals take a parameter alike.
+fn is_known(awaits: Awaits, number: u16) -> bool {
+    match awaits {
+        Awaits::Nothing => {
+            matches!(number, 0..=9 | 30..=38 | 40..=48 | 58 | 90..=97 | 100..=107)
+        }
+        Awaits::Kind(_) => number == 5 || number == 2,
+        _ => number < 256,
+    }
+}
+
+// A rendition after the parameters of a whole sequence, and whether terminals take these alike.
+fn inked_by(sgr: Sgr, parameters: &str) -> (Sgr, bool) {
+    let mut sgr = sgr;
+    let mut awaits = Awaits::Nothing;
+    let mut are_known = true;
+    for parameter in parameters.split(';') {
+        let number: u16 = parameter.parse().unwrap_or(0);
+        are_known = are_known && is_known(awaits, number);
+        awaits = match awaits {
+            Awaits::Nothing if number == 38 || number == 48 || number == 58 => Awaits::Kind(number),
+            Awaits::Nothing => {
+                sgr = inked(sgr, number);
+                Awaits::Nothing
+            }
+            Awaits::Kind(target) if number == 5 => Awaits::Number(target),
+            Awaits::Kind(target) => Awaits::Red(target),
+            Awaits::Number(target) => {
+                sgr = colored(sgr, target, Color::Indexed(byte(number)));
+                Awaits::Nothing
+            }
+            Awaits::Red(target) => Awaits::Green(target, byte(number)),
+            Awaits::Green(target, red) => Awaits::Blue(target, red, byte(number)),
+            Awaits::Blue(target, red, green) => {
+                sgr = colored(sgr, target, Color::Rgb(red, green, byte(number)));
+                Awaits::Nothing
+            }
+        };
+    }
+    (sgr, are_known && matches!(awaits, Awaits::Nothing))
+}
+
+// A terminal that was blank; `sure` until real terminals would differ.
+#[derive(Drop)]
+pub struct Reader<'a> {
+    width: u16,
+    height: u16,
+    sgr: Sgr,
+    x: u16,
+    y: u16,
+    top: u16,
+    bottom: u16,
+    columns: Vec<Option<Column<'a>>>,
+    history: Vec<Vec<Option<Column<'a>>>>,
+    // How many of its rows were left there.
+    rows_left: usize,
+    visible: bool,
+    sure: bool,
+    alloc: Global,
+}
+
+impl<'a> Reader<'a> {
+    // A terminal of this size after it has read a text; before, another program left it as this other text does.
+    pub fn of(
+        alloc: Global,
+        width: u16,
+        height: u16,
+        left: &'a str,
+        sent: &'a str,
+    ) -> Result<Reader<'a>, AllocError> {
+        let count = usize::from(width) * usize::from(height);
+        let mut reader = Reader {
+            width,
+            height,
+            sgr: Sgr::DEFAULT,
+            x: 0,
+            y: 0,
+            top: 0,
+            bottom: height,
+            columns: Vec::from_elem(alloc, Some(BLANK), count)?,
+            history: Vec::new(alloc),
+            rows_left: 0,
+            visible: true,
+            sure: true,
+            alloc,
+        };
+        reader.read(left)?;
+        reader.rows_left = reader.history.len();
+        reader.sure = true;
+        reader.read(sent)?;
+        Ok(reader)
+    }
+
+    fn read(&mut self, sent: &'a str) -> Result<(), AllocError> {
+        let mut texts = sent.split('\u{1b}');
+        if let Some(text) = texts.next() {
+            self.read_text(text)?;
+        }
+        for sequence in texts {
+            match sequence.strip_prefix('[') {
+                Some(sequence) => self.read_sequence(sequence)?,
+                None => self.sure = false,
+            }
+        }
+        Ok(())
+    }
+
+    // Text with carriage returns and line feeds.
+    fn read_text(&mut self, text: &'a str) -> Result<(), AllocError> {
+        let mut from = 0;
+        for (at, ch) in text.char_indices() {
+            if ch == '\r' || ch == '\n' {
+                self.print(text.get(from..at).unwrap_or(""));
+                from = at + 1;
+                if ch == '\r' {
+                    self.x = 0;
+                } else {
+                    self.feed_line()?;
+                }
+            }
+        }
+        self.print(text.get(from..).unwrap_or(""));
+        Ok(())
+    }
+
+    fn read_sequence(&mut self, sequence: &'a str) -> Result<(), AllocError> {
+        for (at, ch) in sequence.char_indices() {
+            if !ch.is_ascii_digit() && ch != ';' && ch != '?' {
+                self.perform(sequence.get(..at).unwrap_or(""), ch);
+                let from = at + ch.len_utf8();
+                return self.read_text(sequence.get(from..).unwrap_or(""));
+            }
+        }
+        self.sure = false;
+        Ok(())
+    }
+
+    fn perform(&mut self, parameters: &str, last: char) {
+        if last == 'm' {
+            let (sgr, is_known) = inked_by(self.sgr, parameters);
+            self.sgr = sgr;
+            self.sure = self.sure && is_known;
+            return;
+        }
+        if parameters == "?25" {
+            self.visible = last == 'h';
+            self.sure = self.sure && (last == 'h' || last == 'l');
+            return;
+        }
+        let mut numbers = parameters.split(';');
+        let first = numbers.next().unwrap_or("").parse().unwrap_or(0);
+        match numbers.next() {
+            Some(second) => self.perform_two(last, first, second.parse().unwrap_or(0)),
+            None => self.perform_one(last, first),
+        }
+    }
+
+    fn perform_two(&mut self, last: char, first: u16, second: u16) {
+        match last {
+            'H' => {
+                self.x = second.saturating_sub(1).min(self.width.saturating_sub(1));
+                self.y = first.saturating_sub(1).min(self.height.saturating_sub(1));
+            }
+            'r' => {
+                self.sure = self.sure && first < second && second <= self.height;
+                self.set_region(first.saturating_sub(1), second);
+            }
+            _ => self.sure = false,
+        }
+    }
+
+    fn perform_one(&mut self, last: char, n: u16) {
+        match (last, n) {
+            ('J', 0) => self.erase(ClearType::AfterCursor),
+            ('J', 1) => self.erase(ClearType::BeforeCursor),
+            ('K', 0) => self.erase(ClearType::UntilNewLine),
+            ('K', 2) => self.erase(ClearType::CurrentLine),
+            ('r', 0) => self.set_region(0, self.height),
+            ('M', _) => {
+                let is_row = 0 < self.y && self.top <= self.y && self.y < self.bottom;
+                self.sure = self.sure && self.has_own_sgr() && is_row && self.x == 0 && 0 < n;
+                self.raise(self.y, self.bottom, n);
+            }
+            ('L', _) => {
+                let is_row = self.top <= self.y && self.y < self.bottom;
+                self.sure = self.sure && self.has_own_sgr() && is_row && self.x == 0 && 0 < n;
+                self.lower(self.y, self.bottom, n);
+            }
+            _ => self.sure = false,
+        }
+    }
+
+    fn has_own_sgr(&self) -> bool {
+        self.sgr == Sgr::DEFAULT
+    }
+
+    fn set_region(&mut self, top: u16, bottom: u16) {
+        self.top = top;
+        self.bottom = bottom;
+        self.x = 0;
+        self.y = 0;
+    }
+
+    // Plain characters one by one, any other text as one symbol.
+    fn print(&mut self, text: &'a str) {
+        if text.chars().all(|c| is_plain(c)) {
+            for (at, ch) in text.char_indices() {
+                self.print_symbol(text.get(at..at + ch.len_utf8()).unwrap_or(""), 1);
+            }
+        } else {
+            self.sure = self.sure && is_symbol(text);
+            self.print_symbol(text, text.cell_width());
+        }
+    }
+
+    fn print_symbol(&mut self, symbol: &'a str, count: u16) {
+        let is_in = 0 < count && count <= self.width.saturating_sub(self.x) && self.y < self.height;
+        self.sure = self.sure && is_in;
+        let at = Position {
+            x: self.x,
+            y: self.y,
+        };
+        self.overwrite(Area::Run(at, count), symbol, self.sgr, count);
+        self.x = self.x.saturating_add(count);
+    }
+
+    fn erase(&mut self, part: ClearType) {
+        let is_kept = !matches!(part, ClearType::AfterCursor) || 0 < self.x || 0 < self.y;
+        self.sure = self.sure && self.has_own_sgr() && self.x < self.width && is_kept;
+        let at = Position {
+            x: self.x,
+            y: self.y,
+        };
+        self.overwrite(Area::Part(part, at), " ", Sgr::DEFAULT, 1);
+    }
+
+    // Writes an area over: with one symbol of so many columns, or with symbols of one column each.
+    fn overwrite(&mut self, area: Area, symbol: &'a str, sgr: Sgr, count: u16) {
+        let width = self.width;
+        let first = self.x;
+        let mut a: u16 = 0;
+        let mut b: u16 = 0;
+        for slot in self.columns.iter_mut() {
+            if area.has(a, b) {
+                let index = if count == 1 {
+                    0
+                } else {
+                    a.saturating_sub(first)
+                };
+                *slot = Some(Column {
+                    symbol,
+                    sgr,
+                    index,
+                    count,
+                });
+            } else if let Some(old) = *slot {
+                if area.meets(a, b, old) {
+                    *slot = None;
+                }
+            }
+            a = a.saturating_add(1);
+            if a >= width {
+                a = 0;
+                b = b.saturating_add(1);
+            }
+        }
+    }
+
+    fn column(&self, a: u16, b: u16) -> Option<Column<'a>> {
+        let place = usize::from(b) * usize::from(self.width) + usize::from(a);
+        match self.columns.get(place) {
+            Some(column) => *column,
+            None => None,
+        }
+    }
+
+    fn set_column(&mut self, a: u16, b: u16, column: Option<Column<'a>>) {
+        let place = usize::from(b) * usize::from(self.width) + usize::from(a);
+        if let Some(slot) = self.columns.get_mut(place) {
+            *slot = column;
+        }
+    }
+
+    fn set_row(&mut self, b: u16, from: Option<u16>) {
+        for a in 0..self.width {
+            let column = match from {
+                Some(row) => self.column(a, row),
+                None => Some(BLANK),
+            };
+            self.set_column(a, b, column);
+        }
+    }
+
+    // The rows from `top` up to `bottom`, moved up.
+    fn raise(&mut self, top: u16, bottom: u16, n: u16) {
+        for b in top..bottom {
+            let from = b.saturating_add(n);
+            self.set_row(b, if from < bottom { Some(from) } else { None });
+        }
+    }
+
+    // The rows from `top` up to `bottom`, moved down.
+    fn lower(&mut self, top: u16, bottom: u16, n: u16) {
+        for b in (top..bottom).rev() {
+            let from = b.saturating_sub(n);
+            let is_moved = n <= b && top <= from;
+            self.set_row(b, if is_moved { Some(from) } else { None });
+        }
+    }
+
+    fn feed_line(&mut self) -> Result<(), AllocError> {
+        self.sure = self.sure && self.x < self.width;
+        let below = self.y.saturating_add(1);
+        if below != self.bottom {
+            self.y = below.min(self.height.saturating_sub(1));
+            return Ok(());
+        }
+        let mut row = Vec::new(self.alloc);
+        for a in 0..self.width {
+            let column = self.column(a, 0);
+            self.sure = self.sure && column.is_some();
+            row.push(column)?;
+        }
+        self.history.push(row)?;
+        self.sure = self.sure && self.has_own_sgr() && self.top == 0;
+        self.raise(self.top, self.bottom, 1);
+        Ok(())
+    }
+
+    /// Whether a place is covered by a symbol that begins left of it.
+    pub fn is_behind(&self, x: u16, y: u16) -> bool {
+        match self.column(x, y) {
+            Some(column) => 0 < column.index,
+            None => false,
+        }
+    }
+
+    /// Whether it is sure of what it shows, with its cursor in this place, and shows what a screen in memory does, below the rows that were left in its history.
+    pub fn shows(&self, cursor: Position, screen: &TestBackend) -> bool {
+        let x = self.x.min(self.width.saturating_sub(1));
+        let is_calm = self.sure
+            && self.has_own_sgr()
+            && self.top == 0
+            && self.bottom == self.height;
+        if !is_calm
+            || x != cursor.x
+            || self.y != cursor.y
+            || self.visible != screen.cursor_visible()
+        {
+            return false;
+        }
+        are_shown(self.columns.as_slice(), screen.buffer().content())
+            && self.history.len().checked_sub(self.rows_left) == Some(screen.scrollback().len())
+            && self
+                .history
+                .iter()
+                .skip(self.rows_left)
+                .zip(screen.scrollback().iter())
+                .all(|(row, cells)| are_shown(row.as_slice(), cells.as_slice()))
+    }
+}
+
+// Whether what stands in a column has the look of a cell.
+fn is_shown(column: Option<Column<'_>>, cell: &Cell) -> bool {
+    match column {
+        Some(column) if column.index == 0 => {
+            cell.symbol() == column.symbol && Sgr::of(cell) == column.sgr
+        }
+        Some(_) => cell.symbol() == " " && Sgr::of(cell) == Sgr::DEFAULT,
+        None => false,
+    }
+}
+
+fn are_shown(columns: &[Option<Column<'_>>], cells: &[Cell]) -> bool {
+    columns.len() == cells.len()
+        && columns
+            .iter()
+            .zip(cells.iter())
+            .all(|(column, cell)| is_shown(*column, cell))
+}
