@@ -1,7 +1,7 @@
 //! Frames as differences: how many updates there are, and their bytes.
 use crate::pictures::{Picture, painted, touch};
 use crate::texts::sum;
-use crate::{Done, Size};
+use crate::{Done, Size, widgets};
 use ratatui_ansi::AnsiBackend;
 use ratatui_core::backend::Backend;
 use ratatui_core::buffer::Buffer;
@@ -99,7 +99,7 @@ pub fn run(alloc: Global, name: &str, size: Size) -> Done {
         "ansi_colors" | "walk_colors" => (Picture::Nothing, Picture::Colors),
         "ansi_wide" | "walk_wide" => (Picture::Nothing, Picture::Wide),
         "ansi_few" | "walk_few" => (Picture::Sentence, Picture::Few),
-        _ => return Ok(None),
+        _ => return widgets::run(alloc, name, size),
     };
     let previous = painted(alloc, size.width, size.height, before)?;
     let newer = painted(alloc, size.width, size.height, after)?;
