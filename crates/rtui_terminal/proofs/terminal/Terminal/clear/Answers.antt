@@ -1,4 +1,4 @@
-use Rattle.std.proofs.Common.{◌≡◌, Option, Some, refl}
+use Rattle.std.proofs.Common.{◌≡◌, Option, Some, refl, inr}
 use Rattle.rtui_geometry.specs.declared.position.Position.{Position}
 use Rattle.rtui_viewport.specs.Areas.{KeepsAllButLooks}
 use Rattle.rtui_viewport.specs.Clearing.{ClearsArea}
@@ -34,4 +34,14 @@ returns-clause-ok g c = elim c.match-restore_cursor.branch [
         keeps = λ fixed on. rest_of screen _ _ refl frame.size (outside_cleared _ _ cleared fixed on);
       }))
   | in-Err-restore_cursor w ↦ rw w.result-is tt
+]
+
+pub returns-clause-err : goal.returns-clause-err
+returns-clause-err g c = elim c.match-restore_cursor.branch [
+  | in-Ok-restore_cursor w ↦ rw w.result-is tt
+  | in-Err-restore_cursor w ↦
+      let screen = g.B.Backend.screen in
+      let stays : screen c.get_cursor_position.new.self ≡ screen c.self.inside.backend = c.in-Ok.ensures.stays in
+      let cleared : ClearsArea c.self.inside.viewport c.self.inside.viewport_area (screen c.self.inside.backend) (screen c.clear_area.new.backend) = rw stays at c.in-Ok-clear_area.ensures.cleared in
+      rw w.result-is (rw (← c.self.view_is) (record { rest = refl; previous = inr (c.clear_area.new.backend, cleared, c.reset.ensures.emptied) }))
 ]
