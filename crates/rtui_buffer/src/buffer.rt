@@ -76,10 +76,11 @@ impl Buffer {
         Ok(Buffer { area, content })
     }
 
-    /// An equal buffer; refused if memory is.
+    /// An equal buffer; refused if memory is. One without cells takes none.
     pub fn clone(&self, alloc: Global) -> Result<Buffer, AllocError>
         ensures same { IfOk result (IsSameBuffer self.now) }
         ensures room { IfOk result (HasRoomFor self.now.area) }
+        ensures succeeds { area_size self.now.area ≡ 0 → IsOk result }
     {
         let area = self.area;
         let content = copied(alloc, self.content.as_slice())?;

@@ -1,16 +1,23 @@
 -- What a clear does.
-use Rattle.std.specs.Prelude.{◌≡◌, ◌⊎◌, ◌<◌}
+use Rattle.std.specs.Prelude.{◌≡◌, ◌⊎◌, ◌<◌, ℕ, Bool}
+use Rattle.rtui_geometry.specs.declared.rect.Rect.{Rect}
 use Rattle.rtui_geometry.specs.Rect.{EdgesFit}
 use Rattle.rtui_buffer.specs.BufferData.{IsEmptied}
-use Rattle.rtui_backend.specs.Screen.{IsOnScreen, Screen, cursor_of}
+use Rattle.rtui_backend.specs.Screen.{IsOnScreen, Screen, cursor_of, with_cursor}
+use Rattle.rtui_backend.specs.Clear.{is_cleared}
+use Rattle.rtui_backend.specs.declared.clear_type.ClearType.TheVariants.{AfterCursor}
 use Rattle.rtui_viewport.specs.Viewports.{IsFixed, IsInline}
-use Rattle.rtui_viewport.specs.Areas.{KeepsAllButLooks}
+use Rattle.rtui_viewport.specs.Areas.{KeepsAllButLooks, Empties}
 use Rattle.rtui_viewport.specs.Clearing.{ClearsArea, WritesBlanks}
 use Rattle.rtui_terminal.specs.TerminalData.{TerminalData}
 use Rattle.rtui_terminal.specs.InStep.{IsInStep, KeepsAroundViewport, rows_over}
 
+-- the columns from the corner of a rectangle on, row by row: the corner is the nearest position of the screen
+abbrev pub is_from_corner : Rect → Screen → ℕ → ℕ → Bool
+is_from_corner r s a b = is_cleared AfterCursor (with_cursor r.x r.y s).cursor_x (with_cursor r.x r.y s).cursor_y a b
+
 module _ {B : Type 0} (screen : B → Screen) where
-  -- a clear: the previous buffer is empty, and so is the viewport, whose edges fit; the size, the history and the cursor stay
+  -- a clear: the previous buffer is empty, and so is the viewport, whose edges fit, an inline one from its corner on; the size, the history and the cursor stay
   pub record ClearsViewport (s t : TerminalData B) : Type 0 where
     pub edges : EdgesFit s.viewport_area
     pub rest : t ≡ record s { backend = t.backend; previous = t.previous }
@@ -18,6 +25,7 @@ module _ {B : Type 0} (screen : B → Screen) where
     pub frame : KeepsAllButLooks (screen s.backend) (screen t.backend)
     pub cursor : cursor_of (screen t.backend) ≡ cursor_of (screen s.backend)
     pub clears : ClearsArea s.viewport s.viewport_area (screen s.backend) (screen t.backend)
+    pub corner : IsInline s.viewport → Empties (is_from_corner s.viewport_area (screen s.backend)) (screen s.backend) (screen t.backend)
     pub written : WritesBlanks s.viewport s.viewport_area (screen s.backend) (screen t.backend)
     pub in_step : IsOnScreen s.viewport_area (screen s.backend) → s.previous.area ≡ s.viewport_area → IsInStep screen t
     pub above : IsInline s.viewport → IsOnScreen s.viewport_area (screen s.backend) → 0 < s.viewport_area.height

@@ -15,6 +15,7 @@ pub mod init;
 mod insert;
 mod render;
 mod resize;
+mod widget;
 
 /// A terminal over a backend. It keeps the buffer to paint on and the one painted before, so that a draw writes
 /// only what differs. Its drop shows a cursor that it hid.

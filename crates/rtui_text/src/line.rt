@@ -1,4 +1,4 @@
-ghost use Rattle.std.specs.Prelude.{◌≡◌, List, ◌++◌, [], ◌∷◌, Some, IfOk, OnOk, OnErr};
+ghost use Rattle.std.specs.Prelude.{◌≡◌, List, ◌++◌, [], ◌∷◌, Some, IsOk, IfOk, OnOk, OnErr};
 ghost use Rattle.std.specs.String.{string_bytes};
 ghost use Rattle.std.specs.Iterator.{IsFinite, Drains, ExtendsWithItems};
 ghost use Rattle.std.specs.Slice.Iter.{iter_rest, iter_mut_rest};
@@ -125,16 +125,18 @@ impl<'a> Line<'a> {
         Ok(Line::from(spans))
     }
 
-    /// A line of spans equal to these; refused if memory is.
+    /// A line of spans equal to these; refused if memory is. No spans take none.
     pub fn from_slice(alloc: Global, spans: &[Span<'a>]) -> Result<Line<'a>, AllocError>
-        ensures { IfOk result (λ l. l ≡ line_of spans.now) }
+        ensures value { IfOk result (λ l. l ≡ line_of spans.now) }
+        ensures succeeds { spans.now ≡ [] → IsOk result }
     {
         Ok(Line::from(Spans::from_slice(alloc, spans)?))
     }
 
-    /// The line with spans equal to these in place of its own; refused if memory is.
+    /// The line with spans equal to these in place of its own; refused if memory is. No spans take none.
     pub fn spans(self, spans: &[Span<'a>]) -> Result<Line<'a>, AllocError>
-        ensures { IfOk result (λ l. l ≡ record self.entry { spans = spans.now }) }
+        ensures value { IfOk result (λ l. l ≡ record self.entry { spans = spans.now }) }
+        ensures succeeds { spans.now ≡ [] → IsOk result }
     {
         let spans = Spans::from_slice(self.spans.allocator(), spans)?;
         Ok(Line { spans, ..self })
@@ -285,9 +287,10 @@ impl<'a> Line<'a> {
         width
     }
 
-    /// An equal line; refused if memory is.
+    /// An equal line; refused if memory is. A line without spans takes none.
     pub fn clone(&self, alloc: Global) -> Result<Line<'a>, AllocError>
-        ensures { IfOk result (λ l. l ≡ self.now) }
+        ensures value { IfOk result (λ l. l ≡ self.now) }
+        ensures succeeds { self.now.spans ≡ [] → IsOk result }
     {
         Ok(Line {
             style: self.style,

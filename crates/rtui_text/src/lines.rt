@@ -1,4 +1,4 @@
-ghost use Rattle.std.specs.Prelude.{◌≡◌, ◌↔◌, ◌++◌, [], ◌∷◌, length, IsTrue, IfOk, OnOk, OnErr};
+ghost use Rattle.std.specs.Prelude.{◌≡◌, ◌↔◌, ◌++◌, [], ◌∷◌, length, IsTrue, IsOk, IfOk, OnOk, OnErr};
 ghost use Rattle.std.specs.Slice.Iter.{iter_rest, iter_mut_rest};
 ghost use Rattle.std.specs.Vec.Iter.{into_iter_items};
 ghost use Rattle.std.specs.Iterator.{IsFinite, ExtendsWithItems};
@@ -43,9 +43,10 @@ impl<'a> Lines<'a> {
         }
     }
 
-    /// Lines equal to these; refused if memory is.
+    /// Lines equal to these; refused if memory is. No lines take none.
     pub fn from_slice(alloc: Global, lines: &[Line<'a>]) -> Result<Lines<'a>, AllocError>
-        ensures { IfOk result (λ l. l ≡ lines.now) }
+        ensures value { IfOk result (λ l. l ≡ lines.now) }
+        ensures succeeds { lines.now ≡ [] → IsOk result }
     {
         let mut items = Vec::with_capacity(alloc, lines.len())?;
         for line in lines {
@@ -54,9 +55,10 @@ impl<'a> Lines<'a> {
         Ok(Lines { items })
     }
 
-    /// Equal lines; refused if memory is.
+    /// Equal lines; refused if memory is. No lines take none.
     pub fn clone(&self, alloc: Global) -> Result<Lines<'a>, AllocError>
-        ensures { IfOk result (λ l. l ≡ self.now) }
+        ensures value { IfOk result (λ l. l ≡ self.now) }
+        ensures succeeds { self.now ≡ [] → IsOk result }
     {
         Lines::from_slice(alloc, self.as_slice())
     }

@@ -1,4 +1,4 @@
-ghost use Rattle.std.specs.Prelude.{◌≡◌, ◌↔◌, ◌++◌, [], ◌∷◌, length, IsTrue, IfOk, OnOk, OnErr};
+ghost use Rattle.std.specs.Prelude.{◌≡◌, ◌↔◌, ◌++◌, [], ◌∷◌, length, IsTrue, IsOk, IfOk, OnOk, OnErr};
 ghost use Rattle.std.specs.Slice.Iter.{iter_rest, iter_mut_rest};
 ghost use Rattle.std.specs.Vec.Iter.{into_iter_items};
 ghost use Rattle.std.specs.Iterator.{IsFinite, ExtendsWithItems};
@@ -41,9 +41,10 @@ impl<'a> Spans<'a> {
         }
     }
 
-    /// Spans equal to these; refused if memory is.
+    /// Spans equal to these; refused if memory is. No spans take none.
     pub fn from_slice(alloc: Global, spans: &[Span<'a>]) -> Result<Spans<'a>, AllocError>
-        ensures { IfOk result (λ s. s ≡ spans.now) }
+        ensures value { IfOk result (λ s. s ≡ spans.now) }
+        ensures succeeds { spans.now ≡ [] → IsOk result }
     {
         let mut items = Vec::with_capacity(alloc, spans.len())?;
         for span in spans {
@@ -52,9 +53,10 @@ impl<'a> Spans<'a> {
         Ok(Spans { items })
     }
 
-    /// Equal spans; refused if memory is.
+    /// Equal spans; refused if memory is. No spans take none.
     pub fn clone(&self, alloc: Global) -> Result<Spans<'a>, AllocError>
-        ensures { IfOk result (λ s. s ≡ self.now) }
+        ensures value { IfOk result (λ s. s ≡ self.now) }
+        ensures succeeds { self.now ≡ [] → IsOk result }
     {
         Spans::from_slice(alloc, self.as_slice())
     }

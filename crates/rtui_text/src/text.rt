@@ -1,4 +1,4 @@
-ghost use Rattle.std.specs.Prelude.{◌≡◌, List, ◌++◌, [], ◌∷◌, Some, length, IfOk, OnOk, OnErr};
+ghost use Rattle.std.specs.Prelude.{◌≡◌, List, ◌++◌, [], ◌∷◌, Some, length, IsOk, IfOk, OnOk, OnErr};
 ghost use Rattle.std.specs.String.{string_bytes};
 ghost use Rattle.std.specs.Iterator.{IsFinite, Drains, ExtendsWithItems};
 ghost use Rattle.std.specs.Slice.Iter.{iter_rest, iter_mut_rest};
@@ -117,9 +117,10 @@ impl<'a> Text<'a> {
         Ok(Text::from(lines))
     }
 
-    /// A text of lines equal to these; refused if memory is.
+    /// A text of lines equal to these; refused if memory is. No lines take none.
     pub fn from_slice(alloc: Global, lines: &[Line<'a>]) -> Result<Text<'a>, AllocError>
-        ensures { IfOk result (λ t. t ≡ text_of lines.now) }
+        ensures value { IfOk result (λ t. t ≡ text_of lines.now) }
+        ensures succeeds { lines.now ≡ [] → IsOk result }
     {
         Ok(Text::from(Lines::from_slice(alloc, lines)?))
     }
@@ -280,9 +281,10 @@ impl<'a> Text<'a> {
         Ok(self)
     }
 
-    /// An equal text; refused if memory is.
+    /// An equal text; refused if memory is. A text without lines takes none.
     pub fn clone(&self, alloc: Global) -> Result<Text<'a>, AllocError>
-        ensures { IfOk result (λ t. t ≡ self.now) }
+        ensures value { IfOk result (λ t. t ≡ self.now) }
+        ensures succeeds { self.now.lines ≡ [] → IsOk result }
     {
         Ok(Text {
             alignment: self.alignment,

@@ -1,5 +1,5 @@
 -- How lines are rendered.
-use Rattle.std.proofs.Common.{◌≡◌, ℕ, ◌+◌, ◌-◌, ◌<◌, ◌≤◌, Bool, true, false, cond, min, List, [], ◌∷◌, ◌++◌, length, take, drop, sum_by, refl, sym, ap, ◌∙◌, ⊎_elim, arith, append_assoc, take-add, take-append-drop}
+use Rattle.std.proofs.Common.{◌≡◌, ℕ, ◌+◌, ◌-◌, ◌<◌, ◌≤◌, Bool, true, false, cond, min, List, [], ◌∷◌, ◌++◌, length, map, take, drop, sum_by, refl, sym, ap, subst, ◌∙◌, ⊎_elim, arith, append_assoc, take-add, take-append-drop}
 use Rattle.std.specs.Prelude.{nat_le, Option, ◌==◌}
 use Rattle.rtui_layout.specs.declared.alignment.HorizontalAlignment.{HorizontalAlignment}
 use Rattle.std.proofs.lemmas.Bool.Decides.{nat_tests}
@@ -12,10 +12,12 @@ use Rattle.rtui_cell.specs.declared.cell.Cell.{Cell}
 use Rattle.rtui_style.specs.declared.Style.{Style}
 use Rattle.rtui_text.specs.Text.{SpanData, LineData, line_of}
 use Rattle.rtui_cell.specs.Width.{text_columns}
-use Rattle.rtui_text.specs.Widths.{span_width}
-use Rattle.rtui_widgets.specs.Span.{span_rendered, IsShortSpan}
+use Rattle.rtui_text.specs.Widths.{span_width, line_width}
+use Rattle.rtui_cell.specs.Cell.{styled}
+use Rattle.rtui_widgets.specs.Span.{span_rendered, graphemes_rendered, IsShortSpan}
+use Rattle.rtui_widgets.specs.Refused.{IsShownFront, HasFrontOfSpan, HasFrontOfParts, HasFrontOfLine, columns_left}
 use Rattle.rtui_widgets.proofs.SpanLemmas.{length-span_rendered, rendered-nothing}
-use Rattle.rtui_widgets.specs.Line.{Part, last_fitting, part_of, parts, behind_first, parts_rendered, line_rendered, AreShortParts}
+use Rattle.rtui_widgets.specs.Line.{Part, columns_before, last_fitting, part_of, parts, behind_first, parts_then, parts_rendered, line_rendered, AreShortParts}
 
 -- ---- the end of a text
 
@@ -53,7 +55,7 @@ split-text text front behind is = sym (concat-append front behind) ∙ is
 -- ---- spans
 
 pub parts-nil : (skip : ℕ) (row : List Cell) → parts_rendered (parts skip []) row ≡ row
-unfolding parts parts_rendered
+unfolding parts parts_then
 parts-nil skip row = refl
 
 pub parts-skip : (skip : ℕ) (s : SpanData) (ss : List SpanData) → span_width s ≤ skip → parts skip (s ∷ ss) ≡ parts (skip - span_width s) ss
@@ -73,15 +75,15 @@ take-min n l = ⊎_elim (λ (a : n < length l). (let e : min n (length l) ≡ n 
 drop-min : {A : Type 0} (n : ℕ) (l : List A) → drop (min n (length l)) l ≡ drop n l
 drop-min n l = ⊎_elim (λ (a : n < length l). (let e : min n (length l) ≡ n = omega arith in rw e)) (λ (b : length l ≤ n). (let e : min n (length l) ≡ length l = omega arith in rw e (drop_all (length l) l (omega arith) ∙ sym (drop_all n l b)))) (cases_lt n (length l))
 
-rendered-part : (p : Part) (ps : List Part) (row : List Cell)
-    → parts_rendered (p ∷ ps) row ≡ behind_first p.indent (λ left. behind_first p.width (parts_rendered ps) (span_rendered p.style p.content left)) row
-unfolding parts_rendered
-rendered-part p ps row = refl
+rendered-part : (f : List Cell → List Cell) (p : Part) (ps : List Part) (row : List Cell)
+    → parts_then f (p ∷ ps) row ≡ behind_first p.indent (λ left. behind_first p.width (parts_then f ps) (span_rendered p.style p.content left)) row
+unfolding parts_then
+rendered-part f p ps row = refl
 
-rest-none : {A : Type 0} (a : ℕ) (xs : List A) → drop (length xs - a) (drop a xs) ≡ []
+pub rest-none : {A : Type 0} (a : ℕ) (xs : List A) → drop (length xs - a) (drop a xs) ≡ []
 rest-none a xs = drop_all (length xs - a) (drop a xs) (omega (arith, length-drop a xs))
 
-rest-all : {A : Type 0} (a : ℕ) (xs : List A) → take (length xs - a) (drop a xs) ≡ drop a xs
+pub rest-all : {A : Type 0} (a : ℕ) (xs : List A) → take (length xs - a) (drop a xs) ≡ drop a xs
 rest-all a xs = take_all (length xs - a) (drop a xs) (omega (arith, length-drop a xs))
 
 drop-front : {A : Type 0} (n m : ℕ) (xs ys : List A) → length xs ≡ n → drop (n + m) (xs ++ ys) ≡ drop m ys
@@ -102,7 +104,7 @@ pub span-none : (style : Style) (text : List ℕ) → span_rendered style text [
 span-none style text = sym (rendered-nothing style text [] refl)
 
 parts-done : (row : List Cell) → parts_rendered [] row ≡ row
-unfolding parts_rendered
+unfolding parts_then
 parts-done row = refl
 
 take-none : (n : ℕ) (none : List Cell) → length none ≡ 0 → take n none ≡ none
@@ -113,7 +115,7 @@ drop-none n none e = drop_all n none (omega arith)
 
 parts-none : (ps : List Part) → parts_rendered ps [] ≡ []
 parts-none [] = parts-done []
-parts-none (p ∷ ps) = rendered-part p ps [] ∙ rw (take-none p.indent [] refl, drop-none p.indent [] refl, span-none p.style p.content, take-none p.width [] refl, drop-none p.width [] refl) (parts-none ps)
+parts-none (p ∷ ps) = rendered-part (λ row. row) p ps [] ∙ rw (take-none p.indent [] refl, drop-none p.indent [] refl, span-none p.style p.content, take-none p.width [] refl, drop-none p.width [] refl) (parts-none ps)
 
 -- a part that takes no memory, and the others
 pub short-part : (columns : ℕ) (p : Part) (ps : List Part) → AreShortParts columns (p ∷ ps) → IsShortSpan (columns - p.indent) p.content
@@ -132,8 +134,25 @@ parts-past p ps row start start1 within s1 past =
     let none : drop p.indent (drop start row) ≡ [] = drop_all p.indent (drop start row) (omega (arith, length-drop start row)) in
     sym (rw (rendered-part, all, none, span-none p.style p.content, take-none p.width [] refl, drop-none p.width [] refl, parts-none ps, append-nil) (take-append-drop start row))
 
+-- a part's indent in the columns from start on
+module _ (p : Part) (row : List Cell) (start start1 : ℕ) (s1 : start1 ≡ start + min p.indent (length row - start)) where
+  indented : take start1 row ≡ take start row ++ take p.indent (drop start row)
+  indented = rw (s1, ← length-drop start row) (take-add start (min p.indent (length (drop start row))) row ∙ ap (λ cells. take start row ++ cells) (take-min p.indent (drop start row)))
+
+  behind : drop start1 row ≡ drop p.indent (drop start row)
+  behind = rw (s1, ← length-drop start row) (sym (drop-drop (min p.indent (length (drop start row))) start row) ∙ drop-min p.indent (drop start row))
+
+  -- what a row becomes of which the columns from there on were lent
+  pub lent-part : (g : List Cell → List Cell) (part : List Cell) → part ≡ g (take (length row - start1) (drop start1 row))
+      → take start1 row ++ (part ++ drop (length row - start1) (drop start1 row)) ≡ behind_first start (behind_first p.indent g) row
+  lent-part g part is =
+      let lent : take start1 row ++ (part ++ drop (length row - start1) (drop start1 row)) ≡ take start1 row ++ g (drop start1 row) =
+      rw (rest-none start1 row, append-nil) (ap (λ cells. take start1 row ++ cells) (is ∙ ap g (rest-all start1 row))) in
+      lent ∙ ap (λ cells. cells ++ g (drop start1 row)) indented ∙ append_assoc (take start row) (take p.indent (drop start row)) (g (drop start1 row))
+      ∙ ap (λ cells. take start row ++ (take p.indent (drop start row) ++ g cells)) behind
+
 -- a part in the columns from start on: in front of the row that is left, what is done
-module _ (p : Part) (ps : List Part) (row part : List Cell) (start start1 start2 : ℕ) (within : start ≤ length row)
+module _ (f : List Cell → List Cell) (p : Part) (ps : List Part) (row part : List Cell) (start start1 start2 : ℕ) (within : start ≤ length row)
     (s1 : start1 ≡ start + min p.indent (length row - start))
     (is : part ≡ span_rendered p.style p.content (take (length row - start1) (drop start1 row)))
     (s2 : start2 ≡ start1 + min p.width (length row - start1)) where
@@ -155,21 +174,87 @@ module _ (p : Part) (ps : List Part) (row part : List Cell) (start start1 start2
   left : drop start2 (take start1 row ++ shown) ≡ drop p.width shown
   left = rw (s2, ← count) (drop-front start1 (min p.width (length shown)) (take start1 row) shown front ∙ drop-min p.width shown)
 
-  indented : take start1 row ≡ take start row ++ take p.indent (drop start row)
-  indented = rw (s1, ← length-drop start row) (take-add start (min p.indent (length (drop start row))) row ∙ ap (λ cells. take start row ++ cells) (take-min p.indent (drop start row)))
-
-  behind : drop start1 row ≡ drop p.indent (drop start row)
-  behind = rw (s1, ← length-drop start row) (sym (drop-drop (min p.indent (length (drop start row))) start row) ∙ drop-min p.indent (drop start row))
-
-  pub part-turn : behind_first start2 (parts_rendered ps) (take start1 row ++ (part ++ drop (length row - start1) (drop start1 row))) ≡ behind_first start (parts_rendered (p ∷ ps)) row
+  pub part-turn : behind_first start2 (parts_then f ps) (take start1 row ++ (part ++ drop (length row - start1) (drop start1 row))) ≡ behind_first start (parts_then f (p ∷ ps)) row
   part-turn =
-      let both : take start row ++ (take p.indent (drop start row) ++ (take p.width shown ++ parts_rendered ps (drop p.width shown))) ≡ (take start1 row ++ take p.width shown) ++ parts_rendered ps (drop p.width shown) =
-      sym (append_assoc (take start row) (take p.indent (drop start row)) (take p.width shown ++ parts_rendered ps (drop p.width shown)))
-      ∙ ap (λ cells. cells ++ (take p.width shown ++ parts_rendered ps (drop p.width shown))) (sym indented)
-      ∙ sym (append_assoc (take start1 row) (take p.width shown) (parts_rendered ps (drop p.width shown))) in
-      let here : behind_first start2 (parts_rendered ps) (take start1 row ++ shown) ≡ (take start1 row ++ take p.width shown) ++ parts_rendered ps (drop p.width shown) = rw (done, left) refl in
-      let there : parts_rendered (p ∷ ps) (drop start row) ≡ take p.indent (drop start row) ++ (take p.width shown ++ parts_rendered ps (drop p.width shown)) = rendered-part p ps (drop start row) ∙ rw (← behind) refl in
-      ap (behind_first start2 (parts_rendered ps)) lent ∙ here ∙ sym both ∙ sym (ap (λ cells. take start row ++ cells) there)
+      let rest : List Cell = parts_then f ps (drop p.width shown) in
+      let both : take start row ++ (take p.indent (drop start row) ++ (take p.width shown ++ rest)) ≡ (take start1 row ++ take p.width shown) ++ rest =
+      sym (append_assoc (take start row) (take p.indent (drop start row)) (take p.width shown ++ rest))
+      ∙ ap (λ cells. cells ++ (take p.width shown ++ rest)) (sym (indented p row start start1 s1))
+      ∙ sym (append_assoc (take start1 row) (take p.width shown) rest) in
+      let here : behind_first start2 (parts_then f ps) (take start1 row ++ shown) ≡ (take start1 row ++ take p.width shown) ++ rest = rw (done, left) refl in
+      let there : parts_then f (p ∷ ps) (drop start row) ≡ take p.indent (drop start row) ++ (take p.width shown ++ rest) = rendered-part f p ps (drop start row) ∙ rw (← behind p row start start1 s1) refl in
+      ap (behind_first start2 (parts_then f ps)) lent ∙ here ∙ sym both ∙ sym (ap (λ cells. take start row ++ cells) there)
+
+-- ---- some parts whole, and a front of the next one
+
+then-done : (f : List Cell → List Cell) (row : List Cell) → parts_then f [] row ≡ f row
+unfolding parts_then
+then-done f row = refl
+
+columns_left-more : (n : ℕ) (ps : List Part) (p : Part) → columns_left n (ps ++ p ∷ []) ≡ columns_left n ps - p.indent - p.width
+columns_left-more n [] p = refl
+columns_left-more n (q ∷ ps) p = columns_left-more (n - q.indent - q.width) ps p
+
+-- these parts but for those that are left are rendered, in the columns before start
+pub record HasDone (ps left : List Part) (start : ℕ) (old row : List Cell) : Type 0 where
+  pub whole : List Part
+  pub are : ps ≡ whole ++ left
+  pub columns : columns_left (length old) whole ≡ length row - start
+  pub follows : (f : List Cell → List Cell) (qs : List Part) → behind_first start (parts_then f qs) row ≡ parts_then f (whole ++ qs) old
+
+pub done-none : (ps : List Part) (row : List Cell) → HasDone ps ps 0 row row
+done-none ps row = record { whole = []; are = refl; columns = omega arith; follows = λ f qs. refl }
+
+-- one part more
+pub done-turn : (ps : List Part) (p : Part) (left : List Part) (old row part : List Cell) (start start1 start2 : ℕ) → start ≤ length row
+    → start1 ≡ start + min p.indent (length row - start)
+    → part ≡ span_rendered p.style p.content (take (length row - start1) (drop start1 row))
+    → start2 ≡ start1 + min p.width (length row - start1)
+    → length (take start1 row ++ (part ++ drop (length row - start1) (drop start1 row))) ≡ length row
+    → HasDone ps (p ∷ left) start old row → HasDone ps left start2 old (take start1 row ++ (part ++ drop (length row - start1) (drop start1 row)))
+done-turn ps p left old row part start start1 start2 within s1 is s2 count h = record {
+  whole = h.whole ++ p ∷ [];
+  are = h.are ∙ sym (append_assoc h.whole (p ∷ []) left);
+  columns = columns_left-more (length old) h.whole p ∙ omega (arith, h.columns, count, s1, s2, within);
+  follows = λ f qs. part-turn f p qs row part start start1 start2 within s1 is s2 ∙ h.follows f (p ∷ qs) ∙ ap (λ rs. parts_then f rs old) (sym (append_assoc h.whole (p ∷ []) qs));
+}
+
+-- the next part was refused memory
+pub refused-part : (ps : List Part) (p : Part) (left : List Part) (old row part : List Cell) (start start1 : ℕ) → start ≤ length row
+    → start1 ≡ start + min p.indent (length row - start)
+    → HasFrontOfSpan p.style p.content (take (length row - start1) (drop start1 row)) part
+    → HasDone ps (p ∷ left) start old row → HasFrontOfParts ps old (take start1 row ++ (part ++ drop (length row - start1) (drop start1 row)))
+refused-part ps p left old row part start start1 within s1 front h =
+    let f : List Cell → List Cell = behind_first p.indent (graphemes_rendered p.style front.front) in
+    let columns : length (take (length row - start1) (drop start1 row)) ≡ columns_left (length old) h.whole - p.indent = length-rest start1 row ∙ omega (arith, h.columns, s1, within) in
+    record {
+      whole = h.whole;
+      next = p;
+      others = left;
+      are = h.are;
+      front = front.front;
+      is = subst (λ n. IsShownFront n p.content front.front) columns front.is;
+      row = lent-part p row start start1 s1 (graphemes_rendered p.style front.front) part front.row
+          ∙ sym (ap (λ cells. take start row ++ cells) (then-done f (drop start row)))
+          ∙ h.follows f [] ∙ ap (λ qs. parts_then f qs old) (append-nil h.whole);
+    }
+
+-- the line was: its style lies over the row, and at columns stand before its parts
+pub refused-line : (alignment : Option HorizontalAlignment) (line : LineData) (old laid : List Cell) (at skip : ℕ) (spans : List SpanData) (left : List Cell)
+    → laid ≡ map (styled line.style) old → at ≡ columns_before alignment (length old - line_width line.spans) → skip ≡ columns_before alignment (line_width line.spans - length old)
+    → spans ≡ line.spans → HasFrontOfParts (parts skip spans) (take (length laid - at) (drop at laid)) left
+    → HasFrontOfLine alignment line old (take at laid ++ (left ++ drop (length laid - at) (drop at laid)))
+refused-line alignment line old laid at skip spans left l a s e front =
+    let whole = subst (λ cells. HasFrontOfParts (parts skip spans) cells left) (rest-all at laid) front in
+    let own = subst (λ ss. HasFrontOfParts (parts skip ss) (drop at laid) left) e whole in
+    let cut = subst (λ n. HasFrontOfParts (parts n line.spans) (drop at laid) left) s own in
+    let indented = subst (λ n. HasFrontOfParts (parts (columns_before alignment (line_width line.spans - length old)) line.spans) (drop n laid) left) a cut in
+    record {
+      left = left;
+      parts_are = subst (λ cells. HasFrontOfParts (parts (columns_before alignment (line_width line.spans - length old)) line.spans) (drop (columns_before alignment (length old - line_width line.spans)) cells) left) l indented;
+      row = ap (λ rest. take at laid ++ (left ++ rest)) (rest-none at laid) ∙ ap (λ cells. take at laid ++ cells) (append-nil left)
+          ∙ ap (λ n. take n laid ++ left) a ∙ ap (λ cells. take (columns_before alignment (length old - line_width line.spans)) cells ++ left) l;
+    }
 
 part-style-cases : (b : Bool) (p q : Part) (s : Style) → p.style ≡ s → q.style ≡ s → (cond b p q).style ≡ s
 part-style-cases true p q s e h = e

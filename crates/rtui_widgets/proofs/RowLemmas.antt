@@ -1,13 +1,14 @@
 -- Rows made anew, one after the other.
 use Rattle.std.proofs.Common.{◌≡◌, ℕ, ◌+◌, ◌*◌, ◌<◌, ◌≤◌, ◌⊎◌, ⊎_elim, inl, inr, List, length, get_or, take, drop, refl, sym, ap, subst, ◌∙◌, arith}
 use Rattle.std.proofs.lemmas.Bool.{cases_lt}
+use Rattle.std.specs.Prelude.{Result, Ok, Err, OnErr}
 use Rattle.std.proofs.lemmas.List.{length-append, length-take, length-drop, get_or-take, get_or-drop, take_at, drop_at, ext_get_or}
 use Rattle.std.proofs.lemmas.Slice.{take-put_mid_below, drop-put_mid}
 use borrow.Rule.Slice.PartMut.{put_mid}
 use Rattle.rtui_cell.specs.declared.cell.Cell.{Cell}
 use Rattle.rtui_cell.specs.Cell.{empty_cell}
 use Rattle.rtui_diff.specs.Cells.{cell}
-use Rattle.rtui_widgets.specs.Inner.{Rows, cells_of_row, IsOutside, KeepsOthers, MakesRows}
+use Rattle.rtui_widgets.specs.Inner.{Rows, cells_of_row, IsOutside, KeepsOthers, MakesRows, LeavesRows}
 use Rattle.rtui_grid.proofs.PlaceLemmas.{row_ends}
 
 -- ---- a part of a list that was written
@@ -49,6 +50,11 @@ same-row from width xs ys len fits h =
     ∙ sym (get_or-take width (drop from ys) i empty_cell less ∙ get_or-drop from ys i empty_cell))
 
 -- ---- rows
+
+-- two facts of a refusal
+pub both-err : {T E : Type 0} (P Q : Type 0) (r : Result T E) → OnErr r P → OnErr r Q → OnErr r (P × Q)
+both-err P Q (Ok x) p q = tt
+both-err P Q (Err e) p q = (p, q)
 
 module _ (start width stride : ℕ) (apart : width ≤ stride) where
   abbrev rows : ℕ → Rows
@@ -100,6 +106,23 @@ module _ (start width stride : ℕ) (apart : width ≤ stride) where
     former =
         let same = h.keeps.length_stays in
         same-row at width now old same (omega arith) (λ i from to. h.keeps.others i (apart-from k k i (omega arith) from to))
+
+    -- the row at which it was refused
+    pub leaves-row : (all : ℕ) → k < all → ((j : ℕ) → j < all → start + j * stride + width ≤ length now) → (g : ℕ → List Cell → List Cell → Type 0)
+        → g k (take width (drop at now)) part → LeavesRows (rows all) f g old more
+    leaves-row all lt all-inside g left = record {
+      at = k;
+      there = lt;
+      above = before;
+      row =
+          let own : part ≡ take width (drop at more) = sym (ap (λ w. take w (drop at more)) (sym width-is) ∙ written-there at n now part fits count) in
+          subst (g k (cells_of_row (rows all) k old)) own (subst (λ cells. g k cells part) former left);
+      below = λ j after lt'.
+          let same = h.keeps.length_stays in
+          let there = all-inside j lt' in
+          same-row (start + j * stride) width more now (length-written at n now part fits count) there (λ i from to. beside i (other j k i (inr after) from to))
+          ∙ same-row (start + j * stride) width now old same (omega arith) (λ i from to. h.keeps.others i (apart-from j k i (omega arith) from to));
+    }
 
     pub makes-row : part ≡ f k (take width (drop at now)) → MakesRows (rows (k + 1)) f old more
     makes-row is = record {

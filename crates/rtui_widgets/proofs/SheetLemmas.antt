@@ -16,8 +16,10 @@ use Rattle.rtui_style.specs.declared.Style.{Style}
 use Rattle.rtui_buffer.specs.Painting.{Piece, columns, KeepsUnmarked}
 use Rattle.rtui_buffer.specs.PaintedText.{room_at, pieces_at, IsSameBeside}
 use Rattle.rtui_buffer.proofs.PaintedLemmas.{columns-kept}
-use Rattle.rtui_widgets.specs.Rendering.{area_row, ChangesWithin, RendersRows, in_first_row, first_row}
-use Rattle.rtui_widgets.specs.Inner.{Rows, place, cells_of_row, IsOutside, KeepsOthers, MakesRows}
+use Rattle.rtui_text.specs.Text.{TextData}
+use Rattle.rtui_widgets.specs.Rendering.{area_row, ChangesWithin, RendersRows, in_first_row, first_row, text_row}
+use Rattle.rtui_widgets.specs.Refused.{LeavesFirstRow, LeavesText, HasFrontOfRow}
+use Rattle.rtui_widgets.specs.Inner.{Rows, place, cells_of_row, IsOutside, KeepsOthers, MakesRows, LeavesRows}
 use Rattle.rtui_widgets.proofs.SpanLemmas.{unmarked-written}
 use Rattle.rtui_widgets.proofs.RowLemmas.{length-written, written-before, written-behind, written-there, same-row, other}
 use Rattle.rtui_buffer.specs.Clipped.{IsClipped}
@@ -246,6 +248,21 @@ module _ (area : Rect) (old : BufferData) (r : Rect) (h : IsClipped area old.are
         outside = λ p i o. keeps.others (cell_index old.area p) (subst (λ a. IsOutside (record { start = a; width = r.width; stride = old.area.width; count = 1 }) (cell_index old.area p)) (sym at-is) (outside-first area old r h p i o));
       }))
 
+  first-old : area_row (intersected area old.area) 0 old ≡ take n (drop at old.cells)
+  first-old =
+      let from : cell_index old.area (record { x = r.x; y = r.y + 0 }) ≡ at = place-of area old r h 0 ∙ omega (arith, at-is) in
+      ap (λ q. area_row q 0 old) (sym h.value) ∙ ap (λ i. take r.width (drop i old.cells)) from ∙ ap (λ w. take w (drop at old.cells)) (sym width-is)
+
+  pub first-leaves : (f : List Cell → List Cell → Type 0) → KeepsUnmarked (take n (drop at old.cells)) part → f (take n (drop at old.cells)) part
+      → LeavesFirstRow f area old (record old { cells = refilled old.cells written })
+  first-leaves f keeps left =
+      let some : 0 < (intersected area old.area).height = subst (λ q. 0 < q.height) h.value h.rows in
+      record {
+        marks = first-marks keeps;
+        within = first-row-changes;
+        row = subst (f (area_row (intersected area old.area) 0 old)) (sym ((first-renders (λ cells. part) refl).rows 0 some)) (subst (λ cells. f cells part) (sym first-old) left);
+      }
+
 -- how many columns the row has
 pub first-columns : (area : Rect) (old : BufferData) (r : Rect) (h : IsClipped area old.area r) (at n : ℕ) → at ≡ cell_index old.area (record { x = r.x; y = r.y }) → n ≡ r.width
     → length old.cells ≡ area_size old.area → length (take n (drop at old.cells)) ≡ (intersected area old.area).width
@@ -274,6 +291,26 @@ module _ (area : Rect) (old : BufferData) (r : Rect) (h : IsClipped area old.are
   lent-changes keeps =
       subst (λ cells. ChangesWithin area old (record old { cells = cells })) (sym (refilled-same old.cells w same))
       (changes-within area old r h w (subst (λ rows. KeepsOthers rows old.cells w) rows-same keeps))
+
+  row-lent : (k : ℕ) (cells : List Cell) → area_row (intersected area old.area) k (record old { cells = cells }) ≡ cells_of_row rows_lent k cells
+  row-lent k cells =
+      ap (λ q. area_row q k (record old { cells = cells })) (sym h.value) ∙ ap (λ at. take r.width (drop at cells)) (place-of area old r h k)
+      ∙ ap (λ rows. cells_of_row rows k cells) (sym rows-same)
+
+  pub lent-leaves : (text : TextData) → KeepsUnmarked old.cells w → KeepsOthers rows_lent old.cells w → LeavesRows rows_lent (text_row text) (HasFrontOfRow text) old.cells w
+      → LeavesText text area old (record old { cells = refilled old.cells w })
+  lent-leaves text keeps others left =
+      let is : count ≡ (intersected area old.area).height = count-is ∙ ap (λ q. q.height) h.value in
+      subst (λ cells. LeavesText text area old (record old { cells = cells })) (sym (refilled-same old.cells w same))
+      (record {
+        marks = keeps;
+        within = changes-within area old r h w (subst (λ rows. KeepsOthers rows old.cells w) rows-same others);
+        at = left.at;
+        there = omega (arith, left.there, is);
+        above = λ k lt. row-lent k w ∙ left.above k lt ∙ ap (text_row text k) (sym (row-lent k old.cells));
+        row = subst (HasFrontOfRow text left.at (area_row (intersected area old.area) left.at old)) (sym (row-lent left.at w)) (subst (λ cells. HasFrontOfRow text left.at cells (cells_of_row rows_lent left.at w)) (sym (row-lent left.at old.cells)) left.row);
+        below = λ k after lt. row-lent k w ∙ left.below k after (omega (arith, lt, is)) ∙ sym (row-lent k old.cells);
+      })
 
 -- ---- a text painted at an area's corner
 

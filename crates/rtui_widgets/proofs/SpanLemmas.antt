@@ -192,7 +192,7 @@ pub length-span_rendered : (s : Style) (text : List ℕ) (row : List Cell) → l
 unfolding span_rendered
 length-span_rendered s text row = length-columns_from (column_with s (showing (length row) (graphemes true text))) 0 row
 
-IsRowWith-row : (s : Style) (gs : List (List ℕ)) (old new : List Cell) → IsRowWith s gs old new → new ≡ columns_from (column_with s gs) 0 old
+pub IsRowWith-row : (s : Style) (gs : List (List ℕ)) (old new : List Cell) → IsRowWith s gs old new → new ≡ columns_from (column_with s gs) 0 old
 IsRowWith-row s gs old new h =
     ext_get_or empty_cell new (columns_from (column_with s gs) 0 old) (h.count ∙ sym (length-columns_from (column_with s gs) 0 old))
     (λ k lt.

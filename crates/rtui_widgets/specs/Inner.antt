@@ -44,6 +44,14 @@ pub record MakesRows (r : Rows) (f : ℕ → List Cell → List Cell) (old new :
   pub keeps : KeepsOthers r old new
   pub rows : (k : ℕ) → k < r.count → cells_of_row r k new ≡ f k (cells_of_row r k old)
 
+-- the rows before one are what f makes of them, that one is as g says, and those after it stay
+pub record LeavesRows (r : Rows) (f : ℕ → List Cell → List Cell) (g : ℕ → List Cell → List Cell → Type 0) (old new : List Cell) : Type 0 where
+  pub at : ℕ
+  pub there : at < r.count
+  pub above : (k : ℕ) → k < at → cells_of_row r k new ≡ f k (cells_of_row r k old)
+  pub row : g at (cells_of_row r at old) (cells_of_row r at new)
+  pub below : (k : ℕ) → at < k → k < r.count → cells_of_row r k new ≡ cells_of_row r k old
+
 -- a cell with a text as its symbol, in a style
 abbrev pub with_grapheme : Style → List ℕ → Cell → Cell
 with_grapheme style g c = styled style (record c { symbol = Some g })

@@ -48,11 +48,15 @@ parts skip (span ∷ spans) =
 abbrev pub behind_first : ℕ → (List Cell → List Cell) → List Cell → List Cell
 behind_first n f row = take n row ++ f (drop n row)
 
--- a row with these parts, each in the columns that are left after the one before
-unfoldable pub parts_rendered : List Part → List Cell → List Cell
-parts_rendered [] row = row
-parts_rendered (p ∷ ps) row =
-    behind_first p.indent (λ left. behind_first p.width (parts_rendered ps) (span_rendered p.style p.content left)) row
+-- a row with these parts, each in the columns that are left after the one before, and with what f makes of those left after all
+unfoldable pub parts_then : (List Cell → List Cell) → List Part → List Cell → List Cell
+parts_then f [] row = f row
+parts_then f (p ∷ ps) row =
+    behind_first p.indent (λ left. behind_first p.width (parts_then f ps) (span_rendered p.style p.content left)) row
+
+-- a row with these parts, and nothing more
+abbrev pub parts_rendered : List Part → List Cell → List Cell
+parts_rendered ps = parts_then (λ row. row) ps
 
 -- how many of the columns that are too many stand before what is aligned so
 abbrev pub columns_before : Option HorizontalAlignment → ℕ → ℕ

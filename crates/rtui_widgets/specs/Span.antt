@@ -42,9 +42,13 @@ unfoldable pub columns_from : (ℕ → Cell → Cell) → ℕ → List Cell → 
 columns_from f k [] = []
 columns_from f k (c ∷ cs) = f k c ∷ columns_from f (k + 1) cs
 
+-- a row with these graphemes in a style, from its first column on
+abbrev pub graphemes_rendered : Style → List (List ℕ) → List Cell → List Cell
+graphemes_rendered style gs row = columns_from (column_with style gs) 0 row
+
 -- a row with a text in a style, from its first column on
 unfoldable pub span_rendered : Style → List ℕ → List Cell → List Cell
-span_rendered style text row = columns_from (column_with style (showing (length row) (graphemes true text))) 0 row
+span_rendered style text row = graphemes_rendered style (showing (length row) (graphemes true text)) row
 
 -- a text takes no memory in a row of these many columns: the graphemes that go to one column, joined, are short
 abbrev pub IsShortSpan : ℕ → List ℕ → Type 0

@@ -1,9 +1,8 @@
 //! Spans, lines and texts in a buffer.
 
 ghost use Rattle.std.specs.Prelude.{IsOk, OnOk, OnErr};
-ghost use Rattle.rtui_geometry.specs.Rect.{intersected};
-ghost use Rattle.rtui_widgets.specs.Rendering.{RendersSpan, RendersLine, RendersText, RendersShortSpan, RendersShortLine, RendersShortText, ChangesWithin, first_row};
-ghost use Rattle.rtui_buffer.specs.Painting.{KeepsUnmarked};
+ghost use Rattle.rtui_widgets.specs.Rendering.{RendersSpan, RendersLine, RendersText, RendersShortSpan, RendersShortLine, RendersShortText, ChangesWithin};
+ghost use Rattle.rtui_widgets.specs.Refused.{LeavesSpan, LeavesLine, LeavesText};
 
 use crate::line::render_line;
 use crate::span::render_span;
@@ -17,10 +16,8 @@ use std::alloc::AllocError;
 pub(crate) fn span_in(span: &Span<'_>, area: Rect, buf: &mut Buffer) -> Result<(), AllocError>
     ensures ok { OnOk result (RendersSpan span.now area buf.old buf.new) }
     ensures err { OnErr result (ChangesWithin area buf.old buf.new) }
-    ensures first { OnErr result
-        (ChangesWithin (first_row (intersected area buf.old.area)) buf.old buf.new) }
+    ensures left { OnErr result (LeavesSpan span.now area buf.old buf.new) }
     ensures short { RendersShortSpan span.now area buf.old → IsOk result }
-    ensures marks { KeepsUnmarked buf.old.cells buf.new.cells }
 {
     let Some(part) = buf.part(area) else {
         return Ok(());
@@ -36,10 +33,8 @@ pub(crate) fn span_in(span: &Span<'_>, area: Rect, buf: &mut Buffer) -> Result<(
 pub(crate) fn line_in(line: &Line<'_>, area: Rect, buf: &mut Buffer) -> Result<(), AllocError>
     ensures ok { OnOk result (RendersLine line.now area buf.old buf.new) }
     ensures err { OnErr result (ChangesWithin area buf.old buf.new) }
-    ensures first { OnErr result
-        (ChangesWithin (first_row (intersected area buf.old.area)) buf.old buf.new) }
+    ensures left { OnErr result (LeavesLine line.now area buf.old buf.new) }
     ensures short { RendersShortLine line.now area buf.old → IsOk result }
-    ensures marks { KeepsUnmarked buf.old.cells buf.new.cells }
 {
     let Some(part) = buf.part(area) else {
         return Ok(());
@@ -55,8 +50,8 @@ pub(crate) fn line_in(line: &Line<'_>, area: Rect, buf: &mut Buffer) -> Result<(
 pub(crate) fn text_in(text: &Text<'_>, area: Rect, buf: &mut Buffer) -> Result<(), AllocError>
     ensures ok { OnOk result (RendersText text.now area buf.old buf.new) }
     ensures err { OnErr result (ChangesWithin area buf.old buf.new) }
+    ensures left { OnErr result (LeavesText text.now area buf.old buf.new) }
     ensures short { RendersShortText text.now area buf.old → IsOk result }
-    ensures marks { KeepsUnmarked buf.old.cells buf.new.cells }
 {
     let Some(part) = buf.part(area) else {
         return Ok(());

@@ -1,6 +1,6 @@
 //! Lines in a row of cells.
 
-ghost use Rattle.std.specs.Prelude.{true, ◌≡◌, ◌+◌, ◌-◌, ◌<◌, ◌≤◌, length, map, sum_by, IsOk, OnOk};
+ghost use Rattle.std.specs.Prelude.{true, ◌≡◌, ◌+◌, ◌-◌, ◌<◌, ◌≤◌, length, map, sum_by, IsOk, OnOk, OnErr};
 ghost use Rattle.std.specs.List.{concat};
 ghost use Rattle.unicode_segmentation.specs.Grapheme.{graphemes};
 ghost use Rattle.rtui_cell.specs.Cell.{styled};
@@ -8,6 +8,7 @@ ghost use Rattle.rtui_cell.specs.Width.{text_columns};
 ghost use Rattle.rtui_text.specs.Widths.{span_width};
 ghost use Rattle.rtui_widgets.specs.Inner.{IsPart};
 ghost use Rattle.rtui_buffer.specs.Painting.{KeepsUnmarked};
+ghost use Rattle.rtui_widgets.specs.Refused.{HasFrontOfParts, HasFrontOfLine};
 ghost use Rattle.rtui_widgets.specs.Line.{parts, parts_rendered, part_of, columns_before, line_rendered, last_fitting, AreShortParts, IsShortLine};
 
 use crate::span::render_span;
@@ -29,6 +30,7 @@ pub(crate) fn render_line(
     ensures ok { OnOk result (row.new ≡ line_rendered alignment line.now row.old) }
     ensures short { IsShortLine alignment line.now (length row.old) → IsOk result }
     ensures marks { KeepsUnmarked row.old row.new }
+    ensures err { OnErr result (HasFrontOfLine alignment line.now row.old row.new) }
 {
     let columns = row.len();
     if columns == 0 {
@@ -83,6 +85,7 @@ fn render_spans(
     ensures ok { OnOk result (row.new ≡ parts_rendered (parts skip spans.now) row.old) }
     ensures short { AreShortParts (length row.old) (parts skip spans.now) → IsOk result }
     ensures marks { KeepsUnmarked row.old row.new }
+    ensures err { OnErr result (HasFrontOfParts (parts skip spans.now) row.old row.new) }
 {
     let mut skip = skip;
     let mut start = 0;

@@ -5,6 +5,7 @@ ghost use Rattle.rtui_cell.specs.Symbol.{appended, IsShort};
 ghost use Rattle.rtui_cell.specs.Width.{text_width};
 ghost use Rattle.rtui_buffer.specs.Painting.{emptied};
 ghost use Rattle.rtui_widgets.specs.Span.{span_rendered, IsShortSpan};
+ghost use Rattle.rtui_widgets.specs.Refused.{HasFrontOfSpan};
 ghost use Rattle.rtui_buffer.specs.Painting.{KeepsUnmarked};
 ghost use Rattle.rtui_widgets.specs.Inner.{with_grapheme, with_appended, with_next, next_symbol};
 
@@ -27,6 +28,7 @@ pub(crate) fn render_span(
     ensures ok { OnOk result (row.new ≡ span_rendered style text.now row.old) }
     ensures short { IsShortSpan (length row.old) text.now → IsOk result }
     ensures marks { KeepsUnmarked row.old row.new }
+    ensures err { OnErr result (HasFrontOfSpan style text.now row.old row.new) }
 {
     if row.is_empty() {
         return Ok(());

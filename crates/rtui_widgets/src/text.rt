@@ -3,7 +3,8 @@
 ghost use Rattle.std.specs.Prelude.{◌≡◌, ℕ, ◌+◌, ◌*◌, ◌<◌, ◌≤◌, length, IsOk, OnOk, OnErr};
 ghost use Rattle.rtui_widgets.specs.Rendering.{text_row, IsShortRow};
 ghost use Rattle.rtui_buffer.specs.Painting.{KeepsUnmarked};
-ghost use Rattle.rtui_widgets.specs.Inner.{rows_from, KeepsOthers, MakesRows};
+ghost use Rattle.rtui_widgets.specs.Refused.{HasFrontOfRow};
+ghost use Rattle.rtui_widgets.specs.Inner.{rows_from, KeepsOthers, MakesRows, LeavesRows};
 
 use crate::line::{lay_row, render_line};
 use rtui_cell::Cell;
@@ -26,6 +27,8 @@ pub(crate) fn render_rows(
         OnOk result (MakesRows rows (text_row text.now) cells.old cells.new) }
     ensures err { let rows = rows_from start width stride height in
         OnErr result (KeepsOthers rows cells.old cells.new) }
+    ensures left { let rows = rows_from start width stride height in OnErr result
+        (LeavesRows rows (text_row text.now) (HasFrontOfRow text.now) cells.old cells.new) }
     ensures short { ((k : ℕ) → k < height → IsShortRow text.now width k) → IsOk result }
     ensures marks { KeepsUnmarked cells.old cells.new }
 {
@@ -39,6 +42,7 @@ pub(crate) fn render_rows(
 // Renders row k of a text.
 fn render_row(alloc: Global, row: &mut [Cell], text: &Text<'_>, k: usize) -> Result<(), AllocError>
     ensures ok { OnOk result (row.new ≡ text_row text.now k row.old) }
+    ensures err { OnErr result (HasFrontOfRow text.now k row.old row.new) }
     ensures short { IsShortRow text.now (length row.old) k → IsOk result }
     ensures marks { KeepsUnmarked row.old row.new }
 {

@@ -82,11 +82,11 @@ pub trait StatefulWidget {
 /// In the first row of the area: each grapheme at the sum of the widths before it, as far as the row goes.
 impl<'b, 'a> Widget for &'b Span<'a> {
     ghost use Rattle.rtui_widgets.specs.Rendering.{RendersSpan, RendersShortSpan};
+    ghost use Rattle.rtui_widgets.specs.Refused.{LeavesSpan};
 
     ghost renders = { λ span. RendersSpan span.now };
 
-    ghost leaves = { λ _ area old new. KeepsUnmarked old.cells new.cells
-        × ChangesWithin (first_row (intersected area old.area)) old new };
+    ghost leaves = { λ span. LeavesSpan span.now };
 
     ghost is_short = { λ span. RendersShortSpan span.now };
 
@@ -97,11 +97,11 @@ impl<'b, 'a> Widget for &'b Span<'a> {
 
 impl<'a> Widget for Span<'a> {
     ghost use Rattle.rtui_widgets.specs.Rendering.{RendersSpan, RendersShortSpan};
+    ghost use Rattle.rtui_widgets.specs.Refused.{LeavesSpan};
 
     ghost renders = { RendersSpan };
 
-    ghost leaves = { λ _ area old new. KeepsUnmarked old.cells new.cells
-        × ChangesWithin (first_row (intersected area old.area)) old new };
+    ghost leaves = { LeavesSpan };
 
     ghost is_short = { RendersShortSpan };
 
@@ -114,11 +114,11 @@ impl<'a> Widget for Span<'a> {
 /// whole row. What doesn't fit is cut, at the left if the line isn't aligned to the left.
 impl<'b, 'a> Widget for &'b Line<'a> {
     ghost use Rattle.rtui_widgets.specs.Rendering.{RendersLine, RendersShortLine};
+    ghost use Rattle.rtui_widgets.specs.Refused.{LeavesLine};
 
     ghost renders = { λ line. RendersLine line.now };
 
-    ghost leaves = { λ _ area old new. KeepsUnmarked old.cells new.cells
-        × ChangesWithin (first_row (intersected area old.area)) old new };
+    ghost leaves = { λ line. LeavesLine line.now };
 
     ghost is_short = { λ line. RendersShortLine line.now };
 
@@ -129,11 +129,11 @@ impl<'b, 'a> Widget for &'b Line<'a> {
 
 impl<'a> Widget for Line<'a> {
     ghost use Rattle.rtui_widgets.specs.Rendering.{RendersLine, RendersShortLine};
+    ghost use Rattle.rtui_widgets.specs.Refused.{LeavesLine};
 
     ghost renders = { RendersLine };
 
-    ghost leaves = { λ _ area old new. KeepsUnmarked old.cells new.cells
-        × ChangesWithin (first_row (intersected area old.area)) old new };
+    ghost leaves = { LeavesLine };
 
     ghost is_short = { RendersShortLine };
 
@@ -145,10 +145,11 @@ impl<'a> Widget for Line<'a> {
 /// Line by line from the top of the area, each in a row of its own, under them the text's style over the whole area.
 impl<'b, 'a> Widget for &'b Text<'a> {
     ghost use Rattle.rtui_widgets.specs.Rendering.{RendersText, RendersShortText};
+    ghost use Rattle.rtui_widgets.specs.Refused.{LeavesText};
 
     ghost renders = { λ text. RendersText text.now };
 
-    ghost leaves = { λ _ _ old new. KeepsUnmarked old.cells new.cells };
+    ghost leaves = { λ text. LeavesText text.now };
 
     ghost is_short = { λ text. RendersShortText text.now };
 
@@ -159,10 +160,11 @@ impl<'b, 'a> Widget for &'b Text<'a> {
 
 impl<'a> Widget for Text<'a> {
     ghost use Rattle.rtui_widgets.specs.Rendering.{RendersText, RendersShortText};
+    ghost use Rattle.rtui_widgets.specs.Refused.{LeavesText};
 
     ghost renders = { RendersText };
 
-    ghost leaves = { λ _ _ old new. KeepsUnmarked old.cells new.cells };
+    ghost leaves = { LeavesText };
 
     ghost is_short = { RendersShortText };
 

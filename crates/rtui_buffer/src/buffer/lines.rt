@@ -1,6 +1,6 @@
 //! Painting spans and lines.
 
-ghost use Rattle.std.specs.Prelude.{◌≡◌, ◌+◌, ◌-◌, ◌*◌, ◌<◌, ◌≤◌, length, IsOk, OnOk, OnErr, IfOk};
+ghost use Rattle.std.specs.Prelude.{◌≡◌, ◌+◌, ◌-◌, ◌*◌, ◌<◌, ◌≤◌, [], length, IsOk, OnOk, OnErr, IfOk};
 ghost use Rattle.std.specs.Vec.{vec_capacity};
 ghost use Rattle.rtui_style.specs.Style.{patch};
 ghost use Rattle.rtui_text.specs.Text.{raw_line};
@@ -81,13 +81,15 @@ impl Buffer {
     }
 
     /// A buffer at the corner `(0, 0)` with these lines, each in a row of its own: as wide as the widest of them,
-    /// and as high as there are lines, both at most 65535 ([`lines_width`] says how wide). Refused if memory is.
+    /// and as high as there are lines, both at most 65535 ([`lines_width`] says how wide). Refused if memory is;
+    /// no lines take none.
     pub fn with_lines(alloc: Global, lines: &[Line<'_>]) -> Result<Buffer, AllocError>
         requires height { length lines.now ≤ 65535 }
         requires width { widest lines.now ≤ 65535 }
         ensures lines { IfOk result (IsOfLines lines.now) }
         ensures settled { IfOk result IsSettledBuffer }
         ensures room { IfOk result (HasRoomFor (lines_area lines.now)) }
+        ensures succeeds { lines.now ≡ [] → IsOk result }
     {
         let area = Rect {
             x: 0,
@@ -100,13 +102,14 @@ impl Buffer {
     }
 
     /// A buffer with a line for each of these texts, as `with_lines` has it ([`texts_width`] says how wide);
-    /// refused if memory is.
+    /// refused if memory is. No texts take none.
     pub fn from_texts(alloc: Global, texts: &[&str]) -> Result<Buffer, AllocError>
         requires height { length texts.now ≤ 65535 }
         requires width { widest (raw_lines texts.now) ≤ 65535 }
         ensures lines { IfOk result (IsOfLines (raw_lines texts.now)) }
         ensures settled { IfOk result IsSettledBuffer }
         ensures room { IfOk result (HasRoomFor (lines_area (raw_lines texts.now))) }
+        ensures succeeds { texts.now ≡ [] → IsOk result }
     {
         let mut lines = Vec::with_capacity(alloc, texts.len())?;
         for text in texts {
@@ -155,6 +158,7 @@ fn rows_of(alloc: Global, width: u16, lines: &[Line<'_>]) -> Result<Vec<Cell>, A
     requires { length lines.now ≤ 65535 }
     ensures items { IfOk result (λ cells. cells.items ≡ line_rows width lines.now) }
     ensures room { IfOk result (λ cells. width * length lines.now ≤ vec_capacity cells) }
+    ensures succeeds { lines.now ≡ [] → IsOk result }
 {
     let mut cells = Vec::new(alloc);
     cut_or_fill(&mut cells, usize::from(width) * lines.len())?;
@@ -170,7 +174,8 @@ fn paint_lines(
     lines: &[Line<'_>],
 ) -> Result<(), AllocError>
     requires empty { cells.old ≡ empty_cells (width * length lines.now) }
-    ensures { OnOk result (cells.new ≡ line_rows width lines.now) }
+    ensures ok { OnOk result (cells.new ≡ line_rows width lines.now) }
+    ensures succeeds { lines.now ≡ [] → IsOk result }
 {
     let mut start = 0usize;
     for line in lines {

@@ -28,6 +28,7 @@ pub fn copies(alloc: Global, cell: Cell, count: usize) -> Result<Vec<Cell>, Allo
 pub fn copied(alloc: Global, cells: &[Cell]) -> Result<Vec<Cell>, AllocError>
     ensures items { IfOk result (λ copies. copies.items ≡ cells.now) }
     ensures room { IfOk result (λ copies. vec_capacity copies ≡ length cells.now) }
+    ensures succeeds { length cells.now ≡ 0 → IsOk result }
 {
     let mut copies = Vec::with_capacity(alloc, cells.len())?;
     fill_up(&mut copies, cells.len());
@@ -38,7 +39,8 @@ pub fn copied(alloc: Global, cells: &[Cell]) -> Result<Vec<Cell>, AllocError>
 // Copies each cell to the same place.
 fn copy_all(alloc: Global, copies: &mut [Cell], cells: &[Cell]) -> Result<(), AllocError>
     requires { length copies.old ≡ length cells.now }
-    ensures { OnOk result (copies.new ≡ cells.now) }
+    ensures ok { OnOk result (copies.new ≡ cells.now) }
+    ensures succeeds { length cells.now ≡ 0 → IsOk result }
 {
     for i in 0..cells.len() {
         copies[i].clone_from(alloc, &cells[i])?;

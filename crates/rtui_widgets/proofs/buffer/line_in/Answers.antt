@@ -1,12 +1,13 @@
 use Rattle.std.proofs.Common.{◌≡◌, ℕ, ◌+◌, ◌-◌, List, length, take, drop, rules, arith, ap, sym, subst, ◌∙◌}
-use Rattle.std.proofs.lemmas.Result.{on_ok_weaker}
-use Rattle.std.specs.Prelude.{OnOk}
+use Rattle.std.proofs.lemmas.Result.{on_ok_weaker, on_err_weaker}
+use Rattle.std.specs.Prelude.{OnOk, OnErr}
 use Rattle.rtui_cell.specs.declared.cell.Cell.{Cell}
 use Rattle.rtui_widgets.specs.Line.{line_rendered, IsShortLine}
 use Rattle.rtui_geometry.specs.Rect.{intersected}
 use Rattle.rtui_widgets.specs.Rendering.{in_first_row}
+use Rattle.rtui_widgets.specs.Refused.{HasFrontOfLine}
 use Rattle.rtui_widgets.proofs.LineLemmas.{line-in_none}
-use Rattle.rtui_widgets.proofs.SheetLemmas.{renders-nothing, first-none, first-renders, first-changes, first-columns, first-row-changes, first-marks}
+use Rattle.rtui_widgets.proofs.SheetLemmas.{renders-nothing, first-none, first-renders, first-changes, first-columns, first-leaves}
 use Rattle.rtui_buffer.specs.BufferData.{area_size}
 use Rattle.rtui_widgets.proofs.buffer.line_in.Goals as goal
 
@@ -29,12 +30,12 @@ returns c =
     let count : length row ≡ length (take n (drop at buf.cells)) = rw (← value) c.render_line.auto.row in
     let alignment : c.line.inside.alignment ≡ c.args.line.now.alignment = ap (λ l. l.alignment) c.line.view_is in
     let ran : OnOk c.render_line.result (row ≡ g (take n (drop at c.args.buf.now.cells))) = rw (← value) (on_ok_weaker c.render_line.result (λ e. e ∙ ap (λ a. line_rendered a c.args.line.now (take n (drop at c.cells_mut-cells.result.now))) alignment) c.render_line.ensures.ok) in
+    let left : OnErr c.render_line.result (HasFrontOfLine c.args.line.now.alignment c.args.line.now (take n (drop at buf.cells)) row) = rw (← value) (on_err_weaker c.render_line.result (λ e. subst (λ a. HasFrontOfLine a c.args.line.now (take n (drop at c.cells_mut-cells.result.now)) row) alignment e) c.render_line.ensures.err) in
     let place = c.index_of-start.ensures.value in
     let columns : (intersected area buf.area).width ≡ length (take n (drop at c.cells_mut-cells.result.now)) = rw value (sym (first-columns area buf part is at n place wide cells)) in
     record {
       ok = rw value (on_ok_weaker c.render_line.result (λ e. first-renders area buf part is at n row place wide cells count g e) ran);
       err = rw value (search (rules, first-changes area buf part is at n row place wide cells count));
-      first = rw value (search (rules, first-row-changes area buf part is at n row place wide cells count));
+      left = rw value (on_err_weaker c.render_line.result (λ front. first-leaves area buf part is at n row place wide cells count (HasFrontOfLine c.args.line.now.alignment c.args.line.now) (rw (← value) c.render_line.ensures.marks) front) left);
       short = λ short. c.render_line.ensures.short (subst (λ a. IsShortLine a c.args.line.now (length (take n (drop at c.cells_mut-cells.result.now)))) (sym alignment) (subst (IsShortLine c.args.line.now.alignment c.args.line.now) columns short));
-      marks = rw value (first-marks area buf part is at n row place wide cells count (rw (← value) c.render_line.ensures.marks));
     }

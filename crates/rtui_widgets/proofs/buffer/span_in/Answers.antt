@@ -1,12 +1,13 @@
 use Rattle.std.proofs.Common.{◌≡◌, ℕ, ◌+◌, ◌-◌, List, length, take, drop, rules, arith, ap, sym, subst}
-use Rattle.std.proofs.lemmas.Result.{on_ok_weaker}
-use Rattle.std.specs.Prelude.{OnOk}
+use Rattle.std.proofs.lemmas.Result.{on_ok_weaker, on_err_weaker}
+use Rattle.std.specs.Prelude.{OnOk, OnErr}
 use Rattle.rtui_cell.specs.declared.cell.Cell.{Cell}
 use Rattle.rtui_widgets.specs.Span.{span_rendered, IsShortSpan}
 use Rattle.rtui_geometry.specs.Rect.{intersected}
 use Rattle.rtui_widgets.specs.Rendering.{in_first_row}
+use Rattle.rtui_widgets.specs.Refused.{HasFrontOfSpan}
 use Rattle.rtui_widgets.proofs.LineLemmas.{span-none}
-use Rattle.rtui_widgets.proofs.SheetLemmas.{renders-nothing, first-none, first-renders, first-changes, first-columns, first-row-changes, first-marks}
+use Rattle.rtui_widgets.proofs.SheetLemmas.{renders-nothing, first-none, first-renders, first-changes, first-columns, first-leaves}
 use Rattle.rtui_buffer.specs.BufferData.{area_size}
 use Rattle.rtui_widgets.proofs.buffer.span_in.Goals as goal
 
@@ -29,12 +30,12 @@ returns c =
     let count : length row ≡ length (take n (drop at buf.cells)) = rw (← value) c.render_span.auto.row in
     let style : c.span.inside.style ≡ c.args.span.now.style = ap (λ s. s.style) c.span.view_is in
     let ran : OnOk c.render_span.result (row ≡ g (take n (drop at c.args.buf.now.cells))) = rw (← style, ← c.text.ensures, ← value) c.render_span.ensures.ok in
+    let left : OnErr c.render_span.result (HasFrontOfSpan c.args.span.now.style c.args.span.now.content (take n (drop at buf.cells)) row) = rw (← style, ← c.text.ensures, ← value) c.render_span.ensures.err in
     let place = c.index_of-start.ensures.value in
     let columns : (intersected area buf.area).width ≡ length (take n (drop at c.cells_mut-cells.result.now)) = rw value (sym (first-columns area buf part is at n place wide cells)) in
     record {
       ok = rw value (on_ok_weaker c.render_span.result (λ e. first-renders area buf part is at n row place wide cells count g e) ran);
       err = rw value (search (rules, first-changes area buf part is at n row place wide cells count));
-      first = rw value (search (rules, first-row-changes area buf part is at n row place wide cells count));
+      left = rw value (on_err_weaker c.render_span.result (λ front. first-leaves area buf part is at n row place wide cells count (HasFrontOfSpan c.args.span.now.style c.args.span.now.content) (rw (← value) c.render_span.ensures.marks) front) left);
       short = λ short. c.render_span.ensures.short (subst (IsShortSpan (length (take n (drop at c.cells_mut-cells.result.now)))) (sym c.text.ensures) (subst (λ m. IsShortSpan m c.args.span.now.content) columns short));
-      marks = rw value (first-marks area buf part is at n row place wide cells count (rw (← value) c.render_span.ensures.marks));
     }

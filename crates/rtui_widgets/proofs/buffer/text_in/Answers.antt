@@ -4,7 +4,8 @@ use Rattle.rtui_buffer.specs.BufferData.{area_size}
 use Rattle.rtui_geometry.specs.Rect.{intersected}
 use Rattle.rtui_widgets.specs.Rendering.{text_row, IsShortRow}
 use Rattle.rtui_widgets.proofs.LineLemmas.{line-in_none}
-use Rattle.rtui_widgets.proofs.SheetLemmas.{renders-nothing, rows-inside, lent-renders, lent-changes, refilled-marks}
+use Rattle.rtui_widgets.proofs.RowLemmas.{both-err}
+use Rattle.rtui_widgets.proofs.SheetLemmas.{renders-nothing, rows-inside, lent-renders, lent-changes, lent-leaves}
 use Rattle.rtui_widgets.proofs.buffer.text_in.Goals as goal
 
 pub returns-in_default-clause-ok : goal.returns-in_default-clause-ok
@@ -34,5 +35,5 @@ returns c =
       ok = on_ok_weaker c.render_rows.result (λ made. lent-renders area buf part is _ _ _ _ cells place c.from.ensures stride c.from-2.ensures same (text_row c.args.text.now) (rw (← value) made)) c.render_rows.ensures.ok;
       err = on_err_weaker c.render_rows.result (λ keeps. lent-changes area buf part is _ _ _ _ cells place c.from.ensures stride c.from-2.ensures same (rw (← value) keeps)) c.render_rows.ensures.err;
       short = λ short. c.render_rows.ensures.short (λ k lt. subst (λ n. IsShortRow c.args.text.now n k) width (short k (omega arith)));
-      marks = refilled-marks buf.cells cells same (rw (← value) c.render_rows.ensures.marks);
+      left = on_err_weaker c.render_rows.result (λ left. lent-leaves area buf part is _ _ _ _ cells place c.from.ensures stride c.from-2.ensures same c.args.text.now (rw (← value) c.render_rows.ensures.marks) (rw (← value) left.0) (rw (← value) left.1)) (both-err _ _ c.render_rows.result c.render_rows.ensures.err c.render_rows.ensures.left);
     }

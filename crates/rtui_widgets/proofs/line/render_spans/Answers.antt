@@ -6,7 +6,7 @@ use Rattle.rtui_cell.specs.declared.cell.Cell.{Cell}
 use Rattle.rtui_widgets.specs.Span.{span_rendered, IsShortSpan}
 use Rattle.rtui_widgets.proofs.SpanLemmas.{length-span_rendered, unmarked-written}
 use Rattle.rtui_widgets.specs.Line.{Part, part_of, parts, parts_rendered, behind_first, AreShortParts}
-use Rattle.rtui_widgets.proofs.LineLemmas.{parts-nil, parts-skip, parts-take, parts-past, part-turn, part-style, length-rest, length-lent, short-part, short-others}
+use Rattle.rtui_widgets.proofs.LineLemmas.{parts-nil, parts-skip, parts-take, parts-past, part-turn, part-style, HasDone, done-turn, refused-part, length-rest, length-lent, short-part, short-others}
 use Rattle.rtui_buffer.proofs.PaintLemmas.{unmarked-then}
 use Rattle.rtui_widgets.proofs.line.render_spans.Goals as goal
 
@@ -26,6 +26,7 @@ loop-span-preserved-then-width-skip c =
       left = ap (λ ps. behind_first c.loop-span.start (parts_rendered ps) c.loop-span.row) (sym same) ∙ c.loop-span.invariant.left;
       short = λ short. subst (AreShortParts (length c.loop-span.row - c.loop-span.start)) same (c.loop-span.invariant.short short);
       marks = c.loop-span.invariant.marks;
+      done = subst (λ left. HasDone (parts c.args.skip c.args.spans.now) left c.loop-span.start c.args.row.now c.loop-span.row) same c.loop-span.invariant.done;
     }
 
 pub returns-then-start-row-clause-ok : goal.returns-then-start-row-clause-ok
@@ -63,13 +64,15 @@ loop-span-preserved c =
     ap (λ n. start + c.min-start.result + n) (rw (← c.part_of-part.ensures.width, ← whole) c.min-start-in-loop-span.ensures) in
     record {
       within = omega (arith, whole, start2);
-      left = part-turn p (parts 0 others) row c.render_span.new.row start (start + c.min-start.result) (start + c.min-start.result + c.min-start-in-loop-span.result) c.loop-span.invariant.within start1 painted start2
+      left = part-turn (λ row. row) p (parts 0 others) row c.render_span.new.row start (start + c.min-start.result) (start + c.min-start.result + c.min-start-in-loop-span.result) c.loop-span.invariant.within start1 painted start2
           ∙ ap (λ ps. behind_first start (parts_rendered ps) row) (sym same) ∙ c.loop-span.invariant.left;
       short = λ short.
           let columns : length row - start - p.indent - p.width ≡ length (take (start + c.min-start.result) row ++ (c.render_span.new.row ++ drop (length row - (start + c.min-start.result)) (drop (start + c.min-start.result) row)))
           - (start + c.min-start.result + c.min-start-in-loop-span.result) = omega (arith, whole, start1, start2, c.loop-span.invariant.within) in
           subst (λ n. AreShortParts n (parts 0 others)) columns (short-others (length row - start) p (parts 0 others) (subst (AreShortParts (length row - start)) same (c.loop-span.invariant.short short)));
       marks = unmarked-then _ _ _ c.loop-span.invariant.marks (unmarked-written (start + c.min-start.result) (length row - (start + c.min-start.result)) row c.render_span.new.row c.in_ok-render_span.ensures.marks c.render_span.auto.row);
+      done = done-turn _ p (parts 0 others) c.args.row.now row c.render_span.new.row start (start + c.min-start.result) (start + c.min-start.result + c.min-start-in-loop-span.result) c.loop-span.invariant.within start1 painted start2 whole
+      (subst (λ left. HasDone (parts c.args.skip c.args.spans.now) left start c.args.row.now row) same c.loop-span.invariant.done);
     }
 
 pub returns-in_err-render_span : goal.returns-in_err-render_span
@@ -83,8 +86,12 @@ returns-in_err-render_span c =
     ap (parts c.loop-span.skip) rest ∙ parts-take c.loop-span.skip c.span-item.result others (omega (arith, c.if-width-skip.false, c.width-width.ensures)) in
     let start1 : start + c.min-start.result ≡ start + min p.indent (length row - start) =
     ap (λ n. start + n) (rw (← c.part_of-part.ensures.indent) c.min-start.ensures) in
+    let style : c.span.inside.style ≡ p.style = ap (λ s. s.style) c.span.view_is ∙ sym (part-style c.loop-span.skip c.span-item.result) in
     let columns : length row - start - p.indent ≡ length (take (length row - (start + c.min-start.result)) (drop (start + c.min-start.result) row)) =
     (let e : length row - start - p.indent ≡ length row - (start + c.min-start.result) = omega (arith, start1, c.loop-span.invariant.within) in e) ∙ sym (length-rest (start + c.min-start.result) row) in
+    let left = refused-part _ p (parts 0 others) c.args.row.now row c.render_span.new.row start (start + c.min-start.result) c.loop-span.invariant.within start1
+    (rw (← style, ← c.part_of-part.ensures.content) c.in_err-render_span.ensures.err)
+    (subst (λ left. HasDone (parts c.args.skip c.args.spans.now) left start c.args.row.now row) same c.loop-span.invariant.done) in
     record {
       ok = search rules;
       short = λ short.
@@ -93,6 +100,7 @@ returns-in_err-render_span c =
           c.in_err-render_span.ensures.short (subst (λ n. IsShortSpan n c.part_of-part.result.content.now) columns (subst (IsShortSpan (length row - start - p.indent)) (sym c.part_of-part.ensures.content) span)) in
           cc;
       marks = unmarked-then _ _ _ c.loop-span.invariant.marks (unmarked-written (start + c.min-start.result) (length row - (start + c.min-start.result)) row c.render_span.new.row c.in_err-render_span.ensures.marks c.render_span.auto.row);
+      err = search (rules, left);
     }
 
 pub returns-clause-ok : goal.returns-clause-ok

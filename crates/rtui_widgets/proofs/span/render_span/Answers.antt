@@ -1,4 +1,4 @@
-use Rattle.std.proofs.Common.{◌≡◌, ◌∷◌, [], ◌++◌, ◌<◌, true, false, length, rules, arith, ◌∙◌, take, drop, ◌≤◌}
+use Rattle.std.proofs.Common.{◌≡◌, ◌∷◌, [], ◌++◌, ◌<◌, true, false, length, rules, arith, sym, ◌∙◌, take, drop, ◌≤◌}
 use Rattle.std.proofs.lemmas.Grind.{common_steps}
 use Rattle.std.proofs.lemmas.Bool.Decides.{nat_tests}
 use Rattle.unicode_segmentation.specs.Grapheme.{graphemes}
@@ -8,8 +8,10 @@ use Rattle.rtui_text.specs.Printable.{singles}
 use Rattle.rtui_buffer.specs.Painting.{pieces, painted}
 use Rattle.rtui_widgets.proofs.PrintableLemmas.{front-at, front-first, front-later, front-shows, front-row}
 use Rattle.rtui_text.specs.Graphemes.{has_control}
-use Rattle.rtui_widgets.proofs.SpanLemmas.{rendered_of, front-skip, front-turn, front-full, front-end, next-short, append-some, end-more, IsRowWith-turn, unmarked-next}
+use Rattle.rtui_widgets.proofs.SpanLemmas.{rendered_of, front-skip, front-turn, front-full, front-end, next-short, append-some, end-more, IsRowWith-turn, unmarked-next, IsRowWith-row}
 use Rattle.rtui_buffer.proofs.PaintLemmas.{unmarked-refl, unmarked-painted}
+use Rattle.rtui_widgets.specs.Span.{graphemes_rendered}
+use Rattle.rtui_widgets.specs.Refused.{HasFrontOfSpan}
 use Rattle.rtui_widgets.proofs.span.render_span.Goals as goal
 
 pub loop-grapheme-init : goal.loop-grapheme-init
@@ -105,6 +107,14 @@ loop-grapheme-preserved c =
         marks = rw c.in_ok-put_next.ensures.ok (unmarked-next _ _ _ _ _ _ i.marks);
       },
     )
+
+pub returns-in_err-put_next-clause-err : goal.returns-in_err-put_next-clause-err
+returns-in_err-put_next-clause-err c =
+    let i = c.loop-grapheme.invariant.1 in
+    let row : c.put_next.new.row ≡ graphemes_rendered c.args.style c.loop-grapheme.invariant.0 c.args.row.now = c.in_err-put_next.ensures.err ∙ IsRowWith-row _ _ _ _ i.row in
+    let left : HasFrontOfSpan c.args.style c.args.text.now c.args.row.now c.put_next.new.row =
+    record { front = c.loop-grapheme.invariant.0; is = record { others = _; is = sym i.front }; row = row } in
+    search (rules, left)
 
 pub returns-clause-ok : goal.returns-clause-ok
 returns-clause-ok c =
