@@ -1,8 +1,8 @@
 //! Examples on `ratatui_core` alone; docs/USING.md walks through them.
 //!
 //! [`greet`] is the README's first example. [`draw_checked`] draws a frame on a terminal, [`log`] logs rows above it, [`renew`] makes a list of calls, and [`label`] paints on a
-//! buffer. [`Gauge`] is a widget of one's own: a labelled bar. [`draw_widget`] draws any widget over a whole frame, [`draw_text`] a
-//! text and [`draw_gauge`] a gauge.
+//! buffer. [`Gauge`] is a widget of one's own: a labelled bar. [`draw_text`] draws a text over a whole frame, and
+//! [`draw_gauge`] a gauge, by `Terminal::draw_widget`.
 #![tactic(auto)]
 
 mod frames;
@@ -25,4 +25,4 @@ pub use labels::{label, pieces_stand};
 pub use lines::restyle_first;
 pub use logging::log;
 pub use renewing::renew;
-pub use widget_frames::{draw_gauge, draw_text, draw_widget};
+pub use widget_frames::{draw_gauge, draw_text};

@@ -14,21 +14,21 @@ pub use Rattle.rtui_cell.specs.Grid.{Grid, Update, update_by, put, puts}
 unfoldable pub use Rattle.rtui_diff.specs.Cells.{has_fe0f, shows_on_blank, is_forced, is_always}
 pub use Rattle.rtui_diff.specs.Cells.{cell, cell_at, is_reset, is_forced_by}
 pub use Rattle.rtui_diff.specs.Settled.{IsBlankOrSkipped, IsSettled}
-pub use Rattle.rtui_diff.specs.Shows.{ShowsColumn, Shows, RowAgrees, is_plain, repaint, Repaints, Replays}
+pub use Rattle.rtui_diff.specs.Shows.{ShowsColumn, Shows, repaint, Repaints, Replays}
 pub use Rattle.rtui_diff.specs.Updates.{updates, IsBefore, Rises, IsCellOfNext}
 unfoldable pub use Rattle.rtui_diff.specs.DiffRule.{given}
-pub use Rattle.rtui_diff.specs.DiffRule.{Walk, start, gives_visited, gives_plain, step_plain, gives, step, give}
-pub use Rattle.rtui_diff.specs.Completeness.{differing, AreNarrow, IsGiven, Repeats, Uncovers, IsInFrame, CoversColumn, IsUnchanged, IsMinimal, IsFree, IsDark, Varies, Bares, IsComplete}
+pub use Rattle.rtui_diff.specs.DiffRule.{start, gives_visited, gives_plain, step_plain, gives, step}
+pub use Rattle.rtui_diff.specs.Completeness.{IsMinimal, IsComplete}
 pub use Rattle.rtui_diff.specs.Remaining.{updates_left}
 pub use Rattle.rtui_diff.specs.Diff.{IsDiff}
 pub use Rattle.rtui_buffer.specs.BufferData.{BufferData, area_size, IsBuffer, HasRoomFor, position_of, cell_index, place_position, cell_in, with_cell, with_cells, moved_to, buffer_row, HasRow, empty_cells, resized, IsEmptied, IsSameBuffer, IsEqualBuffer}
 pub use Rattle.rtui_buffer.specs.Shown.{IsSettledBuffer, IsShownByRepaint, ShowsBuffer, IsAligned, IsBufferDiff, HaveSettledRows, listed}
 unfoldable pub use Rattle.rtui_buffer.specs.Painting.{painted_width, fitting, kept, emptied, with_piece, painted}
-pub use Rattle.rtui_buffer.specs.Painting.{has_painted_width, IsLongestFront, Piece, pieces, text_pieces, piece_width, columns, shown, IsSameOutside, piece_at, HasPieces}
+pub use Rattle.rtui_buffer.specs.Painting.{has_painted_width, IsLongestFront, Piece, pieces, text_pieces, columns, shown, IsSameOutside, piece_at, HasPieces}
 pub use Rattle.rtui_buffer.specs.PaintedText.{room_at, pieces_at, PaintsPieces, right_by, IsBeside, PaintsByColumns, IsSameBeside, AreShort, IsPaintable, PaintsOrRefuses, IsStyled, HasShortGraphemes, HaveShortGraphemes}
 pub use Rattle.rtui_buffer.specs.Bar.{bar_of, PaintsOnBar, ShowsPieces, bar_cell}
 unfoldable pub use Rattle.rtui_buffer.specs.Line.{line_pieces}
-pub use Rattle.rtui_buffer.specs.Line.{line_pieces_at, line_rows, lines_area, IsOfLines, raw_lines}
+pub use Rattle.rtui_buffer.specs.Line.{line_pieces_at, lines_area, IsOfLines, raw_lines}
 pub use Rattle.rtui_buffer.specs.RowsDiff.{IsRowsDiff}
 pub use Rattle.rtui_buffer.specs.Overlay.{no_area, IsOverlay}
 -- Changes of cells by position, plain cells, and parts that are changed apart from each other.

@@ -7,7 +7,6 @@ pub use Rattle.rtui_merge.specs.Arms.{same_arms}
 unfoldable pub use Rattle.rtui_merge.specs.Symbols.{symbols, arms_of, symbol_of}
 pub use Rattle.rtui_merge.specs.Symbols.{Symbol, row}
 unfoldable pub use Rattle.rtui_merge.specs.Shapes.{is_mixed, is_rounded}
-pub use Rattle.rtui_merge.specs.Shapes.{across}
 unfoldable pub use Rattle.rtui_merge.specs.Merge.{exact, solid_unless_straight, square_unless_corner, double_or_thick, double_or_plain, fuzzy, merged, Unites}
 pub use Rattle.rtui_merge.specs.Merge.{over, by_arms}
 pub use Rattle.rtui_merge.specs.Laws.{MergesWithItself, FuzzyKeepsExact, FoundByArms, DifferInArms, AreBoxDrawings}

@@ -1,5 +1,5 @@
 -- Rows of a settled buffer, drawn over blank rows by the updates from empty ones.
-use Rattle.std.proofs.Common.{◌≡◌, ℕ, zero, suc, ◌+◌, ◌-◌, ◌*◌, ◌/◌, ◌%◌, ◌<◌, ◌≤◌, min, Bool, true, false, List, [], ◌++◌, map, drop, slice_index_or, refl, sym, ap, subst, ◌∙◌, arith, append_assoc, inl, inr}
+use Rattle.std.proofs.Common.{◌≡◌, ℕ, zero, suc, ◌+◌, ◌-◌, ◌*◌, ◌/◌, ◌%◌, ◌<◌, ◌≤◌, ◌⊎◌, min, Bool, true, false, List, [], ◌++◌, map, drop, slice_index_or, refl, sym, ap, subst, ◌∙◌, arith, append_assoc, inl, inr}
 use Rattle.std.specs.List.{range_with_len}
 use Rattle.std.proofs.lemmas.Bool.{cases_lt}
 use Rattle.std.proofs.lemmas.Bool.Decides.{nat_tests}
@@ -22,9 +22,30 @@ use Rattle.rtui_buffer.specs.Shown.{IsSettledBuffer}
 use Rattle.rtui_buffer.proofs.EmptyLemmas.{cell-empty}
 use Rattle.rtui_backend.specs.Screen.{Screen, seen, row_of, rows_above, Draws}
 use Rattle.rtui_buffer.specs.RowsDiff.{part_cells, IsRowsDiff}
-use Rattle.rtui_insert.specs.Rows.{DrawsRows, IsUnknownRow, RowsFit, ShowsFirst, CanShowRows, ShowsRows, lowered_update, IsBlankAt}
+use Rattle.rtui_insert.specs.Rows.{DrawsRows, IsUnknownRow, RowsFit, lowered_update, IsBlankAt}
 use Rattle.rtui_insert.specs.Insertion.{AppendsPart}
 use Rattle.rtui_grid.proofs.RangeLemmas.{range_split, same_places}
+
+-- the first n rows of a buffer are settled, and a screen shows them at row y
+pub record ShowsFirst (s : BufferData) (n y : ℕ) (screen : Screen) : Type 0 where
+  pub settled : IsSettled s.area.width n (part_cells s 0 n)
+  pub shown : Shows 0 y s.area.width n (part_cells s 0 n) screen.grid
+
+-- n rows of a settled buffer, from row i on, can be drawn over the first n rows of a former one
+pub record CanShowRows (former s : BufferData) (i n y : ℕ) (screen : Screen) : Type 0 where
+  pub fit : RowsFit s n y screen
+  pub inside : i + n ≤ s.area.height
+  pub settled : IsSettledBuffer s
+  pub shown : ShowsFirst former n y screen
+
+-- n rows of a buffer, from row i on, are shown at row y, and all else is as before
+pub record ShowsRows (s : BufferData) (i n y : ℕ) (old new : Screen) : Type 0 where
+  pub history : new.history ≡ old.history
+  pub width : new.width ≡ old.width
+  pub height : new.height ≡ old.height
+  pub visible : new.visible ≡ old.visible
+  pub shown : (a b : ℕ) → a < s.area.width → b < n → ShowsColumn s.area.width s.cells a (i + b) (new.grid a (y + b))
+  pub outside : (a b : ℕ) → (b < y) ⊎ (y + n ≤ b) → new.grid a b ≡ old.grid a b
 
 zero_and : (a : ℕ) → 0 + a ≡ a
 zero_and a = omega arith

@@ -1,15 +1,12 @@
 -- Rows of a buffer, and what a drawing of them does to a screen.
-use Rattle.std.specs.Prelude.{◌≡◌, ◌⊎◌, ℕ, ◌+◌, ◌-◌, ◌^◌, ◌<◌, ◌≤◌, min, true, false, ◌&&◌, Bool, not, List, map, count_by}
+use Rattle.std.specs.Prelude.{◌≡◌, ℕ, ◌+◌, ◌-◌, ◌^◌, ◌<◌, ◌≤◌, min, true, false, ◌&&◌, Bool, not, List, map, count_by}
 use Rattle.rtui_cell.specs.declared.cell.Cell.{Cell}
 use Rattle.rtui_cell.specs.Cell.{empty_cell, width_of, is_skipped}
 use Rattle.rtui_cell.specs.Equality.{is_same}
 use Rattle.rtui_cell.specs.Look.{empty_look}
 use Rattle.rtui_cell.specs.Grid.{Update}
 use Rattle.rtui_diff.specs.Cells.{is_always, cell, cell_at}
-use Rattle.rtui_diff.specs.Settled.{IsSettled}
-use Rattle.rtui_diff.specs.Shows.{Shows, ShowsColumn}
 use Rattle.rtui_buffer.specs.BufferData.{BufferData, IsEmptied}
-use Rattle.rtui_buffer.specs.Shown.{IsSettledBuffer}
 use Rattle.rtui_buffer.specs.RowsDiff.{part_cells, IsRowsDiff}
 use Rattle.rtui_backend.specs.Screen.{Screen, Draws}
 
@@ -46,27 +43,6 @@ pub record DrawsFirstRow (s : BufferData) (old new : Screen) : Type 0 where
 pub record RowsFit (s : BufferData) (n y : ℕ) (screen : Screen) : Type 0 where
   pub width : s.area.width ≡ screen.width
   pub bottom : y + n ≤ screen.height
-
--- the first n rows of a buffer are settled, and a screen shows them at row y
-pub record ShowsFirst (s : BufferData) (n y : ℕ) (screen : Screen) : Type 0 where
-  pub settled : IsSettled s.area.width n (part_cells s 0 n)
-  pub shown : Shows 0 y s.area.width n (part_cells s 0 n) screen.grid
-
--- n rows of a settled buffer, from row i on, can be drawn over the first n rows of a former one
-pub record CanShowRows (former s : BufferData) (i n y : ℕ) (screen : Screen) : Type 0 where
-  pub fit : RowsFit s n y screen
-  pub inside : i + n ≤ s.area.height
-  pub settled : IsSettledBuffer s
-  pub shown : ShowsFirst former n y screen
-
--- n rows of a buffer, from row i on, are shown at row y, and all else is as before
-pub record ShowsRows (s : BufferData) (i n y : ℕ) (old new : Screen) : Type 0 where
-  pub history : new.history ≡ old.history
-  pub width : new.width ≡ old.width
-  pub height : new.height ≡ old.height
-  pub visible : new.visible ≡ old.visible
-  pub shown : (a b : ℕ) → a < s.area.width → b < n → ShowsColumn s.area.width s.cells a (i + b) (new.grid a (y + b))
-  pub outside : (a b : ℕ) → (b < y) ⊎ (y + n ≤ b) → new.grid a b ≡ old.grid a b
 
 -- n rows of the screen from row y on are blank
 pub record IsBlankAt (n y : ℕ) (s : Screen) : Type 0 where

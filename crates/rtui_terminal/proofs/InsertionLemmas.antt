@@ -13,14 +13,14 @@ use Rattle.std.specs.declared.alloc.AllocError.{AllocError}
 use Rattle.rtui_terminal.specs.Faults.{FailsOnlyByBackend}
 use Rattle.rtui_terminal.specs.declared.terminal.error.TerminalError.{TerminalError}
 use Rattle.rtui_terminal.specs.declared.terminal.error.TerminalError.TheVariants.{Backend, Memory, Area, Closure}
-use Rattle.rtui_insert.specs.Rows.{IsBlankFor, DrawsRows, ShowsRows, nonempty_cells}
+use Rattle.rtui_insert.specs.Rows.{IsBlankFor, DrawsRows, nonempty_cells}
 use Rattle.rtui_insert.specs.Insertion.{AppendsRows, KeepsSizeAndVisibility, HasPlaceAbove, AppendsPart}
 use Rattle.rtui_insert.specs.Scrolling.{HasPushed, HasRaised, HasLowered, PushesRows, InsertsDown, InsertsUp, rows_down}
 use Rattle.rtui_insert.specs.Following.{Follows}
 use Rattle.rtui_terminal.specs.TerminalData.{TerminalData}
 use Rattle.rtui_terminal.specs.InStep.{IsInStep, rows_over}
 use Rattle.rtui_terminal.specs.Insertion.{inserted_area, TakesRows}
-use Rattle.rtui_insert.proofs.ShownLemmas.{parts_join, rows_shown, blank_first}
+use Rattle.rtui_insert.proofs.ShownLemmas.{ShowsRows, parts_join, rows_shown, blank_first}
 use Rattle.rtui_insert.proofs.CountLemmas.{writes_rows, nonempty_parts}
 use Rattle.rtui_insert.proofs.PushLemmas.{more_rows, no_part}
 use Rattle.rtui_terminal.specs.Insertion.{Inserts, StopsInserting, InsertsBy}

@@ -15,7 +15,11 @@ use Rattle.rtui_terminal.specs.declared.terminal.error.TerminalError.TheVariants
 use Rattle.rtui_terminal.specs.Resizing.{Autoresizes, Resizes, IsResized}
 use Rattle.rtui_terminal.specs.Cursor.{Stays}
 use Rattle.rtui_terminal.specs.Drawing.{DrawOk, DrawErr}
-use Rattle.rtui_terminal.specs.Rendered.{OnlyRenders, ShowsRendered}
+use Rattle.rtui_terminal.specs.Rendered.{ShowsRendered}
+
+-- whatever a closure painted over a current buffer, it is what this rendering over the viewport makes of that buffer
+abbrev pub OnlyRenders : {B X : Type 0} → (TerminalData B → Result (Unit {0}) X → Option Position → BufferData → Type 0) → (Rect → BufferData → BufferData → Type 0) → Type 0
+OnlyRenders {B} ran renders = (s : TerminalData B) (cursor : Option Position) (painted : BufferData) → ran s (Ok tt) cursor painted → renders s.viewport_area s.current painted
 
 cut-empty : (m n : ℕ) → take n (empty_cells m) ++ empty_cells (n - length (empty_cells m)) ≡ empty_cells n
 cut-empty zero zero = refl

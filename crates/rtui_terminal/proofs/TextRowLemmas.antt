@@ -25,11 +25,10 @@ use Rattle.rtui_terminal.specs.declared.terminal.error.TerminalError.{TerminalEr
 use Rattle.rtui_terminal.specs.declared.terminal.error.TerminalError.TheVariants.{Backend, Memory, Area, Closure}
 use Rattle.rtui_terminal.specs.Starting.{IsBlank, StartErr, Starts}
 use Rattle.rtui_terminal.specs.Drawing.{DrawOk, DrawErr}
-use Rattle.rtui_terminal.specs.Rendered.{OnlyRenders}
 use Rattle.rtui_terminal.specs.Insertion.{inserted_area, TakesRows, Inserts, InsertOk, InsertsBy}
 use Rattle.rtui_terminal.specs.TextRow.{row_area, IsPaintedText, IsRowOf, RendersRow, FillsRow, IsOverRow, DrawsRow, InsertsRow, StartsOverRow}
 use Rattle.rtui_terminal.proofs.RestLemmas.{rests-started, rests-drawn, rests-takes, rests-inserted}
-use Rattle.rtui_terminal.proofs.RenderedLemmas.{shows-rendered, sized-stays, refused-by-backend}
+use Rattle.rtui_terminal.proofs.RenderedLemmas.{OnlyRenders, shows-rendered, sized-stays, refused-by-backend}
 use Rattle.rtui_terminal.proofs.StartLemmas.{starts-in-row}
 
 -- a list of one

@@ -7,7 +7,7 @@ use Rattle.rtui_backend.specs.Screen.{IsOnScreen, Screen, cursor_of, with_cursor
 use Rattle.rtui_backend.specs.Clear.{is_cleared}
 use Rattle.rtui_backend.specs.declared.clear_type.ClearType.TheVariants.{AfterCursor}
 use Rattle.rtui_viewport.specs.Viewports.{IsFixed, IsInline}
-use Rattle.rtui_viewport.specs.Areas.{KeepsAllButLooks, Empties}
+use Rattle.rtui_viewport.specs.Areas.{KeepsAllButLooks, Empties, is_within}
 use Rattle.rtui_viewport.specs.Clearing.{ClearsArea, WritesBlanks}
 use Rattle.rtui_terminal.specs.TerminalData.{TerminalData}
 use Rattle.rtui_terminal.specs.InStep.{IsInStep, KeepsAroundViewport, rows_over}
@@ -17,7 +17,8 @@ abbrev pub is_from_corner : Rect → Screen → ℕ → ℕ → Bool
 is_from_corner r s a b = is_cleared AfterCursor (with_cursor r.x r.y s).cursor_x (with_cursor r.x r.y s).cursor_y a b
 
 module _ {B : Type 0} (screen : B → Screen) where
-  -- a clear: the previous buffer is empty, and so is the viewport, whose edges fit, an inline one from its corner on; the size, the history and the cursor stay
+  -- a clear: the previous buffer is empty, and so is the viewport, whose edges fit, an inline one from its corner on, a fixed one as
+  -- far as the screen has it; the size, the history and the cursor stay
   pub record ClearsViewport (s t : TerminalData B) : Type 0 where
     pub edges : EdgesFit s.viewport_area
     pub rest : t ≡ record s { backend = t.backend; previous = t.previous }
@@ -26,6 +27,7 @@ module _ {B : Type 0} (screen : B → Screen) where
     pub cursor : cursor_of (screen t.backend) ≡ cursor_of (screen s.backend)
     pub clears : ClearsArea s.viewport s.viewport_area (screen s.backend) (screen t.backend)
     pub corner : IsInline s.viewport → Empties (is_from_corner s.viewport_area (screen s.backend)) (screen s.backend) (screen t.backend)
+    pub cut : IsFixed s.viewport → s.viewport_area.y < (screen s.backend).height → Empties (is_within s.viewport_area) (screen s.backend) (screen t.backend)
     pub written : WritesBlanks s.viewport s.viewport_area (screen s.backend) (screen t.backend)
     pub in_step : IsOnScreen s.viewport_area (screen s.backend) → s.previous.area ≡ s.viewport_area → IsInStep screen t
     pub above : IsInline s.viewport → IsOnScreen s.viewport_area (screen s.backend) → 0 < s.viewport_area.height

@@ -1,6 +1,5 @@
 -- What a terminal shows after a draw whose closure only renders.
-use Rattle.std.specs.Prelude.{◌≡◌, Result, Ok, Option}
-use Rattle.rtui_geometry.specs.declared.position.Position.{Position}
+use Rattle.std.specs.Prelude.{◌≡◌}
 use Rattle.rtui_geometry.specs.declared.rect.Rect.{Rect}
 use Rattle.rtui_buffer.specs.BufferData.{BufferData, IsEmptied}
 use Rattle.rtui_buffer.specs.Shown.{IsSettledBuffer, ShowsBuffer}
@@ -12,10 +11,6 @@ pub record IsRendered (renders : Rect → BufferData → BufferData → Type 0) 
   pub blank : BufferData
   pub emptied : IsEmptied s.area blank
   pub rendered : renders s.area blank s
-
--- whatever a closure painted over a current buffer, it is what this rendering over the viewport makes of that buffer
-abbrev pub OnlyRenders : {B X : Type 0} → (TerminalData B → Result (Unit {0}) X → Option Position → BufferData → Type 0) → (Rect → BufferData → BufferData → Type 0) → Type 0
-OnlyRenders {B} ran renders = (s : TerminalData B) (cursor : Option Position) (painted : BufferData) → ran s (Ok tt) cursor painted → renders s.viewport_area s.current painted
 
 -- the previous buffer covers the viewport and is so rendered, and the screen shows it where it is settled
 pub record ShowsRendered {B : Type 0} (screen : B → Screen) (renders : Rect → BufferData → BufferData → Type 0) (t : TerminalData B) : Type 0 where

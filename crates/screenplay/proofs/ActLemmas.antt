@@ -11,7 +11,7 @@ use Rattle.rtui_backend.specs.TestBackend.{screen_of}
 use Rattle.rtui_backend.specs.declared.test.TestBackend.{TestBackend}
 use Rattle.rtui_terminal.specs.TerminalData.{TerminalData}
 use Rattle.screenplay.specs.Run.{IsRun, IsStart, EndsEarly}
-use Rattle.screenplay.specs.Playing.{IsCauseOfStep, IsPlaying, Plays, scene_in, view_in}
+use Rattle.screenplay.specs.Playing.{IsCauseOfStep, IsPlaying, Plays, view_in}
 use Rattle.screenplay.specs.Print.{printed_if, printed_scenes, shows_of, steps_of}
 use Rattle.screenplay.specs.Engine.{IsScript, PrintsActs, PrintsRun, PrintsText}
 use Rattle.screenplay.specs.declared.act.Act.{Act}

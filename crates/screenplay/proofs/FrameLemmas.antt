@@ -17,7 +17,7 @@ use Rattle.rtui_buffer.specs.BufferData.{BufferData, IsEmptied, area_size, cell_
 use Rattle.rtui_buffer.specs.Shown.{ShowsBuffer}
 use Rattle.rtui_buffer.proofs.EmptyLemmas.{cell-empty}
 use Rattle.rtui_widgets.specs.Span.{with_graphemes, those_at, is_behind, column_with, columns_from, span_rendered}
-use Rattle.rtui_widgets.specs.Line.{Part, behind_first, parts, parts_rendered, columns_before, line_rendered}
+use Rattle.rtui_widgets.specs.Line.{Part, behind_first, parts, parts_then, parts_rendered, columns_before, line_rendered}
 use Rattle.rtui_widgets.specs.Rendering.{RendersRows, area_row, alignment_or, text_line, text_row}
 use Rattle.rtui_widgets.proofs.WithinLemmas.{intersected-whole}
 use Rattle.screenplay.specs.Puts.{holds_place, with_put, with_puts}
@@ -86,7 +86,7 @@ plain_behind : (n : ℕ) (f : List Cell → List Cell) (row : List Cell) → ((c
 plain_behind n f row kept p = plain_append (take n row) (f (drop n row)) (plain_take n row p) (kept (drop n row) (plain_drop n row p))
 
 plain_parts : (ps : List Part) (row : List Cell) → ArePlain row → ArePlain (parts_rendered ps row)
-unfolding parts_rendered
+unfolding parts_then
 plain_parts [] row p = p
 plain_parts (q ∷ qs) row p =
     plain_behind q.indent _ row (λ left l. plain_behind q.width (parts_rendered qs) (span_rendered q.style q.content left) (λ cs c. plain_parts qs cs c) (plain_span q.style q.content left l)) p

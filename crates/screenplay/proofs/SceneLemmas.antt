@@ -12,7 +12,8 @@ use Rattle.rtui_backend.specs.TestBackend.{screen_of, buffer_of}
 use Rattle.rtui_backend.specs.declared.test.TestBackend.{TestBackend}
 use Rattle.rtui_terminal.specs.TerminalData.{TerminalData}
 use Rattle.screenplay.specs.Run.{View}
-use Rattle.screenplay.specs.Playing.{IsSceneOf, scene_in}
+use Rattle.screenplay.specs.Playing.{IsSceneOf}
+use Rattle.screenplay.specs.declared.scene.Scene.{Scene}
 
 abbrev CellRow : Type 0
 CellRow = Vec Cell Global
@@ -39,6 +40,9 @@ shown_with viewport history area cells = record {
 }
 
 -- what the terminal's screen shows, as a scene
+abbrev pub scene_in : TerminalData TestBackend → Scene
+scene_in t = record { history = t.backend.scrollback; screen = buffer_of t.backend; viewport = t.viewport_area }
+
 pub IsSceneOf-in : (t : TerminalData TestBackend) → IsSceneOf t (scene_in t)
 IsSceneOf-in t = record {
   plain = record {

@@ -7,7 +7,7 @@ use Rattle.rtui_text.specs.Text.{TextData}
 use Rattle.rtui_buffer.specs.BufferData.{BufferData}
 use Rattle.rtui_buffer.specs.Shown.{IsSettledBuffer, ShowsBuffer}
 use Rattle.rtui_backend.specs.Screen.{size_of, TakesSize}
-use Rattle.rtui_backend.specs.TestBackend.{screen_of, buffer_of}
+use Rattle.rtui_backend.specs.TestBackend.{screen_of}
 use Rattle.rtui_backend.specs.declared.test.TestBackend.{TestBackend}
 use Rattle.rtui_terminal.specs.TerminalData.{TerminalData}
 use Rattle.rtui_terminal.specs.AtRest.{IsAtRest}
@@ -32,10 +32,6 @@ pub record IsPlaying (stage : Stage) (t : TerminalData TestBackend) : Type 0 whe
 -- what a terminal's screen shows
 abbrev pub view_in : TerminalData TestBackend → View
 view_in t = record { screen = plain_screen (screen_of t.backend); viewport = t.viewport_area }
-
--- and as a scene
-abbrev pub scene_in : TerminalData TestBackend → Scene
-scene_in t = record { history = t.backend.scrollback; screen = buffer_of t.backend; viewport = t.viewport_area }
 
 -- a scene shows what the terminal's screen shows
 pub record IsSceneOf (t : TerminalData TestBackend) (scene : Scene) : Type 0 where

@@ -72,7 +72,7 @@ loop-span-preserved c =
           subst (λ n. AreShortParts n (parts 0 others)) columns (short-others (length row - start) p (parts 0 others) (subst (AreShortParts (length row - start)) same (c.loop-span.invariant.short short)));
       marks = unmarked-then _ _ _ c.loop-span.invariant.marks (unmarked-written (start + c.min-start.result) (length row - (start + c.min-start.result)) row c.render_span.new.row c.in_ok-render_span.ensures.marks c.render_span.auto.row);
       done = done-turn _ p (parts 0 others) c.args.row.now row c.render_span.new.row start (start + c.min-start.result) (start + c.min-start.result + c.min-start-in-loop-span.result) c.loop-span.invariant.within start1 painted start2 whole
-      (subst (λ left. HasDone (parts c.args.skip c.args.spans.now) left start c.args.row.now row) same c.loop-span.invariant.done);
+          (subst (λ left. HasDone (parts c.args.skip c.args.spans.now) left start c.args.row.now row) same c.loop-span.invariant.done);
     }
 
 pub returns-in_err-render_span : goal.returns-in_err-render_span

@@ -28,6 +28,7 @@ returns-clause-ok g c = elim c.match-restore_cursor.branch [
         cursor = cursor_kept start (screen c.clear_area.new.backend) (screen c.restore_cursor.new.backend) c.in-Ok.cursor c.in-Ok.ensures.ok c.in-Ok.ensures.on_grid middle.size.width middle.size.height restored;
         clears = cleared;
         corner = λ inline. empties_restored found restored (record { frame = middle; grid = (rw stays at (c.in-Ok-clear_area.ensures.corner inline)).grid });
+        cut = λ fixed top. empties_restored found restored ((rw stays at c.in-Ok-clear_area.ensures.cut) fixed top);
         written = written_restored c.self.inside.viewport c.self.inside.viewport_area found start start _ _ refl refl restored (rw stays at c.in-Ok-clear_area.ensures.written);
         in_step = λ on area.
             blank_in_step screen _ c.self.invariant.0 (on_same _ _ _ frame.size.width frame.size.height on) (blank_over _ _ on (cleared (has_place _ _ _ c.self.invariant.1 on))) (rw area at c.reset.ensures.emptied);
