@@ -65,8 +65,18 @@ impl<W: Write> Model for AnsiBackend<W> {
 }
 
 impl<W: Write + Drop> AnsiBackend<W> {
-    /// A backend of a screen of this size in columns and rows, over a terminal that is made blank: what makes it so is written. Refused
-    /// if the screen has no columns or no rows, if memory is, or if writing fails; then the writer is dropped.
+    /// A backend of a screen of this size in columns and rows, over a terminal that is made blank: what makes it so is written.
+    ///
+    /// ```
+    /// let writer = BufWriter::new(alloc, rt.stdout())?;
+    /// let backend = AnsiBackend::new(alloc, writer, Size { width: 80, height: 24 })?;
+    /// let mut terminal = Terminal::new(alloc, backend)?;
+    /// ```
+    ///
+    /// # Errors
+    ///
+    /// `Size` if the screen has no columns or no rows, `Memory` if memory was refused: then nothing was written. `Write` if the
+    /// writer failed. The writer is dropped.
     pub fn new(alloc: Global, writer: W, size: Size) -> Result<AnsiBackend<W>, AnsiError>
         ensures blank { IfOk result (λ b. IsBlankScreen size.width size.height (shown_by b)) }
         ensures before { IfOk result (λ b. b.before ≡ W.contents writer) }
@@ -132,7 +142,11 @@ impl<W: Write + Drop> AnsiBackend<W> {
     }
 
     /// Begins anew, also after a failed write, on a terminal that is made blank: what makes it so is written, and is all that counts as
-    /// sent. If memory is refused all stays; after a failed write every call is refused until the next `restart`.
+    /// sent.
+    ///
+    /// # Errors
+    ///
+    /// `Memory`: all stays. `Write`: every call is refused until the next `restart` or `resize`.
     pub fn restart(&mut self) -> Result<(), AnsiError>
         ensures blank { OnOk result (IsBlankScreen self.old.size.width self.old.size.height
             (shown_by self.new)) }
@@ -151,8 +165,12 @@ impl<W: Write + Drop> AnsiBackend<W> {
     }
 
     /// The window has another size: the backend begins anew on a terminal of this size, which is made blank. So the next draw of a
-    /// terminal over it finds another size. Refused if the size has no columns or no rows, or if memory is, all stays; after a
-    /// failed write every call is refused until the next `restart` or `resize`.
+    /// terminal over it finds another size.
+    ///
+    /// # Errors
+    ///
+    /// `Size` if the size has no columns or no rows, `Memory` if memory was refused: all stays. `Write`: every call is refused until
+    /// the next `restart` or `resize`.
     pub fn resize(&mut self, size: Size) -> Result<(), AnsiError>
         ensures blank { OnOk result (IsBlankScreen size.width size.height (shown_by self.new)) }
         ensures before { OnOk result (self.new.before ≡ W.contents self.old.writer) }

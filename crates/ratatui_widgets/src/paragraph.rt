@@ -29,6 +29,14 @@ pub struct Wrap {
 }
 
 /// A text in an area, in a box if it has one: each line in a row of its own, cut or broken into rows.
+///
+/// ```
+/// let text = Text::raw(alloc, "The quick brown fox")?;
+/// let paragraph = Paragraph::new(text)
+///     .wrap(Wrap { trim: true })
+///     .block(Block::bordered(alloc));
+/// frame.render_widget(paragraph, area)?;
+/// ```
 #[derive(Debug, Drop)]
 pub struct Paragraph<'a> {
     block: Option<Block<'a>>,

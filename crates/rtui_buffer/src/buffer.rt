@@ -52,7 +52,11 @@ impl Model for Buffer {
 }
 
 impl Buffer {
-    /// A buffer of empty cells; refused if memory is. One without cells takes none.
+    /// A buffer of empty cells.
+    ///
+    /// # Errors
+    ///
+    /// Memory was refused. A buffer without cells takes none.
     pub fn empty(alloc: Global, area: Rect) -> Result<Buffer, AllocError>
         requires { EdgesFit area }
         ensures emptied { IfOk result (IsEmptied area) }
@@ -225,8 +229,11 @@ impl Buffer {
         empty_all(self.content.as_mut_slice());
     }
 
-    /// Gives the buffer another area: its list of cells is cut, or goes on with empty ones. It takes no memory
-    /// within the room that `reserve` made; if memory is refused nothing changes.
+    /// Gives the buffer another area: its list of cells is cut, or goes on with empty ones.
+    ///
+    /// # Errors
+    ///
+    /// Memory was refused: nothing changed. Within the room that `reserve` made it takes none.
     pub fn resize(&mut self, area: Rect) -> Result<(), AllocError>
         requires { EdgesFit area }
         ensures area { OnOk result (self.new.area ≡ area) }
@@ -241,8 +248,11 @@ impl Buffer {
         Ok(())
     }
 
-    /// Makes room for the cells of an area. It takes no memory within the room that is there; if memory is refused
-    /// nothing changes.
+    /// Makes room for the cells of an area.
+    ///
+    /// # Errors
+    ///
+    /// Memory was refused: nothing changed. Within the room that is there it takes none.
     pub fn reserve(&mut self, area: Rect) -> Result<(), AllocError>
         requires { EdgesFit area }
         ensures same { IsSameBuffer self.old self.new }

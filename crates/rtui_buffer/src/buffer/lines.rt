@@ -22,6 +22,10 @@ use std::alloc::{AllocError, Global};
 
 impl Buffer {
     /// Paints a span's text in its style, as `set_stringn` does.
+    ///
+    /// # Errors
+    ///
+    /// As those of `set_stringn`.
     pub fn set_span(
         &mut self,
         x: u16,
@@ -43,8 +47,19 @@ impl Buffer {
 
     /// Paints a line from a column and a row on, span after span, each in its style over the line's and in the
     /// width that is left of the area and of `max` columns. A span that is cut does not end it. It answers the
-    /// column after the last one that was painted, and the row. Where memory is refused a front of the line's
-    /// graphemes is painted, and no more.
+    /// column after the last one that was painted, and the row.
+    ///
+    /// ```
+    /// let mut buffer = Buffer::empty(alloc, Rect::new(0, 0, 9, 1))?;
+    /// let mut line = Line::raw(alloc, "tests: ")?;
+    /// line.push_span(Span::styled("ok", Style::new().fg(Color::Green)))?;
+    /// let (next, _) = buffer.set_line(0, 0, &line, 9)?;
+    /// assert!(rt; next == 9);
+    /// ```
+    ///
+    /// # Errors
+    ///
+    /// Memory was refused: a front of the line's graphemes is painted, and no more. Graphemes of at most 22 bytes take none.
     #[tactic(auto, using(crate::proofs::LineLemmas::no_line_steps))]
     pub fn set_line(
         &mut self,

@@ -27,7 +27,11 @@ impl Buffer {
     }
 
     /// Lays another buffer over this one: on the union of their areas each cell of the other one, where it has
-    /// none each of this one, else an empty cell. Where memory is refused nothing changes.
+    /// none each of this one, else an empty cell.
+    ///
+    /// # Errors
+    ///
+    /// Memory was refused: nothing changed.
     pub fn merge(&mut self, other: &Buffer) -> Result<(), AllocError>
         ensures overlay { OnOk result (IsOverlay self.old other.now self.new) }
         ensures keeps_room { self.old.room ≤ self.new.room }

@@ -25,7 +25,10 @@ impl Buffer {
     /// Paints a text in a style, from a column and a row on: the longest front of its graphemes that fits the
     /// area and `max` columns, without those that have a control character or no width. The columns after a
     /// wide grapheme become empty. It answers the column after the last one that was painted, and the row.
-    /// Where memory is refused a front of these is painted, and no more.
+    ///
+    /// # Errors
+    ///
+    /// Memory was refused: a front of these graphemes is painted, and no more. Graphemes of at most 22 bytes take none.
     #[tactic(auto, using(crate::proofs::TextLemmas::none_steps))]
     pub fn set_stringn(
         &mut self,
@@ -54,7 +57,18 @@ impl Buffer {
         Ok((x + used, y))
     }
 
-    /// Paints a text in a style, from a column and a row on, as `set_stringn` does, as far as the area goes.
+    /// Paints a text in a style, from a column and a row on, as far as the area goes.
+    ///
+    /// ```
+    /// let mut buffer = Buffer::empty(alloc, Rect::new(0, 0, 5, 1))?;
+    /// buffer.set_string(3, 0, "Ready", Style::new())?;
+    /// assert!(rt; buffer[(3, 0)].symbol() == "R");
+    /// assert!(rt; buffer[(4, 0)].symbol() == "e");
+    /// ```
+    ///
+    /// # Errors
+    ///
+    /// As those of `set_stringn`.
     pub fn set_string(&mut self, x: u16, y: u16, text: &str, style: Style) -> Result<(), AllocError>
         requires row { HasRow self.old.area y }
         requires column { self.old.area.x ≤ x }

@@ -194,6 +194,17 @@ impl<B: Backend> Terminal<B> {
 
     /// The same as `draw` with a closure that may answer the backend's error.
     ///
+    /// ```
+    /// let mut terminal = Terminal::new(alloc, TestBackend::new(alloc, 5, 1)?)?;
+    /// terminal.try_draw(|frame| {
+    ///     let area = frame.area();
+    ///     match frame.render_widget("Ready", area) {
+    ///         Ok(()) => Ok(()),
+    ///         Err(_) => Err(TestError::Memory),
+    ///     }
+    /// })?;
+    /// ```
+    ///
     /// # Errors
     ///
     /// Those of `draw`, and `Closure` with what the closure answered. Then nothing was written after the resize, and the
