@@ -26,7 +26,7 @@ fn number_in(rt: &HostRuntime, variable: &str) -> Option<u16> {
     (number > 0).then_some(number)
 }
 
-/// The size of the terminal, where it is known: each number is the word's, or else the variable's.
+/// The size of the terminal, if it is known: each number is the word's, or else the variable's.
 pub fn size_of(rt: &HostRuntime, matches: &ArgMatches<'_>) -> Option<Size> {
     let width = match matches.get_one::<u16>("COLUMNS") {
         Some(columns) => columns,

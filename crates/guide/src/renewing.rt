@@ -14,7 +14,7 @@ use ratatui_core::terminal::{Frame, Terminal, TerminalError};
 use std::alloc::AllocError;
 
 /// Draws a frame, empties the viewport, places it anew on an area, in columns and rows, inserts rows above it, and
-/// answers whether the frame was settled. Then each of the four calls was faithful, where the rows were settled too and
+/// answers whether the frame was settled. Then each of the four calls was faithful, if the rows were settled too and
 /// had their place: the screen shows the buffer that the call leaves, and exactly its rows came to those above.
 pub fn renew<B: Backend, F, G>(
     terminal: &mut Terminal<B>,

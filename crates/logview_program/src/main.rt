@@ -1,7 +1,7 @@
 //! The program `logview`: reads a log from standard input and prints the screen that shows it.
 //!
 //! Its first line is the screen's size, `W H`. A log that can't be read or shown gives one line on standard error, status 1
-//! and no output. Where writing fails the status is 1, and nothing stands on standard error.
+//! and no output. If writing fails the status is 1, and nothing stands on standard error.
 #![tactic(auto)]
 
 ghost use Rattle.std.specs.Prelude.{IfOk, IfSome, OnOk};

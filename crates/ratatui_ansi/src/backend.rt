@@ -104,9 +104,9 @@ impl<W: Write + Drop> AnsiBackend<W> {
         })
     }
 
-    /// The writer. Where its bytes are known, and no write failed since the backend began or began anew, it holds what it held then,
+    /// The writer. If its bytes are known, and no write failed since the backend began or began anew, it holds what it held then,
     /// and after that what was sent since: each terminal of this size that reads this shows the backend's screen, however it was left
-    /// before, and the model is sure of it. Where no call failed, no write did.
+    /// before, and the model is sure of it. If no call failed, no write did.
     pub fn writer(&self) -> &W
         ensures writer { result.now ≡ self.now.writer }
         ensures tied { self.now.is_broken ≡ false

@@ -30,7 +30,7 @@ pub fn bytes_show_the_last_buffer<W: Write + Drop>(terminal: &Terminal<AnsiBacke
     let _writer = terminal.backend().writer();
 }
 
-/// Where a screen shows a settled frame, and no symbol reaches into the frame's area from the left, no draw of the diff to
+/// If a screen shows a settled frame, and no symbol reaches into the frame's area from the left, no draw of the diff to
 /// another settled frame, of ordinary cells, is refused with `Cut`.
 pub fn updates_cut_no_symbol()
     ensures { (x y w h : ℕ) (former next : List Cell) (us : List Update) (s : Screen)

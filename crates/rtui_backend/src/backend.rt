@@ -66,7 +66,7 @@ pub trait Backend {
         ensures counts { Counts result (failures self.old) (failures self.new) };
 
     /// Moves the cursor's row down by `n`. What goes past the last row scrolls: the rows that leave at the top go
-    /// to the history, in order, and blank rows come in below. The cursor may end in any column. Where the screen
+    /// to the history, in order, and blank rows come in below. The cursor may end in any column. If the screen
     /// has no rows nothing changes.
     fn append_lines(&mut self, n: u16) -> Result<(), Self::Error>
         ensures ok { OnOk result (Appends (screen self.old) n (screen self.new)) }
@@ -74,7 +74,7 @@ pub trait Backend {
 
     /// Moves the rows of a region up by `n`, blank rows come in below. The region ends at the screen's last row at the
     /// latest; rows outside it stay. Of a region that begins with the first row `n` rows go to the history, in order:
-    /// those that leave, and blank ones where the region has fewer. The cursor may end anywhere. Where the region has no
+    /// those that leave, and blank ones where the region has fewer. The cursor may end anywhere. If the region has no
     /// rows nothing changes.
     fn scroll_region_up(&mut self, region: Range<u16>, n: u16) -> Result<(), Self::Error>
         ensures ok { OnOk result
@@ -83,7 +83,7 @@ pub trait Backend {
 
     /// Moves the rows of a region down by `n`, blank rows come in above, and the rows that leave are lost. The region
     /// ends at the screen's last row at the latest; rows outside it and the history stay. The cursor may end anywhere.
-    /// Where the region has no rows nothing changes.
+    /// If the region has no rows nothing changes.
     fn scroll_region_down(&mut self, region: Range<u16>, n: u16) -> Result<(), Self::Error>
         ensures ok { OnOk result
             (ScrollsDown region.start region.end n (screen self.old) (screen self.new)) }

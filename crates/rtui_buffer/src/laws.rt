@@ -58,7 +58,7 @@ pub fn styled_empty_buffers_are_settled()
         → IsPaintable p n new }
 {}
 
-/// Where a screen shows a buffer, the column of each unskipped cell has the cell's look.
+/// If a screen shows a buffer, the column of each unskipped cell has the cell's look.
 pub fn shown_cells_have_their_looks()
     ensures { (s : BufferData) (g : Grid) (p : Position) → ShowsBuffer s g → HasPosition s.area p
         → is_skipped (cell_in s p) ≡ false → g p.x p.y ≡ look_of (cell_in s p) }

@@ -198,7 +198,7 @@ impl Rect {
         }
     }
 
-    /// The rectangle of the positions that both have. Where they have none, it is empty.
+    /// The rectangle of the positions that both have. If they have none, it is empty.
     pub fn intersection(self, other: Self) -> Self
         ensures value { result ≡ intersected self other }
         ensures positions { (p : Position)
@@ -219,7 +219,7 @@ impl Rect {
     pub fn intersects(self, other: Self) -> bool
         ensures value { IsTrue result ↔ Intersects self other }
 
-        // Where both have positions, they share one.
+        // If both have positions, they share one.
         ensures shared { HasPosition self (corner self) → HasPosition other (corner other)
             → IsTrue result ↔ SharePosition self other }
     {

@@ -66,7 +66,7 @@ pub fn blank_screens_start_in_step<B: Backend>()
         → IsBlank (B.screen b) → IsBlank (B.screen t.backend) }
 {}
 
-/// Where a viewport stays and all around it, blank rows below it stay blank.
+/// If a viewport stays and all around it, blank rows below it stay blank.
 pub fn blank_rows_below_stay<B: Backend>()
     ensures { (s t : TerminalData B) → KeepsAroundViewport B.screen s t
         → IsBlankBelow s.viewport_area (B.screen s.backend)

@@ -190,7 +190,7 @@ impl TestBackend {
     }
 
     /// Gives the screen another size in columns and rows: rows and columns are cut, or blank ones come in at the right
-    /// and below. The history stays, and the cursor is kept on the screen. Where memory is refused nothing changes.
+    /// and below. The history stays, and the cursor is kept on the screen. If memory is refused nothing changes.
     /// This is no call of `Backend`, and `fail_after` doesn't count it.
     pub fn resize(&mut self, width: u16, height: u16) -> Result<(), AllocError>
         ensures ok { OnOk result (TakesSize (screen_of self.old)
