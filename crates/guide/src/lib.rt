@@ -7,15 +7,11 @@
 
 mod frames;
 mod gauge;
-#[cfg(test)]
-mod gauge_tests;
 mod hello;
 mod labels;
 mod lines;
 mod logging;
 mod renewing;
-#[cfg(test)]
-mod tests;
 mod widget_frames;
 
 pub use frames::draw_checked;

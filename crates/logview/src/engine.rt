@@ -52,7 +52,11 @@ fn open(alloc: Global, size: Size) -> Option<LogView<TestBackend>>
     LogView::new(alloc, backend).ok()
 }
 
-// Pushes the lines of a text but the first; a fault names the line that was refused.
+/// Pushes the lines of a log: those of a text but the first, which is its size.
+///
+/// # Errors
+///
+/// `Refused` names the line that was refused; the lines before it were pushed.
 pub fn push_lines(view: &mut LogView<TestBackend>, text: &str) -> Result<(), LogFault>
     ensures ok { OnOk result ((size : Size) → IsViewOf screen_of size [] view.old
         → IsViewOf screen_of size (drop 1 (lines text.now)) view.new) }

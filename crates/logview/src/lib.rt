@@ -1,18 +1,16 @@
 //! A log viewer: lines that scroll by above a status line, which says how many there were.
 //!
 //! It stands on `ratatui_core`, on its contracts alone. [`LogView`] keeps a terminal over one row; [`LogView::push`] inserts a
-//! line above it. `specs/Rows` says what a line's row is, `specs/Views` what a push does. [`view_of`] shows a log on a
-//! screen in memory; [`run`] reads a log from any reader, and writes what that screen shows to any writer; `specs/Engine` says
+//! line above it. `specs/Rows` says what a line's row is, `specs/Views` what a push does. [`push_lines`] pushes those of a
+//! log, [`view_of`] shows one on a screen in memory; [`run`] reads a log from any reader, and writes what that screen shows to any writer; `specs/Engine` says
 //! what it writes.
 #![tactic(auto)]
 
 mod engine;
 mod fault;
 mod status;
-#[cfg(test)]
-mod tests;
 mod view;
 
-pub use engine::{run, view_of};
+pub use engine::{push_lines, run, view_of};
 pub use fault::LogFault;
 pub use view::LogView;

@@ -1,9 +1,5 @@
 //! The examples on a screen in memory.
-use crate::frames::draw_checked;
-use crate::hello::greet;
-use crate::labels::label;
-use crate::lines::restyle_first;
-use crate::logging::log;
+use guide::{draw_checked, greet, label, log, restyle_first};
 use ratatui_core::backend::{Backend, TestBackend};
 use ratatui_core::layout::Position;
 use ratatui_core::style::{Color, Style};

@@ -1,8 +1,6 @@
 //! Logs, run over bytes in memory, and lines on a screen in memory.
 
-use crate::engine::{push_lines, run};
-use crate::fault::LogFault;
-use crate::view::LogView;
+use logview::{LogFault, LogView, push_lines, run};
 use ratatui_core::backend::{TestBackend, TestError};
 use ratatui_core::layout::Rect;
 use ratatui_core::terminal::TerminalError;

@@ -1,8 +1,7 @@
 //! Frames with one widget on a screen in memory, and a widget that keeps a state.
 ghost use Rattle.std.specs.Prelude.{⊤};
 
-use crate::gauge::Gauge;
-use crate::widget_frames::{draw_gauge, draw_text};
+use guide::{Gauge, draw_gauge, draw_text};
 use ratatui_core::backend::TestBackend;
 use ratatui_core::buffer::Buffer;
 use ratatui_core::layout::Rect;

@@ -1,0 +1,12 @@
+//! Tests of what stands on `ratatui_core`, which no row of text can say: widgets on a buffer, the examples of `guide` on a screen in memory,
+//! and logs that are read and written by what fails.
+#![tactic(auto)]
+
+#[cfg(test)]
+mod boxes;
+#[cfg(test)]
+mod examples;
+#[cfg(test)]
+mod gauges;
+#[cfg(test)]
+mod logs;
