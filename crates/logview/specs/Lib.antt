@@ -1,3 +1,4 @@
 pub mod Rows
 pub mod Views
 pub mod Engine
+pub mod Ending

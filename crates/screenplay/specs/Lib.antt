@@ -5,3 +5,4 @@ pub mod Appending
 pub mod Playing
 pub mod Print
 pub mod Engine
+pub mod Ending

@@ -4,7 +4,8 @@
 //! grammar of a script, `specs/Run` says what a run of its steps is and
 //! `specs/Appending` what rows it leaves above an inline viewport, `specs/Print` is the text of a scene, and
 //! `specs/Engine` joins them. [`play`] gives the scenes of a run; [`printed_text`] gives the text that a script prints; [`run`]
-//! reads a script from any reader, and writes its text to any writer.
+//! reads a script from any reader, and writes its text to any writer. [`print_script`] is a run that tells its fault
+//! (`specs/Ending`).
 #![tactic(auto)]
 
 mod act;
@@ -12,10 +13,12 @@ mod engine;
 mod fault;
 pub mod laws;
 mod playing;
+mod printing;
 mod scene;
 mod script;
 
 pub use engine::{printed_text, run};
 pub use fault::RunFault;
 pub use playing::play;
+pub use printing::print_script;
 pub use scene::{PlayCause, PlayFault, Puts, Scene, Stage, Step, StepError};

@@ -1,5 +1,5 @@
 //! Tests of what stands on `ratatui_core`, which no row of text can say: widgets on a buffer, the examples of `guide` on a screen in memory,
-//! and logs that are read and written by what fails.
+//! logs that are read and written by what fails, and what programs tell.
 #![tactic(auto)]
 
 #[cfg(test)]
@@ -10,3 +10,5 @@ mod examples;
 mod gauges;
 #[cfg(test)]
 mod logs;
+#[cfg(test)]
+mod printing;

@@ -1,4 +1,4 @@
--- How the program ends.
+-- How a program ends that prints a log.
 use Rattle.std.specs.Prelude.{◌≡◌, ℕ, zero, suc, List, [], ◌++◌, Option, codes}
 use Rattle.std.specs.Io.KnownBytes.{Appends}
 use Rattle.logview.specs.Engine.{IsLogFault, PrintsLog, log_fault_text}
