@@ -7,12 +7,16 @@ pub use Rattle.rtui_buffer.proofs.ShownLemmas.{IsSettledBuffer-styled, IsPaintab
 pub use Rattle.rtui_buffer.proofs.BarLemmas.{ShowsPieces-bar}
 -- Cells that are the same have one look and one width, and an empty cell has the empty look and takes one column.
 pub use Rattle.rtui_cell.proofs.CellLemmas.{same_look, same_width, look-empty, width-empty}
+-- A text of short graphemes is painted in short pieces.
+pub use Rattle.rtui_buffer.proofs.ShortLemmas.{text-short}
 -- The columns of a text of one character above U+00A0 are the character's.
 pub use Rattle.rtui_cell.proofs.WidthLemmas.{one_character}
 -- A change of each cell of an area, one cell of a buffer put, and changes one after the other.
 pub use Rattle.rtui_changes.proofs.ChangeLemmas.{put-here, put-elsewhere, Changes-join, Changes-same, Changes-within, within-same, within-wider, on-ok, clipped-both, clipped-none, has-or-not}
 -- Plain cells are settled, and painting keeps a buffer ready for more.
-pub use Rattle.rtui_changes.proofs.PlainLemmas.{index-at, plain-empty, plain-styled, settled-plain, plain-emptied, paintable-plain, paintable-fewer, put-ready, ready-right, ready-row, ready-end, ready-plain, painted-settled, plain-changed}
+pub use Rattle.rtui_changes.proofs.PlainLemmas.{index-at, plain-empty, plain-styled, settled-plain, plain-emptied, paintable-plain, put-ready, ready-next, ready-row, ready-plain, changed-settled, painted-settled, plain-changed}
+-- Texts whose graphemes take one column each keep cells plain.
+pub use Rattle.rtui_changes.proofs.NarrowTextLemmas.{line-plain, text-plain, line-stays, pieces-narrow, pieces-plain, changed-plain, styled-plain, parts-plain, over-all, from-over}
 -- Parts that are changed apart from each other.
 pub use Rattle.rtui_changes.proofs.PartLemmas.{Parts-none, Parts-next, Parts-within}
 -- What is joined of narrow symbols is narrow, and so is each symbol of the tables.

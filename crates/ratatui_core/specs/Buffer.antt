@@ -32,6 +32,7 @@ pub use Rattle.rtui_buffer.specs.Line.{line_pieces_at, lines_area, IsOfLines, ra
 pub use Rattle.rtui_buffer.specs.RowsDiff.{IsRowsDiff}
 pub use Rattle.rtui_buffer.specs.Overlay.{no_area, IsOverlay}
 -- Changes of cells by position, plain cells, and parts that are changed apart from each other.
-pub use Rattle.rtui_changes.specs.Changes.{ChangesEach, MakesEach, AreLight, row_part, IsRowOfArea, columns_to, rows_to, place_at}
-pub use Rattle.rtui_changes.specs.Plain.{IsPlain, IsPlainFrom, IsReadyAt, IsReadyFrom}
+pub use Rattle.rtui_changes.specs.Changes.{ChangesEach, MakesEach, AreLight, row_part, IsRowOfArea, place_at}
+pub use Rattle.rtui_changes.specs.Plain.{IsPlain, IsPlainOver, IsPlainFrom, IsReadyAt, IsReadyFrom}
 pub use Rattle.rtui_changes.specs.Parts.{MakesPart, MakesParts}
+pub use Rattle.rtui_changes.specs.NarrowTexts.{IsNarrowGrapheme, HasNarrowGraphemes, AreNarrowSpans, IsNarrowLine, IsNarrowText}

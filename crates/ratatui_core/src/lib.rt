@@ -28,7 +28,10 @@ pub mod buffer {
             default_option_is_none, equality_is_by_looks, hashing_names_every_field,
             set_style_twice_sets_patch, width_is_columns_and_sound_marks,
         };
-        pub use rtui_changes::laws::plain_buffers_are_settled;
+        pub use rtui_changes::laws::{
+            empty_buffers_are_plain, narrow_texts_keep_cells_plain, plain_buffers_are_settled,
+            printable_texts_are_narrow,
+        };
     }
 }
 

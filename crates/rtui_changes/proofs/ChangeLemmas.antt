@@ -10,7 +10,15 @@ use Rattle.rtui_cell.specs.Cell.{empty_cell}
 use Rattle.rtui_buffer.specs.BufferData.{BufferData, cell_in, with_cell, cell_index, area_size, position_of}
 use Rattle.rtui_widgets.specs.Rendering.{ChangesWithin}
 use Rattle.rtui_buffer.specs.Clipped.{IsClipped}
-use Rattle.rtui_changes.specs.Changes.{ChangesEach, row_part, columns_to, rows_to, place_at, IsRowOfArea, AreLight}
+use Rattle.rtui_changes.specs.Changes.{ChangesEach, row_part, place_at, IsRowOfArea, AreLight}
+
+-- the first columns of a row of a rectangle, up to one
+abbrev pub columns_to : Rect → ℕ → ℕ → Rect
+columns_to r y x = record { x = r.x; y = y; width = x - r.x; height = 1 }
+
+-- the first rows of a rectangle, up to one
+abbrev pub rows_to : Rect → ℕ → Rect
+rows_to r y = record { x = r.x; y = r.y; width = r.width; height = y - r.y }
 
 place-fits : (w h a b : ℕ) → a < w → b < h → b * w + a < w * h
 place-fits w h a b la lb = let k : h ≡ suc b + (h - suc b) = omega arith in rw k (omega arith)
@@ -241,9 +249,6 @@ Changes-nowhere area f s none = record {
 -- within a smaller area
 pub within-wider : (part area : Rect) (old new : BufferData) → IsInside part area → ChangesWithin part old new → ChangesWithin area old new
 within-wider part area old new inside is = record { same_area = is.same_area; same_room = is.same_room; outside = λ p in_own off. is.outside p in_own (λ h. off (inside p h)) }
-
-pub light-clipped : (is_light : Position → Cell → Type 0) (area part : Rect) (s : BufferData) → IsClipped area s.area part → AreLight is_light area s → AreLight is_light part s
-light-clipped is_light area part s clip light = λ p in_own here. light p in_own (clip.of_area p here)
 
 -- what the change of a part leaves is what that of its area does
 pub clipped-ok : {A E : Type 0} (r : Result A E) (area part : Rect) (f : Position → Cell → Cell) (old new : BufferData) → IsClipped area old.area part → OnOk r (ChangesEach part f old new) → OnOk r (ChangesEach area f old new)

@@ -1,3 +1,5 @@
 pub mod ChangeLemmas
 pub mod PlainLemmas
 pub mod PartLemmas
+pub mod NarrowTextLemmas
+pub mod PrintableTextLemmas

@@ -17,7 +17,7 @@ use Rattle.rtui_cell.specs.Symbol.{joined, symbol_text}
 use Rattle.rtui_cell.specs.Width.{text_width}
 use Rattle.rtui_cell.specs.declared.cell.Cell.{Cell}
 use Rattle.rtui_diff.specs.Cells.{cell, cell_at}
-use Rattle.rtui_diff.specs.Settled.{IsSettled}
+use Rattle.rtui_diff.specs.Settled.{IsSettled, IsBlankOrSkipped}
 use Rattle.rtui_geometry.specs.Rect.{HasPosition, EdgesFit, IsInside}
 use Rattle.rtui_geometry.specs.declared.position.Position.{Position}
 use Rattle.rtui_geometry.specs.declared.rect.Rect.{Rect}
@@ -60,15 +60,15 @@ pub plain-emptied : (r : Rect) (s : BufferData) → IsEmptied r s → IsPlainFro
 plain-emptied r s emptied = λ p has le. subst IsPlain (sym (empty-there r s emptied p)) plain-empty
 
 -- where a column of the pieces lies
-record IsIn (ps : List Piece) (k : ℕ) : Type 0 where
-  piece : ℕ
-  column : ℕ
-  in_list : piece < length ps
-  in_piece : column < piece_width (piece_at ps piece)
-  place : columns (take piece ps) + column ≡ k
-  ends : columns (take piece ps) + piece_width (piece_at ps piece) ≤ columns ps
+pub record IsIn (ps : List Piece) (k : ℕ) : Type 0 where
+  pub piece : ℕ
+  pub column : ℕ
+  pub in_list : piece < length ps
+  pub in_piece : column < piece_width (piece_at ps piece)
+  pub place : columns (take piece ps) + column ≡ k
+  pub ends : columns (take piece ps) + piece_width (piece_at ps piece) ≤ columns ps
 
-is_in : (ps : List Piece) (k : ℕ) → k < columns ps → IsIn ps k
+pub is_in : (ps : List Piece) (k : ℕ) → k < columns ps → IsIn ps k
 is_in [] k lt = absurd (omega arith)
 is_in (p ∷ ps) k lt =
     let sum : columns (p ∷ ps) ≡ piece_width p + columns ps = sum_by-cons piece_width p ps in
@@ -82,7 +82,7 @@ is_in (p ∷ ps) k lt =
     record { piece = suc r.piece; column = r.column; in_list = (let e = r.in_list in omega arith); in_piece = r.in_piece; place = omega arith; ends = omega arith })
     (cases_lt k (piece_width p))
 
-width-shown : (p : Piece) (c : Cell) → IsUnmarked c → width_of (shown p c) ≡ piece_width p
+pub width-shown : (p : Piece) (c : Cell) → IsUnmarked c → width_of (shown p c) ≡ piece_width p
 unfolding width_of
 width-shown p c plain = rw plain.option refl
 
@@ -125,11 +125,6 @@ module _ (p : Position) (n : ℕ) (ps : List Piece) (old new : BufferData) (edge
         (cases_lt a p.x);
   }
 
-  pub plain-below : IsPlainFrom (p.y + 1) old → IsPlainFrom (p.y + 1) new
-  plain-below plain = λ q in_new below.
-      let in_own : HasPosition old.area q = subst (λ a. HasPosition a q) same in_new in
-      subst IsPlain (sym (by.outside q in_own (λ e. absurd (omega arith)))) (plain q in_own below)
-
 -- a plain row may be painted anywhere
 pub paintable-plain : (p : Position) (n : ℕ) (s : BufferData) → EdgesFit s.area → HasRow s.area p.y → s.area.x ≤ p.x → p.x + n ≤ s.area.x + s.area.width → IsPlainFrom p.y s → IsPaintable p n s
 paintable-plain p n s edges row starts fits plain =
@@ -138,9 +133,6 @@ paintable-plain p n s edges row starts fits plain =
       unmarked = λ a from to. (plain (position_of (a, p.y)) (record { left = omega arith; right = omega arith; top = t; bottom = omega arith }) (omega arith)).unmarked;
       uncovered = λ a from to off. let one = (plain (position_of (a, p.y)) (record { left = from; right = omega arith; top = t; bottom = omega arith }) (omega arith)).narrow in omega arith;
     }
-
-pub paintable-fewer : (p : Position) (m n : ℕ) (s : BufferData) → m ≤ n → IsPaintable p n s → IsPaintable p m s
-paintable-fewer p m n s le able = record { unmarked = λ a from to. able.unmarked a from (omega arith); uncovered = able.uncovered }
 
 pub plain-later : (y z : ℕ) (s : BufferData) → y ≤ z → IsPlainFrom y s → IsPlainFrom z s
 plain-later y z s le plain = λ p has from. plain p has (omega arith)
@@ -153,18 +145,6 @@ module _ (x y : ℕ) (s : BufferData) (ready : IsReadyAt x y s) (row : HasRow s.
   ready-paintable n fits = record {
     unmarked = λ a from to. (ready.plain (position_of (a, y)) (there a (omega arith) (omega arith)) (inr (refl, from))).unmarked;
     uncovered = λ a from to off. ready.before a from to off;
-  }
-
-  pub ready-right : (z : ℕ) → x ≤ z → z ≤ s.area.x + s.area.width → IsReadyAt z y s
-  ready-right z le fits = record {
-    edges = ready.edges;
-    settled = ready.settled;
-    plain = λ p has from. ready.plain p has (⊎_elim (λ (below : y < p.y). inl below) (λ (same : (p.y ≡ y) × (z ≤ p.x)). inr (same.0, (let more = same.1 in omega arith))) from);
-    before = λ a from to off.
-        ⊎_elim
-        (λ (lt : a < x). let end = ready.before a from lt off in omega arith)
-        (λ (ge : x ≤ a). let one = (ready.plain (position_of (a, y)) (there a from (omega arith)) (inr (refl, ge))).narrow in omega arith)
-        (cases_lt a x);
   }
 
   pub ready-next : (m : ℕ) (ps : List Piece) (new : BufferData) → x + m ≤ s.area.x + s.area.width → columns ps ≤ m → new.area ≡ s.area → PaintsByColumns (position_of (x, y)) ps s new → IsSettledBuffer new
@@ -195,6 +175,69 @@ put-ready (Ok v) x y m ps old new ready row starts fits le paints =
     (paints.settled ready.settled (ready-paintable x y old ready row starts (columns ps) (omega arith)))
 put-ready (Err e) x y m ps old new ready row starts fits le paints = tt
 
+-- a change of plain cells that no cell before reaches
+module _ (x y : ℕ) (r : Rect) (f : Position → Cell → Cell) (s new : BufferData) (ready : IsReadyAt x y s) (there : (p : Position) → HasPosition r p → (y < p.y) ⊎ ((p.y ≡ y) × (x ≤ p.x)))
+    (keeps : (p : Position) (c : Cell) → IsPlain c → IsPlain (f p c)) (is : ChangesEach r f s new) where
+  abbrev place : ℕ → ℕ → Position
+  place a b = position_of (s.area.x + a, s.area.y + b)
+
+  has-place : (a b : ℕ) → a < s.area.width → b < s.area.height → HasPosition s.area (place a b)
+  has-place a b a_in b_in = let e = ready.edges in let right = e.right in let bottom = e.bottom in record { left = omega arith; right = omega arith; top = omega arith; bottom = omega arith }
+
+  was-at : (a b : ℕ) → cell_in s (place a b) ≡ cell_at s.area.width s.cells a b
+  was-at a b = ap (λ i. cell s.cells i) (index-at s.area.x s.area.y s.area.width a b)
+
+  now-at : (a b : ℕ) → cell_in new (place a b) ≡ cell_at s.area.width new.cells a b
+  now-at a b = ap (λ q. cell new.cells (cell_index q (place a b))) is.area ∙ ap (λ i. cell new.cells i) (index-at s.area.x s.area.y s.area.width a b)
+
+  stays : (a b : ℕ) → a < s.area.width → b < s.area.height → (HasPosition r (place a b) → ⊥) → cell_at s.area.width new.cells a b ≡ cell_at s.area.width s.cells a b
+  stays a b a_in b_in off = sym (now-at a b) ∙ is.outside (place a b) (has-place a b a_in b_in) off ∙ was-at a b
+
+  plain-was : (a b : ℕ) → a < s.area.width → b < s.area.height → (y < s.area.y + b) ⊎ ((s.area.y + b ≡ y) × (x ≤ s.area.x + a)) → IsPlain (cell_at s.area.width s.cells a b)
+  plain-was a b a_in b_in from = subst IsPlain (was-at a b) (ready.plain (place a b) (has-place a b a_in b_in) from)
+
+  plain-now : (a b : ℕ) → a < s.area.width → b < s.area.height → HasPosition r (place a b) → IsPlain (cell_at s.area.width new.cells a b)
+  plain-now a b a_in b_in here =
+      let has = has-place a b a_in b_in in
+      subst IsPlain (sym (is.inside (place a b) has here) ∙ now-at a b) (keeps (place a b) (cell_in s (place a b)) (ready.plain (place a b) has (there (place a b) here)))
+
+  -- no cell reaches into what changed
+  apart : (a b k : ℕ) → a < s.area.width → b < s.area.height → is_skipped (cell_at s.area.width s.cells a b) ≡ false → a < k → k < a + width_of (cell_at s.area.width s.cells a b) → HasPosition r (place k b) → ⊥
+  apart a b k a_in b_in off more less here =
+      ⊎_elim
+      (λ (below : y < s.area.y + b). let one = (plain-was a b a_in b_in (inl below)).narrow in omega arith)
+      (λ (at : (s.area.y + b ≡ y) × (x ≤ s.area.x + k)).
+      ⊎_elim
+      (λ (before : s.area.x + a < x).
+      let same : cell_in s (position_of (s.area.x + a, y)) ≡ cell_at s.area.width s.cells a b = subst (λ z. cell_in s (position_of (s.area.x + a, z)) ≡ cell_at s.area.width s.cells a b) at.0 (was-at a b) in
+      let end = ready.before (s.area.x + a) (omega arith) before (ap is_skipped same ∙ off) in
+      let w : width_of (cell_in s (position_of (s.area.x + a, y))) ≡ width_of (cell_at s.area.width s.cells a b) = ap width_of same in
+      let from = at.1 in omega arith)
+      (λ (from : x ≤ s.area.x + a). let one = (plain-was a b a_in b_in (inr (at.0, from))).narrow in omega arith)
+      (cases_lt (s.area.x + a) x))
+      (there (place k b) here)
+
+  pub changed-settled : IsSettledBuffer new
+  changed-settled = subst (λ q. IsSettled q.width q.height new.cells) (sym is.area) (record {
+    skipped = λ a b a_in b_in skip. ⊎_elim
+        (λ (here : HasPosition r (place a b)). (plain-now a b a_in b_in here).narrow)
+        (λ (off : HasPosition r (place a b) → ⊥). let same = stays a b a_in b_in off in rw same (ready.settled.skipped a b a_in b_in (sym (ap is_skipped same) ∙ skip)))
+        (has-or-not r (place a b));
+    within = λ a b a_in b_in plain. ⊎_elim
+        (λ (here : HasPosition r (place a b)). let one = (plain-now a b a_in b_in here).narrow in omega arith)
+        (λ (off : HasPosition r (place a b) → ⊥). let same = stays a b a_in b_in off in rw same (ready.settled.within a b a_in b_in (sym (ap is_skipped same) ∙ plain)))
+        (has-or-not r (place a b));
+    behind = λ a b k a_in b_in plain more less. ⊎_elim
+        (λ (here : HasPosition r (place a b)). let one = (plain-now a b a_in b_in here).narrow in absurd (omega arith))
+        (λ (off : HasPosition r (place a b) → ⊥).
+        let same = stays a b a_in b_in off in
+        let w : width_of (cell_at s.area.width new.cells a b) ≡ width_of (cell_at s.area.width s.cells a b) = ap width_of same in
+        let was = sym (ap is_skipped same) ∙ plain in
+        let ends = ready.settled.within a b a_in b_in was in
+        subst IsBlankOrSkipped (sym (stays k b (omega arith) b_in (λ here. apart a b k a_in b_in was more (omega arith) here))) (ready.settled.behind a b k a_in b_in was more (omega arith)))
+        (has-or-not r (place a b));
+  })
+
 pub ready-row : (x y : ℕ) (s : BufferData) → IsReadyFrom y s → HasRow s.area y → x ≤ s.area.x + s.area.width → IsReadyAt x y s
 ready-row x y s ready row fits = record {
   edges = ready.edges;
@@ -204,9 +247,6 @@ ready-row x y s ready row fits = record {
       let e = ready.edges in let r = e.right in let b = e.bottom in let t = row.top in let d = row.bottom in
       let one = (ready.plain (position_of (a, y)) (record { left = from; right = omega arith; top = t; bottom = omega arith }) (omega arith)).narrow in omega arith;
 }
-
-pub ready-end : (x y : ℕ) (s : BufferData) → IsReadyAt x y s → IsReadyFrom (y + 1) s
-ready-end x y s ready = record { edges = ready.edges; settled = ready.settled; plain = λ p has from. ready.plain p has (inl (omega arith)) }
 
 pub ready-plain : (y : ℕ) (s : BufferData) → EdgesFit s.area → IsPlainFrom 0 s → IsReadyFrom y s
 ready-plain y s edges plain = record { edges = edges; settled = settled-plain s edges plain; plain = plain-later 0 y s (omega arith) plain }

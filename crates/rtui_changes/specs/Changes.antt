@@ -1,5 +1,5 @@
 -- A change of each cell of an area, by its position.
-use Rattle.std.specs.Prelude.{◌≡◌, ℕ, ◌≤◌, ◌<◌, ◌-◌}
+use Rattle.std.specs.Prelude.{◌≡◌, ℕ, ◌≤◌, ◌<◌}
 use Rattle.rtui_geometry.specs.declared.rect.Rect.{Rect}
 use Rattle.rtui_geometry.specs.declared.position.Position.{Position}
 use Rattle.rtui_geometry.specs.Rect.{HasPosition, bottom_edge}
@@ -31,14 +31,6 @@ row_part r y = record { x = r.x; y = y; width = r.width; height = 1 }
 pub record IsRowOfArea (r : Rect) (y : ℕ) : Type 0 where
   pub top : r.y ≤ y
   pub bottom : y < bottom_edge r
-
--- the first columns of a row of a rectangle, up to one
-abbrev pub columns_to : Rect → ℕ → ℕ → Rect
-columns_to r y x = record { x = r.x; y = y; width = x - r.x; height = 1 }
-
--- the first rows of a rectangle, up to one
-abbrev pub rows_to : Rect → ℕ → Rect
-rows_to r y = record { x = r.x; y = r.y; width = r.width; height = y - r.y }
 
 -- one position as a rectangle
 abbrev pub place_at : Position → Rect

@@ -1,3 +1,4 @@
 pub mod Changes
 pub mod Plain
 pub mod Parts
+pub mod NarrowTexts

@@ -7,11 +7,16 @@ use Rattle.rtui_cell.specs.Width.{text_width}
 use Rattle.rtui_cell.specs.declared.cell.Cell.{Cell}
 use Rattle.rtui_geometry.specs.Rect.{HasPosition, EdgesFit}
 use Rattle.rtui_geometry.specs.declared.position.Position.{Position}
+use Rattle.rtui_geometry.specs.declared.rect.Rect.{Rect}
 
 -- at most one column, no option and no flag
 pub record IsPlain (c : Cell) : Type 0 where
   pub narrow : width_of c ≤ 1
   pub unmarked : IsUnmarked c
+
+-- each cell of an area is plain
+abbrev pub IsPlainOver : Rect → BufferData → Type 0
+IsPlainOver r s = (p : Position) → HasPosition s.area p → HasPosition r p → IsPlain (cell_in s p)
 
 -- each cell is plain, from a row on
 abbrev pub IsPlainFrom : ℕ → BufferData → Type 0

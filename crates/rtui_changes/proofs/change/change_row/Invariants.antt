@@ -1,5 +1,6 @@
 use Rattle.std.proofs.Common.{◌≡◌}
-use Rattle.rtui_changes.specs.Changes.{ChangesEach, columns_to}
+use Rattle.rtui_changes.specs.Changes.{ChangesEach}
+use Rattle.rtui_changes.proofs.ChangeLemmas.{columns_to}
 use Rattle.rtui_changes.proofs.change.change_row.Given as goal
 
 abbrev pub invariant-loop-x : goal.invariant-loop-x
