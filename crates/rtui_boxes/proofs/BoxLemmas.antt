@@ -10,10 +10,11 @@ use Rattle.ratatui_core.specs.Buffer.{ChangesEach, AreLight, MakesEach}
 use Rattle.ratatui_core.specs.Layout.{intersected}
 use Rattle.ratatui_core.specs.Buffer.{IsStyled, styled}
 use Rattle.ratatui_core.specs.Widgets.{IsClipped}
-use Rattle.ratatui_core.proofs.WidgetLemmas.{within-styled, within-then}
+use Rattle.ratatui_core.proofs.WidgetLemmas.{within-styled, within-then, OnPart-none, OnPart-clipped}
+use Rattle.rtui_boxes.specs.Titles.{RendersTitles}
 use Rattle.rtui_boxes.specs.declared.title.TitlePosition.{TitlePosition}
 use Rattle.rtui_boxes.specs.declared.title.TitlePosition.TheVariants.{Top, Bottom}
-use Rattle.rtui_boxes.specs.Boxes.{Stroke, stroke, strokes, is_in, strikes, stroked, drawn, IsShortUnder, DrawsStrokes, IsBoxArea, titles_area, has_title, IsOffTitles, KeepsOffTitles, box_cell, RendersBlock, IsShortBlock}
+use Rattle.rtui_boxes.specs.Boxes.{Stroke, stroke, strokes, is_in, strikes, stroked, drawn, IsShortUnder, DrawsStrokes, IsBoxArea, titles_area, has_title, IsOffTitles, KeepsOffTitles, box_cell, placed_titles, RendersTitled, RendersBlock, IsShortBlock}
 use Rattle.ratatui_core.proofs.BufferLemmas.{Changes-within, within-same, within-wider, on-ok}
 
 by_test : (b : Bool) → (b ≡ true → ⊥) → b ≡ false
@@ -194,10 +195,15 @@ module _ (b : Block) (area part : Rect) (old laid mid : BufferData) (is : IsClip
       draws.within.outside p in_laid off ∙ style.outside p in_own off))
       (test-cases (is_in part p))
 
-  pub block-renders : {A : Type 0} (x : A) (new : BufferData) → DrawsStrokes b part (strokes b part) (Ok x) laid mid → KeepsOffTitles b part mid new → RendersBlock b area old new
-  block-renders x new draws titles =
-      let within = within-wider part area old new is.of_area
-      (within-then part old mid new (within-then part old laid mid within-laid draws.within) (titles-within b part mid new (box-area area old.area part is) titles)) in
+  pub titled-within : {A : Type 0} (r : Result A AllocError) (new : BufferData) → DrawsStrokes b part (strokes b part) r laid mid → KeepsOffTitles b part mid new → ChangesWithin area old new
+  titled-within r new draws titles =
+      within-wider part area old new is.of_area
+      (within-then part old mid new (within-then part old laid mid within-laid draws.within) (titles-within b part mid new (box-area area old.area part is) titles))
+
+  pub block-renders : {A : Type 0} (x : A) (new : BufferData) → DrawsStrokes b part (strokes b part) (Ok x) laid mid → KeepsOffTitles b part mid new → RendersTitles b.titles_style (placed_titles b part) mid new
+      → RendersBlock b area old new
+  block-renders x new draws titles rendered =
+      let within = titled-within (Ok x) new draws titles in
       record {
         same_area = within.same_area;
         same_room = within.same_room;
@@ -205,6 +211,11 @@ module _ (b : Block) (area part : Rect) (old laid mid : BufferData) (is : IsClip
             subst (λ (q : Rect). IsOffTitles b q p → cell_in new p ≡ box_cell b q p (cell_in old p)) is.value
             (λ off. titles.at p (rw (draws.within.same_area, style.area) in_own) off ∙ boxed-at x draws p in_own);
         within = within;
+        titled = OnPart-clipped (RendersTitled b) area part old new is (record {
+          framed = mid;
+          frame = record { area = draws.within.same_area ∙ style.area; room = draws.within.same_room ∙ style.room; at = boxed-at x draws };
+          titles = rendered;
+        });
       }
 
 pub block-none : (b : Block) (area : Rect) (s : BufferData) → ((intersected area s.area).width ≡ 0) ⊎ ((intersected area s.area).height ≡ 0) → RendersBlock b area s s
@@ -214,4 +225,5 @@ block-none b area s none = record {
   at = λ p in_own off. rw (is_in-false (intersected area s.area) p (λ h. let l = h.left in let e = h.right in let t = h.top in let d = h.bottom in
       ⊎_elim (λ (w : (intersected area s.area).width ≡ 0). omega arith) (λ (w : (intersected area s.area).height ≡ 0). omega arith) none)) refl;
   within = within-same area s;
+  titled = OnPart-none (RendersTitled b) area s none;
 }

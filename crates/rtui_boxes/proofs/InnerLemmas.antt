@@ -5,22 +5,13 @@ use Rattle.ratatui_core.specs.Layout.{Rect, HasPosition, EdgesFit, IsInside, int
 use Rattle.ratatui_core.specs.Style.{Style}
 use Rattle.ratatui_core.specs.Buffer.{BufferData, cell_in, IsStyled, IsPlain, IsPlainFrom, IsSettledBuffer}
 use Rattle.ratatui_core.specs.Widgets.{IsClipped}
-use Rattle.ratatui_core.proofs.BufferLemmas.{plain-styled, settled-plain, has-or-not}
+use Rattle.ratatui_core.proofs.BufferLemmas.{settled-plain}
 use Rattle.rtui_boxes.specs.declared.block.Block.{Block}
 use Rattle.rtui_boxes.specs.Boxes.{IsBoxArea, IsPlainIfBox}
 use Rattle.rtui_boxes.specs.Framed.{inner_if, RendersIfBox, IsFramed, IsBare, RendersInFrame}
 use Rattle.rtui_boxes.proofs.BoxLemmas.{box-area}
 use Rattle.rtui_boxes.proofs.FrameLemmas.{inner-in}
-use Rattle.rtui_boxes.proofs.PlainBoxLemmas.{plain-box}
-
--- a style keeps cells plain
-pub plain-laid : (r : Rect) (style : Style) (old laid : BufferData) → IsStyled r style old laid → IsPlainFrom 0 old → IsPlainFrom 0 laid
-plain-laid r style old laid is plain = λ p in_laid le.
-    let in_own : HasPosition old.area p = subst (λ a. HasPosition a p) is.area in_laid in
-    ⊎_elim
-    (λ (here : HasPosition r p). subst IsPlain (sym (is.inside p in_own here)) (plain-styled style (cell_in old p) (plain p in_own le)))
-    (λ (off : HasPosition r p → ⊥). subst IsPlain (sym (is.outside p in_own off)) (plain p in_own le))
-    (has-or-not r p)
+use Rattle.rtui_boxes.proofs.PlainBoxLemmas.{plain-laid, plain-box}
 
 plain-boxed : (o : Option Block) (r : Rect) (old new : BufferData) → IsPlainIfBox o → IsPlainFrom 0 old → RendersIfBox o r old new → IsPlainFrom 0 new
 plain-boxed None r old new is plain same = rw same plain

@@ -1,3 +1,4 @@
+pub mod TitleLemmas
 pub mod BoxLemmas
 pub mod ClearLemmas
 pub mod PlainBoxLemmas

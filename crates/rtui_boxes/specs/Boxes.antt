@@ -1,14 +1,15 @@
 -- A box: which symbols stand where, and what is inside.
-use Rattle.std.specs.Prelude.{◌≡◌, ℕ, Bool, true, false, ◌&&◌, ◌||◌, ◌==◌, ◌+◌, ◌-◌, ◌≤◌, ◌<◌, nat_le, nat_lt, min, Option, Some, None, List, [], ◌∷◌, ◌++◌, if◌then◌else◌, unwrap_or, ⊤, Result, IsOk, OnOk}
+use Rattle.std.specs.Prelude.{◌≡◌, ℕ, Bool, true, false, ◌&&◌, ◌||◌, ◌==◌, ◌+◌, ◌-◌, ◌≤◌, ◌<◌, nat_le, nat_lt, min, Option, Some, None, List, [], ◌∷◌, ◌++◌, if◌then◌else◌, unwrap_or, map, filter, reverse, All, ⊤, Result, IsOk, OnOk}
 use Rattle.std.specs.List.{list_any}
 use Rattle.std.specs.Int.RustNames.{bit_and}
 use Rattle.ratatui_core.specs.Layout.{Rect, Position, HasPosition, right_edge, bottom_edge, intersected}
 use Rattle.ratatui_core.specs.Style.{Style, new_style}
 use Rattle.ratatui_core.specs.Text.{LineData}
-use Rattle.ratatui_core.specs.declared.layout.HorizontalAlignment.TheVariants.{Left}
-use Rattle.ratatui_core.specs.Widgets.{ChangesWithin}
+use Rattle.ratatui_core.specs.declared.layout.HorizontalAlignment.{HorizontalAlignment}
+use Rattle.ratatui_core.specs.declared.layout.HorizontalAlignment.TheVariants.{Left, Center, Right}
+use Rattle.ratatui_core.specs.Widgets.{ChangesWithin, OnPart}
 use Rattle.std.specs.declared.alloc.AllocError.{AllocError}
-use Rattle.ratatui_core.specs.Buffer.{BufferData, Cell, MakesEach, place_at, position_of, cell_in, styled, with_symbol, joined, symbol_text, text_width, IsShort}
+use Rattle.ratatui_core.specs.Buffer.{BufferData, Cell, MakesEach, place_at, position_of, cell_in, styled, with_symbol, joined, symbol_text, text_width, IsShort, IsNarrowLine}
 use Rattle.ratatui_core.specs.declared.symbols.merge.MergeStrategy.{MergeStrategy}
 use Rattle.ratatui_core.specs.declared.symbols.merge.MergeStrategy.TheVariants.{Replace, Exact, Fuzzy}
 use Rattle.rtui_boxes.specs.declared.borders.Borders.{Borders}
@@ -17,6 +18,7 @@ use Rattle.rtui_boxes.specs.declared.title.Title.{Title}
 use Rattle.rtui_boxes.specs.declared.title.TitlePosition.{TitlePosition}
 use Rattle.rtui_boxes.specs.declared.title.TitlePosition.TheVariants.{Top, Bottom}
 use Rattle.rtui_boxes.specs.Borders.{sides_of}
+use Rattle.rtui_boxes.specs.Titles.{PlacedTitle, RendersTitles, is_same_alignment, from_left, from_centre, from_right}
 
 -- a box with these sides and plain lines, without titles, styles and padding
 pub record IsNewBlock (sides : ℕ) (b : Block) : Type 0 where
@@ -199,13 +201,40 @@ pub record KeepsOffTitles (b : Block) (r : Rect) (old new : BufferData) : Type 0
 abbrev pub box_cell : Block → Rect → Position → Cell → Cell
 box_cell b r p c = if is_in r p then stroked b (strokes b r) p (styled b.style c) else c
 
--- A box over the part of an area that the buffer has, cell by cell. Nothing is said of the cells in which titles stand, but that they alone
--- may differ; a row without titles has none.
+-- whether a title stands in a row and is aligned so; if it doesn't say so itself it is as the box says
+abbrev pub is_placed : Block → TitlePosition → HorizontalAlignment → Title → Bool
+is_placed b position alignment title =
+    is_in_row b.titles_position position title && is_same_alignment (unwrap_or title.line.alignment b.titles_alignment) alignment
+
+-- the lines of those of some titles that stand in a row and are aligned so
+abbrev pub lines_placed : Block → TitlePosition → HorizontalAlignment → List Title → List LineData
+lines_placed b position alignment titles = map (λ title. title.line) (filter (is_placed b position alignment) titles)
+
+-- the titles of a row: those at the left, those in the centre over them, and over both those at the right, of which the last one stands
+-- at the right end
+abbrev pub row_titles : Block → Rect → TitlePosition → List PlacedTitle
+row_titles b row position =
+    from_left row (lines_placed b position Left b.titles.items)
+    ++ (from_centre row (lines_placed b position Center b.titles.items) ++ from_right row (lines_placed b position Right (reverse b.titles.items)))
+
+-- all titles of a box over a rectangle
+abbrev pub placed_titles : Block → Rect → List PlacedTitle
+placed_titles b r = row_titles b (titles_area b r Top) Top ++ row_titles b (titles_area b r Bottom) Bottom
+
+-- a box with its titles over a rectangle: each cell with the style and the strokes over it, and then the titles
+pub record RendersTitled (b : Block) (r : Rect) (old new : BufferData) : Type 0 where
+  pub framed : BufferData
+  pub frame : MakesEach (box_cell b r) old framed
+  pub titles : RendersTitles b.titles_style (placed_titles b r) framed new
+
+-- A box over the part of an area that the buffer has, cell by cell, and its titles. Only cells in which titles stand may differ from the
+-- box's own; a row without titles has none.
 pub record RendersBlock (b : Block) (area : Rect) (old new : BufferData) : Type 0 where
   pub same_area : new.area ≡ old.area
   pub same_room : new.room ≡ old.room
   pub at : (p : Position) → HasPosition old.area p → IsOffTitles b (intersected area old.area) p → cell_in new p ≡ box_cell b (intersected area old.area) p (cell_in old p)
   pub within : ChangesWithin area old new
+  pub titled : OnPart (RendersTitled b) area old new
 
 -- a box without titles takes no memory if no symbol does that comes of it
 pub record IsShortBlock (b : Block) (area : Rect) (s : BufferData) : Type 0 where
@@ -227,9 +256,9 @@ pub record HasShortSymbols (b : Block) : Type 0 where
 abbrev pub AreShortCells : BufferData → Type 0
 AreShortCells s = (p : Position) → HasPosition s.area p → IsShort (symbol_text (cell_in s p).symbol)
 
--- a box without titles whose symbols take at most one column each
+-- a box whose symbols, and whose titles' graphemes, take at most one column each; it may have no titles
 pub record IsPlainBox (b : Block) : Type 0 where
-  pub untitled : b.titles.items ≡ []
+  pub titles : All (λ title. IsNarrowLine title.line) b.titles.items
   pub left : text_width b.border_set.vertical_left.now ≤ 1
   pub top : text_width b.border_set.horizontal_top.now ≤ 1
   pub right : text_width b.border_set.vertical_right.now ≤ 1

@@ -1,4 +1,5 @@
 pub mod Borders
+pub mod Titles
 pub mod Boxes
 pub mod Clears
 pub mod Framed

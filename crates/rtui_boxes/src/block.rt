@@ -233,7 +233,7 @@ impl<'a> Block<'a> {
 }
 
 // Whether a title stands in a row, where those stand in another one that don't say so themselves.
-fn is_in_row(title: &Title<'_>, own: TitlePosition, position: TitlePosition) -> bool
+pub(crate) fn is_in_row(title: &Title<'_>, own: TitlePosition, position: TitlePosition) -> bool
     ensures { result ≡ is_in_row own position title.now }
 {
     match (title.position.unwrap_or(own), position) {
@@ -274,7 +274,7 @@ impl<'b, 'a> Widget for &'b Block<'a> {
         };
         buf.set_style(part, self.style);
         self.render_borders(part, buf)?;
-        if self.titles.is_empty() {
+        if self.titles.as_slice().is_empty() {
             return Ok(());
         }
         self.render_titles(part, buf)

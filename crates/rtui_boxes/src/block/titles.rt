@@ -1,10 +1,12 @@
 //! The titles of a box.
 
-ghost use Rattle.std.specs.Prelude.{◌≡◌, false};
+ghost use Rattle.std.specs.Prelude.{◌≡◌, ◌+◌, ◌≤◌, ◌<◌, false, OnOk, reverse};
 ghost use Rattle.ratatui_core.specs.Widgets.{ChangesWithin};
-ghost use Rattle.rtui_boxes.specs.Boxes.{has_title, titles_area, IsBoxArea, KeepsOffTitles};
+ghost use Rattle.ratatui_core.specs.declared.layout.HorizontalAlignment.TheVariants.{Left, Center, Right};
+ghost use Rattle.rtui_boxes.specs.Titles.{is_same_alignment, side_of, title_width, titles_width, title_at, without_first, from_left, from_right, from_outside, from_centre, RendersTitle, RendersTitles};
+ghost use Rattle.rtui_boxes.specs.Boxes.{has_title, titles_area, is_placed, lines_placed, row_titles, placed_titles, IsBoxArea, KeepsOffTitles};
 
-use crate::block::{Block, one_if};
+use crate::block::{Block, is_in_row, one_if};
 use crate::borders::Borders;
 use crate::title::{Title, TitlePosition};
 use ratatui_core::buffer::Buffer;
@@ -14,12 +16,16 @@ use ratatui_core::widgets::Widget;
 use std::alloc::AllocError;
 
 // How many columns a line takes, at most 65535.
-fn columns_of(line: &Line<'_>) -> u16 {
+fn columns_of(line: &Line<'_>) -> u16
+    ensures { result ≡ title_width line.now }
+{
     line.width().min(65535) as u16
 }
 
 // An area without its first columns.
-fn without_left(area: Rect, columns: u16) -> Rect {
+fn without_first(area: Rect, columns: u16) -> Rect
+    ensures { result ≡ without_first columns area }
+{
     Rect {
         x: area.x.saturating_add(columns),
         width: area.width.saturating_sub(columns),
@@ -27,16 +33,42 @@ fn without_left(area: Rect, columns: u16) -> Rect {
     }
 }
 
+// An area without a title of so many columns at its left, and without the column after it.
+fn after_title(area: Rect, columns: u16) -> Rect
+    ensures { result ≡ without_first (columns + 1) area }
+{
+    Rect {
+        x: area.x.saturating_add(columns).saturating_add(1),
+        width: area.width.saturating_sub(columns).saturating_sub(1),
+        ..area
+    }
+}
+
+// Whether both alignments are the same.
+fn is_same_alignment(one: HorizontalAlignment, other: HorizontalAlignment) -> bool
+    ensures { result ≡ is_same_alignment one other }
+{
+    match (one, other) {
+        (HorizontalAlignment::Left, HorizontalAlignment::Left) => true,
+        (HorizontalAlignment::Center, HorizontalAlignment::Center) => true,
+        (HorizontalAlignment::Right, HorizontalAlignment::Right) => true,
+        _ => false,
+    }
+}
+
 impl<'a> Block<'a> {
     // Renders the titles: in the first row and in the last one those at the left, in the centre and at the right.
     pub(crate) fn render_titles(&self, area: Rect, buf: &mut Buffer) -> Result<(), AllocError>
         requires { IsBoxArea area }
-        ensures { KeepsOffTitles self.now area buf.old buf.new }
+        ensures keeps { KeepsOffTitles self.now area buf.old buf.new }
+        ensures ok { let ts = placed_titles self.now area in
+            OnOk result (RendersTitles self.now.titles_style ts buf.old buf.new) }
     {
         self.render_title_position(TitlePosition::Top, area, buf)?;
         self.render_title_position(TitlePosition::Bottom, area, buf)
     }
 
+    // Renders the titles of a row.
     fn render_title_position(
         &self,
         position: TitlePosition,
@@ -46,12 +78,14 @@ impl<'a> Block<'a> {
         requires { IsBoxArea area }
         ensures within { ChangesWithin (titles_area self.now area position) buf.old buf.new }
         ensures none { has_title self.now position ≡ false → buf.new ≡ buf.old }
+        ensures ok { let ts = row_titles self.now (titles_area self.now area position) position in
+            OnOk result (RendersTitles self.now.titles_style ts buf.old buf.new) }
     {
         if !self.has_title_at_position(position) {
             return Ok(());
         }
         let row = self.titles_area(area, position);
-        self.render_left_titles(position, row, buf)?;
+        self.render_from_left(position, HorizontalAlignment::Left, row, buf)?;
         self.render_center_titles(position, row, buf)?;
         self.render_right_titles(position, row, buf)
     }
@@ -81,147 +115,128 @@ impl<'a> Block<'a> {
         title: &Title<'a>,
         position: TitlePosition,
         alignment: HorizontalAlignment,
-    ) -> bool {
-        title.position.unwrap_or(self.titles_position) == position
-            && title.line.alignment.unwrap_or(self.titles_alignment) == alignment
-    }
-
-    // Renders a title over an area of a row.
-    fn render_title(
-        &self,
-        line: &Line<'a>,
-        area: Rect,
-        row: Rect,
-        buf: &mut Buffer,
-    ) -> Result<(), AllocError>
-        ensures { ChangesWithin row buf.old buf.new }
+    ) -> bool
+        ensures { result ≡ is_placed self.now position alignment title.now }
     {
-        let part = area.intersection(row);
-        self.render_styled(line, part, buf)
+        let own = title.line.alignment.unwrap_or(self.titles_alignment);
+        is_in_row(title, self.titles_position, position) && is_same_alignment(own, alignment)
     }
 
-    // Renders a title over a part of a row, in the style of the titles.
-    fn render_styled(&self, line: &Line<'a>, part: Rect, buf: &mut Buffer) -> Result<(), AllocError>
-        ensures { ChangesWithin part buf.old buf.new }
+    // Renders a title over an area of a row, in the style of the titles.
+    fn render_title(&self, line: &Line<'a>, area: Rect, buf: &mut Buffer) -> Result<(), AllocError>
+        ensures within { ChangesWithin area buf.old buf.new }
+        ensures ok { let t = title_at line.now area in
+            OnOk result (RendersTitle self.now.titles_style t buf.old buf.new) }
     {
-        buf.set_style(part, self.titles_style);
-        line.render(part, buf)?;
-        Ok(())
+        buf.set_style(area, self.titles_style);
+        line.render(area, buf)
     }
 
-    // From the left on, with a column between each two.
-    fn render_left_titles(
+    // Renders the titles of a row that are aligned so, from the left on, with a column between each two.
+    fn render_from_left(
         &self,
         position: TitlePosition,
+        alignment: HorizontalAlignment,
         row: Rect,
         buf: &mut Buffer,
     ) -> Result<(), AllocError>
-        ensures { ChangesWithin row buf.old buf.new }
+        ensures within { ChangesWithin row buf.old buf.new }
+        ensures ok { let lines = lines_placed self.now position alignment self.now.titles.items in
+            OnOk result
+            (RendersTitles self.now.titles_style (from_left row lines) buf.old buf.new) }
     {
         let mut left = row;
         for title in self.titles.as_slice() {
-            if !self.is_placed(title, position, HorizontalAlignment::Left) {
+            if !self.is_placed(title, position, alignment) {
                 continue;
             }
-            if left.is_empty() {
+            if left.width == 0 {
                 return Ok(());
             }
-            let width = columns_of(&title.line);
+            let columns = columns_of(&title.line);
             let area = Rect {
-                width: width.min(left.width),
+                width: columns.min(left.width),
                 ..left
             };
-            self.render_title(&title.line, area, row, buf)?;
-            left = without_left(left, width.saturating_add(1));
+            self.render_title(&title.line, area, buf)?;
+            left = after_title(left, columns);
         }
         Ok(())
     }
 
-    // From the right on, the last one first, with a column between each two.
+    // Renders the titles at the right, the last one first, with a column between each two.
     fn render_right_titles(
         &self,
         position: TitlePosition,
         row: Rect,
         buf: &mut Buffer,
     ) -> Result<(), AllocError>
-        ensures { ChangesWithin row buf.old buf.new }
+        requires { row.x + row.width ≤ 65535 }
+        ensures within { ChangesWithin row buf.old buf.new }
+        ensures ok { let titles = reverse self.now.titles.items in
+            let ts = from_right row (lines_placed self.now position Right titles) in
+            OnOk result (RendersTitles self.now.titles_style ts buf.old buf.new) }
     {
+        let titles = self.titles.as_slice();
         let mut left = row;
-        for title in self.titles.as_slice().iter().rev() {
+        for k in (0..titles.len()).rev() {
+            let title = &titles[k];
             if !self.is_placed(title, position, HorizontalAlignment::Right) {
                 continue;
             }
-            if left.is_empty() {
+            if left.width == 0 {
                 return Ok(());
             }
             let columns = columns_of(&title.line);
             let width = columns.min(left.width);
             let area = Rect {
-                x: left.x.saturating_add(left.width - width),
+                x: left.x + (left.width - width),
                 width,
                 ..left
             };
-            self.render_title(&title.line, area, row, buf)?;
+            self.render_title(&title.line, area, buf)?;
             left.width = left.width.saturating_sub(columns).saturating_sub(1);
         }
         Ok(())
     }
 
-    // How many columns the centred titles of a row take, with one between each two.
-    fn centered_columns(&self, position: TitlePosition) -> u16 {
-        let mut columns = 0u16;
-        let mut is_first = true;
+    // How many columns the centred titles of a row take with one between each two, at most 65535.
+    fn centered_columns(&self, position: TitlePosition) -> u16
+        ensures { let lines = lines_placed self.now position Center self.now.titles.items in
+            result ≡ titles_width lines }
+    {
+        let mut columns = 0usize;
         for title in self.titles.as_slice() {
             if self.is_placed(title, position, HorizontalAlignment::Center) {
-                if !is_first {
-                    columns = columns.saturating_add(1);
-                }
-                columns = columns.saturating_add(columns_of(&title.line));
-                is_first = false;
+                let width = usize::from(columns_of(&title.line));
+                columns = columns.saturating_add(width + 1);
             }
         }
-        columns
+        columns.saturating_sub(1).min(65535) as u16
     }
 
-    // Centred as one, with a column between each two; what doesn't fit is cut on both sides.
+    // Renders the titles in the centre as one, with a column between each two; if they don't fit they are cut on both sides.
     fn render_center_titles(
         &self,
         position: TitlePosition,
         row: Rect,
         buf: &mut Buffer,
     ) -> Result<(), AllocError>
-        ensures { ChangesWithin row buf.old buf.new }
+        ensures within { ChangesWithin row buf.old buf.new }
+        ensures ok { let lines = lines_placed self.now position Center self.now.titles.items in
+            OnOk result
+            (RendersTitles self.now.titles_style (from_centre row lines) buf.old buf.new) }
     {
         let columns = self.centered_columns(position);
         if columns <= row.width {
-            self.render_centered(position, (row.width - columns) / 2, row, buf)
+            let left = without_first(row, (row.width - columns) / 2);
+            self.render_from_left(position, HorizontalAlignment::Center, left, buf)
         } else {
             self.render_cut(position, row, (columns - row.width) / 2, buf)
         }
     }
 
-    fn render_centered(
-        &self,
-        position: TitlePosition,
-        start: u16,
-        row: Rect,
-        buf: &mut Buffer,
-    ) -> Result<(), AllocError>
-        ensures { ChangesWithin row buf.old buf.new }
-    {
-        let mut left = without_left(row, start);
-        for title in self.titles.as_slice() {
-            if !self.is_placed(title, position, HorizontalAlignment::Center) {
-                continue;
-            }
-            let width = columns_of(&title.line);
-            self.render_title(&title.line, Rect { width, ..left }, row, buf)?;
-            left.x = left.x.saturating_add(width.saturating_add(1));
-        }
-        Ok(())
-    }
-
-    // Centred titles without so many columns at the left, as far as the row goes.
+    // Renders the titles in the centre without so many columns at the left, as far as the row goes.
     fn render_cut(
         &self,
         position: TitlePosition,
@@ -229,7 +244,10 @@ impl<'a> Block<'a> {
         excess: u16,
         buf: &mut Buffer,
     ) -> Result<(), AllocError>
-        ensures { ChangesWithin row buf.old buf.new }
+        ensures within { ChangesWithin row buf.old buf.new }
+        ensures ok { let lines = lines_placed self.now position Center self.now.titles.items in
+            let ts = from_outside excess row lines in
+            OnOk result (RendersTitles self.now.titles_style ts buf.old buf.new) }
     {
         let alloc = buf.allocator();
         let mut left = row;
@@ -238,23 +256,28 @@ impl<'a> Block<'a> {
             if !self.is_placed(title, position, HorizontalAlignment::Center) {
                 continue;
             }
-            if left.is_empty() {
+            if left.width == 0 {
                 return Ok(());
             }
             let width = columns_of(&title.line)
                 .min(left.width)
                 .saturating_sub(offset);
-            let area = Rect { width, ..left };
-            if offset > 0 {
-                let line = title.line.clone(alloc)?.right_aligned();
-                self.render_title(&line, area, row, buf)?;
-                offset = offset.saturating_sub(width).saturating_sub(1);
-            } else {
-                let line = title.line.clone(alloc)?.left_aligned();
-                self.render_title(&line, area, row, buf)?;
-            }
-            left = without_left(left, width.saturating_add(1));
+            let line = title.line.clone(alloc)?.alignment(side_of(offset));
+            self.render_title(&line, Rect { width, ..left }, buf)?;
+            offset = offset.saturating_sub(width).saturating_sub(1);
+            left = after_title(left, width);
         }
         Ok(())
+    }
+}
+
+// The side at which a title stands of which so many columns are cut at the left.
+fn side_of(offset: u16) -> HorizontalAlignment
+    ensures { result ≡ side_of offset }
+{
+    if offset == 0 {
+        HorizontalAlignment::Left
+    } else {
+        HorizontalAlignment::Right
     }
 }

@@ -1,5 +1,17 @@
+use Rattle.std.proofs.Common.{◌+◌, ◌≤◌, take, reverse}
+use Rattle.ratatui_core.specs.Layout.{IsInside}
+use Rattle.ratatui_core.specs.declared.layout.HorizontalAlignment.TheVariants.{Right}
 use Rattle.ratatui_core.specs.Widgets.{ChangesWithin}
+use Rattle.rtui_boxes.specs.Titles.{from_right}
+use Rattle.rtui_boxes.specs.Boxes.{lines_placed}
+use Rattle.rtui_boxes.proofs.TitleLemmas.{Finishes}
 use Rattle.rtui_boxes.proofs.block.Block.render_right_titles.Given as goal
 
-abbrev pub invariant-loop-title : goal.invariant-loop-title
-invariant-loop-title l = ChangesWithin l.fn.row l.fn.buf l.buf
+abbrev pub invariant-loop-k : goal.invariant-loop-k
+invariant-loop-k l = record {
+  within : ChangesWithin l.fn.row l.fn.buf l.buf;
+  inside : IsInside l.left l.fn.row;
+  fits : l.left.x + l.left.width ≤ 65535;
+  rest : Finishes l.fn.self.titles_style (from_right l.left (lines_placed l.fn.self l.fn.position Right (reverse (take l.k l.titles))))
+      (from_right l.fn.row (lines_placed l.fn.self l.fn.position Right (reverse l.fn.self.titles.items))) l.fn.buf l.buf;
+}
