@@ -52,7 +52,7 @@ changed-within (Ok x) part area f old new inside ok err = Changes-within part ar
 changed-within (Err e) part area f old new inside ok err = within-wider part area old new inside err
 
 -- a label's pieces keep to the part's columns
-pieces-keep : (g : LineGauge) (o : Option LineData) (r own : Rect) → columns (pieces_of_label g o r own) ≤ r.width
+pub pieces-keep : (g : LineGauge) (o : Option LineData) (r own : Rect) → columns (pieces_of_label g o r own) ≤ r.width
 pieces-keep g None r own = text-keeps own r.x r.width new_style (percent_text g.share)
 pieces-keep g (Some label) r own = line-keeps own r.x r.width label
 

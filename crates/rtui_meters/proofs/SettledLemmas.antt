@@ -5,25 +5,28 @@ use Rattle.std.specs.Borrow.{Bor}
 use Rattle.std.proofs.lemmas.Bool.{cases_lt}
 use Rattle.std.specs.List.{list_all}
 use Rattle.std.proofs.Math.ListN.{get_or-map}
-use Rattle.ratatui_core.specs.Layout.{Rect, Position, EdgesFit, IsInside, intersected}
+use Rattle.ratatui_core.specs.Layout.{Rect, Position, EdgesFit, IsInside, intersected, corner}
 use Rattle.ratatui_core.specs.Style.{Style}
 use Rattle.ratatui_core.specs.declared.style.Color.{Color}
 use Rattle.ratatui_core.specs.Symbols.{is_narrow, block_levels}
 use Rattle.ratatui_core.specs.Buffer.{BufferData, Cell, with_symbol, styled, width_of, text_width, columns, IsPlain, IsPlainFrom, IsSettledBuffer}
-use Rattle.ratatui_core.proofs.BufferLemmas.{narrow-test, blocks-narrow, plain-styled, plain-changed, painted-settled, text-keeps}
+use Rattle.ratatui_core.proofs.BufferLemmas.{narrow-test, blocks-narrow, plain-styled, plain-changed, painted-settled, text-keeps, PaintsByColumns-paints, ready-row, ready-plain, ready-next, changed-settled}
 use Rattle.rtui_boxes.specs.Boxes.{IsBoxArea, IsPlainIfBox}
-use Rattle.rtui_boxes.proofs.PaintLemmas.{part-right}
+use Rattle.rtui_boxes.proofs.PaintLemmas.{part-right, part-has_row, part-starts}
 use Rattle.rtui_boxes.proofs.InnerLemmas.{settled-frame}
 use Rattle.rtui_meters.specs.declared.gauge.Gauge.{Gauge}
 use Rattle.rtui_meters.specs.declared.gauge.Fill.{Fill}
 use Rattle.rtui_meters.specs.declared.gauge.TheConstants.{FULL_BLOCK, TIPS}
+use Rattle.rtui_meters.specs.declared.line_gauge.LineGauge.{LineGauge}
+use Rattle.rtui_meters.specs.declared.line_gauge.LineFill.{LineFill}
+use Rattle.rtui_meters.specs.LineGauges.{line_label_pieces, line_part, line_fill, line_cell, FillsLine, RendersLineGauge, HasNarrowLine}
 use Rattle.rtui_meters.specs.declared.scrollbar.Scrollbar.{Scrollbar}
 use Rattle.rtui_meters.specs.declared.scrollbar.Marks.{Marks}
 use Rattle.rtui_meters.specs.declared.scrollbar.ScrollbarState.{ScrollbarState}
 use Rattle.rtui_meters.specs.Scrollbars.{bar_area, bar_length, track_length, mark_of, marks_of, marked, marked_cell, place_on_bar, MarksBar, RendersScrollbar, IsNarrowIf, HasNarrowMarks}
 use Rattle.rtui_meters.specs.Shares.{eighths_of}
 use Rattle.rtui_meters.specs.Gauges.{label_part, pieces_on_bar, filled_cell, in_colors, is_under_label, text_of_label, style_of_label, FillsArea, FillsGauge, RendersAreaGauge}
-use Rattle.rtui_meters.proofs.MeterLemmas.{label-in, label-row, label-column}
+use Rattle.rtui_meters.proofs.MeterLemmas.{label-in, label-row, label-column, pieces-keep}
 
 both : (a b : Bool) → (a && b) ≡ true → (a ≡ true) × (b ≡ true)
 both true b e = (refl, e)
@@ -98,6 +101,31 @@ settled-gauge g area old new edges plain box is =
 plain-column : (symbol : List ℕ) (c : Cell) → IsPlain c → text_width symbol ≤ 1 → IsPlain (with_symbol symbol c)
 unfolding width_of
 plain-column symbol c is le = let e = is.unmarked.option in record { narrow = rw e le; unmarked = record { option = is.unmarked.option; flag = is.unmarked.flag } }
+
+-- a label, and after it a line of narrow symbols
+plain-line : (f : LineFill) → text_width f.filled_symbol.now ≤ 1 → text_width f.unfilled_symbol.now ≤ 1 → (p : Position) (c : Cell) → IsPlain c → IsPlain (line_cell f p c)
+plain-line f filled unfilled p c is =
+    plain-if (nat_lt p.x f.end) _ _ (plain-styled f.filled_style _ (plain-column f.filled_symbol.now c is filled)) (plain-styled f.unfilled_style _ (plain-column f.unfilled_symbol.now c is unfilled))
+
+settled-line : (g : LineGauge) (r : Rect) (old new : BufferData) → HasNarrowLine g → IsBoxArea r → IsInside r old.area → EdgesFit old.area → IsPlainFrom 0 old → FillsLine g r old new → IsSettledBuffer new
+settled-line g r old new narrow box inside edges plain is =
+    let ps = line_label_pieces g r old.area in
+    let keeps = pieces-keep g g.label r old.area in
+    let high = box.rows in
+    let row = part-has_row r old.area r.y box inside (omega arith) (omega arith) in
+    let starts = part-starts r old.area r.x box inside (omega arith) in
+    let right = part-right r old.area r.x (columns ps) box inside (omega arith) in
+    let settled = painted-settled r.x r.y ps old is.labelled edges plain row starts right is.label in
+    let by = PaintsByColumns-paints (corner r) ps old is.labelled row starts (omega arith) is.label in
+    let from = ready-row r.x r.y old (ready-plain r.y old edges plain) row (omega arith) in
+    let ready = ready-next r.x r.y old from row starts (columns ps) ps is.labelled right (omega arith) is.label.area by settled in
+    changed-settled (r.x + columns ps) r.y (line_part g r old.area) (line_cell (line_fill g r old.area)) is.labelled new ready
+    (λ p here. let l = here.left in let e = here.right in let t = here.top in let b = here.bottom in inr (omega arith, omega arith))
+    (plain-line (line_fill g r old.area) narrow.filled narrow.unfilled) is.line
+
+pub settled-line_gauge : (g : LineGauge) (area : Rect) (old new : BufferData) → EdgesFit old.area → IsPlainFrom 0 old → IsPlainIfBox g.block → HasNarrowLine g → RendersLineGauge g area old new → IsSettledBuffer new
+settled-line_gauge g area old new edges plain box narrow is =
+    settled-frame g.style g.block (FillsLine g) area old new edges plain box (λ r s t some inside fit cells fills. settled-line g r s t narrow some inside fit cells fills) is
 
 plain-marked : (o : Option (Bor (List ℕ))) (style : Style) (c : Cell) → IsNarrowIf o → IsPlain c → IsPlain (marked (o, style) c)
 plain-marked None style c narrow is = is

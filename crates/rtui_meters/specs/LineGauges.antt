@@ -1,9 +1,9 @@
 -- A gauge in one row: a label, and a line that is filled up to a column.
-use Rattle.std.specs.Prelude.{◌≡◌, ℕ, ◌+◌, ◌-◌, nat_lt, min, List, Option, Some, None, if◌then◌else◌}
+use Rattle.std.specs.Prelude.{◌≡◌, ℕ, ◌+◌, ◌-◌, ◌≤◌, nat_lt, min, List, Option, Some, None, if◌then◌else◌}
 use Rattle.ratatui_core.specs.Layout.{Rect, Position, corner, intersected}
 use Rattle.ratatui_core.specs.Style.{new_style}
 use Rattle.ratatui_core.specs.Text.{LineData}
-use Rattle.ratatui_core.specs.Buffer.{BufferData, Cell, Piece, styled, with_symbol, pieces_at, line_pieces_at, columns, PaintsPieces, ChangesEach, AreShort, IsShort}
+use Rattle.ratatui_core.specs.Buffer.{BufferData, Cell, Piece, styled, with_symbol, pieces_at, line_pieces_at, columns, PaintsPieces, ChangesEach, AreShort, IsShort, text_width}
 use Rattle.rtui_boxes.specs.Framed.{RendersInFrame, IsShortFrame, inner_if}
 use Rattle.rtui_meters.specs.declared.line_gauge.LineGauge.{LineGauge}
 use Rattle.rtui_meters.specs.declared.line_gauge.LineFill.{LineFill}
@@ -67,6 +67,11 @@ pub record HasShortLine (g : LineGauge) (r own : Rect) : Type 0 where
   pub label : AreShort (line_label_pieces g r own)
   pub filled : IsShort g.filled_symbol.now
   pub unfilled : IsShort g.unfilled_symbol.now
+
+-- both symbols take at most one column
+pub record HasNarrowLine (g : LineGauge) : Type 0 where
+  pub filled : text_width g.filled_symbol.now ≤ 1
+  pub unfilled : text_width g.unfilled_symbol.now ≤ 1
 
 -- it takes no memory if its box takes none and all that it shows is short
 pub record IsShortLineGauge (g : LineGauge) (area : Rect) (s : BufferData) : Type 0 where
