@@ -9,7 +9,7 @@ use Rattle.ratatui_core.specs.Layout.{Rect, Position, HasPosition, IsInside, rig
 use Rattle.ratatui_core.specs.Style.{Style, patch}
 use Rattle.ratatui_core.specs.Buffer.{BufferData, Cell, Piece, columns, pieces_at, PaintsPieces, PaintsOrRefuses, ChangesEach, MakesParts, IsStyled, position_of}
 use Rattle.ratatui_core.specs.Widgets.{ChangesWithin, RendersText}
-use Rattle.ratatui_core.proofs.BufferLemmas.{Changes-within, within-same, within-wider, text-keeps, Parts-none, Parts-next, Parts-within}
+use Rattle.ratatui_core.proofs.BufferLemmas.{Changes-within, within-same, within-wider, text-keeps, Parts-next, Parts-within}
 use Rattle.ratatui_core.proofs.WidgetLemmas.{within-then, within-styled}
 use Rattle.rtui_boxes.specs.Boxes.{IsBoxArea}
 use Rattle.rtui_boxes.proofs.PaintLemmas.{paints-within}
@@ -43,6 +43,17 @@ pub marks-next : (l : ListData) (is_selected : Bool) (style : Style) (r : Rect) 
     → MakesParts (j + 1) (part_row r) (λ i. MarksRow l.highlight_symbol.now style (is_marked l is_selected i) (part_row r i)) old new
 marks-next l is_selected style r j old mid new so_far made within =
     Parts-next j (part_row r) (λ i. MarksRow l.highlight_symbol.now style (is_marked l is_selected i) (part_row r i)) old mid new so_far (λ k lt p one two. rows-apart r k j lt p one two) made within
+
+row-in : (r : Rect) (k : ℕ) → k < r.height → IsInside (part_row r k) r
+row-in r k lt p h = let left = h.left in let right = h.right in let top = h.top in let bottom = h.bottom in record { left = left; right = right; top = omega arith; bottom = omega arith }
+
+-- a row after others, refused
+pub marks-within : (l : ListData) (is_selected : Bool) (style : Style) (r : Rect) (j : ℕ) (old mid new : BufferData) → j < r.height → MakesParts j (part_row r) (λ i. MarksRow l.highlight_symbol.now style (is_marked l is_selected i) (part_row r i)) old mid
+    → ChangesWithin (part_row r j) mid new → ChangesWithin r old new
+marks-within l is_selected style r j old mid new lt so_far within =
+    within-then r old mid new
+    (Parts-within j (part_row r) (λ i. MarksRow l.highlight_symbol.now style (is_marked l is_selected i) (part_row r i)) r old mid so_far (λ k less p h. row-in r k (omega arith) p h))
+    (within-wider (part_row r j) r mid new (row-in r j lt) within)
 
 -- the text beside the symbol's columns
 pub text-in : (n : ℕ) (r : Rect) → n ≤ r.width → IsInside (without_columns n r) r

@@ -1,11 +1,11 @@
 -- What a list makes of a buffer and of its state.
-use Rattle.std.specs.Prelude.{◌≡◌, ℕ, Bool, true, false, ◌+◌, ◌-◌, ◌<◌, ◌==◌, ◌&&◌, ◌||◌, min, List, [], length, codes, Option, Some, None, is_some, if◌then◌else◌, slice_index_or}
+use Rattle.std.specs.Prelude.{◌≡◌, ℕ, Bool, true, false, ◌+◌, ◌-◌, ◌<◌, ◌==◌, ◌&&◌, ◌||◌, min, List, [], length, codes, Option, Some, None, is_some, if◌then◌else◌, slice_index_or, All}
 use Rattle.ratatui_core.specs.Layout.{Rect, Position, corner, intersected}
 use Rattle.ratatui_core.specs.Style.{Style, new_style, patch}
 use Rattle.ratatui_core.specs.Text.{text_of}
-use Rattle.ratatui_core.specs.Buffer.{BufferData, Cell, styled, with_symbol, pieces_at, text_columns, IsStyled, PaintsPieces, ChangesEach, MakesParts}
-use Rattle.ratatui_core.specs.Widgets.{RendersText, ChangesWithin, OnPart}
-use Rattle.rtui_boxes.specs.Framed.{IsFramed, IsBare, inner_if}
+use Rattle.ratatui_core.specs.Buffer.{BufferData, Cell, styled, with_symbol, pieces_at, text_columns, IsStyled, PaintsPieces, ChangesEach, MakesParts, HasShortGraphemes, HasNarrowGraphemes, IsNarrowText}
+use Rattle.ratatui_core.specs.Widgets.{RendersText, RendersShortText, ChangesWithin, OnPart}
+use Rattle.rtui_boxes.specs.Framed.{IsFramed, IsBare, IsShortFrame, inner_if}
 use Rattle.rtui_list.specs.declared.list.List.{List as ListData}
 use Rattle.rtui_list.specs.declared.list.ListDirection.{ListDirection}
 use Rattle.rtui_list.specs.declared.list.ListDirection.TheVariants.{TopToBottom, BottomToTop}
@@ -108,6 +108,25 @@ ShowsItems l selected offset count r = MakesParts count (part_of_item l r offset
 abbrev pub at_most : ℕ → Option ℕ → Option ℕ
 at_most last None = None
 at_most last (Some n) = Some (min n last)
+
+-- an item's text takes no memory, in however many columns and rows
+abbrev pub IsShortItem : ListItem → Type 0
+IsShortItem i = (area : Rect) (s : BufferData) → RendersShortText i.content area s
+
+-- nothing that a list shows inside its box takes memory
+pub record HasShortItems (l : ListData) : Type 0 where
+  pub symbol : HasShortGraphemes l.highlight_symbol.now
+  pub items : All IsShortItem l.items.items
+
+-- a list takes no memory if its box takes none and all that it shows is short
+pub record IsShortList (l : ListData) (s : BufferData) : Type 0 where
+  pub frame : IsShortFrame l.block s
+  pub shown : HasShortItems l
+
+-- each grapheme that a list shows inside its box takes one column
+pub record HasNarrowItems (l : ListData) : Type 0 where
+  pub symbol : HasNarrowGraphemes l.highlight_symbol.now
+  pub items : All (λ item. IsNarrowText item.content) l.items.items
 
 -- The items of a list over an area, from the state's first one on, as many as fit whole. The selection is at most the last item, and the first
 -- item is such that the selected one is in view. Without items nothing is shown or selected.

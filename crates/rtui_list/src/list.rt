@@ -3,10 +3,10 @@
 ghost use Rattle.std.specs.Prelude.{◌≡◌, ◌≤◌, ◌<◌, ◌+◌, if◌then◌else◌, Some, OnOk, IsOk, IfSome, length};
 ghost use Rattle.ratatui_core.specs.Layout.{IsInside};
 ghost use Rattle.ratatui_core.specs.Widgets.{ChangesWithin};
-ghost use Rattle.ratatui_core.specs.Buffer.{IsStyled};
+ghost use Rattle.ratatui_core.specs.Buffer.{IsStyled, HasShortGraphemes};
 ghost use Rattle.rtui_boxes.specs.Boxes.{IsBoxArea};
 ghost use Rattle.rtui_list.specs.Windows.{Fit};
-ghost use Rattle.rtui_list.specs.Items.{If, is_marked, has_mark_columns, mark_width, item_part, MarksRows, MarksRow, RendersItem, ShowsItems, ShowsList, is_selected_at, at_most, IsNewList};
+ghost use Rattle.rtui_list.specs.Items.{If, is_marked, has_mark_columns, mark_width, item_part, MarksRows, MarksRow, RendersItem, ShowsItems, ShowsList, is_selected_at, at_most, IsNewList, IsShortItem, HasShortItems};
 
 use crate::item::ListItem;
 use crate::state::ListState;
@@ -220,6 +220,7 @@ impl<'a> List<'a> {
         ensures within { ChangesWithin row buf.old buf.new }
         ensures ok { OnOk result
             (MarksRow self.now.highlight_symbol.now style is_marked row buf.old buf.new) }
+        ensures short { HasShortGraphemes self.now.highlight_symbol.now → IsOk result }
     {
         if is_marked {
             let symbol = self.highlight_symbol;
@@ -262,6 +263,7 @@ impl<'a> List<'a> {
         ensures within { ChangesWithin part buf.old buf.new }
         ensures ok { OnOk result
             (If has_columns (MarksRows self.now is_selected style part) buf.old buf.new) }
+        ensures short { HasShortGraphemes self.now.highlight_symbol.now → IsOk result }
     {
         if !has_columns {
             return Ok(());
@@ -293,6 +295,7 @@ impl<'a> List<'a> {
         requires inside { IsInside part buf.old.area }
         ensures within { ChangesWithin part buf.old buf.new }
         ensures ok { OnOk result (MarksRows self.now is_selected style part buf.old buf.new) }
+        ensures short { HasShortGraphemes self.now.highlight_symbol.now → IsOk result }
     {
         for j in 0..part.height {
             let is_marked = self.is_marked(is_selected, j);
@@ -322,6 +325,8 @@ impl<'a> List<'a> {
         ensures within { ChangesWithin part buf.old buf.new }
         ensures ok { OnOk result
             (RendersItem self.now item.now is_selected has_columns part buf.old buf.new) }
+        ensures short { let symbol = self.now.highlight_symbol.now in
+            HasShortGraphemes symbol → IsShortItem item.now → IsOk result }
     {
         let style = self.style.patch(item.style);
         buf.set_style(part, style);
@@ -353,6 +358,7 @@ impl<'a> List<'a> {
         ensures within { ChangesWithin inner buf.old buf.new }
         ensures ok { OnOk result
             (ShowsItems self.now selected offset count inner buf.old buf.new) }
+        ensures short { HasShortItems self.now → IsOk result }
     {
         let has_columns = self.highlight_spacing.has_columns(selected.is_some());
         let items = self.items.as_slice();
@@ -380,6 +386,7 @@ impl<'a> List<'a> {
         ensures within { ChangesWithin inner buf.old buf.new }
         ensures ok { OnOk result
             (ShowsList self.now state.old state.new inner buf.old buf.new) }
+        ensures short { HasShortItems self.now → IsOk result }
     {
         let items = self.items.as_slice();
         if items.is_empty() {
@@ -444,9 +451,11 @@ impl CellChange for Blank {
 impl<'b, 'a> StatefulWidget for &'b List<'a> {
     type State = ListState;
 
-    ghost use Rattle.rtui_list.specs.Items.{RendersList};
+    ghost use Rattle.rtui_list.specs.Items.{RendersList, IsShortList};
 
     ghost renders = { λ list. RendersList list.now };
+
+    ghost is_short = { λ list _ _. IsShortList list.now };
 
     fn render(self, area: Rect, buf: &mut Buffer, state: &mut ListState) -> Result<(), AllocError> {
         let Some(part) = buf.part(area) else {
@@ -462,9 +471,11 @@ impl<'b, 'a> StatefulWidget for &'b List<'a> {
 impl<'a> StatefulWidget for List<'a> {
     type State = ListState;
 
-    ghost use Rattle.rtui_list.specs.Items.{RendersList};
+    ghost use Rattle.rtui_list.specs.Items.{RendersList, IsShortList};
 
     ghost renders = { RendersList };
+
+    ghost is_short = { λ list _ _. IsShortList list };
 
     fn render(self, area: Rect, buf: &mut Buffer, state: &mut ListState) -> Result<(), AllocError> {
         (&self).render(area, buf, state)

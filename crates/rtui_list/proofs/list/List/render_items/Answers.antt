@@ -1,9 +1,10 @@
-use Rattle.std.proofs.Common.{◌≡◌, ◌+◌, ◌≤◌, arith}
+use Rattle.std.proofs.Common.{◌≡◌, ◌+◌, ◌≤◌, false, true, sym, subst, arith}
 use Rattle.ratatui_core.proofs.BufferLemmas.{within-wider}
 use Rattle.ratatui_core.proofs.WidgetLemmas.{within-then}
 use Rattle.rtui_list.specs.Windows.{item_rows, rows_before}
 use Rattle.rtui_list.proofs.WindowLemmas.{rows-next}
 use Rattle.rtui_list.proofs.ItemLemmas.{item-fits, item-in, item-area, items-next, items-within}
+use Rattle.rtui_list.specs.Items.{IsShortItem}
 use Rattle.rtui_list.proofs.list.List.render_items.Goals as goal
 
 pub overflow_cast-rows : goal.overflow_cast-rows
@@ -59,3 +60,10 @@ loop-k-preserved c =
 pub returns-clause-within : goal.returns-clause-within
 returns-clause-within c =
     items-within c.args.self.now c.args.selected c.args.offset c.loop-k.k c.args.count c.args.inner c.args.buf.now c.loop-k.buf c.requires.some c.requires.items c.requires.fits (omega arith) c.loop-k.invariant.shown
+
+pub returns-in_err-render_item-clause-short : goal.returns-in_err-render_item-clause-short
+returns-in_err-render_item-clause-short c = λ short.
+    let is = rw c.as_slice-items.ensures.value at c.index-items-offset.is in
+    let item : IsShortItem c.index-items-offset.result = subst IsShortItem (sym is) (short.items (c.args.offset + c.loop-k.k) c.index-items-offset.result (omega arith)) in
+    let no : false ≡ true = c.in_err-render_item.ensures.short short.symbol item in
+    absurd (cc)

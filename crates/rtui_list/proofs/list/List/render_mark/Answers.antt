@@ -1,4 +1,5 @@
-use Rattle.std.proofs.Common.{arith}
+use Rattle.std.proofs.Common.{◌≡◌, false, true, arith}
+use Rattle.ratatui_core.proofs.BufferLemmas.{text-short}
 use Rattle.rtui_boxes.proofs.PaintLemmas.{part-has_row, part-starts}
 use Rattle.rtui_list.proofs.ItemLemmas.{mark-within}
 use Rattle.rtui_list.proofs.list.List.render_mark.Goals as goal
@@ -16,3 +17,8 @@ returns-in_err-set_stringn-clause-within c =
 pub returns-then-is_marked-clause-within : goal.returns-then-is_marked-clause-within
 returns-then-is_marked-clause-within c =
     mark-within c.set_stringn.result c.args.self.now.highlight_symbol.now c.args.style c.args.row c.args.buf.now c.set_stringn.new.self c.requires.some c.requires.inside (rw c.from.ensures at c.set_stringn.ensures.paints)
+
+pub returns-in_err-set_stringn-clause-short : goal.returns-in_err-set_stringn-clause-short
+returns-in_err-set_stringn-clause-short c = λ short.
+    let no : false ≡ true = c.in_err-set_stringn.ensures.paints.short (text-short _ c.args.style c.args.self.now.highlight_symbol.now short) in
+    absurd (cc)

@@ -1,8 +1,16 @@
 use Rattle.std.proofs.Common.{◌≡◌, arith, subst}
 use Rattle.ratatui_core.specs.Buffer.{MakesParts}
 use Rattle.rtui_list.specs.Items.{part_row, MarksRow, is_marked}
-use Rattle.rtui_list.proofs.ItemLemmas.{marks-next}
+use Rattle.ratatui_core.proofs.BufferLemmas.{Parts-none}
+use Rattle.rtui_list.proofs.ItemLemmas.{marks-next, marks-within}
 use Rattle.rtui_list.proofs.list.List.render_marks.Goals as goal
+
+pub loop-j-init : goal.loop-j-init
+loop-j-init c = Parts-none (part_row c.args.part) (λ j. MarksRow c.args.self.now.highlight_symbol.now c.args.style (is_marked c.args.self.now c.args.is_selected j) (part_row c.args.part j)) c.args.buf.now
+
+pub returns-in_err-render_mark-clause-within : goal.returns-in_err-render_mark-clause-within
+returns-in_err-render_mark-clause-within c =
+    marks-within c.args.self.now c.args.is_selected c.args.style c.args.part c.loop-j.j c.args.buf.now c.loop-j.buf c.render_mark.new.buf (omega arith) c.loop-j.invariant c.in_err-render_mark.ensures.within
 
 pub loop-j-preserved : goal.loop-j-preserved
 loop-j-preserved c =
