@@ -1,26 +1,29 @@
 #!/usr/bin/env python3
-"""Times two builds of the bench beside each other: user time of a round, by workload.
+"""Measures two builds of the bench beside each other, by workload: a round's instructions and user time, and the bytes that it sends.
 
     compare.py [--size WxH] [--runs N] [--only WORKLOAD,..] NAME=PROGRAM NAME=PROGRAM ..
 
-The programs run in turns. A round's time is the least user time of N runs with many rounds, less that with a tenth
-of them, so that the start of the process doesn't count. The last column is each program's time over the first one's; `-` stands for a
-program that doesn't know the workload.
+The instructions are valgrind's (callgrind), which don't change with the machine's load; a round's are those of a run less those of one
+with fewer rounds, so that the start of the process doesn't count. So is its time: the least user time of N runs with many rounds, less
+that with a tenth of them; the programs run in turns. Without runs (`--runs 0`) no time is measured. A ratio is that of the second
+program to the first; `-` stands for a program that doesn't know the workload.
 """
 import argparse
+import re
 import resource
 import subprocess
 
-# All workloads that README.md names. The frames as escape sequences (the last two lines) are the port's alone.
+# All workloads that README.md names. The twin has no widgets.
 WORKLOADS = (
+    "app_text app_boxes app_colors app_wide app_few app_scroll "
     "draw_all draw_dots draw_none draw_wide inline_all inline_few insert_kept insert_1 insert_10 insert_1000 "
     "text_ascii text_wide line_ascii text_widget text_raw line_center line_right line_cut span_marks spans_2000 "
     "widths_letters widths_wide boxes_exact boxes_fuzzy diff_letters diff_empty diff_wide style reset sets fill_reset "
     "merge_same merge_half empty filled clone resize term_resize "
-    "ansi_text ansi_boxes ansi_colors ansi_wide ansi_few "
-    "walk_text walk_boxes walk_colors walk_wide walk_few"
+    "block paragraph_wrapped list_1000 list"
 ).split()
 SECONDS = 0.25
+FEW, MANY = 4, 24
 
 
 def run(program, workload, size, rounds):
@@ -35,6 +38,24 @@ def knows(program, workload, size):
     return subprocess.run([program, workload, *map(str, size), "1"], capture_output=True).returncode == 0
 
 
+def result(program, workload, size, rounds):
+    """What the programs have to agree on, and the bytes that were sent: those of an application may differ."""
+    count, total = run(program, workload, size, rounds)[1].split()
+    return (total, int(count)) if workload.startswith("app_") else (f"{count} {total}", 0)
+
+
+def counted(program, workload, size, rounds):
+    """The instructions of a run."""
+    words = ["valgrind", "--tool=callgrind", "--callgrind-out-file=/dev/null", program, workload, *map(str, size), str(rounds)]
+    done = subprocess.run(words, capture_output=True, text=True, check=True)
+    return int(re.search(r"Collected : (\d+)", done.stderr).group(1))
+
+
+def instructions(program, workload, size):
+    """The instructions of a round in thousands."""
+    return (counted(program, workload, size, MANY) - counted(program, workload, size, FEW)) / (MANY - FEW) / 1e3
+
+
 def rounds_for(program, workload, size):
     """So many rounds that a run takes about SECONDS."""
     rounds = 20
@@ -45,7 +66,7 @@ def rounds_for(program, workload, size):
         rounds *= 4
 
 
-def measure(programs, workload, size, runs):
+def times(programs, workload, size, runs):
     """The time of a round of each program in microseconds."""
     many = {name: rounds_for(program, workload, size) for name, program in programs}
     least = {name: [float("inf"), float("inf")] for name, _ in programs}
@@ -56,27 +77,40 @@ def measure(programs, workload, size, runs):
     return {name: (least[name][1] - least[name][0]) / (many[name] - many[name] // 10) * 1e6 for name, _ in programs}
 
 
+def cells(names, values, decimals):
+    """A cell for each program, and one for the ratio of the second to the first."""
+    known = [values.get(name) for name in names]
+    ratio = f"{known[1] / known[0]:.2f}" if None not in known and known[0] else "-"
+    return "".join(" - |" if value is None else f" {value:.{decimals}f} |" for value in known) + f" {ratio} |"
+
+
 def main():
     parser = argparse.ArgumentParser(description=__doc__, formatter_class=argparse.RawDescriptionHelpFormatter)
     parser.add_argument("--size", default="200x60")
     parser.add_argument("--runs", type=int, default=10)
     parser.add_argument("--only", default=",".join(WORKLOADS))
-    parser.add_argument("programs", nargs="+", metavar="NAME=PROGRAM")
+    parser.add_argument("programs", nargs=2, metavar="NAME=PROGRAM")
     options = parser.parse_args()
     size = tuple(map(int, options.size.split("x")))
     programs = [tuple(program.split("=", 1)) for program in options.programs]
-    print("| workload |" + "".join(f" {name}, us |" for name, _ in programs) + " ratio |")
-    print("|---|" + "---|" * (len(programs) + 1))
+    names = [name for name, _ in programs]
+    columns = "".join(f" {name}, {{}} |" for name in names) + " ratio |"
+    units = ["thousand instr."] + ["us"] * (options.runs > 0) + ["bytes"]
+    print("| workload |" + "".join(columns.replace("{}", unit) for unit in units))
+    print("|---|" + "---|" * (3 * len(units)))
     for workload in options.only.split(","):
         able = [(name, program) for name, program in programs if knows(program, workload, size)]
-        printed = {run(program, workload, size, 7)[1] for _, program in able}
-        if len(printed) != 1:
-            raise SystemExit(f"{workload}: the programs print different results: {printed}")
-        times = measure(able, workload, size, options.runs)
-        first = times.get(programs[0][0])
-        cells = "".join(f" {times[name]:.2f} |" if name in times else " - |" for name, _ in programs)
-        ratios = ", ".join(f"{times[name] / first:.2f}" if first and name in times else "-" for name, _ in programs[1:])
-        print(f"| `{workload}` |{cells} {ratios} |", flush=True)
+        results = {name: result(program, workload, size, 10) for name, program in able}
+        if not able:
+            raise SystemExit(f"{workload}: no program knows it")
+        if len({agreed for agreed, _ in results.values()}) != 1:
+            raise SystemExit(f"{workload}: the programs print different results: {results}")
+        row = cells(names, {name: instructions(program, workload, size) for name, program in able}, 0)
+        if options.runs > 0:
+            row += cells(names, times(able, workload, size, options.runs), 1)
+        sent = {name: count / 10 for name, (_, count) in results.items() if count}
+        row += cells(names, sent, 0) if sent else " | | |"
+        print(f"| `{workload}` |{row}", flush=True)
 
 
 if __name__ == "__main__":

@@ -33,6 +33,16 @@ fn corners(b: &mut Buffer, edges: Edges, strategy: MergeStrategy) {
     edge(b, edges.left, edges.bottom, "└", strategy);
     edge(b, edges.right, edges.bottom, "┘", strategy);
 }
+/// Draws boxes of ten columns and six rows, side by side.
+pub fn apart(b: &mut Buffer) {
+    for top in (0..b.area.height / 6).map(|k| k * 6) {
+        for left in (0..b.area.width / 10).map(|k| k * 10) {
+            let edges = Edges { left, top, right: left + 9, bottom: top + 5 };
+            sides(b, edges, MergeStrategy::Replace);
+            corners(b, edges, MergeStrategy::Replace);
+        }
+    }
+}
 fn row_of_boxes(b: &mut Buffer, top: u16, strategy: MergeStrategy) {
     for k in 0..b.area.width.saturating_sub(1) / 19 {
         let left = k * 19;

@@ -1,10 +1,8 @@
 //! The workloads of the port's `texts.rt`: widgets of texts, lines that are aligned, text of many kinds of graphemes, widths.
-use crate::counted::TestBackend;
 use crate::{dot, sheet, sum, texts, touch, wide};
 use ratatui_core::buffer::{Buffer, CellWidth};
 use ratatui_core::layout::{HorizontalAlignment, Rect};
 use ratatui_core::style::{Color, Modifier, Style};
-use ratatui_core::terminal::Terminal;
 use ratatui_core::text::{Line, Span, Text};
 use ratatui_core::widgets::Widget;
 use std::hint::black_box;
@@ -90,27 +88,6 @@ fn text_raw(count: u64) -> (u64, u64) {
     }
     (count, all)
 }
-fn render_words(b: &mut Buffer, y: u16, word: &str) {
-    for k in 0..b.area.width / 6 {
-        let x = k * 6;
-        let style = Style::new().fg(color(usize::from(x) + usize::from(y))).bg(Color::Black);
-        Span::styled(word, style).render(Rect::new(x, y, 6, 1), b);
-    }
-}
-fn spans(w: u16, h: u16, count: u64) -> (u64, u64) {
-    let mut t = Terminal::new(TestBackend::new(w, h)).unwrap();
-    for round in 0..count {
-        t.draw(|f| {
-            let b = f.buffer_mut();
-            let word = match round % 3 { 0 => "alpha", 1 => "bravo", _ => "delta" };
-            for y in 0..b.area.height {
-                render_words(b, y, word);
-            }
-        })
-        .unwrap();
-    }
-    (t.backend().cells_written(), sum(t.backend().buffer()))
-}
 fn widths(mut b: Buffer, count: u64) -> (u64, u64) {
     let mut all = 0u64;
     for round in 0..count {
@@ -141,7 +118,6 @@ pub fn run(name: &str, w: u16, h: u16, n: u64) -> (u64, u64) {
         "line_cut" => lines_aligned(w, h, n, 4, HorizontalAlignment::Right),
         "span_marks" => span_marks(w, h, n),
         "text_raw" => text_raw(n),
-        "spans_2000" => spans(w, h, n),
         "widths_letters" => letters_widths(w, h, n),
         "widths_wide" => wide_widths(w, h, n),
         _ => panic!("no such workload"),

@@ -180,3 +180,28 @@ pub fn widths(alloc: Global, size: Size, picture: Picture) -> Done {
     }
     Ok(Some((size.count, all)))
 }
+
+// How many updates lead from one buffer to another of its area.
+fn updates(previous: &Buffer, newer: &Buffer) -> u64 {
+    if previous.area() != newer.area() {
+        return 0;
+    }
+    let mut count: u64 = 0;
+    for _update in previous.diff_iter(newer) {
+        count = count.wrapping_add(1);
+    }
+    count
+}
+
+/// The diffs of two equal buffers.
+pub fn diffs(alloc: Global, size: Size, picture: Picture) -> Done {
+    let mut previous = painted(alloc, size.width, size.height, picture)?;
+    let mut newer = previous.clone(alloc)?;
+    let mut found: u64 = 0;
+    for round in 0..size.count {
+        touch(&mut previous, round);
+        touch(&mut newer, round);
+        found = found.wrapping_add(updates(&previous, &newer));
+    }
+    Ok(Some((found, sum(&newer))))
+}

@@ -20,11 +20,13 @@ pub enum Picture {
     Wide,
     /// A coloured word in each six columns, by the round.
     Spans,
+    /// A sentence in each row, from its first or its second letter on by the round.
     Sentence,
-    /// The sentence with another letter in 32 cells that lie apart.
+    /// The same sentence with another sign in each sixtieth cell by the round.
     Few,
-    /// Words in colours of their own; each third one is bold on blue.
+    /// The same sentence in colours by the round, and each third word bold on blue.
     Colors,
+    /// Boxes side by side, or the blanks in which they stood, by the round.
     Boxes,
 }
 
@@ -95,10 +97,10 @@ fn spans(buffer: &mut Buffer, word: &str) -> Result<(), AllocError> {
     Ok(())
 }
 
-// Gives the words of each row colours.
-fn colors(buffer: &mut Buffer) {
+// Gives the words of each row colours by the round.
+fn colors(buffer: &mut Buffer, round: u64) {
     for (k, cell) in buffer.cells_mut().iter_mut().enumerate() {
-        let word = k / 6;
+        let word = (k / 6) as u64 + round % 12;
         cell.fg = match word % 4 {
             0 => Color::Red,
             1 => Color::LightGreen,
@@ -112,11 +114,12 @@ fn colors(buffer: &mut Buffer) {
     }
 }
 
-// Sets another letter in cells that lie apart.
-fn few(alloc: Global, buffer: &mut Buffer) -> Result<(), AllocError> {
+// Sets a sign of the round in cells that lie apart.
+fn few(alloc: Global, buffer: &mut Buffer, round: u64) -> Result<(), AllocError> {
+    let sign = if round % 2 == 0 { '#' } else { '+' };
     for (k, cell) in buffer.cells_mut().iter_mut().enumerate() {
         if k % 60 == 30 {
-            cell.set_symbol(alloc, "#")?;
+            cell.set_char(alloc, sign)?;
         }
     }
     Ok(())
@@ -144,17 +147,19 @@ impl Paint {
                 1 => spans(buffer, "bravo"),
                 _ => spans(buffer, "delta"),
             },
-            Picture::Sentence => texts(buffer, SENTENCE, Style::new()),
+            Picture::Sentence if round % 2 == 0 => texts(buffer, SENTENCE, Style::new()),
+            Picture::Sentence => texts(buffer, SENTENCE.get(1..).unwrap_or(""), Style::new()),
             Picture::Few => {
                 texts(buffer, SENTENCE, Style::new())?;
-                few(alloc, buffer)
+                few(alloc, buffer, round)
             }
             Picture::Colors => {
                 texts(buffer, SENTENCE, Style::new())?;
-                colors(buffer);
+                colors(buffer, round);
                 Ok(())
             }
-            Picture::Boxes => Border::apart().grid(alloc, buffer),
+            Picture::Boxes if round % 2 == 0 => Border::apart().grid(alloc, buffer),
+            Picture::Boxes => Ok(()),
         }
     }
 }

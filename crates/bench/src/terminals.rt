@@ -1,20 +1,59 @@
 //! Workloads on a terminal.
+use crate::memory::Memory;
 use crate::pictures::{Paint, Picture, texts};
 use crate::texts::{LOG, sum};
 use crate::{Done, Size};
-use ratatui_core::backend::TestBackend;
-use ratatui_core::layout::Rect;
+use ratatui_ansi::AnsiBackend;
+use ratatui_core::backend::{Backend, TestBackend};
+use ratatui_core::layout::{Rect, Size as ScreenSize};
 use ratatui_core::style::{Color, Style};
 use ratatui_core::terminal::{Terminal, TerminalOptions, Viewport};
 use std::alloc::{AllocError, Global};
 
-// A terminal over the screen, or over an inline viewport of so many rows.
-fn terminal_of(
+/// What a round does on a terminal: rows come in above an inline viewport, and a picture is drawn.
+#[derive(Clone, Copy)]
+pub struct Act {
+    /// The rows of an inline viewport; none for the whole screen.
+    viewport: Option<u16>,
+    inserted: u16,
+    picture: Option<Picture>,
+}
+
+impl Act {
+    /// Draws a picture of the round on the whole screen.
+    pub fn draw(picture: Picture) -> Act {
+        Act {
+            viewport: None,
+            inserted: 0,
+            picture: Some(picture),
+        }
+    }
+
+    /// Draws a picture of the round on an inline viewport of so many rows.
+    pub fn inline(rows: u16, picture: Picture) -> Act {
+        Act {
+            viewport: Some(rows),
+            inserted: 0,
+            picture: Some(picture),
+        }
+    }
+
+    /// Inserts rows above an inline viewport of five rows, and draws the same picture each time, if any.
+    pub fn insert(rows: u16, picture: Option<Picture>) -> Act {
+        Act {
+            viewport: Some(5),
+            inserted: rows,
+            picture,
+        }
+    }
+}
+
+// A terminal over a backend, with a viewport of so many rows or the whole screen.
+fn terminal_of<B: Backend + Drop>(
     alloc: Global,
-    size: Size,
+    backend: B,
     rows: Option<u16>,
-) -> Result<Terminal<TestBackend>, AllocError> {
-    let backend = TestBackend::new(alloc, size.width, size.height)?;
+) -> Result<Terminal<B>, AllocError> {
     let viewport = match rows {
         Some(rows) => Viewport::Inline(rows),
         None => Viewport::Fullscreen,
@@ -25,31 +64,22 @@ fn terminal_of(
     }
 }
 
-fn draw_one(
+// Draws a picture; answers a sum over it if that is asked for.
+fn draw<B: Backend + Drop>(
     alloc: Global,
-    terminal: &mut Terminal<TestBackend>,
+    terminal: &mut Terminal<B>,
     paint: &Paint,
     round: u64,
-) -> Result<(), AllocError> {
+    is_summed: bool,
+) -> Result<u64, AllocError> {
     match terminal.draw(|frame| paint.paint(alloc, frame.buffer_mut(), round)) {
-        Ok(_) => Ok(()),
+        Ok(frame) if is_summed => Ok(sum(frame.buffer())),
+        Ok(_) => Ok(0),
         Err(_) => Err(AllocError),
     }
 }
 
-/// Draws a picture on the screen, or on an inline viewport as high as it.
-pub fn draws(alloc: Global, size: Size, picture: Picture, is_inline: bool) -> Done {
-    let rows = if is_inline { Some(size.height) } else { None };
-    let mut terminal = terminal_of(alloc, size, rows)?;
-    let paint = Paint::new(alloc, picture)?;
-    for round in 0..size.count {
-        draw_one(alloc, &mut terminal, &paint, round)?;
-    }
-    let backend = terminal.backend();
-    Ok(Some((backend.cells_written(), sum(backend.buffer()))))
-}
-
-fn insert_one(terminal: &mut Terminal<TestBackend>, rows: u16) -> Result<(), AllocError> {
+fn insert<B: Backend + Drop>(terminal: &mut Terminal<B>, rows: u16) -> Result<(), AllocError> {
     let style = Style::new().fg(Color::Yellow);
     match terminal.insert_before(rows, |buffer| texts(buffer, LOG, style)) {
         Ok(_) => Ok(()),
@@ -57,18 +87,51 @@ fn insert_one(terminal: &mut Terminal<TestBackend>, rows: u16) -> Result<(), All
     }
 }
 
-/// Inserts rows above an inline viewport of five rows, and draws the same frame after them if asked to.
-pub fn inserts(alloc: Global, size: Size, rows: u16, is_drawn: bool) -> Done {
-    let mut terminal = terminal_of(alloc, size, Some(5))?;
-    let paint = Paint::new(alloc, Picture::Dots)?;
-    for _round in 0..size.count {
-        insert_one(&mut terminal, rows)?;
-        if is_drawn {
-            draw_one(alloc, &mut terminal, &paint, 0)?;
+// Does all rounds; answers a sum over the last picture.
+fn rounds<B: Backend + Drop>(
+    alloc: Global,
+    terminal: &mut Terminal<B>,
+    act: Act,
+    count: u64,
+) -> Result<u64, AllocError> {
+    let paint = Paint::new(alloc, act.picture.unwrap_or(Picture::Nothing))?;
+    let mut last = 0;
+    for round in 0..count {
+        if act.inserted > 0 {
+            insert(terminal, act.inserted)?;
+        }
+        if act.picture.is_some() {
+            let drawn = if act.inserted > 0 { 0 } else { round };
+            let is_last = round == count - 1;
+            last = draw(alloc, terminal, &paint, drawn, is_last)?;
         }
     }
+    Ok(last)
+}
+
+/// Does rounds on a screen in memory: how many cells were written to it, and a sum over it.
+pub fn on_screen(alloc: Global, size: Size, act: Act) -> Done {
+    let backend = TestBackend::new(alloc, size.width, size.height)?;
+    let mut terminal = terminal_of(alloc, backend, act.viewport)?;
+    rounds(alloc, &mut terminal, act, size.count)?;
     let backend = terminal.backend();
     Ok(Some((backend.cells_written(), sum(backend.buffer()))))
+}
+
+/// Does rounds of an application that sends bytes: how many it flushed in them, and a sum over the last frame.
+pub fn on_bytes(alloc: Global, size: Size, act: Act) -> Done {
+    let screen = ScreenSize::new(size.width, size.height);
+    let Ok(backend) = AnsiBackend::new(alloc, Memory::new(alloc), screen) else {
+        return Err(AllocError);
+    };
+    let mut terminal = terminal_of(alloc, backend, act.viewport)?;
+    if terminal.backend_mut().flush().is_err() {
+        return Err(AllocError);
+    }
+    let before = terminal.backend().writer().flushed();
+    let last = rounds(alloc, &mut terminal, act, size.count)?;
+    let after = terminal.backend().writer().flushed();
+    Ok(Some((after.wrapping_sub(before), last)))
 }
 
 fn resize_one(
@@ -84,7 +147,8 @@ fn resize_one(
 
 /// Gives a viewport one column and one row less in each second round.
 pub fn resizes(alloc: Global, size: Size) -> Done {
-    let mut terminal = terminal_of(alloc, size, None)?;
+    let backend = TestBackend::new(alloc, size.width, size.height)?;
+    let mut terminal = terminal_of(alloc, backend, None)?;
     for round in 0..size.count {
         let less = (round % 2) as u16;
         let (width, height) = (

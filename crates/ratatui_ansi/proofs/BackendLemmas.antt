@@ -37,21 +37,21 @@ module _ {old new : Tracker} {related : Screen → Screen → Type 0} (sent : Li
       (subst (λ t. related (screen_shown old.written (rested (reader old.size sent))) (screen_shown new.written (rested t))) (sym read) (call.shows (reader old.size sent) awaits))
 
   -- the backend is in order
-  pub in-order-on : {broken : Bool} {failures failures_after : ℕ} → IsInOrder old.size old.cursor old.continuations.items old.draft.items broken failures sent → broken ≡ false
-      → IsInOrder new.size new.cursor new.continuations.items new.draft.items false failures_after after
-  in-order-on kept whole = record {
+  pub in-order-on : {broken broken_after : Bool} {failures failures_after : ℕ} → IsInOrder old.size old.cursor old.continuations.items old.draft.items broken failures sent → broken ≡ false → broken_after ≡ false
+      → IsInOrder new.size new.cursor new.continuations.items new.draft.items broken_after failures_after after
+  in-order-on kept whole works = record {
     tracker = call.tracker;
-    unfailed = λ _. refl;
+    unfailed = λ _. works;
     awaiting = λ _. subst (λ size. IsTracked new (reader size after)) (sym call.size) (subst (IsTracked new) (sym read) (call.tracks (reader old.size sent) (kept.awaiting whole)));
     alike = λ _. subst (λ size. IsReadAlike size after) (sym call.size) (alike-on old.size sent (string_bytes new.out) after e (kept.alike whole));
   }
 
 -- and so it is if the writer was sent nothing more
-pub in-order-still : {size : Size} {place : Position} {flags draft : List Bool} {broken : Bool} {failures failures_after : ℕ} {sent new : List ℕ} → IsInOrder size place flags draft broken failures sent → broken ≡ false → new ≡ sent
-    → IsInOrder size place flags draft false failures_after new
-in-order-still {size} {place} {flags} kept whole same = record {
+pub in-order-still : {size : Size} {place : Position} {flags draft : List Bool} {broken broken_after : Bool} {failures failures_after : ℕ} {sent new : List ℕ} → IsInOrder size place flags draft broken failures sent → broken ≡ false
+    → broken_after ≡ false → new ≡ sent → IsInOrder size place flags draft broken_after failures_after new
+in-order-still {size} {place} {flags} kept whole works same = record {
   tracker = kept.tracker;
-  unfailed = λ _. refl;
+  unfailed = λ _. works;
   awaiting = λ _. subst (λ bytes. IsAwaiting size.width size.height place flags (reader size bytes)) (sym same) (kept.awaiting whole);
   alike = λ _. subst (IsReadAlike size) (sym same) (kept.alike whole);
 }
@@ -93,19 +93,20 @@ blank-awaits w h flags some continuations =
       placed = ap (λ k. record { x = k; y = 0 }) column;
     }
 
-pub begun : {size : Size} {k : Tracker} {sent : List ℕ} {failures : ℕ} → BeginsBlank size k → MakesBlank size.width size.height [] sent → IsInOrder k.size k.cursor k.continuations.items k.draft.items false failures sent
-begun {size} {k} {sent} {failures} begins blank =
+pub begun : {size : Size} {k : Tracker} {sent : List ℕ} {broken : Bool} {failures : ℕ} → BeginsBlank size k → MakesBlank size.width size.height [] sent → broken ≡ false
+    → IsInOrder k.size k.cursor k.continuations.items k.draft.items broken failures sent
+begun {size} {k} {sent} {broken} {failures} begins blank works =
     let fits : FitsScreen size k.continuations.items k.draft.items = subst (λ s. FitsScreen s k.continuations.items k.draft.items) begins.size begins.tracker in
     let high : 0 < size.height = fits.rows in
     let place : Position = record { x = 0; y = 0 } in
-    let order : IsInOrder size place k.continuations.items k.draft.items false failures sent = record {
+    let order : IsInOrder size place k.continuations.items k.draft.items broken failures sent = record {
       tracker = fits;
-      unfailed = λ _. refl;
+      unfailed = λ _. works;
       awaiting = λ _. subst (IsAwaiting size.width size.height place k.continuations.items) (sym (blank-read size sent blank)) (blank-awaits size.width size.height k.continuations.items high begins.continuations);
       alike = λ _. blank-alike size sent blank;
     } in
-    subst (λ s. IsInOrder s k.cursor k.continuations.items k.draft.items false failures sent) (sym begins.size)
-    (subst (λ p. IsInOrder size p k.continuations.items k.draft.items false failures sent) (sym begins.cursor) order)
+    subst (λ s. IsInOrder s k.cursor k.continuations.items k.draft.items broken failures sent) (sym begins.size)
+    (subst (λ p. IsInOrder size p k.continuations.items k.draft.items broken failures sent) (sym begins.cursor) order)
 
 blank-shown : (size : Size) (sent : List ℕ) → MakesBlank size.width size.height [] sent → IsBlankScreen size.width size.height (screen_shown 0 (rested (reader size sent)))
 blank-shown size sent blank =

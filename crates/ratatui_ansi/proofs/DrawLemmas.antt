@@ -8,7 +8,7 @@ use Rattle.std.proofs.lemmas.Bool.Decides.{nat_tests}
 use Rattle.std.proofs.lemmas.List.Folds.{list_all-append}
 use Rattle.std.proofs.lemmas.Str.{chars-append, IsUtf8-append}
 use Rattle.ansi_model.specs.declared.sgr.Sgr.{Sgr}
-use Rattle.ratatui_ansi.specs.declared.text_cursor.TextCursor.{TextCursor}
+use Rattle.ratatui_ansi.specs.declared.pen.Pen.{Pen}
 use Rattle.ansi_model.specs.Emulator.{Emulator, rested, prints, cursor_moved}
 use Rattle.ansi_model.specs.Symbols.{is_plain_char, is_symbol, is_one_plain, is_printed, printed_columns}
 use Rattle.ansi_model.specs.Emulator.Phase.{Ground}
@@ -21,8 +21,8 @@ use Rattle.ansi_model.proofs.SymbolLemmas.{symbol-utf8, after-standing, alone-st
 
 -- ---- a symbol in its place
 
--- a brush knows where the next plain character would be printed only after a plain one
-abbrev pub KnowsPlace : ℕ → ℕ → List ℕ → TextCursor → Type 0
+-- a pen knows where the next plain character would be printed only after a plain one
+abbrev pub KnowsPlace : ℕ → ℕ → List ℕ → Pen → Type 0
 KnowsPlace x y symbol after = IfSome after.at (λ p. (p.x ≡ x + 1) × (p.y ≡ y) × (is_one_plain (chars symbol) ≡ true))
 
 -- a place that is known after a plain character is the next one
@@ -30,8 +30,8 @@ pub known-by : (b : Bool) (x y : ℕ) (symbol : List ℕ) → is_one_plain (char
 known-by true x y symbol one = (refl, refl, one)
 known-by false x y symbol one = tt
 
--- after a symbol that was printed the terminal is drawn as the brush says
-drawn-after : (x y : ℕ) (sgr : Sgr) (symbol : List ℕ) (after : TextCursor) (t u : Emulator) → u.phase ≡ Ground → after.sgr ≡ sgr → KnowsPlace x y symbol after
+-- after a symbol that was printed the terminal is drawn as the pen says
+drawn-after : (x y : ℕ) (sgr : Sgr) (symbol : List ℕ) (after : Pen) (t u : Emulator) → u.phase ≡ Ground → after.sgr ≡ sgr → KnowsPlace x y symbol after
     → rested u ≡ prints symbol (printed_columns symbol) (drawn_at x y sgr t) → (is_one_plain (chars symbol) ≡ true → IsUtf8 u.text × (list_all is_plain_char (chars u.text) ≡ true)) → IsDrawnBy after u
 drawn-after x y sgr symbol after t u ground same knows e plain = record { phase = ground; sgr = ap (λ (v : Emulator). v.sgr) e ∙ sym same; placed = placed after.at knows }
   where
@@ -69,7 +69,7 @@ writes-at x y (Some p) t e known =
     record { utf8 = known.utf8; plain = known.plain; column = known.column ∙ column; row = known.row ∙ row }
 
 -- a plain character where the cursor is
-pub put-here : (w h x y : ℕ) (before after : TextCursor) (c : ℕ) (old new : List ℕ) → Sends old new (typed (encode c)) → is_plain_char c ≡ true → is_at x y before ≡ true
+pub put-here : (w h x y : ℕ) (before after : Pen) (c : ℕ) (old new : List ℕ) → Sends old new (typed (encode c)) → is_plain_char c ≡ true → is_at x y before ≡ true
     → after.sgr ≡ before.sgr → KnowsPlace x y (encode c) after → Prints w h old before x y before.sgr (encode c) new after
 put-here w h x y before after c old new sends plain at same knows =
     let symbol = encode c in
@@ -96,7 +96,7 @@ put-here w h x y before after c old new sends plain at same knows =
     }
 
 -- a symbol in a place, with a move
-pub put-there : (w h x y : ℕ) (before after : TextCursor) (symbol old first new : List ℕ) → x < w → y < h → Performs old first (cursor_moved x y) → Sends first new (typed symbol)
+pub put-there : (w h x y : ℕ) (before after : Pen) (symbol old first new : List ℕ) → x < w → y < h → Performs old first (cursor_moved x y) → Sends first new (typed symbol)
     → is_printed symbol ≡ true → after.sgr ≡ before.sgr → KnowsPlace x y symbol after → Prints w h old before x y before.sgr symbol new after
 put-there w h x y before after symbol old first new x_in y_in moves sends is same knows =
     let sgr = before.sgr in
@@ -121,12 +121,12 @@ put-there w h x y before after symbol old first new x_in y_in moves sends is sam
     }
 
 -- a symbol after which no place is known
-pub put_unplaced : (w h x y : ℕ) (before after : TextCursor) (symbol old first new : List ℕ) → Performs old first (cursor_moved x y) → Sends first new (typed symbol) → is_printed symbol ≡ true
+pub put_unplaced : (w h x y : ℕ) (before after : Pen) (symbol old first new : List ℕ) → Performs old first (cursor_moved x y) → Sends first new (typed symbol) → is_printed symbol ≡ true
     → after.sgr ≡ before.sgr → after.at ≡ None → x < w → y < h → Prints w h old before x y before.sgr symbol new after
 put_unplaced w h x y before after symbol old first new moves sends is same unplaced column row =
     put-there w h x y before after symbol old first new column row moves sends is same
     (subst (λ at. IfSome at (λ p. (p.x ≡ x + 1) × (p.y ≡ y) × (is_one_plain (chars symbol) ≡ true))) (sym unplaced) tt)
 
--- a brush with the rendition that it has
-pub brush-kept : (b : TextCursor) (sgr : Sgr) → b.sgr ≡ sgr → b ≡ record b { sgr = sgr }
-brush-kept b sgr e = rw (← e) refl
+-- a pen with the rendition that it has
+pub pen-kept : (b : Pen) (sgr : Sgr) → b.sgr ≡ sgr → b ≡ record b { sgr = sgr }
+pen-kept b sgr e = rw (← e) refl

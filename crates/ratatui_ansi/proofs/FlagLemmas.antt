@@ -6,6 +6,7 @@ use Rattle.std.proofs.lemmas.Nat.{mul-add-lt}
 use Rattle.std.proofs.lemmas.List.{get_or_append_left, get_or-append_right, get_or-take, get_or-drop, get_or_past}
 use Rattle.std.proofs.lemmas.Bool.{cases_lt}
 use Rattle.std.proofs.lemmas.Bool.Decides.{nat_tests}
+use Rattle.rtui_grid.proofs.PlaceLemmas.{row_ends, rows_join, place_before, place_from}
 use Rattle.ansi_model.specs.Columns.{Columns, is_continuation, blank_column}
 use Rattle.ansi_model.specs.Emulator.{rows_raised, rows_lowered}
 use Rattle.ratatui_core.specs.Backend.{is_cleared, AfterCursor, BeforeCursor, UntilNewLine}
@@ -32,33 +33,14 @@ rotated xs w fits cleared k = elim (cases_lt k (length xs - w)) [
       | inr past ↦ get_or_past (take w xs) j false (simp length-take (omega arith))
     ]
 
--- rows do not overlap
-pub row_below : (w b y : ℕ) → b < y → b * w + w ≤ y * w
-row_below w b y lower = let e : (b + 1) * w ≤ y * w = mul-le-mul_right w (omega arith) in omega arith
-
--- where the places of rows lie
+-- where the flags of rows go
 module _ (w x : ℕ) (x_in : x < w) where
-  place_before : (y e : ℕ) → nat_lt (y * w + x) (e * w) ≡ nat_lt y e
-  place_before y e = elim (cases_lt y e) [
-    | inl above ↦ let p = row_below w y e above in grind (arith, nat_tests)
-    | inr past ↦ let p : e * w ≤ y * w = mul-le-mul_right w past in grind (arith, nat_tests)
-  ]
-
-  place_from : (y e : ℕ) → nat_le (e * w) (y * w + x) ≡ nat_le e y
-  place_from y e = elim (cases_lt y e) [
-    | inl above ↦ let p = row_below w y e above in grind (arith, nat_tests)
-    | inr past ↦ let p : e * w ≤ y * w = mul-le-mul_right w past in grind (arith, nat_tests)
-  ]
-
   module _ (old new : List Bool) (a e n : ℕ) where
     pub flag_moved_up : ((k : ℕ) → flag new k ≡ if nat_le (a * w) k && nat_lt k (e * w) then (if nat_lt (k + n * w) (e * w) then flag old (k + n * w) else false) else flag old k)
         → (y : ℕ) → flag new (y * w + x) ≡ if nat_le a y && nat_lt y e then (if nat_lt (y + n) e then flag old ((y + n) * w + x) else false) else flag old (y * w + x)
     flag_moved_up moved y =
         let next : y * w + x + n * w ≡ (y + n) * w + x = grind arith in
-        rw (next, place_before (y + n) e, place_before y e, place_from y a) at (moved (y * w + x))
-
-    by_both : (d : ℕ) → d * w + n * w ≡ (d + n) * w
-    by_both d = grind arith
+        rw (next, place_before w x x_in (y + n) e, place_before w x x_in y e, place_from w x x_in y a) at (moved (y * w + x))
 
     pub flag_moved_down : ((k : ℕ) → flag new k ≡ if nat_le (a * w) k && nat_lt k (e * w) then (if nat_le (a * w + n * w) k then flag old (k - n * w) else false) else flag old k)
         → (y : ℕ) → flag new (y * w + x) ≡ if nat_le a y && nat_lt y e then (if nat_le (a + n) y then flag old ((y - n) * w + x) else false) else flag old (y * w + x)
@@ -67,15 +49,15 @@ module _ (w x : ℕ) (x_in : x < w) where
           let p : (y + 1) * w ≤ (a + n) * w = mul-le-mul_right w (omega arith) in
           let no : nat_le (a * w + n * w) (y * w + x) ≡ false = grind (arith, nat_tests) in
           let none : nat_le (a + n) y ≡ false = grind (arith, nat_tests) in
-          rw none (rw (no, place_before y e, place_from y a) at (moved (y * w + x)))
+          rw none (rw (no, place_before w x x_in y e, place_from w x x_in y a) at (moved (y * w + x)))
       | inr past ↦
           let p : (a + n) * w ≤ y * w = mul-le-mul_right w past in
           let yes : nat_le (a * w + n * w) (y * w + x) ≡ true = grind (arith, nat_tests) in
           let some : nat_le (a + n) y ≡ true = grind (arith, nat_tests) in
           let whole : y - n + n ≡ y = omega arith in
-          let q : (y - n) * w + n * w ≡ y * w = by_both (y - n) ∙ ap (λ m. m * w) whole in
+          let q : (y - n) * w + n * w ≡ y * w = rows_join w (y - n) n ∙ ap (λ m. m * w) whole in
           let back : y * w + x - n * w ≡ (y - n) * w + x = omega (arith, q) in
-          rw some (rw (yes, back, place_before y e, place_from y a) at (moved (y * w + x)))
+          rw some (rw (yes, back, place_before w x x_in y e, place_from w x x_in y a) at (moved (y * w + x)))
     ]
 
 module _ (w h : ℕ) (old new : List Bool) (c : Columns) (from to n : ℕ) (fits : to ≤ h) (same : length new ≡ length old) (continuations : AreContinuations w h old c) where
@@ -113,27 +95,27 @@ AreContinuations-along w h flags c d same continuations = record { count = conti
 module _ (w h x y a b : ℕ) (a_in : a < w) (b_in : b < h) (x_in : x < w) (y_in : y < h) where
   pub places_after : (nat_le (y * w + x) (b * w + a) && nat_lt (b * w + a) (w * h)) ≡ is_cleared AfterCursor x y a b
   places_after = let inside : b * w + a < w * h = mul-add-lt b w a h b_in a_in in elim (cases_lt b y) [
-    | inl above ↦ let e = row_below w b y above in grind (arith, nat_tests)
+    | inl above ↦ let e = row_ends w b y above in grind (arith, nat_tests)
     | inr other ↦ elim (cases_lt y b) [
-      | inl below ↦ let e = row_below w y b below in grind (arith, nat_tests)
+      | inl below ↦ let e = row_ends w y b below in grind (arith, nat_tests)
       | inr here ↦ let e : b ≡ y = omega arith in grind (arith, nat_tests)
     ]
   ]
 
   pub places_before : (nat_le 0 (b * w + a) && nat_lt (b * w + a) (y * w + x + 1)) ≡ is_cleared BeforeCursor x y a b
   places_before = elim (cases_lt b y) [
-    | inl above ↦ let e = row_below w b y above in grind (arith, nat_tests)
+    | inl above ↦ let e = row_ends w b y above in grind (arith, nat_tests)
     | inr other ↦ elim (cases_lt y b) [
-      | inl below ↦ let e = row_below w y b below in grind (arith, nat_tests)
+      | inl below ↦ let e = row_ends w y b below in grind (arith, nat_tests)
       | inr here ↦ let e : b ≡ y = omega arith in grind (arith, nat_tests)
     ]
   ]
 
   pub places_line_end : (nat_le (y * w + x) (b * w + a) && nat_lt (b * w + a) (y * w + w)) ≡ is_cleared UntilNewLine x y a b
   places_line_end = elim (cases_lt b y) [
-    | inl above ↦ let e = row_below w b y above in grind (arith, nat_tests)
+    | inl above ↦ let e = row_ends w b y above in grind (arith, nat_tests)
     | inr other ↦ elim (cases_lt y b) [
-      | inl below ↦ let e = row_below w y b below in grind (arith, nat_tests)
+      | inl below ↦ let e = row_ends w y b below in grind (arith, nat_tests)
       | inr here ↦ let e : b ≡ y = omega arith in grind (arith, nat_tests)
     ]
   ]

@@ -11,7 +11,7 @@ use Rattle.ratatui_core.specs.Backend.{Draws}
 use Rattle.ratatui_core.proofs.BackendLemmas.{Draws-none, Draws-push}
 use Rattle.ratatui_core.specs.DiffOption as DiffOption
 use Rattle.ansi_model.specs.declared.sgr.Sgr.{Sgr}
-use Rattle.ratatui_ansi.specs.declared.text_cursor.TextCursor.{TextCursor}
+use Rattle.ratatui_ansi.specs.declared.pen.Pen.{Pen}
 use Rattle.ratatui_ansi.specs.declared.draw.DrawState.{DrawState}
 use Rattle.ansi_model.specs.declared.glyph.Glyph.{Glyph}
 use Rattle.ansi_model.specs.declared.glyph.Glyph.TheVariants.{Plain}
@@ -118,7 +118,7 @@ cursor-at : (end y w ux uy uw : ℕ) → ux ≡ end → uy ≡ y → uw ≡ w �
 cursor-at end y w ux uy uw ex ey ew = rw (ex, ey, ew) refl
 
 pub lay-sends : (w h x y n end : ℕ) (cell : Cell) (before after : DrawState) (flags flags_after : List Bool) (old new : List ℕ) → Fits (w - x) cell → width_of cell ≡ n → x < w → y < h
-    → Paints w h old before.brush (λ t. blanked (x + n) y (end - (x + n)) (printed_at x y (sgr_of cell) (symbol_text cell.symbol) t)) new after.brush
+    → Paints w h old before.pen (λ t. blanked (x + n) y (end - (x + n)) (printed_at x y (sgr_of cell) (symbol_text cell.symbol) t)) new after.pen
     → slice_index_or flags (y * w + x) false ≡ false → x + n ≤ end → end ≤ w
     → ((k : ℕ) → x + n ≤ k → k < end → slice_index_or flags (y * w + k) false ≡ true) → (end < w → slice_index_or flags (y * w + end) false ≡ false)
     → AreMarked (y * w + x) (y * w + (x + n)) (y * w + end) flags flags_after
@@ -155,9 +155,9 @@ lay-sends w h x y n end cell before after flags flags_after old new fit en colum
     }
 
 -- a rendition, a symbol, and blanks in what is left of another one
-pub cell-sends : (w h x y : ℕ) (cell : Cell) (glyph : Glyph) (end : ℕ) (before after : DrawState) (inked drawn : TextCursor) (flags flags_after : List Bool) (old first mid new : List ℕ) → x < w → y < h
-    → IsGlyph (w - x) cell glyph → ChangesSgr before.brush.sgr (sgr_of cell) old first → inked ≡ record before.brush { sgr = sgr_of cell }
-    → Prints w h first inked x y inked.sgr (symbol_text cell.symbol) mid drawn → Covers w x y (glyph_columns glyph) mid flags drawn end new flags_after after.brush
+pub cell-sends : (w h x y : ℕ) (cell : Cell) (glyph : Glyph) (end : ℕ) (before after : DrawState) (inked drawn : Pen) (flags flags_after : List Bool) (old first mid new : List ℕ) → x < w → y < h
+    → IsGlyph (w - x) cell glyph → ChangesSgr before.pen.sgr (sgr_of cell) old first → inked ≡ record before.pen { sgr = sgr_of cell }
+    → Prints w h first inked x y inked.sgr (symbol_text cell.symbol) mid drawn → Covers w x y (glyph_columns glyph) mid flags drawn end new flags_after after.pen
     → slice_index_or flags (y * w + x) false ≡ false → after.cursor ≡ record { x = min end (w - 1); y = y } → after.written ≡ min (before.written + 1) (2 ^ 64 - 1)
     → SendsUpdates w h old before flags (record { x = x; y = y; cell = cell } ∷ []) new after flags_after
 cell-sends w h x y cell glyph end before after inked drawn flags flags_after old first mid new column row is changes pens prints covers uncut cursor count =
@@ -165,11 +165,11 @@ cell-sends w h x y cell glyph end before after inked drawn flags flags_after old
     let symbol = symbol_text cell.symbol in
     let n = glyph_columns glyph in
     let m = end - (x + n) in
-    let sgr_set : Paints w h old before.brush (with_sgr sgr) first inked = subst (Paints w h old before.brush (with_sgr sgr) first) (sym pens) (sgr-paints w h before.brush sgr old first changes) in
-    let here : Prints w h first inked x y sgr symbol mid drawn = subst (λ p. Prints w h first inked x y p symbol mid drawn) (ap (λ (b : TextCursor). b.sgr) pens) prints in
-    let two : Paints w h old before.brush (printed_at x y sgr symbol) mid drawn = Paints-then w h old first mid before.brush inked drawn (with_sgr sgr) (printed_at x y sgr symbol) (λ t. (refl, refl)) sgr_set here in
-    let both : Paints w h old before.brush (λ t. blanked (x + n) y m (printed_at x y sgr symbol t)) new after.brush
-    = Paints-then w h old mid new before.brush drawn after.brush (printed_at x y sgr symbol) (blanked (x + n) y m) (λ t. (refl, refl)) two (covers.paints h row) in
+    let sgr_set : Paints w h old before.pen (with_sgr sgr) first inked = subst (Paints w h old before.pen (with_sgr sgr) first) (sym pens) (sgr-paints w h before.pen sgr old first changes) in
+    let here : Prints w h first inked x y sgr symbol mid drawn = subst (λ p. Prints w h first inked x y p symbol mid drawn) (ap (λ (b : Pen). b.sgr) pens) prints in
+    let two : Paints w h old before.pen (printed_at x y sgr symbol) mid drawn = Paints-then w h old first mid before.pen inked drawn (with_sgr sgr) (printed_at x y sgr symbol) (λ t. (refl, refl)) sgr_set here in
+    let both : Paints w h old before.pen (λ t. blanked (x + n) y m (printed_at x y sgr symbol t)) new after.pen
+    = Paints-then w h old mid new before.pen drawn after.pen (printed_at x y sgr symbol) (blanked (x + n) y m) (λ t. (refl, refl)) two (covers.paints h row) in
     let fit = fit-parts (w - x) cell (rw is.fits refl) in
     lay-sends w h x y n end cell before after flags flags_after old new fit (sym (is.symbol.columns ∙ fit.columns)) column row both uncut covers.ordered covers.inside covers.set covers.unset covers.marked cursor count
 
@@ -187,14 +187,14 @@ vacant-sgr c is =
 
 -- ---- cells of which nothing is sent
 
-pub still-sends : (w h : ℕ) (u : Update) (before after : DrawState) (flags : List Bool) (old : List ℕ) → after.brush ≡ before.brush → after.cursor ≡ before.cursor → after.written ≡ min (before.written + 1) (2 ^ 64 - 1)
+pub still-sends : (w h : ℕ) (u : Update) (before after : DrawState) (flags : List Bool) (old : List ℕ) → after.pen ≡ before.pen → after.cursor ≡ before.cursor → after.written ≡ min (before.written + 1) (2 ^ 64 - 1)
     → ((c : Columns) → AreContinuations w h flags c → (a b : ℕ) → look_in (c a b) ≡ put w h u (λ i j. look_in (c i j)) a b) → SendsUpdates w h old before flags (u ∷ []) old after flags
 unfolding feed
-still-sends w h u before after flags old brush cursor count same = record {
+still-sends w h u before after flags old pen cursor count same = record {
   bytes = [];
   appended = sym (append-nil old);
   drawing = λ t is. record {
-    drawn = subst (λ b. IsDrawnBy b t) (sym brush) is.drawn;
+    drawn = subst (λ b. IsDrawnBy b t) (sym pen) is.drawn;
     ready = is.ready;
     continuations = is.continuations;
     cursor = is.cursor ∙ sym cursor;
@@ -275,7 +275,7 @@ sends-push w h a b c p q r f g k us u first second =
     }
 
 -- a draw begins with the own rendition and an unknown place
-pub begins : (w h : ℕ) (d : DrawState) (cursor : Position) (flags : List Bool) (t : Emulator) → d.brush.sgr ≡ default_sgr → d.brush.at ≡ None → d.cursor ≡ cursor → IsAwaiting w h cursor flags t → IsDrawing w h d flags t
+pub begins : (w h : ℕ) (d : DrawState) (cursor : Position) (flags : List Bool) (t : Emulator) → d.pen.sgr ≡ default_sgr → d.pen.at ≡ None → d.cursor ≡ cursor → IsAwaiting w h cursor flags t → IsDrawing w h d flags t
 begins w h d cursor flags t own unplaced at is = record {
   drawn = record {
     phase = is.phase;
@@ -317,8 +317,8 @@ with-own w h t own ready = record {
 }
 
 -- and ends with the own rendition
-pub draw-sends : (w h : ℕ) (old mid new : List ℕ) (before after : DrawState) (cursor : Position) (written : ℕ) (flags flags_after : List Bool) (us : List Update) → before.brush.sgr ≡ default_sgr
-    → before.brush.at ≡ None → before.cursor ≡ cursor → before.written ≡ written → SendsUpdates w h old before flags us mid after flags_after → ChangesSgr after.brush.sgr default_sgr mid new
+pub draw-sends : (w h : ℕ) (old mid new : List ℕ) (before after : DrawState) (cursor : Position) (written : ℕ) (flags flags_after : List Bool) (us : List Update) → before.pen.sgr ≡ default_sgr
+    → before.pen.at ≡ None → before.cursor ≡ cursor → before.written ≡ written → SendsUpdates w h old before flags us mid after flags_after → ChangesSgr after.pen.sgr default_sgr mid new
     → SendsDraw w h old cursor written flags us new after.cursor after.written flags_after
 draw-sends w h old mid new before after cursor written flags flags_after us own unplaced at count sends changes =
     let start = λ (t : Emulator) (is : IsAwaiting w h cursor flags t). begins w h before cursor flags t own unplaced at is in

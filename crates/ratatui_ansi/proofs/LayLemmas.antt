@@ -8,7 +8,7 @@ use Rattle.std.proofs.lemmas.Str.{chars-nil, IsUtf8-nil}
 use Rattle.ratatui_core.specs.Layout.{Position}
 use Rattle.ratatui_core.specs.Buffer.{blank, Look, empty_look}
 use Rattle.ansi_model.specs.declared.sgr.Sgr.{Sgr}
-use Rattle.ratatui_ansi.specs.declared.text_cursor.TextCursor.{TextCursor}
+use Rattle.ratatui_ansi.specs.declared.pen.Pen.{Pen}
 use Rattle.ansi_model.specs.Columns.{Columns, is_continuation}
 use Rattle.ratatui_ansi.specs.Flags.{AreContinuations}
 use Rattle.ansi_model.specs.Sgr.{default_sgr, inked}
@@ -22,7 +22,7 @@ use Rattle.ratatui_ansi.specs.Frame.{AreMarked}
 use Rattle.ansi_model.proofs.ReadLemmas.{feed-append}
 use Rattle.ansi_model.proofs.ScrollLemmas.{whole_along}
 use Rattle.ansi_model.proofs.TextLemmas.{blank-one}
-use Rattle.ratatui_ansi.proofs.FlagLemmas.{row_below}
+use Rattle.rtui_grid.proofs.PlaceLemmas.{row_ends}
 use Rattle.ratatui_ansi.proofs.TailLemmas.{torn, put-torn, torn-more, torn-all, laid-sized, laid-whole, laid-beyond, laid-continuations, IsTail, laid}
 
 -- ---- blanks
@@ -82,7 +82,7 @@ blanked-torn x y n end (suc m) k look c t whole left tail same reached high a b 
 abbrev pub KeepsSize : (Emulator → Emulator) → Type 0
 KeepsSize effect = (t : Emulator) → ((effect t).width ≡ t.width) × ((effect t).height ≡ t.height)
 
-pub Paints-then : (w h : ℕ) (a b c : List ℕ) (p q r : TextCursor) (f g : Emulator → Emulator) → KeepsSize f → Paints w h a p f b q → Paints w h b q g c r → Paints w h a p (λ t. g (f t)) c r
+pub Paints-then : (w h : ℕ) (a b c : List ℕ) (p q r : Pen) (f g : Emulator → Emulator) → KeepsSize f → Paints w h a p f b q → Paints w h b q g c r → Paints w h a p (λ t. g (f t)) c r
 Paints-then w h a b c p q r f g keeps first second =
     let fed : (t : Emulator) → feed (first.bytes ++ second.bytes) t ≡ feed second.bytes (feed first.bytes t) = feed-append first.bytes second.bytes in
     let wide : (t : Emulator) → (rested t).width ≡ w → (rested t).height ≡ h → IsDrawnBy p t → (rested (feed first.bytes t)).width ≡ w =
@@ -107,7 +107,7 @@ placed-with : (sgr : Sgr) (t : Emulator) (at : Option Position) → IfSome at (�
 placed-with sgr t None known = tt
 placed-with sgr t (Some p) known = record { utf8 = IsUtf8-nil; plain = ap (list_all is_plain_char) chars-nil; column = known.column; row = known.row }
 
-pub sgr-paints : (w h : ℕ) (before : TextCursor) (sgr : Sgr) (old new : List ℕ) → ChangesSgr before.sgr sgr old new → Paints w h old before (with_sgr sgr) new (record before { sgr = sgr })
+pub sgr-paints : (w h : ℕ) (before : Pen) (sgr : Sgr) (old new : List ℕ) → ChangesSgr before.sgr sgr old new → Paints w h old before (with_sgr sgr) new (record before { sgr = sgr })
 unfolding feed
 sgr-paints w h before sgr old new (Stays same none) = record {
   bytes = [];
@@ -128,16 +128,16 @@ sgr-paints w h before sgr old new (Sets does) =
       printed = λ t width height drawn. ap rested (fed t drawn);
     }
 
-pub blanks-none : (w h : ℕ) (old : List ℕ) (brush : TextCursor) (x y n : ℕ) → n ≡ 0 → Paints w h old brush (blanked x y n) old brush
+pub blanks-none : (w h : ℕ) (old : List ℕ) (pen : Pen) (x y n : ℕ) → n ≡ 0 → Paints w h old pen (blanked x y n) old pen
 unfolding feed
-blanks-none w h old brush x y n e = record {
+blanks-none w h old pen x y n e = record {
   bytes = [];
   appended = sym (append-nil old);
   drawn = λ t width height drawn. drawn;
   printed = λ t width height drawn. ap (λ k. blanked x y k (rested t)) (sym e);
 }
 
-pub blanks-more : (w h x y column m k : ℕ) (old mid new : List ℕ) (before between after : TextCursor) → Paints w h old before (blanked x y m) mid between → between.sgr ≡ default_sgr
+pub blanks-more : (w h x y column m k : ℕ) (old mid new : List ℕ) (before between after : Pen) → Paints w h old before (blanked x y m) mid between → between.sgr ≡ default_sgr
     → Prints w h mid between column y between.sgr (encode 32) new after → column ≡ x + m → k ≡ suc m → Paints w h old before (blanked x y k) new after
 blanks-more w h x y column m k old mid new before between after done own more at count =
     let keeps : KeepsSize (blanked x y m) = λ t. (blanked-width x y m t, blanked-height x y m t) in
@@ -151,7 +151,7 @@ blanked-sgr x y zero t = refl
 blanked-sgr x y (suc n) t = ap (printed_at (x + suc n) y default_sgr blank) (blanked-sgr x y n t)
 
 -- blanks after the own rendition
-pub blanks-own : (w h x y n m : ℕ) (old mid new : List ℕ) (before between after : TextCursor) → ChangesSgr before.sgr default_sgr old mid → between ≡ record before { sgr = default_sgr }
+pub blanks-own : (w h x y n m : ℕ) (old mid new : List ℕ) (before between after : Pen) → ChangesSgr before.sgr default_sgr old mid → between ≡ record before { sgr = default_sgr }
     → Paints w h mid between (blanked x y n) new after → n ≡ suc m → Paints w h old before (blanked x y n) new after
 blanks-own w h x y n m old mid new before between after changes pens done some =
     let sgr_set : Paints w h old before (with_sgr default_sgr) mid between = subst (Paints w h old before (with_sgr default_sgr) mid) (sym pens) (sgr-paints w h before default_sgr old mid changes) in
@@ -239,14 +239,14 @@ marked-at : (w x y n end a b : ℕ) (old new is was : Bool) → x + n ≤ end �
 marked-at w x y n end a b old new is was ordered inside column some e f g =
     elim (cases_lt b y) [
       | inl above ↦
-          let apart = row_below w b y above in
+          let apart = row_ends w b y above in
           let no : (nat_le (y * w + x) (b * w + a) && nat_lt (b * w + a) (y * w + end)) ≡ false = grind (arith, nat_tests) in
           let none : run x y n a b ≡ false = grind (arith, nat_tests) in
           let blanks : run (x + n) y (end - (x + n)) a b ≡ false = grind (arith, nat_tests) in
           aside _ _ _ _ _ old new is was no none blanks e f g
       | inr below ↦ elim (cases_lt y b) [
         | inl under ↦
-            let apart = row_below w y b under in
+            let apart = row_ends w y b under in
             let no : (nat_le (y * w + x) (b * w + a) && nat_lt (b * w + a) (y * w + end)) ≡ false = grind (arith, nat_tests) in
             let none : run x y n a b ≡ false = grind (arith, nat_tests) in
             let blanks : run (x + n) y (end - (x + n)) a b ≡ false = grind (arith, nat_tests) in

@@ -41,7 +41,7 @@ refused-on w h colors d flags t u (Refused.Cut p) is because = (
 )
 
 pub stops-draw : {S A : Type 0} (steps : S → Option A → S → Type 0) (content : S) (update : A → Update) (w h : ℕ) (colors : Bool) (old : List ℕ) (d : DrawState) (cursor : Position) (written : ℕ) (flags : List Bool)
-    (refusal : Refusal) → d.brush.sgr ≡ default_sgr → d.brush.at ≡ None → d.cursor ≡ cursor → d.written ≡ written → StopsWithin steps content update w h colors old d flags refusal
+    (refusal : Refusal) → d.pen.sgr ≡ default_sgr → d.pen.at ≡ None → d.cursor ≡ cursor → d.written ≡ written → StopsWithin steps content update w h colors old d flags refusal
     → StopsDraw steps content update w h colors cursor written flags refusal
 stops-draw steps content update w h colors old d cursor written flags refusal own unplaced at count stops = record {
   stops = λ t is.

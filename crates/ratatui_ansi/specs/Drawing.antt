@@ -4,7 +4,7 @@ use Rattle.std.specs.List.{list_all}
 use Rattle.ratatui_core.specs.Layout.{Position}
 use Rattle.ratatui_core.specs.Buffer.{blank}
 use Rattle.ansi_model.specs.declared.sgr.Sgr.{Sgr}
-use Rattle.ratatui_ansi.specs.declared.text_cursor.TextCursor.{TextCursor}
+use Rattle.ratatui_ansi.specs.declared.pen.Pen.{Pen}
 use Rattle.ansi_model.specs.Sgr.{default_sgr}
 use Rattle.ansi_model.specs.Emulator.{Emulator, rested, prints, with_sgr}
 use Rattle.ansi_model.specs.Symbols.{is_plain_char, printed_columns}
@@ -24,27 +24,27 @@ pub record WritesAt (x y : ℕ) (t : Emulator) : Type 0 where
   pub column : (rested t).x ≡ x
   pub row : (rested t).y ≡ y
 
--- a terminal that awaits text and prints as the text cursor says
-pub record IsDrawnBy (brush : TextCursor) (t : Emulator) : Type 0 where
+-- a terminal that awaits text and prints as the pen says
+pub record IsDrawnBy (pen : Pen) (t : Emulator) : Type 0 where
   pub phase : t.phase ≡ Ground
-  pub sgr : (rested t).sgr ≡ brush.sgr
-  pub placed : IfSome brush.at (λ p. WritesAt p.x p.y t)
+  pub sgr : (rested t).sgr ≡ pen.sgr
+  pub placed : IfSome pen.at (λ p. WritesAt p.x p.y t)
 
 -- whether this is a known column and row
 abbrev pub is_place : ℕ → ℕ → Option Position → Bool
 is_place x y None = false
 is_place x y (Some p) = (p.x == x) && (p.y == y)
 
--- whether a text cursor knows that the next plain character would be printed in this column and row
-abbrev pub is_at : ℕ → ℕ → TextCursor → Bool
-is_at x y brush = is_place x y brush.at
+-- whether a pen knows that the next plain character would be printed in this column and row
+abbrev pub is_at : ℕ → ℕ → Pen → Bool
+is_at x y pen = is_place x y pen.at
 
 -- with the cursor in a column and a row, and a rendition
 abbrev pub drawn_at : ℕ → ℕ → Sgr → Emulator → Emulator
 drawn_at x y sgr t = record t { x = x; y = y; sgr = sgr }
 
--- bytes were appended that do this to each terminal of this size that is drawn by a text cursor, and leave it drawn by another one
-pub record Paints (w h : ℕ) (old : List ℕ) (before : TextCursor) (effect : Emulator → Emulator) (new : List ℕ) (after : TextCursor) : Type 0 where
+-- bytes were appended that do this to each terminal of this size that is drawn by a pen, and leave it drawn by another one
+pub record Paints (w h : ℕ) (old : List ℕ) (before : Pen) (effect : Emulator → Emulator) (new : List ℕ) (after : Pen) : Type 0 where
   pub bytes : List ℕ
   pub appended : new ≡ old ++ bytes
   pub drawn : (t : Emulator) → (rested t).width ≡ w → (rested t).height ≡ h → IsDrawnBy before t → IsDrawnBy after (feed bytes t)
@@ -55,7 +55,7 @@ abbrev pub printed_at : ℕ → ℕ → Sgr → List ℕ → Emulator → Emulat
 printed_at x y sgr symbol t = prints symbol (printed_columns symbol) (drawn_at x y sgr t)
 
 -- bytes were appended that print a symbol in a column and a row of a screen of this size, in a rendition, and nothing else
-abbrev pub Prints : ℕ → ℕ → List ℕ → TextCursor → ℕ → ℕ → Sgr → List ℕ → List ℕ → TextCursor → Type 0
+abbrev pub Prints : ℕ → ℕ → List ℕ → Pen → ℕ → ℕ → Sgr → List ℕ → List ℕ → Pen → Type 0
 Prints w h old before x y sgr symbol new after = Paints w h old before (printed_at x y sgr symbol) new after
 
 -- blanks printed in so many columns of a row, one by one, in the terminal's own rendition

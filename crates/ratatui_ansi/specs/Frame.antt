@@ -3,7 +3,7 @@ use Rattle.std.specs.Prelude.{◌≡◌, ℕ, ◌+◌, ◌-◌, ◌*◌, ◌<◌
 use Rattle.ratatui_core.specs.Layout.{Position}
 use Rattle.ratatui_core.specs.Buffer.{symbol_text, look_of, empty_look, width_of, Update, Cell}
 use Rattle.ratatui_core.specs.Backend.{Draws, cursor_of}
-use Rattle.ratatui_ansi.specs.declared.text_cursor.TextCursor.{TextCursor}
+use Rattle.ratatui_ansi.specs.declared.pen.Pen.{Pen}
 use Rattle.ratatui_ansi.specs.declared.draw.DrawState.{DrawState}
 use Rattle.ansi_model.specs.declared.glyph.Glyph.{Glyph}
 use Rattle.ratatui_ansi.specs.declared.draw.Refusal.{Refusal}
@@ -69,8 +69,8 @@ pub record AreMarked (first past_it end : ℕ) (flags after : List Bool) : Type 
       ≡ (if nat_le first k && nat_lt k end then nat_lt first k && nat_lt k past_it else flag flags k)
 
 -- after a symbol of n columns what is left of another one, up to column `end`, was emptied, and the flags are those of the symbol
-pub record Covers (w x y n : ℕ) (old : List ℕ) (flags : List Bool) (before : TextCursor) (end : ℕ) (new : List ℕ) (flags_after : List Bool)
-    (after : TextCursor) : Type 0 where
+pub record Covers (w x y n : ℕ) (old : List ℕ) (flags : List Bool) (before : Pen) (end : ℕ) (new : List ℕ) (flags_after : List Bool)
+    (after : Pen) : Type 0 where
   pub ordered : x + n ≤ end
   pub inside : end ≤ w
   pub set : (k : ℕ) → x + n ≤ k → k < end → flag flags (y * w + k) ≡ true
@@ -81,7 +81,7 @@ pub record Covers (w x y n : ℕ) (old : List ℕ) (flags : List Bool) (before :
 
 -- a terminal within a draw on a screen of this size: with its own rendition it would be idle; the flags are those of its columns
 pub record IsDrawing (w h : ℕ) (d : DrawState) (flags : List Bool) (t : Emulator) : Type 0 where
-  pub drawn : IsDrawnBy d.brush t
+  pub drawn : IsDrawnBy d.pen t
   pub ready : IsIdle w h (with_sgr default_sgr (rested t))
   pub continuations : AreContinuations w h flags (rested t).columns
   pub cursor : cursor_of (screen_shown d.written (rested t)) ≡ d.cursor

@@ -33,8 +33,6 @@ use std::ops::Range;
 pub struct AnsiBackend<W: Write> {
     sender: Sender<W>,
     tracker: Tracker,
-    failures: u64,
-    is_broken: bool,
     alloc: Global,
 }
 
@@ -54,13 +52,13 @@ impl<W: Write> Model for AnsiBackend<W> {
       has_underline_colors = b.tracker.has_underline_colors;
       ambiguous_is_wide = b.tracker.ambiguous_is_wide;
       written = b.tracker.written;
-      failures = b.failures;
-      is_broken = b.is_broken;
+      failures = b.sender.failures;
+      is_broken = b.sender.is_broken;
     } };
 
     ghost invariant = { λ b. IsInOrder b.tracker.size b.tracker.cursor b.tracker.continuations.items
-        b.tracker.draft.items b.is_broken b.failures b.sender.sent.bytes
-        × (b.is_broken ≡ false
+        b.tracker.draft.items b.sender.is_broken b.sender.failures b.sender.sent.bytes
+        × (b.sender.is_broken ≡ false
         → Appends b.sender.sent.before (W.contents b.sender.writer) b.sender.sent.bytes) };
 }
 
@@ -91,15 +89,10 @@ impl<W: Write + Drop> AnsiBackend<W> {
     {
         let tracker = Tracker::new(alloc, size)?;
         let mut sender = Sender::new(writer);
-        match sender.send(tracker.out.as_str()) {
-            Ok(()) => {}
-            Err(error) => return Err(AnsiError::Write(error)),
-        }
+        sender.send(tracker.out.as_str(), 0)?;
         Ok(AnsiBackend {
             sender,
             tracker,
-            failures: 0,
-            is_broken: false,
             alloc,
         })
     }
@@ -182,20 +175,13 @@ impl<W: Write + Drop> AnsiBackend<W> {
         ensures ambiguous { self.new.ambiguous_is_wide ≡ self.old.ambiguous_is_wide }
         ensures counts { Counts result self.old.failures self.new.failures }
     {
-        let failures = self.failures;
-        self.failures = failures.saturating_add(1);
+        let failures = self.sender.count();
         let mut tracker = Tracker::new(self.alloc, size)?;
         tracker.has_underline_colors = self.tracker.has_underline_colors;
         tracker.ambiguous_is_wide = self.tracker.ambiguous_is_wide;
-        self.is_broken = true;
         self.sender.renew();
-        match self.sender.send(tracker.out.as_str()) {
-            Ok(()) => {}
-            Err(error) => return Err(AnsiError::Write(error)),
-        }
+        self.sender.send(tracker.out.as_str(), failures)?;
         self.tracker = tracker;
-        self.is_broken = false;
-        self.failures = failures;
         Ok(())
     }
 
@@ -206,93 +192,11 @@ impl<W: Write + Drop> AnsiBackend<W> {
         ensures state { Answers result self.old self.new }
         ensures counts { Counts result self.old.failures self.new.failures }
     {
-        let failures = self.failures;
-        self.failures = failures.saturating_add(1);
-        if self.is_broken {
-            return Err(AnsiError::Broken);
-        }
+        let failures = self.sender.begin()?;
         self.tracker.out.clear();
         self.tracker.collect(call)?;
-        self.is_broken = true;
-        match self.sender.send(self.tracker.out.as_str()) {
-            Ok(()) => {}
-            Err(error) => return Err(AnsiError::Write(error)),
-        }
-        self.is_broken = false;
-        self.failures = failures;
+        self.sender.send(self.tracker.out.as_str(), failures)?;
         Ok(())
-    }
-
-    // Has the writer send on what it kept back.
-    fn flush_writer(&mut self) -> Result<(), AnsiError>
-        ensures ok { OnOk result (shown_by self.new ≡ shown_by self.old) }
-        ensures flushed { OnOk result (is_flushed self.new ≡ true) }
-        ensures sent { OnOk result (self.new.sent ≡ self.old.sent) }
-        ensures why { IfErr result IsOfFlushing }
-        ensures state { Answers result self.old self.new }
-        ensures counts { Counts result self.old.failures self.new.failures }
-    {
-        let failures = self.failures;
-        self.failures = failures.saturating_add(1);
-        if self.is_broken {
-            return Err(AnsiError::Broken);
-        }
-        self.is_broken = true;
-        match self.sender.flush() {
-            Ok(()) => {}
-            Err(error) => return Err(AnsiError::Write(error)),
-        }
-        self.is_broken = false;
-        self.failures = failures;
-        Ok(())
-    }
-
-    // Draws cells.
-    fn send_cells<C: AsCell, I: Iterator<Item = (u16, u16, C)>>(
-        &mut self,
-        content: I,
-    ) -> Result<(), AnsiError>
-        requires can { I.can_next content }
-        requires finite { IsFinite (I.remaining content) }
-        ensures ok { OnOk result (
-            (items : List (ℕ × ℕ × C)) × Drains I.next_gives content items
-            × Draws (shown_by self.old) (map (update_by C.cell) items)
-            (shown_by self.new)) }
-        ensures sendable { OnOk result (
-            (items : List (ℕ × ℕ × C)) × Drains I.next_gives content items
-            × (list_all (is_sendable_on self.old.size.width self.old.size.height
-            self.old.has_underline_colors) (map (update_by C.cell) items) ≡ true)) }
-        ensures stopped { IfErr result (StopsBy I.next_gives content (update_by C.cell)
-            self.old.has_underline_colors (shown_by self.old)) }
-        ensures state { Answers result self.old self.new }
-        ensures counts { Counts result self.old.failures self.new.failures }
-    {
-        let failures = self.failures;
-        self.failures = failures.saturating_add(1);
-        if self.is_broken {
-            return Err(AnsiError::Broken);
-        }
-        self.tracker.out.clear();
-        self.tracker.draw(content)?;
-        self.is_broken = true;
-        match self.sender.send(self.tracker.out.as_str()) {
-            Ok(()) => {}
-            Err(error) => return Err(AnsiError::Write(error)),
-        }
-        self.is_broken = false;
-        self.failures = failures;
-        Ok(())
-    }
-
-    // Counts a failure, and gives the error back.
-    fn failed(&mut self, error: AnsiError) -> AnsiError
-        ensures error { result ≡ error }
-        ensures rest { IsUnsent self.old self.new }
-        ensures count { self.old.failures < 2 ^ 64 - 1
-            → self.new.failures ≡ self.old.failures + 1 }
-    {
-        self.failures = self.failures.saturating_add(1);
-        error
     }
 }
 
@@ -326,7 +230,11 @@ impl<W: Write + Drop> Backend for AnsiBackend<W> {
         ensures state { Answers result self.old self.new }
         ensures counts { Counts result self.old.failures self.new.failures }
     {
-        self.send_cells(content)
+        let failures = self.sender.begin()?;
+        self.tracker.out.clear();
+        self.tracker.draw(content)?;
+        self.sender.send(self.tracker.out.as_str(), failures)?;
+        Ok(())
     }
 
     fn append_lines(&mut self, n: u16) -> Result<(), AnsiError>
@@ -388,9 +296,7 @@ impl<W: Write + Drop> Backend for AnsiBackend<W> {
         ensures state { Answers result self.old self.new }
         ensures counts { Counts result self.old.failures self.new.failures }
     {
-        if self.is_broken {
-            return Err(self.failed(AnsiError::Broken));
-        }
+        self.sender.check()?;
         Ok(self.tracker.cursor)
     }
 
@@ -432,9 +338,7 @@ impl<W: Write + Drop> Backend for AnsiBackend<W> {
         ensures state { Answers result self.old self.new }
         ensures counts { Counts result self.old.failures self.new.failures }
     {
-        if self.is_broken {
-            return Err(self.failed(AnsiError::Broken));
-        }
+        self.sender.check()?;
         Ok(self.tracker.size)
     }
 
@@ -464,6 +368,8 @@ impl<W: Write + Drop> Backend for AnsiBackend<W> {
         ensures state { Answers result self.old self.new }
         ensures counts { Counts result self.old.failures self.new.failures }
     {
-        self.flush_writer()
+        let failures = self.sender.begin()?;
+        self.sender.flush(failures)?;
+        Ok(())
     }
 }

@@ -12,17 +12,25 @@ ghost use Rattle.ratatui_ansi.specs.Drawing.{blanked, ChangesSgr, Paints, Prints
 ghost use Rattle.ratatui_ansi.specs.Frame.{is_fit, is_sendable_on, IsGlyph, IsVacant, IsUnsendableSgr, RefusesUpdate, Covers, SendsUpdates, SendsDraw};
 ghost use Rattle.ratatui_ansi.specs.Refusals.{has_place, StopsWithin, StopsDraw};
 
-use crate::text_cursor::{TextCursor, change_sgr, put_plain, put_symbol, set_sgr};
+use crate::pen::{Pen, change_sgr, put_plain, put_symbol, set_sgr};
 use ansi_model::{Glyph, Sgr, glyph_of, only_printable};
 use ratatui_core::backend::AsCell;
 use ratatui_core::buffer::{Cell, CellDiffOption, CellWidth};
 use ratatui_core::layout::Position;
 use std::alloc::AllocError;
 
+/// What a draw draws on: a screen of so many columns and rows, of a terminal that reads colours of the underline or doesn't.
+#[derive(Debug, Clone, Copy, PartialEq, Eq)]
+pub struct Target {
+    pub width: u16,
+    pub height: u16,
+    pub has_underline_colors: bool,
+}
+
 /// What is known of the terminal within a draw, beside its columns.
 #[derive(Debug, Clone, Copy, PartialEq, Eq)]
 pub struct DrawState {
-    pub brush: TextCursor,
+    pub pen: Pen,
     /// Where the screen's cursor is.
     pub cursor: Position,
     /// How many items were drawn, as far as the count goes.
@@ -125,21 +133,15 @@ fn tail_end(continuations: &[bool], start: usize, from: u16, width: u16) -> u16
 
 // Prints blanks in the columns of a row from `x` up to `end`, at least one.
 #[inline(never)]
-fn put_blanks(
-    out: &mut String,
-    brush: &mut TextCursor,
-    x: u16,
-    y: u16,
-    end: u16,
-) -> Result<(), AllocError>
+fn put_blanks(out: &mut String, pen: &mut Pen, x: u16, y: u16, end: u16) -> Result<(), AllocError>
     requires { x < end }
     ensures paints { OnOk result ((w h : ℕ) → end ≤ w → y < h → Paints w h (string_bytes out.old)
-        brush.old (blanked x y (end - x)) (string_bytes out.new) brush.new) }
-    ensures sgr { OnOk result (brush.new.sgr ≡ default_sgr) }
+        pen.old (blanked x y (end - x)) (string_bytes out.new) pen.new) }
+    ensures sgr { OnOk result (pen.new.sgr ≡ default_sgr) }
 {
-    change_sgr(out, brush, &Sgr::DEFAULT)?;
+    change_sgr(out, pen, &Sgr::DEFAULT)?;
     for column in x..end {
-        put_plain(out, brush, column, y, ' ')?;
+        put_plain(out, pen, column, y, ' ')?;
     }
     Ok(())
 }
@@ -165,24 +167,24 @@ fn cover(
     out: &mut String,
     continuations: &mut [bool],
     width: u16,
-    brush: &mut TextCursor,
-    x: u16,
-    y: u16,
+    pen: &mut Pen,
+    place: Position,
     columns: u16,
 ) -> Result<u16, AllocError>
     requires some { 0 < columns }
-    requires fits { x + columns ≤ width }
-    requires row { y * width + width ≤ length continuations.old }
-    requires uncut { slice_index_or continuations.old (y * width + x) false ≡ false }
-    ensures { IfOk result (λ end. Covers width x y columns (string_bytes out.old) continuations.old
-        brush.old end (string_bytes out.new) continuations.new brush.new) }
+    requires fits { place.x + columns ≤ width }
+    requires row { place.y * width + width ≤ length continuations.old }
+    requires uncut { slice_index_or continuations.old (place.y * width + place.x) false ≡ false }
+    ensures { IfOk result (λ end. Covers width place.x place.y columns (string_bytes out.old)
+        continuations.old pen.old end (string_bytes out.new) continuations.new pen.new) }
 {
+    let Position { x, y } = place;
     let start = usize::from(y) * usize::from(width);
     let past_it = x + columns;
     let end = tail_end(continuations, start, past_it, width);
     if x + 1 < end {
         if past_it < end {
-            put_blanks(out, brush, past_it, y, end)?;
+            put_blanks(out, pen, past_it, y, end)?;
         }
         mark(
             continuations,
@@ -194,11 +196,11 @@ fn cover(
     Ok(end)
 }
 
-// Prints a cell's symbol in a column and a row of a screen, in the text cursor's rendition.
+// Prints a cell's symbol in a column and a row of a screen, in the pen's rendition.
 #[inline(always)]
 fn put(
     out: &mut String,
-    brush: &mut TextCursor,
+    pen: &mut Pen,
     x: u16,
     y: u16,
     cell: &Cell,
@@ -207,28 +209,28 @@ fn put(
     requires column { x < 65535 }
     requires glyph { IsGlyphOf (symbol_text cell.now.symbol) glyph }
     ensures prints { OnOk result ((w h : ℕ) → x < w → y < h → Prints w h (string_bytes out.old)
-        brush.old x y brush.old.sgr (symbol_text cell.now.symbol) (string_bytes out.new)
-        brush.new) }
-    ensures sgr { OnOk result (brush.new.sgr ≡ brush.old.sgr) }
+        pen.old x y pen.old.sgr (symbol_text cell.now.symbol) (string_bytes out.new)
+        pen.new) }
+    ensures sgr { OnOk result (pen.new.sgr ≡ pen.old.sgr) }
 {
     match glyph {
-        Glyph::Plain(c) => put_plain(out, brush, x, y, c),
-        Glyph::Whole(_) => put_symbol(out, brush, x, y, cell.symbol()),
+        Glyph::Plain(c) => put_plain(out, pen, x, y, c),
+        Glyph::Whole(_) => put_symbol(out, pen, x, y, cell.symbol()),
     }
 }
 
-// Sets the rendition of the cell in a place; apart, so that the path of a cell in the text cursor's rendition stays short.
+// Sets the rendition of the cell in a place; apart, so that the path of a cell in the pen's rendition stays short.
 #[inline(never)]
 fn set_sgr_of(
     out: &mut String,
-    brush: &mut TextCursor,
+    pen: &mut Pen,
     has_underline_colors: bool,
     place: Position,
     cell: &Cell,
 ) -> Result<(), Refusal>
-    ensures changes { OnOk result (ChangesSgr brush.old.sgr (sgr_of cell.now) (string_bytes out.old)
+    ensures changes { OnOk result (ChangesSgr pen.old.sgr (sgr_of cell.now) (string_bytes out.old)
         (string_bytes out.new)) }
-    ensures sgr { OnOk result (brush.new ≡ record brush.old { sgr = sgr_of cell.now }) }
+    ensures sgr { OnOk result (pen.new ≡ record pen.old { sgr = sgr_of cell.now }) }
     ensures sent { OnOk result (is_sendable_by has_underline_colors (sgr_of cell.now) ≡ true) }
     ensures refused { IfErr result (IsUnsendableSgr has_underline_colors place (sgr_of cell.now)) }
 {
@@ -236,30 +238,30 @@ fn set_sgr_of(
     if !sgr.is_sendable_by(has_underline_colors) {
         return Err(Refusal::Style(place));
     }
-    set_sgr(out, brush, &sgr)?;
+    set_sgr(out, pen, &sgr)?;
     Ok(())
 }
 
-// Sets the rendition of the cell in a place, if the text cursor has another.
+// Sets the rendition of the cell in a place, if the pen has another.
 #[inline(always)]
 fn take_sgr(
     out: &mut String,
-    brush: &mut TextCursor,
+    pen: &mut Pen,
     has_underline_colors: bool,
     place: Position,
     cell: &Cell,
 ) -> Result<(), Refusal>
-    requires { is_sendable_by has_underline_colors brush.old.sgr ≡ true }
-    ensures changes { OnOk result (ChangesSgr brush.old.sgr (sgr_of cell.now) (string_bytes out.old)
+    requires { is_sendable_by has_underline_colors pen.old.sgr ≡ true }
+    ensures changes { OnOk result (ChangesSgr pen.old.sgr (sgr_of cell.now) (string_bytes out.old)
         (string_bytes out.new)) }
-    ensures sgr { OnOk result (brush.new ≡ record brush.old { sgr = sgr_of cell.now }) }
+    ensures sgr { OnOk result (pen.new ≡ record pen.old { sgr = sgr_of cell.now }) }
     ensures sent { OnOk result (is_sendable_by has_underline_colors (sgr_of cell.now) ≡ true) }
     ensures refused { IfErr result (IsUnsendableSgr has_underline_colors place (sgr_of cell.now)) }
 {
-    if brush.sgr.is_of(cell) {
+    if pen.sgr.is_of(cell) {
         return Ok(());
     }
-    set_sgr_of(out, brush, has_underline_colors, place, cell)
+    set_sgr_of(out, pen, has_underline_colors, place, cell)
 }
 
 // Draws a cell in a place of a screen of so many columns, if no symbol covers it from the left; it was counted before.
@@ -267,71 +269,81 @@ fn take_sgr(
 fn draw_glyph(
     out: &mut String,
     continuations: &mut [bool],
-    width: u16,
-    has_underline_colors: bool,
+    target: Target,
     drawing: &mut DrawState,
     place: Position,
     cell: &Cell,
     glyph: Glyph,
 ) -> Result<(), Refusal>
-    requires column { place.x < width }
-    requires row { place.y * width + width ≤ length continuations.old }
-    requires uncut { slice_index_or continuations.old (place.y * width + place.x) false ≡ false }
-    requires glyph { IsGlyph (width - place.x) cell.now glyph }
-    requires sgr { is_sendable_by has_underline_colors drawing.old.brush.sgr ≡ true }
+    requires column { place.x < target.width }
+    requires row { place.y * target.width + target.width ≤ length continuations.old }
+    requires uncut { slice_index_or continuations.old
+        (place.y * target.width + place.x) false ≡ false }
+    requires glyph { IsGlyph (target.width - place.x) cell.now glyph }
+    requires sgr { is_sendable_by target.has_underline_colors drawing.old.pen.sgr ≡ true }
     ensures drawn { OnOk result ((h n : ℕ) → place.y < h
         → drawing.old.written ≡ min (n + 1) (2 ^ 64 - 1)
-        → SendsUpdates width h (string_bytes out.old) (record drawing.old { written = n })
+        → SendsUpdates target.width h (string_bytes out.old) (record drawing.old { written = n })
         continuations.old (record { x = place.x; y = place.y; cell = cell.now } ∷ [])
         (string_bytes out.new) drawing.new continuations.new) }
-    ensures sent { OnOk result (is_sendable_by has_underline_colors (sgr_of cell.now) ≡ true) }
-    ensures sgr { OnOk result (is_sendable_by has_underline_colors drawing.new.brush.sgr ≡ true) }
-    ensures refused { IfErr result (IsUnsendableSgr has_underline_colors place (sgr_of cell.now)) }
+    ensures sent { OnOk result
+        (is_sendable_by target.has_underline_colors (sgr_of cell.now) ≡ true) }
+    ensures sgr { OnOk result
+        (is_sendable_by target.has_underline_colors drawing.new.pen.sgr ≡ true) }
+    ensures refused { IfErr result
+        (IsUnsendableSgr target.has_underline_colors place (sgr_of cell.now)) }
 {
     let Position { x, y } = place;
-    let brush = &mut drawing.brush;
-    take_sgr(out, brush, has_underline_colors, place, cell)?;
-    put(out, brush, x, y, cell, glyph)?;
-    let end = cover(out, continuations, width, brush, x, y, glyph.columns())?;
+    let pen = &mut drawing.pen;
+    take_sgr(out, pen, target.has_underline_colors, place, cell)?;
+    put(out, pen, x, y, cell, glyph)?;
+    let end = cover(
+        out,
+        continuations,
+        target.width,
+        pen,
+        place,
+        glyph.columns(),
+    )?;
     drawing.cursor = Position {
-        x: end.min(width - 1),
+        x: end.min(target.width - 1),
         y,
     };
     Ok(())
 }
 
-/// Draws a cell in a column and a row of a screen of so many columns and rows, and counts it. `continuations` has a flag for each column,
-/// row by row: whether it is a continuation column. Off the screen nothing is sent, and neither is a vacant cell
-/// after the first column of a symbol, where it would tear the symbol. Refused with its place is a cell whose symbol terminals
-/// don't print as one in just the cell's columns, or not within its row; one whose rendition can't be sent; and one that would cut a
-/// symbol of which the first column stays.
+/// Draws a cell in its place, and counts it. `continuations` has a flag for each column, row by row: whether it is a continuation column.
+/// Off the screen nothing is sent, and neither is a vacant cell after the first column of a symbol, where it would tear the symbol.
+/// Refused with its place is a cell whose symbol terminals don't print as one in just the cell's columns, or not within its row; one whose
+/// rendition can't be sent; and one that would cut a symbol of which the first column stays.
 pub fn draw_cell(
     out: &mut String,
     continuations: &mut [bool],
-    width: u16,
-    height: u16,
-    has_underline_colors: bool,
+    target: Target,
     drawing: &mut DrawState,
-    x: u16,
-    y: u16,
+    place: Position,
     cell: &Cell,
 ) -> Result<(), Refusal>
-    requires flags { length continuations.old ≡ width * height }
-    requires sgr { is_sendable_by has_underline_colors drawing.old.brush.sgr ≡ true }
-    ensures drawn { OnOk result (SendsUpdates width height (string_bytes out.old)
-        drawing.old continuations.old (record { x = x; y = y; cell = cell.now } ∷ [])
+    requires flags { length continuations.old ≡ target.width * target.height }
+    requires sgr { is_sendable_by target.has_underline_colors drawing.old.pen.sgr ≡ true }
+    ensures drawn { OnOk result (SendsUpdates target.width target.height (string_bytes out.old)
+        drawing.old continuations.old (record { x = place.x; y = place.y; cell = cell.now } ∷ [])
         (string_bytes out.new) drawing.new continuations.new) }
-    ensures sent { OnOk result (is_sendable_on width height has_underline_colors
-        (record { x = x; y = y; cell = cell.now }) ≡ true) }
-    ensures sgr { OnOk result (is_sendable_by has_underline_colors drawing.new.brush.sgr ≡ true) }
-    ensures refused { IfErr result (RefusesUpdate width height has_underline_colors
-        continuations.old (record { x = x; y = y; cell = cell.now })) }
+    ensures sent { OnOk result
+        (is_sendable_on target.width target.height target.has_underline_colors
+        (record { x = place.x; y = place.y; cell = cell.now }) ≡ true) }
+    ensures sgr { OnOk result
+        (is_sendable_by target.has_underline_colors drawing.new.pen.sgr ≡ true) }
+    ensures refused { IfErr result
+        (RefusesUpdate target.width target.height target.has_underline_colors continuations.old
+        (record { x = place.x; y = place.y; cell = cell.now })) }
 {
     drawing.written = drawing.written.saturating_add(1);
+    let Target { width, height, .. } = target;
+    let Position { x, y } = place;
     if x >= width || y >= height {
         return Ok(());
     }
-    let place = Position { x, y };
     if continuations[usize::from(y) * usize::from(width) + usize::from(x)] {
         if is_vacant(cell) {
             return Ok(());
@@ -341,117 +353,81 @@ pub fn draw_cell(
     // Most symbols are printable ASCII: their path stands alone, so that it stays short.
     if let Some(c) = printable_of(cell) {
         let glyph = Glyph::Plain(c);
-        return draw_glyph(
-            out,
-            continuations,
-            width,
-            has_underline_colors,
-            drawing,
-            place,
-            cell,
-            glyph,
-        );
+        return draw_glyph(out, continuations, target, drawing, place, cell, glyph);
     }
     let Some(glyph) = glyph_in(width - x, cell) else {
         return Err(Refusal::Symbol(place));
     };
-    draw_glyph(
-        out,
-        continuations,
-        width,
-        has_underline_colors,
-        drawing,
-        place,
-        cell,
-        glyph,
-    )
+    draw_glyph(out, continuations, target, drawing, place, cell, glyph)
 }
 
 // Draws cells in order.
 fn draw_all<C: AsCell, I: Iterator<Item = (u16, u16, C)>>(
     out: &mut String,
     continuations: &mut [bool],
-    width: u16,
-    height: u16,
-    has_underline_colors: bool,
+    target: Target,
     drawing: &mut DrawState,
     content: I,
 ) -> Result<(), Refusal>
-    requires flags { length continuations.old ≡ width * height }
-    requires sgr { is_sendable_by has_underline_colors drawing.old.brush.sgr ≡ true }
+    requires flags { length continuations.old ≡ target.width * target.height }
+    requires sgr { is_sendable_by target.has_underline_colors drawing.old.pen.sgr ≡ true }
     requires can { I.can_next content }
     requires finite { IsFinite (I.remaining content) }
     ensures drawn { OnOk result ((items : List (ℕ × ℕ × C))
         × Drains I.next_gives content items
-        × SendsUpdates width height (string_bytes out.old) drawing.old continuations.old
-        (map (update_by C.cell) items) (string_bytes out.new) drawing.new continuations.new
-        × (list_all (is_sendable_on width height has_underline_colors)
+        × SendsUpdates target.width target.height (string_bytes out.old) drawing.old
+        continuations.old (map (update_by C.cell) items) (string_bytes out.new) drawing.new
+        continuations.new
+        × (list_all (is_sendable_on target.width target.height target.has_underline_colors)
         (map (update_by C.cell) items) ≡ true)) }
     ensures refused { IfErr result (StopsWithin I.next_gives content (update_by C.cell)
-        width height has_underline_colors (string_bytes out.old) drawing.old continuations.old) }
+        target.width target.height target.has_underline_colors (string_bytes out.old) drawing.old
+        continuations.old) }
 {
     for (x, y, cell) in content {
-        draw_cell(
-            out,
-            continuations,
-            width,
-            height,
-            has_underline_colors,
-            drawing,
-            x,
-            y,
-            cell.as_cell(),
-        )?;
+        let place = Position { x, y };
+        draw_cell(out, continuations, target, drawing, place, cell.as_cell())?;
     }
     Ok(())
 }
 
-/// Draws cells in order on a screen of so many columns and rows, with the cursor there and so many items drawn before; `continuations` is
-/// as in `draw_cell`. The terminal awaits text and is ready, and is so again. Answers where the cursor is then, and how many
-/// items were drawn, as far as the count goes; if ambiguous characters may be wide, each but ASCII is followed by a move; after a refusal what was appended and the flags are to be dropped.
+/// Draws cells in order, with the cursor there and so many items drawn before; `continuations` is as in `draw_cell`. The terminal awaits
+/// text and is ready, and is so again. Answers where the cursor is then, and how many items were drawn, as far as the count goes; if
+/// ambiguous characters may be wide, each but ASCII is followed by a move; after a refusal what was appended and the flags are to be dropped.
 pub fn draw_cells<C: AsCell, I: Iterator<Item = (u16, u16, C)>>(
     out: &mut String,
     continuations: &mut [bool],
-    width: u16,
-    height: u16,
-    has_underline_colors: bool,
+    target: Target,
     ambiguous_is_wide: bool,
     cursor: Position,
     written: u64,
     content: I,
 ) -> Result<(Position, u64), Refusal>
-    requires flags { length continuations.old ≡ width * height }
+    requires flags { length continuations.old ≡ target.width * target.height }
     requires can { I.can_next content }
     requires finite { IsFinite (I.remaining content) }
     ensures drawn { IfOk result (λ after. (items : List (ℕ × ℕ × C))
         × Drains I.next_gives content items
-        × SendsDraw width height (string_bytes out.old) cursor written continuations.old
-        (map (update_by C.cell) items) (string_bytes out.new) after.0 after.1 continuations.new
-        × (list_all (is_sendable_on width height has_underline_colors)
+        × SendsDraw target.width target.height (string_bytes out.old) cursor written
+        continuations.old (map (update_by C.cell) items) (string_bytes out.new) after.0 after.1
+        continuations.new
+        × (list_all (is_sendable_on target.width target.height target.has_underline_colors)
         (map (update_by C.cell) items) ≡ true)) }
     ensures refused { IfErr result (λ refusal. IsTrue (has_place refusal)
-        → StopsDraw I.next_gives content (update_by C.cell) width height has_underline_colors cursor
-        written continuations.old refusal) }
+        → StopsDraw I.next_gives content (update_by C.cell) target.width target.height
+        target.has_underline_colors cursor written continuations.old refusal) }
 {
-    let brush = TextCursor {
+    let pen = Pen {
         sgr: Sgr::DEFAULT,
         at: None,
         ambiguous_is_wide,
     };
     let mut drawing = DrawState {
-        brush,
+        pen,
         cursor,
         written,
     };
-    draw_all(
-        out,
-        continuations,
-        width,
-        height,
-        has_underline_colors,
-        &mut drawing,
-        content,
-    )?;
-    change_sgr(out, &mut drawing.brush, &Sgr::DEFAULT)?;
+    draw_all(out, continuations, target, &mut drawing, content)?;
+    change_sgr(out, &mut drawing.pen, &Sgr::DEFAULT)?;
     Ok((drawing.cursor, drawing.written))
 }

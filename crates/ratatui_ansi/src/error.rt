@@ -56,6 +56,17 @@ impl From<AllocError> for AnsiError {
     }
 }
 
+impl From<io::Error> for AnsiError {
+    ghost use Rattle.std.specs.Prelude.{◌≡◌};
+    ghost use Rattle.ratatui_ansi.specs.declared.error.AnsiError.TheVariants.{Write};
+
+    ghost from_gives = { λ given error. error ≡ Write given };
+
+    fn from(error: io::Error) -> AnsiError {
+        AnsiError::Write(error)
+    }
+}
+
 impl From<Refusal> for AnsiError {
     ghost use Rattle.std.specs.Prelude.{◌≡◌};
     ghost use Rattle.ratatui_ansi.specs.Errors.{error_of};

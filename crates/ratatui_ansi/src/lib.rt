@@ -11,9 +11,9 @@ mod draw;
 mod error;
 mod flags;
 pub mod laws;
+mod pen;
 mod sender;
 mod sent;
-mod text_cursor;
 mod tracker;
 
 pub use backend::AnsiBackend;

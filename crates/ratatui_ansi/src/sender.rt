@@ -1,17 +1,24 @@
-//! Where a backend's bytes go.
+//! Where a backend's bytes go, and the calls that failed to send them.
 
-ghost use Rattle.std.specs.Prelude.{◌≡◌, [], ◌++◌, OnOk};
+ghost use Rattle.std.specs.Prelude.{◌≡◌, ◌+◌, ◌-◌, ◌^◌, min, [], ◌++◌, true, false, IfOk, IfErr, OnOk, OnErr};
 ghost use Rattle.std.specs.Io.KnownBytes.{Appends};
+ghost use Rattle.ratatui_ansi.specs.declared.error.AnsiError.TheVariants.{Broken};
 
+use crate::error::AnsiError;
 use crate::sent::Sent;
 use std::io::{self, Write};
 
-/// A writer, what it was sent, and what of it was sent since the last flush: only clauses see these two.
+/// A writer, what it was sent, and what of it was sent since the last flush: only clauses see these two. A call counts as failed from its
+/// beginning until it has sent all.
 #[derive(Drop)]
 pub(crate) struct Sender<W: Write> {
     pub(crate) writer: W,
     pub(crate) sent: Sent,
     pub(crate) held: Sent,
+    /// How many calls failed, as far as the count goes.
+    pub(crate) failures: u64,
+    /// Whether a write failed: nothing is known of the terminal since.
+    pub(crate) is_broken: bool,
 }
 
 impl<W: Write> Sender<W> {
@@ -21,14 +28,62 @@ impl<W: Write> Sender<W> {
         ensures before { result.sent.before ≡ W.contents writer }
         ensures sent { result.sent.bytes ≡ [] }
         ensures tied { Appends result.sent.before (W.contents result.writer) result.sent.bytes }
+        ensures failures { result.failures ≡ 0 }
+        ensures works { result.is_broken ≡ false }
     {
         let sent = Sent::new(&writer);
         let held = Sent::new(&writer);
-        Sender { writer, sent, held }
+        Sender {
+            writer,
+            sent,
+            held,
+            failures: 0,
+            is_broken: false,
+        }
     }
 
-    /// Writes a text whole. After an Err it isn't known what of it was written.
-    pub(crate) fn send(&mut self, text: &str) -> io::Result<()>
+    /// Counts a call as failed until it has sent all; answers how many had failed before it.
+    pub(crate) fn count(&mut self) -> u64
+        ensures before { result ≡ self.old.failures }
+        ensures rest { self.new
+            ≡ record self.old { failures = min (self.old.failures + 1) (2 ^ 64 - 1) } }
+    {
+        let failures = self.failures;
+        self.failures = failures.saturating_add(1);
+        failures
+    }
+
+    /// Refuses a call after a failed write, and counts it then.
+    pub(crate) fn check(&mut self) -> Result<(), AnsiError>
+        ensures works { OnOk result (self.old.is_broken ≡ false) }
+        ensures stays { OnOk result (self.new ≡ self.old) }
+        ensures refused { IfErr result (λ error. error ≡ Broken) }
+        ensures broken { OnErr result (self.old.is_broken ≡ true) }
+        ensures counted { OnErr result (self.new
+            ≡ record self.old { failures = min (self.old.failures + 1) (2 ^ 64 - 1) }) }
+    {
+        if self.is_broken {
+            let _before = self.count();
+            return Err(AnsiError::Broken);
+        }
+        Ok(())
+    }
+
+    /// Begins a call that sends: counts it, and refuses it after a failed write. Answers how many had failed before it.
+    pub(crate) fn begin(&mut self) -> Result<u64, AnsiError>
+        ensures before { IfOk result (λ failures. failures ≡ self.old.failures) }
+        ensures works { OnOk result (self.old.is_broken ≡ false) }
+        ensures refused { IfErr result (λ error. error ≡ Broken) }
+        ensures broken { OnErr result (self.old.is_broken ≡ true) }
+        ensures rest { self.new
+            ≡ record self.old { failures = min (self.old.failures + 1) (2 ^ 64 - 1) } }
+    {
+        self.check()?;
+        Ok(self.count())
+    }
+
+    /// Writes a text whole; then as many calls failed as had before this one. After an Err it isn't known what of it was written.
+    pub(crate) fn send(&mut self, text: &str, failures: u64) -> io::Result<()>
         ensures sent { OnOk result (self.new.sent.bytes ≡ self.old.sent.bytes ++ text.now) }
         ensures held { OnOk result (self.new.held.bytes ≡ self.old.held.bytes ++ text.now) }
         ensures before { self.new.sent.before ≡ self.old.sent.before }
@@ -37,23 +92,43 @@ impl<W: Write> Sender<W> {
         ensures tied { OnOk result (
             Appends self.old.sent.before (W.contents self.old.writer) self.old.sent.bytes
             → Appends self.new.sent.before (W.contents self.new.writer) self.new.sent.bytes) }
+        ensures works { OnOk result (self.new.is_broken ≡ false) }
+        ensures finished { OnOk result (self.new.failures ≡ failures) }
+        ensures broken { OnErr result (self.new.is_broken ≡ true) }
+        ensures failed { OnErr result (self.new.failures ≡ self.old.failures) }
     {
+        self.is_broken = true;
         self.writer.write_all(text.as_bytes())?;
         self.sent.note(text.as_bytes());
         self.held.note(text.as_bytes());
+        self.finish(failures);
         Ok(())
     }
 
-    /// Has the writer send on what it kept back.
-    pub(crate) fn flush(&mut self) -> io::Result<()>
+    /// Has the writer send on what it kept back; then as many calls failed as had before this one.
+    pub(crate) fn flush(&mut self, failures: u64) -> io::Result<()>
         ensures sent { self.new.sent ≡ self.old.sent }
         ensures held { OnOk result (self.new.held.bytes ≡ []) }
         ensures tied { Appends self.old.sent.before (W.contents self.old.writer) self.old.sent.bytes
             → Appends self.new.sent.before (W.contents self.new.writer) self.new.sent.bytes }
+        ensures works { OnOk result (self.new.is_broken ≡ false) }
+        ensures finished { OnOk result (self.new.failures ≡ failures) }
+        ensures broken { OnErr result (self.new.is_broken ≡ true) }
+        ensures failed { OnErr result (self.new.failures ≡ self.old.failures) }
     {
+        self.is_broken = true;
         self.writer.flush()?;
         self.held = Sent::new(&self.writer);
+        self.finish(failures);
         Ok(())
+    }
+
+    // Ends a call that sent all.
+    fn finish(&mut self, failures: u64)
+        ensures { self.new ≡ record self.old { failures = failures; is_broken = false } }
+    {
+        self.failures = failures;
+        self.is_broken = false;
     }
 
     /// From now on nothing was sent to the writer.
@@ -61,8 +136,11 @@ impl<W: Write> Sender<W> {
         ensures writer { self.new.writer ≡ self.old.writer }
         ensures before { self.new.sent.before ≡ W.contents self.old.writer }
         ensures sent { self.new.sent.bytes ≡ [] }
+        ensures held { self.new.held ≡ self.old.held }
         ensures tied { Appends self.new.sent.before
             (W.contents self.new.writer) self.new.sent.bytes }
+        ensures failures { self.new.failures ≡ self.old.failures }
+        ensures works { self.new.is_broken ≡ self.old.is_broken }
     {
         self.sent = Sent::new(&self.writer);
     }

@@ -13,7 +13,7 @@ ghost use Rattle.ratatui_ansi.specs.Frame.{is_sendable_on};
 ghost use Rattle.ratatui_ansi.specs.Refusals.{has_place, StopsDraw, RefusesTracker};
 ghost use Rattle.ratatui_ansi.specs.Tracker.{IsTracker, KeepsTracked, Collects, CallDoes, IsUncollected, Erases, BeginsBlank};
 
-use crate::draw::{Refusal, draw_cells};
+use crate::draw::{Refusal, Target, draw_cells};
 use crate::error::AnsiError;
 use crate::flags::{
     clear_flags, clear_part_flags, is_continuation, lower_flags, raise_flags, symbol_end,
@@ -306,13 +306,15 @@ impl Tracker {
     {
         let draft = self.draft.as_mut_slice();
         draft.copy_from_slice(self.continuations.as_slice());
-        let Size { width, height } = self.size;
+        let target = Target {
+            width: self.size.width,
+            height: self.size.height,
+            has_underline_colors: self.has_underline_colors,
+        };
         let (cursor, written) = draw_cells(
             &mut self.out,
             draft,
-            width,
-            height,
-            self.has_underline_colors,
+            target,
             self.ambiguous_is_wide,
             self.cursor,
             self.written,

@@ -5,6 +5,8 @@
 #[cfg(test)]
 mod failing;
 #[cfg(test)]
+mod parameters;
+#[cfg(test)]
 mod plays;
 #[cfg(test)]
 mod reader;

@@ -119,7 +119,7 @@ fn sgr_is(
 }
 
 #[test]
-fn pens(rt: HostRuntime) -> Result<(), Fail> {
+fn renditions(rt: HostRuntime) -> Result<(), Fail> {
     let alloc = rt.alloc();
     let own = Color::Reset;
     assert!(rt; sgr_is(alloc, own, own, own, 0, "\u{1b}[0m")?);

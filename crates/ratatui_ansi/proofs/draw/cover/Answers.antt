@@ -10,12 +10,12 @@ returns-after-past_it-end c = record {
   set = λ k low high. rw (c.from.ensures, c.from-2.ensures) at (c.tail_end-end.ensures.continuations k low high);
   unset = λ within. rw (c.from.ensures, c.from-2.ensures) at (c.tail_end-end.ensures.ended within);
   paints = λ h row. elim c.if-past_it-end.branch [
-    | then-past_it-end+in_ok-put_blanks v ↦ rw (v.out-is, v.brush-is) (v.in_ok-put_blanks.ensures.paints c.args.width h c.tail_end-end.ensures.high row)
-    | else-past_it-end v ↦ rw (v.out-is, v.brush-is) (blanks-none c.args.width h _ _ (c.args.x + c.args.columns) c.args.y (c.tail_end-end.result - (c.args.x + c.args.columns)) (omega arith))
+    | then-past_it-end+in_ok-put_blanks v ↦ rw (v.out-is, v.pen-is) (v.in_ok-put_blanks.ensures.paints c.args.width h c.tail_end-end.ensures.high row)
+    | else-past_it-end v ↦ rw (v.out-is, v.pen-is) (blanks-none c.args.width h _ _ (c.args.place.x + c.args.columns) c.args.place.y (c.tail_end-end.result - (c.args.place.x + c.args.columns)) (omega arith))
   ];
   sgr = elim c.if-past_it-end.branch [
-    | then-past_it-end+in_ok-put_blanks v ↦ inr (rw v.brush-is v.in_ok-put_blanks.ensures.sgr)
-    | else-past_it-end v ↦ inl (rw v.brush-is refl)
+    | then-past_it-end+in_ok-put_blanks v ↦ inr (rw v.pen-is v.in_ok-put_blanks.ensures.sgr)
+    | else-past_it-end v ↦ inl (rw v.pen-is refl)
   ];
   marked = record {
     count = c.mark.auto.continuations;
@@ -29,10 +29,10 @@ returns-else-x-end c = record {
   inside = c.tail_end-end.ensures.high;
   set = λ k low high. rw (c.from.ensures, c.from-2.ensures) at (c.tail_end-end.ensures.continuations k low high);
   unset = λ within. rw (c.from.ensures, c.from-2.ensures) at (c.tail_end-end.ensures.ended within);
-  paints = λ h row. blanks-none c.args.width h _ _ (c.args.x + c.args.columns) c.args.y (c.tail_end-end.result - (c.args.x + c.args.columns)) (omega arith);
+  paints = λ h row. blanks-none c.args.width h _ _ (c.args.place.x + c.args.columns) c.args.place.y (c.tail_end-end.result - (c.args.place.x + c.args.columns)) (omega arith);
   sgr = inl refl;
   marked = record {
     count = refl;
-    each = one-marked (c.args.y * c.args.width + c.args.x) (c.args.y * c.args.width + (c.args.x + c.args.columns)) (c.args.y * c.args.width + c.tail_end-end.result) c.args.continuations.now c.requires.uncut (omega arith);
+    each = one-marked (c.args.place.y * c.args.width + c.args.place.x) (c.args.place.y * c.args.width + (c.args.place.x + c.args.columns)) (c.args.place.y * c.args.width + c.tail_end-end.result) c.args.continuations.now c.requires.uncut (omega arith);
   };
 }

@@ -19,7 +19,7 @@ loop-x-preserved g c = record {
   can_next = search rules;
   is_finite = search rules;
   sends = rw map-append (sends-push _ _ _ _ _ _ _ _ _ _ _ _ _ c.loop-x.invariant.sends (rw c.as_cell.ensures at c.in_ok-draw_cell.ensures.drawn));
-  sent = rw map-append (sendable-push c.args.width c.args.height c.args.has_underline_colors (map (update_by g.C.AsCell.cell) c.loop-x.yielded)
+  sent = rw map-append (sendable-push c.args.target.width c.args.target.height c.args.target.has_underline_colors (map (update_by g.C.AsCell.cell) c.loop-x.yielded)
       (update_by g.C.AsCell.cell (c.in-Some.x, c.in-Some.y, c.in-Some.cell)) c.loop-x.invariant.sent (rw c.as_cell.ensures at c.in_ok-draw_cell.ensures.sent));
   sgr = c.in_ok-draw_cell.ensures.sgr;
 }

@@ -2,14 +2,14 @@ use Rattle.std.proofs.Common.{◌≡◌, true, refl, subst}
 use Rattle.ratatui_ansi.specs.Drawing.ChangesSgr.{Stays}
 use Rattle.ansi_model.specs.Parameters.{is_sendable_by}
 use Rattle.ansi_model.specs.Sgr.{sgr_of}
-use Rattle.ratatui_ansi.proofs.DrawLemmas.{brush-kept}
+use Rattle.ratatui_ansi.proofs.DrawLemmas.{pen-kept}
 use Rattle.ratatui_ansi.proofs.draw.take_sgr.Goals as goal
 
 pub returns-then-is_of-clause-changes : goal.returns-then-is_of-clause-changes
 returns-then-is_of-clause-changes c = Stays (c.is_of.ensures.0 c.if-is_of.true) refl
 
 pub returns-then-is_of-clause-sgr : goal.returns-then-is_of-clause-sgr
-returns-then-is_of-clause-sgr c = brush-kept c.args.brush.now (sgr_of c.args.cell.now) (c.is_of.ensures.0 c.if-is_of.true)
+returns-then-is_of-clause-sgr c = pen-kept c.args.pen.now (sgr_of c.args.cell.now) (c.is_of.ensures.0 c.if-is_of.true)
 
 pub returns-then-is_of-clause-sent : goal.returns-then-is_of-clause-sent
 returns-then-is_of-clause-sent c = subst (λ sgr. is_sendable_by c.args.has_underline_colors sgr ≡ true) (c.is_of.ensures.0 c.if-is_of.true) c.requires

@@ -7,18 +7,18 @@ use Rattle.ratatui_ansi.proofs.backend.AnsiBackend.send.Goals as goal
 pub invariant_of-self-2 : goal.invariant_of-self-2
 invariant_of-self-2 g c =
     let b = c.self.inside in
-    let sent = c.in-Ok.ensures.sent ∙ ap (λ xs. b.sender.sent.bytes ++ xs) c.as_str.ensures.value in
-    (in-order-on b.sender.sent.bytes c.in_ok-collect.ensures.ok c.clear.ensures.bytes sent c.self.invariant.0 c.if-self.false, λ _. c.in-Ok.ensures.tied (c.self.invariant.1 c.if-self.false))
+    let sent = c.in_ok-send.ensures.sent ∙ ap (λ s. s.sent.bytes ++ c.as_str.result.now) c.begin.ensures.rest ∙ ap (λ xs. b.sender.sent.bytes ++ xs) c.as_str.ensures.value in
+    (in-order-on b.sender.sent.bytes c.in_ok-collect.ensures.ok c.clear.ensures.bytes sent c.self.invariant.0 c.in_ok-failures.ensures.works c.in_ok-send.ensures.works, λ _. c.in_ok-send.ensures.tied (rw c.begin.ensures.rest (c.self.invariant.1 c.in_ok-failures.ensures.works)))
 
 pub returns-clause-ok : goal.returns-clause-ok
 returns-clause-ok g c =
     let b = c.self.inside in
-    let sent = c.in-Ok.ensures.sent ∙ ap (λ xs. b.sender.sent.bytes ++ xs) c.as_str.ensures.value in
-    rw (← c.self.view_is) (shown-on b.sender.sent.bytes c.in_ok-collect.ensures.ok c.clear.ensures.bytes sent (c.self.invariant.0.awaiting c.if-self.false))
+    let sent = c.in_ok-send.ensures.sent ∙ ap (λ s. s.sent.bytes ++ c.as_str.result.now) c.begin.ensures.rest ∙ ap (λ xs. b.sender.sent.bytes ++ xs) c.as_str.ensures.value in
+    rw (← c.self.view_is) (shown-on b.sender.sent.bytes c.in_ok-collect.ensures.ok c.clear.ensures.bytes sent (c.self.invariant.0.awaiting c.in_ok-failures.ensures.works))
 
 pub returns-in_err-collect-clause-why : goal.returns-in_err-collect-clause-why
 returns-in_err-collect-clause-why g c =
     let b = c.self.inside in
     let kept = c.self.invariant.0 in
-    if-error _ _ _ c.from_residual.ensures (rw (← c.self.view_is)
-    (uncollected-why _ (reader b.tracker.size b.sender.sent.bytes) c.args.call b.tracker.written _ kept.tracker.columns (kept.awaiting c.if-self.false) c.in_err-collect.ensures.why))
+    if-error _ _ _ c.from_residual-in_err-collect.ensures (rw (← c.self.view_is)
+    (uncollected-why _ (reader b.tracker.size b.sender.sent.bytes) c.args.call b.tracker.written _ kept.tracker.columns (kept.awaiting c.in_ok-failures.ensures.works) c.in_err-collect.ensures.why))

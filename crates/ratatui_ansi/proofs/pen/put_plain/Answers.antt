@@ -3,20 +3,20 @@ use Rattle.std.proofs.lemmas.Bool.Decides.{nat_tests}
 use Rattle.ansi_model.specs.Sends.{Sends, typed}
 use Rattle.ansi_model.proofs.SymbolLemmas.{plain-printed, plain-single}
 use Rattle.ratatui_ansi.proofs.DrawLemmas.{known-by, put-here, put-there}
-use Rattle.ratatui_ansi.proofs.text_cursor.put_plain.Goals.{then-not-is_at+in_ok-move_to, else-not-is_at}
-use Rattle.ratatui_ansi.proofs.text_cursor.put_plain.Goals as goal
+use Rattle.ratatui_ansi.proofs.pen.put_plain.Goals.{then-not-is_at+in_ok-move_to, else-not-is_at}
+use Rattle.ratatui_ansi.proofs.pen.put_plain.Goals as goal
 
 pub returns-clause-prints : goal.returns-clause-prints
 returns-clause-prints c = λ w h column row.
     let symbol = encode_utf8 c.args.ch in
     elim c.if-not-is_at.branch [
       | then-not-is_at+in_ok-move_to v ↦
-          put-there w h c.args.x c.args.y c.args.brush.now _ symbol _ _ _ column row v.in_ok-move_to.ensures
+          put-there w h c.args.x c.args.y c.args.pen.now _ symbol _ _ _ column row v.in_ok-move_to.ensures
           (subst (λ out. Sends (string_bytes out) (string_bytes c.push_plain.new.out) (typed symbol)) v.out-is c.in_ok-push_plain.ensures)
-          (plain-printed c.args.ch c.requires.plain) refl (rw c.then_some-brush.ensures (known-by _ c.args.x c.args.y symbol (plain-single c.args.ch c.requires.plain)))
+          (plain-printed c.args.ch c.requires.plain) refl (rw c.then_some-pen.ensures (known-by _ c.args.x c.args.y symbol (plain-single c.args.ch c.requires.plain)))
       | else-not-is_at v ↦
           let here : c.is_at.result ≡ true = grind (arith, nat_tests) in
-          put-here w h c.args.x c.args.y c.args.brush.now _ c.args.ch _ _
+          put-here w h c.args.x c.args.y c.args.pen.now _ c.args.ch _ _
           (subst (λ out. Sends (string_bytes out) (string_bytes c.push_plain.new.out) (typed symbol)) v.out-is c.in_ok-push_plain.ensures)
-          c.requires.plain (sym c.is_at.ensures ∙ here) refl (rw c.then_some-brush.ensures (known-by _ c.args.x c.args.y symbol (plain-single c.args.ch c.requires.plain)))
+          c.requires.plain (sym c.is_at.ensures ∙ here) refl (rw c.then_some-pen.ensures (known-by _ c.args.x c.args.y symbol (plain-single c.args.ch c.requires.plain)))
     ]
