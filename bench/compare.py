@@ -1,12 +1,12 @@
 #!/usr/bin/env python3
 """Measures two builds of the bench beside each other, by workload: a round's instructions and user time, and the bytes that it sends.
 
-    compare.py [--size WxH] [--runs N] [--only WORKLOAD,..] NAME=PROGRAM NAME=PROGRAM ..
+    compare.py [--size WxH] [--also WxH] [--runs N] [--only WORKLOAD,..] NAME=PROGRAM NAME=PROGRAM
 
 The instructions are valgrind's (callgrind), which don't change with the machine's load; a round's are those of a run less those of one
 with fewer rounds, so that the start of the process doesn't count. So is its time: the least user time of N runs with many rounds, less
-that with a tenth of them; the programs run in turns. Without runs (`--runs 0`) no time is measured. A ratio is that of the second
-program to the first; `-` stands for a program that doesn't know the workload.
+that with a tenth of them; the programs run in turns. Without runs (`--runs 0`) no time is measured. Another size adds the instructions at
+it. A ratio is that of the second program to the first; `-` stands for a program that doesn't know the workload.
 """
 import argparse
 import re
@@ -23,7 +23,7 @@ WORKLOADS = (
     "block paragraph_wrapped list_1000 list"
 ).split()
 SECONDS = 0.25
-FEW, MANY = 4, 24
+FEW, MANY = 4, 10
 
 
 def run(program, workload, size, rounds):
@@ -84,32 +84,35 @@ def cells(names, values, decimals):
     return "".join(" - |" if value is None else f" {value:.{decimals}f} |" for value in known) + f" {ratio} |"
 
 
+def heads(names, unit):
+    """The heads of the columns of a measure."""
+    return "".join(f" {name}, {unit} |" for name in names) + " ratio |"
+
+
 def main():
     parser = argparse.ArgumentParser(description=__doc__, formatter_class=argparse.RawDescriptionHelpFormatter)
     parser.add_argument("--size", default="200x60")
+    parser.add_argument("--also", default="")
     parser.add_argument("--runs", type=int, default=10)
     parser.add_argument("--only", default=",".join(WORKLOADS))
     parser.add_argument("programs", nargs=2, metavar="NAME=PROGRAM")
     options = parser.parse_args()
-    size = tuple(map(int, options.size.split("x")))
+    sizes = [tuple(map(int, size.split("x"))) for size in (options.size, options.also) if size]
     programs = [tuple(program.split("=", 1)) for program in options.programs]
     names = [name for name, _ in programs]
-    columns = "".join(f" {name}, {{}} |" for name in names) + " ratio |"
-    units = ["thousand instr."] + ["us"] * (options.runs > 0) + ["bytes"]
-    print("| workload |" + "".join(columns.replace("{}", unit) for unit in units))
+    units = ["us"] * (options.runs > 0) + ["bytes"] + [f"kinstr. at {width}x{height}" for width, height in sizes]
+    print("| workload |" + "".join(heads(names, unit) for unit in units))
     print("|---|" + "---|" * (3 * len(units)))
     for workload in options.only.split(","):
-        able = [(name, program) for name, program in programs if knows(program, workload, size)]
-        results = {name: result(program, workload, size, 10) for name, program in able}
-        if not able:
-            raise SystemExit(f"{workload}: no program knows it")
+        able = [(name, program) for name, program in programs if knows(program, workload, sizes[0])]
+        results = {name: result(program, workload, sizes[0], 10) for name, program in able}
         if len({agreed for agreed, _ in results.values()}) != 1:
-            raise SystemExit(f"{workload}: the programs print different results: {results}")
-        row = cells(names, {name: instructions(program, workload, size) for name, program in able}, 0)
-        if options.runs > 0:
-            row += cells(names, times(able, workload, size, options.runs), 1)
+            raise SystemExit(f"{workload}: no program knows it, or they print different results: {results}")
+        row = cells(names, times(able, workload, sizes[0], options.runs), 1) if options.runs > 0 else ""
         sent = {name: count / 10 for name, (_, count) in results.items() if count}
         row += cells(names, sent, 0) if sent else " | | |"
+        for size in sizes:
+            row += cells(names, {name: instructions(program, workload, size) for name, program in able}, 0)
         print(f"| `{workload}` |{row}", flush=True)
 
 

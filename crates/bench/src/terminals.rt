@@ -5,6 +5,7 @@ use crate::texts::{LOG, sum};
 use crate::{Done, Size};
 use ratatui_ansi::AnsiBackend;
 use ratatui_core::backend::{Backend, TestBackend};
+use ratatui_core::buffer::Buffer;
 use ratatui_core::layout::{Rect, Size as ScreenSize};
 use ratatui_core::style::{Color, Style};
 use ratatui_core::terminal::{Terminal, TerminalOptions, Viewport};
@@ -46,6 +47,11 @@ impl Act {
             picture,
         }
     }
+
+    // Which picture is drawn in a round.
+    fn shown_in(self, round: u64) -> u64 {
+        if self.inserted > 0 { 0 } else { round }
+    }
 }
 
 // A terminal over a backend, with a viewport of so many rows or the whole screen.
@@ -64,17 +70,14 @@ fn terminal_of<B: Backend + Drop>(
     }
 }
 
-// Draws a picture; answers a sum over it if that is asked for.
 fn draw<B: Backend + Drop>(
     alloc: Global,
     terminal: &mut Terminal<B>,
     paint: &Paint,
     round: u64,
-    is_summed: bool,
-) -> Result<u64, AllocError> {
+) -> Result<(), AllocError> {
     match terminal.draw(|frame| paint.paint(alloc, frame.buffer_mut(), round)) {
-        Ok(frame) if is_summed => Ok(sum(frame.buffer())),
-        Ok(_) => Ok(0),
+        Ok(_) => Ok(()),
         Err(_) => Err(AllocError),
     }
 }
@@ -87,26 +90,32 @@ fn insert<B: Backend + Drop>(terminal: &mut Terminal<B>, rows: u16) -> Result<()
     }
 }
 
-// Does all rounds; answers a sum over the last picture.
+// Does all rounds.
 fn rounds<B: Backend + Drop>(
     alloc: Global,
     terminal: &mut Terminal<B>,
     act: Act,
     count: u64,
-) -> Result<u64, AllocError> {
+) -> Result<(), AllocError> {
     let paint = Paint::new(alloc, act.picture.unwrap_or(Picture::Nothing))?;
-    let mut last = 0;
     for round in 0..count {
         if act.inserted > 0 {
             insert(terminal, act.inserted)?;
         }
         if act.picture.is_some() {
-            let drawn = if act.inserted > 0 { 0 } else { round };
-            let is_last = round == count - 1;
-            last = draw(alloc, terminal, &paint, drawn, is_last)?;
+            draw(alloc, terminal, &paint, act.shown_in(round))?;
         }
     }
-    Ok(last)
+    Ok(())
+}
+
+// A sum over what the last round paints.
+fn last_sum(alloc: Global, size: Size, act: Act) -> Result<u64, AllocError> {
+    let rows = act.viewport.unwrap_or(size.height);
+    let mut last = Buffer::empty(alloc, Rect::new(0, 0, size.width, rows))?;
+    let paint = Paint::new(alloc, act.picture.unwrap_or(Picture::Nothing))?;
+    paint.paint(alloc, &mut last, act.shown_in(size.count.saturating_sub(1)))?;
+    Ok(sum(&last))
 }
 
 /// Does rounds on a screen in memory: how many cells were written to it, and a sum over it.
@@ -118,7 +127,7 @@ pub fn on_screen(alloc: Global, size: Size, act: Act) -> Done {
     Ok(Some((backend.cells_written(), sum(backend.buffer()))))
 }
 
-/// Does rounds of an application that sends bytes: how many it flushed in them, and a sum over the last frame.
+/// Does rounds of an application that sends bytes: how many it flushed in them, and a sum over the last picture.
 pub fn on_bytes(alloc: Global, size: Size, act: Act) -> Done {
     let screen = ScreenSize::new(size.width, size.height);
     let Ok(backend) = AnsiBackend::new(alloc, Memory::new(alloc), screen) else {
@@ -129,9 +138,9 @@ pub fn on_bytes(alloc: Global, size: Size, act: Act) -> Done {
         return Err(AllocError);
     }
     let before = terminal.backend().writer().flushed();
-    let last = rounds(alloc, &mut terminal, act, size.count)?;
+    rounds(alloc, &mut terminal, act, size.count)?;
     let after = terminal.backend().writer().flushed();
-    Ok(Some((after.wrapping_sub(before), last)))
+    Ok(Some((after.wrapping_sub(before), last_sum(alloc, size, act)?)))
 }
 
 fn resize_one(
