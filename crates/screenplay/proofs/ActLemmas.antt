@@ -21,7 +21,7 @@ use Rattle.screenplay.specs.declared.scene.PlayCause.{PlayCause}
 use Rattle.screenplay.specs.declared.scene.Scene.{Scene}
 use Rattle.screenplay.specs.declared.scene.Stage.{Stage}
 use Rattle.screenplay.specs.declared.scene.Step.{Step}
-use Rattle.screenplay.proofs.SceneLemmas.{IsSceneOf-in}
+use Rattle.screenplay.proofs.SceneLemmas.{IsSceneOf-in, scene_in}
 use Rattle.screenplay.proofs.RunLemmas.{HasLast, IsRun-start, IsRun-push, EndsEarly-at, get_end}
 
 pub steps_of-append : (done rest : List Act) → steps_of (done ++ rest) ≡ steps_of done ++ steps_of rest
