@@ -24,7 +24,7 @@ use Rattle.rtui_buffer.proofs.ShortLemmas.{All-fitting}
 use Rattle.rtui_changes.specs.Changes.{ChangesEach}
 use Rattle.rtui_changes.specs.Parts.{MakesParts}
 use Rattle.rtui_widgets.specs.Span.{showing, goes_to, those_at, is_behind, with_graphemes, column_with, columns_from, span_rendered}
-use Rattle.rtui_widgets.specs.Line.{Part, parts, parts_rendered, columns_before, line_rendered}
+use Rattle.rtui_widgets.specs.Line.{Part, parts, parts_then, parts_rendered, columns_before, line_rendered}
 use Rattle.rtui_widgets.specs.Rendering.{area_row, RendersRows, in_first_row, RendersSpan, RendersLine, RendersText, text_line, text_row, alignment_or}
 use Rattle.rtui_changes.specs.Plain.{IsPlain, IsPlainFrom, IsPlainOver}
 use Rattle.rtui_changes.specs.NarrowTexts.{IsNarrowGrapheme, HasNarrowGraphemes, AreNarrowSpans, IsNarrowLine, IsNarrowText}
@@ -113,7 +113,7 @@ plain-behind : (n : ℕ) (f : List Cell → List Cell) (row : List Cell) → ((c
 plain-behind n f row keeps all = All-append IsPlain (take n row) (f (drop n row)) (All-take IsPlain n row all) (keeps (drop n row) (All-drop IsPlain n row all))
 
 plain-parts : (ps : List Part) (row : List Cell) → All (λ part. HasNarrowGraphemes part.content) ps → All IsPlain row → All IsPlain (parts_rendered ps row)
-unfolding parts_rendered
+unfolding parts_then
 plain-parts [] row narrow all = all
 plain-parts (p ∷ ps) row narrow all =
     plain-behind p.indent _ row
