@@ -14,7 +14,7 @@ pub loop-title-preserved : goal.loop-title-preserved
 loop-title-preserved c =
     let lines = lines-next c.args.self.now c.args.position Center c.as_slice-title-items.result.now c.loop-title.title-index c.title-item.result c.loop-title-test.true c.title-item.is
     (sym c.is_placed.ensures ∙ c.if-not-is_placed.false) in
-    let line : c.alignment-line.result ≡ aligned (side_of c.loop-title.offset) c.title-item.result.line = c.alignment-line.ensures ∙ rw (c.in_ok-clone.ensures, c.side_of.ensures) refl in
+    let line : c.alignment-line.result ≡ aligned (side_of c.loop-title.offset) c.title-item.result.line = c.alignment-line.ensures ∙ rw (c.in_ok-clone.ensures.value, c.side_of.ensures) refl in
     record {
       within = title-within c.args.row c.loop-title.left c.saturating_sub-width.result c.args.buf.now c.loop-title.buf c.render_title.new.buf (omega (arith, c.min.ensures, c.saturating_sub-width.ensures)) c.loop-title.invariant.inside
           c.loop-title.invariant.within c.render_title.ensures.within;
