@@ -24,10 +24,11 @@ pub enum CellDiffOption {
     ForcedWidth(NonZeroU16),
 }
 
-/// One cell of a buffer: what stands in a column of a row. A text of at most 22 bytes takes no memory.
+/// One cell of a buffer: what stands in a column of a row. A text of at most 22 bytes takes no
+/// memory.
 ///
-/// Two cells are equal where their texts, colours, modifiers, options and flags are; an unset symbol equals
-/// a blank.
+/// Two cells are equal if their texts, colours, modifiers, options and flags are; an unset symbol
+/// equals a blank.
 ///
 /// ```
 /// let mut cell = Cell::new(alloc, "a")?;
@@ -38,7 +39,7 @@ pub enum CellDiffOption {
 pub struct Cell {
     /// The colour of the text.
     pub fg: Color,
-    /// The colour after the text.
+    /// The colour of the background.
     pub bg: Color,
     /// The colour of the underline.
     pub underline_color: Color,
@@ -46,7 +47,7 @@ pub struct Cell {
     pub modifier: Modifier,
     /// How a diff treats the cell.
     pub diff_option: CellDiffOption,
-    /// Whether the cell is skipped where it has no option.
+    /// Whether the cell is skipped if it has no option.
     pub skip: bool,
     symbol: Symbol,
 }
@@ -71,7 +72,11 @@ impl Cell {
         symbol: Symbol::UNSET,
     };
 
-    /// An otherwise empty cell with this text; refused if memory is.
+    /// An otherwise empty cell with this text.
+    ///
+    /// # Errors
+    ///
+    /// `AllocError` if memory is refused. A text of at most 22 bytes takes none.
     pub fn new(alloc: Global, symbol: &str) -> Result<Cell, AllocError>
         ensures value { IfOk result (λ cell. cell ≡ cell_of symbol.now) }
         ensures short { IsShort symbol.now → IsOk result }
@@ -82,7 +87,11 @@ impl Cell {
         })
     }
 
-    /// An otherwise empty cell with this character; takes no memory.
+    /// An otherwise empty cell with this character.
+    ///
+    /// # Errors
+    ///
+    /// None: it takes no memory.
     pub fn from_char(alloc: Global, ch: char) -> Result<Cell, AllocError>
         ensures value { IfOk result (λ cell. cell ≡ cell_of (encode_utf8 ch)) }
         ensures succeeds { IsOk result }
@@ -98,7 +107,12 @@ impl Cell {
         self.symbol.as_str()
     }
 
-    /// Sets the text; if memory is refused the cell is as it was.
+    /// Sets the text.
+    ///
+    /// # Errors
+    ///
+    /// `AllocError` if memory is refused; nothing has changed then. A text of at most 22 bytes
+    /// takes none.
     pub fn set_symbol(&mut self, alloc: Global, symbol: &str) -> Result<(), AllocError>
         ensures ok { OnOk result (self.new ≡ with_symbol symbol.now self.old) }
         ensures err { OnErr result (self.new ≡ self.old) }
@@ -107,8 +121,12 @@ impl Cell {
         self.symbol.set(alloc, symbol)
     }
 
-    /// Puts a text after the stored one, or in place of an unset one; if memory is refused the cell is as
-    /// it was.
+    /// Puts a text after the stored one, or in place of an unset one.
+    ///
+    /// # Errors
+    ///
+    /// `AllocError` if memory is refused; nothing has changed then. If the text that results has at
+    /// most 22 bytes, none is taken.
     pub fn append_symbol(&mut self, alloc: Global, symbol: &str) -> Result<(), AllocError>
         ensures ok { let text = appended self.old.symbol symbol.now in
             OnOk result (self.new ≡ with_symbol text self.old) }
@@ -118,8 +136,12 @@ impl Cell {
         self.symbol.append(alloc, symbol)
     }
 
-    /// Draws a text over the stored one by a strategy, or sets an unset one to it; if memory is refused the
-    /// cell is as it was.
+    /// Draws a text over the stored one by a strategy, or sets an unset one to it.
+    ///
+    /// # Errors
+    ///
+    /// `AllocError` if memory is refused; nothing has changed then. If the text that results has at
+    /// most 22 bytes, none is taken.
     pub fn merge_symbol(
         &mut self,
         alloc: Global,
@@ -134,7 +156,11 @@ impl Cell {
         self.symbol.merge(alloc, symbol, strategy)
     }
 
-    /// Sets the text to one character; takes no memory.
+    /// Sets the text to one character.
+    ///
+    /// # Errors
+    ///
+    /// None: it takes no memory.
     pub fn set_char(&mut self, alloc: Global, ch: char) -> Result<(), AllocError>
         ensures ok { OnOk result (self.new ≡ with_symbol (encode_utf8 ch) self.old) }
         ensures succeeds { IsOk result }
@@ -152,7 +178,7 @@ impl Cell {
         self
     }
 
-    /// Sets the colour after the text.
+    /// Sets the colour of the background.
     pub fn set_bg(&mut self, color: Color) -> &mut Self
         ensures same { result.ghost_name ≡ self.entry.ghost_name }
         ensures value { result.now ≡ record self.old { bg = color } }
@@ -223,8 +249,8 @@ impl Cell {
         }
     }
 
-    /// Whether the text is a single byte, as a blank if none is set, and the cell has no option. It takes one
-    /// column then.
+    /// Whether the text is a single byte, as a blank if none is set, and the cell has no option. It
+    /// takes one column then.
     #[tactic(auto, using(crate::proofs::CellLemmas::single_byte_width), unfolding(crate::specs::Cell::is_single_byte))]
     pub fn is_single_byte(&self) -> bool
         ensures value { result ≡ is_single_byte self.now }
@@ -246,7 +272,12 @@ impl Cell {
         self.skip = false;
     }
 
-    /// Makes the cell equal to another one; if memory is refused it is as it was.
+    /// Makes the cell equal to another one.
+    ///
+    /// # Errors
+    ///
+    /// `AllocError` if memory is refused; nothing has changed then. A text of at most 22 bytes
+    /// takes none.
     #[inline(always)]
     pub fn clone_from(&mut self, alloc: Global, other: &Cell) -> Result<(), AllocError>
         ensures ok { OnOk result (self.new ≡ other.now) }
@@ -263,7 +294,11 @@ impl Cell {
         Ok(())
     }
 
-    /// An equal cell; refused if memory is.
+    /// An equal cell.
+    ///
+    /// # Errors
+    ///
+    /// `AllocError` if memory is refused. A text of at most 22 bytes takes none.
     pub fn clone(&self, alloc: Global) -> Result<Cell, AllocError>
         ensures value { IfOk result (λ cell. cell ≡ self.now) }
         ensures short { IsShort (symbol_text self.now.symbol) → IsOk result }

@@ -14,8 +14,8 @@ pub trait CellWidth {
         ensures { result ≡ columns self.now };
 }
 
-/// A text of one byte takes one column; any other its Unicode width, in which each half-width sound mark
-/// takes a column of its own.
+/// A text of one byte takes one column; any other its Unicode width, in which each half-width sound
+/// mark takes a column of its own.
 impl CellWidth for &str {
     ghost columns = { λ text. text_width text.now };
 

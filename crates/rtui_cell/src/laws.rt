@@ -1,5 +1,5 @@
-//! Laws of cells that are no single call's clause, stated over the definitions of `specs/` alone. Calling one of these
-//! functions costs nothing and tells the caller's proof its law.
+//! Laws of cells that are no single call's clause, stated over the definitions of `specs/` alone.
+//! Calling one of these functions costs nothing and tells the caller's proof its law.
 
 ghost use Rattle.std.specs.Prelude.{◌≡◌, ◌≢◌, ℕ, ◌+◌, ◌++◌, ◌↔◌, List, length, min, count_by, chars, IsTrue};
 ghost use Rattle.std.specs.Hash as fed;
@@ -14,7 +14,7 @@ use rtui_style::laws::{modifiers_have_sixteen_bits, styling_twice_is_patching};
 use rtui_style::{Color, Modifier, Style};
 use std::hash::Hash;
 
-/// Two cells are equal exactly where their looks, options and flags are.
+/// Two cells are equal if their looks, options and flags are, and only then.
 pub fn equality_is_by_looks()
     ensures { (a b : Cell) → IsTrue (is_same a b) ↔ IsEqual a b }
 {}
@@ -47,8 +47,8 @@ pub fn set_style_twice_sets_patch(cell: &Cell, first: Style, second: Style)
     styling_twice_is_patching(first, second);
 }
 
-/// What a text of more than one byte takes in a cell are its columns in a line and one for each half-width sound mark, at most
-/// 65535.
+/// What a text of more than one byte takes in a cell are its columns in a line and one for each
+/// half-width sound mark, at most 65535.
 pub fn width_is_columns_and_sound_marks()
     ensures { (text : List ℕ) → length text ≢ 1 → text_width text
         ≡ min (text_columns text + count_by is_sound_mark (chars text)) 65535 }

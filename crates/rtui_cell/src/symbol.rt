@@ -26,8 +26,8 @@ enum Text {
     Long(String),
 }
 
-/// The text of a cell, or none yet. An unset symbol reads as one blank and equals one. A text of at most 22
-/// bytes takes no memory. Its `Debug` shows the text, one blank if there is none.
+/// The text of a cell, or none yet. An unset symbol reads as one blank and equals one. A text of at
+/// most 22 bytes takes no memory. Its `Debug` shows the text, one blank if there is none.
 #[derive(Drop)]
 pub struct Symbol {
     text: Text,
@@ -48,7 +48,11 @@ impl Symbol {
     /// No text yet.
     pub const UNSET: Symbol = Symbol { text: Text::Unset };
 
-    /// A symbol with this text; refused if memory is.
+    /// A symbol with this text.
+    ///
+    /// # Errors
+    ///
+    /// `AllocError` if memory is refused. A text of at most 22 bytes takes none.
     pub fn new(alloc: Global, text: &str) -> Result<Symbol, AllocError>
         ensures value { IfOk result (λ s. s ≡ Some text.now) }
         ensures short { IsShort text.now → IsOk result }
@@ -71,7 +75,12 @@ impl Symbol {
         }
     }
 
-    /// Sets the text; if memory is refused nothing changes.
+    /// Sets the text.
+    ///
+    /// # Errors
+    ///
+    /// `AllocError` if memory is refused; nothing has changed then. A text of at most 22 bytes
+    /// takes none.
     pub fn set(&mut self, alloc: Global, text: &str) -> Result<(), AllocError>
         ensures ok { OnOk result (self.new ≡ Some text.now) }
         ensures err { OnErr result (self.new ≡ self.old) }
@@ -114,8 +123,12 @@ impl Symbol {
         }
     }
 
-    /// Puts a text after the stored one, or in place of an unset symbol; if memory is refused nothing
-    /// changes.
+    /// Puts a text after the stored one, or in place of an unset symbol.
+    ///
+    /// # Errors
+    ///
+    /// `AllocError` if memory is refused; nothing has changed then. If the text that results has at
+    /// most 22 bytes, none is taken.
     pub fn append(&mut self, alloc: Global, text: &str) -> Result<(), AllocError>
         ensures ok { OnOk result (self.new ≡ Some (appended self.old text.now)) }
         ensures err { OnErr result (self.new ≡ self.old) }
@@ -133,8 +146,12 @@ impl Symbol {
         Ok(())
     }
 
-    /// Draws a text over the stored one by a strategy, or takes the place of an unset symbol; if memory is
-    /// refused nothing changes.
+    /// Draws a text over the stored one by a strategy, or takes the place of an unset symbol.
+    ///
+    /// # Errors
+    ///
+    /// `AllocError` if memory is refused; nothing has changed then. If the text that results has at
+    /// most 22 bytes, none is taken.
     pub fn merge(
         &mut self,
         alloc: Global,
@@ -165,7 +182,12 @@ impl Symbol {
         }
     }
 
-    /// Makes the symbol equal to another one; if memory is refused it is as it was.
+    /// Makes the symbol equal to another one.
+    ///
+    /// # Errors
+    ///
+    /// `AllocError` if memory is refused; nothing has changed then. A text of at most 22 bytes
+    /// takes none.
     #[inline(always)]
     pub fn clone_from(&mut self, alloc: Global, other: &Symbol) -> Result<(), AllocError>
         ensures ok { OnOk result (self.new ≡ other.now) }
@@ -184,7 +206,11 @@ impl Symbol {
         Ok(())
     }
 
-    /// An equal symbol; refused if memory is.
+    /// An equal symbol.
+    ///
+    /// # Errors
+    ///
+    /// `AllocError` if memory is refused. A text of at most 22 bytes takes none.
     pub fn clone(&self, alloc: Global) -> Result<Symbol, AllocError>
         ensures value { IfOk result (λ s. s ≡ self.now) }
         ensures short { IsShort (symbol_text self.now) → IsOk result }

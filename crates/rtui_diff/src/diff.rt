@@ -9,8 +9,8 @@ use crate::step::{is_given, is_given_when_visited, is_single_byte_given, step_af
 use rtui_cell::{Cell, CellWidth};
 use std::marker::Model;
 
-/// The updates from one frame to the next that are left, over their common rows: a column, a row and the cell to be
-/// put there, row by row.
+/// The updates from one frame to the next that are left, over their common rows: a column, a row
+/// and the cell to be put there, row by row.
 #[derive(Debug, Drop)]
 pub struct BufferDiff<'prev, 'next> {
     walk: DiffWalk<'prev, 'next>,
@@ -28,8 +28,13 @@ impl<'prev, 'next> Model for BufferDiff<'prev, 'next> {
 }
 
 impl<'prev, 'next> BufferDiff<'prev, 'next> {
-    /// The updates over the area at (x, y) of this width and height, in columns and rows. Both lists have its
-    /// cells, row by row, and may go on after it.
+    /// The updates over the area at (x, y) of this width and height, in columns and rows. Both
+    /// lists have its cells, row by row, and may go on after it.
+    ///
+    /// # Conditions
+    ///
+    /// Both lists have at least `width * height` cells, and neither edge of the area, `x + width`
+    /// and `y + height`, lies past 65535.
     pub fn new(
         prev: &'prev [Cell],
         next: &'next [Cell],

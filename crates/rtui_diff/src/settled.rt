@@ -35,8 +35,13 @@ fn is_settled_at(cells: &[Cell], columns: usize, at: usize) -> bool
     true
 }
 
-/// Whether each skipped cell takes at most one column, each other cell ends within its row, and
-/// after an unskipped wide cell stand only empty or skipped ones.
+/// Whether a frame of this width and height, in columns and rows, is settled: each skipped cell
+/// takes at most one column, each other cell ends within its row, and after an unskipped wide cell
+/// stand only empty or skipped ones.
+///
+/// # Conditions
+///
+/// The list has at least `width * height` cells.
 pub fn is_settled(cells: &[Cell], width: u16, height: u16) -> bool
     requires covers { width * height ≤ length cells.now }
     ensures settled { IsTrue result ↔ IsSettled width height cells.now }

@@ -85,7 +85,7 @@ impl Rect {
         }
     }
 
-    /// How many cells a rectangle of this size has.
+    /// How many cells the rectangle has.
     pub fn area(self) -> u32
         ensures { result ≡ self.width * self.height }
     {
@@ -240,6 +240,11 @@ impl Rect {
     }
 
     /// The rectangle cut to the size of another, and moved as little as it takes to lie in it.
+    ///
+    /// # Conditions
+    ///
+    /// The edges of `other` lie on the grid: `x + width` and `y + height` are at most 65535. If
+    /// they don't, the Rust crate may panic.
     pub fn clamp(self, other: Self) -> Self
         requires { EdgesFit other }
         ensures width { result.width ≡ min self.width other.width }

@@ -13,6 +13,10 @@ pub trait Blank: Drop {
 }
 
 /// Makes the elements from one place up to another blank.
+///
+/// # Conditions
+///
+/// `from` is at most `to`, and `to` is at most the length of the list.
 pub fn fill<T: Blank>(items: &mut [T], from: usize, to: usize)
     requires order { from ≤ to }
     requires end { to ≤ length items.old }

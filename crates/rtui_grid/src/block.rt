@@ -20,8 +20,14 @@ pub struct Block {
     pub rows: u16,
 }
 
-/// Gives a block in rows of `width` elements those at the start of the rows of another list, whose rows have `stride`
-/// elements. The other list gets what was there.
+/// Gives a block in rows of `width` elements those at the start of the rows of another list, whose
+/// rows have `stride` elements. The other list gets what was there.
+///
+/// # Conditions
+///
+/// The block lies in the rows of the list: `left + columns` is at most `width`, and the list has
+/// `top + rows` rows of `width` elements. The other list has as many rows as the block, of `stride`
+/// elements each, and `stride` is at least the columns of the block.
 pub fn move_block<T: Blank>(
     items: &mut [T],
     width: u16,

@@ -5,8 +5,12 @@ ghost use Rattle.rtui_grid.specs.Items.{item};
 
 use crate::blank::{Blank, fill};
 
-/// Moves the elements from one place up to another up by so many places: those that leave are lost, and blank ones come
-/// in at the end.
+/// Moves the elements from one place up to another up by so many places: those that leave are lost,
+/// and blank ones come in at the end.
+///
+/// # Conditions
+///
+/// `from` is at most `to`, and `to` is at most the length of the list.
 pub fn shift_up<T: Blank>(items: &mut [T], from: usize, to: usize, by: usize)
     requires order { from ≤ to }
     requires end { to ≤ length items.old }
@@ -17,8 +21,12 @@ pub fn shift_up<T: Blank>(items: &mut [T], from: usize, to: usize, by: usize)
     raise(&mut items[from..to], by);
 }
 
-/// Moves the elements from one place up to another down by so many places: those that leave are lost, and blank ones
-/// come in at the start.
+/// Moves the elements from one place up to another down by so many places: those that leave are
+/// lost, and blank ones come in at the start.
+///
+/// # Conditions
+///
+/// `from` is at most `to`, and `to` is at most the length of the list.
 pub fn shift_down<T: Blank>(items: &mut [T], from: usize, to: usize, by: usize)
     requires order { from ≤ to }
     requires end { to ≤ length items.old }

@@ -70,7 +70,11 @@ impl Constraint {
         matches!(self, Constraint::Fill(..))
     }
 
-    /// A `Length` of each number, in the order of the slice. Fails if memory runs out.
+    /// A `Length` of each number, in the order of the slice.
+    ///
+    /// # Errors
+    ///
+    /// `AllocError` if memory is refused.
     pub fn from_lengths(alloc: Global, lengths: &[u16]) -> Result<Vec<Self>, AllocError>
         ensures { IfOk result (λ v. v.items ≡ map Constraint.Length lengths.now) }
     {
@@ -80,7 +84,11 @@ impl Constraint {
             .collect(alloc)
     }
 
-    /// A `Ratio` of each pair, in the order of the slice. Fails if memory runs out.
+    /// A `Ratio` of each pair, in the order of the slice.
+    ///
+    /// # Errors
+    ///
+    /// `AllocError` if memory is refused.
     pub fn from_ratios(alloc: Global, ratios: &[(u32, u32)]) -> Result<Vec<Self>, AllocError>
         ensures { IfOk result (λ v.
             v.items ≡ map (λ pair. Constraint.Ratio pair.0 pair.1) ratios.now) }
@@ -91,7 +99,11 @@ impl Constraint {
             .collect(alloc)
     }
 
-    /// A `Percentage` of each number, in the order of the slice. Fails if memory runs out.
+    /// A `Percentage` of each number, in the order of the slice.
+    ///
+    /// # Errors
+    ///
+    /// `AllocError` if memory is refused.
     pub fn from_percentages(alloc: Global, percentages: &[u16]) -> Result<Vec<Self>, AllocError>
         ensures { IfOk result (λ v. v.items ≡ map Constraint.Percentage percentages.now) }
     {
@@ -101,21 +113,33 @@ impl Constraint {
             .collect(alloc)
     }
 
-    /// A `Max` of each number, in the order of the slice. Fails if memory runs out.
+    /// A `Max` of each number, in the order of the slice.
+    ///
+    /// # Errors
+    ///
+    /// `AllocError` if memory is refused.
     pub fn from_maxes(alloc: Global, maxes: &[u16]) -> Result<Vec<Self>, AllocError>
         ensures { IfOk result (λ v. v.items ≡ map Constraint.Max maxes.now) }
     {
         maxes.iter().map(|n| Constraint::Max(*n)).collect(alloc)
     }
 
-    /// A `Min` of each number, in the order of the slice. Fails if memory runs out.
+    /// A `Min` of each number, in the order of the slice.
+    ///
+    /// # Errors
+    ///
+    /// `AllocError` if memory is refused.
     pub fn from_mins(alloc: Global, mins: &[u16]) -> Result<Vec<Self>, AllocError>
         ensures { IfOk result (λ v. v.items ≡ map Constraint.Min mins.now) }
     {
         mins.iter().map(|n| Constraint::Min(*n)).collect(alloc)
     }
 
-    /// A `Fill` of each number, in the order of the slice. Fails if memory runs out.
+    /// A `Fill` of each number, in the order of the slice.
+    ///
+    /// # Errors
+    ///
+    /// `AllocError` if memory is refused.
     pub fn from_fills(alloc: Global, fills: &[u16]) -> Result<Vec<Self>, AllocError>
         ensures { IfOk result (λ v. v.items ≡ map Constraint.Fill fills.now) }
     {

@@ -21,7 +21,8 @@ pub enum Flex {
     SpaceBetween,
     /// What is left goes before, between and after the parts, in equal amounts.
     SpaceEvenly,
-    /// What is left goes round the parts, so that between two of them there is twice as much as at either end.
+    /// What is left goes round the parts, so that between two of them there is twice as much as at
+    /// either end.
     SpaceAround,
 }
 

@@ -100,8 +100,8 @@ impl Model for Layout {
 }
 
 impl Layout {
-    /// The layout that is vertical, has no constraints and no margin, starts at the start and leaves
-    /// no space between its parts.
+    /// The layout that is vertical, has no constraints and no margin, begins at the start and
+    /// leaves no space between its parts.
     pub fn default_in(alloc: Global) -> Self
         ensures { result ≡ default_layout }
     {
@@ -114,7 +114,11 @@ impl Layout {
         }
     }
 
-    /// The default layout with a direction and constraints. Fails if memory runs out.
+    /// The default layout with a direction and constraints.
+    ///
+    /// # Errors
+    ///
+    /// `AllocError` if memory is refused.
     pub fn new(
         alloc: Global,
         direction: Direction,
@@ -128,7 +132,11 @@ impl Layout {
             .constraints(constraints)
     }
 
-    /// The layout from top to bottom with these constraints. Fails if memory runs out.
+    /// The layout from top to bottom with these constraints.
+    ///
+    /// # Errors
+    ///
+    /// `AllocError` if memory is refused.
     pub fn vertical(alloc: Global, constraints: &[Constraint]) -> Result<Self, AllocError>
         ensures { IfOk result (λ l.
             l ≡ record default_layout
@@ -137,7 +145,11 @@ impl Layout {
         Layout::new(alloc, Direction::Vertical, constraints)
     }
 
-    /// The layout from left to right with these constraints. Fails if memory runs out.
+    /// The layout from left to right with these constraints.
+    ///
+    /// # Errors
+    ///
+    /// `AllocError` if memory is refused.
     pub fn horizontal(alloc: Global, constraints: &[Constraint]) -> Result<Self, AllocError>
         ensures { IfOk result (λ l.
             l ≡ record default_layout
@@ -154,7 +166,11 @@ impl Layout {
         self
     }
 
-    /// The layout with other constraints. Fails if memory runs out, and the layout is then gone.
+    /// The layout with other constraints.
+    ///
+    /// # Errors
+    ///
+    /// `AllocError` if memory is refused; the layout is gone then.
     pub fn constraints(mut self, constraints: &[Constraint]) -> Result<Self, AllocError>
         ensures { IfOk result (λ l. l ≡ record self { constraints = constraints.now }) }
     {
@@ -162,7 +178,7 @@ impl Layout {
         Ok(self)
     }
 
-    /// The layout with the same margin on all sides.
+    /// The layout with the same margin on all sides, in columns and rows.
     pub fn margin(mut self, margin: u16) -> Self
         ensures { result
             ≡ record self { margin = record { horizontal = margin; vertical = margin } } }
@@ -171,7 +187,7 @@ impl Layout {
         self
     }
 
-    /// The layout with another margin to the left and to the right.
+    /// The layout with another margin to the left and to the right, in columns.
     pub fn horizontal_margin(mut self, horizontal: u16) -> Self
         ensures { result ≡ record self { margin = record self.margin { horizontal = horizontal } } }
     {
@@ -179,7 +195,7 @@ impl Layout {
         self
     }
 
-    /// The layout with another margin at the top and at the bottom.
+    /// The layout with another margin at the top and at the bottom, in rows.
     pub fn vertical_margin(mut self, vertical: u16) -> Self
         ensures { result ≡ record self { margin = record self.margin { vertical = vertical } } }
     {
@@ -224,7 +240,7 @@ impl Layout {
         self.margin
     }
 
-    /// Where the space goes that is left.
+    /// Where the space that is left goes.
     pub fn flex_of(&self) -> Flex
         ensures { result ≡ self.now.flex }
     {
@@ -238,7 +254,11 @@ impl Layout {
         &self.spacing
     }
 
-    /// An equal layout. Fails if memory runs out.
+    /// An equal layout.
+    ///
+    /// # Errors
+    ///
+    /// `AllocError` if memory is refused.
     pub fn clone(&self, alloc: Global) -> Result<Self, AllocError>
         ensures { IfOk result (λ l. l ≡ self.now) }
     {

@@ -1,8 +1,8 @@
 //! Layouts as data: directions, alignments, flex, constraints, spacing, and the layout that holds
 //! them. Nothing here cuts an area into parts.
 //!
-//! It stands on `rtui_geometry`, for the margin. Only lists of constraints take memory, and a call is
-//! refused only if that runs out.
+//! It stands on `rtui_geometry`, for the margin. Only lists of constraints take memory, and a call
+//! fails only if memory is refused.
 //!
 //! For the layers above, a layout is a record of its five parts (`LayoutData`), and each builder
 //! changes its own part alone. Enums print the name of their variant, and exactly that name is read

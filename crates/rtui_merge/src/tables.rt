@@ -29,7 +29,8 @@ macro_rules! crossings {
     ($([$([$([$($symbol:tt)*])*])*])*) => { [$([$([$(symbols!($($symbol)*)),*]),*]),*] };
 }
 
-/// The arms right, up, left and down of the characters from U+2500 on. Three of them are no border symbols.
+/// The arms right, up, left and down of the characters from U+2500 on. Three of them are no border
+/// symbols.
 static ARMS: [Option<BorderSymbol>; 128] = arms![
     [Plain Nothing Plain Nothing], // ─
     [Thick Nothing Thick Nothing], // ━
@@ -161,7 +162,8 @@ static ARMS: [Option<BorderSymbol>; 128] = arms![
     [Nothing Thick Nothing Plain], // ╿
 ];
 
-/// The symbols of none, plain, double and thick arms: by the arm to the right, then up, then to the left, then down.
+/// The symbols of none, plain, double and thick arms: by the arm to the right, then up, then to the
+/// left, then down.
 static CROSSINGS: [[[[Option<&str>; 4]; 4]; 4]; 4] = crossings![
     [
         [[- "╷" - "╻"] ["╴" "┐" "╖" "┒"] [- "╕" "╗" -] ["╸" "┑" - "┓"]]

@@ -10,7 +10,7 @@ use std::error::Error;
 use std::fmt;
 use std::str::FromStr;
 
-/// A colour of a text, of what is after it, or of the line under it.
+/// A colour of a text, of its background, or of the line under it.
 #[derive(Debug, Default, Clone, Copy, PartialEq, Eq, Hash)]
 pub enum Color {
     /// The terminal's own colour.
@@ -105,7 +105,8 @@ impl fmt::Display for ParseColorError {
 
 impl Error for ParseColorError {}
 
-/// The character as it counts in a colour's name: ASCII letters in lower case, and the Kelvin sign as a k.
+/// The character as it counts in a colour's name: ASCII letters in lower case, and the Kelvin sign
+/// as a k.
 fn lowered(c: char) -> char
     ensures { result ≡ lowered c }
 {

@@ -1,5 +1,6 @@
-//! Laws of styles and colours that are no single call's clause, stated over the definitions of `specs/` alone. Calling one of
-//! these functions costs nothing and tells the caller's proof its law.
+//! Laws of styles and colours that are no single call's clause, stated over the definitions of
+//! `specs/` alone. Calling one of these functions costs nothing and tells the caller's proof its
+//! law.
 
 ghost use Rattle.std.specs.Prelude.{◌≡◌, ◌<◌, ◌^◌, Option, Some};
 ghost use Rattle.bitflags.specs.Sets.{known_bits};
@@ -32,7 +33,8 @@ pub fn new_style_is_identity(style: Style)
     modifiers_have_sixteen_bits(style);
 }
 
-/// What one style and then another make of a colour and of modifiers, the second laid over the first makes of them.
+/// What one style and then another make of a colour and of modifiers, the second laid over the
+/// first makes of them.
 pub fn styling_twice_is_patching(first: Style, second: Style)
     ensures colors { (a b : Option Color) (c : Color)
         → color_after b (color_after a c) ≡ color_after (color_or b a) c }
@@ -67,8 +69,8 @@ pub fn all_has_every_modifier()
     ensures { bits_of Modifier.ALL ≡ known_bits modifier_table }
 {}
 
-/// The default colour is the terminal's own, the default set of modifiers has none, and the default style changes
-/// nothing.
+/// The default colour is the terminal's own, the default set of modifiers has none, and the default
+/// style changes nothing.
 pub fn defaults_change_nothing()
     ensures color { (c : Color) → ⟦<Color as Default>⟧.is_default c → c ≡ Color.Reset }
     ensures modifier { (m : Modifier) → ⟦<Modifier as Default>⟧.is_default m → m ≡ no_modifier }

@@ -1,11 +1,13 @@
 //! Colours, modifiers and styles.
 //!
-//! A [`Style`] says what to change of how a column is painted: up to three colours, a set of modifiers to add and one to take
-//! away. Contracts see it as data; `color_after` and `modifier_after` (in `specs/Style`) are what it makes of colours and
-//! modifiers, and the laws of [`laws`] say that laying one style over another by [`Style::patch`] is doing one after the
+//! A [`Style`] says what to change of how a column is painted: up to three colours, a set of
+//! modifiers to add and one to take away. Contracts see it as data; `color_after` and
+//! `modifier_after` (in `specs/Style`) are what it makes of colours and modifiers, and the laws of
+//! [`laws`] say that laying one style over another by [`Style::patch`] is doing one after the
 //! other. A [`Color`] is printed and read as text.
 //!
-//! It stands on `bitflags` alone. The layer above uses the fields of a style, `patch`, and the texts of a colour.
+//! It stands on `bitflags` alone. The layer above uses the fields of a style, `patch`, and the
+//! texts of a colour.
 #![tactic(auto)]
 
 ghost use Rattle.std.specs.Prelude.{⊤, ◌≡◌};
@@ -19,7 +21,8 @@ mod shorthands;
 use bitflags::{Flag, Flags, bitflag_items};
 pub use color::{Color, ParseColorError};
 
-/// A set of modifiers of a text. `union`, `contains` and the other calls on sets are those of `Flags`.
+/// A set of modifiers of a text. `union`, `contains` and the other calls on sets are those of
+/// `Flags`.
 #[derive(Debug, Default, Clone, Copy, PartialEq, Eq, Hash)]
 pub struct Modifier(u16);
 
@@ -77,7 +80,7 @@ impl Flags for Modifier {
 pub struct Style {
     /// The colour of the text.
     pub fg: Option<Color>,
-    /// The colour after the text.
+    /// The colour of the background.
     pub bg: Option<Color>,
     /// The colour of a line under the text.
     pub underline_color: Option<Color>,
@@ -163,7 +166,7 @@ impl Style {
         self.add_modifier.contains(modifier) && !self.sub_modifier.contains(modifier)
     }
 
-    /// This style with `other` laid over it: where both say something, `other` counts.
+    /// This style with `other` laid over it: if both say something, `other` counts.
     pub fn patch(mut self, other: Style) -> Self
         ensures { result ≡ patch self other }
     {

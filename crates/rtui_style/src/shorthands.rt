@@ -1,4 +1,5 @@
-//! Shorthands of a style: each colour as a foreground and as a background, each modifier added and taken away.
+//! Shorthands of a style: each colour as a foreground and as a background, each modifier added and
+//! taken away.
 
 ghost use Rattle.std.specs.Prelude.{◌≡◌};
 ghost use Rattle.rtui_style.specs.Style.{with_fg, with_bg, with_modifier, without_modifier};

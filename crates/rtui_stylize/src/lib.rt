@@ -1,7 +1,8 @@
 //! Whatever has a style, styled by name: `text.red().on_white().bold()`.
 //!
-//! It stands on `rtui_style` and `rtui_text`. A type says by [`Styled`] what its style is and what it becomes with another
-//! one; an empty `impl Stylize` then gives it every call, each proved once for all types.
+//! It stands on `rtui_style` and `rtui_text`. A type says by [`Styled`] what its style is and what
+//! it becomes with another one; an empty `impl Stylize` then gives it every call, each proved once
+//! for all types.
 #![tactic(auto)]
 
 ghost use Rattle.std.specs.Prelude.{◌≡◌};

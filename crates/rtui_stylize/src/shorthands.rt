@@ -29,7 +29,8 @@ pub trait Stylize: Styled + Sized {
         self.set_style(style)
     }
 
-    /// With the style that sets every colour to the terminal's own and takes every modifier away, in place of its own.
+    /// With the style that sets every colour to the terminal's own and takes every modifier away,
+    /// in place of its own.
     final fn reset(self) -> Self::Item
         ensures { result ≡ Self.with_style self reset_style }
     {

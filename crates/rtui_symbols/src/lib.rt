@@ -1,7 +1,8 @@
-//! Symbols: lines, borders, bars, blocks, patterns of pixels, scroll bars and markers. Each table is constants.
+//! Symbols: lines, borders, bars, blocks, patterns of pixels, scroll bars and markers. Each table
+//! is constants.
 //!
-//! It stands on `rtui_layout`, for the error of a name that no marker has. The layer above uses the constants; [`laws`] says by
-//! which rule a table is made, if there is one.
+//! It stands on `rtui_layout`, for the error of a name that no marker has. The layer above uses the
+//! constants; [`laws`] says by which rule a table is made, if there is one.
 #![tactic(auto)]
 
 pub mod bar;

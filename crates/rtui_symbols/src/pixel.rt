@@ -1,4 +1,5 @@
-//! Symbols that divide a column into pixels. Each table goes by sets of pixels: the pixels are bits, row by row from the top, the left one first.
+//! Symbols that divide a column into pixels. Each table goes by sets of pixels: the pixels are
+//! bits, row by row from the top, the left one first.
 
 /// Two by two pixels.
 pub const QUADRANTS: [char; 16] = [

@@ -31,7 +31,8 @@ impl<'a> StyledGrapheme<'a> {
         StyledGrapheme { symbol, style }
     }
 
-    /// Whether it is white space: the zero-width space, or nothing but white space and not the no-break space.
+    /// Whether it is white space: the zero-width space, or nothing but white space and not the
+    /// no-break space.
     pub fn is_whitespace(&self) -> bool
         ensures { result ≡ is_whitespace_symbol self.now.symbol.now }
     {

@@ -1,8 +1,10 @@
-//! Styled texts as data: a span is a text in a style, a line is spans in a row, and a text is lines one below the other.
+//! Styled texts as data: a span is a text in a style, a line is spans in a row, and a text is lines
+//! one below the other.
 //!
-//! It stands on `rtui_style`, on `rtui_layout` for alignments, and on `rtui_cell` for the columns of a text. For the layers
-//! above, each is seen as its parts (`specs/Text`); `specs/Widths` says how many columns they take, `specs/Graphemes` which
-//! graphemes they have, and `specs/Display` what they print. Content is borrowed or owned, which makes no difference to a value.
+//! It stands on `rtui_style`, on `rtui_layout` for alignments, and on `rtui_cell` for the columns
+//! of a text. For the layers above, each is seen as its parts (`specs/Text`); `specs/Widths` says
+//! how many columns they take, `specs/Graphemes` which graphemes they have, and `specs/Display`
+//! what they print. Content is borrowed or owned, which makes no difference to a value.
 #![tactic(auto)]
 
 mod columns;

@@ -68,7 +68,11 @@ impl<'a> Line<'a> {
         Line::from(Spans::new(alloc))
     }
 
-    /// A plain span for each line of a text, none for the empty text; refused if memory is.
+    /// A plain span for each line of a text, none for the empty text.
+    ///
+    /// # Errors
+    ///
+    /// `AllocError` if memory is refused.
     pub fn raw(alloc: Global, content: &'a str) -> Result<Line<'a>, AllocError>
         ensures { IfOk result (λ l. l ≡ raw_line content.now) }
     {
@@ -89,7 +93,11 @@ impl<'a> Line<'a> {
         Line::from_span(alloc, Span::raw(content))
     }
 
-    /// The line that `raw` makes of a text, with a style of the whole; refused if memory is.
+    /// The line that `raw` makes of a text, with a style of the whole.
+    ///
+    /// # Errors
+    ///
+    /// `AllocError` if memory is refused.
     pub fn styled(alloc: Global, content: &'a str, style: Style) -> Result<Line<'a>, AllocError>
         ensures { IfOk result (λ l. l ≡ record (raw_line content.now) { style = style }) }
     {
@@ -98,7 +106,11 @@ impl<'a> Line<'a> {
         Ok(line)
     }
 
-    /// The same line as `raw` makes of the text, with copies of its lines; refused if memory is.
+    /// The same line as `raw` makes of the text, with copies of its lines.
+    ///
+    /// # Errors
+    ///
+    /// `AllocError` if memory is refused.
     pub fn raw_string(alloc: Global, content: String) -> Result<Line<'a>, AllocError>
         ensures { IfOk result (λ l. l ≡ raw_line (string_bytes content)) }
     {
@@ -116,7 +128,11 @@ impl<'a> Line<'a> {
         Ok(Line::from(spans))
     }
 
-    /// A line of one span; refused if memory is.
+    /// A line of one span.
+    ///
+    /// # Errors
+    ///
+    /// `AllocError` if memory is refused.
     pub fn from_span(alloc: Global, span: Span<'a>) -> Result<Line<'a>, AllocError>
         ensures { IfOk result (λ l. l ≡ line_of (span.entry ∷ [])) }
     {
@@ -125,7 +141,11 @@ impl<'a> Line<'a> {
         Ok(Line::from(spans))
     }
 
-    /// A line of spans equal to these; refused if memory is. No spans take none.
+    /// A line of spans equal to these.
+    ///
+    /// # Errors
+    ///
+    /// `AllocError` if memory is refused. An empty list takes none.
     pub fn from_slice(alloc: Global, spans: &[Span<'a>]) -> Result<Line<'a>, AllocError>
         ensures value { IfOk result (λ l. l ≡ line_of spans.now) }
         ensures succeeds { spans.now ≡ [] → IsOk result }
@@ -133,7 +153,11 @@ impl<'a> Line<'a> {
         Ok(Line::from(Spans::from_slice(alloc, spans)?))
     }
 
-    /// The line with spans equal to these in place of its own; refused if memory is. No spans take none.
+    /// The line with spans equal to these in place of its own.
+    ///
+    /// # Errors
+    ///
+    /// `AllocError` if memory is refused; the line is gone then. An empty list takes none.
     pub fn spans(self, spans: &[Span<'a>]) -> Result<Line<'a>, AllocError>
         ensures value { IfOk result (λ l. l ≡ record self.entry { spans = spans.now }) }
         ensures succeeds { spans.now ≡ [] → IsOk result }
@@ -158,14 +182,15 @@ impl<'a> Line<'a> {
         self
     }
 
-    /// The line with the style laid over its own that sets all colours to the terminal's and takes every modifier away.
+    /// The line with a style laid over its own that sets all colours to the terminal's and takes
+    /// every modifier away.
     pub fn reset_style(self) -> Line<'a>
         ensures { result ≡ record self.entry { style = patch self.entry.style reset_style } }
     {
         self.patch_style(Style::reset())
     }
 
-    /// The line, aligned so.
+    /// The line with this alignment.
     pub fn alignment(mut self, alignment: HorizontalAlignment) -> Line<'a>
         ensures { result ≡ record self.entry { alignment = Some alignment } }
     {
@@ -194,7 +219,8 @@ impl<'a> Line<'a> {
         self.alignment(HorizontalAlignment::Right)
     }
 
-    /// The graphemes without a control character, each in its span's style over the line's over a base style.
+    /// The graphemes without a control character, each in its span's style over the line's over a
+    /// base style.
     pub fn styled_graphemes<'l>(&'l self, base_style: Style) -> LineGraphemes<'l, 'a>
         ensures { line_graphemes_left result
             ≡ line_graphemes (patch base_style self.now.style) self.now.spans }
@@ -216,7 +242,15 @@ impl<'a> Line<'a> {
         self.spans.iter_mut()
     }
 
-    /// A line of the spans that an iterator gives; refused if memory is.
+    /// A line of the spans that an iterator gives.
+    ///
+    /// # Conditions
+    ///
+    /// The iterator comes to an end, and `next` may be called on it until then.
+    ///
+    /// # Errors
+    ///
+    /// `AllocError` if memory is refused.
     pub fn try_from_iter<I>(alloc: Global, spans: I) -> Result<Line<'a>, AllocError>
     where
         I: IntoIterator<Item = Span<'a>>,
@@ -229,7 +263,15 @@ impl<'a> Line<'a> {
         Ok(Line::from(Vec::from_iter(alloc, spans)?))
     }
 
-    /// Puts the spans that an iterator gives after the others; if memory is refused those stay that came before.
+    /// Puts the spans that an iterator gives after the others.
+    ///
+    /// # Conditions
+    ///
+    /// The iterator comes to an end, and `next` may be called on it until then.
+    ///
+    /// # Errors
+    ///
+    /// `AllocError` if memory is refused; the spans that were put until then stay.
     pub fn try_extend<I>(&mut self, spans: I) -> Result<(), AllocError>
     where
         I: IntoIterator<Item = Span<'a>>,
@@ -242,7 +284,11 @@ impl<'a> Line<'a> {
         self.spans.extend(spans)
     }
 
-    /// Puts a span after the others; if memory is refused nothing changes.
+    /// Puts a span after the others.
+    ///
+    /// # Errors
+    ///
+    /// `AllocError` if memory is refused; nothing has changed then.
     pub fn push_span(&mut self, span: Span<'a>) -> Result<(), AllocError>
         ensures ok { OnOk result (self.new ≡ with_span span.entry self.old) }
         ensures err { OnErr result (self.new ≡ self.old) }
@@ -250,7 +296,11 @@ impl<'a> Line<'a> {
         self.spans.push(span)
     }
 
-    /// The line with a span after the others; refused if memory is.
+    /// The line with a span after the others.
+    ///
+    /// # Errors
+    ///
+    /// `AllocError` if memory is refused; the line is gone then.
     pub fn try_add(mut self, span: Span<'a>) -> Result<Line<'a>, AllocError>
         ensures { IfOk result (λ l. l ≡ with_span span.entry self.entry) }
     {
@@ -258,14 +308,22 @@ impl<'a> Line<'a> {
         Ok(self)
     }
 
-    /// A text of this line and another one below it; refused if memory is.
+    /// A text of this line and another one below it.
+    ///
+    /// # Errors
+    ///
+    /// `AllocError` if memory is refused; both lines are gone then.
     pub fn try_add_line(self, line: Line<'a>) -> Result<Text<'a>, AllocError>
         ensures { IfOk result (λ t. t ≡ text_of (self.entry ∷ line.entry ∷ [])) }
     {
         Text::from_line(self.spans.allocator(), self)?.try_add_line(line)
     }
 
-    /// The texts of the spans, one after the other; refused if memory is.
+    /// The texts of the spans, one after the other.
+    ///
+    /// # Errors
+    ///
+    /// `AllocError` if memory is refused; the line is gone then.
     pub fn try_into_string(self) -> Result<String, AllocError>
         ensures { IfOk result (λ s. string_bytes s ≡ line_content self.entry.spans) }
     {
@@ -287,7 +345,11 @@ impl<'a> Line<'a> {
         width
     }
 
-    /// An equal line; refused if memory is. A line without spans takes none.
+    /// An equal line.
+    ///
+    /// # Errors
+    ///
+    /// `AllocError` if memory is refused. A line without spans takes none.
     pub fn clone(&self, alloc: Global) -> Result<Line<'a>, AllocError>
         ensures value { IfOk result (λ l. l ≡ self.now) }
         ensures succeeds { self.now.spans ≡ [] → IsOk result }

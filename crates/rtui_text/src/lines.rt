@@ -43,7 +43,11 @@ impl<'a> Lines<'a> {
         }
     }
 
-    /// Lines equal to these; refused if memory is. No lines take none.
+    /// Lines equal to these.
+    ///
+    /// # Errors
+    ///
+    /// `AllocError` if memory is refused. An empty list takes none.
     pub fn from_slice(alloc: Global, lines: &[Line<'a>]) -> Result<Lines<'a>, AllocError>
         ensures value { IfOk result (λ l. l ≡ lines.now) }
         ensures succeeds { lines.now ≡ [] → IsOk result }
@@ -55,7 +59,11 @@ impl<'a> Lines<'a> {
         Ok(Lines { items })
     }
 
-    /// Equal lines; refused if memory is. No lines take none.
+    /// Equal lines.
+    ///
+    /// # Errors
+    ///
+    /// `AllocError` if memory is refused. An empty list takes none.
     pub fn clone(&self, alloc: Global) -> Result<Lines<'a>, AllocError>
         ensures value { IfOk result (λ l. l ≡ self.now) }
         ensures succeeds { self.now ≡ [] → IsOk result }
@@ -70,7 +78,8 @@ impl<'a> Lines<'a> {
         self.items.as_slice()
     }
 
-    /// The lines, in order, to be written. What is written a caller's proof doesn't see; it does through `items`.
+    /// The lines, in order, to be written. A caller's proof doesn't see what is written; through
+    /// `items` it does.
     pub fn as_mut_slice(&mut self) -> &mut [Line<'a>]
         ensures { result.now ≡ self.old }
     {
@@ -118,7 +127,11 @@ impl<'a> Lines<'a> {
         self.items.is_empty()
     }
 
-    /// Puts a line below the others; if memory is refused nothing changes.
+    /// Puts a line below the others.
+    ///
+    /// # Errors
+    ///
+    /// `AllocError` if memory is refused; nothing has changed then.
     pub fn push(&mut self, line: Line<'a>) -> Result<(), AllocError>
         ensures ok { OnOk result (self.new ≡ self.old ++ line.entry ∷ []) }
         ensures err { OnErr result (self.new ≡ self.old) }
@@ -127,7 +140,11 @@ impl<'a> Lines<'a> {
         Ok(())
     }
 
-    /// Puts other lines below these; if memory is refused nothing changes.
+    /// Puts other lines below these.
+    ///
+    /// # Errors
+    ///
+    /// `AllocError` if memory is refused; nothing has changed then.
     pub fn append(&mut self, mut lines: Lines<'a>) -> Result<(), AllocError>
         ensures ok { OnOk result (self.new ≡ self.old ++ lines.entry) }
         ensures err { OnErr result (self.new ≡ self.old) }
@@ -135,7 +152,15 @@ impl<'a> Lines<'a> {
         self.items.append(&mut lines.items)
     }
 
-    /// Puts the lines that an iterator gives below these; if memory is refused those stay that came before.
+    /// Puts the lines that an iterator gives below these.
+    ///
+    /// # Conditions
+    ///
+    /// The iterator comes to an end, and `next` may be called on it until then.
+    ///
+    /// # Errors
+    ///
+    /// `AllocError` if memory is refused; the lines that were put until then stay.
     pub fn extend<I: IntoIterator<Item = Line<'a>>>(&mut self, lines: I) -> Result<(), AllocError>
         requires { (it : I.IntoIter) → I.into_iter_gives lines it
             → I.IntoIter.can_next it × IsFinite (I.IntoIter.remaining it) }
@@ -145,8 +170,11 @@ impl<'a> Lines<'a> {
         self.items.extend(lines)
     }
 
-    /// Puts a span at the end of the last line, or into a new line if there is none; if memory is refused
-    /// nothing changes.
+    /// Puts a span at the end of the last line, or into a new line if there is none.
+    ///
+    /// # Errors
+    ///
+    /// `AllocError` if memory is refused; nothing has changed then.
     pub fn push_span(&mut self, span: Span<'a>) -> Result<(), AllocError>
         ensures ok { OnOk result (self.new ≡ with_last_span span.entry self.old) }
         ensures err { OnErr result (self.new ≡ self.old) }

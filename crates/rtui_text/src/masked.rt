@@ -17,7 +17,8 @@ use std::fmt;
 use std::hash::{Hash, Hasher};
 use std::marker::Model;
 
-/// A text that shows one character for each of its own, as a password is shown. Its `Debug` shows the text itself.
+/// A text that shows one character for each of its own, as a password is shown. Its `Debug` shows
+/// the text itself.
 ///
 /// ```
 /// let password = Masked::new("12345", 'x');
@@ -66,21 +67,33 @@ impl<'a> Masked<'a> {
         self.mask_char
     }
 
-    /// What is shown, in a text of its own; refused if memory is.
+    /// What is shown, in a text of its own.
+    ///
+    /// # Errors
+    ///
+    /// `AllocError` if memory is refused.
     pub fn value(&self, alloc: Global) -> Result<CowStr<'a>, AllocError>
         ensures { IfOk result (λ value. cow_str_bytes value ≡ mask_value self.now) }
     {
         Ok(CowStr::Owned(self.shown(alloc)?))
     }
 
-    /// What is shown, as a text of lines; refused if memory is.
+    /// What is shown, as a text of lines.
+    ///
+    /// # Errors
+    ///
+    /// `AllocError` if memory is refused.
     pub fn to_text(&self, alloc: Global) -> Result<Text<'a>, AllocError>
         ensures { IfOk result (λ text. text ≡ raw_text (mask_value self.now)) }
     {
         Text::raw_string(alloc, self.shown(alloc)?)
     }
 
-    /// An equal one, which borrows what this one borrows; refused if memory is.
+    /// An equal one, which borrows what this one borrows.
+    ///
+    /// # Errors
+    ///
+    /// `AllocError` if memory is refused.
     pub fn clone(&self, alloc: Global) -> Result<Masked<'a>, AllocError>
         ensures { IfOk result (λ m. m ≡ self.now) }
     {

@@ -90,7 +90,8 @@ impl<'a> Span<'a> {
         self
     }
 
-    /// The span with the style laid over its own that sets all colours to the terminal's and takes every modifier away.
+    /// The span with a style laid over its own that sets all colours to the terminal's and takes
+    /// every modifier away.
     pub fn reset_style(self) -> Span<'a>
         ensures { result ≡ record self.entry { style = patch self.entry.style reset_style } }
     {
@@ -118,7 +119,11 @@ impl<'a> Span<'a> {
         SpanGraphemes::new(self.text(), base_style.patch(self.style))
     }
 
-    /// A line of this span, aligned to the left; refused if memory is.
+    /// A line of this span, aligned to the left.
+    ///
+    /// # Errors
+    ///
+    /// `AllocError` if memory is refused; the span is gone then.
     pub fn into_left_aligned_line(self, alloc: Global) -> Result<Line<'a>, AllocError>
         ensures { let line = line_of (self.entry ∷ []) in
             IfOk result (λ l. l ≡ record line { alignment = Some HorizontalAlignment.Left }) }
@@ -127,6 +132,10 @@ impl<'a> Span<'a> {
     }
 
     /// The previous name of `into_left_aligned_line`.
+    ///
+    /// # Errors
+    ///
+    /// `AllocError` if memory is refused; the span is gone then.
     pub fn to_left_aligned_line(self, alloc: Global) -> Result<Line<'a>, AllocError>
         ensures { let line = line_of (self.entry ∷ []) in
             IfOk result (λ l. l ≡ record line { alignment = Some HorizontalAlignment.Left }) }
@@ -134,7 +143,11 @@ impl<'a> Span<'a> {
         self.into_left_aligned_line(alloc)
     }
 
-    /// A line of this span, centred; refused if memory is.
+    /// A line of this span, centred.
+    ///
+    /// # Errors
+    ///
+    /// `AllocError` if memory is refused; the span is gone then.
     pub fn into_centered_line(self, alloc: Global) -> Result<Line<'a>, AllocError>
         ensures { let line = line_of (self.entry ∷ []) in
             IfOk result (λ l. l ≡ record line { alignment = Some HorizontalAlignment.Center }) }
@@ -143,6 +156,10 @@ impl<'a> Span<'a> {
     }
 
     /// The previous name of `into_centered_line`.
+    ///
+    /// # Errors
+    ///
+    /// `AllocError` if memory is refused; the span is gone then.
     pub fn to_centered_line(self, alloc: Global) -> Result<Line<'a>, AllocError>
         ensures { let line = line_of (self.entry ∷ []) in
             IfOk result (λ l. l ≡ record line { alignment = Some HorizontalAlignment.Center }) }
@@ -150,7 +167,11 @@ impl<'a> Span<'a> {
         self.into_centered_line(alloc)
     }
 
-    /// A line of this span, aligned to the right; refused if memory is.
+    /// A line of this span, aligned to the right.
+    ///
+    /// # Errors
+    ///
+    /// `AllocError` if memory is refused; the span is gone then.
     pub fn into_right_aligned_line(self, alloc: Global) -> Result<Line<'a>, AllocError>
         ensures { let line = line_of (self.entry ∷ []) in
             IfOk result (λ l. l ≡ record line { alignment = Some HorizontalAlignment.Right }) }
@@ -159,6 +180,10 @@ impl<'a> Span<'a> {
     }
 
     /// The previous name of `into_right_aligned_line`.
+    ///
+    /// # Errors
+    ///
+    /// `AllocError` if memory is refused; the span is gone then.
     pub fn to_right_aligned_line(self, alloc: Global) -> Result<Line<'a>, AllocError>
         ensures { let line = line_of (self.entry ∷ []) in
             IfOk result (λ l. l ≡ record line { alignment = Some HorizontalAlignment.Right }) }
@@ -166,14 +191,22 @@ impl<'a> Span<'a> {
         self.into_right_aligned_line(alloc)
     }
 
-    /// A line of this span and another after it; refused if memory is.
+    /// A line of this span and another after it.
+    ///
+    /// # Errors
+    ///
+    /// `AllocError` if memory is refused; both spans are gone then.
     pub fn try_add(self, alloc: Global, other: Span<'a>) -> Result<Line<'a>, AllocError>
         ensures { IfOk result (λ l. l ≡ line_of (self.entry ∷ other.entry ∷ [])) }
     {
         Line::from_span(alloc, self)?.try_add(other)
     }
 
-    /// An equal span, which borrows what this one borrows; refused if memory is.
+    /// An equal span, which borrows what this one borrows.
+    ///
+    /// # Errors
+    ///
+    /// `AllocError` if memory is refused.
     pub fn clone(&self, alloc: Global) -> Result<Span<'a>, AllocError>
         ensures { IfOk result (λ s. s ≡ self.now) }
     {

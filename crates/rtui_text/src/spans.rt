@@ -41,7 +41,11 @@ impl<'a> Spans<'a> {
         }
     }
 
-    /// Spans equal to these; refused if memory is. No spans take none.
+    /// Spans equal to these.
+    ///
+    /// # Errors
+    ///
+    /// `AllocError` if memory is refused. An empty list takes none.
     pub fn from_slice(alloc: Global, spans: &[Span<'a>]) -> Result<Spans<'a>, AllocError>
         ensures value { IfOk result (λ s. s ≡ spans.now) }
         ensures succeeds { spans.now ≡ [] → IsOk result }
@@ -53,7 +57,11 @@ impl<'a> Spans<'a> {
         Ok(Spans { items })
     }
 
-    /// Equal spans; refused if memory is. No spans take none.
+    /// Equal spans.
+    ///
+    /// # Errors
+    ///
+    /// `AllocError` if memory is refused. An empty list takes none.
     pub fn clone(&self, alloc: Global) -> Result<Spans<'a>, AllocError>
         ensures value { IfOk result (λ s. s ≡ self.now) }
         ensures succeeds { self.now ≡ [] → IsOk result }
@@ -68,7 +76,8 @@ impl<'a> Spans<'a> {
         self.items.as_slice()
     }
 
-    /// The spans, in order, to be written. What is written a caller's proof doesn't see; it does through `items`.
+    /// The spans, in order, to be written. A caller's proof doesn't see what is written; through
+    /// `items` it does.
     pub fn as_mut_slice(&mut self) -> &mut [Span<'a>]
         ensures { result.now ≡ self.old }
     {
@@ -116,7 +125,11 @@ impl<'a> Spans<'a> {
         self.items.is_empty()
     }
 
-    /// Puts a span after the others; if memory is refused nothing changes.
+    /// Puts a span after the others.
+    ///
+    /// # Errors
+    ///
+    /// `AllocError` if memory is refused; nothing has changed then.
     pub fn push(&mut self, span: Span<'a>) -> Result<(), AllocError>
         ensures ok { OnOk result (self.new ≡ self.old ++ span.entry ∷ []) }
         ensures err { OnErr result (self.new ≡ self.old) }
@@ -125,7 +138,15 @@ impl<'a> Spans<'a> {
         Ok(())
     }
 
-    /// Puts the spans that an iterator gives after these; if memory is refused those stay that came before.
+    /// Puts the spans that an iterator gives after these.
+    ///
+    /// # Conditions
+    ///
+    /// The iterator comes to an end, and `next` may be called on it until then.
+    ///
+    /// # Errors
+    ///
+    /// `AllocError` if memory is refused; the spans that were put until then stay.
     pub fn extend<I: IntoIterator<Item = Span<'a>>>(&mut self, spans: I) -> Result<(), AllocError>
         requires { (it : I.IntoIter) → I.into_iter_gives spans it
             → I.IntoIter.can_next it × IsFinite (I.IntoIter.remaining it) }

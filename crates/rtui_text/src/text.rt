@@ -35,7 +35,7 @@ use std::{fmt, slice, vec};
 /// ```
 #[derive(Debug, Drop)]
 pub struct Text<'a> {
-    /// Where the lines stand between left and right that don't say so themselves.
+    /// Where the lines that don't say so themselves stand between left and right.
     pub alignment: Option<HorizontalAlignment>,
     /// The style of the whole text.
     pub style: Style,
@@ -59,7 +59,11 @@ impl<'a> Text<'a> {
         Text::from(Lines::new(alloc))
     }
 
-    /// A line for each line of a text, and one without spans for the empty text; refused if memory is.
+    /// A line for each line of a text, and one without spans for the empty text.
+    ///
+    /// # Errors
+    ///
+    /// `AllocError` if memory is refused.
     pub fn raw(alloc: Global, content: &'a str) -> Result<Text<'a>, AllocError>
         ensures { IfOk result (λ t. t ≡ raw_text content.now) }
     {
@@ -73,7 +77,11 @@ impl<'a> Text<'a> {
         Ok(Text::from(lines))
     }
 
-    /// The same text as `raw` makes, with copies of the lines; refused if memory is.
+    /// The same text as `raw` makes, with copies of the lines.
+    ///
+    /// # Errors
+    ///
+    /// `AllocError` if memory is refused.
     pub fn raw_string(alloc: Global, content: String) -> Result<Text<'a>, AllocError>
         ensures { IfOk result (λ t. t ≡ raw_text (string_bytes content)) }
     {
@@ -94,21 +102,33 @@ impl<'a> Text<'a> {
         Ok(Text::from(lines))
     }
 
-    /// The text that `raw` makes, with a style of the whole; refused if memory is.
+    /// The text that `raw` makes, with a style of the whole.
+    ///
+    /// # Errors
+    ///
+    /// `AllocError` if memory is refused.
     pub fn styled(alloc: Global, content: &'a str, style: Style) -> Result<Text<'a>, AllocError>
         ensures { IfOk result (λ t. t ≡ record (raw_text content.now) { style = style }) }
     {
         Ok(Text::raw(alloc, content)?.style(style))
     }
 
-    /// A text of one line of one span; refused if memory is.
+    /// A text of one line of one span.
+    ///
+    /// # Errors
+    ///
+    /// `AllocError` if memory is refused.
     pub fn from_span(alloc: Global, span: Span<'a>) -> Result<Text<'a>, AllocError>
         ensures { IfOk result (λ t. t ≡ text_of (line_of (span.entry ∷ []) ∷ [])) }
     {
         Text::from_line(alloc, Line::from_span(alloc, span)?)
     }
 
-    /// A text of one line; refused if memory is.
+    /// A text of one line.
+    ///
+    /// # Errors
+    ///
+    /// `AllocError` if memory is refused.
     pub fn from_line(alloc: Global, line: Line<'a>) -> Result<Text<'a>, AllocError>
         ensures { IfOk result (λ t. t ≡ text_of (line.entry ∷ [])) }
     {
@@ -117,7 +137,11 @@ impl<'a> Text<'a> {
         Ok(Text::from(lines))
     }
 
-    /// A text of lines equal to these; refused if memory is. No lines take none.
+    /// A text of lines equal to these.
+    ///
+    /// # Errors
+    ///
+    /// `AllocError` if memory is refused. An empty list takes none.
     pub fn from_slice(alloc: Global, lines: &[Line<'a>]) -> Result<Text<'a>, AllocError>
         ensures value { IfOk result (λ t. t ≡ text_of lines.now) }
         ensures succeeds { lines.now ≡ [] → IsOk result }
@@ -125,7 +149,7 @@ impl<'a> Text<'a> {
         Ok(Text::from(Lines::from_slice(alloc, lines)?))
     }
 
-    /// How many columns the widest line takes, none without lines.
+    /// How many columns the widest line takes; 0 if there are no lines.
     pub fn width(&self) -> usize
         ensures { result ≡ widest self.now.lines }
     {
@@ -159,14 +183,15 @@ impl<'a> Text<'a> {
         self
     }
 
-    /// The text with the style laid over its own that sets all colours to the terminal's and takes every modifier away.
+    /// The text with a style laid over its own that sets all colours to the terminal's and takes
+    /// every modifier away.
     pub fn reset_style(self) -> Text<'a>
         ensures { result ≡ record self.entry { style = patch self.entry.style reset_style } }
     {
         self.patch_style(Style::reset())
     }
 
-    /// The text, its lines aligned so if they don't say so themselves.
+    /// The text with this alignment for each line that has none of its own.
     pub fn alignment(mut self, alignment: HorizontalAlignment) -> Text<'a>
         ensures { result ≡ record self.entry { alignment = Some alignment } }
     {
@@ -209,7 +234,15 @@ impl<'a> Text<'a> {
         self.lines.iter_mut()
     }
 
-    /// A text of the lines that an iterator gives; refused if memory is.
+    /// A text of the lines that an iterator gives.
+    ///
+    /// # Conditions
+    ///
+    /// The iterator comes to an end, and `next` may be called on it until then.
+    ///
+    /// # Errors
+    ///
+    /// `AllocError` if memory is refused.
     pub fn try_from_iter<I>(alloc: Global, lines: I) -> Result<Text<'a>, AllocError>
     where
         I: IntoIterator<Item = Line<'a>>,
@@ -222,7 +255,15 @@ impl<'a> Text<'a> {
         Ok(Text::from(Vec::from_iter(alloc, lines)?))
     }
 
-    /// Puts the lines that an iterator gives below the others; if memory is refused those stay that came before.
+    /// Puts the lines that an iterator gives below the others.
+    ///
+    /// # Conditions
+    ///
+    /// The iterator comes to an end, and `next` may be called on it until then.
+    ///
+    /// # Errors
+    ///
+    /// `AllocError` if memory is refused; the lines that were put until then stay.
     pub fn try_extend<I>(&mut self, lines: I) -> Result<(), AllocError>
     where
         I: IntoIterator<Item = Line<'a>>,
@@ -235,7 +276,11 @@ impl<'a> Text<'a> {
         self.lines.extend(lines)
     }
 
-    /// Puts a line below the others; if memory is refused nothing changes.
+    /// Puts a line below the others.
+    ///
+    /// # Errors
+    ///
+    /// `AllocError` if memory is refused; nothing has changed then.
     pub fn push_line(&mut self, line: Line<'a>) -> Result<(), AllocError>
         ensures ok { let lines = self.old.lines ++ line.entry ∷ [] in
             OnOk result (self.new ≡ record self.old { lines = lines }) }
@@ -244,8 +289,11 @@ impl<'a> Text<'a> {
         self.lines.push(line)
     }
 
-    /// Puts a span at the end of the last line, or into a new line if there is none; if memory is refused
-    /// nothing changes.
+    /// Puts a span at the end of the last line, or into a new line if there is none.
+    ///
+    /// # Errors
+    ///
+    /// `AllocError` if memory is refused; nothing has changed then.
     pub fn push_span(&mut self, span: Span<'a>) -> Result<(), AllocError>
         ensures ok { let lines = with_last_span span.entry self.old.lines in
             OnOk result (self.new ≡ record self.old { lines = lines }) }
@@ -254,7 +302,11 @@ impl<'a> Text<'a> {
         self.lines.push_span(span)
     }
 
-    /// Puts the lines of another text below the others; if memory is refused nothing changes.
+    /// Puts the lines of another text below the others.
+    ///
+    /// # Errors
+    ///
+    /// `AllocError` if memory is refused; nothing has changed then.
     pub fn append(&mut self, text: Text<'a>) -> Result<(), AllocError>
         ensures ok { let lines = self.old.lines ++ text.entry.lines in
             OnOk result (self.new ≡ record self.old { lines = lines }) }
@@ -263,7 +315,11 @@ impl<'a> Text<'a> {
         self.lines.append(text.lines)
     }
 
-    /// The text with a line below the others; refused if memory is.
+    /// The text with a line below the others.
+    ///
+    /// # Errors
+    ///
+    /// `AllocError` if memory is refused; the text is gone then.
     pub fn try_add_line(mut self, line: Line<'a>) -> Result<Text<'a>, AllocError>
         ensures { let lines = self.entry.lines ++ line.entry ∷ [] in
             IfOk result (λ t. t ≡ record self.entry { lines = lines }) }
@@ -272,7 +328,11 @@ impl<'a> Text<'a> {
         Ok(self)
     }
 
-    /// The text with the lines of another one below its own; refused if memory is.
+    /// The text with the lines of another one below its own.
+    ///
+    /// # Errors
+    ///
+    /// `AllocError` if memory is refused; both texts are gone then.
     pub fn try_add(mut self, text: Text<'a>) -> Result<Text<'a>, AllocError>
         ensures { let lines = self.entry.lines ++ text.entry.lines in
             IfOk result (λ t. t ≡ record self.entry { lines = lines }) }
@@ -281,7 +341,11 @@ impl<'a> Text<'a> {
         Ok(self)
     }
 
-    /// An equal text; refused if memory is. A text without lines takes none.
+    /// An equal text.
+    ///
+    /// # Errors
+    ///
+    /// `AllocError` if memory is refused. A text without lines takes none.
     pub fn clone(&self, alloc: Global) -> Result<Text<'a>, AllocError>
         ensures value { IfOk result (λ t. t ≡ self.now) }
         ensures succeeds { self.now.lines ≡ [] → IsOk result }

@@ -1,8 +1,8 @@
 //! What can be printed, as a text on the screen.
 //!
-//! It stands on `rtui_text`. Whatever prints is a [`ToSpan`], a [`ToLine`] and a [`ToText`]: its printed text, owned, in the
-//! style that changes nothing. Contracts name that text if the type states what it prints; if it doesn't, they say
-//! that it is some text, made so.
+//! It stands on `rtui_text`. Whatever prints is a [`ToSpan`], a [`ToLine`] and a [`ToText`]: its
+//! printed text, owned, in the style that changes nothing. Contracts name that text if the type
+//! states what it prints; if it doesn't, they say that it is some text, made so.
 #![tactic(auto)]
 
 ghost use Rattle.std.specs.Prelude.{◌≡◌, ℕ, List, Option, IfOk, IfSome};
@@ -21,7 +21,11 @@ pub trait ToSpan {
     // what it prints, if that is stated
     ghost printed_text: { Self → Option (List ℕ) };
 
-    /// A span of what it prints; refused if memory is.
+    /// A span of what it prints.
+    ///
+    /// # Errors
+    ///
+    /// `AllocError` if memory is refused.
     fn to_span(&self, alloc: Global) -> Result<Span<'static>, AllocError>
         ensures printed { IfSome (printed_text self.now)
             (λ text. IfOk result (λ span. span ≡ plain text)) }
@@ -41,7 +45,11 @@ pub trait ToLine {
     // what it prints, if that is stated
     ghost printed_text: { Self → Option (List ℕ) };
 
-    /// A line of what it prints, as `Line::raw_string` makes it; refused if memory is.
+    /// A line of what it prints, as `Line::raw_string` makes it.
+    ///
+    /// # Errors
+    ///
+    /// `AllocError` if memory is refused.
     fn to_line(&self, alloc: Global) -> Result<Line<'static>, AllocError>
         ensures printed { IfSome (printed_text self.now)
             (λ text. IfOk result (λ line. line ≡ raw_line text)) }
@@ -61,7 +69,11 @@ pub trait ToText {
     // what it prints, if that is stated
     ghost printed_text: { Self → Option (List ℕ) };
 
-    /// A text of what it prints, as `Text::raw_string` makes it; refused if memory is.
+    /// A text of what it prints, as `Text::raw_string` makes it.
+    ///
+    /// # Errors
+    ///
+    /// `AllocError` if memory is refused.
     fn to_text(&self, alloc: Global) -> Result<Text<'static>, AllocError>
         ensures printed { IfSome (printed_text self.now)
             (λ printed. IfOk result (λ text. text ≡ raw_text printed)) }
