@@ -48,9 +48,9 @@ impl fmt::Display for TestError {
 
 impl Error for TestError {}
 
-/// A screen in memory, for tests: it keeps the contract of `Backend`, shows what it holds, and fails when it is
-/// told to. A draw leaves the cursor where it is, and if memory is refused it has put the items before. Its
-/// cells have no options and no flags.
+/// A screen in memory, for tests: it keeps the contract of `Backend`, shows what it holds, and
+/// fails when `fail_after` asks it to. A draw leaves the cursor where it is. If memory is refused
+/// in a draw, the items before are put. Its cells have no options and no flags.
 ///
 /// ```
 /// let mut backend = TestBackend::new(alloc, 5, 1)?;
@@ -85,8 +85,11 @@ impl TestBackend {
     ghost use Rattle.rtui_backend.specs.Screen.{IsBlankScreen, cursor_of, row_of, screen_area};
     ghost use Rattle.rtui_backend.specs.TestBackend.{screen_of, buffer_of, failures_of, told_after, TakesTurn, IsSameBackend, DrawsFront};
 
-    /// A blank screen of this size in columns and rows, its cursor visible in the corner; refused if memory
-    /// is.
+    /// A blank screen of this size in columns and rows, its cursor visible in the corner.
+    ///
+    /// # Errors
+    ///
+    /// `AllocError` if memory is refused.
     pub fn new(alloc: Global, width: u16, height: u16) -> Result<TestBackend, AllocError>
         ensures screen { IfOk result (λ b. IsBlankScreen width height (screen_of b)) }
         ensures failures { IfOk result (λ b. failures_of b ≡ 0) }
@@ -117,8 +120,8 @@ impl TestBackend {
         &self.buffer
     }
 
-    /// Whether the screen, as a buffer with its corner at (0, 0), equals this one: the same size, in each column the
-    /// cell's look, and no cell with an option or the flag.
+    /// Whether the screen, as a buffer with its corner at (0, 0), equals this one: the same size,
+    /// in each column the cell's look, and no cell with an option or the flag.
     pub fn buffer_is(&self, buffer: &Buffer) -> bool
         ensures { IsTrue result ↔ IsEqualBuffer (buffer_of self.now) buffer.now }
     {
@@ -126,8 +129,8 @@ impl TestBackend {
         self.buffer == *buffer
     }
 
-    /// The rows that scrolled off the screen, in order, each as wide as the screen was then. Their cells have no
-    /// options and no flags.
+    /// The rows that scrolled off the screen, in order, each as wide as the screen was then. Their
+    /// cells have no options and no flags.
     pub fn scrollback(&self) -> &[Vec<Cell>]
         ensures looks { map (λ row. map look_of row.items) result.now
             ≡ (screen_of self.now).history }
@@ -150,16 +153,16 @@ impl TestBackend {
         self.cursor
     }
 
-    /// How many items were handed to `draw` since the backend was made, those off the screen too; it stays at
-    /// the greatest number.
+    /// How many items were handed to `draw` since the backend was made, those off the screen too;
+    /// it stays at the greatest number.
     pub fn cells_written(&self) -> u64
         ensures { result ≡ (screen_of self.now).written }
     {
         self.written
     }
 
-    /// Lets the next `calls` calls of `Backend` answer as usual and the one after them answer `Told`, which
-    /// changes nothing but the count of failures; later calls answer as usual.
+    /// Lets the next `calls` calls of `Backend` answer as usual. The one after them answers `Told`,
+    /// which changes nothing but the count of failures; later calls answer as usual again.
     pub fn fail_after(&mut self, calls: u64)
         ensures same { IsSameBackend self.old self.new }
         ensures told { told_after self.new ≡ Some calls }

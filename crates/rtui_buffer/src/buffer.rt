@@ -23,8 +23,8 @@ pub use lines::{lines_width, texts_width};
 pub use painting::{empty_part, paint_printable, painted_width};
 use sized::{copied, copies, cut_or_fill, empty_all};
 
-/// A grid of cells over an area of a screen, row by row. There are always as many cells as the area has, and
-/// its edges are at most 65535.
+/// A grid of cells over an area of a screen, row by row. There are always as many cells as the area
+/// has, and its edges are at most 65535.
 ///
 /// ```
 /// let mut next = Buffer::empty(alloc, Rect::new(0, 0, 10, 1))?;
@@ -54,9 +54,13 @@ impl Model for Buffer {
 impl Buffer {
     /// A buffer of empty cells.
     ///
+    /// # Conditions
+    ///
+    /// The edges of the area are at most 65535, as those that `Rect::new` makes are.
+    ///
     /// # Errors
     ///
-    /// Memory was refused. A buffer without cells takes none.
+    /// `AllocError` if memory is refused. A buffer without cells takes none.
     pub fn empty(alloc: Global, area: Rect) -> Result<Buffer, AllocError>
         requires { EdgesFit area }
         ensures emptied { IfOk result (IsEmptied area) }
@@ -68,7 +72,15 @@ impl Buffer {
         Ok(Buffer { area, content })
     }
 
-    /// A buffer with this cell everywhere; refused if memory is.
+    /// A buffer with this cell everywhere.
+    ///
+    /// # Conditions
+    ///
+    /// The edges of the area are at most 65535, as those that `Rect::new` makes are.
+    ///
+    /// # Errors
+    ///
+    /// `AllocError` if memory is refused. A buffer without cells takes none.
     pub fn filled(alloc: Global, area: Rect, cell: Cell) -> Result<Buffer, AllocError>
         requires { EdgesFit area }
         ensures area { IfOk result (λ b. b.area ≡ area) }
@@ -80,7 +92,11 @@ impl Buffer {
         Ok(Buffer { area, content })
     }
 
-    /// An equal buffer; refused if memory is. One without cells takes none.
+    /// An equal buffer.
+    ///
+    /// # Errors
+    ///
+    /// `AllocError` if memory is refused. A buffer without cells takes none.
     pub fn clone(&self, alloc: Global) -> Result<Buffer, AllocError>
         ensures same { IfOk result (IsSameBuffer self.now) }
         ensures room { IfOk result (HasRoomFor self.now.area) }
@@ -100,6 +116,10 @@ impl Buffer {
     }
 
     /// The cells of a row of the area, from left to right.
+    ///
+    /// # Conditions
+    ///
+    /// Row `y` is one of the area.
     pub fn row(&self, y: u16) -> &[Cell]
         requires { HasRow self.now.area y }
         ensures cells { result.now ≡ buffer_row self.now y }
@@ -147,6 +167,10 @@ impl Buffer {
     }
 
     /// The cell in a column and a row of the area.
+    ///
+    /// # Conditions
+    ///
+    /// The position lies in the area. If not, the Rust crate panics.
     pub fn get(&self, x: u16, y: u16) -> &Cell
         requires { HasPosition self.now.area (position_of (x, y)) }
         ensures { result.now ≡ cell_in self.now (position_of (x, y)) }
@@ -155,6 +179,10 @@ impl Buffer {
     }
 
     /// The cell in a column and a row of the area, to be written.
+    ///
+    /// # Conditions
+    ///
+    /// The position lies in the area. If not, the Rust crate panics.
     pub fn get_mut(&mut self, x: u16, y: u16) -> &mut Cell
         requires { HasPosition self.old.area (position_of (x, y)) }
         ensures* writes_back { let p = position_of (x, y) in
@@ -186,6 +214,10 @@ impl Buffer {
     }
 
     /// The place of a column and a row of the area in the list of cells.
+    ///
+    /// # Conditions
+    ///
+    /// The position lies in the area. If not, the Rust crate panics.
     pub fn index_of(&self, x: u16, y: u16) -> usize
         requires { HasPosition self.now.area (position_of (x, y)) }
         ensures value { result ≡ cell_index self.now.area (position_of (x, y)) }
@@ -210,6 +242,11 @@ impl Buffer {
     }
 
     /// The column and the row of a place in the list of cells.
+    ///
+    /// # Conditions
+    ///
+    /// The place is less than the number of cells. If not, the Rust crate panics, at least in a
+    /// debug build.
     pub fn pos_of(&self, index: usize) -> (u16, u16)
         requires { index < length self.now.cells }
         ensures { result ≡ place_position self.now.area index }
@@ -231,9 +268,14 @@ impl Buffer {
 
     /// Gives the buffer another area: its list of cells is cut, or goes on with empty ones.
     ///
+    /// # Conditions
+    ///
+    /// The edges of the area are at most 65535, as those that `Rect::new` makes are.
+    ///
     /// # Errors
     ///
-    /// Memory was refused: nothing changed. Within the room that `reserve` made it takes none.
+    /// `AllocError` if memory is refused; nothing has changed then. Within the room that `reserve`
+    /// made it takes none.
     pub fn resize(&mut self, area: Rect) -> Result<(), AllocError>
         requires { EdgesFit area }
         ensures area { OnOk result (self.new.area ≡ area) }
@@ -250,9 +292,14 @@ impl Buffer {
 
     /// Makes room for the cells of an area.
     ///
+    /// # Conditions
+    ///
+    /// The edges of the area are at most 65535, as those that `Rect::new` makes are.
+    ///
     /// # Errors
     ///
-    /// Memory was refused: nothing changed. Within the room that is there it takes none.
+    /// `AllocError` if memory is refused; nothing has changed then. Within the room that is there
+    /// it takes none.
     pub fn reserve(&mut self, area: Rect) -> Result<(), AllocError>
         requires { EdgesFit area }
         ensures same { IsSameBuffer self.old self.new }
@@ -267,6 +314,10 @@ impl Buffer {
     }
 
     /// Moves the buffer to another corner, with the same cells.
+    ///
+    /// # Conditions
+    ///
+    /// The edges of the area at its new corner are at most 65535.
     pub fn move_to(&mut self, position: Position)
         requires { EdgesFit (moved_to position self.old.area) }
         ensures { self.new ≡ record self.old { area = moved_to position self.old.area } }
@@ -275,9 +326,9 @@ impl Buffer {
         self.area.y = position.y;
     }
 
-    /// Whether a screen can show the buffer as it is: each skipped cell takes at most one column, each other
-    /// cell ends within its row, and after an unskipped wide cell stand only empty or skipped ones. A full
-    /// repaint of such a buffer shows it, whatever the screen had.
+    /// Whether a screen can show the buffer as it is: each skipped cell takes at most one column,
+    /// each other cell ends within its row, and after an unskipped wide cell stand only empty or
+    /// skipped ones. A full repaint of such a buffer shows it, whatever the screen had.
     pub fn is_settled(&self) -> bool
         ensures settled { IsTrue result ↔ IsSettledBuffer self.now }
         ensures repaints { IsTrue result → IsShownByRepaint self.now }
@@ -286,8 +337,12 @@ impl Buffer {
         is_settled(self.content(), area.width, area.height)
     }
 
-    /// The updates that turn a screen which shows this buffer into one that shows the next: over the common
-    /// rows, in order, only what differs. Both buffers have the same corner and width.
+    /// The updates that turn a screen which shows this buffer into one that shows the next: over
+    /// the common rows, in order, only what differs.
+    ///
+    /// # Conditions
+    ///
+    /// Both buffers have the same corner and the same width. If not, the Rust crate panics.
     pub fn diff_iter<'prev, 'next>(&'prev self, next: &'next Buffer) -> BufferDiff<'prev, 'next>
         requires { IsAligned self.now next.now }
         ensures { IsBufferDiff self.now next.now result }
@@ -304,7 +359,15 @@ impl Buffer {
         )
     }
 
-    /// The updates of `diff_iter` in a list; refused if memory is.
+    /// The updates of `diff_iter` in a list.
+    ///
+    /// # Conditions
+    ///
+    /// Both buffers have the same corner and the same width. If not, the Rust crate panics.
+    ///
+    /// # Errors
+    ///
+    /// `AllocError` if memory is refused.
     pub fn diff<'next>(
         &self,
         alloc: Global,

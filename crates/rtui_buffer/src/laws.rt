@@ -1,5 +1,6 @@
-//! Laws of buffers and of painting that are no single call's clause, stated over the definitions of `specs/` alone. Calling
-//! one of these functions costs nothing and tells the caller's proof its law.
+//! Laws of buffers and of painting that are no single call's clause, stated over the definitions of
+//! `specs/` alone. Calling one of these functions costs nothing and tells the caller's proof its
+//! law.
 
 ghost use Rattle.std.specs.Prelude.{ℕ, false, ◌≡◌, ◌+◌, ◌-◌, ◌<◌, ◌≤◌, ◌++◌, ◌↔◌, IsTrue, List, filter, All};
 ghost use Rattle.std.specs.Hash as fed;
@@ -25,7 +26,7 @@ use rtui_cell::laws::equality_is_by_looks;
 use rtui_geometry::Rect;
 use std::hash::Hash;
 
-/// Two buffers are equal exactly where their areas and their cells are.
+/// Two buffers are equal if their areas and their cells are, and only then.
 pub fn equality_is_by_cells()
     ensures { (s t : BufferData) → IsTrue (⟦<Buffer as PartialEq>⟧.eq s t) ↔ IsEqualBuffer s t }
 {
@@ -47,7 +48,8 @@ pub fn empty_buffers_are_settled()
         → IsPaintable p n s }
 {}
 
-/// A screen can show an empty buffer with a style laid over an area of it, and each of its columns may be painted.
+/// A screen can show an empty buffer with a style laid over an area of it, and each of its columns
+/// may be painted.
 pub fn styled_empty_buffers_are_settled()
     ensures settled { (r area : Rect) (style : Style) (old new : BufferData)
         → EdgesFit r → IsEmptied r old → IsStyled area style old new → IsSettledBuffer new }
@@ -76,7 +78,8 @@ pub fn kept_graphemes_take_columns()
     ensures { (room : ℕ) (gs : List (List ℕ)) → All (λ g. 0 < text_width g) (kept room gs) }
 {}
 
-/// Of the graphemes without control characters that have a column, the longest front that fits the room is painted.
+/// Of the graphemes without control characters that have a column, the longest front that fits the
+/// room is painted.
 pub fn longest_front_is_kept()
     ensures { (room : ℕ) (gs : List (List ℕ))
         → IsLongestFront room (filter has_painted_width gs) (kept room gs) }
@@ -98,7 +101,8 @@ pub fn painting_keeps_to_its_columns()
         → columns (line_pieces_at r x max l) ≤ max }
 {}
 
-/// What is painted of a text whose graphemes are short takes no memory, and of a line of such texts.
+/// What is painted of a text whose graphemes are short takes no memory, and of a line of such
+/// texts.
 pub fn short_graphemes_are_painted_short()
     ensures text { (room : ℕ) (style : Style) (text : List ℕ) → HasShortGraphemes text
         → AreShort (text_pieces room style text) }
@@ -111,7 +115,8 @@ pub fn ascii_graphemes_are_short()
     ensures { (text : List ℕ) → IsAscii text → HasShortGraphemes text }
 {}
 
-/// What is painted within a row of the area, seen by columns; and what isn't painted if memory is refused.
+/// What is painted within a row of the area, seen by columns; and what isn't painted if memory is
+/// refused.
 pub fn painting_goes_by_columns()
     ensures painted { (p : Position) (ps : List Piece) (old new : BufferData)
         → HasRow old.area p.y → old.area.x ≤ p.x → columns ps ≤ old.area.x + old.area.width - p.x

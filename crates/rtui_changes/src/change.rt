@@ -21,7 +21,11 @@ pub trait CellChange {
     // where it takes no memory
     ghost is_light: { Self → Position → Cell → Type 0 };
 
-    /// Changes a cell; if memory is refused it is as before.
+    /// Changes a cell that stands at a position.
+    ///
+    /// # Errors
+    ///
+    /// `AllocError` if memory is refused; the cell is as before then.
     fn change(&self, alloc: Global, position: Position, cell: &mut Cell) -> Result<(), AllocError>
         ensures ok { OnOk result (cell.new ≡ made self.now position cell.old) }
         ensures err { OnErr result (cell.new ≡ cell.old) }
@@ -77,7 +81,11 @@ fn change_part<C: CellChange>(buf: &mut Buffer, part: Rect, change: &C) -> Resul
     Ok(())
 }
 
-/// Changes each cell of an area, as far as the buffer has it. It is refused if memory is; then no cell outside the area changed.
+/// Changes each cell of an area, as far as the buffer has it.
+///
+/// # Errors
+///
+/// `AllocError` if memory is refused; no cell outside the area has changed then.
 pub fn change_area<C: CellChange>(
     buf: &mut Buffer,
     area: Rect,

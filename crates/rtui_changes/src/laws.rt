@@ -22,15 +22,17 @@ pub fn empty_buffers_are_plain()
     ensures { (r : Rect) (s : BufferData) → IsEmptied r s → IsPlainFrom 0 s }
 {}
 
-/// Texts of printable characters of ASCII take one column for each grapheme, wherever a line is cut.
+/// Texts of printable characters of ASCII take one column for each grapheme, wherever a line is
+/// cut.
 pub fn printable_texts_are_narrow()
     ensures text { (text : List ℕ) → ArePrintable text → HasNarrowGraphemes text }
     ensures spans { (spans : List SpanData) → All (λ span. ArePrintable span.content) spans
         → AreNarrowSpans spans }
 {}
 
-/// A span, a line and a text whose graphemes take one column each leave a buffer of plain cells one of plain cells, wherever they are
-/// rendered; so a screen can show it. A grapheme of no columns after a wide one stands in a column of that one, which a screen can't show.
+/// A span, a line and a text whose graphemes take one column each leave a buffer of plain cells one
+/// of plain cells, wherever they are rendered; so a screen can show it. A grapheme of no columns
+/// after a wide one stands in a column of that one, which a screen can't show.
 pub fn narrow_texts_keep_cells_plain()
     ensures span { (span : SpanData) (area : Rect) (old new : BufferData)
         → HasNarrowGraphemes span.content → IsPlainFrom 0 old → RendersSpan span area old new

@@ -12,8 +12,19 @@ use rtui_backend::Backend;
 use rtui_buffer::{Buffer, diff_rows};
 use rtui_grid::fill;
 
-/// Draws `count` rows of a buffer, from its row `first` on, at row `y` of a screen: what differs in them from the first
-/// `count` rows of a former buffer, which the screen shows there. A flush follows.
+/// Draws `count` rows of a buffer, from its row `first` on, at row `y` of a screen: what differs in
+/// them from the first `count` rows of a former buffer, which the screen shows there. A flush
+/// follows.
+///
+/// # Conditions
+///
+/// Both buffers have the same width. The former one has `count` rows, the other one has them from
+/// row `first` on, and `y + count` is at most 65535.
+///
+/// # Errors
+///
+/// The backend's own error if one of its calls failed. Nothing is said of the screen then, and one
+/// more failure is counted.
 pub fn draw_rows<B: Backend>(
     backend: &mut B,
     former: &Buffer,
@@ -38,8 +49,18 @@ pub fn draw_rows<B: Backend>(
     backend.flush()
 }
 
-/// Draws the first row of a buffer on the screen's first row, whatever stands there: each cell but skipped ones and
-/// those that a wide one covers. The first row of an empty buffer is written to meanwhile.
+/// Draws the first row of a buffer on the screen's first row, whatever stands there: each cell but
+/// skipped ones and those that a wide one covers. The first row of an empty buffer is written to
+/// meanwhile.
+///
+/// # Conditions
+///
+/// `blank` is an empty buffer as wide as `rows`, and both have a row.
+///
+/// # Errors
+///
+/// The backend's own error if one of its calls failed. Nothing is said of the screen then, and one
+/// more failure is counted. `blank` is empty again.
 pub fn draw_first_row<B: Backend>(
     backend: &mut B,
     blank: &mut Buffer,

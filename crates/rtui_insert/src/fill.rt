@@ -20,8 +20,16 @@ where
     draw_fn(buffer)
 }
 
-/// What a closure leaves of an empty buffer of this area. Refused if the buffer has cells and was refused memory,
-/// in which case the closure isn't called, or if the closure refuses.
+/// What a closure leaves of an empty buffer of this area.
+///
+/// # Conditions
+///
+/// The edges of the area are at most 65535, and the closure may be called on an empty buffer of it.
+///
+/// # Errors
+///
+/// `AllocError` if the buffer has cells and memory is refused, in which case the closure isn't
+/// called; or if the closure answers so.
 pub fn fill_rows<F>(alloc: Global, area: Rect, draw_fn: F) -> Result<Buffer, AllocError>
 where
     F: FnOnce(&mut Buffer) -> Result<(), AllocError>,

@@ -13,8 +13,17 @@ use rtui_backend::Backend;
 use rtui_buffer::Buffer;
 use rtui_geometry::Rect;
 
-/// Puts the rows of a buffer on the screen's first row, one after the other, and scrolls each off from there. The first row
-/// is blank after that, and all rows below it are as before.
+/// Puts the rows of a buffer on the screen's first row, one after the other, and scrolls each off
+/// from there. The first row is blank after that, and all rows below it are as before.
+///
+/// # Conditions
+///
+/// `blank` is an empty buffer as wide as `rows`, of at least one row.
+///
+/// # Errors
+///
+/// The backend's own error if one of its calls failed. Nothing is said of the screen then, and one
+/// more failure is counted. `blank` is empty again.
 pub fn push_rows<B: Backend>(
     backend: &mut B,
     blank: &mut Buffer,
@@ -38,8 +47,18 @@ pub fn push_rows<B: Backend>(
     Ok(())
 }
 
-/// Moves a viewport down by as many rows as there are and the screen of `height` rows has room for, and draws the first
-/// rows of a buffer at the place where it stood. Answers how many.
+/// Moves a viewport down by as many rows as there are and the screen of `height` rows has room for,
+/// and draws the first rows of a buffer at the place where it stood. Answers how many.
+///
+/// # Conditions
+///
+/// `blank` is an empty buffer as wide as `rows`, of at least as many rows as the viewport moves
+/// down. The edges of the viewport are at most 65535.
+///
+/// # Errors
+///
+/// The backend's own error if one of its calls failed. Nothing is said of the screen then, and one
+/// more failure is counted.
 pub fn insert_down<B: Backend>(
     backend: &mut B,
     blank: &Buffer,
@@ -68,8 +87,20 @@ pub fn insert_down<B: Backend>(
     Ok(count)
 }
 
-/// Scrolls the rows above row `top` up, as far as there are any at a time, and draws the rows of a buffer from row `first`
-/// on above `top`. The screen's rows from `top` on are as before. A flush follows each drawing.
+/// Scrolls the rows above row `top` up, as far as there are any at a time, and draws the rows of a
+/// buffer from row `first` on above `top`. The screen's rows from `top` on are as before. A flush
+/// follows each drawing.
+///
+/// # Conditions
+///
+/// `first` is at most the number of rows, and if it is less, `top` is above 0. `blank` is an empty
+/// buffer as wide as `rows`, of at least as many rows as are drawn at a time: those from `first`
+/// on, but at most `top`.
+///
+/// # Errors
+///
+/// The backend's own error if one of its calls failed. Nothing is said of the screen then, and one
+/// more failure is counted.
 pub fn insert_up<B: Backend>(
     backend: &mut B,
     blank: &Buffer,

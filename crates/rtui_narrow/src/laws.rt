@@ -22,7 +22,8 @@ pub fn joined_symbols_are_short()
         → IsShort (merged m prev next) }
 {}
 
-/// The symbols of each filling, of bars and of blocks, and those of plain lines and borders are narrow.
+/// The symbols of each filling, of bars and of blocks, and those of plain lines and borders are
+/// narrow.
 pub fn symbols_are_narrow()
     ensures bars { AreNarrowTexts bar_levels }
     ensures blocks { AreNarrowTexts block_levels }

@@ -1,5 +1,6 @@
-//! Laws of terminals that are no single call's clause, stated over the definitions of `specs/` alone; above all the
-//! headline of `specs/Headline`. Calling one of these functions costs nothing and tells the caller's proof its law.
+//! Laws of terminals that are no single call's clause, stated over the definitions of `specs/`
+//! alone; above all the headline of `specs/Headline`. Calling one of these functions costs nothing
+//! and tells the caller's proof its law.
 
 ghost use Rattle.std.specs.Prelude.{ℕ, ◌<◌, Option};
 ghost use Rattle.rtui_geometry.specs.declared.position.Position.{Position};
@@ -25,15 +26,15 @@ ghost use Rattle.rtui_terminal.specs.Headline.{IsHeadline, KeepsRows};
 
 use rtui_backend::Backend;
 
-/// From in step, and while each painted and inserted buffer is settled, every call of a list that answered Ok is
-/// faithful: the screen shows the buffer that it leaves, exactly its rows came to those above an inline viewport,
-/// and nothing changed outside a fixed one.
+/// From in step, and while each painted and inserted buffer is settled, every call of a list that
+/// answered Ok is faithful: the screen shows the buffer that it leaves, exactly its rows came to
+/// those above an inline viewport, and nothing changed outside a fixed one.
 pub fn every_call_is_faithful<B: Backend>()
     ensures { IsHeadline B.screen }
 {}
 
-/// While the size stays, the rows above an inline viewport are those at the start, followed by all that were
-/// inserted since.
+/// While the size stays, the rows above an inline viewport are those at the start, followed by all
+/// that were inserted since.
 pub fn rows_above_are_those_inserted<B: Backend>()
     ensures { KeepsRows B.screen }
 {}
@@ -50,14 +51,16 @@ pub fn empty_buffers_move_with_an_insertion<B: Backend>()
         → IsEmptied s.viewport_area s.current → IsEmptied t.viewport_area t.current }
 {}
 
-/// On a screen with rows a viewport of one row starts in the cursor's, and the screen stays as it was.
+/// On a screen with rows a viewport of one row starts in the cursor's, and the screen stays as it
+/// was.
 pub fn one_row_starts_at_the_cursor<B: Backend>()
     ensures { (b : B) (t : TerminalData B) → 0 < (B.screen b).height
         → Starts B.screen (Inline 1) b t
         → StartsInRow B.screen b t }
 {}
 
-/// On a blank screen a terminal starts in step if its viewport lies on the screen, which is blank still.
+/// On a blank screen a terminal starts in step if its viewport lies on the screen, which is blank
+/// still.
 pub fn blank_screens_start_in_step<B: Backend>()
     ensures in_step { (v : Viewport) (b : B) (t : TerminalData B) → Starts B.screen v b t
         → IsOnScreen t.viewport_area (B.screen t.backend) → IsBlank (B.screen b)
@@ -79,8 +82,9 @@ pub fn known_sizes_stay<B: Backend>()
         → Stays B.screen s sized }
 {}
 
-/// A start on a blank screen leaves a terminal at rest, and each call of an application that answers Ok keeps it so: a draw
-/// or an apply of a settled buffer, a draw that finds another size, a clear, and an insertion of settled rows.
+/// A start on a blank screen leaves a terminal at rest, and each call of an application that
+/// answers Ok keeps it so: a draw or an apply of a settled buffer, a draw that finds another size,
+/// a clear, and an insertion of settled rows.
 pub fn calls_leave_a_terminal_at_rest<B: Backend>()
     ensures started { (kind : Viewport) (b : B) (t : TerminalData B)
         → FitsSize kind (size_of (B.screen b))

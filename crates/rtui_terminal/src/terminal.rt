@@ -17,8 +17,8 @@ mod render;
 mod resize;
 mod widget;
 
-/// A terminal over a backend. It keeps the buffer to paint on and the one painted before, so that a draw writes
-/// only what differs. Its drop shows a cursor that it hid.
+/// A terminal over a backend. It keeps the buffer to paint on and the one painted before, so that a
+/// draw writes only what differs. Its drop shows a cursor that it hid.
 ///
 /// ```
 /// let mut terminal = Terminal::new(alloc, TestBackend::new(alloc, 80, 24)?)?;

@@ -72,9 +72,19 @@ fn clear_fixed<B: Backend>(backend: &mut B, area: Rect) -> Result<(), B::Error>
     backend.clear_region(ClearType::AfterCursor)
 }
 
-/// Empties a viewport's area. An inline viewport is emptied with all rows below it, a fixed one alone, and for a
-/// fullscreen one the whole screen is. Blanks are drawn only over a fixed one that isn't as wide as the screen. The
-/// cursor may end anywhere, but of a fullscreen one it stays.
+/// Empties a viewport's area. An inline viewport is emptied together with all rows below it, a
+/// fixed one alone, and for a fullscreen one the whole screen is. Blanks are drawn only over a
+/// fixed one that isn't as wide as the screen. The cursor may end anywhere; for a fullscreen one it
+/// stays.
+///
+/// # Conditions
+///
+/// The edges of the area are at most 65535.
+///
+/// # Errors
+///
+/// The backend's own error if one of its calls failed. Nothing is said of the screen then, and one
+/// more failure is counted.
 pub fn clear_area<B: Backend>(
     backend: &mut B,
     viewport: Viewport,
@@ -105,6 +115,11 @@ pub fn clear_area<B: Backend>(
 }
 
 /// Sets the cursor back to a place, if there is one.
+///
+/// # Errors
+///
+/// The backend's own error if one of its calls failed. Nothing is said of the screen then, and one
+/// more failure is counted.
 pub fn restore_cursor<B: Backend>(backend: &mut B, cursor: Option<Position>) -> Result<(), B::Error>
     ensures restored { OnOk result
         (B.screen backend.new ≡ cursor_restored cursor (B.screen backend.old)) }

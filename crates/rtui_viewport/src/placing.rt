@@ -16,9 +16,14 @@ pub struct Placed {
     pub cursor: Option<Position>,
 }
 
-/// Makes room for an inline viewport of `wanted` rows on a screen of this size, of which `offset` are to lie
-/// above the cursor's row: if they don't fit below it, the screen scrolls. It answers the viewport's area, and
-/// where the cursor was.
+/// Makes room for an inline viewport of `wanted` rows on a screen of this size, of which `offset`
+/// are to lie above the cursor's row: if they don't fit below it, the screen scrolls. It answers
+/// the viewport's area, and where the cursor was.
+///
+/// # Errors
+///
+/// The backend's own error if one of its calls failed. Nothing is said of the screen then, and one
+/// more failure is counted.
 pub fn place_inline<B: Backend>(
     backend: &mut B,
     wanted: u16,
@@ -72,9 +77,18 @@ fn raise<B: Backend>(backend: &mut B, area: Rect, former_width: u16) -> Result<R
     Ok(Rect { y: 0, ..area })
 }
 
-/// Finds where a viewport goes in a new area: an inline one as `place_inline` says, any other takes it as it is.
-/// One that became narrower goes to the top, and the screen is emptied. For one that isn't inline and didn't become
-/// narrower no call is made.
+/// Finds where a viewport goes in a new area: an inline one as `place_inline` says, any other takes
+/// it as it is. One that became narrower goes to the top, and the screen is emptied. For one that
+/// isn't inline and didn't become narrower no call is made.
+///
+/// # Conditions
+///
+/// The edges of the area are at most 65535.
+///
+/// # Errors
+///
+/// The backend's own error if one of its calls failed. Nothing is said of the screen then, and one
+/// more failure is counted.
 pub fn place_viewport<B: Backend>(
     backend: &mut B,
     viewport: Viewport,

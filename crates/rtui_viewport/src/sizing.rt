@@ -8,7 +8,17 @@ use crate::viewport::Viewport;
 use rtui_backend::Backend;
 use rtui_geometry::Rect;
 
-/// The area that a new viewport is placed on: a fixed one's own, for which no call is made, else the whole screen.
+/// The area that a new viewport is placed on: a fixed one's own, for which no call is made, or else
+/// the whole screen.
+///
+/// # Conditions
+///
+/// The edges of a fixed viewport are at most 65535.
+///
+/// # Errors
+///
+/// The backend's own error if one of its calls failed. Nothing is said of the screen then, and one
+/// more failure is counted.
 pub fn first_area<B: Backend>(backend: &mut B, viewport: Viewport) -> Result<Rect, B::Error>
     requires { FitsEdges viewport }
     ensures area { IfOk result (λ area. area ≡ first_area viewport (B.screen backend.old)) }
@@ -23,8 +33,13 @@ pub fn first_area<B: Backend>(backend: &mut B, viewport: Viewport) -> Result<Rec
     Ok(Rect::from(backend.size()?))
 }
 
-/// The area that a viewport must be placed on anew: the whole screen, if that isn't the last known one. A fixed
-/// viewport stays, and no call is made for it.
+/// The area that a viewport has to be placed on again: the whole screen, if that isn't the last
+/// known one. A fixed viewport stays, and no call is made for it.
+///
+/// # Errors
+///
+/// The backend's own error if one of its calls failed. Nothing is said of the screen then, and one
+/// more failure is counted.
 pub fn changed_area<B: Backend>(
     backend: &mut B,
     viewport: Viewport,

@@ -1,5 +1,5 @@
-//! Laws of rendering that are no single call's clause, stated over the definitions of `specs/` alone. Calling one of these
-//! functions costs nothing and tells the caller's proof its law.
+//! Laws of rendering that are no single call's clause, stated over the definitions of `specs/`
+//! alone. Calling one of these functions costs nothing and tells the caller's proof its law.
 
 ghost use Rattle.std.specs.Prelude.{ℕ, ◌+◌, ◌<◌, ◌≤◌, List, Option, length, All};
 ghost use Rattle.std.specs.Str.{IsAscii, IsUtf8};
@@ -29,8 +29,8 @@ pub fn ascii_texts_take_no_memory()
         → RendersShortStr text area s }
 {}
 
-/// An empty buffer with rows has a first one to be rendered in, and a screen can show what a text leaves that is rendered
-/// on an empty buffer, from a column of it on.
+/// An empty buffer with rows has a first one to be rendered in, and a screen can show what a text
+/// leaves that is rendered on an empty buffer, from a column of it on.
 pub fn texts_on_empty_buffers_are_settled()
     ensures first { (r : Rect) (s : BufferData) → 0 < r.height → IsEmptied r s → HasFirstRow r s }
     ensures settled { (r area : Rect) (text : List ℕ) (old new : BufferData) → IsEmptied r old

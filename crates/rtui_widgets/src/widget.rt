@@ -19,8 +19,8 @@ use std::alloc::AllocError;
 /// Line::raw(alloc, "Hello, world!")?.centered().render(area, buf)?;
 /// ```
 ///
-/// A widget says by its ghost members over which areas it may be rendered, and what it makes of a buffer; what calls any widget
-/// relies on these alone.
+/// A widget says by its ghost members over which areas it may be rendered, and what it makes of a
+/// buffer; a call that takes any widget relies on these alone.
 pub trait Widget {
     // where it may be rendered: over this area of such a buffer
     ghost can_render: { Self → Rect → BufferData → Type 0 } = { λ _ _ _. ⊤ };
@@ -37,8 +37,18 @@ pub trait Widget {
     // where it takes no memory: nowhere, unless it says otherwise
     ghost is_short: { Self → Rect → BufferData → Type 0 } = { λ _ _ _. ⊥ };
 
-    /// Renders it. It is refused if memory is; then no cell outside its reach changed, which is the area unless the
-    /// widget says otherwise.
+    /// Renders the widget over an area of a buffer.
+    ///
+    /// # Conditions
+    ///
+    /// The widget may be rendered there, as far as it says; one that says nothing of it may be
+    /// rendered over any area.
+    ///
+    /// # Errors
+    ///
+    /// `AllocError` if memory is refused. Then no cell outside the widget's reach has changed,
+    /// which is the area unless the widget says otherwise. A widget may say more of what it leaves,
+    /// and when it takes no memory.
     fn render(self, area: Rect, buf: &mut Buffer) -> Result<(), AllocError>
         requires { can_render self area buf.old }
         ensures area { buf.new.area ≡ buf.old.area }
@@ -68,8 +78,18 @@ pub trait StatefulWidget {
     // where it takes no memory: nowhere, unless it says otherwise
     ghost is_short: { Self → Self.State → Rect → BufferData → Type 0 } = { λ _ _ _ _. ⊥ };
 
-    /// Renders it. It is refused if memory is; then no cell outside its reach changed, which is the area unless the
-    /// widget says otherwise.
+    /// Renders the widget over an area of a buffer, from one state to the next.
+    ///
+    /// # Conditions
+    ///
+    /// The widget may be rendered there in this state, as far as it says; one that says nothing of
+    /// it may be rendered over any area.
+    ///
+    /// # Errors
+    ///
+    /// `AllocError` if memory is refused. Then no cell outside the widget's reach has changed,
+    /// which is the area unless the widget says otherwise. A widget may say more of what it leaves,
+    /// and when it takes no memory.
     fn render(self, area: Rect, buf: &mut Buffer, state: &mut Self::State) -> Result<(), AllocError>
         requires { can_render self state.old area buf.old }
         ensures area { buf.new.area ≡ buf.old.area }
@@ -79,7 +99,8 @@ pub trait StatefulWidget {
         ensures short { is_short self state.old area buf.old → IsOk result };
 }
 
-/// In the first row of the area: each grapheme at the sum of the widths before it, as far as the row goes.
+/// In the first row of the area: each grapheme at the sum of the widths before it, as far as the
+/// row goes.
 impl<'b, 'a> Widget for &'b Span<'a> {
     ghost use Rattle.rtui_widgets.specs.Rendering.{RendersSpan, RendersShortSpan};
     ghost use Rattle.rtui_widgets.specs.Refused.{LeavesSpan};
@@ -110,8 +131,9 @@ impl<'a> Widget for Span<'a> {
     }
 }
 
-/// In the first row of the area, aligned as the line says: its spans one after the other, under them the line's style over the
-/// whole row. What doesn't fit is cut, at the left if the line isn't aligned to the left.
+/// In the first row of the area, aligned as the line says: its spans one after the other, under
+/// them the line's style over the whole row. What doesn't fit is cut, at the left if the line isn't
+/// aligned to the left.
 impl<'b, 'a> Widget for &'b Line<'a> {
     ghost use Rattle.rtui_widgets.specs.Rendering.{RendersLine, RendersShortLine};
     ghost use Rattle.rtui_widgets.specs.Refused.{LeavesLine};
@@ -142,7 +164,8 @@ impl<'a> Widget for Line<'a> {
     }
 }
 
-/// Line by line from the top of the area, each in a row of its own, under them the text's style over the whole area.
+/// Line by line from the top of the area, each in a row of its own, under them the text's style
+/// over the whole area.
 impl<'b, 'a> Widget for &'b Text<'a> {
     ghost use Rattle.rtui_widgets.specs.Rendering.{RendersText, RendersShortText};
     ghost use Rattle.rtui_widgets.specs.Refused.{LeavesText};
@@ -194,8 +217,11 @@ impl<W: Widget> Widget for Option<W> {
     }
 }
 
-/// Painted from the corner of the area on, in at most its columns. The area's first row has to lie in the buffer, and not to
-/// begin left of it.
+/// Painted from the corner of the area on, in at most its columns.
+///
+/// # Conditions
+///
+/// The area's first row lies in the buffer, and doesn't begin left of it.
 impl<'a> Widget for &'a str {
     ghost use Rattle.rtui_widgets.specs.Rendering.{HasFirstRow, LeavesStr, RendersStr, RendersShortStr};
 

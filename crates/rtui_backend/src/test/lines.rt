@@ -121,8 +121,16 @@ impl TestBackend {
     ghost use Rattle.std.specs.Prelude.{None};
     ghost use Rattle.rtui_backend.specs.TestBackend.{failures_of, told_after};
 
-    /// A screen that shows these lines, a row each, as a buffer made by `Buffer::from_texts` of them does, its cursor
-    /// visible in the corner; refused if memory is.
+    /// A screen that shows these lines, a row each, as a buffer made by `Buffer::from_texts` of
+    /// them does, its cursor visible in the corner.
+    ///
+    /// # Conditions
+    ///
+    /// There are at most 65535 lines, and each takes at most 65535 columns.
+    ///
+    /// # Errors
+    ///
+    /// `AllocError` if memory is refused.
     #[tactic(auto, using(crate::proofs::PlainLemmas::plain_rows))]
     pub fn with_lines(alloc: Global, lines: &[&str]) -> Result<TestBackend, AllocError>
         requires height { length lines.now ≤ 65535 }
@@ -156,8 +164,9 @@ impl TestBackend {
         &self.buffer.content()[start..start + width]
     }
 
-    /// Whether the screen shows these lines, symbol by symbol, as a buffer made by `Buffer::from_texts` of them does: it
-    /// has as many rows as there are lines and as many columns as the widest of them.
+    /// Whether the screen shows these lines, symbol by symbol, as a buffer made by
+    /// `Buffer::from_texts` of them does: it has as many rows as there are lines and as many
+    /// columns as the widest of them.
     pub fn lines_are(&self, lines: &[&str]) -> bool
         ensures { IsTrue result ↔ ScreenHasLines (raw_lines lines.now) (screen_of self.now) }
     {
@@ -175,8 +184,9 @@ impl TestBackend {
         true
     }
 
-    /// Whether the rows that scrolled off the screen show these lines, symbol by symbol, as a buffer made by
-    /// `Buffer::from_texts` of them does: there are as many rows as lines, each as wide as the widest of the lines.
+    /// Whether the rows that scrolled off the screen show these lines, symbol by symbol, as a
+    /// buffer made by `Buffer::from_texts` of them does: there are as many rows as lines, each as
+    /// wide as the widest of the lines.
     pub fn scrollback_is(&self, lines: &[&str]) -> bool
         ensures { IsTrue result ↔ HistoryHasLines (raw_lines lines.now) (screen_of self.now) }
     {

@@ -69,8 +69,13 @@ fn write_rows<W: Write>(writer: &mut W, backend: &TestBackend) -> io::Result<()>
 }
 
 impl TestBackend {
-    /// Writes the rows that scrolled off, each after `^`, and those of the screen, each after `|`. Each row has the
-    /// symbols of its columns, but for the columns that a wide symbol covers, and ends in a line break.
+    /// Writes the rows that scrolled off, each after `^`, and those of the screen, each after `|`.
+    /// Each row has the symbols of its columns, but for the columns that a wide symbol covers, and
+    /// ends in a line break.
+    ///
+    /// # Errors
+    ///
+    /// The writer's error if a write fails. How much was written then isn't said.
     pub fn write_to<W: Write>(&self, writer: &mut W) -> io::Result<()>
         ensures { OnOk result (Appends (W.contents writer.old) (W.contents writer.new)
             (printed_screen (screen_of self.now))) }

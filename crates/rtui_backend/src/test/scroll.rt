@@ -109,7 +109,12 @@ impl TestBackend {
     ghost use Rattle.rtui_backend.specs.Screen.{Appends, Clears, ScrollsUp, ScrollsDown, TakesSize, cursor_of};
     ghost use Rattle.rtui_backend.specs.TestBackend.{screen_of, failures_of, told_after};
 
-    // Moves the cursor's row down, and scrolls what goes past the last one.
+    /// Moves the cursor's row down by `n`, and scrolls what goes past the last row, as
+    /// `append_lines` does. It is no call of `Backend`, and `fail_after` doesn't count it.
+    ///
+    /// # Errors
+    ///
+    /// `AllocError` if memory is refused; the screen is as before then.
     pub fn append(&mut self, n: u16) -> Result<(), AllocError>
         ensures ok { OnOk result (Appends (screen_of self.old) n (screen_of self.new)) }
         ensures column { (screen_of self.new).cursor_x ≡ (screen_of self.old).cursor_x }
@@ -134,7 +139,13 @@ impl TestBackend {
         Ok(())
     }
 
-    // Moves the rows of a region up, those of one at the top to the history.
+    /// Moves the rows of a region up by `n`, those of a region at the top to the history, as
+    /// `scroll_region_up` does. It is no call of `Backend`, and `fail_after` doesn't count it.
+    ///
+    /// # Errors
+    ///
+    /// `AllocError` if memory is refused; the screen is as before then. A region that begins below
+    /// the first row takes none.
     pub fn scroll_up(&mut self, region: Range<u16>, n: u16) -> Result<(), AllocError>
         ensures ok { OnOk result
             (ScrollsUp region.start region.end n (screen_of self.old) (screen_of self.new)) }
@@ -159,7 +170,8 @@ impl TestBackend {
         Ok(())
     }
 
-    // Moves the rows of a region down.
+    /// Moves the rows of a region down by `n`, as `scroll_region_down` does. It is no call of
+    /// `Backend`, and `fail_after` doesn't count it.
     pub fn scroll_down(&mut self, region: Range<u16>, n: u16)
         ensures scrolled { ScrollsDown region.start region.end n
             (screen_of self.old) (screen_of self.new) }
@@ -178,7 +190,8 @@ impl TestBackend {
         shift_down(self.buffer.cells_mut(), from, to, usize::from(n) * width);
     }
 
-    // Empties a part of the screen.
+    /// Empties a part of the screen, as `clear_region` does. It is no call of `Backend`, and
+    /// `fail_after` doesn't count it.
     pub fn clear_part(&mut self, clear_type: ClearType)
         ensures cleared { Clears (screen_of self.old) clear_type (screen_of self.new) }
         ensures failures { failures_of self.new ≡ failures_of self.old }
@@ -189,9 +202,13 @@ impl TestBackend {
         fill(self.buffer.cells_mut(), from, to);
     }
 
-    /// Gives the screen another size in columns and rows: rows and columns are cut, or blank ones come in at the right
-    /// and below. The history stays, and the cursor is kept on the screen. If memory is refused nothing changes.
+    /// Gives the screen another size in columns and rows: rows and columns are cut, or blank ones
+    /// come in at the right and below. The history stays, and the cursor is kept on the screen.
     /// This is no call of `Backend`, and `fail_after` doesn't count it.
+    ///
+    /// # Errors
+    ///
+    /// `AllocError` if memory is refused; nothing has changed then.
     pub fn resize(&mut self, width: u16, height: u16) -> Result<(), AllocError>
         ensures ok { OnOk result (TakesSize (screen_of self.old)
             (record { width = width; height = height }) (screen_of self.new)) }

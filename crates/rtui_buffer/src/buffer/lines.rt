@@ -23,9 +23,14 @@ use std::alloc::{AllocError, Global};
 impl Buffer {
     /// Paints a span's text in its style, as `set_stringn` does.
     ///
+    /// # Conditions
+    ///
+    /// Row `y` is one of the area, and column `x` isn't left of it. If not, the Rust crate panics
+    /// when it paints a grapheme.
+    ///
     /// # Errors
     ///
-    /// As those of `set_stringn`.
+    /// Those of `set_stringn`.
     pub fn set_span(
         &mut self,
         x: u16,
@@ -45,9 +50,9 @@ impl Buffer {
         self.set_stringn(x, y, span.text(), usize::from(max), span.style)
     }
 
-    /// Paints a line from a column and a row on, span after span, each in its style over the line's and in the
-    /// width that is left of the area and of `max` columns. A span that is cut does not end it. It answers the
-    /// column after the last one that was painted, and the row.
+    /// Paints a line from a column and a row on, span after span, each in its style over the line's
+    /// and in the width that is left of the area and of `max` columns. A span that is cut does not
+    /// end it. It answers the column after the last one that was painted, and the row.
     ///
     /// ```
     /// let mut buffer = Buffer::empty(alloc, Rect::new(0, 0, 9, 1))?;
@@ -57,9 +62,15 @@ impl Buffer {
     /// assert!(rt; next == 9);
     /// ```
     ///
+    /// # Conditions
+    ///
+    /// Row `y` is one of the area, and column `x` isn't left of it. If not, the Rust crate panics
+    /// when it paints a grapheme.
+    ///
     /// # Errors
     ///
-    /// Memory was refused: a front of the line's graphemes is painted, and no more. Graphemes of at most 22 bytes take none.
+    /// `AllocError` if memory is refused; a front of the line's graphemes is painted then, and no
+    /// more. Graphemes of at most 22 bytes take none.
     #[tactic(auto, using(crate::proofs::LineLemmas::no_line_steps))]
     pub fn set_line(
         &mut self,
@@ -95,9 +106,17 @@ impl Buffer {
         Ok((x + used, y))
     }
 
-    /// A buffer at the corner `(0, 0)` with these lines, each in a row of its own: as wide as the widest of them,
-    /// and as high as there are lines, both at most 65535 ([`lines_width`] says how wide). Refused if memory is;
-    /// no lines take none.
+    /// A buffer at the corner `(0, 0)` with these lines, each in a row of its own: as wide as the
+    /// widest of them, and as high as there are lines.
+    ///
+    /// # Conditions
+    ///
+    /// There are at most 65535 lines, and each takes at most 65535 columns ([`lines_width`] says
+    /// how many the widest takes).
+    ///
+    /// # Errors
+    ///
+    /// `AllocError` if memory is refused. An empty list takes none.
     pub fn with_lines(alloc: Global, lines: &[Line<'_>]) -> Result<Buffer, AllocError>
         requires height { length lines.now ≤ 65535 }
         requires width { widest lines.now ≤ 65535 }
@@ -116,8 +135,16 @@ impl Buffer {
         Ok(Buffer { area, content })
     }
 
-    /// A buffer with a line for each of these texts, as `with_lines` has it ([`texts_width`] says how wide);
-    /// refused if memory is. No texts take none.
+    /// A buffer with a line for each of these texts, as `with_lines` makes it.
+    ///
+    /// # Conditions
+    ///
+    /// There are at most 65535 texts, and each takes at most 65535 columns ([`texts_width`] says
+    /// how many the widest takes).
+    ///
+    /// # Errors
+    ///
+    /// `AllocError` if memory is refused. An empty list takes none.
     pub fn from_texts(alloc: Global, texts: &[&str]) -> Result<Buffer, AllocError>
         requires height { length texts.now ≤ 65535 }
         requires width { widest (raw_lines texts.now) ≤ 65535 }
@@ -134,7 +161,8 @@ impl Buffer {
     }
 }
 
-/// The greatest width of these lines in columns: that of the buffer that `Buffer::with_lines` makes.
+/// The greatest width of these lines in columns: that of the buffer that `Buffer::with_lines`
+/// makes.
 pub fn lines_width(lines: &[Line<'_>]) -> usize
     ensures { result ≡ widest lines.now }
 {

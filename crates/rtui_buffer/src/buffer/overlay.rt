@@ -26,12 +26,12 @@ impl Buffer {
         }
     }
 
-    /// Lays another buffer over this one: on the union of their areas each cell of the other one, where it has
-    /// none each of this one, else an empty cell.
+    /// Lays another buffer over this one: on the union of their areas stands each cell of the other
+    /// one; where that has none, each cell of this one; and elsewhere an empty cell.
     ///
     /// # Errors
     ///
-    /// Memory was refused: nothing changed.
+    /// `AllocError` if memory is refused; nothing has changed then.
     pub fn merge(&mut self, other: &Buffer) -> Result<(), AllocError>
         ensures overlay { OnOk result (IsOverlay self.old other.now self.new) }
         ensures keeps_room { self.old.room ≤ self.new.room }

@@ -22,13 +22,20 @@ use std::alloc::{AllocError, Global};
 use unicode_segmentation::UnicodeSegmentation;
 
 impl Buffer {
-    /// Paints a text in a style, from a column and a row on: the longest front of its graphemes that fits the
-    /// area and `max` columns, without those that have a control character or no width. The columns after a
-    /// wide grapheme become empty. It answers the column after the last one that was painted, and the row.
+    /// Paints a text in a style, from a column and a row on: the longest front of its graphemes
+    /// that fits the area and `max` columns, without those that have a control character or no
+    /// width. The columns after a wide grapheme become empty. It answers the column after the last
+    /// one that was painted, and the row.
+    ///
+    /// # Conditions
+    ///
+    /// Row `y` is one of the area, and column `x` isn't left of it. If not, the Rust crate panics
+    /// when it paints a grapheme.
     ///
     /// # Errors
     ///
-    /// Memory was refused: a front of these graphemes is painted, and no more. Graphemes of at most 22 bytes take none.
+    /// `AllocError` if memory is refused; a front of these graphemes is painted then, and no more.
+    /// Graphemes of at most 22 bytes take none.
     #[tactic(auto, using(crate::proofs::TextLemmas::none_steps))]
     pub fn set_stringn(
         &mut self,
@@ -66,9 +73,14 @@ impl Buffer {
     /// assert!(rt; buffer[(4, 0)].symbol() == "e");
     /// ```
     ///
+    /// # Conditions
+    ///
+    /// Row `y` is one of the area, and column `x` isn't left of it. If not, the Rust crate panics
+    /// when it paints a grapheme.
+    ///
     /// # Errors
     ///
-    /// As those of `set_stringn`.
+    /// Those of `set_stringn`.
     pub fn set_string(&mut self, x: u16, y: u16, text: &str, style: Style) -> Result<(), AllocError>
         requires row { HasRow self.old.area y }
         requires column { self.old.area.x ≤ x }
@@ -148,6 +160,15 @@ pub fn paint_text(
 }
 
 /// Paints printable characters of ASCII in a style, one in each cell from a place on.
+///
+/// # Conditions
+///
+/// Each byte is a printable character of ASCII, and the list has a cell for each, from place
+/// `start` on.
+///
+/// # Errors
+///
+/// None: it takes no memory.
 #[tactic(auto, using(crate::proofs::PrintableLemmas::byte_steps))]
 pub fn paint_printable(
     alloc: Global,
@@ -269,7 +290,11 @@ fn show(alloc: Global, cell: &mut Cell, symbol: &str, style: Style) -> Result<()
     Ok(())
 }
 
-/// Empties the cells of a part.
+/// Empties the cells from one place up to another.
+///
+/// # Conditions
+///
+/// `from` is at most `to`, and `to` is at most the number of cells.
 pub fn empty_part(cells: &mut [Cell], from: usize, to: usize)
     requires order { from ≤ to }
     requires inside { to ≤ length cells.old }

@@ -19,7 +19,7 @@ impl<B: Backend> Terminal<B> {
         &self.backend
     }
 
-    /// The backend, to be written; what is changed on its screen the terminal doesn't know.
+    /// The backend, to be written. The terminal doesn't know what is changed on its screen.
     pub fn backend_mut(&mut self) -> &mut B
         ensures* writes_back { let row = the_row B.row B.Error.row B.Backend
             B.Error.Debug B.Error.Display in
@@ -37,6 +37,11 @@ impl<B: Backend> Terminal<B> {
     }
 
     /// The size of the backend's screen, in columns and rows.
+    ///
+    /// # Errors
+    ///
+    /// `Backend` if the backend's call failed; all of the terminal but the backend is as before
+    /// then.
     pub fn size(&mut self) -> Result<Size, TerminalError<B::Error>>
         ensures ok { IfOk result (λ size. size ≡ size_of (B.screen self.old.backend)) }
         ensures stays { OnOk result (Stays B.screen self.old self.new) }

@@ -63,8 +63,8 @@ impl<B: Backend> Terminal<B> {
         }
     }
 
-    /// A new frame over the current buffer, without a cursor. To paint outside a draw in a way that a proof sees, use
-    /// `current_buffer_mut`.
+    /// A new frame over the current buffer, without a cursor. To paint outside a draw in a way that
+    /// a proof sees, use `current_buffer_mut`.
     pub fn get_frame(&mut self) -> Frame<'_>
         ensures* writes_back { let row = the_row B.row B.Error.row B.Backend
             B.Error.Debug B.Error.Display in
@@ -94,11 +94,14 @@ impl<B: Backend> Terminal<B> {
         &mut self.current
     }
 
-    /// Writes what differs between the previous and the current buffer, and leaves both as they are.
+    /// Writes what differs between the previous and the current buffer, and leaves both as they
+    /// are.
     ///
     /// # Errors
     ///
-    /// `Area` if one of them hasn't the viewport's area: then nothing is written.
+    /// - `Area`: one of them hasn't the viewport's area. Nothing has changed then.
+    /// - `Backend`: a call of the backend failed. The buffers are as before, and the screen may
+    ///   show anything.
     pub fn flush(&mut self) -> Result<(), TerminalError<B::Error>>
         ensures outcome { MatchResult result
             (λ _. Flushes B.screen self.old self.new) (FlushErr self.old self.new) }

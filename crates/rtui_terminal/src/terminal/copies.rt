@@ -11,8 +11,8 @@ use rtui_viewport::Viewport;
 use std::alloc::{AllocError, Global};
 
 impl<B: Backend + Default + Drop> Terminal<B> {
-    /// A terminal over a default backend, which isn't asked for its size: the viewport is empty. It takes no
-    /// memory.
+    /// A terminal over a default backend, which isn't asked for its size: the viewport is empty. It
+    /// takes no memory.
     pub fn default_in(alloc: Global) -> Self
         ensures empty { IsDefaultOver result }
         ensures backend { B.is_default result.backend }
@@ -32,7 +32,15 @@ impl<B: Backend + Default + Drop> Terminal<B> {
 }
 
 impl<B: Backend + Clone> Terminal<B> {
-    /// An equal terminal over a clone of the backend, which has to equal the backend; refused if memory is.
+    /// An equal terminal over a clone of the backend.
+    ///
+    /// # Conditions
+    ///
+    /// A clone of the backend equals the backend.
+    ///
+    /// # Errors
+    ///
+    /// `AllocError` if memory is refused.
     pub fn clone(&self, alloc: Global) -> Result<Self, AllocError>
         requires { (copy : B) → B.is_clone self.now.backend copy → copy ≡ self.now.backend }
         ensures { IfOk result (IsSameTerminal self.now) }

@@ -11,6 +11,11 @@ use rtui_geometry::Position;
 
 impl<B: Backend> Terminal<B> {
     /// Hides the cursor.
+    ///
+    /// # Errors
+    ///
+    /// `Backend` if the backend's call failed; all of the terminal but the backend is as before
+    /// then.
     pub fn hide_cursor(&mut self) -> Result<(), TerminalError<B::Error>>
         ensures ok { OnOk result
             (MovesCursor B.screen true self.old.last_known_cursor_pos (with_visible false) self.old
@@ -25,6 +30,11 @@ impl<B: Backend> Terminal<B> {
     }
 
     /// Shows the cursor.
+    ///
+    /// # Errors
+    ///
+    /// `Backend` if the backend's call failed; all of the terminal but the backend is as before
+    /// then.
     pub fn show_cursor(&mut self) -> Result<(), TerminalError<B::Error>>
         ensures ok { OnOk result
             (MovesCursor B.screen false self.old.last_known_cursor_pos (with_visible true) self.old
@@ -46,6 +56,11 @@ impl<B: Backend> Terminal<B> {
     }
 
     /// The previous name of `get_cursor_position`: the column and the row.
+    ///
+    /// # Errors
+    ///
+    /// `Backend` if the backend's call failed; all of the terminal but the backend is as before
+    /// then.
     pub fn get_cursor(&mut self) -> Result<(u16, u16), TerminalError<B::Error>>
         ensures ok { IfOk result (λ place.
             place ≡ ((B.screen self.old.backend).cursor_x, (B.screen self.old.backend).cursor_y)) }
@@ -60,6 +75,11 @@ impl<B: Backend> Terminal<B> {
     }
 
     /// The previous name of `set_cursor_position`.
+    ///
+    /// # Errors
+    ///
+    /// `Backend` if the backend's call failed; all of the terminal but the backend is as before
+    /// then.
     pub fn set_cursor(&mut self, x: u16, y: u16) -> Result<(), TerminalError<B::Error>>
         ensures ok { OnOk result
             (MovesCursor B.screen self.old.hidden_cursor (record { x = x; y = y })
@@ -72,6 +92,11 @@ impl<B: Backend> Terminal<B> {
     }
 
     /// Where the cursor is, on the screen.
+    ///
+    /// # Errors
+    ///
+    /// `Backend` if the backend's call failed; all of the terminal but the backend is as before
+    /// then.
     pub fn get_cursor_position(&mut self) -> Result<Position, TerminalError<B::Error>>
         ensures ok { IfOk result (λ position. position ≡ cursor_of (B.screen self.old.backend)) }
         ensures stays { OnOk result (Stays B.screen self.old self.new) }
@@ -86,6 +111,11 @@ impl<B: Backend> Terminal<B> {
     }
 
     /// Moves the cursor; its column and its row are each kept on the screen.
+    ///
+    /// # Errors
+    ///
+    /// `Backend` if the backend's call failed; all of the terminal but the backend is as before
+    /// then.
     pub fn set_cursor_position(&mut self, position: Position) -> Result<(), TerminalError<B::Error>>
         ensures ok { OnOk result (MovesCursor B.screen self.old.hidden_cursor position
             (with_cursor position.x position.y) self.old self.new) }

@@ -6,7 +6,7 @@ use std::fmt;
 /// Why a call of a terminal was refused.
 #[derive(Debug, Clone, Copy, PartialEq, Eq, Hash, Drop)]
 pub enum TerminalError<E> {
-    /// A call of the backend failed.
+    /// A call of the backend failed; one more of its failures is counted.
     Backend(E),
     /// Memory was refused, or the closure answered so.
     Memory,

@@ -9,8 +9,8 @@ use rtui_geometry::{Position, Rect};
 use rtui_widgets::{StatefulWidget, Widget};
 use std::alloc::AllocError;
 
-/// What a closure paints on: the current buffer of a terminal, its area, and the place the cursor is to have
-/// afterwards.
+/// What a closure paints on: the current buffer of a terminal, its area, and the place that the
+/// cursor is to have afterwards.
 ///
 /// ```
 /// let area = frame.area();
@@ -73,10 +73,14 @@ impl Frame<'_> {
     /// frame.render_widget(Line::raw(alloc, "Hello, world!")?.centered(), area)?;
     /// ```
     ///
+    /// # Conditions
+    ///
+    /// The widget may be rendered over this area of the frame's buffer, as far as it says.
+    ///
     /// # Errors
     ///
-    /// It is refused if memory is. Then no cell outside the widget's reach changed, which is the area unless the widget says
-    /// otherwise.
+    /// `AllocError` if memory is refused. Then no cell outside the widget's reach has changed,
+    /// which is the area unless the widget says otherwise.
     pub fn render_widget<W: Widget>(&mut self, widget: W, area: Rect) -> Result<(), AllocError>
         requires { W.can_render widget area self.old.buffer.now }
         ensures keeps { KeepsFrame self.old self.new }
@@ -92,10 +96,15 @@ impl Frame<'_> {
 
     /// Renders a widget over an area of the frame's buffer, from its state on.
     ///
+    /// # Conditions
+    ///
+    /// The widget may be rendered over this area of the frame's buffer in this state, as far as it
+    /// says.
+    ///
     /// # Errors
     ///
-    /// It is refused if memory is. Then no cell outside the widget's reach changed, which is the area unless the widget says
-    /// otherwise; the widget says what its state is then.
+    /// `AllocError` if memory is refused. Then no cell outside the widget's reach has changed,
+    /// which is the area unless the widget says otherwise; the widget says what its state is then.
     pub fn render_stateful_widget<W: StatefulWidget>(
         &mut self,
         widget: W,

@@ -19,11 +19,15 @@ pub struct TerminalOptions {
 }
 
 impl<B: Backend + Drop> Terminal<B> {
-    /// A terminal over the whole screen of a backend, with empty buffers; it is in step if the screen is blank.
+    /// A terminal over the whole screen of a backend, with empty buffers; it is in step if the
+    /// screen is blank.
     ///
     /// # Errors
     ///
-    /// `Memory` only if the screen has cells. A refused call drops the backend.
+    /// - `Memory`: memory was refused. It is taken only if the screen has cells.
+    /// - `Backend`: a call of the backend failed.
+    ///
+    /// The backend is dropped then.
     pub fn new(alloc: Global, backend: B) -> Result<Self, TerminalError<B::Error>>
         ensures starts { IfOk result (Starts B.screen Fullscreen backend) }
         ensures count { IfOk result (λ t. B.failures t.backend ≡ B.failures backend) }
@@ -36,13 +40,20 @@ impl<B: Backend + Drop> Terminal<B> {
         Terminal::with_options(alloc, backend, options)
     }
 
-    /// A terminal over a part of a backend's screen, with empty buffers; it is in step if that part is on the
-    /// screen and blank. If an inline viewport doesn't fit below the cursor, the screen scrolls. For a fixed one no
-    /// call is made.
+    /// A terminal over a part of a backend's screen, with empty buffers; it is in step if that part
+    /// is on the screen and blank. If an inline viewport doesn't fit below the cursor, the screen
+    /// scrolls.
+    ///
+    /// # Conditions
+    ///
+    /// The edges of a fixed viewport are at most 65535.
     ///
     /// # Errors
     ///
-    /// `Memory` only if the viewport has cells. A refused call drops the backend.
+    /// - `Memory`: memory was refused. It is taken only if the viewport has cells.
+    /// - `Backend`: a call of the backend failed. For a fixed viewport none is made.
+    ///
+    /// The backend is dropped then.
     pub fn with_options(
         alloc: Global,
         mut backend: B,

@@ -133,12 +133,13 @@ impl<B: Backend> Terminal<B> {
         self.insert_filled(&mut blank, &rows)
     }
 
-    /// Inserts `height` rows above an inline viewport: the closure fills an empty buffer at (0, 0) of the viewport's
-    /// width, its rows come to those above the viewport, which moves down as far as there is room and goes on showing the
-    /// last frame; rows that have no room scroll off. Only the rows are written, and if the viewport is as high as the screen
-    /// its first row, too; of rows without wide cells only what isn't blank, and then that first row twice. All of it is
-    /// flushed, and the cursor may end anywhere: a draw places it. On another viewport the closure isn't called, and nothing
-    /// changes.
+    /// Inserts `height` rows above an inline viewport: the closure fills an empty buffer at (0, 0)
+    /// of the viewport's width, its rows come to those above the viewport, which moves down as far
+    /// as there is room and goes on showing the last frame; rows that have no room scroll off. Only
+    /// the rows are written, and if the viewport is as high as the screen its first row, too; of
+    /// rows without wide cells only what isn't blank, and then that first row twice. All of it is
+    /// flushed, and the cursor may end anywhere: a draw places it. On another viewport the closure
+    /// isn't called, and nothing changes.
     ///
     /// ```
     /// terminal.insert_before(1, |rows| {
@@ -149,16 +150,20 @@ impl<B: Backend> Terminal<B> {
     ///
     /// # Conditions
     ///
-    /// What is promised of the rows above holds of a viewport with a row, as wide as the screen, whose size is the last known
-    /// one. If the screen was known to have no rows, nothing is written.
+    /// On an inline viewport the closure may be called on an empty buffer of that area; a closure
+    /// without conditions of its own always may.
+    ///
+    /// What is promised of the rows above holds of a viewport with a row, as wide as the screen,
+    /// whose size is the last known one. If the screen was known to have no rows, nothing is
+    /// written.
     ///
     /// # Errors
     ///
-    /// - `Memory`: the buffer has cells and memory was refused, in which case the closure isn't called; or the closure
-    ///   answered so. Then nothing changed.
+    /// - `Memory`: the buffer has cells and memory was refused, in which case the closure isn't
+    ///   called; or the closure answered so. Then nothing changed.
     /// - `Area`: the closure changed the buffer's area. Then nothing changed.
-    /// - `Backend`: a call of the backend failed. The screen may show anything. The viewport is where it was, or it has moved,
-    ///   and its rows on the screen with it.
+    /// - `Backend`: a call of the backend failed. The screen may show anything. The viewport is
+    ///   where it was, or it has moved, and its rows on the screen with it.
     pub fn insert_before<F>(
         &mut self,
         height: u16,

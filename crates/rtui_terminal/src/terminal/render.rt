@@ -139,9 +139,10 @@ impl<B: Backend> Terminal<B> {
         }
     }
 
-    /// Draws a frame. If the screen has another size than the last known one, the viewport is resized first. The closure paints
-    /// on the current buffer, what differs from the previous one is written and flushed, and the cursor is hidden, or shown where
-    /// the closure put it. The painted buffer becomes the previous one, and an empty one current.
+    /// Draws a frame. If the screen has another size than the last known one, the viewport is
+    /// resized first. The closure paints on the current buffer, what differs from the previous one
+    /// is written and flushed, and the cursor is hidden, or shown where the closure put it. The
+    /// painted buffer becomes the previous one, and an empty one current.
     ///
     /// ```
     /// let mut terminal = Terminal::new(alloc, TestBackend::new(alloc, 5, 1)?)?;
@@ -152,13 +153,21 @@ impl<B: Backend> Terminal<B> {
     /// assert!(rt; terminal.backend().lines_are(&["Ready"]));
     /// ```
     ///
+    /// # Conditions
+    ///
+    /// The closure may be called on each frame that the draw may hand it: one without a cursor,
+    /// whose buffer has the area of the frame or is the current buffer as it is. A closure without
+    /// conditions of its own always may.
+    ///
     /// # Errors
     ///
-    /// - `Memory`: the resize was refused memory, and nothing changed; or the closure answered so. Then nothing was written
-    ///   after the resize, and the current buffer keeps what the closure left.
-    /// - `Area`: a buffer hasn't the viewport's area. Nothing was written after the resize, and the current buffer keeps what
-    ///   the closure left.
-    /// - `Backend`: a call of the backend failed. The screen may show anything until the next `clear`.
+    /// - `Memory`: the resize was refused memory, and nothing changed; or the closure answered so.
+    ///   Then nothing was written after the resize, and the current buffer keeps what the closure
+    ///   left.
+    /// - `Area`: a buffer hasn't the viewport's area. Nothing was written after the resize, and the
+    ///   current buffer keeps what the closure left.
+    /// - `Backend`: a call of the backend failed. The screen may show anything until the next
+    ///   `clear`.
     pub fn draw<F>(
         &mut self,
         render_callback: F,
@@ -205,10 +214,14 @@ impl<B: Backend> Terminal<B> {
     /// })?;
     /// ```
     ///
+    /// # Conditions
+    ///
+    /// That of `draw`.
+    ///
     /// # Errors
     ///
-    /// Those of `draw`, and `Closure` with what the closure answered. Then nothing was written after the resize, and the
-    /// current buffer keeps what the closure left.
+    /// Those of `draw`, and `Closure` with what the closure answered. Then nothing was written
+    /// after the resize, and the current buffer keeps what the closure left.
     pub fn try_draw<F>(
         &mut self,
         render_callback: F,
@@ -246,7 +259,10 @@ impl<B: Backend> Terminal<B> {
     ///
     /// # Errors
     ///
-    /// `Area` if a buffer hasn't the viewport's area: then nothing changed. After `Backend` the screen may show anything.
+    /// - `Area`: a buffer hasn't the viewport's area. Nothing has changed then.
+    /// - `Backend`: a call of the backend failed. The screen may show anything. If all was written
+    ///   and only the last flush failed, the buffers are swapped already, and the frame isn't
+    ///   counted.
     pub fn apply_buffer(&mut self) -> Result<CompletedFrame<'_, B>, TerminalError<B::Error>>
         ensures* refused { let row = the_row B.row B.Error.row B.Backend B.Error.Debug
             B.Error.Display in
@@ -264,11 +280,15 @@ impl<B: Backend> Terminal<B> {
         self.apply_buffer_with_cursor(None)
     }
 
-    /// Draws the current buffer as it is, and hides the cursor, or shows it at a place. It takes no memory.
+    /// Draws the current buffer as it is, and hides the cursor, or shows it at a place. It takes no
+    /// memory.
     ///
     /// # Errors
     ///
-    /// `Area` if a buffer hasn't the viewport's area: then nothing changed. After `Backend` the screen may show anything.
+    /// - `Area`: a buffer hasn't the viewport's area. Nothing has changed then.
+    /// - `Backend`: a call of the backend failed. The screen may show anything. If all was written
+    ///   and only the last flush failed, the buffers are swapped already, and the frame isn't
+    ///   counted.
     pub fn apply_buffer_with_cursor(
         &mut self,
         cursor_position: Option<Position>,

@@ -14,9 +14,15 @@ use rtui_viewport::{changed_area, clear_area, place_viewport, restore_cursor};
 use std::alloc::AllocError;
 
 impl<B: Backend> Terminal<B> {
-    /// Empties the viewport and the previous buffer, so that the next draw writes the whole frame; the current buffer
-    /// and the cursor stay. The terminal is in step then if the viewport is on the screen and the previous buffer has
-    /// its area. It takes no memory.
+    /// Empties the viewport and the previous buffer, so that the next draw writes the whole frame;
+    /// the current buffer and the cursor stay. The terminal is in step then if the viewport is on
+    /// the screen and the previous buffer has its area. It takes no memory.
+    ///
+    /// # Errors
+    ///
+    /// `Backend` if a call of the backend failed. All of the terminal but the backend is as before
+    /// then; or the viewport was emptied, the previous buffer is empty too, and only the cursor
+    /// wasn't set back.
     pub fn clear(&mut self) -> Result<(), TerminalError<B::Error>>
         ensures ok { OnOk result (ClearsViewport B.screen self.old self.new) }
         ensures err { OnErr result (FailsClearing B.screen self.old self.new) }
@@ -72,14 +78,21 @@ impl<B: Backend> Terminal<B> {
         self.viewport_area = area;
     }
 
-    /// Places the viewport on a new area of the screen, in columns and rows, sizes both buffers to it, and empties
-    /// it: an inline viewport goes around the cursor, any other takes the area. If it became narrower, it goes to
-    /// the top, and the whole screen is emptied. The terminal is in step then if the viewport is on the screen, as it
-    /// is if the area is the screen's own.
+    /// Places the viewport on a new area of the screen, in columns and rows, sizes both buffers to
+    /// it, and empties it: an inline viewport goes around the cursor, any other takes the area. If
+    /// it became narrower, it goes to the top, and the whole screen is emptied. The terminal is in
+    /// step then if the viewport is on the screen, as it is if the area is the screen's own.
+    ///
+    /// # Conditions
+    ///
+    /// The edges of the area are at most 65535.
     ///
     /// # Errors
     ///
-    /// `Memory` if a buffer had no room for the area: memory is taken first, and nothing changed.
+    /// - `Memory`: a buffer had no room for the area, and memory was refused. It is taken first,
+    ///   and nothing has changed then.
+    /// - `Backend`: a call of the backend failed. The viewport and both buffers are as before, or
+    ///   they have their new area already. The last known area stays.
     pub fn resize(&mut self, area: Rect) -> Result<(), TerminalError<B::Error>>
         requires { EdgesFit area }
         ensures outcome { MatchResult result (λ _. Resizes B.screen area self.old self.new)
@@ -125,7 +138,12 @@ impl<B: Backend> Terminal<B> {
         Ok(())
     }
 
-    /// Resizes if the screen has another size than the last known one; a fixed viewport stays.
+    /// Resizes to the size of the screen if that isn't the last known one; a fixed viewport stays.
+    ///
+    /// # Errors
+    ///
+    /// Those of `resize`, and `Backend` if the screen's size can't be asked for. For a fixed
+    /// viewport there are none.
     pub fn autoresize(&mut self) -> Result<(), TerminalError<B::Error>>
         ensures outcome { MatchResult result (λ _. Autoresizes B.screen self.old self.new)
             (AutoresizeErr B.screen self.old self.new) }

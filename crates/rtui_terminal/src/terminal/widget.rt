@@ -21,9 +21,15 @@ impl<B: Backend> Terminal<B> {
     /// terminal.draw_widget(Line::raw(alloc, "Hello, world!")?.centered())?;
     /// ```
     ///
+    /// # Conditions
+    ///
+    /// The widget may be rendered over each frame that the draw may hand out, as far as it says:
+    /// over the area of a buffer of that area, or over the viewport in the current buffer as it is.
+    ///
     /// # Errors
     ///
-    /// As [`Terminal::draw`] with a closure that renders the widget.
+    /// Those of [`Terminal::draw`] with a closure that renders the widget. What stands then isn't
+    /// said here; a caller who needs it calls `draw`.
     pub fn draw_widget<W: Widget + Drop>(
         &mut self,
         widget: W,
