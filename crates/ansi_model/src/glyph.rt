@@ -67,7 +67,8 @@ fn glyph_of_text(text: &str) -> Option<Glyph>
     Some(Glyph::Whole(text.cell_width()))
 }
 
-/// How terminals print a text as one symbol: one plain character, or a symbol that isn't plain throughout. None if they don't.
+/// How terminals print a text as one symbol: one plain character, or a symbol that isn't plain
+/// throughout. None if they don't.
 pub fn glyph_of(text: &str) -> Option<Glyph>
     ensures { MatchOption result (is_printed text.now ≡ false) (IsGlyphOf text.now) }
 {

@@ -1,4 +1,5 @@
-//! Laws of the model. Calling one of these functions costs nothing and tells the caller's proof its law.
+//! Laws of the model. Calling one of these functions costs nothing and tells the caller's proof its
+//! law.
 
 ghost use Rattle.std.specs.Prelude.{◌≡◌, ℕ, ◌+◌, ◌<◌, ◌≤◌, nat_lt, if◌then◌else◌};
 ghost use Rattle.ratatui_core.specs.Buffer.{Look, look_of, width_of, Update, put};
@@ -7,12 +8,14 @@ ghost use Rattle.ansi_model.specs.Screens.{HaveOwnWidths, IsWhole, IsBlankBeyond
 ghost use Rattle.ansi_model.specs.Symbols.{printed_columns};
 ghost use Rattle.ansi_model.specs.Emulator.{run, blank_terminal};
 
-/// A blank terminal of at least one row is ready, so that what is said of ready terminals is said of some.
+/// A blank terminal of at least one row is ready, so that what is said of ready terminals is said
+/// of some.
 pub fn a_blank_terminal_is_ready()
     ensures { (w h : ℕ) → 0 < h → IsIdle w h (blank_terminal w h) }
 {}
 
-/// A symbol that is printed on the screen and cuts no other at its ends is put, as the cells' grids say.
+/// A symbol that is printed on the screen and cuts no other at its ends is put, as the cells' grids
+/// say.
 pub fn a_printed_symbol_is_put()
     ensures { (w h : ℕ) (u : Update) (c : Columns) → IsWhole c
         → IsUncut u.x u.y (width_of u.cell) c → 0 < width_of u.cell
@@ -21,8 +24,9 @@ pub fn a_printed_symbol_is_put()
         ≡ put w h u (λ i j. look_in (c i j)) a b }
 {}
 
-/// Behind such a symbol, if it takes just those columns, all columns are known and sized that were, all symbols are whole,
-/// nothing stands right of the screen, and of the symbol's columns all but the first lie after it.
+/// Once such a symbol is printed, and if it takes just those columns, all columns that were known
+/// and sized still are, all symbols are whole, nothing stands right of the screen, and the symbol's
+/// columns but the first are its continuation columns.
 pub fn a_printed_symbol_keeps_the_others()
     ensures sized { (x y n : ℕ) (look : Look) (c : Columns) → IsWhole c → IsUncut x y n c
         → n ≡ printed_columns look.symbol → HaveOwnWidths c

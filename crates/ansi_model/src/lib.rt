@@ -1,10 +1,11 @@
 //! A model of a terminal that reads bytes, and the bytes that are sent to one.
 //!
-//! A terminal (`specs/Emulator`) reads bytes one by one (`specs/Sequences`); each function here appends bytes to a text, and its
-//! contract says what they do to every terminal that reads them: a sequence by its standard name (`Performs`), or what a
-//! backend's call does to the screen that the terminal shows (`Turns`). Columns and rows are counted from 0 here, and from 1 in
-//! the bytes. If real terminals differ the model is no longer sure, and what stands in a column isn't known if a part of its
-//! symbol was written over.
+//! A terminal (`specs/Emulator`) reads bytes one by one (`specs/Sequences`); each function here
+//! appends bytes to a text, and its contract says what they do to every terminal that reads them: a
+//! sequence by its standard name (`Performs`), or what a backend's call does to the screen that the
+//! terminal shows (`Turns`). Columns and rows are counted from 0 here, and from 1 in the bytes. If
+//! real terminals differ the model is no longer sure, and what stands in a column isn't known if a
+//! part of its symbol was written over.
 #![tactic(auto)]
 
 mod glyph;

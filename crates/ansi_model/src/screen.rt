@@ -16,7 +16,12 @@ use ratatui_core::backend::ClearType;
 use std::alloc::AllocError;
 use std::ops::Range;
 
-/// Moves the cursor to a column and a row, each kept on the screen, which has at least one of both.
+/// Moves the cursor to a column and a row, each kept on the screen, which has at least one column
+/// and one row.
+///
+/// # Errors
+///
+/// `AllocError` if memory is refused. What the text holds then isn't said.
 pub fn set_cursor_position(out: &mut String, x: u16, y: u16) -> Result<(), AllocError>
     ensures { OnOk result ((w h : ℕ) → 0 < w → 0 < h → Turns w h (string_bytes out.old)
         (string_bytes out.new) (λ s. Becomes (λ p q. q ≡ with_cursor x y p) s.columns s)) }
@@ -25,6 +30,10 @@ pub fn set_cursor_position(out: &mut String, x: u16, y: u16) -> Result<(), Alloc
 }
 
 /// Hides the cursor or shows it.
+///
+/// # Errors
+///
+/// `AllocError` if memory is refused. What the text holds then isn't said.
 pub fn set_visible(out: &mut String, visible: bool) -> Result<(), AllocError>
     ensures { OnOk result ((w h : ℕ) → Turns w h (string_bytes out.old)
         (string_bytes out.new) (λ s. Becomes (λ p q. q ≡ with_visible visible p) s.columns s)) }
@@ -36,7 +45,12 @@ pub fn set_visible(out: &mut String, visible: bool) -> Result<(), AllocError>
     }
 }
 
-/// Empties a screen of so many columns and rows, at least one of both, whose cursor is in this column and row; the cursor stays.
+/// Empties a screen of so many columns and rows, at least one of each, whose cursor is in this
+/// column and row; the cursor stays.
+///
+/// # Errors
+///
+/// `AllocError` if memory is refused. What the text holds then isn't said.
 pub fn clear_screen(
     out: &mut String,
     width: u16,
@@ -52,8 +66,13 @@ pub fn clear_screen(
     move_to(out, x, y)
 }
 
-/// Makes a terminal of so many columns and rows, at least one of both, as a new one is, however another program left it: in its own
-/// colours, without margins, empty, and with its cursor shown in the corner. Its history stays.
+/// Makes a terminal of so many columns and rows, at least one of each, what a new one is, however
+/// another program left it: in its own colours, without margins, empty, and with its cursor shown
+/// in the corner. Its history stays.
+///
+/// # Errors
+///
+/// `AllocError` if memory is refused. What the text holds then isn't said.
 pub fn make_blank(out: &mut String, width: u16, height: u16) -> Result<(), AllocError>
     ensures { OnOk result (0 < width → 0 < height
         → MakesBlank width height (string_bytes out.old) (string_bytes out.new)) }
@@ -65,8 +84,12 @@ pub fn make_blank(out: &mut String, width: u16, height: u16) -> Result<(), Alloc
     show_cursor(out)
 }
 
-/// Moves the cursor's row down by `n` on a screen of at least one row and one column; what goes past the last row scrolls, and
-/// the rows that leave at the top go to the history.
+/// Moves the cursor's row down by `n` on a screen of at least one row and one column; what goes
+/// past the last row scrolls, and the rows that leave at the top go to the history.
+///
+/// # Errors
+///
+/// `AllocError` if memory is refused. What the text holds then isn't said.
 pub fn append_lines(out: &mut String, n: u16) -> Result<(), AllocError>
     ensures { OnOk result ((w h : ℕ) → 0 < w → 0 < h
         → Turns w h (string_bytes out.old) (string_bytes out.new)
@@ -178,8 +201,13 @@ fn scroll_first_rows(out: &mut String, height: u16, end: u16, n: u16) -> Result<
     }
 }
 
-/// Moves the rows of a region up by `n` on a screen of so many rows and at least one column; blank rows come in below. The region
-/// ends at the screen's last row at the latest. Of a region that begins with the first row `n` rows go to the history.
+/// Moves the rows of a region up by `n` on a screen of so many rows and at least one column; blank
+/// rows come in below. The region ends at the screen's last row at the latest. Of a region that
+/// begins with the first row `n` rows go to the history.
+///
+/// # Errors
+///
+/// `AllocError` if memory is refused. What the text holds then isn't said.
 pub fn scroll_region_up(
     out: &mut String,
     height: u16,
@@ -203,8 +231,13 @@ pub fn scroll_region_up(
     raise_rows(out, region.start, end, n)
 }
 
-/// Moves the rows of a region down by `n` on a screen of so many rows and at least one column; blank rows come in above, and the
-/// rows that leave are lost. The region ends at the screen's last row at the latest.
+/// Moves the rows of a region down by `n` on a screen of so many rows and at least one column;
+/// blank rows come in above, and the rows that leave are lost. The region ends at the screen's last
+/// row at the latest.
+///
+/// # Errors
+///
+/// `AllocError` if memory is refused. What the text holds then isn't said.
 pub fn scroll_region_down(
     out: &mut String,
     height: u16,

@@ -18,6 +18,10 @@ fn push_digit(out: &mut String, digit: u32) -> Result<(), AllocError>
 }
 
 /// Appends a number in decimal digits.
+///
+/// # Errors
+///
+/// `AllocError` if memory is refused. What the text holds then isn't said.
 pub fn push_number(out: &mut String, n: u32) -> Result<(), AllocError>
     ensures { OnOk result (string_bytes out.new ≡ string_bytes out.old ++ decimal n) }
 {
@@ -33,6 +37,10 @@ pub fn push_number(out: &mut String, n: u32) -> Result<(), AllocError>
 }
 
 /// CUP (cursor position): moves the cursor to a column and a row.
+///
+/// # Errors
+///
+/// `AllocError` if memory is refused. What the text holds then isn't said.
 pub fn move_to(out: &mut String, x: u16, y: u16) -> Result<(), AllocError>
     ensures { OnOk result (Performs (string_bytes out.old) (string_bytes out.new)
         (cursor_moved x y)) }
@@ -45,6 +53,10 @@ pub fn move_to(out: &mut String, x: u16, y: u16) -> Result<(), AllocError>
 }
 
 /// ED and EL (erase in display, erase in line): empties a part of the screen.
+///
+/// # Errors
+///
+/// `AllocError` if memory is refused. What the text holds then isn't said.
 pub fn erase(out: &mut String, part: ClearType) -> Result<(), AllocError>
     ensures { OnOk result (Performs (string_bytes out.old) (string_bytes out.new) (erased part)) }
 {
@@ -57,7 +69,12 @@ pub fn erase(out: &mut String, part: ClearType) -> Result<(), AllocError>
     }
 }
 
-/// Empties the whole screen of so many columns and rows: all up to its last place, which no terminal puts into its history.
+/// Empties the whole screen of so many columns and rows: all up to its last place, which no
+/// terminal puts into its history.
+///
+/// # Errors
+///
+/// `AllocError` if memory is refused. What the text holds then isn't said.
 pub fn erase_all(out: &mut String, width: u16, height: u16) -> Result<(), AllocError>
     ensures { OnOk result (Performs (string_bytes out.old) (string_bytes out.new)
         (λ t. erased BeforeCursor (cursor_moved (width - 1) (height - 1) t))) }
@@ -67,6 +84,10 @@ pub fn erase_all(out: &mut String, width: u16, height: u16) -> Result<(), AllocE
 }
 
 /// DECTCEM (text cursor enable mode): shows the cursor.
+///
+/// # Errors
+///
+/// `AllocError` if memory is refused. What the text holds then isn't said.
 pub fn show_cursor(out: &mut String) -> Result<(), AllocError>
     ensures { OnOk result (Performs (string_bytes out.old) (string_bytes out.new)
         (cursor_shown true)) }
@@ -75,6 +96,10 @@ pub fn show_cursor(out: &mut String) -> Result<(), AllocError>
 }
 
 /// DECTCEM (text cursor enable mode): hides the cursor.
+///
+/// # Errors
+///
+/// `AllocError` if memory is refused. What the text holds then isn't said.
 pub fn hide_cursor(out: &mut String) -> Result<(), AllocError>
     ensures { OnOk result (Performs (string_bytes out.old) (string_bytes out.new)
         (cursor_shown false)) }
@@ -82,8 +107,12 @@ pub fn hide_cursor(out: &mut String) -> Result<(), AllocError>
     out.push_str("\u{1b}[?25l")
 }
 
-/// CR and LF (carriage return, line feed): to the first column, and `n` rows down; what goes past the end of the scroll region
-/// scrolls.
+/// CR and LF (carriage return, line feed): to the first column, and `n` rows down; what goes past
+/// the end of the scroll region scrolls.
+///
+/// # Errors
+///
+/// `AllocError` if memory is refused. What the text holds then isn't said.
 pub fn line_feeds(out: &mut String, n: u16) -> Result<(), AllocError>
     ensures { OnOk result (Performs (string_bytes out.old) (string_bytes out.new)
         (λ t. fed n (returned t))) }
@@ -95,8 +124,16 @@ pub fn line_feeds(out: &mut String, n: u16) -> Result<(), AllocError>
     Ok(())
 }
 
-/// DECSTBM (set top and bottom margins): the rows from `top` up to `bottom` are the scroll region, and the cursor goes to the
-/// corner. Terminals take at least two rows.
+/// DECSTBM (set top and bottom margins): the rows from `top` up to `bottom` are the scroll region,
+/// and the cursor goes to the corner.
+///
+/// # Conditions
+///
+/// The region has at least two rows: terminals take no smaller one.
+///
+/// # Errors
+///
+/// `AllocError` if memory is refused. What the text holds then isn't said.
 pub fn set_region(out: &mut String, top: u16, bottom: u16) -> Result<(), AllocError>
     requires { top + 1 < bottom }
     ensures { OnOk result (Performs (string_bytes out.old) (string_bytes out.new)
@@ -105,14 +142,28 @@ pub fn set_region(out: &mut String, top: u16, bottom: u16) -> Result<(), AllocEr
     write!(out, "\u{1b}[{};{}r", u32::from(top) + 1, bottom)
 }
 
-/// DECSTBM without margins: the whole screen is the scroll region, and the cursor goes to the corner.
+/// DECSTBM without margins: the whole screen is the scroll region, and the cursor goes to the
+/// corner.
+///
+/// # Errors
+///
+/// `AllocError` if memory is refused. What the text holds then isn't said.
 pub fn reset_region(out: &mut String) -> Result<(), AllocError>
     ensures { OnOk result (Performs (string_bytes out.old) (string_bytes out.new) without_region) }
 {
     out.push_str("\u{1b}[r")
 }
 
-/// DL (delete line): `n` rows from the cursor's on go, and those below them in the scroll region move up.
+/// DL (delete line): `n` rows from the cursor's on go, and those below them in the scroll region
+/// move up.
+///
+/// # Conditions
+///
+/// `n` is at least 1.
+///
+/// # Errors
+///
+/// `AllocError` if memory is refused. What the text holds then isn't said.
 pub fn delete_lines(out: &mut String, n: u16) -> Result<(), AllocError>
     requires { 0 < n }
     ensures { OnOk result (Performs (string_bytes out.old) (string_bytes out.new)
@@ -121,7 +172,16 @@ pub fn delete_lines(out: &mut String, n: u16) -> Result<(), AllocError>
     write!(out, "\u{1b}[{}M", n)
 }
 
-/// IL (insert line): `n` blank rows come in at the cursor's row, and those from there on in the scroll region move down.
+/// IL (insert line): `n` blank rows come in at the cursor's row, and those from there on in the
+/// scroll region move down.
+///
+/// # Conditions
+///
+/// `n` is at least 1.
+///
+/// # Errors
+///
+/// `AllocError` if memory is refused. What the text holds then isn't said.
 pub fn insert_lines(out: &mut String, n: u16) -> Result<(), AllocError>
     requires { 0 < n }
     ensures { OnOk result (Performs (string_bytes out.old) (string_bytes out.new)

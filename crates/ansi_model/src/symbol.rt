@@ -11,7 +11,8 @@ use std::alloc::AllocError;
 use unicode_segmentation::UnicodeSegmentation;
 use unicode_width::UnicodeWidthChar;
 
-/// Whether a character is shown, or joins one that is: no control character, and none that turns the direction.
+/// Whether a character is shown, or joins one that is: no control character, and none that turns
+/// the direction.
 pub fn is_shown(c: char) -> bool
     ensures { result ≡ is_shown c }
 {
@@ -25,14 +26,16 @@ fn are_shown(text: &str) -> bool
     text.chars().all(|c| is_shown(c))
 }
 
-/// Whether a character takes one column and never joins its neighbours: printable ASCII, Latin letters, lines and blocks.
+/// Whether a character takes one column and never joins its neighbours: printable ASCII, Latin
+/// letters, lines and blocks.
 pub fn is_plain(c: char) -> bool
     ensures { result ≡ is_plain_char c }
 {
     matches!(c, ' '..='~' | '\u{c0}'..='\u{17f}' | '\u{2500}'..='\u{259f}')
 }
 
-/// How many columns a character takes alone: none if it is a control character or joins what is before it.
+/// How many columns a character takes alone: none if it is a control character or joins what is
+/// before it.
 pub fn columns_of_char(c: char) -> u16
     ensures { result ≡ columns_of_char c }
 {
@@ -110,8 +113,9 @@ fn is_shown_as_one(text: &str) -> bool
     are_shown(text) && is_single(text)
 }
 
-/// Whether terminals show a text as one symbol: it has no control characters, none that turn the direction, begins with a
-/// character that has columns of its own, and only the first of its graphemes has columns.
+/// Whether terminals show a text as one symbol: it has no control characters, none that turn the
+/// direction, begins with a character that has columns of its own, and only the first of its
+/// graphemes has columns.
 pub fn is_symbol(text: &str) -> bool
     ensures { result ≡ is_symbol text.now }
 {
@@ -119,6 +123,14 @@ pub fn is_symbol(text: &str) -> bool
 }
 
 /// Sends a plain character, to be printed where the cursor is.
+///
+/// # Conditions
+///
+/// The character is plain, as [`is_plain`] says.
+///
+/// # Errors
+///
+/// `AllocError` if memory is refused. What the text holds then isn't said.
 pub fn push_plain(out: &mut String, ch: char) -> Result<(), AllocError>
     requires { IsTrue (is_plain_char ch) }
     ensures { OnOk result (Sends (string_bytes out.old) (string_bytes out.new)
@@ -128,6 +140,14 @@ pub fn push_plain(out: &mut String, ch: char) -> Result<(), AllocError>
 }
 
 /// Sends a symbol, to be printed where the cursor is.
+///
+/// # Conditions
+///
+/// The text is a symbol, as [`is_symbol`] says.
+///
+/// # Errors
+///
+/// `AllocError` if memory is refused. What the text holds then isn't said.
 pub fn push_symbol(out: &mut String, symbol: &str) -> Result<(), AllocError>
     requires { IsTrue (is_symbol symbol.now) }
     ensures { OnOk result (Sends (string_bytes out.old) (string_bytes out.new)

@@ -8,7 +8,16 @@ use ratatui_core::backend::Backend;
 use ratatui_core::terminal::{Frame, Terminal, TerminalError};
 use std::alloc::AllocError;
 
-/// Draws what a closure paints, and answers whether that is settled; then the terminal stays in step.
+/// Draws what a closure paints, and answers whether that is settled; then the terminal stays in
+/// step.
+///
+/// # Conditions
+///
+/// The closure may be called on each frame that the draw may hand it, as for [`Terminal::draw`].
+///
+/// # Errors
+///
+/// Those of [`Terminal::draw`]. What stands then isn't said here.
 pub fn draw_checked<B: Backend, F>(
     terminal: &mut Terminal<B>,
     paint: F,

@@ -20,8 +20,8 @@ pub struct Gauge<'a> {
     pub style: Style,
 }
 
-/// In the first row of the area, as far as the buffer has it: the bar's style over the columns that are filled, and on them
-/// the label. What doesn't fit is cut.
+/// In the first row of the area, as far as the buffer has it: the bar's style over the columns that
+/// are filled, and on them the label. What doesn't fit is cut.
 impl<'b, 'a> Widget for &'b Gauge<'a> {
     ghost use Rattle.ratatui_core.specs.Buffer.{AreShort};
     ghost use Rattle.guide.specs.Gauges.{RendersGauge, label_pieces};

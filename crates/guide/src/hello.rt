@@ -11,6 +11,10 @@ use ratatui_core::layout::Position;
 use ratatui_core::terminal::{Terminal, TerminalError};
 
 /// Draws a greeting, and answers whether the frame is settled: then the screen shows it.
+///
+/// # Errors
+///
+/// Those of [`Terminal::draw`]. What stands then isn't said here.
 pub fn greet<B: Backend>(terminal: &mut Terminal<B>) -> Result<bool, TerminalError<B::Error>>
     ensures drawn { OnOk result (DrawsFrame B.screen terminal.old terminal.new) }
     ensures settled { IfOk result (λ settled. IsTrue settled

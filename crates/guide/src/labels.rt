@@ -12,6 +12,10 @@ use ratatui_core::style::Style;
 use std::alloc::AllocError;
 
 /// Paints a text at a position, if the buffer has it.
+///
+/// # Errors
+///
+/// `AllocError` if memory is refused. What the buffer holds then isn't said here.
 pub fn label(buffer: &mut Buffer, position: Position, text: &str) -> Result<(), AllocError>
     ensures painted { HasPosition buffer.old.area position → OnOk result (
         PaintsPieces position (pieces_at buffer.old.area position.x 65535 new_style text.now)

@@ -1,7 +1,8 @@
 //! Examples on `ratatui_core` alone; docs/USING.md walks through them.
 //!
-//! [`greet`] is the README's first example. [`draw_checked`] draws a frame on a terminal, [`log`] logs rows above it, [`renew`] makes a list of calls, and [`label`] paints on a
-//! buffer. [`Gauge`] is a widget of one's own: a labelled bar. [`draw_text`] draws a text over a whole frame, and
+//! [`greet`] is the README's first example. [`draw_checked`] draws a frame on a terminal, [`log`]
+//! logs rows above it, [`renew`] makes a list of calls, and [`label`] paints on a buffer. [`Gauge`]
+//! is a widget of one's own: a labelled bar. [`draw_text`] draws a text over a whole frame, and
 //! [`draw_gauge`] a gauge, by `Terminal::draw_widget`.
 #![tactic(auto)]
 

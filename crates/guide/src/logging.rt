@@ -11,8 +11,19 @@ use ratatui_core::terminal::laws::rows_above_are_those_inserted;
 use ratatui_core::terminal::{Frame, Terminal, TerminalError};
 use std::alloc::AllocError;
 
-/// Inserts rows above an inline viewport, draws a frame below them, and answers whether that frame is settled. Then,
-/// where the rows are settled too, exactly they came to those above, and the screen shows the frame.
+/// Inserts rows above an inline viewport, draws a frame below them, and answers whether that frame
+/// is settled. Then, if the rows are settled too, exactly these rows came to those above, and the
+/// screen shows the frame.
+///
+/// # Conditions
+///
+/// The first closure may be called on an empty buffer of the rows, and the second one on each frame
+/// that a draw may hand it.
+///
+/// # Errors
+///
+/// Those of [`Terminal::insert_before`] and of [`Terminal::draw`]. What stands then isn't said
+/// here.
 pub fn log<B: Backend, F, G>(
     terminal: &mut Terminal<B>,
     height: u16,

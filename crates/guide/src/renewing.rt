@@ -13,9 +13,20 @@ use ratatui_core::terminal::laws::every_call_is_faithful;
 use ratatui_core::terminal::{Frame, Terminal, TerminalError};
 use std::alloc::AllocError;
 
-/// Draws a frame, empties the viewport, places it anew on an area, in columns and rows, inserts rows above it, and
-/// answers whether the frame was settled. Then each of the four calls was faithful, if the rows were settled too and
-/// had their place: the screen shows the buffer that the call leaves, and exactly its rows came to those above.
+/// Draws a frame, empties the viewport, places it again on an area, in columns and rows, inserts
+/// rows above it, and answers whether the frame was settled. Then each of the four calls was
+/// faithful, if the rows were settled too and had their place: the screen shows the buffer that the
+/// call leaves, and exactly its rows came to those above.
+///
+/// # Conditions
+///
+/// The edges of the area are at most 65535. The first closure may be called on an empty buffer of
+/// the rows, and the second one on each frame that a draw may hand it.
+///
+/// # Errors
+///
+/// Those of [`Terminal::draw`], `clear`, `resize` and `insert_before`. What stands then isn't said
+/// here.
 pub fn renew<B: Backend, F, G>(
     terminal: &mut Terminal<B>,
     area: Rect,

@@ -13,6 +13,10 @@ use ratatui_core::terminal::{Terminal, TerminalError};
 use ratatui_core::text::Text;
 
 /// Draws a frame with one text.
+///
+/// # Errors
+///
+/// Those of [`Terminal::draw`]. What stands then isn't said here.
 pub fn draw_text<B: Backend>(
     terminal: &mut Terminal<B>,
     text: &Text<'_>,
@@ -26,6 +30,10 @@ pub fn draw_text<B: Backend>(
 }
 
 /// Draws a frame with one gauge in the first row of the viewport, which has to have a row.
+///
+/// # Errors
+///
+/// Those of [`Terminal::draw`]. What stands then isn't said here.
 pub fn draw_gauge<B: Backend>(
     terminal: &mut Terminal<B>,
     gauge: &Gauge<'_>,

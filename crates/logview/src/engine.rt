@@ -93,9 +93,15 @@ fn view_of_text(alloc: Global, text: &str) -> Result<LogView<TestBackend>, LogFa
     }
 }
 
-/// The view of the log that these bytes are: a line `W H` of columns and rows, both from 1 to 65535, and then any lines. A
-/// fault names the line that was refused, or says that the size is bad or the bytes aren't text; it is neither `Read` nor
-/// `Write`.
+/// The view of the log that these bytes are: a line `W H` of columns and rows, both from 1 to
+/// 65535, and then any lines.
+///
+/// # Errors
+///
+/// - `Size`: the first line isn't a size.
+/// - `NotText`: the bytes aren't UTF-8.
+/// - `Refused`: memory was refused for the line of this number.
+/// - `Memory`: memory was refused.
 pub fn view_of(alloc: Global, bytes: &[u8]) -> Result<LogView<TestBackend>, LogFault>
     ensures text { OnOk result (IsUtf8 bytes.now) }
     ensures view { IfOk result (IsLogView (lines bytes.now)) }
@@ -118,9 +124,14 @@ fn write_view<W: Write>(writer: &mut W, view: &LogView<TestBackend>) -> io::Resu
     writer.flush()
 }
 
-/// Reads a log to its end: a line `W H` of columns and rows, both from 1 to 65535, and then any lines. It shows them on a
-/// screen of that size, and writes the rows that scrolled off, each after `^`, and those of the screen, each after `|`.
-/// With any fault but `Write` nothing was written.
+/// Reads a log to its end: a line `W H` of columns and rows, both from 1 to 65535, and then any
+/// lines. It shows them on a screen of that size, and writes the rows that scrolled off, each after
+/// `^`, and those of the screen, each after `|`.
+///
+/// # Errors
+///
+/// Those of [`view_of`]; `Read` if the reader failed; and `Write` if the writer failed. With any
+/// but `Write` nothing was written.
 pub fn run<R: Read, W: Write>(alloc: Global, reader: &mut R, writer: &mut W) -> Result<(), LogFault>
     ensures printed { OnOk result (IfSome (R.remaining reader.old) (λ bytes.
         PrintsLog bytes (W.contents writer.old) (W.contents writer.new))) }

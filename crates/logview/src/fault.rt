@@ -7,8 +7,8 @@ use std::fmt;
 pub enum LogFault {
     /// The first line isn't a size, or there is none.
     Size,
-    /// Memory was refused for the line of this number, counted from 1, when all lines before it were shown; for the screen
-    /// itself at 1.
+    /// Memory was refused for the line of this number, counted from 1, when all lines before it
+    /// were shown; for the screen itself at 1.
     Refused(usize),
     /// The bytes aren't UTF-8.
     NotText,

@@ -1,4 +1,4 @@
-//! A log printed, or its fault told.
+//! A log printed, or its fault written.
 
 ghost use Rattle.std.specs.Prelude.{IfOk, IfSome, OnOk};
 ghost use Rattle.std.specs.Io.KnownBytes.{Appends};
@@ -11,11 +11,11 @@ use std::alloc::Global;
 use std::io::{self, Read, Write};
 use std::process::ExitCode;
 
-/// Writes the line that tells a fault; that a write failed isn't told.
+/// Writes the line that says a fault; for a failed write there is none.
 ///
 /// # Errors
 ///
-/// Writing failed.
+/// The error of the writer `errors` if a write fails.
 pub fn tell<E: Write>(errors: &mut E, fault: LogFault) -> io::Result<()>
     ensures { OnOk result
         (Appends (E.contents errors.old) (E.contents errors.new) (log_fault_line fault)) }
@@ -26,11 +26,12 @@ pub fn tell<E: Write>(errors: &mut E, fault: LogFault) -> io::Result<()>
     }
 }
 
-/// Prints the log that a reader gives, as `run` does, or tells why it can't, and answers the status for that.
+/// Prints the log that a reader gives, as `run` does, or says why it can't, and answers the status
+/// for that.
 ///
 /// # Errors
 ///
-/// The fault couldn't be told.
+/// The error of the writer `errors` if the fault couldn't be written there.
 pub fn print_log<R: Read, W: Write, E: Write>(
     alloc: Global,
     reader: &mut R,

@@ -44,7 +44,8 @@ fn render_frame(text: &str, frame: &mut Frame<'_>) -> Result<(), AllocError>
     render_row(text, area, frame.buffer_mut())
 }
 
-/// A terminal over one row, the status line, below the lines that were pushed, of which it keeps the number.
+/// A terminal over one row, the status line, below the lines that were pushed, of which it keeps
+/// the number.
 ///
 /// ```
 /// let mut view = LogView::new(alloc, TestBackend::new(alloc, 8, 3)?)?;
@@ -58,8 +59,14 @@ pub struct LogView<B: Backend> {
 }
 
 impl<B: Backend + Drop> LogView<B> {
-    /// A view without lines: its status line stands in the cursor's row, or in the last one. It is refused as the start of a
-    /// terminal is: for want of memory, if the screen has cells, or by the backend; then the backend is dropped.
+    /// A view without lines: its status line stands in the cursor's row, or in the last one.
+    ///
+    /// # Errors
+    ///
+    /// - `Memory`: memory was refused. It is taken only if the screen has cells.
+    /// - `Backend`: a call of the backend failed.
+    ///
+    /// The backend is dropped then.
     pub fn new(alloc: Global, backend: B) -> Result<LogView<B>, TerminalError<B::Error>>
         ensures started { IsBlank (B.screen backend) → 0 < (B.screen backend).height
             → IfOk result (StartsView B.screen backend) }
@@ -119,9 +126,14 @@ impl<B: Backend> LogView<B> {
         })
     }
 
-    /// Appends a line: a row of the screen's width with as much of it as fits. The rows below the status line stay. It is refused
-    /// if memory is, which changes nothing, or by the backend, in the insertion of the row or after it was counted; then the
-    /// screen may show anything.
+    /// Appends a line: a row of the screen's width with as much of it as fits. The rows below the
+    /// status line stay.
+    ///
+    /// # Errors
+    ///
+    /// - `Memory`: memory was refused. Nothing has changed then.
+    /// - `Backend`: a call of the backend failed, in the insertion of the row or after the row was
+    ///   counted. The screen may show anything then.
     pub fn push(&mut self, line: &str) -> Result<(), TerminalError<B::Error>>
         ensures pushed { IsFollowing B.screen self.old
             → OnOk result (PushesLine B.screen line.now self.old self.new) }

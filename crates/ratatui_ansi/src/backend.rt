@@ -25,10 +25,11 @@ use std::io::Write;
 use std::marker::Model;
 use std::ops::Range;
 
-/// A backend that writes escape sequences to a writer. It begins with those that make any terminal of its size blank, and its screen
-/// is what such a terminal shows that has read what the writer was sent. Each call writes once, or nothing if it is refused, and
-/// counts as failed until it has succeeded; after a failed write every call is refused until `restart`. It keeps no byte of what it
-/// wrote.
+/// A backend that writes escape sequences to a writer. It begins with those that make any terminal
+/// of its size blank, and its screen is what such a terminal shows that has read what the writer
+/// was sent. Each call writes once, or nothing if it is refused, and counts as failed until it has
+/// succeeded; after a failed write every call is refused until `restart`. It keeps no byte of what
+/// it wrote.
 #[derive(Drop)]
 pub struct AnsiBackend<W: Write> {
     sender: Sender<W>,
@@ -63,7 +64,8 @@ impl<W: Write> Model for AnsiBackend<W> {
 }
 
 impl<W: Write + Drop> AnsiBackend<W> {
-    /// A backend of a screen of this size in columns and rows, over a terminal that is made blank: what makes it so is written.
+    /// A backend of a screen of this size in columns and rows, over a terminal that is made blank:
+    /// what makes it blank is written.
     ///
     /// ```
     /// let writer = BufWriter::new(alloc, rt.stdout())?;
@@ -73,8 +75,11 @@ impl<W: Write + Drop> AnsiBackend<W> {
     ///
     /// # Errors
     ///
-    /// `Size` if the screen has no columns or no rows, `Memory` if memory was refused: then nothing was written. `Write` if the
-    /// writer failed. The writer is dropped.
+    /// - `Size`: the screen has no columns or no rows. Nothing was written.
+    /// - `Memory`: memory was refused. Nothing was written.
+    /// - `Write`: the writer failed.
+    ///
+    /// The writer is dropped then.
     pub fn new(alloc: Global, writer: W, size: Size) -> Result<AnsiBackend<W>, AnsiError>
         ensures blank { IfOk result (λ b. IsBlankScreen size.width size.height (shown_by b)) }
         ensures before { IfOk result (λ b. b.before ≡ W.contents writer) }
@@ -97,9 +102,10 @@ impl<W: Write + Drop> AnsiBackend<W> {
         })
     }
 
-    /// The writer. If its bytes are known, and no write failed since the backend began or began anew, it holds what it held then,
-    /// and after that what was sent since: each terminal of this size that reads this shows the backend's screen, however it was left
-    /// before, and the model is sure of it. If no call failed, no write did.
+    /// The writer. If its bytes are known, and no write failed since the backend began or began
+    /// again, it holds what it held then, and after that what was sent since: each terminal of this
+    /// size that reads this shows the backend's screen, however it was left before, and the model
+    /// is sure of it. If no call failed, no write did.
     pub fn writer(&self) -> &W
         ensures writer { result.now ≡ self.now.writer }
         ensures tied { self.now.is_broken ≡ false
@@ -119,27 +125,30 @@ impl<W: Write + Drop> AnsiBackend<W> {
         self.sender.writer
     }
 
-    /// From now on it sends colours of the underline, or refuses them, as at first: some terminals misread them.
+    /// From now on the backend sends colours of the underline, or refuses them, as it does at
+    /// first: some terminals misread them.
     pub fn set_underline_colors(&mut self, has_underline_colors: bool)
         ensures { self.new ≡ record self.old { has_underline_colors = has_underline_colors } }
     {
         self.tracker.has_underline_colors = has_underline_colors;
     }
 
-    /// From now on a move follows each symbol but ASCII, or not, as at first: some terminals were told to take ambiguous characters,
-    /// such as lines and letters with accents, as wide, and would shift what comes after them.
+    /// From now on a move follows each symbol but ASCII, or none does, as at first: some terminals
+    /// are set to take ambiguous characters, such as lines and letters with accents, as wide, and
+    /// would shift what comes after them.
     pub fn set_ambiguous_is_wide(&mut self, ambiguous_is_wide: bool)
         ensures { self.new ≡ record self.old { ambiguous_is_wide = ambiguous_is_wide } }
     {
         self.tracker.ambiguous_is_wide = ambiguous_is_wide;
     }
 
-    /// Begins anew, also after a failed write, on a terminal that is made blank: what makes it so is written, and is all that counts as
-    /// sent.
+    /// Begins again, also after a failed write, on a terminal that is made blank: what makes it
+    /// blank is written, and is all that counts as sent.
     ///
     /// # Errors
     ///
-    /// `Memory`: all stays. `Write`: every call is refused until the next `restart` or `resize`.
+    /// - `Memory`: memory was refused. Only the count of failures has changed then.
+    /// - `Write`: the writer failed. Every call is refused until the next `restart` or `resize`.
     pub fn restart(&mut self) -> Result<(), AnsiError>
         ensures blank { OnOk result (IsBlankScreen self.old.size.width self.old.size.height
             (shown_by self.new)) }
@@ -157,13 +166,15 @@ impl<W: Write + Drop> AnsiBackend<W> {
         self.resize(size)
     }
 
-    /// The window has another size: the backend begins anew on a terminal of this size, which is made blank. So the next draw of a
-    /// terminal over it finds another size.
+    /// The window has another size: the backend begins again on a terminal of this size, which is
+    /// made blank. So the next draw of a terminal over it finds another size.
     ///
     /// # Errors
     ///
-    /// `Size` if the size has no columns or no rows, `Memory` if memory was refused: all stays. `Write`: every call is refused until
-    /// the next `restart` or `resize`.
+    /// - `Size`: the size has no columns or no rows. Only the count of failures has changed then.
+    /// - `Memory`: memory was refused. Only the count of failures has changed then.
+    /// - `Write`: the writer failed. The backend keeps its size, and every call is refused until
+    ///   the next `restart` or `resize`.
     pub fn resize(&mut self, size: Size) -> Result<(), AnsiError>
         ensures blank { OnOk result (IsBlankScreen size.width size.height (shown_by self.new)) }
         ensures before { OnOk result (self.new.before ≡ W.contents self.old.writer) }

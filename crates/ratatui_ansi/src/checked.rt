@@ -30,9 +30,18 @@ where
     Ok(frame.buffer().is_settled())
 }
 
-/// Draws what a closure paints on a terminal that writes to memory, and answers whether that is settled. If it is, and the terminal was
-/// in step, and unless a write failed, each terminal of this size that reads what was sent shows the frame, however it was left before;
-/// and memory holds what it held as the backend began, if that is known, and then these bytes.
+/// Draws what a closure paints on a terminal that writes to memory, and answers whether that is
+/// settled. If it is, and the terminal was in step, and unless a write failed, each terminal of
+/// this size that reads what was sent shows the frame, however it was left before; and memory holds
+/// what it held as the backend began, if that is known, and then these bytes.
+///
+/// # Conditions
+///
+/// The closure may be called on each frame that the draw may hand it, as for [`Terminal::draw`].
+///
+/// # Errors
+///
+/// Those of [`Terminal::draw`]. What stands then isn't said here.
 pub fn draw_for_all<F>(
     terminal: &mut Terminal<AnsiBackend<Vec<u8>>>,
     paint: F,

@@ -19,7 +19,8 @@ use ratatui_core::buffer::{Cell, CellDiffOption, CellWidth};
 use ratatui_core::layout::Position;
 use std::alloc::AllocError;
 
-/// What a draw draws on: a screen of so many columns and rows, of a terminal that reads colours of the underline or doesn't.
+/// What a draw draws on: a screen of so many columns and rows, of a terminal that reads colours of
+/// the underline or doesn't.
 #[derive(Debug, Clone, Copy, PartialEq, Eq)]
 pub struct Target {
     pub width: u16,
@@ -42,7 +43,8 @@ pub struct DrawState {
 pub enum Refusal {
     /// Memory was refused.
     Memory,
-    /// The symbol in this place isn't printed as one, or not in the columns that its cell takes, or not within its row.
+    /// The symbol in this place isn't printed as one, or not in the columns that its cell takes, or
+    /// not within its row.
     Symbol(Position),
     /// The rendition in this place can't be sent.
     Style(Position),
@@ -312,10 +314,24 @@ fn draw_glyph(
     Ok(())
 }
 
-/// Draws a cell in its place, and counts it. `continuations` has a flag for each column, row by row: whether it is a continuation column.
-/// Off the screen nothing is sent, and neither is a vacant cell after the first column of a symbol, where it would tear the symbol.
-/// Refused with its place is a cell whose symbol terminals don't print as one in just the cell's columns, or not within its row; one whose
-/// rendition can't be sent; and one that would cut a symbol of which the first column stays.
+/// Draws a cell in its place, and counts it. `continuations` has a flag for each column, row by
+/// row: whether it is a continuation column. Off the screen nothing is sent, and neither is a
+/// vacant cell after the first column of a symbol, which would tear the symbol.
+///
+/// # Conditions
+///
+/// `continuations` has a flag for each column of the screen, and the rendition that the pen has can
+/// be sent.
+///
+/// # Errors
+///
+/// A refusal with the cell's place, or `Memory`:
+///
+/// - `Symbol`: terminals don't print the symbol as one in just the columns of the cell, or not
+///   within its row.
+/// - `Style`: the rendition can't be sent.
+/// - `Cut`: the cell would cut a symbol of which the first column stays.
+/// - `Memory`: memory was refused.
 pub fn draw_cell(
     out: &mut String,
     continuations: &mut [bool],
@@ -391,9 +407,20 @@ fn draw_all<C: AsCell, I: Iterator<Item = (u16, u16, C)>>(
     Ok(())
 }
 
-/// Draws cells in order, with the cursor there and so many items drawn before; `continuations` is as in `draw_cell`. The terminal awaits
-/// text and is ready, and is so again. Answers where the cursor is then, and how many items were drawn, as far as the count goes; if
-/// ambiguous characters may be wide, each but ASCII is followed by a move; after a refusal what was appended and the flags are to be dropped.
+/// Draws cells in order, with the cursor there and so many items drawn before; `continuations` is
+/// as in `draw_cell`. The terminal awaits text and is ready, and is so again. Answers where the
+/// cursor is then, and how many items were drawn, as far as the count goes; if ambiguous characters
+/// may be wide, each but ASCII is followed by a move.
+///
+/// # Conditions
+///
+/// `continuations` has a flag for each column of the screen. The iterator comes to an end, and
+/// `next` may be called on it until then.
+///
+/// # Errors
+///
+/// Those of `draw_cell`, for the first cell that is refused. What was appended and the flags are to
+/// be dropped then.
 pub fn draw_cells<C: AsCell, I: Iterator<Item = (u16, u16, C)>>(
     out: &mut String,
     continuations: &mut [bool],

@@ -8,18 +8,21 @@ use std::alloc::AllocError;
 use std::error::Error;
 use std::{fmt, io};
 
-/// Why a call of an `AnsiBackend` failed. Only after `Broken` and `Write` isn't it known what the terminal shows.
+/// Why a call of an `AnsiBackend` failed. Only after `Broken` and `Write` is it unknown what the
+/// terminal shows.
 #[derive(Debug, Drop)]
 pub enum AnsiError {
     /// Memory was refused, and nothing was sent.
     Memory,
-    /// The symbol in this place isn't shown as one by terminals, or not in the columns that its cell takes; nothing was sent.
+    /// The symbol in this place isn't shown as one by terminals, or not in the columns that its
+    /// cell takes; nothing was sent.
     Symbol(Position),
     /// The style in this place can't be sent to terminals; nothing was sent.
     Style(Position),
-    /// In this place a part of a symbol would go of which the first column stays; nothing was sent.
+    /// What is drawn or emptied in this place would cut a symbol whose first column stays; nothing
+    /// was sent.
     Cut(Position),
-    /// A screen has columns and rows.
+    /// The screen would have no columns or no rows.
     Size,
     /// An earlier call failed to write.
     Broken,

@@ -1,4 +1,4 @@
-//! The flags of a screen's columns, one for each and row by row, which tell the columns that is a continuation column.
+//! The flags of a screen's columns, one for each, row by row: whether it is a continuation column.
 
 ghost use Rattle.std.specs.Prelude.{◌≡◌, ℕ, ◌+◌, ◌-◌, ◌*◌, ◌<◌, ◌≤◌, ◌&&◌, min, nat_le, nat_lt, if◌then◌else◌, true, false, length};
 ghost use Rattle.ratatui_core.specs.Backend.{BeforeCursor, is_cleared};
@@ -63,7 +63,12 @@ fn shift_part_down(flags: &mut [bool], from: usize, to: usize, by: usize)
     shift_down(&mut flags[from..to], by);
 }
 
-/// Moves the flags of a region's rows up by `n` rows, as the rows themselves; the region ends at the screen's last row at the latest.
+/// Moves the flags of a region's rows up by `n` rows, as the rows themselves; the region ends at
+/// the screen's last row at the latest.
+///
+/// # Conditions
+///
+/// There is a flag for each column of each row of the screen.
 pub fn raise_flags(flags: &mut [bool], size: Size, region: Range<u16>, n: u16)
     requires { length flags.old ≡ size.width * size.height }
     ensures { (c : Columns) → AreContinuations size.width size.height flags.old c
@@ -79,7 +84,12 @@ pub fn raise_flags(flags: &mut [bool], size: Size, region: Range<u16>, n: u16)
     }
 }
 
-/// Moves the flags of a region's rows down by `n` rows, as the rows themselves; the region ends at the screen's last row at the latest.
+/// Moves the flags of a region's rows down by `n` rows, as the rows themselves; the region ends at
+/// the screen's last row at the latest.
+///
+/// # Conditions
+///
+/// There is a flag for each column of each row of the screen.
 pub fn lower_flags(flags: &mut [bool], size: Size, region: Range<u16>, n: u16)
     requires { length flags.old ≡ size.width * size.height }
     ensures { (c : Columns) → AreContinuations size.width size.height flags.old c
@@ -127,6 +137,10 @@ fn part_places(size: Size, part: ClearType, x: u16, y: u16) -> (usize, usize)
 }
 
 /// Clears the flags of a part of the screen, for a cursor in this column and row.
+///
+/// # Conditions
+///
+/// There is a flag for each column of each row of the screen, and the place lies on it.
 pub fn clear_part_flags(flags: &mut [bool], size: Size, part: ClearType, x: u16, y: u16)
     requires count { length flags.old ≡ size.width * size.height }
     requires column { x < size.width }
@@ -139,6 +153,10 @@ pub fn clear_part_flags(flags: &mut [bool], size: Size, part: ClearType, x: u16,
 }
 
 /// Whether the column in this place is a continuation column.
+///
+/// # Conditions
+///
+/// There is a flag for each column of each row of the screen, and the place lies on it.
 pub fn is_continuation(flags: &[bool], size: Size, x: u16, y: u16) -> bool
     requires count { length flags.now ≡ size.width * size.height }
     requires column { x < size.width }
@@ -149,6 +167,10 @@ pub fn is_continuation(flags: &[bool], size: Size, x: u16, y: u16) -> bool
 }
 
 /// The last column of the symbol that has a column in this place.
+///
+/// # Conditions
+///
+/// There is a flag for each column of each row of the screen, and the place lies on it.
 pub fn symbol_end(flags: &[bool], size: Size, x: u16, y: u16) -> u16
     requires count { length flags.now ≡ size.width * size.height }
     requires column { x < size.width }

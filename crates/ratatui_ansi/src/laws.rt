@@ -1,5 +1,5 @@
-//! Laws of the bytes and of the model that are no single call's clause. Calling one of these functions costs nothing and tells the caller's proof
-//! its law.
+//! Laws of the bytes and of the model that are no single call's clause. Calling one of these
+//! functions costs nothing and tells the caller's proof its law.
 
 ghost use Rattle.std.specs.Prelude.{◌≡◌, ℕ, ◌+◌, ◌<◌, ◌≤◌, nat_lt, if◌then◌else◌, Bool, List};
 ghost use Rattle.ratatui_core.specs.Layout.{Position};
@@ -19,10 +19,12 @@ use ratatui_core::terminal::Terminal;
 use ratatui_core::terminal::laws::every_call_is_faithful;
 use std::io::Write;
 
-/// The headline, of the bytes: from in step, after any list of calls of a terminal that answered Ok, each painted and inserted
-/// buffer settled, and unless a write failed since the backend began or began anew, each terminal of its size that reads what was
-/// sent since shows the buffer that the last call left, however it was left before: its whole screen is the backend's, with the rows
-/// above, what lies outside a fixed viewport, the cursor and whether that is shown. The model is sure of all that it read.
+/// The headline, of the bytes: from in step, after any list of calls of a terminal that answered
+/// Ok, each painted and inserted buffer settled, and unless a write failed since the backend began
+/// or began again, each terminal of its size that reads what was sent since shows the buffer that
+/// the last call left, however it was left before: its whole screen is the backend's, with the rows
+/// above, what lies outside a fixed viewport, the cursor and whether that is shown. The model is
+/// sure of all that it read.
 pub fn bytes_show_the_last_buffer<W: Write + Drop>(terminal: &Terminal<AnsiBackend<W>>)
     ensures { IsHeadlineOfBytes terminal.now }
 {
@@ -30,8 +32,8 @@ pub fn bytes_show_the_last_buffer<W: Write + Drop>(terminal: &Terminal<AnsiBacke
     let _writer = terminal.backend().writer();
 }
 
-/// If a screen shows a settled frame, and no symbol reaches into the frame's area from the left, no draw of the diff to
-/// another settled frame, of ordinary cells, is refused with `Cut`.
+/// If a screen shows a settled frame, and no symbol reaches into the frame's area from the left, no
+/// draw of the diff to another settled frame, of ordinary cells, is refused with `Cut`.
 pub fn updates_cut_no_symbol()
     ensures { (x y w h : ℕ) (former next : List Cell) (us : List Update) (s : Screen)
         (colors : Bool) (p : Position) → IsDiff x y w h former next us

@@ -1,7 +1,9 @@
-//! From the frame to the bytes: a backend of escape sequences, proved against a model of the terminal that reads them.
+//! From the frame to the bytes: a backend of escape sequences, proved against a model of the
+//! terminal that reads them.
 //!
-//! [`AnsiBackend`] is a `Backend` whose screen is what a terminal of the crate `ansi_model` shows that has read what its writer was sent.
-//! What stands below it says what bytes do to every terminal that reads them: those of a symbol in its place (`Prints`), of drawn cells
+//! [`AnsiBackend`] is a `Backend` whose screen is what a terminal of the crate `ansi_model` shows
+//! that has read what its writer was sent. What stands below it says what bytes do to every
+//! terminal that reads them: those of a symbol in its place (`Prints`), of drawn cells
 //! (`SendsUpdates`), and of a whole call (`Collects`).
 #![tactic(auto)]
 

@@ -8,8 +8,8 @@ use crate::error::AnsiError;
 use crate::sent::Sent;
 use std::io::{self, Write};
 
-/// A writer, what it was sent, and what of it was sent since the last flush: only clauses see these two. A call counts as failed from its
-/// beginning until it has sent all.
+/// A writer, what it was sent, and what of it was sent since the last flush: only clauses see these
+/// two. A call counts as failed from its beginning until it has sent all.
 #[derive(Drop)]
 pub(crate) struct Sender<W: Write> {
     pub(crate) writer: W,
@@ -69,7 +69,8 @@ impl<W: Write> Sender<W> {
         Ok(())
     }
 
-    /// Begins a call that sends: counts it, and refuses it after a failed write. Answers how many had failed before it.
+    /// Begins a call that sends: counts it, and refuses it after a failed write. Answers how many
+    /// had failed before it.
     pub(crate) fn begin(&mut self) -> Result<u64, AnsiError>
         ensures before { IfOk result (λ failures. failures ≡ self.old.failures) }
         ensures works { OnOk result (self.old.is_broken ≡ false) }
@@ -82,7 +83,8 @@ impl<W: Write> Sender<W> {
         Ok(self.count())
     }
 
-    /// Writes a text whole; then as many calls failed as had before this one. After an Err it isn't known what of it was written.
+    /// Writes a text whole; then as many calls failed as had before this one. After an Err it isn't
+    /// known what of it was written.
     pub(crate) fn send(&mut self, text: &str, failures: u64) -> io::Result<()>
         ensures sent { OnOk result (self.new.sent.bytes ≡ self.old.sent.bytes ++ text.now) }
         ensures held { OnOk result (self.new.held.bytes ≡ self.old.held.bytes ++ text.now) }

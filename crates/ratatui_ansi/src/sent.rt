@@ -6,8 +6,8 @@ ghost use Rattle.std.specs.Borrow.{ftrue};
 use std::io::Write;
 use std::marker::{Model, PhantomData};
 
-/// What a writer held, if that is known, and the bytes that it was sent since; it takes no memory. No memory holds this, so nothing
-/// ties it to the writer but the clauses of those who keep it.
+/// What a writer held, if that is known, and the bytes that it was sent since; it takes no memory.
+/// No memory holds this, so nothing ties it to the writer but the clauses of those who keep it.
 #[derive(Drop)]
 pub(crate) struct Sent {
     marker: PhantomData<u8>,

@@ -39,7 +39,8 @@ pub(crate) enum Call {
     Clear(ClearType),
 }
 
-/// A terminal's size, where its cursor is, and which of its columns are continuation columns, row by row; and what is to be sent to it.
+/// A terminal's size, where its cursor is, and which of its columns are continuation columns, row
+/// by row; and what is to be sent to it.
 #[derive(Drop)]
 pub(crate) struct Tracker {
     pub(crate) size: Size,
@@ -265,7 +266,8 @@ impl Tracker {
         Ok(())
     }
 
-    /// Collects what a call sends, after what was collected before. If it is refused all else stays.
+    /// Collects what a call sends, after what was collected before. If it is refused all else
+    /// stays.
     pub(crate) fn collect(&mut self, call: Call) -> Result<(), Refusal>
         requires tracker { IsTracker self.old }
         requires column { self.old.cursor.x < self.old.size.width }
@@ -285,7 +287,8 @@ impl Tracker {
         Ok(())
     }
 
-    /// Collects what a draw of these cells sends, after what was collected before. If it is refused all else stays.
+    /// Collects what a draw of these cells sends, after what was collected before. If it is refused
+    /// all else stays.
     pub(crate) fn draw<C: AsCell, I: Iterator<Item = (u16, u16, C)>>(
         &mut self,
         content: I,

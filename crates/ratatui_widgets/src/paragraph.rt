@@ -28,7 +28,8 @@ pub struct Wrap {
     pub trim: bool,
 }
 
-/// A text in an area, in a box if it has one: each line in a row of its own, cut or broken into rows.
+/// A text in an area, in a box if it has one: each line in a row of its own, cut or broken into
+/// rows.
 ///
 /// ```
 /// let text = Text::raw(alloc, "The quick brown fox")?;
@@ -78,7 +79,7 @@ impl<'a> Paragraph<'a> {
         self
     }
 
-    /// The paragraph, its lines broken if they don't fit.
+    /// The paragraph with its lines broken if they don't fit.
     pub fn wrap(mut self, wrap: Wrap) -> Paragraph<'a>
         ensures { result ≡ record self.entry { wrap = Some wrap } }
     {
@@ -98,7 +99,7 @@ impl<'a> Paragraph<'a> {
         self
     }
 
-    /// The paragraph, its lines aligned so if they don't say so themselves.
+    /// The paragraph with this alignment for each line that has none of its own.
     pub fn alignment(mut self, alignment: HorizontalAlignment) -> Paragraph<'a>
         ensures { result ≡ record self.entry { alignment = alignment } }
     {
@@ -127,7 +128,11 @@ impl<'a> Paragraph<'a> {
         self.alignment(HorizontalAlignment::Right)
     }
 
-    /// How many rows the paragraph takes in so many columns, with those of its box; refused if memory is.
+    /// How many rows the paragraph takes in so many columns, with those of its box.
+    ///
+    /// # Errors
+    ///
+    /// `AllocError` if memory is refused.
     pub fn line_count(&self, alloc: Global, width: u16) -> Result<usize, AllocError> {
         if width < 1 {
             return Ok(0);

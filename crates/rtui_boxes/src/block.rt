@@ -68,21 +68,33 @@ impl<'a> Block<'a> {
         Block::new(alloc).borders(Borders::ALL)
     }
 
-    /// The box with a title, which stands where the titles do; refused if memory is.
+    /// The box with a title, which stands where the titles do.
+    ///
+    /// # Errors
+    ///
+    /// `AllocError` if memory is refused; the box is gone then.
     pub fn title(self, line: Line<'a>) -> Result<Block<'a>, AllocError>
         ensures { IfOk result (AddsTitle None line.entry self.entry) }
     {
         self.with_title(None, line)
     }
 
-    /// The box with a title in its first row; refused if memory is.
+    /// The box with a title in its first row.
+    ///
+    /// # Errors
+    ///
+    /// `AllocError` if memory is refused; the box is gone then.
     pub fn title_top(self, line: Line<'a>) -> Result<Block<'a>, AllocError>
         ensures { IfOk result (AddsTitle (Some Top) line.entry self.entry) }
     {
         self.with_title(Some(TitlePosition::Top), line)
     }
 
-    /// The box with a title in its last row; refused if memory is.
+    /// The box with a title in its last row.
+    ///
+    /// # Errors
+    ///
+    /// `AllocError` if memory is refused; the box is gone then.
     pub fn title_bottom(self, line: Line<'a>) -> Result<Block<'a>, AllocError>
         ensures { IfOk result (AddsTitle (Some Bottom) line.entry self.entry) }
     {
@@ -101,7 +113,7 @@ impl<'a> Block<'a> {
         Ok(self)
     }
 
-    /// The box, a style laid under each title.
+    /// The box with a style laid under each title.
     pub fn title_style(mut self, style: Style) -> Block<'a>
         ensures { result ≡ record self.entry { titles_style = style } }
     {
@@ -109,7 +121,7 @@ impl<'a> Block<'a> {
         self
     }
 
-    /// The box, its titles aligned so if they don't say so themselves.
+    /// The box with this alignment for each title that has none of its own.
     pub fn title_alignment(mut self, alignment: HorizontalAlignment) -> Block<'a>
         ensures { result ≡ record self.entry { titles_alignment = alignment } }
     {
@@ -117,7 +129,7 @@ impl<'a> Block<'a> {
         self
     }
 
-    /// The box, its titles in this row if they don't say so themselves.
+    /// The box with this row for each title that doesn't say its own.
     pub fn title_position(mut self, position: TitlePosition) -> Block<'a>
         ensures { result ≡ record self.entry { titles_position = position } }
     {
@@ -125,7 +137,7 @@ impl<'a> Block<'a> {
         self
     }
 
-    /// The box, its borders in a style.
+    /// The box with its borders in a style.
     pub fn border_style(mut self, style: Style) -> Block<'a>
         ensures { result ≡ record self.entry { border_style = style } }
     {
@@ -162,7 +174,7 @@ impl<'a> Block<'a> {
         self
     }
 
-    /// The box with this space inside.
+    /// The box with this space inside, in columns and rows.
     pub fn padding(mut self, padding: Padding) -> Block<'a>
         ensures { result ≡ record self.entry { padding = padding } }
     {
@@ -170,7 +182,7 @@ impl<'a> Block<'a> {
         self
     }
 
-    /// The box, its borders joined with what stands there by a strategy.
+    /// The box with its borders joined by a strategy with what stands there.
     pub fn merge_borders(mut self, strategy: MergeStrategy) -> Block<'a>
         ensures { result ≡ record self.entry { merge_borders = strategy } }
     {
@@ -178,7 +190,8 @@ impl<'a> Block<'a> {
         self
     }
 
-    /// What is inside: the area without the rows and columns of borders and titles, and without the padding.
+    /// What is inside: the area without the rows and columns of borders and titles, and without the
+    /// padding.
     pub fn inner(&self, area: Rect) -> Rect
         ensures { result ≡ inner_of self.now area }
     {
@@ -260,7 +273,8 @@ fn inside(size: u16, first: u16, last: u16, padding: u16) -> u16
         .saturating_sub(padding)
 }
 
-/// Over the area, as far as the buffer has it: the style over all of it, the borders, and the titles.
+/// Over the area, as far as the buffer has it: the style over all of it, the borders, and the
+/// titles.
 impl<'b, 'a> Widget for &'b Block<'a> {
     ghost use Rattle.rtui_boxes.specs.Boxes.{RendersBlock, IsShortBlock};
 

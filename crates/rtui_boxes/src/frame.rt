@@ -35,7 +35,16 @@ fn render_if(block: &Option<Block<'_>>, part: Rect, buf: &mut Buffer) -> Result<
     }
 }
 
-/// Lays a style over a part of a buffer and renders a box there, if there is one; answers what is inside, if it has cells.
+/// Lays a style over a part of a buffer and renders a box there, if there is one; answers what is
+/// inside, if it has cells.
+///
+/// # Conditions
+///
+/// The part has columns and rows, and its edges are at most 65535.
+///
+/// # Errors
+///
+/// `AllocError` if memory is refused; no cell outside the part has changed then.
 pub fn render_frame(
     style: Style,
     block: &Option<Block<'_>>,

@@ -8,8 +8,8 @@ ghost use Rattle.rtui_boxes.specs.declared.block.Block.{Block};
 ghost use Rattle.rtui_boxes.specs.Boxes.{RendersBlock, IsPlainBox, HasShortSymbols, AreShortCells, IsShortBlock};
 ghost use Rattle.rtui_boxes.specs.Clears.{RendersClear};
 
-/// A box of symbols of one column, with titles of such symbols or without, leaves a buffer of plain cells one of plain cells, however its
-/// borders are joined with what stands there.
+/// A box of symbols of one column, with titles of such symbols or without, leaves a buffer of plain
+/// cells one of plain cells, however its borders are joined with what stands there.
 #[tactic(auto, using(crate::proofs::PlainBoxLemmas::box_steps))]
 pub fn plain_boxes_keep_cells_plain()
     ensures { (b : Block) (area : Rect) (old new : BufferData) → IsPlainBox b → IsPlainFrom 0 old

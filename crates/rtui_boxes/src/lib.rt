@@ -1,7 +1,9 @@
-//! Boxes: borders on some sides of an area, titles in its first and its last row, and the space inside; and emptying an area.
+//! Boxes: borders on some sides of an area, titles in its first and its last row, and the space
+//! inside; and emptying an area.
 //!
-//! It stands on `ratatui_core`. `specs/Boxes` says which symbols stand where and what is inside, `specs/Clears` what emptying is, and
-//! `specs/Framed` what a style and a box leave to the widget inside. The layer above renders its widgets by [`render_frame`].
+//! It stands on `ratatui_core`. `specs/Boxes` says which symbols stand where and what is inside,
+//! `specs/Clears` what emptying is, and `specs/Framed` what a style and a box leave to the widget
+//! inside. The layer above renders its widgets by [`render_frame`].
 #![tactic(auto)]
 
 mod block;

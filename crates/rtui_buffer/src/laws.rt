@@ -101,7 +101,7 @@ pub fn painting_keeps_to_its_columns()
         → columns (line_pieces_at r x max l) ≤ max }
 {}
 
-/// What is painted of a text whose graphemes are short takes no memory, and of a line of such
+/// A text whose graphemes are short is painted without taking memory, and so is a line of such
 /// texts.
 pub fn short_graphemes_are_painted_short()
     ensures text { (room : ℕ) (style : Style) (text : List ℕ) → HasShortGraphemes text

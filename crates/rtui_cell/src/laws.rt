@@ -47,8 +47,8 @@ pub fn set_style_twice_sets_patch(cell: &Cell, first: Style, second: Style)
     styling_twice_is_patching(first, second);
 }
 
-/// What a text of more than one byte takes in a cell are its columns in a line and one for each
-/// half-width sound mark, at most 65535.
+/// A text of more than one byte takes its columns in a line, and one more for each half-width sound
+/// mark, at most 65535.
 pub fn width_is_columns_and_sound_marks()
     ensures { (text : List ℕ) → length text ≢ 1 → text_width text
         ≡ min (text_columns text + count_by is_sound_mark (chars text)) 65535 }

@@ -42,7 +42,7 @@ pub fn position_order(p: Position, q: Position)
     ensures { ⟦<Position as Ord>⟧.cmp p q ≡ ordering_then (nat_cmp p.x q.x) (nat_cmp p.y q.y) }
 {}
 
-/// Of each type the default is the one of zeros.
+/// The default of each type is the one of zeros.
 pub fn defaults()
     ensures rect { (r : Rect) → ⟦<Rect as Default>⟧.is_default r → r ≡ Rect.ZERO }
     ensures position { (p : Position) → ⟦<Position as Default>⟧.is_default p → p ≡ Position.ORIGIN }

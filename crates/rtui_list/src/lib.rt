@@ -1,7 +1,8 @@
 //! A list of items, of which one may be selected.
 //!
-//! It stands on `ratatui_core` and `rtui_boxes`. `specs/Windows` says which items are shown, `specs/States` what selecting one makes of a
-//! state, and `specs/Items` what an item looks like and what a list makes of a buffer and of its state.
+//! It stands on `ratatui_core` and `rtui_boxes`. `specs/Windows` says which items are shown,
+//! `specs/States` what selecting one makes of a state, and `specs/Items` what an item looks like
+//! and what a list makes of a buffer and of its state.
 #![tactic(auto)]
 
 mod item;

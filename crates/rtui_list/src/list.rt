@@ -123,7 +123,7 @@ impl<'a> List<'a> {
         self
     }
 
-    /// The list, its selected item in a style.
+    /// The list with its selected item in a style.
     pub fn highlight_style(mut self, style: Style) -> List<'a>
         ensures { result ≡ record self.entry { highlight_style = style } }
     {
@@ -139,7 +139,7 @@ impl<'a> List<'a> {
         self
     }
 
-    /// The list, its symbol before each line of the selected item, or before the first one.
+    /// The list with its symbol before each line of the selected item, or before the first one.
     pub fn repeat_highlight_symbol(mut self, repeat: bool) -> List<'a>
         ensures { result ≡ record self.entry { repeat_highlight_symbol = repeat } }
     {
@@ -147,7 +147,7 @@ impl<'a> List<'a> {
         self
     }
 
-    /// The list, the symbol's columns kept free so.
+    /// The list with this spacing: when the columns of the symbol stay free.
     pub fn highlight_spacing(mut self, spacing: HighlightSpacing) -> List<'a>
         ensures { result ≡ record self.entry { highlight_spacing = spacing } }
     {
@@ -446,8 +446,9 @@ impl CellChange for Blank {
     }
 }
 
-/// Over the area, as far as the buffer has it: the style, the box, and inside the items from the state's first one on, as many as fit
-/// whole. The state's selection is at most the last item, and its first item such that the selected one is in view.
+/// Over the area, as far as the buffer has it: the style, the box, and inside the items from the
+/// state's first one on, as many as fit whole. The state's selection is at most the last item, and
+/// its first item such that the selected one is in view.
 impl<'b, 'a> StatefulWidget for &'b List<'a> {
     type State = ListState;
 

@@ -62,7 +62,8 @@ impl ListState {
         self.select(Some(next));
     }
 
-    /// Selects the item before, or the last one: a rendering makes of too large a number the last item's.
+    /// Selects the item before, or the last one: a rendering makes of too large a number the last
+    /// item's.
     pub fn select_previous(&mut self)
         ensures { self.new ≡ selecting (Some (previous_of self.old.selected)) self.old }
     {

@@ -79,7 +79,7 @@ impl<'a> Gauge<'a> {
         self
     }
 
-    /// The gauge, its last column filled by eighths, or by whole columns.
+    /// The gauge with its last column filled by eighths, or by whole columns.
     pub fn use_unicode(mut self, unicode: bool) -> Gauge<'a>
         ensures { result ≡ record self.entry { use_unicode = unicode } }
     {
@@ -95,7 +95,8 @@ impl<'a> Gauge<'a> {
         self
     }
 
-    /// The gauge, its bar in a style: the foreground is the filled part's colour, the background that of the rest.
+    /// The gauge with its bar in a style: the foreground is the colour of the filled part, the
+    /// background that of the rest.
     pub fn gauge_style(mut self, style: Style) -> Gauge<'a>
         ensures { result ≡ record self.entry { gauge_style = style } }
     {
@@ -256,7 +257,8 @@ impl CellChange for Fill {
     }
 }
 
-/// Over the area, as far as the buffer has it: the style, the box, and the bar with its label inside.
+/// Over the area, as far as the buffer has it: the style, the box, and the bar with its label
+/// inside.
 impl<'b, 'a> Widget for &'b Gauge<'a> {
     ghost use Rattle.rtui_meters.specs.Gauges.{RendersAreaGauge, IsShortGauge};
 

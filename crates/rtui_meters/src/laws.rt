@@ -11,14 +11,16 @@ ghost use Rattle.rtui_meters.specs.declared.scrollbar.Scrollbar.{Scrollbar};
 ghost use Rattle.rtui_meters.specs.declared.scrollbar.ScrollbarState.{ScrollbarState};
 ghost use Rattle.rtui_meters.specs.Scrollbars.{HasNarrowMarks, RendersScrollbar};
 
-/// A gauge on a buffer of plain cells leaves one that a screen can show, if it has no box or a plain one.
+/// A gauge on a buffer of plain cells leaves one that a screen can show, if it has no box or a
+/// plain one.
 pub fn gauges_on_plain_cells_are_settled()
     ensures { (g : Gauge) (area : Rect) (old new : BufferData) → EdgesFit old.area
         → IsPlainFrom 0 old
         → IsPlainIfBox g.block → RendersAreaGauge g area old new → IsSettledBuffer new }
 {}
 
-/// A line gauge of symbols of one column on a buffer of plain cells leaves one that a screen can show, if it has no box or a plain one.
+/// A line gauge of symbols of one column on a buffer of plain cells leaves one that a screen can
+/// show, if it has no box or a plain one.
 pub fn line_gauges_on_plain_cells_are_settled()
     ensures { (g : LineGauge) (area : Rect) (old new : BufferData) → EdgesFit old.area
         → IsPlainFrom 0 old → IsPlainIfBox g.block → HasNarrowLine g

@@ -1,7 +1,8 @@
 //! Widgets that show how much there is of a whole: gauges in an area and in a row, and scroll bars.
 //!
-//! It stands on `ratatui_core` and `rtui_boxes`. `specs/Shares` says how many columns a share fills, `specs/Gauges` and `specs/LineGauges`
-//! which cell gets which symbol and style, and `specs/Scrollbars` where the thumb of a scroll bar is.
+//! It stands on `ratatui_core` and `rtui_boxes`. `specs/Shares` says how many columns a share
+//! fills, `specs/Gauges` and `specs/LineGauges` which cell gets which symbol and style, and
+//! `specs/Scrollbars` where the thumb of a scroll bar is.
 #![tactic(auto)]
 
 mod gauge;

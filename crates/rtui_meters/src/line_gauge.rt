@@ -18,7 +18,7 @@ use ratatui_core::widgets::Widget;
 use rtui_boxes::{Block, render_frame};
 use std::alloc::{AllocError, Global};
 
-/// The plain line of which a gauge is if it says nothing else.
+/// The line that a gauge is made of if it says nothing else.
 pub const PLAIN_LINE: &str = line::HORIZONTAL;
 
 /// A line in one row that is filled by a share from the left, with a label before it.
@@ -120,7 +120,7 @@ impl<'a> LineGauge<'a> {
         self
     }
 
-    /// The gauge, the filled part of its line in a style.
+    /// The gauge with the filled part of its line in a style.
     pub fn filled_style(mut self, style: Style) -> LineGauge<'a>
         ensures { result ≡ record self.entry { filled_style = style } }
     {
@@ -128,7 +128,7 @@ impl<'a> LineGauge<'a> {
         self
     }
 
-    /// The gauge, the other part of its line in a style.
+    /// The gauge with the other part of its line in a style.
     pub fn unfilled_style(mut self, style: Style) -> LineGauge<'a>
         ensures { result ≡ record self.entry { unfilled_style = style } }
     {
@@ -221,7 +221,8 @@ impl<'a> CellChange for LineFill<'a> {
     }
 }
 
-/// Over the area, as far as the buffer has it: the style, the box, and in the first row inside the label and the line.
+/// Over the area, as far as the buffer has it: the style, the box, and in the first row inside the
+/// label and the line.
 impl<'b, 'a> Widget for &'b LineGauge<'a> {
     ghost use Rattle.rtui_meters.specs.LineGauges.{RendersLineGauge, IsShortLineGauge};
 

@@ -49,8 +49,8 @@ pub enum ScrollDirection {
     Backward,
 }
 
-/// How long a content is, which of its rows or columns is the first one seen, and how many are seen; 0 stands for as many as the bar is
-/// long.
+/// How long a content is, which of its rows or columns is the first one seen, and how many are
+/// seen; 0 stands for as many as the bar is long.
 #[derive(Debug, Default, Clone, Copy, PartialEq, Eq, Hash)]
 pub struct ScrollbarState {
     content_length: usize,
@@ -142,7 +142,8 @@ impl ScrollbarState {
     }
 }
 
-/// A bar at a side of an area: an arrow at each end, a track between them, and on it a thumb where the part that is seen lies.
+/// A bar at a side of an area: an arrow at each end, a track between them, and on it a thumb where
+/// the part that is seen lies.
 ///
 /// ```
 /// let mut state = ScrollbarState::new(lines).position(first);
@@ -208,7 +209,7 @@ impl<'a> Scrollbar<'a> {
         self
     }
 
-    /// The bar of these symbols; what it doesn't show stays away.
+    /// The bar of these symbols; a part that it doesn't show stays hidden.
     pub fn symbols(mut self, symbols: Set<'a>) -> Scrollbar<'a>
         ensures { result ≡ with_bar_symbols symbols.entry self.entry }
     {
@@ -493,7 +494,8 @@ impl<'a> CellChange for Marks<'a> {
     }
 }
 
-/// At its side of the area, as far as the buffer has it; a bar without a content or without room for a track shows nothing.
+/// At its side of the area, as far as the buffer has it; a bar without a content or without room
+/// for a track shows nothing.
 impl<'b, 'a> StatefulWidget for &'b Scrollbar<'a> {
     type State = ScrollbarState;
 

@@ -16,7 +16,7 @@ pub fn modifiers_have_sixteen_bits(style: Style)
     ensures taken { bits_of style.sub_modifier < 2 ^ 16 }
 {}
 
-/// Of three layers it doesn't matter which two are joined first.
+/// It doesn't matter which two of three layers are joined first.
 pub fn patch_is_associative(bottom: Style, middle: Style, top: Style)
     ensures { patch (patch bottom middle) top ≡ patch bottom (patch middle top) }
 {
@@ -33,8 +33,8 @@ pub fn new_style_is_identity(style: Style)
     modifiers_have_sixteen_bits(style);
 }
 
-/// What one style and then another make of a colour and of modifiers, the second laid over the
-/// first makes of them.
+/// A style laid over another makes of a colour and of modifiers what the other and then the one
+/// make of them.
 pub fn styling_twice_is_patching(first: Style, second: Style)
     ensures colors { (a b : Option Color) (c : Color)
         → color_after b (color_after a c) ≡ color_after (color_or b a) c }

@@ -29,7 +29,7 @@ pub trait Styled {
     fn style(&self) -> Style
         ensures { result ≡ style_of self.now };
 
-    /// It with this style in place of its own.
+    /// What it becomes with this style in place of its own.
     fn set_style(self, style: Style) -> Self::Item
         ensures { result ≡ with_style self style };
 }

@@ -51,8 +51,8 @@ pub fn empty_buffers_move_with_an_insertion<B: Backend>()
         → IsEmptied s.viewport_area s.current → IsEmptied t.viewport_area t.current }
 {}
 
-/// On a screen with rows a viewport of one row starts in the cursor's, and the screen stays as it
-/// was.
+/// A viewport of one row starts in the cursor's row if the screen has rows, and the screen stays as
+/// it was.
 pub fn one_row_starts_at_the_cursor<B: Backend>()
     ensures { (b : B) (t : TerminalData B) → 0 < (B.screen b).height
         → Starts B.screen (Inline 1) b t
@@ -69,7 +69,7 @@ pub fn blank_screens_start_in_step<B: Backend>()
         → IsBlank (B.screen b) → IsBlank (B.screen t.backend) }
 {}
 
-/// If a viewport stays and all around it, blank rows below it stay blank.
+/// If a viewport and all around it stay, blank rows below it stay blank.
 pub fn blank_rows_below_stay<B: Backend>()
     ensures { (s t : TerminalData B) → KeepsAroundViewport B.screen s t
         → IsBlankBelow s.viewport_area (B.screen s.backend)

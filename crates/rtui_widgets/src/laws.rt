@@ -29,8 +29,8 @@ pub fn ascii_texts_take_no_memory()
         → RendersShortStr text area s }
 {}
 
-/// An empty buffer with rows has a first one to be rendered in, and a screen can show what a text
-/// leaves that is rendered on an empty buffer, from a column of it on.
+/// An empty buffer with rows has a first row to render in, and a screen can show what a text leaves
+/// that is rendered on an empty buffer, from one of its columns on.
 pub fn texts_on_empty_buffers_are_settled()
     ensures first { (r : Rect) (s : BufferData) → 0 < r.height → IsEmptied r s → HasFirstRow r s }
     ensures settled { (r area : Rect) (text : List ℕ) (old new : BufferData) → IsEmptied r old

@@ -40,7 +40,11 @@ impl<'a> Acts<'a> {
         }
     }
 
-    /// One more act after the others; if memory is refused, nothing changes.
+    /// One more act after the others.
+    ///
+    /// # Errors
+    ///
+    /// `AllocError` if memory is refused; nothing has changed then.
     pub fn push(&mut self, act: Act<'a>) -> Result<(), AllocError>
         ensures ok { OnOk result (self.new ≡ self.old ++ act.entry ∷ []) }
         ensures err { OnErr result (self.new ≡ self.old) }

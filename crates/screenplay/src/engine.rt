@@ -106,11 +106,17 @@ fn play_acts(alloc: Global, stage: Stage, acts: &[Act<'_>]) -> Result<Vec<u8>, R
     Ok(text)
 }
 
-/// Plays the script that these bytes are, and gives the text that it prints: each scene that it shows, in order. A fault names
-/// the first bad line, the step that can't be played, or says that the bytes aren't text or that memory was refused; it is
-/// neither `Read` nor `Write`.
+/// Plays the script that these bytes are, and gives the text that it prints: each scene that it
+/// shows, in order.
 ///
 /// The text is kept until the last step is played, and no scene is.
+///
+/// # Errors
+///
+/// - `Line`: this line is the first bad one.
+/// - `Step`: this step can't be played.
+/// - `NotText`: the bytes aren't UTF-8.
+/// - `Memory`: memory was refused.
 pub fn printed_text(alloc: Global, bytes: &[u8]) -> Result<Vec<u8>, RunFault>
     ensures printed { IfOk result (λ text. PrintsText bytes.now text.items) }
     ensures fault { IfErr result (IsRunFault bytes.now) }
@@ -124,8 +130,12 @@ pub fn printed_text(alloc: Global, bytes: &[u8]) -> Result<Vec<u8>, RunFault>
     }
 }
 
-/// Reads a script to its end, plays it, and writes the scenes that it shows. A fault names the first bad line, the step
-/// that can't be played, or what else failed; only with `Write` can anything have been written.
+/// Reads a script to its end, plays it, and writes the scenes that it shows.
+///
+/// # Errors
+///
+/// Those of [`printed_text`]; `Read` if the reader failed; and `Write` if the writer failed. With
+/// any but `Write` nothing was written.
 pub fn run<R: Read, W: Write>(alloc: Global, reader: &mut R, writer: &mut W) -> Result<(), RunFault>
     ensures printed { OnOk result (IfSome (R.remaining reader.old) (λ bytes.
         PrintsRun bytes (W.contents writer.old) (W.contents writer.new))) }

@@ -65,6 +65,14 @@ fn paint(
 }
 
 /// A terminal over a blank stage.
+///
+/// # Conditions
+///
+/// The stage has columns and rows, and its viewport has a place on it.
+///
+/// # Errors
+///
+/// Those of [`Terminal::with_options`], and `Memory` if memory is refused for the screen.
 pub fn open(alloc: Global, stage: Stage) -> Result<Terminal<TestBackend>, TerminalError<TestError>>
     requires { IsGoodStage stage }
     ensures { IfOk result (λ t. IsPlaying stage t × IsStart stage (view_in t)) }
@@ -265,6 +273,11 @@ fn clear(terminal: &mut Terminal<TestBackend>) -> Result<(), PlayCause>
 }
 
 /// Plays a step.
+///
+/// # Errors
+///
+/// - `Memory`: memory was refused.
+/// - `Unsettled`: what is to be drawn or inserted can't be shown as it is.
 pub fn play_step(
     alloc: Global,
     terminal: &mut Terminal<TestBackend>,
@@ -334,8 +347,16 @@ fn add_scene(
     Ok(())
 }
 
-/// Plays steps on a blank stage: the scene at the start, and one after each step. A fault names the step that
-/// wasn't done, 0 for the start, and keeps the scenes before it.
+/// Plays steps on a blank stage: the scene at the start, and one after each step.
+///
+/// # Conditions
+///
+/// The stage has columns and rows, and its viewport has a place on it.
+///
+/// # Errors
+///
+/// The fault names the step that wasn't done, or 0 for the start, says why, and keeps the scenes
+/// before it.
 pub fn play(alloc: Global, stage: Stage, steps: &[Step<'_>]) -> Result<Vec<Scene>, PlayFault>
     requires { IsGoodStage stage }
     ensures ok { IfOk result (λ scenes. IsRun stage steps.now scenes.items) }

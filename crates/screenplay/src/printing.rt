@@ -1,4 +1,4 @@
-//! A script printed, or its fault told.
+//! A script printed, or its fault written.
 
 ghost use Rattle.std.specs.Prelude.{IfOk, IfSome, OnOk};
 ghost use Rattle.std.specs.Io.KnownBytes.{Appends};
@@ -22,11 +22,12 @@ fn tell<E: Write>(errors: &mut E, fault: RunFault) -> io::Result<()>
     }
 }
 
-/// Prints the script that a reader gives, as `run` does, or tells why it can't, and answers the status for that.
+/// Prints the script that a reader gives, as `run` does, or says why it can't, and answers the
+/// status for that.
 ///
 /// # Errors
 ///
-/// The fault couldn't be told.
+/// The error of the writer `errors` if the fault couldn't be written there.
 pub fn print_script<R: Read, W: Write, E: Write>(
     alloc: Global,
     reader: &mut R,

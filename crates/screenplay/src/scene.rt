@@ -41,7 +41,11 @@ impl Puts {
         }
     }
 
-    /// One more put after the others; if memory is refused, nothing changes.
+    /// One more put after the others.
+    ///
+    /// # Errors
+    ///
+    /// `AllocError` if memory is refused; nothing has changed then.
     pub fn push(&mut self, x: u16, y: u16, ch: char) -> Result<(), AllocError>
         ensures ok { OnOk result (self.new ≡ self.old ++ (x, y, ch) ∷ []) }
         ensures err { OnErr result (self.new ≡ self.old) }
@@ -78,17 +82,18 @@ impl From<Vec<(u16, u16, char)>> for Puts {
 /// One step of a script.
 #[derive(Debug, Drop)]
 pub enum Step<'a> {
-    /// A frame, before which a screen whose viewport isn't fixed takes the size, if there is one: the text rendered
-    /// over an empty buffer of the viewport, on which each put then sets its symbol, in order; one outside the viewport
-    /// does nothing.
+    /// A frame, before which a screen whose viewport isn't fixed takes the size, if there is one:
+    /// the text rendered over an empty buffer of the viewport, on which each put then sets its
+    /// symbol, in order; one outside the viewport does nothing.
     Draw {
         size: Option<Size>,
         text: Text<'a>,
         puts: Puts,
     },
-    /// Rows above an inline viewport, one for each line of the text, at most 65535: the text rendered over an empty
-    /// buffer of the screen's width. The viewport moves down as far as there is room, and shows what it did; rows that have
-    /// no room scroll off. On another viewport nothing changes.
+    /// Rows above an inline viewport, one for each line of the text, at most 65535: the text
+    /// rendered over an empty buffer of the screen's width. The viewport moves down as far as there
+    /// is room, and shows what it did; rows that have no room scroll off. On another viewport
+    /// nothing changes.
     Insert(Text<'a>),
     /// An empty viewport.
     Clear,
@@ -110,8 +115,8 @@ pub struct Scene {
 pub enum PlayCause {
     /// Memory was refused.
     Memory,
-    /// The frame over this area, or what was to be inserted above it, can't be shown as it is; nothing of it was
-    /// written.
+    /// The frame over this area, or what was to be inserted above it, can't be shown as it is;
+    /// nothing of it was written.
     Unsettled(Rect),
 }
 
@@ -122,7 +127,8 @@ pub struct StepError {
     pub cause: PlayCause,
 }
 
-/// A play that ended early: before the step of this number, counted from 1, was done, or at 0 before the start.
+/// A play that ended early: before the step of this number, counted from 1, was done, or at 0
+/// before the start.
 #[derive(Debug, Drop)]
 pub struct PlayFault {
     pub step: usize,

@@ -41,6 +41,10 @@ impl<'a> LineRest<'a> {
     }
 
     /// A line of this text.
+    ///
+    /// # Errors
+    ///
+    /// `AllocError` if memory is refused.
     pub fn to_line(&self, alloc: Global) -> Result<Line<'a>, AllocError>
         ensures { IfOk result (λ line. line ≡ raw_line self.now) }
     {
@@ -214,7 +218,8 @@ fn read_command(line: &str) -> Option<Command<'_>>
     read_arguments(word, arguments)
 }
 
-/// A script as far as it was read: its stage, what it plays, and what waits for its next draw or insertion.
+/// A script as far as it was read: its stage, what it plays, and what waits for its next draw or
+/// insertion.
 #[derive(Debug, Drop)]
 pub struct Script<'a> {
     pub stage: Option<Stage>,
@@ -362,7 +367,12 @@ impl<'a> Script<'a> {
     }
 }
 
-/// Reads a script; an error names the first bad line, or says that memory was refused.
+/// Reads a script.
+///
+/// # Errors
+///
+/// - `Line`: this line is the first bad one.
+/// - `Memory`: memory was refused.
 pub fn read_script(alloc: Global, text: &str) -> Result<Script<'_>, ScriptError>
     ensures ok { IfOk result (λ script. script_of (lines text.now) ≡ Some script) }
     ensures stage { IfOk result (λ script. IfSome script.stage IsGoodStage) }
