@@ -21,7 +21,8 @@ pub struct Block {
 }
 
 /// Gives a block in rows of `width` elements those at the start of the rows of another list, whose
-/// rows have `stride` elements. The other list gets what was there.
+/// rows have `stride` elements. They are moved out of the other list; what it has in their place
+/// isn't said.
 ///
 /// # Conditions
 ///
