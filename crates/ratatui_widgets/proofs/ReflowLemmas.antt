@@ -1,6 +1,6 @@
 -- A row at the front of a line.
 use Rattle.std.proofs.Common.{◌≡◌, ℕ, zero, suc, ◌+◌, ◌≤◌, ◌++◌, ◌&&◌, Bool, true, false, List, [], ◌∷◌, take, drop, length, ◌-◌, refl, sym, ap, subst, ◌∙◌, arith}
-use Rattle.std.proofs.lemmas.List.{take-append-drop, drop-take, take_all, length-drop}
+use Rattle.std.proofs.lemmas.List.{take-append-drop, take-take, drop-take, take_all, length-drop}
 use Rattle.std.proofs.lemmas.List.Elements.{filter-append}
 use Rattle.std.proofs.lemmas.List.Folds.{list_all-append}
 use Rattle.std.specs.Prelude.{not, nat_le}
@@ -9,12 +9,6 @@ use Rattle.std.proofs.lemmas.List.Sums.{sum_by-take-le}
 use Rattle.ratatui_core.specs.declared.text.StyledGrapheme.{StyledGrapheme}
 use Rattle.ratatui_core.specs.Buffer.{text_width}
 use Rattle.ratatui_widgets.specs.Reflow.{is_break, columns_taken, words_of, AllFit}
-
-take-take : {X : Type 0} → (n m : ℕ) (xs : List X) → n ≤ m → take n (take m xs) ≡ take n xs
-take-take zero m xs le = refl
-take-take (suc n) zero xs le = let no : ⊥ = omega arith in absurd no
-take-take (suc n) (suc m) [] le = refl
-take-take (suc n) (suc m) (x ∷ xs) le = ap (λ ys. x ∷ ys) (take-take n m xs (omega arith))
 
 -- a shorter front has no more columns
 pub front-fits : (n m width : ℕ) (gs : List StyledGrapheme) → n ≤ m → columns_taken (take m gs) ≤ width → columns_taken (take n gs) ≤ width

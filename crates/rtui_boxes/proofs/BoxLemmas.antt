@@ -1,5 +1,6 @@
 -- Strokes over the cells of an area, one after the other.
 use Rattle.std.proofs.Common.{◌≡◌, ℕ, ◌-◌, ◌⊎◌, ⊎_elim, inl, inr, Bool, true, false, if◌then◌else◌, List, [], ◌∷◌, ◌++◌, refl, sym, ap, subst, ◌∙◌, arith, min, Result, Ok, Err, OnOk, OnErr, IsOk, IsErr}
+use Rattle.std.proofs.lemmas.Bool.{false_from_ne_true}
 use Rattle.std.proofs.lemmas.Bool.Decides.{nat_tests}
 use Rattle.std.specs.declared.alloc.AllocError.{AllocError}
 use Rattle.ratatui_core.specs.Layout.{Rect, Position, HasPosition, right_edge, bottom_edge, IsInside}
@@ -17,10 +18,6 @@ use Rattle.rtui_boxes.specs.declared.title.TitlePosition.TheVariants.{Top, Botto
 use Rattle.rtui_boxes.specs.Boxes.{Stroke, stroke, strokes, is_in, strikes, stroked, drawn, IsShortUnder, DrawsStrokes, IsBoxArea, titles_area, has_title, IsOffTitles, KeepsOffTitles, box_cell, placed_titles, RendersTitled, RendersBlock, IsShortBlock}
 use Rattle.ratatui_core.proofs.BufferLemmas.{Changes-within, within-same, within-wider, on-ok}
 
-by_test : (b : Bool) → (b ≡ true → ⊥) → b ≡ false
-by_test true never = absurd (never refl)
-by_test false never = refl
-
 pub test-cases : (b : Bool) → (b ≡ true) ⊎ (b ≡ false)
 test-cases true = inl refl
 test-cases false = inr refl
@@ -32,7 +29,7 @@ pub is_in-has : (r : Rect) (p : Position) → is_in r p ≡ true → HasPosition
 is_in-has r p e = record { left = grind (arith, nat_tests); right = grind (arith, nat_tests); top = grind (arith, nat_tests); bottom = grind (arith, nat_tests) }
 
 pub is_in-false : (r : Rect) (p : Position) → (HasPosition r p → ⊥) → is_in r p ≡ false
-is_in-false r p off = by_test (is_in r p) (λ e. off (is_in-has r p e))
+is_in-false r p off = false_from_ne_true (is_in r p) (λ e. off (is_in-has r p e))
 
 -- a change over a part, at each position
 module _ (r : Rect) (f : Position → Cell → Cell) (old new : BufferData) (is : ChangesEach r f old new) (p : Position) (in_own : HasPosition old.area p) where

@@ -2,14 +2,10 @@
 use Rattle.std.proofs.Common.{◌≡◌, ℕ, ◌+◌, ◌<◌, ◌⊎◌, ⊎_elim, inl, inr, true, false, refl, sym, ap, subst, ◌∙◌, arith}
 use Rattle.ratatui_core.specs.Layout.{Rect, Position, HasPosition, EdgesFit}
 use Rattle.ratatui_core.specs.Buffer.{BufferData, cell, cell_at, cell_index, empty_cell, width_of, is_skipped, is_same, IsSettled, IsSettledBuffer, IsBlankOrSkipped, position_of}
-use Rattle.ratatui_core.proofs.BufferLemmas.{width-empty, index-at}
+use Rattle.ratatui_core.proofs.BufferLemmas.{width-empty, same-empty, index-at}
 use Rattle.rtui_boxes.specs.Clears.{RendersClear}
 use Rattle.rtui_boxes.specs.Boxes.{is_in}
 use Rattle.rtui_boxes.proofs.BoxLemmas.{test-cases, is_in-true, is_in-has}
-
-same-empty : is_same empty_cell empty_cell ≡ true
-unfolding is_same
-same-empty = refl
 
 module _ (area : Rect) (old new : BufferData) (edges : EdgesFit old.area) (is : RendersClear area old new) (was : IsSettledBuffer old) where
   each : (a b : ℕ) → a < old.area.width → b < old.area.height → (cell_at old.area.width new.cells a b ≡ cell_at old.area.width old.cells a b) ⊎ (cell_at old.area.width new.cells a b ≡ empty_cell)

@@ -10,7 +10,7 @@ use Rattle.ratatui_core.specs.Style.{Style}
 use Rattle.ratatui_core.specs.Text.{LineData}
 use Rattle.ratatui_core.specs.Buffer.{BufferData, Cell, cell_in, joined, styled, with_symbol, symbol_text, width_of, text_width, IsStyled, IsNarrowLine, IsPlain, IsPlainFrom}
 use Rattle.ratatui_core.specs.declared.symbols.merge.MergeStrategy.{MergeStrategy}
-use Rattle.ratatui_core.proofs.BufferLemmas.{plain-styled, joined-columns, has-or-not, line-stays}
+use Rattle.ratatui_core.proofs.BufferLemmas.{plain-styled, plain-with_symbol, plain-if, joined-columns, has-or-not, line-stays}
 use Rattle.rtui_boxes.specs.declared.block.Block.{Block}
 use Rattle.rtui_boxes.specs.declared.title.Title.{Title}
 use Rattle.rtui_boxes.specs.declared.title.TitlePosition.{TitlePosition}
@@ -18,37 +18,29 @@ use Rattle.rtui_boxes.specs.declared.title.TitlePosition.TheVariants.{Top, Botto
 use Rattle.rtui_boxes.specs.Titles.{PlacedTitle, RendersTitles, title_at, title_width, titles_width, first_columns, last_columns, without_first, without_last, shown_width, side_of, aligned, from_left, from_right, from_outside, from_centre}
 use Rattle.rtui_boxes.specs.Boxes.{Stroke, strokes, stroked, strikes, drawn, is_in, box_cell, is_placed, lines_placed, row_titles, placed_titles, titles_area, IsPlainBox, RendersTitled, RendersBlock}
 
-plain-with : (symbol : List ℕ) (c : Cell) → IsPlain c → text_width symbol ≤ 1 → IsPlain (with_symbol symbol c)
-unfolding width_of
-plain-with symbol c is le = let e = is.unmarked.option in record { narrow = rw e le; unmarked = record { option = is.unmarked.option; flag = is.unmarked.flag } }
-
 plain-symbol : (c : Cell) → IsPlain c → text_width (symbol_text c.symbol) ≤ 1
 unfolding width_of
 plain-symbol c is = rw is.unmarked.option at is.narrow
 
 plain-drawn : (m : MergeStrategy) (style : Style) (symbol : List ℕ) (c : Cell) → IsPlain c → text_width symbol ≤ 1 → IsPlain (drawn m style symbol c)
-plain-drawn m style symbol c is le = plain-styled style (with_symbol (joined m c.symbol symbol) c) (plain-with (joined m c.symbol symbol) c is (joined-columns m c.symbol symbol (plain-symbol c is) le))
+plain-drawn m style symbol c is le = plain-styled style (with_symbol (joined m c.symbol symbol) c) (plain-with_symbol (joined m c.symbol symbol) c is (joined-columns m c.symbol symbol (plain-symbol c is) le))
 
 abbrev AreNarrow : List Stroke → Type 0
 AreNarrow [] = Unit {0}
 AreNarrow (s ∷ ss) = (text_width s.symbol ≤ 1) × AreNarrow ss
 
-if-plain : (t : Bool) (a c : Cell) → IsPlain a → IsPlain c → IsPlain (if t then a else c)
-if-plain true a c pa pc = pa
-if-plain false a c pa pc = pc
-
 plain-stroked : (b : Block) (ss : List Stroke) (p : Position) (c : Cell) → AreNarrow ss → IsPlain c → IsPlain (stroked b ss p c)
 plain-stroked b [] p c all is = is
 plain-stroked b (s ∷ ss) p c all is =
     plain-stroked b ss p (if strikes s p then drawn b.merge_borders b.border_style s.symbol c else c) all.1
-    (if-plain (strikes s p) (drawn b.merge_borders b.border_style s.symbol c) c (plain-drawn b.merge_borders b.border_style s.symbol c is all.0) is)
+    (plain-if (strikes s p) (drawn b.merge_borders b.border_style s.symbol c) c (plain-drawn b.merge_borders b.border_style s.symbol c is all.0) is)
 
 narrow-strokes : (b : Block) (r : Rect) → IsPlainBox b → AreNarrow (strokes b r)
 narrow-strokes b r is = (is.left, (is.top, (is.right, (is.bottom, (is.bottom_right, (is.top_right, (is.bottom_left, (is.top_left, tt))))))))
 
 plain-cell : (b : Block) (r : Rect) (p : Position) (c : Cell) → IsPlainBox b → IsPlain c → IsPlain (box_cell b r p c)
 plain-cell b r p c is plain =
-    if-plain (is_in r p) (stroked b (strokes b r) p (styled b.style c)) c
+    plain-if (is_in r p) (stroked b (strokes b r) p (styled b.style c)) c
     (plain-stroked b (strokes b r) p (styled b.style c) (narrow-strokes b r is) (plain-styled b.style c plain)) plain
 
 -- a style keeps cells plain

@@ -1,6 +1,7 @@
 -- Titles rendered in turn: what is done so far, and what is left.
 use Rattle.std.proofs.Common.{◌≡◌, ℕ, zero, suc, ◌+◌, ◌-◌, ◌<◌, ◌≤◌, ◌==◌, ◌&&◌, ◌||◌, ⊎_elim, Bool, true, false, if◌then◌else◌, nat_le, min, ◌/◌, List, [], ◌∷◌, ◌++◌, map, filter, reverse, length, take, drop, sum_by, slice_index_or, refl, sym, ap, subst, ◌∙◌, arith, Result, Ok, Err, OnOk}
 use Rattle.std.specs.List.{list_any}
+use Rattle.std.proofs.lemmas.Bool.{or_parts}
 use Rattle.std.proofs.lemmas.Bool.Decides.{nat_tests}
 use Rattle.std.proofs.lemmas.List.{drop_more, take_more, reverse-append}
 use Rattle.std.proofs.lemmas.List.Sums.{sum_by-cons}
@@ -31,13 +32,6 @@ pub finishes-next : (style : Style) (left rest all : List PlacedTitle) (t : Plac
 finishes-next style left rest all t old now mid is finishes made = λ new others.
     finishes new (subst (λ ts. RendersTitles style ts now new) (sym is) (record { between = mid; first = made; second = others }))
 
-pub finishes-same : (style : Style) (left rest all : List PlacedTitle) (old now : BufferData) → left ≡ rest → Finishes style left all old now → Finishes style rest all old now
-finishes-same style left rest all old now is finishes = subst (λ ts. Finishes style ts all old now) is finishes
-
--- none are left
-pub finishes-all : (style : Style) (left all : List PlacedTitle) (old now : BufferData) → left ≡ [] → Finishes style left all old now → RendersTitles style all old now
-finishes-all style left all old now is finishes = finishes now (subst (λ ts. RendersTitles style ts now now) (sym is) refl)
-
 -- titles after titles
 pub titles-then : (style : Style) (ts us : List PlacedTitle) (old mid new : BufferData) → RendersTitles style ts old mid → RendersTitles style us mid new → RendersTitles style (ts ++ us) old new
 titles-then style [] us old mid new first second = subst (λ s. RendersTitles style us s new) first second
@@ -46,10 +40,6 @@ titles-then style (t ∷ ts) us old mid new first second = record {
   first = first.first;
   second = titles-then style ts us first.between mid new first.second second;
 }
-
-neither : (a b : Bool) → (a || b) ≡ false → (a ≡ false) × (b ≡ false)
-neither true b e = let no : true ≡ false = e in absurd (cc)
-neither false b e = (refl, e)
 
 -- the lines of the titles from one on
 module _ (b : Block) (position : TitlePosition) (alignment : HorizontalAlignment) where
@@ -69,38 +59,29 @@ module _ (b : Block) (position : TitlePosition) (alignment : HorizontalAlignment
     pub lines-next : is_placed b position alignment title ≡ true → lines (drop i titles) ≡ title.line ∷ lines (drop (i + 1) titles)
     lines-next is = ap lines drop-is ∙ lines-placed title (drop (i + 1) titles) is
 
-    pub lines-skip : is_placed b position alignment title ≡ false → lines (drop i titles) ≡ lines (drop (i + 1) titles)
-    lines-skip is = ap lines drop-is ∙ lines-other title (drop (i + 1) titles) is
-
     take-is : reverse (take (i + 1) titles) ≡ title ∷ reverse (take i titles)
     take-is = ap reverse (take_more titles i title lt) ∙ reverse-append (take i titles) (slice_index_or titles i title ∷ []) ∙ ap (λ t. t ∷ reverse (take i titles)) (sym at)
 
     pub lines-before : is_placed b position alignment title ≡ true → lines (reverse (take (i + 1) titles)) ≡ title.line ∷ lines (reverse (take i titles))
     lines-before is = ap lines take-is ∙ lines-placed title (reverse (take i titles)) is
 
-    pub lines-skip_back : is_placed b position alignment title ≡ false → lines (reverse (take (i + 1) titles)) ≡ lines (reverse (take i titles))
-    lines-skip_back is = ap lines take-is ∙ lines-other title (reverse (take i titles)) is
-
   -- no title stands in the row
   pub lines-none : (titles : List Title) → list_any (is_in_row b.titles_position position) titles ≡ false → lines titles ≡ []
   lines-none [] none = refl
   lines-none (title ∷ titles) none =
-      let both = neither (is_in_row b.titles_position position title) (list_any (is_in_row b.titles_position position) titles) none in
+      let both = or_parts (is_in_row b.titles_position position title) (list_any (is_in_row b.titles_position position) titles) none in
       lines-other title titles (rw both.0 refl) ∙ lines-none titles both.1
 
 -- nor do the titles in the other order
 pub none-back : (f : Title → Bool) (titles : List Title) → list_any f titles ≡ false → list_any f (reverse titles) ≡ false
 none-back f [] none = refl
 none-back f (title ∷ titles) none =
-    let both = neither (f title) (list_any f titles) none in
+    let both = or_parts (f title) (list_any f titles) none in
     let front = none-back f titles both.1 in
     let is = ap (list_any f) (reverse-append (title ∷ []) titles) ∙ list_any-append f (reverse titles) (title ∷ []) in
     is ∙ rw (front, both.0) refl
 
 -- parts of an area
-pub first-inside : (n : ℕ) (r : Rect) → IsInside (first_columns n r) r
-first-inside n r p h = let l = h.left in let e = h.right in let t = h.top in let b = h.bottom in record { left = l; right = omega arith; top = t; bottom = b }
-
 pub last-inside : (n : ℕ) (r : Rect) → IsInside (last_columns n r) r
 last-inside n r p h = let l = h.left in let e = h.right in let t = h.top in let b = h.bottom in record { left = omega arith; right = omega arith; top = t; bottom = b }
 
@@ -110,21 +91,9 @@ rest-inside n r p h = let l = h.left in let e = h.right in let t = h.top in let 
 pub front-inside : (n : ℕ) (r : Rect) → IsInside (without_last n r) r
 front-inside n r p h = let l = h.left in let e = h.right in let t = h.top in let b = h.bottom in record { left = l; right = omega arith; top = t; bottom = b }
 
--- a row without columns has no titles
+-- a row that has columns
 not-zero : (n : ℕ) → 0 < n → (n == 0) ≡ false
 not-zero n lt = grind (arith, nat_tests)
-
-pub left-none : (r : Rect) (ls : List LineData) → r.width ≡ 0 → from_left r ls ≡ []
-left-none r [] none = refl
-left-none r (l ∷ ls) none = rw none refl
-
-pub right-none : (r : Rect) (ls : List LineData) → r.width ≡ 0 → from_right r ls ≡ []
-right-none r [] none = refl
-right-none r (l ∷ ls) none = rw none refl
-
-pub outside-none : (n : ℕ) (r : Rect) (ls : List LineData) → r.width ≡ 0 → from_outside n r ls ≡ []
-outside-none n r [] none = refl
-outside-none n r (l ∷ ls) none = rw none refl
 
 -- one title more, in an area that has columns
 module _ (style : Style) (r next area : Rect) (l : LineData) (ls rest : List LineData) (all : List PlacedTitle) (old now mid : BufferData) (is : ls ≡ l ∷ rest) (some : 0 < r.width) where

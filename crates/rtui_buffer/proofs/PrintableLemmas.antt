@@ -8,6 +8,7 @@ use Rattle.rtui_style.specs.declared.Style.{Style}
 use Rattle.rtui_cell.specs.declared.cell.Cell.{Cell}
 use Rattle.rtui_cell.specs.Cell.{empty_cell}
 use Rattle.rtui_cell.specs.Width.{text_width}
+use Rattle.rtui_cell.proofs.WidthLemmas.{one_byte}
 use Rattle.rtui_text.specs.Printable.{IsPrintable, ArePrintable, IsPrintableFront, singles}
 use Rattle.rtui_text.proofs.PrintableLemmas.{printable-plain, graphemes-front, front-bytes}
 use Rattle.rtui_diff.specs.Cells.{cell}
@@ -17,24 +18,19 @@ use Rattle.rtui_buffer.proofs.PaintLemmas.{kept-take, painted-nil, painted-cons,
 use Rattle.rtui_buffer.proofs.PaintedLemmas.{HasPieces-kept}
 use Rattle.rtui_buffer.proofs.LineLemmas.{columns-append, painted-append, short-rest}
 
--- the width of a byte
-pub one_column : (b : ℕ) → text_width (b ∷ []) ≡ 1
-unfolding text_width
-one_column b = refl
-
 painted_width-printable : (b : ℕ) → IsPrintable b → painted_width (b ∷ []) ≡ 1
 unfolding painted_width
-painted_width-printable b p = rw (printable-plain b p) (one_column b)
+painted_width-printable b p = rw (printable-plain b p) (one_byte b)
 
 with_byte : (at : ℕ) (s : Style) (b : ℕ) (cells : List Cell) → with_piece at (piece_of s (b ∷ [])) cells ≡ set cells at (shown (piece_of s (b ∷ [])) (cell cells at))
 unfolding with_piece emptied
-with_byte at s b cells = rw (one_column b) refl
+with_byte at s b cells = rw (one_byte b) refl
 
 pub painted-byte : (at : ℕ) (s : Style) (b : ℕ) (bs : List ℕ) (cells : List Cell)
     → painted at (pieces s (singles (b ∷ bs))) cells ≡ painted (at + 1) (pieces s (singles bs)) (set cells at (shown (piece_of s (b ∷ [])) (cell cells at)))
 painted-byte at s b bs cells =
     painted-cons at (piece_of s (b ∷ [])) (pieces s (singles bs)) cells
-    ∙ rw (one_column b) (ap (painted (at + 1) (pieces s (singles bs))) (with_byte at s b cells))
+    ∙ rw (one_byte b) (ap (painted (at + 1) (pieces s (singles bs))) (with_byte at s b cells))
 
 first_of : (i : ℕ) (bs : List ℕ) → i < length bs → drop i bs ≡ slice_index bs i ∷ drop (suc i) bs
 first_of zero (b ∷ bs) lt = refl
@@ -68,18 +64,18 @@ kept-singles (b ∷ bs) room gs all le =
     let p : IsPrintable b = all 0 (omega arith) in
     let wide : 0 < painted_width (b ∷ []) = omega (arith, painted_width-printable b p) in
     let less : room - 1 - length bs ≡ room - suc (length bs) = omega arith in
-    kept-take room (b ∷ []) (singles bs ++ gs) wide (omega (arith, one_column b))
-    ∙ rw (one_column b) (ap (λ ks. (b ∷ []) ∷ ks) (kept-singles bs (room - 1) gs (λ k lt. all (suc k) (omega arith)) (omega arith) ∙ rw less refl))
+    kept-take room (b ∷ []) (singles bs ++ gs) wide (omega (arith, one_byte b))
+    ∙ rw (one_byte b) (ap (λ ks. (b ∷ []) ∷ ks) (kept-singles bs (room - 1) gs (λ k lt. all (suc k) (omega arith)) (omega arith) ∙ rw less refl))
 
 pub columns-singles : (s : Style) (bs : List ℕ) → columns (pieces s (singles bs)) ≡ length bs
 columns-singles s [] = refl
-columns-singles s (b ∷ bs) = omega (arith, sum_by-cons piece_width (piece_of s (b ∷ [])) (pieces s (singles bs)), one_column b, columns-singles s bs)
+columns-singles s (b ∷ bs) = omega (arith, sum_by-cons piece_width (piece_of s (b ∷ [])) (pieces s (singles bs)), one_byte b, columns-singles s bs)
 
 outside-singles : (at : ℕ) (s : Style) (bs : List ℕ) (cells : List Cell) → IsSameOutside at (at + length bs) cells (painted at (pieces s (singles bs)) cells)
 outside-singles at s [] cells = rw (painted-nil at cells) (IsSameOutside-refl at (at + 0) cells)
 outside-singles at s (b ∷ bs) cells =
     let p = piece_of s (b ∷ []) in
-    let wide : piece_width p ≡ 1 = one_column b in
+    let wide : piece_width p ≡ 1 = one_byte b in
     let more : List Cell = with_piece at p cells in
     let end : at + piece_width p + length bs ≡ at + suc (length bs) = omega arith in
     rw (painted-cons at p (pieces s (singles bs)) cells)

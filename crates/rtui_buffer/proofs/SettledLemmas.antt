@@ -6,16 +6,12 @@ use Rattle.std.proofs.lemmas.List.Sums.{sum_by-cons}
 use Rattle.rtui_cell.specs.declared.cell.Cell.{Cell}
 use Rattle.rtui_cell.specs.Cell.{empty_cell, width_of, is_skipped, IsUnmarked}
 use Rattle.rtui_cell.specs.Equality.{is_same}
-use Rattle.rtui_cell.proofs.CellLemmas.{width-empty}
+use Rattle.rtui_cell.proofs.CellLemmas.{width-empty, same-empty}
 use Rattle.rtui_diff.specs.Cells.{cell, cell_at}
 use Rattle.rtui_diff.specs.Settled.{IsSettled, IsSettledAt, IsBlankOrSkipped}
 use Rattle.rtui_diff.proofs.FrameLemmas.{column_in, row_start}
 use Rattle.rtui_diff.proofs.SettledLemmas.{settled_at, settled_from}
 use Rattle.rtui_buffer.specs.Painting.{Piece, piece_width, columns, shown, piece_at, place_of, HasPieces}
-
-same-empty : is_same empty_cell empty_cell ≡ true
-unfolding is_same
-same-empty = refl
 
 pub unmarked_empty : {c : Cell} → c ≡ empty_cell → IsUnmarked c
 unmarked_empty e = rw e (record { option = refl; flag = refl })
@@ -24,20 +20,20 @@ skipped-shown : (p : Piece) (c : Cell) → IsUnmarked c → is_skipped (shown p 
 unfolding is_skipped
 skipped-shown p c plain = rw (plain.option, plain.flag) refl
 
-width-shown : (p : Piece) (c : Cell) → IsUnmarked c → width_of (shown p c) ≡ piece_width p
+pub width-shown : (p : Piece) (c : Cell) → IsUnmarked c → width_of (shown p c) ≡ piece_width p
 unfolding width_of
 width-shown p c plain = rw plain.option refl
 
 -- where a column of the pieces lies: in which of them, and how far in it
-record IsIn (ps : List Piece) (k : ℕ) : Type 0 where
-  piece : ℕ
-  column : ℕ
-  in_list : piece < length ps
-  in_piece : column < piece_width (piece_at ps piece)
-  place : columns (take piece ps) + column ≡ k
-  ends : columns (take piece ps) + piece_width (piece_at ps piece) ≤ columns ps
+pub record IsIn (ps : List Piece) (k : ℕ) : Type 0 where
+  pub piece : ℕ
+  pub column : ℕ
+  pub in_list : piece < length ps
+  pub in_piece : column < piece_width (piece_at ps piece)
+  pub place : columns (take piece ps) + column ≡ k
+  pub ends : columns (take piece ps) + piece_width (piece_at ps piece) ≤ columns ps
 
-is_in : (ps : List Piece) (k : ℕ) → k < columns ps → IsIn ps k
+pub is_in : (ps : List Piece) (k : ℕ) → k < columns ps → IsIn ps k
 is_in [] k lt = absurd (omega arith)
 is_in (p ∷ ps) k lt =
     let sum : columns (p ∷ ps) ≡ piece_width p + columns ps = sum_by-cons piece_width p ps in

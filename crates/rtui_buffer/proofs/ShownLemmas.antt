@@ -50,7 +50,8 @@ has-or-not r p =
     (cases_lt p.x (right_edge r)))
     (cases_lt p.x r.x)
 
-index-at : (x y w a b : ℕ) → (y + b - y) * w + (x + a - x) ≡ b * w + a
+-- the place of a cell by how far it lies from its area's corner
+pub index-at : (x y w a b : ℕ) → (y + b - y) * w + (x + a - x) ≡ b * w + a
 index-at x y w a b =
     let row : y + b - y ≡ b = omega arith in
     let column : x + a - x ≡ a = omega arith in

@@ -170,6 +170,10 @@ pub width-empty : width_of empty_cell ≡ 1
 unfolding width_of text_width
 width-empty = refl
 
+pub same-empty : is_same empty_cell empty_cell ≡ true
+unfolding is_same
+same-empty = refl
+
 pub skipped-empty : is_skipped empty_cell ≡ false
 unfolding is_skipped
 skipped-empty = refl

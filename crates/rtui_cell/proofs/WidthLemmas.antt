@@ -1,10 +1,15 @@
--- The width of a text of one character.
+-- The width of a text of one byte, and of one character.
 use Rattle.std.proofs.Common.{◌≡◌, ℕ, ◌+◌, ◌<◌, Bool, true, false, ◌&&◌, ◌==◌, nat_lt, nat_le, List, [], ◌∷◌, refl, sym, ap, ◌∙◌, arith}
 use Rattle.std.specs.Prelude.{Some, if◌then◌else◌, length, min, chars}
 use Rattle.std.proofs.lemmas.Bool.{false≢true}
 use Rattle.std.proofs.lemmas.Bool.Decides.{nat_tests}
 use Rattle.rtui_cell.specs.Width.{text_width}
 use Rattle.unicode_width.specs.Width.{str_width, char_width, alone, step, past_emoji, plain, added}
+
+-- a byte takes one column
+pub one_byte : (b : ℕ) → text_width (b ∷ []) ≡ 1
+unfolding text_width
+one_byte b = refl
 
 third : {A : Type 0} (f g h : Bool) (w x y z : A) → f ≡ false → g ≡ false → h ≡ false → (if f then w else if g then x else if h then y else z) ≡ z
 third false false false w x y z e k l = refl

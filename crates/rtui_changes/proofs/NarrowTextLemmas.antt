@@ -21,6 +21,7 @@ use Rattle.rtui_buffer.specs.BufferData.{BufferData, cell_in, cell_index, positi
 use Rattle.rtui_buffer.specs.Painting.{Piece, piece_of, piece_at, piece_width, columns, shown, kept, fitting, painted_width, has_painted_width}
 use Rattle.rtui_buffer.specs.PaintedText.{pieces_at, room_at, PaintsPieces, IsStyled}
 use Rattle.rtui_buffer.proofs.ShortLemmas.{All-fitting}
+use Rattle.rtui_buffer.proofs.SettledLemmas.{IsIn, is_in, width-shown}
 use Rattle.rtui_changes.specs.Changes.{ChangesEach}
 use Rattle.rtui_changes.specs.Parts.{MakesParts}
 use Rattle.rtui_widgets.specs.Span.{showing, goes_to, those_at, is_behind, with_graphemes, column_with, columns_from, span_rendered}
@@ -29,7 +30,7 @@ use Rattle.rtui_widgets.specs.Rendering.{area_row, RendersRows, in_first_row, Re
 use Rattle.rtui_changes.specs.Plain.{IsPlain, IsPlainFrom, IsPlainOver}
 use Rattle.rtui_changes.specs.NarrowTexts.{IsNarrowGrapheme, HasNarrowGraphemes, AreNarrowSpans, IsNarrowLine, IsNarrowText}
 use Rattle.rtui_changes.proofs.ChangeLemmas.{has-or-not}
-use Rattle.rtui_changes.proofs.PlainLemmas.{plain-empty, plain-styled, IsIn, is_in, width-shown}
+use Rattle.rtui_changes.proofs.PlainLemmas.{plain-empty, plain-styled, plain-if}
 
 abbrev IsOne : List ℕ → Type 0
 IsOne g = text_width g ≡ 1
@@ -91,10 +92,6 @@ plain-with style hs c is plain =
     rw one.2 (plain-styled style (record c { symbol = Some (concat (one.0 ∷ [])) }) (plain-symbol one.0 c one.1 plain)))
     is
 
-either-plain : (t : Bool) (a b : Cell) → IsPlain a → IsPlain b → IsPlain (if t then a else b)
-either-plain true a b pa pb = pa
-either-plain false a b pa pb = pb
-
 plain-columns : (f : ℕ → Cell → Cell) (k : ℕ) (row : List Cell) → ((j : ℕ) (c : Cell) → IsPlain c → IsPlain (f j c)) → All IsPlain row → All IsPlain (columns_from f k row)
 unfolding columns_from
 plain-columns f k [] keeps all = all
@@ -107,7 +104,7 @@ plain-span style text row narrow all =
     let gs = showing (length row) (graphemes true text) in
     let ones = showing-one (length row) text narrow in
     plain-columns (column_with style gs) 0 row
-    (λ k c plain. plain-with style (those_at k 0 gs) (if is_behind k 0 gs then empty_cell else c) (those-alone k 0 gs ones) (either-plain (is_behind k 0 gs) empty_cell c plain-empty plain)) all
+    (λ k c plain. plain-with style (those_at k 0 gs) (if is_behind k 0 gs then empty_cell else c) (those-alone k 0 gs ones) (plain-if (is_behind k 0 gs) empty_cell c plain-empty plain)) all
 
 plain-behind : (n : ℕ) (f : List Cell → List Cell) (row : List Cell) → ((cs : List Cell) → All IsPlain cs → All IsPlain (f cs)) → All IsPlain row → All IsPlain (take n row ++ f (drop n row))
 plain-behind n f row keeps all = All-append IsPlain (take n row) (f (drop n row)) (All-take IsPlain n row all) (keeps (drop n row) (All-drop IsPlain n row all))

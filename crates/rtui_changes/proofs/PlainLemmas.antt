@@ -1,5 +1,5 @@
 -- Plain cells are settled, and painting keeps what is still to be painted plain.
-use Rattle.std.proofs.Common.{◌≡◌, ◌≢◌, ℕ, suc, ◌+◌, ◌-◌, ◌*◌, ◌<◌, ◌≤◌, ◌⊎◌, ⊎_elim, inl, inr, true, false, List, [], ◌∷◌, length, take, refl, sym, ap, subst, ◌∙◌, arith, if◌then◌else◌, Result, Ok, Err, OnOk}
+use Rattle.std.proofs.Common.{◌≡◌, ◌≢◌, ℕ, suc, ◌+◌, ◌-◌, ◌*◌, ◌<◌, ◌≤◌, ◌⊎◌, ⊎_elim, inl, inr, Bool, true, false, List, [], ◌∷◌, length, take, refl, sym, ap, subst, ◌∙◌, arith, if◌then◌else◌, Result, Ok, Err, OnOk}
 use Rattle.std.proofs.lemmas.Bool.{cases_lt}
 use Rattle.std.proofs.lemmas.List.Sums.{sum_by-cons}
 use Rattle.rtui_buffer.proofs.ColumnLemmas.{PaintsByColumns-paints}
@@ -7,6 +7,8 @@ use Rattle.rtui_buffer.proofs.TextLemmas.{IsSettled-row}
 use Rattle.rtui_changes.specs.Changes.{ChangesEach}
 use Rattle.rtui_changes.proofs.ChangeLemmas.{has-or-not}
 use Rattle.rtui_buffer.proofs.EmptyLemmas.{cell-empty}
+use Rattle.rtui_buffer.proofs.SettledLemmas.{IsIn, is_in, width-shown}
+use Rattle.rtui_buffer.proofs.ShownLemmas.{index-at}
 use Rattle.rtui_buffer.specs.Shown.{IsSettledBuffer}
 use Rattle.rtui_buffer.specs.PaintedText.{IsStyled, IsPaintable, IsBeside, right_by, PaintsPieces, PaintsByColumns, PaintsOrRefuses}
 use Rattle.rtui_buffer.specs.Painting.{Piece, piece_at, piece_width, columns, shown}
@@ -25,18 +27,21 @@ use Rattle.rtui_style.specs.declared.Style.{Style}
 use Rattle.std.specs.declared.alloc.AllocError.{AllocError}
 use Rattle.rtui_changes.specs.Plain.{IsPlain, IsPlainFrom, IsReadyAt, IsReadyFrom}
 
-pub index-at : (x y w a b : ℕ) → (y + b - y) * w + (x + a - x) ≡ b * w + a
-index-at x y w a b =
-    let row : y + b - y ≡ b = omega arith in
-    let column : x + a - x ≡ a = omega arith in
-    rw (row, column) refl
-
 pub plain-empty : IsPlain empty_cell
 plain-empty = record { narrow = rw width-empty (omega arith); unmarked = record { option = refl; flag = refl } }
 
 pub plain-styled : (s : Style) (c : Cell) → IsPlain c → IsPlain (styled s c)
 unfolding width_of
 plain-styled s c is = record { narrow = is.narrow; unmarked = record { option = is.unmarked.option; flag = is.unmarked.flag } }
+
+-- a symbol of at most one column keeps a cell plain
+pub plain-with_symbol : (symbol : List ℕ) (c : Cell) → IsPlain c → text_width symbol ≤ 1 → IsPlain (with_symbol symbol c)
+unfolding width_of
+plain-with_symbol symbol c is le = let e = is.unmarked.option in record { narrow = rw e le; unmarked = record { option = is.unmarked.option; flag = is.unmarked.flag } }
+
+pub plain-if : (t : Bool) (a b : Cell) → IsPlain a → IsPlain b → IsPlain (if t then a else b)
+plain-if true a b pa pb = pa
+plain-if false a b pa pb = pb
 
 -- a buffer of plain cells is settled
 module _ (s : BufferData) (edges : EdgesFit s.area) (plain : IsPlainFrom 0 s) where
@@ -58,33 +63,6 @@ empty-there r s emptied p = rw emptied.cells (cell-empty (area_size r) (cell_ind
 
 pub plain-emptied : (r : Rect) (s : BufferData) → IsEmptied r s → IsPlainFrom 0 s
 plain-emptied r s emptied = λ p has le. subst IsPlain (sym (empty-there r s emptied p)) plain-empty
-
--- where a column of the pieces lies
-pub record IsIn (ps : List Piece) (k : ℕ) : Type 0 where
-  pub piece : ℕ
-  pub column : ℕ
-  pub in_list : piece < length ps
-  pub in_piece : column < piece_width (piece_at ps piece)
-  pub place : columns (take piece ps) + column ≡ k
-  pub ends : columns (take piece ps) + piece_width (piece_at ps piece) ≤ columns ps
-
-pub is_in : (ps : List Piece) (k : ℕ) → k < columns ps → IsIn ps k
-is_in [] k lt = absurd (omega arith)
-is_in (p ∷ ps) k lt =
-    let sum : columns (p ∷ ps) ≡ piece_width p + columns ps = sum_by-cons piece_width p ps in
-    ⊎_elim
-    (λ (first : k < piece_width p). record { piece = 0; column = k; in_list = omega arith; in_piece = first; place = omega arith; ends = omega arith })
-    (λ (more : piece_width p ≤ k).
-    let r : IsIn ps (k - piece_width p) = is_in ps (k - piece_width p) (omega arith) in
-    let front : columns (take (suc r.piece) (p ∷ ps)) ≡ piece_width p + columns (take r.piece ps) = sum_by-cons piece_width p (take r.piece ps) in
-    let at = r.place in
-    let end = r.ends in
-    record { piece = suc r.piece; column = r.column; in_list = (let e = r.in_list in omega arith); in_piece = r.in_piece; place = omega arith; ends = omega arith })
-    (cases_lt k (piece_width p))
-
-pub width-shown : (p : Piece) (c : Cell) → IsUnmarked c → width_of (shown p c) ≡ piece_width p
-unfolding width_of
-width-shown p c plain = rw plain.option refl
 
 -- pieces painted in columns that may be painted: those after them may be painted still, and other rows are as before
 module _ (p : Position) (n : ℕ) (ps : List Piece) (old new : BufferData) (edges : EdgesFit old.area) (row : HasRow old.area p.y) (starts : old.area.x ≤ p.x) (fits : p.x + n ≤ old.area.x + old.area.width)

@@ -10,13 +10,13 @@ use Rattle.rtui_text.specs.Text.{SpanData}
 use Rattle.rtui_text.specs.Widths.{span_width}
 use Rattle.rtui_text.proofs.PrintableLemmas.{graphemes-front}
 use Rattle.rtui_text.proofs.GraphemeLemmas.{graphemes-empty}
-use Rattle.rtui_buffer.proofs.PrintableLemmas.{one_column}
+use Rattle.rtui_cell.proofs.WidthLemmas.{one_byte}
 use Rattle.rtui_widgets.specs.Line.{Part, last_fitting, end_of, part_of, parts}
 use Rattle.rtui_changes.specs.NarrowTexts.{IsNarrowGrapheme, HasNarrowGraphemes, AreNarrowSpans}
 
 narrow-singles : (bs : List ℕ) → All IsNarrowGrapheme (singles bs)
 narrow-singles [] = All-nil IsNarrowGrapheme
-narrow-singles (b ∷ bs) = All-cons IsNarrowGrapheme (b ∷ []) (singles bs) (λ _. one_column b) (narrow-singles bs)
+narrow-singles (b ∷ bs) = All-cons IsNarrowGrapheme (b ∷ []) (singles bs) (λ _. one_byte b) (narrow-singles bs)
 
 -- each of them is a grapheme
 graphemes-singles : (text : List ℕ) → ArePrintable text → graphemes true text ≡ singles text

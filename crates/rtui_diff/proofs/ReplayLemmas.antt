@@ -8,7 +8,7 @@ use Rattle.rtui_cell.specs.Cell.{width_of, is_skipped}
 use Rattle.rtui_diff.specs.Cells.{cell}
 use Rattle.rtui_diff.specs.DiffRule.{Walk, start, gives, step, give, given}
 use Rattle.rtui_cell.specs.Grid.{Grid, puts}
-use Rattle.rtui_diff.specs.Updates.{update_at, updates, RisesFrom, IsBefore, Rises, IsCellOfNext}
+use Rattle.rtui_diff.specs.Updates.{update_at, updates, IsBefore, Rises, IsCellOfNext}
 use Rattle.rtui_diff.specs.Settled.{IsSettled}
 use Rattle.rtui_diff.specs.Shows.{ShowsColumn, Shows, Replays}
 use Rattle.rtui_diff.proofs.WalkLemmas.{given-step, given-none, unskipped}
@@ -17,6 +17,11 @@ use Rattle.rtui_diff.proofs.FrameLemmas.{Fits, row_start, column_in, row_in, row
 
 abbrev pub Plain : List Cell → ℕ → Type 0
 Plain ns i = is_skipped (cell ns i) ≡ false
+
+-- the places rise from lo on, lie below hi, and each has P
+abbrev pub RisesFrom : (ℕ → Type 0) → ℕ → ℕ → List ℕ → Type 0
+RisesFrom P lo hi [] = Unit {0}
+RisesFrom P lo hi (i ∷ is) = (lo ≤ i) × (i < hi) × P i × RisesFrom P (i + 1) hi is
 
 rises_lower : (P : ℕ → Type 0) (lo lo' hi : ℕ) (is : List ℕ) → lo' ≤ lo → RisesFrom P lo hi is → RisesFrom P lo' hi is
 rises_lower P lo lo' hi [] le r = tt

@@ -14,11 +14,6 @@ update_at x0 y0 w ns i = record { x = x0 + i % w; y = y0 + i / w; cell = cell ns
 abbrev pub updates : ℕ → ℕ → ℕ → ℕ → List Cell → List Cell → List Update
 updates x0 y0 w h ps ns = map (update_at x0 y0 w ns) (given ps ns (w * h) start 0)
 
--- the places rise from lo on, lie below hi, and each has P
-abbrev pub RisesFrom : (ℕ → Type 0) → ℕ → ℕ → List ℕ → Type 0
-RisesFrom P lo hi [] = Unit {0}
-RisesFrom P lo hi (i ∷ is) = (lo ≤ i) × (i < hi) × P i × RisesFrom P (i + 1) hi is
-
 -- in a row above, or further left in the same row
 abbrev pub IsBefore : Update → Update → Type 0
 IsBefore u v = (u.y < v.y) ⊎ ((u.y ≡ v.y) × (u.x < v.x))

@@ -2,7 +2,7 @@
 use Rattle.std.proofs.Common.{◌≡◌, ℕ, zero, suc, ◌+◌, ◌<◌, ◌≤◌, Bool, true, false, ◌&&◌, if◌then◌else◌, nat_lt, ◌==◌, List, [], ◌∷◌, ◌⊎◌, ⊎_elim, inl, inr, Option, Some, None, refl, sym, ap, subst, ◌∙◌, arith}
 use Rattle.std.specs.Prelude.{codes, slice_index_or, map, drop}
 use Rattle.std.specs.Borrow.{Bor}
-use Rattle.std.proofs.lemmas.Bool.{cases_lt}
+use Rattle.std.proofs.lemmas.Bool.{cases_lt, and_parts, and_from}
 use Rattle.std.specs.List.{list_all}
 use Rattle.std.proofs.Math.ListN.{get_or-map}
 use Rattle.ratatui_core.specs.Layout.{Rect, Position, EdgesFit, IsInside, intersected, corner}
@@ -10,7 +10,7 @@ use Rattle.ratatui_core.specs.Style.{Style}
 use Rattle.ratatui_core.specs.declared.style.Color.{Color}
 use Rattle.ratatui_core.specs.Symbols.{is_narrow, block_levels}
 use Rattle.ratatui_core.specs.Buffer.{BufferData, Cell, with_symbol, styled, width_of, text_width, columns, IsPlain, IsPlainFrom, IsSettledBuffer}
-use Rattle.ratatui_core.proofs.BufferLemmas.{narrow-test, blocks-narrow, plain-styled, plain-changed, painted-settled, text-keeps, PaintsByColumns-paints, ready-row, ready-plain, ready-next, changed-settled}
+use Rattle.ratatui_core.proofs.BufferLemmas.{narrow-test, blocks-narrow, plain-styled, plain-with_symbol, plain-if, plain-changed, painted-settled, text-keeps, PaintsByColumns-paints, ready-row, ready-plain, ready-next, changed-settled}
 use Rattle.rtui_boxes.specs.Boxes.{IsBoxArea, IsPlainIfBox}
 use Rattle.rtui_boxes.proofs.PaintLemmas.{part-right, part-has_row, part-starts}
 use Rattle.rtui_boxes.proofs.InnerLemmas.{settled-frame}
@@ -28,21 +28,14 @@ use Rattle.rtui_meters.specs.Shares.{eighths_of}
 use Rattle.rtui_meters.specs.Gauges.{label_part, pieces_on_bar, filled_cell, in_colors, is_under_label, text_of_label, style_of_label, FillsArea, FillsGauge, RendersAreaGauge}
 use Rattle.rtui_meters.proofs.MeterLemmas.{label-in, label-row, label-column, pieces-keep}
 
-both : (a b : Bool) → (a && b) ≡ true → (a ≡ true) × (b ≡ true)
-both true b e = (refl, e)
-both false b e = let h : false ≡ true = e in absurd (cc)
-
-and-both : (a b : Bool) → a ≡ true → b ≡ true → (a && b) ≡ true
-and-both a b e k = rw (e, k) refl
-
 pub full-narrow : is_narrow FULL_BLOCK.now ≡ true
-full-narrow = (both (is_narrow FULL_BLOCK.now) (list_all is_narrow (drop 1 block_levels)) blocks-narrow).0
+full-narrow = (and_parts (is_narrow FULL_BLOCK.now) (list_all is_narrow (drop 1 block_levels)) blocks-narrow).0
 
 -- each text of a list, and another one after all
 nth-narrow : (ts : List (List ℕ)) (n : ℕ) (d : List ℕ) → list_all is_narrow ts ≡ true → is_narrow d ≡ true → is_narrow (slice_index_or ts n d) ≡ true
 nth-narrow [] n d all e = e
-nth-narrow (t ∷ ts) zero d all e = (both (is_narrow t) (list_all is_narrow ts) all).0
-nth-narrow (t ∷ ts) (suc n) d all e = nth-narrow ts n d (both (is_narrow t) (list_all is_narrow ts) all).1 e
+nth-narrow (t ∷ ts) zero d all e = (and_parts (is_narrow t) (list_all is_narrow ts) all).0
+nth-narrow (t ∷ ts) (suc n) d all e = nth-narrow ts n d (and_parts (is_narrow t) (list_all is_narrow ts) all).1 e
 
 level : (n : ℕ) → is_narrow (slice_index_or block_levels n FULL_BLOCK.now) ≡ true
 level n = nth-narrow block_levels n FULL_BLOCK.now blocks-narrow full-narrow
@@ -50,23 +43,18 @@ level n = nth-narrow block_levels n FULL_BLOCK.now blocks-narrow full-narrow
 -- from none to all
 tips-narrow : list_all is_narrow (map (λ t. t.now) TIPS) ≡ true
 tips-narrow =
-    and-both _ _ (level 8) (and-both _ _ (level 7) (and-both _ _ (level 6) (and-both _ _ (level 5) (and-both _ _ (level 4) (and-both _ _ (level 3) (and-both _ _ (level 2) (and-both _ _ (level 1) (and-both _ _ (level 0) refl))))))))
+    and_from _ _ (level 8) (and_from _ _ (level 7) (and_from _ _ (level 6) (and_from _ _ (level 5) (and_from _ _ (level 4) (and_from _ _ (level 3) (and_from _ _ (level 2) (and_from _ _ (level 1) (and_from _ _ (level 0) refl))))))))
 
 pub tip-narrow : (n : ℕ) → is_narrow (slice_index_or TIPS n FULL_BLOCK).now ≡ true
 tip-narrow n = subst (λ t. is_narrow t ≡ true) (get_or-map (λ t. t.now) TIPS n FULL_BLOCK) (nth-narrow (map (λ t. t.now) TIPS) n FULL_BLOCK.now tips-narrow full-narrow)
 
 -- a cell with a narrow symbol, in a style, in colours
-plain-with : (symbol : List ℕ) (c : Cell) → IsPlain c → is_narrow symbol ≡ true → IsPlain (with_symbol symbol c)
-unfolding width_of
-plain-with symbol c is narrow = let e = is.unmarked.option in let le = (narrow-test symbol narrow).columns in record { narrow = rw e le; unmarked = record { option = is.unmarked.option; flag = is.unmarked.flag } }
+plain-narrow : (symbol : List ℕ) (c : Cell) → IsPlain c → is_narrow symbol ≡ true → IsPlain (with_symbol symbol c)
+plain-narrow symbol c is narrow = plain-with_symbol symbol c is (narrow-test symbol narrow).columns
 
 plain-colors : (front back : Color) (c : Cell) → IsPlain c → IsPlain (in_colors front back c)
 unfolding width_of
 plain-colors front back c is = record { narrow = is.narrow; unmarked = record { option = is.unmarked.option; flag = is.unmarked.flag } }
-
-plain-if : (t : Bool) (a b : Cell) → IsPlain a → IsPlain b → IsPlain (if t then a else b)
-plain-if true a b pa pb = pa
-plain-if false a b pa pb = pb
 
 blank-narrow : is_narrow (codes " ") ≡ true
 blank-narrow = level 8
@@ -74,8 +62,8 @@ blank-narrow = level 8
 plain-filled : (f : Fill) → is_narrow f.tip.now ≡ true → (p : Position) (c : Cell) → IsPlain c → IsPlain (filled_cell f p c)
 plain-filled f tip p c is =
     plain-if (nat_lt p.x f.end) _ _
-    (plain-if (is_under_label f p) _ _ (plain-colors _ _ _ (plain-styled f.style _ (plain-with (codes " ") c is blank-narrow))) (plain-colors _ _ _ (plain-styled f.style _ (plain-with FULL_BLOCK.now c is full-narrow))))
-    (plain-if (f.has_tip && (p.x == f.end)) _ _ (plain-styled f.style _ (plain-with f.tip.now c is tip)) (plain-styled f.style c is))
+    (plain-if (is_under_label f p) _ _ (plain-colors _ _ _ (plain-styled f.style _ (plain-narrow (codes " ") c is blank-narrow))) (plain-colors _ _ _ (plain-styled f.style _ (plain-narrow FULL_BLOCK.now c is full-narrow))))
+    (plain-if (f.has_tip && (p.x == f.end)) _ _ (plain-styled f.style _ (plain-narrow f.tip.now c is tip)) (plain-styled f.style c is))
 
 -- a bar with its label on plain cells
 pub settled-area : (g : Gauge) (text : List ℕ) (style : Style) (r : Rect) (old new : BufferData) → IsBoxArea r → IsInside r old.area → EdgesFit old.area → IsPlainFrom 0 old → FillsArea g text style r old new → IsSettledBuffer new
@@ -97,15 +85,10 @@ settled-gauge g area old new edges plain box is =
     settled-frame g.style g.block (FillsGauge g) area old new edges plain box
     (λ r s t some inside fit cells fills. settled-area g (text_of_label g g.label) (style_of_label g.label) r s t some inside fit cells fills) is
 
--- a symbol of one column in a style keeps a cell plain
-plain-column : (symbol : List ℕ) (c : Cell) → IsPlain c → text_width symbol ≤ 1 → IsPlain (with_symbol symbol c)
-unfolding width_of
-plain-column symbol c is le = let e = is.unmarked.option in record { narrow = rw e le; unmarked = record { option = is.unmarked.option; flag = is.unmarked.flag } }
-
 -- a label, and after it a line of narrow symbols
 plain-line : (f : LineFill) → text_width f.filled_symbol.now ≤ 1 → text_width f.unfilled_symbol.now ≤ 1 → (p : Position) (c : Cell) → IsPlain c → IsPlain (line_cell f p c)
 plain-line f filled unfilled p c is =
-    plain-if (nat_lt p.x f.end) _ _ (plain-styled f.filled_style _ (plain-column f.filled_symbol.now c is filled)) (plain-styled f.unfilled_style _ (plain-column f.unfilled_symbol.now c is unfilled))
+    plain-if (nat_lt p.x f.end) _ _ (plain-styled f.filled_style _ (plain-with_symbol f.filled_symbol.now c is filled)) (plain-styled f.unfilled_style _ (plain-with_symbol f.unfilled_symbol.now c is unfilled))
 
 settled-line : (g : LineGauge) (r : Rect) (old new : BufferData) → HasNarrowLine g → IsBoxArea r → IsInside r old.area → EdgesFit old.area → IsPlainFrom 0 old → FillsLine g r old new → IsSettledBuffer new
 settled-line g r old new narrow box inside edges plain is =
@@ -129,7 +112,7 @@ settled-line_gauge g area old new edges plain box narrow is =
 
 plain-marked : (o : Option (Bor (List ℕ))) (style : Style) (c : Cell) → IsNarrowIf o → IsPlain c → IsPlain (marked (o, style) c)
 plain-marked None style c narrow is = is
-plain-marked (Some symbol) style c narrow is = plain-styled style (with_symbol symbol.now c) (plain-column symbol.now c is narrow)
+plain-marked (Some symbol) style c narrow is = plain-styled style (with_symbol symbol.now c) (plain-with_symbol symbol.now c is narrow)
 
 plain-choice : (t : Bool) (a b : Option (Bor (List ℕ)) × Style) (c : Cell) → IsPlain (marked a c) → IsPlain (marked b c) → IsPlain (marked (if t then a else b) c)
 plain-choice true a b c pa pb = pa

@@ -4,6 +4,7 @@ use Rattle.std.specs.Prelude.{nat_le}
 use Rattle.std.specs.List.{find, list_all}
 use Rattle.std.specs.Option.{option_map}
 use Rattle.std.specs.Char.{encode_utf8}
+use Rattle.std.proofs.lemmas.Bool.{and_parts}
 use Rattle.std.proofs.lemmas.Bool.Decides.{nat_tests}
 use Rattle.unicode_width.proofs.Computing.{unicode_width}
 use Rattle.rtui_merge.specs.Symbols.{Symbol, symbols, symbol_of, arms_of}
@@ -15,13 +16,9 @@ use Rattle.rtui_cell.specs.Symbol.{joined, symbol_text, IsShort}
 use Rattle.rtui_cell.specs.Width.{text_width}
 use Rattle.rtui_narrow.specs.Narrow.{IsNarrow, is_narrow, AreNarrowTexts}
 
-both : (a b : Bool) → (a && b) ≡ true → (a ≡ true) × (b ≡ true)
-both true b e = (refl, e)
-both false b e = let h : false ≡ true = e in absurd (cc)
-
 pub narrow-test : (text : List ℕ) → is_narrow text ≡ true → IsNarrow text
 narrow-test text e =
-    let parts = both (nat_le (text_width text) 1) (nat_le (length text) 22) e in
+    let parts = and_parts (nat_le (text_width text) 1) (nat_le (length text) 22) e in
     let first = parts.0 in let second = parts.1 in
     record { columns = grind (arith, nat_tests, first); memory = grind (arith, nat_tests, second) }
 
@@ -38,7 +35,7 @@ found-here false s rest t e here more = more e
 found-narrow : (test : Symbol → Bool) (ss : List Symbol) → list_all (λ s. is_narrow s.text) ss ≡ true → (t : List ℕ) → option_map (λ s. s.text) (find test ss) ≡ Some t → is_narrow t ≡ true
 found-narrow test [] all t e = absurd (cc)
 found-narrow test (s ∷ ss) all t e =
-    let parts = both (is_narrow s.text) (list_all (λ x. is_narrow x.text) ss) all in
+    let parts = and_parts (is_narrow s.text) (list_all (λ x. is_narrow x.text) ss) all in
     found-here (test s) s (find test ss) t e parts.0 (found-narrow test ss parts.1 t)
 
 symbol-narrow : (x : _) (t : List ℕ) → symbol_of x ≡ Some t → IsNarrow t

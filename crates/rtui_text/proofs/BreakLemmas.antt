@@ -2,18 +2,15 @@
 use Rattle.std.proofs.Common.{◌≡◌, ℕ, zero, suc, ◌<◌, ◌-◌, Bool, true, false, ◌==◌, List, [], ◌∷◌, length, take, get_or, if◌then◌else◌, refl, arith}
 use Rattle.std.specs.Prelude.{◌||◌, slice_index}
 use Rattle.std.proofs.Math.Bool.{cond}
+use Rattle.std.proofs.lemmas.Bool.{or_parts}
 use Rattle.std.proofs.lemmas.Bool.Decides.{nat_tests}
 use Rattle.std.specs.List.{list_any, slice_split, onto_first}
 use Rattle.std.specs.Str.Lines.{lines, lines_of_parts, strip_carriage_return}
 use Rattle.rtui_text.specs.Text.{IsUnbroken, raw_line, line_of, plain}
 
-none_of : (a b : Bool) → (a || b) ≡ false → (a ≡ false) × (b ≡ false)
-none_of true b e = let h : ⊥ = cc in absurd h
-none_of false b e = (refl, e)
-
 unbroken-one : (x : List ℕ) → IsUnbroken x → slice_split (λ b. b == 10) x ≡ x ∷ []
 unbroken-one [] e = refl
-unbroken-one (b ∷ bs) e = let h = none_of (b == 10) (list_any (λ c. c == 10) bs) e in rw (h.0, unbroken-one bs h.1) refl
+unbroken-one (b ∷ bs) e = let h = or_parts (b == 10) (list_any (λ c. c == 10) bs) e in rw (h.0, unbroken-one bs h.1) refl
 
 -- a text without line breaks is its only line, or has none if it is empty
 pub line-empty : (x : List ℕ) → (length x == 0) ≡ true → raw_line x ≡ line_of []
@@ -42,7 +39,7 @@ parts-unbroken (b ∷ bs) = more-unbroken (b == 10) b (slice_split (λ c. c == 1
 take-unbroken : (n : ℕ) (x : List ℕ) → IsUnbroken x → IsUnbroken (take n x)
 take-unbroken zero x e = refl
 take-unbroken (suc n) [] e = refl
-take-unbroken (suc n) (b ∷ bs) e = let h = none_of (b == 10) (list_any (λ c. c == 10) bs) e in rw h.0 (take-unbroken n bs h.1)
+take-unbroken (suc n) (b ∷ bs) e = let h = or_parts (b == 10) (list_any (λ c. c == 10) bs) e in rw h.0 (take-unbroken n bs h.1)
 
 either-unbroken : (t : Bool) (x y : List ℕ) → IsUnbroken x → IsUnbroken y → IsUnbroken (if t then x else y)
 either-unbroken true x y p q = p

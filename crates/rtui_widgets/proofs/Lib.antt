@@ -4,7 +4,7 @@ pub mod PrintableLemmas
 pub mod EmptyLemmas
 pub mod LineLemmas
 pub mod RowLemmas
-pub mod SheetLemmas
+pub mod AreaRowLemmas
 pub mod WithinLemmas
 pub mod PartLemmas
 pub mod ShortLemmas

@@ -17,7 +17,7 @@ use Rattle.rtui_cell.specs.Cell.{styled}
 use Rattle.rtui_widgets.specs.Span.{span_rendered, graphemes_rendered, IsShortSpan}
 use Rattle.rtui_widgets.specs.Refused.{IsShownFront, HasFrontOfSpan, HasFrontOfParts, HasFrontOfLine, columns_left}
 use Rattle.rtui_widgets.proofs.SpanLemmas.{length-span_rendered, rendered-nothing}
-use Rattle.rtui_widgets.specs.Line.{Part, columns_before, last_fitting, part_of, parts, behind_first, parts_then, parts_rendered, line_rendered, AreShortParts}
+use Rattle.rtui_widgets.specs.Line.{Part, columns_before, last_fitting, part_of, parts, after_first, parts_then, parts_rendered, line_rendered, AreShortParts}
 
 -- ---- the end of a text
 
@@ -76,7 +76,7 @@ drop-min : {A : Type 0} (n : ℕ) (l : List A) → drop (min n (length l)) l ≡
 drop-min n l = ⊎_elim (λ (a : n < length l). (let e : min n (length l) ≡ n = omega arith in rw e)) (λ (b : length l ≤ n). (let e : min n (length l) ≡ length l = omega arith in rw e (drop_all (length l) l (omega arith) ∙ sym (drop_all n l b)))) (cases_lt n (length l))
 
 rendered-part : (f : List Cell → List Cell) (p : Part) (ps : List Part) (row : List Cell)
-    → parts_then f (p ∷ ps) row ≡ behind_first p.indent (λ left. behind_first p.width (parts_then f ps) (span_rendered p.style p.content left)) row
+    → parts_then f (p ∷ ps) row ≡ after_first p.indent (λ left. after_first p.width (parts_then f ps) (span_rendered p.style p.content left)) row
 unfolding parts_then
 rendered-part f p ps row = refl
 
@@ -128,7 +128,7 @@ short-others columns p ps short = short.1
 
 -- where the part's indent takes all columns that are left, nothing of it and of the others shows
 pub parts-past : (p : Part) (ps : List Part) (row : List Cell) (start start1 : ℕ) → start ≤ length row → start1 ≡ start + min p.indent (length row - start) → start1 ≡ length row
-    → row ≡ behind_first start (parts_rendered (p ∷ ps)) row
+    → row ≡ after_first start (parts_rendered (p ∷ ps)) row
 parts-past p ps row start start1 within s1 past =
     let all : take p.indent (drop start row) ≡ drop start row = take_all p.indent (drop start row) (omega (arith, length-drop start row)) in
     let none : drop p.indent (drop start row) ≡ [] = drop_all p.indent (drop start row) (omega (arith, length-drop start row)) in
@@ -144,7 +144,7 @@ module _ (p : Part) (row : List Cell) (start start1 : ℕ) (s1 : start1 ≡ star
 
   -- what a row becomes of which the columns from there on were lent
   pub lent-part : (g : List Cell → List Cell) (part : List Cell) → part ≡ g (take (length row - start1) (drop start1 row))
-      → take start1 row ++ (part ++ drop (length row - start1) (drop start1 row)) ≡ behind_first start (behind_first p.indent g) row
+      → take start1 row ++ (part ++ drop (length row - start1) (drop start1 row)) ≡ after_first start (after_first p.indent g) row
   lent-part g part is =
       let lent : take start1 row ++ (part ++ drop (length row - start1) (drop start1 row)) ≡ take start1 row ++ g (drop start1 row) =
       rw (rest-none start1 row, append-nil) (ap (λ cells. take start1 row ++ cells) (is ∙ ap g (rest-all start1 row))) in
@@ -174,16 +174,16 @@ module _ (f : List Cell → List Cell) (p : Part) (ps : List Part) (row part : L
   left : drop start2 (take start1 row ++ shown) ≡ drop p.width shown
   left = rw (s2, ← count) (drop-front start1 (min p.width (length shown)) (take start1 row) shown front ∙ drop-min p.width shown)
 
-  pub part-turn : behind_first start2 (parts_then f ps) (take start1 row ++ (part ++ drop (length row - start1) (drop start1 row))) ≡ behind_first start (parts_then f (p ∷ ps)) row
+  pub part-turn : after_first start2 (parts_then f ps) (take start1 row ++ (part ++ drop (length row - start1) (drop start1 row))) ≡ after_first start (parts_then f (p ∷ ps)) row
   part-turn =
       let rest : List Cell = parts_then f ps (drop p.width shown) in
       let both : take start row ++ (take p.indent (drop start row) ++ (take p.width shown ++ rest)) ≡ (take start1 row ++ take p.width shown) ++ rest =
       sym (append_assoc (take start row) (take p.indent (drop start row)) (take p.width shown ++ rest))
       ∙ ap (λ cells. cells ++ (take p.width shown ++ rest)) (sym (indented p row start start1 s1))
       ∙ sym (append_assoc (take start1 row) (take p.width shown) rest) in
-      let here : behind_first start2 (parts_then f ps) (take start1 row ++ shown) ≡ (take start1 row ++ take p.width shown) ++ rest = rw (done, left) refl in
+      let here : after_first start2 (parts_then f ps) (take start1 row ++ shown) ≡ (take start1 row ++ take p.width shown) ++ rest = rw (done, left) refl in
       let there : parts_then f (p ∷ ps) (drop start row) ≡ take p.indent (drop start row) ++ (take p.width shown ++ rest) = rendered-part f p ps (drop start row) ∙ rw (← behind p row start start1 s1) refl in
-      ap (behind_first start2 (parts_then f ps)) lent ∙ here ∙ sym both ∙ sym (ap (λ cells. take start row ++ cells) there)
+      ap (after_first start2 (parts_then f ps)) lent ∙ here ∙ sym both ∙ sym (ap (λ cells. take start row ++ cells) there)
 
 -- ---- some parts whole, and a front of the next one
 
@@ -200,10 +200,7 @@ pub record HasDone (ps left : List Part) (start : ℕ) (old row : List Cell) : T
   pub whole : List Part
   pub are : ps ≡ whole ++ left
   pub columns : columns_left (length old) whole ≡ length row - start
-  pub follows : (f : List Cell → List Cell) (qs : List Part) → behind_first start (parts_then f qs) row ≡ parts_then f (whole ++ qs) old
-
-pub done-none : (ps : List Part) (row : List Cell) → HasDone ps ps 0 row row
-done-none ps row = record { whole = []; are = refl; columns = omega arith; follows = λ f qs. refl }
+  pub follows : (f : List Cell → List Cell) (qs : List Part) → after_first start (parts_then f qs) row ≡ parts_then f (whole ++ qs) old
 
 -- one part more
 pub done-turn : (ps : List Part) (p : Part) (left : List Part) (old row part : List Cell) (start start1 start2 : ℕ) → start ≤ length row
@@ -225,7 +222,7 @@ pub refused-part : (ps : List Part) (p : Part) (left : List Part) (old row part 
     → HasFrontOfSpan p.style p.content (take (length row - start1) (drop start1 row)) part
     → HasDone ps (p ∷ left) start old row → HasFrontOfParts ps old (take start1 row ++ (part ++ drop (length row - start1) (drop start1 row)))
 refused-part ps p left old row part start start1 within s1 front h =
-    let f : List Cell → List Cell = behind_first p.indent (graphemes_rendered p.style front.front) in
+    let f : List Cell → List Cell = after_first p.indent (graphemes_rendered p.style front.front) in
     let columns : length (take (length row - start1) (drop start1 row)) ≡ columns_left (length old) h.whole - p.indent = length-rest start1 row ∙ omega (arith, h.columns, s1, within) in
     record {
       whole = h.whole;

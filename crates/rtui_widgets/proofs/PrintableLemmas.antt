@@ -11,7 +11,8 @@ use Rattle.rtui_text.proofs.PrintableLemmas.{printable-plain, graphemes-front, f
 use Rattle.rtui_diff.specs.Cells.{cell}
 use Rattle.rtui_buffer.specs.Painting.{emptied, piece_of, pieces, painted, shown}
 use Rattle.rtui_buffer.proofs.PaintLemmas.{painted-nil}
-use Rattle.rtui_buffer.proofs.PrintableLemmas.{one_column, painted-byte}
+use Rattle.rtui_cell.proofs.WidthLemmas.{one_byte}
+use Rattle.rtui_buffer.proofs.PrintableLemmas.{painted-byte}
 use Rattle.rtui_widgets.specs.Span.{showing}
 use Rattle.rtui_widgets.specs.Inner.{with_next}
 use Rattle.rtui_widgets.proofs.RowWith.{end_of_those, IsRowWith}
@@ -20,21 +21,21 @@ use Rattle.rtui_widgets.proofs.SpanLemmas.{showing-take, IsRowWith-none, IsRowWi
 end-singles : (x : ℕ) (bs : List ℕ) → end_of_those x (singles bs) ≡ x + length bs
 unfolding end_of_those
 end-singles x [] = omega arith
-end-singles x (b ∷ bs) = end-singles (x + text_width (b ∷ [])) bs ∙ (let e : x + text_width (b ∷ []) + length bs ≡ x + suc (length bs) = omega (arith, one_column b) in e)
+end-singles x (b ∷ bs) = end-singles (x + text_width (b ∷ [])) bs ∙ (let e : x + text_width (b ∷ []) + length bs ≡ x + suc (length bs) = omega (arith, one_byte b) in e)
 
 showing-singles : (bs : List ℕ) (room : ℕ) (gs : List (List ℕ)) → ArePrintable bs → length bs ≤ room → showing room (singles bs ++ gs) ≡ singles bs ++ showing (room - length bs) gs
 showing-singles [] room gs all le = let e : room - 0 ≡ room = omega arith in rw e refl
 showing-singles (b ∷ bs) room gs all le =
     let less : room - 1 - length bs ≡ room - suc (length bs) = omega arith in
-    showing-take room (b ∷ []) (singles bs ++ gs) (printable-plain b (all 0 (omega arith))) (omega (arith, one_column b))
-    ∙ rw (one_column b) (ap (λ ks. (b ∷ []) ∷ ks) (showing-singles bs (room - 1) gs (λ k lt. all (suc k) (omega arith)) (omega arith) ∙ rw less refl))
+    showing-take room (b ∷ []) (singles bs ++ gs) (printable-plain b (all 0 (omega arith))) (omega (arith, one_byte b))
+    ∙ rw (one_byte b) (ap (λ ks. (b ∷ []) ∷ ks) (showing-singles bs (room - 1) gs (λ k lt. all (suc k) (omega arith)) (omega arith) ∙ rw less refl))
 
 -- the next one, at a column after the others or as the first
 next-byte : (is_first : Bool) (x : ℕ) (s : Style) (b : ℕ) (row : List Cell) → (is_first ≡ false → 0 < x)
     → with_next is_first x s (b ∷ []) row ≡ set row x (shown (piece_of s (b ∷ [])) (cell row x))
 unfolding with_next emptied
-next-byte true x s b row later = rw (one_column b) refl
-next-byte false x s b row later = let some : 0 < x = later refl in rw (one_column b) (grind (arith, nat_tests))
+next-byte true x s b row later = rw (one_byte b) refl
+next-byte false x s b row later = let some : 0 < x = later refl in rw (one_byte b) (grind (arith, nat_tests))
 
 no_first : (cs : List ℕ) → nat_eq (length cs) 0 ≡ true → singles cs ≡ []
 no_first [] e = refl
@@ -51,7 +52,7 @@ row-bytes s cs [] old row fits h = rw (append-nil cs, painted-nil (length cs) ro
 row-bytes s cs (b ∷ bs) old row fits h =
     let is_first = nat_eq (length cs) 0 in
     let ends : length cs ≡ end_of_those 0 (singles cs) = omega (arith, end-singles 0 cs) in
-    let turned = IsRowWith-turn s (singles cs) (b ∷ []) (length cs) is_first old row ends (no_first cs) (some_first cs) (omega (arith, one_column b)) (omega arith) h in
+    let turned = IsRowWith-turn s (singles cs) (b ∷ []) (length cs) is_first old row ends (no_first cs) (some_first cs) (omega (arith, one_byte b)) (omega arith) h in
     let more : List Cell = set row (length cs) (shown (piece_of s (b ∷ [])) (cell row (length cs))) in
     let is : with_next is_first (length cs) s (b ∷ []) row ≡ more = next-byte is_first (length cs) s b row (λ e. grind (arith, nat_tests, e)) in
     let here : IsRowWith s (singles (cs ++ b ∷ [])) old more = rw (map-append (λ b. b ∷ []) cs (b ∷ [])) (subst (λ r. IsRowWith s (singles cs ++ (b ∷ []) ∷ []) old r) is turned) in

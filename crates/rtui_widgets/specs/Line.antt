@@ -45,14 +45,14 @@ parts skip (span ∷ spans) =
     if nat_le (span_width span) skip then others else part_of skip span ∷ others
 
 -- a row whose first n columns stay, and whose others are what f makes of them
-abbrev pub behind_first : ℕ → (List Cell → List Cell) → List Cell → List Cell
-behind_first n f row = take n row ++ f (drop n row)
+abbrev pub after_first : ℕ → (List Cell → List Cell) → List Cell → List Cell
+after_first n f row = take n row ++ f (drop n row)
 
 -- a row with these parts, each in the columns that are left after the one before, and with what f makes of those left after all
 unfoldable pub parts_then : (List Cell → List Cell) → List Part → List Cell → List Cell
 parts_then f [] row = f row
 parts_then f (p ∷ ps) row =
-    behind_first p.indent (λ left. behind_first p.width (parts_then f ps) (span_rendered p.style p.content left)) row
+    after_first p.indent (λ left. after_first p.width (parts_then f ps) (span_rendered p.style p.content left)) row
 
 -- a row with these parts, and nothing more
 abbrev pub parts_rendered : List Part → List Cell → List Cell
@@ -72,7 +72,7 @@ line_rendered alignment line row =
     let width = line_width line.spans in
     let columns = length row in
     if columns == 0 then row else if width == 0 then row
-    else behind_first (columns_before alignment (columns - width)) (parts_rendered (parts (columns_before alignment (width - columns)) line.spans)) (map (styled line.style) row)
+    else after_first (columns_before alignment (columns - width)) (parts_rendered (parts (columns_before alignment (width - columns)) line.spans)) (map (styled line.style) row)
 
 -- no part takes memory in the columns that are left for it
 unfoldable pub AreShortParts : ℕ → List Part → Type 0

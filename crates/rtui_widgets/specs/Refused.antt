@@ -12,7 +12,7 @@ use Rattle.rtui_text.specs.Widths.{line_width}
 use Rattle.rtui_buffer.specs.BufferData.{BufferData}
 use Rattle.rtui_buffer.specs.Painting.{KeepsUnmarked}
 use Rattle.rtui_widgets.specs.Span.{showing, graphemes_rendered}
-use Rattle.rtui_widgets.specs.Line.{Part, parts, parts_then, behind_first, columns_before}
+use Rattle.rtui_widgets.specs.Line.{Part, parts, parts_then, after_first, columns_before}
 use Rattle.rtui_widgets.specs.Rendering.{area_row, first_row, text_line, text_row, alignment_or, ChangesWithin}
 
 -- a front of the graphemes of a text that show in these columns
@@ -39,7 +39,7 @@ pub record HasFrontOfParts (ps : List Part) (old new : List Cell) : Type 0 where
   pub are : ps ≡ whole ++ next ∷ others
   pub front : List (List ℕ)
   pub is : IsShownFront (columns_left (length old) whole - next.indent) next.content front
-  pub row : new ≡ parts_then (behind_first next.indent (graphemes_rendered next.style front)) whole old
+  pub row : new ≡ parts_then (after_first next.indent (graphemes_rendered next.style front)) whole old
 
 -- a row with the style of a line that is aligned so, and with a front of the line's graphemes
 pub record HasFrontOfLine (alignment : Option HorizontalAlignment) (line : LineData) (old new : List Cell) : Type 0 where

@@ -17,7 +17,7 @@ use Rattle.rtui_buffer.specs.BufferData.{BufferData, IsEmptied, area_size, cell_
 use Rattle.rtui_buffer.specs.Shown.{ShowsBuffer}
 use Rattle.rtui_buffer.proofs.EmptyLemmas.{cell-empty}
 use Rattle.rtui_widgets.specs.Span.{with_graphemes, those_at, is_behind, column_with, columns_from, span_rendered}
-use Rattle.rtui_widgets.specs.Line.{Part, behind_first, parts, parts_then, parts_rendered, columns_before, line_rendered}
+use Rattle.rtui_widgets.specs.Line.{Part, after_first, parts, parts_then, parts_rendered, columns_before, line_rendered}
 use Rattle.rtui_widgets.specs.Rendering.{RendersRows, area_row, alignment_or, text_line, text_row}
 use Rattle.rtui_widgets.proofs.WithinLemmas.{intersected-whole}
 use Rattle.screenplay.specs.Puts.{holds_place, with_put, with_puts}
@@ -82,7 +82,7 @@ plain_span : (style : _) (text : List ℕ) (row : List Cell) → ArePlain row �
 unfolding span_rendered
 plain_span style text row p = plain_columns style _ 0 row p
 
-plain_behind : (n : ℕ) (f : List Cell → List Cell) (row : List Cell) → ((cs : List Cell) → ArePlain cs → ArePlain (f cs)) → ArePlain row → ArePlain (behind_first n f row)
+plain_behind : (n : ℕ) (f : List Cell → List Cell) (row : List Cell) → ((cs : List Cell) → ArePlain cs → ArePlain (f cs)) → ArePlain row → ArePlain (after_first n f row)
 plain_behind n f row kept p = plain_append (take n row) (f (drop n row)) (plain_take n row p) (kept (drop n row) (plain_drop n row p))
 
 plain_parts : (ps : List Part) (row : List Cell) → ArePlain row → ArePlain (parts_rendered ps row)

@@ -7,7 +7,7 @@ use Rattle.rtui_geometry.specs.Rect.{intersected}
 use Rattle.rtui_widgets.specs.Rendering.{in_first_row}
 use Rattle.rtui_widgets.specs.Refused.{HasFrontOfLine}
 use Rattle.rtui_widgets.proofs.LineLemmas.{line-in_none}
-use Rattle.rtui_widgets.proofs.SheetLemmas.{renders-nothing, first-none, first-renders, first-changes, first-columns, first-leaves}
+use Rattle.rtui_widgets.proofs.AreaRowLemmas.{renders-nothing, first-none, first-renders, first-changes, first-columns, first-leaves}
 use Rattle.rtui_buffer.specs.BufferData.{area_size}
 use Rattle.rtui_widgets.proofs.buffer.line_in.Goals as goal
 

@@ -5,7 +5,7 @@ use Rattle.rtui_geometry.specs.Rect.{intersected}
 use Rattle.rtui_widgets.specs.Rendering.{text_row, IsShortRow}
 use Rattle.rtui_widgets.proofs.LineLemmas.{line-in_none}
 use Rattle.rtui_widgets.proofs.RowLemmas.{both-err}
-use Rattle.rtui_widgets.proofs.SheetLemmas.{renders-nothing, rows-inside, lent-renders, lent-changes, lent-leaves}
+use Rattle.rtui_widgets.proofs.AreaRowLemmas.{renders-nothing, rows-inside, lent-renders, lent-changes, lent-leaves}
 use Rattle.rtui_widgets.proofs.buffer.text_in.Goals as goal
 
 pub returns-in_default-clause-ok : goal.returns-in_default-clause-ok

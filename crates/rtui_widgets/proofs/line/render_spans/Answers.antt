@@ -5,7 +5,7 @@ use Rattle.rtui_text.specs.Widths.{span_width}
 use Rattle.rtui_cell.specs.declared.cell.Cell.{Cell}
 use Rattle.rtui_widgets.specs.Span.{span_rendered, IsShortSpan}
 use Rattle.rtui_widgets.proofs.SpanLemmas.{length-span_rendered, unmarked-written}
-use Rattle.rtui_widgets.specs.Line.{Part, part_of, parts, parts_rendered, behind_first, AreShortParts}
+use Rattle.rtui_widgets.specs.Line.{Part, part_of, parts, parts_rendered, after_first, AreShortParts}
 use Rattle.rtui_widgets.proofs.LineLemmas.{parts-nil, parts-skip, parts-take, parts-past, part-turn, part-style, HasDone, done-turn, refused-part, length-rest, length-lent, short-part, short-others}
 use Rattle.rtui_buffer.proofs.PaintLemmas.{unmarked-then}
 use Rattle.rtui_widgets.proofs.line.render_spans.Goals as goal
@@ -23,7 +23,7 @@ loop-span-preserved-then-width-skip c =
     ap (parts c.loop-span.skip) rest ∙ parts-skip c.loop-span.skip c.span-item.result others (omega (arith, c.if-width-skip.true)) ∙ ap (λ w. parts (c.loop-span.skip - w) others) (sym width) in
     record {
       within = c.loop-span.invariant.within;
-      left = ap (λ ps. behind_first c.loop-span.start (parts_rendered ps) c.loop-span.row) (sym same) ∙ c.loop-span.invariant.left;
+      left = ap (λ ps. after_first c.loop-span.start (parts_rendered ps) c.loop-span.row) (sym same) ∙ c.loop-span.invariant.left;
       short = λ short. subst (AreShortParts (length c.loop-span.row - c.loop-span.start)) same (c.loop-span.invariant.short short);
       marks = c.loop-span.invariant.marks;
       done = subst (λ left. HasDone (parts c.args.skip c.args.spans.now) left c.loop-span.start c.args.row.now c.loop-span.row) same c.loop-span.invariant.done;
@@ -39,7 +39,7 @@ returns-then-start-row-clause-ok c =
     let start1 : c.loop-span.start + c.min-start.result ≡ c.loop-span.start + min p.indent (length c.loop-span.row - c.loop-span.start) =
     ap (λ n. c.loop-span.start + n) (rw (← c.part_of-part.ensures.indent) c.min-start.ensures) in
     parts-past p (parts 0 others) c.loop-span.row c.loop-span.start (c.loop-span.start + c.min-start.result) c.loop-span.invariant.within start1 c.if-start-row.true
-    ∙ ap (λ ps. behind_first c.loop-span.start (parts_rendered ps) c.loop-span.row) (sym same) ∙ c.loop-span.invariant.left
+    ∙ ap (λ ps. after_first c.loop-span.start (parts_rendered ps) c.loop-span.row) (sym same) ∙ c.loop-span.invariant.left
 
 pub loop-span-preserved : goal.loop-span-preserved
 loop-span-preserved c =
@@ -65,7 +65,7 @@ loop-span-preserved c =
     record {
       within = omega (arith, whole, start2);
       left = part-turn (λ row. row) p (parts 0 others) row c.render_span.new.row start (start + c.min-start.result) (start + c.min-start.result + c.min-start-in-loop-span.result) c.loop-span.invariant.within start1 painted start2
-          ∙ ap (λ ps. behind_first start (parts_rendered ps) row) (sym same) ∙ c.loop-span.invariant.left;
+          ∙ ap (λ ps. after_first start (parts_rendered ps) row) (sym same) ∙ c.loop-span.invariant.left;
       short = λ short.
           let columns : length row - start - p.indent - p.width ≡ length (take (start + c.min-start.result) row ++ (c.render_span.new.row ++ drop (length row - (start + c.min-start.result)) (drop (start + c.min-start.result) row)))
           - (start + c.min-start.result + c.min-start-in-loop-span.result) = omega (arith, whole, start1, start2, c.loop-span.invariant.within) in
@@ -106,6 +106,6 @@ returns-in_err-render_span c =
 pub returns-clause-ok : goal.returns-clause-ok
 returns-clause-ok c =
     let none : drop c.loop-span.span-index c.args.spans.now ≡ [] = drop_all c.loop-span.span-index c.args.spans.now c.loop-span-test.false in
-    sym (ap (λ spans. behind_first c.loop-span.start (parts_rendered (parts c.loop-span.skip spans)) c.loop-span.row) none
+    sym (ap (λ spans. after_first c.loop-span.start (parts_rendered (parts c.loop-span.skip spans)) c.loop-span.row) none
     ∙ ap (λ cells. take c.loop-span.start c.loop-span.row ++ cells) (parts-nil c.loop-span.skip (drop c.loop-span.start c.loop-span.row)) ∙ take-append-drop c.loop-span.start c.loop-span.row)
     ∙ c.loop-span.invariant.left

@@ -2,7 +2,7 @@ use Rattle.std.proofs.Common.{rules}
 use Rattle.rtui_style.specs.Style.{new_style}
 use Rattle.rtui_buffer.specs.PaintedText.{pieces_at}
 use Rattle.rtui_widgets.specs.Rendering.{ChangesWithin, first_row}
-use Rattle.rtui_widgets.proofs.SheetLemmas.{painted-within, text-narrow, text-fits}
+use Rattle.rtui_widgets.proofs.AreaRowLemmas.{painted-within, text-narrow, text-fits}
 use Rattle.rtui_widgets.proofs.widget.RefStrWidget.render.Goals as goal
 
 pub returns-in_err-set_stringn-clause-err : goal.returns-in_err-set_stringn-clause-err

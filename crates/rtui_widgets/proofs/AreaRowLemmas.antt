@@ -268,9 +268,6 @@ pub first-columns : (area : Rect) (old : BufferData) (r : Rect) (h : IsClipped a
     → length old.cells ≡ area_size old.area → length (take n (drop at old.cells)) ≡ (intersected area old.area).width
 first-columns area old r h at n at-is width-is count = part-count area old r h at n (take n (drop at old.cells)) at-is width-is count refl ∙ ap (λ q. q.width) h.value
 
-pub refilled-marks : (old w : List Cell) → length w ≡ length old → KeepsUnmarked old w → KeepsUnmarked old (refilled old w)
-refilled-marks old w same keeps = subst (λ cells. KeepsUnmarked old cells) (sym (refilled-same old w same)) keeps
-
 -- ---- rows that were lent
 
 module _ (area : Rect) (old : BufferData) (r : Rect) (h : IsClipped area old.area r) (start width stride count : ℕ) (w : List Cell)
