@@ -78,7 +78,7 @@ pub mod symbols {
 
     /// Joining the symbols of borders.
     pub mod merge {
-        pub use rtui_merge::{MergeStrategy, laws};
+        pub use rtui_merge::{BorderSymbol, BorderSymbolError, LineStyle, MergeStrategy, laws};
     }
 }
 

@@ -1,12 +1,14 @@
 -- The 125 border symbols, each with its arms.
 use Prim.Native.String.{String}
-use Rattle.std.specs.Prelude.{ℕ, List, [], ◌∷◌, Option, codes, encode_utf8_all}
+use Rattle.std.specs.Prelude.{◌≡◌, ℕ, List, [], ◌∷◌, Option, ok_or, Result, codes, encode_utf8_all}
 use Rattle.std.specs.List.{find}
 use Rattle.std.specs.Option.{option_map}
 use Rattle.std.specs.Str.{bytes_eq}
 use Rattle.rtui_merge.specs.declared.border_symbol.LineStyle.{LineStyle}
 use Rattle.rtui_merge.specs.declared.border_symbol.LineStyle.TheVariants.{Nothing, Plain, Double, Thick, Rounded, DoubleDash, DoubleDashThick, TripleDash, TripleDashThick, QuadrupleDash, QuadrupleDashThick}
 use Rattle.rtui_merge.specs.declared.border_symbol.BorderSymbol.{BorderSymbol}
+use Rattle.rtui_merge.specs.declared.error.BorderSymbolError.{BorderSymbolError}
+use Rattle.rtui_merge.specs.declared.error.BorderSymbolError.TheVariants.{CannotParse}
 use Rattle.rtui_merge.specs.Arms.{same_arms}
 
 -- a symbol's text and its arms
@@ -153,6 +155,10 @@ symbols =
 -- the arms of a text that is a border symbol
 unfoldable pub arms_of : List ℕ → Option BorderSymbol
 arms_of text = option_map (λ symbol. symbol.arms) (find (λ symbol. bytes_eq symbol.text text) symbols)
+
+-- a border symbol is read as its arms, and any other text is refused
+abbrev pub ReadsArms : List ℕ → Result BorderSymbol BorderSymbolError → Type 0
+ReadsArms text r = r ≡ ok_or (arms_of text) CannotParse
 
 -- the text of the symbol with these arms, if there is one
 unfoldable pub symbol_of : BorderSymbol → Option (List ℕ)

@@ -5,8 +5,8 @@ ghost use Rattle.rtui_merge.specs.Shapes as shape;
 ghost use Rattle.rtui_merge.specs.Merge as merge;
 
 /// How one arm of a border symbol is drawn. Only the first four mix in one symbol.
-#[derive(Clone, Copy, PartialEq, Eq)]
-pub(crate) enum LineStyle {
+#[derive(Debug, Clone, Copy, PartialEq, Eq)]
+pub enum LineStyle {
     /// There is no arm.
     Nothing,
     Plain,
@@ -30,14 +30,14 @@ use LineStyle::{
 impl LineStyle {
     /// Whether the two styles are one.
     #[tactic(auto, unfolding(crate::specs::Arms::same_style))]
-    pub fn is(self, style: Self) -> bool
+    pub(crate) fn is(self, style: Self) -> bool
         ensures { result ≡ spec.same_style self style }
     {
         self == style
     }
 
     /// The style's place among the styles.
-    pub fn number(self) -> usize
+    pub(crate) fn number(self) -> usize
         ensures { result ≡ spec.style_number self }
     {
         self as usize
@@ -70,8 +70,8 @@ impl LineStyle {
 }
 
 /// Four arms, be there a symbol that has them or not.
-#[derive(Clone, Copy)]
-pub(crate) struct BorderSymbol {
+#[derive(Debug, Clone, Copy, PartialEq, Eq)]
+pub struct BorderSymbol {
     pub right: LineStyle,
     pub up: LineStyle,
     pub left: LineStyle,
@@ -81,7 +81,7 @@ pub(crate) struct BorderSymbol {
 impl BorderSymbol {
     /// Whether an arm has this style.
     #[tactic(auto, unfolding(crate::specs::Arms::contains))]
-    pub fn contains(self, style: LineStyle) -> bool
+    pub(crate) fn contains(self, style: LineStyle) -> bool
         ensures { result ≡ spec.contains self style }
     {
         self.right.is(style) || self.up.is(style) || self.left.is(style) || self.down.is(style)
@@ -89,7 +89,7 @@ impl BorderSymbol {
 
     /// Whether opposite arms are equal, and one of the two pairs is not there.
     #[tactic(auto, unfolding(crate::specs::Arms::is_straight))]
-    pub fn is_straight(self) -> bool
+    pub(crate) fn is_straight(self) -> bool
         ensures { result ≡ spec.is_straight self }
     {
         self.up.is(self.down)
@@ -116,7 +116,7 @@ impl BorderSymbol {
 
     /// Whether each arm is none, plain, double or thick.
     #[tactic(auto, unfolding(crate::specs::Shapes::is_mixed))]
-    pub fn is_mixed(self) -> bool
+    pub(crate) fn is_mixed(self) -> bool
         ensures { result ≡ shape.is_mixed self }
     {
         (self.right.number() < 4 && self.up.number() < 4)
@@ -125,7 +125,7 @@ impl BorderSymbol {
 
     /// Whether this is a corner of rounded arms.
     #[tactic(auto, unfolding(crate::specs::Shapes::is_rounded))]
-    pub fn is_rounded(self) -> bool
+    pub(crate) fn is_rounded(self) -> bool
         ensures { result ≡ shape.is_rounded self }
     {
         self.is_corner() && self.contains(Rounded)

@@ -5,18 +5,22 @@
 //!
 //! To the layer above it gives [`MergeStrategy::merge`], which answers exactly `merged` of
 //! `specs/Merge.antt` and takes no memory. Under `Fuzzy` two border symbols always give a border
-//! symbol with the arms of both. What holds of more than one call, or of the symbols themselves, is
-//! in [`laws`].
+//! symbol with the arms of both. [`BorderSymbol`] is a symbol by its arms: read from a text,
+//! joined, and written as a text again. What holds of more than one call, or of the symbols
+//! themselves, is in [`laws`].
 #![tactic(auto)]
 
 ghost use Rattle.std.specs.Prelude.{◌≡◌};
 ghost use Rattle.rtui_merge.specs.Merge.{Unites, merged};
 
 mod border_symbol;
+mod error;
 pub mod laws;
 mod tables;
 
-use border_symbol::BorderSymbol;
+pub use border_symbol::{BorderSymbol, LineStyle};
+pub use error::BorderSymbolError;
+use tables::arms_of;
 
 /// How a text is drawn over the one that stands in a cell. The default is `Replace`.
 ///
@@ -53,7 +57,7 @@ impl MergeStrategy {
         if self == MergeStrategy::Replace {
             return next;
         }
-        match (BorderSymbol::from_str(prev), BorderSymbol::from_str(next)) {
+        match (arms_of(prev), arms_of(next)) {
             (Some(prev_symbol), Some(next_symbol)) => {
                 let exact = prev_symbol.exact(next_symbol);
                 match (exact.to_str(), self) {

@@ -2,9 +2,11 @@
 ghost use Rattle.std.specs.Prelude.{◌≡◌, IsTrue};
 ghost use Rattle.std.specs.Option.{option_copied};
 ghost use Rattle.rtui_merge.specs.Shapes.{across, upright, is_mixed, is_rounded};
-ghost use Rattle.rtui_merge.specs.Symbols.{arms_of, symbol_of};
+ghost use Rattle.rtui_merge.specs.Symbols.{arms_of, symbol_of, ReadsArms};
 
 use crate::border_symbol::{BorderSymbol, LineStyle};
+use crate::error::BorderSymbolError;
+use std::str::FromStr;
 
 macro_rules! arms {
     (@symbol) => { None };
@@ -197,22 +199,39 @@ static HORIZONTALS: [Option<&str>; 11] = symbols![- "─" "═" "━" - "╌" "�
 /// The vertical symbols, by their style.
 static VERTICALS: [Option<&str>; 11] = symbols![- "│" "║" "┃" - "╎" "╏" "┆" "┇" "┊" "┋"];
 
-impl BorderSymbol {
-    /// The arms of a text that is a border symbol.
-    #[tactic(auto, using(crate::proofs::SymbolsLemmas::arms_by_bytes))]
-    pub fn from_str(text: &str) -> Option<Self>
-        ensures { result ≡ arms_of text.now }
-    {
-        // U+2500 to U+257F
-        match text.as_bytes() {
-            [0xE2, block @ (0x94 | 0x95), last @ 0x80..=0xBF] => {
-                ARMS[(*block - 0x94) as usize * 64 + (*last - 0x80) as usize]
-            }
-            _ => None,
+// The arms of a text that is a border symbol.
+#[tactic(auto, using(crate::proofs::SymbolsLemmas::arms_by_bytes))]
+pub(crate) fn arms_of(text: &str) -> Option<BorderSymbol>
+    ensures { result ≡ arms_of text.now }
+{
+    // U+2500 to U+257F
+    match text.as_bytes() {
+        [0xE2, block @ (0x94 | 0x95), last @ 0x80..=0xBF] => {
+            ARMS[(*block - 0x94) as usize * 64 + (*last - 0x80) as usize]
         }
+        _ => None,
     }
+}
 
+/// Reads a border symbol as its arms.
+impl FromStr for BorderSymbol {
+    type Err = BorderSymbolError;
+
+    ghost from_str_gives = { ReadsArms };
+
+    fn from_str(text: &str) -> Result<Self, BorderSymbolError> {
+        arms_of(text).ok_or(BorderSymbolError::CannotParse)
+    }
+}
+
+impl BorderSymbol {
     /// The text of the symbol with these arms, if there is one.
+    ///
+    /// ```
+    /// let plain: BorderSymbol = "─".parse()?;
+    /// let thick: BorderSymbol = "┃".parse()?;
+    /// plain.exact(thick).to_str(); // Some("╂")
+    /// ```
     #[tactic(auto, using(crate::proofs::ArmsLemmas::straight_or_unlisted))]
     pub fn to_str(self) -> Option<&'static str>
         ensures { option_copied result ≡ symbol_of self }
