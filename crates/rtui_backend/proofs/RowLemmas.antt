@@ -12,10 +12,10 @@ use Rattle.rtui_cell.proofs.CellLemmas.{look-empty}
 use Rattle.rtui_diff.specs.Cells.{cell}
 use Rattle.rtui_text.specs.Text.{line_of, plain}
 use Rattle.rtui_buffer.specs.BufferData.{empty_cells}
-use Rattle.rtui_buffer.specs.Painting.{Piece, piece_width, piece_at, place_of, columns, shown, painted, HasPieces}
+use Rattle.rtui_buffer.specs.Painting.{Piece, piece_width, piece_at, place_of, columns, AreWide, shown, painted, HasPieces}
 use Rattle.rtui_buffer.specs.Line.{line_pieces, line_row}
 use Rattle.rtui_buffer.proofs.EmptyLemmas.{cell-empty}
-use Rattle.rtui_buffer.proofs.PaintedLemmas.{AreWide, HasPieces-painted}
+use Rattle.rtui_buffer.proofs.PaintedLemmas.{HasPieces-painted}
 use Rattle.rtui_buffer.proofs.LineLemmas.{columns-line, AreWide-line}
 use Rattle.rtui_backend.specs.Inner.{symbol_in, AreBlank, Stand, HasLine}
 use Rattle.rtui_backend.proofs.LineLemmas.{look_at-cell}

@@ -17,3 +17,4 @@ pub mod EqualityLemmas
 pub mod ShownLemmas
 pub mod BarLemmas
 pub mod RowsDiffLemmas
+pub mod PartsLemmas

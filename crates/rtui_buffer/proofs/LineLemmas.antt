@@ -8,13 +8,13 @@ use Rattle.rtui_style.specs.declared.Style.{Style}
 use Rattle.rtui_style.specs.Style.{patch}
 use Rattle.rtui_cell.specs.declared.cell.Cell.{Cell}
 use Rattle.rtui_text.specs.Text.{SpanData}
-use Rattle.rtui_buffer.specs.Painting.{Piece, piece_width, text_pieces, columns, with_piece, painted, IsSameOutside, HasPieces}
+use Rattle.rtui_buffer.specs.Painting.{Piece, piece_width, text_pieces, columns, AreWide, with_piece, painted, IsSameOutside, HasPieces}
 use Rattle.rtui_cell.specs.Symbol.{IsShort}
 use Rattle.std.proofs.lemmas.List.Elements.{All-nil, All-cons, All-head, All-tail}
 use Rattle.rtui_buffer.specs.PaintedText.{room_at, AreShort}
 use Rattle.rtui_buffer.specs.Line.{line_pieces}
 use Rattle.rtui_buffer.proofs.PaintLemmas.{painted-nil, painted-cons, IsSameOutside-refl, IsSameOutside-wider, IsSameOutside-then}
-use Rattle.rtui_buffer.proofs.PaintedLemmas.{AreWide, AreWide-kept, columns-kept, HasPieces-painted}
+use Rattle.rtui_buffer.proofs.PaintedLemmas.{AreWide-kept, columns-kept, HasPieces-painted}
 use Rattle.rtui_buffer.proofs.TextLemmas.{text_pieces-none, columns-none, PaintsPieces-none}
 
 pub columns-append : (ps qs : List Piece) → columns (ps ++ qs) ≡ columns ps + columns qs

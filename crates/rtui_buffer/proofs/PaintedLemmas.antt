@@ -9,15 +9,10 @@ use Rattle.rtui_cell.specs.declared.cell.Cell.{Cell}
 use Rattle.rtui_cell.specs.Cell.{empty_cell}
 use Rattle.rtui_cell.specs.Width.{text_width}
 use Rattle.rtui_diff.specs.Cells.{cell}
-use Rattle.rtui_buffer.specs.Painting.{painted_width, kept, Piece, piece_of, pieces, piece_width, columns, shown, emptied, with_piece, painted, piece_at, place_of, IsSameOutside, HasPieces}
+use Rattle.rtui_buffer.specs.Painting.{painted_width, kept, Piece, piece_of, pieces, piece_width, columns, AreWide, shown, emptied, with_piece, painted, piece_at, place_of, IsSameOutside, HasPieces}
 use Rattle.rtui_buffer.proofs.PaintLemmas.{painted_width-painted, kept-nil, kept-skip, kept-take, kept-full, IsSameOutside-refl, IsSameOutside-emptied, IsSameOutside-put, IsSameOutside-then}
 use Rattle.std.specs.Prelude.{nat_le}
 use Rattle.std.proofs.lemmas.Bool.Decides.{nat_tests}
-
--- every piece takes a column
-abbrev pub AreWide : List Piece → Type 0
-AreWide [] = Unit {0}
-AreWide (p ∷ ps) = (0 < piece_width p) × AreWide ps
 
 pub emptied-inside : (at n k : ℕ) (cells : List Cell) → at ≤ k → k < at + n → at + n ≤ length cells → cell (emptied at n cells) k ≡ empty_cell
 unfolding emptied

@@ -10,12 +10,12 @@ use Rattle.rtui_cell.specs.declared.cell.Cell.{Cell}
 use Rattle.rtui_cell.specs.Width.{text_width}
 use Rattle.rtui_text.specs.Text.{SpanData}
 use Rattle.rtui_text.specs.Printable.{IsPrintableFront, singles}
-use Rattle.rtui_buffer.specs.Painting.{painted_width, kept, Piece, piece_of, piece_width, pieces, text_pieces, columns, with_piece, painted, HasFront}
+use Rattle.rtui_buffer.specs.Painting.{painted_width, kept, Piece, piece_of, piece_width, pieces, text_pieces, columns, AreWide, with_piece, painted, HasFront}
 use Rattle.rtui_buffer.specs.BufferData.{BufferData, cell_index, position_of}
 use Rattle.rtui_buffer.specs.PaintedText.{PaintsFront}
 use Rattle.rtui_buffer.specs.Line.{line_pieces}
 use Rattle.rtui_buffer.proofs.PaintLemmas.{painted_width-painted, kept-take, kept-skip, painted-nil, painted-cons}
-use Rattle.rtui_buffer.proofs.PaintedLemmas.{AreWide, AreWide-kept, columns-kept, HasPieces-painted}
+use Rattle.rtui_buffer.proofs.PaintedLemmas.{AreWide-kept, columns-kept, HasPieces-painted}
 use Rattle.rtui_buffer.proofs.PrintableLemmas.{pieces-split, columns-singles, front-count}
 use Rattle.rtui_buffer.proofs.TextLemmas.{HasPieces-written}
 use Rattle.rtui_buffer.proofs.LineLemmas.{columns-append, painted-append, columns-line, AreWide-line, span-pieces}

@@ -10,11 +10,10 @@ use Rattle.rtui_diff.specs.Cells.{cell, cell_at}
 use Rattle.rtui_diff.specs.Settled.{IsSettled, IsBlankOrSkipped}
 use Rattle.rtui_text.specs.Text.{LineData}
 use Rattle.rtui_buffer.specs.BufferData.{empty_cells, row_cells}
-use Rattle.rtui_buffer.specs.Painting.{Piece, piece_width, columns, shown, emptied, with_piece, painted, HasPieces}
+use Rattle.rtui_buffer.specs.Painting.{Piece, piece_width, columns, AreWide, shown, emptied, with_piece, painted, HasPieces}
 use Rattle.rtui_buffer.specs.Line.{line_pieces, line_row, line_rows, line_at, ShowsLines}
 use Rattle.rtui_buffer.proofs.EmptyLemmas.{cell-empty}
 use Rattle.rtui_buffer.proofs.PaintLemmas.{painted-nil, painted-cons, IsSameOutside-refl, IsSameOutside-put}
-use Rattle.rtui_buffer.proofs.PaintedLemmas.{AreWide}
 use Rattle.rtui_buffer.proofs.SettledLemmas.{IsSettled-empty, IsSettled-painted, unmarked_empty}
 use Rattle.rtui_buffer.proofs.LineLemmas.{columns-line, AreWide-line, HasPieces-line}
 

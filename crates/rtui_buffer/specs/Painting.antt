@@ -1,5 +1,5 @@
 -- Painting pieces of text into a list of cells, one after the other.
-use Rattle.std.specs.Prelude.{ℕ, Bool, true, ◌+◌, ◌-◌, ◌≡◌, ◌≤◌, ◌<◌, suc, zero, nat_le, nat_lt, List, [], ◌∷◌, ◌++◌, length, take, map, filter, sum_by, if◌then◌else◌, Some, slice_index_or, slice_set}
+use Rattle.std.specs.Prelude.{ℕ, ⊤, Bool, true, ◌+◌, ◌-◌, ◌≡◌, ◌≤◌, ◌<◌, suc, zero, nat_le, nat_lt, List, [], ◌∷◌, ◌++◌, length, take, map, filter, sum_by, if◌then◌else◌, Some, slice_index_or, slice_set}
 use Rattle.unicode_segmentation.specs.Grapheme.{graphemes}
 use Rattle.rtui_style.specs.declared.Style.{Style}
 use Rattle.rtui_style.specs.Style.{new_style}
@@ -54,6 +54,11 @@ piece_width p = text_width p.symbol
 -- how many columns pieces take
 abbrev pub columns : List Piece → ℕ
 columns ps = sum_by piece_width ps
+
+-- each piece takes at least one column
+abbrev pub AreWide : List Piece → Type 0
+AreWide [] = ⊤
+AreWide (p ∷ ps) = (0 < piece_width p) × AreWide ps
 
 -- a former cell that shows a piece
 abbrev pub shown : Piece → Cell → Cell

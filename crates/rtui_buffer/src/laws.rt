@@ -2,9 +2,10 @@
 //! `specs/` alone. Calling one of these functions costs nothing and tells the caller's proof its
 //! law.
 
-ghost use Rattle.std.specs.Prelude.{ℕ, false, ◌≡◌, ◌+◌, ◌-◌, ◌<◌, ◌≤◌, ◌++◌, ◌↔◌, IsTrue, List, filter, All};
+ghost use Rattle.std.specs.Prelude.{ℕ, true, false, ◌≡◌, ◌+◌, ◌-◌, ◌<◌, ◌≤◌, ◌++◌, ◌↔◌, IsTrue, List, [], ◌∷◌, filter, sum_by, All};
 ghost use Rattle.std.specs.Hash as fed;
 ghost use Rattle.std.specs.Str.{IsAscii};
+ghost use Rattle.unicode_segmentation.specs.Grapheme.{graphemes};
 ghost use Rattle.rtui_geometry.specs.declared.position.Position.{Position};
 ghost use Rattle.rtui_style.specs.declared.Style.{Style};
 ghost use Rattle.rtui_text.specs.Text.{SpanData, LineData};
@@ -16,8 +17,8 @@ ghost use Rattle.rtui_geometry.specs.declared.rect.Rect.{Rect};
 ghost use Rattle.rtui_geometry.specs.Rect.{HasPosition, EdgesFit};
 ghost use Rattle.rtui_buffer.specs.BufferData.{HasRow, BufferData, IsEmptied, IsEqualBuffer, cell_in};
 ghost use Rattle.rtui_buffer.specs.Shown.{IsSettledBuffer, ShowsBuffer, IsAligned, HaveSettledRows};
-ghost use Rattle.rtui_buffer.specs.Painting.{Piece, has_painted_width, kept, text_pieces, columns, IsLongestFront};
-ghost use Rattle.rtui_buffer.specs.PaintedText.{pieces_at, AreShort, HasShortGraphemes, HaveShortGraphemes, IsBeside, IsPaintable, IsSameBeside, IsStyled, PaintsPieces, PaintsByColumns};
+ghost use Rattle.rtui_buffer.specs.Painting.{Piece, piece_of, painted_width, has_painted_width, kept, text_pieces, columns, AreWide, IsLongestFront};
+ghost use Rattle.rtui_buffer.specs.PaintedText.{pieces_at, room_at, right_by, AreShort, HasShortGraphemes, HaveShortGraphemes, IsBeside, IsPaintable, IsSameBeside, IsStyled, PaintsPieces, PaintsByColumns};
 ghost use Rattle.rtui_buffer.specs.Line.{line_pieces, line_pieces_at};
 
 use crate::buffer::Buffer;
@@ -99,6 +100,39 @@ pub fn painting_keeps_to_its_columns()
         → columns (pieces_at r x max s text) ≤ max }
     ensures line { (r : Rect) (x max : ℕ) (l : LineData)
         → columns (line_pieces_at r x max l) ≤ max }
+{}
+
+/// Each piece of a text or of a line takes a column.
+pub fn pieces_take_columns()
+    ensures text { (room : ℕ) (style : Style) (text : List ℕ) → AreWide (text_pieces room style text) }
+    ensures line { (room : ℕ) (base : Style) (spans : List SpanData)
+        → AreWide (line_pieces room base spans) }
+{}
+
+/// Pieces that are painted in a row one after the other are painted together.
+pub fn pieces_are_painted_in_parts()
+    ensures { (p : Position) (ps qs : List Piece) (old mid new : BufferData)
+        → old.area.x ≤ p.x → AreWide ps
+        → PaintsPieces p ps old mid → PaintsPieces (right_by (columns ps) p) qs mid new
+        → PaintsPieces p (ps ++ qs) old new }
+{}
+
+/// The pieces of a text are those of its front, if that fits, and then those of the rest in the
+/// columns that are left, if no grapheme goes over the seam. The pieces of a line are those of its
+/// first spans and then those of the others. A grapheme that fits is one piece.
+pub fn texts_are_painted_in_parts()
+    ensures text { (r : Rect) (x max : ℕ) (style : Style) (s t : List ℕ) → EdgesFit r
+        → graphemes true (s ++ t) ≡ graphemes true s ++ graphemes true t
+        → sum_by painted_width (graphemes true s) ≤ room_at r x max
+        → let ps = pieces_at r x max style s in let n = columns ps in
+        pieces_at r x max style (s ++ t) ≡ ps ++ pieces_at r (x + n) (max - n) style t }
+    ensures line { (r : Rect) (x max : ℕ) (l : LineData) (ts : List SpanData) → EdgesFit r
+        → let ps = line_pieces_at r x max l in let n = columns ps in
+        line_pieces_at r x max (record l { spans = l.spans ++ ts })
+        ≡ ps ++ line_pieces_at r (x + n) (max - n) (record l { spans = ts }) }
+    ensures grapheme { (room : ℕ) (style : Style) (g : List ℕ) → graphemes true g ≡ g ∷ []
+        → 0 < painted_width g → painted_width g ≤ room
+        → text_pieces room style g ≡ piece_of style g ∷ [] }
 {}
 
 /// A text whose graphemes are short is painted without taking memory, and so is a line of such
