@@ -1,19 +1,14 @@
 -- Pieces painted within a part of a buffer.
-use Rattle.std.proofs.Common.{◌≡◌, ℕ, ◌+◌, ◌-◌, ◌<◌, ◌≤◌, ◌⊎◌, ⊎_elim, inl, inr, List, refl, sym, ap, subst, ◌∙◌, arith, min, Result, Ok, Err, OnOk, OnErr, true, false}
-use Rattle.std.proofs.lemmas.Bool.{cases_lt}
+use Rattle.std.proofs.Common.{◌≡◌, ℕ, ⊎_elim, sym, subst, ◌∙◌, Result, Ok, Err, OnOk, true, false}
 use Rattle.std.specs.declared.alloc.AllocError.{AllocError}
-use Rattle.ratatui_core.specs.Layout.{Rect, Position, HasPosition, IsInside, right_edge, bottom_edge}
-use Rattle.ratatui_core.specs.Buffer.{BufferData, Piece, columns, HasRow, IsBeside, IsSameBeside, PaintsPieces, PaintsOrRefuses, position_of}
+use Rattle.ratatui_core.specs.Layout.{Rect, HasPosition, IsInside}
+use Rattle.ratatui_core.specs.Buffer.{BufferData}
 use Rattle.ratatui_core.specs.Widgets.{ChangesWithin}
-use Rattle.ratatui_core.proofs.BufferLemmas.{PaintsByColumns-paints, same-beside}
-use Rattle.ratatui_core.specs.Style.{Style}
 use Rattle.ratatui_core.specs.Buffer.{IsStyled}
 use Rattle.ratatui_core.specs.Widgets.{IsClipped}
 use Rattle.ratatui_core.proofs.WidgetLemmas.{within-styled, within-then}
-use Rattle.rtui_boxes.specs.Boxes.{IsBoxArea}
 use Rattle.rtui_boxes.proofs.BoxLemmas.{is_in-true, is_in-has, test-cases}
 use Rattle.ratatui_core.proofs.BufferLemmas.{within-same, within-wider}
-use Rattle.rtui_boxes.proofs.PaintLemmas.{part-place, part-has_row, part-starts, part-ends, part-right, paints-within}
 use Rattle.ratatui_widgets.specs.declared.paragraph.Paragraph.{Paragraph}
 use Rattle.rtui_boxes.specs.Boxes.{is_in}
 use Rattle.ratatui_core.specs.Buffer.{IsPlain, IsPlainFrom, IsReadyFrom}

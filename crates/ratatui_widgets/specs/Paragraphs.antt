@@ -1,5 +1,5 @@
 -- A paragraph: what it changes.
-use Rattle.std.specs.Prelude.{◌≡◌, ℕ, ◌<◌, ◌≤◌, None}
+use Rattle.std.specs.Prelude.{◌≡◌, None}
 use Rattle.ratatui_core.specs.Layout.{Rect, EdgesFit}
 use Rattle.ratatui_core.specs.Style.{new_style}
 use Rattle.ratatui_core.specs.Text.{TextData}

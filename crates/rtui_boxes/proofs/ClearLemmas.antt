@@ -1,5 +1,5 @@
 -- Clearing keeps a buffer settled.
-use Rattle.std.proofs.Common.{◌≡◌, ℕ, ◌+◌, ◌<◌, ◌⊎◌, ⊎_elim, inl, inr, true, false, refl, sym, ap, subst, ◌∙◌, arith}
+use Rattle.std.proofs.Common.{◌≡◌, ℕ, ◌+◌, ◌<◌, ◌⊎◌, ⊎_elim, inl, inr, true, false, sym, ap, subst, ◌∙◌, arith}
 use Rattle.ratatui_core.specs.Layout.{Rect, Position, HasPosition, EdgesFit}
 use Rattle.ratatui_core.specs.Buffer.{BufferData, cell, cell_at, cell_index, empty_cell, width_of, is_skipped, is_same, IsSettled, IsSettledBuffer, IsBlankOrSkipped, position_of}
 use Rattle.ratatui_core.proofs.BufferLemmas.{width-empty, same-empty, index-at}

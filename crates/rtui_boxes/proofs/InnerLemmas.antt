@@ -1,9 +1,9 @@
 -- What a style and a box leave of plain cells, and where what is inside lies.
-use Rattle.std.proofs.Common.{◌≡◌, ◌<◌, ◌≤◌, ◌⊎◌, ⊎_elim, inl, inr, Option, Some, None, refl, sym, ap, subst, ◌∙◌, arith}
+use Rattle.std.proofs.Common.{◌≡◌, ◌<◌, ◌≤◌, ◌⊎◌, ⊎_elim, inl, inr, Option, Some, None, refl, ap, ◌∙◌, arith}
 use Rattle.std.proofs.lemmas.Bool.{cases_lt}
-use Rattle.ratatui_core.specs.Layout.{Rect, HasPosition, EdgesFit, IsInside, intersected}
+use Rattle.ratatui_core.specs.Layout.{Rect, EdgesFit, IsInside, intersected}
 use Rattle.ratatui_core.specs.Style.{Style}
-use Rattle.ratatui_core.specs.Buffer.{BufferData, cell_in, IsStyled, IsPlain, IsPlainFrom, IsSettledBuffer}
+use Rattle.ratatui_core.specs.Buffer.{BufferData, IsPlainFrom, IsSettledBuffer}
 use Rattle.ratatui_core.specs.Widgets.{IsClipped}
 use Rattle.ratatui_core.proofs.BufferLemmas.{settled-plain}
 use Rattle.rtui_boxes.specs.declared.block.Block.{Block}

@@ -1,5 +1,5 @@
 -- Pieces painted one after the other, and the pieces of texts one after the other.
-use Rattle.std.proofs.Common.{◌≡◌, ℕ, zero, suc, ◌+◌, ◌-◌, ◌<◌, ◌≤◌, ⊎_elim, min, true, List, [], ◌∷◌, ◌++◌, length, length-append, take, refl, sym, ap, subst, ◌∙◌, arith, append_assoc}
+use Rattle.std.proofs.Common.{◌≡◌, ℕ, zero, suc, ◌+◌, ◌-◌, ◌<◌, ◌≤◌, ⊎_elim, true, List, [], ◌∷◌, ◌++◌, length, length-append, take, refl, sym, ap, subst, ◌∙◌, arith, append_assoc}
 use Rattle.std.specs.Prelude.{sum_by}
 use Rattle.std.proofs.lemmas.Bool.{cases_lt}
 use Rattle.std.proofs.lemmas.List.{get_or_append_left, get_or-append_right, take-append-le}
@@ -17,7 +17,7 @@ use Rattle.rtui_cell.specs.Width.{text_width}
 use Rattle.rtui_diff.specs.Cells.{cell}
 use Rattle.rtui_text.specs.Text.{SpanData, LineData}
 use Rattle.rtui_buffer.specs.BufferData.{BufferData, cell_index}
-use Rattle.rtui_buffer.specs.Painting.{painted_width, kept, Piece, piece_of, pieces, text_pieces, piece_width, columns, shown, piece_at, place_of, AreWide, IsSameOutside, HasPieces}
+use Rattle.rtui_buffer.specs.Painting.{painted_width, kept, Piece, piece_of, pieces, text_pieces, piece_width, columns, shown, piece_at, place_of, AreWide, HasPieces}
 use Rattle.rtui_buffer.specs.PaintedText.{room_at, pieces_at, right_by, PaintsPieces}
 use Rattle.rtui_buffer.specs.Line.{line_pieces, line_pieces_at}
 use Rattle.rtui_buffer.proofs.PaintLemmas.{painted_width-painted, kept-nil, kept-skip, kept-take, IsSameOutside-then}

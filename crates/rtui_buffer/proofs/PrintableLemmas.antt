@@ -7,7 +7,6 @@ use Rattle.unicode_segmentation.specs.Grapheme.{graphemes}
 use Rattle.rtui_style.specs.declared.Style.{Style}
 use Rattle.rtui_cell.specs.declared.cell.Cell.{Cell}
 use Rattle.rtui_cell.specs.Cell.{empty_cell}
-use Rattle.rtui_cell.specs.Width.{text_width}
 use Rattle.rtui_cell.proofs.WidthLemmas.{one_byte}
 use Rattle.rtui_text.specs.Printable.{IsPrintable, ArePrintable, IsPrintableFront, singles}
 use Rattle.rtui_text.proofs.PrintableLemmas.{printable-plain, graphemes-front, front-bytes}

@@ -1,5 +1,5 @@
 -- Texts whose graphemes take one column each keep cells plain.
-use Rattle.std.proofs.Common.{◌≡◌, ℕ, zero, suc, ◌+◌, ◌-◌, ◌*◌, ◌<◌, ◌≤◌, ◌⊎◌, ⊎_elim, inl, inr, Bool, true, false, cond, if◌then◌else◌, nat_le, nat_lt, ◌==◌, not, List, [], ◌∷◌, ◌++◌, length, map, take, drop, filter, slice_index_or, All, Some, Option, refl, sym, ap, subst, ◌∙◌, arith, append-nil}
+use Rattle.std.proofs.Common.{◌≡◌, ℕ, zero, suc, ◌+◌, ◌-◌, ◌<◌, ◌≤◌, ◌⊎◌, ⊎_elim, inl, inr, Bool, true, false, if◌then◌else◌, nat_lt, ◌==◌, not, List, [], ◌∷◌, ◌++◌, length, map, take, drop, filter, slice_index_or, All, Some, Option, refl, sym, ap, subst, ◌∙◌, arith, append-nil}
 use Rattle.std.specs.List.{concat}
 use Rattle.std.proofs.lemmas.Bool.{cases_lt}
 use Rattle.std.proofs.lemmas.Bool.Decides.{nat_tests}
@@ -8,7 +8,7 @@ use Rattle.std.proofs.lemmas.List.Elements.{All-nil, All-cons, All-head, All-tai
 use Rattle.unicode_segmentation.specs.Grapheme.{graphemes}
 use Rattle.rtui_geometry.specs.declared.rect.Rect.{Rect}
 use Rattle.rtui_geometry.specs.declared.position.Position.{Position}
-use Rattle.rtui_geometry.specs.Rect.{HasPosition, intersected, right_edge, bottom_edge}
+use Rattle.rtui_geometry.specs.Rect.{HasPosition, intersected}
 use Rattle.rtui_style.specs.declared.Style.{Style}
 use Rattle.rtui_style.specs.Style.{new_style}
 use Rattle.rtui_cell.specs.declared.cell.Cell.{Cell}
@@ -18,13 +18,13 @@ use Rattle.rtui_text.specs.Graphemes.{has_control}
 use Rattle.rtui_text.specs.Text.{SpanData, LineData, TextData, line_of}
 use Rattle.rtui_text.specs.Widths.{line_width}
 use Rattle.rtui_buffer.specs.BufferData.{BufferData, cell_in, cell_index, position_of}
-use Rattle.rtui_buffer.specs.Painting.{Piece, piece_of, piece_at, piece_width, columns, shown, kept, fitting, painted_width, has_painted_width}
+use Rattle.rtui_buffer.specs.Painting.{Piece, piece_of, piece_at, piece_width, columns, shown, kept, painted_width, has_painted_width}
 use Rattle.rtui_buffer.specs.PaintedText.{pieces_at, room_at, PaintsPieces, IsStyled}
 use Rattle.rtui_buffer.proofs.ShortLemmas.{All-fitting}
 use Rattle.rtui_buffer.proofs.SettledLemmas.{IsIn, is_in, width-shown}
 use Rattle.rtui_changes.specs.Changes.{ChangesEach}
 use Rattle.rtui_changes.specs.Parts.{MakesParts}
-use Rattle.rtui_widgets.specs.Span.{showing, goes_to, those_at, is_behind, with_graphemes, column_with, columns_from, span_rendered}
+use Rattle.rtui_widgets.specs.Span.{showing, those_at, is_behind, with_graphemes, column_with, columns_from, span_rendered}
 use Rattle.rtui_widgets.specs.Line.{Part, parts, parts_then, parts_rendered, columns_before, line_rendered}
 use Rattle.rtui_widgets.specs.Rendering.{area_row, RendersRows, in_first_row, RendersSpan, RendersLine, RendersText, text_line, text_row, alignment_or}
 use Rattle.rtui_changes.specs.Plain.{IsPlain, IsPlainFrom, IsPlainOver}

@@ -1,7 +1,6 @@
 -- Plain cells are settled, and painting keeps what is still to be painted plain.
-use Rattle.std.proofs.Common.{◌≡◌, ◌≢◌, ℕ, suc, ◌+◌, ◌-◌, ◌*◌, ◌<◌, ◌≤◌, ◌⊎◌, ⊎_elim, inl, inr, Bool, true, false, List, [], ◌∷◌, length, take, refl, sym, ap, subst, ◌∙◌, arith, if◌then◌else◌, Result, Ok, Err, OnOk}
+use Rattle.std.proofs.Common.{◌≡◌, ℕ, ◌+◌, ◌-◌, ◌<◌, ◌≤◌, ◌⊎◌, ⊎_elim, inl, inr, Bool, true, false, List, take, refl, sym, ap, subst, ◌∙◌, arith, if◌then◌else◌, Result, Ok, Err, OnOk}
 use Rattle.std.proofs.lemmas.Bool.{cases_lt}
-use Rattle.std.proofs.lemmas.List.Sums.{sum_by-cons}
 use Rattle.rtui_buffer.proofs.ColumnLemmas.{PaintsByColumns-paints}
 use Rattle.rtui_buffer.proofs.TextLemmas.{IsSettled-row}
 use Rattle.rtui_changes.specs.Changes.{ChangesEach}
@@ -10,17 +9,16 @@ use Rattle.rtui_buffer.proofs.EmptyLemmas.{cell-empty}
 use Rattle.rtui_buffer.proofs.SettledLemmas.{IsIn, is_in, width-shown}
 use Rattle.rtui_buffer.proofs.ShownLemmas.{index-at}
 use Rattle.rtui_buffer.specs.Shown.{IsSettledBuffer}
-use Rattle.rtui_buffer.specs.PaintedText.{IsStyled, IsPaintable, IsBeside, right_by, PaintsPieces, PaintsByColumns, PaintsOrRefuses}
+use Rattle.rtui_buffer.specs.PaintedText.{IsPaintable, PaintsPieces, PaintsByColumns, PaintsOrRefuses}
 use Rattle.rtui_buffer.specs.Painting.{Piece, piece_at, piece_width, columns, shown}
-use Rattle.rtui_buffer.specs.BufferData.{BufferData, cell_in, cell_index, area_size, empty_cells, IsEmptied, HasRow, position_of}
+use Rattle.rtui_buffer.specs.BufferData.{BufferData, cell_in, cell_index, area_size, IsEmptied, HasRow, position_of}
 use Rattle.rtui_cell.proofs.CellLemmas.{width-empty}
 use Rattle.rtui_cell.specs.Cell.{empty_cell, styled, width_of, is_skipped, IsUnmarked, with_symbol}
-use Rattle.rtui_cell.specs.Symbol.{joined, symbol_text}
 use Rattle.rtui_cell.specs.Width.{text_width}
 use Rattle.rtui_cell.specs.declared.cell.Cell.{Cell}
 use Rattle.rtui_diff.specs.Cells.{cell, cell_at}
 use Rattle.rtui_diff.specs.Settled.{IsSettled, IsBlankOrSkipped}
-use Rattle.rtui_geometry.specs.Rect.{HasPosition, EdgesFit, IsInside}
+use Rattle.rtui_geometry.specs.Rect.{HasPosition, EdgesFit}
 use Rattle.rtui_geometry.specs.declared.position.Position.{Position}
 use Rattle.rtui_geometry.specs.declared.rect.Rect.{Rect}
 use Rattle.rtui_style.specs.declared.Style.{Style}

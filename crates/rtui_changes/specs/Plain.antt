@@ -3,7 +3,6 @@ use Rattle.std.specs.Prelude.{◌≡◌, ℕ, ◌+◌, ◌<◌, ◌≤◌, ◌�
 use Rattle.rtui_buffer.specs.Shown.{IsSettledBuffer}
 use Rattle.rtui_buffer.specs.BufferData.{BufferData, cell_in, position_of}
 use Rattle.rtui_cell.specs.Cell.{width_of, is_skipped, IsUnmarked}
-use Rattle.rtui_cell.specs.Width.{text_width}
 use Rattle.rtui_cell.specs.declared.cell.Cell.{Cell}
 use Rattle.rtui_geometry.specs.Rect.{HasPosition, EdgesFit}
 use Rattle.rtui_geometry.specs.declared.position.Position.{Position}

@@ -1,16 +1,15 @@
 -- An item of a list over its part, and items one after the other.
-use Rattle.std.proofs.Common.{◌≡◌, ℕ, ◌+◌, ◌-◌, ◌<◌, ◌≤◌, ◌⊎◌, ⊎_elim, inl, inr, Bool, true, false, if◌then◌else◌, List, [], length, min, Option, Some, None, refl, sym, ap, subst, ◌∙◌, arith, Result, Ok, Err, OnOk, OnErr}
+use Rattle.std.proofs.Common.{◌≡◌, ℕ, ◌+◌, ◌-◌, ◌<◌, ◌≤◌, Bool, List, length, Option, refl, sym, ◌∙◌, arith, Result}
 use Rattle.std.proofs.Math.ListN.{get_or}
 use Rattle.std.specs.Prelude.{is_some}
 use Rattle.std.proofs.lemmas.List.{get_or_default}
-use Rattle.std.proofs.lemmas.Bool.{cases_lt}
 use Rattle.std.specs.declared.alloc.AllocError.{AllocError}
-use Rattle.ratatui_core.specs.Layout.{Rect, Position, HasPosition, IsInside, right_edge, bottom_edge, corner}
-use Rattle.ratatui_core.specs.Style.{Style, patch}
-use Rattle.ratatui_core.specs.Buffer.{BufferData, Cell, Piece, columns, pieces_at, PaintsPieces, PaintsOrRefuses, ChangesEach, MakesParts, IsStyled, position_of}
-use Rattle.ratatui_core.specs.Widgets.{ChangesWithin, RendersText}
-use Rattle.ratatui_core.proofs.BufferLemmas.{Changes-within, within-same, within-wider, text-keeps, Parts-next, Parts-within}
-use Rattle.ratatui_core.proofs.WidgetLemmas.{within-then, within-styled}
+use Rattle.ratatui_core.specs.Layout.{Rect, Position, HasPosition, IsInside}
+use Rattle.ratatui_core.specs.Style.{Style}
+use Rattle.ratatui_core.specs.Buffer.{BufferData, columns, pieces_at, PaintsOrRefuses, MakesParts, position_of}
+use Rattle.ratatui_core.specs.Widgets.{ChangesWithin}
+use Rattle.ratatui_core.proofs.BufferLemmas.{within-wider, text-keeps, Parts-next, Parts-within}
+use Rattle.ratatui_core.proofs.WidgetLemmas.{within-then}
 use Rattle.rtui_boxes.specs.Boxes.{IsBoxArea}
 use Rattle.rtui_boxes.proofs.PaintLemmas.{paints-within}
 use Rattle.rtui_list.specs.declared.list.List.{List as ListData}
@@ -18,7 +17,7 @@ use Rattle.rtui_list.specs.declared.list.ListDirection.{ListDirection}
 use Rattle.rtui_list.specs.declared.list.ListDirection.TheVariants.{TopToBottom, BottomToTop}
 use Rattle.rtui_list.specs.declared.item.ListItem.{ListItem}
 use Rattle.rtui_list.specs.Windows.{item_rows, rows_before, Fit}
-use Rattle.rtui_list.specs.Items.{mark_width, item_part, without_columns, part_row, MarksRow, MarksRows, is_marked, If, RendersItem, nth_item, part_of_item, ShowsItems, is_selected_at, has_mark_columns, with_blank, shown_as}
+use Rattle.rtui_list.specs.Items.{item_part, without_columns, part_row, MarksRow, is_marked, RendersItem, nth_item, part_of_item, ShowsItems, is_selected_at, has_mark_columns, shown_as}
 use Rattle.rtui_list.proofs.WindowLemmas.{rows-next, rows-grow}
 
 -- a part with columns, whose edges fit

@@ -1,5 +1,5 @@
 -- A list in its style and its box.
-use Rattle.std.proofs.Common.{◌≡◌, ◌<◌, ◌⊎◌, ⊎_elim, refl, sym, ap, subst, arith, Result, Ok, Err, OnOk}
+use Rattle.std.proofs.Common.{◌≡◌, ⊎_elim, refl, ap, subst, arith, Result, Ok, Err, OnOk}
 use Rattle.std.specs.declared.alloc.AllocError.{AllocError}
 use Rattle.ratatui_core.specs.Layout.{Rect, intersected}
 use Rattle.ratatui_core.specs.Buffer.{BufferData}

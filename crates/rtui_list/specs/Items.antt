@@ -1,6 +1,6 @@
 -- What a list makes of a buffer and of its state.
 use Rattle.std.specs.Prelude.{◌≡◌, ℕ, Bool, true, false, ◌+◌, ◌-◌, ◌<◌, ◌==◌, ◌&&◌, ◌||◌, min, List, [], length, codes, Option, Some, None, is_some, if◌then◌else◌, slice_index_or, All}
-use Rattle.ratatui_core.specs.Layout.{Rect, Position, corner, intersected}
+use Rattle.ratatui_core.specs.Layout.{Rect, corner, intersected}
 use Rattle.ratatui_core.specs.Style.{Style, new_style, patch}
 use Rattle.ratatui_core.specs.Text.{text_of}
 use Rattle.ratatui_core.specs.Buffer.{BufferData, Cell, styled, with_symbol, pieces_at, text_columns, IsStyled, PaintsPieces, ChangesEach, MakesParts, HasShortGraphemes, HasNarrowGraphemes, IsNarrowText}

@@ -1,5 +1,5 @@
 -- Gauges and scroll bars of narrow symbols keep a buffer settled.
-use Rattle.std.proofs.Common.{◌≡◌, ℕ, zero, suc, ◌+◌, ◌<◌, ◌≤◌, Bool, true, false, ◌&&◌, if◌then◌else◌, nat_lt, ◌==◌, List, [], ◌∷◌, ◌⊎◌, ⊎_elim, inl, inr, Option, Some, None, refl, sym, ap, subst, ◌∙◌, arith}
+use Rattle.std.proofs.Common.{◌≡◌, ℕ, zero, suc, ◌+◌, ◌<◌, ◌≤◌, Bool, true, false, ◌&&◌, if◌then◌else◌, nat_lt, ◌==◌, List, [], ◌∷◌, ◌⊎◌, ⊎_elim, inl, inr, Option, Some, None, refl, subst, arith}
 use Rattle.std.specs.Prelude.{codes, slice_index_or, map, drop}
 use Rattle.std.specs.Borrow.{Bor}
 use Rattle.std.proofs.lemmas.Bool.{cases_lt, and_parts, and_from}
@@ -9,7 +9,7 @@ use Rattle.ratatui_core.specs.Layout.{Rect, Position, EdgesFit, IsInside, inters
 use Rattle.ratatui_core.specs.Style.{Style}
 use Rattle.ratatui_core.specs.declared.style.Color.{Color}
 use Rattle.ratatui_core.specs.Symbols.{is_narrow, block_levels}
-use Rattle.ratatui_core.specs.Buffer.{BufferData, Cell, with_symbol, styled, width_of, text_width, columns, IsPlain, IsPlainFrom, IsSettledBuffer}
+use Rattle.ratatui_core.specs.Buffer.{BufferData, Cell, with_symbol, width_of, text_width, columns, IsPlain, IsPlainFrom, IsSettledBuffer}
 use Rattle.ratatui_core.proofs.BufferLemmas.{narrow-test, blocks-narrow, plain-styled, plain-with_symbol, plain-if, plain-changed, painted-settled, text-keeps, PaintsByColumns-paints, ready-row, ready-plain, ready-next, changed-settled}
 use Rattle.rtui_boxes.specs.Boxes.{IsBoxArea, IsPlainIfBox}
 use Rattle.rtui_boxes.proofs.PaintLemmas.{part-right, part-has_row, part-starts}

@@ -6,7 +6,6 @@ use Rattle.ratatui_core.specs.declared.style.Color.{Color}
 use Rattle.ratatui_core.specs.declared.style.Color.TheVariants.{Reset}
 use Rattle.ratatui_core.specs.Text.{SpanData}
 use Rattle.ratatui_core.specs.Buffer.{BufferData, Cell, Piece, styled, with_symbol, pieces_at, text_columns, PaintsPieces, ChangesEach, AreShort}
-use Rattle.ratatui_core.specs.Widgets.{ChangesWithin}
 use Rattle.rtui_boxes.specs.Framed.{RendersInFrame, IsShortFrame, inner_if}
 use Rattle.rtui_meters.specs.declared.gauge.Gauge.{Gauge}
 use Rattle.rtui_meters.specs.declared.gauge.Fill.{Fill}

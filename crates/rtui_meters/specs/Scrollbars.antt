@@ -1,7 +1,7 @@
 -- A scroll bar: where it stands, and where its thumb is.
-use Rattle.std.specs.Prelude.{◌≡◌, ℕ, Bool, true, false, ◌+◌, ◌-◌, ◌*◌, ◌/◌, ◌<◌, ◌≤◌, ◌⊎◌, nat_lt, min, max, List, [], ◌∷◌, codes, encode_utf8_all, Option, Some, None, if◌then◌else◌, ⊤}
+use Rattle.std.specs.Prelude.{◌≡◌, ℕ, Bool, true, false, ◌+◌, ◌-◌, ◌*◌, ◌<◌, ◌≤◌, ◌⊎◌, nat_lt, min, max, List, [], ◌∷◌, codes, encode_utf8_all, Option, Some, None, if◌then◌else◌, ⊤}
 use Rattle.std.specs.Borrow.{Bor}
-use Rattle.ratatui_core.specs.Layout.{Rect, Position, intersected}
+use Rattle.ratatui_core.specs.Layout.{Rect, Position}
 use Rattle.ratatui_core.specs.Symbols.{scrollbar_texts}
 use Rattle.ratatui_core.specs.Style.{Style, new_style}
 use Rattle.ratatui_core.specs.declared.symbols.scrollbar.Set.{Set}

@@ -1,5 +1,5 @@
 -- Each symbol that borders can be joined of is narrow, and so is what is joined of narrow ones.
-use Rattle.std.proofs.Common.{◌≡◌, ℕ, ◌≤◌, ◌<◌, Bool, true, false, if◌then◌else◌, List, [], ◌∷◌, ◌&&◌, length, Option, Some, None, unwrap_or, refl, sym, ap, subst, ◌∙◌, arith}
+use Rattle.std.proofs.Common.{◌≡◌, ℕ, ◌≤◌, Bool, true, false, if◌then◌else◌, List, [], ◌∷◌, length, Option, Some, None, unwrap_or, refl, subst, arith}
 use Rattle.std.specs.Prelude.{nat_le}
 use Rattle.std.specs.List.{find, list_all}
 use Rattle.std.specs.Option.{option_map}
@@ -14,7 +14,7 @@ use Rattle.rtui_merge.specs.declared.MergeStrategy.{MergeStrategy}
 use Rattle.rtui_merge.specs.declared.MergeStrategy.TheVariants.{Replace, Exact, Fuzzy}
 use Rattle.rtui_cell.specs.Symbol.{joined, symbol_text, IsShort}
 use Rattle.rtui_cell.specs.Width.{text_width}
-use Rattle.rtui_narrow.specs.Narrow.{IsNarrow, is_narrow, AreNarrowTexts}
+use Rattle.rtui_narrow.specs.Narrow.{IsNarrow, is_narrow}
 
 pub narrow-test : (text : List ℕ) → is_narrow text ≡ true → IsNarrow text
 narrow-test text e =

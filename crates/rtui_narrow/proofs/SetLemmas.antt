@@ -1,5 +1,5 @@
 -- The symbols of each set are narrow.
-use Rattle.std.proofs.Common.{◌≡◌, true, refl}
+use Rattle.std.proofs.Common.{refl}
 use Rattle.unicode_width.proofs.Computing.{unicode_width}
 use Rattle.rtui_symbols.specs.Sets.{bar_levels, block_levels, plain_border, normal_lines}
 use Rattle.rtui_cell.specs.Width.{text_width}

@@ -3,7 +3,7 @@
 ghost use Rattle.std.specs.Prelude.{◌≡◌, ◌+◌, ◌≤◌, ◌<◌, false, OnOk, reverse};
 ghost use Rattle.ratatui_core.specs.Widgets.{ChangesWithin};
 ghost use Rattle.ratatui_core.specs.declared.layout.HorizontalAlignment.TheVariants.{Left, Center, Right};
-ghost use Rattle.rtui_boxes.specs.Titles.{is_same_alignment, side_of, title_width, titles_width, title_at, without_first, from_left, from_right, from_outside, from_centre, RendersTitle, RendersTitles};
+ghost use Rattle.rtui_boxes.specs.Titles.{side_of, title_width, titles_width, title_at, without_first, from_left, from_right, from_outside, from_centre, RendersTitle, RendersTitles};
 ghost use Rattle.rtui_boxes.specs.Boxes.{has_title, titles_area, is_placed, lines_placed, row_titles, placed_titles, IsBoxArea, KeepsOffTitles};
 
 use crate::block::{Block, is_in_row, one_if};
@@ -41,18 +41,6 @@ fn after_title(area: Rect, columns: u16) -> Rect
         x: area.x.saturating_add(columns).saturating_add(1),
         width: area.width.saturating_sub(columns).saturating_sub(1),
         ..area
-    }
-}
-
-// Whether both alignments are the same.
-fn is_same_alignment(one: HorizontalAlignment, other: HorizontalAlignment) -> bool
-    ensures { result ≡ is_same_alignment one other }
-{
-    match (one, other) {
-        (HorizontalAlignment::Left, HorizontalAlignment::Left) => true,
-        (HorizontalAlignment::Center, HorizontalAlignment::Center) => true,
-        (HorizontalAlignment::Right, HorizontalAlignment::Right) => true,
-        _ => false,
     }
 }
 
@@ -119,7 +107,7 @@ impl<'a> Block<'a> {
         ensures { result ≡ is_placed self.now position alignment title.now }
     {
         let own = title.line.alignment.unwrap_or(self.titles_alignment);
-        is_in_row(title, self.titles_position, position) && is_same_alignment(own, alignment)
+        is_in_row(title, self.titles_position, position) && own == alignment
     }
 
     // Renders a title over an area of a row, in the style of the titles.

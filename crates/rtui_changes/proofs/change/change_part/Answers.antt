@@ -1,8 +1,5 @@
-use Rattle.std.proofs.Common.{rules, ◌∙◌, ◌<◌, arith, subst, ◌≡◌, false, true}
-use Rattle.rtui_geometry.specs.Rect.{HasPosition}
-use Rattle.rtui_buffer.specs.BufferData.{position_of, BufferData}
+use Rattle.std.proofs.Common.{rules, ◌∙◌, arith, ◌≡◌, false, true}
 use Rattle.rtui_widgets.specs.Rendering.{ChangesWithin}
-use Rattle.rtui_changes.specs.Changes.{row_part}
 use Rattle.rtui_changes.proofs.ChangeLemmas.{rows_to, Changes-row, Changes-rows, Changes-no_rows, Changes-within, rows-inside, light-rows, inside-still}
 use Rattle.rtui_widgets.proofs.WithinLemmas.{within-then}
 use Rattle.rtui_changes.proofs.change.change_part.Goals as goal

@@ -1,4 +1,3 @@
-use Rattle.std.proofs.Common.{◌≡◌}
 use Rattle.rtui_changes.specs.Changes.{ChangesEach}
 use Rattle.rtui_changes.proofs.ChangeLemmas.{rows_to}
 use Rattle.rtui_changes.proofs.change.change_part.Given as goal

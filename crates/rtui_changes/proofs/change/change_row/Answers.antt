@@ -1,8 +1,7 @@
-use Rattle.std.proofs.Common.{rules, ◌∙◌, ◌<◌, arith, subst, ◌≡◌, false, true}
-use Rattle.rtui_geometry.specs.Rect.{HasPosition}
-use Rattle.rtui_buffer.specs.BufferData.{position_of, BufferData}
+use Rattle.std.proofs.Common.{rules, arith, ◌≡◌, false, true}
+use Rattle.rtui_buffer.specs.BufferData.{position_of}
 use Rattle.rtui_widgets.specs.Rendering.{ChangesWithin}
-use Rattle.rtui_changes.specs.Changes.{row_part, place_at}
+use Rattle.rtui_changes.specs.Changes.{row_part}
 use Rattle.rtui_changes.proofs.ChangeLemmas.{columns_to, Changes-column, Changes-columns, Changes-no_columns, Changes-within, columns-inside, columns-off, light-still, row-place, row-place_of_row, row-in_own}
 use Rattle.rtui_changes.proofs.change.change_row.Goals as goal
 

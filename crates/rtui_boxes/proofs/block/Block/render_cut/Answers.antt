@@ -1,6 +1,6 @@
-use Rattle.std.proofs.Common.{◌≡◌, ◌+◌, ◌∙◌, sym, ap, refl, subst, drop, min, arith, rules}
+use Rattle.std.proofs.Common.{◌≡◌, ◌+◌, ◌∙◌, sym, ap, refl, subst, drop, min, arith}
 use Rattle.ratatui_core.specs.declared.layout.HorizontalAlignment.TheVariants.{Center}
-use Rattle.rtui_boxes.specs.Titles.{title_width, title_at, from_outside, aligned, side_of, shown_width, RendersTitle}
+use Rattle.rtui_boxes.specs.Titles.{title_at, from_outside, aligned, side_of, shown_width, RendersTitle}
 use Rattle.rtui_boxes.specs.Boxes.{lines_placed}
 use Rattle.rtui_boxes.proofs.TitleLemmas.{lines-next, outside-next, rest-inside, title-within}
 use Rattle.rtui_boxes.proofs.block.Block.render_cut.Goals as goal

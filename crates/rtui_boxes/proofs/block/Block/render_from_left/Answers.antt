@@ -1,5 +1,5 @@
-use Rattle.std.proofs.Common.{◌≡◌, ◌+◌, ◌∙◌, sym, ap, refl, drop, arith, rules}
-use Rattle.rtui_boxes.specs.Titles.{title_width, from_left}
+use Rattle.std.proofs.Common.{◌+◌, ◌∙◌, sym, refl, drop, arith}
+use Rattle.rtui_boxes.specs.Titles.{from_left}
 use Rattle.rtui_boxes.specs.Boxes.{lines_placed}
 use Rattle.rtui_boxes.proofs.TitleLemmas.{lines-next, left-next, rest-inside, title-within}
 use Rattle.rtui_boxes.proofs.block.Block.render_from_left.Goals as goal

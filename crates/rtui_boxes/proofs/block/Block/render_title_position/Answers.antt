@@ -1,4 +1,4 @@
-use Rattle.std.proofs.Common.{◌≡◌, ◌++◌, ◌∙◌, sym, refl, subst, OnOk}
+use Rattle.std.proofs.Common.{◌++◌, ◌∙◌, sym, refl, subst, OnOk}
 use Rattle.ratatui_core.specs.declared.layout.HorizontalAlignment.TheVariants.{Left, Center, Right}
 use Rattle.std.specs.Prelude.{reverse}
 use Rattle.ratatui_core.proofs.BufferLemmas.{on-ok}

@@ -1,4 +1,3 @@
-use Rattle.std.proofs.Common.{rules, arith}
 use Rattle.rtui_boxes.proofs.FrameLemmas.{framed-bare, framed-some, inner-within, inner-some, inner-none, inner-own, inner-is, any-err}
 use Rattle.rtui_meters.specs.Gauges.{FillsGauge}
 use Rattle.rtui_meters.proofs.gauge.RefGaugeWidget.render.Goals as goal

@@ -1,6 +1,5 @@
-use Rattle.std.proofs.Common.{◌≡◌, ◌≤◌, arith}
+use Rattle.std.proofs.Common.{◌≤◌, arith}
 use Rattle.ratatui_core.proofs.WidgetLemmas.{within-then}
-use Rattle.rtui_meters.specs.LineGauges.{line_cell}
 use Rattle.rtui_meters.proofs.MeterLemmas.{label-within, changed-within, right-inside, fills-line}
 use Rattle.rtui_meters.proofs.line_gauge.LineGauge.render_line.Goals as goal
 

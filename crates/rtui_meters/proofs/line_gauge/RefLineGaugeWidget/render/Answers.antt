@@ -1,4 +1,3 @@
-use Rattle.std.proofs.Common.{rules, arith}
 use Rattle.rtui_boxes.proofs.FrameLemmas.{framed-bare, framed-some, inner-within, inner-some, inner-none, inner-own, any-err}
 use Rattle.rtui_meters.specs.LineGauges.{FillsLine}
 use Rattle.rtui_meters.proofs.line_gauge.RefLineGaugeWidget.render.Goals as goal
