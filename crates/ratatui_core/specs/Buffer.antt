@@ -24,8 +24,8 @@ pub use Rattle.rtui_diff.specs.Diff.{IsDiff}
 pub use Rattle.rtui_buffer.specs.BufferData.{BufferData, area_size, IsBuffer, HasRoomFor, position_of, cell_index, place_position, cell_in, with_cell, with_cells, moved_to, buffer_row, HasRow, empty_cells, resized, IsEmptied, IsSameBuffer, IsEqualBuffer}
 pub use Rattle.rtui_buffer.specs.Shown.{IsSettledBuffer, IsShownByRepaint, ShowsBuffer, IsAligned, IsBufferDiff, HaveSettledRows, listed}
 unfoldable pub use Rattle.rtui_buffer.specs.Painting.{painted_width, fitting, kept, emptied, with_piece, painted}
-pub use Rattle.rtui_buffer.specs.Painting.{has_painted_width, IsLongestFront, Piece, pieces, text_pieces, columns, shown, IsSameOutside, piece_at, HasPieces}
-pub use Rattle.rtui_buffer.specs.PaintedText.{room_at, pieces_at, PaintsPieces, right_by, IsBeside, PaintsByColumns, IsSameBeside, AreShort, IsPaintable, PaintsOrRefuses, IsStyled, HasShortGraphemes, HaveShortGraphemes}
+pub use Rattle.rtui_buffer.specs.Painting.{has_painted_width, IsLongestFront, Piece, piece_of, pieces, text_pieces, columns, AreWide, shown, IsSameOutside, piece_at, HasPieces}
+pub use Rattle.rtui_buffer.specs.PaintedText.{room_at, pieces_at, PaintsPieces, right_by, IsBeside, PaintsByColumns, IsSameBeside, AreShort, IsPaintable, PaintsOrRefuses, IsStyled, IsOneGrapheme, HasShortGraphemes, HaveShortGraphemes}
 pub use Rattle.rtui_buffer.specs.Bar.{bar_of, PaintsOnBar, ShowsPieces, bar_cell}
 unfoldable pub use Rattle.rtui_buffer.specs.Line.{line_pieces}
 pub use Rattle.rtui_buffer.specs.Line.{line_pieces_at, lines_area, IsOfLines, raw_lines}

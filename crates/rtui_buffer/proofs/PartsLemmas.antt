@@ -18,7 +18,7 @@ use Rattle.rtui_diff.specs.Cells.{cell}
 use Rattle.rtui_text.specs.Text.{SpanData, LineData}
 use Rattle.rtui_buffer.specs.BufferData.{BufferData, cell_index}
 use Rattle.rtui_buffer.specs.Painting.{painted_width, kept, Piece, piece_of, pieces, text_pieces, piece_width, columns, shown, piece_at, place_of, AreWide, HasPieces}
-use Rattle.rtui_buffer.specs.PaintedText.{room_at, pieces_at, right_by, PaintsPieces}
+use Rattle.rtui_buffer.specs.PaintedText.{room_at, pieces_at, right_by, PaintsPieces, IsOneGrapheme}
 use Rattle.rtui_buffer.specs.Line.{line_pieces, line_pieces_at}
 use Rattle.rtui_buffer.proofs.PaintLemmas.{painted_width-painted, kept-nil, kept-skip, kept-take, IsSameOutside-then}
 use Rattle.rtui_buffer.proofs.PaintedLemmas.{columns-kept}
@@ -159,7 +159,7 @@ line-parts r x max l ts edges =
     parts-line l.style l.spans ts (room_at r x max) ∙ ap (λ n. ps ++ line_pieces n l.style ts) (sym (room-left r x max (columns ps) edges le))
 
 -- a grapheme that fits is one piece
-pub grapheme-piece : (room : ℕ) (style : Style) (g : List ℕ) → graphemes true g ≡ g ∷ [] → 0 < painted_width g → painted_width g ≤ room → text_pieces room style g ≡ piece_of style g ∷ []
+pub grapheme-piece : (room : ℕ) (style : Style) (g : List ℕ) → IsOneGrapheme g → 0 < painted_width g → painted_width g ≤ room → text_pieces room style g ≡ piece_of style g ∷ []
 grapheme-piece room style g one some fits =
     let same = painted_width-painted g some in
     ap (λ gs. pieces style (kept room gs)) one ∙ ap (pieces style) (kept-take room g [] some (omega arith) ∙ ap (λ ks. g ∷ ks) (kept-nil (room - text_width g)))

@@ -1,5 +1,5 @@
 -- Painting into a buffer, from a position on.
-use Rattle.std.specs.Prelude.{ℕ, ◌+◌, ◌-◌, ◌≡◌, ◌⊎◌, ◌≤◌, ◌<◌, min, true, false, List, ◌++◌, length, take, All, Result, IsOk, OnOk, OnErr}
+use Rattle.std.specs.Prelude.{ℕ, ◌+◌, ◌-◌, ◌≡◌, ◌⊎◌, ◌≤◌, ◌<◌, min, true, false, List, [], ◌∷◌, ◌++◌, length, take, All, Result, IsOk, OnOk, OnErr}
 use Rattle.std.specs.declared.alloc.AllocError.{AllocError}
 use Rattle.unicode_segmentation.specs.Grapheme.{graphemes}
 use Rattle.rtui_text.specs.Text.{SpanData}
@@ -81,6 +81,10 @@ pub record IsStyled (r : Rect) (s : Style) (old new : BufferData) : Type 0 where
   pub room : new.room ≡ old.room
   pub inside : (p : Position) → HasPosition old.area p → HasPosition r p → cell_in new p ≡ styled s (cell_in old p)
   pub outside : (p : Position) → HasPosition old.area p → ¬ (HasPosition r p) → cell_in new p ≡ cell_in old p
+
+-- the text is one grapheme
+abbrev pub IsOneGrapheme : List ℕ → Type 0
+IsOneGrapheme text = graphemes true text ≡ text ∷ []
 
 -- each grapheme of a text takes no memory
 abbrev pub HasShortGraphemes : List ℕ → Type 0

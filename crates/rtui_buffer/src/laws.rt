@@ -18,7 +18,7 @@ ghost use Rattle.rtui_geometry.specs.Rect.{HasPosition, EdgesFit};
 ghost use Rattle.rtui_buffer.specs.BufferData.{HasRow, BufferData, IsEmptied, IsEqualBuffer, cell_in};
 ghost use Rattle.rtui_buffer.specs.Shown.{IsSettledBuffer, ShowsBuffer, IsAligned, HaveSettledRows};
 ghost use Rattle.rtui_buffer.specs.Painting.{Piece, piece_of, painted_width, has_painted_width, kept, text_pieces, columns, AreWide, IsLongestFront};
-ghost use Rattle.rtui_buffer.specs.PaintedText.{pieces_at, room_at, right_by, AreShort, HasShortGraphemes, HaveShortGraphemes, IsBeside, IsPaintable, IsSameBeside, IsStyled, PaintsPieces, PaintsByColumns};
+ghost use Rattle.rtui_buffer.specs.PaintedText.{pieces_at, room_at, right_by, AreShort, IsOneGrapheme, HasShortGraphemes, HaveShortGraphemes, IsBeside, IsPaintable, IsSameBeside, IsStyled, PaintsPieces, PaintsByColumns};
 ghost use Rattle.rtui_buffer.specs.Line.{line_pieces, line_pieces_at};
 
 use crate::buffer::Buffer;
@@ -130,7 +130,7 @@ pub fn texts_are_painted_in_parts()
         → let ps = line_pieces_at r x max l in let n = columns ps in
         line_pieces_at r x max (record l { spans = l.spans ++ ts })
         ≡ ps ++ line_pieces_at r (x + n) (max - n) (record l { spans = ts }) }
-    ensures grapheme { (room : ℕ) (style : Style) (g : List ℕ) → graphemes true g ≡ g ∷ []
+    ensures grapheme { (room : ℕ) (style : Style) (g : List ℕ) → IsOneGrapheme g
         → 0 < painted_width g → painted_width g ≤ room
         → text_pieces room style g ≡ piece_of style g ∷ [] }
 {}
