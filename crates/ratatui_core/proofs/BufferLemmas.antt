@@ -4,7 +4,8 @@ pub use Rattle.rtui_buffer.proofs.ColumnLemmas.{PaintsByColumns-paints, same-bes
 -- So is an empty buffer with a style over an area, and a shown buffer's columns have the looks of its cells.
 pub use Rattle.rtui_buffer.proofs.ShownLemmas.{IsSettledBuffer-styled, IsPaintable-styled, index-at, shown-look, look-painted, look-beside}
 -- Pieces painted one after the other are painted together, and a grapheme that fits is one piece.
-pub use Rattle.rtui_buffer.proofs.PartsLemmas.{PaintsPieces-append, text-parts, line-parts, grapheme-piece}
+pub use Rattle.rtui_buffer.proofs.PartsLemmas.{PaintsPieces-append, text-parts, line-parts, pieces-wide, grapheme-piece}
+pub use Rattle.rtui_buffer.proofs.TextLemmas.{text_pieces-none, PaintsPieces-none}
 -- A screen that shows pieces on a bar.
 pub use Rattle.rtui_buffer.proofs.BarLemmas.{ShowsPieces-bar}
 -- Cells that are the same have one look and one width, and an empty cell has the empty look and takes one column.

@@ -1,16 +1,14 @@
 //! A text in an area.
 
-ghost use Rattle.std.specs.Prelude.{◌≡◌, ◌+◌, ◌<◌, ◌≤◌, IfSome, IfOk, OnOk};
+ghost use Rattle.std.specs.Prelude.{◌≡◌, ◌+◌, ◌<◌, ◌≤◌, min, length, Some, None, IfOk, OnOk};
 ghost use Rattle.ratatui_core.specs.Layout.{IsInside};
+ghost use Rattle.ratatui_core.specs.Buffer.{IsSettledBuffer, IsReadyAt, IsReadyFrom, position_of};
+ghost use Rattle.ratatui_core.specs.Text.{grapheme_data};
 ghost use Rattle.ratatui_core.specs.Widgets.{ChangesWithin};
-ghost use Rattle.rtui_boxes.specs.Boxes.{IsBoxArea, IsPlainIfBox};
-ghost use Rattle.rtui_boxes.specs.Framed.{inner_if};
-ghost use Rattle.ratatui_core.specs.Buffer.{IsSettledBuffer};
-ghost use Rattle.ratatui_core.specs.Buffer.{IsPlainFrom, IsReadyAt, IsReadyFrom};
-ghost use Rattle.ratatui_core.specs.Buffer.{position_of};
 ghost use Rattle.ratatui_core.specs.declared.layout.HorizontalAlignment.TheVariants.{Left, Center, Right};
-ghost use Rattle.ratatui_widgets.specs.Paragraphs.{IsNewParagraph};
-ghost use Rattle.ratatui_widgets.specs.Reflow.{AllFit};
+ghost use Rattle.rtui_boxes.specs.Boxes.{IsBoxArea};
+ghost use Rattle.ratatui_widgets.specs.Paragraphs.{IsNewParagraph, aligned_row, aligned_rows, rows_of_lines, rows_shown, indent_of, PaintsGrapheme, PaintsRow, PaintsRows, PaintsOn, FillsText};
+ghost use Rattle.ratatui_widgets.specs.Reflow.{data_of, grapheme_columns, columns_taken, AllFit, broken_rows};
 
 use crate::reflow::{columns_of, fitting, split_row, truncated};
 use ratatui_core::buffer::{Buffer, CellWidth};
@@ -18,7 +16,7 @@ use ratatui_core::layout::{HorizontalAlignment, Position, Rect};
 use ratatui_core::style::Style;
 use ratatui_core::text::{StyledGrapheme, Text};
 use ratatui_core::widgets::Widget;
-use rtui_boxes::Block;
+use rtui_boxes::{Block, render_frame};
 use std::alloc::{AllocError, Global};
 
 /// How lines are broken that don't fit.
@@ -153,37 +151,16 @@ impl<'a> Paragraph<'a> {
         }
     }
 
-    // What is inside the box.
-    fn inner(&self, area: Rect) -> Rect
-        ensures { result ≡ inner_if self.now.block area }
-    {
-        match &self.block {
-            None => area,
-            Some(block) => block.inner(area),
-        }
-    }
-
-    // Renders the box.
-    fn render_block(&self, area: Rect, buf: &mut Buffer) -> Result<(), AllocError>
-        ensures within { ChangesWithin area buf.old buf.new }
-        ensures plain { IsPlainIfBox self.now.block → IsPlainFrom 0 buf.old
-            → OnOk result (IsPlainFrom 0 buf.new) }
-    {
-        match &self.block {
-            None => Ok(()),
-            Some(block) => block.render(area, buf),
-        }
-    }
-
     // Renders the text in a part of the buffer.
     fn render_text(&self, part: Rect, buf: &mut Buffer) -> Result<(), AllocError>
         requires some { IsBoxArea part }
         requires inside { IsInside part buf.old.area }
         ensures within { ChangesWithin part buf.old buf.new }
+        ensures ok { OnOk result (FillsText self.now part buf.old buf.new) }
         ensures settled { IsReadyFrom part.y buf.old → OnOk result (IsSettledBuffer buf.new) }
     {
         match self.wrap {
-            Some(wrap) => self.render_wrapped(part, wrap.trim, buf),
+            Some(wrap) => self.render_wrapped(part, wrap, buf),
             None => self.render_truncated(part, buf),
         }
     }
@@ -193,6 +170,9 @@ impl<'a> Paragraph<'a> {
         requires some { IsBoxArea part }
         requires inside { IsInside part buf.old.area }
         ensures within { ChangesWithin part buf.old buf.new }
+        ensures ok { let rows = rows_of_lines None self.now part.width self.now.text.lines in
+            let shown = rows_shown part.height self.now.scroll.y rows in
+            OnOk result (PaintsRows part part.y shown buf.old buf.new) }
         ensures settled { IsReadyFrom part.y buf.old → OnOk result (IsSettledBuffer buf.new) }
     {
         let alloc = buf.allocator();
@@ -218,10 +198,13 @@ impl<'a> Paragraph<'a> {
     }
 
     // Each line broken into rows.
-    fn render_wrapped(&self, part: Rect, trim: bool, buf: &mut Buffer) -> Result<(), AllocError>
+    fn render_wrapped(&self, part: Rect, wrap: Wrap, buf: &mut Buffer) -> Result<(), AllocError>
         requires some { IsBoxArea part }
         requires inside { IsInside part buf.old.area }
         ensures within { ChangesWithin part buf.old buf.new }
+        ensures ok { let rows = rows_of_lines (Some wrap) self.now part.width self.now.text.lines in
+            let shown = rows_shown part.height self.now.scroll.y rows in
+            OnOk result (PaintsRows part part.y shown buf.old buf.new) }
         ensures settled { IsReadyFrom part.y buf.old → OnOk result (IsSettledBuffer buf.new) }
     {
         let alloc = buf.allocator();
@@ -233,7 +216,15 @@ impl<'a> Paragraph<'a> {
             }
             let alignment = line.alignment.unwrap_or(self.alignment);
             let row = fitting(alloc, line.styled_graphemes(self.text.style), part.width)?;
-            k = render_line(row.as_slice(), alignment, trim, &mut skip, part, k, buf)?;
+            k = render_line(
+                row.as_slice(),
+                alignment,
+                wrap.trim,
+                &mut skip,
+                part,
+                k,
+                buf,
+            )?;
         }
         Ok(())
     }
@@ -253,9 +244,11 @@ fn render_line(
     requires some { IsBoxArea part }
     requires inside { IsInside part buf.old.area }
     requires row { k ≤ part.height }
-    requires fit { AllFit part.width graphemes.now }
+    requires fit { AllFit part.width (data_of graphemes.now) }
     ensures within { ChangesWithin part buf.old buf.new }
     ensures row { IfOk result (λ n. n ≤ part.height) }
+    ensures ok { let rows = aligned_rows alignment (broken_rows part.width trim (data_of graphemes.now)) in
+        IfOk result (λ n. PaintsOn part k n skip.old skip.new rows buf.old buf.new) }
     ensures ready { IsReadyFrom (part.y + k) buf.old
         → IfOk result (λ n. IsReadyFrom (part.y + n) buf.new) }
 {
@@ -286,7 +279,8 @@ fn render_line(
 
 // How many rows a line takes that is broken in a width: one if it is empty.
 fn row_count(graphemes: &[StyledGrapheme<'_>], width: u16, trim: bool) -> usize
-    requires { AllFit width graphemes.now }
+    requires { AllFit width (data_of graphemes.now) }
+    ensures { result ≡ min (length (broken_rows width trim (data_of graphemes.now))) 18446744073709551615 }
 {
     let mut count = 0usize;
     let mut from = 0;
@@ -315,7 +309,7 @@ fn wrapped_rows(
 
 // The column in which a row of this width begins.
 fn indent(width: u16, room: u16, alignment: HorizontalAlignment) -> u16
-    ensures { result ≤ room }
+    ensures { result ≡ indent_of alignment width room }
 {
     match alignment {
         HorizontalAlignment::Left => 0,
@@ -339,7 +333,10 @@ fn put_grapheme(
     requires right { x + columns ≤ part.x + part.width }
     requires top { part.y ≤ y }
     requires bottom { y < part.y + part.height }
+    requires width { columns ≡ grapheme_columns (grapheme_data grapheme.now) }
     ensures within { ChangesWithin part buf.old buf.new }
+    ensures ok { let g = grapheme_data grapheme.now in
+        OnOk result (PaintsGrapheme x y g buf.old buf.new) }
     ensures ready { IsReadyAt x y buf.old → OnOk result (IsReadyAt (x + columns) y buf.new) }
 {
     buf.set_stringn(x, y, grapheme.symbol, usize::from(columns), grapheme.style)?;
@@ -358,7 +355,10 @@ fn render_row(
     requires some { IsBoxArea part }
     requires inside { IsInside part buf.old.area }
     requires row { k < part.height }
+    requires fits { columns_taken (data_of row.now) ≤ part.width }
     ensures within { ChangesWithin part buf.old buf.new }
+    ensures ok { let shown = aligned_row alignment (data_of row.now) in
+        OnOk result (PaintsRow part (part.y + k) shown buf.old buf.new) }
     ensures ready { IsReadyFrom (part.y + k) buf.old
         → OnOk result (IsReadyFrom (part.y + k + 1) buf.new) }
 {
@@ -374,13 +374,6 @@ fn render_row(
     Ok(())
 }
 
-// The part of a buffer that lies in two areas, if there is one.
-fn part_in_both(buf: &Buffer, area: Rect, other: Rect) -> Option<Rect>
-    ensures { IfSome result (λ r. IsBoxArea r × IsInside r area × IsInside r buf.now.area) }
-{
-    buf.part(area.intersection(other))
-}
-
 /// Over the area, as far as the buffer has it: the style, the box, and the text inside it.
 impl<'b, 'a> Widget for &'b Paragraph<'a> {
     ghost use Rattle.ratatui_widgets.specs.Paragraphs.{RendersParagraph};
@@ -391,12 +384,10 @@ impl<'b, 'a> Widget for &'b Paragraph<'a> {
         let Some(part) = buf.part(area) else {
             return Ok(());
         };
-        buf.set_style(part, self.style);
-        self.render_block(part, buf)?;
-        let Some(inside) = part_in_both(buf, part, self.inner(part)) else {
+        let Some(inner) = render_frame(self.style, &self.block, part, buf)? else {
             return Ok(());
         };
-        self.render_text(inside, buf)
+        self.render_text(inner, buf)
     }
 }
 

@@ -1,8 +1,9 @@
 //! Lines of graphemes cut, or broken into rows.
 
-ghost use Rattle.std.specs.Prelude.{◌≡◌, ◌+◌, ◌≤◌, ◌<◌, [], length, IfOk};
-ghost use Rattle.std.proofs.Math.ListN.{take};
-ghost use Rattle.ratatui_widgets.specs.Reflow.{columns_taken, words_of, AllFit};
+ghost use Rattle.std.specs.Prelude.{◌≡◌, ◌+◌, ◌≤◌, ◌<◌, [], ◌∷◌, min, nat_lt, length, filter, take, drop, IfOk};
+ghost use Rattle.std.specs.List.{prefix_len};
+ghost use Rattle.ratatui_core.specs.Text.{line_graphemes_left};
+ghost use Rattle.ratatui_widgets.specs.Reflow.{data_of, is_break, is_of_word, columns_taken, words_of, fits_row, AllFit, count_fitting, cut_row, last_end, first_word, break_at_blank, break_in_word, row_break, split_row};
 
 use ratatui_core::buffer::CellWidth;
 use ratatui_core::text::{LineGraphemes, StyledGrapheme};
@@ -12,7 +13,9 @@ use std::alloc::{AllocError, Global};
 pub(crate) type Row<'t> = Vec<StyledGrapheme<'t>>;
 
 // How many columns graphemes take, at most 65535.
-pub(crate) fn columns_of(row: &[StyledGrapheme<'_>]) -> u16 {
+pub(crate) fn columns_of(row: &[StyledGrapheme<'_>]) -> u16
+    ensures { result ≡ min (columns_taken (data_of row.now)) 65535 }
+{
     let mut columns = 0u16;
     for grapheme in row {
         columns = columns.saturating_add(grapheme.symbol.cell_width());
@@ -26,7 +29,10 @@ pub(crate) fn truncated<'t, 'a>(
     graphemes: LineGraphemes<'t, 'a>,
     width: u16,
     offset: u16,
-) -> Result<Row<'t>, AllocError> {
+) -> Result<Row<'t>, AllocError>
+    ensures { IfOk result (λ row.
+        data_of row.items ≡ cut_row width offset (line_graphemes_left graphemes.entry)) }
+{
     let mut row = Vec::new(alloc);
     let mut used = 0u16;
     let mut offset = offset;
@@ -55,7 +61,8 @@ pub(crate) fn fitting<'t, 'a>(
     graphemes: LineGraphemes<'t, 'a>,
     width: u16,
 ) -> Result<Row<'t>, AllocError>
-    ensures { IfOk result (λ row. AllFit width row.items) }
+    ensures { IfOk result (λ row.
+        data_of row.items ≡ filter (fits_row width) (line_graphemes_left graphemes.entry)) }
 {
     let mut row = Vec::new(alloc);
     for grapheme in graphemes {
@@ -68,8 +75,7 @@ pub(crate) fn fitting<'t, 'a>(
 
 // How many blanks stand first.
 fn leading_blanks(graphemes: &[StyledGrapheme<'_>]) -> usize
-    ensures inside { result ≤ length graphemes.now }
-    ensures blank { words_of (take result graphemes.now) ≡ [] }
+    ensures { result ≡ prefix_len is_break (data_of graphemes.now) }
 {
     let mut count = 0;
     for grapheme in graphemes {
@@ -83,10 +89,7 @@ fn leading_blanks(graphemes: &[StyledGrapheme<'_>]) -> usize
 
 // How many graphemes fit the width, counted from the first one.
 fn fitting_count(graphemes: &[StyledGrapheme<'_>], width: u16) -> usize
-    requires { AllFit width graphemes.now }
-    ensures some { 0 < length graphemes.now → 0 < result }
-    ensures inside { result ≤ length graphemes.now }
-    ensures fits { columns_taken (take result graphemes.now) ≤ width }
+    ensures { result ≡ count_fitting width (data_of graphemes.now) }
 {
     let mut used = 0u16;
     let mut count = 0;
@@ -103,8 +106,7 @@ fn fitting_count(graphemes: &[StyledGrapheme<'_>], width: u16) -> usize
 
 // Where the last word ends; 0 if there is none.
 fn words_end(graphemes: &[StyledGrapheme<'_>]) -> usize
-    ensures inside { result ≤ length graphemes.now }
-    ensures keeps { words_of (take result graphemes.now) ≡ words_of graphemes.now }
+    ensures { result ≡ last_end is_of_word (data_of graphemes.now) }
 {
     let mut end = 0;
     let mut count = 0;
@@ -119,7 +121,7 @@ fn words_end(graphemes: &[StyledGrapheme<'_>]) -> usize
 
 // Where the last word begins: after the last blank; 0 if there is none.
 fn last_word(graphemes: &[StyledGrapheme<'_>]) -> usize
-    ensures inside { result ≤ length graphemes.now }
+    ensures { result ≡ last_end is_break (data_of graphemes.now) }
 {
     let mut start = 0;
     let mut count = 0;
@@ -133,7 +135,9 @@ fn last_word(graphemes: &[StyledGrapheme<'_>]) -> usize
 }
 
 // Whether the word that stands first is wider than a row.
-fn is_wide_word(graphemes: &[StyledGrapheme<'_>], width: u16) -> bool {
+fn is_wide_word(graphemes: &[StyledGrapheme<'_>], width: u16) -> bool
+    ensures { result ≡ nat_lt width (columns_taken (first_word (data_of graphemes.now))) }
+{
     let mut left = width;
     for grapheme in graphemes {
         if grapheme.is_whitespace() {
@@ -151,11 +155,7 @@ fn is_wide_word(graphemes: &[StyledGrapheme<'_>], width: u16) -> bool {
 // Where a row of so many graphemes ends that a word crosses, and where the next one begins.
 fn break_in_word(graphemes: &[StyledGrapheme<'_>], count: usize, width: u16) -> (usize, usize)
     requires { count ≤ length graphemes.now }
-    ensures ends { result.0 ≤ result.1 }
-    ensures inside { result.1 ≤ count }
-    ensures some { 0 < count → 0 < result.1 }
-    ensures keeps { words_of (take result.1 graphemes.now)
-        ≡ words_of (take result.0 graphemes.now) }
+    ensures { result ≡ break_in_word width (data_of graphemes.now) count }
 {
     let word = last_word(&graphemes[..count]);
     let end = words_end(&graphemes[..word]);
@@ -170,13 +170,8 @@ fn break_in_word(graphemes: &[StyledGrapheme<'_>], count: usize, width: u16) -> 
 
 // Where a row of so many graphemes ends that a blank crosses, and where the next one begins: after this blank.
 fn break_at_blank(graphemes: &[StyledGrapheme<'_>], count: usize) -> (usize, usize)
-    requires inside { count < length graphemes.now }
-    requires blank { words_of (take (count + 1) graphemes.now)
-        ≡ words_of (take count graphemes.now) }
-    ensures ends { result.0 ≤ count }
-    ensures next { result.1 ≡ count + 1 }
-    ensures keeps { words_of (take result.1 graphemes.now)
-        ≡ words_of (take result.0 graphemes.now) }
+    requires { count < length graphemes.now }
+    ensures { result ≡ break_at_blank (data_of graphemes.now) count }
 {
     let end = words_end(&graphemes[..count]);
     if end > 0 {
@@ -188,13 +183,7 @@ fn break_at_blank(graphemes: &[StyledGrapheme<'_>], count: usize) -> (usize, usi
 // Where the row at the front ends, and where the next one begins: it has as many words as fit the width, and a word is broken only if it
 // is wider than a row.
 fn row_ends(graphemes: &[StyledGrapheme<'_>], width: u16) -> (usize, usize)
-    requires { AllFit width graphemes.now }
-    ensures ends { result.0 ≤ result.1 }
-    ensures inside { result.1 ≤ length graphemes.now }
-    ensures some { 0 < length graphemes.now → 0 < result.1 }
-    ensures fits { columns_taken (take result.0 graphemes.now) ≤ width }
-    ensures keeps { words_of (take result.1 graphemes.now)
-        ≡ words_of (take result.0 graphemes.now) }
+    ensures { result ≡ row_break width (data_of graphemes.now) }
 {
     let count = fitting_count(graphemes, width);
     if count == graphemes.len() {
@@ -214,9 +203,12 @@ pub(crate) fn split_row<'s, 't>(
     width: u16,
     trim: bool,
 ) -> (&'s [StyledGrapheme<'t>], usize)
-    requires { AllFit width graphemes.now }
-    ensures fits { columns_taken result.0.now ≤ width }
-    ensures keeps { words_of (take result.1 graphemes.now) ≡ words_of result.0.now }
+    requires { AllFit width (data_of graphemes.now) }
+    ensures value { (data_of result.0.now, result.1)
+        ≡ split_row width trim (data_of graphemes.now) }
+    ensures fits { columns_taken (data_of result.0.now) ≤ width }
+    ensures keeps { words_of (take result.1 (data_of graphemes.now))
+        ≡ words_of (data_of result.0.now) }
     ensures some { 0 < length graphemes.now → 0 < result.1 }
     ensures inside { result.1 ≤ length graphemes.now }
 {

@@ -21,7 +21,7 @@ use Rattle.rtui_buffer.specs.Painting.{painted_width, kept, Piece, piece_of, pie
 use Rattle.rtui_buffer.specs.PaintedText.{room_at, pieces_at, right_by, PaintsPieces, IsOneGrapheme}
 use Rattle.rtui_buffer.specs.Line.{line_pieces, line_pieces_at}
 use Rattle.rtui_buffer.proofs.PaintLemmas.{painted_width-painted, kept-nil, kept-skip, kept-take, IsSameOutside-then}
-use Rattle.rtui_buffer.proofs.PaintedLemmas.{columns-kept}
+use Rattle.rtui_buffer.proofs.PaintedLemmas.{columns-kept, AreWide-kept}
 use Rattle.rtui_buffer.proofs.LineLemmas.{columns-append, line_pieces-nil, line_pieces-cons, columns-line}
 
 -- a piece ends before the pieces after it begin, and it takes a column
@@ -157,6 +157,10 @@ line-parts r x max l ts edges =
     let ps = line_pieces_at r x max l in
     let le : columns ps ≤ room_at r x max = columns-line (room_at r x max) l.style l.spans in
     parts-line l.style l.spans ts (room_at r x max) ∙ ap (λ n. ps ++ line_pieces n l.style ts) (sym (room-left r x max (columns ps) edges le))
+
+-- each piece of a text takes a column
+pub pieces-wide : (room : ℕ) (style : Style) (text : List ℕ) → AreWide (text_pieces room style text)
+pieces-wide room style text = AreWide-kept style room (graphemes true text)
 
 -- a grapheme that fits is one piece
 pub grapheme-piece : (room : ℕ) (style : Style) (g : List ℕ) → IsOneGrapheme g → 0 < painted_width g → painted_width g ≤ room → text_pieces room style g ≡ piece_of style g ∷ []

@@ -1,7 +1,10 @@
-use Rattle.std.proofs.Common.{◌≡◌, ◌≤◌}
-use Rattle.std.proofs.Math.ListN.{take}
-use Rattle.ratatui_widgets.specs.Reflow.{columns_taken}
+use Rattle.std.proofs.Common.{◌≡◌, ◌+◌, ◌-◌, ◌≤◌, drop}
+use Rattle.ratatui_widgets.specs.Reflow.{data_of, count_fitting}
 use Rattle.ratatui_widgets.proofs.reflow.fitting_count.Given as goal
 
 abbrev pub invariant-loop-grapheme : goal.invariant-loop-grapheme
-invariant-loop-grapheme l = record { count : l.count ≡ l.grapheme-index; used : columns_taken (take l.grapheme-index l.fn.graphemes) ≡ l.used; fits : l.used ≤ l.fn.width }
+invariant-loop-grapheme l = record {
+  count : l.count ≡ l.grapheme-index;
+  fits : l.used ≤ l.fn.width;
+  left : l.count + count_fitting (l.fn.width - l.used) (data_of (drop l.grapheme-index l.fn.graphemes)) ≡ count_fitting l.fn.width (data_of l.fn.graphemes);
+}

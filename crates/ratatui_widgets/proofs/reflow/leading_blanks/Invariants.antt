@@ -1,7 +1,10 @@
-use Rattle.std.proofs.Common.{◌≡◌, []}
-use Rattle.std.proofs.Math.ListN.{take}
-use Rattle.ratatui_widgets.specs.Reflow.{words_of}
+use Rattle.std.proofs.Common.{◌≡◌, ◌+◌, drop}
+use Rattle.std.specs.List.{prefix_len}
+use Rattle.ratatui_widgets.specs.Reflow.{data_of, is_break}
 use Rattle.ratatui_widgets.proofs.reflow.leading_blanks.Given as goal
 
 abbrev pub invariant-loop-grapheme : goal.invariant-loop-grapheme
-invariant-loop-grapheme l = record { count : l.count ≡ l.grapheme-index; blank : words_of (take l.grapheme-index l.fn.graphemes) ≡ [] }
+invariant-loop-grapheme l = record {
+  count : l.count ≡ l.grapheme-index;
+  left : l.count + prefix_len is_break (data_of (drop l.grapheme-index l.fn.graphemes)) ≡ prefix_len is_break (data_of l.fn.graphemes);
+}

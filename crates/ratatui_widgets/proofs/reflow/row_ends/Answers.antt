@@ -1,12 +1,29 @@
-use Rattle.std.proofs.Common.{◌≤◌, arith}
-use Rattle.ratatui_widgets.proofs.ReflowLemmas.{front-fits}
+use Rattle.std.proofs.Common.{rules, ◌≡◌, ◌+◌, ◌≤◌, ◌<◌, [], ◌∷◌, min, nat_lt, length, filter, take, drop, IfOk, ℕ, ◌-◌, ◌*◌, ◌/◌, ◌%◌, Bool, true, false, nat_eq, List, ◌++◌, slice_index_or, slice_set, bit_and, bit_or, Fits, w8, w32, w64, Bor, MutBor}
+use Rattle.std.specs.List.{prefix_len}
+use Rattle.ratatui_core.specs.Text.{line_graphemes_left}
+use Rattle.ratatui_widgets.specs.Reflow.{data_of, is_break, is_of_word, columns_taken, words_of, fits_row, AllFit, count_fitting, cut_row, last_end, first_word, break_at_blank, break_in_word, row_break, split_row}
 use Rattle.ratatui_widgets.proofs.reflow.row_ends.Goals as goal
 
-pub returns-then-is_whitespace-clause-fits : goal.returns-then-is_whitespace-clause-fits
-returns-then-is_whitespace-clause-fits c =
-    front-fits c.break_at_blank.result.0 c.fitting_count-count.result c.args.width c.args.graphemes.now c.break_at_blank.ensures.ends c.fitting_count-count.ensures.fits
+-- src/reflow.rt:192:8
+pub offset_bounds-graphemes-count : goal.offset_bounds-graphemes-count
+offset_bounds-graphemes-count c = ?
 
-pub returns-else-is_whitespace-clause-fits : goal.returns-else-is_whitespace-clause-fits
-returns-else-is_whitespace-clause-fits c =
-    let le : c.break_in_word.result.0 ≤ c.fitting_count-count.result = omega (arith, c.break_in_word.ensures.ends, c.break_in_word.ensures.inside) in
-    front-fits c.break_in_word.result.0 c.fitting_count-count.result c.args.width c.args.graphemes.now le c.fitting_count-count.ensures.fits
+-- src/reflow.rt:192:8
+pub bounds-graphemes-count : goal.bounds-graphemes-count
+bounds-graphemes-count c = ?
+
+-- src/reflow.rt:193:9
+pub break_at_blank-requires : goal.break_at_blank-requires
+break_at_blank-requires c = ?
+
+-- src/reflow.rt:195:9
+pub break_in_word-requires : goal.break_in_word-requires
+break_in_word-requires c = ?
+
+-- src/reflow.rt:185:1
+pub returns-then-is_whitespace : goal.returns-then-is_whitespace
+returns-then-is_whitespace c = ?
+
+-- src/reflow.rt:185:1
+pub returns-else-is_whitespace : goal.returns-else-is_whitespace
+returns-else-is_whitespace c = ?

@@ -1,7 +1,10 @@
-use Rattle.std.proofs.Common.{◌≡◌, ◌≤◌}
-use Rattle.std.proofs.Math.ListN.{take}
-use Rattle.ratatui_widgets.specs.Reflow.{words_of}
+use Rattle.std.proofs.Common.{◌≡◌, drop}
+use Rattle.ratatui_widgets.specs.Reflow.{data_of, is_of_word, last_end}
+use Rattle.ratatui_widgets.proofs.ReflowLemmas.{found_end}
 use Rattle.ratatui_widgets.proofs.reflow.words_end.Given as goal
 
 abbrev pub invariant-loop-grapheme : goal.invariant-loop-grapheme
-invariant-loop-grapheme l = record { count : l.count ≡ l.grapheme-index; end : l.end ≤ l.grapheme-index; keeps : words_of (take l.end l.fn.graphemes) ≡ words_of (take l.grapheme-index l.fn.graphemes) }
+invariant-loop-grapheme l = record {
+  count : l.count ≡ l.grapheme-index;
+  found : found_end is_of_word l.count l.end (data_of (drop l.grapheme-index l.fn.graphemes)) ≡ last_end is_of_word (data_of l.fn.graphemes);
+}

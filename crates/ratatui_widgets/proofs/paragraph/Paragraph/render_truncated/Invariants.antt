@@ -1,7 +1,13 @@
-use Rattle.std.proofs.Common.{◌+◌}
+use Rattle.std.proofs.Common.{◌+◌, None}
 use Rattle.ratatui_core.specs.Widgets.{ChangesWithin}
 use Rattle.ratatui_core.specs.Buffer.{IsReadyFrom}
+use Rattle.ratatui_widgets.specs.Paragraphs.{rows_of_lines}
+use Rattle.ratatui_widgets.proofs.RowsLemmas.{FinishesCut}
 use Rattle.ratatui_widgets.proofs.paragraph.Paragraph.render_truncated.Given as goal
 
 abbrev pub invariant-loop-k : goal.invariant-loop-k
-invariant-loop-k l = record { within : ChangesWithin l.fn.part l.fn.buf l.buf; ready : IsReadyFrom l.fn.part.y l.fn.buf → IsReadyFrom (l.fn.part.y + l.k) l.buf }
+invariant-loop-k l = record {
+  within : ChangesWithin l.fn.part l.fn.buf l.buf;
+  paints : FinishesCut l.fn.part l.k l.fn.self.scroll.y (rows_of_lines None l.fn.self l.fn.part.width l.fn.self.text.lines) l.fn.buf l.buf;
+  ready : IsReadyFrom l.fn.part.y l.fn.buf → IsReadyFrom (l.fn.part.y + l.k) l.buf;
+}

@@ -1,0 +1,33 @@
+//! Laws of widgets that are no single call's clause.
+
+ghost use Rattle.std.specs.Prelude.{◌≡◌, ℕ, ◌≤◌, Bool, List, All};
+ghost use Rattle.std.specs.List.{concat};
+ghost use Rattle.ratatui_core.specs.Buffer.{BufferData, PaintsPieces, position_of};
+ghost use Rattle.ratatui_core.specs.Text.{GraphemeData};
+ghost use Rattle.ratatui_widgets.specs.Paragraphs.{IsWhole, row_pieces, PaintsGraphemes};
+ghost use Rattle.ratatui_widgets.specs.Reflow.{columns_taken, words_of, AllFit, broken_rows};
+
+pub use rtui_boxes::laws::{
+    boxes_of_short_symbols_take_no_memory, clearing_keeps_settled, plain_boxes_keep_cells_plain,
+};
+pub use rtui_list::laws::lists_of_narrow_texts_keep_cells_plain;
+pub use rtui_meters::laws::{
+    gauges_on_plain_cells_are_settled, line_gauges_on_plain_cells_are_settled,
+    scroll_bars_keep_cells_plain,
+};
+
+/// Of a line that is broken into rows nothing is lost but blanks: no row is wider than the width, and the rows have the graphemes of all
+/// words, in order.
+pub fn wrapping_loses_nothing()
+    ensures fits { (width : ℕ) (trim : Bool) (gs : List GraphemeData) → AllFit width gs
+        → All (λ row. columns_taken row ≤ width) (broken_rows width trim gs) }
+    ensures words { (width : ℕ) (trim : Bool) (gs : List GraphemeData) → AllFit width gs
+        → words_of (concat (broken_rows width trim gs)) ≡ words_of gs }
+{}
+
+/// Whole graphemes that are painted in a row one after the other are painted together.
+pub fn whole_graphemes_are_painted_together()
+    ensures { (x y : ℕ) (gs : List GraphemeData) (old new : BufferData)
+        → old.area.x ≤ x → All IsWhole gs → PaintsGraphemes x y gs old new
+        → PaintsPieces (position_of (x, y)) (row_pieces gs) old new }
+{}
