@@ -17,6 +17,7 @@ use Rattle.rtui_cell.proofs.CellLemmas.{look-empty}
 use Rattle.rtui_diff.specs.Cells.{cell}
 use Rattle.rtui_backend.specs.declared.clear_type.ClearType.TheVariants.{AfterCursor, BeforeCursor, CurrentLine, UntilNewLine}
 use Rattle.rtui_backend.specs.Clear.{is_cleared}
+use Rattle.rtui_backend.specs.Screen.{moved_by, scrolling_up, scrolling_down}
 use Rattle.rtui_backend.specs.CellGrid.{look_at, grid_of, AreUnmarked, AreUnmarkedRows}
 use Rattle.rtui_backend.proofs.LineLemmas.{look_at-cell}
 use Rattle.rtui_backend.proofs.PlainLemmas.{unmarked-empty}
@@ -90,13 +91,13 @@ module _ (w x : ℕ) (x_in : x < w) (old new : List Cell) (a e n : ℕ) where
   region y = rw (place_before w x x_in y e, place_from w x x_in y a) refl
 
   pub grid_moved_up : MovesUp (a * w) (e * w) (n * w) old new → (y : ℕ)
-      → grid_of w new x y ≡ if nat_le a y && nat_lt y e then (if nat_lt (y + n) e then grid_of w old x (y + n) else empty_look) else grid_of w old x y
+      → grid_of w new x y ≡ moved_by (scrolling_up a e n) empty_look (grid_of w old) x y
   grid_moved_up moves y =
       let next : y * w + x + n * w ≡ (y + n) * w + x = grind arith in
       grid_moved _ _ _ old new moves w x y (y + n) _ _ x_in (region y) (ap (λ k. nat_lt k (e * w)) next ∙ place_before w x x_in (y + n) e) (λ _. next)
 
   pub grid_moved_down : MovesDown (a * w) (e * w) (n * w) old new → (y : ℕ)
-      → grid_of w new x y ≡ if nat_le a y && nat_lt y e then (if nat_le (a + n) y then grid_of w old x (y - n) else empty_look) else grid_of w old x y
+      → grid_of w new x y ≡ moved_by (scrolling_down a e n) empty_look (grid_of w old) x y
   grid_moved_down moves y =
       grid_moved _ _ _ old new moves w x y (y - n) _ _ x_in (region y) (ap (λ k. nat_le k (y * w + x)) (rows_join w a n) ∙ place_from w x x_in y (a + n))
       (λ kept.

@@ -1,5 +1,5 @@
 -- What a screen is, and what each call of a backend does to it.
-use Rattle.std.specs.Prelude.{◌≡◌, ℕ, ◌+◌, ◌-◌, ◌^◌, ◌<◌, ◌≤◌, min, Bool, ◌++◌, ◌&&◌, ◌==◌, nat_le, map, nat_lt, if◌then◌else◌, true, List, [], length}
+use Rattle.std.specs.Prelude.{◌≡◌, ℕ, ◌+◌, ◌-◌, ◌^◌, ◌<◌, ◌≤◌, min, Bool, ◌++◌, ◌&&◌, ◌==◌, nat_le, map, nat_lt, if◌then◌else◌, true, false, List, [], length}
 use Rattle.std.specs.List.{range_with_len}
 use Rattle.rtui_geometry.specs.declared.position.Position.{Position}
 use Rattle.rtui_geometry.specs.declared.rect.Rect.{Rect}
@@ -79,39 +79,57 @@ pub record Appends (old : Screen) (n : ℕ) (new : Screen) : Type 0 where
 abbrev pub upper_part : ℕ → Screen → Screen
 upper_part b s = record s { height = min b s.height }
 
+-- a motion: in a part of a screen each column has what it had in row `source y`, or nothing where row y has no source; all else stays
+pub record Motion : Type 0 where
+  pub part : ℕ → ℕ → Bool
+  pub has_source : ℕ → Bool
+  pub source : ℕ → ℕ
+
+-- what stands in column x of row y after a motion
+abbrev pub moved_by : {A : Type 0} → Motion → A → (ℕ → ℕ → A) → ℕ → ℕ → A
+moved_by m nothing was x y = if m.part x y then (if m.has_source y then was x (m.source y) else nothing) else was x y
+
 -- a row lies in the region of rows from a up to b
 abbrev pub is_in_region : ℕ → ℕ → ℕ → Bool
 is_in_region a b y = nat_le a y && nat_lt y b
 
--- the rows of the region from a up to b, cut at the screen's end, moved up by n, and blank rows came in below; where the region begins with
--- the first row, n rows went to the history, in order, blank ones after those that the region has. All other rows stay, the cursor may be
--- anywhere, and where the region has no rows nothing changed
-pub record ScrollsUp (a b n : ℕ) (old new : Screen) : Type 0 where
-  pub history : new.history ≡ if a == 0 && nat_lt 0 (min b old.height) then rows_above (upper_part b old) n else old.history
+-- the rows of a region go up by n, and blank rows come in below
+abbrev pub scrolling_up : ℕ → ℕ → ℕ → Motion
+scrolling_up a b n = record { part = λ x y. is_in_region a b y; has_source = λ y. nat_lt (y + n) b; source = λ y. y + n }
+
+-- they go down by n, and blank rows come in above
+abbrev pub scrolling_down : ℕ → ℕ → ℕ → Motion
+scrolling_down a b n = record { part = λ x y. is_in_region a b y; has_source = λ y. nat_le (a + n) y; source = λ y. y - n }
+
+-- a part becomes blank
+abbrev pub clearing : (ℕ → ℕ → Bool) → Motion
+clearing part = record { part = part; has_source = λ y. false; source = λ y. y }
+
+-- the rows of the region from a up to b, cut at the screen's end, moved so by n, and this is the history now. All other rows stay, the cursor
+-- may be anywhere, and where the region has no rows nothing changed
+pub record ScrollsRegion (motion : ℕ → ℕ → ℕ → Motion) (a b n : ℕ) (above : List (List Look)) (old new : Screen) : Type 0 where
+  pub history : new.history ≡ above
   pub width : new.width ≡ old.width
   pub height : new.height ≡ old.height
-  pub grid : (x y : ℕ) → x < old.width → y < old.height
-      → new.grid x y ≡ if is_in_region a b y then seen (upper_part b old) x (y + n) else old.grid x y
+  pub grid : (x y : ℕ) → x < old.width → y < old.height → new.grid x y ≡ moved_by (motion a (min b old.height) n) empty_look old.grid x y
   pub visible : new.visible ≡ old.visible
   pub written : new.written ≡ old.written
   pub no_rows : min b old.height ≤ a → new ≡ old
 
--- the rows of such a region moved down by n, blank rows came in above, and those that left are lost; all other rows and the history stay
-pub record ScrollsDown (a b n : ℕ) (old new : Screen) : Type 0 where
-  pub history : new.history ≡ old.history
-  pub width : new.width ≡ old.width
-  pub height : new.height ≡ old.height
-  pub grid : (x y : ℕ) → x < old.width → y < old.height
-      → new.grid x y ≡ if is_in_region a b y then (if nat_le (a + n) y then old.grid x (y - n) else empty_look) else old.grid x y
-  pub visible : new.visible ≡ old.visible
-  pub written : new.written ≡ old.written
-  pub no_rows : min b old.height ≤ a → new ≡ old
+-- they moved up; where the region begins with the first row, n rows went to the history, in order, blank ones after those that the region has
+abbrev pub ScrollsUp : ℕ → ℕ → ℕ → Screen → Screen → Type 0
+ScrollsUp a b n old new =
+    ScrollsRegion scrolling_up a b n (if a == 0 && nat_lt 0 (min b old.height) then rows_above (upper_part b old) n else old.history) old new
+
+-- they moved down, and those that left are lost
+abbrev pub ScrollsDown : ℕ → ℕ → ℕ → Screen → Screen → Type 0
+ScrollsDown a b n old new = ScrollsRegion scrolling_down a b n old.history old new
 
 -- a part of the screen was emptied, by where the cursor is, and all else stays
 pub record Clears (old : Screen) (kind : ClearType) (new : Screen) : Type 0 where
   pub rest : new ≡ record old { grid = new.grid }
   pub grid : (a b : ℕ) → a < old.width → b < old.height
-      → new.grid a b ≡ if is_cleared kind old.cursor_x old.cursor_y a b then empty_look else old.grid a b
+      → new.grid a b ≡ moved_by (clearing (is_cleared kind old.cursor_x old.cursor_y)) empty_look old.grid a b
 
 -- the screen took another size: rows and columns were cut, or empty ones came in at the right and below; the cursor is kept on the grid
 pub record TakesSize (old : Screen) (given : Size) (new : Screen) : Type 0 where

@@ -1,5 +1,4 @@
-use Rattle.std.proofs.Common.{◌≡◌, ◌*◌, min, nat_lt, refl, ◌∙◌, arith}
-use Rattle.std.proofs.lemmas.Bool.Decides.{nat_tests}
+use Rattle.std.proofs.Common.{◌≡◌, ◌*◌, min, refl, arith}
 use Rattle.std.proofs.lemmas.Grind.{common_steps}
 use Rattle.rtui_buffer.specs.BufferData.{refilled}
 use Rattle.rtui_backend.proofs.ShiftLemmas.{MovesDown, unmarked_moved, grid_moved_down}
@@ -21,7 +20,7 @@ returns-clause-scrolled c =
       history = refl;
       width = refl;
       height = refl;
-      grid = λ x y x_in y_in. let cut : nat_lt y e ≡ nat_lt y c.args.region.end = grind (arith, nat_tests) in rw items (grid_moved_down w x x_in cells new a e c.args.n moved y ∙ rw cut refl);
+      grid = λ x y x_in y_in. rw items (grid_moved_down w x x_in cells new a e c.args.n moved y);
       visible = refl;
       written = refl;
       no_rows = λ none. absurd (omega (arith, end));

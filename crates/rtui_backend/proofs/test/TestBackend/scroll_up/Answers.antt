@@ -35,7 +35,7 @@ returns-clause-ok c =
           ∙ history_left (map (λ r. map look_of r.items) s.scrollback.items) (a == 0) (nat_lt 0 e) some (rows_left w h e cells size (omega arith) c.args.n);
       width = refl;
       height = refl;
-      grid = λ x y x_in y_in. let cut : nat_lt y e ≡ nat_lt y b = grind (arith, nat_tests) in rw items (grid_moved_up w x x_in cells new a e c.args.n moved y ∙ rw cut refl);
+      grid = λ x y x_in y_in. rw items (grid_moved_up w x x_in cells new a e c.args.n moved y);
       visible = refl;
       written = refl;
       no_rows = λ none. absurd (omega (arith, end));
