@@ -1,20 +1,19 @@
 -- Moves of the cursor, its visibility, and the screen emptied.
-use Rattle.std.proofs.Common.{◌≡◌, inl, inr, ℕ, ◌-◌, ◌<◌, ◌||◌, min, nat_lt, if◌then◌else◌, Bool, true, false, List, [], refl, sym, ap, ap₂, ◌∙◌, arith}
+use Rattle.std.proofs.Common.{◌≡◌, inl, inr, ℕ, ◌-◌, ◌<◌, ◌||◌, min, nat_lt, if◌then◌else◌, Bool, true, false, List, [], refl, sym, ap, ap₂, subst, ◌∙◌, arith}
 use Rattle.std.proofs.lemmas.Bool.Decides.{nat_tests}
 use Rattle.std.proofs.Math.Path.{fun_ext}
-use Rattle.ratatui_core.specs.Backend.{Clears, with_cursor, with_visible, All, BeforeCursor, is_cleared}
+use Rattle.ratatui_core.specs.Backend.{Motion, clearing, Clears, with_cursor, with_visible, All, BeforeCursor, is_cleared}
 use Rattle.ansi_model.specs.Columns.{Column, Columns, Area, look_in, is_met, blank_column, overwritten}
 use Rattle.ansi_model.specs.Columns.Column.{Shows, Unknown}
 use Rattle.ansi_model.specs.Sgr.{default_sgr}
-use Rattle.ansi_model.specs.Emulator.{Emulator, rested, printed, blank_terminal, cursor_moved, erased, rows_emptied, without_region, with_sgr}
+use Rattle.ansi_model.specs.Emulator.{Emulator, rested, printed, blank_terminal, cursor_moved, erased, columns_moved, without_region, with_sgr}
 use Rattle.ansi_model.specs.Emulator.Phase.{Ground}
 use Rattle.ansi_model.specs.Emulator as terminal
 use Rattle.ansi_model.specs.Sends.{Performs}
 use Rattle.ansi_model.specs.Beginnings.{IsAsFound, anew, MakesBlank}
-use Rattle.ansi_model.specs.Screens.{screen_shown, HasOwnWidth, HaveOwnWidths, IsWhole, IsWholeAt, IsBlankBeyond, Becomes}
-use Rattle.ansi_model.proofs.ScrollLemmas.{KeepsReady, blank-whole}
-use Rattle.ansi_model.proofs.RegionLemmas.{none_range, ready-columns, keeps-along, moved-placed}
-use Rattle.ansi_model.proofs.TextLemmas.{blank-sized}
+use Rattle.ansi_model.specs.Screens.{screen_shown, IsIdle, IsBlankBeyond, Becomes}
+use Rattle.ansi_model.proofs.MotionLemmas.{moved-tidy, not_met}
+use Rattle.ansi_model.proofs.ScrollLemmas.{KeepsReady, stays-idle, moved-placed}
 
 pub cursor-moved : (w h x y : ℕ) → 0 < w → 0 < h → KeepsReady w h (cursor_moved x y) (λ s. Becomes (λ p q. q ≡ with_cursor x y p) s.columns s)
 cursor-moved w h x y wide high s ready =
@@ -44,25 +43,15 @@ cursor-visible w h visible s ready = (
 
 -- ---- the screen emptied
 
-emptied-whole : (h : ℕ) (c : Columns) → IsWhole c → IsWhole (rows_emptied h c)
-emptied-whole h c whole a b = elim (nat_lt b h) as (λ p. IsWholeAt (λ k. if p then blank_column else c k b) a (if p then blank_column else c a b)) [ true ↦ blank-whole a | false ↦ whole a b ]
-
-emptied-sized : (h : ℕ) (c : Columns) → HaveOwnWidths c → HaveOwnWidths (rows_emptied h c)
-emptied-sized h c sized a b = elim (nat_lt b h) as (λ p. HasOwnWidth (if p then blank_column else c a b)) [ true ↦ blank-sized | false ↦ sized a b ]
-
-emptied-beyond : (w h : ℕ) (c : Columns) → IsBlankBeyond w c → IsBlankBeyond w (rows_emptied h c)
-emptied-beyond w h c beyond a b out = rw (beyond a b out) (elim (nat_lt b h) as (λ p. (if p then blank_column else blank_column) ≡ blank_column) [ true ↦ refl | false ↦ refl ])
-
--- no symbol of a row is met by an area that has nothing of the row
-pub not_met : (area : Area) (a b : ℕ) (c : Column) → ((k : ℕ) → area k b ≡ false) → is_met area a b c ≡ false
-not_met area a b (Shows look index count) e = none_range (λ k. area k b) e (a - index) count
-not_met area a b Unknown e = refl
-
 right-end : (p : Bool) → (if p then blank_column else (if p || false then Unknown else blank_column)) ≡ blank_column
 right-end true = refl
 right-end false = refl
 
-erased-emptied : (w h : ℕ) (c : Columns) → 0 < w → 0 < h → IsBlankBeyond w c → (a b : ℕ) → overwritten (is_cleared BeforeCursor (w - 1) (h - 1)) (λ i j. blank_column) c a b ≡ rows_emptied h c a b
+-- the motion that empties the first h rows
+abbrev pub emptying : ℕ → Motion
+emptying h = clearing (λ a b. nat_lt b h)
+
+erased-emptied : (w h : ℕ) (c : Columns) → 0 < w → 0 < h → IsBlankBeyond w c → (a b : ℕ) → overwritten (is_cleared BeforeCursor (w - 1) (h - 1)) (λ i j. blank_column) c a b ≡ columns_moved (emptying h) c a b
 erased-emptied w h c wide high beyond a b =
     let area = is_cleared BeforeCursor (w - 1) (h - 1) in
     elim (nat_lt b h) as (λ p. nat_lt b h ≡ p → (if area a b then blank_column else (if is_met area a b (c a b) then Unknown else c a b)) ≡ (if p then blank_column else c a b)) [
@@ -78,20 +67,19 @@ erased-emptied w h c wide high beyond a b =
           rw (none a, not_met area a b (c a b) none) refl
     ] refl
 
-pub screen-emptied : (w h x y : ℕ) → 0 < w → 0 < h → KeepsReady w h (λ t. cursor_moved x y (erased BeforeCursor (cursor_moved (w - 1) (h - 1) t))) (λ s. Becomes (λ p q. p.cursor_x ≡ x → p.cursor_y ≡ y → Clears p All q) (rows_emptied h s.columns) s)
-screen-emptied w h x y wide high = keeps-along w h (λ t. cursor_moved x y (erased BeforeCursor (cursor_moved (w - 1) (h - 1) t))) (λ t. cursor_moved x y (erased BeforeCursor (record t { x = w - 1; y = h - 1 })))
-    (λ s. Becomes (λ p q. p.cursor_x ≡ x → p.cursor_y ≡ y → Clears p All q) (rows_emptied h s.columns) s)
-    (λ s ready. let width : s.width ≡ w = ready.rest.width in let height : s.height ≡ h = ready.rest.height in
-    ap (λ t. cursor_moved x y (erased BeforeCursor t)) (moved-placed (w - 1) (h - 1) s (omega arith) (omega arith)))
-    (λ s ready.
+pub screen-emptied : (w h x y : ℕ) → 0 < w → 0 < h → KeepsReady w h (λ t. cursor_moved x y (erased BeforeCursor (cursor_moved (w - 1) (h - 1) t))) (λ s. Becomes (λ p q. p.cursor_x ≡ x → p.cursor_y ≡ y → Clears p All q) (columns_moved (emptying h) s.columns) s)
+screen-emptied w h x y wide high s ready =
     let width : s.width ≡ w = ready.rest.width in
     let height : s.height ≡ h = ready.rest.height in
-    let u : Emulator = cursor_moved x y (erased BeforeCursor (record s { x = w - 1; y = h - 1 })) in
-    let same : (a b : ℕ) → u.columns a b ≡ rows_emptied h s.columns a b = erased-emptied w h s.columns wide high ready.tidy.beyond in
+    let d = overwritten (is_cleared BeforeCursor (w - 1) (h - 1)) (λ a b. blank_column) s.columns in
+    let same : (a b : ℕ) → d a b ≡ columns_moved (emptying h) s.columns a b = erased-emptied w h s.columns wide high ready.tidy.beyond in
     let x_in : nat_lt (w - 1) s.width ≡ true = grind (arith, nat_tests) in
-    let sure : u.sure ≡ true = rw (ready.rest.sure, ready.rest.sgr, x_in) refl in (
-      ready-columns w h s u (rows_emptied h s.columns) ready ready.rest.phase ready.rest.text refl refl ready.rest.sgr ready.rest.top (ready.rest.bottom ∙ sym height) (omega arith) sure same
-          (record { sized = emptied-sized h s.columns ready.tidy.sized; whole = emptied-whole h s.columns ready.tidy.whole; beyond = emptied-beyond w h s.columns ready.tidy.beyond }),
+    let sure : (erased BeforeCursor (record s { x = w - 1; y = h - 1 })).sure ≡ true = rw (ready.rest.sure, ready.rest.sgr, x_in) refl in
+    let z : Emulator = record s { x = min x (s.width - 1); y = min y (s.height - 1); columns = d; sure = true } in
+    let is : z ≡ cursor_moved x y (erased BeforeCursor (cursor_moved (w - 1) (h - 1) s))
+    = ap (λ k. record z { sure = k }) (sym sure) ∙ ap (λ t. cursor_moved x y (erased BeforeCursor t)) (moved-placed (w - 1) (h - 1) s (omega arith) (omega arith)) in
+    subst (λ u. IsIdle w h u × Becomes (λ p q. p.cursor_x ≡ x → p.cursor_y ≡ y → Clears p All q) (columns_moved (emptying h) s.columns) s u) is (
+      stays-idle w h _ _ s (columns_moved (emptying h) s.columns) d s.history ready (omega arith) same (moved-tidy w (emptying h) s.columns (λ k a b. refl) ready.tidy),
       record {
         columns = same;
         screens = λ written at_x at_y.
@@ -99,11 +87,11 @@ screen-emptied w h x y wide high = keeps-along w h (λ t. cursor_moved x y (eras
             let row : s.y < h = ready.row in
             let cursor_y : min y (s.height - 1) ≡ s.y = omega arith in
             record {
-              rest = ap₂ (λ i j. record (screen_shown written s) { grid = λ a b. look_in (u.columns a b); cursor_x = i; cursor_y = j }) cursor_x cursor_y;
+              rest = ap₂ (λ i j. record (screen_shown written s) { grid = λ a b. look_in (d a b); cursor_x = i; cursor_y = j }) cursor_x cursor_y;
               grid = λ a b a_in b_in. ap look_in (same a b) ∙ (let inside : nat_lt b h ≡ true = grind (arith, nat_tests) in rw inside refl);
             };
       },
-    ))
+    )
 
 -- ---- a blank beginning
 

@@ -3,9 +3,9 @@ pub mod TextLemmas
 pub mod SgrLemmas
 pub mod SymbolLemmas
 pub mod GlyphLemmas
+pub mod MotionLemmas
 pub mod ScrollLemmas
 pub mod RegionLemmas
-pub mod StillLemmas
 pub mod CallLemmas
 pub mod HistoryLemmas
 pub mod PutLemmas

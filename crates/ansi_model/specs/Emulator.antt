@@ -4,7 +4,7 @@ use Rattle.std.specs.List.{list_all, range_with_len}
 use Rattle.ratatui_core.specs.Buffer.{Look, text_width}
 use Rattle.ansi_model.specs.declared.sgr.Sgr.{Sgr}
 use Rattle.ansi_model.specs.Sgr.{default_sgr, inked, is_own}
-use Rattle.ratatui_core.specs.Backend.{ClearType, All, AfterCursor, is_cleared}
+use Rattle.ratatui_core.specs.Backend.{ClearType, All, AfterCursor, is_cleared, Motion, moved_by, scrolling_up, scrolling_down}
 use Rattle.ansi_model.specs.Symbols.{is_plain_char, is_symbol}
 use Rattle.ansi_model.specs.Columns.{Columns, Area, blank_column, look_in, is_known_column, overwritten}
 use Rattle.ansi_model.specs.Columns.Column.{Shows}
@@ -110,13 +110,9 @@ erased part t = record t {
   sure = t.sure && (is_own t.sgr && nat_lt t.x t.width && keeps_history part t.x t.y);
 }
 
--- the columns of a part are blank, and all others as they were
-abbrev pub columns_cleared : ClearType → ℕ → ℕ → Columns → Columns
-columns_cleared part x y columns a b = if is_cleared part x y a b then blank_column else columns a b
-
--- the first h rows are blank, and those below them as they were
-abbrev pub rows_emptied : ℕ → Columns → Columns
-rows_emptied h columns a b = if nat_lt b h then blank_column else columns a b
+-- columns after a motion; those that nothing came to are blank
+abbrev pub columns_moved : Motion → Columns → Columns
+columns_moved m columns = moved_by m blank_column columns
 
 -- ---- scrolling: terminals differ if the rendition isn't their own
 
@@ -141,21 +137,11 @@ with_region top bottom t = record t {
 abbrev pub without_region : Emulator → Emulator
 without_region t = record t { top = 0; bottom = t.height; x = 0; y = 0 }
 
--- the rows from `from` up to `to` moved up by n, blank ones come in below
-abbrev pub rows_raised : ℕ → ℕ → ℕ → Columns → Columns
-rows_raised from to n columns a b =
-    if nat_le from b && nat_lt b to then (if nat_lt (b + n) to then columns a (b + n) else blank_column) else columns a b
-
--- the same rows moved down, blank ones come in above
-abbrev pub rows_lowered : ℕ → ℕ → ℕ → Columns → Columns
-rows_lowered from to n columns a b =
-    if nat_le from b && nat_lt b to then (if nat_le (from + n) b then columns a (b - n) else blank_column) else columns a b
-
 -- the rows of the region one up; the first row goes to the history. Terminals differ on that if the region begins below the first row
 abbrev pub scrolled : Emulator → Emulator
 scrolled t = record t {
   history = t.history ++ row_shown t 0 ∷ [];
-  columns = rows_raised t.top t.bottom 1 t.columns;
+  columns = columns_moved (scrolling_up t.top t.bottom 1) t.columns;
   sure = t.sure && (is_own t.sgr && nat_eq t.top 0 && is_row_known t 0);
 }
 
@@ -174,7 +160,7 @@ fed (suc n) t = fed n (line_fed t)
 -- on where the cursor ends in another column than the first
 abbrev pub lines_deleted : ℕ → Emulator → Emulator
 lines_deleted n t = record t {
-  columns = rows_raised t.y t.bottom n t.columns;
+  columns = columns_moved (scrolling_up t.y t.bottom n) t.columns;
   sure = t.sure && (is_own t.sgr && nat_lt 0 t.y && nat_le t.top t.y && nat_lt t.y t.bottom && nat_eq t.x 0);
 }
 
@@ -182,7 +168,7 @@ lines_deleted n t = record t {
 -- ends in another column than the first
 abbrev pub lines_inserted : ℕ → Emulator → Emulator
 lines_inserted n t = record t {
-  columns = rows_lowered t.y t.bottom n t.columns;
+  columns = columns_moved (scrolling_down t.y t.bottom n) t.columns;
   sure = t.sure && (is_own t.sgr && nat_le t.top t.y && nat_lt t.y t.bottom && nat_eq t.x 0);
 }
 

@@ -1,9 +1,9 @@
 //! What a backend's calls do to the screen that a terminal shows; and a blank beginning.
 
-ghost use Rattle.std.specs.Prelude.{◌≡◌, ℕ, ◌+◌, ◌-◌, ◌<◌, ◌≤◌, min, OnOk, true, false, string_bytes};
-ghost use Rattle.ratatui_core.specs.Backend.{Appends, ScrollsUp, ScrollsDown, Clears, with_cursor, with_visible, All, CurrentLine};
+ghost use Rattle.std.specs.Prelude.{◌≡◌, ℕ, ◌+◌, ◌-◌, ◌<◌, ◌≤◌, min, nat_lt, OnOk, true, false, string_bytes};
+ghost use Rattle.ratatui_core.specs.Backend.{Appends, scrolling_up, scrolling_down, clearing, ScrollsUp, ScrollsDown, Clears, with_cursor, with_visible, All, CurrentLine};
 ghost use Rattle.ansi_model.specs.Beginnings.{MakesBlank};
-ghost use Rattle.ansi_model.specs.Emulator.{cursor_moved, returned, erased, line_fed, fed, with_region, without_region, lines_deleted, lines_inserted, fed_and_lowered, fed_and_lowered_by, rows_raised, rows_lowered, rows_emptied};
+ghost use Rattle.ansi_model.specs.Emulator.{cursor_moved, returned, erased, line_fed, fed, with_region, without_region, lines_deleted, lines_inserted, fed_and_lowered, fed_and_lowered_by, columns_moved};
 ghost use Rattle.ansi_model.specs.Sends.{Performs};
 ghost use Rattle.ansi_model.specs.Screens.{Turns, Becomes};
 
@@ -60,7 +60,7 @@ pub fn clear_screen(
 ) -> Result<(), AllocError>
     ensures { OnOk result (0 < width → 0 < height → Turns width height (string_bytes out.old)
         (string_bytes out.new) (λ s. Becomes (λ p q. p.cursor_x ≡ x → p.cursor_y ≡ y
-        → Clears p All q) (rows_emptied height s.columns) s)) }
+        → Clears p All q) (columns_moved (clearing (λ a b. nat_lt b height)) s.columns) s)) }
 {
     erase_all(out, width, height)?;
     move_to(out, x, y)
@@ -94,7 +94,7 @@ pub fn append_lines(out: &mut String, n: u16) -> Result<(), AllocError>
     ensures { OnOk result ((w h : ℕ) → 0 < w → 0 < h
         → Turns w h (string_bytes out.old) (string_bytes out.new)
         (λ s. Becomes (λ p q. Appends p n q × (q.cursor_x ≡ 0))
-        (rows_raised 0 h (s.y + n - (h - 1)) s.columns) s)) }
+        (columns_moved (scrolling_up 0 h (s.y + n - (h - 1))) s.columns) s)) }
 {
     line_feeds(out, n)
 }
@@ -190,7 +190,8 @@ fn scroll_first_rows(out: &mut String, height: u16, end: u16, n: u16) -> Result<
     requires fits { end ≤ height }
     ensures { OnOk result ((w b : ℕ) → 0 < w → min b height ≡ end → Turns w height
         (string_bytes out.old) (string_bytes out.new)
-        (λ s. Becomes (ScrollsUp 0 b n) (rows_raised 0 (min b height) n s.columns) s)) }
+        (λ s. Becomes (ScrollsUp 0 b n)
+        (columns_moved (scrolling_up 0 (min b height) n) s.columns) s)) }
 {
     if end == height {
         feed_screen(out, height, n)
@@ -216,7 +217,7 @@ pub fn scroll_region_up(
 ) -> Result<(), AllocError>
     ensures { OnOk result ((w : ℕ) → 0 < w → Turns w height (string_bytes out.old)
         (string_bytes out.new) (λ s. Becomes (ScrollsUp region.start region.end n)
-        (rows_raised region.start (min region.end height) n s.columns) s)) }
+        (columns_moved (scrolling_up region.start (min region.end height) n) s.columns) s)) }
 {
     let end = region.end.min(height);
     if n == 0 || region.start >= end {
@@ -246,7 +247,7 @@ pub fn scroll_region_down(
 ) -> Result<(), AllocError>
     ensures { OnOk result ((w : ℕ) → 0 < w → Turns w height (string_bytes out.old)
         (string_bytes out.new) (λ s. Becomes (ScrollsDown region.start region.end n)
-        (rows_lowered region.start (min region.end height) n s.columns) s)) }
+        (columns_moved (scrolling_down region.start (min region.end height) n) s.columns) s)) }
 {
     let end = region.end.min(height);
     if n == 0 || region.start >= end {

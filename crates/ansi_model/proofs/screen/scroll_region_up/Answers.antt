@@ -3,8 +3,7 @@ use Rattle.std.proofs.lemmas.Result.{on_ok_weaker}
 use Rattle.ansi_model.specs.Emulator.{cursor_moved, erased, with_region, without_region, lines_deleted}
 use Rattle.ratatui_core.specs.Backend.{CurrentLine}
 use Rattle.ansi_model.proofs.ScrollLemmas.{turns-from}
-use Rattle.ansi_model.proofs.RegionLemmas.{Turns-none, row-up, rows-up}
-use Rattle.ansi_model.proofs.StillLemmas.{still-up}
+use Rattle.ansi_model.proofs.RegionLemmas.{Turns-none, row-up, rows-up, still-up}
 use Rattle.ansi_model.proofs.screen.scroll_region_up.Goals as goal
 
 pub returns-then-n-eq0 : goal.returns-then-n-eq0
