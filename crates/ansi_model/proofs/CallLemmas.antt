@@ -3,8 +3,8 @@ use Rattle.std.proofs.Common.{◌≡◌, inl, inr, ℕ, ◌-◌, ◌<◌, ◌||�
 use Rattle.std.proofs.lemmas.Bool.Decides.{nat_tests}
 use Rattle.std.proofs.Math.Path.{fun_ext}
 use Rattle.ratatui_core.specs.Backend.{Motion, clearing, Clears, with_cursor, with_visible, All, BeforeCursor, is_cleared}
-use Rattle.ansi_model.specs.Columns.{Column, Columns, Area, look_in, is_met, blank_column, overwritten}
-use Rattle.ansi_model.specs.Columns.Column.{Shows, Unknown}
+use Rattle.ansi_model.specs.Columns.{Columns, look_in, is_met, blank_column, overwritten}
+use Rattle.ansi_model.specs.Columns.Column.{Unknown}
 use Rattle.ansi_model.specs.Sgr.{default_sgr}
 use Rattle.ansi_model.specs.Emulator.{Emulator, rested, printed, blank_terminal, cursor_moved, erased, columns_moved, without_region, with_sgr}
 use Rattle.ansi_model.specs.Emulator.Phase.{Ground}

@@ -7,5 +7,8 @@ pub mod MotionLemmas
 pub mod ScrollLemmas
 pub mod RegionLemmas
 pub mod CallLemmas
+pub mod FlagLemmas
+pub mod EraseLemmas
+pub mod DrawLemmas
 pub mod HistoryLemmas
 pub mod PutLemmas

@@ -1,5 +1,5 @@
 -- Columns that move, whatever the motion.
-use Rattle.std.proofs.Common.{◌≡◌, ℕ, zero, suc, ◌+◌, ◌-◌, ◌<◌, ◌&&◌, nat_lt, nat_le, nat_eq, if◌then◌else◌, Bool, true, false, refl, sym, ap, ap₂, ◌∙◌, arith, subst}
+use Rattle.std.proofs.Common.{◌≡◌, ℕ, zero, suc, ◌+◌, ◌-◌, ◌<◌, nat_eq, if◌then◌else◌, Bool, true, false, refl, sym, ap, ap₂, ◌∙◌, arith, subst}
 use Rattle.std.proofs.lemmas.Bool.Decides.{nat_tests}
 use Rattle.ratatui_core.specs.Buffer.{empty_look}
 use Rattle.ratatui_core.specs.Backend.{Motion, moved_by, is_in_region, scrolling_up, scrolling_down}

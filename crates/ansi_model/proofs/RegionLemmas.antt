@@ -1,18 +1,18 @@
 -- Regions that scroll, and what a screen shows of it.
-use Rattle.std.proofs.Common.{◌≡◌, ℕ, ◌+◌, ◌-◌, ◌<◌, ◌≤◌, ◌++◌, ◌==◌, ◌&&◌, min, nat_lt, nat_le, nat_eq, if◌then◌else◌, Bool, List, [], ◌∷◌, zero, suc, true, false, refl, sym, ap, ap₂, map, ◌∙◌, arith, append-nil, subst}
+use Rattle.std.proofs.Common.{◌≡◌, ℕ, ◌+◌, ◌-◌, ◌<◌, ◌≤◌, ◌++◌, ◌==◌, ◌&&◌, min, nat_lt, nat_le, nat_eq, if◌then◌else◌, Bool, List, [], zero, suc, true, false, refl, sym, ap, ap₂, map, ◌∙◌, arith, append-nil, subst}
 use Rattle.std.proofs.lemmas.Bool.Decides.{nat_tests}
 use Rattle.std.specs.List.{range_with_len}
 use Rattle.ratatui_core.specs.Buffer.{Look}
 use Rattle.ratatui_core.specs.Backend.{Screen, Motion, ScrollsRegion, ScrollsUp, ScrollsDown, scrolling_up, scrolling_down, is_in_region, rows_above, upper_part, CurrentLine}
 use Rattle.ansi_model.specs.Columns.{Columns, look_in, blank_column, overwritten}
 use Rattle.ansi_model.specs.Sgr.{is_own}
-use Rattle.ansi_model.specs.Emulator.{Emulator, rested, cursor_moved, erased, line_fed, fed, scrolled, if_so, is_row_known, returned, columns_moved, fed_and_lowered, fed_and_lowered_by, with_region, without_region, lines_deleted, lines_inserted}
+use Rattle.ansi_model.specs.Emulator.{Emulator, rested, cursor_moved, erased, line_fed, fed, scrolled, if_so, returned, columns_moved, fed_and_lowered, fed_and_lowered_by, with_region, without_region, lines_deleted, lines_inserted}
 use Rattle.ansi_model.specs.Screens.{screen_shown, IsIdle, Turns, Becomes}
 use Rattle.ansi_model.specs.Sequences.{feed}
 use Rattle.ansi_model.specs.Sends.{Performs}
 use Rattle.ansi_model.proofs.ReadLemmas.{Sends-then, line_fed-rested}
 use Rattle.ansi_model.proofs.MotionLemmas.{IsOfRows, moved-through, moved-tidy, row-emptied, up-still, down-still, up-and-down}
-use Rattle.ansi_model.proofs.ScrollLemmas.{KeepsReady, keeps-along, stays-idle, moved-placed, Feeds, feeds-none, feeds-next, fed-feeds, region_row}
+use Rattle.ansi_model.proofs.ScrollLemmas.{KeepsReady, stays-idle, moved-placed, Feeds, feeds-none, feeds-next, fed-feeds, region_row}
 
 -- one action after another
 pub Does-then : (a b c : List ℕ) (f g : Emulator → Emulator) → Performs a b f → Performs b c g → ((t : Emulator) → rested (f (rested t)) ≡ f (rested t)) → Performs a c (λ t. g (f t))

@@ -41,10 +41,6 @@ turns-from w h old new f related does keeps = record {
 
 -- ---- terminals that stay idle
 
-pub keeps-along : (w h : ℕ) (f g : Emulator → Emulator) (related : Emulator → Emulator → Type 0) → ((s : Emulator) → IsIdle w h s → g s ≡ f s) → KeepsReady w h g related → KeepsReady w h f related
-keeps-along w h f g related same keeps s ready =
-    subst (λ u. IsIdle w h u × related s u) (same s ready) (keeps s ready)
-
 -- where only the cursor, the columns and the history changed, and real terminals agree
 pub stays-idle : (w h x y : ℕ) (s : Emulator) (c d : Columns) (rows : List (List Look)) → IsIdle w h s → y < h → ((a b : ℕ) → d a b ≡ c a b) → IsTidy w c
     → IsIdle w h (record s { x = x; y = y; columns = d; history = rows; sure = true })

@@ -1,4 +1,5 @@
 pub mod Columns
+pub mod Flags
 pub mod Glass
 pub mod Sgr
 pub mod Symbols
@@ -6,5 +7,6 @@ pub mod Emulator
 pub mod Sequences
 pub mod Parameters
 pub mod Sends
+pub mod Drawing
 pub mod Screens
 pub mod Beginnings

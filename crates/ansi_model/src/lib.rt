@@ -1,21 +1,30 @@
 //! A model of a terminal that reads bytes, and the bytes that are sent to one.
 //!
-//! A terminal (`specs/Emulator`) reads bytes one by one (`specs/Sequences`); each function here
-//! appends bytes to a text, and its contract says what they do to every terminal that reads them: a
-//! sequence by its standard name (`Performs`), or what a backend's call does to the screen that the
-//! terminal shows (`Turns`). Columns and rows are counted from 0 here, and from 1 in the bytes. If
-//! real terminals differ the model is no longer sure, and what stands in a column isn't known if a
-//! part of its symbol was written over.
+//! A terminal (`specs/Emulator`) reads bytes one by one (`specs/Sequences`); most functions here
+//! append bytes to a text, and their contracts say what they do to every terminal that reads them:
+//! a sequence by its standard name (`Performs`), what a backend's call does to the screen that the
+//! terminal shows (`Turns`), or a symbol in its place (`Prints`). Between two symbols a `Pen` says
+//! what is known of the terminal; between two calls flags say which of its columns are continuation
+//! columns. Columns and rows are counted from 0 here, and from 1 in the bytes. If real terminals
+//! differ the model is no longer sure, and what stands in a column isn't known if a part of its
+//! symbol was written over.
 #![tactic(auto)]
 
+mod flags;
 mod glyph;
 pub mod laws;
+mod pen;
 mod screen;
 mod sequences;
 mod sgr;
 mod symbol;
 
+pub use flags::{
+    blank_flags, clear_flags, clear_part_flags, is_continuation, lower_flags, mark_symbol,
+    raise_flags, symbol_end, tail_end,
+};
 pub use glyph::{Glyph, glyph_of, is_printed};
+pub use pen::{Pen, change_sgr, put_plain, put_symbol, set_sgr};
 pub use screen::{
     append_lines, clear_screen, make_blank, scroll_region_down, scroll_region_up,
     set_cursor_position, set_visible,

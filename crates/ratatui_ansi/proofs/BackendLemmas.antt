@@ -14,7 +14,7 @@ use Rattle.ansi_model.proofs.CallLemmas.{fresh-left}
 use Rattle.ansi_model.proofs.HistoryLemmas.{feed-above}
 use Rattle.ratatui_ansi.specs.Tracker.{IsAwaiting, IsTracked, FitsScreen, Collects, BeginsBlank}
 use Rattle.ratatui_ansi.specs.Backend.{reader, IsReadAlike, IsInOrder}
-use Rattle.ratatui_ansi.specs.Flags.{AreContinuations}
+use Rattle.ansi_model.specs.Flags.{AreContinuations}
 
 read-on : (size : Size) (sent more new : List ℕ) → new ≡ sent ++ more → reader size new ≡ feed more (reader size sent)
 read-on size sent more new e = ap (reader size) e ∙ feed-append sent more (blank_terminal size.width size.height)

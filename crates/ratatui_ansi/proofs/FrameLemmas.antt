@@ -11,20 +11,20 @@ use Rattle.ratatui_core.specs.Backend.{Draws}
 use Rattle.ratatui_core.proofs.BackendLemmas.{Draws-none, Draws-push}
 use Rattle.ratatui_core.specs.DiffOption as DiffOption
 use Rattle.ansi_model.specs.declared.sgr.Sgr.{Sgr}
-use Rattle.ratatui_ansi.specs.declared.pen.Pen.{Pen}
+use Rattle.ansi_model.specs.declared.pen.Pen.{Pen}
 use Rattle.ratatui_ansi.specs.declared.draw.DrawState.{DrawState}
 use Rattle.ansi_model.specs.declared.glyph.Glyph.{Glyph}
 use Rattle.ansi_model.specs.declared.glyph.Glyph.TheVariants.{Plain}
 use Rattle.ansi_model.specs.Columns.{Columns, look_in, is_continuation}
-use Rattle.ratatui_ansi.specs.Flags.{AreContinuations, flag}
+use Rattle.ansi_model.specs.Flags.{AreContinuations, flag}
 use Rattle.ansi_model.specs.Parameters.{is_sendable_by}
 use Rattle.ansi_model.specs.Sgr.{default_sgr, inked, sgr_of}
 use Rattle.ansi_model.specs.Emulator.{Emulator, rested, with_sgr}
 use Rattle.ansi_model.specs.Symbols.{is_plain_char, is_one_plain, is_printed, printed_columns, glyph_columns}
 use Rattle.ansi_model.specs.Sequences.{feed}
 use Rattle.ansi_model.specs.Screens.{screen_shown, IsIdle}
-use Rattle.ratatui_ansi.specs.Drawing.{printed_at, blanked, WritesAt, IsDrawnBy, ChangesSgr, Paints, Prints}
-use Rattle.ratatui_ansi.specs.Drawing.ChangesSgr.{Stays, Sets}
+use Rattle.ansi_model.specs.Drawing.{printed_at, blanked, WritesAt, IsDrawnBy, ChangesSgr, Paints, Prints}
+use Rattle.ansi_model.specs.Drawing.ChangesSgr.{Stays, Sets}
 use Rattle.ratatui_ansi.specs.Tracker.{IsAwaiting}
 use Rattle.ratatui_ansi.specs.Frame.{is_fit, is_sendable_on, IsGlyph, IsVacant, IsDrawing, AreMarked, Covers, SendsUpdates, SendsDraw}
 use Rattle.ansi_model.proofs.ReadLemmas.{feed-append}

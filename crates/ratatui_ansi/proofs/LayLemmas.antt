@@ -8,19 +8,19 @@ use Rattle.std.proofs.lemmas.Str.{chars-nil, IsUtf8-nil}
 use Rattle.ratatui_core.specs.Layout.{Position}
 use Rattle.ratatui_core.specs.Buffer.{blank, Look, empty_look}
 use Rattle.ansi_model.specs.declared.sgr.Sgr.{Sgr}
-use Rattle.ratatui_ansi.specs.declared.pen.Pen.{Pen}
+use Rattle.ansi_model.specs.declared.pen.Pen.{Pen}
 use Rattle.ansi_model.specs.Columns.{Columns, is_continuation}
-use Rattle.ratatui_ansi.specs.Flags.{AreContinuations}
+use Rattle.ansi_model.specs.Flags.{AreContinuations}
 use Rattle.ansi_model.specs.Sgr.{default_sgr, inked}
 use Rattle.ansi_model.specs.Emulator.{Emulator, rested, run, with_sgr}
 use Rattle.ansi_model.specs.Symbols.{is_plain_char, printed_columns}
 use Rattle.ansi_model.specs.Sequences.{feed}
-use Rattle.ansi_model.specs.Screens.{HasOwnWidth, IsWhole, IsBlankBeyond, IsIdle, put_columns}
-use Rattle.ratatui_ansi.specs.Drawing.{printed_at, blanked, WritesAt, IsDrawnBy, ChangesSgr, Paints, Prints}
-use Rattle.ratatui_ansi.specs.Drawing.ChangesSgr.{Stays, Sets}
+use Rattle.ansi_model.specs.Screens.{IsWhole, IsBlankBeyond, IsIdle, put_columns}
+use Rattle.ansi_model.specs.Drawing.{printed_at, blanked, WritesAt, IsDrawnBy, ChangesSgr, Paints, Prints}
+use Rattle.ansi_model.specs.Drawing.ChangesSgr.{Stays, Sets}
 use Rattle.ratatui_ansi.specs.Frame.{AreMarked}
 use Rattle.ansi_model.proofs.ReadLemmas.{feed-append}
-use Rattle.ansi_model.proofs.ScrollLemmas.{whole_along}
+use Rattle.ansi_model.proofs.MotionLemmas.{tidy-along}
 use Rattle.ansi_model.proofs.TextLemmas.{blank-one}
 use Rattle.rtui_grid.proofs.PlaceLemmas.{row_ends}
 use Rattle.ratatui_ansi.proofs.TailLemmas.{torn, put-torn, torn-more, torn-all, laid-sized, laid-whole, laid-beyond, laid-continuations, IsTail, laid}
@@ -212,12 +212,11 @@ laid-ready w h x y n end look s u ready takes fits row left tail is = record {
     sure = is.certain;
   };
   row = let at : u.y ≡ y = is.y_at in omega arith;
-  tidy = record {
-    sized = λ a b. subst HasOwnWidth (sym (is.columns a b)) (laid-sized x y n end look s.columns takes ready.tidy.sized a b);
-    whole = λ a b.
-        whole_along (λ k. laid x y n end look s.columns k b) (λ k. u.columns k b) a (λ k. sym (is.columns k b)) (laid-whole x y n end look s.columns ready.tidy.whole left tail a b);
-    beyond = λ a b far. is.columns a b ∙ laid-beyond w x y n end look s.columns fits ready.tidy.beyond a b far;
-  };
+  tidy = tidy-along w (laid x y n end look s.columns) u.columns is.columns (record {
+    sized = laid-sized x y n end look s.columns takes ready.tidy.sized;
+    whole = laid-whole x y n end look s.columns ready.tidy.whole left tail;
+    beyond = laid-beyond w x y n end look s.columns fits ready.tidy.beyond;
+  });
 }
 
 -- ---- the flags

@@ -1,10 +1,7 @@
-pub mod DrawLemmas
 pub mod TailLemmas
 pub mod CoverLemmas
 pub mod LayLemmas
 pub mod FrameLemmas
-pub mod FlagLemmas
-pub mod EraseLemmas
 pub mod TrackLemmas
 pub mod BackendLemmas
 pub mod RefusalLemmas

@@ -16,7 +16,7 @@ use Rattle.ratatui_ansi.specs.declared.draw.Refusal.TheVariants as Refused
 use Rattle.ratatui_ansi.specs.Backend.{BackendState}
 use Rattle.ratatui_ansi.specs.Tracker.{IsAwaiting, IsTracked, IsUncollected}
 use Rattle.ratatui_ansi.specs.Errors.{error_of}
-use Rattle.ratatui_ansi.specs.Flags.{flag, is_clear_cut}
+use Rattle.ansi_model.specs.Flags.{flag, is_clear_cut}
 use Rattle.ratatui_ansi.specs.Frame.{RefusesUpdate, IsDrawing}
 use Rattle.ansi_model.specs.Sgr.{default_sgr}
 use Rattle.ratatui_ansi.specs.Refusals.{IsOfClearing, IsOfCall, FailsToResize, names_cell, has_place, IsRefusedOn, StopsWithin, StopsDraw}

@@ -2,22 +2,22 @@
 use Rattle.std.proofs.Common.{◌≡◌, ℕ, ◌+◌, ◌-◌, ◌*◌, ◌<◌, ◌≤◌, ◌++◌, ◌&&◌, ◌||◌, min, nat_lt, nat_le, nat_eq, if◌then◌else◌, Bool, List, length, true, false, string_bytes, refl, sym, ap, ap₂, ◌∙◌, arith, append_assoc, subst}
 use Rattle.std.proofs.lemmas.Bool.Decides.{nat_tests}
 use Rattle.ratatui_core.specs.Layout.{Position, Size}
-use Rattle.ratatui_core.specs.Buffer.{empty_look, Update}
-use Rattle.ratatui_core.specs.Backend.{Screen, Draws, ScrollsUp, ScrollsDown, Appends, Clears, with_cursor, with_visible, cursor_of, ClearType, All, AfterCursor, BeforeCursor, is_cleared}
-use Rattle.ansi_model.specs.Columns.{Column, Columns, look_in, blank_column}
-use Rattle.ansi_model.specs.Emulator.{Emulator, rested, rows_raised, rows_lowered, columns_cleared, cursor_moved, erased, keeps_history}
+use Rattle.ratatui_core.specs.Buffer.{Look, empty_look, Update}
+use Rattle.ratatui_core.specs.Backend.{Screen, Motion, scrolling_up, Draws, ScrollsRegion, Appends, Clears, with_cursor, with_visible, cursor_of, ClearType, All, AfterCursor, BeforeCursor, is_cleared}
+use Rattle.ansi_model.specs.Columns.{Columns, look_in, blank_column, overwritten}
+use Rattle.ansi_model.specs.Emulator.{Emulator, rested, columns_moved, cursor_moved, erased, keeps_history}
 use Rattle.ansi_model.specs.Sequences.{feed}
 use Rattle.ansi_model.specs.Screens.{screen_shown, IsIdle, Turns, Becomes}
-use Rattle.ratatui_ansi.specs.Flags.{flag, AreContinuations, is_cut}
+use Rattle.ansi_model.specs.Flags.{flag, AreContinuations, is_cut}
 use Rattle.ratatui_ansi.specs.declared.tracker.Tracker.{Tracker}
 use Rattle.ratatui_ansi.specs.Frame.{SendsDraw}
 use Rattle.ratatui_ansi.specs.Tracker.{IsAwaiting, IsTracked, IsTracker, Collects, Erases}
 use Rattle.ansi_model.proofs.ReadLemmas.{feed-append}
 use Rattle.ratatui_ansi.proofs.TailLemmas.{continuation-empty}
-use Rattle.ratatui_ansi.proofs.FlagLemmas.{AreContinuations-along}
-use Rattle.ratatui_ansi.proofs.EraseLemmas.{part-erased, part-whole, part-sized, part-beyond}
-use Rattle.ansi_model.proofs.ScrollLemmas.{rested-ready}
-use Rattle.ansi_model.proofs.RegionLemmas.{ready-columns, moved-placed}
+use Rattle.ansi_model.proofs.FlagLemmas.{AreContinuations-along}
+use Rattle.ansi_model.proofs.EraseLemmas.{erasing, part-erased, part-tidy}
+use Rattle.ansi_model.proofs.MotionLemmas.{moved-through}
+use Rattle.ansi_model.proofs.ScrollLemmas.{rested-ready, stays-idle, moved-placed}
 use Rattle.ansi_model.specs.Sends.{Performs}
 
 -- bytes were appended, after which a terminal that awaited a call awaits the next one, with the cursor and the flags after it, and its
@@ -90,8 +90,8 @@ cursor-kept w h x y flags s t ready continuations became =
 -- ---- rows that move
 
 pub append-kept : (w h n : ℕ) (place : Position) (flags flags_after : List Bool) (s t : Emulator) → IsIdle w h s → cursor_of (screen_shown 0 s) ≡ place → place.y < h
-    → ((c : Columns) → AreContinuations w h flags c → AreContinuations w h flags_after (rows_raised 0 (min h h) (n - (h - 1 - place.y)) c)) → AreContinuations w h flags s.columns
-    → Becomes (λ p q. Appends p n q × (q.cursor_x ≡ 0)) (rows_raised 0 h (s.y + n - (h - 1)) s.columns) s t
+    → ((c : Columns) → AreContinuations w h flags c → AreContinuations w h flags_after (columns_moved (scrolling_up 0 (min h h) (n - (h - 1 - place.y))) c)) → AreContinuations w h flags s.columns
+    → Becomes (λ p q. Appends p n q × (q.cursor_x ≡ 0)) (columns_moved (scrolling_up 0 h (s.y + n - (h - 1))) s.columns) s t
     → IsKept w h (record { x = 0; y = min (place.y + n) (h - 1) }) flags_after (λ p q. Appends p n q) s t
 append-kept w h n place flags flags_after s t ready at row cursor_moved continuations became =
     let high : s.height ≡ h = ready.rest.height in
@@ -102,7 +102,7 @@ append-kept w h n place flags flags_after s t ready at row cursor_moved continua
     let past : n - (h - 1 - place.y) ≡ s.y + n - (h - 1) = omega arith in
     record {
       cursor = ap₂ (λ i j. record { x = i; y = j }) both.1 rows;
-      continuations = AreContinuations-along w h flags_after (rows_raised 0 h (s.y + n - (h - 1)) s.columns) t.columns became.columns (rw (end, past) at (cursor_moved s.columns continuations));
+      continuations = AreContinuations-along w h flags_after (columns_moved (scrolling_up 0 h (s.y + n - (h - 1))) s.columns) t.columns became.columns (rw (end, past) at (cursor_moved s.columns continuations));
       screens = λ written. (became.screens written).0;
     }
 
@@ -114,19 +114,8 @@ module _ (x y : ℕ) (p q : Screen) (width : q.width ≡ p.width) (height : q.he
       let ey : min y (p.height - 1) ≡ p.cursor_y = omega arith in
       ap (with_cursor x y) e ∙ ap₂ (λ i j. record p { cursor_x = i; cursor_y = j }) ex ey
 
-  up-back : (a b n : ℕ) → ScrollsUp a b n p q → ScrollsUp a b n p (with_cursor x y q)
-  up-back a b n scrolled = record {
-    history = scrolled.history;
-    width = scrolled.width;
-    height = scrolled.height;
-    grid = scrolled.grid;
-    visible = scrolled.visible;
-    written = scrolled.written;
-    no_rows = λ none. back (scrolled.no_rows none);
-  }
-
-  down-back : (a b n : ℕ) → ScrollsDown a b n p q → ScrollsDown a b n p (with_cursor x y q)
-  down-back a b n scrolled = record {
+  scroll-back : (motion : ℕ → ℕ → ℕ → Motion) (a b n : ℕ) (above : List (List Look)) → ScrollsRegion motion a b n above p q → ScrollsRegion motion a b n above p (with_cursor x y q)
+  scroll-back motion a b n above scrolled = record {
     history = scrolled.history;
     width = scrolled.width;
     height = scrolled.height;
@@ -137,39 +126,27 @@ module _ (x y : ℕ) (p q : Screen) (width : q.width ≡ p.width) (height : q.he
   }
 
 module _ (w h : ℕ) (place : Position) (flags flags_after : List Bool) (x_in : place.x < w) (y_in : place.y < h) (s u : Emulator) (ready : IsIdle w h s) (at : cursor_of (screen_shown 0 s) ≡ place) where
-  -- rows that moved, and then the cursor back
-  moved-kept : (related : Screen → Screen → Type 0) (c : Columns) (t : Emulator) → t.width ≡ s.width → t.height ≡ s.height
-      → ((written : ℕ) → min s.x (s.width - 1) ≡ place.x → s.y ≡ place.y → place.x < s.width → place.y < s.height → related (screen_shown written s) (with_cursor place.x place.y (screen_shown written t)))
-      → AreContinuations w h flags_after c → ((i j : ℕ) → t.columns i j ≡ c i j) → Becomes (λ p q. q ≡ with_cursor place.x place.y p) t.columns t u → IsKept w h place flags_after related s u
-  moved-kept related c t wide high moved continuations same became =
+  -- a region scrolled, and then the cursor back
+  pub scroll-kept : (motion : ℕ → ℕ → ℕ → Motion) (above : Screen → List (List Look)) (a b n : ℕ)
+      → ((c : Columns) → AreContinuations w h flags c → AreContinuations w h flags_after (columns_moved (motion a (min b h) n) c)) → AreContinuations w h flags s.columns
+      → (t : Emulator) × Becomes (λ p q. ScrollsRegion motion a b n (above p) p q) (columns_moved (motion a (min b h) n) s.columns) s t × Becomes (λ p q. q ≡ with_cursor place.x place.y p) t.columns t u
+      → IsKept w h place flags_after (λ p q. ScrollsRegion motion a b n (above p) p q) s u
+  scroll-kept motion above a b n moved continuations both =
+      let t = both.0 in
+      let became = both.2 in
+      let wide : t.width ≡ s.width = (both.1.screens 0).width in
+      let high : t.height ≡ s.height = (both.1.screens 0).height in
       let s_wide : s.width ≡ w = ready.rest.width in
       let s_high : s.height ≡ h = ready.rest.height in
       let ex : min place.x (t.width - 1) ≡ place.x = omega arith in
       let ey : min place.y (t.height - 1) ≡ place.y = omega arith in
       record {
         cursor = ap cursor_of (became.screens 0) ∙ ap₂ (λ i j. record { x = i; y = j }) ex ey;
-        continuations = AreContinuations-along w h flags_after c u.columns (λ i j. became.columns i j ∙ same i j) continuations;
-        screens = λ written. subst (related (screen_shown written s)) (sym (became.screens written))
-            (moved written (ap (λ (p : Position). p.x) at) (ap (λ (p : Position). p.y) at) (omega arith) (omega arith));
+        continuations = AreContinuations-along w h flags_after (columns_moved (motion a (min b h) n) s.columns) u.columns (λ i j. became.columns i j ∙ both.1.columns i j) (moved s.columns continuations);
+        screens = λ written. subst (λ q. ScrollsRegion motion a b n (above (screen_shown written s)) (screen_shown written s) q) (sym (became.screens written))
+            (scroll-back place.x place.y (screen_shown written s) (screen_shown written t) wide high (ap (λ (p : Position). p.x) at) (ap (λ (p : Position). p.y) at) (omega arith) (omega arith)
+            motion a b n (above (screen_shown written s)) (both.1.screens written));
       }
-
-  pub up-kept : (a b n : ℕ) → ((c : Columns) → AreContinuations w h flags c → AreContinuations w h flags_after (rows_raised a (min b h) n c)) → AreContinuations w h flags s.columns
-      → (t : Emulator) × Becomes (ScrollsUp a b n) (rows_raised a (min b h) n s.columns) s t × Becomes (λ p q. q ≡ with_cursor place.x place.y p) t.columns t u
-      → IsKept w h place flags_after (ScrollsUp a b n) s u
-  up-kept a b n moved continuations both =
-      let wide = (both.1.screens 0).width in
-      let high = (both.1.screens 0).height in
-      moved-kept (ScrollsUp a b n) (rows_raised a (min b h) n s.columns) both.0 wide high
-      (λ written ex ey x_here y_here. up-back place.x place.y (screen_shown written s) (screen_shown written both.0) wide high ex ey x_here y_here a b n (both.1.screens written)) (moved s.columns continuations) both.1.columns both.2
-
-  pub down-kept : (a b n : ℕ) → ((c : Columns) → AreContinuations w h flags c → AreContinuations w h flags_after (rows_lowered a (min b h) n c)) → AreContinuations w h flags s.columns
-      → (t : Emulator) × Becomes (ScrollsDown a b n) (rows_lowered a (min b h) n s.columns) s t × Becomes (λ p q. q ≡ with_cursor place.x place.y p) t.columns t u
-      → IsKept w h place flags_after (ScrollsDown a b n) s u
-  down-kept a b n moved continuations both =
-      let wide = (both.1.screens 0).width in
-      let high = (both.1.screens 0).height in
-      moved-kept (ScrollsDown a b n) (rows_lowered a (min b h) n s.columns) both.0 wide high
-      (λ written ex ey x_here y_here. down-back place.x place.y (screen_shown written s) (screen_shown written both.0) wide high ex ey x_here y_here a b n (both.1.screens written)) (moved s.columns continuations) both.1.columns both.2
 
 -- ---- the screen emptied, and parts of it
 
@@ -209,35 +186,33 @@ call-does w h a b place place_after flags flags_after f related does kept = reco
       subst (λ v. related (screen_shown written (rested t)) (screen_shown written v)) (sym e) (both.1.screens written);
 }
 
-emptied-look : (p : Bool) (c : Column) → look_in (if p then blank_column else c) ≡ (if p then empty_look else look_in c)
-emptied-look true c = refl
-emptied-look false c = refl
-
 pub part-kept : (w h x y : ℕ) (part : ClearType) (place : Position) (flags flags_after : List Bool) → x < w → y < h → place.x < w → place.y < h → is_cut part w x y flags ≡ false → keeps_history part x y ≡ true
-    → ((c : Columns) → AreContinuations w h flags c → AreContinuations w h flags_after (columns_cleared part x y c))
+    → ((c : Columns) → AreContinuations w h flags c → AreContinuations w h flags_after (columns_moved (erasing part x y) c))
     → (s : Emulator) → IsIdle w h s → cursor_of (screen_shown 0 s) ≡ place → AreContinuations w h flags s.columns
     → IsIdle w h (cursor_moved place.x place.y (erased part (cursor_moved x y s))) × IsKept w h place flags_after (Erases part x y) s (cursor_moved place.x place.y (erased part (cursor_moved x y s)))
 part-kept w h x y part place flags flags_after x_in y_in at_x at_y uncut history cleared s ready at continuations =
     let width : s.width ≡ w = ready.rest.width in
     let height : s.height ≡ h = ready.rest.height in
-    let u : Emulator = cursor_moved place.x place.y (erased part (record s { x = x; y = y })) in
-    let there : u ≡ cursor_moved place.x place.y (erased part (cursor_moved x y s)) = ap (λ t. cursor_moved place.x place.y (erased part t)) (moved-placed x y s (omega arith) (omega arith)) in
-    let same : (a b : ℕ) → u.columns a b ≡ columns_cleared part x y s.columns a b = part-erased part w h x y flags s.columns x_in y_in ready.tidy.beyond continuations uncut ready.tidy.whole in
+    let d = overwritten (is_cleared part x y) (λ a b. blank_column) s.columns in
+    let c = columns_moved (erasing part x y) s.columns in
+    let same : (a b : ℕ) → d a b ≡ c a b = part-erased part w h x y flags s.columns x_in y_in ready.tidy.beyond continuations uncut ready.tidy.whole in
     let x_test : nat_lt x s.width ≡ true = grind (arith, nat_tests) in
-    let sure : u.sure ≡ true = rw (ready.rest.sure, ready.rest.sgr, x_test, history) refl in
+    let sure : (erased part (record s { x = x; y = y })).sure ≡ true = rw (ready.rest.sure, ready.rest.sgr, x_test, history) refl in
     let x_at : min s.x (s.width - 1) ≡ place.x = ap (λ (p : Position). p.x) at in
     let y_at : s.y ≡ place.y = ap (λ (p : Position). p.y) at in
     let cursor_x : min (min place.x (s.width - 1)) (s.width - 1) ≡ min s.x (s.width - 1) = omega arith in
     let cursor_y : min place.y (s.height - 1) ≡ s.y = omega arith in
+    let z : Emulator = record s { x = min place.x (s.width - 1); y = min place.y (s.height - 1); columns = d; sure = true } in
+    let there : z ≡ cursor_moved place.x place.y (erased part (cursor_moved x y s))
+    = ap (λ k. record z { sure = k }) (sym sure) ∙ ap (λ t. cursor_moved place.x place.y (erased part t)) (moved-placed x y s (omega arith) (omega arith)) in
     subst (λ v. IsIdle w h v × IsKept w h place flags_after (Erases part x y) s v) there (
-      ready-columns w h s u (columns_cleared part x y s.columns) ready ready.rest.phase ready.rest.text refl refl ready.rest.sgr ready.rest.top (ready.rest.bottom ∙ sym height) (omega arith) sure same
-          (record { sized = part-sized part x y s.columns ready.tidy.sized; whole = part-whole part w h x y flags s.columns x_in y_in ready.tidy.beyond continuations uncut ready.tidy.whole; beyond = part-beyond part w x y s.columns ready.tidy.beyond }),
+      stays-idle w h _ _ s c d s.history ready (omega arith) same (part-tidy part w h x y flags s.columns x_in y_in ready.tidy.beyond continuations uncut ready.tidy),
       record {
         cursor = ap₂ (λ i j. record { x = i; y = j }) cursor_x cursor_y ∙ at;
-        continuations = AreContinuations-along w h flags_after (columns_cleared part x y s.columns) u.columns same (cleared s.columns continuations);
+        continuations = AreContinuations-along w h flags_after c d same (cleared s.columns continuations);
         screens = λ written. record {
-          rest = ap₂ (λ i j. record (screen_shown written s) { grid = λ a b. look_in (u.columns a b); cursor_x = i; cursor_y = j }) cursor_x cursor_y;
-          grid = λ a b a_in b_in. ap look_in (same a b) ∙ emptied-look (is_cleared part x y a b) (s.columns a b);
+          rest = ap₂ (λ i j. record (screen_shown written s) { grid = λ a b. look_in (d a b); cursor_x = i; cursor_y = j }) cursor_x cursor_y;
+          grid = λ a b a_in b_in. ap look_in (same a b) ∙ moved-through (erasing part x y) blank_column s.columns a b look_in;
         };
       },
     )

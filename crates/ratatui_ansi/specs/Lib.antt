@@ -1,5 +1,3 @@
-pub mod Flags
-pub mod Drawing
 pub mod Covered
 pub mod Frame
 pub mod Tracker

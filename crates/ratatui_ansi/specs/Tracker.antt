@@ -14,7 +14,7 @@ use Rattle.ratatui_ansi.specs.declared.draw.Refusal.TheVariants as Refused
 use Rattle.ratatui_ansi.specs.declared.tracker.Tracker.{Tracker}
 use Rattle.ratatui_ansi.specs.declared.tracker.Call.{Call}
 use Rattle.ratatui_ansi.specs.declared.tracker.Call.TheVariants as Called
-use Rattle.ratatui_ansi.specs.Flags.{AreContinuations, is_clear_cut}
+use Rattle.ansi_model.specs.Flags.{AreContinuations, is_clear_cut}
 
 -- a terminal between two calls: it awaits text and is idle, with its cursor there and these flags
 pub record IsAwaiting (w h : ℕ) (cursor : Position) (flags : List Bool) (t : Emulator) : Type 0 where

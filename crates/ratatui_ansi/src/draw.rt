@@ -1,19 +1,21 @@
 //! Cells in their places, as a backend draws them.
 
-ghost use Rattle.std.specs.Prelude.{◌≡◌, ℕ, ◌+◌, ◌-◌, ◌*◌, ◌^◌, ◌<◌, ◌≤◌, ◌&&◌, min, nat_lt, nat_le, if◌then◌else◌, true, false, IsTrue, ◌↔◌, IfOk, IfErr, IfSome, OnOk, OnErr, List, [], ◌∷◌, map, length, slice_index_or, string_bytes, MatchOption, ◌==◌, IsUtf8};
+ghost use Rattle.std.specs.Prelude.{◌≡◌, ℕ, ◌+◌, ◌-◌, ◌*◌, ◌^◌, ◌<◌, ◌≤◌, ◌&&◌, min, true, false, IsTrue, ◌↔◌, IfOk, IfErr, IfSome, OnOk, List, [], ◌∷◌, map, length, slice_index_or, string_bytes, MatchOption, ◌==◌, IsUtf8};
 ghost use Rattle.std.specs.List.{list_all};
 ghost use Rattle.std.specs.Iterator.{IsFinite, Drains};
-ghost use Rattle.ratatui_core.specs.Buffer.{blank, symbol_text, text_width, width_of, update_by, Cell};
+ghost use Rattle.ratatui_core.specs.Buffer.{blank, symbol_text, width_of, update_by, Cell};
 ghost use Rattle.ansi_model.specs.declared.glyph.Glyph.TheVariants.{Plain};
 ghost use Rattle.ansi_model.specs.Sgr.{default_sgr, sgr_of};
 ghost use Rattle.ansi_model.specs.Parameters.{is_sendable_by};
-ghost use Rattle.ansi_model.specs.Symbols.{printed_columns, glyph_columns, IsGlyphOf};
-ghost use Rattle.ratatui_ansi.specs.Drawing.{blanked, ChangesSgr, Paints, Prints};
+ghost use Rattle.ansi_model.specs.Symbols.{printed_columns, IsGlyphOf};
+ghost use Rattle.ansi_model.specs.Drawing.{blanked, ChangesSgr, Paints, Prints};
 ghost use Rattle.ratatui_ansi.specs.Frame.{is_fit, is_sendable_on, IsGlyph, IsVacant, IsUnsendableSgr, RefusesUpdate, Covers, SendsUpdates, SendsDraw};
 ghost use Rattle.ratatui_ansi.specs.Refusals.{has_place, StopsWithin, StopsDraw};
 
-use crate::pen::{Pen, change_sgr, put_plain, put_symbol, set_sgr};
-use ansi_model::{Glyph, Sgr, glyph_of, only_printable};
+use ansi_model::{
+    Glyph, Pen, Sgr, change_sgr, glyph_of, mark_symbol, only_printable, put_plain, put_symbol,
+    set_sgr, tail_end,
+};
 use ratatui_core::backend::AsCell;
 use ratatui_core::buffer::{Cell, CellDiffOption, CellWidth};
 use ratatui_core::layout::Position;
@@ -114,25 +116,6 @@ fn is_vacant(cell: &Cell) -> bool
     is_blank(cell.symbol()) && Sgr::DEFAULT.is_of(cell) && cell.cell_width() == 1
 }
 
-// The first column from `from` on whose flag isn't set, or the row's end. The row begins at `start`.
-fn tail_end(continuations: &[bool], start: usize, from: u16, width: u16) -> u16
-    requires row { start + width ≤ length continuations.now }
-    requires fits { from ≤ width }
-    ensures low { from ≤ result }
-    ensures high { result ≤ width }
-    ensures continuations { (k : ℕ) → from ≤ k → k < result
-        → slice_index_or continuations.now (start + k) false ≡ true }
-    ensures ended { result < width
-        → slice_index_or continuations.now (start + result) false ≡ false }
-{
-    for column in from..width {
-        if !continuations[start + usize::from(column)] {
-            return column;
-        }
-    }
-    width
-}
-
 // Prints blanks in the columns of a row from `x` up to `end`, at least one.
 #[inline(never)]
 fn put_blanks(out: &mut String, pen: &mut Pen, x: u16, y: u16, end: u16) -> Result<(), AllocError>
@@ -146,20 +129,6 @@ fn put_blanks(out: &mut String, pen: &mut Pen, x: u16, y: u16, end: u16) -> Resu
         put_plain(out, pen, column, y, ' ')?;
     }
     Ok(())
-}
-
-// Sets the flags of a symbol's columns, from the place `first` up to `past_it`, and unsets those from there up to `end`.
-#[inline(never)]
-fn mark(continuations: &mut [bool], first: usize, past_it: usize, end: usize)
-    requires ordered { first ≤ end }
-    requires row { end ≤ length continuations.old }
-    ensures { (k : ℕ) → slice_index_or continuations.new k false
-        ≡ if nat_le first k && nat_lt k end then nat_lt first k && nat_lt k past_it
-        else slice_index_or continuations.old k false }
-{
-    for place in first..end {
-        continuations[place] = first < place && place < past_it;
-    }
 }
 
 // Sets the flags of a symbol of so many columns, and empties what is left of another one of which it covers the first part.
@@ -188,7 +157,7 @@ fn cover(
         if past_it < end {
             put_blanks(out, pen, past_it, y, end)?;
         }
-        mark(
+        mark_symbol(
             continuations,
             start + usize::from(x),
             start + usize::from(past_it),

@@ -1,18 +1,14 @@
 //! Laws of the bytes and of the model that are no single call's clause. Calling one of these
 //! functions costs nothing and tells the caller's proof its law.
 
-ghost use Rattle.std.specs.Prelude.{◌≡◌, ℕ, ◌+◌, ◌<◌, ◌≤◌, nat_lt, if◌then◌else◌, Bool, List};
+ghost use Rattle.std.specs.Prelude.{ℕ, ◌+◌, ◌<◌, ◌≤◌, Bool, List};
 ghost use Rattle.ratatui_core.specs.Layout.{Position};
 ghost use Rattle.ratatui_core.specs.Backend.{Screen};
-ghost use Rattle.ratatui_core.specs.Buffer.{Look, look_of, width_of, Update, put, Cell, cell_at, IsDiff, IsSettled, Shows};
+ghost use Rattle.ratatui_core.specs.Buffer.{Update, Cell, cell_at, IsDiff, IsSettled, Shows};
 ghost use Rattle.ratatui_ansi.specs.Covered.{IsOpen, IsOrdinary};
 ghost use Rattle.ratatui_ansi.specs.Refusals.{StopsInDiff};
 ghost use Rattle.ratatui_ansi.specs.declared.draw.Refusal.TheVariants.{Cut};
 ghost use Rattle.ratatui_ansi.specs.Headline.{IsHeadlineOfBytes};
-ghost use Rattle.ansi_model.specs.Columns.{Columns, look_in, is_continuation};
-ghost use Rattle.ansi_model.specs.Screens.{HaveOwnWidths, IsWhole, IsBlankBeyond, IsIdle, IsUncut, put_columns};
-ghost use Rattle.ansi_model.specs.Symbols.{printed_columns};
-ghost use Rattle.ansi_model.specs.Emulator.{run, blank_terminal};
 
 use crate::backend::AnsiBackend;
 use ratatui_core::terminal::Terminal;

@@ -3,17 +3,15 @@
 //!
 //! [`AnsiBackend`] is a `Backend` whose screen is what a terminal of the crate `ansi_model` shows
 //! that has read what its writer was sent. What stands below it says what bytes do to every
-//! terminal that reads them: those of a symbol in its place (`Prints`), of drawn cells
-//! (`SendsUpdates`), and of a whole call (`Collects`).
+//! terminal that reads them: those of drawn cells (`SendsUpdates`), and of a whole call
+//! (`Collects`).
 #![tactic(auto)]
 
 mod backend;
 mod checked;
 mod draw;
 mod error;
-mod flags;
 pub mod laws;
-mod pen;
 mod sender;
 mod sent;
 mod tracker;

@@ -1,26 +1,23 @@
 //! What is known of a terminal between two calls, and the bytes that a call sends to it.
 
-ghost use Rattle.std.specs.Prelude.{◌≡◌, ◌<◌, ◌*◌, ℕ, List, map, length, false, true, OnOk, IfOk, IfErr, OnErr, IsTrue};
+ghost use Rattle.std.specs.Prelude.{◌≡◌, ◌<◌, ℕ, List, map, false, true, OnOk, IfOk, IfErr, OnErr, IsTrue};
 ghost use Rattle.std.specs.List.{list_all};
 ghost use Rattle.std.specs.Iterator.{IsFinite, Drains};
 ghost use Rattle.ratatui_core.specs.Buffer.{update_by};
 ghost use Rattle.ratatui_core.specs.Backend.{Draws, Appends, Clears, ScrollsUp, ScrollsDown, with_cursor, with_visible, All};
-ghost use Rattle.ansi_model.specs.Columns.{blank_column};
 ghost use Rattle.ansi_model.specs.Emulator.{keeps_history};
 ghost use Rattle.ratatui_ansi.specs.declared.tracker.Call.TheVariants as Called;
-ghost use Rattle.ratatui_ansi.specs.Flags.{AreContinuations, is_cut, is_clear_cut};
+ghost use Rattle.ansi_model.specs.Flags.{is_cut, is_clear_cut};
 ghost use Rattle.ratatui_ansi.specs.Frame.{is_sendable_on};
 ghost use Rattle.ratatui_ansi.specs.Refusals.{has_place, StopsDraw, RefusesTracker};
 ghost use Rattle.ratatui_ansi.specs.Tracker.{IsTracker, KeepsTracked, Collects, CallDoes, IsUncollected, Erases, BeginsBlank};
 
 use crate::draw::{Refusal, Target, draw_cells};
 use crate::error::AnsiError;
-use crate::flags::{
-    clear_flags, clear_part_flags, is_continuation, lower_flags, raise_flags, symbol_end,
-};
 use ansi_model::{
-    append_lines, clear_screen, erase, make_blank, move_to, scroll_region_down, scroll_region_up,
-    set_cursor_position, set_visible,
+    append_lines, blank_flags, clear_flags, clear_part_flags, clear_screen, erase, is_continuation,
+    lower_flags, make_blank, move_to, raise_flags, scroll_region_down, scroll_region_up,
+    set_cursor_position, set_visible, symbol_end,
 };
 use ratatui_core::backend::{AsCell, ClearType};
 use ratatui_core::layout::{Position, Size};
@@ -53,15 +50,6 @@ pub(crate) struct Tracker {
     /// How many items were drawn, as far as the count goes.
     pub(crate) written: u64,
     pub(crate) out: String,
-}
-
-// The flags of a blank screen.
-fn blank_flags(alloc: Global, size: Size) -> Result<Vec<bool>, AllocError>
-    ensures { IfOk result (λ flags. AreContinuations size.width size.height flags.items
-        (λ a b. blank_column)) }
-{
-    let count = usize::from(size.width) * usize::from(size.height);
-    Vec::from_elem(alloc, false, count)
 }
 
 impl Tracker {

@@ -18,8 +18,8 @@ returns-after-past_it-end c = record {
     | else-past_it-end v ↦ inl (rw v.pen-is refl)
   ];
   marked = record {
-    count = c.mark.auto.continuations;
-    each = λ k. rw (c.from.ensures, c.from-2.ensures, c.from-then-x-end.ensures, c.from-then-x-end-2.ensures, c.from-then-x-end-3.ensures) at (c.mark.ensures k);
+    count = c.mark_symbol.auto.flags;
+    each = λ k. rw (c.from.ensures, c.from-2.ensures, c.from-then-x-end.ensures, c.from-then-x-end-2.ensures, c.from-then-x-end-3.ensures) at (c.mark_symbol.ensures k);
   };
 }
 

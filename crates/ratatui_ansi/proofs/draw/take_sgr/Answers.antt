@@ -1,8 +1,8 @@
 use Rattle.std.proofs.Common.{◌≡◌, true, refl, subst}
-use Rattle.ratatui_ansi.specs.Drawing.ChangesSgr.{Stays}
+use Rattle.ansi_model.specs.Drawing.ChangesSgr.{Stays}
 use Rattle.ansi_model.specs.Parameters.{is_sendable_by}
 use Rattle.ansi_model.specs.Sgr.{sgr_of}
-use Rattle.ratatui_ansi.proofs.DrawLemmas.{pen-kept}
+use Rattle.ansi_model.proofs.DrawLemmas.{pen-kept}
 use Rattle.ratatui_ansi.proofs.draw.take_sgr.Goals as goal
 
 pub returns-then-is_of-clause-changes : goal.returns-then-is_of-clause-changes

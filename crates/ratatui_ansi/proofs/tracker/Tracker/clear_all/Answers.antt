@@ -1,6 +1,7 @@
 use Rattle.std.proofs.Common.{◌≡◌, ◌∙◌, ap, length, refl}
 use Rattle.std.proofs.lemmas.List.{with_items_is}
-use Rattle.ansi_model.specs.Emulator.{rows_emptied}
+use Rattle.ansi_model.specs.Emulator.{columns_moved}
+use Rattle.ansi_model.proofs.CallLemmas.{emptying}
 use Rattle.ratatui_ansi.proofs.TrackLemmas.{collected, call-from, emptied-kept}
 use Rattle.ratatui_ansi.proofs.tracker.Tracker.clear_all.Goals as goal
 
@@ -15,4 +16,4 @@ returns-clause-ok c =
     let count : length flags ≡ length k.continuations.items = c.clear_flags.auto.flags ∙ ap length lent.value in
     let cleared = rw lent.value at c.clear_flags.ensures in
     collected k _ k.cursor flags c.requires.tracker refl same count (call-from w h _ _ k.cursor k.cursor k.continuations.items flags _ _ (c.in_ok-clear_screen.ensures c.requires.tracker.columns c.requires.tracker.rows)
-    (λ s t ready at continuations became. emptied-kept w h k.cursor k.continuations.items flags s t (rows_emptied h s.columns) at (cleared w h s.columns continuations) became))
+    (λ s t ready at continuations became. emptied-kept w h k.cursor k.continuations.items flags s t (columns_moved (emptying h) s.columns) at (cleared w h s.columns continuations) became))

@@ -1,6 +1,7 @@
 use Rattle.std.proofs.Common.{◌≡◌, ◌∙◌, ap, length, refl}
 use Rattle.std.proofs.lemmas.List.{with_items_is}
-use Rattle.ratatui_ansi.proofs.TrackLemmas.{collected, Turns-then, call-from, down-kept}
+use Rattle.ratatui_core.specs.Backend.{scrolling_down}
+use Rattle.ratatui_ansi.proofs.TrackLemmas.{collected, Turns-then, call-from, scroll-kept}
 use Rattle.ratatui_ansi.proofs.tracker.Tracker.scroll_down.Goals as goal
 
 pub returns-clause-ok : goal.returns-clause-ok
@@ -15,5 +16,5 @@ returns-clause-ok c =
     let wide = c.requires.tracker.columns in
     collected k _ k.cursor flags c.requires.tracker refl same count (call-from w h _ _ k.cursor k.cursor k.continuations.items flags _ _
     (Turns-then w h _ _ _ _ _ (c.in_ok-scroll_region_down.ensures w wide) (c.in_ok-set_cursor_position.ensures w h wide c.requires.tracker.rows))
-    (λ s u ready at continuations both. down-kept w h k.cursor k.continuations.items flags c.requires.column c.requires.row s u ready at c.args.region.start c.args.region.end c.args.n
+    (λ s u ready at continuations both. scroll-kept w h k.cursor k.continuations.items flags c.requires.column c.requires.row s u ready at scrolling_down _ c.args.region.start c.args.region.end c.args.n
     (rw lent.value at c.lower_flags.ensures) continuations both))

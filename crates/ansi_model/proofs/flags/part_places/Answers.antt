@@ -1,5 +1,5 @@
-use Rattle.ratatui_ansi.proofs.FlagLemmas.{places_after, places_before, places_line_end}
-use Rattle.ratatui_ansi.proofs.flags.part_places.Goals as goal
+use Rattle.ansi_model.proofs.FlagLemmas.{places_after, places_before, places_line_end}
+use Rattle.ansi_model.proofs.flags.part_places.Goals as goal
 
 pub returns-in-AfterCursor-clause-places : goal.returns-in-AfterCursor-clause-places
 returns-in-AfterCursor-clause-places c = λ a b a_in b_in.

@@ -1,8 +1,8 @@
 use Rattle.std.proofs.Common.{refl, sym, ◌∙◌}
-use Rattle.ratatui_ansi.specs.Drawing.ChangesSgr.{Stays}
+use Rattle.ansi_model.specs.Drawing.ChangesSgr.{Stays}
 use Rattle.ansi_model.proofs.SgrLemmas.{same_sgr}
-use Rattle.ratatui_ansi.proofs.DrawLemmas.{pen-kept}
-use Rattle.ratatui_ansi.proofs.pen.change_sgr.Goals as goal
+use Rattle.ansi_model.proofs.DrawLemmas.{pen-kept}
+use Rattle.ansi_model.proofs.pen.change_sgr.Goals as goal
 
 pub returns-then-eq-clause-changes : goal.returns-then-eq-clause-changes
 returns-then-eq-clause-changes c = Stays (same_sgr c.args.pen.now.sgr c.args.sgr.now (sym c.eq.ensures ∙ c.if-eq.true)) refl

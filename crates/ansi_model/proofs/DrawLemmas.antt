@@ -8,13 +8,13 @@ use Rattle.std.proofs.lemmas.Bool.Decides.{nat_tests}
 use Rattle.std.proofs.lemmas.List.Folds.{list_all-append}
 use Rattle.std.proofs.lemmas.Str.{chars-append, IsUtf8-append}
 use Rattle.ansi_model.specs.declared.sgr.Sgr.{Sgr}
-use Rattle.ratatui_ansi.specs.declared.pen.Pen.{Pen}
+use Rattle.ansi_model.specs.declared.pen.Pen.{Pen}
 use Rattle.ansi_model.specs.Emulator.{Emulator, rested, prints, cursor_moved}
 use Rattle.ansi_model.specs.Symbols.{is_plain_char, is_symbol, is_one_plain, is_printed, printed_columns}
 use Rattle.ansi_model.specs.Emulator.Phase.{Ground}
 use Rattle.ansi_model.specs.Sequences.{feed}
 use Rattle.ansi_model.specs.Sends.{Sends, Performs, typed}
-use Rattle.ratatui_ansi.specs.Drawing.{is_at, is_place, WritesAt, IsDrawnBy, drawn_at, Prints}
+use Rattle.ansi_model.specs.Drawing.{is_at, is_place, WritesAt, IsDrawnBy, drawn_at, Prints}
 use Rattle.ansi_model.proofs.ReadLemmas.{Sends-then}
 use Rattle.ansi_model.proofs.TextLemmas.{and-both}
 use Rattle.ansi_model.proofs.SymbolLemmas.{symbol-utf8, after-standing, alone-standing, plain-printed, plain-single}

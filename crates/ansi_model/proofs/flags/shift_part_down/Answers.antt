@@ -2,7 +2,7 @@ use Rattle.std.proofs.Common.{◌≡◌, ◌+◌, ◌-◌, arith, inl, inr}
 use Rattle.std.proofs.lemmas.Bool.{cases_lt}
 use Rattle.std.proofs.lemmas.Bool.Decides.{nat_tests}
 use Rattle.std.proofs.lemmas.Grind.{common_steps}
-use Rattle.ratatui_ansi.proofs.flags.shift_part_down.Goals as goal
+use Rattle.ansi_model.proofs.flags.shift_part_down.Goals as goal
 
 pub returns : goal.returns
 returns c = λ k.

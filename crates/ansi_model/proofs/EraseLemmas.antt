@@ -3,13 +3,13 @@ use Rattle.std.proofs.Common.{◌≡◌, ℕ, ◌+◌, ◌-◌, ◌<◌, ◌≤�
 use Rattle.std.proofs.lemmas.Bool.{cases_lt}
 use Rattle.std.proofs.lemmas.Bool.Decides.{nat_tests}
 use Rattle.ratatui_core.specs.Buffer.{Look, empty_look}
-use Rattle.ratatui_core.specs.Backend.{ClearType, All, AfterCursor, BeforeCursor, CurrentLine, UntilNewLine, is_cleared}
+use Rattle.ratatui_core.specs.Backend.{ClearType, All, AfterCursor, BeforeCursor, CurrentLine, UntilNewLine, is_cleared, Motion, clearing}
 use Rattle.ansi_model.specs.Columns.{Column, Columns, Area, is_continuation, is_met, blank_column, overwritten}
 use Rattle.ansi_model.specs.Columns.Column.{Shows, Unknown}
-use Rattle.ansi_model.specs.Emulator.{columns_cleared}
-use Rattle.ansi_model.specs.Screens.{HasOwnWidth, HaveOwnWidths, IsWhole, IsWholeAt, IsBlankBeyond}
-use Rattle.ratatui_ansi.specs.Flags.{AreContinuations, is_cut}
-use Rattle.ansi_model.proofs.TextLemmas.{blank-sized}
+use Rattle.ansi_model.specs.Emulator.{columns_moved}
+use Rattle.ansi_model.specs.Screens.{IsTidy, IsWhole, IsWholeAt, IsBlankBeyond}
+use Rattle.ansi_model.specs.Flags.{AreContinuations, is_cut}
+use Rattle.ansi_model.proofs.MotionLemmas.{moved-sized, moved-beyond}
 use Rattle.ansi_model.proofs.PutLemmas.{none_between, later-continues}
 
 -- a symbol that begins left of a column that isn't after ends there, and one that has a column right of such an end begins after it
@@ -122,18 +122,21 @@ flags-tell BeforeCursor w h x y flags c x_in y_in beyond continuations uncut = e
 flags-tell CurrentLine w h x y flags c x_in y_in beyond continuations uncut = refl
 flags-tell UntilNewLine w h x y flags c x_in y_in beyond continuations uncut = sym (continuations.each x y x_in y_in) ∙ uncut
 
+-- the motion that empties a part
+abbrev pub erasing : ClearType → ℕ → ℕ → Motion
+erasing part x y = clearing (is_cleared part x y)
+
 module _ (part : ClearType) (w h x y : ℕ) (flags : List Bool) (c : Columns) (x_in : x < w) (y_in : y < h) (beyond : IsBlankBeyond w c) (continuations : AreContinuations w h flags c) (uncut : is_cut part w x y flags ≡ false) where
   apart : IsApart (is_cleared part x y) c
   apart = part-apart part x y c (flags-tell part w h x y flags c x_in y_in beyond continuations uncut)
 
-  pub part-erased : IsWhole c → (a b : ℕ) → overwritten (is_cleared part x y) (λ i j. blank_column) c a b ≡ columns_cleared part x y c a b
+  pub part-erased : IsWhole c → (a b : ℕ) → overwritten (is_cleared part x y) (λ i j. blank_column) c a b ≡ columns_moved (erasing part x y) c a b
   part-erased whole = area-erased (is_cleared part x y) c apart whole
 
-  pub part-whole : IsWhole c → IsWhole (columns_cleared part x y c)
-  part-whole whole = area-whole (is_cleared part x y) c apart whole
-
-pub part-sized : (part : ClearType) (x y : ℕ) (c : Columns) → HaveOwnWidths c → HaveOwnWidths (columns_cleared part x y c)
-part-sized part x y c sized a b = elim (is_cleared part x y a b) as (λ p. HasOwnWidth (if p then blank_column else c a b)) [ true ↦ blank-sized | false ↦ sized a b ]
-
-pub part-beyond : (part : ClearType) (w x y : ℕ) (c : Columns) → IsBlankBeyond w c → IsBlankBeyond w (columns_cleared part x y c)
-part-beyond part w x y c beyond a b out = rw (beyond a b out) (elim (is_cleared part x y a b) as (λ p. (if p then blank_column else blank_column) ≡ blank_column) [ true ↦ refl | false ↦ refl ])
+  -- and what is left is tidy
+  pub part-tidy : IsTidy w c → IsTidy w (columns_moved (erasing part x y) c)
+  part-tidy tidy = record {
+    sized = moved-sized (erasing part x y) c tidy.sized;
+    whole = area-whole (is_cleared part x y) c apart tidy.whole;
+    beyond = moved-beyond w (erasing part x y) c tidy.beyond;
+  }

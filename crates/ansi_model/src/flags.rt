@@ -1,14 +1,25 @@
-//! The flags of a screen's columns, one for each, row by row: whether it is a continuation column.
+//! The flags of a screen's columns, one for each and row by row: whether it is a continuation
+//! column.
 
-ghost use Rattle.std.specs.Prelude.{◌≡◌, ℕ, ◌+◌, ◌-◌, ◌*◌, ◌<◌, ◌≤◌, ◌&&◌, min, nat_le, nat_lt, if◌then◌else◌, true, false, length};
-ghost use Rattle.ratatui_core.specs.Backend.{BeforeCursor, is_cleared};
-ghost use Rattle.ansi_model.specs.Columns.{Columns};
-ghost use Rattle.ansi_model.specs.Emulator.{rows_raised, rows_lowered, rows_emptied, columns_cleared};
-ghost use Rattle.ratatui_ansi.specs.Flags.{flag, AreContinuations, is_cut};
+ghost use Rattle.std.specs.Prelude.{◌≡◌, ℕ, ◌+◌, ◌-◌, ◌*◌, ◌<◌, ◌≤◌, ◌&&◌, min, nat_le, nat_lt, if◌then◌else◌, true, false, length, IfOk};
+ghost use Rattle.ratatui_core.specs.Backend.{BeforeCursor, is_cleared, scrolling_up, scrolling_down, clearing};
+ghost use Rattle.ansi_model.specs.Columns.{Columns, blank_column};
+ghost use Rattle.ansi_model.specs.Emulator.{columns_moved};
+ghost use Rattle.ansi_model.specs.Flags.{flag, AreContinuations, is_cut};
 
 use ratatui_core::backend::ClearType;
 use ratatui_core::layout::Size;
+use std::alloc::{AllocError, Global};
 use std::ops::Range;
+
+/// The flags of a blank screen.
+pub fn blank_flags(alloc: Global, size: Size) -> Result<Vec<bool>, AllocError>
+    ensures { IfOk result (λ flags. AreContinuations size.width size.height flags.items
+        (λ a b. blank_column)) }
+{
+    let count = usize::from(size.width) * usize::from(size.height);
+    Vec::from_elem(alloc, false, count)
+}
 
 // Clears the flags from one place up to another.
 fn clear(flags: &mut [bool], from: usize, to: usize)
@@ -73,7 +84,7 @@ pub fn raise_flags(flags: &mut [bool], size: Size, region: Range<u16>, n: u16)
     requires { length flags.old ≡ size.width * size.height }
     ensures { (c : Columns) → AreContinuations size.width size.height flags.old c
         → AreContinuations size.width size.height flags.new
-        (rows_raised region.start (min region.end size.height) n c) }
+        (columns_moved (scrolling_up region.start (min region.end size.height) n) c) }
 {
     let end = region.end.min(size.height);
     if region.start < end {
@@ -94,7 +105,7 @@ pub fn lower_flags(flags: &mut [bool], size: Size, region: Range<u16>, n: u16)
     requires { length flags.old ≡ size.width * size.height }
     ensures { (c : Columns) → AreContinuations size.width size.height flags.old c
         → AreContinuations size.width size.height flags.new
-        (rows_lowered region.start (min region.end size.height) n c) }
+        (columns_moved (scrolling_down region.start (min region.end size.height) n) c) }
 {
     let end = region.end.min(size.height);
     if region.start < end {
@@ -108,7 +119,7 @@ pub fn lower_flags(flags: &mut [bool], size: Size, region: Range<u16>, n: u16)
 /// Clears all flags of a screen.
 pub fn clear_flags(flags: &mut [bool])
     ensures { (w h : ℕ) (c : Columns) → AreContinuations w h flags.old c
-        → AreContinuations w h flags.new (rows_emptied h c) }
+        → AreContinuations w h flags.new (columns_moved (clearing (λ a b. nat_lt b h)) c) }
 {
     let count = flags.len();
     clear(flags, 0, count);
@@ -146,7 +157,8 @@ pub fn clear_part_flags(flags: &mut [bool], size: Size, part: ClearType, x: u16,
     requires column { x < size.width }
     requires row { y < size.height }
     ensures { (c : Columns) → AreContinuations size.width size.height flags.old c
-        → AreContinuations size.width size.height flags.new (columns_cleared part x y c) }
+        → AreContinuations size.width size.height flags.new
+        (columns_moved (clearing (is_cleared part x y)) c) }
 {
     let (from, to) = part_places(size, part, x, y);
     clear(flags, from, to);
@@ -166,6 +178,24 @@ pub fn is_continuation(flags: &[bool], size: Size, x: u16, y: u16) -> bool
     flags[usize::from(y) * usize::from(size.width) + usize::from(x)]
 }
 
+/// The first column from `from` on whose flag isn't set, or the row's end. The row begins at
+/// `start`.
+pub fn tail_end(flags: &[bool], start: usize, from: u16, width: u16) -> u16
+    requires row { start + width ≤ length flags.now }
+    requires fits { from ≤ width }
+    ensures low { from ≤ result }
+    ensures high { result ≤ width }
+    ensures continuations { (k : ℕ) → from ≤ k → k < result → flag flags.now (start + k) ≡ true }
+    ensures ended { result < width → flag flags.now (start + result) ≡ false }
+{
+    for column in from..width {
+        if !flags[start + usize::from(column)] {
+            return column;
+        }
+    }
+    width
+}
+
 /// The last column of the symbol that has a column in this place.
 ///
 /// # Conditions
@@ -181,9 +211,21 @@ pub fn symbol_end(flags: &[bool], size: Size, x: u16, y: u16) -> u16
         → flag flags.now (y * size.width + k) ≡ true }
     ensures ended { is_cut BeforeCursor size.width result y flags.now ≡ false }
 {
-    let mut end = x;
-    while end + 1 < size.width && is_continuation(flags, size, end + 1, y) {
-        end += 1;
+    let start = usize::from(y) * usize::from(size.width);
+    tail_end(flags, start, x + 1, size.width) - 1
+}
+
+/// Sets the flags of a symbol's columns, from the place `first` up to `past_it` but for the first
+/// one, and unsets those from there up to `end`.
+#[inline(never)]
+pub fn mark_symbol(flags: &mut [bool], first: usize, past_it: usize, end: usize)
+    requires ordered { first ≤ end }
+    requires row { end ≤ length flags.old }
+    ensures { (k : ℕ) → flag flags.new k
+        ≡ (if nat_le first k && nat_lt k end then nat_lt first k && nat_lt k past_it
+        else flag flags.old k) }
+{
+    for place in first..end {
+        flags[place] = first < place && place < past_it;
     }
-    end
 }

@@ -8,9 +8,10 @@ use Rattle.std.proofs.lemmas.Bool.{cases_lt}
 use Rattle.std.proofs.lemmas.Bool.Decides.{nat_tests}
 use Rattle.rtui_grid.proofs.PlaceLemmas.{row_ends, rows_join, place_before, place_from}
 use Rattle.ansi_model.specs.Columns.{Columns, is_continuation, blank_column}
-use Rattle.ansi_model.specs.Emulator.{rows_raised, rows_lowered}
-use Rattle.ratatui_core.specs.Backend.{is_cleared, AfterCursor, BeforeCursor, UntilNewLine}
-use Rattle.ratatui_ansi.specs.Flags.{flag, AreContinuations}
+use Rattle.ansi_model.specs.Emulator.{columns_moved}
+use Rattle.ratatui_core.specs.Backend.{Motion, moved_by, scrolling_up, scrolling_down, is_cleared, AfterCursor, BeforeCursor, UntilNewLine}
+use Rattle.ansi_model.specs.Flags.{flag, AreContinuations}
+use Rattle.ansi_model.proofs.MotionLemmas.{moved-through}
 
 pub past_end : (flags : List Bool) (k : ℕ) → length flags ≤ k → flag flags k ≡ false
 past_end flags k past = get_or_past flags k false past
@@ -37,13 +38,13 @@ rotated xs w fits cleared k = elim (cases_lt k (length xs - w)) [
 module _ (w x : ℕ) (x_in : x < w) where
   module _ (old new : List Bool) (a e n : ℕ) where
     pub flag_moved_up : ((k : ℕ) → flag new k ≡ if nat_le (a * w) k && nat_lt k (e * w) then (if nat_lt (k + n * w) (e * w) then flag old (k + n * w) else false) else flag old k)
-        → (y : ℕ) → flag new (y * w + x) ≡ if nat_le a y && nat_lt y e then (if nat_lt (y + n) e then flag old ((y + n) * w + x) else false) else flag old (y * w + x)
+        → (y : ℕ) → flag new (y * w + x) ≡ moved_by (scrolling_up a e n) false (λ i j. flag old (j * w + i)) x y
     flag_moved_up moved y =
         let next : y * w + x + n * w ≡ (y + n) * w + x = grind arith in
         rw (next, place_before w x x_in (y + n) e, place_before w x x_in y e, place_from w x x_in y a) at (moved (y * w + x))
 
     pub flag_moved_down : ((k : ℕ) → flag new k ≡ if nat_le (a * w) k && nat_lt k (e * w) then (if nat_le (a * w + n * w) k then flag old (k - n * w) else false) else flag old k)
-        → (y : ℕ) → flag new (y * w + x) ≡ if nat_le a y && nat_lt y e then (if nat_le (a + n) y then flag old ((y - n) * w + x) else false) else flag old (y * w + x)
+        → (y : ℕ) → flag new (y * w + x) ≡ moved_by (scrolling_down a e n) false (λ i j. flag old (j * w + i)) x y
     flag_moved_down moved y = elim (cases_lt y (a + n)) [
       | inl above ↦
           let p : (y + 1) * w ≤ (a + n) * w = mul-le-mul_right w (omega arith) in
@@ -60,32 +61,19 @@ module _ (w x : ℕ) (x_in : x < w) where
           rw some (rw (yes, back, place_before w x x_in y e, place_from w x x_in y a) at (moved (y * w + x)))
     ]
 
-module _ (w h : ℕ) (old new : List Bool) (c : Columns) (from to n : ℕ) (fits : to ≤ h) (same : length new ≡ length old) (continuations : AreContinuations w h old c) where
-  pub raised-flags : ((k : ℕ) → flag new k ≡ if nat_le (from * w) k && nat_lt k (to * w) then (if nat_lt (k + n * w) (to * w) then flag old (k + n * w) else false) else flag old k)
-      → AreContinuations w h new (rows_raised from to n c)
-  raised-flags moved = record {
+-- flags that move as the columns do
+module _ (w h : ℕ) (old new : List Bool) (c : Columns) (m : Motion) (inside : (y : ℕ) → y < h → m.has_source y ≡ true → m.source y < h) (continuations : AreContinuations w h old c) where
+  pub flags-moved : length new ≡ length old → ((x y : ℕ) → x < w → flag new (y * w + x) ≡ moved_by m false (λ a b. flag old (b * w + a)) x y) → AreContinuations w h new (columns_moved m c)
+  flags-moved same moved = record {
     count = same ∙ continuations.count;
-    each = λ a b a_in b_in. flag_moved_up w a a_in old new from to n moved b
-        ∙ elim (nat_le from b && nat_lt b to) as (λ p. (if p then (if nat_lt (b + n) to then flag old ((b + n) * w + a) else false) else flag old (b * w + a))
-        ≡ is_continuation (if p then (if nat_lt (b + n) to then c a (b + n) else blank_column) else c a b)) [
-          | true ↦ elim (nat_lt (b + n) to) as (λ q. nat_lt (b + n) to ≡ q → (if q then flag old ((b + n) * w + a) else false) ≡ is_continuation (if q then c a (b + n) else blank_column))
-              [ true ↦ λ e. continuations.each a (b + n) a_in (grind (arith, nat_tests)) | false ↦ λ e. refl ] refl
-          | false ↦ continuations.each a b a_in b_in
-        ];
+    each = λ a b a_in b_in. moved a b a_in ∙ either a b a_in b_in (m.part a b) (m.has_source b) (inside b b_in) ∙ sym (moved-through m blank_column c a b is_continuation);
   }
-
-  pub lowered-flags : ((k : ℕ) → flag new k ≡ if nat_le (from * w) k && nat_lt k (to * w) then (if nat_le (from * w + n * w) k then flag old (k - n * w) else false) else flag old k)
-      → AreContinuations w h new (rows_lowered from to n c)
-  lowered-flags moved = record {
-    count = same ∙ continuations.count;
-    each = λ a b a_in b_in. flag_moved_down w a a_in old new from to n moved b
-        ∙ elim (nat_le from b && nat_lt b to) as (λ p. (if p then (if nat_le (from + n) b then flag old ((b - n) * w + a) else false) else flag old (b * w + a))
-        ≡ is_continuation (if p then (if nat_le (from + n) b then c a (b - n) else blank_column) else c a b)) [
-          | true ↦ elim (nat_le (from + n) b) as (λ q. (if q then flag old ((b - n) * w + a) else false) ≡ is_continuation (if q then c a (b - n) else blank_column))
-              [ true ↦ continuations.each a (b - n) a_in (omega arith) | false ↦ refl ]
-          | false ↦ continuations.each a b a_in b_in
-        ];
-  }
+    where
+      either : (a b : ℕ) → a < w → b < h → (p q : Bool) → (q ≡ true → m.source b < h)
+          → (if p then (if q then flag old (m.source b * w + a) else false) else flag old (b * w + a)) ≡ (if p then (if q then is_continuation (c a (m.source b)) else false) else is_continuation (c a b))
+      either a b a_in b_in true true within = continuations.each a (m.source b) a_in (within refl)
+      either a b a_in b_in true false within = refl
+      either a b a_in b_in false q within = continuations.each a b a_in b_in
 
 -- columns that are the same have the same flags
 pub AreContinuations-along : (w h : ℕ) (flags : List Bool) (c d : Columns) → ((a b : ℕ) → d a b ≡ c a b) → AreContinuations w h flags c → AreContinuations w h flags d

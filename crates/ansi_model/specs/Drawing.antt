@@ -4,7 +4,7 @@ use Rattle.std.specs.List.{list_all}
 use Rattle.ratatui_core.specs.Layout.{Position}
 use Rattle.ratatui_core.specs.Buffer.{blank}
 use Rattle.ansi_model.specs.declared.sgr.Sgr.{Sgr}
-use Rattle.ratatui_ansi.specs.declared.pen.Pen.{Pen}
+use Rattle.ansi_model.specs.declared.pen.Pen.{Pen}
 use Rattle.ansi_model.specs.Sgr.{default_sgr}
 use Rattle.ansi_model.specs.Emulator.{Emulator, rested, prints, with_sgr}
 use Rattle.ansi_model.specs.Symbols.{is_plain_char, printed_columns}

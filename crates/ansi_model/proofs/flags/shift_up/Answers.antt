@@ -2,9 +2,9 @@ use Rattle.std.proofs.Common.{◌≡◌, ◌+◌, ◌≤◌, length, ap, sym, �
 use Rattle.std.proofs.lemmas.Bool.{cases_lt}
 use Rattle.std.proofs.lemmas.Bool.Decides.{nat_tests}
 use Rattle.std.proofs.lemmas.Grind.{common_steps}
-use Rattle.ratatui_ansi.specs.Flags.{flag}
-use Rattle.ratatui_ansi.proofs.FlagLemmas.{rotated, past_end}
-use Rattle.ratatui_ansi.proofs.flags.shift_up.Goals as goal
+use Rattle.ansi_model.specs.Flags.{flag}
+use Rattle.ansi_model.proofs.FlagLemmas.{rotated, past_end}
+use Rattle.ansi_model.proofs.flags.shift_up.Goals as goal
 
 pub returns : goal.returns
 returns c = λ k.
