@@ -1,15 +1,14 @@
 -- Flags that move with their rows.
 use Rattle.std.proofs.Common.{◌≡◌, ℕ, true, false, ◌+◌, ◌-◌, ◌*◌, ◌<◌, ◌≤◌, ◌++◌, ◌&&◌, nat_lt, Bool, List, length, take, drop, refl, sym, ap, ◌∙◌, arith, inl, inr, length-drop, length-take, if◌then◌else◌}
 use Rattle.std.specs.Prelude.{nat_le}
-use Rattle.std.proofs.Math.Nat.{mul-le-mul_right}
 use Rattle.std.proofs.lemmas.Nat.{mul-add-lt}
 use Rattle.std.proofs.lemmas.List.{get_or_append_left, get_or-append_right, get_or-take, get_or-drop, get_or_past}
 use Rattle.std.proofs.lemmas.Bool.{cases_lt}
 use Rattle.std.proofs.lemmas.Bool.Decides.{nat_tests}
-use Rattle.rtui_grid.proofs.PlaceLemmas.{row_ends, rows_join, place_before, place_from}
+use Rattle.rtui_grid.proofs.PlaceLemmas.{rows_join, place_before, place_from, by_rows}
 use Rattle.ansi_model.specs.Columns.{Columns, is_continuation, blank_column}
 use Rattle.ansi_model.specs.Emulator.{columns_moved}
-use Rattle.ratatui_core.specs.Backend.{Motion, moved_by, scrolling_up, scrolling_down, is_cleared, AfterCursor, BeforeCursor, UntilNewLine}
+use Rattle.ratatui_core.specs.Backend.{Motion, moved_by, is_in_region, scrolling_up, scrolling_down, is_cleared, AfterCursor, BeforeCursor, UntilNewLine}
 use Rattle.ansi_model.specs.Flags.{flag, AreContinuations}
 use Rattle.ansi_model.proofs.MotionLemmas.{moved-through}
 
@@ -34,32 +33,35 @@ rotated xs w fits cleared k = elim (cases_lt k (length xs - w)) [
       | inr past ↦ get_or_past (take w xs) j false (simp length-take (omega arith))
     ]
 
--- where the flags of rows go
-module _ (w x : ℕ) (x_in : x < w) where
-  module _ (old new : List Bool) (a e n : ℕ) where
-    pub flag_moved_up : ((k : ℕ) → flag new k ≡ if nat_le (a * w) k && nat_lt k (e * w) then (if nat_lt (k + n * w) (e * w) then flag old (k + n * w) else false) else flag old k)
-        → (y : ℕ) → flag new (y * w + x) ≡ moved_by (scrolling_up a e n) false (λ i j. flag old (j * w + i)) x y
-    flag_moved_up moved y =
-        let next : y * w + x + n * w ≡ (y + n) * w + x = grind arith in
-        rw (next, place_before w x x_in (y + n) e, place_before w x x_in y e, place_from w x x_in y a) at (moved (y * w + x))
+-- flags that move by their places move by rows
+module _ (w x : ℕ) (x_in : x < w) (old new : List Bool) (a e n : ℕ) where
+  by_rows_of : (y : ℕ) (m : Motion) (inside has : Bool) (from : ℕ) → inside ≡ m.part x y → has ≡ m.has_source y → (m.has_source y ≡ true → from ≡ m.source y * w + x)
+      → flag new (y * w + x) ≡ (if inside then (if has then flag old from else false) else flag old (y * w + x)) → flag new (y * w + x) ≡ moved_by m false (λ i j. flag old (j * w + i)) x y
+  by_rows_of y m inside has from part source place moved = rw (part, source) at moved ∙ either (m.part x y) (m.has_source y) place
+    where
+      either : (p q : Bool) → (q ≡ true → from ≡ m.source y * w + x)
+          → (if p then (if q then flag old from else false) else flag old (y * w + x)) ≡ (if p then (if q then flag old (m.source y * w + x) else false) else flag old (y * w + x))
+      either true true is = ap (flag old) (is refl)
+      either true false is = refl
+      either false q is = refl
 
-    pub flag_moved_down : ((k : ℕ) → flag new k ≡ if nat_le (a * w) k && nat_lt k (e * w) then (if nat_le (a * w + n * w) k then flag old (k - n * w) else false) else flag old k)
-        → (y : ℕ) → flag new (y * w + x) ≡ moved_by (scrolling_down a e n) false (λ i j. flag old (j * w + i)) x y
-    flag_moved_down moved y = elim (cases_lt y (a + n)) [
-      | inl above ↦
-          let p : (y + 1) * w ≤ (a + n) * w = mul-le-mul_right w (omega arith) in
-          let no : nat_le (a * w + n * w) (y * w + x) ≡ false = grind (arith, nat_tests) in
-          let none : nat_le (a + n) y ≡ false = grind (arith, nat_tests) in
-          rw none (rw (no, place_before w x x_in y e, place_from w x x_in y a) at (moved (y * w + x)))
-      | inr past ↦
-          let p : (a + n) * w ≤ y * w = mul-le-mul_right w past in
-          let yes : nat_le (a * w + n * w) (y * w + x) ≡ true = grind (arith, nat_tests) in
-          let some : nat_le (a + n) y ≡ true = grind (arith, nat_tests) in
-          let whole : y - n + n ≡ y = omega arith in
-          let q : (y - n) * w + n * w ≡ y * w = rows_join w (y - n) n ∙ ap (λ m. m * w) whole in
-          let back : y * w + x - n * w ≡ (y - n) * w + x = omega (arith, q) in
-          rw some (rw (yes, back, place_before w x x_in y e, place_from w x x_in y a) at (moved (y * w + x)))
-    ]
+  region : (y : ℕ) → (nat_le (a * w) (y * w + x) && nat_lt (y * w + x) (e * w)) ≡ is_in_region a e y
+  region y = rw (place_before w x x_in y e, place_from w x x_in y a) refl
+
+  pub flag_moved_up : ((k : ℕ) → flag new k ≡ if nat_le (a * w) k && nat_lt k (e * w) then (if nat_lt (k + n * w) (e * w) then flag old (k + n * w) else false) else flag old k)
+      → (y : ℕ) → flag new (y * w + x) ≡ moved_by (scrolling_up a e n) false (λ i j. flag old (j * w + i)) x y
+  flag_moved_up moved y =
+      let next : y * w + x + n * w ≡ (y + n) * w + x = grind arith in
+      by_rows_of y (scrolling_up a e n) _ _ _ (region y) (ap (λ k. nat_lt k (e * w)) next ∙ place_before w x x_in (y + n) e) (λ _. next) (moved (y * w + x))
+
+  pub flag_moved_down : ((k : ℕ) → flag new k ≡ if nat_le (a * w) k && nat_lt k (e * w) then (if nat_le (a * w + n * w) k then flag old (k - n * w) else false) else flag old k)
+      → (y : ℕ) → flag new (y * w + x) ≡ moved_by (scrolling_down a e n) false (λ i j. flag old (j * w + i)) x y
+  flag_moved_down moved y =
+      by_rows_of y (scrolling_down a e n) _ _ _ (region y) (ap (λ k. nat_le k (y * w + x)) (rows_join w a n) ∙ place_from w x x_in y (a + n))
+      (λ kept.
+      let above : a + n ≤ y = grind (arith, nat_tests) in
+      let whole : y - n + n ≡ y = omega arith in
+      let q : (y - n) * w + n * w ≡ y * w = rows_join w (y - n) n ∙ ap (λ m. m * w) whole in omega (arith, q)) (moved (y * w + x))
 
 -- flags that move as the columns do
 module _ (w h : ℕ) (old new : List Bool) (c : Columns) (m : Motion) (inside : (y : ℕ) → y < h → m.has_source y ≡ true → m.source y < h) (continuations : AreContinuations w h old c) where
@@ -82,28 +84,10 @@ AreContinuations-along w h flags c d same continuations = record { count = conti
 -- which places a part takes
 module _ (w h x y a b : ℕ) (a_in : a < w) (b_in : b < h) (x_in : x < w) (y_in : y < h) where
   pub places_after : (nat_le (y * w + x) (b * w + a) && nat_lt (b * w + a) (w * h)) ≡ is_cleared AfterCursor x y a b
-  places_after = let inside : b * w + a < w * h = mul-add-lt b w a h b_in a_in in elim (cases_lt b y) [
-    | inl above ↦ let e = row_ends w b y above in grind (arith, nat_tests)
-    | inr other ↦ elim (cases_lt y b) [
-      | inl below ↦ let e = row_ends w y b below in grind (arith, nat_tests)
-      | inr here ↦ let e : b ≡ y = omega arith in grind (arith, nat_tests)
-    ]
-  ]
+  places_after = let inside = mul-add-lt b w a h b_in a_in in by_rows _ w b y (λ p q. grind (arith, nat_tests)) (λ p q. grind (arith, nat_tests)) (λ e. grind (arith, nat_tests))
 
   pub places_before : (nat_le 0 (b * w + a) && nat_lt (b * w + a) (y * w + x + 1)) ≡ is_cleared BeforeCursor x y a b
-  places_before = elim (cases_lt b y) [
-    | inl above ↦ let e = row_ends w b y above in grind (arith, nat_tests)
-    | inr other ↦ elim (cases_lt y b) [
-      | inl below ↦ let e = row_ends w y b below in grind (arith, nat_tests)
-      | inr here ↦ let e : b ≡ y = omega arith in grind (arith, nat_tests)
-    ]
-  ]
+  places_before = by_rows _ w b y (λ p q. grind (arith, nat_tests)) (λ p q. grind (arith, nat_tests)) (λ e. grind (arith, nat_tests))
 
   pub places_line_end : (nat_le (y * w + x) (b * w + a) && nat_lt (b * w + a) (y * w + w)) ≡ is_cleared UntilNewLine x y a b
-  places_line_end = elim (cases_lt b y) [
-    | inl above ↦ let e = row_ends w b y above in grind (arith, nat_tests)
-    | inr other ↦ elim (cases_lt y b) [
-      | inl below ↦ let e = row_ends w y b below in grind (arith, nat_tests)
-      | inr here ↦ let e : b ≡ y = omega arith in grind (arith, nat_tests)
-    ]
-  ]
+  places_line_end = by_rows _ w b y (λ p q. grind (arith, nat_tests)) (λ p q. grind (arith, nat_tests)) (λ e. grind (arith, nat_tests))
