@@ -34,9 +34,9 @@ Turns-none w h old related same = record {
 -- ---- a region, whatever its motion
 
 -- with margins given up, of an idle terminal only the cursor, the columns and the history changed
-settled : (w h x y : ℕ) (s : Emulator) (d : Columns) (rows : List (List Look)) (agreed : Bool) → IsIdle w h s → agreed ≡ true
+without-margins : (w h x y : ℕ) (s : Emulator) (d : Columns) (rows : List (List Look)) (agreed : Bool) → IsIdle w h s → agreed ≡ true
     → record s { x = x; y = y; top = 0; bottom = s.height; columns = d; history = rows; sure = agreed } ≡ record s { x = x; y = y; columns = d; history = rows; sure = true }
-settled w h x y s d rows agreed ready sure =
+without-margins w h x y s d rows agreed ready sure =
     ap₂ (λ i j. record s { x = x; y = y; top = i; bottom = j; columns = d; history = rows; sure = agreed }) (sym ready.rest.top) (ready.rest.height ∙ sym ready.rest.bottom)
     ∙ ap (λ b. record s { x = x; y = y; columns = d; history = rows; sure = b }) sure
 
@@ -95,7 +95,7 @@ module _ (w h a b n : ℕ) (motion : ℕ → ℕ → ℕ → Motion) (above : Sc
         let sure : (act v).sure ≡ true = rw (agree s ready, ready.rest.sure, t1, t2) refl in
         let d = columns_moved (motion a end n) s.columns in
         let is : record s { x = 0; y = 0; columns = d; sure = true } ≡ act (cursor_moved 0 a (with_region a end s))
-        = sym (settled w h 0 0 s d s.history (act v).sure ready sure) ∙ ap act (moved-placed 0 a (with_region a end s) (omega arith) (omega arith)) in
+        = sym (without-margins w h 0 0 s d s.history (act v).sure ready sure) ∙ ap act (moved-placed 0 a (with_region a end s) (omega arith) (omega arith)) in
         subst (λ u. IsIdle w h u × Scrolled s u) is (region-scrolled 0 0 s d s.history ready (omega arith) (λ written. stays s written ready) (λ x y. refl) (λ written empty. absurd (omega arith)))
 
   -- no row moves
@@ -197,7 +197,7 @@ margins-up w h b n s v u some_columns two ready some rest v_sure x_in feeds =
     let width : v.width ≡ s.width = ap (λ (t : Emulator). t.width) rest in
     let sure : u.sure ≡ true = feeds.sure v_sure (sgr ∙ ready.rest.sgr) (omega arith) (rw (← columns) at ready.tidy.sized) in
     let is : without_region u ≡ record s { x = 0; y = 0; columns = u.columns; history = u.history; sure = true }
-    = ap without_region (feeds.rest ∙ ap (λ (t : Emulator). record t { columns = u.columns; history = u.history; sure = u.sure }) rest) ∙ settled w h 0 0 s u.columns u.history u.sure ready sure in
+    = ap without_region (feeds.rest ∙ ap (λ (t : Emulator). record t { columns = u.columns; history = u.history; sure = u.sure }) rest) ∙ without-margins w h 0 0 s u.columns u.history u.sure ready sure in
     subst (λ t. IsIdle w h t × Becomes (ScrollsUp 0 b n) (columns_moved (scrolling_up 0 (min b h) n) s.columns) s t) (sym is)
     (first-scrolled w h b n 0 0 s v u ready some (omega arith) columns (ap (λ (t : Emulator). t.history) rest) width feeds)
 
