@@ -1,9 +1,7 @@
 -- Flags that move with their rows.
-use Rattle.std.proofs.Common.{◌≡◌, ℕ, true, false, ◌+◌, ◌-◌, ◌*◌, ◌<◌, ◌≤◌, ◌++◌, ◌&&◌, nat_lt, Bool, List, length, take, drop, refl, sym, ap, ◌∙◌, arith, inl, inr, length-drop, length-take, if◌then◌else◌}
+use Rattle.std.proofs.Common.{◌≡◌, ℕ, true, false, ◌+◌, ◌-◌, ◌*◌, ◌<◌, ◌≤◌, ◌&&◌, nat_lt, Bool, List, length, refl, sym, ap, ◌∙◌, arith, if◌then◌else◌}
 use Rattle.std.specs.Prelude.{nat_le}
 use Rattle.std.proofs.lemmas.Nat.{mul-add-lt}
-use Rattle.std.proofs.lemmas.List.{get_or_append_left, get_or-append_right, get_or-take, get_or-drop, get_or_past}
-use Rattle.std.proofs.lemmas.Bool.{cases_lt}
 use Rattle.std.proofs.lemmas.Bool.Decides.{nat_tests}
 use Rattle.rtui_grid.proofs.PlaceLemmas.{rows_join, place_before, place_from, by_rows}
 use Rattle.ansi_model.specs.Columns.{Columns, is_continuation, blank_column}
@@ -11,27 +9,6 @@ use Rattle.ansi_model.specs.Emulator.{columns_moved}
 use Rattle.ratatui_core.specs.Backend.{Motion, moved_by, is_in_region, scrolling_up, scrolling_down, is_cleared, AfterCursor, BeforeCursor, UntilNewLine}
 use Rattle.ansi_model.specs.Flags.{flag, AreContinuations}
 use Rattle.ansi_model.proofs.MotionLemmas.{moved-through}
-
-pub past_end : (flags : List Bool) (k : ℕ) → length flags ≤ k → flag flags k ≡ false
-past_end flags k past = get_or_past flags k false past
-
--- flags that were cleared and moved to the end
-pub rotated : (xs : List Bool) (w : ℕ) → w ≤ length xs → ((j : ℕ) → j < w → flag xs j ≡ false) → (k : ℕ) → flag (drop w xs ++ take w xs) k ≡ flag xs (k + w)
-rotated xs w fits cleared k = elim (cases_lt k (length xs - w)) [
-  | inl before ↦
-      let len : k < length (drop w xs) = rw length-drop before in
-      get_or_append_left (drop w xs) (take w xs) false k len ∙ get_or-drop w xs k false ∙ ap (λ i. flag xs i) (omega arith)
-  | inr after ↦
-      get_or-append_right (drop w xs) (take w xs) (length xs - w) k false (length-drop w xs) after
-      ∙ moved (k - (length xs - w))
-      ∙ sym (get_or_past xs (k + w) false (omega arith))
-]
-  where
-    moved : (j : ℕ) → flag (take w xs) j ≡ false
-    moved j = elim (cases_lt j w) [
-      | inl inside ↦ get_or-take w xs j false inside ∙ cleared j inside
-      | inr past ↦ get_or_past (take w xs) j false (simp length-take (omega arith))
-    ]
 
 -- flags that move by their places move by rows
 module _ (w x : ℕ) (x_in : x < w) (old new : List Bool) (a e n : ℕ) where

@@ -9,6 +9,7 @@ ghost use Rattle.ansi_model.specs.Flags.{flag, AreContinuations, is_cut};
 
 use ratatui_core::backend::ClearType;
 use ratatui_core::layout::Size;
+use rtui_grid::{fill, shift_down, shift_up};
 use std::alloc::{AllocError, Global};
 use std::ops::Range;
 
@@ -19,59 +20,6 @@ pub fn blank_flags(alloc: Global, size: Size) -> Result<Vec<bool>, AllocError>
 {
     let count = usize::from(size.width) * usize::from(size.height);
     Vec::from_elem(alloc, false, count)
-}
-
-// Clears the flags from one place up to another.
-fn clear(flags: &mut [bool], from: usize, to: usize)
-    requires order { from ≤ to }
-    requires end { to ≤ length flags.old }
-    ensures { (k : ℕ) → flag flags.new k
-        ≡ (if nat_le from k && nat_lt k to then false else flag flags.old k) }
-{
-    for k in from..to {
-        flags[k] = false;
-    }
-}
-
-// Moves flags up by so many places; false comes in after them.
-fn shift_up(flags: &mut [bool], by: usize)
-    ensures { (k : ℕ) → flag flags.new k ≡ flag flags.old (k + by) }
-{
-    let count = by.min(flags.len());
-    clear(flags, 0, count);
-    flags.rotate_left(count);
-}
-
-// Moves flags down by so many places; false comes in before them.
-fn shift_down(flags: &mut [bool], by: usize)
-    ensures { (k : ℕ) → flag flags.new k ≡ (if nat_lt k (length flags.old)
-        then (if nat_le by k then flag flags.old (k - by) else false) else false) }
-{
-    let count = by.min(flags.len());
-    flags.rotate_right(count);
-    clear(flags, 0, count);
-}
-
-// Moves the flags from one place up to another up by so many places; false comes in after them.
-fn shift_part_up(flags: &mut [bool], from: usize, to: usize, by: usize)
-    requires order { from ≤ to }
-    requires end { to ≤ length flags.old }
-    ensures { (k : ℕ) → flag flags.new k ≡ (if nat_le from k && nat_lt k to
-        then (if nat_lt (k + by) to then flag flags.old (k + by) else false)
-        else flag flags.old k) }
-{
-    shift_up(&mut flags[from..to], by);
-}
-
-// Moves the flags from one place up to another down by so many places; false comes in before them.
-fn shift_part_down(flags: &mut [bool], from: usize, to: usize, by: usize)
-    requires order { from ≤ to }
-    requires end { to ≤ length flags.old }
-    ensures { (k : ℕ) → flag flags.new k ≡ (if nat_le from k && nat_lt k to
-        then (if nat_le (from + by) k then flag flags.old (k - by) else false)
-        else flag flags.old k) }
-{
-    shift_down(&mut flags[from..to], by);
 }
 
 /// Moves the flags of a region's rows up by `n` rows, as the rows themselves; the region ends at
@@ -91,7 +39,7 @@ pub fn raise_flags(flags: &mut [bool], size: Size, region: Range<u16>, n: u16)
         let width = usize::from(size.width);
         let from = usize::from(region.start) * width;
         let to = usize::from(end) * width;
-        shift_part_up(flags, from, to, usize::from(n) * width);
+        shift_up(flags, from, to, usize::from(n) * width);
     }
 }
 
@@ -112,7 +60,7 @@ pub fn lower_flags(flags: &mut [bool], size: Size, region: Range<u16>, n: u16)
         let width = usize::from(size.width);
         let from = usize::from(region.start) * width;
         let to = usize::from(end) * width;
-        shift_part_down(flags, from, to, usize::from(n) * width);
+        shift_down(flags, from, to, usize::from(n) * width);
     }
 }
 
@@ -122,7 +70,7 @@ pub fn clear_flags(flags: &mut [bool])
         → AreContinuations w h flags.new (columns_moved (clearing (λ a b. nat_lt b h)) c) }
 {
     let count = flags.len();
-    clear(flags, 0, count);
+    fill(flags, 0, count);
 }
 
 // The places of the flags of a part's columns.
@@ -161,7 +109,7 @@ pub fn clear_part_flags(flags: &mut [bool], size: Size, part: ClearType, x: u16,
         (columns_moved (clearing (is_cleared part x y)) c) }
 {
     let (from, to) = part_places(size, part, x, y);
-    clear(flags, from, to);
+    fill(flags, from, to);
 }
 
 /// Whether the column in this place is a continuation column.

@@ -12,6 +12,16 @@ pub trait Blank: Drop {
         ensures { self.new ≡ blank };
 }
 
+impl Blank for bool {
+    ghost use Rattle.std.specs.Prelude.{false};
+
+    ghost blank = { false };
+
+    fn make_blank(&mut self) {
+        *self = false;
+    }
+}
+
 /// Makes the elements from one place up to another blank.
 ///
 /// # Conditions
