@@ -1,8 +1,8 @@
 -- A row at the front of a line: where it ends, and what it keeps.
-use Rattle.std.proofs.Common.{◌≡◌, ℕ, zero, suc, ◌+◌, ◌-◌, ◌<◌, ◌≤◌, ◌++◌, ◌&&◌, ◌||◌, ◌==◌, ⊎_elim, Bool, true, false, not, nat_lt, nat_le, min, if◌then◌else◌, List, [], ◌∷◌, map, filter, take, drop, length, refl, sym, ap, subst, ◌∙◌, arith}
+use Rattle.std.proofs.Common.{◌≡◌, ℕ, zero, suc, ◌+◌, ◌-◌, ◌<◌, ◌≤◌, ◌++◌, ◌&&◌, ◌||◌, ◌==◌, ⊎_elim, Bool, true, false, not, nat_lt, nat_le, min, if◌then◌else◌, List, [], ◌∷◌, map, filter, take, drop, length, refl, sym, ap, ap₂, subst, ◌∙◌, arith}
 use Rattle.std.specs.Prelude.{slice_index_or}
 use Rattle.std.specs.List.{list_all, prefix_len, sum_by}
-use Rattle.std.proofs.lemmas.Bool.{cases_lt, and_parts, cases_Bool, true≢false}
+use Rattle.std.proofs.lemmas.Bool.{cases_lt, and_parts, and_right, or_right, cases_Bool}
 use Rattle.std.proofs.lemmas.Bool.Decides.{nat_tests}
 use Rattle.std.proofs.lemmas.List.{take-append-drop, take-take, drop-take, take_all, length-drop, length-take, length-map, take-map, drop-map, drop_more, drop_all, append_assoc, append-nil}
 use Rattle.std.proofs.lemmas.List.Elements.{filter-append}
@@ -15,8 +15,8 @@ use Rattle.ratatui_widgets.specs.Reflow.{data_of, is_break, is_of_word, grapheme
 -- ---- graphemes one by one
 
 -- the next grapheme, and those after it
-pub next-data : (gs : List StyledGrapheme) (i : ℕ) (g : StyledGrapheme) → i < length gs → g ≡ slice_index_or gs i g → data_of (drop i gs) ≡ grapheme_data g ∷ data_of (drop (i + 1) gs)
-next-data gs i g lt is = ap data_of (drop_more gs i g lt) ∙ ap (λ x. grapheme_data x ∷ data_of (drop (i + 1) gs)) (sym is)
+pub next-data : (gs : List StyledGrapheme) (i : ℕ) (d : StyledGrapheme) → i < length gs → data_of (drop i gs) ≡ grapheme_data (slice_index_or gs i d) ∷ data_of (drop (i + 1) gs)
+next-data gs i d lt = ap data_of (drop_more gs i d lt)
 
 pub none-left : (gs : List StyledGrapheme) (i : ℕ) → length gs ≤ i → data_of (drop i gs) ≡ []
 none-left gs i le = ap data_of (drop_all i gs le)
@@ -102,8 +102,12 @@ keeps-step g gs n more none = ⊎_elim
     (λ (le : n ≤ 0).
     let zero_is : n ≡ 0 = omega arith in
     ⊎_elim
-    (λ (word : is_of_word g ≡ true). ap (λ k. words_of (take k (g ∷ gs))) (end_after-none n (is_of_word g) zero_is ∙ rw word refl) ∙ rw word (ap (λ ws. g ∷ ws) (sym (none zero_is))))
-    (λ (blank : is_of_word g ≡ false). ap (λ k. words_of (take k (g ∷ gs))) (end_after-none n (is_of_word g) zero_is ∙ rw blank refl) ∙ rw blank (sym (none zero_is)))
+    (λ (word : is_of_word g ≡ true).
+    let one : end_after n (is_of_word g) ≡ 1 = end_after-none n (is_of_word g) zero_is ∙ ap (λ b. if b then 1 else 0) word in
+    ap (λ k. words_of (take k (g ∷ gs))) one ∙ rw word (ap (λ ws. g ∷ ws) (sym (none zero_is))))
+    (λ (blank : is_of_word g ≡ false).
+    let nothing : end_after n (is_of_word g) ≡ 0 = end_after-none n (is_of_word g) zero_is ∙ ap (λ b. if b then 1 else 0) blank in
+    ap (λ k. words_of (take k (g ∷ gs))) nothing ∙ rw blank (sym (none zero_is)))
     (cases_Bool (is_of_word g)))
     (cases_lt 0 n)
 
@@ -336,21 +340,23 @@ module _ (gs : List StyledGrapheme) (width n word end : ℕ) (at : word ≡ last
   pub word-broken : end ≤ 0 → word ≡ 0 → (n, n) ≡ break_in_word width (data_of gs) n
   word-broken none first = let t : nat_lt 0 end ≡ false = grind (arith, nat_tests) in let z : (word == 0) ≡ true = grind (arith, nat_tests) in rw (word-at, end-at, t, z) refl
 
+  abbrev whole : ℕ × ℕ
+  whole = (n, n)
+
+  abbrev moved : ℕ × ℕ
+  moved = (word, word)
+
   pub word-wide : end ≤ 0 → (wide : Bool) → wide ≡ nat_lt width (columns_taken (first_word (data_of (take (length gs - word) (drop word gs))))) → wide ≡ true → (n, n) ≡ break_in_word width (data_of gs) n
-  word-wide none wide e yes =
+  word-wide none wide e is_wide =
       let t : nat_lt 0 end ≡ false = grind (arith, nat_tests) in
-      let w : nat_lt width (columns_taken (first_word (drop word (data_of gs)))) ≡ true = wide-at wide e ∙ yes in
-      rw (word-at, end-at, t, w) (either (word == 0))
-    where
-      either : (b : Bool) → (n, n) ≡ (if b || true then (n, n) else (word, word))
-      either true = refl
-      either false = refl
+      let w : nat_lt width (columns_taken (first_word (drop word (data_of gs)))) ≡ true = wide-at wide e ∙ is_wide in
+      rw (word-at, end-at, t, w) (ap (λ b. if b then whole else moved) (sym (or_right (word == 0) true refl)))
 
   pub word-moved : end ≤ 0 → 0 < word → (wide : Bool) → wide ≡ nat_lt width (columns_taken (first_word (data_of (take (length gs - word) (drop word gs))))) → wide ≡ false → (word, word) ≡ break_in_word width (data_of gs) n
-  word-moved none some wide e no =
+  word-moved none some wide e is_not =
       let t : nat_lt 0 end ≡ false = grind (arith, nat_tests) in
       let z : (word == 0) ≡ false = grind (arith, nat_tests) in
-      let w : nat_lt width (columns_taken (first_word (drop word (data_of gs)))) ≡ false = wide-at wide e ∙ no in
+      let w : nat_lt width (columns_taken (first_word (drop word (data_of gs)))) ≡ false = wide-at wide e ∙ is_not in
       rw (word-at, end-at, t, z, w) refl
 
 module _ (gs : List StyledGrapheme) (width count : ℕ) (is : count ≡ count_fitting width (data_of gs)) where
@@ -363,12 +369,84 @@ module _ (gs : List StyledGrapheme) (width count : ℕ) (is : count ≡ count_fi
   pub break-none : count ≡ length gs → (count, count) ≡ row_break width (data_of gs)
   break-none all = let none : drop count (data_of gs) ≡ [] = drop_all count (data_of gs) (omega (arith, data-count gs)) in rw (count-at, none) refl
 
-  module _ (g : StyledGrapheme) (lt : count < length gs) (at : g ≡ slice_index_or gs count g) where
-    next-is : drop count (data_of gs) ≡ grapheme_data g ∷ data_of (drop (count + 1) gs)
-    next-is = sym (data-drop count gs) ∙ next-data gs count g lt at
+  module _ (d : StyledGrapheme) (lt : count < length gs) where
+    next-is : drop count (data_of gs) ≡ grapheme_data (slice_index_or gs count d) ∷ data_of (drop (count + 1) gs)
+    next-is = sym (data-drop count gs) ∙ next-data gs count d lt
 
-    pub break-blank : (b : ℕ × ℕ) → b ≡ break_at_blank (data_of gs) count → is_break (grapheme_data g) ≡ true → b ≡ row_break width (data_of gs)
+    pub break-blank : (b : ℕ × ℕ) → b ≡ break_at_blank (data_of gs) count → is_break (grapheme_data (slice_index_or gs count d)) ≡ true → b ≡ row_break width (data_of gs)
     break-blank b e blank = e ∙ rw (count-at, next-is, blank) refl
 
-    pub break-word : (b : ℕ × ℕ) → b ≡ break_in_word width (data_of gs) count → is_break (grapheme_data g) ≡ false → b ≡ row_break width (data_of gs)
+    pub break-word : (b : ℕ × ℕ) → b ≡ break_in_word width (data_of gs) count → is_break (grapheme_data (slice_index_or gs count d)) ≡ false → b ≡ row_break width (data_of gs)
     break-word b e word = e ∙ rw (count-at, next-is, word) refl
+
+-- a turn of the loop over a word
+module _ (gs : List StyledGrapheme) (i left width w : ℕ) (d : StyledGrapheme) (lt : i < length gs) (is : w ≡ grapheme_columns (grapheme_data (slice_index_or gs i d))) (word : is_break (grapheme_data (slice_index_or gs i d)) ≡ false)
+    (so_far : nat_lt left (columns_taken (first_word (data_of (drop i gs)))) ≡ nat_lt width (columns_taken (first_word (data_of gs)))) where
+  word-columns : columns_taken (first_word (data_of (drop i gs))) ≡ w + columns_taken (first_word (data_of (drop (i + 1) gs)))
+  word-columns = ap (λ xs. columns_taken (first_word xs)) (next-data gs i d lt) ∙ (word-next (grapheme_data (slice_index_or gs i d)) (data_of (drop (i + 1) gs)) word ∙ ap (λ n. n + columns_taken (first_word (data_of (drop (i + 1) gs)))) (sym is))
+
+  pub wide-turn : w ≤ left → nat_lt (left - w) (columns_taken (first_word (data_of (drop (i + 1) gs)))) ≡ nat_lt width (columns_taken (first_word (data_of gs)))
+  wide-turn le = wide-next left w (columns_taken (first_word (data_of (drop (i + 1) gs)))) le ∙ (ap (nat_lt left) (sym word-columns) ∙ so_far)
+
+  pub wide-found : left < w → true ≡ nat_lt width (columns_taken (first_word (data_of gs)))
+  wide-found more = sym (wide-full left w (columns_taken (first_word (data_of (drop (i + 1) gs)))) more) ∙ (ap (nat_lt left) (sym word-columns) ∙ so_far)
+
+-- a row and where the next one begins, in a slice
+pub start-inside : (gs : List StyledGrapheme) (trim : Bool) (start : ℕ) → start ≡ trimmed_start trim (data_of gs) → start ≤ length gs
+start-inside gs trim start at = let le = trimmed-le trim (data_of gs) in omega (arith, at, data-count gs)
+
+module _ (gs : List StyledGrapheme) (width : ℕ) (trim : Bool) (start : ℕ) (b : ℕ × ℕ) (fit : AllFit width (data_of gs)) (at : start ≡ trimmed_start trim (data_of gs))
+    (is : b ≡ row_break width (data_of (take (length gs - start) (drop start gs)))) where
+  abbrev rest : List GraphemeData
+  rest = drop (trimmed_start trim (data_of gs)) (data_of gs)
+
+  rest-at : data_of (take (length gs - start) (drop start gs)) ≡ rest
+  rest-at = data-tail start gs ∙ ap (λ s. drop s (data_of gs)) at
+
+  break-at : b ≡ row_break width rest
+  break-at = is ∙ ap (row_break width) rest-at
+
+  pub split-value : (data_of (take b.0 (take (length gs - start) (drop start gs))), start + b.1) ≡ split_row width trim (data_of gs)
+  split-value = ap₂ (λ xs n. (xs, n)) (data-take b.0 (take (length gs - start) (drop start gs)) ∙ (ap (take b.0) rest-at ∙ ap (λ c. take c.0 rest) break-at)) (ap (λ s. s + b.1) at ∙ ap (λ c. trimmed_start trim (data_of gs) + c.1) break-at)
+
+  pub split-is : IsSplit width (data_of gs) (data_of (take b.0 (take (length gs - start) (drop start gs))), start + b.1)
+  split-is = subst (IsSplit width (data_of gs)) (sym split-value) (split_row-is width trim (data_of gs) fit)
+
+  pub next-inside : start + b.1 ≤ length gs
+  next-inside = let le = split-is.inside in omega (arith, data-count gs)
+
+  broken : IsBreak width rest b
+  broken = subst (IsBreak width rest) (sym break-at) (row_break-is width rest (fit-past width (trimmed_start trim (data_of gs)) (data_of gs) fit))
+
+  pub end-inside : b.0 ≡ length (take b.0 (take (length gs - start) (drop start gs)))
+  end-inside =
+      let le = broken.ends in let more = broken.inside in
+      let count : length rest ≡ length gs - start = ap length (sym (data-tail start gs ∙ ap (λ s. drop s (data_of gs)) at)) ∙ (data-count (take (length gs - start) (drop start gs)) ∙ (ap length (tail-is start gs) ∙ length-drop start gs)) in
+      omega (arith, length-take b.0 (take (length gs - start) (drop start gs)), ap length (tail-is start gs), length-drop start gs)
+
+after-none : (gs : List GraphemeData) → after_columns 0 gs ≡ gs
+after-none [] = refl
+after-none (g ∷ gs) = refl
+
+-- one grapheme more of a line that is cut
+pub cut-turn : (width used offset w : ℕ) (d : GraphemeData) (left others_left row more_row all : List GraphemeData) → left ≡ d ∷ others_left → more_row ≡ row ++ d ∷ [] → w ≡ grapheme_columns d → w ≤ width → w ≤ width - used → (0 < offset → offset < w)
+    → row ++ fitting_front (width - used) (after_columns offset (filter (fits_row width) left)) ≡ all
+    → more_row ++ fitting_front (width - (used + w)) (after_columns 0 (filter (fits_row width) others_left)) ≡ all
+cut-turn width used offset w d left others_left row more_row all is pushed columns fits room stops so_far =
+    let others = filter (fits_row width) others_left in
+    let kept : filter (fits_row width) left ≡ d ∷ others = ap (filter (fits_row width)) is ∙ (let yes_fits : fits_row width d ≡ true = grind (arith, nat_tests) in rw yes_fits refl) in
+    let here : after_columns offset (d ∷ others) ≡ d ∷ others = (let off : (nat_lt 0 offset && nat_le (grapheme_columns d) offset) ≡ false = skip-not offset (grapheme_columns d) (λ some. (let lt = stops some in omega arith)) in rw off refl) in
+    let more : fitting_front (width - used) (d ∷ others) ≡ d ∷ fitting_front (width - used - w) others =
+    ap (λ n. take n (d ∷ others)) (count-next (width - used) d others (omega arith)) ∙ ap (λ k. d ∷ fitting_front (width - used - k) others) (sym columns) in
+    let room_left : width - used - w ≡ width - (used + w) = omega arith in
+    ap (λ gs. gs ++ fitting_front (width - (used + w)) (after_columns 0 others)) pushed
+    ∙ (append_assoc row (d ∷ []) (fitting_front (width - (used + w)) (after_columns 0 others))
+    ∙ (ap (λ gs. row ++ d ∷ fitting_front (width - (used + w)) gs) (after-none others)
+    ∙ (ap (λ n. row ++ d ∷ fitting_front n others) (sym room_left)
+    ∙ (ap (λ gs. row ++ gs) (sym (ap (λ gs. fitting_front (width - used) gs) (ap (after_columns offset) kept ∙ here) ∙ more)) ∙ so_far))))
+  where
+    skip-not : (n m : ℕ) → (0 < n → n < m) → (nat_lt 0 n && nat_le m n) ≡ false
+    skip-not n m lt = ⊎_elim
+        (λ (some : 0 < n). let less = lt some in let f : nat_le m n ≡ false = grind (arith, nat_tests) in and_right (nat_lt 0 n) (nat_le m n) f)
+        (λ (le : n ≤ 0). let f : nat_lt 0 n ≡ false = grind (arith, nat_tests) in rw f refl)
+        (cases_lt 0 n)

@@ -1,13 +1,14 @@
 -- The rows of a paragraph, painted one after the other.
-use Rattle.std.proofs.Common.{◌≡◌, ℕ, zero, suc, ◌+◌, ◌-◌, ◌/◌, ◌<◌, ◌≤◌, ◌++◌, ⊎_elim, Bool, true, false, nat_lt, All, List, [], ◌∷◌, map, filter, take, drop, length, Option, Some, None, min, refl, sym, ap, subst, ◌∙◌, arith}
+use Rattle.std.proofs.Common.{◌≡◌, ℕ, zero, suc, ◌+◌, ◌-◌, ◌/◌, ◌<◌, ◌≤◌, ◌++◌, ⊎_elim, Bool, true, false, nat_lt, All, List, [], ◌∷◌, map, filter, take, drop, length, Option, Some, None, min, refl, sym, ap, ap₂, subst, ◌∙◌, arith}
 use Rattle.std.specs.Prelude.{slice_index_or}
-use Rattle.std.specs.List.{flat_map, concat}
-use Rattle.std.proofs.lemmas.Bool.{cases_lt}
+use Rattle.std.specs.List.{flat_map}
+use Rattle.std.proofs.lemmas.Bool.{cases_lt, cases_Bool}
 use Rattle.std.proofs.lemmas.Bool.Decides.{nat_tests}
 use Rattle.std.proofs.lemmas.List.Elements.{All-nil, All-cons, All-head, All-tail, filter-append}
 use Rattle.std.proofs.lemmas.List.{length-drop, length-map, take-append-drop, drop_more, drop_all, append_assoc, append-nil, drop-map, map-append, drop-drop}
 use Rattle.ratatui_core.specs.Layout.{Rect}
-use Rattle.ratatui_core.specs.Text.{GraphemeData, LineData, has_control}
+use Rattle.ratatui_core.specs.Text.{GraphemeData, grapheme_data, LineData, has_control}
+use Rattle.ratatui_core.specs.declared.text.StyledGrapheme.{StyledGrapheme}
 use Rattle.ratatui_core.specs.Buffer.{BufferData, PaintsPieces, columns, painted_width, text_width, text_pieces, right_by, position_of}
 use Rattle.ratatui_core.proofs.BufferLemmas.{PaintsPieces-append, PaintsPieces-none, grapheme-piece, pieces-wide, text_pieces-none}
 use Rattle.ratatui_core.specs.declared.layout.HorizontalAlignment.{HorizontalAlignment}
@@ -15,13 +16,13 @@ use Rattle.ratatui_core.specs.declared.layout.HorizontalAlignment.TheVariants.{L
 use Rattle.ratatui_widgets.specs.declared.paragraph.Paragraph.{Paragraph}
 use Rattle.ratatui_widgets.specs.declared.paragraph.Wrap.{Wrap}
 use Rattle.rtui_boxes.specs.Titles.{InTurn}
-use Rattle.ratatui_widgets.specs.Reflow.{grapheme_columns, columns_taken, words_of, is_of_word, AllFit, count_fitting, cut_row, after_columns, fits_row, split_row, rows_within, broken_rows}
-use Rattle.ratatui_widgets.specs.Paragraphs.{TextRow, IsWhole, row_pieces, aligned_row, aligned_rows, cut_line, broken_line, rows_of_lines, rows_shown, indent_of, PaintsGrapheme, PaintsGraphemes, PaintsRow, PaintsRows, PaintsOn}
-use Rattle.ratatui_widgets.proofs.ReflowLemmas.{split_row-is, fit-past, count-fits}
+use Rattle.ratatui_widgets.specs.Reflow.{data_of, grapheme_columns, columns_taken, words_of, is_of_word, AllFit, count_fitting, cut_row, after_columns, fits_row, split_row, rows_within, broken_rows}
+use Rattle.ratatui_widgets.specs.Paragraphs.{TextRow, alignment_of, graphemes_of, IsWhole, row_pieces, aligned_row, aligned_rows, cut_line, broken_line, rows_of_lines, rows_shown, indent_of, PaintsGrapheme, PaintsGraphemes, PaintsRow, PaintsRows, PaintsOn}
+use Rattle.ratatui_widgets.proofs.ReflowLemmas.{split_row-is, fit-past, count-fits, next-data, none-left, columns-next, data-drop, data-count, tail-is}
 
 -- a row that fits ends in its area
 pub indent-fits : (a : HorizontalAlignment) (width room : ℕ) → width ≤ room → indent_of a width room + width ≤ room
-indent-fits Left width room le = le
+indent-fits Left width room le = omega arith
 indent-fits Center width room le = omega arith
 indent-fits Right width room le = omega arith
 
@@ -138,22 +139,22 @@ rows-done r k skip first left all old now none finishes =
 pub rows-start : (r : Rect) (k skip : ℕ) (all : List TextRow) (old : BufferData) → FinishesRows r k skip all k skip all old old
 rows-start r k skip all old = λ more new others. others
 
-drop-none : (skip : ℕ) → drop skip [] ≡ []
-drop-none zero = refl
-drop-none (suc n) = refl
+drop-none : (skip : ℕ) (left : List TextRow) → left ≡ [] → drop skip left ≡ []
+drop-none zero left none = none
+drop-none (suc n) left none = rw none refl
 
-take-none : (n : ℕ) → take n [] ≡ []
-take-none zero = refl
-take-none (suc n) = refl
+take-none : (n : ℕ) (left : List TextRow) → left ≡ [] → take n left ≡ []
+take-none zero left none = refl
+take-none (suc n) left none = rw none refl
 
 pub shown-none : (n skip : ℕ) (left : List TextRow) → left ≡ [] → rows_shown n skip left ≡ []
-shown-none n skip left none = ap (λ rows. take n (drop skip rows)) none ∙ (ap (take n) (drop-none skip) ∙ take-none n)
+shown-none n skip left none = take-none n (drop skip left) (drop-none skip left none)
 
 pub shown-full : (n skip : ℕ) (left : List TextRow) → n ≡ 0 → rows_shown n skip left ≡ []
 shown-full n skip left none = ap (λ k. take k (drop skip left)) none
 
 pub shown-past : (n skip : ℕ) (left : List TextRow) → length left ≤ skip → rows_shown n skip left ≡ []
-shown-past n skip left past = ap (take n) (drop_all skip left past) ∙ take-none n
+shown-past n skip left past = take-none n (drop skip left) (drop_all skip left past)
 
 -- ---- what rows keep
 
@@ -172,7 +173,7 @@ pub rows-fit : (width : ℕ) (trim : Bool) (gs : List GraphemeData) → AllFit w
 rows-fit width trim [] fit = fit-one width [] [] (omega arith) (All-nil (λ r. columns_taken r ≤ width))
 rows-fit width trim (g ∷ gs) fit = fit-within (length (g ∷ gs)) width trim (g ∷ gs) fit
 
-keep-within : (n width : ℕ) (trim : Bool) (gs : List GraphemeData) → AllFit width gs → length gs ≤ n → words_of (concat (rows_within n width trim gs)) ≡ words_of gs
+keep-within : (n width : ℕ) (trim : Bool) (gs : List GraphemeData) → AllFit width gs → length gs ≤ n → flat_map words_of (rows_within n width trim gs) ≡ words_of gs
 keep-within zero width trim [] fit le = refl
 keep-within zero width trim (g ∷ gs) fit le = absurd (omega arith)
 keep-within (suc n) width trim [] fit le = refl
@@ -183,12 +184,11 @@ keep-within (suc n) width trim (g ∷ gs) fit le =
     let one = is.some (omega arith) in
     let less : length rest ≡ length (g ∷ gs) - split.1 = length-drop split.1 (g ∷ gs) in
     let others = keep-within n width trim rest (fit-past width split.1 (g ∷ gs) fit) (omega arith) in
-    filter-append is_of_word split.0 (concat (rows_within n width trim rest))
-    ∙ (ap (λ ws. ws ++ words_of (concat (rows_within n width trim rest))) (sym is.keeps)
+    ap (λ ws. ws ++ flat_map words_of (rows_within n width trim rest)) (sym is.keeps)
     ∙ (ap (λ ws. words_of (take split.1 (g ∷ gs)) ++ ws) others
-    ∙ (sym (filter-append is_of_word (take split.1 (g ∷ gs)) rest) ∙ ap words_of (take-append-drop split.1 (g ∷ gs)))))
+    ∙ (sym (filter-append is_of_word (take split.1 (g ∷ gs)) rest) ∙ ap words_of (take-append-drop split.1 (g ∷ gs))))
 
-pub rows-keep : (width : ℕ) (trim : Bool) (gs : List GraphemeData) → AllFit width gs → words_of (concat (broken_rows width trim gs)) ≡ words_of gs
+pub rows-keep : (width : ℕ) (trim : Bool) (gs : List GraphemeData) → AllFit width gs → flat_map words_of (broken_rows width trim gs) ≡ words_of gs
 rows-keep width trim [] fit = refl
 rows-keep width trim (g ∷ gs) fit = keep-within (length (g ∷ gs)) width trim (g ∷ gs) fit (omega arith)
 
@@ -256,3 +256,99 @@ cut-next r k first row all old now mid lt is finishes made = λ new others.
 
 pub cut-done : (r : Rect) (k first : ℕ) (all : List TextRow) (old now : BufferData) → rows_shown (r.height - k) (first + k) all ≡ [] → FinishesCut r k first all old now → PaintsRows r r.y (rows_shown r.height first all) old now
 cut-done r k first all old now none finishes = finishes now (subst (λ rows. PaintsRows r (r.y + k) rows now now) (sym none) refl)
+
+-- ---- a loop over graphemes
+
+pub grapheme-turn : (row : List StyledGrapheme) (i used w width : ℕ) (d : StyledGrapheme) → i < length row → w ≡ grapheme_columns (grapheme_data (slice_index_or row i d)) → used + columns_taken (data_of (drop i row)) ≤ width
+    → used + w + columns_taken (data_of (drop (i + 1) row)) ≤ width
+grapheme-turn row i used w width d lt is fits =
+    let e : columns_taken (data_of (drop i row)) ≡ w + columns_taken (data_of (drop (i + 1) row)) = ap columns_taken (next-data row i d lt) ∙ (columns-next (grapheme_data (slice_index_or row i d)) (data_of (drop (i + 1) row)) ∙ ap (λ n. n + columns_taken (data_of (drop (i + 1) row))) (sym is)) in
+    omega arith
+
+pub row-turn : (row : List StyledGrapheme) (i y x used w start : ℕ) (d : StyledGrapheme) (old now mid : BufferData) → i < length row → w ≡ grapheme_columns (grapheme_data (slice_index_or row i d))
+    → FinishesRow y (x + used) (data_of (drop i row)) start (data_of row) old now → PaintsGrapheme (x + used) y (grapheme_data (slice_index_or row i d)) now mid
+    → FinishesRow y (x + (used + w)) (data_of (drop (i + 1) row)) start (data_of row) old mid
+row-turn row i y x used w start d old now mid lt is finishes made = λ new others.
+    let place : x + (used + w) ≡ x + used + grapheme_columns (grapheme_data (slice_index_or row i d)) = omega arith in
+    row-next y (x + used) start (grapheme_data (slice_index_or row i d)) (data_of (drop i row)) (data_of (drop (i + 1) row)) (data_of row) old now mid (next-data row i d lt) finishes made new
+    (subst (λ z. PaintsGraphemes z y (data_of (drop (i + 1) row)) mid new) place others)
+
+-- ---- a loop over the rows of a line
+
+-- graphemes that are left, and the row at their front
+module _ (gs : List StyledGrapheme) (from width : ℕ) (trim : Bool) (row : List StyledGrapheme) (count : ℕ) (fit : AllFit width (data_of gs)) (lt : from < length gs)
+    (is : (data_of row, count) ≡ split_row width trim (data_of (take (length gs - from) (drop from gs)))) where
+  left-data : data_of (take (length gs - from) (drop from gs)) ≡ data_of (drop from gs)
+  left-data = ap data_of (tail-is from gs)
+
+  split-left : (data_of row, count) ≡ split_row width trim (data_of (drop from gs))
+  split-left = is ∙ ap (split_row width trim) left-data
+
+  pub left-next : rows_left width trim (data_of (drop from gs)) ≡ data_of row ∷ rows_left width trim (data_of (drop (from + count) gs))
+  left-next =
+      let fits : AllFit width (data_of (drop from gs)) = subst (AllFit width) (sym (data-drop from gs)) (fit-past width from (data_of gs) fit) in
+      let some : 0 < length (data_of (drop from gs)) = omega (arith, data-count (drop from gs), length-drop from gs) in
+      let rest : drop (split_row width trim (data_of (drop from gs))).1 (data_of (drop from gs)) ≡ data_of (drop (from + count) gs) =
+      ap (λ s. drop s.1 (data_of (drop from gs))) (sym split-left) ∙ (sym (data-drop count (drop from gs)) ∙ ap data_of (drop-drop count from gs ∙ ap (λ n. drop n gs) (omega arith))) in
+      rows-next width trim (data_of (drop from gs)) fits some ∙ ap₂ (λ r rs. r ∷ rs) (ap (λ s. s.0) (sym split-left)) (ap (rows_left width trim) rest)
+
+pub fit-left : (gs : List StyledGrapheme) (from width : ℕ) → AllFit width (data_of gs) → AllFit width (data_of (take (length gs - from) (drop from gs)))
+fit-left gs from width fit = subst (AllFit width) (sym (ap data_of (tail-is from gs) ∙ data-drop from gs)) (fit-past width from (data_of gs) fit)
+
+pub left-none : (gs : List StyledGrapheme) (from width : ℕ) (trim : Bool) → length gs ≤ from → rows_left width trim (data_of (drop from gs)) ≡ []
+left-none gs from width trim le = ap (rows_left width trim) (none-left gs from le)
+
+pub left-all : (gs : List StyledGrapheme) (width : ℕ) (trim : Bool) → 0 < length gs → broken_rows width trim (data_of gs) ≡ rows_left width trim (data_of (drop 0 gs))
+left-all gs width trim some = broken-some width trim (data_of gs) (omega (arith, data-count gs))
+
+pub left-empty : (gs : List StyledGrapheme) (width : ℕ) (trim : Bool) → length gs ≡ 0 → broken_rows width trim (data_of gs) ≡ [] ∷ []
+left-empty gs width trim none = broken-none width trim (data_of gs) (data-count gs ∙ none)
+
+pub fitting-fit : (width : ℕ) (gs : List GraphemeData) → AllFit width (filter (fits_row width) gs)
+fitting-fit width [] = refl
+fitting-fit width (g ∷ gs) = ⊎_elim
+    (λ (fits : fits_row width g ≡ true). rw fits (rw fits (fitting-fit width gs)))
+    (λ (off : fits_row width g ≡ false). rw off (fitting-fit width gs))
+    (cases_Bool (fits_row width g))
+
+-- ---- a loop over lines
+
+pub lines-next : (p : Paragraph) (width : ℕ) (wrap : Wrap) (lines : List LineData) (i : ℕ) (line : LineData) → i < length lines → line ≡ slice_index_or lines i line
+    → rows_of_lines (Some wrap) p width (drop i lines) ≡ broken_line p width wrap line ++ rows_of_lines (Some wrap) p width (drop (i + 1) lines)
+lines-next p width wrap lines i line lt is = ap (rows_of_lines (Some wrap) p width) (drop_more lines i line lt ∙ ap (λ l. l ∷ drop (i + 1) lines) (sym is))
+
+pub lines-none : (p : Paragraph) (width : ℕ) (wrap : Wrap) (lines : List LineData) (i : ℕ) → length lines ≤ i → rows_of_lines (Some wrap) p width (drop i lines) ≡ []
+lines-none p width wrap lines i le = ap (rows_of_lines (Some wrap) p width) (drop_all i lines le)
+
+pub cut-line-next : (p : Paragraph) (width : ℕ) (lines : List LineData) (i : ℕ) (line : LineData) → i < length lines → line ≡ slice_index_or lines i line
+    → drop i (rows_of_lines None p width lines) ≡ cut_line p width line ∷ drop (i + 1) (rows_of_lines None p width lines)
+cut-line-next p width lines i line lt is =
+    drop-map (cut_line p width) i lines ∙ (ap (map (cut_line p width)) (drop_more lines i line lt ∙ ap (λ l. l ∷ drop (i + 1) lines) (sym is))
+    ∙ ap (λ rows. cut_line p width line ∷ rows) (sym (drop-map (cut_line p width) (i + 1) lines)))
+
+pub cut-line-past : (p : Paragraph) (width : ℕ) (lines : List LineData) (n i : ℕ) → length lines ≤ i → rows_shown n i (rows_of_lines None p width lines) ≡ []
+cut-line-past p width lines n i past = shown-past n i (map (cut_line p width) lines) (omega (arith, length-map lines (cut_line p width)))
+
+pub left-inside : (gs : List StyledGrapheme) (from count : ℕ) → from < length gs → count ≤ length (take (length gs - from) (drop from gs)) → from + count ≤ length gs
+left-inside gs from count lt le = omega (arith, ap length (tail-is from gs), length-drop from gs)
+
+-- a line without graphemes is an empty row
+pub empty-row : (r : Rect) (k skip : ℕ) (a : HorizontalAlignment) (width : ℕ) (trim : Bool) (gs : List StyledGrapheme) (old : BufferData) → length gs ≡ 0 → skip ≡ 0 → k < r.height
+    → PaintsOn r k (k + 1) skip skip (aligned_rows a (broken_rows width trim (data_of gs))) old old
+empty-row r k skip a width trim gs old none zero_skip lt =
+    let rows = aligned_rows a (broken_rows width trim (data_of gs)) in
+    let is : rows ≡ aligned_row a [] ∷ [] = ap (aligned_rows a) (left-empty gs width trim none) in
+    rows-paint r k skip k skip (aligned_row a []) rows [] rows old old is (rows-start r k skip rows old) old zero_skip lt refl
+
+-- the rows of a line are those of its graphemes that fit
+pub rows-of-line : (p : Paragraph) (width : ℕ) (wrap : Wrap) (line : LineData) (a : HorizontalAlignment) (gs : List StyledGrapheme) → a ≡ alignment_of p line → data_of gs ≡ filter (fits_row width) (graphemes_of p line)
+    → aligned_rows a (broken_rows width wrap.trim (data_of gs)) ≡ broken_line p width wrap line
+rows-of-line p width wrap line a gs same fit = ap₂ (λ b ds. aligned_rows b (broken_rows width wrap.trim ds)) same fit
+
+pub count-of-line : (p : Paragraph) (width : ℕ) (wrap : Wrap) (line : LineData) (gs : List StyledGrapheme) → data_of gs ≡ filter (fits_row width) (graphemes_of p line)
+    → length (broken_rows width wrap.trim (data_of gs)) ≡ length (broken_line p width wrap line)
+count-of-line p width wrap line gs fit =
+    ap (λ ds. length (broken_rows width wrap.trim ds)) fit ∙ sym (length-map (broken_rows width wrap.trim (filter (fits_row width) (graphemes_of p line))) (aligned_row (alignment_of p line)))
+
+pub fit-of-line : (width : ℕ) (gs : List StyledGrapheme) (all : List GraphemeData) → data_of gs ≡ filter (fits_row width) all → AllFit width (data_of gs)
+fit-of-line width gs all fit = subst (AllFit width) (sym fit) (fitting-fit width all)

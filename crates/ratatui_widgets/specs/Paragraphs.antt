@@ -1,5 +1,5 @@
 -- A paragraph: its rows, and what it changes.
-use Rattle.std.specs.Prelude.{◌≡◌, ℕ, ◌+◌, ◌-◌, ◌/◌, nat_lt, false, List, [], ◌∷◌, ◌++◌, map, filter, take, drop, Option, Some, None, unwrap_or}
+use Rattle.std.specs.Prelude.{◌≡◌, ℕ, ◌+◌, ◌-◌, ◌/◌, ◌==◌, min, length, if◌then◌else◌, nat_lt, false, List, [], ◌∷◌, ◌++◌, map, filter, take, drop, Option, Some, None, unwrap_or}
 use Rattle.std.specs.List.{flat_map}
 use Rattle.ratatui_core.specs.Layout.{Rect, EdgesFit}
 use Rattle.ratatui_core.specs.Style.{new_style, patch}
@@ -11,7 +11,7 @@ use Rattle.ratatui_widgets.specs.declared.paragraph.Paragraph.{Paragraph}
 use Rattle.ratatui_widgets.specs.declared.paragraph.Wrap.{Wrap}
 use Rattle.rtui_boxes.specs.Boxes.{IsPlainIfBox}
 use Rattle.rtui_boxes.specs.Titles.{InTurn}
-use Rattle.rtui_boxes.specs.Framed.{RendersInFrame}
+use Rattle.rtui_boxes.specs.Framed.{RendersInFrame, rows_around_if}
 use Rattle.ratatui_widgets.specs.Reflow.{grapheme_columns, columns_taken, fits_row, cut_row, broken_rows}
 
 -- a text without a box, from its first row and column on, cut and aligned to the left
@@ -68,6 +68,10 @@ rows_of_lines (Some wrap) p width lines = flat_map (broken_line p width wrap) li
 -- the rows of a paragraph, in a width
 abbrev pub paragraph_rows : Paragraph → ℕ → List TextRow
 paragraph_rows p width = rows_of_lines p.wrap p width p.text.lines
+
+-- how many rows a paragraph takes in a width, with those of its box
+abbrev pub rows_taken : Paragraph → ℕ → ℕ
+rows_taken p width = if width == 0 then 0 else min (length (paragraph_rows p width) + rows_around_if p.block) 18446744073709551615
 
 -- in which column of the room a row of this width begins
 abbrev pub indent_of : HorizontalAlignment → ℕ → ℕ → ℕ

@@ -1,7 +1,7 @@
 //! Laws of widgets that are no single call's clause.
 
 ghost use Rattle.std.specs.Prelude.{◌≡◌, ℕ, ◌≤◌, Bool, List, All};
-ghost use Rattle.std.specs.List.{concat};
+ghost use Rattle.std.specs.List.{flat_map};
 ghost use Rattle.ratatui_core.specs.Buffer.{BufferData, PaintsPieces, position_of};
 ghost use Rattle.ratatui_core.specs.Text.{GraphemeData};
 ghost use Rattle.ratatui_widgets.specs.Paragraphs.{IsWhole, row_pieces, PaintsGraphemes};
@@ -22,7 +22,7 @@ pub fn wrapping_loses_nothing()
     ensures fits { (width : ℕ) (trim : Bool) (gs : List GraphemeData) → AllFit width gs
         → All (λ row. columns_taken row ≤ width) (broken_rows width trim gs) }
     ensures words { (width : ℕ) (trim : Bool) (gs : List GraphemeData) → AllFit width gs
-        → words_of (concat (broken_rows width trim gs)) ≡ words_of gs }
+        → flat_map words_of (broken_rows width trim gs) ≡ words_of gs }
 {}
 
 /// Whole graphemes that are painted in a row one after the other are painted together.

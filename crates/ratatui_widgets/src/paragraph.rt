@@ -7,14 +7,15 @@ ghost use Rattle.ratatui_core.specs.Text.{grapheme_data};
 ghost use Rattle.ratatui_core.specs.Widgets.{ChangesWithin};
 ghost use Rattle.ratatui_core.specs.declared.layout.HorizontalAlignment.TheVariants.{Left, Center, Right};
 ghost use Rattle.rtui_boxes.specs.Boxes.{IsBoxArea};
-ghost use Rattle.ratatui_widgets.specs.Paragraphs.{IsNewParagraph, aligned_row, aligned_rows, rows_of_lines, rows_shown, indent_of, PaintsGrapheme, PaintsRow, PaintsRows, PaintsOn, FillsText};
+ghost use Rattle.rtui_boxes.specs.Framed.{rows_around_if};
+ghost use Rattle.ratatui_widgets.specs.Paragraphs.{IsNewParagraph, aligned_row, aligned_rows, columns_scrolled, cut_line, broken_line, rows_of_lines, paragraph_rows, rows_taken, rows_shown, indent_of, PaintsGrapheme, PaintsRow, PaintsRows, PaintsOn, FillsText};
 ghost use Rattle.ratatui_widgets.specs.Reflow.{data_of, grapheme_columns, columns_taken, AllFit, broken_rows};
 
 use crate::reflow::{columns_of, fitting, split_row, truncated};
 use ratatui_core::buffer::{Buffer, CellWidth};
 use ratatui_core::layout::{HorizontalAlignment, Position, Rect};
 use ratatui_core::style::Style;
-use ratatui_core::text::{StyledGrapheme, Text};
+use ratatui_core::text::{Line, StyledGrapheme, Text};
 use ratatui_core::widgets::Widget;
 use rtui_boxes::{Block, render_frame};
 use std::alloc::{AllocError, Global};
@@ -126,25 +127,64 @@ impl<'a> Paragraph<'a> {
         self.alignment(HorizontalAlignment::Right)
     }
 
-    /// How many rows the paragraph takes in so many columns, with those of its box.
+    /// How many rows the paragraph takes in so many columns, with those of its box: none if there
+    /// are no columns, and at most `usize::MAX`.
     ///
     /// # Errors
     ///
     /// `AllocError` if memory is refused.
-    pub fn line_count(&self, alloc: Global, width: u16) -> Result<usize, AllocError> {
+    pub fn line_count(&self, alloc: Global, width: u16) -> Result<usize, AllocError>
+        ensures { IfOk result (λ n. n ≡ rows_taken self.now width) }
+    {
         if width < 1 {
             return Ok(0);
         }
-        let around = self.rows_around();
-        let rows = match self.wrap {
-            None => self.text.height(),
-            Some(wrap) => wrapped_rows(alloc, &self.text, width, wrap.trim)?,
-        };
-        Ok(rows.saturating_add(around))
+        let rows = self.count_rows(alloc, width)?;
+        Ok(rows.saturating_add(self.rows_around()))
+    }
+
+    // How many rows the text takes in so many columns.
+    fn count_rows(&self, alloc: Global, width: u16) -> Result<usize, AllocError>
+        ensures { IfOk result (λ n.
+            n ≡ min (length (paragraph_rows self.now width)) 18446744073709551615) }
+    {
+        match self.wrap {
+            None => Ok(self.text.height()),
+            Some(wrap) => self.count_broken_rows(alloc, width, wrap),
+        }
+    }
+
+    // How many rows the lines take that are broken.
+    fn count_broken_rows(&self, alloc: Global, width: u16, wrap: Wrap) -> Result<usize, AllocError>
+        ensures { let rows = rows_of_lines (Some wrap) self.now width self.now.text.lines in
+            IfOk result (λ n. n ≡ min (length rows) 18446744073709551615) }
+    {
+        let mut count = 0usize;
+        for line in self.text.lines.as_slice() {
+            count = count.saturating_add(self.count_broken(alloc, line, width, wrap)?);
+        }
+        Ok(count)
+    }
+
+    // How many rows a line takes that is broken.
+    fn count_broken(
+        &self,
+        alloc: Global,
+        line: &Line<'a>,
+        width: u16,
+        wrap: Wrap,
+    ) -> Result<usize, AllocError>
+        ensures { let rows = broken_line self.now width wrap line.now in
+            IfOk result (λ n. n ≡ min (length rows) 18446744073709551615) }
+    {
+        let row = fitting(alloc, line.styled_graphemes(self.text.style), width)?;
+        Ok(row_count(row.as_slice(), width, wrap.trim))
     }
 
     // How many rows a box takes.
-    fn rows_around(&self) -> usize {
+    fn rows_around(&self) -> usize
+        ensures { result ≡ rows_around_if self.now.block }
+    {
         match &self.block {
             None => 0,
             Some(block) => block.rows_around(),
@@ -175,26 +215,41 @@ impl<'a> Paragraph<'a> {
             OnOk result (PaintsRows part part.y shown buf.old buf.new) }
         ensures settled { IsReadyFrom part.y buf.old → OnOk result (IsSettledBuffer buf.new) }
     {
-        let alloc = buf.allocator();
         let lines = self.text.lines.as_slice();
         for k in 0..part.height {
             let Some(line) = lines.get(usize::from(self.scroll.y) + usize::from(k)) else {
                 return Ok(());
             };
-            let alignment = line.alignment.unwrap_or(self.alignment);
-            let offset = match alignment {
-                HorizontalAlignment::Left => self.scroll.x,
-                _ => 0,
-            };
-            let row = truncated(
-                alloc,
-                line.styled_graphemes(self.text.style),
-                part.width,
-                offset,
-            )?;
-            render_row(row.as_slice(), alignment, part, k, buf)?;
+            self.render_cut(line, part, k, buf)?;
         }
         Ok(())
+    }
+
+    // A line cut, in row k of a part.
+    fn render_cut(
+        &self,
+        line: &Line<'a>,
+        part: Rect,
+        k: u16,
+        buf: &mut Buffer,
+    ) -> Result<(), AllocError>
+        requires some { IsBoxArea part }
+        requires inside { IsInside part buf.old.area }
+        requires row { k < part.height }
+        ensures within { ChangesWithin part buf.old buf.new }
+        ensures ok { let row = cut_line self.now part.width line.now in
+            OnOk result (PaintsRow part (part.y + k) row buf.old buf.new) }
+        ensures ready { IsReadyFrom (part.y + k) buf.old
+            → OnOk result (IsReadyFrom (part.y + k + 1) buf.new) }
+    {
+        let alignment = line.alignment.unwrap_or(self.alignment);
+        let row = truncated(
+            buf.allocator(),
+            line.styled_graphemes(self.text.style),
+            part.width,
+            columns_scrolled(alignment, self.scroll.x),
+        )?;
+        render_row(row.as_slice(), alignment, part, k, buf)
     }
 
     // Each line broken into rows.
@@ -207,26 +262,52 @@ impl<'a> Paragraph<'a> {
             OnOk result (PaintsRows part part.y shown buf.old buf.new) }
         ensures settled { IsReadyFrom part.y buf.old → OnOk result (IsSettledBuffer buf.new) }
     {
-        let alloc = buf.allocator();
         let mut skip = self.scroll.y;
         let mut k = 0;
         for line in self.text.lines.as_slice() {
             if k == part.height {
                 return Ok(());
             }
-            let alignment = line.alignment.unwrap_or(self.alignment);
-            let row = fitting(alloc, line.styled_graphemes(self.text.style), part.width)?;
-            k = render_line(
-                row.as_slice(),
-                alignment,
-                wrap.trim,
-                &mut skip,
-                part,
-                k,
-                buf,
-            )?;
+            k = self.render_broken(line, wrap, &mut skip, part, k, buf)?;
         }
         Ok(())
+    }
+
+    // A line broken into rows, the first one in row k of a part, without as many rows as are still to be skipped; answers the row after the
+    // last one.
+    fn render_broken(
+        &self,
+        line: &Line<'a>,
+        wrap: Wrap,
+        skip: &mut u16,
+        part: Rect,
+        k: u16,
+        buf: &mut Buffer,
+    ) -> Result<u16, AllocError>
+        requires some { IsBoxArea part }
+        requires inside { IsInside part buf.old.area }
+        requires row { k ≤ part.height }
+        ensures within { ChangesWithin part buf.old buf.new }
+        ensures row { IfOk result (λ n. n ≤ part.height) }
+        ensures ok { let rows = broken_line self.now part.width wrap line.now in
+            IfOk result (λ n. PaintsOn part k n skip.old skip.new rows buf.old buf.new) }
+        ensures ready { IsReadyFrom (part.y + k) buf.old
+            → IfOk result (λ n. IsReadyFrom (part.y + n) buf.new) }
+    {
+        let alignment = line.alignment.unwrap_or(self.alignment);
+        let graphemes = line.styled_graphemes(self.text.style);
+        let row = fitting(buf.allocator(), graphemes, part.width)?;
+        render_line(row.as_slice(), alignment, wrap.trim, skip, part, k, buf)
+    }
+}
+
+// How many columns a line that is aligned so is scrolled.
+fn columns_scrolled(alignment: HorizontalAlignment, columns: u16) -> u16
+    ensures { result ≡ columns_scrolled alignment columns }
+{
+    match alignment {
+        HorizontalAlignment::Left => columns,
+        _ => 0,
     }
 }
 
@@ -290,21 +371,6 @@ fn row_count(graphemes: &[StyledGrapheme<'_>], width: u16, trim: bool) -> usize
         count = count.saturating_add(1);
     }
     count.max(1)
-}
-
-// How many rows a text takes that is broken in a width.
-fn wrapped_rows(
-    alloc: Global,
-    text: &Text<'_>,
-    width: u16,
-    trim: bool,
-) -> Result<usize, AllocError> {
-    let mut count = 0usize;
-    for line in text.lines.as_slice() {
-        let row = fitting(alloc, line.styled_graphemes(text.style), width)?;
-        count = count.saturating_add(row_count(row.as_slice(), width, trim));
-    }
-    Ok(count)
 }
 
 // The column in which a row of this width begins.

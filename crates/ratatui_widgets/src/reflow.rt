@@ -3,7 +3,7 @@
 ghost use Rattle.std.specs.Prelude.{◌≡◌, ◌+◌, ◌≤◌, ◌<◌, [], ◌∷◌, min, nat_lt, length, filter, take, drop, IfOk};
 ghost use Rattle.std.specs.List.{prefix_len};
 ghost use Rattle.ratatui_core.specs.Text.{line_graphemes_left};
-ghost use Rattle.ratatui_widgets.specs.Reflow.{data_of, is_break, is_of_word, columns_taken, words_of, fits_row, AllFit, count_fitting, cut_row, last_end, first_word, break_at_blank, break_in_word, row_break, split_row};
+ghost use Rattle.ratatui_widgets.specs.Reflow.{data_of, is_break, is_of_word, columns_taken, words_of, fits_row, AllFit, count_fitting, cut_row, last_end, first_word, break_at_blank, break_in_word, row_break, trimmed_start, split_row};
 
 use ratatui_core::buffer::CellWidth;
 use ratatui_core::text::{LineGraphemes, StyledGrapheme};
@@ -196,6 +196,13 @@ fn row_ends(graphemes: &[StyledGrapheme<'_>], width: u16) -> (usize, usize)
     }
 }
 
+// How many blanks are left out before a row, if rows are trimmed.
+fn trimmed_start(graphemes: &[StyledGrapheme<'_>], trim: bool) -> usize
+    ensures { result ≡ trimmed_start trim (data_of graphemes.now) }
+{
+    if trim { leading_blanks(graphemes) } else { 0 }
+}
+
 // The row at the front of a line, and how many graphemes stand before the next one. The row has at most the width. Only blanks are left
 // out: those at the front if rows are trimmed, and those at which the line is broken.
 pub(crate) fn split_row<'s, 't>(
@@ -212,7 +219,7 @@ pub(crate) fn split_row<'s, 't>(
     ensures some { 0 < length graphemes.now → 0 < result.1 }
     ensures inside { result.1 ≤ length graphemes.now }
 {
-    let start = if trim { leading_blanks(graphemes) } else { 0 };
+    let start = trimmed_start(graphemes, trim);
     let rest = &graphemes[start..];
     let (end, next) = row_ends(rest, width);
     (&rest[..end], start + next)

@@ -85,6 +85,10 @@ inner_of b r =
       height = r.height - t - one_if (has_row b bottom Bottom) - min (b.padding.top + b.padding.bottom) 65535;
     }
 
+-- how many rows the box takes above and below what is inside
+abbrev pub rows_around : Block → ℕ
+rows_around b = one_if (has_row b top Top) + one_if (has_row b bottom Bottom) + min (b.padding.top + b.padding.bottom) 65535
+
 -- a cell with a symbol drawn over it by a strategy, in a style
 abbrev pub drawn : MergeStrategy → Style → List ℕ → Cell → Cell
 drawn strategy style symbol c = styled style (with_symbol (joined strategy c.symbol symbol) c)

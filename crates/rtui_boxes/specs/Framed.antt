@@ -1,16 +1,21 @@
 -- A style and a box over a part of a buffer, and what is left to a widget inside.
-use Rattle.std.specs.Prelude.{◌≡◌, ◌⊎◌, ◌<◌, [], Option, Some, None, ⊤}
+use Rattle.std.specs.Prelude.{◌≡◌, ℕ, ◌⊎◌, ◌<◌, [], Option, Some, None, ⊤}
 use Rattle.ratatui_core.specs.Layout.{Rect, IsInside}
 use Rattle.ratatui_core.specs.Style.{Style}
 use Rattle.ratatui_core.specs.Buffer.{BufferData, IsStyled}
 use Rattle.ratatui_core.specs.Widgets.{ChangesWithin, OnPart}
 use Rattle.rtui_boxes.specs.declared.block.Block.{Block}
-use Rattle.rtui_boxes.specs.Boxes.{inner_of, RendersBlock, IsBoxArea, HasShortSymbols, AreShortCells}
+use Rattle.rtui_boxes.specs.Boxes.{inner_of, rows_around, RendersBlock, IsBoxArea, HasShortSymbols, AreShortCells}
 
 -- what is inside the box, if there is one
 abbrev pub inner_if : Option Block → Rect → Rect
 inner_if None r = r
 inner_if (Some b) r = inner_of b r
+
+-- how many rows the box takes above and below what is inside, if there is one
+abbrev pub rows_around_if : Option Block → ℕ
+rows_around_if None = 0
+rows_around_if (Some b) = rows_around b
 
 -- the box is rendered, if there is one
 abbrev pub RendersIfBox : Option Block → Rect → BufferData → BufferData → Type 0

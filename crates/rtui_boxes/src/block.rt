@@ -2,7 +2,7 @@
 
 ghost use Rattle.std.specs.Prelude.{◌≡◌, ◌-◌, ◌≤◌, IfOk, None, Some};
 ghost use Rattle.rtui_boxes.specs.declared.title.TitlePosition.TheVariants.{Top, Bottom};
-ghost use Rattle.rtui_boxes.specs.Boxes.{AddsTitle, IsNewBlock, has_side, has_row, has_title, is_in_row, one_if, inner_of};
+ghost use Rattle.rtui_boxes.specs.Boxes.{AddsTitle, IsNewBlock, has_side, has_row, has_title, is_in_row, one_if, inner_of, rows_around};
 
 use crate::border_type::BorderType;
 use crate::borders::Borders;
@@ -212,7 +212,9 @@ impl<'a> Block<'a> {
     }
 
     /// How many rows the box takes above and below what is inside.
-    pub fn rows_around(&self) -> usize {
+    pub fn rows_around(&self) -> usize
+        ensures { result ≡ rows_around self.now }
+    {
         let top = usize::from(one_if(self.has_row(Borders::TOP, TitlePosition::Top)));
         let bottom = usize::from(one_if(self.has_row(Borders::BOTTOM, TitlePosition::Bottom)));
         let padding = self.padding.top.saturating_add(self.padding.bottom);

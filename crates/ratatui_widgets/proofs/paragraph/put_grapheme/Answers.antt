@@ -3,6 +3,8 @@ use Rattle.ratatui_core.specs.Buffer.{pieces_at}
 use Rattle.ratatui_core.proofs.BufferLemmas.{text-keeps}
 use Rattle.rtui_boxes.proofs.PaintLemmas.{part-has_row, part-starts, part-right, paints-within}
 use Rattle.ratatui_core.proofs.BufferLemmas.{put-ready}
+use Rattle.ratatui_core.specs.Text.{grapheme_data}
+use Rattle.ratatui_widgets.proofs.ParagraphLemmas.{grapheme-painted}
 use Rattle.ratatui_widgets.proofs.paragraph.put_grapheme.Goals as goal
 
 pub set_stringn-requires-clause-row : goal.set_stringn-requires-clause-row
@@ -31,3 +33,11 @@ returns-clause-ready c = λ ready.
     (part-starts c.args.part c.args.buf.now.area c.args.x c.requires.some c.requires.inside c.requires.left)
     (part-right c.args.part c.args.buf.now.area c.args.x c.args.columns c.requires.some c.requires.inside c.requires.right)
     (omega arith) c.in_ok-set_stringn.ensures.paints
+
+pub returns-clause-ok : goal.returns-clause-ok
+returns-clause-ok c =
+    let box = c.requires.some in
+    let across = box.across in
+    let right = c.requires.right in
+    grapheme-painted c.args.x c.args.y c.from.result (grapheme_data c.args.grapheme.now) c.args.buf.now c.set_stringn.new.self (omega (arith, c.requires.width))
+    (part-right c.args.part c.args.buf.now.area c.args.x c.from.result c.requires.some c.requires.inside (omega arith)) (omega arith) c.in_ok-set_stringn.ensures.paints.ok

@@ -1,13 +1,8 @@
-use Rattle.std.proofs.Common.{rules, ◌≡◌, ◌+◌, ◌≤◌, ◌<◌, [], ◌∷◌, min, nat_lt, length, filter, take, drop, IfOk, ℕ, ◌-◌, ◌*◌, ◌/◌, ◌%◌, Bool, true, false, nat_eq, List, ◌++◌, slice_index_or, slice_set, bit_and, bit_or, Fits, w8, w32, w64, Bor, MutBor}
-use Rattle.std.specs.List.{prefix_len}
-use Rattle.ratatui_core.specs.Text.{line_graphemes_left}
-use Rattle.ratatui_widgets.specs.Reflow.{data_of, is_break, is_of_word, columns_taken, words_of, fits_row, AllFit, count_fitting, cut_row, last_end, first_word, break_at_blank, break_in_word, row_break, split_row}
+use Rattle.ratatui_widgets.proofs.ReflowLemmas.{blank-ends, blank-whole}
 use Rattle.ratatui_widgets.proofs.reflow.break_at_blank.Goals as goal
 
--- src/reflow.rt:178:9
 pub returns-then-end-gt0 : goal.returns-then-end-gt0
-returns-then-end-gt0 c = ?
+returns-then-end-gt0 c = blank-ends c.args.graphemes.now c.args.count c.words_end-end.result c.words_end-end.ensures c.if-end-gt0.true
 
--- src/reflow.rt:172:1
 pub returns : goal.returns
-returns c = ?
+returns c = blank-whole c.args.graphemes.now c.args.count c.words_end-end.result c.words_end-end.ensures c.if-end-gt0.false

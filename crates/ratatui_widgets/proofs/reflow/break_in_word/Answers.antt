@@ -1,33 +1,37 @@
-use Rattle.std.proofs.Common.{rules, ◌≡◌, ◌+◌, ◌≤◌, ◌<◌, [], ◌∷◌, min, nat_lt, length, filter, take, drop, IfOk, ℕ, ◌-◌, ◌*◌, ◌/◌, ◌%◌, Bool, true, false, nat_eq, List, ◌++◌, slice_index_or, slice_set, bit_and, bit_or, Fits, w8, w32, w64, Bor, MutBor}
-use Rattle.std.specs.List.{prefix_len}
-use Rattle.ratatui_core.specs.Text.{line_graphemes_left}
-use Rattle.ratatui_widgets.specs.Reflow.{data_of, is_break, is_of_word, columns_taken, words_of, fits_row, AllFit, count_fitting, cut_row, last_end, first_word, break_at_blank, break_in_word, row_break, split_row}
+use Rattle.std.proofs.Common.{rules, ◌≤◌, length, arith}
+use Rattle.std.proofs.lemmas.List.{length-take}
+use Rattle.ratatui_widgets.specs.Reflow.{is_break}
+use Rattle.ratatui_widgets.proofs.ReflowLemmas.{last-inside, word-ends-at, word-broken, word-wide, word-moved}
 use Rattle.ratatui_widgets.proofs.reflow.break_in_word.Goals as goal
+use Rattle.ratatui_widgets.proofs.reflow.break_in_word.Goals.{then-word-eq0-via-then-word-eq0, then-word-eq0-via-else-word-eq0+then-is_wide_word}
 
--- src/reflow.rt:161:25
 pub slice_bounds-words_end-end : goal.slice_bounds-words_end-end
-slice_bounds-words_end-end c = ?
+slice_bounds-words_end-end c =
+    let le = last-inside is_break c.args.graphemes.now c.args.count c.last_word-word.result c.last_word-word.ensures in
+    omega (arith, c.requires, length-take c.last_word-word.result c.args.graphemes.now)
 
--- src/reflow.rt:163:9
 pub returns-then-end-gt0 : goal.returns-then-end-gt0
-returns-then-end-gt0 c = ?
+returns-then-end-gt0 c = word-ends-at c.args.graphemes.now c.args.width c.args.count c.last_word-word.result c.words_end-end.result c.last_word-word.ensures c.words_end-end.ensures c.if-end-gt0.true
 
--- src/reflow.rt:165:34
 pub offset_bounds-graphemes-word : goal.offset_bounds-graphemes-word
-offset_bounds-graphemes-word c = ?
+offset_bounds-graphemes-word c =
+    let le : c.last_word-word.result ≤ length c.args.graphemes.now = omega (arith, c.requires, last-inside is_break c.args.graphemes.now c.args.count c.last_word-word.result c.last_word-word.ensures) in
+    search rules
 
--- src/reflow.rt:165:34
 pub slice_bounds-is_wide_word-count : goal.slice_bounds-is_wide_word-count
-slice_bounds-is_wide_word-count c = ?
+slice_bounds-is_wide_word-count c = omega (arith, c.requires, last-inside is_break c.args.graphemes.now c.args.count c.last_word-word.result c.last_word-word.ensures)
 
--- src/reflow.rt:165:34
 pub slice_bounds-is_wide_word-start : goal.slice_bounds-is_wide_word-start
-slice_bounds-is_wide_word-start c = ?
+slice_bounds-is_wide_word-start c =
+    let le : c.last_word-word.result ≤ length c.args.graphemes.now = omega (arith, c.requires, last-inside is_break c.args.graphemes.now c.args.count c.last_word-word.result c.last_word-word.ensures) in
+    search rules
 
--- src/reflow.rt:166:9
 pub returns-then-word-eq0 : goal.returns-then-word-eq0
-returns-then-word-eq0 c = ?
+returns-then-word-eq0 c = elim c.then-word-eq0.branch [
+  | then-word-eq0-via-then-word-eq0 w ↦ word-broken c.args.graphemes.now c.args.width c.args.count c.last_word-word.result c.words_end-end.result c.last_word-word.ensures c.words_end-end.ensures c.if-end-gt0.false w.if-word-eq0.true
+  | then-word-eq0-via-else-word-eq0+then-is_wide_word w ↦ word-wide c.args.graphemes.now c.args.width c.args.count c.last_word-word.result c.words_end-end.result c.last_word-word.ensures c.words_end-end.ensures c.if-end-gt0.false w.is_wide_word.result w.is_wide_word.ensures w.if-is_wide_word.true
+]
 
--- src/reflow.rt:156:1
 pub returns : goal.returns
-returns c = ?
+returns c =
+    word-moved c.args.graphemes.now c.args.width c.args.count c.last_word-word.result c.words_end-end.result c.last_word-word.ensures c.words_end-end.ensures c.if-end-gt0.false (let some = c.if-word-eq0.false in omega arith) c.is_wide_word.result c.is_wide_word.ensures c.if-is_wide_word.false

@@ -1,9 +1,12 @@
-use Rattle.std.proofs.Common.{rules, ◌≡◌, ◌+◌, ◌≤◌, ◌<◌, [], ◌∷◌, min, nat_lt, length, filter, take, drop, IfOk, ℕ, ◌-◌, ◌*◌, ◌/◌, ◌%◌, Bool, true, false, nat_eq, List, ◌++◌, slice_index_or, slice_set, bit_and, bit_or, Fits, w8, w32, w64, Bor, MutBor}
-use Rattle.std.specs.List.{prefix_len}
-use Rattle.ratatui_core.specs.Text.{line_graphemes_left}
-use Rattle.ratatui_widgets.specs.Reflow.{data_of, is_break, is_of_word, columns_taken, words_of, fits_row, AllFit, count_fitting, cut_row, last_end, first_word, break_at_blank, break_in_word, row_break, split_row}
+use Rattle.std.proofs.Common.{◌≡◌, ◌+◌, min, arith, ap}
+use Rattle.ratatui_widgets.specs.Reflow.{data_of, columns_taken}
+use Rattle.ratatui_widgets.proofs.ReflowLemmas.{none-left}
 use Rattle.ratatui_widgets.proofs.reflow.columns_of.Goals as goal
 
--- src/reflow.rt:16:1
 pub returns : goal.returns
-returns c = ?
+returns c =
+    let i = c.loop-grapheme.invariant in
+    let small = i.small in
+    let sum = i.sum in
+    let none = ap columns_taken (none-left c.args.row.now c.loop-grapheme.grapheme-index c.loop-grapheme-test.false) in
+    omega arith

@@ -1,41 +1,33 @@
-use Rattle.std.proofs.Common.{rules, ◌≡◌, ◌+◌, ◌≤◌, ◌<◌, [], ◌∷◌, min, nat_lt, length, filter, take, drop, IfOk, ℕ, ◌-◌, ◌*◌, ◌/◌, ◌%◌, Bool, true, false, nat_eq, List, ◌++◌, slice_index_or, slice_set, bit_and, bit_or, Fits, w8, w32, w64, Bor, MutBor}
-use Rattle.std.specs.List.{prefix_len}
-use Rattle.ratatui_core.specs.Text.{line_graphemes_left}
-use Rattle.ratatui_widgets.specs.Reflow.{data_of, is_break, is_of_word, columns_taken, words_of, fits_row, AllFit, count_fitting, cut_row, last_end, first_word, break_at_blank, break_in_word, row_break, split_row}
+use Rattle.std.proofs.Common.{rules, ◌≤◌, ◌<◌, ◌+◌, length, arith}
+use Rattle.ratatui_widgets.proofs.ReflowLemmas.{start-inside, data-count, split-value, split-is, next-inside, end-inside}
 use Rattle.ratatui_widgets.proofs.reflow.split_row.Goals as goal
 
--- src/reflow.rt:216:16
 pub offset_bounds-graphemes-start : goal.offset_bounds-graphemes-start
-offset_bounds-graphemes-start c = ?
+offset_bounds-graphemes-start c = let le = start-inside c.args.graphemes.now c.args.trim c.trimmed_start-start.result c.trimmed_start-start.ensures in search rules
 
--- src/reflow.rt:216:16
 pub slice_bounds-rest-count : goal.slice_bounds-rest-count
-slice_bounds-rest-count c = ?
+slice_bounds-rest-count c = start-inside c.args.graphemes.now c.args.trim c.trimmed_start-start.result c.trimmed_start-start.ensures
 
--- src/reflow.rt:216:16
 pub slice_bounds-rest-start : goal.slice_bounds-rest-start
-slice_bounds-rest-start c = ?
+slice_bounds-rest-start c = let le = start-inside c.args.graphemes.now c.args.trim c.trimmed_start-start.result c.trimmed_start-start.ensures in search rules
 
--- src/reflow.rt:218:6
 pub slice_bounds-result-end : goal.slice_bounds-result-end
-slice_bounds-result-end c = ?
+slice_bounds-result-end c = end-inside c.args.graphemes.now c.args.width c.args.trim c.trimmed_start-start.result c.row_ends-end.result c.requires c.trimmed_start-start.ensures c.row_ends-end.ensures
 
--- src/reflow.rt:218:20
 pub overflow_add-result : goal.overflow_add-result
-overflow_add-result c = ?
+overflow_add-result c = let le = next-inside c.args.graphemes.now c.args.width c.args.trim c.trimmed_start-start.result c.row_ends-end.result c.requires c.trimmed_start-start.ensures c.row_ends-end.ensures in search rules
 
--- src/reflow.rt:201:1
 pub returns-clause-value : goal.returns-clause-value
-returns-clause-value c = ?
+returns-clause-value c = split-value c.args.graphemes.now c.args.width c.args.trim c.trimmed_start-start.result c.row_ends-end.result c.requires c.trimmed_start-start.ensures c.row_ends-end.ensures
 
--- src/reflow.rt:201:1
 pub returns-clause-fits : goal.returns-clause-fits
-returns-clause-fits c = ?
+returns-clause-fits c = (split-is c.args.graphemes.now c.args.width c.args.trim c.trimmed_start-start.result c.row_ends-end.result c.requires c.trimmed_start-start.ensures c.row_ends-end.ensures).fits
 
--- src/reflow.rt:201:1
 pub returns-clause-keeps : goal.returns-clause-keeps
-returns-clause-keeps c = ?
+returns-clause-keeps c = (split-is c.args.graphemes.now c.args.width c.args.trim c.trimmed_start-start.result c.row_ends-end.result c.requires c.trimmed_start-start.ensures c.row_ends-end.ensures).keeps
 
--- src/reflow.rt:201:1
+pub returns-clause-some : goal.returns-clause-some
+returns-clause-some c = λ some. (split-is c.args.graphemes.now c.args.width c.args.trim c.trimmed_start-start.result c.row_ends-end.result c.requires c.trimmed_start-start.ensures c.row_ends-end.ensures).some (let e = data-count c.args.graphemes.now in omega arith)
+
 pub returns-clause-inside : goal.returns-clause-inside
-returns-clause-inside c = ?
+returns-clause-inside c = next-inside c.args.graphemes.now c.args.width c.args.trim c.trimmed_start-start.result c.row_ends-end.result c.requires c.trimmed_start-start.ensures c.row_ends-end.ensures
