@@ -1,7 +1,8 @@
 //! The program `logview`: reads a log from standard input and prints the screen that shows it.
 //!
-//! Its first line is the screen's size, `W H`. A log that can't be read or shown gives one line on standard error, status 1
-//! and no output. If writing fails the status is 1, and nothing stands on standard error.
+//! Its first line is the screen's size, `W H`. A log that can't be read or shown gives one line on
+//! standard error, status 1 and no output. If writing fails the status is 1, and nothing stands on
+//! standard error.
 #![tactic(auto)]
 
 use logview::{LogFault, print_log, tell};

@@ -16,8 +16,8 @@ pub use rtui_meters::laws::{
     scroll_bars_keep_cells_plain,
 };
 
-/// Of a line that is broken into rows nothing is lost but blanks: no row is wider than the width, and the rows have the graphemes of all
-/// words, in order.
+/// Of a line that is broken into rows nothing is lost but blanks: no row is wider than the width,
+/// and the rows have the graphemes of all words, in order.
 pub fn wrapping_loses_nothing()
     ensures fits { (width : ℕ) (trim : Bool) (gs : List GraphemeData) → AllFit width gs
         → All (λ row. columns_taken row ≤ width) (broken_rows width trim gs) }
