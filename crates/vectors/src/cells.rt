@@ -8,7 +8,7 @@ use crate::tokens::Token;
 use bitflags::Flags;
 use ratatui_core::buffer::{Cell, CellDiffOption, CellWidth};
 use ratatui_core::style::{Color, Style};
-use ratatui_core::symbols::merge::MergeStrategy;
+use ratatui_core::symbols::merge::{BorderSymbol, MergeStrategy};
 use ratatui_core::text::text_columns;
 use std::alloc::{AllocError, Global};
 use std::num::NonZeroU16;
@@ -32,11 +32,38 @@ fn strategy(word: &str) -> Result<MergeStrategy, Fault> {
     }
 }
 
-/// A symbol that is joined to another one.
+/// A symbol that is joined to another one, or a border symbol by its arms.
 pub fn merge(args: &mut Args<'_>, answer: &mut Answer) -> Result<(), Fault> {
-    let strategy = strategy(args.word()?)?;
-    let (prev, next) = (args.text()?, args.text()?);
-    answer.add(strategy.merge(prev, next))
+    match args.word()? {
+        "arms" => arms(args.text()?, answer),
+        "crossed" => crossed(args.text()?, args.text()?, answer),
+        word => {
+            let strategy = strategy(word)?;
+            let (prev, next) = (args.text()?, args.text()?);
+            answer.add(strategy.merge(prev, next))
+        }
+    }
+}
+
+// The arms of a border symbol: to the right, up, to the left and down; and the symbol that has them.
+fn arms(text: &str, answer: &mut Answer) -> Result<(), Fault> {
+    match text.parse::<BorderSymbol>() {
+        Ok(symbol) => {
+            let (right, up) = (symbol.right, symbol.up);
+            let (left, down) = (symbol.left, symbol.down);
+            write!(answer.text, "{right:?} {up:?} {left:?} {down:?}")?;
+            answer.add(symbol.to_str())
+        }
+        Err(error) => answer.refused(&error),
+    }
+}
+
+// The symbol that has the arms of two border symbols, those of the second one where both have one.
+fn crossed(prev: &str, next: &str, answer: &mut Answer) -> Result<(), Fault> {
+    match (prev.parse::<BorderSymbol>(), next.parse::<BorderSymbol>()) {
+        (Ok(prev), Ok(next)) => answer.add(prev.exact(next).to_str()),
+        _ => Err(Fault::Unread),
+    }
 }
 
 // A colour other than the terminal's own.
