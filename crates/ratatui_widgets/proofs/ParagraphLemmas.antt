@@ -1,5 +1,5 @@
 -- A paragraph in its box, and a grapheme painted in its columns.
-use Rattle.std.proofs.Common.{◌≡◌, ℕ, ◌+◌, ◌-◌, ◌≤◌, min, Option, refl, subst, ◌∙◌, arith, Result, Ok, Err, OnOk}
+use Rattle.std.proofs.Common.{◌≡◌, ℕ, ◌+◌, ◌≤◌, Option, subst, ◌∙◌, arith, Result, Ok, Err, OnOk}
 use Rattle.std.specs.declared.alloc.AllocError.{AllocError}
 use Rattle.ratatui_core.specs.Layout.{Rect, EdgesFit}
 use Rattle.ratatui_core.specs.Style.{Style}

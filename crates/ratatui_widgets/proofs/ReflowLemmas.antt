@@ -1,7 +1,7 @@
 -- A row at the front of a line: where it ends, and what it keeps.
-use Rattle.std.proofs.Common.{◌≡◌, ℕ, zero, suc, ◌+◌, ◌-◌, ◌<◌, ◌≤◌, ◌++◌, ◌&&◌, ◌||◌, ◌==◌, ⊎_elim, Bool, true, false, not, nat_lt, nat_le, min, if◌then◌else◌, List, [], ◌∷◌, map, filter, take, drop, length, refl, sym, ap, ap₂, subst, ◌∙◌, arith}
+use Rattle.std.proofs.Common.{◌≡◌, ℕ, suc, ◌+◌, ◌-◌, ◌<◌, ◌≤◌, ◌++◌, ◌&&◌, ◌||◌, ◌==◌, ⊎_elim, Bool, true, false, nat_lt, nat_le, if◌then◌else◌, List, [], ◌∷◌, filter, take, drop, length, refl, sym, ap, ap₂, subst, ◌∙◌, arith}
 use Rattle.std.specs.Prelude.{slice_index_or}
-use Rattle.std.specs.List.{list_all, prefix_len, sum_by}
+use Rattle.std.specs.List.{list_all, prefix_len}
 use Rattle.std.proofs.lemmas.Bool.{cases_lt, and_parts, and_right, or_right, cases_Bool}
 use Rattle.std.proofs.lemmas.Bool.Decides.{nat_tests}
 use Rattle.std.proofs.lemmas.List.{take-append-drop, take-take, drop-take, take_all, length-drop, length-take, length-map, take-map, drop-map, drop_more, drop_all, append_assoc, append-nil}
@@ -10,7 +10,7 @@ use Rattle.std.proofs.lemmas.List.Folds.{list_all-append}
 use Rattle.std.proofs.lemmas.List.Sums.{sum_by-cons, sum_by-take-le}
 use Rattle.ratatui_core.specs.Text.{GraphemeData, grapheme_data}
 use Rattle.ratatui_core.specs.declared.text.StyledGrapheme.{StyledGrapheme}
-use Rattle.ratatui_widgets.specs.Reflow.{data_of, is_break, is_of_word, grapheme_columns, columns_taken, words_of, fits_row, AllFit, count_fitting, fitting_front, after_columns, cut_row, last_end, first_word, break_at_blank, break_in_word, break_before, row_break, trimmed_start, split_row}
+use Rattle.ratatui_widgets.specs.Reflow.{data_of, is_break, is_of_word, grapheme_columns, columns_taken, words_of, fits_row, AllFit, count_fitting, fitting_front, after_columns, last_end, first_word, break_at_blank, break_in_word, break_before, row_break, trimmed_start, split_row}
 
 -- ---- graphemes one by one
 
@@ -24,13 +24,6 @@ none-left gs i le = ap data_of (drop_all i gs le)
 pub columns-next : (g : GraphemeData) (gs : List GraphemeData) → columns_taken (g ∷ gs) ≡ grapheme_columns g + columns_taken gs
 columns-next g gs = sum_by-cons grapheme_columns g gs
 
--- the blanks that stand first
-pub blanks-next : (g : GraphemeData) (gs : List GraphemeData) → is_break g ≡ true → prefix_len is_break (g ∷ gs) ≡ 1 + prefix_len is_break gs
-blanks-next g gs is = rw is refl
-
-pub blanks-end : (g : GraphemeData) (gs : List GraphemeData) → is_break g ≡ false → prefix_len is_break (g ∷ gs) ≡ 0
-blanks-end g gs is = rw is refl
-
 pub count-next : (room : ℕ) (g : GraphemeData) (gs : List GraphemeData) → grapheme_columns g ≤ room → count_fitting room (g ∷ gs) ≡ suc (count_fitting (room - grapheme_columns g) gs)
 count-next room g gs le = let fits : fits_row room g ≡ true = grind (arith, nat_tests) in rw fits refl
 
@@ -41,23 +34,9 @@ count-full room g gs lt = let full : fits_row room g ≡ false = grind (arith, n
 abbrev pub found_end : (GraphemeData → Bool) → ℕ → ℕ → List GraphemeData → ℕ
 found_end p count so_far left = if nat_lt 0 (last_end p left) then count + last_end p left else so_far
 
-found-cases : (p : GraphemeData → Bool) (count so_far n : ℕ) (here : Bool)
-    → (let m = if nat_lt 0 n then suc n else if here then 1 else 0 in if nat_lt 0 m then count + m else so_far) ≡ (if nat_lt 0 n then count + 1 + n else if here then count + 1 else so_far)
-found-cases p count so_far n true = grind (arith, nat_tests)
-found-cases p count so_far n false = grind (arith, nat_tests)
-
-pub found-yes : (p : GraphemeData → Bool) (count so_far : ℕ) (g : GraphemeData) (gs : List GraphemeData) → p g ≡ true → found_end p count so_far (g ∷ gs) ≡ found_end p (count + 1) (count + 1) gs
-found-yes p count so_far g gs is = found-cases p count so_far (last_end p gs) (p g) ∙ rw is refl
-
-pub found-no : (p : GraphemeData → Bool) (count so_far : ℕ) (g : GraphemeData) (gs : List GraphemeData) → p g ≡ false → found_end p count so_far (g ∷ gs) ≡ found_end p (count + 1) so_far gs
-found-no p count so_far g gs is = found-cases p count so_far (last_end p gs) (p g) ∙ rw is refl
-
 -- the columns of the first word
 pub word-next : (g : GraphemeData) (gs : List GraphemeData) → is_break g ≡ false → columns_taken (first_word (g ∷ gs)) ≡ grapheme_columns g + columns_taken (first_word gs)
 word-next g gs is = rw is (columns-next g (first_word gs))
-
-pub word-ends : (g : GraphemeData) (gs : List GraphemeData) → is_break g ≡ true → columns_taken (first_word (g ∷ gs)) ≡ 0
-word-ends g gs is = rw is refl
 
 pub wide-next : (left w c : ℕ) → w ≤ left → nat_lt (left - w) c ≡ nat_lt left (w + c)
 wide-next left w c le = grind (arith, nat_tests)
@@ -365,9 +344,6 @@ module _ (gs : List StyledGrapheme) (width count : ℕ) (is : count ≡ count_fi
 
   pub count-inside : count ≤ length gs
   count-inside = let le = count-le (data_of gs) width in omega (arith, data-count gs)
-
-  pub break-none : count ≡ length gs → (count, count) ≡ row_break width (data_of gs)
-  break-none all = let none : drop count (data_of gs) ≡ [] = drop_all count (data_of gs) (omega (arith, data-count gs)) in rw (count-at, none) refl
 
   module _ (d : StyledGrapheme) (lt : count < length gs) where
     next-is : drop count (data_of gs) ≡ grapheme_data (slice_index_or gs count d) ∷ data_of (drop (count + 1) gs)

@@ -1,11 +1,11 @@
 -- The rows of a paragraph, painted one after the other.
-use Rattle.std.proofs.Common.{◌≡◌, ℕ, zero, suc, ◌+◌, ◌-◌, ◌/◌, ◌<◌, ◌≤◌, ◌++◌, ⊎_elim, Bool, true, false, nat_lt, All, List, [], ◌∷◌, map, filter, take, drop, length, Option, Some, None, min, refl, sym, ap, ap₂, subst, ◌∙◌, arith}
+use Rattle.std.proofs.Common.{◌≡◌, ℕ, zero, suc, ◌+◌, ◌-◌, ◌<◌, ◌≤◌, ◌++◌, ⊎_elim, Bool, true, false, nat_lt, All, List, [], ◌∷◌, map, filter, take, drop, length, Some, None, refl, sym, ap, ap₂, subst, ◌∙◌, arith}
 use Rattle.std.specs.Prelude.{slice_index_or}
 use Rattle.std.specs.List.{flat_map}
 use Rattle.std.proofs.lemmas.Bool.{cases_lt, cases_Bool}
 use Rattle.std.proofs.lemmas.Bool.Decides.{nat_tests}
 use Rattle.std.proofs.lemmas.List.Elements.{All-nil, All-cons, All-head, All-tail, filter-append}
-use Rattle.std.proofs.lemmas.List.{length-drop, length-map, take-append-drop, drop_more, drop_all, append_assoc, append-nil, drop-map, map-append, drop-drop}
+use Rattle.std.proofs.lemmas.List.{length-drop, length-map, take-append-drop, drop_more, drop_all, append_assoc, append-nil, drop-map, drop-drop}
 use Rattle.ratatui_core.specs.Layout.{Rect}
 use Rattle.ratatui_core.specs.Text.{GraphemeData, grapheme_data, LineData, has_control}
 use Rattle.ratatui_core.specs.declared.text.StyledGrapheme.{StyledGrapheme}
@@ -15,10 +15,9 @@ use Rattle.ratatui_core.specs.declared.layout.HorizontalAlignment.{HorizontalAli
 use Rattle.ratatui_core.specs.declared.layout.HorizontalAlignment.TheVariants.{Left, Center, Right}
 use Rattle.ratatui_widgets.specs.declared.paragraph.Paragraph.{Paragraph}
 use Rattle.ratatui_widgets.specs.declared.paragraph.Wrap.{Wrap}
-use Rattle.rtui_boxes.specs.Titles.{InTurn}
-use Rattle.ratatui_widgets.specs.Reflow.{data_of, grapheme_columns, columns_taken, words_of, is_of_word, AllFit, count_fitting, cut_row, after_columns, fits_row, split_row, rows_within, broken_rows}
+use Rattle.ratatui_widgets.specs.Reflow.{data_of, grapheme_columns, columns_taken, words_of, is_of_word, AllFit, cut_row, after_columns, fits_row, split_row, rows_within, broken_rows}
 use Rattle.ratatui_widgets.specs.Paragraphs.{TextRow, alignment_of, graphemes_of, IsWhole, row_pieces, aligned_row, aligned_rows, cut_line, broken_line, rows_of_lines, rows_shown, indent_of, PaintsGrapheme, PaintsGraphemes, PaintsRow, PaintsRows, PaintsOn}
-use Rattle.ratatui_widgets.proofs.ReflowLemmas.{split_row-is, fit-past, count-fits, next-data, none-left, columns-next, data-drop, data-count, tail-is}
+use Rattle.ratatui_widgets.proofs.ReflowLemmas.{split_row-is, fit-past, count-fits, next-data, columns-next, data-drop, data-count, tail-is}
 
 -- a row that fits ends in its area
 pub indent-fits : (a : HorizontalAlignment) (width room : ℕ) → width ≤ room → indent_of a width room + width ≤ room
@@ -43,9 +42,6 @@ pub row-next : (y x start : ℕ) (g : GraphemeData) (left rest all : List Graphe
     → FinishesRow y (x + grapheme_columns g) rest start all old mid
 row-next y x start g left rest all old now mid is finishes made = λ new others.
     finishes new (subst (λ gs. PaintsGraphemes x y gs now new) (sym is) (graphemes-next x y g rest now mid new made others))
-
-pub row-done : (y x start : ℕ) (left all : List GraphemeData) (old now : BufferData) → left ≡ [] → FinishesRow y x left start all old now → PaintsGraphemes start y all old now
-row-done y x start left all old now is finishes = finishes now (subst (λ gs. PaintsGraphemes x y gs now now) (sym is) refl)
 
 -- ---- rows
 
@@ -79,10 +75,6 @@ rows-next width trim (g ∷ gs) fit some =
     let less : length rest ≡ length (g ∷ gs) - split.1 = length-drop split.1 (g ∷ gs) in
     ap (λ rows. split.0 ∷ rows) (fuel-same (length gs) (length rest) width trim rest (fit-past width split.1 (g ∷ gs) fit) (omega arith) (omega arith))
 
-pub broken-some : (width : ℕ) (trim : Bool) (gs : List GraphemeData) → 0 < length gs → broken_rows width trim gs ≡ rows_left width trim gs
-broken-some width trim [] some = absurd (omega arith)
-broken-some width trim (g ∷ gs) some = refl
-
 pub broken-none : (width : ℕ) (trim : Bool) (gs : List GraphemeData) → length gs ≡ 0 → broken_rows width trim gs ≡ [] ∷ []
 broken-none width trim [] none = refl
 broken-none width trim (g ∷ gs) none = absurd (omega arith)
@@ -110,13 +102,6 @@ module _ (r : Rect) (k skip start first : ℕ) (row : TextRow) (left rest all : 
       ∙ ap (λ s. row ∷ take (r.height - (k + 1)) (drop s (rest ++ more))) (sym none))) in
       let y : r.y + (k + 1) ≡ r.y + k + 1 = omega arith in
       finishes more new (subst (λ rows. PaintsRows r (r.y + k) rows now new) (sym same) (record { between = mid; first = made; second = subst (λ z. PaintsRows r z (rows_shown (r.height - (k + 1)) skip (rest ++ more)) mid new) y others }))
-
--- no row is left of the area
-pub rows-full : (r : Rect) (k skip start first : ℕ) (left all rest : List TextRow) (old now : BufferData) → r.height ≤ k → FinishesRows r k skip left start first all old now → FinishesRows r k skip rest start first all old now
-rows-full r k skip start first left all rest old now le finishes = λ more new others.
-    let none : r.height - k ≡ 0 = omega arith in
-    let here : new ≡ now = subst (λ h. PaintsRows r (r.y + k) (take h (drop skip (rest ++ more))) now new) none others in
-    finishes more new (subst (λ h. PaintsRows r (r.y + k) (take h (drop skip (left ++ more))) now new) (sym none) here)
 
 -- the rows of a line are painted, and those of the lines after it are left
 pub rows-line : (r : Rect) (k n skip skip_then start first : ℕ) (line rest left all : List TextRow) (old now mid : BufferData) → left ≡ line ++ rest → FinishesRows r k skip left start first all old now → PaintsOn r k n skip skip_then line now mid
@@ -152,9 +137,6 @@ shown-none n skip left none = take-none n (drop skip left) (drop-none skip left 
 
 pub shown-full : (n skip : ℕ) (left : List TextRow) → n ≡ 0 → rows_shown n skip left ≡ []
 shown-full n skip left none = ap (λ k. take k (drop skip left)) none
-
-pub shown-past : (n skip : ℕ) (left : List TextRow) → length left ≤ skip → rows_shown n skip left ≡ []
-shown-past n skip left past = take-none n (drop skip left) (drop_all skip left past)
 
 -- ---- what rows keep
 
@@ -238,13 +220,6 @@ abbrev pub FinishesCut : Rect → ℕ → ℕ → List TextRow → BufferData �
 FinishesCut r k first all old now =
     (new : BufferData) → PaintsRows r (r.y + k) (rows_shown (r.height - k) (first + k) all) now new → PaintsRows r r.y (rows_shown r.height first all) old new
 
-pub cut-start : (r : Rect) (first : ℕ) (all : List TextRow) (old : BufferData) → FinishesCut r 0 first all old old
-cut-start r first all old = λ new others.
-    let y : r.y + 0 ≡ r.y = omega arith in
-    let h : r.height - 0 ≡ r.height = omega arith in
-    let s : first + 0 ≡ first = omega arith in
-    rw (y, h, s) at others
-
 pub cut-next : (r : Rect) (k first : ℕ) (row : TextRow) (all : List TextRow) (old now mid : BufferData) → k < r.height → drop (first + k) all ≡ row ∷ drop (first + (k + 1)) all → FinishesCut r k first all old now → PaintsRow r (r.y + k) row now mid
     → FinishesCut r (k + 1) first all old mid
 cut-next r k first row all old now mid lt is finishes made = λ new others.
@@ -253,9 +228,6 @@ cut-next r k first row all old now mid lt is finishes made = λ new others.
     let same : rows_shown (r.height - k) (first + k) all ≡ row ∷ rows_shown (r.height - (k + 1)) (first + (k + 1)) all = ap (take (r.height - k)) is ∙ ap (λ h. take h (row ∷ drop (first + (k + 1)) all)) e in
     finishes new (subst (λ rows. PaintsRows r (r.y + k) rows now new) (sym same)
     (record { between = mid; first = made; second = subst (λ z. PaintsRows r z (rows_shown (r.height - (k + 1)) (first + (k + 1)) all) mid new) y others }))
-
-pub cut-done : (r : Rect) (k first : ℕ) (all : List TextRow) (old now : BufferData) → rows_shown (r.height - k) (first + k) all ≡ [] → FinishesCut r k first all old now → PaintsRows r r.y (rows_shown r.height first all) old now
-cut-done r k first all old now none finishes = finishes now (subst (λ rows. PaintsRows r (r.y + k) rows now now) (sym none) refl)
 
 -- ---- a loop over graphemes
 
@@ -295,12 +267,6 @@ module _ (gs : List StyledGrapheme) (from width : ℕ) (trim : Bool) (row : List
 pub fit-left : (gs : List StyledGrapheme) (from width : ℕ) → AllFit width (data_of gs) → AllFit width (data_of (take (length gs - from) (drop from gs)))
 fit-left gs from width fit = subst (AllFit width) (sym (ap data_of (tail-is from gs) ∙ data-drop from gs)) (fit-past width from (data_of gs) fit)
 
-pub left-none : (gs : List StyledGrapheme) (from width : ℕ) (trim : Bool) → length gs ≤ from → rows_left width trim (data_of (drop from gs)) ≡ []
-left-none gs from width trim le = ap (rows_left width trim) (none-left gs from le)
-
-pub left-all : (gs : List StyledGrapheme) (width : ℕ) (trim : Bool) → 0 < length gs → broken_rows width trim (data_of gs) ≡ rows_left width trim (data_of (drop 0 gs))
-left-all gs width trim some = broken-some width trim (data_of gs) (omega (arith, data-count gs))
-
 pub left-empty : (gs : List StyledGrapheme) (width : ℕ) (trim : Bool) → length gs ≡ 0 → broken_rows width trim (data_of gs) ≡ [] ∷ []
 left-empty gs width trim none = broken-none width trim (data_of gs) (data-count gs ∙ none)
 
@@ -325,9 +291,6 @@ pub cut-line-next : (p : Paragraph) (width : ℕ) (lines : List LineData) (i : �
 cut-line-next p width lines i line lt is =
     drop-map (cut_line p width) i lines ∙ (ap (map (cut_line p width)) (drop_more lines i line lt ∙ ap (λ l. l ∷ drop (i + 1) lines) (sym is))
     ∙ ap (λ rows. cut_line p width line ∷ rows) (sym (drop-map (cut_line p width) (i + 1) lines)))
-
-pub cut-line-past : (p : Paragraph) (width : ℕ) (lines : List LineData) (n i : ℕ) → length lines ≤ i → rows_shown n i (rows_of_lines None p width lines) ≡ []
-cut-line-past p width lines n i past = shown-past n i (map (cut_line p width) lines) (omega (arith, length-map lines (cut_line p width)))
 
 pub left-inside : (gs : List StyledGrapheme) (from count : ℕ) → from < length gs → count ≤ length (take (length gs - from) (drop from gs)) → from + count ≤ length gs
 left-inside gs from count lt le = omega (arith, ap length (tail-is from gs), length-drop from gs)

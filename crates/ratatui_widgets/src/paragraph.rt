@@ -409,7 +409,7 @@ fn put_grapheme(
     Ok(())
 }
 
-// Renders graphemes in row k of a part.
+// Renders graphemes that fit in row k of a part.
 #[tactic(auto, using(crate::proofs::ParagraphLemmas::within_steps))]
 fn render_row(
     row: &[StyledGrapheme<'_>],
@@ -431,9 +431,6 @@ fn render_row(
     let mut used = indent(columns_of(row), part.width, alignment);
     for grapheme in row {
         let columns = grapheme.symbol.cell_width();
-        if columns > part.width.saturating_sub(used) {
-            return Ok(());
-        }
         put_grapheme(grapheme, columns, part, part.x + used, part.y + k, buf)?;
         used += columns;
     }

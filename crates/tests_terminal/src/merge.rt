@@ -1,5 +1,6 @@
 //! Border merging: every pair of border symbols, and the table of their arms.
-use rtui_merge::MergeStrategy;
+use rtui_merge::{BorderSymbol, BorderSymbolError, LineStyle, MergeStrategy};
+use std::str::FromStr;
 
 /// A border symbol in each line, with its arms right, up, left and down: `-` none, `p` plain, `r` rounded, `d` double,
 /// `t` thick, `a` `b` `c` plain dashes of two, three and four, `A` `B` `C` thick ones.
@@ -254,4 +255,53 @@ fn all_symbols(rt: HostRuntime) {
         }
     }
     assert!(rt; rebuilt == 80);
+}
+
+/// The style of an arm by its letter in the table above.
+fn style(letter: u8) -> LineStyle {
+    match letter {
+        b'p' => LineStyle::Plain,
+        b'r' => LineStyle::Rounded,
+        b'd' => LineStyle::Double,
+        b't' => LineStyle::Thick,
+        b'a' => LineStyle::DoubleDash,
+        b'b' => LineStyle::TripleDash,
+        b'c' => LineStyle::QuadrupleDash,
+        b'A' => LineStyle::DoubleDashThick,
+        b'B' => LineStyle::TripleDashThick,
+        b'C' => LineStyle::QuadrupleDashThick,
+        _ => LineStyle::Nothing,
+    }
+}
+
+/// Whether a border symbol has these arms.
+fn has_arms(symbol: BorderSymbol, arms: &str) -> bool {
+    match arms.as_bytes() {
+        [right, up, left, down] => {
+            symbol.right == style(*right)
+                && symbol.up == style(*up)
+                && symbol.left == style(*left)
+                && symbol.down == style(*down)
+        }
+        _ => false,
+    }
+}
+
+/// Whether a symbol is read as its arms, and found by them.
+fn is_read(line: &'static str) -> bool {
+    let (text, arms) = symbol_and_arms(line);
+    match BorderSymbol::from_str(text) {
+        Ok(symbol) => has_arms(symbol, arms) && symbol.to_str() == Some(text),
+        Err(_) => false,
+    }
+}
+
+/// Each symbol is read as its arms, and any other text is refused.
+#[test]
+fn symbols_by_their_arms(rt: HostRuntime) {
+    for line in SYMBOLS.lines() {
+        assert!(rt; is_read(line), "{line}");
+    }
+    assert!(rt; BorderSymbol::from_str("╱") == Err(BorderSymbolError::CannotParse));
+    assert!(rt; BorderSymbol::from_str("──") == Err(BorderSymbolError::CannotParse));
 }

@@ -1,4 +1,4 @@
-use Rattle.std.proofs.Common.{◌≡◌, ◌≤◌, ◌+◌, drop}
+use Rattle.std.proofs.Common.{◌≤◌, ◌+◌, drop}
 use Rattle.ratatui_core.specs.Widgets.{ChangesWithin}
 use Rattle.ratatui_core.specs.Buffer.{IsReadyAt, IsReadyFrom}
 use Rattle.ratatui_widgets.specs.Reflow.{data_of, columns_taken}

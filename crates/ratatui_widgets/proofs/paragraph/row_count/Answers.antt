@@ -1,6 +1,5 @@
-use Rattle.std.proofs.Common.{◌≡◌, ◌∙◌, length, arith, ap}
-use Rattle.ratatui_widgets.specs.Reflow.{data_of}
-use Rattle.ratatui_widgets.proofs.RowsLemmas.{rows_left, fit-left, left-next, left-inside}
+use Rattle.std.proofs.Common.{length, arith, ap}
+use Rattle.ratatui_widgets.proofs.RowsLemmas.{fit-left, left-next, left-inside}
 use Rattle.ratatui_widgets.proofs.paragraph.row_count.Goals as goal
 
 pub split_row-taken-requires : goal.split_row-taken-requires

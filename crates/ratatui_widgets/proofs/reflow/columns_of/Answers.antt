@@ -1,5 +1,5 @@
-use Rattle.std.proofs.Common.{◌≡◌, ◌+◌, min, arith, ap}
-use Rattle.ratatui_widgets.specs.Reflow.{data_of, columns_taken}
+use Rattle.std.proofs.Common.{arith, ap}
+use Rattle.ratatui_widgets.specs.Reflow.{columns_taken}
 use Rattle.ratatui_widgets.proofs.ReflowLemmas.{none-left}
 use Rattle.ratatui_widgets.proofs.reflow.columns_of.Goals as goal
 

@@ -1,4 +1,4 @@
-use Rattle.std.proofs.Common.{rules, ◌≤◌, ◌<◌, ◌+◌, length, arith}
+use Rattle.std.proofs.Common.{rules, arith}
 use Rattle.ratatui_widgets.proofs.ReflowLemmas.{start-inside, data-count, split-value, split-is, next-inside, end-inside}
 use Rattle.ratatui_widgets.proofs.reflow.split_row.Goals as goal
 

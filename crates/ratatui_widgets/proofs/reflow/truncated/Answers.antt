@@ -1,7 +1,7 @@
-use Rattle.std.proofs.Common.{rules, ◌≡◌, ◌≤◌, ◌<◌, ◌+◌, ◌-◌, [], ◌∷◌, ◌++◌, ◌∙◌, ap, arith}
+use Rattle.std.proofs.Common.{rules, ◌≡◌, ◌≤◌, ◌<◌, ◌-◌, [], ◌∷◌, ◌++◌, ◌∙◌, ap, arith}
 use Rattle.std.proofs.lemmas.List.{map-append}
 use Rattle.ratatui_core.specs.Text.{grapheme_data, line_graphemes_left}
-use Rattle.ratatui_widgets.specs.Reflow.{data_of, fits_row, fitting_front, after_columns}
+use Rattle.ratatui_widgets.specs.Reflow.{data_of}
 use Rattle.ratatui_widgets.proofs.ReflowLemmas.{cut-turn}
 use Rattle.ratatui_widgets.proofs.reflow.truncated.Goals as goal
 use Rattle.ratatui_widgets.proofs.reflow.truncated.Goals.{else-offset-gt0-via-then-offset-gt0+else-columns-offset, else-offset-gt0-via-else-offset-gt0}

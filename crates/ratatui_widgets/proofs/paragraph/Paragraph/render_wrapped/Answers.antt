@@ -1,4 +1,4 @@
-use Rattle.std.proofs.Common.{◌-◌, ◌+◌, Some, drop, arith}
+use Rattle.std.proofs.Common.{◌-◌, Some, arith}
 use Rattle.ratatui_core.proofs.WidgetLemmas.{within-then}
 use Rattle.rtui_boxes.proofs.BoxLemmas.{inside-within}
 use Rattle.ratatui_widgets.specs.Paragraphs.{broken_line, rows_of_lines}
