@@ -14,7 +14,7 @@ use Rattle.rtui_terminal.specs.declared.terminal.error.TerminalError.{TerminalEr
 use Rattle.rtui_terminal.specs.declared.terminal.error.TerminalError.TheVariants.{Backend, Memory, Area, Closure}
 use Rattle.rtui_terminal.specs.Resizing.{Autoresizes, Resizes, IsResized}
 use Rattle.rtui_terminal.specs.Cursor.{Stays}
-use Rattle.rtui_terminal.specs.Drawing.{DrawOk, DrawErr}
+use Rattle.rtui_terminal.specs.Drawing.{DrawOk, DrawErr, PaintedErr}
 use Rattle.rtui_terminal.specs.Rendered.{ShowsRendered}
 
 -- whatever a closure painted over a current buffer, it is what this rendering over the viewport makes of that buffer
@@ -87,3 +87,26 @@ refused-by-backend {B} screen ran s t Area known areas never keeps by =
       previous = ap (λ (x : TerminalData B). x.previous.area) stays.rest ∙ areas.previous ∙ sym place;
     }))
 refused-by-backend screen ran s t (Closure error) known areas never keeps by = by
+
+-- what is known of a draw is known for each weaker word on its closure
+module _ {B X : Type 0} (screen : B → Screen) (ran less : TerminalData B → Result (Unit {0}) X → Option Position → BufferData → Type 0)
+    (weaker : (s : TerminalData B) (answer : Result (Unit {0}) X) (cursor : Option Position) (painted : BufferData) → ran s answer cursor painted → less s answer cursor painted) where
+  pub drawn-weaker : (s t : TerminalData B) → DrawOk screen ran s t → DrawOk screen less s t
+  drawn-weaker s t drawn = record { draws = drawn.draws; closure = weaker _ _ _ _ drawn.closure }
+
+  pub painted-weaker : (after : Option Position → TerminalData B → TerminalData B → Type 0) (s t : TerminalData B) → PaintedErr screen ran after s t → PaintedErr screen less after s t
+  painted-weaker after s t by = record { sized = by.sized; autoresized = by.autoresized; cursor = by.cursor; painted = by.painted; closure = weaker _ _ _ _ by.closure; left = by.left }
+
+pub refused-weaker : {B E : Type 0} (screen : B → Screen) (ran less : TerminalData B → Result (Unit {0}) AllocError → Option Position → BufferData → Type 0)
+    → ((s : TerminalData B) (answer : Result (Unit {0}) AllocError) (cursor : Option Position) (painted : BufferData) → ran s answer cursor painted → less s answer cursor painted)
+    → (s t : TerminalData B) (error : TerminalError E) → DrawErr screen ran s t error → DrawErr screen less s t error
+refused-weaker screen ran less weaker s t (Backend error) by = elim by [
+  | inl resize ↦ inl resize
+  | inr painted ↦ inr (painted-weaker screen ran less weaker _ s t painted)
+]
+refused-weaker screen ran less weaker s t Memory by = elim by [
+  | inl resize ↦ inl resize
+  | inr closure ↦ inr (record { refuses = closure.refuses; cursor = closure.cursor; closure = weaker _ _ _ _ closure.closure })
+]
+refused-weaker screen ran less weaker s t Area by = painted-weaker screen ran less weaker _ s t by
+refused-weaker screen ran less weaker s t (Closure error) by = by

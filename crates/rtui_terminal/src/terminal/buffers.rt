@@ -112,10 +112,9 @@ impl<B: Backend> Terminal<B> {
             return Err(TerminalError::Area);
         }
         let known = self.cursor_behind();
-        match write_differences(&mut self.backend, &self.previous, &self.current) {
-            Ok(()) => {}
-            Err(error) => return Err(TerminalError::Backend(error)),
-        }
+        write_differences(&mut self.backend, &self.previous, &self.current).map_err(
+            TerminalError::Backend,
+        )?;
         self.last_known_cursor_pos = known;
         Ok(())
     }

@@ -1,5 +1,6 @@
 ghost use Rattle.rtui_terminal.specs.Display.{terminal_error_text};
 
+use std::alloc::AllocError;
 use std::error::Error;
 use std::fmt;
 
@@ -30,3 +31,14 @@ impl<E: fmt::Display> fmt::Display for TerminalError<E> {
 }
 
 impl<E: Error> Error for TerminalError<E> {}
+
+impl<E> From<AllocError> for TerminalError<E> {
+    ghost use Rattle.std.specs.Prelude.{◌≡◌};
+    ghost use Rattle.rtui_terminal.specs.declared.terminal.error.TerminalError.TheVariants.{Memory};
+
+    ghost from_gives = { λ _ error. error ≡ Memory };
+
+    fn from(_: AllocError) -> Self {
+        TerminalError::Memory
+    }
+}

@@ -66,28 +66,18 @@ impl<B: Backend + Drop> Terminal<B> {
             (StartErr B.screen B.failures options.viewport backend) }
     {
         let viewport = options.viewport;
-        let area = match first_area(&mut backend, viewport) {
-            Ok(area) => area,
-            Err(error) => return Err(TerminalError::Backend(error)),
-        };
+        let area = first_area(&mut backend, viewport).map_err(TerminalError::Backend)?;
         let rows = Rect {
             x: 0,
             y: 0,
             width: area.width,
             height: viewport.rows_in(area.height),
         };
-        let mut current = match Buffer::empty(alloc, rows) {
-            Ok(buffer) => buffer,
-            Err(_) => return Err(TerminalError::Memory),
-        };
-        let mut previous = match Buffer::empty(alloc, rows) {
-            Ok(buffer) => buffer,
-            Err(_) => return Err(TerminalError::Memory),
-        };
-        let placed = match place_viewport(&mut backend, viewport, 0, area, 0) {
-            Ok(placed) => placed,
-            Err(error) => return Err(TerminalError::Backend(error)),
-        };
+        let mut current = Buffer::empty(alloc, rows)?;
+        let mut previous = Buffer::empty(alloc, rows)?;
+        let placed = place_viewport(&mut backend, viewport, 0, area, 0).map_err(
+            TerminalError::Backend,
+        )?;
         current.move_to(placed.area.as_position());
         previous.move_to(placed.area.as_position());
         let last_known_cursor_pos = placed.cursor.unwrap_or(area.as_position());

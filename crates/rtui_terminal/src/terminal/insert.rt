@@ -33,20 +33,11 @@ impl<B: Backend> Terminal<B> {
         ensures only { FailsOnlyByBackend result }
         ensures faults { Faults result (B.failures self.old.backend) (B.failures self.new.backend) }
     {
-        match push_rows(&mut self.backend, blank, rows) {
-            Ok(()) => {}
-            Err(error) => return Err(TerminalError::Backend(error)),
-        }
+        push_rows(&mut self.backend, blank, rows).map_err(TerminalError::Backend)?;
         if *self.previous.area() != self.viewport_area {
-            return match self.backend.flush() {
-                Ok(()) => Ok(()),
-                Err(error) => Err(TerminalError::Backend(error)),
-            };
+            return self.backend.flush().map_err(TerminalError::Backend);
         }
-        match draw_rows(&mut self.backend, blank, &self.previous, 0, 1, 0) {
-            Ok(()) => Ok(()),
-            Err(error) => Err(TerminalError::Backend(error)),
-        }
+        draw_rows(&mut self.backend, blank, &self.previous, 0, 1, 0).map_err(TerminalError::Backend)
     }
 
     // Inserts the rows of a buffer above an inline viewport, which moves down as far as there is room.
@@ -71,18 +62,14 @@ impl<B: Backend> Terminal<B> {
         if former.height >= height {
             return self.insert_covered(blank, rows);
         }
-        let down = match insert_down(&mut self.backend, blank, rows, former, height) {
-            Ok(down) => down,
-            Err(error) => return Err(TerminalError::Backend(error)),
-        };
+        let down = insert_down(&mut self.backend, blank, rows, former, height).map_err(
+            TerminalError::Backend,
+        )?;
         let top = former.y + down;
         follow_viewport(&mut self.current, former, top);
         follow_viewport(&mut self.previous, former, top);
         self.viewport_area = Rect { y: top, ..former };
-        match insert_up(&mut self.backend, blank, rows, down, top) {
-            Ok(()) => Ok(()),
-            Err(error) => Err(TerminalError::Backend(error)),
-        }
+        insert_up(&mut self.backend, blank, rows, down, top).map_err(TerminalError::Backend)
     }
 
     // Fills a buffer, and inserts its rows above an inline viewport.
@@ -116,14 +103,8 @@ impl<B: Backend> Terminal<B> {
             height: height.min(most),
             ..area
         };
-        let mut blank = match Buffer::empty(alloc, blank_area) {
-            Ok(blank) => blank,
-            Err(_) => return Err(TerminalError::Memory),
-        };
-        let rows = match fill_rows(alloc, area, draw_fn) {
-            Ok(rows) => rows,
-            Err(_) => return Err(TerminalError::Memory),
-        };
+        let mut blank = Buffer::empty(alloc, blank_area)?;
+        let rows = fill_rows(alloc, area, draw_fn)?;
         if *rows.area() != area {
             return Err(TerminalError::Area);
         }

@@ -66,10 +66,7 @@ impl<B: Backend> Terminal<B> {
     {
         self.write_frame(cursor)?;
         self.swap_buffers();
-        match self.backend.flush() {
-            Ok(()) => {}
-            Err(error) => return Err(TerminalError::Backend(error)),
-        }
+        self.backend.flush().map_err(TerminalError::Backend)?;
         self.frame_count = self.frame_count.wrapping_add(1);
         Ok(())
     }
@@ -106,7 +103,10 @@ impl<B: Backend> Terminal<B> {
     }
 
     #[tactic(auto, using(crate::proofs::RenderLemmas::draw_refused))]
-    fn draw_frame<F>(&mut self, render_callback: F) -> Result<(), TerminalError<B::Error>>
+    pub(super) fn draw_frame<F>(
+        &mut self,
+        render_callback: F,
+    ) -> Result<(), TerminalError<B::Error>>
     where
         F: FnOnce(&mut Frame<'_>) -> Result<(), AllocError>,
         requires { AcceptsFrames F.FnOnce render_callback self.old }
@@ -116,10 +116,7 @@ impl<B: Backend> Terminal<B> {
         ensures flushed { OnOk result (B.is_flushed self.new.backend ≡ true) }
         ensures faults { Faults result (B.failures self.old.backend) (B.failures self.new.backend) }
     {
-        match self.paint_and_apply(render_callback)? {
-            Ok(()) => Ok(()),
-            Err(_) => Err(TerminalError::Memory),
-        }
+        Ok(self.paint_and_apply(render_callback)??)
     }
 
     #[tactic(auto, using(crate::proofs::RenderLemmas::try_refused))]
@@ -133,10 +130,8 @@ impl<B: Backend> Terminal<B> {
         ensures flushed { OnOk result (B.is_flushed self.new.backend ≡ true) }
         ensures faults { Faults result (B.failures self.old.backend) (B.failures self.new.backend) }
     {
-        match self.paint_and_apply(render_callback)? {
-            Ok(()) => Ok(()),
-            Err(error) => Err(TerminalError::Closure(error)),
-        }
+        self.paint_and_apply(render_callback)?
+            .map_err(TerminalError::Closure)
     }
 
     /// Draws a frame. If the screen has another size than the last known one, the viewport is

@@ -29,19 +29,15 @@ impl<B: Backend> Terminal<B> {
         ensures only { FailsOnlyByBackend result }
         ensures faults { Faults result (B.failures self.old.backend) (B.failures self.new.backend) }
     {
-        let cursor = match self.backend.get_cursor_position() {
-            Ok(cursor) => cursor,
-            Err(error) => return Err(TerminalError::Backend(error)),
-        };
-        match clear_area(&mut self.backend, self.viewport, self.viewport_area) {
-            Ok(()) => {}
-            Err(error) => return Err(TerminalError::Backend(error)),
-        }
+        let cursor = self
+            .backend
+            .get_cursor_position()
+            .map_err(TerminalError::Backend)?;
+        clear_area(&mut self.backend, self.viewport, self.viewport_area).map_err(
+            TerminalError::Backend,
+        )?;
         self.previous.reset();
-        match restore_cursor(&mut self.backend, Some(cursor)) {
-            Ok(()) => Ok(()),
-            Err(error) => Err(TerminalError::Backend(error)),
-        }
+        restore_cursor(&mut self.backend, Some(cursor)).map_err(TerminalError::Backend)
     }
 
     // Makes room in both buffers for the cells of an area.
@@ -105,35 +101,23 @@ impl<B: Backend> Terminal<B> {
             width: area.width,
             height: self.viewport.rows_in(area.height),
         };
-        match self.reserve(rows) {
-            Ok(()) => {}
-            Err(_) => return Err(TerminalError::Memory),
-        }
+        self.reserve(rows)?;
         let offset = self
             .last_known_cursor_pos
             .y
             .saturating_sub(self.viewport_area.y);
         let former_width = self.viewport_area.width;
-        let placed = match place_viewport(
+        let placed = place_viewport(
             &mut self.backend,
             self.viewport,
             former_width,
             area,
             offset,
-        ) {
-            Ok(placed) => placed,
-            Err(error) => return Err(TerminalError::Backend(error)),
-        };
+        ).map_err(TerminalError::Backend)?;
         self.set_area(placed.area);
-        match clear_area(&mut self.backend, self.viewport, placed.area) {
-            Ok(()) => {}
-            Err(error) => return Err(TerminalError::Backend(error)),
-        }
+        clear_area(&mut self.backend, self.viewport, placed.area).map_err(TerminalError::Backend)?;
         self.previous.reset();
-        match restore_cursor(&mut self.backend, placed.cursor) {
-            Ok(()) => {}
-            Err(error) => return Err(TerminalError::Backend(error)),
-        }
+        restore_cursor(&mut self.backend, placed.cursor).map_err(TerminalError::Backend)?;
         self.last_known_area = area;
         Ok(())
     }
