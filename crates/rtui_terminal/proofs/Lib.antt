@@ -2,6 +2,7 @@ pub mod DifferenceLemmas
 pub mod StepLemmas
 pub mod ResizeLemmas
 pub mod KeepLemmas
+pub mod MapErrLemmas
 pub mod RenderLemmas
 pub mod InsertionLemmas
 pub mod HeadlineLemmas
