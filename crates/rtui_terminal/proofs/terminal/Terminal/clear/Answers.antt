@@ -18,7 +18,8 @@ returns-clause-ok g c =
     let found = rw asked at c.get_cursor_position.ensures in
     let clear = rw (cleared, found.stays) at c.clear_area.ensures in
     let cursor : Option Position = Some c.in_ok-cursor.cursor in
-    passed_ok c.restore_cursor.result _ c.map_err-3.ensures.variant (λ restored.
+    passed_ok c.restore_cursor.result _ c.map_err-3.ensures.variant (λ _ ok.
+        let restored = rw ok at c.restore_cursor.ensures.restored in
         let frame : KeepsAllButLooks start (screen c.restore_cursor.new.backend) = frame_restored cursor restored clear.frame in
         let clears : ClearsArea s.viewport s.viewport_area start (screen c.restore_cursor.new.backend) = clears_restored s.viewport s.viewport_area cursor restored clear.cleared in
         rw (← c.self.view_is) (record {
@@ -36,7 +37,6 @@ returns-clause-ok g c =
           above = above_cleared _ _ c.self.invariant.1 clears;
           keeps = λ fixed on. rest_of screen _ _ refl frame.size (outside_cleared _ _ clears fixed on);
         }))
-    c.restore_cursor.ensures.restored
 
 pub returns-clause-err : goal.returns-clause-err
 returns-clause-err g c =
