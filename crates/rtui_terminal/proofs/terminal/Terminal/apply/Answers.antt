@@ -1,11 +1,18 @@
 use Rattle.std.proofs.Common.{◌≡◌, rules, inr}
 use Rattle.rtui_terminal.specs.Writing.{HasDrawn}
 use Rattle.rtui_terminal.proofs.KeepLemmas.{drawn_rest}
+use Rattle.rtui_terminal.proofs.MapErrLemmas.{at_fault}
 use Rattle.rtui_terminal.proofs.terminal.Terminal.apply.Goals as goal
 
 pub returns-in_err-map_err-clause-outcome : goal.returns-in_err-map_err-clause-outcome
 returns-in_err-map_err-clause-outcome g c =
-    ?
+    at_fault _ _ _ (search rules) c.from_residual-in_err-map_err.ensures.0 (λ error. inr (record {
+      written = c.write_frame.new.self;
+      writes = search rules;
+      previous = search rules;
+      current = search rules;
+      rest = search rules;
+    }))
 
 pub returns-clause-outcome : goal.returns-clause-outcome
 returns-clause-outcome g c =
