@@ -25,7 +25,7 @@ at_fault P Q (Err Memory) only failed holds = absurd only
 at_fault P Q (Err Area) only failed holds = absurd only
 at_fault P Q (Err (Closure error)) only failed holds = absurd only
 
--- a want of memory
-pub at_memory : {T E : Type 0} (P : T → Type 0) (Q : TerminalError E → Type 0) (answer : Result T (TerminalError E)) → IsErrAnd answer (λ error. error ≡ Memory) → Q Memory → MatchResult answer P Q
-at_memory P Q (Ok x) is holds = absurd is
-at_memory P Q (Err error) is holds = subst Q (sym is) holds
+-- one error
+pub at_error : {T E : Type 0} (P : T → Type 0) (Q : E → Type 0) (error : E) (answer : Result T E) → IsErrAnd answer (λ e. e ≡ error) → Q error → MatchResult answer P Q
+at_error P Q error (Ok x) is holds = absurd is
+at_error P Q error (Err e) is holds = subst Q (sym is) holds

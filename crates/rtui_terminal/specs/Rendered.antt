@@ -1,5 +1,5 @@
 -- What a terminal shows after a draw whose closure only renders.
-use Rattle.std.specs.Prelude.{◌≡◌, Option, None, Result, OnOk, OnErr}
+use Rattle.std.specs.Prelude.{◌≡◌, Option, None, Result, IsOk, OnOk, OnErr}
 use Rattle.std.specs.declared.alloc.AllocError.{AllocError}
 use Rattle.rtui_geometry.specs.declared.position.Position.{Position}
 use Rattle.rtui_geometry.specs.declared.rect.Rect.{Rect}
@@ -21,11 +21,11 @@ pub record ShowsRendered {B : Type 0} (screen : B → Screen) (renders : Rect �
   pub rendered : IsRendered renders t.previous
   pub shown : IsSettledBuffer t.previous → ShowsBuffer t.previous (screen t.backend).grid
 
--- a closure rendered a widget over the viewport, by what it answered: it left no cursor and kept the buffer's area, and the buffer is what
--- rendering makes of the current one, or what a refused rendering leaves of it
-pub record RendersCurrent {B : Type 0} (renders leaves : Rect → BufferData → BufferData → Type 0) (reach : Rect → Rect) (s : TerminalData B) (answer : Result (Unit {0}) AllocError) (cursor : Option Position) (painted : BufferData) : Type 0 where
+-- a closure rendered a widget over the viewport and answered what that did: it left no cursor, and of the current buffer what the widget says
+pub record RendersCurrent {B : Type 0} (renders leaves : Rect → BufferData → BufferData → Type 0) (reach : Rect → Rect) (is_short : Rect → BufferData → Type 0) (s : TerminalData B) (answer : Result (Unit {0}) AllocError) (cursor : Option Position) (painted : BufferData) : Type 0 where
   pub no_cursor : cursor ≡ None
   pub area : painted.area ≡ s.current.area
   pub ok : OnOk answer (renders s.viewport_area s.current painted)
   pub err : OnErr answer (ChangesWithin (reach s.viewport_area) s.current painted)
   pub left : OnErr answer (leaves s.viewport_area s.current painted)
+  pub short : is_short s.viewport_area s.current → IsOk answer

@@ -1,4 +1,4 @@
-ghost use Rattle.std.specs.Prelude.{◌≡◌, true, OnOk, OnErr, IfOk, MatchResult};
+ghost use Rattle.std.specs.Prelude.{◌≡◌, true, IsOk, OnOk, OnErr, IfOk, MatchResult};
 ghost use Rattle.rtui_geometry.specs.Rect.{EdgesFit};
 ghost use Rattle.rtui_buffer.specs.BufferData.{IsEmptied};
 ghost use Rattle.rtui_widgets.specs.Rendering.{ChangesWithin};
@@ -41,7 +41,7 @@ impl<B: Backend> Terminal<B> {
         requires can { (frame : FrameData) → IsDrawFrame self.old frame
             → W.can_render widget frame.viewport_area frame.buffer.now }
         ensures outcome { let ran = RendersCurrent (W.renders widget) (W.leaves widget)
-            (W.reach widget) in
+            (W.reach widget) (W.is_short widget) in
             MatchResult result (λ _. DrawOk B.screen ran self.old self.new)
             (DrawErr B.screen ran self.old self.new) }
         ensures shown { IsReady B.screen self.old
@@ -62,6 +62,8 @@ impl<B: Backend> Terminal<B> {
                     OnErr result (ChangesWithin reach frame.old.buffer.now frame.new.buffer.now) }
                 ensures left { OnErr result (W.leaves widget frame.old.viewport_area
                     frame.old.buffer.now frame.new.buffer.now) }
+                ensures short { W.is_short widget frame.old.viewport_area frame.old.buffer.now
+                    → IsOk result }
             {
                 let area = frame.area();
                 frame.render_widget(widget, area)

@@ -19,24 +19,24 @@ returns-clause-ok g c =
     let clear = rw (cleared, found.stays) at c.clear_area.ensures in
     let cursor : Option Position = Some c.in_ok-cursor.cursor in
     passed_ok c.restore_cursor.result _ c.map_err-3.ensures.variant (λ _ ok.
-        let restored = rw ok at c.restore_cursor.ensures.restored in
-        let frame : KeepsAllButLooks start (screen c.restore_cursor.new.backend) = frame_restored cursor restored clear.frame in
-        let clears : ClearsArea s.viewport s.viewport_area start (screen c.restore_cursor.new.backend) = clears_restored s.viewport s.viewport_area cursor restored clear.cleared in
-        rw (← c.self.view_is) (record {
-          edges = c.self.invariant.0;
-          rest = refl;
-          previous = c.reset.ensures.emptied;
-          frame = frame;
-          cursor = cursor_kept start (screen c.clear_area.new.backend) (screen c.restore_cursor.new.backend) c.in_ok-cursor.cursor found.ok found.on_grid clear.frame.size.width clear.frame.size.height restored;
-          clears = clears;
-          corner = λ inline. empties_restored cursor restored (record { frame = clear.frame; grid = (clear.corner inline).grid });
-          cut = λ fixed top. empties_restored cursor restored (clear.cut fixed top);
-          written = written_restored s.viewport s.viewport_area cursor start start _ _ refl refl restored clear.written;
-          in_step = λ on area.
-              blank_in_step screen _ c.self.invariant.0 (on_same _ _ _ frame.size.width frame.size.height on) (blank_over _ _ on (clears (has_place _ _ _ c.self.invariant.1 on))) (rw area at c.reset.ensures.emptied);
-          above = above_cleared _ _ c.self.invariant.1 clears;
-          keeps = λ fixed on. rest_of screen _ _ refl frame.size (outside_cleared _ _ clears fixed on);
-        }))
+    let restored = rw ok at c.restore_cursor.ensures.restored in
+    let frame : KeepsAllButLooks start (screen c.restore_cursor.new.backend) = frame_restored cursor restored clear.frame in
+    let clears : ClearsArea s.viewport s.viewport_area start (screen c.restore_cursor.new.backend) = clears_restored s.viewport s.viewport_area cursor restored clear.cleared in
+    rw (← c.self.view_is) (record {
+      edges = c.self.invariant.0;
+      rest = refl;
+      previous = c.reset.ensures.emptied;
+      frame = frame;
+      cursor = cursor_kept start (screen c.clear_area.new.backend) (screen c.restore_cursor.new.backend) c.in_ok-cursor.cursor found.ok found.on_grid clear.frame.size.width clear.frame.size.height restored;
+      clears = clears;
+      corner = λ inline. empties_restored cursor restored (record { frame = clear.frame; grid = (clear.corner inline).grid });
+      cut = λ fixed top. empties_restored cursor restored (clear.cut fixed top);
+      written = written_restored s.viewport s.viewport_area cursor start start _ _ refl refl restored clear.written;
+      in_step = λ on area.
+          blank_in_step screen _ c.self.invariant.0 (on_same _ _ _ frame.size.width frame.size.height on) (blank_over _ _ on (clears (has_place _ _ _ c.self.invariant.1 on))) (rw area at c.reset.ensures.emptied);
+      above = above_cleared _ _ c.self.invariant.1 clears;
+      keeps = λ fixed on. rest_of screen _ _ refl frame.size (outside_cleared _ _ clears fixed on);
+    }))
 
 pub returns-clause-err : goal.returns-clause-err
 returns-clause-err g c =

@@ -8,10 +8,10 @@ returns-clause-ok g c =
     let lowers : c.insert_down.result ≡ Ok c.in_ok-down.down = search rules in
     let down = rw lowers at c.insert_down.ensures in
     passed_ok c.insert_up.result _ c.map_err-2.ensures.variant (λ _ raises.
-        let up = rw raises at c.insert_up.ensures in
-        rw (← c.self.view_is)
-        (inserted_moved g.B.Backend.screen _ c.args.rows.now (rw (← c.self.view_is) at c.requires.over) (rw (← c.self.view_is) at c.requires.known) c.in_ok-down.down down.count
-        c.insert_down.new.backend c.insert_up.new.backend c.follow_viewport.new.buffer c.follow_viewport-2.new.buffer down.shape up.shape down.ok up.ok c.follow_viewport.ensures.follows c.follow_viewport-2.ensures.follows))
+    let up = rw raises at c.insert_up.ensures in
+    rw (← c.self.view_is)
+    (inserted_moved g.B.Backend.screen _ c.args.rows.now (rw (← c.self.view_is) at c.requires.over) (rw (← c.self.view_is) at c.requires.known) c.in_ok-down.down down.count
+    c.insert_down.new.backend c.insert_up.new.backend c.follow_viewport.new.buffer c.follow_viewport-2.new.buffer down.shape up.shape down.ok up.ok c.follow_viewport.ensures.follows c.follow_viewport-2.ensures.follows))
 
 pub returns-clause-err : goal.returns-clause-err
 returns-clause-err g c =

@@ -1,11 +1,11 @@
 use Rattle.std.proofs.Common.{refl, rules, arith}
 use Rattle.rtui_terminal.proofs.InsertionLemmas.{inserted_by, inserted_none}
-use Rattle.rtui_terminal.proofs.MapErrLemmas.{at_memory}
+use Rattle.rtui_terminal.proofs.MapErrLemmas.{at_error}
 use Rattle.rtui_terminal.proofs.terminal.Terminal.insert_inline.Goals as goal
 use Rattle.rtui_terminal.proofs.terminal.Terminal.insert_inline.Goals.{then-known-eq0-2-via-then-known-eq0-2, then-known-eq0-2-via-else-known-eq0-2+then-height-eq0}
 
 pub returns-in_err-rows-clause-outcome : goal.returns-in_err-rows-clause-outcome
-returns-in_err-rows-clause-outcome g c = rw (← c.self.view_is) (at_memory _ _ _ c.from_residual-in_err-rows.ensures.1 (refl, c.in_err-rows.ensures.refused))
+returns-in_err-rows-clause-outcome g c = rw (← c.self.view_is) (at_error _ _ _ _ c.from_residual-in_err-rows.ensures.1 (refl, c.in_err-rows.ensures.refused))
 
 pub returns-then-ne-clause-outcome : goal.returns-then-ne-clause-outcome
 returns-then-ne-clause-outcome g c = rw (← c.self.view_is) (record { inserted = c.in_ok-rows.rows; closure = c.in_ok-rows.ensures.filled; over = search rules; rest = refl })
