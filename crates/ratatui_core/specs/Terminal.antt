@@ -21,7 +21,7 @@ pub use Rattle.rtui_terminal.specs.Resizing.{Resizes, ResizeErr, Autoresizes, Au
 pub use Rattle.rtui_terminal.specs.Cursor.{Stays, MovesCursor}
 pub use Rattle.rtui_terminal.specs.Clearing.{FailsClearing, ClearsViewport}
 pub use Rattle.rtui_terminal.specs.Drawing.{CompletesFrame, DrawsFrame, RefusesFrame, DrawOk, ClosureErr, PaintedErr, DrawErr, TryDrawErr}
-pub use Rattle.rtui_terminal.specs.Rendered.{IsRendered, ShowsRendered}
+pub use Rattle.rtui_terminal.specs.Rendered.{IsRendered, RendersCurrent, ShowsRendered}
 pub use Rattle.rtui_viewport.specs.Lying.{FitsSize}
 pub use Rattle.rtui_terminal.specs.AtRest.{IsAtRest}
 pub use Rattle.rtui_terminal.specs.TextRow.{row_area, IsPaintedText, IsRowOf, ShowsText, FillsRow, IsOverRow, ShowsRow, DrawsRow, InsertsRow, StartsOverRow}
