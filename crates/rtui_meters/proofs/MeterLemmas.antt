@@ -15,7 +15,7 @@ use Rattle.rtui_meters.specs.declared.line_gauge.LineGauge.{LineGauge}
 use Rattle.rtui_meters.specs.declared.scrollbar.Scrollbar.{Scrollbar}
 use Rattle.rtui_meters.specs.declared.scrollbar.Marks.{Marks}
 use Rattle.std.specs.Borrow.{Bor}
-use Rattle.rtui_meters.specs.declared.scrollbar.ScrollbarState.{ScrollbarState}
+use Rattle.rtui_meters.specs.declared.scrollbar.state.ScrollbarState.{ScrollbarState}
 use Rattle.rtui_meters.specs.declared.scrollbar.ScrollbarOrientation.{ScrollbarOrientation}
 use Rattle.rtui_meters.specs.declared.scrollbar.ScrollbarOrientation.TheVariants.{VerticalRight, VerticalLeft, HorizontalBottom, HorizontalTop}
 use Rattle.rtui_meters.specs.Scrollbars.{bar_area, bar_length, track_length, mark_of, marks_of, marked_cell, MarksBar, RendersScrollbar, IsLightMark, IsShortIf, HasShortMarks}

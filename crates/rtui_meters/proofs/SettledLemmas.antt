@@ -22,7 +22,7 @@ use Rattle.rtui_meters.specs.declared.line_gauge.LineFill.{LineFill}
 use Rattle.rtui_meters.specs.LineGauges.{line_label_pieces, line_part, line_fill, line_cell, FillsLine, RendersLineGauge, HasNarrowLine}
 use Rattle.rtui_meters.specs.declared.scrollbar.Scrollbar.{Scrollbar}
 use Rattle.rtui_meters.specs.declared.scrollbar.Marks.{Marks}
-use Rattle.rtui_meters.specs.declared.scrollbar.ScrollbarState.{ScrollbarState}
+use Rattle.rtui_meters.specs.declared.scrollbar.state.ScrollbarState.{ScrollbarState}
 use Rattle.rtui_meters.specs.Scrollbars.{bar_area, bar_length, track_length, mark_of, marks_of, marked, marked_cell, place_on_bar, MarksBar, RendersScrollbar, IsNarrowIf, HasNarrowMarks}
 use Rattle.rtui_meters.specs.Shares.{eighths_of}
 use Rattle.rtui_meters.specs.Gauges.{label_part, pieces_on_bar, filled_cell, in_colors, is_under_label, text_of_label, style_of_label, FillsArea, FillsGauge, RendersAreaGauge}

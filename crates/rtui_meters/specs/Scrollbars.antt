@@ -10,9 +10,9 @@ use Rattle.ratatui_core.specs.Widgets.{ChangesWithin, OnPart}
 use Rattle.rtui_boxes.specs.Boxes.{last_column, last_row}
 use Rattle.rtui_meters.specs.declared.scrollbar.Scrollbar.{Scrollbar}
 use Rattle.rtui_meters.specs.declared.scrollbar.Marks.{Marks}
-use Rattle.rtui_meters.specs.declared.scrollbar.ScrollbarState.{ScrollbarState}
-use Rattle.rtui_meters.specs.declared.scrollbar.ScrollDirection.{ScrollDirection}
-use Rattle.rtui_meters.specs.declared.scrollbar.ScrollDirection.TheVariants.{Forward, Backward}
+use Rattle.rtui_meters.specs.declared.scrollbar.state.ScrollbarState.{ScrollbarState}
+use Rattle.rtui_meters.specs.declared.scrollbar.state.ScrollDirection.{ScrollDirection}
+use Rattle.rtui_meters.specs.declared.scrollbar.state.ScrollDirection.TheVariants.{Forward, Backward}
 use Rattle.rtui_meters.specs.declared.scrollbar.ScrollbarOrientation.{ScrollbarOrientation}
 use Rattle.rtui_meters.specs.declared.scrollbar.ScrollbarOrientation.TheVariants.{VerticalRight, VerticalLeft, HorizontalBottom, HorizontalTop}
 use Rattle.rtui_meters.specs.Shares.{rounded_quotient}

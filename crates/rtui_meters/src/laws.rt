@@ -8,7 +8,7 @@ ghost use Rattle.rtui_meters.specs.Gauges.{RendersAreaGauge};
 ghost use Rattle.rtui_meters.specs.declared.line_gauge.LineGauge.{LineGauge};
 ghost use Rattle.rtui_meters.specs.LineGauges.{HasNarrowLine, RendersLineGauge};
 ghost use Rattle.rtui_meters.specs.declared.scrollbar.Scrollbar.{Scrollbar};
-ghost use Rattle.rtui_meters.specs.declared.scrollbar.ScrollbarState.{ScrollbarState};
+ghost use Rattle.rtui_meters.specs.declared.scrollbar.state.ScrollbarState.{ScrollbarState};
 ghost use Rattle.rtui_meters.specs.Scrollbars.{HasNarrowMarks, RendersScrollbar};
 
 /// A gauge on a buffer of plain cells leaves one that a screen can show, if it has no box or a
