@@ -46,17 +46,17 @@ wide-full left w c lt = grind (arith, nat_tests)
 
 -- ---- what holds of a row's end
 
-abbrev end_after : ℕ → Bool → ℕ
+abbrev pub end_after : ℕ → Bool → ℕ
 end_after n here = if nat_lt 0 n then suc n else if here then 1 else 0
 
 end_after-le : (n k : ℕ) (here : Bool) → n ≤ k → end_after n here ≤ suc k
 end_after-le n k true le = grind (arith, nat_tests)
 end_after-le n k false le = grind (arith, nat_tests)
 
-end_after-some : (n : ℕ) (here : Bool) → 0 < n → end_after n here ≡ suc n
+pub end_after-some : (n : ℕ) (here : Bool) → 0 < n → end_after n here ≡ suc n
 end_after-some n here lt = grind (arith, nat_tests)
 
-end_after-none : (n : ℕ) (here : Bool) → n ≡ 0 → end_after n here ≡ (if here then 1 else 0)
+pub end_after-none : (n : ℕ) (here : Bool) → n ≡ 0 → end_after n here ≡ (if here then 1 else 0)
 end_after-none n here none = rw none refl
 
 pub last_end-le : (p : GraphemeData → Bool) (gs : List GraphemeData) → last_end p gs ≤ length gs

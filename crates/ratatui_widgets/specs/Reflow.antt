@@ -64,6 +64,10 @@ abbrev pub first_word : List GraphemeData → List GraphemeData
 first_word [] = []
 first_word (g ∷ gs) = if is_break g then [] else g ∷ first_word gs
 
+-- the word around a place of a line: from after the last blank before it up to the next blank
+abbrev pub word_around : List GraphemeData → ℕ → List GraphemeData
+word_around gs k = first_word (drop (last_end is_break (take k gs)) gs)
+
 -- Where a row ends, and where the next one begins. A blank comes after the n graphemes that fit: the row ends with its last word, if it
 -- has one, and the next one begins after the blank.
 abbrev pub break_at_blank : List GraphemeData → ℕ → ℕ × ℕ

@@ -1,11 +1,11 @@
 //! Laws of widgets that are no single call's clause.
 
-ghost use Rattle.std.specs.Prelude.{◌≡◌, ℕ, ◌≤◌, Bool, List, All};
+ghost use Rattle.std.specs.Prelude.{◌≡◌, ℕ, ◌-◌, ◌<◌, ◌≤◌, Bool, false, List, length, slice_index_or, All};
 ghost use Rattle.std.specs.List.{flat_map};
 ghost use Rattle.ratatui_core.specs.Buffer.{BufferData, PaintsPieces, position_of};
 ghost use Rattle.ratatui_core.specs.Text.{GraphemeData};
 ghost use Rattle.ratatui_widgets.specs.Paragraphs.{IsWhole, row_pieces, PaintsGraphemes};
-ghost use Rattle.ratatui_widgets.specs.Reflow.{columns_taken, words_of, AllFit, broken_rows};
+ghost use Rattle.ratatui_widgets.specs.Reflow.{is_break, columns_taken, words_of, AllFit, word_around, row_break, broken_rows};
 
 pub use rtui_boxes::laws::{
     boxes_of_short_symbols_take_no_memory, clearing_keeps_settled, plain_boxes_keep_cells_plain,
@@ -23,6 +23,16 @@ pub fn wrapping_loses_nothing()
         → All (λ row. columns_taken row ≤ width) (broken_rows width trim gs) }
     ensures words { (width : ℕ) (trim : Bool) (gs : List GraphemeData) → AllFit width gs
         → flat_map words_of (broken_rows width trim gs) ≡ words_of gs }
+{}
+
+/// A word is broken only if it is wider than a row: if no blank stands before the place at which a line is broken, and none after it, then
+/// the word there doesn't fit a row.
+pub fn words_are_broken_only_if_wide()
+    ensures { (width : ℕ) (gs : List GraphemeData) (d : GraphemeData)
+        → let k = (row_break width gs).1 in k < length gs
+        → is_break (slice_index_or gs (k - 1) d) ≡ false
+        → is_break (slice_index_or gs k d) ≡ false
+        → width < columns_taken (word_around gs k) }
 {}
 
 /// Whole graphemes that are painted in a row one after the other are painted together.
