@@ -25,8 +25,8 @@ pub fn wrapping_loses_nothing()
         → flat_map words_of (broken_rows width trim gs) ≡ words_of gs }
 {}
 
-/// A word is broken only if it is wider than a row: if no blank stands before the place at which a line is broken, and none after it, then
-/// the word there doesn't fit a row.
+/// A word is broken only if it is wider than a row: if no blank stands before the place at which a
+/// line is broken, and none after it, then the word there doesn't fit a row.
 pub fn words_are_broken_only_if_wide()
     ensures { (width : ℕ) (gs : List GraphemeData) (d : GraphemeData)
         → let k = (row_break width gs).1 in k < length gs

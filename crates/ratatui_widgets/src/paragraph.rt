@@ -328,7 +328,8 @@ fn render_line(
     requires fit { AllFit part.width (data_of graphemes.now) }
     ensures within { ChangesWithin part buf.old buf.new }
     ensures row { IfOk result (λ n. n ≤ part.height) }
-    ensures ok { let rows = aligned_rows alignment (broken_rows part.width trim (data_of graphemes.now)) in
+    ensures ok { let broken = broken_rows part.width trim (data_of graphemes.now) in
+        let rows = aligned_rows alignment broken in
         IfOk result (λ n. PaintsOn part k n skip.old skip.new rows buf.old buf.new) }
     ensures ready { IsReadyFrom (part.y + k) buf.old
         → IfOk result (λ n. IsReadyFrom (part.y + n) buf.new) }
@@ -361,7 +362,8 @@ fn render_line(
 // How many rows a line takes that is broken in a width: one if it is empty.
 fn row_count(graphemes: &[StyledGrapheme<'_>], width: u16, trim: bool) -> usize
     requires { AllFit width (data_of graphemes.now) }
-    ensures { result ≡ min (length (broken_rows width trim (data_of graphemes.now))) 18446744073709551615 }
+    ensures { let rows = broken_rows width trim (data_of graphemes.now) in
+        result ≡ min (length rows) 18446744073709551615 }
 {
     let mut count = 0usize;
     let mut from = 0;
