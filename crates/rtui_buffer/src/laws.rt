@@ -104,7 +104,8 @@ pub fn painting_keeps_to_its_columns()
 
 /// Each piece of a text or of a line takes a column.
 pub fn pieces_take_columns()
-    ensures text { (room : ℕ) (style : Style) (text : List ℕ) → AreWide (text_pieces room style text) }
+    ensures text { (room : ℕ) (style : Style) (text : List ℕ)
+        → AreWide (text_pieces room style text) }
     ensures line { (room : ℕ) (base : Style) (spans : List SpanData)
         → AreWide (line_pieces room base spans) }
 {}
