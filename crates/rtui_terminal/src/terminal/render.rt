@@ -94,10 +94,10 @@ impl<B: Backend> Terminal<B> {
         let count = self.frame_count;
         let (answer, cursor) = paint(&mut self.current, area, count, render_callback);
         match answer {
-            Ok(()) => match self.apply(cursor) {
-                Ok(()) => Ok(Ok(())),
-                Err(error) => Err(error),
-            },
+            Ok(()) => {
+                self.apply(cursor)?;
+                Ok(Ok(()))
+            }
             Err(error) => Ok(Err(error)),
         }
     }

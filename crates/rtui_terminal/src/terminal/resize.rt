@@ -133,10 +133,12 @@ impl<B: Backend> Terminal<B> {
             (AutoresizeErr B.screen self.old self.new) }
         ensures faults { Faults result (B.failures self.old.backend) (B.failures self.new.backend) }
     {
-        match changed_area(&mut self.backend, self.viewport, self.last_known_area) {
-            Ok(Some(area)) => self.resize(area),
-            Ok(None) => Ok(()),
-            Err(error) => Err(TerminalError::Backend(error)),
+        let changed = changed_area(&mut self.backend, self.viewport, self.last_known_area).map_err(
+            TerminalError::Backend,
+        )?;
+        match changed {
+            Some(area) => self.resize(area),
+            None => Ok(()),
         }
     }
 }
