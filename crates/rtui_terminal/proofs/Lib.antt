@@ -1,6 +1,5 @@
 pub mod DifferenceLemmas
 pub mod StepLemmas
-pub mod ResizeLemmas
 pub mod KeepLemmas
 pub mod MapErrLemmas
 pub mod RenderLemmas
