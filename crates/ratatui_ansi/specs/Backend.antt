@@ -8,7 +8,7 @@ use Rattle.ansi_model.specs.Screens.{screen_shown}
 use Rattle.ratatui_ansi.specs.Tracker.{FitsScreen, IsAwaiting}
 use Rattle.ansi_model.specs.Beginnings.{IsAsFound, anew, with_rows_above}
 
--- the writer, what it held as the backend began or began anew, where that is known, what it was sent since, and what of that after the last
+-- the writer, what it held as the backend began or began anew, if that is known, what it was sent since, and what of that after the last
 -- flush; the terminal's size, whether it is sent colours of the underline, and places after ambiguous characters as if these were wide; how many items were drawn and how many calls failed, and whether a write failed
 pub record BackendState (W : Type 0) : Type 0 where
   pub writer : W

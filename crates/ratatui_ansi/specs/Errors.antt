@@ -6,7 +6,7 @@ use Rattle.ratatui_ansi.specs.declared.draw.Refusal.TheVariants as Refused
 use Rattle.ratatui_ansi.specs.declared.error.AnsiError.{AnsiError}
 use Rattle.ratatui_ansi.specs.declared.error.AnsiError.TheVariants.{Memory, Symbol, Style, Cut, Size, Broken, Write}
 
--- the printed error, which is unknown where it is the writer's
+-- the printed error, which is unknown if it is the writer's
 abbrev pub ansi_error_text : AnsiError → Option (List ℕ)
 ansi_error_text Memory = Some (codes "no memory")
 ansi_error_text (Symbol p) = Some (codes "symbol at " ++ position_text p)

@@ -145,7 +145,7 @@ names_cell Size = false
 names_cell Broken = false
 names_cell (Write error) = false
 
--- why an update isn't drawn on a screen: its symbol doesn't fit, its rendition can't be sent, or it isn't vacant where a symbol covers its place
+-- why an update isn't drawn on a screen: its symbol doesn't fit, its rendition can't be sent, or it isn't vacant while a symbol covers its place
 abbrev pub IsRefusedOn : Bool → Screen → Update → Refusal → Type 0
 IsRefusedOn colors s u Refused.Memory = Unit {0}
 IsRefusedOn colors s u (Refused.Symbol p) = IsOnScreenAt s.width s.height p u × (is_fit (s.width - u.x) u.cell ≡ false)

@@ -25,7 +25,7 @@ static KEPT: [&str; 4] = ["a", "b", "c", "d"];
 static WITHOUT_THE_REFUSED: [&str; 5] = ["a", "b", "c", "d", "f"];
 
 // The items of a list, said to be more than could ever lie in memory. A list that is to take items asks for room for as many as are
-// said to come, and where that is refused for room for one. Of so many it can't even ask, so that the one request may be refused.
+// said to come, and if that is refused for room for one. Of so many it can't even ask, so that the one request may be refused.
 #[derive(Drop)]
 struct Countless<T> {
     items: vec::IntoIter<T>,

@@ -79,7 +79,7 @@ pub record Appends (old : Screen) (n : ℕ) (new : Screen) : Type 0 where
 abbrev pub upper_part : ℕ → Screen → Screen
 upper_part b s = record s { height = min b s.height }
 
--- a motion: in a part of a screen each column has what it had in row `source y`, or nothing where row y has no source; all else stays
+-- a motion: in a part of a screen each column has what it had in row `source y`, or nothing if row y has no source; all else stays
 pub record Motion : Type 0 where
   pub part : ℕ → ℕ → Bool
   pub has_source : ℕ → Bool
@@ -106,7 +106,7 @@ abbrev pub clearing : (ℕ → ℕ → Bool) → Motion
 clearing part = record { part = part; has_source = λ y. false; source = λ y. y }
 
 -- the rows of the region from a up to b, cut at the screen's end, moved so by n, and this is the history now. All other rows stay, the cursor
--- may be anywhere, and where the region has no rows nothing changed
+-- may be anywhere, and if the region has no rows nothing changed
 pub record ScrollsRegion (motion : ℕ → ℕ → ℕ → Motion) (a b n : ℕ) (above : List (List Look)) (old new : Screen) : Type 0 where
   pub history : new.history ≡ above
   pub width : new.width ≡ old.width
@@ -116,7 +116,7 @@ pub record ScrollsRegion (motion : ℕ → ℕ → ℕ → Motion) (a b n : ℕ)
   pub written : new.written ≡ old.written
   pub no_rows : min b old.height ≤ a → new ≡ old
 
--- they moved up; where the region begins with the first row, n rows went to the history, in order, blank ones after those that the region has
+-- they moved up; if the region begins with the first row, n rows went to the history, in order, blank ones after those that the region has
 abbrev pub ScrollsUp : ℕ → ℕ → ℕ → Screen → Screen → Type 0
 ScrollsUp a b n old new =
     ScrollsRegion scrolling_up a b n (if a == 0 && nat_lt 0 (min b old.height) then rows_above (upper_part b old) n else old.history) old new

@@ -40,7 +40,7 @@ abbrev pub one_call_less : Option ℕ → Option ℕ
 one_call_less None = None
 one_call_less (Some calls) = if calls == 0 then None else Some (calls - 1)
 
--- a call that takes no memory is refused exactly where it was told to, the screen stays then, and one call less is left
+-- a call that takes no memory is refused exactly if its turn has come, the screen stays then, and one call less is left
 pub record TakesTurn {T : Type 0} (result : Result T TestError) (old new : TestBackend) : Type 0 where
   pub told : (result ≡ Err Told) ↔ (told_after old ≡ Some 0)
   pub only : MatchResult result (λ _. Unit {0}) (λ error. error ≡ Told)

@@ -170,7 +170,7 @@ impl TestBackend {
         self.fail_after = Some(calls);
     }
 
-    // The start of each call: fails if this is the one that was told to.
+    // The start of each call: fails if this is the one that `fail_after` names.
     fn begin(&mut self) -> Result<(), TestError>
         ensures ok { OnOk result (IsSameBackend self.old self.new) }
         ensures counts { Counts result (failures_of self.old) (failures_of self.new) }

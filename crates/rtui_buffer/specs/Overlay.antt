@@ -10,7 +10,7 @@ use Rattle.rtui_buffer.specs.BufferData.{BufferData, cell_in}
 abbrev pub no_area : Rect
 no_area = record { x = 0; y = 0; width = 0; height = 0 }
 
--- on the union of the areas: the upper buffer's cell where it has one, else the lower one's, else an empty cell
+-- on the union of the areas: the upper buffer's cell if it has one, else the lower one's, else an empty cell
 pub record IsOverlay (lower upper s : BufferData) : Type 0 where
   pub area : s.area ≡ united lower.area upper.area
   pub of_upper : (p : Position) → HasPosition upper.area p → cell_in s p ≡ cell_in upper p

@@ -66,7 +66,7 @@ pub record IsPaintable (p : Position) (n : ℕ) (s : BufferData) : Type 0 where
   pub uncovered : (a : ℕ) → s.area.x ≤ a → a < p.x → is_skipped (cell_in s (position_of (a, p.y))) ≡ false
       → a + width_of (cell_in s (position_of (a, p.y))) ≤ p.x
 
--- What a call does that paints pieces from a position on. Ok, they are painted, and a settled buffer is still settled where their
+-- What a call does that paints pieces from a position on. Ok, they are painted, and a settled buffer is still settled if their
 -- columns may be painted; if memory is refused, at most their columns differ. Short symbols are never refused.
 pub record PaintsOrRefuses {A : Type 0} (p : Position) (ps : List Piece) (result : Result A AllocError) (old new : BufferData) : Type 0 where
   pub ok : OnOk result (PaintsPieces p ps old new)

@@ -84,7 +84,7 @@ pub record IsSameOutside (from to : ℕ) (old new : List Cell) : Type 0 where
   pub before : (k : ℕ) → k < from → cell new k ≡ cell old k
   pub behind : (k : ℕ) → to ≤ k → cell new k ≡ cell old k
 
--- where a former cell has no option and no flag the new one has none
+-- if a former cell has no option and no flag the new one has none
 pub record KeepsUnmarked (old new : List Cell) : Type 0 where
   pub at : (k : ℕ) → IsUnmarked (cell old k) → IsUnmarked (cell new k)
 

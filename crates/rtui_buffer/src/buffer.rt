@@ -227,7 +227,7 @@ impl Buffer {
         usize::from(y - self.area.y) * width + usize::from(x - self.area.x)
     }
 
-    // The place of a position, or the number of cells where it is outside.
+    // The place of a position, or the number of cells if it is outside.
     fn place_of(&self, position: Position) -> usize
         ensures inside { let area = self.now.area in
             HasPosition area position → result ≡ cell_index area position }

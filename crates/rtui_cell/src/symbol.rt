@@ -244,7 +244,7 @@ fn concat(alloc: Global, front: &str, back: &str) -> Result<String, AllocError>
     Ok(text)
 }
 
-// Whether two short texts are the same, where single bytes are compared at once.
+// Whether two short texts are the same; single bytes are compared at once.
 fn is_same_short(a: &ArrayString<INLINE>, b: &ArrayString<INLINE>) -> bool
     ensures { result ≡ pointwise nat_eq a.now.bytes b.now.bytes }
 {

@@ -18,7 +18,7 @@ pub trait CellChange {
     // what it makes of a cell at a position
     ghost made: { Self → Position → Cell → Cell };
 
-    // where it takes no memory
+    // when it takes no memory
     ghost is_light: { Self → Position → Cell → Type 0 };
 
     /// Changes a cell that stands at a position.

@@ -24,7 +24,7 @@ pub record IsGiven (x0 y0 : ℕ) (us : List Update) (a b : ℕ) : Type 0 where
   pub x : update.x ≡ x0 + a
   pub y : update.y ≡ y0 + b
 
--- what stands in column j, where the column a after it is given all the same
+-- what stands in column j, if the column a after it is given all the same
 pub record Repeats (x0 y0 w : ℕ) (ps ns : List Cell) (us : List Update) (j a b : ℕ) : Type 0 where
   pub given : IsGiven x0 y0 us j b
   pub unforced : is_forced (cell_at w ns j b) ≡ false
@@ -78,7 +78,7 @@ pub record Varies (x0 y0 w : ℕ) (ps ns : List Cell) (us : List Update) (j a b 
   pub variation : has_fe0f (cell_at w ns j b) ≡ true
   pub dark : IsDark w ps j b
 
--- a former wide cell with a visible style, where a cell that isn't wide is given in column j, covers column a
+-- a former wide cell with a visible style, if a cell that isn't wide is given in column j, covers column a
 pub record Bares (x0 y0 w : ℕ) (ps ns : List Cell) (us : List Update) (j a b : ℕ) : Type 0 where
   pub given : IsGiven x0 y0 us j b
   pub covers : CoversColumn w ps j a b
@@ -87,7 +87,7 @@ pub record Bares (x0 y0 w : ℕ) (ps ns : List Cell) (us : List Update) (j a b :
   pub narrow : width_of (cell_at w ns j b) ≤ 1
   pub free : IsFree w ns j b
 
--- what screens may leave after is given anew: after a given wide cell with U+FE0F each unskipped column where something else stood,
+-- what screens may leave there is given again: after a given wide cell with U+FE0F each unskipped column where something else stood,
 -- and under a former wide cell with a visible style each unskipped column
 pub record IsComplete (x0 y0 w h : ℕ) (ps ns : List Cell) (us : List Update) : Type 0 where
   pub blanks : (a b j : ℕ) → IsInFrame w h a b → Varies x0 y0 w ps ns us j a b

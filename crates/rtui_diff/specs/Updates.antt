@@ -6,7 +6,7 @@ use Rattle.rtui_cell.specs.Grid.{Update}
 use Rattle.rtui_diff.specs.Cells.{cell, cell_at}
 use Rattle.rtui_diff.specs.DiffRule.{given, start}
 
--- the update that gives the cell at a place, where the frame's corner is at (x0, y0) and its rows have w columns
+-- the update that gives the cell at a place, if the frame's corner is at (x0, y0) and its rows have w columns
 abbrev pub update_at : ℕ → ℕ → ℕ → List Cell → ℕ → Update
 update_at x0 y0 w ns i = record { x = x0 + i % w; y = y0 + i / w; cell = cell ns i }
 

@@ -191,8 +191,8 @@ impl<'prev, 'next> DiffWalk<'prev, 'next> {
     }
 }
 
-// The row that has a place, from one that doesn't begin after it. A walk comes to few rows anew, so that it counts them where
-// a division would be taken for each place.
+// The row that has a place, from one that doesn't begin after it. A walk comes to few new rows, so it counts them and
+// takes no division for each place.
 #[tactic(auto, using(crate::proofs::FrameLemmas::row_rules))]
 fn row_with(from: Row, width: usize, at: usize) -> Row
     requires start { from.start ≡ from.index * width }

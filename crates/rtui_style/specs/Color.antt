@@ -98,7 +98,7 @@ color_among names text = option_map (λ row. row.1) (find (λ row. pointwise nat
 abbrev pub named_color : List ℕ → Option Color
 named_color text = color_among color_names text
 
--- the number from 0 to 255 that a text writes in decimal digits, where a plus may stand first
+-- the number from 0 to 255 that a text writes in decimal digits, and a plus may stand first
 abbrev pub color_index : List ℕ → Option ℕ
 color_index text =
     let digits = without_leading_plus text in

@@ -7,10 +7,10 @@ use Rattle.rtui_buffer.specs.contracts.buffer.Buffer as buffer
 use Rattle.rtui_terminal.specs.declared.terminal.frame.Frame.{Frame}
 use Rattle.rtui_terminal.specs.contracts.terminal.frame.Frame.{the_row}
 
--- the frame with another buffer behind its reference
+-- the frame whose reference is to another buffer
 abbrev pub with_buffer : Frame → BufferData → Frame
 with_buffer frame sheet = record frame { buffer = record frame.buffer { now = sheet } }
 
--- the frame ends with the last value of the lent buffer behind its own reference
+-- the frame ends with the last value of the lent buffer in its own
 abbrev pub LendsBuffer : MutBor Frame → MutBor BufferData → Fml
 LendsBuffer frame lent = Lends (the_row (record { mir = named 0; lft = [] })) buffer.the_row frame lent (with_buffer frame.now)

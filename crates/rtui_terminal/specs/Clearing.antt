@@ -34,7 +34,7 @@ module _ {B : Type 0} (screen : B → Screen) where
         → rows_over screen t ≡ rows_over screen s
     pub keeps : IsFixed s.viewport → IsOnScreen s.viewport_area (screen s.backend) → KeepsAroundViewport screen s t
 
-  -- a backend failed in a clear; where only the cursor wasn't set back, the viewport was emptied, and so is the previous buffer
+  -- a backend failed in a clear; if only the cursor wasn't set back, the viewport was emptied, and so is the previous buffer
   pub record FailsClearing (s t : TerminalData B) : Type 0 where
     pub rest : t ≡ record s { backend = t.backend; previous = t.previous }
     pub previous : (t.previous ≡ s.previous) ⊎ ((cleared : B) × ClearsArea s.viewport s.viewport_area (screen s.backend) (screen cleared) × IsEmptied s.previous.area t.previous)

@@ -4,7 +4,7 @@ use Rattle.std.specs.Fmt.{◌++?◌}
 use Rattle.rtui_terminal.specs.declared.terminal.error.TerminalError.{TerminalError}
 use Rattle.rtui_terminal.specs.declared.terminal.error.TerminalError.TheVariants.{Backend, Memory, Area, Closure}
 
--- the printed error, which is unknown where the text of the error inside is
+-- the printed error, which is unknown if the text of the error inside is
 abbrev pub terminal_error_text : {E : Type 0} → (E → Option (List ℕ)) → TerminalError E → Option (List ℕ)
 terminal_error_text inner (Backend error) = Some (codes "backend: ") ++? inner error
 terminal_error_text inner Memory = Some (codes "no memory")

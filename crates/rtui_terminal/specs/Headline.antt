@@ -16,7 +16,7 @@ use Rattle.rtui_terminal.specs.Writing.{Applies}
 use Rattle.rtui_terminal.specs.Drawing.{DrawsFrame, RefusesFrame}
 use Rattle.rtui_terminal.specs.Insertion.{TakesRows, IsLeft, Inserts}
 
--- a call that answered Ok, with what it painted, inserted or was told; Ask is any call that changes nothing, also an insertion that writes
+-- a call that answered Ok, with what it painted, inserted or was given; Ask is any call that changes nothing, also an insertion that writes
 -- nothing; Paint is any write to the current buffer; Refuse is a draw that was refused for what its closure answered or left
 pub data Call : Type 0 where
   Draw : BufferData → Call

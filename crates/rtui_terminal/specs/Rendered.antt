@@ -15,7 +15,7 @@ pub record IsRendered (renders : Rect → BufferData → BufferData → Type 0) 
   pub emptied : IsEmptied s.area blank
   pub rendered : renders s.area blank s
 
--- the previous buffer covers the viewport and is so rendered, and the screen shows it where it is settled
+-- the previous buffer covers the viewport and is so rendered, and the screen shows it if it is settled
 pub record ShowsRendered {B : Type 0} (screen : B → Screen) (renders : Rect → BufferData → BufferData → Type 0) (t : TerminalData B) : Type 0 where
   pub area : t.previous.area ≡ t.viewport_area
   pub rendered : IsRendered renders t.previous

@@ -34,7 +34,7 @@ pub record ResizesBuffers {B : Type 0} (s t : TerminalData B) : Type 0 where
   pub previous : IsResized t.viewport_area s.previous t.previous ⊎ IsEmptied t.viewport_area t.previous
 
 module _ {B : Type 0} (screen : B → Screen) where
-  -- a resize to an area: the viewport was placed on it, which may scroll, and cleared, or the whole screen where it became narrower; the
+  -- a resize to an area: the viewport was placed on it, which may scroll, and cleared, or the whole screen if it became narrower; the
   -- current buffer is cut or filled up, and the previous one is empty
   pub record Resizes (area : Rect) (s t : TerminalData B) : Type 0 where
     pub rest : t ≡ record s { backend = t.backend; current = t.current; previous = t.previous; viewport_area = t.viewport_area; last_known_area = area }

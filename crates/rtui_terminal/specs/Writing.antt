@@ -18,7 +18,7 @@ use Rattle.rtui_terminal.specs.declared.terminal.error.TerminalError.TheVariants
 abbrev pub differing_count : BufferData → BufferData → ℕ
 differing_count previous current = length (differing previous.cells current.cells (previous.area.width * previous.area.height))
 
--- the updates from one buffer to another of its area were drawn on a screen, which shows the second one where it showed the first
+-- the updates from one buffer to another of its area were drawn on a screen, which shows the second one if it showed the first
 pub record WritesDifferences (previous current : BufferData) (old new : Screen) : Type 0 where
   pub drawn : Draws old (buffer_updates previous current) new
   pub shown : IsOnScreen previous.area old → IsSettledBuffer previous → IsSettledBuffer current → ShowsBuffer previous old.grid → ShowsBuffer current new.grid

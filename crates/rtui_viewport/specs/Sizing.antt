@@ -1,4 +1,4 @@
--- Which area a viewport is placed on, and when it is placed anew.
+-- Which area a viewport is placed on, and when it is placed again.
 use Rattle.std.specs.Prelude.{◌≡◌, ◌⊎◌, Option, None, Some}
 use Rattle.rtui_geometry.specs.declared.rect.Rect.{Rect}
 use Rattle.rtui_geometry.specs.Rect.{EdgesFit}
@@ -17,7 +17,7 @@ first_area (Fixed r) s = r
 abbrev pub IsSizeKnown : Viewport → Rect → Screen → Type 0
 IsSizeKnown v known s = IsFixed v ⊎ (screen_area s ≡ known)
 
--- the area that a viewport must be placed on anew: the whole screen where its size isn't known, else none
+-- the area that a viewport must be placed on again: the whole screen if its size isn't known, else none
 abbrev pub IsAreaChange : Viewport → Rect → Screen → Option Rect → Type 0
 IsAreaChange v known s None = IsSizeKnown v known s
 IsAreaChange v known s (Some area) = (IsSizeKnown v known s → ⊥) × (area ≡ screen_area s) × EdgesFit area

@@ -65,7 +65,7 @@ abbrev pub next_symbol : Bool → ℕ → List ℕ → List Cell → List ℕ
 next_symbol is_first x g row =
     if is_first || (nat_lt 0 x && nat_lt 0 (text_width g)) then g else appended (slice_index_or row (goes_to x g) empty_cell).symbol g
 
--- the next grapheme at column x: set, or appended where only graphemes of no width came before or it has no width itself; and empty
+-- the next grapheme at column x: set, or appended if only graphemes of no width came before or it has no width itself; and empty
 -- cells in the other columns that it takes
 unfoldable pub with_next : Bool → ℕ → Style → List ℕ → List Cell → List Cell
 with_next is_first x style g row =

@@ -65,7 +65,7 @@ columns_before (Some Left) excess = 0
 columns_before (Some Center) excess = excess / 2
 columns_before (Some Right) excess = excess
 
--- a row with a line that is aligned so: indented where it is shorter, its first columns skipped where it is longer; a line of no width
+-- a row with a line that is aligned so: indented if it is shorter, its first columns skipped if it is longer; a line of no width
 -- leaves the row as it is
 unfoldable pub line_rendered : Option HorizontalAlignment → LineData → List Cell → List Cell
 line_rendered alignment line row =

@@ -44,7 +44,7 @@ abbrev pub alignment_or : Option HorizontalAlignment → Option HorizontalAlignm
 alignment_or None other = other
 alignment_or (Some alignment) other = Some alignment
 
--- line k of a text, or one without spans where it has none
+-- line k of a text, or one without spans if it has none
 abbrev pub text_line : TextData → ℕ → LineData
 text_line text k = slice_index_or text.lines k (line_of [])
 

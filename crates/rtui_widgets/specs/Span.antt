@@ -18,7 +18,7 @@ showing columns gs = fitting columns (filter (λ g. not (has_control g)) gs)
 abbrev pub goes_to : ℕ → List ℕ → ℕ
 goes_to x g = if text_width g == 0 then x - 1 else x
 
--- the graphemes that go to column k, where the first stands at x and each other one after the one before
+-- the graphemes that go to column k, if the first stands at x and each other one after the one before
 unfoldable pub those_at : ℕ → ℕ → List (List ℕ) → List (List ℕ)
 those_at k x [] = []
 those_at k x (g ∷ gs) = if goes_to x g == k then g ∷ those_at k (x + text_width g) gs else those_at k (x + text_width g) gs
@@ -33,7 +33,7 @@ abbrev pub with_graphemes : Style → List (List ℕ) → Cell → Cell
 with_graphemes style [] c = c
 with_graphemes style (g ∷ gs) c = styled style (record c { symbol = Some (concat (g ∷ gs)) })
 
--- column k with the graphemes that go to it, over its former cell, or over an empty one where it is after a grapheme
+-- column k with the graphemes that go to it, over its former cell, or over an empty one if it is after a grapheme
 abbrev pub column_with : Style → List (List ℕ) → ℕ → Cell → Cell
 column_with style gs k former = with_graphemes style (those_at k 0 gs) (if is_behind k 0 gs then empty_cell else former)
 

@@ -28,13 +28,13 @@ pub trait Widget {
     // what it makes of a buffer over an area
     ghost renders: { Self → Rect → BufferData → BufferData → Type 0 };
 
-    // the area outside which nothing changes where it is refused: the given one, unless it says otherwise
+    // the area outside which nothing changes if it is refused: the given one, unless it says otherwise
     ghost reach: { Self → Rect → Rect } = { λ _ area. area };
 
-    // what else holds of the buffer where it is refused: nothing, unless it says more
+    // what else holds of the buffer if it is refused: nothing, unless it says more
     ghost leaves: { Self → Rect → BufferData → BufferData → Type 0 } = { λ _ _ _ _. ⊤ };
 
-    // where it takes no memory: nowhere, unless it says otherwise
+    // when it takes no memory: nowhere, unless it says otherwise
     ghost is_short: { Self → Rect → BufferData → Type 0 } = { λ _ _ _. ⊥ };
 
     /// Renders the widget over an area of a buffer.
@@ -69,13 +69,13 @@ pub trait StatefulWidget {
     // what it makes of a buffer over an area, from one state to the next
     ghost renders: { Self → Self.State → Self.State → Rect → BufferData → BufferData → Type 0 };
 
-    // the area outside which nothing changes where it is refused: the given one, unless it says otherwise
+    // the area outside which nothing changes if it is refused: the given one, unless it says otherwise
     ghost reach: { Self → Rect → Rect } = { λ _ area. area };
 
-    // what else holds of the state and the buffer where it is refused: nothing, unless it says more
+    // what else holds of the state and the buffer if it is refused: nothing, unless it says more
     ghost leaves: { Self → Self.State → Self.State → Rect → BufferData → BufferData → Type 0 } = { λ _ _ _ _ _ _. ⊤ };
 
-    // where it takes no memory: nowhere, unless it says otherwise
+    // when it takes no memory: nowhere, unless it says otherwise
     ghost is_short: { Self → Self.State → Rect → BufferData → Type 0 } = { λ _ _ _ _. ⊥ };
 
     /// Renders the widget over an area of a buffer, from one state to the next.

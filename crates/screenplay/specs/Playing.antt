@@ -44,7 +44,7 @@ pub record TakesNewSize (size : Size) (s t : TerminalData TestBackend) : Type 0 
   pub takes : TakesSize (screen_of s.backend) size (screen_of backend)
   pub found : Autoresizes screen_of (record s { backend = backend }) t
 
--- the screen took the size of a draw: where it stays nothing changed, and at another size the history and the rows above go on
+-- the screen took the size of a draw: if it stays nothing changed, and at another size the history and the rows above go on
 pub record IsSizedFor (stage : Stage) (given : Option Size) (s t : TerminalData TestBackend) : Type 0 where
   pub size : size_of (screen_of t.backend) ≡ size_after stage.viewport given (size_of (screen_of s.backend))
   pub same : size_of (screen_of t.backend) ≡ size_of (screen_of s.backend) → t ≡ s

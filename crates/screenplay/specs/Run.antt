@@ -122,7 +122,7 @@ pub record GoesOn (old new : View) : Type 0 where
   pub left : List (List Look)
   pub history : new.screen.history ≡ old.screen.history ++ left
 
--- a draw: the screen has its size and shows the settled frame over the viewport; all else stays where the size does, and at another size
+-- a draw: the screen has its size and shows the settled frame over the viewport; all else stays if the size does, and at another size
 -- the history and the rows above the viewport go on
 pub record IsDrawn (stage : Stage) (given : Option Size) (text : TextData) (puts : List (ℕ × ℕ × ℕ)) (old new : View) : Type 0 where
   pub size : view_size new ≡ size_after stage.viewport given (view_size old)

@@ -226,7 +226,7 @@ fn error_at(
     Ok(error_of(alloc, backend, &["a"]))
 }
 
-// How many calls such a view makes, if each of them that fails is answered as it was told to.
+// How many calls such a view makes, if each of them that fails is answered as it is asked to.
 fn calls_made(alloc: Global, height: u16) -> Result<Option<u64>, AllocError> {
     for calls in 0..99 {
         match error_at(alloc, height, calls)? {

@@ -363,7 +363,7 @@ fn compares_frames(rt: HostRuntime) -> Result<(), Fail> {
     Ok(())
 }
 
-// Whether a terminal can't start over a backend, for the fault that it was told.
+// Whether a terminal can't start over a backend, for the fault that it is asked for.
 fn is_refused(alloc: Global, backend: TestBackend) -> bool {
     match Terminal::new(alloc, backend) {
         Err(TerminalError::Backend(error)) => error == TestError::Told,

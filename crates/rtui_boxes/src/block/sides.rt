@@ -69,7 +69,7 @@ impl<'a> Block<'a> {
         )
     }
 
-    // DrawsStrokes the corners, each where both its sides are drawn.
+    // Draws the corners, each if both its sides are drawn.
     fn render_corners(&self, area: Rect, buf: &mut Buffer) -> Result<(), AllocError>
         requires some { IsBoxArea area }
         requires inside { IsInside area buf.old.area }
