@@ -6,7 +6,7 @@ use Rattle.std.proofs.lemmas.List.{get_or_default}
 use Rattle.std.specs.declared.alloc.AllocError.{AllocError}
 use Rattle.ratatui_core.specs.Layout.{Rect, Position, HasPosition, IsInside}
 use Rattle.ratatui_core.specs.Style.{Style}
-use Rattle.ratatui_core.specs.Buffer.{BufferData, columns, pieces_at, PaintsOrRefuses, MakesParts, position_of}
+use Rattle.ratatui_core.specs.Buffer.{BufferData, pieces_at, PaintsOrRefuses, MakesParts, position_of}
 use Rattle.ratatui_core.specs.Widgets.{ChangesWithin}
 use Rattle.ratatui_core.proofs.BufferLemmas.{within-wider, text-keeps, Parts-next, Parts-within}
 use Rattle.ratatui_core.proofs.WidgetLemmas.{within-then}
