@@ -12,10 +12,10 @@ passed_ok (Ok x) (Err d) same shows = tt
 passed_ok (Err e) (Ok y) same shows = absurd (true≢false same)
 passed_ok (Err e) (Err d) same shows = tt
 
--- what holds anyway
-pub at_err : {T E P : Type 0} (answer : Result T E) → P → OnErr answer P
-at_err (Ok x) holds = tt
-at_err (Err e) holds = holds
+-- what holds whatever is answered
+pub holds_anyway : {T E P : Type 0} (answer : Result T E) → P → OnErr answer P
+holds_anyway (Ok x) holds = tt
+holds_anyway (Err e) holds = holds
 
 -- a backend's fault
 pub at_fault : {T E : Type 0} (P : T → Type 0) (Q : TerminalError E → Type 0) (answer : Result T (TerminalError E)) → FailsOnlyByBackend answer → IsErr answer → ((error : E) → Q (Backend error)) → MatchResult answer P Q

@@ -21,7 +21,7 @@ pub record ShowsRendered {B : Type 0} (screen : B → Screen) (renders : Rect �
   pub rendered : IsRendered renders t.previous
   pub shown : IsSettledBuffer t.previous → ShowsBuffer t.previous (screen t.backend).grid
 
--- a closure rendered a widget over the viewport and answered what that did: it left no cursor, and of the current buffer what the widget says
+-- a closure rendered a widget over the viewport and left no cursor: its answer, and what it made of the current buffer, are as the widget says
 pub record RendersCurrent {B : Type 0} (renders leaves : Rect → BufferData → BufferData → Type 0) (reach : Rect → Rect) (is_short : Rect → BufferData → Type 0) (s : TerminalData B) (answer : Result (Unit {0}) AllocError) (cursor : Option Position) (painted : BufferData) : Type 0 where
   pub no_cursor : cursor ≡ None
   pub area : painted.area ≡ s.current.area

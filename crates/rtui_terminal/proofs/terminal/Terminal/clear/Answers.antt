@@ -5,7 +5,7 @@ use Rattle.rtui_viewport.specs.Clearing.{ClearsArea}
 use Rattle.rtui_viewport.proofs.ClearLemmas.{blank_over, frame_restored, clears_restored, empties_restored, written_restored}
 use Rattle.rtui_terminal.proofs.StepLemmas.{blank_in_step, on_same, has_place, cursor_kept}
 use Rattle.rtui_terminal.proofs.KeepLemmas.{above_cleared, outside_cleared, rest_of}
-use Rattle.rtui_terminal.proofs.MapErrLemmas.{passed_ok, at_err}
+use Rattle.rtui_terminal.proofs.MapErrLemmas.{passed_ok, holds_anyway}
 use Rattle.rtui_terminal.proofs.terminal.Terminal.clear.Goals as goal
 
 pub returns-clause-ok : goal.returns-clause-ok
@@ -43,4 +43,4 @@ returns-clause-err g c =
     let asked : c.get_cursor_position.result ≡ Ok c.in_ok-cursor.cursor = search rules in
     let cleared : c.clear_area.result ≡ Ok tt = search rules in
     let clear = rw (cleared, (rw asked at c.get_cursor_position.ensures.stays)) at c.clear_area.ensures.cleared in
-    at_err c.map_err-3.result (rw (← c.self.view_is) (record { rest = refl; previous = inr (c.clear_area.new.backend, clear, c.reset.ensures.emptied) }))
+    holds_anyway c.map_err-3.result (rw (← c.self.view_is) (record { rest = refl; previous = inr (c.clear_area.new.backend, clear, c.reset.ensures.emptied) }))

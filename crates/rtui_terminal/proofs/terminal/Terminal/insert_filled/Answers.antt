@@ -1,6 +1,6 @@
 use Rattle.std.proofs.Common.{◌≡◌, Ok, rules}
 use Rattle.rtui_terminal.proofs.InsertionLemmas.{inserted_moved, stopped_moved}
-use Rattle.rtui_terminal.proofs.MapErrLemmas.{passed_ok, at_err}
+use Rattle.rtui_terminal.proofs.MapErrLemmas.{passed_ok, holds_anyway}
 use Rattle.rtui_terminal.proofs.terminal.Terminal.insert_filled.Goals as goal
 
 pub returns-clause-ok : goal.returns-clause-ok
@@ -17,6 +17,6 @@ pub returns-clause-err : goal.returns-clause-err
 returns-clause-err g c =
     let lowers : c.insert_down.result ≡ Ok c.in_ok-down.down = search rules in
     let down = rw lowers at c.insert_down.ensures in
-    at_err c.map_err-2.result (rw (← c.self.view_is)
+    holds_anyway c.map_err-2.result (rw (← c.self.view_is)
     (stopped_moved g.B.Backend.screen _ c.args.rows.now (rw (← c.self.view_is) at c.requires.over) (rw (← c.self.view_is) at c.requires.known) c.in_ok-down.down down.count
     c.insert_down.new.backend c.insert_up.new.backend c.follow_viewport.new.buffer c.follow_viewport-2.new.buffer down.ok c.follow_viewport.ensures.follows c.follow_viewport-2.ensures.follows))

@@ -39,8 +39,6 @@ returns-clause-outcome g c =
     let frame : KeepsAllButLooks (screen c.place_viewport.new.backend) (screen c.restore_cursor.new.backend) = frame_restored c.in_ok-placed.placed.cursor restored middle in
     let places = rw (viewport_2, former, c.saturating_sub-offset.ensures, cursor_2, area_2) at found.placed in
     let emptied = emptied_frame _ places.empties in
-    let size = emptied.size in
-    let whole = places.scrolls in
     let clears = clears_restored s.viewport next c.in_ok-placed.placed.cursor restored (rw (viewport, between) at cleared.cleared) in
     rw (area, viewport, cursor, hidden, count)
     (record {
@@ -50,15 +48,13 @@ returns-clause-outcome g c =
       previous = previous;
       scrolled = places.scrolled;
       scrolls = places.scrolls;
-      frame = frame_more emptied frame;
+      frame = frame_more {r = places.scrolled} emptied frame;
       empties = λ place. emptied_after s.viewport next _ places.empties clears place;
       cursor = cursor_back s.viewport (screen s.backend) (screen c.place_viewport.new.backend) (screen c.clear_area.new.backend) _ _ (rw (viewport_2, former) at found.cursor) (rw (viewport_2, former) at found.on_grid)
-          (middle.size.width ∙ size.width ∙ whole.width) (middle.size.height ∙ size.height ∙ whole.height) (places.cursor) (rw (viewport, between) at cleared.cursor) restored;
-      written = written_restored s.viewport next c.in_ok-placed.placed.cursor places.scrolled (screen c.place_viewport.new.backend) _ _ places.written size.width restored (rw (viewport, between) at cleared.written);
+          (middle.size.width ∙ emptied.size.width ∙ places.scrolls.width) (middle.size.height ∙ emptied.size.height ∙ places.scrolls.height) places.cursor (rw (viewport, between) at cleared.cursor) restored;
+      written = written_restored s.viewport next c.in_ok-placed.placed.cursor places.scrolled (screen c.place_viewport.new.backend) _ _ places.written emptied.size.width restored (rw (viewport, between) at cleared.written);
       on_screen = λ known. on_same _ _ _ frame.size.width frame.size.height (found.on_screen (rw former known));
       in_step = λ on.
           let back = on_same next _ (screen c.place_viewport.new.backend) (sym frame.size.width) (sym frame.size.height) on in
-          let in_place = rw (area, viewport) at c.self-3.invariant.1 in
-          let fits = rw area at c.self-3.invariant.0 in
-          blank_in_step screen _ fits on (blank_over _ _ back (clears (has_place _ _ _ in_place back))) previous;
+          blank_in_step screen _ (rw area at c.self-3.invariant.0) on (blank_over _ _ back (clears (has_place _ _ _ (rw (area, viewport) at c.self-3.invariant.1) back))) previous;
     })
