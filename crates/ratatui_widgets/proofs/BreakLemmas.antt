@@ -5,7 +5,7 @@ use Rattle.std.proofs.lemmas.Bool.{cases_lt, cases_Bool}
 use Rattle.std.proofs.lemmas.Bool.Decides.{nat_tests}
 use Rattle.std.proofs.lemmas.List.{drop_more, get_or-take}
 use Rattle.ratatui_core.specs.Text.{GraphemeData}
-use Rattle.ratatui_widgets.specs.Reflow.{is_break, is_of_word, grapheme_columns, columns_taken, count_fitting, last_end, first_word, word_around, break_at_blank, break_in_word, break_before, row_break}
+use Rattle.ratatui_widgets.specs.Reflow.{is_break, is_of_word, grapheme_columns, columns_taken, count_fitting, last_end, leading_word, word_around, break_at_blank, break_in_word, break_before, row_break}
 use Rattle.ratatui_widgets.proofs.ReflowLemmas.{columns-next, count-next, count-full, count-le, word-next, end_after, end_after-some, end_after-none, last_end-le}
 
 same-head : (x g : GraphemeData) (xs after : List GraphemeData) → x ∷ xs ≡ g ∷ after → x ≡ g
@@ -55,7 +55,7 @@ none-both : (n : ℕ) (here : Bool) → end_after n here ≡ 0 → (n ≡ 0) × 
 none-both n true none = let no : ⊥ = grind (arith, nat_tests, none) in absurd no
 none-both n false none = (grind (arith, nat_tests, none), refl)
 
-word-front : (n : ℕ) (gs : List GraphemeData) → last_end is_break (take n gs) ≡ 0 → columns_taken (first_word gs) ≡ columns_taken (take n gs) + columns_taken (first_word (drop n gs))
+word-front : (n : ℕ) (gs : List GraphemeData) → last_end is_break (take n gs) ≡ 0 → columns_taken (leading_word gs) ≡ columns_taken (take n gs) + columns_taken (leading_word (drop n gs))
 word-front zero gs none = omega arith
 word-front (suc n) [] none = omega arith
 word-front (suc n) (g ∷ gs) none =
@@ -81,21 +81,21 @@ module _ (width : ℕ) (gs : List GraphemeData) (d : GraphemeData) where
       let next = drop_more gs n d lt in
       let wide = too-wide gs width (slice_index_or gs n d) (drop (n + 1) gs) next in
       let front = word-front n gs none in
-      let rest : columns_taken (first_word (drop n gs)) ≡ grapheme_columns (slice_index_or gs n d) + columns_taken (first_word (drop (n + 1) gs)) =
-      ap (λ xs. columns_taken (first_word xs)) next ∙ word-next (slice_index_or gs n d) (drop (n + 1) gs) after in
-      let same : columns_taken (word_around gs n) ≡ columns_taken (first_word gs) = ap (λ s. columns_taken (first_word (drop s gs))) none in
+      let rest : columns_taken (leading_word (drop n gs)) ≡ grapheme_columns (slice_index_or gs n d) + columns_taken (leading_word (drop (n + 1) gs)) =
+      ap (λ xs. columns_taken (leading_word xs)) next ∙ word-next (slice_index_or gs n d) (drop (n + 1) gs) after in
+      let same : columns_taken (word_around gs n) ≡ columns_taken (leading_word gs) = ap (λ s. columns_taken (leading_word (drop s gs))) none in
       omega arith
 
   abbrev ends_at : Bool → Bool → ℕ → ℕ → ℕ × ℕ
   ends_at t whole word end = if t then (end, word) else if whole then (n, n) else (word, word)
 
-  in-word-wide : (word : ℕ) → word ≡ last_end is_break (take n gs) → (t u v : Bool) → (word == 0) ≡ u → nat_lt width (columns_taken (first_word (drop word gs))) ≡ v → (end : ℕ) → (t ≡ true → 0 < word)
+  in-word-wide : (word : ℕ) → word ≡ last_end is_break (take n gs) → (t u v : Bool) → (word == 0) ≡ u → nat_lt width (columns_taken (leading_word (drop word gs))) ≡ v → (end : ℕ) → (t ≡ true → 0 < word)
       → IsWideAt (ends_at t (u || v) word end).1
   in-word-wide word at true u v zero_is wide end some = after-blank word (subst (λ k. is_break (slice_index_or gs (k - 1) d) ≡ true) (sym at) (blank-before n gs d (count-le gs width) (subst (λ k. 0 < k) at (some refl))))
   in-word-wide word at false true v zero_is wide end some = first-wide (let z : word ≡ 0 = grind (arith, nat_tests, zero_is) in sym at ∙ z)
   in-word-wide word at false false true zero_is wide end some = λ lt before after.
-      let here : width < columns_taken (first_word (drop word gs)) = grind (arith, nat_tests, wide) in
-      subst (λ k. width < columns_taken (first_word (drop k gs))) at here
+      let here : width < columns_taken (leading_word (drop word gs)) = grind (arith, nat_tests, wide) in
+      subst (λ k. width < columns_taken (leading_word (drop k gs))) at here
   in-word-wide word at false false false zero_is wide end some =
       let more : 0 < word = grind (arith, nat_tests, zero_is) in
       after-blank word (subst (λ k. is_break (slice_index_or gs (k - 1) d) ≡ true) (sym at) (blank-before n gs d (count-le gs width) (subst (λ k. 0 < k) at more)))
@@ -115,7 +115,7 @@ module _ (width : ℕ) (gs : List GraphemeData) (d : GraphemeData) where
       by false word_ =
           let word = last_end is_break (take n gs) in
           let end = last_end is_of_word (take word gs) in
-          in-word-wide word refl (nat_lt 0 end) (word == 0) (nat_lt width (columns_taken (first_word (drop word gs)))) refl refl end
+          in-word-wide word refl (nat_lt 0 end) (word == 0) (nat_lt width (columns_taken (leading_word (drop word gs)))) refl refl end
           (λ some. (let more : 0 < end = grind (arith, nat_tests, some) in let le = last_end-le is_of_word (take word gs) in omega (arith, length-take word gs)))
 
   pub broken-wide : IsWideAt (row_break width gs).1

@@ -10,7 +10,7 @@ use Rattle.std.proofs.lemmas.List.Folds.{list_all-append}
 use Rattle.std.proofs.lemmas.List.Sums.{sum_by-cons, sum_by-take-le}
 use Rattle.ratatui_core.specs.Text.{GraphemeData, grapheme_data}
 use Rattle.ratatui_core.specs.declared.text.StyledGrapheme.{StyledGrapheme}
-use Rattle.ratatui_widgets.specs.Reflow.{data_of, is_break, is_of_word, grapheme_columns, columns_taken, words_of, fits_row, AllFit, count_fitting, fitting_front, after_columns, last_end, first_word, break_at_blank, break_in_word, break_before, row_break, trimmed_start, split_row}
+use Rattle.ratatui_widgets.specs.Reflow.{data_of, is_break, is_of_word, grapheme_columns, columns_taken, words_of, fits_row, AllFit, count_fitting, fitting_front, after_columns, last_end, leading_word, break_at_blank, break_in_word, break_before, row_break, trimmed_start, split_row}
 
 -- ---- graphemes one by one
 
@@ -35,8 +35,8 @@ abbrev pub found_end : (GraphemeData → Bool) → ℕ → ℕ → List Grapheme
 found_end p count so_far left = if nat_lt 0 (last_end p left) then count + last_end p left else so_far
 
 -- the columns of the first word
-pub word-next : (g : GraphemeData) (gs : List GraphemeData) → is_break g ≡ false → columns_taken (first_word (g ∷ gs)) ≡ grapheme_columns g + columns_taken (first_word gs)
-word-next g gs is = rw is (columns-next g (first_word gs))
+pub word-next : (g : GraphemeData) (gs : List GraphemeData) → is_break g ≡ false → columns_taken (leading_word (g ∷ gs)) ≡ grapheme_columns g + columns_taken (leading_word gs)
+word-next g gs is = rw is (columns-next g (leading_word gs))
 
 pub wide-next : (left w c : ℕ) → w ≤ left → nat_lt (left - w) c ≡ nat_lt left (w + c)
 wide-next left w c le = grind (arith, nat_tests)
@@ -212,7 +212,7 @@ in-word width n gs inside some fits =
     let end = last_end is_of_word (take word gs) in
     let le : word ≤ n = omega (arith, last_end-le is_break (take n gs), length-take n gs) in
     let less : end ≤ word = omega (arith, last_end-le is_of_word (take word gs), length-take word gs) in
-    cases word end le less (nat_lt 0 end) refl (word == 0) refl (nat_lt width (columns_taken (first_word (drop word gs)))) refl
+    cases word end le less (nat_lt 0 end) refl (word == 0) refl (nat_lt width (columns_taken (leading_word (drop word gs)))) refl
   where
     cases : (word end : ℕ) → word ≤ n → end ≤ word → (t : Bool) → nat_lt 0 end ≡ t → (u : Bool) → (word == 0) ≡ u → (v : Bool) → end ≡ last_end is_of_word (take word gs)
         → IsBreak width gs (if t then (end, word) else if u || v then (n, n) else (word, word))
@@ -313,8 +313,8 @@ module _ (gs : List StyledGrapheme) (width n word end : ℕ) (at : word ≡ last
   pub word-ends-at : 0 < end → (end, word) ≡ break_in_word width (data_of gs) n
   word-ends-at some = let t : nat_lt 0 end ≡ true = grind (arith, nat_tests) in rw (word-at, end-at, t) refl
 
-  wide-at : (wide : Bool) → wide ≡ nat_lt width (columns_taken (first_word (data_of (take (length gs - word) (drop word gs))))) → nat_lt width (columns_taken (first_word (drop word (data_of gs)))) ≡ wide
-  wide-at wide e = ap (λ rest. nat_lt width (columns_taken (first_word rest))) (sym (data-tail word gs)) ∙ sym e
+  wide-at : (wide : Bool) → wide ≡ nat_lt width (columns_taken (leading_word (data_of (take (length gs - word) (drop word gs))))) → nat_lt width (columns_taken (leading_word (drop word (data_of gs)))) ≡ wide
+  wide-at wide e = ap (λ rest. nat_lt width (columns_taken (leading_word rest))) (sym (data-tail word gs)) ∙ sym e
 
   pub word-broken : end ≤ 0 → word ≡ 0 → (n, n) ≡ break_in_word width (data_of gs) n
   word-broken none first = let t : nat_lt 0 end ≡ false = grind (arith, nat_tests) in let z : (word == 0) ≡ true = grind (arith, nat_tests) in rw (word-at, end-at, t, z) refl
@@ -325,17 +325,17 @@ module _ (gs : List StyledGrapheme) (width n word end : ℕ) (at : word ≡ last
   abbrev moved : ℕ × ℕ
   moved = (word, word)
 
-  pub word-wide : end ≤ 0 → (wide : Bool) → wide ≡ nat_lt width (columns_taken (first_word (data_of (take (length gs - word) (drop word gs))))) → wide ≡ true → (n, n) ≡ break_in_word width (data_of gs) n
+  pub word-wide : end ≤ 0 → (wide : Bool) → wide ≡ nat_lt width (columns_taken (leading_word (data_of (take (length gs - word) (drop word gs))))) → wide ≡ true → (n, n) ≡ break_in_word width (data_of gs) n
   word-wide none wide e is_wide =
       let t : nat_lt 0 end ≡ false = grind (arith, nat_tests) in
-      let w : nat_lt width (columns_taken (first_word (drop word (data_of gs)))) ≡ true = wide-at wide e ∙ is_wide in
+      let w : nat_lt width (columns_taken (leading_word (drop word (data_of gs)))) ≡ true = wide-at wide e ∙ is_wide in
       rw (word-at, end-at, t, w) (ap (λ b. if b then whole else moved) (sym (or_right (word == 0) true refl)))
 
-  pub word-moved : end ≤ 0 → 0 < word → (wide : Bool) → wide ≡ nat_lt width (columns_taken (first_word (data_of (take (length gs - word) (drop word gs))))) → wide ≡ false → (word, word) ≡ break_in_word width (data_of gs) n
+  pub word-moved : end ≤ 0 → 0 < word → (wide : Bool) → wide ≡ nat_lt width (columns_taken (leading_word (data_of (take (length gs - word) (drop word gs))))) → wide ≡ false → (word, word) ≡ break_in_word width (data_of gs) n
   word-moved none some wide e is_not =
       let t : nat_lt 0 end ≡ false = grind (arith, nat_tests) in
       let z : (word == 0) ≡ false = grind (arith, nat_tests) in
-      let w : nat_lt width (columns_taken (first_word (drop word (data_of gs)))) ≡ false = wide-at wide e ∙ is_not in
+      let w : nat_lt width (columns_taken (leading_word (drop word (data_of gs)))) ≡ false = wide-at wide e ∙ is_not in
       rw (word-at, end-at, t, z, w) refl
 
 module _ (gs : List StyledGrapheme) (width count : ℕ) (is : count ≡ count_fitting width (data_of gs)) where
@@ -357,15 +357,15 @@ module _ (gs : List StyledGrapheme) (width count : ℕ) (is : count ≡ count_fi
 
 -- a turn of the loop over a word
 module _ (gs : List StyledGrapheme) (i left width w : ℕ) (d : StyledGrapheme) (lt : i < length gs) (is : w ≡ grapheme_columns (grapheme_data (slice_index_or gs i d))) (word : is_break (grapheme_data (slice_index_or gs i d)) ≡ false)
-    (so_far : nat_lt left (columns_taken (first_word (data_of (drop i gs)))) ≡ nat_lt width (columns_taken (first_word (data_of gs)))) where
-  word-columns : columns_taken (first_word (data_of (drop i gs))) ≡ w + columns_taken (first_word (data_of (drop (i + 1) gs)))
-  word-columns = ap (λ xs. columns_taken (first_word xs)) (next-data gs i d lt) ∙ (word-next (grapheme_data (slice_index_or gs i d)) (data_of (drop (i + 1) gs)) word ∙ ap (λ n. n + columns_taken (first_word (data_of (drop (i + 1) gs)))) (sym is))
+    (so_far : nat_lt left (columns_taken (leading_word (data_of (drop i gs)))) ≡ nat_lt width (columns_taken (leading_word (data_of gs)))) where
+  word-columns : columns_taken (leading_word (data_of (drop i gs))) ≡ w + columns_taken (leading_word (data_of (drop (i + 1) gs)))
+  word-columns = ap (λ xs. columns_taken (leading_word xs)) (next-data gs i d lt) ∙ (word-next (grapheme_data (slice_index_or gs i d)) (data_of (drop (i + 1) gs)) word ∙ ap (λ n. n + columns_taken (leading_word (data_of (drop (i + 1) gs)))) (sym is))
 
-  pub wide-turn : w ≤ left → nat_lt (left - w) (columns_taken (first_word (data_of (drop (i + 1) gs)))) ≡ nat_lt width (columns_taken (first_word (data_of gs)))
-  wide-turn le = wide-next left w (columns_taken (first_word (data_of (drop (i + 1) gs)))) le ∙ (ap (nat_lt left) (sym word-columns) ∙ so_far)
+  pub wide-turn : w ≤ left → nat_lt (left - w) (columns_taken (leading_word (data_of (drop (i + 1) gs)))) ≡ nat_lt width (columns_taken (leading_word (data_of gs)))
+  wide-turn le = wide-next left w (columns_taken (leading_word (data_of (drop (i + 1) gs)))) le ∙ (ap (nat_lt left) (sym word-columns) ∙ so_far)
 
-  pub wide-found : left < w → true ≡ nat_lt width (columns_taken (first_word (data_of gs)))
-  wide-found more = sym (wide-full left w (columns_taken (first_word (data_of (drop (i + 1) gs)))) more) ∙ (ap (nat_lt left) (sym word-columns) ∙ so_far)
+  pub wide-found : left < w → true ≡ nat_lt width (columns_taken (leading_word (data_of gs)))
+  wide-found more = sym (wide-full left w (columns_taken (leading_word (data_of (drop (i + 1) gs)))) more) ∙ (ap (nat_lt left) (sym word-columns) ∙ so_far)
 
 -- a row and where the next one begins, in a slice
 pub start-inside : (gs : List StyledGrapheme) (trim : Bool) (start : ℕ) → start ≡ trimmed_start trim (data_of gs) → start ≤ length gs

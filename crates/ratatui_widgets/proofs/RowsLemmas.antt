@@ -16,7 +16,7 @@ use Rattle.ratatui_core.specs.declared.layout.HorizontalAlignment.TheVariants.{L
 use Rattle.ratatui_widgets.specs.declared.paragraph.Paragraph.{Paragraph}
 use Rattle.ratatui_widgets.specs.declared.paragraph.Wrap.{Wrap}
 use Rattle.ratatui_widgets.specs.Reflow.{data_of, grapheme_columns, columns_taken, words_of, is_of_word, AllFit, cut_row, after_columns, fits_row, split_row, rows_within, broken_rows}
-use Rattle.ratatui_widgets.specs.Paragraphs.{TextRow, alignment_of, graphemes_of, IsWhole, row_pieces, aligned_row, aligned_rows, cut_line, broken_line, rows_of_lines, rows_shown, indent_of, PaintsGrapheme, PaintsGraphemes, PaintsRow, PaintsRows, PaintsOn}
+use Rattle.ratatui_widgets.specs.Paragraphs.{TextRow, alignment_of, graphemes_of, IsSingleGrapheme, row_pieces, aligned_row, aligned_rows, cut_line, broken_line, rows_of_lines, rows_shown, indent_of, PaintsGrapheme, PaintsGraphemes, PaintsRow, PaintsRows, PaintsOn}
 use Rattle.ratatui_widgets.proofs.ReflowLemmas.{split_row-is, fit-past, count-fits, next-data, columns-next, data-drop, data-count, tail-is}
 
 -- a row that fits ends in its area
@@ -180,7 +180,7 @@ shown-width : (text : List ℕ) → has_control text ≡ false → painted_width
 unfolding painted_width
 shown-width text shows = rw shows refl
 
-pieces-one : (g : GraphemeData) (gs : List GraphemeData) → IsWhole g → row_pieces (g ∷ gs) ≡ text_pieces (grapheme_columns g) g.style g.symbol ++ row_pieces gs
+pieces-one : (g : GraphemeData) (gs : List GraphemeData) → IsSingleGrapheme g → row_pieces (g ∷ gs) ≡ text_pieces (grapheme_columns g) g.style g.symbol ++ row_pieces gs
 pieces-one g gs is =
     let width = shown-width g.symbol is.shows in
     ⊎_elim
@@ -192,7 +192,7 @@ pieces-one g gs is =
     rw (t, text_pieces-none (grapheme_columns g) g.style g.symbol (omega arith)) refl)
     (cases_lt 0 (grapheme_columns g))
 
-columns-one : (g : GraphemeData) → IsWhole g → columns (text_pieces (grapheme_columns g) g.style g.symbol) ≡ grapheme_columns g
+columns-one : (g : GraphemeData) → IsSingleGrapheme g → columns (text_pieces (grapheme_columns g) g.style g.symbol) ≡ grapheme_columns g
 columns-one g is =
     let width = shown-width g.symbol is.shows in
     ⊎_elim
@@ -200,15 +200,15 @@ columns-one g is =
     (λ (le : grapheme_columns g ≤ 0). ap columns (text_pieces-none (grapheme_columns g) g.style g.symbol (omega arith)) ∙ omega arith)
     (cases_lt 0 (grapheme_columns g))
 
-pub whole-together : (x y : ℕ) (gs : List GraphemeData) (old new : BufferData) → old.area.x ≤ x → All IsWhole gs → PaintsGraphemes x y gs old new → PaintsPieces (position_of (x, y)) (row_pieces gs) old new
+pub whole-together : (x y : ℕ) (gs : List GraphemeData) (old new : BufferData) → old.area.x ≤ x → All IsSingleGrapheme gs → PaintsGraphemes x y gs old new → PaintsPieces (position_of (x, y)) (row_pieces gs) old new
 whole-together x y [] old new starts all same = rw same (PaintsPieces-none (position_of (x, y)) [] old refl)
 whole-together x y (g ∷ gs) old new starts all made =
-    let is = All-head IsWhole g gs all in
+    let is = All-head IsSingleGrapheme g gs all in
     let ps = text_pieces (grapheme_columns g) g.style g.symbol in
     let mid = made.between in
     let area : mid.area ≡ old.area = made.first.area in
     let left : mid.area.x ≡ old.area.x = ap (λ a. a.x) area in
-    let rest = whole-together (x + grapheme_columns g) y gs mid new (omega arith) (All-tail IsWhole g gs all) made.second in
+    let rest = whole-together (x + grapheme_columns g) y gs mid new (omega arith) (All-tail IsSingleGrapheme g gs all) made.second in
     let there : PaintsPieces (right_by (columns ps) (position_of (x, y))) (row_pieces gs) mid new = subst (λ n. PaintsPieces (position_of (x + n, y)) (row_pieces gs) mid new) (sym (columns-one g is)) rest in
     subst (λ qs. PaintsPieces (position_of (x, y)) qs old new) (sym (pieces-one g gs is))
     (PaintsPieces-append (position_of (x, y)) ps (row_pieces gs) old mid new starts (pieces-wide (grapheme_columns g) g.style g.symbol) made.first there)

@@ -89,7 +89,7 @@ PaintsGraphemes x y [] old new = new ≡ old
 PaintsGraphemes x y (g ∷ gs) old new = InTurn (PaintsGrapheme x y g) (PaintsGraphemes (x + grapheme_columns g) y gs) old new
 
 -- the grapheme is one by itself, and has no control character
-pub record IsWhole (g : GraphemeData) : Type 0 where
+pub record IsSingleGrapheme (g : GraphemeData) : Type 0 where
   pub one : IsOneGrapheme g.symbol
   pub shows : has_control g.symbol ≡ false
 

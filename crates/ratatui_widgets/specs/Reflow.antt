@@ -60,13 +60,13 @@ last_end p [] = 0
 last_end p (g ∷ gs) = if nat_lt 0 (last_end p gs) then suc (last_end p gs) else if p g then 1 else 0
 
 -- the word that stands first
-abbrev pub first_word : List GraphemeData → List GraphemeData
-first_word [] = []
-first_word (g ∷ gs) = if is_break g then [] else g ∷ first_word gs
+abbrev pub leading_word : List GraphemeData → List GraphemeData
+leading_word [] = []
+leading_word (g ∷ gs) = if is_break g then [] else g ∷ leading_word gs
 
 -- the word around a place of a line: from after the last blank before it up to the next blank
 abbrev pub word_around : List GraphemeData → ℕ → List GraphemeData
-word_around gs k = first_word (drop (last_end is_break (take k gs)) gs)
+word_around gs k = leading_word (drop (last_end is_break (take k gs)) gs)
 
 -- Where a row ends, and where the next one begins. A blank comes after the n graphemes that fit: the row ends with its last word, if it
 -- has one, and the next one begins after the blank.
@@ -82,7 +82,7 @@ break_in_word width gs n =
     let word = last_end is_break (take n gs) in
     let end = last_end is_of_word (take word gs) in
     if nat_lt 0 end then (end, word)
-    else if (word == 0) || nat_lt width (columns_taken (first_word (drop word gs))) then (n, n)
+    else if (word == 0) || nat_lt width (columns_taken (leading_word (drop word gs))) then (n, n)
     else (word, word)
 
 -- n graphemes fit, and these come after them

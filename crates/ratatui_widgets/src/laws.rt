@@ -4,7 +4,7 @@ ghost use Rattle.std.specs.Prelude.{◌≡◌, ℕ, ◌-◌, ◌<◌, ◌≤◌,
 ghost use Rattle.std.specs.List.{flat_map};
 ghost use Rattle.ratatui_core.specs.Buffer.{BufferData, PaintsPieces, position_of};
 ghost use Rattle.ratatui_core.specs.Text.{GraphemeData};
-ghost use Rattle.ratatui_widgets.specs.Paragraphs.{IsWhole, row_pieces, PaintsGraphemes};
+ghost use Rattle.ratatui_widgets.specs.Paragraphs.{IsSingleGrapheme, row_pieces, PaintsGraphemes};
 ghost use Rattle.ratatui_widgets.specs.Reflow.{is_break, columns_taken, words_of, AllFit, word_around, row_break, broken_rows};
 
 pub use rtui_boxes::laws::{
@@ -38,6 +38,6 @@ pub fn words_are_broken_only_if_wide()
 /// Whole graphemes that are painted in a row one after the other are painted together.
 pub fn whole_graphemes_are_painted_together()
     ensures { (x y : ℕ) (gs : List GraphemeData) (old new : BufferData)
-        → old.area.x ≤ x → All IsWhole gs → PaintsGraphemes x y gs old new
+        → old.area.x ≤ x → All IsSingleGrapheme gs → PaintsGraphemes x y gs old new
         → PaintsPieces (position_of (x, y)) (row_pieces gs) old new }
 {}

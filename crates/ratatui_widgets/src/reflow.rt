@@ -3,7 +3,7 @@
 ghost use Rattle.std.specs.Prelude.{◌≡◌, ◌+◌, ◌≤◌, ◌<◌, [], ◌∷◌, min, nat_lt, length, filter, take, drop, IfOk};
 ghost use Rattle.std.specs.List.{prefix_len};
 ghost use Rattle.ratatui_core.specs.Text.{line_graphemes_left};
-ghost use Rattle.ratatui_widgets.specs.Reflow.{data_of, is_break, is_of_word, columns_taken, words_of, fits_row, AllFit, count_fitting, cut_row, last_end, first_word, break_at_blank, break_in_word, row_break, trimmed_start, split_row};
+ghost use Rattle.ratatui_widgets.specs.Reflow.{data_of, is_break, is_of_word, columns_taken, words_of, fits_row, AllFit, count_fitting, cut_row, last_end, leading_word, break_at_blank, break_in_word, row_break, trimmed_start, split_row};
 
 use ratatui_core::buffer::CellWidth;
 use ratatui_core::text::{LineGraphemes, StyledGrapheme};
@@ -136,7 +136,7 @@ fn last_word(graphemes: &[StyledGrapheme<'_>]) -> usize
 
 // Whether the word that stands first is wider than a row.
 fn is_wide_word(graphemes: &[StyledGrapheme<'_>], width: u16) -> bool
-    ensures { result ≡ nat_lt width (columns_taken (first_word (data_of graphemes.now))) }
+    ensures { result ≡ nat_lt width (columns_taken (leading_word (data_of graphemes.now))) }
 {
     let mut left = width;
     for grapheme in graphemes {
