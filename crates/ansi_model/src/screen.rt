@@ -171,8 +171,8 @@ fn feed_and_lower(out: &mut String) -> Result<(), AllocError>
     insert_lines(out, 1)
 }
 
-// Sends the first row to the history, and blank ones after it; margins enclose at least two rows, so that the second one goes up
-// and down again.
+// Sends the first row to the history, and blank ones after it; margins enclose at least two rows,
+// so that the second one goes up and down again.
 fn feed_first_row(out: &mut String, n: u16) -> Result<(), AllocError>
     ensures { OnOk result (Performs (string_bytes out.old) (string_bytes out.new)
         (λ t. without_region (fed_and_lowered_by n (with_region 0 2 t)))) }

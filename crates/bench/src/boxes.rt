@@ -4,7 +4,8 @@ use ratatui_core::layout::{Position, Rect};
 use ratatui_core::symbols::merge::MergeStrategy;
 use std::alloc::{AllocError, Global};
 
-/// How boxes stand in a buffer: their size, how far one is from the next, and how their borders are joined.
+/// How boxes stand in a buffer: their size, how far one is from the next, and how their borders are
+/// joined.
 #[derive(Clone, Copy)]
 pub struct Border {
     width: u16,

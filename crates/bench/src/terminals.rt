@@ -39,7 +39,8 @@ impl Act {
         }
     }
 
-    /// Inserts rows above an inline viewport of five rows, and draws the same picture each time, if any.
+    /// Inserts rows above an inline viewport of five rows, and draws the same picture each time, if
+    /// any.
     pub fn insert(rows: u16, picture: Option<Picture>) -> Act {
         Act {
             viewport: Some(5),
@@ -127,7 +128,8 @@ pub fn on_screen(alloc: Global, size: Size, act: Act) -> Done {
     Ok(Some((backend.cells_written(), sum(backend.buffer()))))
 }
 
-/// Does rounds of an application that sends bytes: how many it flushed in them, and a sum over the last picture.
+/// Does rounds of an application that sends bytes: how many it flushed in them, and a sum over the
+/// last picture.
 pub fn on_bytes(alloc: Global, size: Size, act: Act) -> Done {
     let screen = ScreenSize::new(size.width, size.height);
     let Ok(backend) = AnsiBackend::new(alloc, Memory::new(alloc), screen) else {

@@ -1,8 +1,9 @@
 //! The program `follow`: shows standard input line by line above a status line, as it comes.
 //!
-//! `follow COLUMNS ROWS` sends escape sequences to standard output, for a terminal of this size; without words the size is that of the
-//! variables COLUMNS and LINES. What a line's row is, and what a push leaves on the screen, is `logview`'s; that the bytes show that
-//! screen is `ratatui_ansi`'s.
+//! `follow COLUMNS ROWS` sends escape sequences to standard output, for a terminal of this size;
+//! without words the size is that of the variables COLUMNS and LINES. What a line's row is, and
+//! what a push leaves on the screen, is `logview`'s; that the bytes show that screen is
+//! `ratatui_ansi`'s.
 #![tactic(auto)]
 
 ghost use Rattle.std.specs.Prelude.{◌≡◌, [], Some, IfOk, IfErr, IfSome, OnOk, string_bytes};
@@ -102,7 +103,8 @@ fn show_lines<R: BufRead, W: Write + Drop>(
     push_lines(alloc, reader, &mut view)
 }
 
-// Sends what leaves a terminal of so many rows in its own colours and without margins, with its cursor shown below its rows.
+// Sends what leaves a terminal of so many rows in its own colours and without margins, with its
+// cursor shown below its rows.
 fn push_leaving(out: &mut String, height: u16) -> Result<(), AllocError>
     ensures { OnOk result
         (Performs (string_bytes out.old) (string_bytes out.new) (left_below height)) }
@@ -123,8 +125,8 @@ fn send<W: Write>(writer: &mut W, text: &str) -> io::Result<()>
     writer.flush()
 }
 
-// Shows the lines of a reader to its end, and leaves the terminal with its cursor shown below its rows, also after a fault. What that takes
-// is built first, so that no want of memory prevents it.
+// Shows the lines of a reader to its end, and leaves the terminal with its cursor shown below its
+// rows, also after a fault. What that takes is built first, so that no want of memory prevents it.
 fn follow<R: BufRead, W: Write>(
     alloc: Global,
     reader: &mut R,

@@ -54,8 +54,8 @@ fn push_grapheme(out: &mut String, grapheme: &str) -> Result<(), AllocError>
     }
 }
 
-/// Appends a line as it is shown: in place of each grapheme that terminals don't print as one symbol U+FFFD in its columns, with
-/// blanks after it where it takes several.
+/// Appends a line as it is shown: in place of each grapheme that terminals don't print as one
+/// symbol U+FFFD in its columns, with blanks after it where it takes several.
 pub fn push_shown(out: &mut String, line: &str) -> Result<(), AllocError>
     ensures { OnOk result (string_bytes out.new ≡ string_bytes out.old ++ shown_line line.now) }
 {

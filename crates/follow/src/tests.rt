@@ -126,7 +126,8 @@ fn leaves_the_terminal_after_each_failed_call(rt: HostRuntime) -> Result<(), Fai
             End::Read | End::Lines => assert!(rt; false),
         }
     }
-    // What leaves the terminal is one write and one flush; that the cursor is shown again before it isn't told when it fails.
+    // What leaves the terminal is one write and one flush; that the cursor is shown again before it
+    // isn't told when it fails.
     assert!(rt; unwritten == 2 && 10 < stopped && stopped < 30);
     Ok(())
 }

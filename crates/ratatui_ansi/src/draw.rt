@@ -89,7 +89,8 @@ fn printable_of(cell: &Cell) -> Option<char>
     }
 }
 
-// A cell's symbol, as it is printed in some columns: none if it isn't, if the cell takes others, or more than there are.
+// A cell's symbol, as it is printed in some columns: none if it isn't, if the cell takes others, or
+// more than there are.
 fn glyph_in(room: u16, cell: &Cell) -> Option<Glyph>
     ensures { MatchOption result (is_fit room cell.now ≡ false) (IsGlyph room cell.now) }
 {
@@ -131,8 +132,8 @@ fn put_blanks(out: &mut String, pen: &mut Pen, x: u16, y: u16, end: u16) -> Resu
     Ok(())
 }
 
-// Sets the flags of a symbol of so many columns, and empties what is left of another one of which it covers the first part.
-// Answers the column after all these.
+// Sets the flags of a symbol of so many columns, and empties what is left of another one of which
+// it covers the first part. Answers the column after all these.
 #[inline(always)]
 fn cover(
     out: &mut String,
@@ -190,7 +191,8 @@ fn put(
     }
 }
 
-// Sets the rendition of the cell in a place; apart, so that the path of a cell in the pen's rendition stays short.
+// Sets the rendition of the cell in a place; apart, so that the path of a cell in the pen's
+// rendition stays short.
 #[inline(never)]
 fn set_sgr_of(
     out: &mut String,
@@ -235,7 +237,8 @@ fn take_sgr(
     set_sgr_of(out, pen, has_underline_colors, place, cell)
 }
 
-// Draws a cell in a place of a screen of so many columns, if no symbol covers it from the left; it was counted before.
+// Draws a cell in a place of a screen of so many columns, if no symbol covers it from the left; it
+// was counted before.
 #[inline(always)]
 fn draw_glyph(
     out: &mut String,

@@ -157,7 +157,8 @@ impl Tracker {
         Ok(())
     }
 
-    // Whether a clear would cut a symbol that has to stay, as one does from a cursor on that is in a continuation column.
+    // Whether a clear would cut a symbol that has to stay, as one does from a cursor on that is in
+    // a continuation column.
     fn cuts(&self, clear_type: ClearType) -> bool
         requires tracker { IsTracker self.now }
         requires column { self.now.cursor.x < self.now.size.width }

@@ -273,8 +273,8 @@ impl<'a> Paragraph<'a> {
         Ok(())
     }
 
-    // A line broken into rows, the first one in row k of a part, without as many rows as are still to be skipped; answers the row after the
-    // last one.
+    // A line broken into rows, the first one in row k of a part, without as many rows as are still
+    // to be skipped; answers the row after the last one.
     fn render_broken(
         &self,
         line: &Line<'a>,
@@ -311,8 +311,8 @@ fn columns_scrolled(alignment: HorizontalAlignment, columns: u16) -> u16
     }
 }
 
-// Renders a line broken into rows, the first one in row k of a part, without as many rows as are still to be skipped; answers the row
-// after the last one.
+// Renders a line broken into rows, the first one in row k of a part, without as many rows as are
+// still to be skipped; answers the row after the last one.
 fn render_line(
     graphemes: &[StyledGrapheme<'_>],
     alignment: HorizontalAlignment,

@@ -23,7 +23,8 @@ pub(crate) fn columns_of(row: &[StyledGrapheme<'_>]) -> u16
     columns
 }
 
-// The graphemes of a line from a column on, as many as fit the width; a line that isn't moved begins at its first one.
+// The graphemes of a line from a column on, as many as fit the width; a line that isn't moved
+// begins at its first one.
 pub(crate) fn truncated<'t, 'a>(
     alloc: Global,
     graphemes: LineGraphemes<'t, 'a>,
@@ -168,7 +169,8 @@ fn break_in_word(graphemes: &[StyledGrapheme<'_>], count: usize, width: u16) -> 
     (word, word)
 }
 
-// Where a row of so many graphemes ends that a blank crosses, and where the next one begins: after this blank.
+// Where a row of so many graphemes ends that a blank crosses, and where the next one begins: after
+// this blank.
 fn break_at_blank(graphemes: &[StyledGrapheme<'_>], count: usize) -> (usize, usize)
     requires { count < length graphemes.now }
     ensures { result ≡ break_at_blank (data_of graphemes.now) count }
@@ -180,8 +182,8 @@ fn break_at_blank(graphemes: &[StyledGrapheme<'_>], count: usize) -> (usize, usi
     (count, count + 1)
 }
 
-// Where the row at the front ends, and where the next one begins: it has as many words as fit the width, and a word is broken only if it
-// is wider than a row.
+// Where the row at the front ends, and where the next one begins: it has as many words as fit the
+// width, and a word is broken only if it is wider than a row.
 fn row_ends(graphemes: &[StyledGrapheme<'_>], width: u16) -> (usize, usize)
     ensures { result ≡ row_break width (data_of graphemes.now) }
 {
@@ -203,8 +205,9 @@ fn trimmed_start(graphemes: &[StyledGrapheme<'_>], trim: bool) -> usize
     if trim { leading_blanks(graphemes) } else { 0 }
 }
 
-// The row at the front of a line, and how many graphemes stand before the next one. The row has at most the width. Only blanks are left
-// out: those at the front if rows are trimmed, and those at which the line is broken.
+// The row at the front of a line, and how many graphemes stand before the next one. The row has at
+// most the width. Only blanks are left out: those at the front if rows are trimmed, and those at
+// which the line is broken.
 pub(crate) fn split_row<'s, 't>(
     graphemes: &'s [StyledGrapheme<'t>],
     width: u16,

@@ -1,4 +1,5 @@
-//! What makes no request for memory: copies of what borrows its text, which borrow it, too, and symbols of at most 22 bytes.
+//! What makes no request for memory: copies of what borrows its text, which borrow it, too, and
+//! symbols of at most 22 bytes.
 use crate::outcome::{Outcome, judged};
 use rtui_buffer::Buffer;
 use rtui_cell::Cell;
@@ -26,7 +27,8 @@ fn span_copied(alloc: Global) -> Result<Outcome, AllocError> {
     }
 }
 
-// The text of a masked one is private: that the copy borrows it shows only in that no request is made.
+// The text of a masked one is private: that the copy borrows it shows only in that no request is
+// made.
 fn masked_copied(alloc: Global) -> Result<Outcome, AllocError> {
     let masked = Masked::new("ab", '*');
     match masked.clone(alloc) {

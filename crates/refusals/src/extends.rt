@@ -1,7 +1,7 @@
 //! Lists that take what an iterator gives, and are refused memory in the middle of it.
 //!
-//! Each has two parts, and room for four: it takes two more, and needs memory for the third. What it took stays, the third is lost,
-//! and the same call then takes what the iterator still has.
+//! Each has two parts, and room for four: it takes two more, and needs memory for the third. What
+//! it took stays, the third is lost, and the same call then takes what the iterator still has.
 ghost use Rattle.std.specs.Prelude.{◌+◌, ◌^◌, length};
 ghost use Rattle.std.specs.Iterator.{YieldsFirst, at_most};
 ghost use Rattle.std.specs.Vec.Iter.{into_iter_items};
@@ -24,8 +24,9 @@ static KEPT: [&str; 4] = ["a", "b", "c", "d"];
 // What stands after the one that was made again.
 static WITHOUT_THE_REFUSED: [&str; 5] = ["a", "b", "c", "d", "f"];
 
-// The items of a list, said to be more than could ever lie in memory. A list that is to take items asks for room for as many as are
-// said to come, and if that is refused for room for one. Of so many it can't even ask, so that the one request may be refused.
+// The items of a list, said to be more than could ever lie in memory. A list that is to take items
+// asks for room for as many as are said to come, and if that is refused for room for one. Of so
+// many it can't even ask, so that the one request may be refused.
 #[derive(Drop)]
 struct Countless<T> {
     items: vec::IntoIter<T>,

@@ -1,7 +1,8 @@
 //! Views of a log, and runs over one.
 //!
-//! A view is compared with a twin, to which the same lines were pushed but for the refused one. Both backends count their calls
-//! down, so that the two are equal only if the refused push made none.
+//! A view is compared with a twin, to which the same lines were pushed but for the refused one.
+//! Both backends count their calls down, so that the two are equal only if the refused push made
+//! none.
 use crate::outcome::{Outcome, judged};
 use logview::{LogFault, LogView, run};
 use rtui_backend::{TestBackend, TestError};
@@ -64,8 +65,9 @@ fn has_line(view: &LogView<TestBackend>, lines: u64) -> bool {
     }
 }
 
-// A push after so many lines. What is refused to the terminal made no call of the backend and changed nothing, so that the
-// same push is then as if it were the first; what is refused to the backend is told as the backend's.
+// A push after so many lines. What is refused to the terminal made no call of the backend and
+// changed nothing, so that the same push is then as if it were the first; what is refused to the
+// backend is told as the backend's.
 fn pushed(alloc: Global, lines: u64) -> Result<Outcome, AllocError> {
     let mut view = view_of(alloc, lines)?;
     let twin = view_of(alloc, lines)?;
@@ -93,8 +95,8 @@ static LOG: &str = "4 2\na\u{1F468}\u{200D}\u{1F469}\u{200D}\u{1F467}\u{200D}\u{
 static PRINTED: &str =
     "^a\u{1F468}\u{200D}\u{1F469}\u{200D}\u{1F467}\u{200D}\u{1F466}b\n^    \n|cut \n|line\n";
 
-// Whether a run that failed says that memory was refused, and wrote nothing; a writer that grows may be refused it in the
-// midst of what is printed.
+// Whether a run that failed says that memory was refused, and wrote nothing; a writer that grows
+// may be refused it in the midst of what is printed.
 fn is_told(fault: LogFault, written: &[u8], grows: bool) -> bool {
     match fault {
         LogFault::Memory => written.is_empty(),

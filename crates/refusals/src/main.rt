@@ -1,10 +1,12 @@
-//! The program `refusals`: makes calls that take memory, each in a case of its own, and says how each went.
+//! The program `refusals`: makes calls that take memory, each in a case of its own, and says how
+//! each went.
 //!
-//! It prints the name of each case and what came of it: `accepted`; `refused, and as it was` if memory was refused to the call,
-//! what it must leave stands, and the same call was then accepted; `not ready` if memory was refused before the call; and else
-//! `broken`. `refusals REQUEST` first makes so many requests of its own that the one of number `LAST` is that request of the cases,
-//! counted from the start of the program, and says if it was refused before them or after them. `tools/refusals` has each
-//! request refused in turn.
+//! It prints the name of each case and what came of it: `accepted`; `refused, and as it was` if
+//! memory was refused to the call, what it must leave stands, and the same call was then accepted;
+//! `not ready` if memory was refused before the call; and else `broken`. `refusals REQUEST` first
+//! makes so many requests of its own that the one of number `LAST` is that request of the cases,
+//! counted from the start of the program, and says if it was refused before them or after them.
+//! `tools/refusals` has each request refused in turn.
 #![tactic(auto)]
 
 mod backends;

@@ -22,7 +22,8 @@ impl fmt::Display for Outcome {
     }
 }
 
-/// What came of a call that was refused or not, left what it should or not, and was right when it was made again or not.
+/// What came of a call that was refused or not, left what it should or not, and was right when it
+/// was made again or not.
 pub fn judged(is_refused: bool, is_left: bool, is_right: bool) -> Outcome {
     if !is_left || !is_right {
         Outcome::Broken

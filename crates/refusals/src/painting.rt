@@ -71,7 +71,8 @@ fn paint(buffer: &mut Buffer, painted: &Painted) -> Result<(), AllocError> {
     }
 }
 
-// Whether a buffer of six columns has another's area, and its cells but for the first row from the third column on.
+// Whether a buffer of six columns has another's area, and its cells but for the first row from the
+// third column on.
 fn is_kept_outside(before: &Buffer, after: &Buffer) -> bool {
     *before.area() == *after.area()
         && before.content().iter().zip(after.content()).enumerate().all(|(place, (old, new))| (place

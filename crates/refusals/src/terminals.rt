@@ -1,7 +1,8 @@
 //! Terminals over a backend in memory.
 //!
-//! A terminal is compared with a twin, to which the same was done but for the refused call. Both backends count their calls
-//! down, so that the two are equal only if the refused call made just those that the twin made by hand.
+//! A terminal is compared with a twin, to which the same was done but for the refused call. Both
+//! backends count their calls down, so that the two are equal only if the refused call made just
+//! those that the twin made by hand.
 ghost use Rattle.rtui_viewport.specs.Viewports.{FitsEdges};
 
 use crate::outcome::{LONG, Outcome, judged};
@@ -62,8 +63,8 @@ fn set_corner(alloc: Global, buffer: &mut Buffer, symbol: &str) -> Result<(), Al
     }
 }
 
-// What came of a call that takes a closure: what it was refused for, whether the closure was called, and whether that was
-// refused memory.
+// What came of a call that takes a closure: what it was refused for, whether the closure was
+// called, and whether that was refused memory.
 type Answer = (Option<TerminalError<TestError>>, bool, bool);
 
 // Draws a frame with a symbol in its corner.
@@ -114,8 +115,9 @@ fn draw_alike(
     Ok(draw(alloc, one, "z").0.is_none() && show_alike(one, other))
 }
 
-// A draw on a screen of another size. What is refused to the terminal made one call of the backend, for its size, and
-// changed nothing, so that the next frame is shown; what is refused to the backend is told as the backend's.
+// A draw on a screen of another size. What is refused to the terminal made one call of the backend,
+// for its size, and changed nothing, so that the next frame is shown; what is refused to the
+// backend is told as the backend's.
 fn drawn(alloc: Global, viewport: Viewport) -> Result<Outcome, AllocError>
     requires { FitsEdges viewport }
 {
@@ -141,7 +143,8 @@ fn drawn(alloc: Global, viewport: Viewport) -> Result<Outcome, AllocError>
     Ok(judged(error.is_some(), is_left, is_right))
 }
 
-// An insertion: what is refused to the terminal, or by the closure, made no call of the backend and changed nothing.
+// An insertion: what is refused to the terminal, or by the closure, made no call of the backend and
+// changed nothing.
 fn inserted(alloc: Global, count: u16) -> Result<Outcome, AllocError> {
     let mut terminal = started(alloc, Viewport::Inline(1))?;
     let mut twin = started(alloc, Viewport::Inline(1))?;

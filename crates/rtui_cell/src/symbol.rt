@@ -20,7 +20,8 @@ const INLINE: usize = 22;
 #[derive(Drop)]
 enum Text {
     Unset,
-    // unset again, in the room of a short text, so that taking texts away and setting them writes little
+    // unset again, in the room of a short text, so that taking texts away and setting them writes
+    // little
     Cleared(ArrayString<INLINE>),
     Short(ArrayString<INLINE>),
     Long(String),

@@ -191,8 +191,8 @@ impl<'prev, 'next> DiffWalk<'prev, 'next> {
     }
 }
 
-// The row that has a place, from one that doesn't begin after it. A walk comes to few new rows, so it counts them and
-// takes no division for each place.
+// The row that has a place, from one that doesn't begin after it. A walk comes to few new rows, so
+// it counts them and takes no division for each place.
 #[tactic(auto, using(crate::proofs::FrameLemmas::row_rules))]
 fn row_with(from: Row, width: usize, at: usize) -> Row
     requires start { from.start ≡ from.index * width }
@@ -212,8 +212,8 @@ fn row_with(from: Row, width: usize, at: usize) -> Row
     row
 }
 
-// The place after a cell and the columns that are stepped over. The usual steps stand apart, so that a processor
-// that foresees them reads on before the width is known.
+// The place after a cell and the columns that are stepped over. The usual steps stand apart, so
+// that a processor that foresees them reads on before the width is known.
 fn place_behind(at: usize, over: u16) -> usize
     requires { at + 65536 < 2 ^ 64 }
     ensures { result ≡ at + 1 + over }

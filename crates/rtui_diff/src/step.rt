@@ -24,7 +24,8 @@ pub fn is_given_when_visited(force: bool, prev: &Cell, next: &Cell) -> bool
     !next.is_skipped() && (force || !has_same_symbol(prev, next))
 }
 
-// Whether any other cell is given that isn't stepped over, and is the same as the former one or not.
+// Whether any other cell is given that isn't stepped over, and is the same as the former one or
+// not.
 pub fn is_given(next: &Cell, same: bool) -> bool
     ensures { result ≡ (not (is_skipped next.now) && (is_always next.now || not same)) }
 {

@@ -49,7 +49,8 @@ pub fn move_block<T: Blank>(
     }
 }
 
-// Exchanges so many elements of a list, from a place on, with those of another list, from a place on.
+// Exchanges so many elements of a list, from a place on, with those of another list, from a place
+// on.
 fn swap_parts<T: Blank>(items: &mut [T], at: usize, others: &mut [T], start: usize, count: usize)
     requires inside { at + count ≤ length items.old }
     requires others_inside { start + count ≤ length others.old }

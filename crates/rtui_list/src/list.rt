@@ -309,7 +309,8 @@ impl<'a> List<'a> {
         Ok(())
     }
 
-    // Renders an item: its style, its text beside the symbol's columns, the symbol, and the highlight.
+    // Renders an item: its style, its text beside the symbol's columns, the symbol, and the
+    // highlight.
     fn render_item(
         &self,
         item: &ListItem<'a>,

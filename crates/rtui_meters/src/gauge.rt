@@ -194,7 +194,8 @@ pub static TIPS: [&str; 9] = [
     FULL_BLOCK,
 ];
 
-// How a bar fills an area: up to which column, by which symbol in the next one, where the label stands, and in which style.
+// How a bar fills an area: up to which column, by which symbol in the next one, where the label
+// stands, and in which style.
 #[derive(Drop)]
 pub(crate) struct Fill {
     end: u16,

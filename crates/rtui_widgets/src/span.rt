@@ -16,8 +16,8 @@ use rtui_text::{has_control, printable_front};
 use std::alloc::{AllocError, Global};
 use unicode_segmentation::UnicodeSegmentation;
 
-// Renders a text in a style from the first column of a row on: printable characters of ASCII at its start a byte at a time, and
-// after them grapheme by grapheme.
+// Renders a text in a style from the first column of a row on: printable characters of ASCII at its
+// start a byte at a time, and after them grapheme by grapheme.
 #[tactic(auto, using(crate::proofs::SpanLemmas::span_steps))]
 pub(crate) fn render_span(
     alloc: Global,

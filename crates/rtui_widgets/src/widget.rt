@@ -28,7 +28,8 @@ pub trait Widget {
     // what it makes of a buffer over an area
     ghost renders: { Self → Rect → BufferData → BufferData → Type 0 };
 
-    // the area outside which nothing changes if it is refused: the given one, unless it says otherwise
+    // the area outside which nothing changes if it is refused: the given one, unless it says
+    // otherwise
     ghost reach: { Self → Rect → Rect } = { λ _ area. area };
 
     // what else holds of the buffer if it is refused: nothing, unless it says more
@@ -69,7 +70,8 @@ pub trait StatefulWidget {
     // what it makes of a buffer over an area, from one state to the next
     ghost renders: { Self → Self.State → Self.State → Rect → BufferData → BufferData → Type 0 };
 
-    // the area outside which nothing changes if it is refused: the given one, unless it says otherwise
+    // the area outside which nothing changes if it is refused: the given one, unless it says
+    // otherwise
     ghost reach: { Self → Rect → Rect } = { λ _ area. area };
 
     // what else holds of the state and the buffer if it is refused: nothing, unless it says more

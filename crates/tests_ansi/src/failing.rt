@@ -15,7 +15,8 @@ use std::io::{self, ErrorKind, Write};
 use std::iter;
 use std::test::Fail;
 
-// A writer that keeps what it is given. After so many calls it fails once; the backend's beginning is its first.
+// A writer that keeps what it is given. After so many calls it fails once; the backend's beginning
+// is its first.
 #[derive(Drop)]
 struct Tearing {
     sent: Vec<u8>,
@@ -107,7 +108,8 @@ fn is_mended(backend: &mut AnsiBackend<Tearing>, cell: &Cell) -> bool {
         && backend.writer().sent.as_slice().get(sent..) == Some(b"\x1b[1;2Ha".as_slice())
 }
 
-// Whether a call is refused if just its own call of the writer fails, all later ones as broken, and a restart mends that.
+// Whether a call is refused if just its own call of the writer fails, all later ones as broken, and
+// a restart mends that.
 fn fails_and_is_mended(alloc: Global, number: u64) -> Result<bool, Fail> {
     let cell = Cell::new(alloc, "a")?;
     let Ok(mut backend) = over_tearing(alloc, number.saturating_add(1)) else {

@@ -1,5 +1,5 @@
-//! Tests of escape sequences: the bytes beside those of a terminal's manual, each send failing in turn, and random plays beside the
-//! backend in memory, read by the model.
+//! Tests of escape sequences: the bytes beside those of a terminal's manual, each send failing in
+//! turn, and random plays beside the backend in memory, read by the model.
 #![tactic(auto)]
 
 #[cfg(test)]

@@ -122,7 +122,8 @@ impl Play {
         )
     }
 
-    // Whether a terminal that reads what was sent shows the screen, with the cursor where both say it is.
+    // Whether a terminal that reads what was sent shows the screen, with the cursor where both say
+    // it is.
     fn is_shown(&mut self) -> Result<bool, Fail> {
         let Ok(cursor) = self.backend.get_cursor_position() else {
             return Ok(false);
@@ -191,7 +192,8 @@ impl Play {
             && self.screen.set_cursor_position(place).is_ok()
     }
 
-    // Clears a part; whether it is cleared on both, or refused if the cursor is after a symbol's first column.
+    // Clears a part; whether it is cleared on both, or refused if the cursor is after a symbol's
+    // first column.
     fn clears(&mut self, random: &mut Random) -> Result<bool, Fail> {
         let clear_type = random.among(&CLEARS, ClearType::All);
         let cursor = self.screen.cursor_position();
@@ -311,11 +313,13 @@ fn plays_are_shown(rt: HostRuntime) -> Result<(), Fail> {
     Ok(())
 }
 
-// What another program leaves: rows that scrolled off, a symbol over halves of others, a rendition, margins, and a hidden cursor.
+// What another program leaves: rows that scrolled off, a symbol over halves of others, a rendition,
+// margins, and a hidden cursor.
 pub(crate) const LEFT: &str =
     "ab\n\n\n\n\r\u{1b}[1;1Hコココ\u{1b}[1;2Hコ\u{1b}[?25l\u{1b}[0;1;31m\u{1b}[2;3r";
 
-// Whether a backend that begins anew after a play makes the terminal blank, and its screen is blank, too.
+// Whether a backend that begins anew after a play makes the terminal blank, and its screen is
+// blank, too.
 fn is_begun_anew(alloc: Global, seed: u64) -> Result<bool, Fail> {
     let mut play = Play::new(alloc, 7, 4)?;
     let mut random = Random { state: seed };

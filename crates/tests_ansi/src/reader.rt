@@ -6,7 +6,8 @@ use rtui_cell::{Cell, CellWidth};
 use rtui_geometry::Position;
 use std::alloc::{AllocError, Global};
 
-// One of the columns of a symbol, counted from 0, and how many the symbol takes; none at all if nothing is known.
+// One of the columns of a symbol, counted from 0, and how many the symbol takes; none at all if
+// nothing is known.
 #[derive(Clone, Copy)]
 struct Column<'a> {
     symbol: &'a str,
@@ -73,7 +74,8 @@ pub struct Reader<'a> {
 }
 
 impl<'a> Reader<'a> {
-    // A terminal of this size after it has read a text; before, another program left it as this other text does.
+    // A terminal of this size after it has read a text; before, another program left it as this
+    // other text does.
     pub fn of(
         alloc: Global,
         width: u16,
@@ -348,7 +350,8 @@ impl<'a> Reader<'a> {
         }
     }
 
-    /// Whether it is sure of what it shows, with its cursor in this place, and shows what a screen in memory does, below the rows that were left in its history.
+    /// Whether it is sure of what it shows, with its cursor in this place, and shows what a screen
+    /// in memory does, below the rows that were left in its history.
     pub fn shows(&self, cursor: Position, screen: &TestBackend) -> bool {
         let x = self.x.min(self.width.saturating_sub(1));
         let is_calm = self.sure

@@ -1,4 +1,5 @@
-//! Terminals over a backend whose window takes another size, beside a screen in memory that is blank in that size.
+//! Terminals over a backend whose window takes another size, beside a screen in memory that is
+//! blank in that size.
 ghost use Rattle.ratatui_core.specs.Terminal.{FitsEdges};
 
 use crate::plays::LEFT;
@@ -57,7 +58,8 @@ fn over_memory(alloc: Global, viewport: Viewport) -> Result<Terminal<TestBackend
     }
 }
 
-// Whether a frame, drawn after the window took this size, is shown to a terminal that was left by another program.
+// Whether a frame, drawn after the window took this size, is shown to a terminal that was left by
+// another program.
 fn is_drawn_anew(alloc: Global, viewport: Viewport, size: Size) -> Result<bool, Fail>
     requires { FitsEdges viewport }
 {

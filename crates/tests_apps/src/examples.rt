@@ -24,7 +24,8 @@ fn a_greeting_is_shown(rt: HostRuntime) -> Result<(), Fail> {
     Ok(())
 }
 
-// What a checked draw of two labels answers on a screen in memory, and whether it then shows this row.
+// What a checked draw of two labels answers on a screen in memory, and whether it then shows this
+// row.
 fn labels_show(
     alloc: Global,
     first: &str,

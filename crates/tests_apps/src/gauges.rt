@@ -27,7 +27,8 @@ fn green_cells(terminal: &Terminal<TestBackend>) -> usize {
     cells.iter().filter(|cell| cell.bg == Color::Green).count()
 }
 
-// Whether a gauge of this label and width leaves this first row on the screen, and so many cells green.
+// Whether a gauge of this label and width leaves this first row on the screen, and so many cells
+// green.
 fn gauge_shows(
     alloc: Global,
     filled: u16,

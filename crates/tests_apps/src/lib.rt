@@ -1,5 +1,6 @@
-//! Tests of what stands on `ratatui_core`, which no row of text can say: widgets on a buffer, the examples of `guide` on a screen in memory,
-//! logs that are read and written by what fails, and what programs tell.
+//! Tests of what stands on `ratatui_core`, which no row of text can say: widgets on a buffer, the
+//! examples of `guide` on a screen in memory, logs that are read and written by what fails, and
+//! what programs tell.
 #![tactic(auto)]
 
 #[cfg(test)]

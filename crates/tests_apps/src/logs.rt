@@ -215,7 +215,8 @@ fn error_of(
     None
 }
 
-// What a view over a backend answers at its start and a push after it, if the call of this number fails.
+// What a view over a backend answers at its start and a push after it, if the call of this number
+// fails.
 fn error_at(
     alloc: Global,
     height: u16,

@@ -7,7 +7,8 @@ use rtui_terminal::{Terminal, TerminalError, TerminalOptions, Viewport};
 use std::alloc::{AllocError, Global};
 use std::test::Fail;
 
-// Whether the completed frame of a text tells its area, how many were drawn before, and a buffer like this one.
+// Whether the completed frame of a text tells its area, how many were drawn before, and a buffer
+// like this one.
 fn completes(
     alloc: Global,
     terminal: &mut Terminal<TestBackend>,

@@ -1,5 +1,6 @@
-//! Tests that no row of text can say: terminals compared, copied and dropped, frames that lend their buffer, readers and writers that
-//! fail, scripts of thousands of lines, plays of steps, what borrows, lists of spans, what other types print, and all pairs of border symbols.
+//! Tests that no row of text can say: terminals compared, copied and dropped, frames that lend
+//! their buffer, readers and writers that fail, scripts of thousands of lines, plays of steps, what
+//! borrows, lists of spans, what other types print, and all pairs of border symbols.
 #![tactic(auto)]
 
 #[cfg(test)]

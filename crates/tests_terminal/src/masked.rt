@@ -3,7 +3,8 @@ use arrayvec::ArrayString;
 use rtui_text::Masked;
 use std::fmt::Write;
 
-// What stands in a writer of four bytes after a text of so many letters was written masked, and whether the writer failed.
+// What stands in a writer of four bytes after a text of so many letters was written masked, and
+// whether the writer failed.
 fn written(secret: &str) -> (bool, ArrayString<4>) {
     let mut writer = ArrayString::<4>::new();
     let masked = Masked::new(secret, '□');

@@ -2,8 +2,9 @@
 use rtui_merge::{BorderSymbol, BorderSymbolError, LineStyle, MergeStrategy};
 use std::str::FromStr;
 
-/// A border symbol in each line, with its arms right, up, left and down: `-` none, `p` plain, `r` rounded, `d` double,
-/// `t` thick, `a` `b` `c` plain dashes of two, three and four, `A` `B` `C` thick ones.
+/// A border symbol in each line, with its arms right, up, left and down: `-` none, `p` plain, `r`
+/// rounded, `d` double, `t` thick, `a` `b` `c` plain dashes of two, three and four, `A` `B` `C`
+/// thick ones.
 static SYMBOLS: &str = "\
 ─ p-p-
 ━ t-t-
@@ -198,7 +199,8 @@ fn symbol_and_arms(line: &'static str) -> (&'static str, &'static str) {
     }
 }
 
-/// Whether of two symbols Fuzzy gives one with an arm just if one of them has one, and Replace the second.
+/// Whether of two symbols Fuzzy gives one with an arm just if one of them has one, and Replace the
+/// second.
 fn gives_arms_of_both(prev_line: &'static str, next_line: &'static str) -> bool {
     let (prev, prev_arms) = symbol_and_arms(prev_line);
     let (next, next_arms) = symbol_and_arms(next_line);

@@ -61,7 +61,8 @@ fn gives_a_scene_for_each_step(rt: HostRuntime) -> Result<(), Fail> {
     Ok(())
 }
 
-// Whether the play of one put ends at its draw, as the frame over this area isn't settled, with a blank scene.
+// Whether the play of one put ends at its draw, as the frame over this area isn't settled, with a
+// blank scene.
 fn is_unsettled(alloc: Global, put: (u16, u16, char), area: Rect) -> Result<bool, AllocError> {
     match play_put(alloc, put)? {
         Ok(_) => Ok(false),
@@ -130,7 +131,8 @@ fn writes_nothing_on_a_screen_without_rows(rt: HostRuntime) -> Result<(), Fail> 
     Ok(())
 }
 
-// Where the viewport of two rows ends up above which so many rows were inserted, on a screen of ten columns and four rows.
+// Where the viewport of two rows ends up above which so many rows were inserted, on a screen of ten
+// columns and four rows.
 fn top_after(alloc: Global, rows: &str) -> Result<Option<Rect>, AllocError> {
     let step = Step::Insert(Text::raw(alloc, rows)?);
     let stage = Stage {

@@ -41,7 +41,8 @@ fn put_row_above(row: &[Cell], out: &mut String) -> Result<(), AllocError> {
     Ok(())
 }
 
-/// What is seen of a backend: its screen, its cursor, and the rows that left the screen at its top, or how many if there are many.
+/// What is seen of a backend: its screen, its cursor, and the rows that left the screen at its top,
+/// or how many if there are many.
 pub fn put_backend(backend: &TestBackend, answer: &mut Answer) -> Result<(), Fault> {
     answer.put(backend.buffer())?;
     let position = backend.cursor_position();
@@ -219,7 +220,8 @@ fn step(
     args.end()
 }
 
-/// A backend, and calls on it; what is seen of it at the end. A call that is refused memory is made once more, over what it left.
+/// A backend, and calls on it; what is seen of it at the end. A call that is refused memory is made
+/// once more, over what it left.
 pub fn backend(
     alloc: Global,
     args: &mut Args<'_>,

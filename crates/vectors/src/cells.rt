@@ -45,7 +45,8 @@ pub fn merge(args: &mut Args<'_>, answer: &mut Answer) -> Result<(), Fault> {
     }
 }
 
-// The arms of a border symbol: to the right, up, to the left and down; and the symbol that has them.
+// The arms of a border symbol: to the right, up, to the left and down; and the symbol that has
+// them.
 fn arms(text: &str, answer: &mut Answer) -> Result<(), Fault> {
     match text.parse::<BorderSymbol>() {
         Ok(symbol) => {
@@ -217,8 +218,8 @@ fn step(
     args.end()
 }
 
-/// A cell, and calls on it; the cell itself if nothing was asked. A call that is refused memory is made once more, over what it
-/// left.
+/// A cell, and calls on it; the cell itself if nothing was asked. A call that is refused memory is
+/// made once more, over what it left.
 pub fn cell(
     alloc: Global,
     args: &mut Args<'_>,

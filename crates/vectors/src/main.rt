@@ -1,8 +1,10 @@
-//! The program `vectors`: makes the calls that rows of text name, and compares what they answer with what the rows say.
+//! The program `vectors`: makes the calls that rows of text name, and compares what they answer
+//! with what the rows say.
 //!
-//! `vectors FILE..` reads files of rows. It prints for each file how many rows hold, or each row that doesn't with both answers, and
-//! then ends with status 1. `data/README.md` says what a row is. For a number in place of a file it makes so many requests for memory
-//! of its own, and says which of them is refused, if one is: so `tools/refusals` chooses the request that is refused.
+//! `vectors FILE..` reads files of rows. It prints for each file how many rows hold, or each row
+//! that doesn't with both answers, and then ends with status 1. `data/README.md` says what a row
+//! is. For a number in place of a file it makes so many requests for memory of its own, and says
+//! which of them is refused, if one is: so `tools/refusals` chooses the request that is refused.
 #![tactic(auto)]
 
 mod answer;

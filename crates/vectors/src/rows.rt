@@ -87,7 +87,8 @@ fn answer_of(alloc: Global, subject: &str, call: &str) -> Result<String, Fault> 
     Ok(answer.text)
 }
 
-/// Checks a line of a file: a row, a comment or nothing. A row to which memory was refused is read once more.
+/// Checks a line of a file: a row, a comment or nothing. A row to which memory was refused is read
+/// once more.
 pub fn check(
     alloc: Global,
     subject: &str,

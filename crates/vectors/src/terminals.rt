@@ -342,7 +342,8 @@ fn fill(backend: &mut TestBackend, symbol: &Cell) -> Result<(), TestError> {
     backend.draw(area.positions().map(|place| (place.x, place.y, symbol)))
 }
 
-// A screen of a size; after commas `full` with a symbol for each cell, `cursor` with its place, `fail_after` with a number.
+// A screen of a size; after commas `full` with a symbol for each cell, `cursor` with its place,
+// `fail_after` with a number.
 fn screen(args: &mut Args<'_>) -> Result<TestBackend, Fault> {
     let mut backend = TestBackend::new(args.alloc, args.u16()?, args.u16()?)?;
     args.skip_comma();
@@ -364,8 +365,8 @@ fn screen(args: &mut Args<'_>) -> Result<TestBackend, Fault> {
     Ok(backend)
 }
 
-/// A terminal, and calls on it; what is seen of its screen at the end, and its viewport. A call that is refused memory is made
-/// once more, over what it left.
+/// A terminal, and calls on it; what is seen of its screen at the end, and its viewport. A call
+/// that is refused memory is made once more, over what it left.
 pub fn terminal(
     alloc: Global,
     args: &mut Args<'_>,

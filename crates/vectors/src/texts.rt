@@ -15,7 +15,8 @@ impl<'a> Args<'a> {
         Ok(Span::styled(self.text()?, self.style()))
     }
 
-    /// A line: spans with a `+` between two, after them `style` with its words, and `aligned` with how.
+    /// A line: spans with a `+` between two, after them `style` with its words, and `aligned` with
+    /// how.
     pub fn line(&mut self) -> Result<Line<'a>, Fault> {
         self.skip_comma();
         let mut line = Line::default_in(self.alloc);
@@ -33,7 +34,8 @@ impl<'a> Args<'a> {
         Ok(line)
     }
 
-    /// A text: lines with a `/` between two, and after a `//` the style and alignment of the whole; `nothing` has no lines.
+    /// A text: lines with a `/` between two, and after a `//` the style and alignment of the whole;
+    /// `nothing` has no lines.
     pub fn lines(&mut self) -> Result<Text<'a>, Fault> {
         self.skip_comma();
         let mut text = Text::default_in(self.alloc);

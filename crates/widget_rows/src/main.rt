@@ -1,9 +1,10 @@
-//! The program `widget_rows`: for each line of standard input, as `paragraph 10 5 wrap=trim | The quick brown fox`, the rows that the widget
-//! leaves on an empty buffer of this size, between bars.
+//! The program `widget_rows`: for each line of standard input, as `paragraph 10 5 wrap=trim | The
+//! quick brown fox`, the rows that the widget leaves on an empty buffer of this size, between bars.
 //!
-//! Of a list (`list 8 3 selected=3 symbol=>_ | one | two`) a `*` stands after the rows of the selected item; of a gauge
-//! (`gauge 10 1 percent=42`, `linegauge 10 1 percent=42`) it is counted how many cells are filled, and a full block is shown as a blank; of
-//! a scroll bar (`scrollbar 1 8 content=20 position=3`) the symbols are shown. In options `_` stands for a blank.
+//! Of a list (`list 8 3 selected=3 symbol=>_ | one | two`) a `*` stands after the rows of the
+//! selected item; of a gauge (`gauge 10 1 percent=42`, `linegauge 10 1 percent=42`) it is counted
+//! how many cells are filled, and a full block is shown as a blank; of a scroll bar (`scrollbar 1 8
+//! content=20 position=3`) the symbols are shown. In options `_` stands for a blank.
 #![tactic(auto)]
 
 mod cases;

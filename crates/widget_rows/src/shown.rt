@@ -10,7 +10,8 @@ fn is_filled(cell: &Cell) -> bool {
     cell.bg == Color::Red || (is_bar && cell.fg == Color::Red)
 }
 
-// What a row has so far: the columns that its last symbol still covers, whether some cell is reversed, and how many are filled.
+// What a row has so far: the columns that its last symbol still covers, whether some cell is
+// reversed, and how many are filled.
 #[derive(Clone, Copy)]
 struct Row {
     covered: u16,

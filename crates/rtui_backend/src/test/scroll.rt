@@ -58,8 +58,8 @@ fn copied_rows(
     Ok(rows)
 }
 
-// Copies of the rows that leave a region which begins with this row, with empty ones past its end: of one at the top
-// alone.
+// Copies of the rows that leave a region which begins with this row, with empty ones past its end:
+// of one at the top alone.
 fn leaving_rows(
     alloc: Global,
     cells: &[Cell],

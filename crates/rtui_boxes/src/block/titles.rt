@@ -45,7 +45,8 @@ fn after_title(area: Rect, columns: u16) -> Rect
 }
 
 impl<'a> Block<'a> {
-    // Renders the titles: in the first row and in the last one those at the left, in the centre and at the right.
+    // Renders the titles: in the first row and in the last one those at the left, in the centre and
+    // at the right.
     pub(crate) fn render_titles(&self, area: Rect, buf: &mut Buffer) -> Result<(), AllocError>
         requires { IsBoxArea area }
         ensures keeps { KeepsOffTitles self.now area buf.old buf.new }
@@ -120,7 +121,8 @@ impl<'a> Block<'a> {
         line.render(area, buf)
     }
 
-    // Renders the titles of a row that are aligned so, from the left on, with a column between each two.
+    // Renders the titles of a row that are aligned so, from the left on, with a column between each
+    // two.
     fn render_from_left(
         &self,
         position: TitlePosition,
@@ -203,7 +205,8 @@ impl<'a> Block<'a> {
         columns.saturating_sub(1).min(65535) as u16
     }
 
-    // Renders the titles in the centre as one, with a column between each two; if they don't fit they are cut on both sides.
+    // Renders the titles in the centre as one, with a column between each two; if they don't fit
+    // they are cut on both sides.
     fn render_center_titles(
         &self,
         position: TitlePosition,

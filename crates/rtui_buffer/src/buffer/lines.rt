@@ -235,7 +235,8 @@ fn paint_lines(
     Ok(())
 }
 
-// Paints spans one after the other in this room, over a base style, and says how many columns they take.
+// Paints spans one after the other in this room, over a base style, and says how many columns they
+// take.
 #[tactic(auto, using(crate::proofs::LineLemmas::line_steps, crate::proofs::RefusedLemmas::so_far_steps))]
 fn paint_spans(
     alloc: Global,

@@ -51,7 +51,8 @@ impl Buffer {
         Ok(())
     }
 
-    // Gives the buffer an area around its own, in which its cells stand where they stood, among empty ones.
+    // Gives the buffer an area around its own, in which its cells stand where they stood, among
+    // empty ones.
     fn extend(&mut self, area: Rect) -> Result<(), AllocError>
         requires edges { EdgesFit area }
         requires around { IsAround area self.old.area }

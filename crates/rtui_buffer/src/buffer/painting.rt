@@ -127,8 +127,8 @@ pub fn room_at(area: Rect, x: u16, max: usize) -> u16
     max.min(65535).min(left) as u16
 }
 
-// Paints the graphemes of a text that fit the room, and says how many columns they take: printable characters of ASCII at
-// its start a byte at a time, and after them grapheme by grapheme.
+// Paints the graphemes of a text that fit the room, and says how many columns they take: printable
+// characters of ASCII at its start a byte at a time, and after them grapheme by grapheme.
 pub fn paint_text(
     alloc: Global,
     cells: &mut [Cell],

@@ -15,8 +15,9 @@ use rtui_viewport::Viewport;
 use std::alloc::AllocError;
 
 impl<B: Backend> Terminal<B> {
-    // Inserts the rows of a buffer above an inline viewport that covers the screen: each is scrolled off from the first
-    // row, which shows the previous buffer's first row again after that.
+    // Inserts the rows of a buffer above an inline viewport that covers the screen: each is
+    // scrolled off from the first row, which shows the previous buffer's first row again after
+    // that.
     fn insert_covered(
         &mut self,
         blank: &mut Buffer,
@@ -40,7 +41,8 @@ impl<B: Backend> Terminal<B> {
         draw_rows(&mut self.backend, blank, &self.previous, 0, 1, 0).map_err(TerminalError::Backend)
     }
 
-    // Inserts the rows of a buffer above an inline viewport, which moves down as far as there is room.
+    // Inserts the rows of a buffer above an inline viewport, which moves down as far as there is
+    // room.
     fn insert_filled(
         &mut self,
         blank: &mut Buffer,
