@@ -11,6 +11,6 @@ use Rattle.rtui_terminal.specs.contracts.terminal.frame.Frame.{the_row}
 abbrev pub with_buffer : Frame → BufferData → Frame
 with_buffer frame sheet = record frame { buffer = record frame.buffer { now = sheet } }
 
--- the frame ends with the last value of the lent buffer in its own
+-- the frame's own buffer ends with the last value of the lent one
 abbrev pub LendsBuffer : MutBor Frame → MutBor BufferData → Fml
 LendsBuffer frame lent = Lends (the_row (record { mir = named 0; lft = [] })) buffer.the_row frame lent (with_buffer frame.now)
