@@ -13,7 +13,7 @@ use std::alloc::{AllocError, Global};
 
 impl<'a> Args<'a> {
     // The texts that are left.
-    fn texts(&mut self) -> Result<Vec<&'a str>, Fault> {
+    pub fn texts(&mut self) -> Result<Vec<&'a str>, Fault> {
         let mut texts = Vec::new(self.alloc);
         self.skip_comma();
         for _ in 0..self.len() {
@@ -74,6 +74,16 @@ fn told(outcome: Result<(), TestError>, answer: &mut Answer) -> Result<bool, Fau
 
 // Draws cells, each after its column and row.
 fn draw(backend: &mut TestBackend, args: &mut Args<'_>) -> Result<Result<(), TestError>, Fault> {
+    let (places, cells) = items(args)?;
+    let mut items = Vec::new(args.alloc);
+    for (place, cell) in places.iter().zip(cells.iter()) {
+        items.push((place.x, place.y, cell))?;
+    }
+    Ok(backend.draw(items.into_iter()))
+}
+
+// The places and the cells of a draw.
+fn items(args: &mut Args<'_>) -> Result<(Vec<Position>, Vec<Cell>), Fault> {
     let mut cells = Vec::new(args.alloc);
     let mut places = Vec::new(args.alloc);
     for _ in 0..args.len() {
@@ -82,11 +92,7 @@ fn draw(backend: &mut TestBackend, args: &mut Args<'_>) -> Result<Result<(), Tes
             cells.push(args.cell()?)?;
         }
     }
-    let mut items = Vec::new(args.alloc);
-    for (place, cell) in places.iter().zip(cells.iter()) {
-        items.push((place.x, place.y, cell))?;
-    }
-    Ok(backend.draw(items.into_iter()))
+    Ok((places, cells))
 }
 
 /// A call of a backend that changes its screen or its cursor; whether there is such a call.
@@ -103,22 +109,36 @@ pub fn change(
         "scroll_region_down" => backend.scroll_region_down(args.u16()?..args.u16()?, args.u16()?),
         "clear_screen" => backend.clear(),
         "clear_region" => backend.clear_region(args.value::<ClearType>()?),
-        "hide" => backend.hide_cursor(),
-        "show" => backend.show_cursor(),
-        "move_cursor" => backend.set_cursor_position(args.position()?),
-        "move_cursor_by_numbers" => backend.set_cursor(args.u16()?, args.u16()?),
         "flush_screen" => backend.flush(),
+        _ => match set(backend, word, args)? {
+            Some(outcome) => outcome,
+            None => return Ok(false),
+        },
+    };
+    told(outcome, answer)
+}
+
+// A call that moves, hides or shows the cursor, or sets the backend; none if there is no such call.
+fn set(
+    backend: &mut TestBackend,
+    word: &str,
+    args: &mut Args<'_>,
+) -> Result<Option<Result<(), TestError>>, Fault> {
+    match word {
+        "hide" => Ok(Some(backend.hide_cursor())),
+        "show" => Ok(Some(backend.show_cursor())),
+        "move_cursor" => Ok(Some(backend.set_cursor_position(args.position()?))),
+        "move_cursor_by_numbers" => Ok(Some(backend.set_cursor(args.u16()?, args.u16()?))),
         "fail_after" => {
             backend.fail_after(args.value::<u64>()?);
-            Ok(())
+            Ok(Some(Ok(())))
         }
         "size_screen" => {
             backend.resize(args.u16()?, args.u16()?)?;
-            Ok(())
+            Ok(Some(Ok(())))
         }
-        _ => return Ok(false),
-    };
-    told(outcome, answer)
+        _ => Ok(None),
+    }
 }
 
 // Asks a backend something that it can refuse.
@@ -163,41 +183,55 @@ pub fn see(
         "cursor_position" => answer.add(backend.cursor_position()),
         "cursor_visible" => answer.add(backend.cursor_visible()),
         "cells_written" => answer.add(backend.cells_written() as usize),
+        "scrollback" => answer.add(backend.scrollback().len()),
+        "write_to" => put_written(backend, args.alloc, answer),
+        _ => compare(backend, word, args, answer),
+    }
+}
+
+// Compares what is seen of a backend.
+fn compare(
+    backend: &TestBackend,
+    word: &str,
+    args: &mut Args<'_>,
+    answer: &mut Answer,
+) -> Result<(), Fault> {
+    match word {
         "lines_are" => answer.add(backend.lines_are(args.texts()?.as_slice())),
         "scrollback_is" => answer.add(backend.scrollback_is(args.texts()?.as_slice())),
-        "scrollback" => answer.add(backend.scrollback().len()),
         "buffer_is" => {
-            let area = args.area()?;
-            let cell = args.cell()?;
-            answer.add(backend.buffer_is(&Buffer::filled(args.alloc, area, cell)?))
-        }
-        "write_to" => {
-            let mut written = Vec::new(args.alloc);
-            if backend.write_to(&mut written).is_err() {
-                return Err(Fault::Memory);
-            }
-            match String::from_utf8(written) {
-                Ok(text) => answer.add(text.as_str()),
-                Err(_) => Err(Fault::Unread),
-            }
+            let buffer = Buffer::filled(args.alloc, args.area()?, args.cell()?)?;
+            answer.add(backend.buffer_is(&buffer))
         }
         _ => Err(Fault::Unread),
+    }
+}
+
+// Adds what a backend writes of itself.
+fn put_written(backend: &TestBackend, alloc: Global, answer: &mut Answer) -> Result<(), Fault> {
+    let mut written = Vec::new(alloc);
+    if backend.write_to(&mut written).is_err() {
+        return Err(Fault::Memory);
+    }
+    match String::from_utf8(written) {
+        Ok(text) => answer.add(text.as_str()),
+        Err(_) => Err(Fault::Unread),
     }
 }
 
 fn made(args: &mut Args<'_>) -> Result<TestBackend, Fault> {
     match args.word()? {
         "new" => Ok(TestBackend::new(args.alloc, args.u16()?, args.u16()?)?),
-        "with_lines" => {
-            let texts = args.texts()?;
-            let lines = texts.as_slice();
-            if lines.len() > 65535 || texts_width(lines) > 65535 {
-                return Err(Fault::Requires);
-            }
-            Ok(TestBackend::with_lines(args.alloc, lines)?)
-        }
+        "with_lines" => made_with_lines(args.alloc, args.texts()?.as_slice()),
         _ => Err(Fault::Unread),
     }
+}
+
+fn made_with_lines(alloc: Global, lines: &[&str]) -> Result<TestBackend, Fault> {
+    if lines.len() > 65535 || texts_width(lines) > 65535 {
+        return Err(Fault::Requires);
+    }
+    Ok(TestBackend::with_lines(alloc, lines)?)
 }
 
 /// A part of the screen by its name, read and printed.

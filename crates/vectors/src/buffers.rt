@@ -11,6 +11,7 @@ use crate::texts::alike;
 use crate::tokens::Token;
 use ratatui_core::buffer::{Buffer, Cell, diff_rows, lines_width, texts_width};
 use ratatui_core::layout::{Position, Rect};
+use ratatui_core::text::Line;
 use ratatui_core::widgets::Widget;
 use std::alloc::{AllocError, Global};
 use std::mem;
@@ -127,34 +128,43 @@ fn paint(
     answer: &mut Answer,
 ) -> Result<bool, Fault> {
     match word {
-        "set_string" => {
-            let (x, y, text) = (args.u16()?, args.u16()?, args.text()?);
-            row_at(*buffer.area(), x, y)?;
-            buffer.set_string(x, y, text, args.style())?;
-        }
-        "set_stringn" => {
-            let (x, y, text) = (args.u16()?, args.u16()?, args.text()?);
-            let max = args.value::<usize>()?;
-            row_at(*buffer.area(), x, y)?;
-            let (x, y) = buffer.set_stringn(x, y, text, max, args.style())?;
-            answer.add(Position { x, y })?;
-        }
-        "set_span" => {
-            let (x, y, span, max) = (args.u16()?, args.u16()?, args.span()?, args.u16()?);
-            row_at(*buffer.area(), x, y)?;
-            let (x, y) = buffer.set_span(x, y, &span, max)?;
-            answer.add(Position { x, y })?;
-        }
-        "set_line" => {
-            let (x, y, line, max) = (args.u16()?, args.u16()?, args.line()?, args.u16()?);
-            row_at(*buffer.area(), x, y)?;
-            let (x, y) = buffer.set_line(x, y, &line, max)?;
-            answer.add(Position { x, y })?;
-        }
+        "set_string" => set_string(buffer, args)?,
+        "set_stringn" => answer.add(set_stringn(buffer, args)?)?,
+        "set_span" => answer.add(set_span(buffer, args)?)?,
+        "set_line" => answer.add(set_line(buffer, args)?)?,
         "set_style" => buffer.set_style(args.rect()?, args.style()),
         _ => return render(buffer, word, args),
     }
     Ok(true)
+}
+
+fn set_string(buffer: &mut Buffer, args: &mut Args<'_>) -> Result<(), Fault> {
+    let (x, y, text) = (args.u16()?, args.u16()?, args.text()?);
+    row_at(*buffer.area(), x, y)?;
+    buffer.set_string(x, y, text, args.style())?;
+    Ok(())
+}
+
+fn set_stringn(buffer: &mut Buffer, args: &mut Args<'_>) -> Result<Position, Fault> {
+    let (x, y, text) = (args.u16()?, args.u16()?, args.text()?);
+    let max = args.value::<usize>()?;
+    row_at(*buffer.area(), x, y)?;
+    let (x, y) = buffer.set_stringn(x, y, text, max, args.style())?;
+    Ok(Position { x, y })
+}
+
+fn set_span(buffer: &mut Buffer, args: &mut Args<'_>) -> Result<Position, Fault> {
+    let (x, y, span, max) = (args.u16()?, args.u16()?, args.span()?, args.u16()?);
+    row_at(*buffer.area(), x, y)?;
+    let (x, y) = buffer.set_span(x, y, &span, max)?;
+    Ok(Position { x, y })
+}
+
+fn set_line(buffer: &mut Buffer, args: &mut Args<'_>) -> Result<Position, Fault> {
+    let (x, y, line, max) = (args.u16()?, args.u16()?, args.line()?, args.u16()?);
+    row_at(*buffer.area(), x, y)?;
+    let (x, y) = buffer.set_line(x, y, &line, max)?;
+    Ok(Position { x, y })
 }
 
 // Renders a string or a span on a buffer; whether there is such a call.
@@ -217,40 +227,37 @@ fn reshape(buffer: &mut Buffer, word: &str, args: &mut Args<'_>) -> Result<bool,
         "reset" => buffer.reset(),
         "resize" => buffer.resize(args.area()?)?,
         "reserve" => buffer.reserve(args.area()?)?,
-        "move_to" => {
-            let (to, size) = (args.position()?, buffer.area().as_size());
-            if size.width > u16::MAX - to.x || size.height > u16::MAX - to.y {
-                return Err(Fault::Requires);
-            }
-            buffer.move_to(to);
-        }
-        "cell_mut" => {
-            let position = args.position()?;
-            let Some(cell) = buffer.cell_mut(position) else {
-                return Err(Fault::Requires);
-            };
-            let word = args.word()?;
-            return change(cell, word, args);
-        }
-        "get_mut" => {
-            let position = args.position()?;
-            if !buffer.area().contains(position) {
-                return Err(Fault::Requires);
-            }
-            let word = args.word()?;
-            return change(buffer.get_mut(position.x, position.y), word, args);
-        }
-        "index_mut" => {
-            let position = args.position()?;
-            if !buffer.area().contains(position) {
-                return Err(Fault::Requires);
-            }
-            let word = args.word()?;
-            return change(&mut buffer[position], word, args);
-        }
+        "move_to" => move_to(buffer, args.position()?)?,
+        "cell_mut" | "get_mut" | "index_mut" => return change_cell(buffer, word, args),
         _ => return Ok(false),
     }
     Ok(true)
+}
+
+fn move_to(buffer: &mut Buffer, to: Position) -> Result<(), Fault> {
+    let size = buffer.area().as_size();
+    if size.width > u16::MAX - to.x || size.height > u16::MAX - to.y {
+        return Err(Fault::Requires);
+    }
+    buffer.move_to(to);
+    Ok(())
+}
+
+// A call on a cell of a buffer that is lent; whether there is such a call.
+fn change_cell(buffer: &mut Buffer, lending: &str, args: &mut Args<'_>) -> Result<bool, Fault> {
+    let position = args.position()?;
+    if !buffer.area().contains(position) {
+        return Err(Fault::Requires);
+    }
+    let word = args.word()?;
+    match lending {
+        "get_mut" => change(buffer.get_mut(position.x, position.y), word, args),
+        "index_mut" => change(&mut buffer[position], word, args),
+        _ => match buffer.cell_mut(position) {
+            Some(cell) => change(cell, word, args),
+            None => Err(Fault::Requires),
+        },
+    }
 }
 
 // Asks a buffer something; whether there is such a question.
@@ -266,6 +273,19 @@ fn ask(
         "is_settled" => answer.add(buffer.is_settled())?,
         "show" => answer.put(buffer)?,
         "clone" => answer.add(buffer.clone(args.alloc)?)?,
+        _ => return ask_for(buffer, word, args, answer),
+    }
+    Ok(true)
+}
+
+// Asks a buffer for a row, a cell or a position; whether there is such a question.
+fn ask_for(
+    buffer: &Buffer,
+    word: &str,
+    args: &mut Args<'_>,
+    answer: &mut Answer,
+) -> Result<bool, Fault> {
+    match word {
         "row" => {
             let y = args.u16()?;
             row_at(*buffer.area(), buffer.area().x, y)?;
@@ -275,17 +295,18 @@ fn ask(
             Some(cell) => answer.put(cell)?,
             None => answer.text.push_str("none")?,
         },
-        "pos_of" => {
-            let index = args.value::<usize>()?;
-            if index >= buffer.content().len() {
-                return Err(Fault::Requires);
-            }
-            let (x, y) = buffer.pos_of(index);
-            answer.add(Position { x, y })?;
-        }
+        "pos_of" => answer.add(position_of(buffer, args.value::<usize>()?)?)?,
         _ => return ask_at(buffer, word, args.position()?, answer),
     }
     Ok(true)
+}
+
+fn position_of(buffer: &Buffer, index: usize) -> Result<Position, Fault> {
+    if index >= buffer.content().len() {
+        return Err(Fault::Requires);
+    }
+    let (x, y) = buffer.pos_of(index);
+    Ok(Position { x, y })
 }
 
 // Asks a buffer something of a place of its area.
@@ -313,34 +334,26 @@ fn made(args: &mut Args<'_>) -> Result<Buffer, Fault> {
     let alloc = args.alloc;
     match args.word()? {
         "empty" => Ok(Buffer::empty(alloc, args.area()?)?),
-        "filled" => {
-            let area = args.area()?;
-            Ok(Buffer::filled(alloc, area, args.cell()?)?)
-        }
+        "filled" => Ok(Buffer::filled(alloc, args.area()?, args.cell()?)?),
         "default" => Ok(Buffer::default_in(alloc)),
-        "from_texts" => {
-            let mut texts = Vec::new(alloc);
-            for _ in 0..args.len() {
-                if let Some(text) = args.next_text() {
-                    texts.push(text)?;
-                }
-            }
-            let texts = texts.as_slice();
-            if texts.len() > 65535 || texts_width(texts) > 65535 {
-                return Err(Fault::Requires);
-            }
-            Ok(Buffer::from_texts(alloc, texts)?)
-        }
-        "with_lines" => {
-            let text = args.lines()?;
-            let lines = text.lines.as_slice();
-            if lines.len() > 65535 || lines_width(lines) > 65535 {
-                return Err(Fault::Requires);
-            }
-            Ok(Buffer::with_lines(alloc, lines)?)
-        }
+        "from_texts" => made_from_texts(alloc, args.texts()?.as_slice()),
+        "with_lines" => made_with_lines(alloc, args.lines()?.lines.as_slice()),
         _ => Err(Fault::Unread),
     }
+}
+
+fn made_from_texts(alloc: Global, texts: &[&str]) -> Result<Buffer, Fault> {
+    if texts.len() > 65535 || texts_width(texts) > 65535 {
+        return Err(Fault::Requires);
+    }
+    Ok(Buffer::from_texts(alloc, texts)?)
+}
+
+fn made_with_lines(alloc: Global, lines: &[Line<'_>]) -> Result<Buffer, Fault> {
+    if lines.len() > 65535 || lines_width(lines) > 65535 {
+        return Err(Fault::Requires);
+    }
+    Ok(Buffer::with_lines(alloc, lines)?)
 }
 
 // The updates from one buffer to another.

@@ -182,14 +182,15 @@ fn ask(cell: &Cell, word: &str, args: &mut Args<'_>, answer: &mut Answer) -> Res
         "is_skipped" => answer.add(cell.is_skipped()),
         "is_single_byte" => answer.add(cell.is_single_byte()),
         "clone" => answer.add(cell.clone(args.alloc)?),
-        "clone_from" => {
-            let mut other = args.cell()?;
-            other.clone_from(args.alloc, cell)?;
-            answer.add(other)
-        }
+        "clone_from" => answer.add(cloned_from(args.cell()?, cell, args.alloc)?),
         "equal" => alike(cell, &args.cell()?, answer),
         _ => Err(Fault::Unread),
     }
+}
+
+fn cloned_from(mut cell: Cell, source: &Cell, alloc: Global) -> Result<Cell, Fault> {
+    cell.clone_from(alloc, source)?;
+    Ok(cell)
 }
 
 fn made(args: &mut Args<'_>) -> Result<Cell, Fault> {

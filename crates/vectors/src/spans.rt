@@ -4,31 +4,38 @@ use crate::args::Args;
 use crate::fault::Fault;
 use crate::texts::alike;
 use crate::tokens::Token;
-use ratatui_core::text::Span;
+use ratatui_core::style::Style;
+use ratatui_core::text::{Line, Span};
 use std::alloc::Global;
 use std::borrow::CowStr;
 
 fn made<'a>(args: &mut Args<'a>) -> Result<Span<'a>, Fault> {
-    Ok(match args.word()? {
-        "raw" => Span::raw(args.text()?),
-        "styled" => Span::styled(args.text()?, args.style()),
-        "from" => Span::from(args.text()?),
-        "from_string" => Span::from(String::from_str(args.alloc, args.text()?)?),
-        "from_cow" => Span::from(CowStr::Borrowed(args.text()?)),
-        "default" => Span::default(),
-        "span" => args.span()?,
-        _ => return Err(Fault::Unread),
-    })
+    match args.word()? {
+        "raw" => Ok(Span::raw(args.text()?)),
+        "styled" => Ok(Span::styled(args.text()?, args.style())),
+        "default" => Ok(Span::default()),
+        "span" => args.span(),
+        word => made_from(word, args),
+    }
+}
+
+fn made_from<'a>(word: &str, args: &mut Args<'a>) -> Result<Span<'a>, Fault> {
+    match word {
+        "from" => Ok(Span::from(args.text()?)),
+        "from_string" => Ok(Span::from(String::from_str(args.alloc, args.text()?)?)),
+        "from_cow" => Ok(Span::from(CowStr::Borrowed(args.text()?))),
+        _ => Err(Fault::Unread),
+    }
 }
 
 fn changed<'a>(span: Span<'a>, word: &str, args: &mut Args<'a>) -> Result<Span<'a>, Fault> {
-    Ok(match word {
-        "content" => span.content(args.text()?),
-        "style" => span.style(args.style()),
-        "patch_style" => span.patch_style(args.style()),
-        "reset_style" => span.reset_style(),
-        _ => return Err(Fault::Unread),
-    })
+    match word {
+        "content" => Ok(span.content(args.text()?)),
+        "style" => Ok(span.style(args.style())),
+        "patch_style" => Ok(span.patch_style(args.style())),
+        "reset_style" => Ok(span.reset_style()),
+        _ => Err(Fault::Unread),
+    }
 }
 
 // Asks a span something; whether there is such a question.
@@ -45,23 +52,64 @@ fn asked(
         "clone" => answer.add(span.clone(alloc)?)?,
         "print" => answer.print(alloc, span)?,
         "equal" => alike(span, &args.span()?, answer)?,
-        "styled_graphemes" => {
-            for grapheme in span.styled_graphemes(args.style()) {
-                answer.add(grapheme)?;
-            }
-        }
-        "try_add" => answer.add(span.clone(alloc)?.try_add(alloc, args.span()?)?)?,
-        "into_left_aligned_line" => answer.add(span.clone(alloc)?.into_left_aligned_line(alloc)?)?,
-        "to_left_aligned_line" => answer.add(span.clone(alloc)?.to_left_aligned_line(alloc)?)?,
-        "into_centered_line" => answer.add(span.clone(alloc)?.into_centered_line(alloc)?)?,
-        "to_centered_line" => answer.add(span.clone(alloc)?.to_centered_line(alloc)?)?,
-        "into_right_aligned_line" => answer.add(
-            span.clone(alloc)?.into_right_aligned_line(alloc)?,
-        )?,
-        "to_right_aligned_line" => answer.add(span.clone(alloc)?.to_right_aligned_line(alloc)?)?,
-        _ => return Ok(false),
+        _ => return joined(span, word, args, answer),
     }
     Ok(true)
+}
+
+// Takes a span apart, or adds another one; whether there is such a call.
+fn joined(
+    span: &Span<'_>,
+    word: &str,
+    args: &mut Args<'_>,
+    answer: &mut Answer,
+) -> Result<bool, Fault> {
+    match word {
+        "styled_graphemes" => put_graphemes(span, args.style(), answer)?,
+        "try_add" => put_sum(span, args, answer)?,
+        _ => match aligned(span, word, args.alloc)? {
+            Some(line) => answer.add(line)?,
+            None => return Ok(false),
+        },
+    }
+    Ok(true)
+}
+
+fn put_graphemes(span: &Span<'_>, style: Style, answer: &mut Answer) -> Result<(), Fault> {
+    for grapheme in span.styled_graphemes(style) {
+        answer.add(grapheme)?;
+    }
+    Ok(())
+}
+
+fn put_sum(span: &Span<'_>, args: &mut Args<'_>, answer: &mut Answer) -> Result<(), Fault> {
+    let alloc = args.alloc;
+    let line = span.clone(alloc)?.try_add(alloc, args.span()?)?;
+    answer.add(line)
+}
+
+// A span as a line that is aligned by a call; none if there is no such call.
+fn aligned<'a>(span: &Span<'a>, word: &str, alloc: Global) -> Result<Option<Line<'a>>, Fault> {
+    match word {
+        "into_left_aligned_line" => Ok(Some(span.clone(alloc)?.into_left_aligned_line(alloc)?)),
+        "into_centered_line" => Ok(Some(span.clone(alloc)?.into_centered_line(alloc)?)),
+        "into_right_aligned_line" => Ok(Some(span.clone(alloc)?.into_right_aligned_line(alloc)?)),
+        _ => aligned_formerly(span, word, alloc),
+    }
+}
+
+// The same by the former names of the calls.
+fn aligned_formerly<'a>(
+    span: &Span<'a>,
+    word: &str,
+    alloc: Global,
+) -> Result<Option<Line<'a>>, Fault> {
+    match word {
+        "to_left_aligned_line" => Ok(Some(span.clone(alloc)?.to_left_aligned_line(alloc)?)),
+        "to_centered_line" => Ok(Some(span.clone(alloc)?.to_centered_line(alloc)?)),
+        "to_right_aligned_line" => Ok(Some(span.clone(alloc)?.to_right_aligned_line(alloc)?)),
+        _ => Ok(None),
+    }
 }
 
 /// A span, and calls on it; the span itself if nothing was asked.

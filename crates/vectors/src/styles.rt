@@ -201,40 +201,45 @@ pub fn modifier(args: &mut Args<'_>, answer: &mut Answer) -> Result<(), Fault> {
 }
 
 // A call on two sets of modifiers.
-fn modifiers(
-    word: &str,
-    mut one: Modifier,
-    other: Modifier,
-    answer: &mut Answer,
-) -> Result<(), Fault> {
+fn modifiers(word: &str, one: Modifier, other: Modifier, answer: &mut Answer) -> Result<(), Fault> {
     match word {
-        "union" => answer.add(one.union(other)),
-        "or" => answer.add(one | other),
-        "intersection" => answer.add(one.intersection(other)),
-        "and" => answer.add(one & other),
-        "difference" => answer.add(one.difference(other)),
-        "sub" => answer.add(one - other),
-        "symmetric_difference" => answer.add(one.symmetric_difference(other)),
-        "xor" => answer.add(one ^ other),
         "contains" => answer.add(one.contains(other)),
         "intersects" => answer.add(one.intersects(other)),
         "equal" => answer.add(one == other),
-        _ => {
-            match word {
-                "insert" => one.insert(other),
-                "or_assign" => one |= other,
-                "remove" => one.remove(other),
-                "sub_assign" => one -= other,
-                "toggle" => one.toggle(other),
-                "xor_assign" => one ^= other,
-                "and_assign" => one &= other,
-                "set" => one.set(other, true),
-                "unset" => one.set(other, false),
-                _ => return Err(Fault::Unread),
-            }
-            answer.add(one)
-        }
+        _ => answer.add(joined(word, one, other)?),
     }
+}
+
+// Two sets of modifiers joined by a call or an operator.
+fn joined(word: &str, one: Modifier, other: Modifier) -> Result<Modifier, Fault> {
+    match word {
+        "union" => Ok(one.union(other)),
+        "or" => Ok(one | other),
+        "intersection" => Ok(one.intersection(other)),
+        "and" => Ok(one & other),
+        "difference" => Ok(one.difference(other)),
+        "sub" => Ok(one - other),
+        "symmetric_difference" => Ok(one.symmetric_difference(other)),
+        "xor" => Ok(one ^ other),
+        _ => changed_by(word, one, other),
+    }
+}
+
+// A set of modifiers after a call that changes it.
+fn changed_by(word: &str, mut one: Modifier, other: Modifier) -> Result<Modifier, Fault> {
+    match word {
+        "insert" => one.insert(other),
+        "or_assign" => one |= other,
+        "remove" => one.remove(other),
+        "sub_assign" => one -= other,
+        "toggle" => one.toggle(other),
+        "xor_assign" => one ^= other,
+        "and_assign" => one &= other,
+        "set" => one.set(other, true),
+        "unset" => one.set(other, false),
+        _ => return Err(Fault::Unread),
+    }
+    Ok(one)
 }
 
 // A style made from its parts.
@@ -243,45 +248,56 @@ fn made(word: &str, args: &mut Args<'_>) -> Result<Style, Fault> {
         "new" => Ok(Style::new()),
         "default" => Ok(Style::default()),
         "reset" => Ok(Style::reset()),
+        "style" => Ok(args.style()),
         "from_color" => Ok(Style::from(args.color()?)),
-        "from_colors" => Ok(Style::from((args.color()?, args.color()?))),
         "from_modifier" => Ok(Style::from(args.modifier())),
+        _ => made_of_several(word, args),
+    }
+}
+
+fn made_of_several(word: &str, args: &mut Args<'_>) -> Result<Style, Fault> {
+    match word {
+        "from_colors" => Ok(Style::from((args.color()?, args.color()?))),
         "from_modifiers" => Ok(Style::from((args.modifier(), args.modifier()))),
         "from_color_modifier" => Ok(Style::from((args.color()?, args.modifier()))),
         "from_colors_modifier" => Ok(Style::from((args.color()?, args.color()?, args.modifier()))),
-        "from_colors_modifiers" => Ok(Style::from((
-            args.color()?,
-            args.color()?,
-            args.modifier(),
-            args.modifier(),
-        ))),
-        "style" => Ok(args.style()),
+        "from_colors_modifiers" => {
+            let (fg, bg) = (args.color()?, args.color()?);
+            Ok(Style::from((fg, bg, args.modifier(), args.modifier())))
+        }
         _ => Err(Fault::Unread),
     }
 }
 
 // A style after a call that changes it, or none if the call asks it something.
 fn changed(style: Style, args: &mut Args<'_>, answer: &mut Answer) -> Result<Option<Style>, Fault> {
-    Ok(Some(match args.word()? {
-        "fg" => style.fg(args.color()?),
-        "bg" => style.bg(args.color()?),
-        "underline_color" => style.underline_color(args.color()?),
-        "add_modifier" => style.add_modifier(args.modifier()),
-        "remove_modifier" => style.remove_modifier(args.modifier()),
-        "patch" => style.patch(args.style()),
+    match args.word()? {
         "has_modifier" => {
             answer.add(style.has_modifier(args.modifier()))?;
-            return Ok(None);
+            Ok(None)
         }
         "equal" => {
             answer.add(style == args.style())?;
-            return Ok(None);
+            Ok(None)
         }
-        word => match word.strip_prefix("on_") {
-            Some(name) => on_color(style, name)?,
-            None => shortened(style, word)?,
+        word => Ok(Some(set(style, word, args)?)),
+    }
+}
+
+// A style after a call that sets a part of it.
+fn set(style: Style, word: &str, args: &mut Args<'_>) -> Result<Style, Fault> {
+    match word {
+        "fg" => Ok(style.fg(args.color()?)),
+        "bg" => Ok(style.bg(args.color()?)),
+        "underline_color" => Ok(style.underline_color(args.color()?)),
+        "add_modifier" => Ok(style.add_modifier(args.modifier())),
+        "remove_modifier" => Ok(style.remove_modifier(args.modifier())),
+        "patch" => Ok(style.patch(args.style())),
+        _ => match word.strip_prefix("on_") {
+            Some(name) => on_color(style, name),
+            None => shortened(style, word),
         },
-    }))
+    }
 }
 
 /// A style, and calls on it.

@@ -296,11 +296,19 @@ fn by_name(name: &str, answer: &mut Answer) -> Result<(), Fault> {
             return answer.add(*symbol);
         }
     }
+    line_by_name(name, answer)
+}
+
+fn line_by_name(name: &str, answer: &mut Answer) -> Result<(), Fault> {
     for (own, set) in LINES.iter() {
         if *own == name {
             return put_line(set, answer);
         }
     }
+    border_by_name(name, answer)
+}
+
+fn border_by_name(name: &str, answer: &mut Answer) -> Result<(), Fault> {
     for (own, set) in BORDERS.iter() {
         if *own == name {
             return put_border(set, answer);

@@ -211,6 +211,10 @@ fn insert_resized(terminal: &mut Terminal<TestBackend>, width: u16, height: u16)
     terminal.insert_before(2, |rows| rows.resize(area))
 }
 
+fn insert_refused(terminal: &mut Terminal<TestBackend>) -> Outcome {
+    terminal.insert_before(2, |_| Err(AllocError))
+}
+
 // Gives the current buffer the viewport's area.
 fn mend_buffer(terminal: &mut Terminal<TestBackend>) -> Result<(), AllocError> {
     let area = terminal.viewport_area();
@@ -225,32 +229,54 @@ fn act(
     args: &mut Args<'_>,
 ) -> Result<Option<Outcome>, Fault> {
     let alloc = args.alloc;
-    Ok(Some(match word {
-        "draw" => draw(alloc, terminal, &args.picture()?),
-        "draw_anew" => draw_anew(alloc, terminal, &args.picture()?),
-        "try_draw" => try_draw(alloc, terminal, &args.picture()?),
-        "draw_always" => draw_always(terminal),
-        "draw_resized" => draw_resized(terminal, args.u16()?, args.u16()?),
-        "draw_without_memory" => draw_refused(terminal),
-        "try_draw_told" => draw_told(terminal),
-        "apply_buffer" => apply(terminal, None),
-        "apply_buffer_with_cursor" => apply(terminal, Some(args.position()?)),
+    match word {
+        "draw" => Ok(Some(draw(alloc, terminal, &args.picture()?))),
+        "draw_anew" => Ok(Some(draw_anew(alloc, terminal, &args.picture()?))),
+        "try_draw" => Ok(Some(try_draw(alloc, terminal, &args.picture()?))),
         "insert" => {
             let height = args.u16()?;
-            insert(alloc, terminal, height, &args.content()?)
+            Ok(Some(insert(alloc, terminal, height, &args.content()?)))
         }
-        "insert_resized" => insert_resized(terminal, args.u16()?, args.u16()?),
-        "insert_without_memory" => terminal.insert_before(2, |_| Err(AllocError)),
-        "clear" => terminal.clear(),
-        "autoresize" => terminal.autoresize(),
-        "resize" => terminal.resize(args.area()?),
-        "flush" => terminal.flush(),
-        "hide_cursor" => terminal.hide_cursor(),
-        "show_cursor" => terminal.show_cursor(),
-        "set_cursor_position" => terminal.set_cursor_position(args.position()?),
-        "set_cursor" => terminal.set_cursor(args.u16()?, args.u16()?),
-        _ => return Ok(None),
-    }))
+        _ => act_otherwise(terminal, word, args),
+    }
+}
+
+// Such a call that draws a frame or inserts rows of its own.
+fn act_otherwise(
+    terminal: &mut Terminal<TestBackend>,
+    word: &str,
+    args: &mut Args<'_>,
+) -> Result<Option<Outcome>, Fault> {
+    match word {
+        "draw_always" => Ok(Some(draw_always(terminal))),
+        "draw_resized" => Ok(Some(draw_resized(terminal, args.u16()?, args.u16()?))),
+        "draw_without_memory" => Ok(Some(draw_refused(terminal))),
+        "try_draw_told" => Ok(Some(draw_told(terminal))),
+        "apply_buffer" => Ok(Some(apply(terminal, None))),
+        "apply_buffer_with_cursor" => Ok(Some(apply(terminal, Some(args.position()?)))),
+        "insert_resized" => Ok(Some(insert_resized(terminal, args.u16()?, args.u16()?))),
+        "insert_without_memory" => Ok(Some(insert_refused(terminal))),
+        _ => set(terminal, word, args),
+    }
+}
+
+// Such a call that paints nothing.
+fn set(
+    terminal: &mut Terminal<TestBackend>,
+    word: &str,
+    args: &mut Args<'_>,
+) -> Result<Option<Outcome>, Fault> {
+    match word {
+        "clear" => Ok(Some(terminal.clear())),
+        "autoresize" => Ok(Some(terminal.autoresize())),
+        "resize" => Ok(Some(terminal.resize(args.area()?))),
+        "flush" => Ok(Some(terminal.flush())),
+        "hide_cursor" => Ok(Some(terminal.hide_cursor())),
+        "show_cursor" => Ok(Some(terminal.show_cursor())),
+        "set_cursor_position" => Ok(Some(terminal.set_cursor_position(args.position()?))),
+        "set_cursor" => Ok(Some(terminal.set_cursor(args.u16()?, args.u16()?))),
+        _ => Ok(None),
+    }
 }
 
 // A call that makes none of the backend's; whether there is such a call.
@@ -262,23 +288,30 @@ fn touch(
 ) -> Result<bool, Fault> {
     match word {
         "swap_buffers" => terminal.swap_buffers(),
-        "paint" => {
-            let content = args.content()?;
-            content.paint(args.alloc, terminal.current_buffer_mut())?;
-        }
+        "paint" => paint(terminal, args)?,
         "mend_buffer" => mend_buffer(terminal)?,
         "viewport_area" => answer.add(terminal.viewport_area())?,
         "is_cursor_hidden" => answer.add(terminal.is_cursor_hidden())?,
         "current_buffer" => answer.put(terminal.current_buffer_mut())?,
-        "frame" => {
-            let frame = terminal.get_frame();
-            answer.add(frame.area())?;
-            answer.add(frame.size())?;
-            answer.add(frame.count())?;
-        }
+        "frame" => put_frame(terminal, answer)?,
         _ => return Ok(false),
     }
     Ok(true)
+}
+
+// Paints on the current buffer.
+fn paint(terminal: &mut Terminal<TestBackend>, args: &mut Args<'_>) -> Result<(), Fault> {
+    let content = args.content()?;
+    content.paint(args.alloc, terminal.current_buffer_mut())?;
+    Ok(())
+}
+
+// Adds the area, the size and the number of the next frame.
+fn put_frame(terminal: &mut Terminal<TestBackend>, answer: &mut Answer) -> Result<(), Fault> {
+    let frame = terminal.get_frame();
+    answer.add(frame.area())?;
+    answer.add(frame.size())?;
+    answer.add(frame.count())
 }
 
 // Asks a terminal something that its backend can refuse; whether there is such a question.
@@ -348,21 +381,34 @@ fn screen(args: &mut Args<'_>) -> Result<TestBackend, Fault> {
     let mut backend = TestBackend::new(args.alloc, args.u16()?, args.u16()?)?;
     args.skip_comma();
     if args.takes("full") {
-        let symbol = Cell::new(args.alloc, args.text()?)?;
-        fill(&mut backend, &symbol).map_err(|_| Fault::Memory)?;
-        args.skip_comma();
+        fill_screen(&mut backend, args)?;
     }
     if args.takes("cursor") {
-        backend
-            .set_cursor_position(args.position()?)
-            .map_err(|_| Fault::Memory)?;
-        args.skip_comma();
+        place_cursor(&mut backend, args)?;
     }
     if args.takes("fail_after") {
         backend.fail_after(args.value::<u64>()?);
         args.skip_comma();
     }
     Ok(backend)
+}
+
+fn fill_screen(backend: &mut TestBackend, args: &mut Args<'_>) -> Result<(), Fault> {
+    let symbol = Cell::new(args.alloc, args.text()?)?;
+    args.skip_comma();
+    match fill(backend, &symbol) {
+        Ok(()) => Ok(()),
+        Err(_) => Err(Fault::Memory),
+    }
+}
+
+fn place_cursor(backend: &mut TestBackend, args: &mut Args<'_>) -> Result<(), Fault> {
+    let position = args.position()?;
+    args.skip_comma();
+    match backend.set_cursor_position(position) {
+        Ok(()) => Ok(()),
+        Err(_) => Err(Fault::Memory),
+    }
 }
 
 /// A terminal, and calls on it; what is seen of its screen at the end, and its viewport. A call

@@ -5,44 +5,61 @@ use crate::fault::Fault;
 use crate::texts::alike;
 use crate::tokens::Token;
 use ratatui_core::layout::HorizontalAlignment;
+use ratatui_core::style::Style;
 use ratatui_core::text::{Masked, Text, ToLine, ToSpan, ToText};
 use std::alloc::Global;
 use std::fmt::Display;
 
 fn made<'a>(args: &mut Args<'a>) -> Result<Text<'a>, Fault> {
     let alloc = args.alloc;
-    Ok(match args.word()? {
-        "raw" => Text::raw(alloc, args.text()?)?,
-        "styled" => {
-            let text = args.text()?;
-            Text::styled(alloc, text, args.style())?
-        }
-        "raw_string" => Text::raw_string(alloc, String::from_str(alloc, args.text()?)?)?,
-        "from_span" => Text::from_span(alloc, args.span()?)?,
-        "from_line" => Text::from_line(alloc, args.line()?)?,
-        "from_slice" => Text::from_slice(alloc, args.lines()?.lines.as_slice())?,
-        "from_vec" => Text::from(args.lines()?.lines.into_vec()),
-        "from_lines" => Text::from(args.lines()?.lines),
-        "try_from_iter" => Text::try_from_iter(alloc, args.lines()?)?,
-        "default" => Text::default_in(alloc),
-        "text" => args.lines()?,
-        _ => return Err(Fault::Unread),
-    })
+    match args.word()? {
+        "raw" => Ok(Text::raw(alloc, args.text()?)?),
+        "styled" => Ok(Text::styled(alloc, args.text()?, args.style())?),
+        "raw_string" => Ok(Text::raw_string(alloc, String::from_str(alloc, args.text()?)?)?),
+        "default" => Ok(Text::default_in(alloc)),
+        "text" => args.lines(),
+        "from_span" => Ok(Text::from_span(alloc, args.span()?)?),
+        "from_line" => Ok(Text::from_line(alloc, args.line()?)?),
+        word => made_of(word, alloc, args.lines()?),
+    }
+}
+
+// A text of the lines of another one.
+fn made_of<'a>(word: &str, alloc: Global, text: Text<'a>) -> Result<Text<'a>, Fault> {
+    match word {
+        "from_slice" => Ok(Text::from_slice(alloc, text.lines.as_slice())?),
+        "from_vec" => Ok(Text::from(text.lines.into_vec())),
+        "from_lines" => Ok(Text::from(text.lines)),
+        "try_from_iter" => Ok(Text::try_from_iter(alloc, text)?),
+        _ => Err(Fault::Unread),
+    }
 }
 
 fn changed<'a>(text: Text<'a>, word: &str, args: &mut Args<'a>) -> Result<Text<'a>, Fault> {
-    Ok(match word {
-        "style" => text.style(args.style()),
-        "patch_style" => text.patch_style(args.style()),
-        "reset_style" => text.reset_style(),
-        "alignment" => text.alignment(args.value::<HorizontalAlignment>()?),
-        "left_aligned" => text.left_aligned(),
-        "centered" => text.centered(),
-        "right_aligned" => text.right_aligned(),
-        "try_add_line" => text.try_add_line(args.line()?)?,
-        "try_add" => text.try_add(args.lines()?)?,
-        _ => return extended(text, word, args),
-    })
+    match word {
+        "style" => Ok(text.style(args.style())),
+        "patch_style" => Ok(text.patch_style(args.style())),
+        "reset_style" => Ok(text.reset_style()),
+        _ => aligned(text, word, args),
+    }
+}
+
+fn aligned<'a>(text: Text<'a>, word: &str, args: &mut Args<'a>) -> Result<Text<'a>, Fault> {
+    match word {
+        "alignment" => Ok(text.alignment(args.value::<HorizontalAlignment>()?)),
+        "left_aligned" => Ok(text.left_aligned()),
+        "centered" => Ok(text.centered()),
+        "right_aligned" => Ok(text.right_aligned()),
+        _ => added(text, word, args),
+    }
+}
+
+fn added<'a>(text: Text<'a>, word: &str, args: &mut Args<'a>) -> Result<Text<'a>, Fault> {
+    match word {
+        "try_add_line" => Ok(text.try_add_line(args.line()?)?),
+        "try_add" => Ok(text.try_add(args.lines()?)?),
+        _ => extended(text, word, args),
+    }
 }
 
 // A text after a call that changes it in place.
@@ -52,15 +69,17 @@ fn extended<'a>(mut text: Text<'a>, word: &str, args: &mut Args<'a>) -> Result<T
         "push_span" => text.push_span(args.span()?)?,
         "append" => text.append(args.lines()?)?,
         "try_extend" => text.try_extend(args.lines()?)?,
-        "iter_mut" => {
-            let style = args.style();
-            for line in text.iter_mut() {
-                line.style = line.style.patch(style);
-            }
-        }
+        "iter_mut" => restyle(&mut text, args.style()),
         _ => return Err(Fault::Unread),
     }
     Ok(text)
+}
+
+// Lays a style over that of each line.
+fn restyle(text: &mut Text<'_>, style: Style) {
+    for line in text.iter_mut() {
+        line.style = line.style.patch(style);
+    }
 }
 
 // Asks a text something; whether there is such a question.
@@ -76,14 +95,17 @@ fn asked(
         "clone" => answer.add(text.clone(args.alloc)?)?,
         "print" => answer.print(args.alloc, text)?,
         "equal" => alike(text, &args.lines()?, answer)?,
-        "iter" => {
-            for line in text.iter() {
-                answer.print(args.alloc, line)?;
-            }
-        }
+        "iter" => put_lines(args.alloc, text, answer)?,
         _ => return Ok(false),
     }
     Ok(true)
+}
+
+fn put_lines(alloc: Global, text: &Text<'_>, answer: &mut Answer) -> Result<(), Fault> {
+    for line in text.iter() {
+        answer.print(alloc, line)?;
+    }
+    Ok(())
 }
 
 /// A text, and calls on it; the text itself if nothing was asked.
@@ -122,13 +144,11 @@ pub fn masked(args: &mut Args<'_>, answer: &mut Answer) -> Result<(), Fault> {
         "debug" => answer.add(format!(in alloc; "{masked:?}")?.as_str()),
         "to_text" => answer.add(masked.to_text(alloc)?),
         "clone" => answer.add(masked.clone(alloc)? == masked),
-        "from_string" => answer.add(
-            Masked::from_string(String::from_str(alloc, text)?, mask) == masked,
-        ),
-        "equal" => {
-            let (text, mask) = (args.text()?, args.char()?);
-            alike(&masked, &Masked::new(text, mask), answer)
+        "from_string" => {
+            let other = Masked::from_string(String::from_str(alloc, text)?, mask);
+            answer.add(other == masked)
         }
+        "equal" => alike(&masked, &Masked::new(args.text()?, args.char()?), answer),
         _ => Err(Fault::Unread),
     }
 }
