@@ -1,5 +1,5 @@
 -- What the author of a widget cites: the part of an area that a buffer has, and what stays within an area.
-pub use Rattle.rtui_widgets.proofs.WithinLemmas.{intersected-whole, part-row, part-left, part-starts, in-first-row, within-then, within-styled, within-refused}
+pub use Rattle.rtui_widgets.proofs.WithinLemmas.{within-then, within-styled}
 -- What changes over that part alone, and a line on a bar there.
 pub use Rattle.rtui_widgets.proofs.PartLemmas.{OnPart-none, OnPart-clipped, OnPart-whole, line-on-bar}
 -- A text on an empty buffer, which has a first row and stays settled.

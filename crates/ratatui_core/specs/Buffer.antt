@@ -1,30 +1,27 @@
 -- Cells, buffers, painting, and the differences between two buffers.
 pub use Rattle.rtui_cell.specs.declared.cell.Cell.{Cell}
 pub use Rattle.rtui_cell.specs.Symbol.{blank, symbol_text, appended, joined, IsShort}
-pub use Rattle.rtui_cell.specs.Stored.{stored_text, IsStoredByLength}
 unfoldable pub use Rattle.rtui_cell.specs.Width.{text_columns, text_width}
 pub use Rattle.rtui_cell.specs.Width.{is_sound_mark}
 unfoldable pub use Rattle.rtui_cell.specs.Look.{look_of}
 pub use Rattle.rtui_cell.specs.Look.{Look, empty_look}
 unfoldable pub use Rattle.rtui_cell.specs.Cell.{width_of, is_single_byte, is_skipped}
 pub use Rattle.rtui_cell.specs.Cell.{empty_cell, cell_of, with_symbol, styled, style_of, width_by, IsUnmarked}
-unfoldable pub use Rattle.rtui_cell.specs.Equality.{is_same, is_same_symbol}
+unfoldable pub use Rattle.rtui_cell.specs.Equality.{is_same}
 pub use Rattle.rtui_cell.specs.Equality.{IsEqual}
 pub use Rattle.rtui_cell.specs.Grid.{Grid, Update, update_by, put, puts}
-unfoldable pub use Rattle.rtui_diff.specs.Cells.{has_fe0f, shows_on_blank, is_forced, is_always}
-pub use Rattle.rtui_diff.specs.Cells.{cell, cell_at, is_reset, is_forced_by}
+unfoldable pub use Rattle.rtui_diff.specs.Cells.{is_forced}
+pub use Rattle.rtui_diff.specs.Cells.{cell, cell_at, is_forced_by}
 pub use Rattle.rtui_diff.specs.Settled.{IsBlankOrSkipped, IsSettled}
-pub use Rattle.rtui_diff.specs.Shows.{ShowsColumn, Shows, repaint, Repaints, Replays}
+pub use Rattle.rtui_diff.specs.Shows.{ShowsColumn, Shows, Repaints, Replays}
 pub use Rattle.rtui_diff.specs.Updates.{updates, IsBefore, Rises, IsCellOfNext}
-unfoldable pub use Rattle.rtui_diff.specs.DiffRule.{given}
-pub use Rattle.rtui_diff.specs.DiffRule.{start, gives_visited, gives_plain, step_plain, gives, step}
 pub use Rattle.rtui_diff.specs.Completeness.{IsMinimal, IsComplete}
 pub use Rattle.rtui_diff.specs.Remaining.{updates_left}
 pub use Rattle.rtui_diff.specs.Diff.{IsDiff}
 pub use Rattle.rtui_buffer.specs.BufferData.{BufferData, area_size, IsBuffer, HasRoomFor, position_of, cell_index, place_position, cell_in, with_cell, with_cells, moved_to, buffer_row, HasRow, empty_cells, resized, IsEmptied, IsSameBuffer, IsEqualBuffer}
 pub use Rattle.rtui_buffer.specs.Shown.{IsSettledBuffer, IsShownByRepaint, ShowsBuffer, IsAligned, IsBufferDiff, HaveSettledRows, listed}
-unfoldable pub use Rattle.rtui_buffer.specs.Painting.{painted_width, fitting, kept, emptied, with_piece, painted}
-pub use Rattle.rtui_buffer.specs.Painting.{has_painted_width, IsLongestFront, Piece, piece_of, pieces, text_pieces, columns, AreWide, shown, IsSameOutside, piece_at, HasPieces}
+unfoldable pub use Rattle.rtui_buffer.specs.Painting.{painted_width, kept}
+pub use Rattle.rtui_buffer.specs.Painting.{has_painted_width, IsLongestFront, Piece, piece_of, text_pieces, columns, AreWide, shown, piece_at, HasPieces}
 pub use Rattle.rtui_buffer.specs.PaintedText.{room_at, pieces_at, PaintsPieces, right_by, IsBeside, PaintsByColumns, IsSameBeside, AreShort, IsPaintable, PaintsOrRefuses, IsStyled, IsOneGrapheme, HasShortGraphemes, HaveShortGraphemes}
 pub use Rattle.rtui_buffer.specs.Bar.{bar_of, PaintsOnBar, ShowsPieces, bar_cell}
 unfoldable pub use Rattle.rtui_buffer.specs.Line.{line_pieces}
@@ -32,7 +29,7 @@ pub use Rattle.rtui_buffer.specs.Line.{line_pieces_at, lines_area, IsOfLines, ra
 pub use Rattle.rtui_buffer.specs.RowsDiff.{IsRowsDiff}
 pub use Rattle.rtui_buffer.specs.Overlay.{no_area, IsOverlay}
 -- Changes of cells by position, plain cells, and parts that are changed apart from each other.
-pub use Rattle.rtui_changes.specs.Changes.{ChangesEach, MakesEach, AreLight, row_part, IsRowOfArea, place_at}
+pub use Rattle.rtui_changes.specs.Changes.{ChangesEach, MakesEach, AreLight, place_at}
 pub use Rattle.rtui_changes.specs.Plain.{IsPlain, IsPlainOver, IsPlainFrom, IsReadyAt, IsReadyFrom}
-pub use Rattle.rtui_changes.specs.Parts.{MakesPart, MakesParts}
+pub use Rattle.rtui_changes.specs.Parts.{MakesParts}
 pub use Rattle.rtui_changes.specs.NarrowTexts.{IsNarrowGrapheme, HasNarrowGraphemes, AreNarrowSpans, IsNarrowLine, IsNarrowText}

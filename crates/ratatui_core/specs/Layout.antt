@@ -4,7 +4,7 @@ pub use Rattle.rtui_geometry.specs.declared.position.Position.{Position}
 pub use Rattle.rtui_geometry.specs.declared.offset.Offset.{Offset}
 pub use Rattle.rtui_geometry.specs.declared.size.Size.{Size}
 pub use Rattle.rtui_geometry.specs.declared.margin.Margin.{Margin}
-pub use Rattle.rtui_geometry.specs.Offset.{moved, opposite, moved_rect, moved_position}
+pub use Rattle.rtui_geometry.specs.Offset.{opposite, moved_rect, moved_position}
 pub use Rattle.rtui_geometry.specs.Rect.{right_edge, bottom_edge, HasPosition, corner, EdgesFit, IsInside, cut_rect, united, intersected, Intersects, SharePosition, HasRoom, shrunk, grown, KeepsMargin, between}
 pub use Rattle.rtui_geometry.specs.Rows.{numbers, row_at, column_at, rows_of, columns_of, positions_of, positions_from, IsPlace, ListsPositions, ListsRows, ListsColumns}
 pub use Rattle.rtui_geometry.specs.Display.{position_text, size_text, margin_text, rect_text}

@@ -4,31 +4,25 @@ pub use Rattle.rtui_terminal.specs.declared.terminal.error.TerminalError.TheVari
 pub use Rattle.rtui_terminal.specs.declared.terminal.frame.Frame.{Frame}
 pub use Rattle.rtui_viewport.specs.declared.viewport.Viewport.{Viewport}
 pub use Rattle.rtui_viewport.specs.declared.viewport.Viewport.TheVariants.{Fullscreen, Inline, Fixed}
-pub use Rattle.rtui_viewport.specs.Areas.{KeepsOutside, IsBlankBelow, KeepsAllButLooks, Empties, is_within}
+pub use Rattle.rtui_viewport.specs.Areas.{KeepsOutside, IsBlankBelow}
 pub use Rattle.rtui_viewport.specs.Viewports.{IsInline, IsFixed, FitsEdges, rows_in, viewport_text}
-pub use Rattle.rtui_viewport.specs.Sizing.{first_area, IsSizeKnown, IsAreaChange}
-pub use Rattle.rtui_viewport.specs.Placing.{lines_below, inline_area, PlacesInline, area_in, raised, cursor_found, cursor_restored, Places}
-pub use Rattle.rtui_viewport.specs.Clearing.{ClearsArea, WritesBlanks}
-pub use Rattle.rtui_viewport.specs.Remaining.{blank_at, blanks_left}
 pub use Rattle.rtui_terminal.specs.TerminalData.{TerminalData, IsInPlace, HasAreas, IsSameTerminal, IsDefaultOver}
 pub use Rattle.rtui_terminal.specs.InStep.{IsInStep, IsSized, IsReady, rows_over, KeepsAroundViewport}
 pub use Rattle.rtui_terminal.specs.Frames.{IsNewFrame, KeepsFrame, IsDrawFrame, AcceptsFrames, PaintsCurrent}
 pub use Rattle.rtui_terminal.specs.Borrows.{LendsBuffer}
-pub use Rattle.rtui_terminal.specs.Faults.{FaultCounts, Faults, IsBackendFault, FailsOnlyByBackend}
+pub use Rattle.rtui_terminal.specs.Faults.{Faults, IsBackendFault, FailsOnlyByBackend}
 pub use Rattle.rtui_terminal.specs.Starting.{IsBlank, StartErr, Starts, StartsInRow}
-pub use Rattle.rtui_terminal.specs.Writing.{WritesDifferences, cursor_behind, FlushErr, Flushes, Writes, FailsWriting, Applies, FailsFlushing, ApplyErr, RefusesArea}
+pub use Rattle.rtui_terminal.specs.Writing.{FlushErr, Flushes, FailsWriting, Applies, FailsFlushing, ApplyErr, RefusesArea}
 pub use Rattle.rtui_terminal.specs.Resizing.{Resizes, ResizeErr, Autoresizes, AutoresizeErr}
 pub use Rattle.rtui_terminal.specs.Cursor.{Stays, MovesCursor}
 pub use Rattle.rtui_terminal.specs.Clearing.{FailsClearing, ClearsViewport}
 pub use Rattle.rtui_terminal.specs.Drawing.{CompletesFrame, DrawsFrame, RefusesFrame, DrawOk, ClosureErr, PaintedErr, DrawErr, TryDrawErr}
-pub use Rattle.rtui_terminal.specs.Rendered.{IsRendered, RendersCurrent, ShowsRendered}
+pub use Rattle.rtui_terminal.specs.Rendered.{RendersCurrent, ShowsRendered}
 pub use Rattle.rtui_viewport.specs.Lying.{FitsSize}
 pub use Rattle.rtui_terminal.specs.AtRest.{IsAtRest}
 pub use Rattle.rtui_terminal.specs.TextRow.{row_area, IsPaintedText, IsRowOf, ShowsText, FillsRow, IsOverRow, ShowsRow, DrawsRow, InsertsRow, StartsOverRow}
 pub use Rattle.rtui_terminal.specs.Display.{terminal_error_text}
 pub use Rattle.rtui_insert.specs.Filling.{AcceptsRows, FillsRows, RefusesFilling}
-pub use Rattle.rtui_insert.specs.Rows.{DrawsRows, DrawsFirstRow, WritesAtMost}
-pub use Rattle.rtui_insert.specs.Insertion.{AppendsRows, KeepsSizeAndVisibility}
-pub use Rattle.rtui_insert.specs.Scrolling.{rows_down, PushesRows, InsertsDown, InsertsUp}
-pub use Rattle.rtui_insert.specs.Following.{Follows}
+pub use Rattle.rtui_insert.specs.Rows.{WritesAtMost}
+pub use Rattle.rtui_insert.specs.Insertion.{AppendsRows}
 pub use Rattle.rtui_terminal.specs.Insertion.{inserted_area, TakesRows, Inserts, StopsInserting, InsertOk, FailsInserting, RefusesRows, InsertErr, InsertsBy}

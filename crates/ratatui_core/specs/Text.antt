@@ -3,7 +3,7 @@ pub use Rattle.rtui_text.specs.Text.{SpanData, plain, LineData, line_of, raw_lin
 pub use Rattle.rtui_text.specs.Widths.{span_width, line_width, widest}
 pub use Rattle.rtui_text.specs.Graphemes.{GraphemeData, grapheme_data, has_control, span_graphemes, line_graphemes, span_graphemes_left, line_graphemes_left, is_whitespace_symbol}
 pub use Rattle.rtui_text.specs.Display.{printed_span, printed_spans, line_content, printed_lines}
-pub use Rattle.rtui_text.specs.Printable.{ArePrintable, IsPrintableFront, singles}
+pub use Rattle.rtui_text.specs.Printable.{ArePrintable}
 pub use Rattle.rtui_text.specs.Masked.{MaskedData, mask_value}
 pub use Rattle.rtui_text.specs.LineHead.{line_head, text_head}
 pub use Rattle.rtui_text.specs.Hashing.{text_Alike, char_Alike}
