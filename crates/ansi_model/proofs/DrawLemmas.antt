@@ -1,5 +1,6 @@
 -- What a sent symbol leaves on a terminal.
 use Rattle.std.proofs.Common.{IfSome, Option, ◌≡◌, ℕ, ◌+◌, ◌-◌, ◌<◌, ◌||◌, not, min, Bool, List, ◌++◌, ◌==◌, length, IsUtf8, chars, true, false, refl, sym, ap, ap₂, ◌∙◌, arith, subst, Some, None}
+use Rattle.std.proofs.lemmas.Bool.{and_parts}
 use lib.Utf8.{encode}
 use Rattle.std.specs.List.{list_all}
 use Rattle.std.specs.Bool.{then_some}
@@ -16,7 +17,6 @@ use Rattle.ansi_model.specs.Sequences.{feed}
 use Rattle.ansi_model.specs.Sends.{Sends, Performs, typed}
 use Rattle.ansi_model.specs.Drawing.{is_at, is_place, WritesAt, IsDrawnBy, drawn_at, Prints}
 use Rattle.ansi_model.proofs.ReadLemmas.{Sends-then}
-use Rattle.ansi_model.proofs.TextLemmas.{and-both}
 use Rattle.ansi_model.proofs.SymbolLemmas.{symbol-utf8, after-standing, alone-standing, plain-printed, plain-single}
 
 -- ---- a symbol in its place
@@ -48,7 +48,7 @@ drawn-after x y sgr symbol after t u ground same knows e plain = record { phase 
 
 -- one plain character is plain text
 one-plain : (cs : List ℕ) → is_one_plain cs ≡ true → list_all is_plain_char cs ≡ true
-one-plain cs e = (and-both (length cs == 1) (list_all is_plain_char cs) e).1
+one-plain cs e = (and_parts (length cs == 1) (list_all is_plain_char cs) e).1
 
 more-plain : (xs ys : List ℕ) → IsUtf8 xs → list_all is_plain_char (chars xs) ≡ true → list_all is_plain_char (chars ys) ≡ true → list_all is_plain_char (chars (xs ++ ys)) ≡ true
 more-plain xs ys utf8 e f = ap (list_all is_plain_char) (chars-append xs ys utf8) ∙ list_all-append is_plain_char (chars xs) (chars ys) ∙ rw (e, f) refl
@@ -74,7 +74,7 @@ pub put-here : (w h x y : ℕ) (before after : Pen) (c : ℕ) (old new : List �
 put-here w h x y before after c old new sends plain at same knows =
     let symbol = encode c in
     let single = plain-single c plain in
-    let text = (and-both (is_symbol symbol) (is_one_plain (chars symbol) || not (list_all is_plain_char (chars symbol))) (plain-printed c plain)).0 in
+    let text = (and_parts (is_symbol symbol) (is_one_plain (chars symbol) || not (list_all is_plain_char (chars symbol))) (plain-printed c plain)).0 in
     let utf8 = symbol-utf8 symbol text in
     let columns : 1 ≡ printed_columns symbol = rw single refl in
     let shown : (t : Emulator) → IsDrawnBy before t → rested (feed sends.bytes t) ≡ prints symbol (printed_columns symbol) (drawn_at x y before.sgr (rested t)) = λ t drawn.
@@ -100,7 +100,7 @@ pub put-there : (w h x y : ℕ) (before after : Pen) (symbol old first new : Lis
     → is_printed symbol ≡ true → after.sgr ≡ before.sgr → KnowsPlace x y symbol after → Prints w h old before x y before.sgr symbol new after
 put-there w h x y before after symbol old first new x_in y_in moves sends is same knows =
     let sgr = before.sgr in
-    let text = (and-both (is_symbol symbol) (is_one_plain (chars symbol) || not (list_all is_plain_char (chars symbol))) is).0 in
+    let text = (and_parts (is_symbol symbol) (is_one_plain (chars symbol) || not (list_all is_plain_char (chars symbol))) is).0 in
     let both : Sends old new (λ t. typed symbol (cursor_moved x y (rested t))) = Sends-then old first new (λ t. cursor_moved x y (rested t)) (typed symbol) moves sends (λ t. refl) in
     let there : (t : Emulator) → (rested t).width ≡ w → (rested t).height ≡ h → IsDrawnBy before t → cursor_moved x y (rested t) ≡ drawn_at x y sgr (rested t) = λ t wide high drawn.
     let cursor_x : min x ((rested t).width - 1) ≡ x = omega arith in

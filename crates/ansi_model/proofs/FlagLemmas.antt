@@ -1,44 +1,14 @@
 -- Flags that move with their rows.
-use Rattle.std.proofs.Common.{◌≡◌, ℕ, true, false, ◌+◌, ◌-◌, ◌*◌, ◌<◌, ◌≤◌, ◌&&◌, nat_lt, Bool, List, length, refl, sym, ap, ◌∙◌, arith, if◌then◌else◌}
+use Rattle.std.proofs.Common.{◌≡◌, ℕ, true, false, ◌+◌, ◌*◌, ◌<◌, ◌&&◌, nat_lt, Bool, List, length, refl, sym, ap, ◌∙◌, arith, if◌then◌else◌}
 use Rattle.std.specs.Prelude.{nat_le}
 use Rattle.std.proofs.lemmas.Nat.{mul-add-lt}
 use Rattle.std.proofs.lemmas.Bool.Decides.{nat_tests}
-use Rattle.rtui_grid.proofs.PlaceLemmas.{rows_join, place_before, place_from, by_rows}
+use Rattle.rtui_grid.proofs.PlaceLemmas.{by_rows}
 use Rattle.ansi_model.specs.Columns.{Columns, is_continuation, blank_column}
 use Rattle.ansi_model.specs.Emulator.{columns_moved}
-use Rattle.ratatui_core.specs.Backend.{Motion, moved_by, is_in_region, scrolling_up, scrolling_down, is_cleared, AfterCursor, BeforeCursor, UntilNewLine}
+use Rattle.ratatui_core.specs.Backend.{Motion, moved_by, is_cleared, AfterCursor, BeforeCursor, UntilNewLine}
 use Rattle.ansi_model.specs.Flags.{flag, AreContinuations}
-use Rattle.ansi_model.proofs.MotionLemmas.{moved-through}
-
--- flags that move by their places move by rows
-module _ (w x : ℕ) (x_in : x < w) (old new : List Bool) (a e n : ℕ) where
-  by_rows_of : (y : ℕ) (m : Motion) (inside has : Bool) (from : ℕ) → inside ≡ m.part x y → has ≡ m.has_source y → (m.has_source y ≡ true → from ≡ m.source y * w + x)
-      → flag new (y * w + x) ≡ (if inside then (if has then flag old from else false) else flag old (y * w + x)) → flag new (y * w + x) ≡ moved_by m false (λ i j. flag old (j * w + i)) x y
-  by_rows_of y m inside has from part source place moved = rw (part, source) at moved ∙ either (m.part x y) (m.has_source y) place
-    where
-      either : (p q : Bool) → (q ≡ true → from ≡ m.source y * w + x)
-          → (if p then (if q then flag old from else false) else flag old (y * w + x)) ≡ (if p then (if q then flag old (m.source y * w + x) else false) else flag old (y * w + x))
-      either true true is = ap (flag old) (is refl)
-      either true false is = refl
-      either false q is = refl
-
-  region : (y : ℕ) → (nat_le (a * w) (y * w + x) && nat_lt (y * w + x) (e * w)) ≡ is_in_region a e y
-  region y = rw (place_before w x x_in y e, place_from w x x_in y a) refl
-
-  pub flag_moved_up : ((k : ℕ) → flag new k ≡ if nat_le (a * w) k && nat_lt k (e * w) then (if nat_lt (k + n * w) (e * w) then flag old (k + n * w) else false) else flag old k)
-      → (y : ℕ) → flag new (y * w + x) ≡ moved_by (scrolling_up a e n) false (λ i j. flag old (j * w + i)) x y
-  flag_moved_up moved y =
-      let next : y * w + x + n * w ≡ (y + n) * w + x = grind arith in
-      by_rows_of y (scrolling_up a e n) _ _ _ (region y) (ap (λ k. nat_lt k (e * w)) next ∙ place_before w x x_in (y + n) e) (λ _. next) (moved (y * w + x))
-
-  pub flag_moved_down : ((k : ℕ) → flag new k ≡ if nat_le (a * w) k && nat_lt k (e * w) then (if nat_le (a * w + n * w) k then flag old (k - n * w) else false) else flag old k)
-      → (y : ℕ) → flag new (y * w + x) ≡ moved_by (scrolling_down a e n) false (λ i j. flag old (j * w + i)) x y
-  flag_moved_down moved y =
-      by_rows_of y (scrolling_down a e n) _ _ _ (region y) (ap (λ k. nat_le k (y * w + x)) (rows_join w a n) ∙ place_from w x x_in y (a + n))
-      (λ kept.
-      let above : a + n ≤ y = grind (arith, nat_tests) in
-      let whole : y - n + n ≡ y = omega arith in
-      let q : (y - n) * w + n * w ≡ y * w = rows_join w (y - n) n ∙ ap (λ m. m * w) whole in omega (arith, q)) (moved (y * w + x))
+use Rattle.ratatui_core.proofs.BackendLemmas.{moved-through}
 
 -- flags that move as the columns do
 module _ (w h : ℕ) (old new : List Bool) (c : Columns) (m : Motion) (inside : (y : ℕ) → y < h → m.has_source y ≡ true → m.source y < h) (continuations : AreContinuations w h old c) where

@@ -8,7 +8,7 @@ use Rattle.unicode_width.specs.Width.{char_width, str_width}
 use Rattle.unicode_width.proofs.Computing.{unicode_width}
 use Rattle.unicode_width.proofs.Rules.{width_or_zero-le}
 use Rattle.ratatui_core.specs.Buffer.{text_width}
-use Rattle.ratatui_core.proofs.BufferLemmas.{one_character}
+use Rattle.ratatui_core.proofs.BufferLemmas.{one_byte, one_character}
 use Rattle.ansi_model.specs.declared.glyph.Glyph.TheVariants.{Plain, Whole}
 use Rattle.ansi_model.specs.Symbols.{is_plain_char, is_shown, columns_of_char, is_one_plain, is_printed, printed_columns, IsGlyphOf}
 use Rattle.ansi_model.proofs.TextLemmas.{one-single}
@@ -67,16 +67,12 @@ other-columns text c shown other utf8 only = elim (cases_lt 0xA0 c) [
       ap text_width (sym (one-encoded text c utf8 only)) ∙ rw e space
 ]
 
-pub one-byte : (b : ℕ) → text_width (b ∷ []) ≡ 1
-unfolding text_width
-one-byte b = refl
-
 plain-width : (text : List ℕ) (c : ℕ) → is_plain_char c ≡ true → IsUtf8 text → chars text ≡ c ∷ [] → text_width text ≡ 1
 plain-width text c plain utf8 only = elim (cases_lt 0xA0 c) [
   | inl above ↦ text-columns text c above utf8 only ∙ plain-columns c above plain
   | inr low ↦
       let small : c < 128 = grind (arith, nat_tests) in
-      ap text_width (sym (one-encoded text c utf8 only) ∙ encode_ascii c small) ∙ one-byte c
+      ap text_width (sym (one-encoded text c utf8 only) ∙ encode_ascii c small) ∙ one_byte c
 ]
 
 -- each symbol is printed in the columns of its text

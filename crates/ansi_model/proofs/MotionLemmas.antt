@@ -1,5 +1,5 @@
 -- Columns that move, whatever the motion.
-use Rattle.std.proofs.Common.{◌≡◌, ℕ, zero, suc, ◌+◌, ◌-◌, ◌<◌, nat_eq, if◌then◌else◌, Bool, true, false, refl, sym, ap, ap₂, ◌∙◌, arith, subst}
+use Rattle.std.proofs.Common.{◌≡◌, ℕ, zero, suc, ◌+◌, ◌-◌, ◌<◌, nat_eq, if◌then◌else◌, Bool, true, false, refl, sym, ap, ◌∙◌, arith, subst}
 use Rattle.std.proofs.lemmas.Bool.Decides.{nat_tests}
 use Rattle.ratatui_core.specs.Buffer.{empty_look}
 use Rattle.ratatui_core.specs.Backend.{Motion, moved_by, is_in_region, scrolling_up, scrolling_down}
@@ -11,15 +11,6 @@ use Rattle.ansi_model.proofs.TextLemmas.{blank-sized}
 use Rattle.ansi_model.proofs.PutLemmas.{none_between}
 
 module _ {A : Type 0} (m : Motion) (nothing : A) (was : ℕ → ℕ → A) (x y : ℕ) where
-  -- what is made of a place is made of what comes to it
-  pub moved-through : {B : Type 0} (f : A → B) → f (moved_by m nothing was x y) ≡ moved_by m (f nothing) (λ a b. f (was a b)) x y
-  moved-through f = either (m.part x y) (m.has_source y)
-    where
-      either : (p q : Bool) → f (if p then (if q then was x (m.source y) else nothing) else was x y) ≡ (if p then (if q then f (was x (m.source y)) else f nothing) else f (was x y))
-      either true true = refl
-      either true false = refl
-      either false q = refl
-
   -- what holds of all that may come to a place holds of what does
   pub moved-holds : (Holds : A → Type 0) → Holds nothing → ((b : ℕ) → Holds (was x b)) → Holds (moved_by m nothing was x y)
   moved-holds Holds none all = either (m.part x y) (m.has_source y)
@@ -33,9 +24,6 @@ module _ {A : Type 0} (m : Motion) (nothing : A) (was : ℕ → ℕ → A) (x y 
   pub moved-still : (m.part x y ≡ true → (m.has_source y ≡ true) × (m.source y ≡ y)) → was x y ≡ moved_by m nothing was x y
   moved-still own = elim (m.part x y) as (λ p. m.part x y ≡ p → was x y ≡ (if p then (if m.has_source y then was x (m.source y) else nothing) else was x y))
       [ true ↦ λ e. rw ((own e).0, (own e).1) refl | false ↦ λ e. refl ] refl
-
-  pub moved-along : (is : ℕ → ℕ → A) → ((a b : ℕ) → was a b ≡ is a b) → moved_by m nothing was x y ≡ moved_by m nothing is x y
-  moved-along is same = ap₂ (λ i j. if m.part x y then (if m.has_source y then i else nothing) else j) (same x (m.source y)) (same x y)
 
 -- ---- tidy columns stay tidy
 

@@ -1,5 +1,6 @@
 -- A printed symbol is a put, where it cuts no other.
 use Rattle.std.proofs.Common.{◌≡◌, ℕ, ◌+◌, ◌-◌, ◌<◌, ◌≤◌, ◌==◌, ◌&&◌, ◌||◌, nat_lt, nat_le, nat_eq, if◌then◌else◌, zero, suc, Bool, true, false, refl, sym, ap, ap₂, ◌∙◌, arith, subst}
+use Rattle.std.proofs.lemmas.Bool.{false_from_ne_true}
 use Rattle.std.proofs.lemmas.Bool.Decides.{nat_tests}
 use Rattle.std.specs.List.{list_any, range_with_len}
 use Rattle.ratatui_core.specs.Buffer.{Look, look_of, empty_look, width_of, Update, put}
@@ -20,10 +21,6 @@ later-continues look j count c e some not =
     let shown : is_continuation c ≡ true = ap is_continuation e ∙ rw zero refl in
     cc
 
-not_in : (p : Bool) → (p ≡ true → ⊥) → p ≡ false
-not_in true none = absurd (none refl)
-not_in false none = refl
-
 sides : (p q : Bool) → (p || q) ≡ true → (p ≡ true → ⊥) → (q ≡ true → ⊥) → ⊥
 sides true q e f g = f refl
 sides false q e f g = g e
@@ -31,7 +28,7 @@ sides false q e f g = g e
 -- a run that no symbol crosses at its ends has no column of a symbol outside it
 pub apart-at : (x y n a b i m : ℕ) (look : Look) (c : Columns) → IsWholeAt (λ k. c k b) a (Shows look i m) → is_continuation (c x y) ≡ false → is_continuation (c (x + n) y) ≡ false → run x y n a b ≡ false
     → (k : ℕ) → a - i ≤ k → k < (a - i) + m → run x y n k b ≡ false
-apart-at x y n a b i m look c whole left right out k low high = not_in (run x y n k b) (λ inside.
+apart-at x y n a b i m look c whole left right out k low high = false_from_ne_true (run x y n k b) (λ inside.
     let index : i < m = whole.0 in
     let first : i ≤ a = whole.1 in
     let row : b ≡ y = grind (arith, nat_tests) in

@@ -11,7 +11,8 @@ use Rattle.ansi_model.specs.Screens.{screen_shown, IsIdle, Turns, Becomes}
 use Rattle.ansi_model.specs.Sequences.{feed}
 use Rattle.ansi_model.specs.Sends.{Performs}
 use Rattle.ansi_model.proofs.ReadLemmas.{Sends-then, line_fed-rested}
-use Rattle.ansi_model.proofs.MotionLemmas.{IsOfRows, moved-through, moved-tidy, row-emptied, up-still, down-still, up-and-down}
+use Rattle.ratatui_core.proofs.BackendLemmas.{moved-through}
+use Rattle.ansi_model.proofs.MotionLemmas.{IsOfRows, moved-tidy, row-emptied, up-still, down-still, up-and-down}
 use Rattle.ansi_model.proofs.ScrollLemmas.{KeepsReady, stays-idle, moved-placed, Feeds, feeds-none, feeds-next, fed-feeds, region_row}
 
 -- one action after another

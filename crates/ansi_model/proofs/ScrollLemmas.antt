@@ -12,7 +12,8 @@ use Rattle.ansi_model.specs.Sequences.{feed}
 use Rattle.ansi_model.specs.Sends.{Performs}
 use Rattle.ansi_model.specs.Screens.{screen_shown, HasOwnWidth, HaveOwnWidths, IsTidy, IsIdle, Turns, Becomes}
 use Rattle.ansi_model.proofs.TextLemmas.{blank-sized, sized-known}
-use Rattle.ansi_model.proofs.MotionLemmas.{moved-through, moved-along, moved-sized, moved-tidy, tidy-along, blank-whole, up-still, up-again}
+use Rattle.ratatui_core.proofs.BackendLemmas.{moved-through, moved-along}
+use Rattle.ansi_model.proofs.MotionLemmas.{moved-sized, moved-tidy, tidy-along, blank-whole, up-still, up-again}
 
 -- ---- from what bytes do to what a screen shows
 
@@ -135,7 +136,7 @@ feeds-next end n t u c now some once agreed more =
     (λ a. ap (λ d. if nat_lt k end then look_in d else empty_look) (once a k) ∙ seen-up end t.columns a k) (range_with_len 0 t.width) in
     record {
       rest = more.rest;
-      columns = λ a b. more.columns a b ∙ moved-along (scrolling_up 0 end n) blank_column c a b (columns_moved (scrolling_up 0 end 1) t.columns) once ∙ up-again end n t.columns a b;
+      columns = λ a b. more.columns a b ∙ moved-along (scrolling_up 0 end n) blank_column c a b (columns_moved (scrolling_up 0 end 1) t.columns) (once a) ∙ up-again end n t.columns a b;
       history = more.history ∙ append_assoc t.history (row_shown t 0 ∷ []) (map (region_row end s) (range_with_len 0 n))
           ∙ ap₂ (λ x xs. t.history ++ (x ∷ xs)) (first_row end t some) (shift (region_row end t) (region_row end s) next 0 n);
       sure = λ sure sgr x sized.

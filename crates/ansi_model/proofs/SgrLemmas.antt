@@ -3,7 +3,7 @@ use Rattle.std.proofs.Common.{◌≡◌, ℕ, ◌+◌, ◌<◌, ◌^◌, ◌==�
 use Rattle.std.specs.Fmt.{decimal}
 use Rattle.std.specs.List.{list_all}
 use Rattle.std.specs.Int.RustNames.{bit_and, bit_or}
-use Rattle.std.proofs.lemmas.Bool.{false≢true}
+use Rattle.std.proofs.lemmas.Bool.{false≢true, and_parts}
 use Rattle.std.proofs.lemmas.Bool.Decides.{nat_tests}
 use Rattle.std.proofs.lemmas.List.Folds.{list_all-append}
 use Rattle.ratatui_core.specs.Style.{Color, Reset, Rgb, Indexed, Modifier, no_modifier, bits_of, modifier_of}
@@ -19,7 +19,7 @@ use Rattle.ansi_model.specs.Sequences.{feed, performs}
 use Rattle.ansi_model.specs.Parameters.{color_parameters, underline_parameters, modifier_parameters, modifier_parameter, semicolons, is_underline, is_sendable, AddsParameters}
 use Rattle.ansi_model.specs.Sends.{Performs}
 use Rattle.ansi_model.proofs.ReadLemmas.{feed-append, number-read, begun}
-use Rattle.ansi_model.proofs.TextLemmas.{and-both, and-true}
+use Rattle.ansi_model.proofs.TextLemmas.{and-true}
 
 -- all parameters after the one that resets the rendition
 abbrev pub sgr_parameters : Sgr → List ℕ
@@ -53,7 +53,7 @@ unfolding feed
 parameters-read [] small done n t = refl
 parameters-read (p ∷ ps) small done n t =
     let rest = semicolons ps ++ 109 ∷ [] in
-    let both = and-both (nat_lt p 256) (list_all (λ q. nat_lt q 256) ps) small in
+    let both = and_parts (nat_lt p 256) (list_all (λ q. nat_lt q 256) ps) small in
     let opened : Emulator = record t { phase = Sequence false (done ++ n ∷ []) 0 } in
     ap (λ bs. feed bs opened) (append_assoc (decimal p) (semicolons ps) (109 ∷ []))
     ∙ feed-append (decimal p) rest opened
@@ -130,7 +130,7 @@ less_or_same k n below = grind (arith, nat_tests)
 pub up_to-at : (f : ℕ → Bool) (n k : ℕ) → up_to f n ≡ true → k < n → f k ≡ true
 up_to-at f zero k all below = absurd (omega arith)
 up_to-at f (suc n) k all below =
-    let both = and-both (f n) (up_to f n) all in
+    let both = and_parts (f n) (up_to f n) all in
     elim (less_or_same k n (omega arith)) [ inl less ↦ up_to-at f n k both.1 less | inr same ↦ rw same both.0 ]
 
 all-back : up_to (λ k. read_back k == k) 512 ≡ true
@@ -171,7 +171,7 @@ known-append [] ys (Kind target) first second = absurd (false≢true first)
 known-append [] ys (Number target) first second = absurd (false≢true first)
 known-append [] ys (Parts target parts) first second = absurd (false≢true first)
 known-append (x ∷ xs) ys a first second =
-    let both = and-both (is_known_parameter a x) (are_known xs (inks_in a x default_sgr).awaits) first in
+    let both = and_parts (is_known_parameter a x) (are_known xs (inks_in a x default_sgr).awaits) first in
     ap₂ (λ p q. p && q) both.0 (known-append xs ys (inks_in a x default_sgr).awaits both.1 second)
 
 mark-known : (b : Bool) (k : ℕ) → are_known (k ∷ []) Nothing ≡ true → are_known (if b then [] else k ∷ []) Nothing ≡ true
@@ -222,9 +222,9 @@ sgr-known p sent small =
     let f = color_parameters 30 p.fg in
     let b = color_parameters 40 p.bg in
     let u = underline_parameters p.underline_color in
-    let one = and-both (are_bytes m) (are_bytes (f ++ (b ++ u))) (sym (list_all-append (λ q. nat_lt q 256) m (f ++ (b ++ u))) ∙ small) in
-    let two = and-both (are_bytes f) (are_bytes (b ++ u)) (sym (list_all-append (λ q. nat_lt q 256) f (b ++ u)) ∙ one.1) in
-    let three = and-both (are_bytes b) (are_bytes u) (sym (list_all-append (λ q. nat_lt q 256) b u) ∙ two.1) in
+    let one = and_parts (are_bytes m) (are_bytes (f ++ (b ++ u))) (sym (list_all-append (λ q. nat_lt q 256) m (f ++ (b ++ u))) ∙ small) in
+    let two = and_parts (are_bytes f) (are_bytes (b ++ u)) (sym (list_all-append (λ q. nat_lt q 256) f (b ++ u)) ∙ one.1) in
+    let three = and_parts (are_bytes b) (are_bytes u) (sym (list_all-append (λ q. nat_lt q 256) b u) ∙ two.1) in
     known-append m (f ++ (b ++ u)) Nothing (modifiers-known (bits_of p.modifier))
     (known-append f (b ++ u) Nothing (fg-known p.fg two.0) (known-append b u Nothing (bg-known p.bg three.0) (underline-known p.underline_color sent three.1)))
 
@@ -244,7 +244,7 @@ sgr-read p t bits sent small ground =
 pub sgr-sent : (p : Sgr) (old mid new : List ℕ) → IsTrue (is_sendable p) → AddsParameters (old ++ (27 ∷ 91 ∷ 48 ∷ [])) mid (sgr_parameters p) → new ≡ mid ++ 109 ∷ [] → Performs old new (with_sgr p)
 sgr-sent p old mid new is tells e =
     let sent : is_sendable p ≡ true = grind (arith, nat_tests) in
-    let both = and-both (is_underline p.underline_color) (nat_lt (bits_of p.modifier) 512) sent in
+    let both = and_parts (is_underline p.underline_color) (nat_lt (bits_of p.modifier) 512) sent in
     let bits : bits_of p.modifier < 512 = let test = both.1 in grind (arith, nat_tests) in
     let underline : IsTrue (is_underline p.underline_color) = let test = both.0 in grind (arith, nat_tests) in
     let ps = sgr_parameters p in
@@ -259,9 +259,9 @@ sgr-sent p old mid new is tells e =
 
 pub same_sgr : (a b : Sgr) → sgr_equality.eq-value.it a b ≡ true → a ≡ b
 same_sgr a b e =
-    let one = and-both _ _ e in
-    let two = and-both _ _ one.1 in
-    let three = and-both _ _ two.1 in
+    let one = and_parts _ _ e in
+    let two = and_parts _ _ one.1 in
+    let three = and_parts _ _ two.1 in
     let fg = same_color a.fg b.fg one.0 in
     let bg = same_color a.bg b.bg two.0 in
     let underline = same_color a.underline_color b.underline_color three.0 in

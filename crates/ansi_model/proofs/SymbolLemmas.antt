@@ -1,5 +1,6 @@
 -- How terminals print symbols.
-use Rattle.std.proofs.Common.{◌≡◌, ℕ, ◌&&◌, ◌||◌, not, Bool, List, [], ◌∷◌, ◌++◌, ◌==◌, length, IsUtf8, chars, true, false, refl, sym, ap, ◌∙◌, arith, append-nil, if◌then◌else◌}
+use Rattle.std.proofs.Common.{◌≡◌, ℕ, ◌&&◌, ◌||◌, not, List, [], ◌∷◌, ◌++◌, ◌==◌, length, IsUtf8, chars, true, false, refl, sym, ap, ◌∙◌, arith, append-nil, if◌then◌else◌}
+use Rattle.std.proofs.lemmas.Bool.{and_parts, not-true}
 use lib.Utf8.{scalar, encode, encodes, low_scalar}
 use Rattle.std.specs.List.{list_all}
 use Rattle.std.specs.Str.{is_utf8}
@@ -11,7 +12,7 @@ use Rattle.ratatui_core.specs.Buffer.{text_width}
 use Rattle.ansi_model.specs.Emulator.{Emulator, standing, printed, prints, types}
 use Rattle.ansi_model.specs.Symbols.{is_plain_char, is_shown, is_symbol, is_single, begins_anew, is_one_plain, is_printed, printed_columns}
 use Rattle.ansi_model.specs.Sends.{typed}
-use Rattle.ansi_model.proofs.TextLemmas.{and-both, and-true, one-single}
+use Rattle.ansi_model.proofs.TextLemmas.{and-true, one-single}
 
 -- how plain characters are printed one after the other
 types-append : (xs ys : List ℕ) (t : Emulator) → types (xs ++ ys) t ≡ types ys (types xs t)
@@ -40,7 +41,7 @@ plain-shown c plain = grind (arith, nat_tests)
 
 -- a symbol is text in UTF-8
 pub symbol-utf8 : (symbol : List ℕ) → is_symbol symbol ≡ true → IsUtf8 symbol
-symbol-utf8 symbol is = IsUtf8-from_is_utf8 symbol (and-both (is_utf8 symbol) _ (and-both _ (begins_anew (chars symbol)) (and-both _ (is_single (graphemes true symbol)) is).0).0).0
+symbol-utf8 symbol is = IsUtf8-from_is_utf8 symbol (and_parts (is_utf8 symbol) _ (and_parts _ (begins_anew (chars symbol)) (and_parts _ (is_single (graphemes true symbol)) is).0).0).0
 
 pub one-encoded : (symbol : List ℕ) (c : ℕ) → IsUtf8 symbol → chars symbol ≡ c ∷ [] → encode c ≡ symbol
 one-encoded symbol c utf8 e = sym (append-nil (encode c)) ∙ ap encodes (sym e) ∙ encodes-chars symbol utf8
@@ -60,10 +61,6 @@ after-standing symbol t is one utf8 plain =
     ∙ ap (λ (v : Emulator). prints (encode c) 1 (record v { text = [] })) (sym (printed-plain t.text t plain))
     ∙ ap (λ bs. prints bs 1 (standing t)) (one-encoded symbol c (symbol-utf8 symbol is) e)
 
-flip : (b : Bool) → not b ≡ true → b ≡ false
-flip true e = let h : ⊥ = cc in absurd h
-flip false e = refl
-
 printed-other : (symbol : List ℕ) (t : Emulator) → is_symbol symbol ≡ true → list_all is_plain_char (chars symbol) ≡ false → printed symbol t ≡ prints symbol (text_width symbol) t
 printed-other [] t is other =
     let e : list_all is_plain_char (chars []) ≡ true = ap (list_all is_plain_char) chars-nil in
@@ -76,12 +73,12 @@ printed-other (b ∷ bs) t is other =
 -- a symbol that stands alone between two sequences
 pub alone-standing : (symbol : List ℕ) (t : Emulator) → is_printed symbol ≡ true → t.text ≡ [] → standing (typed symbol t) ≡ prints symbol (printed_columns symbol) (standing t)
 alone-standing symbol t is none =
-    let both = and-both (is_symbol symbol) (is_one_plain (chars symbol) || not (list_all is_plain_char (chars symbol))) is in
+    let both = and_parts (is_symbol symbol) (is_one_plain (chars symbol) || not (list_all is_plain_char (chars symbol))) is in
     elim (is_one_plain (chars symbol)) as (λ v. is_one_plain (chars symbol) ≡ v → standing (typed symbol t) ≡ prints symbol (if v then 1 else text_width symbol) (standing t)) [
       | true ↦ λ one. after-standing symbol t both.0 one (rw none IsUtf8-nil) (rw none (ap (list_all is_plain_char) chars-nil))
       | false ↦ λ many.
           let not_plain : not (list_all is_plain_char (chars symbol)) ≡ true = rw many at both.1 in
-          let other : list_all is_plain_char (chars symbol) ≡ false = flip (list_all is_plain_char (chars symbol)) not_plain in
+          let other : list_all is_plain_char (chars symbol) ≡ false = not-true (list_all is_plain_char (chars symbol)) not_plain in
           let text : t.text ++ symbol ≡ symbol = ap (λ xs. xs ++ symbol) none in
           ap (λ xs. record (printed xs (record t { text = xs })) { text = [] }) text
           ∙ ap (λ (v : Emulator). record v { text = [] }) (printed-other symbol (record t { text = symbol }) both.0 other)

@@ -1,5 +1,6 @@
 -- Text, read as it is sent.
 use Rattle.std.proofs.Common.{◌≡◌, ℕ, ◌+◌, ◌/◌, ◌%◌, ◌≤◌, ◌&&◌, not, cond, ltb, List, [], ◌∷◌, Bool, true, false, IsTrue, IsUtf8, chars, refl, sym, ap, ◌∙◌, arith, ◌==◌, append_assoc, append-nil, ◌<◌, ◌++◌, length, suc, Some, None}
+use Rattle.std.proofs.lemmas.Bool.{and_parts, and_right}
 use lib.Utf8.{encode, encodes}
 use Rattle.std.specs.List.{list_all}
 use Rattle.std.specs.Str.{is_utf8}
@@ -18,10 +19,6 @@ use Rattle.ansi_model.specs.Emulator.Phase.{Ground}
 use Rattle.ansi_model.specs.Sequences.{feed, reads_in, is_text}
 use Rattle.ansi_model.specs.Sends.{typed}
 
-pub and-both : (a b : Bool) → (a && b) ≡ true → (a ≡ true) × (b ≡ true)
-and-both true b e = (refl, e)
-and-both false b e = let h : ⊥ = cc in absurd h
-
 one-text : (b : ℕ) → is_text b ≡ true → (t : Emulator) → reads_in Ground b t ≡ typed (b ∷ []) t
 one-text b is t =
     let e : (b == 27) ≡ false = grind (arith, nat_tests) in
@@ -32,7 +29,7 @@ pub text-read : (bs : List ℕ) → list_all is_text bs ≡ true → (t : Emulat
 unfolding feed
 text-read [] all t ground = ap (λ xs. record t { text = xs }) (sym (append-nil t.text))
 text-read (b ∷ bs) all t ground =
-    let both = and-both (is_text b) (list_all is_text bs) all in
+    let both = and_parts (is_text b) (list_all is_text bs) all in
     ap (λ p. feed bs (reads_in p b t)) ground
     ∙ ap (feed bs) (one-text b both.0 t)
     ∙ text-read bs both.1 (typed (b ∷ []) t) ground
@@ -65,8 +62,8 @@ encode-text c is =
 encodes-text : (cs : List ℕ) → list_all is_shown cs ≡ true → list_all is_text (encodes cs) ≡ true
 encodes-text [] all = refl
 encodes-text (c ∷ cs) all =
-    let both = and-both (is_shown c) (list_all is_shown cs) all in
-    let shown = and-both (not (is_control c)) (not (is_directional c)) both.0 in
+    let both = and_parts (is_shown c) (list_all is_shown cs) all in
+    let shown = and_parts (not (is_control c)) (not (is_directional c)) both.0 in
     let control : not (is_control c) ≡ true = shown.0 in
     let text : is_text c ≡ true = grind (arith, nat_tests) in
     list_all-append is_text (encode c) (encodes cs) ∙ rw (encode-text c text, encodes-text cs both.1) refl
@@ -75,15 +72,11 @@ pub and-true : (b : Bool) → (b && true) ≡ b
 and-true true = refl
 and-true false = refl
 
-pub none : (b : Bool) → (b && false) ≡ false
-none true = refl
-none false = refl
-
 -- a symbol's bytes are bytes of text
 pub symbol-text : (text : List ℕ) → IsTrue (is_symbol text) → list_all is_text text ≡ true
 symbol-text text is =
     let e : is_symbol text ≡ true = grind (arith, nat_tests) in
-    let utf8 = and-both (is_utf8 text) _ (and-both _ (begins_anew (chars text)) (and-both _ (is_single (graphemes true text)) e).0).0 in
+    let utf8 = and_parts (is_utf8 text) _ (and_parts _ (begins_anew (chars text)) (and_parts _ (is_single (graphemes true text)) e).0).0 in
     ap (list_all is_text) (sym (encodes-chars text (IsUtf8-from_is_utf8 text utf8.0))) ∙ encodes-text (chars text) utf8.1
 
 -- and so are those of a plain character
@@ -102,7 +95,7 @@ pub symbol-then : (text : List ℕ) → IsUtf8 text → begins_anew (chars text)
 symbol-then text utf8 begins = rw (is_utf8-from_IsUtf8 text utf8, begins) (ap (λ b. b && is_single (graphemes true text)) (and-true (list_all is_shown (chars text))))
 
 pub symbol-else : (text : List ℕ) → begins_anew (chars text) ≡ false → is_symbol text ≡ false
-symbol-else text begins = rw begins (ap (λ b. b && is_single (graphemes true text)) (none (is_utf8 text && list_all is_shown (chars text))))
+symbol-else text begins = rw begins (ap (λ b. b && is_single (graphemes true text)) (and_right (is_utf8 text && list_all is_shown (chars text)) false refl))
 
 -- ---- the character of a text that has only one
 

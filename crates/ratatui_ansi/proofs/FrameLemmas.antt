@@ -1,5 +1,6 @@
 -- What the bytes of a cell do to a terminal within a draw.
 use Rattle.std.proofs.Common.{◌≡◌, ℕ, ◌+◌, ◌-◌, ◌*◌, ◌^◌, ◌<◌, ◌≤◌, ◌==◌, ◌&&◌, not, min, nat_lt, nat_le, nat_eq, if◌then◌else◌, Bool, List, [], ◌∷◌, ◌++◌, IsTrue, chars, true, false, slice_index_or, IsUtf8, Option, Some, None, IfSome, refl, sym, ap, ap₂, ◌∙◌, arith, subst, inl, inr, append_assoc, append-nil, ◌⊎◌}
+use Rattle.std.proofs.lemmas.Bool.{and_parts, or_right}
 use lib.Utf8.{encode}
 use Rattle.std.proofs.lemmas.Bool.Decides.{nat_tests}
 use Rattle.std.specs.List.{list_all}
@@ -9,6 +10,7 @@ use Rattle.ratatui_core.specs.Layout.{Position}
 use Rattle.ratatui_core.specs.Buffer.{blank, symbol_text, Look, look_of, empty_look, width_of, text_width, Update, put, Cell}
 use Rattle.ratatui_core.specs.Backend.{Draws}
 use Rattle.ratatui_core.proofs.BackendLemmas.{Draws-none, Draws-push}
+use Rattle.ratatui_core.proofs.BufferLemmas.{one_byte}
 use Rattle.ratatui_core.specs.DiffOption as DiffOption
 use Rattle.ansi_model.specs.declared.sgr.Sgr.{Sgr}
 use Rattle.ansi_model.specs.declared.pen.Pen.{Pen}
@@ -29,10 +31,9 @@ use Rattle.ratatui_ansi.specs.Tracker.{IsAwaiting}
 use Rattle.ratatui_ansi.specs.Frame.{is_fit, is_sendable_on, IsGlyph, IsVacant, IsDrawing, AreMarked, Covers, SendsUpdates, SendsDraw}
 use Rattle.ansi_model.proofs.ReadLemmas.{feed-append}
 use Rattle.ansi_model.proofs.SymbolLemmas.{plain-printed, plain-single}
-use Rattle.ansi_model.proofs.GlyphLemmas.{printed-width, one-byte}
+use Rattle.ansi_model.proofs.GlyphLemmas.{printed-width}
 use Rattle.ansi_model.proofs.SgrLemmas.{equal-number}
-use Rattle.ansi_model.proofs.TextLemmas.{and-both}
-use Rattle.ratatui_ansi.proofs.TailLemmas.{or_true, continuation-empty, laid-shown, IsTail}
+use Rattle.ratatui_ansi.proofs.TailLemmas.{continuation-empty, laid-shown, IsTail}
 use Rattle.ratatui_ansi.proofs.LayLemmas.{Paints-then, sgr-paints, IsLaid, laid-by, laid-ready, tail-of, laid-flags}
 
 -- ---- what the screen shows
@@ -74,9 +75,9 @@ true-of b is = grind (arith, nat_tests)
 
 pub fit-parts : (room : ℕ) (cell : Cell) → IsTrue (is_fit room cell) → Fits room cell
 fit-parts room cell fit =
-    let one = and-both _ (nat_le (width_of cell) room) (true-of _ fit) in
-    let two = and-both _ (nat_lt 0 (width_of cell)) one.0 in
-    let three = and-both (is_printed (symbol_text cell.symbol)) (printed_columns (symbol_text cell.symbol) == width_of cell) two.0 in
+    let one = and_parts _ (nat_le (width_of cell) room) (true-of _ fit) in
+    let two = and_parts _ (nat_lt 0 (width_of cell)) one.0 in
+    let three = and_parts (is_printed (symbol_text cell.symbol)) (printed_columns (symbol_text cell.symbol) == width_of cell) two.0 in
     let equal = three.1 in
     let some = two.1 in
     let inside = one.1 in
@@ -105,7 +106,7 @@ printable-fits room c b text low high own some =
     let same : encode b ≡ symbol_text c.symbol = encode_ascii b small ∙ sym text in
     let printed : is_printed (symbol_text c.symbol) ≡ true = subst (λ xs. is_printed xs ≡ true) same (plain-printed b plain) in
     let one : is_one_plain (chars (symbol_text c.symbol)) ≡ true = subst (λ xs. is_one_plain (chars xs) ≡ true) same (plain-single b plain) in
-    let wide : width_of c ≡ 1 = own ∙ ap text_width text ∙ one-byte b in
+    let wide : width_of c ≡ 1 = own ∙ ap text_width text ∙ one_byte b in
     let inside : nat_le 1 room ≡ true = grind (arith, nat_tests) in
     record { fits = rw (printed, one, wide, inside) refl; symbol = record { printed = printed; columns = rw one refl; plain = (plain, sym same) } }
 
@@ -241,7 +242,7 @@ pub sendable-off : (w h : ℕ) (colors : Bool) (u : Update) → (nat_lt u.x w &&
 sendable-off w h colors u off = rw off refl
 
 pub sendable-sgr : (w h : ℕ) (colors : Bool) (u : Update) → is_sendable_by colors (sgr_of u.cell) ≡ true → is_sendable_on w h colors u ≡ true
-sendable-sgr w h colors u sent = rw sent (or_true (not (nat_lt u.x w && nat_lt u.y h)))
+sendable-sgr w h colors u sent = rw sent (or_right (not (nat_lt u.x w && nat_lt u.y h)) true refl)
 
 pub sendable-vacant : (w h : ℕ) (colors : Bool) (u : Update) → IsVacant u.cell → is_sendable_on w h colors u ≡ true
 sendable-vacant w h colors u vacant = sendable-sgr w h colors u (ap (is_sendable_by colors) (vacant-sgr u.cell vacant) ∙ own-sendable colors)

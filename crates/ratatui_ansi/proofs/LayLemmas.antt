@@ -22,7 +22,7 @@ use Rattle.ratatui_ansi.specs.Frame.{AreMarked}
 use Rattle.ansi_model.proofs.ReadLemmas.{feed-append}
 use Rattle.ansi_model.proofs.MotionLemmas.{tidy-along}
 use Rattle.ansi_model.proofs.TextLemmas.{blank-one}
-use Rattle.rtui_grid.proofs.PlaceLemmas.{row_ends}
+use Rattle.rtui_grid.proofs.PlaceLemmas.{by_rows}
 use Rattle.ratatui_ansi.proofs.TailLemmas.{torn, put-torn, torn-more, torn-all, laid-sized, laid-whole, laid-beyond, laid-continuations, IsTail, laid}
 
 -- ---- blanks
@@ -236,25 +236,12 @@ marked-at : (w x y n end a b : ℕ) (old new is was : Bool) → x + n ≤ end �
     → new ≡ (if nat_le (y * w + x) (b * w + a) && nat_lt (b * w + a) (y * w + end) then nat_lt (y * w + x) (b * w + a) && nat_lt (b * w + a) (y * w + (x + n)) else old)
     → old ≡ was → is ≡ (if run x y n a b then nat_lt x a else (if run (x + n) y (end - (x + n)) a b then false else was)) → new ≡ is
 marked-at w x y n end a b old new is was ordered inside column some e f g =
-    elim (cases_lt b y) [
-      | inl above ↦
-          let apart = row_ends w b y above in
-          let no : (nat_le (y * w + x) (b * w + a) && nat_lt (b * w + a) (y * w + end)) ≡ false = grind (arith, nat_tests) in
-          let none : run x y n a b ≡ false = grind (arith, nat_tests) in
-          let blanks : run (x + n) y (end - (x + n)) a b ≡ false = grind (arith, nat_tests) in
-          aside _ _ _ _ _ old new is was no none blanks e f g
-      | inr below ↦ elim (cases_lt y b) [
-        | inl under ↦
-            let apart = row_ends w y b under in
-            let no : (nat_le (y * w + x) (b * w + a) && nat_lt (b * w + a) (y * w + end)) ≡ false = grind (arith, nat_tests) in
-            let none : run x y n a b ≡ false = grind (arith, nat_tests) in
-            let blanks : run (x + n) y (end - (x + n)) a b ≡ false = grind (arith, nat_tests) in
-            aside _ _ _ _ _ old new is was no none blanks e f g
-        | inr over ↦
-            let row : b ≡ y = omega arith in
-            marked-in w x y n end a old new is was ordered inside (rw row at e) f (rw row at g)
-      ]
-    ]
+    let apart : (nat_le (y * w + x) (b * w + a) && nat_lt (b * w + a) (y * w + end)) ≡ false → run x y n a b ≡ false → run (x + n) y (end - (x + n)) a b ≡ false → new ≡ is =
+    λ no none blanks. aside _ _ _ _ _ old new is was no none blanks e f g in
+    by_rows (new ≡ is) w b y
+    (λ lower ends. apart (grind (arith, nat_tests)) (grind (arith, nat_tests)) (grind (arith, nat_tests)))
+    (λ higher ends. apart (grind (arith, nat_tests)) (grind (arith, nat_tests)) (grind (arith, nat_tests)))
+    (λ row. marked-in w x y n end a old new is was ordered inside (rw row at e) f (rw row at g))
 
 -- a symbol of one column over no part of another one leaves the flags as they are
 pub one-marked : (first past_it end : ℕ) (flags : List Bool) → slice_index_or flags first false ≡ false → end ≤ first + 1

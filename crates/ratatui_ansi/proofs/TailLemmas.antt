@@ -1,5 +1,6 @@
 -- The columns under a symbol, and what is left of one of which it covers the first part.
 use Rattle.std.proofs.Common.{◌≡◌, ℕ, ◌+◌, ◌-◌, ◌<◌, ◌≤◌, ◌==◌, ◌&&◌, ◌||◌, nat_lt, nat_eq, if◌then◌else◌, zero, suc, Bool, true, false, refl, sym, ap, ap₂, ◌∙◌, arith}
+use Rattle.std.proofs.lemmas.Bool.{or_right}
 use Rattle.std.proofs.lemmas.Bool.Decides.{nat_tests}
 use Rattle.std.specs.List.{list_any, range_with_len}
 use Rattle.ratatui_core.specs.Buffer.{Look, look_of, empty_look, width_of, Update, put}
@@ -27,10 +28,6 @@ laid x y n end look c a b =
 abbrev pub torn : ℕ → ℕ → ℕ → ℕ → ℕ → Look → Columns → Columns
 torn x y n k end look c a b = if run k y (end - k) a b then Unknown else laid x y n k look c a b
 
-pub or_true : (p : Bool) → (p || true) ≡ true
-or_true true = refl
-or_true false = refl
-
 some_between : (f : ℕ → Bool) (k n j : ℕ) → k ≤ j → j < k + n → f j ≡ true → list_any f (range_with_len k n) ≡ true
 some_between f k zero j low high e = absurd (omega arith)
 some_between f k (suc n) j low high e =
@@ -38,7 +35,7 @@ some_between f k (suc n) j low high e =
       | true ↦ λ same. let here : k ≡ j = grind (arith, nat_tests) in let at : f k ≡ true = ap f here ∙ e in rw at refl
       | false ↦ λ other.
           let above : k < j = grind (arith, nat_tests) in
-          rw (some_between f (k + 1) n j (omega arith) (omega arith) e) (or_true (f k))
+          rw (some_between f (k + 1) n j (omega arith) (omega arith) e) (or_right (f k) true refl)
     ] refl
 
 -- ---- the three parts of the columns
@@ -99,11 +96,8 @@ part_behind x a low =
 pub laid-continuations : (x y n end : ℕ) (look : Look) (c : Columns) (a b : ℕ)
     → is_continuation (laid x y n end look c a b) ≡ (if run x y n a b then nat_lt x a else (if run (x + n) y (end - (x + n)) a b then false else is_continuation (c a b)))
 laid-continuations x y n end look c a b =
-    elim (run x y n a b) as (λ p. run x y n a b ≡ p → is_continuation (if p then Shows look (a - x) n else (if run (x + n) y (end - (x + n)) a b then blank_column else c a b))
-    ≡ (if p then nat_lt x a else (if run (x + n) y (end - (x + n)) a b then false else is_continuation (c a b)))) [
-      | true ↦ λ e. part_behind x a (grind (arith, nat_tests))
-      | false ↦ λ e. elim (run (x + n) y (end - (x + n)) a b) as (λ q. is_continuation (if q then blank_column else c a b) ≡ (if q then false else is_continuation (c a b))) [ true ↦ refl | false ↦ refl ]
-    ] refl
+    laid_cases x y n end look c a b (λ d. is_continuation d ≡ (if run x y n a b then nat_lt x a else (if run (x + n) y (end - (x + n)) a b then false else is_continuation (c a b))))
+    (λ e. rw e (part_behind x a (grind (arith, nat_tests)))) (λ e f. rw (e, f) refl) (λ e f. rw (e, f) refl)
 
 whole_outside : (x y n end a b : ℕ) (look : Look) (c : Columns) (d : Column) → is_continuation (c x y) ≡ false → IsTail (x + n) end y c → run x y (end - x) a b ≡ false
     → IsWholeAt (λ k. c k b) a d → IsWholeAt (λ k. laid x y n end look c k b) a d

@@ -3,7 +3,7 @@ use Rattle.std.proofs.Common.{◌≡◌, ℕ, ◌+◌, ◌-◌, ◌*◌, ◌<◌
 use Rattle.std.proofs.lemmas.Bool.Decides.{nat_tests}
 use Rattle.ratatui_core.specs.Layout.{Position, Size}
 use Rattle.ratatui_core.specs.Buffer.{Look, empty_look, Update}
-use Rattle.ratatui_core.specs.Backend.{Screen, Motion, scrolling_up, Draws, ScrollsRegion, Appends, Clears, with_cursor, with_visible, cursor_of, ClearType, All, AfterCursor, BeforeCursor, is_cleared}
+use Rattle.ratatui_core.specs.Backend.{Screen, Motion, scrolling_up, Draws, ScrollsRegion, Appends, Erases, Clears, with_cursor, with_visible, cursor_of, ClearType, All, AfterCursor, BeforeCursor, is_cleared}
 use Rattle.ansi_model.specs.Columns.{Columns, look_in, blank_column, overwritten}
 use Rattle.ansi_model.specs.Emulator.{Emulator, rested, columns_moved, cursor_moved, erased, keeps_history}
 use Rattle.ansi_model.specs.Sequences.{feed}
@@ -11,12 +11,12 @@ use Rattle.ansi_model.specs.Screens.{screen_shown, IsIdle, Turns, Becomes}
 use Rattle.ansi_model.specs.Flags.{flag, AreContinuations, is_cut}
 use Rattle.ratatui_ansi.specs.declared.tracker.Tracker.{Tracker}
 use Rattle.ratatui_ansi.specs.Frame.{SendsDraw}
-use Rattle.ratatui_ansi.specs.Tracker.{IsAwaiting, IsTracked, IsTracker, Collects, Erases}
+use Rattle.ratatui_ansi.specs.Tracker.{IsAwaiting, IsTracked, IsTracker, Collects}
 use Rattle.ansi_model.proofs.ReadLemmas.{feed-append}
 use Rattle.ratatui_ansi.proofs.TailLemmas.{continuation-empty}
 use Rattle.ansi_model.proofs.FlagLemmas.{AreContinuations-along}
 use Rattle.ansi_model.proofs.EraseLemmas.{erasing, part-erased, part-tidy}
-use Rattle.ansi_model.proofs.MotionLemmas.{moved-through}
+use Rattle.ratatui_core.proofs.BackendLemmas.{moved-through}
 use Rattle.ansi_model.proofs.ScrollLemmas.{rested-ready, stays-idle, moved-placed}
 use Rattle.ansi_model.specs.Sends.{Performs}
 

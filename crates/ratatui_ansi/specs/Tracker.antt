@@ -1,8 +1,7 @@
 -- What a tracker knows of its terminal between two calls, and of the bytes that it collected for a call.
 use Rattle.std.specs.Prelude.{◌≡◌, ℕ, ◌*◌, ◌<◌, Bool, true, List, length, [], ◌++◌, string_bytes}
 use Rattle.ratatui_core.specs.Layout.{Position, Size}
-use Rattle.ratatui_core.specs.Buffer.{empty_look}
-use Rattle.ratatui_core.specs.Backend.{Screen, cursor_of, ClearType, moved_by, clearing, is_cleared, Appends, Clears, ScrollsUp, ScrollsDown, with_cursor, with_visible}
+use Rattle.ratatui_core.specs.Backend.{Screen, cursor_of, Appends, Clears, ScrollsUp, ScrollsDown, with_cursor, with_visible}
 use Rattle.ansi_model.specs.Columns.{blank_column}
 use Rattle.ansi_model.specs.Beginnings.{MakesBlank}
 use Rattle.ansi_model.specs.Emulator.{Emulator, rested}
@@ -22,11 +21,6 @@ pub record IsAwaiting (w h : ℕ) (cursor : Position) (flags : List Bool) (t : E
   pub ready : IsIdle w h (rested t)
   pub continuations : AreContinuations w h flags (rested t).columns
   pub placed : cursor_of (screen_shown 0 (rested t)) ≡ cursor
-
--- what a clear of this kind empties, for a cursor in column x of row y, was emptied, and all else stays
-pub record Erases (kind : ClearType) (x y : ℕ) (old new : Screen) : Type 0 where
-  pub rest : new ≡ record old { grid = new.grid }
-  pub grid : (a b : ℕ) → a < old.width → b < old.height → new.grid a b ≡ moved_by (clearing (is_cleared kind x y)) empty_look old.grid a b
 
 -- a screen of this size has columns and rows, and a flag for each column, also for a draft
 pub record FitsScreen (size : Size) (flags draft : List Bool) : Type 0 where

@@ -4,13 +4,13 @@ ghost use Rattle.std.specs.Prelude.{◌≡◌, ◌<◌, ℕ, List, map, false, t
 ghost use Rattle.std.specs.List.{list_all};
 ghost use Rattle.std.specs.Iterator.{IsFinite, Drains};
 ghost use Rattle.ratatui_core.specs.Buffer.{update_by};
-ghost use Rattle.ratatui_core.specs.Backend.{Draws, Appends, Clears, ScrollsUp, ScrollsDown, with_cursor, with_visible, All};
+ghost use Rattle.ratatui_core.specs.Backend.{Draws, Appends, Erases, Clears, ScrollsUp, ScrollsDown, with_cursor, with_visible, All};
 ghost use Rattle.ansi_model.specs.Emulator.{keeps_history};
 ghost use Rattle.ratatui_ansi.specs.declared.tracker.Call.TheVariants as Called;
 ghost use Rattle.ansi_model.specs.Flags.{is_cut, is_clear_cut};
 ghost use Rattle.ratatui_ansi.specs.Frame.{is_sendable_on};
 ghost use Rattle.ratatui_ansi.specs.Refusals.{has_place, StopsDraw, RefusesTracker};
-ghost use Rattle.ratatui_ansi.specs.Tracker.{IsTracker, KeepsTracked, Collects, CallDoes, IsUncollected, Erases, BeginsBlank};
+ghost use Rattle.ratatui_ansi.specs.Tracker.{IsTracker, KeepsTracked, Collects, CallDoes, IsUncollected, BeginsBlank};
 
 use crate::draw::{Refusal, Target, draw_cells};
 use crate::error::AnsiError;

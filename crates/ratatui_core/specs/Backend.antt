@@ -4,9 +4,9 @@ pub use Rattle.rtui_backend.specs.declared.test.TestError.{TestError}
 pub use Rattle.rtui_backend.specs.declared.clear_type.ClearType.{ClearType}
 pub use Rattle.rtui_backend.specs.declared.clear_type.ClearType.TheVariants.{All, AfterCursor, BeforeCursor, CurrentLine, UntilNewLine}
 pub use Rattle.rtui_backend.specs.Clear.{is_cleared, clear_name}
-pub use Rattle.rtui_backend.specs.Screen.{Screen, IsOnGrid, cursor_of, size_of, seen, row_of, rows_above, Draws, Scrolls, lines_past, Appends, upper_part, Motion, moved_by, is_in_region, scrolling_up, scrolling_down, clearing, ScrollsRegion, ScrollsUp, ScrollsDown, Clears, TakesSize, KeepsSizeAndHistory, with_visible, with_cursor, screen_area, IsOnScreen, IsWithin, IsBlankScreen}
+pub use Rattle.rtui_backend.specs.Screen.{Screen, IsOnGrid, cursor_of, size_of, seen, row_of, rows_above, Draws, Scrolls, lines_past, Appends, upper_part, Motion, moved_by, is_in_region, scrolling_up, scrolling_down, clearing, ScrollsRegion, ScrollsUp, ScrollsDown, Erases, Clears, TakesSize, with_visible, with_cursor, screen_area, IsOnScreen, IsBlankScreen}
 pub use Rattle.rtui_backend.specs.Failures.{Counts}
-pub use Rattle.rtui_backend.specs.CellGrid.{look_at, grid_of, AreUnmarked, AreUnmarkedRows}
+pub use Rattle.rtui_backend.specs.CellGrid.{grid_of, AreUnmarked, AreUnmarkedRows}
 pub use Rattle.rtui_backend.specs.TestBackend.{screen_of, buffer_of, failures_of, told_after, one_call_less, TakesTurn, IsSameBackend, DrawsFront}
 pub use Rattle.rtui_backend.specs.Display.{test_error_text}
 pub use Rattle.rtui_backend.specs.ScreenLines.{ScreenHasLines, HistoryHasLines, IsScreenOf}

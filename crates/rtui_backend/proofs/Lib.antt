@@ -3,6 +3,7 @@ pub mod ScrollLemmas
 pub mod LookLemmas
 pub mod PutLemmas
 pub mod PlainLemmas
+pub mod MotionLemmas
 pub mod ShiftLemmas
 pub mod LineLemmas
 pub mod WalkLemmas

@@ -9,7 +9,8 @@ use Rattle.std.proofs.lemmas.List.{map-append, get_or-take, take_all}
 use Rattle.std.proofs.lemmas.Bool.{cases_lt}
 use Rattle.std.proofs.lemmas.Bool.Decides.{nat_tests}
 use Rattle.rtui_grid.proofs.ItemLemmas.{past_end}
-use Rattle.rtui_grid.proofs.PlaceLemmas.{row_ends, rows_join, by_rows, place_before, place_from}
+use Rattle.rtui_grid.specs.Items.{item_at}
+use Rattle.rtui_grid.proofs.PlaceLemmas.{row_ends, by_rows}
 use Rattle.rtui_cell.specs.declared.cell.Cell.{Cell}
 use Rattle.rtui_cell.specs.Cell.{empty_cell, IsUnmarked}
 use Rattle.rtui_cell.specs.Look.{look_of, empty_look}
@@ -17,39 +18,24 @@ use Rattle.rtui_cell.proofs.CellLemmas.{look-empty}
 use Rattle.rtui_diff.specs.Cells.{cell}
 use Rattle.rtui_backend.specs.declared.clear_type.ClearType.TheVariants.{AfterCursor, BeforeCursor, CurrentLine, UntilNewLine}
 use Rattle.rtui_backend.specs.Clear.{is_cleared}
-use Rattle.rtui_backend.specs.Screen.{moved_by, scrolling_up, scrolling_down}
+use Rattle.rtui_backend.specs.Screen.{Motion, moved_by}
 use Rattle.rtui_backend.specs.CellGrid.{look_at, grid_of, AreUnmarked, AreUnmarkedRows}
 use Rattle.rtui_backend.proofs.LineLemmas.{look_at-cell}
+use Rattle.rtui_backend.proofs.MotionLemmas.{moved-through, moved-along}
 use Rattle.rtui_backend.proofs.PlainLemmas.{unmarked-empty}
 use Rattle.rtui_grid.proofs.RangeLemmas.{map_same}
 
--- in a part of a list each cell is another one of the former cells, or empty, and all others stay
-abbrev pub Moves : (ℕ → Bool) → (ℕ → Bool) → (ℕ → ℕ) → List Cell → List Cell → Type 0
-Moves inside kept from old new = (k : ℕ) → cell new k ≡ (if inside k then (if kept k then cell old (from k) else empty_cell) else cell old k)
+-- what a cell shows in a column
+grid_at : (w x y : ℕ) (cells : List Cell) → x < w → grid_of w cells x y ≡ look_of (item_at empty_cell w cells x y)
+grid_at w x y cells x_in = let on : grid_of w cells x y ≡ look_at cells (y * w + x) = grind (arith, nat_tests) in on ∙ look_at-cell cells (y * w + x)
 
-module _ (inside kept : ℕ → Bool) (from : ℕ → ℕ) (old new : List Cell) (moves : Moves inside kept from old new) where
-  looks_moved : (k : ℕ) → look_at new k ≡ (if inside k then (if kept k then look_at old (from k) else empty_look) else look_at old k)
-  looks_moved k = look_at-cell new k ∙ ap look_of (moves k) ∙ either (inside k) (kept k)
-    where
-      either : (s t : Bool) → look_of (if s then (if t then cell old (from k) else empty_cell) else cell old k) ≡ (if s then (if t then look_at old (from k) else empty_look) else look_at old k)
-      either true true = sym (look_at-cell old (from k))
-      either true false = look-empty
-      either false t = sym (look_at-cell old k)
-
-  -- and so in the rows of a grid
-  grid_moved : (w x y z : ℕ) (s t : Bool) → x < w → inside (y * w + x) ≡ s → kept (y * w + x) ≡ t → (t ≡ true → from (y * w + x) ≡ z * w + x)
-      → grid_of w new x y ≡ (if s then (if t then grid_of w old x z else empty_look) else grid_of w old x y)
-  grid_moved w x y z s t x_in is_inside is_kept is_from =
-      let now : grid_of w new x y ≡ look_at new (y * w + x) = grind (arith, nat_tests) in
-      let was : grid_of w old x y ≡ look_at old (y * w + x) = grind (arith, nat_tests) in
-      let there : grid_of w old x z ≡ look_at old (z * w + x) = grind (arith, nat_tests) in
-      now ∙ rw (is_inside, is_kept) at (looks_moved (y * w + x)) ∙ rw (was, there) (either s t is_from)
-    where
-      either : (s t : Bool) → (t ≡ true → from (y * w + x) ≡ z * w + x)
-          → (if s then (if t then look_at old (from (y * w + x)) else empty_look) else look_at old (y * w + x)) ≡ (if s then (if t then look_at old (z * w + x) else empty_look) else look_at old (y * w + x))
-      either true true e = ap (look_at old) (e refl)
-      either true false e = refl
-      either false t e = refl
+-- cells that move, on their grid
+pub grid_moved : (m : Motion) (w x y : ℕ) (old new : List Cell) → x < w → item_at empty_cell w new x y ≡ moved_by m empty_cell (item_at empty_cell w old) x y
+    → grid_of w new x y ≡ moved_by m empty_look (grid_of w old) x y
+grid_moved m w x y old new x_in moved =
+    grid_at w x y new x_in ∙ ap look_of moved ∙ moved-through m empty_cell (item_at empty_cell w old) x y look_of
+    ∙ ap (λ none. moved_by m none (λ a b. look_of (item_at empty_cell w old a b)) x y) look-empty
+    ∙ moved-along m empty_look (λ a b. look_of (item_at empty_cell w old a b)) x y (grid_of w old) (λ b. sym (grid_at w x b old x_in))
 
 -- a cell that another one or none came to, and one that was emptied
 pub unmarked_moved : (s t : Bool) (p q : Cell) → IsUnmarked p → IsUnmarked q → IsUnmarked (if s then (if t then p else empty_cell) else q)
@@ -74,41 +60,6 @@ module _ (w h x y a b : ℕ) (a_in : a < w) (b_in : b < h) (x_in : x < w) where
 
   pub places_until : (nat_le (min (min (y * w) (w * h) + x) (w * h)) (b * w + a) && nat_lt (b * w + a) (min (min (y * w) (w * h) + w) (w * h))) ≡ is_cleared UntilNewLine x y a b
   places_until = let inside = mul-add-lt b w a h b_in a_in in by_rows _ w b y (λ p q. grind (arith, nat_tests)) (λ p q. grind (arith, nat_tests)) (λ e. grind (arith, nat_tests))
-
--- a part that was emptied, places of a region that moved up, and those of one that moved down
-abbrev pub Fills : ℕ → ℕ → List Cell → List Cell → Type 0
-Fills from to = Moves (λ k. nat_le from k && nat_lt k to) (λ k. false) (λ k. k)
-
-abbrev pub MovesUp : ℕ → ℕ → ℕ → List Cell → List Cell → Type 0
-MovesUp from to by = Moves (λ k. nat_le from k && nat_lt k to) (λ k. nat_lt (k + by) to) (λ k. k + by)
-
-abbrev pub MovesDown : ℕ → ℕ → ℕ → List Cell → List Cell → Type 0
-MovesDown from to by = Moves (λ k. nat_le from k && nat_lt k to) (λ k. nat_le (from + by) k) (λ k. k - by)
-
--- rows of a region that moved
-module _ (w x : ℕ) (x_in : x < w) (old new : List Cell) (a e n : ℕ) where
-  region : (y : ℕ) → (nat_le (a * w) (y * w + x) && nat_lt (y * w + x) (e * w)) ≡ (nat_le a y && nat_lt y e)
-  region y = rw (place_before w x x_in y e, place_from w x x_in y a) refl
-
-  pub grid_moved_up : MovesUp (a * w) (e * w) (n * w) old new → (y : ℕ)
-      → grid_of w new x y ≡ moved_by (scrolling_up a e n) empty_look (grid_of w old) x y
-  grid_moved_up moves y =
-      let next : y * w + x + n * w ≡ (y + n) * w + x = grind arith in
-      grid_moved _ _ _ old new moves w x y (y + n) _ _ x_in (region y) (ap (λ k. nat_lt k (e * w)) next ∙ place_before w x x_in (y + n) e) (λ _. next)
-
-  pub grid_moved_down : MovesDown (a * w) (e * w) (n * w) old new → (y : ℕ)
-      → grid_of w new x y ≡ moved_by (scrolling_down a e n) empty_look (grid_of w old) x y
-  grid_moved_down moves y =
-      grid_moved _ _ _ old new moves w x y (y - n) _ _ x_in (region y) (ap (λ k. nat_le k (y * w + x)) (rows_join w a n) ∙ place_from w x x_in y (a + n))
-      (λ kept.
-      let above : a + n ≤ y = grind (arith, nat_tests) in
-      let whole : y - n + n ≡ y = omega arith in
-      let q : (y - n) * w + n * w ≡ y * w = rows_join w (y - n) n ∙ ap (λ m. m * w) whole in omega (arith, q))
-
--- what was emptied in a list of cells, on its grid
-pub cleared_grid : (w from to : ℕ) (old new : List Cell) (is : Bool) → Fills from to old new → (a b : ℕ) → a < w → (nat_le from (b * w + a) && nat_lt (b * w + a) to) ≡ is
-    → grid_of w new a b ≡ if is then empty_look else grid_of w old a b
-cleared_grid w from to old new is fills a b a_in e = grid_moved (λ k. nat_le from k && nat_lt k to) (λ k. false) (λ k. k) old new fills w a b b is false a_in e refl (λ _. refl)
 
 -- the history, with rows that left after it if there are such
 pub history_left : {X : Type 0} (former : List X) (t s : Bool) {xs ys : List X} → s ≡ true → xs ≡ ys → former ++ (if t then xs else []) ≡ if t && s then former ++ ys else former

@@ -125,11 +125,14 @@ ScrollsUp a b n old new =
 abbrev pub ScrollsDown : ℕ → ℕ → ℕ → Screen → Screen → Type 0
 ScrollsDown a b n old new = ScrollsRegion scrolling_down a b n old.history old new
 
--- a part of the screen was emptied, by where the cursor is, and all else stays
-pub record Clears (old : Screen) (kind : ClearType) (new : Screen) : Type 0 where
+-- what a clear empties for a cursor in column x of row y was emptied, and all else stays
+pub record Erases (kind : ClearType) (x y : ℕ) (old new : Screen) : Type 0 where
   pub rest : new ≡ record old { grid = new.grid }
-  pub grid : (a b : ℕ) → a < old.width → b < old.height
-      → new.grid a b ≡ moved_by (clearing (is_cleared kind old.cursor_x old.cursor_y)) empty_look old.grid a b
+  pub grid : (a b : ℕ) → a < old.width → b < old.height → new.grid a b ≡ moved_by (clearing (is_cleared kind x y)) empty_look old.grid a b
+
+-- a part of the screen was emptied, by where the cursor is
+abbrev pub Clears : Screen → ClearType → Screen → Type 0
+Clears old kind new = Erases kind old.cursor_x old.cursor_y old new
 
 -- the screen took another size: rows and columns were cut, or empty ones came in at the right and below; the cursor is kept on the grid
 pub record TakesSize (old : Screen) (given : Size) (new : Screen) : Type 0 where

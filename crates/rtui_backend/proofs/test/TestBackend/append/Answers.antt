@@ -6,9 +6,11 @@ use Rattle.std.proofs.lemmas.Grind.{common_steps}
 use Rattle.rtui_cell.specs.Look.{look_of}
 use Rattle.rtui_buffer.specs.BufferData.{refilled}
 use Rattle.rtui_backend.specs.CellGrid.{look_at}
-use Rattle.rtui_backend.specs.Screen.{lines_past}
+use Rattle.rtui_backend.specs.Screen.{lines_past, scrolling_up}
+use Rattle.rtui_grid.proofs.MoveLemmas.{rows_raised}
+use Rattle.rtui_cell.specs.Cell.{empty_cell}
 use Rattle.rtui_backend.specs.TestBackend.{screen_of}
-use Rattle.rtui_backend.proofs.ShiftLemmas.{MovesUp, unmarked_moved, unmarked_rows, rows_are, grid_moved_up}
+use Rattle.rtui_backend.proofs.ShiftLemmas.{unmarked_moved, unmarked_rows, rows_are, grid_moved}
 use Rattle.rtui_backend.proofs.test.TestBackend.append.Goals as goal
 
 pub returns-clause-ok : goal.returns-clause-ok
@@ -26,7 +28,7 @@ returns-clause-ok c =
     rw (c.content.ensures.cells, c.area-area.ensures.area, count) at c.in_ok-rows.ensures.looks in
     let end : length cells ≡ h * w = size ∙ mul_comm w h in
     let top : 0 * w ≡ 0 = omega arith in
-    let moved : MovesUp (0 * w) (h * w) (past * w) cells new = rw top (rw (c.cells_mut-cells.ensures.cells, end, c.from-4.ensures, c.area-area.ensures.area, count) at c.shift_up.ensures) in
+    let moved = rw (c.cells_mut-cells.ensures.cells, end, c.from-4.ensures, c.area-area.ensures.area, count) at c.shift_up.ensures in
     record {
       scrolled = record {
         history =
@@ -35,7 +37,7 @@ returns-clause-ok c =
             ∙ ap (λ rs. map (λ r. map look_of r.items) s.scrollback.items ++ rs) (rows ∙ rows_are w h cells size past);
         width = refl;
         height = refl;
-        grid = λ a b a_in b_in. rw items (grid_moved_up w a a_in cells new 0 h past moved b ∙ grind (arith, nat_tests));
+        grid = λ a b a_in b_in. rw items (grid_moved (scrolling_up 0 h past) w a b cells new a_in (rows_raised empty_cell w a a_in cells new 0 h past (rw top moved) b) ∙ grind (arith, nat_tests));
         visible = refl;
         written = refl;
       };

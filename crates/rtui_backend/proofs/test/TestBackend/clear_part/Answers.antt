@@ -1,8 +1,10 @@
-use Rattle.std.proofs.Common.{◌≡◌, refl, arith, false}
+use Rattle.std.proofs.Common.{◌≡◌, ◌+◌, ◌*◌, refl, arith, false}
 use Rattle.std.proofs.lemmas.Grind.{common_steps}
 use Rattle.rtui_buffer.specs.BufferData.{refilled}
-use Rattle.rtui_backend.proofs.ShiftLemmas.{cleared_grid, unmarked_moved}
+use Rattle.rtui_backend.proofs.ShiftLemmas.{grid_moved, unmarked_moved}
 use Rattle.rtui_cell.specs.Cell.{empty_cell}
+use Rattle.rtui_backend.specs.Clear.{is_cleared}
+use Rattle.rtui_backend.specs.Screen.{clearing}
 use Rattle.rtui_backend.proofs.PlainLemmas.{unmarked-empty}
 use Rattle.rtui_backend.proofs.test.TestBackend.clear_part.Goals as goal
 
@@ -15,7 +17,7 @@ returns-clause-cleared c =
     record {
       rest = refl;
       grid = λ a b a_in b_in.
-          rw items (cleared_grid s.buffer.area.width _ _ s.buffer.cells new _ (rw c.cells_mut.ensures.cells at c.fill.ensures) a b a_in (places a b a_in b_in));
+          rw items (grid_moved (clearing (is_cleared c.args.clear_type s.cursor.x s.cursor.y)) s.buffer.area.width a b s.buffer.cells new a_in (rw (c.cells_mut.ensures.cells, places a b a_in b_in) at (c.fill.ensures (b * s.buffer.area.width + a))));
     }
 
 pub invariant_of-self-clause-plain : goal.invariant_of-self-clause-plain

@@ -4,9 +4,12 @@ use Rattle.std.proofs.lemmas.List.{map-append}
 use Rattle.std.proofs.lemmas.Bool.Decides.{nat_tests}
 use Rattle.std.proofs.lemmas.Grind.{common_steps}
 use Rattle.rtui_cell.specs.Look.{look_of}
+use Rattle.rtui_grid.proofs.MoveLemmas.{rows_raised}
+use Rattle.rtui_cell.specs.Cell.{empty_cell}
+use Rattle.rtui_backend.specs.Screen.{scrolling_up}
 use Rattle.rtui_buffer.specs.BufferData.{refilled}
 use Rattle.rtui_backend.specs.CellGrid.{look_at}
-use Rattle.rtui_backend.proofs.ShiftLemmas.{MovesUp, unmarked_moved, unmarked_rows, unmarked_front, grid_moved_up, rows_left, history_left}
+use Rattle.rtui_backend.proofs.ShiftLemmas.{unmarked_moved, unmarked_rows, unmarked_front, grid_moved, rows_left, history_left}
 use Rattle.rtui_backend.proofs.test.TestBackend.scroll_up.Goals as goal
 
 pub returns-clause-ok : goal.returns-clause-ok
@@ -22,8 +25,7 @@ returns-clause-ok c =
     let size : length cells ≡ w * h = grind (arith, common_steps) in
     let items : refilled cells new ≡ new = grind (arith, common_steps) in
     let end : c.min-end.result ≡ e = grind (arith, common_steps) in
-    let moved : MovesUp (a * w) (e * w) (c.args.n * w) cells new =
-    rw (c.cells_mut.ensures.cells, c.from-3.ensures, c.from-2.ensures, c.from.ensures, c.from-width.ensures, end, c.area-area.ensures.area) at c.shift_up.ensures in
+    let moved = rw (c.cells_mut.ensures.cells, c.from-3.ensures, c.from-2.ensures, c.from.ensures, c.from-width.ensures, end, c.area-area.ensures.area) at c.shift_up.ensures in
     let some : nat_lt 0 e ≡ true = grind (arith, nat_tests) in
     let rows : map (λ r. map look_of r.items) c.in_ok-rows.rows.items ≡ (if a == 0 then map (λ y. map (λ x. look_at (take (e * w) cells) (y * w + x)) (range_with_len 0 w)) (range_with_len 0 c.args.n) else []) =
     rw (c.content.ensures.cells, c.from.ensures, c.from-width.ensures, end, c.area-area.ensures.area) at c.in_ok-rows.ensures.looks in
@@ -35,7 +37,7 @@ returns-clause-ok c =
           ∙ history_left (map (λ r. map look_of r.items) s.scrollback.items) (a == 0) (nat_lt 0 e) some (rows_left w h e cells size (omega arith) c.args.n);
       width = refl;
       height = refl;
-      grid = λ x y x_in y_in. rw items (grid_moved_up w x x_in cells new a e c.args.n moved y);
+      grid = λ x y x_in y_in. rw items (grid_moved (scrolling_up a e c.args.n) w x y cells new x_in (rows_raised empty_cell w x x_in cells new a e c.args.n moved y));
       visible = refl;
       written = refl;
       no_rows = λ none. absurd (omega (arith, end));
