@@ -37,37 +37,25 @@ pub record IsUnsent {W : Type 0} (old new : BackendState W) : Type 0 where
   pub written : new.written ≡ old.written
   pub is_broken : new.is_broken ≡ old.is_broken
 
--- no send failed before, and none fails now
-pub record IsWorking {W : Type 0} (old new : BackendState W) : Type 0 where
+-- no send failed before, and this one failed or didn't
+pub record IsAfterSend {W : Type 0} (fails : Bool) (old new : BackendState W) : Type 0 where
   pub start : new.before ≡ old.before
   pub before : old.is_broken ≡ false
-  pub after : new.is_broken ≡ false
-  pub size : new.size ≡ old.size
-  pub colors : new.has_underline_colors ≡ old.has_underline_colors
-  pub ambiguous : new.ambiguous_is_wide ≡ old.ambiguous_is_wide
-
--- a send failed for the first time
-pub record Breaks {W : Type 0} (old new : BackendState W) : Type 0 where
-  pub start : new.before ≡ old.before
-  pub before : old.is_broken ≡ false
-  pub after : new.is_broken ≡ true
+  pub after : new.is_broken ≡ fails
   pub size : new.size ≡ old.size
   pub colors : new.has_underline_colors ≡ old.has_underline_colors
   pub ambiguous : new.ambiguous_is_wide ≡ old.ambiguous_is_wide
 
 -- a refused call, by its error: after a failed send every call is refused, and only a failed send changes anything
 abbrev pub FailsBy : {W : Type 0} → BackendState W → BackendState W → AnsiError → Type 0
-FailsBy old new Memory = (old.is_broken ≡ false) × IsUnsent old new
-FailsBy old new (Symbol p) = (old.is_broken ≡ false) × IsUnsent old new
-FailsBy old new (Style p) = (old.is_broken ≡ false) × IsUnsent old new
-FailsBy old new (Cut p) = (old.is_broken ≡ false) × IsUnsent old new
 FailsBy old new Size = ⊥
 FailsBy old new Broken = (old.is_broken ≡ true) × IsUnsent old new
-FailsBy old new (Write error) = Breaks old new
+FailsBy old new (Write error) = IsAfterSend true old new
+FailsBy old new _ = (old.is_broken ≡ false) × IsUnsent old new
 
 -- a call that answers this
 abbrev pub Answers : {W A : Type 0} → Result A AnsiError → BackendState W → BackendState W → Type 0
-Answers answer old new = MatchResult answer (λ _. IsWorking old new) (FailsBy old new)
+Answers answer old new = MatchResult answer (λ _. IsAfterSend false old new) (FailsBy old new)
 
 -- an error of a call that writes: it names no cell
 abbrev pub IsOfWriting : AnsiError → Type 0
@@ -84,35 +72,26 @@ IsOfFlushing _ = ⊥
 
 -- an error of a clear: the cell that it names is the cursor's, and a symbol covers it from the left
 abbrev pub IsOfClearing : Screen → AnsiError → Type 0
-IsOfClearing s Memory = Unit {0}
-IsOfClearing s Broken = Unit {0}
-IsOfClearing s (Write error) = Unit {0}
 IsOfClearing s (Cut p) = (p ≡ cursor_of s) × IsCovered s.grid p.x p.y
-IsOfClearing s _ = ⊥
+IsOfClearing s error = IsOfWriting error
 
 -- an error of a call that draws no cells
 abbrev pub IsOfCall : Call → Screen → AnsiError → Type 0
-IsOfCall (Called.Move p) s error = IsOfWriting error
-IsOfCall (Called.Show visible) s error = IsOfWriting error
-IsOfCall (Called.Append n) s error = IsOfWriting error
-IsOfCall (Called.ScrollUp region n) s error = IsOfWriting error
-IsOfCall (Called.ScrollDown region n) s error = IsOfWriting error
 IsOfCall (Called.Clear kind) s error = IsOfClearing s error
+IsOfCall _ s error = IsOfWriting error
 
 -- ---- beginnings
-
--- why a backend of this size doesn't begin: it has no columns or no rows, memory was refused, or a write failed
-abbrev pub RefusesToBegin : ℕ → ℕ → AnsiError → Type 0
-RefusesToBegin w h Size = (w ≡ 0) ⊎ (h ≡ 0)
-RefusesToBegin w h Memory = (0 < w) × (0 < h)
-RefusesToBegin w h (Write error) = (0 < w) × (0 < h)
-RefusesToBegin w h _ = ⊥
 
 -- why no blank screen of this size is tracked: it has no columns or no rows, or memory was refused
 abbrev pub RefusesTracker : ℕ → ℕ → AnsiError → Type 0
 RefusesTracker w h Size = (w ≡ 0) ⊎ (h ≡ 0)
 RefusesTracker w h Memory = (0 < w) × (0 < h)
 RefusesTracker w h _ = ⊥
+
+-- why a backend of this size doesn't begin: for the same reasons, or since a write failed
+abbrev pub RefusesToBegin : ℕ → ℕ → AnsiError → Type 0
+RefusesToBegin w h (Write error) = (0 < w) × (0 < h)
+RefusesToBegin w h error = RefusesTracker w h error
 
 -- a backend that doesn't begin anew: memory was refused, which changes nothing, or a write failed
 abbrev pub FailsToRestart : {W : Type 0} → BackendState W → BackendState W → AnsiError → Type 0
@@ -132,18 +111,13 @@ FailsToResize size old new _ = ⊥
 -- whether a refusal, or an error, names a cell's place
 abbrev pub has_place : Refusal → Bool
 has_place Refused.Memory = false
-has_place (Refused.Symbol p) = true
-has_place (Refused.Style p) = true
-has_place (Refused.Cut p) = true
+has_place _ = true
 
 abbrev pub names_cell : AnsiError → Bool
-names_cell Memory = false
 names_cell (Symbol p) = true
 names_cell (Style p) = true
 names_cell (Cut p) = true
-names_cell Size = false
-names_cell Broken = false
-names_cell (Write error) = false
+names_cell _ = false
 
 -- why an update isn't drawn on a screen: its symbol doesn't fit, its rendition can't be sent, or it isn't vacant while a symbol covers its place
 abbrev pub IsRefusedOn : Bool → Screen → Update → Refusal → Type 0
