@@ -2,11 +2,11 @@
 use Rattle.std.proofs.Common.{◌≡◌, ◌⊎◌, ℕ, zero, suc, true, false, ◌<◌, List, [], ◌∷◌, map, refl, sym, ap, ◌∙◌, arith, inl, inr}
 use Rattle.std.specs.Prelude.{if◌then◌else◌}
 use Rattle.std.specs.List.{Contains}
-use Rattle.std.proofs.lemmas.Bool.{cases_lt, cases_eq}
+use Rattle.std.proofs.lemmas.Bool.{cases_Bool, cases_eq, true≢false}
 use Rattle.std.proofs.lemmas.Bool.Decides.{nat_tests}
 use Rattle.rtui_geometry.specs.declared.position.Position.{Position}
 use Rattle.rtui_geometry.specs.declared.rect.Rect.{Rect}
-use Rattle.rtui_geometry.specs.Rect.{EdgesFit, right_edge, bottom_edge}
+use Rattle.rtui_geometry.specs.Rect.{EdgesFit}
 use Rattle.rtui_geometry.specs.Rows.{ListsPositions}
 use Rattle.rtui_cell.specs.Look.{empty_look}
 use Rattle.rtui_cell.specs.Grid.{Grid, put, puts}
@@ -63,18 +63,15 @@ module _ (w h : ℕ) where
 
 -- a column is in a rectangle, or not
 pub decide_within : (r : Rect) (a b : ℕ) → (IsWithin r a b × (is_within r a b ≡ true)) ⊎ ((IsWithin r a b → ⊥) × (is_within r a b ≡ false))
-decide_within r a b = elim (cases_lt a r.x) [
-  | inl off ↦ inr (λ w. omega (arith, w.left), grind (arith, nat_tests))
-  | inr left ↦ elim (cases_lt a (right_edge r)) [
-    | inr off ↦ inr (λ w. omega (arith, w.right), grind (arith, nat_tests))
-    | inl right ↦ elim (cases_lt b r.y) [
-      | inl off ↦ inr (λ w. omega (arith, w.top), grind (arith, nat_tests))
-      | inr top ↦ elim (cases_lt b (bottom_edge r)) [
-        | inr off ↦ inr (λ w. omega (arith, w.bottom), grind (arith, nat_tests))
-        | inl bottom ↦ inl (record { left = left; right = right; top = top; bottom = bottom }, grind (arith, nat_tests))
-      ]
-    ]
-  ]
+decide_within r a b = elim (cases_Bool (is_within r a b)) [
+  | inl on ↦ inl (record { left = grind (arith, nat_tests); right = grind (arith, nat_tests); top = grind (arith, nat_tests); bottom = grind (arith, nat_tests) }, on)
+  | inr off ↦ inr (
+    λ w.
+        let left = w.left in let right = w.right in let top = w.top in let bottom = w.bottom in
+        let on : is_within r a b ≡ true = grind (arith, nat_tests) in
+        true≢false (sym on ∙ off),
+    off,
+  )
 ]
 
 -- drawn over an area that lies on the grid

@@ -32,6 +32,5 @@ blanks_needed r s = if r.x == 0 && r.width == s.width then 0 else r.width * r.he
 
 -- a clear draws them only over a fixed viewport
 abbrev pub WritesBlanks : Viewport → Rect → Screen → Screen → Type 0
-WritesBlanks Fullscreen r old new = WritesItems 0 old new
-WritesBlanks (Inline n) r old new = WritesItems 0 old new
 WritesBlanks (Fixed f) r old new = WritesItems (blanks_needed r old) old new
+WritesBlanks other r old new = WritesItems 0 old new
