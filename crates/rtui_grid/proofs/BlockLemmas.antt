@@ -1,11 +1,10 @@
 -- One more row of a block.
-use Rattle.std.proofs.Common.{◌≡◌, ℕ, ◌+◌, ◌-◌, ◌*◌, ◌<◌, ◌≤◌, if◌then◌else◌, List, sym, ap, subst, ◌∙◌, arith, inl, inr, true, ◌&&◌, nat_lt}
-use Rattle.std.proofs.lemmas.Bool.{cases_lt, and_parts}
+use Rattle.std.proofs.Common.{◌≡◌, ℕ, ◌+◌, ◌-◌, ◌*◌, ◌<◌, ◌≤◌, if◌then◌else◌, List, sym, ap, subst, ◌∙◌, arith, inl, inr, true}
+use Rattle.std.proofs.lemmas.Bool.{cases_lt}
 use Rattle.std.proofs.lemmas.Bool.Decides.{nat_tests}
 use Rattle.rtui_grid.specs.declared.block.Block.{Block}
 use Rattle.rtui_grid.specs.Items.{item, item_at}
 use Rattle.rtui_grid.specs.Blocks.{is_in_block, HasBlock}
-use Rattle.std.specs.Prelude.{nat_le}
 use Rattle.rtui_grid.proofs.PlaceLemmas.{by_rows}
 
 -- the first rows of a block
@@ -46,8 +45,4 @@ module _ {T : Type 0} (d : T) (w stride row : ℕ) (k : Block) (others old now m
 
 -- what lies in a block
 pub in_block : (k : Block) (a b : ℕ) → is_in_block k a b ≡ true → (k.left ≤ a) × (a < k.left + k.columns) × (k.top ≤ b) × (b < k.top + k.rows)
-in_block k a b t =
-    let p = and_parts (nat_le k.left a && nat_lt a (k.left + k.columns) && nat_le k.top b) (nat_lt b (k.top + k.rows)) t in
-    let q = and_parts (nat_le k.left a && nat_lt a (k.left + k.columns)) (nat_le k.top b) p.0 in
-    let r = and_parts (nat_le k.left a) (nat_lt a (k.left + k.columns)) q.0 in
-    (grind (arith, nat_tests, r.0), grind (arith, nat_tests, r.1), grind (arith, nat_tests, q.1), grind (arith, nat_tests, p.1))
+in_block k a b t = (grind (arith, nat_tests), grind (arith, nat_tests), grind (arith, nat_tests), grind (arith, nat_tests))
