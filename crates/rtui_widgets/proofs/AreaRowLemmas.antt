@@ -21,6 +21,7 @@ use Rattle.rtui_widgets.specs.Rendering.{area_row, ChangesWithin, RendersRows, i
 use Rattle.rtui_widgets.specs.Refused.{LeavesFirstRow, LeavesText, HasFrontOfRow}
 use Rattle.rtui_widgets.specs.Inner.{Rows, place, cells_of_row, IsOutside, KeepsOthers, MakesRows, LeavesRows}
 use Rattle.rtui_widgets.proofs.SpanLemmas.{unmarked-written}
+use Rattle.rtui_buffer.proofs.PaintLemmas.{unmarked-refl}
 use Rattle.rtui_widgets.proofs.RowLemmas.{length-written, written-before, written-behind, written-there, same-row, other}
 use Rattle.rtui_buffer.specs.Clipped.{IsClipped}
 use Rattle.rtui_grid.proofs.PlaceLemmas.{row_ends, by_rows, apart}
@@ -176,10 +177,11 @@ module _ (area : Rect) (old : BufferData) (r : Rect) (h : IsClipped area old.are
   rows-made f w made k lt =
       ap (λ at. take r.width (drop at w)) (place-of k) ∙ made.rows k lt ∙ ap (λ at. f k (take r.width (drop at old.cells))) (sym (place-of k))
 
-  pub renders-rows : (f : ℕ → List Cell → List Cell) (w : List Cell) → MakesRows rows_of f old.cells w → RendersRows area f old (record old { cells = w })
-  renders-rows f w made = record {
+  pub renders-rows : (f : ℕ → List Cell → List Cell) (w : List Cell) → MakesRows rows_of f old.cells w → KeepsUnmarked old.cells w → RendersRows area f old (record old { cells = w })
+  renders-rows f w made keeps = record {
     within = changes-within w made.keeps;
     rows = subst (λ (q : Rect). (k : ℕ) → k < q.height → area_row q k (record old { cells = w }) ≡ f k (area_row q k old)) h.value (rows-made f w made);
+    marks = keeps;
   }
 
 -- ---- if the buffer has nothing of the area
@@ -198,6 +200,7 @@ renders-nothing area f s none empty = record {
       nil ∙ sym (ap (f k) nil ∙ none k))
       (λ (z : (intersected area s.area).height ≡ 0). absurd (omega (arith, z, lt)))
       empty;
+  marks = unmarked-refl s.cells;
 }
 
 either-none : (b : Bool) (xs : List Cell) → xs ≡ [] → cond b xs [] ≡ []
@@ -224,10 +227,10 @@ module _ (area : Rect) (old : BufferData) (r : Rect) (h : IsClipped area old.are
   written-same : refilled old.cells written ≡ written
   written-same = let i = first-inside 0 h.rows in refilled-same old.cells written (length-written at n old.cells part (omega (arith, width-is, i)) (omega (arith, width-is, part-count)))
 
-  pub first-renders : (g : List Cell → List Cell) → part ≡ g (take n (drop at old.cells)) → RendersRows area (in_first_row g) old (record old { cells = refilled old.cells written })
-  first-renders g is =
+  pub first-renders : (g : List Cell → List Cell) → KeepsUnmarked (take n (drop at old.cells)) part → part ≡ g (take n (drop at old.cells)) → RendersRows area (in_first_row g) old (record old { cells = refilled old.cells written })
+  first-renders g keeps is =
       let made = makes-first at r.width old.area.width r.height old.cells part n (apart-rows area old r h) h.rows width-is first-inside part-count g (is ∙ ap (λ w. g (take w (drop at old.cells))) width-is) in
-      subst (λ w. RendersRows area (in_first_row g) old (record old { cells = w })) (sym written-same) (renders-rows area old r h (in_first_row g) written (subst (λ a. MakesRows (record { start = a; width = r.width; stride = old.area.width; count = r.height }) (in_first_row g) old.cells written) at-is made))
+      subst (λ w. RendersRows area (in_first_row g) old (record old { cells = w })) (sym written-same) (renders-rows area old r h (in_first_row g) written (subst (λ a. MakesRows (record { start = a; width = r.width; stride = old.area.width; count = r.height }) (in_first_row g) old.cells written) at-is made) (unmarked-written at n old.cells part keeps len))
 
   pub first-changes : ChangesWithin area old (record old { cells = refilled old.cells written })
   first-changes =
@@ -260,7 +263,7 @@ module _ (area : Rect) (old : BufferData) (r : Rect) (h : IsClipped area old.are
       record {
         marks = first-marks keeps;
         within = first-row-changes;
-        row = subst (f (area_row (intersected area old.area) 0 old)) (sym ((first-renders (λ cells. part) refl).rows 0 some)) (subst (λ cells. f cells part) (sym first-old) left);
+        row = subst (f (area_row (intersected area old.area) 0 old)) (sym ((first-renders (λ cells. part) keeps refl).rows 0 some)) (subst (λ cells. f cells part) (sym first-old) left);
       }
 
 -- how many columns the row has
@@ -279,10 +282,10 @@ module _ (area : Rect) (old : BufferData) (r : Rect) (h : IsClipped area old.are
   rows-same : rows_lent ≡ rows_of area old r h
   rows-same = rw (start-is, width-is, stride-is, count-is) refl
 
-  pub lent-renders : (f : ℕ → List Cell → List Cell) → MakesRows rows_lent f old.cells w → RendersRows area f old (record old { cells = refilled old.cells w })
-  lent-renders f made =
+  pub lent-renders : (f : ℕ → List Cell → List Cell) → KeepsUnmarked old.cells w → MakesRows rows_lent f old.cells w → RendersRows area f old (record old { cells = refilled old.cells w })
+  lent-renders f keeps made =
       subst (λ cells. RendersRows area f old (record old { cells = cells })) (sym (refilled-same old.cells w same))
-      (renders-rows area old r h f w (subst (λ rows. MakesRows rows f old.cells w) rows-same made))
+      (renders-rows area old r h f w (subst (λ rows. MakesRows rows f old.cells w) rows-same made) keeps)
 
   pub lent-changes : KeepsOthers rows_lent old.cells w → ChangesWithin area old (record old { cells = refilled old.cells w })
   lent-changes keeps =

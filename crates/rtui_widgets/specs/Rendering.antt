@@ -10,6 +10,7 @@ use Rattle.rtui_cell.specs.Cell.{styled}
 use Rattle.rtui_text.specs.Text.{SpanData, LineData, TextData, line_of}
 use Rattle.rtui_buffer.specs.BufferData.{BufferData, cell_index, cell_in, HasRow}
 use Rattle.rtui_style.specs.Style.{new_style}
+use Rattle.rtui_buffer.specs.Painting.{KeepsUnmarked}
 use Rattle.rtui_buffer.specs.PaintedText.{pieces_at, AreShort, PaintsFront, PaintsPieces}
 use Rattle.rtui_widgets.specs.Span.{span_rendered, IsShortSpan}
 use Rattle.rtui_widgets.specs.Line.{line_rendered, IsShortLine}
@@ -24,10 +25,11 @@ pub record ChangesWithin (area : Rect) (old new : BufferData) : Type 0 where
   pub same_room : new.room ≡ old.room
   pub outside : (p : Position) → HasPosition old.area p → ¬ (HasPosition area p) → cell_in new p ≡ cell_in old p
 
--- each row of an area, as far as the buffer has it, is what f makes of it, and nothing else changed
+-- each row of an area, as far as the buffer has it, is what f makes of it, no cell got an option or a flag, and nothing else changed
 pub record RendersRows (area : Rect) (f : ℕ → List Cell → List Cell) (old new : BufferData) : Type 0 where
   pub within : ChangesWithin area old new
   pub rows : (k : ℕ) → k < (intersected area old.area).height → area_row (intersected area old.area) k new ≡ f k (area_row (intersected area old.area) k old)
+  pub marks : KeepsUnmarked old.cells new.cells
 
 -- f in the first row, and nothing in the others
 abbrev pub in_first_row : (List Cell → List Cell) → ℕ → List Cell → List Cell

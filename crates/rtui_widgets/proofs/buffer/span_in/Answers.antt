@@ -34,7 +34,7 @@ returns c =
     let place = c.index_of-start.ensures.value in
     let columns : (intersected area buf.area).width ≡ length (take n (drop at c.cells_mut-cells.result.now)) = rw value (sym (first-columns area buf part is at n place wide cells)) in
     record {
-      ok = rw value (on_ok_weaker c.render_span.result (λ e. first-renders area buf part is at n row place wide cells count g e) ran);
+      ok = rw value (on_ok_weaker c.render_span.result (λ e. first-renders area buf part is at n row place wide cells count g (rw (← value) c.render_span.ensures.marks) e) ran);
       err = rw value (search (rules, first-changes area buf part is at n row place wide cells count));
       left = rw value (on_err_weaker c.render_span.result (λ front. first-leaves area buf part is at n row place wide cells count (HasFrontOfSpan c.args.span.now.style c.args.span.now.content) (rw (← value) c.render_span.ensures.marks) front) left);
       short = λ short. c.render_span.ensures.short (subst (IsShortSpan (length (take n (drop at c.cells_mut-cells.result.now)))) (sym c.text.ensures) (subst (λ m. IsShortSpan m c.args.span.now.content) columns short));

@@ -32,7 +32,7 @@ returns c =
     let width : (intersected area buf.area).width ≡ c.from.result = sym (c.from.ensures ∙ ap (λ q. q.width) is.value) in
     let height : c.from-2.result ≡ (intersected area buf.area).height = c.from-2.ensures ∙ ap (λ q. q.height) is.value in
     record {
-      ok = on_ok_weaker c.render_rows.result (λ made. lent-renders area buf part is _ _ _ _ cells place c.from.ensures stride c.from-2.ensures same (text_row c.args.text.now) (rw (← value) made)) c.render_rows.ensures.ok;
+      ok = on_ok_weaker c.render_rows.result (λ made. lent-renders area buf part is _ _ _ _ cells place c.from.ensures stride c.from-2.ensures same (text_row c.args.text.now) (rw (← value) c.render_rows.ensures.marks) (rw (← value) made)) c.render_rows.ensures.ok;
       err = on_err_weaker c.render_rows.result (λ keeps. lent-changes area buf part is _ _ _ _ cells place c.from.ensures stride c.from-2.ensures same (rw (← value) keeps)) c.render_rows.ensures.err;
       short = λ short. c.render_rows.ensures.short (λ k lt. subst (λ n. IsShortRow c.args.text.now n k) width (short k (omega arith)));
       left = on_err_weaker c.render_rows.result (λ left. lent-leaves area buf part is _ _ _ _ cells place c.from.ensures stride c.from-2.ensures same c.args.text.now (rw (← value) c.render_rows.ensures.marks) (rw (← value) left.0) (rw (← value) left.1)) (both-err _ _ c.render_rows.result c.render_rows.ensures.err c.render_rows.ensures.left);
