@@ -1,6 +1,6 @@
 -- Acts of a script that were played.
-use Rattle.std.proofs.Common.{◌≡◌, ℕ, suc, ◌+◌, ◌-◌, ◌<◌, ◌≤◌, List, [], ◌∷◌, ◌++◌, length, take, get_or, Option, Some, None, IfSome, refl, sym, ap, ap₂, ◌∙◌, subst, arith, append_assoc, length-append, drop, drop-cons, add-one}
-use Rattle.std.specs.Prelude.{slice_get}
+use Rattle.std.proofs.Common.{◌≡◌, ℕ, suc, ◌+◌, ◌-◌, ◌<◌, List, [], ◌∷◌, ◌++◌, length, take, get_or, Option, Some, None, IfSome, refl, sym, ap, ap₂, ◌∙◌, subst, arith, append_assoc, length-append, drop, drop-cons, add-one}
+use Rattle.std.specs.Prelude.{slice_get, option_map, unwrap_or}
 use Rattle.std.specs.Io.KnownBytes.{Appends}
 use Rattle.std.proofs.lemmas.List.{append-nil, get_or_append_left, take-append-drop}
 use Rattle.std.proofs.lemmas.Grind.{flat_map-append}
@@ -10,9 +10,9 @@ use Rattle.rtui_backend.specs.Print.{printed_screen}
 use Rattle.rtui_backend.specs.TestBackend.{screen_of}
 use Rattle.rtui_backend.specs.declared.test.TestBackend.{TestBackend}
 use Rattle.rtui_terminal.specs.TerminalData.{TerminalData}
-use Rattle.screenplay.specs.Run.{IsRun, IsStart, EndsEarly}
+use Rattle.screenplay.specs.Run.{View, IsStart, EndsEarly}
 use Rattle.screenplay.specs.Playing.{IsCauseOfStep, IsPlaying, Plays, view_in}
-use Rattle.screenplay.specs.Print.{printed_if, printed_scenes, shows_of, steps_of}
+use Rattle.screenplay.specs.Print.{printed_scene, printed_scenes, shows_of, steps_of}
 use Rattle.screenplay.specs.Engine.{IsScript, PrintsActs, PrintsRun, PrintsText}
 use Rattle.screenplay.specs.declared.act.Act.{Act}
 use Rattle.screenplay.specs.declared.act.Act.TheVariants.{Play, Show}
@@ -22,7 +22,7 @@ use Rattle.screenplay.specs.declared.scene.Scene.{Scene}
 use Rattle.screenplay.specs.declared.scene.Stage.{Stage}
 use Rattle.screenplay.specs.declared.scene.Step.{Step}
 use Rattle.screenplay.proofs.SceneLemmas.{IsSceneOf-in, scene_in}
-use Rattle.screenplay.proofs.RunLemmas.{HasLast, IsRun-start, IsRun-push, EndsEarly-at, get_end}
+use Rattle.screenplay.proofs.RunLemmas.{HasRun, HasRun-start, HasRun-push, EndsEarly-at}
 
 pub steps_of-append : (done rest : List Act) → steps_of (done ++ rest) ≡ steps_of done ++ steps_of rest
 steps_of-append [] rest = refl
@@ -44,26 +44,19 @@ get_left xs ys k x is =
 -- acts were played, of which so many are steps, and this is the text of what they showed, whatever scenes follow
 pub record HasPlayed (stage : Stage) (done : List Act) (n : ℕ) (t : TerminalData TestBackend) (text : List ℕ) : Type 0 where
   pub count : n ≡ length (steps_of done)
-  pub playing : IsPlaying stage t
   pub scenes : List Scene
-  pub run : IsRun stage (steps_of done) scenes
-  pub here : slice_get scenes n ≡ Some (scene_in t)
+  pub ran : HasRun stage (steps_of done) scenes t
   pub shown : (more : List Scene) → text ≡ printed_scenes (shows_of 0 done) (scenes ++ more)
 
 pub HasPlayed-none : (stage : Stage) (t : TerminalData TestBackend) → IsPlaying stage t → IsStart stage (view_in t) → HasPlayed stage [] 0 t []
 HasPlayed-none stage t playing start = record {
   count = refl;
-  playing = playing;
   scenes = scene_in t ∷ [];
-  run = IsRun-start stage t (scene_in t) playing start (IsSceneOf-in t);
-  here = get_end [] (scene_in t) 0 (omega arith);
+  ran = HasRun-start stage t (scene_in t) playing start (IsSceneOf-in t);
   shown = λ more. refl;
 }
 
 module _ (stage : Stage) (done : List Act) (n : ℕ) (s : TerminalData TestBackend) (text : List ℕ) (h : HasPlayed stage done n s text) where
-  last : HasLast (length (steps_of done)) h.scenes s
-  last = record { scene = scene_in s; here = subst (λ k. slice_get h.scenes k ≡ Some (scene_in s)) h.count h.here; shown = IsSceneOf-in s }
-
   -- one more step was played
   pub HasPlayed-step : (step : Step) (t : TerminalData TestBackend) → Plays stage step s t → HasPlayed stage (done ++ Play step ∷ []) (n + 1) t text
   HasPlayed-step step t plays =
@@ -71,10 +64,8 @@ module _ (stage : Stage) (done : List Act) (n : ℕ) (s : TerminalData TestBacke
       let shows : shows_of 0 (done ++ Play step ∷ []) ≡ shows_of 0 done = shows_of-append 0 done (Play step ∷ []) ∙ append-nil (shows_of 0 done) in
       record {
         count = omega (arith, h.count, ap length steps, length-append (steps_of done) (step ∷ []));
-        playing = plays.playing;
         scenes = h.scenes ++ scene_in t ∷ [];
-        run = subst (λ xs. IsRun stage xs (h.scenes ++ scene_in t ∷ [])) (sym steps) (IsRun-push stage (steps_of done) step h.scenes (scene_in t) s t h.run last plays (IsSceneOf-in t));
-        here = get_end h.scenes (scene_in t) (n + 1) (omega (arith, h.count, h.run.count));
+        ran = subst (λ xs. HasRun stage xs (h.scenes ++ scene_in t ∷ []) t) (sym steps) (HasRun-push stage (steps_of done) step h.scenes (scene_in t) s t h.ran plays (IsSceneOf-in t));
         shown = λ more. h.shown (scene_in t ∷ [] ++ more) ∙ ap₂ printed_scenes (sym shows) (sym (append_assoc h.scenes (scene_in t ∷ []) more));
       }
 
@@ -86,21 +77,19 @@ module _ (stage : Stage) (done : List Act) (n : ℕ) (s : TerminalData TestBacke
       let shows : shows_of 0 (done ++ Show ∷ []) ≡ shows_of 0 done ++ n ∷ [] = shows_of-append 0 done (Show ∷ []) ∙ ap (λ k. shows_of 0 done ++ k ∷ []) at in
       record {
         count = h.count ∙ ap length (sym steps);
-        playing = h.playing;
         scenes = h.scenes;
-        run = subst (λ xs. IsRun stage xs h.scenes) (sym steps) h.run;
-        here = h.here;
+        ran = subst (λ xs. HasRun stage xs h.scenes s) (sym steps) h.ran;
         shown = λ more.
             let one : printed_scenes (n ∷ []) (h.scenes ++ more) ≡ printed_screen (screen_of s.backend) =
-            append-nil (printed_if (slice_get (h.scenes ++ more) n)) ∙ ap printed_if (get_left h.scenes more n (scene_in s) h.here) in
+            append-nil (unwrap_or (option_map printed_scene (slice_get (h.scenes ++ more) n)) []) ∙ ap (λ o. unwrap_or (option_map printed_scene o) []) (get_left h.scenes more n h.ran.scene (rw h.count h.ran.here)) ∙ ap (λ (v : View). printed_screen v.screen) h.ran.shown.shown in
             is
             ∙ ap₂ (λ xs ys. xs ++ ys) (h.shown more) (sym one)
-            ∙ sym (ap (λ ks. printed_scenes ks (h.scenes ++ more)) shows ∙ flat_map-append (λ k. printed_if (slice_get (h.scenes ++ more) k)) (shows_of 0 done) (n ∷ []));
+            ∙ sym (ap (λ ks. printed_scenes ks (h.scenes ++ more)) shows ∙ flat_map-append (λ k. unwrap_or (option_map printed_scene (slice_get (h.scenes ++ more) k)) []) (shows_of 0 done) (n ∷ []));
       }
 
   -- all acts were played
   pub PrintsActs-all : PrintsActs stage done text
-  PrintsActs-all = (h.scenes, h.run, h.shown [] ∙ ap (printed_scenes (shows_of 0 done)) (append-nil h.scenes))
+  PrintsActs-all = (h.scenes, h.ran.run, h.shown [] ∙ ap (printed_scenes (shows_of 0 done)) (append-nil h.scenes))
 
   -- the next step can't be played
   pub EndsEarly-next : (step : Step) (rest : List Act) (cause : PlayCause) → IsCauseOfStep stage step (view_in s) cause
@@ -113,7 +102,7 @@ module _ (stage : Stage) (done : List Act) (n : ℕ) (s : TerminalData TestBacke
         h.scenes,
         subst (λ xs. EndsEarly stage xs h.scenes (record { step = n + 1; cause = cause })) (sym (steps_of-append done (Play step ∷ rest)))
             (EndsEarly-at stage (before ++ step ∷ later) n step cause h.scenes s (omega (arith, h.count, length-append before (step ∷ later))) (sym at)
-            (subst (λ xs. IsRun stage xs h.scenes) (sym front) h.run) (subst (λ k. HasLast k h.scenes s) (sym h.count) last) why),
+            (subst (λ xs. HasRun stage xs h.scenes s) (sym front) h.ran) why),
       )
 
 -- one element more

@@ -1,19 +1,18 @@
 -- A terminal in the middle of a play: its start, its sizes, its frames and its clears.
-use Rattle.std.proofs.Common.{◌≡◌, ◌⊎◌, ℕ, zero, suc, ◌+◌, ◌-◌, ◌<◌, ◌≤◌, min, nat_lt, Bool, true, false, if◌then◌else◌, List, [], ◌∷◌, ◌++◌, ◌*◌, map, replicate, Option, Some, None, refl, sym, ap, ap₂, subst, ◌∙◌, inl, inr, arith}
+use Rattle.std.proofs.Common.{◌≡◌, ℕ, zero, suc, ◌+◌, ◌-◌, ◌<◌, ◌≤◌, min, nat_lt, Bool, true, false, if◌then◌else◌, List, [], ◌∷◌, ◌++◌, map, replicate, Option, Some, None, refl, sym, ap, ap₂, subst, ◌∙◌, inl, inr, arith}
 use Rattle.std.specs.Prelude.{nat_le, ◌||◌, ◌&&◌, ◌==◌}
 use Rattle.std.specs.List.{range_with_len}
 use Rattle.std.proofs.lemmas.Bool.{cases_lt}
 use Rattle.std.proofs.lemmas.Bool.Decides.{nat_tests}
 use Rattle.rtui_geometry.specs.declared.rect.Rect.{Rect}
 use Rattle.rtui_geometry.specs.declared.size.Size.{Size}
-use Rattle.rtui_cell.specs.Cell.{is_skipped}
 use Rattle.rtui_cell.specs.Look.{empty_look}
-use Rattle.rtui_diff.specs.Cells.{cell_at}
 use Rattle.rtui_text.specs.Text.{TextData}
 use Rattle.rtui_buffer.specs.BufferData.{BufferData}
 use Rattle.rtui_buffer.specs.Shown.{IsSettledBuffer, ShowsBuffer}
 use Rattle.rtui_backend.proofs.ScrollLemmas.{above_kept, above_same}
 use Rattle.rtui_backend.specs.Screen.{Screen, IsBlankScreen, TakesSize, IsOnScreen, IsWithin, seen, row_of, rows_above, screen_area, size_of}
+use Rattle.rtui_backend.specs.CellGrid.{AreUnmarked}
 use Rattle.rtui_backend.specs.TestBackend.{screen_of}
 use Rattle.rtui_backend.specs.declared.test.TestBackend.{TestBackend}
 use Rattle.rtui_viewport.specs.declared.viewport.Viewport.{Viewport}
@@ -35,8 +34,8 @@ use Rattle.rtui_terminal.specs.Writing.{Applies}
 use Rattle.rtui_terminal.specs.Clearing.{ClearsViewport}
 use Rattle.rtui_terminal.specs.Resizing.{Resizes}
 use Rattle.screenplay.specs.Run.{stage_size, GoesOn, plain_screen, rows_above_view, IsGoodStage, IsFrame, first_viewport, first_rows, IsStart, KeepsSurroundings, size_after, View, row_count, text_area, IsInserted, InsertsOn}
-use Rattle.screenplay.proofs.FrameLemmas.{plain-emptied, plain-frame, shown-again}
-use Rattle.screenplay.specs.Playing.{IsPlainBuffer, IsPlaying, view_in, TakesNewSize, IsSizedFor, ShowsFrame, InsertsBuffer, IsCauseOfFrame, IsCauseOfStep, Plays}
+use Rattle.screenplay.proofs.FrameLemmas.{AreUnmarked-emptied, AreUnmarked-frame, shown-again}
+use Rattle.screenplay.specs.Playing.{IsPlaying, view_in, TakesNewSize, IsSizedFor, ShowsFrame, InsertsBuffer, IsCauseOfFrame, IsCauseOfStep, Plays}
 use Rattle.screenplay.specs.declared.scene.PlayCause.{PlayCause}
 use Rattle.screenplay.specs.declared.scene.PlayCause.TheVariants.{Memory, Unsettled}
 use Rattle.screenplay.specs.declared.scene.Stage.{Stage}
@@ -98,7 +97,7 @@ IsPlaying-started stage b t good blank starts =
     let is : IsBlank s = record { at = λ a c a_in c_in. blank.grid a c } in (
       record {
         rest = rests-started screen_of kind b t (subst (FitsSize kind) (sym own) good.viewport) is starts;
-        plain = plain-emptied t.viewport_area t.previous starts.previous;
+        plain = AreUnmarked-emptied t.viewport_area t.previous starts.previous;
       },
       record {
         size = size;
@@ -117,7 +116,7 @@ IsPlaying-drawn stage text puts frame s t playing made settled applied =
     let keeps = applied.keeps here settled in (
       record {
         rest = rests-applied screen_of stage.viewport None frame s t playing.rest settled applied;
-        plain = subst IsPlainBuffer (sym applied.painted) (plain-frame s.viewport_area text puts frame made);
+        plain = subst (λ (f : BufferData). AreUnmarked f.cells) (sym applied.painted) (AreUnmarked-frame s.viewport_area text puts frame made);
       },
       record {
         rest = record { viewport = keeps.viewport_area; size = record { width = keeps.size.width; height = keeps.size.height; history = keeps.size.history }; outside = record { at = keeps.outside.at } };
@@ -198,7 +197,7 @@ module _ (stage : Stage) (given : Size) (s t : TerminalData TestBackend) (free :
   pub IsPlaying-resized : IsPlaying stage t
   IsPlaying-resized = record {
     rest = rests-resized screen_of stage.viewport taken.backend s t free playing.rest resized;
-    plain = plain-emptied t.viewport_area t.previous resized.previous;
+    plain = AreUnmarked-emptied t.viewport_area t.previous resized.previous;
   }
 
   -- the rows above the viewport are the topmost of the screen in between
@@ -270,7 +269,7 @@ Plays-cleared stage s t good playing clears =
     let outside : KeepsOutside r old new = keeps-cleared screen_of kind (stage_size stage) s t good.viewport playing.rest clears in
     let blank : IsBlankOver r new = blank_over kind r on empties in
     record {
-      playing = record { rest = rests-cleared screen_of kind s t playing.rest clears; plain = plain-emptied s.previous.area t.previous clears.previous };
+      playing = record { rest = rests-cleared screen_of kind s t playing.rest clears; plain = AreUnmarked-emptied s.previous.area t.previous clears.previous };
       after = record {
         rest = record { viewport = view; size = record { width = clears.frame.size.width; height = clears.frame.size.height; history = clears.frame.size.history }; outside = record { at = outside.at } };
         blank = record { at = λ a b within. blank.at a b (subst (λ r. IsWithin r a b) view within) };
@@ -337,13 +336,6 @@ rows_area s text rows made =
     let is = frame_area (text_area s.viewport_area.width text) text rows made in
     is ∙ ap (λ h. record { x = 0; y = 0; width = s.viewport_area.width; height = h }) (sym (ap (λ (r : Rect). r.height) is))
 
--- a plain buffer over another area of its size
-plain_moved : (last : BufferData) (q : Rect) {r : Rect} → last.area ≡ r → q.width ≡ r.width → q.height ≡ r.height → IsPlainBuffer last → IsPlainBuffer (record last { area = q })
-plain_moved last q at width height plain a b a_in b_in =
-    let w : q.width ≡ last.area.width = width ∙ sym (ap (λ (r : Rect). r.width) at) in
-    let h : q.height ≡ last.area.height = height ∙ sym (ap (λ (r : Rect). r.height) at) in
-    ap (λ n. is_skipped (cell_at n last.cells a b)) w ∙ plain a b (omega (arith, a_in, w)) (omega (arith, b_in, h))
-
 -- rows of a text that were inserted
 module _ (stage : Stage) (text : TextData) (rows : BufferData) (s t : TerminalData TestBackend) (inline : IsInline stage.viewport) (playing : IsPlaying stage s)
     (made : IsFrame (text_area s.viewport_area.width text) text [] rows) where
@@ -393,7 +385,7 @@ module _ (stage : Stage) (text : TextData) (rows : BufferData) (s t : TerminalDa
         record {
           playing = record {
             rest = rests-inserted screen_of stage.viewport rows s t inline playing.rest takes settled inserts;
-            plain = subst IsPlainBuffer (sym (inserts.left takes at)) (plain_moved s.previous t.viewport_area at.area (ap (λ (r : Rect). r.width) view) (ap (λ (r : Rect). r.height) view) playing.plain);
+            plain = subst (λ (f : BufferData). AreUnmarked f.cells) (sym (inserts.left takes at)) playing.plain;
           };
           after = inserts_inline stage.viewport text (view_in s) (view_in t) inline (record {
             size = same_size screen_after screen_before inserts.shape.width inserts.shape.height;

@@ -1,18 +1,18 @@
 -- Reading a script, a line at a time.
 use Rattle.std.proofs.Common.{◌≡◌, ℕ, zero, suc, ◌+◌, ◌-◌, ◌<◌, ◌≤◌, Bool, true, false, ◌==◌, List, [], ◌∷◌, ◌++◌, length, take, get_or, Option, Some, None, refl, sym, ap, ◌∙◌, arith}
-use Rattle.std.specs.Prelude.{if◌then◌else◌}
+use Rattle.std.specs.Prelude.{if◌then◌else◌, option_and_then}
 use Rattle.std.specs.List.{slice_split, onto_first}
 use Rattle.std.specs.Str.Lines.{lines, lines_of_parts}
 use Rattle.screenplay.specs.declared.script.Script.{Script}
-use Rattle.screenplay.specs.Script.{nothing, after_line, read_on, read_from, script_of, IsFirstBadLine}
+use Rattle.screenplay.specs.Script.{nothing, after_line, read_from, script_of, IsFirstBadLine}
 
-read_from-push : (s : Option Script) (ls : List (List ℕ)) (line : List ℕ) → read_from s (ls ++ line ∷ []) ≡ read_on (read_from s ls) line
+read_from-push : (s : Option Script) (ls : List (List ℕ)) (line : List ℕ) → read_from s (ls ++ line ∷ []) ≡ option_and_then (after_line line) (read_from s ls)
 read_from-push s [] line = refl
-read_from-push s (l ∷ ls) line = read_from-push (read_on s l) ls line
+read_from-push s (l ∷ ls) line = read_from-push (option_and_then (after_line l) s) ls line
 
 -- one line more was read
 pub script_of-push : (ls : List (List ℕ)) (line : List ℕ) (s t : Script) → script_of ls ≡ Some s → after_line line s ≡ Some t → script_of (ls ++ line ∷ []) ≡ Some t
-script_of-push ls line s t is after = read_from-push (Some nothing) ls line ∙ ap (λ o. read_on o line) is ∙ after
+script_of-push ls line s t is after = read_from-push (Some nothing) ls line ∙ ap (option_and_then (after_line line)) is ∙ after
 
 -- a bad line after good ones is the first bad one
 pub IsFirstBadLine-read : (all done : List (List ℕ)) (line : List ℕ) (n : ℕ) (s : Script) → done ≡ take n all → n < length all → line ≡ get_or all n line → script_of done ≡ Some s → after_line line s ≡ None → IsFirstBadLine all (n + 1)

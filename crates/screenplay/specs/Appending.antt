@@ -1,5 +1,5 @@
 -- The rows above an inline viewport along a run.
-use Rattle.std.specs.Prelude.{◌≡◌, ℕ, zero, suc, ◌+◌, ◌<◌, ◌≤◌, List, [], ◌∷◌, ◌++◌, Option, None, Some, slice_get}
+use Rattle.std.specs.Prelude.{◌≡◌, ℕ, zero, suc, ◌+◌, ◌<◌, ◌≤◌, List, [], ◌∷◌, ◌++◌, Option, Some, slice_get}
 use Rattle.rtui_geometry.specs.declared.size.Size.{Size}
 use Rattle.rtui_cell.specs.Look.{Look}
 use Rattle.rtui_text.specs.Text.{TextData}
@@ -8,14 +8,13 @@ use Rattle.rtui_insert.specs.Insertion.{AppendsRows}
 use Rattle.screenplay.specs.Run.{view_of_scene, view_size, rows_above_view, text_area, IsFrame}
 use Rattle.screenplay.specs.declared.scene.Scene.{Scene}
 use Rattle.screenplay.specs.declared.scene.Step.{Step}
-use Rattle.screenplay.specs.declared.scene.Step.TheVariants.{Draw, Insert, Clear}
+use Rattle.screenplay.specs.declared.scene.Step.TheVariants.{Insert}
 
 -- a frame of each text, in order, as wide as the screen
 abbrev pub AreFrames : ℕ → List TextData → List BufferData → Type 0
 AreFrames width [] [] = Unit {0}
-AreFrames width [] (frame ∷ frames) = ⊥
-AreFrames width (text ∷ texts) [] = ⊥
 AreFrames width (text ∷ texts) (frame ∷ frames) = IsFrame (text_area width text) text [] frame × AreFrames width texts frames
+AreFrames width texts frames = ⊥
 
 -- exactly the rows of frames of these texts were appended, in order
 pub record AppendsTexts (width : ℕ) (texts : List TextData) (old new : List (List Look)) : Type 0 where
@@ -25,10 +24,8 @@ pub record AppendsTexts (width : ℕ) (texts : List TextData) (old new : List (L
 
 -- the texts that a step inserts
 abbrev pub texts_inserted_by : Option Step → List TextData
-texts_inserted_by None = []
-texts_inserted_by (Some (Draw given text puts)) = []
 texts_inserted_by (Some (Insert text)) = text ∷ []
-texts_inserted_by (Some Clear) = []
+texts_inserted_by other = []
 
 -- and n steps from step i on
 abbrev pub inserted_from : List Step → ℕ → ℕ → List TextData

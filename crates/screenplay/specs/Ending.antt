@@ -3,16 +3,12 @@ use Rattle.std.specs.Prelude.{◌≡◌, ℕ, zero, suc, List, [], ◌++◌, Opt
 use Rattle.std.specs.Io.KnownBytes.{Appends}
 use Rattle.screenplay.specs.Engine.{IsRunFault, PrintsRun, run_fault_text}
 use Rattle.screenplay.specs.declared.fault.RunFault.{RunFault}
-use Rattle.screenplay.specs.declared.fault.RunFault.TheVariants.{Line, Step, NotText, Read, Memory, Write}
+use Rattle.screenplay.specs.declared.fault.RunFault.TheVariants.{Write}
 
 -- the line that tells a fault; a failed write has none
 abbrev pub run_fault_line : RunFault → List ℕ
-run_fault_line (Line n) = run_fault_text (Line n) ++ codes "\n"
-run_fault_line (Step fault) = run_fault_text (Step fault) ++ codes "\n"
-run_fault_line NotText = run_fault_text NotText ++ codes "\n"
-run_fault_line Read = run_fault_text Read ++ codes "\n"
-run_fault_line Memory = run_fault_text Memory ++ codes "\n"
 run_fault_line Write = []
+run_fault_line fault = run_fault_text fault ++ codes "\n"
 
 -- the script was printed, and nothing told
 pub record IsScriptPrinted {W E : Type 0} (contents : W → Option (List ℕ)) (bytes : List ℕ) (w w' : W) (e e' : E) : Type 0 where

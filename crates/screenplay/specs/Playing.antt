@@ -1,12 +1,11 @@
 -- A terminal in the middle of a play.
-use Rattle.std.specs.Prelude.{◌≡◌, ℕ, ◌<◌, false, List, Option}
+use Rattle.std.specs.Prelude.{◌≡◌, ℕ, ◌<◌, List, Option}
 use Rattle.rtui_geometry.specs.declared.size.Size.{Size}
-use Rattle.rtui_cell.specs.Cell.{is_skipped}
-use Rattle.rtui_diff.specs.Cells.{cell_at}
 use Rattle.rtui_text.specs.Text.{TextData}
 use Rattle.rtui_buffer.specs.BufferData.{BufferData}
 use Rattle.rtui_buffer.specs.Shown.{IsSettledBuffer, ShowsBuffer}
 use Rattle.rtui_backend.specs.Screen.{size_of, TakesSize}
+use Rattle.rtui_backend.specs.CellGrid.{AreUnmarked}
 use Rattle.rtui_backend.specs.TestBackend.{screen_of}
 use Rattle.rtui_backend.specs.declared.test.TestBackend.{TestBackend}
 use Rattle.rtui_terminal.specs.TerminalData.{TerminalData}
@@ -20,14 +19,10 @@ use Rattle.screenplay.specs.declared.scene.Step.{Step}
 use Rattle.screenplay.specs.declared.scene.PlayCause.{PlayCause}
 use Rattle.screenplay.specs.declared.scene.PlayCause.TheVariants.{Memory, Unsettled}
 
--- no cell of a buffer is skipped
-abbrev pub IsPlainBuffer : BufferData → Type 0
-IsPlainBuffer s = (a b : ℕ) → a < s.area.width → b < s.area.height → is_skipped (cell_at s.area.width s.cells a b) ≡ false
-
--- the terminal is at rest over the stage's kind of viewport, and no cell of the last frame is skipped
+-- the terminal is at rest over the stage's kind of viewport, and no cell of the last frame has an option or a flag
 pub record IsPlaying (stage : Stage) (t : TerminalData TestBackend) : Type 0 where
   pub rest : IsAtRest screen_of stage.viewport t
-  pub plain : IsPlainBuffer t.previous
+  pub plain : AreUnmarked t.previous.cells
 
 -- what a terminal's screen shows
 abbrev pub view_in : TerminalData TestBackend → View

@@ -1,5 +1,5 @@
 -- The printed text of scenes.
-use Rattle.std.specs.Prelude.{ℕ, ◌+◌, List, [], ◌∷◌, Option, None, Some, slice_get}
+use Rattle.std.specs.Prelude.{ℕ, ◌+◌, List, [], ◌∷◌, option_map, unwrap_or, slice_get}
 use Rattle.std.specs.List.{flat_map}
 use Rattle.rtui_backend.specs.Print.{printed_screen}
 use Rattle.screenplay.specs.Run.{view_of_scene}
@@ -24,10 +24,6 @@ shows_of n (Show ∷ acts) = n ∷ shows_of n acts
 abbrev pub printed_scene : Scene → List ℕ
 printed_scene scene = printed_screen (view_of_scene scene).screen
 
-abbrev pub printed_if : Option Scene → List ℕ
-printed_if None = []
-printed_if (Some scene) = printed_scene scene
-
 -- the printed text of the scenes after these numbers of steps, in order
 abbrev pub printed_scenes : List ℕ → List Scene → List ℕ
-printed_scenes shows scenes = flat_map (λ k. printed_if (slice_get scenes k)) shows
+printed_scenes shows scenes = flat_map (λ k. unwrap_or (option_map printed_scene (slice_get scenes k)) []) shows

@@ -89,9 +89,8 @@ first_viewport (Fixed r) size = r
 
 -- how many blank rows scrolled off then: those that an inline viewport wants and the screen hasn't
 abbrev pub first_rows : Viewport → Size → ℕ
-first_rows Fullscreen size = 0
 first_rows (Inline rows) size = rows - size.height
-first_rows (Fixed r) size = 0
+first_rows other size = 0
 
 -- at the start all is blank
 pub record IsStart (stage : Stage) (s : View) : Type 0 where
@@ -109,9 +108,8 @@ pub record KeepsSurroundings (old new : View) : Type 0 where
 -- the size after a draw: the given one, but the screen of a fixed viewport keeps its own
 abbrev pub size_after : Viewport → Option Size → Size → Size
 size_after kind None own = own
-size_after Fullscreen (Some given) own = given
-size_after (Inline rows) (Some given) own = given
 size_after (Fixed r) (Some given) own = own
+size_after kind (Some given) own = given
 
 -- the screen took the size that it has, and the rows above the viewport are then the topmost of it, from its history on
 pub record GoesOn (old new : View) : Type 0 where
@@ -166,9 +164,8 @@ pub record IsInserted (text : TextData) (old new : View) : Type 0 where
 
 -- only an inline viewport has rows above
 abbrev pub InsertsOn : Viewport → TextData → View → View → Type 0
-InsertsOn Fullscreen text old new = new ≡ old
 InsertsOn (Inline rows) text old new = IsInserted text old new
-InsertsOn (Fixed r) text old new = new ≡ old
+InsertsOn other text old new = new ≡ old
 
 -- what stands after a step
 abbrev pub IsAfter : Stage → Step → View → View → Type 0

@@ -1,5 +1,5 @@
 -- The script grammar: what a line commands, what stands after it, and which line is the first bad one.
-use Rattle.std.specs.Prelude.{◌≡◌, ℕ, ◌+◌, ◌-◌, ◌<◌, ◌≤◌, Bool, true, false, ◌&&◌, ◌==◌, not, nat_lt, nat_le, if◌then◌else◌, List, [], ◌∷◌, ◌++◌, length, take, codes, chars, Option, Some, None, slice_index_or, slice_get, encode_utf8}
+use Rattle.std.specs.Prelude.{◌≡◌, ℕ, ◌+◌, ◌-◌, ◌<◌, ◌≤◌, Bool, true, false, ◌&&◌, ◌==◌, not, nat_lt, nat_le, if◌then◌else◌, List, [], ◌∷◌, ◌++◌, length, take, codes, chars, Option, Some, None, option_map, option_and_then, slice_index_or, slice_get, encode_utf8}
 use Rattle.std.specs.Char.{is_control}
 use Rattle.std.specs.Str.{bytes_eq}
 use Rattle.rtui_geometry.specs.declared.rect.Rect.{Rect}
@@ -44,15 +44,9 @@ put_by a b c = None
 abbrev pub stage_with : Size → Viewport → Stage
 stage_with size viewport = record { width = size.width; height = size.height; viewport = viewport }
 
--- a size for the next draw
-abbrev pub size_command : Option Size → Option Command
-size_command None = None
-size_command (Some size) = Some (TakeSize size)
-
 -- a whole screen of a size
-abbrev pub screen_by : Option Size → Option Command
-screen_by None = None
-screen_by (Some size) = Some (SetStage (stage_with size Fullscreen))
+abbrev pub screen_command : Size → Command
+screen_command size = SetStage (stage_with size Fullscreen)
 
 -- at least one row
 abbrev pub inline_by : Option Size → Option ℕ → Option Command
@@ -89,10 +83,10 @@ put_of arguments =
 -- the command of a line with arguments
 unfoldable pub command_with : List ℕ → List ℕ → Option Command
 command_with word arguments =
-    if bytes_eq word (codes "screen") then screen_by (parsed_size arguments)
+    if bytes_eq word (codes "screen") then option_map screen_command (parsed_size arguments)
     else (if bytes_eq word (codes "inline") then inline_of arguments
     else (if bytes_eq word (codes "fixed") then fixed_of arguments
-    else (if bytes_eq word (codes "size") then size_command (parsed_size arguments)
+    else (if bytes_eq word (codes "size") then option_map TakeSize (parsed_size arguments)
     else (if bytes_eq word (codes "put") then put_of arguments
     else (if bytes_eq word (codes "text") then Some (AddText arguments)
     else None)))))
@@ -132,9 +126,8 @@ abbrev pub with_line : List ℕ → TextData → TextData
 with_line line text = record text { lines = text.lines ++ raw_line line ∷ [] }
 
 abbrev pub is_fixed : Viewport → Bool
-is_fixed Fullscreen = false
-is_fixed (Inline rows) = false
 is_fixed (Fixed r) = true
+is_fixed other = false
 
 -- the script after a command, if the command may stand on its stage: a size only if the viewport isn't fixed, an insertion of at most 65535
 -- lines
@@ -161,22 +154,14 @@ after_by (Some stage) c s = after_on stage c s
 abbrev pub after : Command → Script → Option Script
 after c s = after_by s.stage c s
 
-abbrev pub after_if : Option Command → Script → Option Script
-after_if None s = None
-after_if (Some c) s = after c s
-
 -- the script after a line, if that is good: it is empty, or a command that may stand there
 abbrev pub after_line : List ℕ → Script → Option Script
-after_line line s = if length line == 0 then Some s else after_if (command_of line) s
-
-abbrev pub read_on : Option Script → List ℕ → Option Script
-read_on None line = None
-read_on (Some s) line = after_line line s
+after_line line s = if length line == 0 then Some s else option_and_then (λ c. after c s) (command_of line)
 
 -- the script after some lines
 abbrev pub read_from : Option Script → List (List ℕ) → Option Script
 read_from s [] = s
-read_from s (line ∷ lines) = read_from (read_on s line) lines
+read_from s (line ∷ lines) = read_from (option_and_then (after_line line) s) lines
 
 -- the script that some lines are, if all of them are good
 abbrev pub script_of : List (List ℕ) → Option Script

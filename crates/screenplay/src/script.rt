@@ -1,11 +1,12 @@
 //! Reading a script.
 
-ghost use Rattle.std.specs.Prelude.{◌≡◌, ◌+◌, ◌&&◌, nat_le, [], None, Some, IfOk, IfErr, IfSome, if◌then◌else◌};
+ghost use Rattle.std.specs.Prelude.{◌≡◌, ◌+◌, ◌&&◌, nat_le, [], None, Some, IfOk, IfErr, IfSome, option_map, if◌then◌else◌};
+ghost use Rattle.screenplay.specs.declared.script.Command.TheVariants.{TakeSize};
 ghost use Rattle.std.specs.Str.Lines.{lines};
 ghost use Rattle.script_words.specs.Words.{parsed_size};
 ghost use Rattle.rtui_text.specs.Text.{raw_line};
 ghost use Rattle.screenplay.specs.Run.{IsGoodStage};
-ghost use Rattle.screenplay.specs.Script.{char_of, rect_of, screen_by, inline_of, fixed_of, size_command, put_of, command_with, command_of, IsGoodCommand};
+ghost use Rattle.screenplay.specs.Script.{char_of, rect_of, screen_command, inline_of, fixed_of, put_of, command_with, command_of, IsGoodCommand};
 ghost use Rattle.screenplay.specs.Script.{nothing, draw_of, without_text, after_on, first_after, after, after_line, script_of, IsRefusedScript};
 
 use crate::act::{Act, Acts};
@@ -98,7 +99,7 @@ fn read_rect(arguments: &str) -> Option<Rect>
 }
 
 fn read_screen<'a>(arguments: &str) -> Option<Command<'a>>
-    ensures command { result ≡ screen_by (parsed_size arguments.now) }
+    ensures command { result ≡ option_map screen_command (parsed_size arguments.now) }
     ensures good { IfSome result IsGoodCommand }
 {
     let size = read_size(arguments)?;
@@ -157,7 +158,7 @@ fn read_fixed<'a>(arguments: &str) -> Option<Command<'a>>
 }
 
 fn read_new_size<'a>(arguments: &str) -> Option<Command<'a>>
-    ensures command { result ≡ size_command (parsed_size arguments.now) }
+    ensures command { result ≡ option_map TakeSize (parsed_size arguments.now) }
     ensures good { IfSome result IsGoodCommand }
 {
     Some(Command::TakeSize(read_size(arguments)?))

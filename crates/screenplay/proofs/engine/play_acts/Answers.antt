@@ -1,4 +1,4 @@
-use Rattle.std.proofs.Common.{◌≡◌, take, drop, length, suc, refl, ap, sym, ◌∙◌, arith}
+use Rattle.std.proofs.Common.{◌≡◌, take, drop, suc, refl, ap, sym, ◌∙◌, arith}
 use Rattle.std.specs.Prelude.{slice_index_or}
 use Rattle.std.proofs.Math.Seq.{take-length}
 use Rattle.screenplay.proofs.ActLemmas.{HasPlayed-none, HasPlayed-step, HasPlayed-show, PrintsActs-all, EndsEarly-next, taken_next, split_at}
@@ -18,7 +18,7 @@ loop-act-preserved c =
     let acts = c.args.acts.now in
     elim c.match-act.branch [
       | in-Play+in-Ok-play_step w ↦
-          let plays = w.in-Ok-play_step.ensures.ok c.args.stage refl c.requires before.played.playing in
+          let plays = w.in-Ok-play_step.ensures.ok c.args.stage refl c.requires before.played.ran.playing in
           record {
             few = omega (arith, before.few, w.steps-is);
             played =
@@ -44,7 +44,7 @@ returns-in-Err-play_step-clause-fault c =
     let before = c.loop-act.invariant in
     let i = c.loop-act.act-index in
     let acts = c.args.acts.now in
-    let why = c.in-Err-play_step.ensures.err c.args.stage refl before.played.playing in
+    let why = c.in-Err-play_step.ensures.err c.args.stage refl before.played.ran.playing in
     rw c.step_fault-in-Err-play_step.ensures
     (rw (split_at acts i _ c.loop-act-test.true (sym c.in-Play.is ∙ c.act-item.is ∙ ap (λ x. slice_index_or acts i x) c.in-Play.is)) at
     (EndsEarly-next c.args.stage (take i acts) c.loop-act.steps c.loop-act.terminal c.loop-act.text.items before.played c.in-Play.step (drop (suc i) acts) c.in-Err-play_step.cause why))
