@@ -9,6 +9,7 @@ ghost use Rattle.rtui_cell.specs.Symbol.{symbol_text, appended, joined, IsShort}
 
 use arrayvec::ArrayString;
 use rtui_merge::MergeStrategy;
+use rtui_merge::laws::merge_with_itself;
 use std::alloc::{AllocError, Global};
 use std::fmt;
 use std::hash::{Hash, Hasher};
@@ -163,13 +164,21 @@ impl Symbol {
         ensures err { OnErr result (self.new ≡ self.old) }
         ensures short { IsShort (joined strategy self.old text.now) → IsOk result }
     {
-        let joined = match &self.text {
-            Text::Unset | Text::Cleared(_) => text,
-            Text::Short(stored) => strategy.merge(stored.as_str(), text),
-            Text::Long(stored) => strategy.merge(stored.as_str(), text),
-        };
-        *self = Symbol::new(alloc, joined)?;
-        Ok(())
+        match &self.text {
+            Text::Unset | Text::Cleared(_) => self.set(alloc, text),
+            Text::Short(stored) if stored.as_str() == text => {
+                merge_with_itself();
+                Ok(())
+            }
+            Text::Short(stored) => {
+                let stored = *stored;
+                self.set(alloc, strategy.merge(stored.as_str(), text))
+            }
+            Text::Long(stored) => {
+                *self = Symbol::new(alloc, strategy.merge(stored.as_str(), text))?;
+                Ok(())
+            }
+        }
     }
 
     /// Whether the text is a single byte, as the blank of an unset symbol is.
