@@ -7,6 +7,7 @@ ghost use Rattle.rtui_buffer.specs.BufferData.{empty_cells, resized};
 use rtui_cell::Cell;
 use rtui_grid::fill;
 use std::alloc::{AllocError, Global};
+use std::mem;
 
 // A cell, this many times.
 pub fn copies(alloc: Global, cell: Cell, count: usize) -> Result<Vec<Cell>, AllocError>
@@ -30,8 +31,7 @@ pub fn copied(alloc: Global, cells: &[Cell]) -> Result<Vec<Cell>, AllocError>
     ensures room { IfOk result (λ copies. vec_capacity copies ≡ length cells.now) }
     ensures succeeds { length cells.now ≡ 0 → IsOk result }
 {
-    let mut copies = Vec::with_capacity(alloc, cells.len())?;
-    fill_up(&mut copies, cells.len());
+    let mut copies = filled_up(Vec::with_capacity(alloc, cells.len())?, cells.len());
     copy_all(alloc, copies.as_mut_slice(), cells)?;
     Ok(copies)
 }
@@ -64,20 +64,23 @@ pub fn cut_or_fill(cells: &mut Vec<Cell>, count: usize) -> Result<(), AllocError
         return Ok(());
     }
     cells.try_reserve(count - len)?;
-    fill_up(cells, count);
+    let empty = Vec::new(*cells.allocator());
+    *cells = filled_up(mem::replace(cells, empty), count);
     Ok(())
 }
 
-// Fills the list up with empty cells, for which there is room.
-fn fill_up(cells: &mut Vec<Cell>, count: usize)
-    requires more { vec_len cells.old ≤ count }
-    requires room { count ≤ vec_capacity cells.old }
-    ensures items { cells.new.items ≡ cells.old.items ++ empty_cells (count - vec_len cells.old) }
-    ensures room { vec_capacity cells.new ≡ vec_capacity cells.old }
+// The list filled up with empty cells, for which there is room. It is handed over, so that its
+// length needn't be written for each cell.
+fn filled_up(mut cells: Vec<Cell>, count: usize) -> Vec<Cell>
+    requires more { vec_len cells ≤ count }
+    requires room { count ≤ vec_capacity cells }
+    ensures items { result.items ≡ cells.items ++ empty_cells (count - vec_len cells) }
+    ensures room { vec_capacity result ≡ vec_capacity cells }
 {
     for _i in cells.len()..count {
         cells.push_reserved(Cell::EMPTY);
     }
+    cells
 }
 
 // Empties each cell.

@@ -1,7 +1,7 @@
 use Rattle.std.proofs.Common.{◌≡◌, ◌-◌, ◌++◌, vec_len}
 use Rattle.std.specs.Vec.{vec_capacity}
 use Rattle.rtui_buffer.specs.BufferData.{empty_cells}
-use Rattle.rtui_buffer.proofs.buffer.sized.fill_up.Given as goal
+use Rattle.rtui_buffer.proofs.buffer.sized.filled_up.Given as goal
 
 abbrev pub invariant-loop-i : goal.invariant-loop-i
 invariant-loop-i l = record {
