@@ -136,9 +136,7 @@ impl<'a> Line<'a> {
     pub fn from_span(alloc: Global, span: Span<'a>) -> Result<Line<'a>, AllocError>
         ensures { IfOk result (λ l. l ≡ line_of (span.entry ∷ [])) }
     {
-        let mut spans = Spans::new(alloc);
-        spans.push(span)?;
-        Ok(Line::from(spans))
+        Ok(Line::from(vec![in alloc; span]?))
     }
 
     /// A line of spans equal to these.

@@ -132,9 +132,7 @@ impl<'a> Text<'a> {
     pub fn from_line(alloc: Global, line: Line<'a>) -> Result<Text<'a>, AllocError>
         ensures { IfOk result (λ t. t ≡ text_of (line.entry ∷ [])) }
     {
-        let mut lines = Lines::new(alloc);
-        lines.push(line)?;
-        Ok(Text::from(lines))
+        Ok(Text::from(vec![in alloc; line]?))
     }
 
     /// A text of lines equal to these.
