@@ -1,4 +1,4 @@
--- Why the program stops before its input ends, what it has shown then, and how it leaves the terminal.
+-- Why a text is not shown to its end, what is shown then, and how the terminal is left.
 use Rattle.std.specs.Prelude.{◌≡◌, ℕ, ◌-◌, true, IfSome, Option, Some, List, [], ◌++◌, map}
 use Rattle.std.specs.Io.BufRead.{take_through}
 use Rattle.ratatui_core.specs.Layout.{Size}

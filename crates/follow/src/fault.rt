@@ -1,17 +1,17 @@
-//! Why the program stops before its input ends.
+//! Why a text is not shown to its end.
 use ratatui_ansi::AnsiError;
 use ratatui_core::terminal::TerminalError;
 use std::alloc::AllocError;
 use std::{fmt, io};
 
-/// Why the program stops before its input ends.
+/// Why a text is not shown to its end.
 #[derive(Debug, Drop)]
 pub enum Fault {
-    /// The terminal refused a line, memory was refused, or standard output can't be written.
+    /// The terminal refused a line, memory was refused, or a line can't be written.
     Terminal(TerminalError<AnsiError>),
-    /// Standard input can't be read.
+    /// The text can't be read.
     Read(io::Error),
-    /// Standard output can't be written.
+    /// What gives the terminal back can't be written.
     Write(io::Error),
     /// There are more lines than can be counted.
     Lines,

@@ -8,6 +8,8 @@ mod boxes;
 #[cfg(test)]
 mod examples;
 #[cfg(test)]
+mod following;
+#[cfg(test)]
 mod gauges;
 #[cfg(test)]
 mod logs;

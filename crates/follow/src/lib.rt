@@ -1,9 +1,10 @@
-//! The program `follow`: shows standard input line by line above a status line, as it comes.
+//! Shows a text line by line above a status line of a terminal, as it comes.
 //!
-//! `follow COLUMNS ROWS` sends escape sequences to standard output, for a terminal of this size;
-//! without words the size is that of the variables COLUMNS and LINES. What a line's row is, and
-//! what a push leaves on the screen, is `logview`'s; that the bytes show that screen is
-//! `ratatui_ansi`'s.
+//! [`follow`] reads to the end, sends escape sequences for a terminal of a given size, and gives
+//! the terminal back. What a line's row is, and what a push leaves on the screen, is `logview`'s;
+//! that the bytes show that screen is `ratatui_ansi`'s. `specs/Lines` says how a line is shown,
+//! `specs/Ends` why the text isn't shown to its end. The program `follow_program` follows its
+//! standard input.
 #![tactic(auto)]
 
 ghost use Rattle.std.specs.Prelude.{◌≡◌, [], Some, IfOk, IfErr, IfSome, OnOk, string_bytes};
@@ -16,22 +17,16 @@ ghost use Rattle.follow.specs.Ends.{StopsAtNext, StopsText, IsOfShowing, EndsBy,
 
 mod fault;
 mod shown;
-mod size;
-#[cfg(test)]
-mod tests;
 
-use crate::fault::Fault;
-use crate::shown::push_shown;
-use crate::size::{command, size_of};
 use ansi_model::{Sgr, line_feeds, move_to, push_sgr, reset_region, show_cursor};
+pub use fault::Fault;
 use logview::LogView;
 use ratatui_ansi::AnsiBackend;
 use ratatui_core::terminal::TerminalError;
 use rtui_geometry::Size;
+pub use shown::push_shown;
 use std::alloc::{AllocError, Global};
-use std::env;
-use std::io::{self, BufRead, BufWriter, Write};
-use std::process::ExitCode;
+use std::io::{self, BufRead, Write};
 
 // Shows one more line of a reader; answers whether there was one.
 fn push_line<R: BufRead, W: Write + Drop>(
@@ -125,9 +120,20 @@ fn send<W: Write>(writer: &mut W, text: &str) -> io::Result<()>
     writer.flush()
 }
 
-// Shows the lines of a reader to its end, and leaves the terminal with its cursor shown below its
-// rows, also after a fault. What that takes is built first, so that no want of memory prevents it.
-fn follow<R: BufRead, W: Write>(
+/// Shows the lines of a reader to its end on a terminal of `size` columns and rows, and gives the
+/// terminal back: its own colours, no margins, the cursor shown below its rows.
+///
+/// The bytes that give it back are built first, so that no want of memory prevents it, and are
+/// written after a fault, too.
+///
+/// # Errors
+///
+/// - [`Fault::Terminal`]: the terminal refused a line, or memory was refused. The lines before it
+///   are shown.
+/// - [`Fault::Read`]: the reader failed. All lines that it gave are shown.
+/// - [`Fault::Write`]: all was read and shown, but what gives the terminal back can't be written.
+/// - [`Fault::Lines`]: there are more lines than can be counted.
+pub fn follow<R: BufRead, W: Write>(
     alloc: Global,
     reader: &mut R,
     writer: &mut W,
@@ -146,34 +152,5 @@ fn follow<R: BufRead, W: Write>(
     match left {
         Ok(()) => Ok(()),
         Err(error) => Err(Fault::Write(error)),
-    }
-}
-
-// Shows standard input on a terminal of this size.
-fn run(rt: &HostRuntime, size: Size) -> Result<(), Fault> {
-    let mut reader = rt.reader();
-    let mut writer = BufWriter::new(rt.alloc(), io::writer(rt)).map_err(Fault::Write)?;
-    follow(rt.alloc(), &mut reader, &mut writer, size)
-}
-
-fn main(rt: HostRuntime) -> anyhow::Result<ExitCode> {
-    let words: Vec<String> = env::args(&rt)?.collect(rt.alloc())?;
-    let matches = match command(rt.alloc())?.try_get_matches_from(words.as_slice()) {
-        Ok(matches) => matches,
-        Err(error) => {
-            error.print(&rt)?;
-            return Ok(ExitCode::from(error.exit_code() as u8));
-        }
-    };
-    let Some(size) = size_of(&rt, &matches) else {
-        eprintln!(&rt; "follow: no size: give COLUMNS and ROWS, or set COLUMNS and LINES")?;
-        return Ok(ExitCode::from(2));
-    };
-    match run(&rt, size) {
-        Ok(()) => Ok(ExitCode::SUCCESS),
-        Err(fault) => {
-            eprintln!(&rt; "follow: {fault}")?;
-            Ok(ExitCode::FAILURE)
-        }
     }
 }

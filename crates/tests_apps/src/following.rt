@@ -1,9 +1,8 @@
-//! What the program sends, and how it ends where a read, a write or a flush fails.
+//! What `follow` sends, and how it ends if a read, a write or a flush fails.
 
 ghost use Rattle.std.specs.Prelude.{◌≡◌};
 
-use crate::fault::Fault;
-use crate::follow;
+use follow::{Fault, follow};
 use rtui_geometry::Size;
 use std::alloc::Global;
 use std::io::{self, BufReader, ErrorKind, Read, Write};

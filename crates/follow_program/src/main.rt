@@ -1,0 +1,44 @@
+//! The program `follow`: shows standard input line by line above a status line, as it comes.
+//!
+//! `follow COLUMNS ROWS` sends escape sequences to standard output, for a terminal of this size;
+//! without words the size is that of the variables COLUMNS and LINES. If the size isn't known, its
+//! words are wrong or a call fails, one line stands on standard error, and the status is not 0.
+#![tactic(auto)]
+
+mod size;
+
+use crate::size::{command, size_of};
+use follow::{Fault, follow};
+use rtui_geometry::Size;
+use std::env;
+use std::io::{self, BufWriter};
+use std::process::ExitCode;
+
+// Shows standard input on a terminal of this size.
+fn run(rt: &HostRuntime, size: Size) -> Result<(), Fault> {
+    let mut reader = rt.reader();
+    let mut writer = BufWriter::new(rt.alloc(), io::writer(rt)).map_err(Fault::Write)?;
+    follow(rt.alloc(), &mut reader, &mut writer, size)
+}
+
+fn main(rt: HostRuntime) -> anyhow::Result<ExitCode> {
+    let words: Vec<String> = env::args(&rt)?.collect(rt.alloc())?;
+    let matches = match command(rt.alloc())?.try_get_matches_from(words.as_slice()) {
+        Ok(matches) => matches,
+        Err(error) => {
+            error.print(&rt)?;
+            return Ok(ExitCode::from(error.exit_code() as u8));
+        }
+    };
+    let Some(size) = size_of(&rt, &matches) else {
+        eprintln!(&rt; "follow: no size: give COLUMNS and ROWS, or set COLUMNS and LINES")?;
+        return Ok(ExitCode::from(2));
+    };
+    match run(&rt, size) {
+        Ok(()) => Ok(ExitCode::SUCCESS),
+        Err(fault) => {
+            eprintln!(&rt; "follow: {fault}")?;
+            Ok(ExitCode::FAILURE)
+        }
+    }
+}
