@@ -1,5 +1,5 @@
 -- Cells that move, or are emptied, and what their grid shows then.
-use Rattle.std.proofs.Common.{◌≡◌, ◌∷◌, zero, suc, ℕ, true, false, ◌+◌, ◌-◌, ◌*◌, ◌<◌, ◌≤◌, ◌++◌, ◌&&◌, min, nat_lt, Bool, List, [], append-nil, length, map, take, refl, sym, ap, ◌∙◌, arith, inl, inr, length-take, if◌then◌else◌}
+use Rattle.std.proofs.Common.{◌≡◌, ◌∷◌, zero, suc, ℕ, true, false, ◌+◌, ◌*◌, ◌<◌, ◌≤◌, ◌++◌, ◌&&◌, min, nat_lt, Bool, List, [], append-nil, length, map, take, refl, sym, ap, ◌∙◌, arith, inl, inr, length-take, if◌then◌else◌}
 use Rattle.std.specs.Prelude.{nat_le}
 use Rattle.std.specs.List.{range_with_len}
 use Rattle.std.proofs.Math.Nat.{mul-le-mul_right}
