@@ -286,18 +286,14 @@ clears-by kind done x y p q same erased = record { rest = erased.rest; grid = λ
 
 pub clears-at : (old new : Tracker) (kind : ClearType) → Collects old (Erases kind old.cursor.x old.cursor.y) new → Collects old (λ p q. Clears p kind q) new
 clears-at old new kind call = weaker old new (Erases kind old.cursor.x old.cursor.y) (λ p q. Clears p kind q) call (λ t q awaits erased.
-    clears-by kind kind old.cursor.x old.cursor.y (screen_shown old.written (rested t)) q
-    (λ i j j_in. ap (λ (k : Position). if is_cleared kind k.x k.y i j then empty_look else look_in ((rested t).columns i j)) (sym awaits.placed)) erased)
+    subst (λ (k : Position). Erases kind k.x k.y (screen_shown old.written (rested t)) q) (sym awaits.placed) erased)
 
 pub clears-corner : (old new : Tracker) → old.cursor.x ≡ 0 → old.cursor.y ≡ 0 → Collects old (λ p q. Clears p All q) new → Collects old (λ p q. Clears p AfterCursor q) new
 clears-corner old new at_x at_y call = weaker old new (λ p q. Clears p All q) (λ p q. Clears p AfterCursor q) call (λ t q awaits cleared.
     let p : Screen = screen_shown old.written (rested t) in
     let x : p.cursor_x ≡ 0 = ap (λ (k : Position). k.x) awaits.placed ∙ at_x in
     let y : p.cursor_y ≡ 0 = ap (λ (k : Position). k.y) awaits.placed ∙ at_y in
-    record {
-      rest = cleared.rest;
-      grid = λ i j i_in j_in. rw (x, y) (let e : (nat_lt 0 j || (nat_eq j 0 && nat_le 0 i)) ≡ true = grind (arith, nat_tests) in rw e (cleared.grid i j i_in j_in));
-    })
+    clears-by AfterCursor All p.cursor_x p.cursor_y p q (λ i j j_in. rw (x, y) (let e : (nat_lt 0 j || (nat_eq j 0 && nat_le 0 i)) ≡ true = grind (arith, nat_tests) in rw e refl)) cleared)
 
 -- up to the end of the symbol at the cursor, whose other columns show nothing of their own
 module _ (w h end : ℕ) (place : Position) (flags : List Bool) (from : place.x ≤ end) (inside : end < w) (rest : (k : ℕ) → place.x < k → k ≤ end → flag flags (place.y * w + k) ≡ true) where
