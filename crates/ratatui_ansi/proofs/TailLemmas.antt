@@ -51,15 +51,6 @@ laid_cases x y n end look c a b P inside blank out =
       ] refl
     ] refl
 
-laid-inside : (x y n end : ℕ) (look : Look) (c : Columns) (a b : ℕ) → run x y n a b ≡ true → laid x y n end look c a b ≡ Shows look (a - x) n
-laid-inside x y n end look c a b e = rw e refl
-
-laid-blank : (x y n end : ℕ) (look : Look) (c : Columns) (a b : ℕ) → run x y n a b ≡ false → run (x + n) y (end - (x + n)) a b ≡ true → laid x y n end look c a b ≡ blank_column
-laid-blank x y n end look c a b e f = rw (e, f) refl
-
-laid-other : (x y n end : ℕ) (look : Look) (c : Columns) (a b : ℕ) → run x y n a b ≡ false → run (x + n) y (end - (x + n)) a b ≡ false → laid x y n end look c a b ≡ c a b
-laid-other x y n end look c a b e f = rw (e, f) refl
-
 outside : (x y n end a b : ℕ) → x + n ≤ end → run x y n a b ≡ false → run (x + n) y (end - (x + n)) a b ≡ false → run x y (end - x) a b ≡ false
 outside x y n end a b ordered e f = grind (arith, nat_tests)
 
@@ -67,7 +58,7 @@ laid-outside : (x y n end : ℕ) (look : Look) (c : Columns) (a b : ℕ) → x +
 laid-outside x y n end look c a b ordered e =
     let f : run x y n a b ≡ false = grind (arith, nat_tests) in
     let g : run (x + n) y (end - (x + n)) a b ≡ false = grind (arith, nat_tests) in
-    laid-other x y n end look c a b f g
+    rw (f, g) refl
 
 -- a symbol outside the columns of the new one and the tail has none of its columns in them
 apart_from : (x y n end a b : ℕ) (look : Look) (i m : ℕ) (c : Columns) → is_continuation (c x y) ≡ false → IsTail (x + n) end y c → IsWholeAt (λ k. c k b) a (Shows look i m)
@@ -125,7 +116,7 @@ laid-whole x y n end look c whole left tail a b =
           let there : (a - (a - x)) + j ≡ x + j = omega arith in
           let inside : run x y n (x + j) b ≡ true = grind (arith, nat_tests) in
           let part : x + j - x ≡ j = omega arith in
-          ap (λ k. laid x y n end look c k b) there ∙ laid-inside x y n end look c (x + j) b inside ∙ ap (λ k. Shows look k n) part,
+          ap (λ k. laid x y n end look c k b) there ∙ rw inside (ap (λ k. Shows look k n) part),
     ))
     (λ e f. (
       omega arith,
@@ -133,7 +124,7 @@ laid-whole x y n end look c whole left tail a b =
       λ j below.
           let first : j ≡ 0 = omega arith in
           let there : (a - 0) + j ≡ a = omega arith in
-          ap (λ k. laid x y n end look c k b) there ∙ laid-blank x y n end look c a b e f ∙ ap (λ k. Shows empty_look k 1) (sym first),
+          ap (λ k. laid x y n end look c k b) there ∙ rw (e, f) (ap (λ k. Shows empty_look k 1) (sym first)),
     ))
     (λ e f. whole_outside x y n end a b look c (c a b) left tail (outside x y n end a b ordered e f) (whole a b))
 
