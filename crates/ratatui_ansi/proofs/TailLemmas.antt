@@ -1,6 +1,6 @@
 -- The columns under a symbol, and what is left of one of which it covers the first part.
-use Rattle.std.proofs.Common.{◌≡◌, ℕ, ◌+◌, ◌-◌, ◌<◌, ◌≤◌, ◌==◌, ◌&&◌, ◌||◌, nat_lt, nat_eq, if◌then◌else◌, zero, suc, Bool, true, false, refl, sym, ap, ap₂, ◌∙◌, arith}
-use Rattle.std.proofs.lemmas.Bool.{or_right}
+use Rattle.std.proofs.Common.{◌≡◌, ℕ, ◌+◌, ◌-◌, ◌<◌, ◌≤◌, ◌==◌, ◌&&◌, ◌||◌, nat_lt, nat_eq, if◌then◌else◌, zero, suc, Bool, true, false, inl, inr, refl, sym, ap, ap₂, ◌∙◌, arith}
+use Rattle.std.proofs.lemmas.Bool.{or_right, cases_lt}
 use Rattle.std.proofs.lemmas.Bool.Decides.{nat_tests}
 use Rattle.std.specs.List.{list_any, range_with_len}
 use Rattle.ratatui_core.specs.Buffer.{Look, look_of, empty_look, width_of, Update, put}
@@ -78,11 +78,7 @@ laid-beyond w x y n end look c fits beyond a b far =
     laid_cases x y n end look c a b (λ d. d ≡ blank_column) (λ e. let near : a < x + n = grind (arith, nat_tests) in absurd (omega arith)) (λ e f. refl) (λ e f. beyond a b far)
 
 part_behind : (x a : ℕ) → x ≤ a → (if (a - x) == 0 then false else true) ≡ nat_lt x a
-part_behind x a low =
-    elim (nat_lt x a) as (λ p. nat_lt x a ≡ p → (if (a - x) == 0 then false else true) ≡ p) [
-      | true ↦ λ e. let f : ((a - x) == 0) ≡ false = grind (arith, nat_tests) in rw f refl
-      | false ↦ λ e. let f : ((a - x) == 0) ≡ true = grind (arith, nat_tests) in rw f refl
-    ] refl
+part_behind x a low = grind (arith, nat_tests)
 
 pub laid-continuations : (x y n end : ℕ) (look : Look) (c : Columns) (a b : ℕ)
     → is_continuation (laid x y n end look c a b) ≡ (if run x y n a b then nat_lt x a else (if run (x + n) y (end - (x + n)) a b then false else is_continuation (c a b)))
@@ -131,11 +127,7 @@ laid-whole x y n end look c whole left tail a b =
 -- after the first column of a symbol a column shows nothing of its own
 pub continuation-empty : (d : Column) → is_continuation d ≡ true → look_in d ≡ empty_look
 continuation-empty Unknown e = refl
-continuation-empty (Shows look index count) e =
-    elim (index == 0) as (λ p. (if p then false else true) ≡ true → (if p then look else empty_look) ≡ empty_look) [
-      | true ↦ λ f. let h : ⊥ = cc in absurd h
-      | false ↦ λ f. refl
-    ] e
+continuation-empty (Shows look index count) e = grind (arith, nat_tests)
 
 if_past : {A : Type 0} (p q : Bool) (r s : A) → (if p && false && q then r else s) ≡ s
 if_past true q r s = refl
@@ -170,19 +162,14 @@ laid-shown w h x y n end u c tail ex ey en some fits y_in a b =
 -- ---- the columns while the tail is emptied
 
 later : (i : ℕ) → (if i == 0 then false else true) ≡ true → 0 < i
-later i e =
-    elim (i == 0) as (λ p. (i == 0) ≡ p → (if p then false else true) ≡ true → 0 < i) [
-      | true ↦ λ f g. let h : ⊥ = cc in absurd h
-      | false ↦ λ f g. grind (arith, nat_tests)
-    ] refl e
+later i e = grind (arith, nat_tests)
 
 -- the symbol of a column in the tail begins before the tail
 before : (x y n end a b : ℕ) (look : Look) (i m : ℕ) (c : Columns) → IsWholeAt (λ k. c k b) a (Shows look i m) → 0 < i → IsTail (x + n) end y c → b ≡ y → a < end → a - i < x + n
 before x y n end a b look i m c whole some tail row high =
-    elim (nat_lt (a - i) (x + n)) as (λ p. nat_lt (a - i) (x + n) ≡ p → a - i < x + n) [
-      | true ↦ λ e. grind (arith, nat_tests)
-      | false ↦ λ e.
-          let from : x + n ≤ a - i = grind (arith, nat_tests) in
+    elim (cases_lt (a - i) (x + n)) [
+      | inl e ↦ e
+      | inr from ↦
           let index : i < m = whole.0 in
           let there : (a - i) + 0 ≡ a - i = omega arith in
           let shows : c (a - i) y ≡ Shows look 0 m = ap₂ (λ k j. c k j) (sym there) (sym row) ∙ whole.2 0 (omega arith) in
@@ -190,7 +177,7 @@ before x y n end a b look i m c whole some tail row high =
           let is : is_continuation (c (a - i) y) ≡ true = tail.continuations (a - i) from (omega arith) in
           let h : ⊥ = cc in
           absurd h
-    ] refl
+    ]
 
 tail-met : (x y n end a b : ℕ) (c : Columns) (d : Column) → IsWholeAt (λ k. c k b) a d → is_continuation d ≡ true → IsTail (x + n) end y c → 0 < n → b ≡ y → x + n ≤ a → a < end
     → is_met (run x y n) a b d ≡ true
@@ -235,10 +222,8 @@ put-torn x y n end look c whole left tail some a b =
 
 laid-more : (x y n k : ℕ) (look : Look) (c : Columns) (a b : ℕ) → run k y 1 a b ≡ false → x + n ≤ k → laid x y n k look c a b ≡ laid x y n (k + 1) look c a b
 laid-more x y n k look c a b other low =
-    elim (run (x + n) y (k - (x + n)) a b) as (λ p. run (x + n) y (k - (x + n)) a b ≡ p → laid x y n k look c a b ≡ laid x y n (k + 1) look c a b) [
-      | true ↦ λ e. let f : run (x + n) y (k + 1 - (x + n)) a b ≡ true = grind (arith, nat_tests) in rw (e, f) refl
-      | false ↦ λ e. let f : run (x + n) y (k + 1 - (x + n)) a b ≡ false = grind (arith, nat_tests) in rw (e, f) refl
-    ] refl
+    let same : run (x + n) y (k - (x + n)) a b ≡ run (x + n) y (k + 1 - (x + n)) a b = grind (arith, nat_tests) in
+    rw same refl
 
 laid-apart : (x y n k end a b : ℕ) (look : Look) (c : Columns) → IsWhole c → is_continuation (c x y) ≡ false → IsTail (x + n) end y c → x + n ≤ k → k < end → run k y (end - k) a b ≡ false
     → is_met (run k y 1) a b (laid x y n k look c a b) ≡ false
