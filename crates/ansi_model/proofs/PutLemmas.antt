@@ -56,11 +56,7 @@ put-outside : (x y n : ℕ) (look : Look) (c : Columns) (a b : ℕ) → IsWhole 
 put-outside x y n look c a b whole uncut e = rw (e, apart x y n a b c (c a b) (whole a b) uncut.left uncut.right e) refl
 
 pub first-or-later : (x a : ℕ) (look old : Look) → x ≤ a → look_in (Shows look (a - x) 1) ≡ (if nat_eq a x then look else (if nat_lt x a && true && true then empty_look else old))
-first-or-later x a look old low =
-    elim (nat_eq a x) as (λ p. nat_eq a x ≡ p → (if (a - x) == 0 then look else empty_look) ≡ (if p then look else (if nat_lt x a && true && true then empty_look else old))) [
-      | true ↦ λ e. let f : ((a - x) == 0) ≡ true = grind (arith, nat_tests) in rw f refl
-      | false ↦ λ e. let f : ((a - x) == 0) ≡ false = grind (arith, nat_tests) in let g : nat_lt x a ≡ true = grind (arith, nat_tests) in rw (f, g) refl
-    ] refl
+first-or-later x a look old low = grind (arith, nat_tests)
 
 pub rest-same : {A : Type 0} (p q r : Bool) (look old : A) (e : A) → (p ≡ true → q ≡ false) → (p ≡ true → r ≡ false) → old ≡ (if p then (if q then look else (if r then e else old)) else old)
 rest-same false q r look old e f g = refl

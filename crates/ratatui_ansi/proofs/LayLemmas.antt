@@ -246,15 +246,7 @@ marked-at w x y n end a b old new is was ordered inside column some e f g =
 -- a symbol of one column over no part of another one leaves the flags as they are
 pub one-marked : (first past_it end : ℕ) (flags : List Bool) → slice_index_or flags first false ≡ false → end ≤ first + 1
     → (k : ℕ) → slice_index_or flags k false ≡ (if nat_le first k && nat_lt k end then nat_lt first k && nat_lt k past_it else slice_index_or flags k false)
-one-marked first past_it end flags unset short k =
-    elim (nat_le first k && nat_lt k end) as (λ p. (nat_le first k && nat_lt k end) ≡ p
-    → slice_index_or flags k false ≡ (if p then nat_lt first k && nat_lt k past_it else slice_index_or flags k false)) [
-      | true ↦ λ e.
-          let same : k ≡ first = grind (arith, nat_tests) in
-          let not_behind : nat_lt first k ≡ false = grind (arith, nat_tests) in
-          ap (λ j. slice_index_or flags j false) same ∙ unset ∙ rw not_behind refl
-      | false ↦ λ e. refl
-    ] refl
+one-marked first past_it end flags unset short k = grind (arith, nat_tests)
 
 pub tail-of : (w h from end y : ℕ) (flags : List Bool) (c : Columns) → AreContinuations w h flags c → IsBlankBeyond w c → y < h → from ≤ end → end ≤ w
     → ((k : ℕ) → from ≤ k → k < end → slice_index_or flags (y * w + k) false ≡ true) → (end < w → slice_index_or flags (y * w + end) false ≡ false) → IsTail from end y c
