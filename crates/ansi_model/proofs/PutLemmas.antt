@@ -124,17 +124,14 @@ put-beyond w x y n look c whole uncut fits beyond a b out =
     let e : run x y n a b ≡ false = grind (arith, nat_tests) in
     put-outside x y n look c a b whole uncut e ∙ beyond a b out
 
-later : (x a : ℕ) → (if a - x == 0 then false else true) ≡ nat_lt x a
-later x a =
-    elim (nat_lt x a) as (λ p. nat_lt x a ≡ p → (if a - x == 0 then false else true) ≡ p) [
-      | true ↦ λ e. let f : (a - x == 0) ≡ false = grind (arith, nat_tests) in rw f refl
-      | false ↦ λ e. let f : (a - x == 0) ≡ true = grind (arith, nat_tests) in rw f refl
-    ] refl
+-- whether a column lies after the first one of its symbol
+pub index-later : (x a : ℕ) → (if a - x == 0 then false else true) ≡ nat_lt x a
+index-later x a = grind (arith, nat_tests)
 
 -- which columns lie after the first of their symbol
 pub put-continuations : (x y n : ℕ) (look : Look) (c : Columns) → IsWhole c → IsUncut x y n c → (a b : ℕ) → is_continuation (put_columns x y n look c a b) ≡ (if run x y n a b then nat_lt x a else is_continuation (c a b))
 put-continuations x y n look c whole uncut a b =
     elim (run x y n a b) as (λ p. run x y n a b ≡ p → is_continuation (put_columns x y n look c a b) ≡ (if p then nat_lt x a else is_continuation (c a b))) [
-      | true ↦ λ e. ap is_continuation (put-inside x y n look c a b e) ∙ later x a
+      | true ↦ λ e. ap is_continuation (put-inside x y n look c a b e) ∙ index-later x a
       | false ↦ λ e. ap is_continuation (put-outside x y n look c a b whole uncut e)
     ] refl

@@ -8,7 +8,7 @@ use Rattle.ansi_model.specs.Columns.{Column, Columns, blank_column, look_in, is_
 use Rattle.ansi_model.specs.Columns.Column.{Shows, Unknown}
 use Rattle.ansi_model.specs.Emulator.{run}
 use Rattle.ansi_model.specs.Screens.{HasOwnWidth, HaveOwnWidths, IsWhole, IsWholeAt, IsBlankBeyond, put_columns}
-use Rattle.ansi_model.proofs.PutLemmas.{none_between, apart-at, first-or-later, rest-same}
+use Rattle.ansi_model.proofs.PutLemmas.{none_between, apart-at, first-or-later, index-later, rest-same}
 use Rattle.ansi_model.proofs.TextLemmas.{blank-sized}
 use Rattle.ansi_model.specs.Symbols.{printed_columns}
 
@@ -77,14 +77,11 @@ pub laid-beyond : (w x y n end : ℕ) (look : Look) (c : Columns) → x + n ≤ 
 laid-beyond w x y n end look c fits beyond a b far =
     laid_cases x y n end look c a b (λ d. d ≡ blank_column) (λ e. let near : a < x + n = grind (arith, nat_tests) in absurd (omega arith)) (λ e f. refl) (λ e f. beyond a b far)
 
-part_behind : (x a : ℕ) → x ≤ a → (if (a - x) == 0 then false else true) ≡ nat_lt x a
-part_behind x a low = grind (arith, nat_tests)
-
 pub laid-continuations : (x y n end : ℕ) (look : Look) (c : Columns) (a b : ℕ)
     → is_continuation (laid x y n end look c a b) ≡ (if run x y n a b then nat_lt x a else (if run (x + n) y (end - (x + n)) a b then false else is_continuation (c a b)))
 laid-continuations x y n end look c a b =
     laid_cases x y n end look c a b (λ d. is_continuation d ≡ (if run x y n a b then nat_lt x a else (if run (x + n) y (end - (x + n)) a b then false else is_continuation (c a b))))
-    (λ e. rw e (part_behind x a (grind (arith, nat_tests)))) (λ e f. rw (e, f) refl) (λ e f. rw (e, f) refl)
+    (λ e. rw e (index-later x a)) (λ e f. rw (e, f) refl) (λ e f. rw (e, f) refl)
 
 whole_outside : (x y n end a b : ℕ) (look : Look) (c : Columns) (d : Column) → is_continuation (c x y) ≡ false → IsTail (x + n) end y c → run x y (end - x) a b ≡ false
     → IsWholeAt (λ k. c k b) a d → IsWholeAt (λ k. laid x y n end look c k b) a d
