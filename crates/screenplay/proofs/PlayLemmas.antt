@@ -1,5 +1,5 @@
 -- A terminal in the middle of a play: its start, its sizes, its frames and its clears.
-use Rattle.std.proofs.Common.{◌≡◌, ℕ, zero, suc, ◌+◌, ◌-◌, ◌<◌, ◌≤◌, min, nat_lt, Bool, true, false, if◌then◌else◌, List, [], ◌∷◌, ◌++◌, map, replicate, Option, Some, None, refl, sym, ap, ap₂, subst, ◌∙◌, inl, inr, arith}
+use Rattle.std.proofs.Common.{◌≡◌, ℕ, zero, suc, ◌+◌, ◌-◌, ◌<◌, ◌≤◌, min, nat_lt, true, false, if◌then◌else◌, List, [], ◌∷◌, ◌++◌, map, replicate, Option, Some, None, refl, sym, ap, ap₂, subst, ◌∙◌, inl, inr, arith}
 use Rattle.std.specs.Prelude.{nat_le, ◌||◌, ◌&&◌, ◌==◌}
 use Rattle.std.specs.List.{range_with_len}
 use Rattle.std.proofs.lemmas.Bool.{cases_lt}
@@ -70,11 +70,7 @@ module _ (w h : ℕ) (s : Screen) (blank : IsBlankScreen w h s) where
   started_rows (Fixed r) some good = refl
 
   seen_blank : (a b : ℕ) → seen s a b ≡ empty_look
-  seen_blank a b = either (nat_lt b s.height)
-    where
-      either : (t : Bool) → (if t then s.grid a b else empty_look) ≡ empty_look
-      either true = blank.grid a b
-      either false = refl
+  seen_blank a b = elim (nat_lt b s.height) as (λ t. (if t then s.grid a b else empty_look) ≡ empty_look) [ true ↦ blank.grid a b | false ↦ refl ]
 
   blank_rows : (k : ℕ) → rows_above s k ≡ replicate k (replicate w empty_look)
   blank_rows k =
