@@ -7,26 +7,8 @@
 //! which of them is refused, if one is: so `tools/refusals` chooses the request that is refused.
 #![tactic(auto)]
 
-mod answer;
-mod args;
-mod backends;
-mod buffers;
-mod cells;
-mod fault;
-mod geometry;
-mod layouts;
-mod lines;
-mod palettes;
 mod rows;
 mod scripts;
-mod spans;
-mod styles;
-mod stylize;
-mod symbols;
-mod terminals;
-mod texts;
-mod tokens;
-mod whole_texts;
 
 use crate::rows::Tally;
 use std::alloc::Global;

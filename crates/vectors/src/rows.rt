@@ -1,12 +1,12 @@
 //! Rows: a call, and what it answers.
-use crate::answer::Answer;
-use crate::args::Args;
-use crate::fault::Fault;
-use crate::tokens::{Token, steps_of};
-use crate::{
-    backends, buffers, cells, geometry, layouts, lines, palettes, scripts, spans, styles, stylize,
-    symbols, terminals, whole_texts,
-};
+use crate::scripts;
+use row_screens::{backends, buffers, cells, terminals};
+use row_texts::{lines, spans, stylize, whole_texts};
+use row_values::{borders, geometry, layouts, palettes, styles, symbols};
+use row_words::answer::Answer;
+use row_words::args::Args;
+use row_words::fault::Fault;
+use row_words::tokens::{Token, steps_of};
 use std::alloc::{AllocError, Global};
 
 /// How many rows of a file hold and don't, and what is told of those that don't.
@@ -35,8 +35,8 @@ fn make_call(subject: &str, args: &mut Args<'_>, answer: &mut Answer) -> Result<
         "offset" => geometry::offset(args, answer),
         "size" => geometry::size(args, answer),
         "margin" => geometry::margin(args, answer),
-        "width" => cells::width(args, answer),
-        "merge" => cells::merge(args, answer),
+        "width" => borders::width(args, answer),
+        "merge" => borders::merge(args, answer),
         "clear_type" => backends::clear_type(args, answer),
         "palette" => palettes::palette(args, answer),
         "symbols" => symbols::symbols(args, answer),

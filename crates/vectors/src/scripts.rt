@@ -1,7 +1,7 @@
 //! Scripts of the program `screenplay`, run over bytes in memory.
-use crate::answer::Answer;
-use crate::args::Args;
-use crate::fault::Fault;
+use row_words::answer::Answer;
+use row_words::args::Args;
+use row_words::fault::Fault;
 use screenplay::run;
 
 /// Runs a script: what it prints, or why it fails.

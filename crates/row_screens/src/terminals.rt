@@ -2,17 +2,17 @@
 ghost use Rattle.rtui_viewport.specs.Viewports.{FitsEdges};
 ghost use Rattle.std.specs.Prelude.{IfOk};
 
-use crate::answer::{Answer, Show};
-use crate::args::Args;
-use crate::backends::{change, put_backend, see};
-use crate::fault::Fault;
-use crate::tokens::Token;
+use crate::backends::{self, put_backend};
 use ratatui_core::backend::{Backend, TestBackend, TestError};
 use ratatui_core::buffer::{Buffer, Cell, CellDiffOption};
 use ratatui_core::layout::{Position, Rect};
 use ratatui_core::terminal::{Frame, Terminal, TerminalError, TerminalOptions, Viewport};
 use ratatui_core::text::Text;
 use ratatui_core::widgets::Widget;
+use row_words::answer::{Answer, Show};
+use row_words::args::Args;
+use row_words::fault::Fault;
+use row_words::tokens::Token;
 use std::alloc::{AllocError, Global};
 
 // What a call is refused for, if it is.
@@ -32,37 +32,35 @@ struct Picture<'a> {
     cursor: Option<Position>,
 }
 
-impl<'a> Args<'a> {
-    fn content(&mut self) -> Result<Content<'a>, Fault> {
-        let by_characters = self.takes("chars");
-        let text = self.lines()?;
-        Ok(Content {
-            text,
-            by_characters,
-        })
-    }
+fn read_content<'a>(args: &mut Args<'a>) -> Result<Content<'a>, Fault> {
+    let by_characters = args.takes("chars");
+    let text = args.lines()?;
+    Ok(Content {
+        text,
+        by_characters,
+    })
+}
 
-    // A content, and after a comma `cursor` and its place.
-    fn picture(&mut self) -> Result<Picture<'a>, Fault> {
-        let content = self.content()?;
-        self.skip_comma();
-        let cursor = if self.takes("cursor") {
-            Some(self.position()?)
-        } else {
-            None
-        };
-        Ok(Picture { content, cursor })
-    }
+// A content, and after a comma `cursor` and its place.
+fn read_picture<'a>(args: &mut Args<'a>) -> Result<Picture<'a>, Fault> {
+    let content = read_content(args)?;
+    args.skip_comma();
+    let cursor = if args.takes("cursor") {
+        Some(args.position()?)
+    } else {
+        None
+    };
+    Ok(Picture { content, cursor })
+}
 
-    fn viewport(&mut self, word: &str) -> Result<Viewport, Fault>
-        ensures { IfOk result FitsEdges }
-    {
-        match word {
-            "screen" => Ok(Viewport::Fullscreen),
-            "inline" => Ok(Viewport::Inline(self.u16()?)),
-            "fixed" => Ok(Viewport::Fixed(self.area()?)),
-            _ => Err(Fault::Unread),
-        }
+fn read_viewport(args: &mut Args<'_>) -> Result<Viewport, Fault>
+    ensures { IfOk result FitsEdges }
+{
+    match args.word()? {
+        "screen" => Ok(Viewport::Fullscreen),
+        "inline" => Ok(Viewport::Inline(args.u16()?)),
+        "fixed" => Ok(Viewport::Fixed(args.area()?)),
+        _ => Err(Fault::Unread),
     }
 }
 
@@ -216,94 +214,127 @@ fn insert_refused(terminal: &mut Terminal<TestBackend>) -> Outcome {
 }
 
 // Gives the current buffer the viewport's area.
-fn mend_buffer(terminal: &mut Terminal<TestBackend>) -> Result<(), AllocError> {
+fn mend_buffer(terminal: &mut Terminal<TestBackend>) -> Result<(), Fault> {
     let area = terminal.viewport_area();
     let area = Rect::new(area.x, area.y, area.width, area.height);
-    terminal.current_buffer_mut().resize(area)
+    Ok(terminal.current_buffer_mut().resize(area)?)
 }
 
-// A call that draws a frame, inserts rows, or gives another size; none if there is no such call.
-fn act(
+// A call that a terminal can refuse, and that takes nothing.
+fn call(
     terminal: &mut Terminal<TestBackend>,
     word: &str,
     args: &mut Args<'_>,
-) -> Result<Option<Outcome>, Fault> {
-    let alloc = args.alloc;
+    answer: &mut Answer,
+) -> Result<(), Fault> {
     match word {
-        "draw" => Ok(Some(draw(alloc, terminal, &args.picture()?))),
-        "draw_anew" => Ok(Some(draw_anew(alloc, terminal, &args.picture()?))),
-        "try_draw" => Ok(Some(try_draw(alloc, terminal, &args.picture()?))),
+        "clear" => told(terminal.clear(), answer),
+        "autoresize" => told(terminal.autoresize(), answer),
+        "flush" => told(terminal.flush(), answer),
+        "hide_cursor" => told(terminal.hide_cursor(), answer),
+        "show_cursor" => told(terminal.show_cursor(), answer),
+        "apply_buffer" => told(apply(terminal, None), answer),
+        "draw_always" => told(draw_always(terminal), answer),
+        "draw_without_memory" => told(draw_refused(terminal), answer),
+        "try_draw_told" => told(draw_told(terminal), answer),
+        "insert_without_memory" => told(insert_refused(terminal), answer),
+        _ => call_with(terminal, word, args, answer),
+    }
+}
+
+// A call that a terminal can refuse, and that takes something.
+fn call_with(
+    terminal: &mut Terminal<TestBackend>,
+    word: &str,
+    args: &mut Args<'_>,
+    answer: &mut Answer,
+) -> Result<(), Fault> {
+    match word {
+        "draw" | "draw_anew" | "try_draw" => {
+            told(
+                draw_as(word, args.alloc, terminal, &read_picture(args)?),
+                answer,
+            )
+        }
         "insert" => {
             let height = args.u16()?;
-            Ok(Some(insert(alloc, terminal, height, &args.content()?)))
+            told(
+                insert(args.alloc, terminal, height, &read_content(args)?),
+                answer,
+            )
         }
-        _ => act_otherwise(terminal, word, args),
+        "resize" => told(terminal.resize(args.area()?), answer),
+        "set_cursor_position" | "apply_buffer_with_cursor" => {
+            told(at_cursor(terminal, word, args.position()?), answer)
+        }
+        "set_cursor" | "draw_resized" | "insert_resized" => {
+            told(with_pair(terminal, word, args.pair()?), answer)
+        }
+        _ => touch(terminal, word, args, answer),
     }
 }
 
-// Such a call that draws a frame or inserts rows of its own.
-fn act_otherwise(
+fn draw_as(
+    word: &str,
+    alloc: Global,
+    terminal: &mut Terminal<TestBackend>,
+    picture: &Picture<'_>,
+) -> Outcome {
+    match word {
+        "draw" => draw(alloc, terminal, picture),
+        "draw_anew" => draw_anew(alloc, terminal, picture),
+        _ => try_draw(alloc, terminal, picture),
+    }
+}
+
+fn at_cursor(terminal: &mut Terminal<TestBackend>, word: &str, position: Position) -> Outcome {
+    match word {
+        "set_cursor_position" => terminal.set_cursor_position(position),
+        _ => apply(terminal, Some(position)),
+    }
+}
+
+fn with_pair(
     terminal: &mut Terminal<TestBackend>,
     word: &str,
-    args: &mut Args<'_>,
-) -> Result<Option<Outcome>, Fault> {
+    (one, other): (u16, u16),
+) -> Outcome {
     match word {
-        "draw_always" => Ok(Some(draw_always(terminal))),
-        "draw_resized" => Ok(Some(draw_resized(terminal, args.u16()?, args.u16()?))),
-        "draw_without_memory" => Ok(Some(draw_refused(terminal))),
-        "try_draw_told" => Ok(Some(draw_told(terminal))),
-        "apply_buffer" => Ok(Some(apply(terminal, None))),
-        "apply_buffer_with_cursor" => Ok(Some(apply(terminal, Some(args.position()?)))),
-        "insert_resized" => Ok(Some(insert_resized(terminal, args.u16()?, args.u16()?))),
-        "insert_without_memory" => Ok(Some(insert_refused(terminal))),
-        _ => set(terminal, word, args),
+        "set_cursor" => terminal.set_cursor(one, other),
+        "draw_resized" => draw_resized(terminal, one, other),
+        _ => insert_resized(terminal, one, other),
     }
 }
 
-// Such a call that paints nothing.
-fn set(
-    terminal: &mut Terminal<TestBackend>,
-    word: &str,
-    args: &mut Args<'_>,
-) -> Result<Option<Outcome>, Fault> {
-    match word {
-        "clear" => Ok(Some(terminal.clear())),
-        "autoresize" => Ok(Some(terminal.autoresize())),
-        "resize" => Ok(Some(terminal.resize(args.area()?))),
-        "flush" => Ok(Some(terminal.flush())),
-        "hide_cursor" => Ok(Some(terminal.hide_cursor())),
-        "show_cursor" => Ok(Some(terminal.show_cursor())),
-        "set_cursor_position" => Ok(Some(terminal.set_cursor_position(args.position()?))),
-        "set_cursor" => Ok(Some(terminal.set_cursor(args.u16()?, args.u16()?))),
-        _ => Ok(None),
-    }
-}
-
-// A call that makes none of the backend's; whether there is such a call.
+// A call that makes none of the backend's, or one of the backend.
 fn touch(
     terminal: &mut Terminal<TestBackend>,
     word: &str,
     args: &mut Args<'_>,
     answer: &mut Answer,
-) -> Result<bool, Fault> {
+) -> Result<(), Fault> {
     match word {
-        "swap_buffers" => terminal.swap_buffers(),
-        "paint" => paint(terminal, args)?,
-        "mend_buffer" => mend_buffer(terminal)?,
-        "viewport_area" => answer.add(terminal.viewport_area())?,
-        "is_cursor_hidden" => answer.add(terminal.is_cursor_hidden())?,
-        "current_buffer" => answer.put(terminal.current_buffer_mut())?,
-        "frame" => put_frame(terminal, answer)?,
-        _ => return Ok(false),
+        "swap_buffers" => {
+            terminal.swap_buffers();
+            Ok(())
+        }
+        "paint" => paint(terminal, args),
+        "mend_buffer" => mend_buffer(terminal),
+        "viewport_area" => answer.add(terminal.viewport_area()),
+        "is_cursor_hidden" => answer.add(terminal.is_cursor_hidden()),
+        "current_buffer" => answer.put(terminal.current_buffer_mut()),
+        "frame" => put_frame(terminal, answer),
+        "size" => answer.told(terminal.size()),
+        "get_cursor_position" => answer.told(terminal.get_cursor_position()),
+        "get_cursor" => answer.told(terminal.get_cursor()),
+        _ => backends::call(terminal.backend_mut(), word, args, answer),
     }
-    Ok(true)
 }
 
 // Paints on the current buffer.
 fn paint(terminal: &mut Terminal<TestBackend>, args: &mut Args<'_>) -> Result<(), Fault> {
-    let content = args.content()?;
-    content.paint(args.alloc, terminal.current_buffer_mut())?;
-    Ok(())
+    let content = read_content(args)?;
+    Ok(content.paint(args.alloc, terminal.current_buffer_mut())?)
 }
 
 // Adds the area, the size and the number of the next frame.
@@ -314,35 +345,11 @@ fn put_frame(terminal: &mut Terminal<TestBackend>, answer: &mut Answer) -> Resul
     answer.add(frame.count())
 }
 
-// Asks a terminal something that its backend can refuse; whether there is such a question.
-fn ask(
-    terminal: &mut Terminal<TestBackend>,
-    word: &str,
-    answer: &mut Answer,
-) -> Result<bool, Fault> {
-    match word {
-        "size" => match terminal.size() {
-            Ok(size) => answer.add(size)?,
-            Err(error) => answer.refused(&error)?,
-        },
-        "get_cursor_position" => match terminal.get_cursor_position() {
-            Ok(position) => answer.add(position)?,
-            Err(error) => answer.refused(&error)?,
-        },
-        "get_cursor" => match terminal.get_cursor() {
-            Ok((x, y)) => answer.add(Position { x, y })?,
-            Err(error) => answer.refused(&error)?,
-        },
-        _ => return Ok(false),
-    }
-    Ok(true)
-}
-
-// Says what a call was refused for, if it was; memory only if it is the second time.
-fn report(outcome: Outcome, is_again: bool, answer: &mut Answer) -> Result<(), Fault> {
+// Adds what a call was refused for, if it was for anything but memory.
+fn told(outcome: Outcome, answer: &mut Answer) -> Result<(), Fault> {
     match outcome {
         Ok(()) => Ok(()),
-        Err(TerminalError::Memory) if !is_again => Err(Fault::Memory),
+        Err(TerminalError::Memory) => Err(Fault::Memory),
         Err(TerminalError::Backend(TestError::Memory)) => Err(Fault::Lost),
         Err(error) => answer.refused(&error),
     }
@@ -353,20 +360,34 @@ fn step(
     terminal: &mut Terminal<TestBackend>,
     alloc: Global,
     tokens: &[Token],
-    is_again: bool,
     answer: &mut Answer,
 ) -> Result<(), Fault> {
     let mut args = Args::new(alloc, tokens);
     let word = args.word()?;
-    if let Some(outcome) = act(terminal, word, &mut args)? {
-        report(outcome, is_again, answer)?;
-    } else if !touch(terminal, word, &mut args, answer)?
-        && !ask(terminal, word, answer)?
-        && !change(terminal.backend_mut(), word, &mut args, answer)?
-    {
-        see(terminal.backend(), word, &mut args, answer)?;
-    }
+    call(terminal, word, &mut args, answer)?;
     args.end()
+}
+
+// The same, made once more over what it left if memory was refused; it can be refused for want of
+// memory only if it is so twice.
+fn step_again(
+    terminal: &mut Terminal<TestBackend>,
+    alloc: Global,
+    tokens: &[Token],
+) -> Result<Answer, Fault> {
+    let mut answer = Answer::new(alloc);
+    match step(terminal, alloc, tokens, &mut answer) {
+        Ok(()) => return Ok(answer),
+        Err(Fault::Memory) => {}
+        Err(fault) => return Err(fault),
+    }
+    let mut answer = Answer::new(alloc);
+    match step(terminal, alloc, tokens, &mut answer) {
+        Ok(()) => {}
+        Err(Fault::Memory) => answer.refused(&TerminalError::<TestError>::Memory)?,
+        Err(fault) => return Err(fault),
+    }
+    Ok(answer)
 }
 
 // Puts a symbol in each column of each row.
@@ -420,23 +441,14 @@ pub fn terminal(
     answer: &mut Answer,
 ) -> Result<(), Fault> {
     let backend = screen(args)?;
-    let word = args.word()?;
-    let viewport = args.viewport(word)?;
+    let viewport = read_viewport(args)?;
     args.end()?;
     let mut terminal = match Terminal::with_options(alloc, backend, TerminalOptions { viewport }) {
         Ok(terminal) => terminal,
         Err(error) => return answer.refused(&error),
     };
     for each in later {
-        let tokens = each.as_slice();
-        let mut own = Answer::new(alloc);
-        let mut done = step(&mut terminal, alloc, tokens, false, &mut own);
-        if let Err(Fault::Memory) = done {
-            own = Answer::new(alloc);
-            done = step(&mut terminal, alloc, tokens, true, &mut own);
-        }
-        done?;
-        answer.join(&own)?;
+        answer.join(&step_again(&mut terminal, alloc, each.as_slice())?)?;
     }
     put_backend(terminal.backend(), answer)?;
     answer.word("viewport ")?;

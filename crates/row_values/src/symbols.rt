@@ -1,11 +1,11 @@
 //! Symbols by their names, sets of them, tables of patterns, and markers.
-use crate::answer::Answer;
-use crate::args::Args;
-use crate::fault::Fault;
-use crate::layouts::named;
 use ratatui_core::symbols::{
     DOT, Marker, bar, block, border, braille, half_block, line, pixel, scrollbar, shade,
 };
+use row_words::answer::Answer;
+use row_words::args::Args;
+use row_words::fault::Fault;
+use row_words::names::named;
 
 // Symbols that have names of their own.
 static SYMBOLS: [(&str, &str); 90] = [
@@ -317,9 +317,9 @@ fn border_by_name(name: &str, answer: &mut Answer) -> Result<(), Fault> {
     Err(Fault::Unread)
 }
 
-/// A symbol, a set of symbols or a table of patterns; or a marker that is read from its name.
-pub fn symbols(args: &mut Args<'_>, answer: &mut Answer) -> Result<(), Fault> {
-    match args.word()? {
+// A set that has no table, by its name.
+fn set_by_name(name: &str, answer: &mut Answer) -> Result<(), Fault> {
+    match name {
         "bar::NINE_LEVELS" => put_bar(&bar::NINE_LEVELS, answer),
         "bar::THREE_LEVELS" => put_bar(&bar::THREE_LEVELS, answer),
         "bar::Set::default" => put_bar(&bar::Set::default(), answer),
@@ -328,22 +328,40 @@ pub fn symbols(args: &mut Args<'_>, answer: &mut Answer) -> Result<(), Fault> {
         "block::Set::default" => put_block(&block::Set::default(), answer),
         "line::Set::default" => put_line(&line::Set::default(), answer),
         "border::Set::default" => put_border(&border::Set::default(), answer),
-        "scrollbar::DOUBLE_VERTICAL" => put_scrollbar(&scrollbar::DOUBLE_VERTICAL, answer),
-        "scrollbar::DOUBLE_HORIZONTAL" => put_scrollbar(&scrollbar::DOUBLE_HORIZONTAL, answer),
-        "scrollbar::VERTICAL" => put_scrollbar(&scrollbar::VERTICAL, answer),
-        "scrollbar::HORIZONTAL" => put_scrollbar(&scrollbar::HORIZONTAL, answer),
-        "scrollbar::Set::default" => put_scrollbar(&scrollbar::Set::default(), answer),
+        _ => by_name(name, answer),
+    }
+}
+
+fn scrollbar_by_name(name: &str, answer: &mut Answer) -> Result<(), Fault> {
+    match name {
+        "DOUBLE_VERTICAL" => put_scrollbar(&scrollbar::DOUBLE_VERTICAL, answer),
+        "DOUBLE_HORIZONTAL" => put_scrollbar(&scrollbar::DOUBLE_HORIZONTAL, answer),
+        "VERTICAL" => put_scrollbar(&scrollbar::VERTICAL, answer),
+        "HORIZONTAL" => put_scrollbar(&scrollbar::HORIZONTAL, answer),
+        "Set::default" => put_scrollbar(&scrollbar::Set::default(), answer),
+        _ => Err(Fault::Unread),
+    }
+}
+
+/// A symbol, a set of symbols or a table of patterns; or a marker that is read from its name.
+pub fn symbols(args: &mut Args<'_>, answer: &mut Answer) -> Result<(), Fault> {
+    match args.word()? {
         "braille::BRAILLE" => put_characters(&braille::BRAILLE, answer),
         "pixel::QUADRANTS" => put_characters(&pixel::QUADRANTS, answer),
         "pixel::SEXTANTS" => put_characters(&pixel::SEXTANTS, answer),
         "pixel::OCTANTS" => put_characters(&pixel::OCTANTS, answer),
-        "half_block" => {
-            let halves = [half_block::UPPER, half_block::LOWER, half_block::FULL];
-            put_characters(&halves, answer)
-        }
+        "half_block" => put_halves(answer),
         "Marker" => named::<Marker>(args, answer),
         "Marker::default" => answer.print(args.alloc, &Marker::default()),
         "Marker::Custom" => answer.print(args.alloc, &Marker::Custom(args.char()?)),
-        name => by_name(name, answer),
+        name => match name.strip_prefix("scrollbar::") {
+            Some(name) => scrollbar_by_name(name, answer),
+            None => set_by_name(name, answer),
+        },
     }
+}
+
+fn put_halves(answer: &mut Answer) -> Result<(), Fault> {
+    let halves = [half_block::UPPER, half_block::LOWER, half_block::FULL];
+    put_characters(&halves, answer)
 }

@@ -1,10 +1,10 @@
 //! Palettes by their names.
-use crate::answer::Answer;
-use crate::args::Args;
-use crate::fault::Fault;
 use ratatui_core::style::Color;
 use ratatui_core::style::palette::material::{self, AccentedPalette, NonAccentedPalette};
 use ratatui_core::style::palette::tailwind::{self, Palette};
+use row_words::answer::Answer;
+use row_words::args::Args;
+use row_words::fault::Fault;
 
 static TAILWIND: [(&str, Palette); 22] = [
     ("SLATE", tailwind::SLATE),

@@ -1,25 +1,30 @@
 //! Calls on lines.
-use crate::answer::Answer;
-use crate::args::Args;
-use crate::fault::Fault;
-use crate::texts::alike;
-use crate::tokens::Token;
 use ratatui_core::layout::HorizontalAlignment;
 use ratatui_core::style::Style;
 use ratatui_core::text::{Line, Spans};
+use row_words::answer::Answer;
+use row_words::args::Args;
+use row_words::fault::Fault;
+use row_words::texts::alike;
+use row_words::tokens::Token;
 use std::alloc::Global;
+use std::mem;
 
 fn made<'a>(args: &mut Args<'a>) -> Result<Line<'a>, Fault> {
-    let alloc = args.alloc;
     match args.word()? {
-        "raw" => Ok(Line::raw(alloc, args.text()?)?),
-        "styled" => Ok(Line::styled(alloc, args.text()?, args.style())?),
-        "raw_string" => Ok(Line::raw_string(alloc, String::from_str(alloc, args.text()?)?)?),
-        "default" => Ok(Line::default_in(alloc)),
+        "default" => Ok(Line::default_in(args.alloc)),
         "line" => args.line(),
-        "from_span" => Ok(Line::from_span(alloc, args.span()?)?),
-        word => made_of(word, alloc, args.line()?),
+        "raw" => Ok(Line::raw(args.alloc, args.text()?)?),
+        "styled" => Ok(Line::styled(args.alloc, args.text()?, args.style())?),
+        "raw_string" => made_of_string(args.alloc, args.text()?),
+        "from_span" => Ok(Line::from_span(args.alloc, args.span()?)?),
+        word => made_of(word, args.alloc, args.line()?),
     }
+}
+
+fn made_of_string<'a>(alloc: Global, text: &str) -> Result<Line<'a>, Fault> {
+    let text = String::from_str(alloc, text)?;
+    Ok(Line::raw_string(alloc, text)?)
 }
 
 // A line of the spans of another one.
@@ -33,18 +38,12 @@ fn made_of<'a>(word: &str, alloc: Global, line: Line<'a>) -> Result<Line<'a>, Fa
     }
 }
 
+// A line after a call that can't be refused.
 fn changed<'a>(line: Line<'a>, word: &str, args: &mut Args<'a>) -> Result<Line<'a>, Fault> {
     match word {
         "style" => Ok(line.style(args.style())),
         "patch_style" => Ok(line.patch_style(args.style())),
         "reset_style" => Ok(line.reset_style()),
-        _ => aligned(line, word, args),
-    }
-}
-
-fn aligned<'a>(line: Line<'a>, word: &str, args: &mut Args<'a>) -> Result<Line<'a>, Fault> {
-    match word {
-        "alignment" => Ok(line.alignment(args.value::<HorizontalAlignment>()?)),
         "left_aligned" => Ok(line.left_aligned()),
         "centered" => Ok(line.centered()),
         "right_aligned" => Ok(line.right_aligned()),
@@ -54,6 +53,7 @@ fn aligned<'a>(line: Line<'a>, word: &str, args: &mut Args<'a>) -> Result<Line<'
 
 fn added<'a>(line: Line<'a>, word: &str, args: &mut Args<'a>) -> Result<Line<'a>, Fault> {
     match word {
+        "alignment" => Ok(line.alignment(args.value::<HorizontalAlignment>()?)),
         "spans" => Ok(line.spans(args.line()?.spans.as_slice())?),
         "try_add" => Ok(line.try_add(args.span()?)?),
         _ => extended(line, word, args),
@@ -78,40 +78,36 @@ fn restyle(line: &mut Line<'_>, style: Style) {
     }
 }
 
-// Asks a line something; whether there is such a question.
-fn asked(
-    line: &Line<'_>,
-    word: &str,
-    args: &mut Args<'_>,
-    answer: &mut Answer,
-) -> Result<bool, Fault> {
-    let alloc = args.alloc;
-    match word {
-        "width" => answer.add(line.width())?,
-        "clone" => answer.add(line.clone(alloc)?)?,
-        "print" => answer.print(alloc, line)?,
-        "equal" => alike(line, &args.line()?, answer)?,
-        _ => return taken(line, word, args, answer),
-    }
-    Ok(true)
+// Whether a call asks a line something, and leaves it as it is.
+fn is_question(word: &str) -> bool {
+    matches!(
+        word,
+        "width"
+            | "clone"
+            | "print"
+            | "equal"
+            | "styled_graphemes"
+            | "iter"
+            | "try_add_line"
+            | "try_into_string"
+    )
 }
 
-// Takes a line apart, or makes a text of it; whether there is such a call.
-fn taken(
-    line: &Line<'_>,
+// Asks a line something.
+fn ask<'a>(
+    line: &Line<'a>,
     word: &str,
-    args: &mut Args<'_>,
+    args: &mut Args<'a>,
     answer: &mut Answer,
-) -> Result<bool, Fault> {
-    let alloc = args.alloc;
+) -> Result<(), Fault> {
     match word {
-        "styled_graphemes" => put_graphemes(line, args.style(), answer)?,
-        "iter" => put_texts(line, answer)?,
-        "try_add_line" => answer.add(line.clone(alloc)?.try_add_line(args.line()?)?)?,
-        "try_into_string" => answer.add(line.clone(alloc)?.try_into_string()?.as_str())?,
-        _ => return Ok(false),
+        "width" => answer.add(line.width()),
+        "print" => answer.print(args.alloc, line),
+        "styled_graphemes" => put_graphemes(line, args.style(), answer),
+        "iter" => put_texts(line, answer),
+        "equal" => alike(line, &args.line()?, answer),
+        _ => ask_copy(line.clone(args.alloc)?, word, args, answer),
     }
-    Ok(true)
 }
 
 fn put_graphemes(line: &Line<'_>, style: Style, answer: &mut Answer) -> Result<(), Fault> {
@@ -128,6 +124,35 @@ fn put_texts(line: &Line<'_>, answer: &mut Answer) -> Result<(), Fault> {
     Ok(())
 }
 
+// Adds a copy of a line, or a text that is made of it.
+fn ask_copy<'a>(
+    line: Line<'a>,
+    word: &str,
+    args: &mut Args<'a>,
+    answer: &mut Answer,
+) -> Result<(), Fault> {
+    match word {
+        "clone" => answer.add(line),
+        "try_into_string" => answer.add(line.try_into_string()?.as_str()),
+        _ => {
+            let other = args.line()?;
+            answer.add(line.try_add_line(other)?)
+        }
+    }
+}
+
+// One call on a line.
+fn step<'a>(line: &mut Line<'a>, args: &mut Args<'a>, answer: &mut Answer) -> Result<(), Fault> {
+    let word = args.word()?;
+    if is_question(word) {
+        ask(line, word, args, answer)?;
+    } else {
+        let former = mem::replace(line, Line::default_in(args.alloc));
+        *line = changed(former, word, args)?;
+    }
+    args.end()
+}
+
 /// A line, and calls on it; the line itself if nothing was asked.
 pub fn line<'a>(
     alloc: Global,
@@ -136,13 +161,8 @@ pub fn line<'a>(
     answer: &mut Answer,
 ) -> Result<(), Fault> {
     let mut line = made(args)?;
-    for step in later {
-        let mut args = Args::new(alloc, step.as_slice());
-        let word = args.word()?;
-        if !asked(&line, word, &mut args, answer)? {
-            line = changed(line, word, &mut args)?;
-        }
-        args.end()?;
+    for each in later {
+        step(&mut line, &mut Args::new(alloc, each.as_slice()), answer)?;
     }
     if answer.is_empty() {
         answer.add(line)

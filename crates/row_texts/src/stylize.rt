@@ -1,9 +1,9 @@
 //! Whatever has a style, styled by name.
-use crate::answer::{Answer, Show};
-use crate::args::Args;
-use crate::fault::Fault;
-use ratatui_core::style::Stylize;
+use ratatui_core::style::{Color, Stylize};
 use ratatui_core::text::StyledGrapheme;
+use row_words::answer::{Answer, Show};
+use row_words::args::Args;
+use row_words::fault::Fault;
 use std::borrow::CowStr;
 
 // It on a background.
@@ -79,47 +79,64 @@ fn modified<T: Stylize + Drop>(item: T, name: &str) -> Option<T::Item> {
 }
 
 // It after a call.
-fn called<T: Stylize + Drop>(item: T, args: &mut Args<'_>, answer: &mut Answer) -> Result<(), Fault>
-where
-    T::Item: Show + Drop,
-{
-    let word = args.word()?;
-    let styled = match word {
-        "style" => return answer.add(item.style()),
+fn styled<T: Stylize + Drop>(item: T, word: &str, args: &mut Args<'_>) -> Option<T::Item> {
+    match word {
         "set_style" => Some(item.set_style(args.style())),
-        "fg" => Some(item.fg(args.color()?)),
-        "bg" => Some(item.bg(args.color()?)),
         "add_modifier" => Some(item.add_modifier(args.modifier())),
         "remove_modifier" => Some(item.remove_modifier(args.modifier())),
         _ => match word.strip_prefix("on_") {
             Some(name) => on_color(item, name),
             None => in_color(item, word),
         },
-    };
-    match styled {
-        Some(item) => answer.add(item),
-        None => Err(Fault::Unread),
+    }
+}
+
+// It in a colour.
+fn colored<T: Stylize + Drop>(item: T, word: &str, color: Color) -> T::Item {
+    if word == "fg" {
+        item.fg(color)
+    } else {
+        item.bg(color)
+    }
+}
+
+// A call on it.
+fn called<T: Stylize + Drop>(item: T, args: &mut Args<'_>, answer: &mut Answer) -> Result<(), Fault>
+where
+    T::Item: Show + Drop,
+{
+    match args.word()? {
+        "style" => answer.add(item.style()),
+        word @ ("fg" | "bg") => answer.add(colored(item, word, args.color()?)),
+        word => match styled(item, word, args) {
+            Some(item) => answer.add(item),
+            None => Err(Fault::Unread),
+        },
     }
 }
 
 /// A call on what has a style: what it is, and after a comma the call.
 pub fn stylize(args: &mut Args<'_>, answer: &mut Answer) -> Result<(), Fault> {
     match args.word()? {
-        "str" => called(args.text()?, args, answer),
-        "String" => called(String::from_str(args.alloc, args.text()?)?, args, answer),
-        "CowStr" => called(CowStr::Borrowed(args.text()?), args, answer),
-        "grapheme" => called(
-            StyledGrapheme::new(args.text()?, args.style()),
-            args,
-            answer,
-        ),
         "span" => called(args.span()?, args, answer),
         "line" => called(args.line()?, args, answer),
         "text" => called(args.lines()?, args, answer),
-        "is_whitespace" => answer.add(StyledGrapheme::new(
-            args.text()?,
-            args.style(),
-        ).is_whitespace()),
+        word => stylize_text(word, args.text()?, args, answer),
+    }
+}
+
+fn stylize_text(
+    word: &str,
+    text: &str,
+    args: &mut Args<'_>,
+    answer: &mut Answer,
+) -> Result<(), Fault> {
+    match word {
+        "str" => called(text, args, answer),
+        "String" => called(String::from_str(args.alloc, text)?, args, answer),
+        "CowStr" => called(CowStr::Borrowed(text), args, answer),
+        "grapheme" => called(StyledGrapheme::new(text, args.style()), args, answer),
+        "is_whitespace" => answer.add(StyledGrapheme::new(text, args.style()).is_whitespace()),
         _ => Err(Fault::Unread),
     }
 }

@@ -27,16 +27,10 @@ impl<'a> Args<'a> {
 
     // The next token that isn't a comma.
     fn token(&mut self) -> Option<&'a Token> {
+        self.skip_comma();
         let (first, rest) = self.rest.split_first()?;
         self.rest = rest;
-        match first {
-            Token::Comma => {
-                let (second, rest) = self.rest.split_first()?;
-                self.rest = rest;
-                Some(second)
-            }
-            token => Some(token),
-        }
+        Some(first)
     }
 
     /// The next word.
@@ -69,7 +63,7 @@ impl<'a> Args<'a> {
         self.rest.len()
     }
 
-    // The next word, which is left, if one stands before the next comma.
+    /// The next word, which is left, if one stands before the next comma.
     pub fn peek(&self) -> Option<&'a str> {
         match self.rest.first()? {
             Token::Word(word) => Some(word.as_str()),
@@ -114,10 +108,6 @@ impl<'a> Args<'a> {
         self.text()?.chars().next().ok_or(Fault::Unread)
     }
 
-    pub fn u8(&mut self) -> Result<u8, Fault> {
-        self.value::<u8>()
-    }
-
     /// The next word, as a value that it names.
     pub fn value<T: FromStr>(&mut self) -> Result<T, Fault>
     where
@@ -133,12 +123,18 @@ impl<'a> Args<'a> {
         self.value::<u16>()
     }
 
+    /// Two numbers.
+    pub fn pair(&mut self) -> Result<(u16, u16), Fault> {
+        Ok((self.u16()?, self.u16()?))
+    }
+
     pub fn rect(&mut self) -> Result<Rect, Fault> {
+        let ((x, y), (width, height)) = (self.pair()?, self.pair()?);
         Ok(Rect {
-            x: self.u16()?,
-            y: self.u16()?,
-            width: self.u16()?,
-            height: self.u16()?,
+            x,
+            y,
+            width,
+            height,
         })
     }
 
@@ -156,23 +152,20 @@ impl<'a> Args<'a> {
     }
 
     pub fn position(&mut self) -> Result<Position, Fault> {
-        Ok(Position {
-            x: self.u16()?,
-            y: self.u16()?,
-        })
+        let (x, y) = self.pair()?;
+        Ok(Position { x, y })
     }
 
     pub fn size(&mut self) -> Result<Size, Fault> {
-        Ok(Size {
-            width: self.u16()?,
-            height: self.u16()?,
-        })
+        let (width, height) = self.pair()?;
+        Ok(Size { width, height })
     }
 
     pub fn margin(&mut self) -> Result<Margin, Fault> {
+        let (horizontal, vertical) = self.pair()?;
         Ok(Margin {
-            horizontal: self.u16()?,
-            vertical: self.u16()?,
+            horizontal,
+            vertical,
         })
     }
 
@@ -181,5 +174,17 @@ impl<'a> Args<'a> {
             x: self.value::<i32>()?,
             y: self.value::<i32>()?,
         })
+    }
+
+    /// The texts that are left.
+    pub fn texts(&mut self) -> Result<Vec<&'a str>, Fault> {
+        let mut texts = Vec::new(self.alloc);
+        self.skip_comma();
+        for _ in 0..self.len() {
+            if let Some(text) = self.next_text() {
+                texts.push(text)?;
+            }
+        }
+        Ok(texts)
     }
 }

@@ -81,6 +81,17 @@ impl Answer {
         Ok(())
     }
 
+    /// Adds what a call answered, or what it was refused for.
+    pub fn told<T: Show + Drop, E: Display + Drop>(
+        &mut self,
+        outcome: Result<T, E>,
+    ) -> Result<(), Fault> {
+        match outcome {
+            Ok(value) => self.put(&value),
+            Err(error) => self.refused(&error),
+        }
+    }
+
     /// Adds what is printed of a value, as a text between quotes.
     pub fn print<T: Display>(&mut self, alloc: Global, value: &T) -> Result<(), Fault> {
         let printed = value.to_string(alloc)?;
@@ -183,6 +194,13 @@ impl Show for Rect {
 impl Show for Position {
     fn show(&self, out: &mut String) -> Result<(), AllocError> {
         let (x, y) = (self.x, self.y);
+        write!(out, "{x} {y}")
+    }
+}
+
+impl Show for (u16, u16) {
+    fn show(&self, out: &mut String) -> Result<(), AllocError> {
+        let (x, y) = *self;
         write!(out, "{x} {y}")
     }
 }

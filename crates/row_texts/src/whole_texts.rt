@@ -1,26 +1,37 @@
 //! Calls on texts, on masked ones, and on what prints.
-use crate::answer::Answer;
-use crate::args::Args;
-use crate::fault::Fault;
-use crate::texts::alike;
-use crate::tokens::Token;
 use ratatui_core::layout::HorizontalAlignment;
 use ratatui_core::style::Style;
 use ratatui_core::text::{Masked, Text, ToLine, ToSpan, ToText};
+use row_words::answer::Answer;
+use row_words::args::Args;
+use row_words::fault::Fault;
+use row_words::texts::alike;
+use row_words::tokens::Token;
 use std::alloc::Global;
 use std::fmt::Display;
+use std::mem;
 
 fn made<'a>(args: &mut Args<'a>) -> Result<Text<'a>, Fault> {
-    let alloc = args.alloc;
     match args.word()? {
-        "raw" => Ok(Text::raw(alloc, args.text()?)?),
-        "styled" => Ok(Text::styled(alloc, args.text()?, args.style())?),
-        "raw_string" => Ok(Text::raw_string(alloc, String::from_str(alloc, args.text()?)?)?),
-        "default" => Ok(Text::default_in(alloc)),
+        "default" => Ok(Text::default_in(args.alloc)),
         "text" => args.lines(),
-        "from_span" => Ok(Text::from_span(alloc, args.span()?)?),
-        "from_line" => Ok(Text::from_line(alloc, args.line()?)?),
-        word => made_of(word, alloc, args.lines()?),
+        "raw" => Ok(Text::raw(args.alloc, args.text()?)?),
+        "styled" => Ok(Text::styled(args.alloc, args.text()?, args.style())?),
+        "raw_string" => made_of_string(args.alloc, args.text()?),
+        word => made_of_part(word, args),
+    }
+}
+
+fn made_of_string<'a>(alloc: Global, text: &str) -> Result<Text<'a>, Fault> {
+    let text = String::from_str(alloc, text)?;
+    Ok(Text::raw_string(alloc, text)?)
+}
+
+fn made_of_part<'a>(word: &str, args: &mut Args<'a>) -> Result<Text<'a>, Fault> {
+    match word {
+        "from_span" => Ok(Text::from_span(args.alloc, args.span()?)?),
+        "from_line" => Ok(Text::from_line(args.alloc, args.line()?)?),
+        _ => made_of(word, args.alloc, args.lines()?),
     }
 }
 
@@ -35,18 +46,12 @@ fn made_of<'a>(word: &str, alloc: Global, text: Text<'a>) -> Result<Text<'a>, Fa
     }
 }
 
+// A text after a call that can't be refused.
 fn changed<'a>(text: Text<'a>, word: &str, args: &mut Args<'a>) -> Result<Text<'a>, Fault> {
     match word {
         "style" => Ok(text.style(args.style())),
         "patch_style" => Ok(text.patch_style(args.style())),
         "reset_style" => Ok(text.reset_style()),
-        _ => aligned(text, word, args),
-    }
-}
-
-fn aligned<'a>(text: Text<'a>, word: &str, args: &mut Args<'a>) -> Result<Text<'a>, Fault> {
-    match word {
-        "alignment" => Ok(text.alignment(args.value::<HorizontalAlignment>()?)),
         "left_aligned" => Ok(text.left_aligned()),
         "centered" => Ok(text.centered()),
         "right_aligned" => Ok(text.right_aligned()),
@@ -56,6 +61,7 @@ fn aligned<'a>(text: Text<'a>, word: &str, args: &mut Args<'a>) -> Result<Text<'
 
 fn added<'a>(text: Text<'a>, word: &str, args: &mut Args<'a>) -> Result<Text<'a>, Fault> {
     match word {
+        "alignment" => Ok(text.alignment(args.value::<HorizontalAlignment>()?)),
         "try_add_line" => Ok(text.try_add_line(args.line()?)?),
         "try_add" => Ok(text.try_add(args.lines()?)?),
         _ => extended(text, word, args),
@@ -82,23 +88,24 @@ fn restyle(text: &mut Text<'_>, style: Style) {
     }
 }
 
-// Asks a text something; whether there is such a question.
-fn asked(
-    text: &Text<'_>,
-    word: &str,
-    args: &mut Args<'_>,
-    answer: &mut Answer,
-) -> Result<bool, Fault> {
+// Whether a call asks a text something, and leaves it as it is.
+fn is_question(word: &str) -> bool {
+    matches!(
+        word,
+        "width" | "height" | "clone" | "print" | "equal" | "iter"
+    )
+}
+
+// Asks a text something.
+fn ask(text: &Text<'_>, word: &str, args: &mut Args<'_>, answer: &mut Answer) -> Result<(), Fault> {
     match word {
-        "width" => answer.add(text.width())?,
-        "height" => answer.add(text.height())?,
-        "clone" => answer.add(text.clone(args.alloc)?)?,
-        "print" => answer.print(args.alloc, text)?,
-        "equal" => alike(text, &args.lines()?, answer)?,
-        "iter" => put_lines(args.alloc, text, answer)?,
-        _ => return Ok(false),
+        "width" => answer.add(text.width()),
+        "height" => answer.add(text.height()),
+        "print" => answer.print(args.alloc, text),
+        "iter" => put_lines(args.alloc, text, answer),
+        "equal" => alike(text, &args.lines()?, answer),
+        _ => answer.add(text.clone(args.alloc)?),
     }
-    Ok(true)
 }
 
 fn put_lines(alloc: Global, text: &Text<'_>, answer: &mut Answer) -> Result<(), Fault> {
@@ -106,6 +113,18 @@ fn put_lines(alloc: Global, text: &Text<'_>, answer: &mut Answer) -> Result<(), 
         answer.print(alloc, line)?;
     }
     Ok(())
+}
+
+// One call on a text.
+fn step<'a>(text: &mut Text<'a>, args: &mut Args<'a>, answer: &mut Answer) -> Result<(), Fault> {
+    let word = args.word()?;
+    if is_question(word) {
+        ask(text, word, args, answer)?;
+    } else {
+        let former = mem::replace(text, Text::default_in(args.alloc));
+        *text = changed(former, word, args)?;
+    }
+    args.end()
 }
 
 /// A text, and calls on it; the text itself if nothing was asked.
@@ -116,13 +135,8 @@ pub fn text<'a>(
     answer: &mut Answer,
 ) -> Result<(), Fault> {
     let mut text = made(args)?;
-    for step in later {
-        let mut args = Args::new(alloc, step.as_slice());
-        let word = args.word()?;
-        if !asked(&text, word, &mut args, answer)? {
-            text = changed(text, word, &mut args)?;
-        }
-        args.end()?;
+    for each in later {
+        step(&mut text, &mut Args::new(alloc, each.as_slice()), answer)?;
     }
     if answer.is_empty() {
         answer.add(text)
@@ -133,22 +147,34 @@ pub fn text<'a>(
 
 /// A call on a masked text: the text, its mask, and what is asked.
 pub fn masked(args: &mut Args<'_>, answer: &mut Answer) -> Result<(), Fault> {
-    let alloc = args.alloc;
     let word = args.word()?;
     let (text, mask) = (args.text()?, args.char()?);
-    let masked = Masked::new(text, mask);
     match word {
-        "value" => answer.add(masked.value(alloc)?.as_str()),
+        "equal" => {
+            let other = Masked::new(args.text()?, args.char()?);
+            alike(&Masked::new(text, mask), &other, answer)
+        }
+        "from_string" => {
+            let other = Masked::from_string(String::from_str(args.alloc, text)?, mask);
+            answer.add(other == Masked::new(text, mask))
+        }
+        _ => ask_masked(&Masked::new(text, mask), word, args.alloc, answer),
+    }
+}
+
+fn ask_masked(
+    masked: &Masked<'_>,
+    word: &str,
+    alloc: Global,
+    answer: &mut Answer,
+) -> Result<(), Fault> {
+    match word {
         "mask_char" => answer.print(alloc, &masked.mask_char()),
-        "print" => answer.print(alloc, &masked),
+        "print" => answer.print(alloc, masked),
+        "value" => answer.add(masked.value(alloc)?.as_str()),
         "debug" => answer.add(format!(in alloc; "{masked:?}")?.as_str()),
         "to_text" => answer.add(masked.to_text(alloc)?),
-        "clone" => answer.add(masked.clone(alloc)? == masked),
-        "from_string" => {
-            let other = Masked::from_string(String::from_str(alloc, text)?, mask);
-            answer.add(other == masked)
-        }
-        "equal" => alike(&masked, &Masked::new(args.text()?, args.char()?), answer),
+        "clone" => answer.add(masked.clone(alloc)? == *masked),
         _ => Err(Fault::Unread),
     }
 }

@@ -1,29 +1,17 @@
 //! The backend in memory, and calls on it.
-use crate::answer::Answer;
-use crate::args::Args;
-use crate::buffers::put_row;
-use crate::cells::{look_of, put_option};
-use crate::fault::Fault;
-use crate::styles::put_style;
-use crate::tokens::Token;
-use ratatui_core::backend::{Backend, ClearType, TestBackend, TestError};
+use ratatui_core::backend::{Backend, ClearType, TestBackend, TestError, WindowSize};
 use ratatui_core::buffer::{Buffer, Cell, texts_width};
 use ratatui_core::layout::Position;
+use row_words::answer::Answer;
+use row_words::args::Args;
+use row_words::buffers::put_row;
+use row_words::cells::{look_of, put_option};
+use row_words::fault::Fault;
+use row_words::names::named;
+use row_words::styles::put_style;
+use row_words::tokens::Token;
 use std::alloc::{AllocError, Global};
-
-impl<'a> Args<'a> {
-    // The texts that are left.
-    pub fn texts(&mut self) -> Result<Vec<&'a str>, Fault> {
-        let mut texts = Vec::new(self.alloc);
-        self.skip_comma();
-        for _ in 0..self.len() {
-            if let Some(text) = self.next_text() {
-                texts.push(text)?;
-            }
-        }
-        Ok(texts)
-    }
-}
+use std::ops::Range;
 
 // Writes a row that left the screen, and how its cells look if that isn't as usual.
 fn put_row_above(row: &[Cell], out: &mut String) -> Result<(), AllocError> {
@@ -65,21 +53,21 @@ pub fn put_backend(backend: &TestBackend, answer: &mut Answer) -> Result<(), Fau
 }
 
 // Adds what a call was refused for, if it was.
-fn told(outcome: Result<(), TestError>, answer: &mut Answer) -> Result<bool, Fault> {
-    if let Err(error) = outcome {
-        answer.refused(&error)?;
+fn told(outcome: Result<(), TestError>, answer: &mut Answer) -> Result<(), Fault> {
+    match outcome {
+        Ok(()) => Ok(()),
+        Err(error) => answer.refused(&error),
     }
-    Ok(true)
 }
 
 // Draws cells, each after its column and row.
-fn draw(backend: &mut TestBackend, args: &mut Args<'_>) -> Result<Result<(), TestError>, Fault> {
+fn draw(backend: &mut TestBackend, args: &mut Args<'_>, answer: &mut Answer) -> Result<(), Fault> {
     let (places, cells) = items(args)?;
     let mut items = Vec::new(args.alloc);
     for (place, cell) in places.iter().zip(cells.iter()) {
         items.push((place.x, place.y, cell))?;
     }
-    Ok(backend.draw(items.into_iter()))
+    told(backend.draw(items.into_iter()), answer)
 }
 
 // The places and the cells of a draw.
@@ -95,53 +83,74 @@ fn items(args: &mut Args<'_>) -> Result<(Vec<Position>, Vec<Cell>), Fault> {
     Ok((places, cells))
 }
 
-/// A call of a backend that changes its screen or its cursor; whether there is such a call.
-pub fn change(
+/// A call on a backend.
+pub fn call(
     backend: &mut TestBackend,
     word: &str,
     args: &mut Args<'_>,
     answer: &mut Answer,
-) -> Result<bool, Fault> {
-    let outcome = match word {
-        "draw_cells" => draw(backend, args)?,
-        "append_lines" => backend.append_lines(args.u16()?),
-        "scroll_region_up" => backend.scroll_region_up(args.u16()?..args.u16()?, args.u16()?),
-        "scroll_region_down" => backend.scroll_region_down(args.u16()?..args.u16()?, args.u16()?),
-        "clear_screen" => backend.clear(),
-        "clear_region" => backend.clear_region(args.value::<ClearType>()?),
-        "flush_screen" => backend.flush(),
-        _ => match set(backend, word, args)? {
-            Some(outcome) => outcome,
-            None => return Ok(false),
-        },
-    };
-    told(outcome, answer)
-}
-
-// A call that moves, hides or shows the cursor, or sets the backend; none if there is no such call.
-fn set(
-    backend: &mut TestBackend,
-    word: &str,
-    args: &mut Args<'_>,
-) -> Result<Option<Result<(), TestError>>, Fault> {
+) -> Result<(), Fault> {
     match word {
-        "hide" => Ok(Some(backend.hide_cursor())),
-        "show" => Ok(Some(backend.show_cursor())),
-        "move_cursor" => Ok(Some(backend.set_cursor_position(args.position()?))),
-        "move_cursor_by_numbers" => Ok(Some(backend.set_cursor(args.u16()?, args.u16()?))),
-        "fail_after" => {
-            backend.fail_after(args.value::<u64>()?);
-            Ok(Some(Ok(())))
-        }
-        "size_screen" => {
-            backend.resize(args.u16()?, args.u16()?)?;
-            Ok(Some(Ok(())))
-        }
-        _ => Ok(None),
+        "clear_screen" => told(backend.clear(), answer),
+        "flush_screen" => told(backend.flush(), answer),
+        "hide" => told(backend.hide_cursor(), answer),
+        "show" => told(backend.show_cursor(), answer),
+        "draw_cells" => draw(backend, args, answer),
+        _ => call_with(backend, word, args, answer),
     }
 }
 
-// Asks a backend something that it can refuse.
+// A call that takes a number, a place or a part of the screen.
+fn call_with(
+    backend: &mut TestBackend,
+    word: &str,
+    args: &mut Args<'_>,
+    answer: &mut Answer,
+) -> Result<(), Fault> {
+    match word {
+        "append_lines" => told(backend.append_lines(args.u16()?), answer),
+        "clear_region" => told(backend.clear_region(args.value::<ClearType>()?), answer),
+        "move_cursor" => told(backend.set_cursor_position(args.position()?), answer),
+        "fail_after" => {
+            backend.fail_after(args.value::<u64>()?);
+            Ok(())
+        }
+        "move_cursor_by_numbers" | "size_screen" | "scroll_region_up" | "scroll_region_down" => {
+            call_with_pair(backend, word, args.pair()?, args, answer)
+        }
+        _ => see(backend, word, args, answer),
+    }
+}
+
+fn call_with_pair(
+    backend: &mut TestBackend,
+    word: &str,
+    (one, other): (u16, u16),
+    args: &mut Args<'_>,
+    answer: &mut Answer,
+) -> Result<(), Fault> {
+    match word {
+        "move_cursor_by_numbers" => told(backend.set_cursor(one, other), answer),
+        "size_screen" => Ok(backend.resize(one, other)?),
+        _ => scroll(backend, word, one..other, args.u16()?, answer),
+    }
+}
+
+fn scroll(
+    backend: &mut TestBackend,
+    word: &str,
+    rows: Range<u16>,
+    count: u16,
+    answer: &mut Answer,
+) -> Result<(), Fault> {
+    if word == "scroll_region_up" {
+        told(backend.scroll_region_up(rows, count), answer)
+    } else {
+        told(backend.scroll_region_down(rows, count), answer)
+    }
+}
+
+// Asks a backend something that it can refuse, or calls it otherwise.
 fn ask(
     backend: &mut TestBackend,
     word: &str,
@@ -149,31 +158,29 @@ fn ask(
     answer: &mut Answer,
 ) -> Result<(), Fault> {
     match word {
-        "size" => match backend.size() {
-            Ok(size) => answer.add(size),
-            Err(error) => answer.refused(&error),
-        },
-        "window_size" => match backend.window_size() {
-            Ok(size) => {
-                answer.add(size.columns_rows)?;
-                answer.add(size.pixels)
-            }
-            Err(error) => answer.refused(&error),
-        },
-        "get_cursor_position" => match backend.get_cursor_position() {
-            Ok(position) => answer.add(position),
-            Err(error) => answer.refused(&error),
-        },
-        "get_cursor" => match backend.get_cursor() {
-            Ok((x, y)) => answer.add(Position { x, y }),
-            Err(error) => answer.refused(&error),
-        },
-        _ => see(backend, word, args, answer),
+        "size" => answer.told(backend.size()),
+        "window_size" => put_window_size(backend.window_size(), answer),
+        "get_cursor_position" => answer.told(backend.get_cursor_position()),
+        "get_cursor" => answer.told(backend.get_cursor()),
+        _ => call(backend, word, args, answer),
     }
 }
 
-/// Asks what is seen of a backend.
-pub fn see(
+fn put_window_size(
+    outcome: Result<WindowSize, TestError>,
+    answer: &mut Answer,
+) -> Result<(), Fault> {
+    match outcome {
+        Ok(size) => {
+            answer.add(size.columns_rows)?;
+            answer.add(size.pixels)
+        }
+        Err(error) => answer.refused(&error),
+    }
+}
+
+// Asks what is seen of a backend.
+fn see(
     backend: &TestBackend,
     word: &str,
     args: &mut Args<'_>,
@@ -236,7 +243,7 @@ fn made_with_lines(alloc: Global, lines: &[&str]) -> Result<TestBackend, Fault> 
 
 /// A part of the screen by its name, read and printed.
 pub fn clear_type(args: &mut Args<'_>, answer: &mut Answer) -> Result<(), Fault> {
-    crate::layouts::named::<ClearType>(args, answer)
+    named::<ClearType>(args, answer)
 }
 
 // One call on a backend.
@@ -248,9 +255,7 @@ fn step(
 ) -> Result<(), Fault> {
     let mut args = Args::new(alloc, tokens);
     let word = args.word()?;
-    if !change(backend, word, &mut args, answer)? {
-        ask(backend, word, &mut args, answer)?;
-    }
+    ask(backend, word, &mut args, answer)?;
     args.end()
 }
 

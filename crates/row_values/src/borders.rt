@@ -1,0 +1,62 @@
+//! Widths of texts, and borders that are joined.
+use ratatui_core::buffer::CellWidth;
+use ratatui_core::symbols::merge::{BorderSymbol, MergeStrategy};
+use ratatui_core::text::text_columns;
+use row_words::answer::Answer;
+use row_words::args::Args;
+use row_words::fault::Fault;
+
+/// A call on a text's width.
+pub fn width(args: &mut Args<'_>, answer: &mut Answer) -> Result<(), Fault> {
+    match args.word()? {
+        "cell_width" => answer.add(args.text()?.cell_width()),
+        "text_columns" => answer.add(text_columns(args.text()?)),
+        _ => Err(Fault::Unread),
+    }
+}
+
+/// How borders are joined, by its name.
+pub fn strategy(word: &str) -> Result<MergeStrategy, Fault> {
+    match word {
+        "replace" => Ok(MergeStrategy::Replace),
+        "exact" => Ok(MergeStrategy::Exact),
+        "fuzzy" => Ok(MergeStrategy::Fuzzy),
+        "default" => Ok(MergeStrategy::default()),
+        _ => Err(Fault::Unread),
+    }
+}
+
+/// A symbol that is joined to another one, or a border symbol by its arms.
+pub fn merge(args: &mut Args<'_>, answer: &mut Answer) -> Result<(), Fault> {
+    match args.word()? {
+        "arms" => arms(args.text()?, answer),
+        "crossed" => crossed(args.text()?, args.text()?, answer),
+        word => {
+            let strategy = strategy(word)?;
+            let (prev, next) = (args.text()?, args.text()?);
+            answer.add(strategy.merge(prev, next))
+        }
+    }
+}
+
+// The arms of a border symbol: to the right, up, to the left and down; and the symbol that has
+// them.
+fn arms(text: &str, answer: &mut Answer) -> Result<(), Fault> {
+    match text.parse::<BorderSymbol>() {
+        Ok(symbol) => {
+            let (right, up) = (symbol.right, symbol.up);
+            let (left, down) = (symbol.left, symbol.down);
+            write!(answer.text, "{right:?} {up:?} {left:?} {down:?}")?;
+            answer.add(symbol.to_str())
+        }
+        Err(error) => answer.refused(&error),
+    }
+}
+
+// The symbol that has the arms of two border symbols, those of the second one where both have one.
+fn crossed(prev: &str, next: &str, answer: &mut Answer) -> Result<(), Fault> {
+    match (prev.parse::<BorderSymbol>(), next.parse::<BorderSymbol>()) {
+        (Ok(prev), Ok(next)) => answer.add(prev.exact(next).to_str()),
+        _ => Err(Fault::Unread),
+    }
+}

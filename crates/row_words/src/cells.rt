@@ -1,0 +1,84 @@
+//! Cells as words.
+use crate::answer::{Show, quote};
+use crate::args::Args;
+use crate::fault::Fault;
+use crate::styles::put_style;
+use ratatui_core::buffer::{Cell, CellDiffOption};
+use ratatui_core::style::{Color, Style};
+use std::alloc::AllocError;
+use std::num::NonZeroU16;
+
+// A colour other than the terminal's own.
+fn chosen(color: Color) -> Option<Color> {
+    if color == Color::Reset {
+        None
+    } else {
+        Some(color)
+    }
+}
+
+/// The style of a cell, with no word for what is as in an empty one.
+pub fn look_of(cell: &Cell) -> Style {
+    Style {
+        fg: chosen(cell.fg),
+        bg: chosen(cell.bg),
+        underline_color: chosen(cell.underline_color),
+        add_modifier: cell.modifier,
+        sub_modifier: Style::new().sub_modifier,
+    }
+}
+
+/// Writes after a blank each how a cell is drawn, if that isn't as usual.
+pub fn put_option(cell: &Cell, out: &mut String) -> Result<(), AllocError> {
+    match cell.diff_option {
+        CellDiffOption::None => {}
+        CellDiffOption::Skip => out.push_str(" Skip")?,
+        CellDiffOption::AlwaysUpdate => out.push_str(" AlwaysUpdate")?,
+        CellDiffOption::ForcedWidth(width) => {
+            let width = width.get();
+            write!(out, " ForcedWidth={width}")?;
+        }
+    }
+    if cell.skip {
+        out.push_str(" skip")
+    } else {
+        Ok(())
+    }
+}
+
+impl Show for Cell {
+    fn show(&self, out: &mut String) -> Result<(), AllocError> {
+        quote(self.symbol(), out)?;
+        put_style(look_of(self), out)?;
+        put_option(self, out)
+    }
+}
+
+impl<'a> Args<'a> {
+    /// How a cell is drawn.
+    pub fn option(&mut self) -> Result<CellDiffOption, Fault> {
+        match self.word()? {
+            "None" => Ok(CellDiffOption::None),
+            "Skip" => Ok(CellDiffOption::Skip),
+            "AlwaysUpdate" => Ok(CellDiffOption::AlwaysUpdate),
+            "ForcedWidth" => match NonZeroU16::new(self.u16()?) {
+                Some(width) => Ok(CellDiffOption::ForcedWidth(width)),
+                None => Err(Fault::Unread),
+            },
+            _ => Err(Fault::Unread),
+        }
+    }
+
+    /// A cell: its symbol, its style, and how it is drawn.
+    pub fn cell(&mut self) -> Result<Cell, Fault> {
+        let mut cell = Cell::new(self.alloc, self.text()?)?;
+        cell.set_style(self.style());
+        if self.takes("skip") {
+            cell.set_skip(true);
+        }
+        if self.takes("option") {
+            cell.set_diff_option(self.option()?);
+        }
+        Ok(cell)
+    }
+}

@@ -1,0 +1,21 @@
+//! Values that have names.
+use crate::answer::Answer;
+use crate::args::Args;
+use crate::fault::Fault;
+use std::fmt::Display;
+use std::str::FromStr;
+
+/// Reads a text as the name of a value, and prints the value or why it is none.
+pub fn named<T: FromStr + Display + Drop>(
+    args: &mut Args<'_>,
+    answer: &mut Answer,
+) -> Result<(), Fault>
+where
+    T::Err: Display + Drop,
+{
+    let alloc = args.alloc;
+    match args.text()?.parse::<T>() {
+        Ok(value) => answer.print(alloc, &value),
+        Err(error) => answer.print(alloc, &error),
+    }
+}
