@@ -5,10 +5,9 @@ use ratatui_core::layout::Position;
 use row_words::answer::Answer;
 use row_words::args::Args;
 use row_words::buffers::put_row;
-use row_words::cells::{look_of, put_option};
+use row_words::cells::look_words;
 use row_words::fault::Fault;
 use row_words::names::named;
-use row_words::styles::put_style;
 use row_words::tokens::Token;
 use std::alloc::{AllocError, Global};
 use std::ops::Range;
@@ -18,13 +17,38 @@ fn put_row_above(row: &[Cell], out: &mut String) -> Result<(), AllocError> {
     out.push_str(", above ")?;
     put_row(row, out)?;
     for (x, cell) in row.iter().enumerate() {
-        let mut words = String::new(*out.allocator());
-        put_style(look_of(cell), &mut words)?;
-        put_option(cell, &mut words)?;
-        if !words.is_empty() {
-            let words = words.as_str();
-            write!(out, " {x}{words}")?;
-        }
+        put_look_at(x, cell, out)?;
+    }
+    Ok(())
+}
+
+fn put_look_at(x: usize, cell: &Cell, out: &mut String) -> Result<(), AllocError> {
+    let words = look_words(cell, *out.allocator())?;
+    if words.is_empty() {
+        return Ok(());
+    }
+    let words = words.as_str();
+    write!(out, " {x}{words}")
+}
+
+fn put_cursor(backend: &TestBackend, out: &mut String) -> Result<(), AllocError> {
+    let position = backend.cursor_position();
+    let (x, y) = (position.x, position.y);
+    if backend.cursor_visible() {
+        write!(out, ", cursor {x} {y}")
+    } else {
+        write!(out, ", hidden cursor {x} {y}")
+    }
+}
+
+fn put_rows_above(backend: &TestBackend, out: &mut String) -> Result<(), AllocError> {
+    let above = backend.scrollback();
+    if above.len() > 40 {
+        let count = above.len();
+        return write!(out, ", above {count} rows");
+    }
+    for row in above {
+        put_row_above(row.as_slice(), out)?;
     }
     Ok(())
 }
@@ -33,23 +57,8 @@ fn put_row_above(row: &[Cell], out: &mut String) -> Result<(), AllocError> {
 /// or how many if there are many.
 pub fn put_backend(backend: &TestBackend, answer: &mut Answer) -> Result<(), Fault> {
     answer.put(backend.buffer())?;
-    let position = backend.cursor_position();
-    let (x, y) = (position.x, position.y);
-    if backend.cursor_visible() {
-        write!(answer.text, ", cursor {x} {y}")?;
-    } else {
-        write!(answer.text, ", hidden cursor {x} {y}")?;
-    }
-    let above = backend.scrollback();
-    if above.len() > 40 {
-        let count = above.len();
-        write!(answer.text, ", above {count} rows")?;
-        return Ok(());
-    }
-    for row in above {
-        put_row_above(row.as_slice(), &mut answer.text)?;
-    }
-    Ok(())
+    put_cursor(backend, &mut answer.text)?;
+    Ok(put_rows_above(backend, &mut answer.text)?)
 }
 
 // Adds what a call was refused for, if it was.

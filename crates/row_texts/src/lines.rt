@@ -1,7 +1,7 @@
 //! Calls on lines.
 use ratatui_core::layout::HorizontalAlignment;
 use ratatui_core::style::Style;
-use ratatui_core::text::{Line, Spans};
+use ratatui_core::text::{Line, Span, Spans};
 use row_words::answer::Answer;
 use row_words::args::Args;
 use row_words::fault::Fault;
@@ -14,17 +14,19 @@ fn made<'a>(args: &mut Args<'a>) -> Result<Line<'a>, Fault> {
     match args.word()? {
         "default" => Ok(Line::default_in(args.alloc)),
         "line" => args.line(),
-        "raw" => Ok(Line::raw(args.alloc, args.text()?)?),
-        "styled" => Ok(Line::styled(args.alloc, args.text()?, args.style())?),
-        "raw_string" => made_of_string(args.alloc, args.text()?),
+        word @ ("raw" | "styled" | "raw_string") => made_of_text(word, args.text()?, args),
         "from_span" => Ok(Line::from_span(args.alloc, args.span()?)?),
         word => made_of(word, args.alloc, args.line()?),
     }
 }
 
-fn made_of_string<'a>(alloc: Global, text: &str) -> Result<Line<'a>, Fault> {
-    let text = String::from_str(alloc, text)?;
-    Ok(Line::raw_string(alloc, text)?)
+fn made_of_text<'a>(word: &str, text: &'a str, args: &mut Args<'a>) -> Result<Line<'a>, Fault> {
+    let made = match word {
+        "raw" => Line::raw(args.alloc, text),
+        "styled" => Line::styled(args.alloc, text, args.style()),
+        _ => Line::raw_string(args.alloc, String::from_str(args.alloc, text)?),
+    };
+    Ok(made?)
 }
 
 // A line of the spans of another one.
@@ -38,37 +40,69 @@ fn made_of<'a>(word: &str, alloc: Global, line: Line<'a>) -> Result<Line<'a>, Fa
     }
 }
 
-// A line after a call that can't be refused.
-fn changed<'a>(line: Line<'a>, word: &str, args: &mut Args<'a>) -> Result<Line<'a>, Fault> {
+// The line, in whose place an empty one then stands.
+fn taken<'a>(line: &mut Line<'a>, alloc: Global) -> Line<'a> {
+    mem::replace(line, Line::default_in(alloc))
+}
+
+// A call that changes a line.
+fn change<'a>(line: &mut Line<'a>, word: &str, args: &mut Args<'a>) -> Result<(), Fault> {
+    let alloc = args.alloc;
     match word {
-        "style" => Ok(line.style(args.style())),
-        "patch_style" => Ok(line.patch_style(args.style())),
-        "reset_style" => Ok(line.reset_style()),
-        "left_aligned" => Ok(line.left_aligned()),
-        "centered" => Ok(line.centered()),
-        "right_aligned" => Ok(line.right_aligned()),
-        _ => added(line, word, args),
+        "spans" | "try_extend" => add_line(line, word, args.line()?, alloc),
+        "try_add" | "push_span" => add_span(line, word, args.span()?, alloc),
+        "alignment" => {
+            let alignment = args.value::<HorizontalAlignment>()?;
+            *line = taken(line, alloc).alignment(alignment);
+            Ok(())
+        }
+        "iter_mut" => {
+            restyle(line, args.style());
+            Ok(())
+        }
+        _ => set(line, word, args),
     }
 }
 
-fn added<'a>(line: Line<'a>, word: &str, args: &mut Args<'a>) -> Result<Line<'a>, Fault> {
-    match word {
-        "alignment" => Ok(line.alignment(args.value::<HorizontalAlignment>()?)),
-        "spans" => Ok(line.spans(args.line()?.spans.as_slice())?),
-        "try_add" => Ok(line.try_add(args.span()?)?),
-        _ => extended(line, word, args),
+fn add_line<'a>(
+    line: &mut Line<'a>,
+    word: &str,
+    other: Line<'a>,
+    alloc: Global,
+) -> Result<(), Fault> {
+    if word == "try_extend" {
+        return Ok(line.try_extend(other)?);
     }
+    *line = taken(line, alloc).spans(other.spans.as_slice())?;
+    Ok(())
 }
 
-// A line after a call that changes it in place.
-fn extended<'a>(mut line: Line<'a>, word: &str, args: &mut Args<'a>) -> Result<Line<'a>, Fault> {
-    match word {
-        "push_span" => line.push_span(args.span()?)?,
-        "try_extend" => line.try_extend(args.line()?)?,
-        "iter_mut" => restyle(&mut line, args.style()),
+fn add_span<'a>(
+    line: &mut Line<'a>,
+    word: &str,
+    span: Span<'a>,
+    alloc: Global,
+) -> Result<(), Fault> {
+    if word == "push_span" {
+        return Ok(line.push_span(span)?);
+    }
+    *line = taken(line, alloc).try_add(span)?;
+    Ok(())
+}
+
+// A call that sets the style or the alignment of a line.
+fn set(line: &mut Line<'_>, word: &str, args: &mut Args<'_>) -> Result<(), Fault> {
+    let former = taken(line, args.alloc);
+    *line = match word {
+        "style" => former.style(args.style()),
+        "patch_style" => former.patch_style(args.style()),
+        "reset_style" => former.reset_style(),
+        "left_aligned" => former.left_aligned(),
+        "centered" => former.centered(),
+        "right_aligned" => former.right_aligned(),
         _ => return Err(Fault::Unread),
-    }
-    Ok(line)
+    };
+    Ok(())
 }
 
 // Lays a style over that of each span.
@@ -124,7 +158,7 @@ fn put_texts(line: &Line<'_>, answer: &mut Answer) -> Result<(), Fault> {
     Ok(())
 }
 
-// Adds a copy of a line, or a text that is made of it.
+// Adds a copy of a line, or what is made of it.
 fn ask_copy<'a>(
     line: Line<'a>,
     word: &str,
@@ -134,11 +168,17 @@ fn ask_copy<'a>(
     match word {
         "clone" => answer.add(line),
         "try_into_string" => answer.add(line.try_into_string()?.as_str()),
-        _ => {
-            let other = args.line()?;
-            answer.add(line.try_add_line(other)?)
-        }
+        _ => put_sum(line, args.line(), answer),
     }
+}
+
+fn put_sum<'a>(
+    line: Line<'a>,
+    other: Result<Line<'a>, Fault>,
+    answer: &mut Answer,
+) -> Result<(), Fault> {
+    let text = line.try_add_line(other?)?;
+    answer.add(text)
 }
 
 // One call on a line.
@@ -147,8 +187,7 @@ fn step<'a>(line: &mut Line<'a>, args: &mut Args<'a>, answer: &mut Answer) -> Re
     if is_question(word) {
         ask(line, word, args, answer)?;
     } else {
-        let former = mem::replace(line, Line::default_in(args.alloc));
-        *line = changed(former, word, args)?;
+        change(line, word, args)?;
     }
     args.end()
 }

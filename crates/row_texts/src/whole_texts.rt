@@ -1,7 +1,7 @@
 //! Calls on texts, on masked ones, and on what prints.
 use ratatui_core::layout::HorizontalAlignment;
 use ratatui_core::style::Style;
-use ratatui_core::text::{Masked, Text, ToLine, ToSpan, ToText};
+use ratatui_core::text::{Line, Masked, Text, ToLine, ToSpan, ToText};
 use row_words::answer::Answer;
 use row_words::args::Args;
 use row_words::fault::Fault;
@@ -15,16 +15,18 @@ fn made<'a>(args: &mut Args<'a>) -> Result<Text<'a>, Fault> {
     match args.word()? {
         "default" => Ok(Text::default_in(args.alloc)),
         "text" => args.lines(),
-        "raw" => Ok(Text::raw(args.alloc, args.text()?)?),
-        "styled" => Ok(Text::styled(args.alloc, args.text()?, args.style())?),
-        "raw_string" => made_of_string(args.alloc, args.text()?),
+        word @ ("raw" | "styled" | "raw_string") => made_of_text(word, args.text()?, args),
         word => made_of_part(word, args),
     }
 }
 
-fn made_of_string<'a>(alloc: Global, text: &str) -> Result<Text<'a>, Fault> {
-    let text = String::from_str(alloc, text)?;
-    Ok(Text::raw_string(alloc, text)?)
+fn made_of_text<'a>(word: &str, text: &'a str, args: &mut Args<'a>) -> Result<Text<'a>, Fault> {
+    let made = match word {
+        "raw" => Text::raw(args.alloc, text),
+        "styled" => Text::styled(args.alloc, text, args.style()),
+        _ => Text::raw_string(args.alloc, String::from_str(args.alloc, text)?),
+    };
+    Ok(made?)
 }
 
 fn made_of_part<'a>(word: &str, args: &mut Args<'a>) -> Result<Text<'a>, Fault> {
@@ -46,39 +48,73 @@ fn made_of<'a>(word: &str, alloc: Global, text: Text<'a>) -> Result<Text<'a>, Fa
     }
 }
 
-// A text after a call that can't be refused.
-fn changed<'a>(text: Text<'a>, word: &str, args: &mut Args<'a>) -> Result<Text<'a>, Fault> {
+// The text, in whose place an empty one then stands.
+fn taken<'a>(text: &mut Text<'a>, alloc: Global) -> Text<'a> {
+    mem::replace(text, Text::default_in(alloc))
+}
+
+// A call that changes a text.
+fn change<'a>(text: &mut Text<'a>, word: &str, args: &mut Args<'a>) -> Result<(), Fault> {
+    let alloc = args.alloc;
     match word {
-        "style" => Ok(text.style(args.style())),
-        "patch_style" => Ok(text.patch_style(args.style())),
-        "reset_style" => Ok(text.reset_style()),
-        "left_aligned" => Ok(text.left_aligned()),
-        "centered" => Ok(text.centered()),
-        "right_aligned" => Ok(text.right_aligned()),
-        _ => added(text, word, args),
+        "try_add" | "append" | "try_extend" => add_text(text, word, args.lines()?, alloc),
+        "try_add_line" | "push_line" => add_line(text, word, args.line()?, alloc),
+        "push_span" => Ok(text.push_span(args.span()?)?),
+        "alignment" => {
+            let alignment = args.value::<HorizontalAlignment>()?;
+            *text = taken(text, alloc).alignment(alignment);
+            Ok(())
+        }
+        "iter_mut" => {
+            restyle(text, args.style());
+            Ok(())
+        }
+        _ => set(text, word, args),
     }
 }
 
-fn added<'a>(text: Text<'a>, word: &str, args: &mut Args<'a>) -> Result<Text<'a>, Fault> {
+fn add_text<'a>(
+    text: &mut Text<'a>,
+    word: &str,
+    other: Text<'a>,
+    alloc: Global,
+) -> Result<(), Fault> {
     match word {
-        "alignment" => Ok(text.alignment(args.value::<HorizontalAlignment>()?)),
-        "try_add_line" => Ok(text.try_add_line(args.line()?)?),
-        "try_add" => Ok(text.try_add(args.lines()?)?),
-        _ => extended(text, word, args),
+        "append" => Ok(text.append(other)?),
+        "try_extend" => Ok(text.try_extend(other)?),
+        _ => {
+            *text = taken(text, alloc).try_add(other)?;
+            Ok(())
+        }
     }
 }
 
-// A text after a call that changes it in place.
-fn extended<'a>(mut text: Text<'a>, word: &str, args: &mut Args<'a>) -> Result<Text<'a>, Fault> {
-    match word {
-        "push_line" => text.push_line(args.line()?)?,
-        "push_span" => text.push_span(args.span()?)?,
-        "append" => text.append(args.lines()?)?,
-        "try_extend" => text.try_extend(args.lines()?)?,
-        "iter_mut" => restyle(&mut text, args.style()),
+fn add_line<'a>(
+    text: &mut Text<'a>,
+    word: &str,
+    line: Line<'a>,
+    alloc: Global,
+) -> Result<(), Fault> {
+    if word == "push_line" {
+        return Ok(text.push_line(line)?);
+    }
+    *text = taken(text, alloc).try_add_line(line)?;
+    Ok(())
+}
+
+// A call that sets the style or the alignment of a text.
+fn set(text: &mut Text<'_>, word: &str, args: &mut Args<'_>) -> Result<(), Fault> {
+    let former = taken(text, args.alloc);
+    *text = match word {
+        "style" => former.style(args.style()),
+        "patch_style" => former.patch_style(args.style()),
+        "reset_style" => former.reset_style(),
+        "left_aligned" => former.left_aligned(),
+        "centered" => former.centered(),
+        "right_aligned" => former.right_aligned(),
         _ => return Err(Fault::Unread),
-    }
-    Ok(text)
+    };
+    Ok(())
 }
 
 // Lays a style over that of each line.
@@ -121,8 +157,7 @@ fn step<'a>(text: &mut Text<'a>, args: &mut Args<'a>, answer: &mut Answer) -> Re
     if is_question(word) {
         ask(text, word, args, answer)?;
     } else {
-        let former = mem::replace(text, Text::default_in(args.alloc));
-        *text = changed(former, word, args)?;
+        change(text, word, args)?;
     }
     args.end()
 }

@@ -1,10 +1,10 @@
 //! Buffers as rows of symbols.
 use crate::answer::{Show, escaped};
-use crate::cells::{look_of, put_option};
-use crate::styles::put_style;
+use crate::cells::look_words;
 use ratatui_core::buffer::{Buffer, Cell};
 use ratatui_core::layout::{Position, Rect};
 use std::alloc::AllocError;
+use std::mem;
 
 // Writes the symbol of a cell, in braces if it isn't one character.
 fn put_symbol(cell: &Cell, out: &mut String) -> Result<(), AllocError> {
@@ -66,33 +66,37 @@ impl Run {
 
 // Writes the looks of cells that aren't as usual.
 fn put_looks(buffer: &Buffer, out: &mut String) -> Result<(), AllocError> {
-    let mut run = Run::at(Position::ORIGIN, String::new(*out.allocator()));
+    let alloc = *out.allocator();
+    let mut run = Run::at(Position::ORIGIN, String::new(alloc));
     for (position, cell) in buffer.area().positions().zip(buffer.content().iter()) {
-        let mut words = String::new(*out.allocator());
-        put_style(look_of(cell), &mut words)?;
-        put_option(cell, &mut words)?;
+        let words = look_words(cell, alloc)?;
         if run.goes_on(position, words.as_str()) {
             run.area.width = run.area.width.saturating_add(1);
         } else {
-            run.put(out)?;
-            run = Run::at(position, words);
+            mem::replace(&mut run, Run::at(position, words)).put(out)?;
         }
     }
     run.put(out)
+}
+
+// Writes the symbols of rows, each after a bar.
+fn put_symbols(buffer: &Buffer, out: &mut String) -> Result<(), AllocError> {
+    let mut y = None;
+    for (position, cell) in buffer.area().positions().zip(buffer.content().iter()) {
+        if y != Some(position.y) {
+            out.push('|')?;
+            y = Some(position.y);
+        }
+        put_symbol(cell, out)?;
+    }
+    Ok(())
 }
 
 impl Show for Buffer {
     fn show(&self, out: &mut String) -> Result<(), AllocError> {
         self.area().show(out)?;
         out.push(' ')?;
-        let mut y = None;
-        for (position, cell) in self.area().positions().zip(self.content().iter()) {
-            if y != Some(position.y) {
-                out.push('|')?;
-                y = Some(position.y);
-            }
-            put_symbol(cell, out)?;
-        }
+        put_symbols(self, out)?;
         out.push('|')?;
         put_looks(self, out)
     }

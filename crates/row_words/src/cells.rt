@@ -5,7 +5,7 @@ use crate::fault::Fault;
 use crate::styles::put_style;
 use ratatui_core::buffer::{Cell, CellDiffOption};
 use ratatui_core::style::{Color, Style};
-use std::alloc::AllocError;
+use std::alloc::{AllocError, Global};
 use std::num::NonZeroU16;
 
 // A colour other than the terminal's own.
@@ -17,8 +17,8 @@ fn chosen(color: Color) -> Option<Color> {
     }
 }
 
-/// The style of a cell, with no word for what is as in an empty one.
-pub fn look_of(cell: &Cell) -> Style {
+// The style of a cell, with no word for what is as in an empty one.
+fn look_of(cell: &Cell) -> Style {
     Style {
         fg: chosen(cell.fg),
         bg: chosen(cell.bg),
@@ -28,8 +28,8 @@ pub fn look_of(cell: &Cell) -> Style {
     }
 }
 
-/// Writes after a blank each how a cell is drawn, if that isn't as usual.
-pub fn put_option(cell: &Cell, out: &mut String) -> Result<(), AllocError> {
+// Writes after a blank each how a cell is drawn, if that isn't as usual.
+fn put_option(cell: &Cell, out: &mut String) -> Result<(), AllocError> {
     match cell.diff_option {
         CellDiffOption::None => {}
         CellDiffOption::Skip => out.push_str(" Skip")?,
@@ -46,11 +46,22 @@ pub fn put_option(cell: &Cell, out: &mut String) -> Result<(), AllocError> {
     }
 }
 
+fn put_look(cell: &Cell, out: &mut String) -> Result<(), AllocError> {
+    put_style(look_of(cell), out)?;
+    put_option(cell, out)
+}
+
+/// How a cell looks and is drawn where that isn't as usual, each word after a blank.
+pub fn look_words(cell: &Cell, alloc: Global) -> Result<String, AllocError> {
+    let mut words = String::new(alloc);
+    put_look(cell, &mut words)?;
+    Ok(words)
+}
+
 impl Show for Cell {
     fn show(&self, out: &mut String) -> Result<(), AllocError> {
         quote(self.symbol(), out)?;
-        put_style(look_of(self), out)?;
-        put_option(self, out)
+        put_look(self, out)
     }
 }
 

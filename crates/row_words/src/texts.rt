@@ -21,17 +21,25 @@ impl<'a> Args<'a> {
         self.skip_comma();
         let mut line = Line::default_in(self.alloc);
         for _ in 0..self.len() {
-            if let Some(text) = self.next_text() {
-                line.push_span(Span::styled(text, self.style()))?;
-            } else if self.takes("style") {
-                line.style = self.style();
-            } else if self.takes("aligned") {
-                line.alignment = Some(self.value::<HorizontalAlignment>()?);
-            } else if !self.takes("+") && !self.takes("empty") {
+            if !self.read_part(&mut line)? {
                 break;
             }
         }
         Ok(line)
+    }
+
+    // Reads a part of a line; whether there was one.
+    fn read_part(&mut self, line: &mut Line<'a>) -> Result<bool, Fault> {
+        if let Some(text) = self.next_text() {
+            line.push_span(Span::styled(text, self.style()))?;
+        } else if self.takes("style") {
+            line.style = self.style();
+        } else if self.takes("aligned") {
+            line.alignment = Some(self.value::<HorizontalAlignment>()?);
+        } else {
+            return Ok(self.takes("+") || self.takes("empty"));
+        }
+        Ok(true)
     }
 
     /// A text: lines with a `/` between two, and after a `//` the style and alignment of the whole;
@@ -40,21 +48,32 @@ impl<'a> Args<'a> {
         self.skip_comma();
         let mut text = Text::default_in(self.alloc);
         if !self.takes("nothing") {
-            text.push_line(self.line()?)?;
+            self.read_lines(&mut text)?;
         }
+        if self.takes("//") {
+            text.style = self.style();
+            text.alignment = self.alignment()?;
+        }
+        Ok(text)
+    }
+
+    fn read_lines(&mut self, text: &mut Text<'a>) -> Result<(), Fault> {
+        text.push_line(self.line()?)?;
         for _ in 0..self.len() {
             if !self.takes("/") {
                 break;
             }
             text.push_line(self.line()?)?;
         }
-        if self.takes("//") {
-            text.style = self.style();
-            if self.takes("aligned") {
-                text.alignment = Some(self.value::<HorizontalAlignment>()?);
-            }
+        Ok(())
+    }
+
+    fn alignment(&mut self) -> Result<Option<HorizontalAlignment>, Fault> {
+        if self.takes("aligned") {
+            Ok(Some(self.value::<HorizontalAlignment>()?))
+        } else {
+            Ok(None)
         }
-        Ok(text)
     }
 }
 
@@ -83,21 +102,39 @@ fn put_aligned(alignment: Option<HorizontalAlignment>, out: &mut String) -> Resu
     }
 }
 
-fn put_line(line: &Line<'_>, out: &mut String) -> Result<(), AllocError> {
-    for (place, span) in line.spans.iter().enumerate() {
-        if place > 0 {
-            out.push_str(" + ")?;
-        }
-        put_span(span.text(), span.style, out)?;
-    }
+fn put_spans(line: &Line<'_>, out: &mut String) -> Result<(), AllocError> {
     if line.spans.is_empty() {
-        out.push_str("empty")?;
+        return out.push_str("empty");
     }
+    let mut between = "";
+    for span in line.spans.iter() {
+        out.push_str(between)?;
+        put_span(span.text(), span.style, out)?;
+        between = " + ";
+    }
+    Ok(())
+}
+
+fn put_line(line: &Line<'_>, out: &mut String) -> Result<(), AllocError> {
+    put_spans(line, out)?;
     if line.style != Style::new() {
         out.push_str(" style")?;
         put_style(line.style, out)?;
     }
     put_aligned(line.alignment, out)
+}
+
+fn put_lines(text: &Text<'_>, out: &mut String) -> Result<(), AllocError> {
+    if text.lines.is_empty() {
+        return out.push_str("nothing");
+    }
+    let mut between = "";
+    for line in text.lines.iter() {
+        out.push_str(between)?;
+        put_line(line, out)?;
+        between = " / ";
+    }
+    Ok(())
 }
 
 impl Show for Span<'_> {
@@ -120,15 +157,7 @@ impl Show for Line<'_> {
 
 impl Show for Text<'_> {
     fn show(&self, out: &mut String) -> Result<(), AllocError> {
-        for (place, line) in self.lines.iter().enumerate() {
-            if place > 0 {
-                out.push_str(" / ")?;
-            }
-            put_line(line, out)?;
-        }
-        if self.lines.is_empty() {
-            out.push_str("nothing")?;
-        }
+        put_lines(self, out)?;
         if self.style != Style::new() || self.alignment.is_some() {
             out.push_str(" //")?;
             put_style(self.style, out)?;
