@@ -18,19 +18,25 @@ fn on_color<T: Stylize + Drop>(item: T, name: &str) -> Option<T::Item> {
         "cyan" => item.on_cyan(),
         "gray" => item.on_gray(),
         "dark_gray" => item.on_dark_gray(),
-        "light_red" => item.on_light_red(),
-        "light_green" => item.on_light_green(),
-        "light_yellow" => item.on_light_yellow(),
-        "light_blue" => item.on_light_blue(),
-        "light_magenta" => item.on_light_magenta(),
-        "light_cyan" => item.on_light_cyan(),
         "white" => item.on_white(),
+        _ => return on_light_color(item, name.strip_prefix("light_")?),
+    })
+}
+
+fn on_light_color<T: Stylize + Drop>(item: T, name: &str) -> Option<T::Item> {
+    Some(match name {
+        "red" => item.on_light_red(),
+        "green" => item.on_light_green(),
+        "yellow" => item.on_light_yellow(),
+        "blue" => item.on_light_blue(),
+        "magenta" => item.on_light_magenta(),
+        "cyan" => item.on_light_cyan(),
         _ => return None,
     })
 }
 
-// It in a foreground.
-fn in_color<T: Stylize + Drop>(item: T, name: &str) -> Option<T::Item> {
+// It in a foreground, or with a modifier or without it.
+fn shortened<T: Stylize + Drop>(item: T, name: &str) -> Option<T::Item> {
     Some(match name {
         "black" => item.black(),
         "red" => item.red(),
@@ -41,39 +47,60 @@ fn in_color<T: Stylize + Drop>(item: T, name: &str) -> Option<T::Item> {
         "cyan" => item.cyan(),
         "gray" => item.gray(),
         "dark_gray" => item.dark_gray(),
-        "light_red" => item.light_red(),
-        "light_green" => item.light_green(),
-        "light_yellow" => item.light_yellow(),
-        "light_blue" => item.light_blue(),
-        "light_magenta" => item.light_magenta(),
-        "light_cyan" => item.light_cyan(),
         "white" => item.white(),
-        _ => return modified(item, name),
+        _ => return changed_otherwise(item, name),
     })
 }
 
-// It with a modifier or without it.
-fn modified<T: Stylize + Drop>(item: T, name: &str) -> Option<T::Item> {
+fn changed_otherwise<T: Stylize + Drop>(item: T, name: &str) -> Option<T::Item> {
+    if let Some(name) = name.strip_prefix("light_") {
+        return in_light_color(item, name);
+    }
+    match name.strip_prefix("not_") {
+        Some(name) => without_modifier(item, name),
+        None => with_modifier(item, name),
+    }
+}
+
+fn in_light_color<T: Stylize + Drop>(item: T, name: &str) -> Option<T::Item> {
+    Some(match name {
+        "red" => item.light_red(),
+        "green" => item.light_green(),
+        "yellow" => item.light_yellow(),
+        "blue" => item.light_blue(),
+        "magenta" => item.light_magenta(),
+        "cyan" => item.light_cyan(),
+        _ => return None,
+    })
+}
+
+fn with_modifier<T: Stylize + Drop>(item: T, name: &str) -> Option<T::Item> {
     Some(match name {
         "bold" => item.bold(),
-        "not_bold" => item.not_bold(),
         "dim" => item.dim(),
-        "not_dim" => item.not_dim(),
         "italic" => item.italic(),
-        "not_italic" => item.not_italic(),
         "underlined" => item.underlined(),
-        "not_underlined" => item.not_underlined(),
         "slow_blink" => item.slow_blink(),
-        "not_slow_blink" => item.not_slow_blink(),
         "rapid_blink" => item.rapid_blink(),
-        "not_rapid_blink" => item.not_rapid_blink(),
         "reversed" => item.reversed(),
-        "not_reversed" => item.not_reversed(),
         "hidden" => item.hidden(),
-        "not_hidden" => item.not_hidden(),
         "crossed_out" => item.crossed_out(),
-        "not_crossed_out" => item.not_crossed_out(),
         "reset" => item.reset(),
+        _ => return None,
+    })
+}
+
+fn without_modifier<T: Stylize + Drop>(item: T, name: &str) -> Option<T::Item> {
+    Some(match name {
+        "bold" => item.not_bold(),
+        "dim" => item.not_dim(),
+        "italic" => item.not_italic(),
+        "underlined" => item.not_underlined(),
+        "slow_blink" => item.not_slow_blink(),
+        "rapid_blink" => item.not_rapid_blink(),
+        "reversed" => item.not_reversed(),
+        "hidden" => item.not_hidden(),
+        "crossed_out" => item.not_crossed_out(),
         _ => return None,
     })
 }
@@ -86,7 +113,7 @@ fn styled<T: Stylize + Drop>(item: T, word: &str, args: &mut Args<'_>) -> Option
         "remove_modifier" => Some(item.remove_modifier(args.modifier())),
         _ => match word.strip_prefix("on_") {
             Some(name) => on_color(item, name),
-            None => in_color(item, word),
+            None => shortened(item, word),
         },
     }
 }

@@ -5,6 +5,7 @@ use ratatui_core::text::text_columns;
 use row_words::answer::Answer;
 use row_words::args::Args;
 use row_words::fault::Fault;
+use std::alloc::AllocError;
 
 /// A call on a text's width.
 pub fn width(args: &mut Args<'_>, answer: &mut Answer) -> Result<(), Fault> {
@@ -30,27 +31,32 @@ pub fn strategy(word: &str) -> Result<MergeStrategy, Fault> {
 pub fn merge(args: &mut Args<'_>, answer: &mut Answer) -> Result<(), Fault> {
     match args.word()? {
         "arms" => arms(args.text()?, answer),
-        "crossed" => crossed(args.text()?, args.text()?, answer),
-        word => {
-            let strategy = strategy(word)?;
-            let (prev, next) = (args.text()?, args.text()?);
-            answer.add(strategy.merge(prev, next))
-        }
+        word => joined(word, args.text()?, args.text()?, answer),
     }
 }
 
-// The arms of a border symbol: to the right, up, to the left and down; and the symbol that has
-// them.
+fn joined(word: &str, prev: &str, next: &str, answer: &mut Answer) -> Result<(), Fault> {
+    match word {
+        "crossed" => crossed(prev, next, answer),
+        _ => answer.add(strategy(word)?.merge(prev, next)),
+    }
+}
+
 fn arms(text: &str, answer: &mut Answer) -> Result<(), Fault> {
     match text.parse::<BorderSymbol>() {
         Ok(symbol) => {
-            let (right, up) = (symbol.right, symbol.up);
-            let (left, down) = (symbol.left, symbol.down);
-            write!(answer.text, "{right:?} {up:?} {left:?} {down:?}")?;
+            put_arms(symbol, &mut answer.text)?;
             answer.add(symbol.to_str())
         }
         Err(error) => answer.refused(&error),
     }
+}
+
+// Writes the arms of a border symbol: to the right, up, to the left and down.
+fn put_arms(symbol: BorderSymbol, out: &mut String) -> Result<(), AllocError> {
+    let (right, up) = (symbol.right, symbol.up);
+    let (left, down) = (symbol.left, symbol.down);
+    write!(out, "{right:?} {up:?} {left:?} {down:?}")
 }
 
 // The symbol that has the arms of two border symbols, those of the second one where both have one.

@@ -14,7 +14,6 @@ pub fn rect(args: &mut Args<'_>, answer: &mut Answer) -> Result<(), Fault> {
         "MAX" => answer.add(Rect::MAX),
         "default" => answer.add(Rect::default()),
         "from_size" => answer.add(Rect::from(args.size()?)),
-        "from_position_size" => answer.add(Rect::from((args.position()?, args.size()?))),
         word => rect_itself(word, args.rect()?, args, answer),
     }
 }
@@ -28,6 +27,10 @@ fn rect_itself(
 ) -> Result<(), Fault> {
     match word {
         "new" => answer.add(Rect::new(rect.x, rect.y, rect.width, rect.height)),
+        "from_position_size" => {
+            let (x, y, width, height) = (rect.x, rect.y, rect.width, rect.height);
+            answer.add(Rect::from((Position { x, y }, Size { width, height })))
+        }
         "area" => answer.add(rect.area()),
         "is_empty" => answer.add(rect.is_empty()),
         "left" => answer.add(rect.left()),

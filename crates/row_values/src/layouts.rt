@@ -9,6 +9,7 @@ use row_words::names::named;
 use row_words::tokens::Token;
 use std::alloc::{AllocError, Global};
 use std::convert::AsRef;
+use std::mem;
 
 /// A call on a direction, a flex, an alignment, a constraint, a spacing, or lists of constraints.
 pub fn layout_part(args: &mut Args<'_>, answer: &mut Answer) -> Result<(), Fault> {
@@ -89,7 +90,11 @@ fn put_list(
     constraints: Result<Vec<Constraint>, AllocError>,
     answer: &mut Answer,
 ) -> Result<(), Fault> {
-    for constraint in constraints?.iter() {
+    put_constraints(constraints?.as_slice(), answer)
+}
+
+fn put_constraints(constraints: &[Constraint], answer: &mut Answer) -> Result<(), Fault> {
+    for constraint in constraints {
         answer.add(*constraint)?;
     }
     Ok(())
@@ -132,36 +137,75 @@ fn constraint(
     }
 }
 
-// A layout after a call that changes it.
-fn changed(layout: Layout, args: &mut Args<'_>) -> Result<Layout, Fault> {
+// The layout, in whose place one of nothing then stands.
+fn taken(layout: &mut Layout, alloc: Global) -> Layout {
+    mem::replace(layout, Layout::default_in(alloc))
+}
+
+// A call that changes a layout.
+fn change(layout: &mut Layout, args: &mut Args<'_>) -> Result<(), Fault> {
+    let alloc = args.alloc;
     match args.word()? {
-        "direction" => Ok(layout.direction(args.value::<Direction>()?)),
-        "flex" => Ok(layout.flex(args.value::<Flex>()?)),
-        "spacing" => Ok(layout.spacing(Spacing::from(args.value::<i32>()?))),
-        "constraints" => Ok(layout.constraints(args.constraints()?.as_slice())?),
-        "clone" => Ok(layout.clone(args.alloc)?),
-        word => with_margin(layout, word, args.u16()?),
+        "direction" => turn(layout, args.value::<Direction>()?, alloc),
+        "flex" => set_flex(layout, args.value::<Flex>()?, alloc),
+        "spacing" => set_spacing(layout, args.value::<i32>()?, alloc),
+        "constraints" => set_constraints(layout, args.constraints()?.as_slice(), alloc),
+        "clone" => copy(layout, alloc),
+        word => set_margin(layout, word, args.u16()?, alloc),
     }
 }
 
-fn with_margin(layout: Layout, word: &str, margin: u16) -> Result<Layout, Fault> {
-    match word {
-        "margin" => Ok(layout.margin(margin)),
-        "horizontal_margin" => Ok(layout.horizontal_margin(margin)),
-        "vertical_margin" => Ok(layout.vertical_margin(margin)),
-        _ => Err(Fault::Unread),
-    }
+fn turn(layout: &mut Layout, direction: Direction, alloc: Global) -> Result<(), Fault> {
+    *layout = taken(layout, alloc).direction(direction);
+    Ok(())
+}
+
+fn set_flex(layout: &mut Layout, flex: Flex, alloc: Global) -> Result<(), Fault> {
+    *layout = taken(layout, alloc).flex(flex);
+    Ok(())
+}
+
+fn set_spacing(layout: &mut Layout, spacing: i32, alloc: Global) -> Result<(), Fault> {
+    *layout = taken(layout, alloc).spacing(Spacing::from(spacing));
+    Ok(())
+}
+
+fn set_constraints(
+    layout: &mut Layout,
+    constraints: &[Constraint],
+    alloc: Global,
+) -> Result<(), Fault> {
+    *layout = taken(layout, alloc).constraints(constraints)?;
+    Ok(())
+}
+
+fn copy(layout: &mut Layout, alloc: Global) -> Result<(), Fault> {
+    *layout = layout.clone(alloc)?;
+    Ok(())
+}
+
+fn set_margin(layout: &mut Layout, word: &str, margin: u16, alloc: Global) -> Result<(), Fault> {
+    let former = taken(layout, alloc);
+    *layout = match word {
+        "margin" => former.margin(margin),
+        "horizontal_margin" => former.horizontal_margin(margin),
+        "vertical_margin" => former.vertical_margin(margin),
+        _ => return Err(Fault::Unread),
+    };
+    Ok(())
 }
 
 fn made(args: &mut Args<'_>) -> Result<Layout, Fault> {
     match args.word()? {
         "default" => Ok(Layout::default_in(args.alloc)),
-        "new" => {
-            let direction = args.value::<Direction>()?;
-            Ok(Layout::new(args.alloc, direction, args.constraints()?.as_slice())?)
-        }
+        "new" => made_in(args.value::<Direction>()?, args),
         word => made_along(word, args.alloc, args.constraints()?.as_slice()),
     }
+}
+
+fn made_in(direction: Direction, args: &mut Args<'_>) -> Result<Layout, Fault> {
+    let constraints = args.constraints()?;
+    Ok(Layout::new(args.alloc, direction, constraints.as_slice())?)
 }
 
 fn made_along(word: &str, alloc: Global, constraints: &[Constraint]) -> Result<Layout, Fault> {
@@ -170,6 +214,15 @@ fn made_along(word: &str, alloc: Global, constraints: &[Constraint]) -> Result<L
         "horizontal" => Ok(Layout::horizontal(alloc, constraints)?),
         _ => Err(Fault::Unread),
     }
+}
+
+// Adds what a layout is made of.
+fn put_layout(layout: &Layout, alloc: Global, answer: &mut Answer) -> Result<(), Fault> {
+    answer.print(alloc, &layout.direction_of())?;
+    answer.add(layout.margin_of())?;
+    answer.print(alloc, &layout.flex_of())?;
+    answer.put(layout.spacing_of())?;
+    put_constraints(layout.constraints_of(), answer)
 }
 
 /// A layout, and calls on it; its direction, margin, flex, spacing and constraints.
@@ -181,14 +234,7 @@ pub fn layout(
 ) -> Result<(), Fault> {
     let mut layout = made(args)?;
     for step in later {
-        layout = changed(layout, &mut Args::new(alloc, step.as_slice()))?;
+        change(&mut layout, &mut Args::new(alloc, step.as_slice()))?;
     }
-    answer.print(alloc, &layout.direction_of())?;
-    answer.add(layout.margin_of())?;
-    answer.print(alloc, &layout.flex_of())?;
-    answer.put(layout.spacing_of())?;
-    for constraint in layout.constraints_of() {
-        answer.add(*constraint)?;
-    }
-    Ok(())
+    put_layout(&layout, alloc, answer)
 }

@@ -5,6 +5,7 @@ use ratatui_core::style::palette::tailwind::{self, Palette};
 use row_words::answer::Answer;
 use row_words::args::Args;
 use row_words::fault::Fault;
+use row_words::names::entry_of;
 
 static TAILWIND: [(&str, Palette); 22] = [
     ("SLATE", tailwind::SLATE),
@@ -117,37 +118,29 @@ fn put_not_accented(palette: &NonAccentedPalette, answer: &mut Answer) -> Result
 }
 
 fn tailwind_shades(name: &str, answer: &mut Answer) -> Result<(), Fault> {
-    for (own, palette) in TAILWIND.iter() {
-        if *own == name {
-            return put_tailwind(palette, answer);
-        }
+    match name {
+        "BLACK" => answer.add(tailwind::BLACK),
+        "WHITE" => answer.add(tailwind::WHITE),
+        _ => put_tailwind(entry_of(&TAILWIND, name).ok_or(Fault::Unread)?, answer),
     }
-    Err(Fault::Unread)
 }
 
 fn material_shades(name: &str, answer: &mut Answer) -> Result<(), Fault> {
-    for (own, palette) in ACCENTED.iter() {
-        if *own == name {
-            return put_accented(palette, answer);
-        }
+    match name {
+        "BLACK" => answer.add(material::BLACK),
+        "WHITE" => answer.add(material::WHITE),
+        _ => match entry_of(&ACCENTED, name) {
+            Some(palette) => put_accented(palette, answer),
+            None => put_not_accented(entry_of(&NOT_ACCENTED, name).ok_or(Fault::Unread)?, answer),
+        },
     }
-    for (own, palette) in NOT_ACCENTED.iter() {
-        if *own == name {
-            return put_not_accented(palette, answer);
-        }
-    }
-    Err(Fault::Unread)
 }
 
 /// The shades of a palette, or black or white, by its name.
 pub fn palette(args: &mut Args<'_>, answer: &mut Answer) -> Result<(), Fault> {
-    match (args.word()?, args.word()?) {
-        ("tailwind", "BLACK") => answer.add(tailwind::BLACK),
-        ("tailwind", "WHITE") => answer.add(tailwind::WHITE),
-        ("material", "BLACK") => answer.add(material::BLACK),
-        ("material", "WHITE") => answer.add(material::WHITE),
-        ("tailwind", name) => tailwind_shades(name, answer),
-        ("material", name) => material_shades(name, answer),
+    match args.word()? {
+        "tailwind" => tailwind_shades(args.word()?, answer),
+        "material" => material_shades(args.word()?, answer),
         _ => Err(Fault::Unread),
     }
 }

@@ -10,15 +10,31 @@ use std::alloc::Global;
 /// A call on a colour.
 pub fn color(args: &mut Args<'_>, answer: &mut Answer) -> Result<(), Fault> {
     match args.word()? {
-        "parse" => match args.text()?.parse::<Color>() {
-            Ok(color) => answer.add(color),
-            Err(error) => answer.print(args.alloc, &error),
-        },
         "default" => answer.add(Color::default()),
+        "parse" => parse(args.text()?, args.alloc, answer),
         "from_u32" => answer.add(Color::from_u32(args.value::<u32>()?)),
-        "print" => answer.print(args.alloc, &args.color()?),
-        "equal" => answer.add(args.color()? == args.color()?),
+        word @ ("print" | "equal") => color_itself(word, args.color()?, args, answer),
         word => answer.add(color_of_bytes(word, args)?),
+    }
+}
+
+fn parse(text: &str, alloc: Global, answer: &mut Answer) -> Result<(), Fault> {
+    match text.parse::<Color>() {
+        Ok(color) => answer.add(color),
+        Err(error) => answer.print(alloc, &error),
+    }
+}
+
+fn color_itself(
+    word: &str,
+    color: Color,
+    args: &mut Args<'_>,
+    answer: &mut Answer,
+) -> Result<(), Fault> {
+    if word == "print" {
+        answer.print(args.alloc, &color)
+    } else {
+        answer.add(color == args.color()?)
     }
 }
 
@@ -152,25 +168,34 @@ fn made_of_colors(word: &str, fg: Color, bg: Color, args: &mut Args<'_>) -> Resu
     }
 }
 
-// Asks a style something.
-fn ask(style: Style, word: &str, args: &mut Args<'_>, answer: &mut Answer) -> Result<(), Fault> {
-    match word {
+// One call on a style.
+fn step(style: &mut Style, args: &mut Args<'_>, answer: &mut Answer) -> Result<(), Fault> {
+    match args.word()? {
         "has_modifier" => answer.add(style.has_modifier(args.modifier())),
-        _ => answer.add(style == args.style()),
+        "equal" => answer.add(*style == args.style()),
+        word => {
+            *style = changed(*style, word, args)?;
+            Ok(())
+        }
     }
 }
 
 // A style after a call that sets a part of it.
-fn set(style: Style, word: &str, args: &mut Args<'_>) -> Result<Style, Fault> {
+fn changed(style: Style, word: &str, args: &mut Args<'_>) -> Result<Style, Fault> {
     match word {
         "fg" | "bg" | "underline_color" => Ok(colored(style, word, args.color()?)),
         "add_modifier" => Ok(style.add_modifier(args.modifier())),
         "remove_modifier" => Ok(style.remove_modifier(args.modifier())),
         "patch" => Ok(style.patch(args.style())),
-        _ => match word.strip_prefix("on_") {
-            Some(name) => on_color(style, name),
-            None => shortened(style, word),
-        },
+        _ => named(style, word).ok_or(Fault::Unread),
+    }
+}
+
+// A style after a call whose name says all.
+fn named(style: Style, word: &str) -> Option<Style> {
+    match word.strip_prefix("on_") {
+        Some(name) => on_color(style, name),
+        None => shortened(style, word),
     }
 }
 
@@ -182,7 +207,7 @@ fn colored(style: Style, word: &str, color: Color) -> Style {
     }
 }
 
-/// A style, and calls on it.
+/// A style, and calls on it; the style itself if nothing was asked.
 pub fn style(
     alloc: Global,
     args: &mut Args<'_>,
@@ -190,20 +215,19 @@ pub fn style(
     answer: &mut Answer,
 ) -> Result<(), Fault> {
     let mut style = made(args.word()?, args)?;
-    for step in later {
-        let mut args = Args::new(alloc, step.as_slice());
-        let word = args.word()?;
-        if matches!(word, "has_modifier" | "equal") {
-            return ask(style, word, &mut args, answer);
-        }
-        style = set(style, word, &mut args)?;
+    for each in later {
+        step(&mut style, &mut Args::new(alloc, each.as_slice()), answer)?;
     }
-    answer.add(style)
+    if answer.is_empty() {
+        answer.add(style)
+    } else {
+        Ok(())
+    }
 }
 
 // The style on a background.
-fn on_color(style: Style, name: &str) -> Result<Style, Fault> {
-    Ok(match name {
+fn on_color(style: Style, name: &str) -> Option<Style> {
+    Some(match name {
         "black" => style.on_black(),
         "red" => style.on_red(),
         "green" => style.on_green(),
@@ -213,20 +237,26 @@ fn on_color(style: Style, name: &str) -> Result<Style, Fault> {
         "cyan" => style.on_cyan(),
         "gray" => style.on_gray(),
         "dark_gray" => style.on_dark_gray(),
-        "light_red" => style.on_light_red(),
-        "light_green" => style.on_light_green(),
-        "light_yellow" => style.on_light_yellow(),
-        "light_blue" => style.on_light_blue(),
-        "light_magenta" => style.on_light_magenta(),
-        "light_cyan" => style.on_light_cyan(),
         "white" => style.on_white(),
-        _ => return Err(Fault::Unread),
+        _ => return on_light_color(style, name.strip_prefix("light_")?),
+    })
+}
+
+fn on_light_color(style: Style, name: &str) -> Option<Style> {
+    Some(match name {
+        "red" => style.on_light_red(),
+        "green" => style.on_light_green(),
+        "yellow" => style.on_light_yellow(),
+        "blue" => style.on_light_blue(),
+        "magenta" => style.on_light_magenta(),
+        "cyan" => style.on_light_cyan(),
+        _ => return None,
     })
 }
 
 // The style in a foreground, or with a modifier or without it.
-fn shortened(style: Style, word: &str) -> Result<Style, Fault> {
-    Ok(match word {
+fn shortened(style: Style, name: &str) -> Option<Style> {
+    Some(match name {
         "black" => style.black(),
         "red" => style.red(),
         "green" => style.green(),
@@ -236,37 +266,59 @@ fn shortened(style: Style, word: &str) -> Result<Style, Fault> {
         "cyan" => style.cyan(),
         "gray" => style.gray(),
         "dark_gray" => style.dark_gray(),
-        "light_red" => style.light_red(),
-        "light_green" => style.light_green(),
-        "light_yellow" => style.light_yellow(),
-        "light_blue" => style.light_blue(),
-        "light_magenta" => style.light_magenta(),
-        "light_cyan" => style.light_cyan(),
         "white" => style.white(),
-        word => return modified(style, word),
+        _ => return changed_otherwise(style, name),
     })
 }
 
-fn modified(style: Style, word: &str) -> Result<Style, Fault> {
-    Ok(match word {
+fn changed_otherwise(style: Style, name: &str) -> Option<Style> {
+    if let Some(name) = name.strip_prefix("light_") {
+        return in_light_color(style, name);
+    }
+    match name.strip_prefix("not_") {
+        Some(name) => without_modifier(style, name),
+        None => with_modifier(style, name),
+    }
+}
+
+fn in_light_color(style: Style, name: &str) -> Option<Style> {
+    Some(match name {
+        "red" => style.light_red(),
+        "green" => style.light_green(),
+        "yellow" => style.light_yellow(),
+        "blue" => style.light_blue(),
+        "magenta" => style.light_magenta(),
+        "cyan" => style.light_cyan(),
+        _ => return None,
+    })
+}
+
+fn with_modifier(style: Style, name: &str) -> Option<Style> {
+    Some(match name {
         "bold" => style.bold(),
-        "not_bold" => style.not_bold(),
         "dim" => style.dim(),
-        "not_dim" => style.not_dim(),
         "italic" => style.italic(),
-        "not_italic" => style.not_italic(),
         "underlined" => style.underlined(),
-        "not_underlined" => style.not_underlined(),
         "slow_blink" => style.slow_blink(),
-        "not_slow_blink" => style.not_slow_blink(),
         "rapid_blink" => style.rapid_blink(),
-        "not_rapid_blink" => style.not_rapid_blink(),
         "reversed" => style.reversed(),
-        "not_reversed" => style.not_reversed(),
         "hidden" => style.hidden(),
-        "not_hidden" => style.not_hidden(),
         "crossed_out" => style.crossed_out(),
-        "not_crossed_out" => style.not_crossed_out(),
-        _ => return Err(Fault::Unread),
+        _ => return None,
+    })
+}
+
+fn without_modifier(style: Style, name: &str) -> Option<Style> {
+    Some(match name {
+        "bold" => style.not_bold(),
+        "dim" => style.not_dim(),
+        "italic" => style.not_italic(),
+        "underlined" => style.not_underlined(),
+        "slow_blink" => style.not_slow_blink(),
+        "rapid_blink" => style.not_rapid_blink(),
+        "reversed" => style.not_reversed(),
+        "hidden" => style.not_hidden(),
+        "crossed_out" => style.not_crossed_out(),
+        _ => return None,
     })
 }

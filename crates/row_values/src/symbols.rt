@@ -5,7 +5,7 @@ use ratatui_core::symbols::{
 use row_words::answer::Answer;
 use row_words::args::Args;
 use row_words::fault::Fault;
-use row_words::names::named;
+use row_words::names::{entry_of, named};
 
 // Symbols that have names of their own.
 static SYMBOLS: [(&str, &str); 90] = [
@@ -291,30 +291,13 @@ fn put_scrollbar(set: &scrollbar::Set<'_>, answer: &mut Answer) -> Result<(), Fa
 
 // A symbol, or a set that has a table, by its name.
 fn by_name(name: &str, answer: &mut Answer) -> Result<(), Fault> {
-    for (own, symbol) in SYMBOLS.iter() {
-        if *own == name {
-            return answer.add(*symbol);
-        }
+    if let Some(symbol) = entry_of(&SYMBOLS, name) {
+        return answer.add(*symbol);
     }
-    line_by_name(name, answer)
-}
-
-fn line_by_name(name: &str, answer: &mut Answer) -> Result<(), Fault> {
-    for (own, set) in LINES.iter() {
-        if *own == name {
-            return put_line(set, answer);
-        }
+    match entry_of(&LINES, name) {
+        Some(set) => put_line(set, answer),
+        None => put_border(entry_of(&BORDERS, name).ok_or(Fault::Unread)?, answer),
     }
-    border_by_name(name, answer)
-}
-
-fn border_by_name(name: &str, answer: &mut Answer) -> Result<(), Fault> {
-    for (own, set) in BORDERS.iter() {
-        if *own == name {
-            return put_border(set, answer);
-        }
-    }
-    Err(Fault::Unread)
 }
 
 // A set that has no table, by its name.

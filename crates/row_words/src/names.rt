@@ -5,6 +5,16 @@ use crate::fault::Fault;
 use std::fmt::Display;
 use std::str::FromStr;
 
+/// What a table has under a name, if it has the name.
+pub fn entry_of<'t, T>(table: &'t [(&str, T)], name: &str) -> Option<&'t T> {
+    for (own, entry) in table {
+        if *own == name {
+            return Some(entry);
+        }
+    }
+    None
+}
+
 /// Reads a text as the name of a value, and prints the value or why it is none.
 pub fn named<T: FromStr + Display + Drop>(
     args: &mut Args<'_>,

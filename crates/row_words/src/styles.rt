@@ -2,28 +2,27 @@
 use crate::answer::Show;
 use crate::args::Args;
 use crate::fault::Fault;
+use crate::names::entry_of;
 use bitflags::Flags;
 use ratatui_core::style::{Color, Modifier, Style};
 use std::alloc::AllocError;
 
-static MODIFIERS: [(Modifier, &str); 9] = [
-    (Modifier::BOLD, "bold"),
-    (Modifier::DIM, "dim"),
-    (Modifier::ITALIC, "italic"),
-    (Modifier::UNDERLINED, "underlined"),
-    (Modifier::SLOW_BLINK, "slow_blink"),
-    (Modifier::RAPID_BLINK, "rapid_blink"),
-    (Modifier::REVERSED, "reversed"),
-    (Modifier::HIDDEN, "hidden"),
-    (Modifier::CROSSED_OUT, "crossed_out"),
+static MODIFIERS: [(&str, Modifier); 9] = [
+    ("bold", Modifier::BOLD),
+    ("dim", Modifier::DIM),
+    ("italic", Modifier::ITALIC),
+    ("underlined", Modifier::UNDERLINED),
+    ("slow_blink", Modifier::SLOW_BLINK),
+    ("rapid_blink", Modifier::RAPID_BLINK),
+    ("reversed", Modifier::REVERSED),
+    ("hidden", Modifier::HIDDEN),
+    ("crossed_out", Modifier::CROSSED_OUT),
 ];
 
 // A modifier by its name, or a set by its number, as `bits=512`.
 fn modifier_of(word: &str) -> Option<Modifier> {
-    for (modifier, name) in MODIFIERS.iter() {
-        if *name == word {
-            return Some(*modifier);
-        }
+    if let Some(modifier) = entry_of(&MODIFIERS, word) {
+        return Some(*modifier);
     }
     let bits = word.strip_prefix("bits=")?.parse::<u16>().ok()?;
     Some(Modifier::from_bits_retain(bits))
@@ -31,18 +30,24 @@ fn modifier_of(word: &str) -> Option<Modifier> {
 
 // A style with what a word says of it.
 fn styled(mut style: Style, word: &str) -> Option<Style> {
-    if let Some(name) = word.strip_prefix("fg=") {
-        style.fg = Some(name.parse::<Color>().ok()?);
-    } else if let Some(name) = word.strip_prefix("bg=") {
-        style.bg = Some(name.parse::<Color>().ok()?);
-    } else if let Some(name) = word.strip_prefix("underline=") {
-        style.underline_color = Some(name.parse::<Color>().ok()?);
-    } else if let Some(name) = word.strip_prefix('!') {
+    if let Some(name) = word.strip_prefix('!') {
         style.sub_modifier.insert(modifier_of(name)?);
+    } else if let Some(modifier) = modifier_of(word) {
+        style.add_modifier.insert(modifier);
     } else if word != "plain" {
-        style.add_modifier.insert(modifier_of(word)?);
+        let (part, name) = word.split_once('=')?;
+        return colored(style, part, name.parse::<Color>().ok()?);
     }
     Some(style)
+}
+
+fn colored(style: Style, part: &str, color: Color) -> Option<Style> {
+    match part {
+        "fg" => Some(style.fg(color)),
+        "bg" => Some(style.bg(color)),
+        "underline" => Some(style.underline_color(color)),
+        _ => None,
+    }
 }
 
 impl<'a> Args<'a> {
@@ -101,7 +106,7 @@ fn put_word(sign: &str, word: &str, out: &mut String) -> Result<(), AllocError> 
 
 // Writes each modifier of a set after a blank and a sign.
 fn put_modifiers(set: Modifier, sign: &str, out: &mut String) -> Result<(), AllocError> {
-    for (modifier, name) in MODIFIERS.iter() {
+    for (name, modifier) in MODIFIERS.iter() {
         if set.contains(*modifier) {
             put_word(sign, name, out)?;
         }

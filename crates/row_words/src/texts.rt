@@ -106,11 +106,11 @@ fn put_spans(line: &Line<'_>, out: &mut String) -> Result<(), AllocError> {
     if line.spans.is_empty() {
         return out.push_str("empty");
     }
-    let mut between = "";
-    for span in line.spans.iter() {
-        out.push_str(between)?;
+    for (place, span) in line.spans.iter().enumerate() {
+        if place > 0 {
+            out.push_str(" + ")?;
+        }
         put_span(span.text(), span.style, out)?;
-        between = " + ";
     }
     Ok(())
 }
@@ -128,11 +128,11 @@ fn put_lines(text: &Text<'_>, out: &mut String) -> Result<(), AllocError> {
     if text.lines.is_empty() {
         return out.push_str("nothing");
     }
-    let mut between = "";
-    for line in text.lines.iter() {
-        out.push_str(between)?;
+    for (place, line) in text.lines.iter().enumerate() {
+        if place > 0 {
+            out.push_str(" / ")?;
+        }
         put_line(line, out)?;
-        between = " / ";
     }
     Ok(())
 }
