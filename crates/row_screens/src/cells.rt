@@ -1,10 +1,10 @@
 //! Calls on cells.
 use ratatui_core::buffer::{Cell, CellWidth};
 use ratatui_core::style::Color;
-use row_values::borders::strategy;
 use row_words::answer::Answer;
 use row_words::args::Args;
 use row_words::fault::Fault;
+use row_words::names::strategy_of;
 use row_words::texts::alike;
 use row_words::tokens::Token;
 use std::alloc::Global;
@@ -38,7 +38,7 @@ fn change_symbol(
     let done = match word {
         "set_symbol" => cell.set_symbol(alloc, text),
         "append_symbol" => cell.append_symbol(alloc, text),
-        _ => cell.merge_symbol(alloc, text, strategy(args.word()?)?),
+        _ => cell.merge_symbol(alloc, text, strategy_of(args.word()?)?),
     };
     Ok(done?)
 }

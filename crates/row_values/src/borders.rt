@@ -1,10 +1,11 @@
 //! Widths of texts, and borders that are joined.
 use ratatui_core::buffer::CellWidth;
-use ratatui_core::symbols::merge::{BorderSymbol, MergeStrategy};
+use ratatui_core::symbols::merge::BorderSymbol;
 use ratatui_core::text::text_columns;
 use row_words::answer::Answer;
 use row_words::args::Args;
 use row_words::fault::Fault;
+use row_words::names::strategy_of;
 use std::alloc::AllocError;
 
 /// A call on a text's width.
@@ -12,17 +13,6 @@ pub fn width(args: &mut Args<'_>, answer: &mut Answer) -> Result<(), Fault> {
     match args.word()? {
         "cell_width" => answer.add(args.text()?.cell_width()),
         "text_columns" => answer.add(text_columns(args.text()?)),
-        _ => Err(Fault::Unread),
-    }
-}
-
-/// How borders are joined, by its name.
-pub fn strategy(word: &str) -> Result<MergeStrategy, Fault> {
-    match word {
-        "replace" => Ok(MergeStrategy::Replace),
-        "exact" => Ok(MergeStrategy::Exact),
-        "fuzzy" => Ok(MergeStrategy::Fuzzy),
-        "default" => Ok(MergeStrategy::default()),
         _ => Err(Fault::Unread),
     }
 }
@@ -38,7 +28,7 @@ pub fn merge(args: &mut Args<'_>, answer: &mut Answer) -> Result<(), Fault> {
 fn joined(word: &str, prev: &str, next: &str, answer: &mut Answer) -> Result<(), Fault> {
     match word {
         "crossed" => crossed(prev, next, answer),
-        _ => answer.add(strategy(word)?.merge(prev, next)),
+        _ => answer.add(strategy_of(word)?.merge(prev, next)),
     }
 }
 

@@ -2,6 +2,7 @@
 use crate::answer::Answer;
 use crate::args::Args;
 use crate::fault::Fault;
+use ratatui_core::symbols::merge::MergeStrategy;
 use std::fmt::Display;
 use std::str::FromStr;
 
@@ -27,5 +28,16 @@ where
     match args.text()?.parse::<T>() {
         Ok(value) => answer.print(alloc, &value),
         Err(error) => answer.print(alloc, &error),
+    }
+}
+
+/// How borders are joined, by a name.
+pub fn strategy_of(word: &str) -> Result<MergeStrategy, Fault> {
+    match word {
+        "replace" => Ok(MergeStrategy::Replace),
+        "exact" => Ok(MergeStrategy::Exact),
+        "fuzzy" => Ok(MergeStrategy::Fuzzy),
+        "default" => Ok(MergeStrategy::default()),
+        _ => Err(Fault::Unread),
     }
 }
