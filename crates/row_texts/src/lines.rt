@@ -8,7 +8,6 @@ use row_words::fault::Fault;
 use row_words::texts::alike;
 use row_words::tokens::Token;
 use std::alloc::Global;
-use std::mem;
 
 fn made<'a>(args: &mut Args<'a>) -> Result<Line<'a>, Fault> {
     match args.word()? {
@@ -32,84 +31,72 @@ fn made_of_text<'a>(word: &str, text: &'a str, args: &mut Args<'a>) -> Result<Li
 // A line of the spans of another one.
 fn made_of<'a>(word: &str, alloc: Global, line: Line<'a>) -> Result<Line<'a>, Fault> {
     match word {
-        "from_slice" => Ok(Line::from_slice(alloc, line.spans.as_slice())?),
-        "from_spans" => Ok(Line::from(Spans::from_slice(alloc, line.spans.as_slice())?)),
-        "from_vec" => Ok(Line::from(line.spans.into_vec())),
         "try_from_iter" => Ok(Line::try_from_iter(alloc, line)?),
+        _ => made_of_spans(word, alloc, line.spans),
+    }
+}
+
+fn made_of_spans<'a>(word: &str, alloc: Global, spans: Spans<'a>) -> Result<Line<'a>, Fault> {
+    match word {
+        "from_vec" => Ok(Line::from(spans.into_vec())),
+        _ => made_of_slice(word, alloc, spans.as_slice()),
+    }
+}
+
+fn made_of_slice<'a>(word: &str, alloc: Global, spans: &[Span<'a>]) -> Result<Line<'a>, Fault> {
+    match word {
+        "from_slice" => Ok(Line::from_slice(alloc, spans)?),
+        "from_spans" => Ok(Line::from(Spans::from_slice(alloc, spans)?)),
         _ => Err(Fault::Unread),
     }
 }
 
-// The line, in whose place an empty one then stands.
-fn taken<'a>(line: &mut Line<'a>, alloc: Global) -> Line<'a> {
-    mem::replace(line, Line::default_in(alloc))
-}
-
-// A call that changes a line.
-fn change<'a>(line: &mut Line<'a>, word: &str, args: &mut Args<'a>) -> Result<(), Fault> {
-    let alloc = args.alloc;
+// A line after a call that changes it.
+fn changed<'a>(line: Line<'a>, word: &str, args: &mut Args<'a>) -> Result<Line<'a>, Fault> {
     match word {
-        "spans" | "try_extend" => add_line(line, word, args.line()?, alloc),
-        "try_add" | "push_span" => add_span(line, word, args.span()?, alloc),
-        "alignment" => {
-            let alignment = args.value::<HorizontalAlignment>()?;
-            *line = taken(line, alloc).alignment(alignment);
-            Ok(())
-        }
-        "iter_mut" => {
-            restyle(line, args.style());
-            Ok(())
-        }
+        "spans" | "try_extend" => with_line(line, word, args.line()?),
+        "try_add" | "push_span" => with_span(line, word, args.span()?),
+        "alignment" => Ok(line.alignment(args.value::<HorizontalAlignment>()?)),
+        "iter_mut" => Ok(restyled(line, args.style())),
         _ => set(line, word, args),
     }
 }
 
-fn add_line<'a>(
-    line: &mut Line<'a>,
-    word: &str,
-    other: Line<'a>,
-    alloc: Global,
-) -> Result<(), Fault> {
-    if word == "try_extend" {
-        return Ok(line.try_extend(other)?);
+fn with_line<'a>(mut line: Line<'a>, word: &str, other: Line<'a>) -> Result<Line<'a>, Fault> {
+    if word == "spans" {
+        return Ok(line.spans(other.spans.as_slice())?);
     }
-    *line = taken(line, alloc).spans(other.spans.as_slice())?;
-    Ok(())
+    line.try_extend(other)?;
+    Ok(line)
 }
 
-fn add_span<'a>(
-    line: &mut Line<'a>,
-    word: &str,
-    span: Span<'a>,
-    alloc: Global,
-) -> Result<(), Fault> {
-    if word == "push_span" {
-        return Ok(line.push_span(span)?);
+fn with_span<'a>(mut line: Line<'a>, word: &str, span: Span<'a>) -> Result<Line<'a>, Fault> {
+    if word == "try_add" {
+        return Ok(line.try_add(span)?);
     }
-    *line = taken(line, alloc).try_add(span)?;
-    Ok(())
+    line.push_span(span)?;
+    Ok(line)
 }
 
-// A call that sets the style or the alignment of a line.
-fn set(line: &mut Line<'_>, word: &str, args: &mut Args<'_>) -> Result<(), Fault> {
-    let former = taken(line, args.alloc);
-    *line = match word {
-        "style" => former.style(args.style()),
-        "patch_style" => former.patch_style(args.style()),
-        "reset_style" => former.reset_style(),
-        "left_aligned" => former.left_aligned(),
-        "centered" => former.centered(),
-        "right_aligned" => former.right_aligned(),
-        _ => return Err(Fault::Unread),
-    };
-    Ok(())
+// A line after a call that sets its style or its alignment.
+fn set<'a>(line: Line<'a>, word: &str, args: &mut Args<'a>) -> Result<Line<'a>, Fault> {
+    match word {
+        "style" => Ok(line.style(args.style())),
+        "patch_style" => Ok(line.patch_style(args.style())),
+        "reset_style" => Ok(line.reset_style()),
+        "left_aligned" => Ok(line.left_aligned()),
+        "centered" => Ok(line.centered()),
+        "right_aligned" => Ok(line.right_aligned()),
+        _ => Err(Fault::Unread),
+    }
 }
 
-// Lays a style over that of each span.
-fn restyle(line: &mut Line<'_>, style: Style) {
+// A line with a style laid over that of each span.
+fn restyled<'a>(mut line: Line<'a>, style: Style) -> Line<'a> {
     for span in line.iter_mut() {
         span.style = span.style.patch(style);
     }
+    line
 }
 
 // Whether a call asks a line something, and leaves it as it is.
@@ -181,15 +168,14 @@ fn put_sum<'a>(
     answer.add(text)
 }
 
-// One call on a line.
-fn step<'a>(line: &mut Line<'a>, args: &mut Args<'a>, answer: &mut Answer) -> Result<(), Fault> {
+// A line after one call on it.
+fn step<'a>(line: Line<'a>, args: &mut Args<'a>, answer: &mut Answer) -> Result<Line<'a>, Fault> {
     let word = args.word()?;
-    if is_question(word) {
-        ask(line, word, args, answer)?;
-    } else {
-        change(line, word, args)?;
+    if !is_question(word) {
+        return changed(line, word, args);
     }
-    args.end()
+    ask(&line, word, args, answer)?;
+    Ok(line)
 }
 
 /// A line, and calls on it; the line itself if nothing was asked.
@@ -201,7 +187,9 @@ pub fn line<'a>(
 ) -> Result<(), Fault> {
     let mut line = made(args)?;
     for each in later {
-        step(&mut line, &mut Args::new(alloc, each.as_slice()), answer)?;
+        let mut args = Args::new(alloc, each.as_slice());
+        line = step(line, &mut args, answer)?;
+        args.end()?;
     }
     if answer.is_empty() {
         answer.add(line)

@@ -1,7 +1,7 @@
 //! Calls on texts, on masked ones, and on what prints.
 use ratatui_core::layout::HorizontalAlignment;
 use ratatui_core::style::Style;
-use ratatui_core::text::{Line, Masked, Text, ToLine, ToSpan, ToText};
+use ratatui_core::text::{Line, Lines, Masked, Span, Text, ToLine, ToSpan, ToText};
 use row_words::answer::Answer;
 use row_words::args::Args;
 use row_words::fault::Fault;
@@ -9,7 +9,6 @@ use row_words::texts::alike;
 use row_words::tokens::Token;
 use std::alloc::Global;
 use std::fmt::Display;
-use std::mem;
 
 fn made<'a>(args: &mut Args<'a>) -> Result<Text<'a>, Fault> {
     match args.word()? {
@@ -41,87 +40,72 @@ fn made_of_part<'a>(word: &str, args: &mut Args<'a>) -> Result<Text<'a>, Fault> 
 fn made_of<'a>(word: &str, alloc: Global, text: Text<'a>) -> Result<Text<'a>, Fault> {
     match word {
         "from_slice" => Ok(Text::from_slice(alloc, text.lines.as_slice())?),
-        "from_vec" => Ok(Text::from(text.lines.into_vec())),
-        "from_lines" => Ok(Text::from(text.lines)),
         "try_from_iter" => Ok(Text::try_from_iter(alloc, text)?),
+        _ => made_of_lines(word, text.lines),
+    }
+}
+
+fn made_of_lines<'a>(word: &str, lines: Lines<'a>) -> Result<Text<'a>, Fault> {
+    match word {
+        "from_vec" => Ok(Text::from(lines.into_vec())),
+        "from_lines" => Ok(Text::from(lines)),
         _ => Err(Fault::Unread),
     }
 }
 
-// The text, in whose place an empty one then stands.
-fn taken<'a>(text: &mut Text<'a>, alloc: Global) -> Text<'a> {
-    mem::replace(text, Text::default_in(alloc))
-}
-
-// A call that changes a text.
-fn change<'a>(text: &mut Text<'a>, word: &str, args: &mut Args<'a>) -> Result<(), Fault> {
-    let alloc = args.alloc;
+// A text after a call that changes it.
+fn changed<'a>(text: Text<'a>, word: &str, args: &mut Args<'a>) -> Result<Text<'a>, Fault> {
     match word {
-        "try_add" | "append" | "try_extend" => add_text(text, word, args.lines()?, alloc),
-        "try_add_line" | "push_line" => add_line(text, word, args.line()?, alloc),
-        "push_span" => Ok(text.push_span(args.span()?)?),
-        "alignment" => {
-            let alignment = args.value::<HorizontalAlignment>()?;
-            *text = taken(text, alloc).alignment(alignment);
-            Ok(())
-        }
-        "iter_mut" => {
-            restyle(text, args.style());
-            Ok(())
-        }
+        "try_add" | "append" | "try_extend" => with_text(text, word, args.lines()?),
+        "try_add_line" | "push_line" => with_line(text, word, args.line()?),
+        "push_span" => with_span(text, args.span()?),
+        "alignment" => Ok(text.alignment(args.value::<HorizontalAlignment>()?)),
+        "iter_mut" => Ok(restyled(text, args.style())),
         _ => set(text, word, args),
     }
 }
 
-fn add_text<'a>(
-    text: &mut Text<'a>,
-    word: &str,
-    other: Text<'a>,
-    alloc: Global,
-) -> Result<(), Fault> {
+fn with_text<'a>(mut text: Text<'a>, word: &str, other: Text<'a>) -> Result<Text<'a>, Fault> {
     match word {
-        "append" => Ok(text.append(other)?),
-        "try_extend" => Ok(text.try_extend(other)?),
-        _ => {
-            *text = taken(text, alloc).try_add(other)?;
-            Ok(())
-        }
+        "append" => text.append(other)?,
+        "try_extend" => text.try_extend(other)?,
+        _ => return Ok(text.try_add(other)?),
+    }
+    Ok(text)
+}
+
+fn with_line<'a>(mut text: Text<'a>, word: &str, line: Line<'a>) -> Result<Text<'a>, Fault> {
+    if word == "try_add_line" {
+        return Ok(text.try_add_line(line)?);
+    }
+    text.push_line(line)?;
+    Ok(text)
+}
+
+fn with_span<'a>(mut text: Text<'a>, span: Span<'a>) -> Result<Text<'a>, Fault> {
+    text.push_span(span)?;
+    Ok(text)
+}
+
+// A text after a call that sets its style or its alignment.
+fn set<'a>(text: Text<'a>, word: &str, args: &mut Args<'a>) -> Result<Text<'a>, Fault> {
+    match word {
+        "style" => Ok(text.style(args.style())),
+        "patch_style" => Ok(text.patch_style(args.style())),
+        "reset_style" => Ok(text.reset_style()),
+        "left_aligned" => Ok(text.left_aligned()),
+        "centered" => Ok(text.centered()),
+        "right_aligned" => Ok(text.right_aligned()),
+        _ => Err(Fault::Unread),
     }
 }
 
-fn add_line<'a>(
-    text: &mut Text<'a>,
-    word: &str,
-    line: Line<'a>,
-    alloc: Global,
-) -> Result<(), Fault> {
-    if word == "push_line" {
-        return Ok(text.push_line(line)?);
-    }
-    *text = taken(text, alloc).try_add_line(line)?;
-    Ok(())
-}
-
-// A call that sets the style or the alignment of a text.
-fn set(text: &mut Text<'_>, word: &str, args: &mut Args<'_>) -> Result<(), Fault> {
-    let former = taken(text, args.alloc);
-    *text = match word {
-        "style" => former.style(args.style()),
-        "patch_style" => former.patch_style(args.style()),
-        "reset_style" => former.reset_style(),
-        "left_aligned" => former.left_aligned(),
-        "centered" => former.centered(),
-        "right_aligned" => former.right_aligned(),
-        _ => return Err(Fault::Unread),
-    };
-    Ok(())
-}
-
-// Lays a style over that of each line.
-fn restyle(text: &mut Text<'_>, style: Style) {
+// A text with a style laid over that of each line.
+fn restyled<'a>(mut text: Text<'a>, style: Style) -> Text<'a> {
     for line in text.iter_mut() {
         line.style = line.style.patch(style);
     }
+    text
 }
 
 // Whether a call asks a text something, and leaves it as it is.
@@ -151,15 +135,14 @@ fn put_lines(alloc: Global, text: &Text<'_>, answer: &mut Answer) -> Result<(), 
     Ok(())
 }
 
-// One call on a text.
-fn step<'a>(text: &mut Text<'a>, args: &mut Args<'a>, answer: &mut Answer) -> Result<(), Fault> {
+// A text after one call on it.
+fn step<'a>(text: Text<'a>, args: &mut Args<'a>, answer: &mut Answer) -> Result<Text<'a>, Fault> {
     let word = args.word()?;
-    if is_question(word) {
-        ask(text, word, args, answer)?;
-    } else {
-        change(text, word, args)?;
+    if !is_question(word) {
+        return changed(text, word, args);
     }
-    args.end()
+    ask(&text, word, args, answer)?;
+    Ok(text)
 }
 
 /// A text, and calls on it; the text itself if nothing was asked.
@@ -171,7 +154,9 @@ pub fn text<'a>(
 ) -> Result<(), Fault> {
     let mut text = made(args)?;
     for each in later {
-        step(&mut text, &mut Args::new(alloc, each.as_slice()), answer)?;
+        let mut args = Args::new(alloc, each.as_slice());
+        text = step(text, &mut args, answer)?;
+        args.end()?;
     }
     if answer.is_empty() {
         answer.add(text)
