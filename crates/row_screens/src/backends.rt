@@ -215,12 +215,16 @@ fn compare(
     match word {
         "lines_are" => answer.add(backend.lines_are(args.texts()?.as_slice())),
         "scrollback_is" => answer.add(backend.scrollback_is(args.texts()?.as_slice())),
-        "buffer_is" => {
-            let buffer = Buffer::filled(args.alloc, args.area()?, args.cell()?)?;
-            answer.add(backend.buffer_is(&buffer))
-        }
+        "buffer_is" => answer.add(backend.buffer_is(&filled(args)?)),
         _ => Err(Fault::Unread),
     }
+}
+
+// A buffer of an area that is full of one cell.
+fn filled(args: &mut Args<'_>) -> Result<Buffer, Fault> {
+    let area = args.area()?;
+    let cell = args.cell()?;
+    Ok(Buffer::filled(args.alloc, area, cell)?)
 }
 
 // Adds what a backend writes of itself.

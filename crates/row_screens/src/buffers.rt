@@ -61,17 +61,33 @@ fn set_stringn(buffer: &mut Buffer, args: &mut Args<'_>) -> Result<(u16, u16), F
 }
 
 fn set_span(buffer: &mut Buffer, args: &mut Args<'_>) -> Result<(u16, u16), Fault> {
-    let ((x, y), span) = (args.pair()?, args.span()?);
-    let max = args.u16()?;
-    row_at(*buffer.area(), x, y)?;
-    Ok(buffer.set_span(x, y, &span, max)?)
+    let (place, span) = (args.position()?, args.span()?);
+    put_span(buffer, place, &span, args.u16()?)
+}
+
+fn put_span(
+    buffer: &mut Buffer,
+    place: Position,
+    span: &Span<'_>,
+    max: u16,
+) -> Result<(u16, u16), Fault> {
+    row_at(*buffer.area(), place.x, place.y)?;
+    Ok(buffer.set_span(place.x, place.y, span, max)?)
 }
 
 fn set_line(buffer: &mut Buffer, args: &mut Args<'_>) -> Result<(u16, u16), Fault> {
-    let ((x, y), line) = (args.pair()?, args.line()?);
-    let max = args.u16()?;
-    row_at(*buffer.area(), x, y)?;
-    Ok(buffer.set_line(x, y, &line, max)?)
+    let (place, line) = (args.position()?, args.line()?);
+    put_line(buffer, place, &line, args.u16()?)
+}
+
+fn put_line(
+    buffer: &mut Buffer,
+    place: Position,
+    line: &Line<'_>,
+    max: u16,
+) -> Result<(u16, u16), Fault> {
+    row_at(*buffer.area(), place.x, place.y)?;
+    Ok(buffer.set_line(place.x, place.y, line, max)?)
 }
 
 // Renders a string, a span, a line or a text on a buffer.

@@ -396,22 +396,29 @@ fn fill(backend: &mut TestBackend, symbol: &Cell) -> Result<(), TestError> {
     backend.draw(area.positions().map(|place| (place.x, place.y, symbol)))
 }
 
-// A screen of a size; after commas `full` with a symbol for each cell, `cursor` with its place,
-// `fail_after` with a number.
+// A screen of a size, prepared.
 fn screen(args: &mut Args<'_>) -> Result<TestBackend, Fault> {
-    let mut backend = TestBackend::new(args.alloc, args.u16()?, args.u16()?)?;
+    let (width, height) = args.pair()?;
+    let mut backend = TestBackend::new(args.alloc, width, height)?;
+    prepare(&mut backend, args)?;
+    Ok(backend)
+}
+
+// What stands after commas: `full` with a symbol for each cell, `cursor` with its place,
+// `fail_after` with a number.
+fn prepare(backend: &mut TestBackend, args: &mut Args<'_>) -> Result<(), Fault> {
     args.skip_comma();
     if args.takes("full") {
-        fill_screen(&mut backend, args)?;
+        fill_screen(backend, args)?;
     }
     if args.takes("cursor") {
-        place_cursor(&mut backend, args)?;
+        place_cursor(backend, args)?;
     }
     if args.takes("fail_after") {
         backend.fail_after(args.value::<u64>()?);
         args.skip_comma();
     }
-    Ok(backend)
+    Ok(())
 }
 
 fn fill_screen(backend: &mut TestBackend, args: &mut Args<'_>) -> Result<(), Fault> {
@@ -432,6 +439,22 @@ fn place_cursor(backend: &mut TestBackend, args: &mut Args<'_>) -> Result<(), Fa
     }
 }
 
+// Makes calls on a terminal; what is seen of its screen at the end, and its viewport.
+fn play(
+    terminal: &mut Terminal<TestBackend>,
+    alloc: Global,
+    steps: &[Vec<Token>],
+    answer: &mut Answer,
+) -> Result<(), Fault> {
+    for step in steps {
+        let own = step_again(terminal, alloc, step.as_slice())?;
+        answer.join(&own)?;
+    }
+    put_backend(terminal.backend(), answer)?;
+    answer.word("viewport ")?;
+    Ok(terminal.viewport_area().show(&mut answer.text)?)
+}
+
 /// A terminal, and calls on it; what is seen of its screen at the end, and its viewport. A call
 /// that is refused memory is made once more, over what it left.
 pub fn terminal(
@@ -443,15 +466,8 @@ pub fn terminal(
     let backend = screen(args)?;
     let viewport = read_viewport(args)?;
     args.end()?;
-    let mut terminal = match Terminal::with_options(alloc, backend, TerminalOptions { viewport }) {
-        Ok(terminal) => terminal,
-        Err(error) => return answer.refused(&error),
-    };
-    for each in later {
-        answer.join(&step_again(&mut terminal, alloc, each.as_slice())?)?;
+    match Terminal::with_options(alloc, backend, TerminalOptions { viewport }) {
+        Ok(mut terminal) => play(&mut terminal, alloc, later, answer),
+        Err(error) => answer.refused(&error),
     }
-    put_backend(terminal.backend(), answer)?;
-    answer.word("viewport ")?;
-    terminal.viewport_area().show(&mut answer.text)?;
-    Ok(())
 }
