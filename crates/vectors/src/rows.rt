@@ -62,20 +62,21 @@ fn make_calls(
         return Err(Fault::Unread);
     };
     let mut args = Args::new(alloc, first.as_slice());
-    match subject {
-        "iterators" => geometry::iterators(alloc, &mut args, later, answer)?,
-        "cell" => cells::cell(alloc, &mut args, later, answer)?,
-        "buffer" | "diff" | "render" => buffers::buffer(alloc, &mut args, later, answer)?,
-        "backend" => backends::backend(alloc, &mut args, later, answer)?,
-        "terminal" => terminals::terminal(alloc, &mut args, later, answer)?,
-        "layout" => layouts::layout(alloc, &mut args, later, answer)?,
-        "style" => styles::style(alloc, &mut args, later, answer)?,
-        "span" => spans::span(alloc, &mut args, later, answer)?,
-        "line" => lines::line(alloc, &mut args, later, answer)?,
-        "text" => whole_texts::text(alloc, &mut args, later, answer)?,
-        _ if later.is_empty() => make_call(subject, &mut args, answer)?,
-        _ => return Err(Fault::Unread),
-    }
+    let done = match subject {
+        "iterators" => geometry::iterators(alloc, &mut args, later, answer),
+        "cell" => cells::cell(alloc, &mut args, later, answer),
+        "buffer" | "diff" | "render" => buffers::buffer(alloc, &mut args, later, answer),
+        "backend" => backends::backend(alloc, &mut args, later, answer),
+        "terminal" => terminals::terminal(alloc, &mut args, later, answer),
+        "layout" => layouts::layout(alloc, &mut args, later, answer),
+        "style" => styles::style(alloc, &mut args, later, answer),
+        "span" => spans::span(alloc, &mut args, later, answer),
+        "line" => lines::line(alloc, &mut args, later, answer),
+        "text" => whole_texts::text(alloc, &mut args, later, answer),
+        _ if later.is_empty() => make_call(subject, &mut args, answer),
+        _ => Err(Fault::Unread),
+    };
+    done?;
     args.end()
 }
 
