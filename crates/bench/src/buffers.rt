@@ -75,30 +75,49 @@ fn set_lines(buffer: &mut Buffer, line: &Line<'_>) -> Result<(), AllocError> {
     Ok(())
 }
 
+// The style of a round.
+fn style_of(round: u64) -> Style {
+    Style::new()
+        .fg(Color::Indexed((round % 251) as u8))
+        .bg(Color::Blue)
+        .add_modifier(Modifier::BOLD)
+}
+
+// Renders a line in each row.
+fn render_lines(line: &Line<'_>, buffer: &mut Buffer) -> Result<(), AllocError> {
+    let area = *buffer.area();
+    for y in 0..area.height {
+        line.render(Rect::new(0, y, area.width, 1), buffer)?;
+    }
+    Ok(())
+}
+
+// Renders a span in each row.
+fn render_spans(span: &Span<'_>, buffer: &mut Buffer) -> Result<(), AllocError> {
+    let area = *buffer.area();
+    for y in 0..area.height {
+        span.render(Rect::new(0, y, area.width, 1), buffer)?;
+    }
+    Ok(())
+}
+
+// Takes away half of the rows, and gives them back.
+fn halve(buffer: &mut Buffer) -> Result<(), AllocError> {
+    let area = *buffer.area();
+    buffer.resize(Rect::new(0, 0, area.width, area.height / 2))?;
+    buffer.resize(Rect::new(0, 0, area.width, area.height))
+}
+
 fn do_one(alloc: Global, buffer: &mut Buffer, work: &Work, round: u64) -> Result<(), AllocError> {
     let area = *buffer.area();
     match work {
         Work::Text(text) => texts(buffer, text.as_str(), Style::new()),
         Work::SetLine(line) => set_lines(buffer, line),
-        Work::Line(line) => {
-            for y in 0..area.height {
-                line.render(Rect::new(0, y, area.width, 1), buffer)?;
-            }
-            Ok(())
-        }
-        Work::Span(span) => {
-            for y in 0..area.height {
-                span.render(Rect::new(0, y, area.width, 1), buffer)?;
-            }
-            Ok(())
-        }
+        Work::Line(line) => render_lines(line, buffer),
+        Work::Span(span) => render_spans(span, buffer),
         Work::Widget(text) => text.render(area, buffer),
         Work::Style => {
-            let style = Style::new()
-                .fg(Color::Indexed((round % 251) as u8))
-                .bg(Color::Blue)
-                .add_modifier(Modifier::BOLD);
-            buffer.set_style(area, style);
+            buffer.set_style(area, style_of(round));
             Ok(())
         }
         Work::Reset => {
@@ -112,10 +131,7 @@ fn do_one(alloc: Global, buffer: &mut Buffer, work: &Work, round: u64) -> Result
             Ok(())
         }
         Work::Merge(upper) => buffer.merge(upper),
-        Work::Resize => {
-            buffer.resize(Rect::new(0, 0, area.width, area.height / 2))?;
-            buffer.resize(Rect::new(0, 0, area.width, area.height))
-        }
+        Work::Resize => halve(buffer),
         Work::Boxes(border) => {
             buffer.reset();
             border.grid(alloc, buffer)

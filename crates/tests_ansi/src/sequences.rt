@@ -12,7 +12,6 @@ use rtui_geometry::{Position, Size};
 use rtui_style::{Color, Modifier};
 use std::alloc::{AllocError, Global};
 use std::io::ErrorKind;
-use std::ops::Range;
 use std::str;
 use std::test::Fail;
 
@@ -47,135 +46,196 @@ fn cursors_and_regions(rt: HostRuntime) -> Result<(), Fail> {
     Ok(())
 }
 
-// Whether scrolling a region on a screen of 5 rows sends this.
-fn scrolls(alloc: Global, up: bool, region: Range<u16>, n: u16, sent: &str) -> Result<bool, Fail> {
+// A region of a screen of 5 rows that scrolls up or down by so many rows, and what is sent for it.
+struct Scrolled {
+    up: bool,
+    region: (u16, u16),
+    rows: u16,
+    sent: &'static str,
+}
+
+static SCROLLED: [Scrolled; 8] = [
+    Scrolled {
+        up: true,
+        region: (0, 9),
+        rows: 2,
+        sent: "\u{1b}[5;1H\r\n\n",
+    },
+    Scrolled {
+        up: true,
+        region: (0, 3),
+        rows: 1,
+        sent: "\u{1b}[1;3r\u{1b}[3;1H\r\n\u{1b}[r",
+    },
+    Scrolled {
+        up: true,
+        region: (0, 1),
+        rows: 1,
+        sent: "\u{1b}[1;2r\u{1b}[2;1H\n\u{1b}[1;1H\u{1b}[1L\u{1b}[r",
+    },
+    Scrolled {
+        up: true,
+        region: (1, 4),
+        rows: 2,
+        sent: "\u{1b}[2;4r\u{1b}[2;1H\u{1b}[2M\u{1b}[r",
+    },
+    Scrolled {
+        up: true,
+        region: (4, 9),
+        rows: 2,
+        sent: "\u{1b}[5;1H\u{1b}[2K",
+    },
+    Scrolled {
+        up: false,
+        region: (0, 3),
+        rows: 7,
+        sent: "\u{1b}[1;3r\u{1b}[1;1H\u{1b}[7L\u{1b}[r",
+    },
+    Scrolled {
+        up: false,
+        region: (2, 3),
+        rows: 1,
+        sent: "\u{1b}[3;1H\u{1b}[2K",
+    },
+    Scrolled {
+        up: false,
+        region: (5, 9),
+        rows: 1,
+        sent: "",
+    },
+];
+
+// Whether scrolling sends what it should.
+fn scrolls(alloc: Global, case: &Scrolled) -> Result<bool, Fail> {
     let mut out = String::new(alloc);
-    if up {
-        scroll_region_up(&mut out, 5, region, n)?;
+    let region = case.region.0..case.region.1;
+    if case.up {
+        scroll_region_up(&mut out, 5, region, case.rows)?;
     } else {
-        scroll_region_down(&mut out, 5, region, n)?;
+        scroll_region_down(&mut out, 5, region, case.rows)?;
     }
-    Ok(out.as_str() == sent)
+    Ok(out.as_str() == case.sent)
 }
 
 #[test]
 fn regions_that_scroll(rt: HostRuntime) -> Result<(), Fail> {
-    let alloc = rt.alloc();
-    assert!(rt; scrolls(alloc, true, 0..9, 2, "\u{1b}[5;1H\r\n\n")?);
-    assert!(rt; scrolls(alloc, true, 0..3, 1, "\u{1b}[1;3r\u{1b}[3;1H\r\n\u{1b}[r")?);
-    assert!(rt;
-        scrolls(
-            alloc,
-            true,
-            0..1,
-            1,
-            "\u{1b}[1;2r\u{1b}[2;1H\n\u{1b}[1;1H\u{1b}[1L\u{1b}[r"
-        )?
-    );
-    assert!(rt;
-        scrolls(
-            alloc,
-            true,
-            1..4,
-            2,
-            "\u{1b}[2;4r\u{1b}[2;1H\u{1b}[2M\u{1b}[r"
-        )?
-    );
-    assert!(rt; scrolls(alloc, true, 4..9, 2, "\u{1b}[5;1H\u{1b}[2K")?);
-    assert!(rt;
-        scrolls(
-            alloc,
-            false,
-            0..3,
-            7,
-            "\u{1b}[1;3r\u{1b}[1;1H\u{1b}[7L\u{1b}[r"
-        )?
-    );
-    assert!(rt; scrolls(alloc, false, 2..3, 1, "\u{1b}[3;1H\u{1b}[2K")?);
-    assert!(rt; scrolls(alloc, false, 5..9, 1, "")?);
+    for case in &SCROLLED {
+        assert!(rt; scrolls(rt.alloc(), case)?);
+    }
     Ok(())
 }
 
-// Whether a rendition with these colours and modifiers is sent so.
-fn sgr_is(
-    alloc: Global,
+// A rendition: its three colours and its modifiers, and what is sent for it.
+struct Rendition {
     fg: Color,
     bg: Color,
-    line: Color,
-    bits: u16,
-    sent: &str,
-) -> Result<bool, Fail> {
+    underline: Color,
+    modifiers: u16,
+    sent: &'static str,
+}
+
+static RENDITIONS: [Rendition; 6] = [
+    Rendition {
+        fg: Color::Reset,
+        bg: Color::Reset,
+        underline: Color::Reset,
+        modifiers: 0,
+        sent: "\u{1b}[0m",
+    },
+    Rendition {
+        fg: Color::Red,
+        bg: Color::LightBlue,
+        underline: Color::Reset,
+        modifiers: 0b1001,
+        sent: "\u{1b}[0;1;4;31;104m",
+    },
+    Rendition {
+        fg: Color::White,
+        bg: Color::Black,
+        underline: Color::Reset,
+        modifiers: 511,
+        sent: "\u{1b}[0;1;2;3;4;5;6;7;8;9;97;40m",
+    },
+    Rendition {
+        fg: Color::Indexed(9),
+        bg: Color::Rgb(1, 20, 255),
+        underline: Color::Indexed(0),
+        modifiers: 0,
+        sent: "\u{1b}[0;38;5;9;48;2;1;20;255;58;5;0m",
+    },
+    Rendition {
+        fg: Color::Reset,
+        bg: Color::Reset,
+        underline: Color::Red,
+        modifiers: 0,
+        sent: "",
+    },
+    Rendition {
+        fg: Color::Reset,
+        bg: Color::Reset,
+        underline: Color::Reset,
+        modifiers: 512,
+        sent: "",
+    },
+];
+
+// Whether a rendition is sent as it should be; nothing is sent for one that can't be.
+fn is_sent(alloc: Global, case: &Rendition) -> Result<bool, Fail> {
     let mut cell = Cell::EMPTY;
-    cell.fg = fg;
-    cell.bg = bg;
-    cell.underline_color = line;
-    cell.modifier = Modifier::from_bits_retain(bits);
+    cell.fg = case.fg;
+    cell.bg = case.bg;
+    cell.underline_color = case.underline;
+    cell.modifier = Modifier::from_bits_retain(case.modifiers);
     let sgr = Sgr::of(&cell);
     let mut out = String::new(alloc);
     if sgr.is_sendable() {
         push_sgr(&mut out, &sgr)?;
     }
-    Ok(out.as_str() == sent)
+    Ok(out.as_str() == case.sent)
 }
 
 #[test]
 fn renditions(rt: HostRuntime) -> Result<(), Fail> {
-    let alloc = rt.alloc();
-    let own = Color::Reset;
-    assert!(rt; sgr_is(alloc, own, own, own, 0, "\u{1b}[0m")?);
-    assert!(rt;
-        sgr_is(
-            alloc,
-            Color::Red,
-            Color::LightBlue,
-            own,
-            0b1001,
-            "\u{1b}[0;1;4;31;104m"
-        )?
-    );
-    assert!(rt;
-        sgr_is(
-            alloc,
-            Color::White,
-            Color::Black,
-            own,
-            511,
-            "\u{1b}[0;1;2;3;4;5;6;7;8;9;97;40m"
-        )?
-    );
-    assert!(rt;
-        sgr_is(
-            alloc,
-            Color::Indexed(9),
-            Color::Rgb(1, 20, 255),
-            Color::Indexed(0),
-            0,
-            "\u{1b}[0;38;5;9;48;2;1;20;255;58;5;0m"
-        )?
-    );
-    assert!(rt; sgr_is(alloc, own, own, Color::Red, 0, "")?);
-    assert!(rt; sgr_is(alloc, own, own, own, 512, "")?);
+    for case in &RENDITIONS {
+        assert!(rt; is_sent(rt.alloc(), case)?);
+    }
     Ok(())
 }
 
+static SYMBOLS: [&str; 5] = ["a", "コ", "e\u{301}", "👩\u{200d}🔬", "コ\u{200b}"];
+
+static NO_SYMBOLS: [&str; 10] = [
+    "",
+    "a\u{1b}[2J",
+    "\u{9b}2J",
+    "\u{7f}",
+    "a\u{202e}b",
+    "\u{301}",
+    "\n",
+    "ab",
+    "日本",
+    "コa",
+];
+
+static GLYPHS: [(&str, Option<Glyph>); 7] = [
+    ("─", Some(Glyph::Plain('─'))),
+    ("é", Some(Glyph::Plain('é'))),
+    ("コ", Some(Glyph::Whole(2))),
+    ("e\u{301}", Some(Glyph::Whole(1))),
+    ("ab", None),
+    ("", None),
+    ("\u{9b}", None),
+];
+
 #[test]
-fn symbols(rt: HostRuntime) -> Result<(), Fail> {
-    assert!(rt;
-        is_symbol("a") && is_symbol("コ") && is_symbol("e\u{301}") && is_symbol("👩\u{200d}🔬")
-    );
-    assert!(rt;
-        !is_symbol("") && !is_symbol("a\u{1b}[2J") && !is_symbol("\u{9b}2J") && !is_symbol("\u{7f}")
-    );
-    assert!(rt; !is_symbol("a\u{202e}b") && !is_symbol("\u{301}") && !is_symbol("\n"));
-    assert!(rt; !is_symbol("ab") && !is_symbol("日本") && !is_symbol("コa") && is_symbol("コ\u{200b}"));
-    assert!(rt;
-        glyph_of("─") == Some(Glyph::Plain('─')) && glyph_of("é") == Some(Glyph::Plain('é'))
-    );
-    assert!(rt;
-        glyph_of("コ") == Some(Glyph::Whole(2)) && glyph_of("e\u{301}") == Some(Glyph::Whole(1))
-    );
-    assert!(rt; glyph_of("ab").is_none() && glyph_of("").is_none());
-    assert!(rt; glyph_of("\u{9b}").is_none());
+fn symbols(rt: HostRuntime) {
+    assert!(rt; SYMBOLS.iter().all(|symbol| is_symbol(symbol)));
+    assert!(rt; !NO_SYMBOLS.iter().any(|text| is_symbol(text)));
+    assert!(rt; GLYPHS.iter().all(|(text, glyph)| glyph_of(text) == *glyph));
+}
+
+#[test]
+fn a_plain_character(rt: HostRuntime) -> Result<(), Fail> {
     let mut out = String::new(rt.alloc());
     push_plain(&mut out, '~')?;
     assert!(rt; out.as_str() == "~");
@@ -365,34 +425,41 @@ fn ambiguous_cells(rt: HostRuntime) -> Result<(), Fail> {
     Ok(())
 }
 
+static UNPRINTED: [&str; 4] = ["a\u{1b}[2J", "", "ab", "コン"];
+
 #[test]
-fn cells_that_are_refused(rt: HostRuntime) -> Result<(), Fail> {
-    let alloc = rt.alloc();
-    let mut backend = over_kept(alloc, 3, 1)?;
-    let place = Position { x: 1, y: 0 };
-    let symbol = Err(Why::Symbol(place));
-    let mut cell = Cell::new(alloc, "a\u{1b}[2J")?;
-    assert!(rt; draws(&mut backend, &[(1, 0, &cell)], symbol, ""));
-    cell.set_symbol(alloc, "")?;
-    assert!(rt; draws(&mut backend, &[(1, 0, &cell)], symbol, ""));
-    cell.set_symbol(alloc, "ab")?;
-    assert!(rt; draws(&mut backend, &[(1, 0, &cell)], symbol, ""));
-    cell.set_symbol(alloc, "コン")?;
-    assert!(rt; draws(&mut backend, &[(1, 0, &cell)], symbol, ""));
-    cell.set_symbol(alloc, "a")?;
+fn symbols_that_are_refused(rt: HostRuntime) -> Result<(), Fail> {
+    let mut backend = over_kept(rt.alloc(), 3, 1)?;
+    let refused = Err(Why::Symbol(Position { x: 1, y: 0 }));
+    for symbol in &UNPRINTED {
+        let cell = Cell::new(rt.alloc(), symbol)?;
+        assert!(rt; draws(&mut backend, &[(1, 0, &cell)], refused, ""));
+    }
+    Ok(())
+}
+
+#[test]
+fn underlines_that_are_refused(rt: HostRuntime) -> Result<(), Fail> {
+    let mut backend = over_kept(rt.alloc(), 3, 1)?;
+    let refused = Err(Why::Style(Position { x: 1, y: 0 }));
+    let mut cell = Cell::new(rt.alloc(), "a")?;
     cell.underline_color = Color::Red;
-    assert!(rt; draws(&mut backend, &[(1, 0, &cell)], Err(Why::Style(place)), ""));
+    assert!(rt; draws(&mut backend, &[(1, 0, &cell)], refused, ""));
     cell.underline_color = Color::Indexed(3);
-    assert!(rt; draws(&mut backend, &[(1, 0, &cell)], Err(Why::Style(place)), ""));
+    assert!(rt; draws(&mut backend, &[(1, 0, &cell)], refused, ""));
     backend.set_underline_colors(true);
     let wanted = "\u{1b}[0;58;5;3m\u{1b}[1;2Ha\u{1b}[0m";
     assert!(rt; draws(&mut backend, &[(1, 0, &cell)], Ok(()), wanted));
     cell.underline_color = Color::Reset;
     assert!(rt; draws(&mut backend, &[(1, 0, &cell)], Ok(()), "\u{1b}[1;2Ha"));
+    Ok(())
+}
+
+#[test]
+fn no_backend_without_columns(rt: HostRuntime) {
     let none = Size {
         width: 0,
         height: 1,
     };
-    assert!(rt; AnsiBackend::new(alloc, Vec::<u8>::new(alloc), none).is_err());
-    Ok(())
+    assert!(rt; AnsiBackend::new(rt.alloc(), Vec::<u8>::new(rt.alloc()), none).is_err());
 }
