@@ -98,9 +98,21 @@ impl Symbol {
                 stored.clear();
                 stored.push_str(text);
             }
-            _ => *self = Symbol::new(alloc, text)?,
+            _ => match ArrayString::from(text) {
+                Ok(short) => self.store(short),
+                Err(_) => self.replace(alloc, text)?,
+            },
         }
         Ok(())
+    }
+
+    // Puts a short text in place of any other; apart, so that the path of a short one stays short,
+    // and by its value, so that the bytes of a character needn't be written to memory for it.
+    #[inline(never)]
+    fn store(&mut self, text: ArrayString<INLINE>)
+        ensures { self.new ≡ Some text.bytes }
+    {
+        self.text = Text::Short(text);
     }
 
     // Puts a text in place of any other; apart, so that the path of a short one stays short.
@@ -160,6 +172,19 @@ impl Symbol {
         text: &str,
         strategy: MergeStrategy,
     ) -> Result<(), AllocError>
+        ensures ok { OnOk result (self.new ≡ Some (joined strategy self.old text.now)) }
+        ensures err { OnErr result (self.new ≡ self.old) }
+        ensures short { IsShort (joined strategy self.old text.now) → IsOk result }
+    {
+        match &self.text {
+            Text::Unset | Text::Cleared(_) => self.set(alloc, text),
+            _ => self.join(alloc, text, strategy),
+        }
+    }
+
+    // Draws a text over the stored one; apart, so that the path of an unset symbol stays short.
+    #[inline(never)]
+    fn join(&mut self, alloc: Global, text: &str, strategy: MergeStrategy) -> Result<(), AllocError>
         ensures ok { OnOk result (self.new ≡ Some (joined strategy self.old text.now)) }
         ensures err { OnErr result (self.new ≡ self.old) }
         ensures short { IsShort (joined strategy self.old text.now) → IsOk result }
