@@ -174,10 +174,6 @@ pub same-empty : is_same empty_cell empty_cell ≡ true
 unfolding is_same
 same-empty = refl
 
-pub skipped-empty : is_skipped empty_cell ≡ false
-unfolding is_skipped
-skipped-empty = refl
-
 plain_width : (o : CellDiffOption) (n : ℕ) → has_no_option o ≡ true → width_by o n ≡ n
 plain_width DiffOption.None n e = refl
 plain_width DiffOption.Skip n e = absurd (false≢true e)

@@ -113,6 +113,7 @@ impl Cell {
     ///
     /// `AllocError` if memory is refused; nothing has changed then. A text of at most 22 bytes
     /// takes none.
+    #[inline(always)]
     pub fn set_symbol(&mut self, alloc: Global, symbol: &str) -> Result<(), AllocError>
         ensures ok { OnOk result (self.new ≡ with_symbol symbol.now self.old) }
         ensures err { OnErr result (self.new ≡ self.old) }
@@ -161,6 +162,7 @@ impl Cell {
     /// # Errors
     ///
     /// None: it takes no memory.
+    #[inline(always)]
     pub fn set_char(&mut self, alloc: Global, ch: char) -> Result<(), AllocError>
         ensures ok { OnOk result (self.new ≡ with_symbol (encode_utf8 ch) self.old) }
         ensures succeeds { IsOk result }

@@ -83,6 +83,7 @@ impl Symbol {
     ///
     /// `AllocError` if memory is refused; nothing has changed then. A text of at most 22 bytes
     /// takes none.
+    #[inline(always)]
     pub fn set(&mut self, alloc: Global, text: &str) -> Result<(), AllocError>
         ensures ok { OnOk result (self.new ≡ Some text.now) }
         ensures err { OnErr result (self.new ≡ self.old) }
