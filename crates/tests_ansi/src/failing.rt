@@ -2,7 +2,7 @@
 
 ghost use Rattle.std.specs.Prelude.{◌≡◌};
 
-use crate::sequences::{Why, by_kind};
+use crate::backends::{Why, by_kind};
 use ratatui_ansi::{AnsiBackend, AnsiError};
 use ratatui_core::buffer::Buffer;
 use ratatui_core::style::{Color, Style};
@@ -110,28 +110,21 @@ fn is_mended(backend: &mut AnsiBackend<Tearing>, cell: &Cell) -> bool {
 
 // Whether a call is refused if just its own call of the writer fails, all later ones as broken, and
 // a restart mends that.
-fn fails_and_is_mended(alloc: Global, number: u64) -> Result<bool, Fail> {
-    let cell = Cell::new(alloc, "a")?;
+fn fails_and_is_mended(alloc: Global, number: u64, cell: &Cell) -> bool {
     let Ok(mut backend) = over_tearing(alloc, number.saturating_add(1)) else {
-        return Ok(false);
+        return false;
     };
-    for before in 0..number {
-        if call(&mut backend, before, &cell).is_err() {
-            return Ok(false);
-        }
-    }
-    let is_sent = call(&mut backend, number, &cell) == Err(Why::Write(ErrorKind::BrokenPipe));
-    if !is_sent || !is_broken(&mut backend, &cell) {
-        return Ok(false);
-    }
-    Ok(is_mended(&mut backend, &cell))
+    (0..number).all(|before| call(&mut backend, before, cell).is_ok())
+        && call(&mut backend, number, cell) == Err(Why::Write(ErrorKind::BrokenPipe))
+        && is_broken(&mut backend, cell)
+        && is_mended(&mut backend, cell)
 }
 
 #[test]
 fn each_call_of_a_writer_fails(rt: HostRuntime) -> Result<(), Fail> {
-    let alloc = rt.alloc();
+    let cell = Cell::new(rt.alloc(), "a")?;
     for number in 0..CALLS {
-        assert!(rt; fails_and_is_mended(alloc, number)?);
+        assert!(rt; fails_and_is_mended(rt.alloc(), number, &cell));
     }
     Ok(())
 }

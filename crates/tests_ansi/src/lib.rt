@@ -3,6 +3,8 @@
 #![tactic(auto)]
 
 #[cfg(test)]
+mod backends;
+#[cfg(test)]
 mod failing;
 #[cfg(test)]
 mod parameters;

@@ -1,6 +1,6 @@
 //! Random plays of a backend, read by a terminal, beside a screen in memory.
+use crate::backends::{Kept, over_kept, sent};
 use crate::reader::Reader;
-use crate::sequences::{Kept, over_kept, sent};
 use ansi_model::is_symbol;
 use bitflags::Flags;
 use ratatui_ansi::AnsiError;
@@ -165,22 +165,37 @@ impl Play {
         }
     }
 
-    // Draws some cells at once; whether they are drawn on both, or refused with nothing sent.
+    // Some places, in each of them one of two cells.
+    fn random_items<'a>(
+        &self,
+        random: &mut Random,
+        first: &'a Cell,
+        second: &'a Cell,
+    ) -> Result<Vec<(u16, u16, &'a Cell)>, AllocError> {
+        let mut items = Vec::new(self.alloc);
+        for at in 0..random.below(9) {
+            let cell = if at % 2 == 0 { first } else { second };
+            items.push((random.below(self.width), random.below(self.height), cell))?;
+        }
+        Ok(items)
+    }
+
+    // Draws cells at once; whether they are drawn on both, or refused with nothing sent.
+    fn draws_items(&mut self, items: &[(u16, u16, &Cell)]) -> bool {
+        let before = sent(&self.backend).len();
+        if self.backend.draw(items.iter().copied()).is_ok() {
+            self.screen.draw(items.iter().copied()).is_ok() && self.follow_cursor()
+        } else {
+            sent(&self.backend).len() == before
+        }
+    }
+
+    // The same of random cells.
     fn draws_some(&mut self, random: &mut Random) -> Result<bool, Fail> {
         let first = random_cell(self.alloc, random)?;
         let second = random_cell(self.alloc, random)?;
-        let mut items = Vec::new(self.alloc);
-        for at in 0..random.below(9) {
-            let cell = if at % 2 == 0 { &first } else { &second };
-            items.push((random.below(self.width), random.below(self.height), cell))?;
-        }
-        let before = sent(&self.backend).len();
-        if self.backend.draw(items.iter().copied()).is_ok() {
-            let is_drawn = self.screen.draw(items.iter().copied()).is_ok();
-            Ok(is_drawn && self.follow_cursor())
-        } else {
-            Ok(sent(&self.backend).len() == before)
-        }
+        let items = self.random_items(random, &first, &second)?;
+        Ok(self.draws_items(items.as_slice()))
     }
 
     fn moves(&mut self, random: &mut Random) -> bool {
@@ -220,8 +235,7 @@ impl Play {
         are_both && self.follow_cursor()
     }
 
-    fn appends(&mut self, random: &mut Random) -> bool {
-        let n = random.below(self.height.saturating_add(2));
+    fn appends(&mut self, n: u16) -> bool {
         self.backend.append_lines(n).is_ok()
             && self.screen.append_lines(n).is_ok()
             && self.follow_cursor()
@@ -240,13 +254,35 @@ impl Play {
         match random.below(16) {
             0 => Ok(self.moves(random)),
             1 => Ok(self.hides(random)),
-            2 => Ok(self.appends(random)),
+            2 => {
+                let n = random.below(self.height.saturating_add(2));
+                Ok(self.appends(n))
+            }
             3 => self.clears(random),
             4 => Ok(self.scrolls(random, true)),
             5 => Ok(self.scrolls(random, false)),
             6 | 7 => self.draws_some(random),
             _ => self.draws(random),
         }
+    }
+
+    // Whether many calls in a row answer as they should, and are shown.
+    fn is_played(&mut self, seed: u64) -> Result<bool, Fail> {
+        let mut random = Random { state: seed };
+        for _ in 0..CALLS {
+            if !self.calls(&mut random)? || !self.is_shown()? {
+                return Ok(false);
+            }
+        }
+        Ok(true)
+    }
+
+    fn begins_anew(&mut self) -> bool {
+        self.backend.restart().is_ok()
+            && self
+                .backend
+                .draw(iter::empty::<(u16, u16, &Cell)>())
+                .is_ok()
     }
 }
 
@@ -279,13 +315,7 @@ fn is_played(alloc: Global, width: u16, height: u16, seed: u64) -> Result<bool, 
     play.has_underline_colors = seed % 2 == 0;
     play.backend.set_underline_colors(seed % 2 == 0);
     play.backend.set_ambiguous_is_wide(seed % 3 == 0);
-    let mut random = Random { state: seed };
-    for _ in 0..CALLS {
-        if !play.calls(&mut random)? || !play.is_shown()? {
-            return Ok(false);
-        }
-    }
-    Ok(true)
+    play.is_played(seed)
 }
 
 const CALLS: u16 = 40;
@@ -318,28 +348,28 @@ fn plays_are_shown(rt: HostRuntime) -> Result<(), Fail> {
 pub(crate) const LEFT: &str =
     "ab\n\n\n\n\r\u{1b}[1;1Hコココ\u{1b}[1;2Hコ\u{1b}[?25l\u{1b}[0;1;31m\u{1b}[2;3r";
 
+// Whether a text, which is what another text has from its end on, makes a terminal blank that read
+// the other.
+fn blanks(alloc: Global, texts: Option<(&str, &str)>) -> Result<bool, Fail> {
+    let Some((left, rest)) = texts else {
+        return Ok(false);
+    };
+    let blank = TestBackend::new(alloc, 7, 4)?;
+    Ok(Reader::of(alloc, 7, 4, left, rest)?.shows(Position::ORIGIN, &blank))
+}
+
 // Whether a backend that begins anew after a play makes the terminal blank, and its screen is
 // blank, too.
 fn is_begun_anew(alloc: Global, seed: u64) -> Result<bool, Fail> {
     let mut play = Play::new(alloc, 7, 4)?;
-    let mut random = Random { state: seed };
-    for _ in 0..CALLS {
-        if !play.calls(&mut random)? {
-            return Ok(false);
-        }
+    if !play.is_played(seed)? {
+        return Ok(false);
     }
     let before = sent(&play.backend).len();
-    let is_begun = play.backend.restart().is_ok()
-        && play
-            .backend
-            .draw(iter::empty::<(u16, u16, &Cell)>())
-            .is_ok();
-    let bytes = sent(&play.backend);
-    let (Some(left), Some(rest)) = (bytes.get(..before), bytes.get(before..)) else {
+    if !play.begins_anew() {
         return Ok(false);
-    };
-    let blank = TestBackend::new(alloc, 7, 4)?;
-    Ok(is_begun && Reader::of(alloc, 7, 4, left, rest)?.shows(Position::ORIGIN, &blank))
+    }
+    blanks(alloc, sent(&play.backend).split_at_checked(before))
 }
 
 #[test]
@@ -351,17 +381,20 @@ fn used_terminals_are_made_blank(rt: HostRuntime) -> Result<(), Fail> {
     Ok(())
 }
 
+// Draws a wide symbol at both ends of the widest screen, and behind it; whether both do so.
+fn draws_at_the_ends(play: &mut Play, wide: &Cell) -> bool {
+    let items = [(0, 0, wide), (65533, 0, wide), (65535, 0, wide)];
+    play.backend.draw(items.iter().copied()).is_ok()
+        && play.screen.draw(items.iter().copied()).is_ok()
+        && play.follow_cursor()
+}
+
 // A screen as wide as a terminal's can be.
 #[test]
 fn the_widest_screen(rt: HostRuntime) -> Result<(), Fail> {
-    let alloc = rt.alloc();
-    let mut play = Play::new(alloc, 65535, 1)?;
-    let wide = Cell::new(alloc, "コ")?;
-    let items = [(0, 0, &wide), (65533, 0, &wide), (65535, 0, &wide)];
-    assert!(rt; play.backend.draw(items.iter().copied()).is_ok());
-    assert!(rt; play.screen.draw(items.iter().copied()).is_ok());
-    assert!(rt; play.follow_cursor() && play.is_shown()?);
-    assert!(rt; play.backend.append_lines(1).is_ok() && play.screen.append_lines(1).is_ok());
-    assert!(rt; play.follow_cursor() && play.is_shown()?);
+    let wide = Cell::new(rt.alloc(), "コ")?;
+    let mut play = Play::new(rt.alloc(), 65535, 1)?;
+    assert!(rt; draws_at_the_ends(&mut play, &wide) && play.is_shown()?);
+    assert!(rt; play.appends(1) && play.is_shown()?);
     Ok(())
 }

@@ -107,15 +107,15 @@ impl<'a> Reader<'a> {
     }
 
     fn read(&mut self, sent: &'a str) -> Result<(), AllocError> {
-        let mut texts = sent.split('\u{1b}');
-        if let Some(text) = texts.next() {
+        let mut is_first = true;
+        for part in sent.split('\u{1b}') {
+            let text = if is_first {
+                part
+            } else {
+                self.read_sequence(part)
+            };
             self.read_text(text)?;
-        }
-        for sequence in texts {
-            match sequence.strip_prefix('[') {
-                Some(sequence) => self.read_sequence(sequence)?,
-                None => self.sure = false,
-            }
+            is_first = false;
         }
         Ok(())
     }
@@ -138,16 +138,20 @@ impl<'a> Reader<'a> {
         Ok(())
     }
 
-    fn read_sequence(&mut self, sequence: &'a str) -> Result<(), AllocError> {
+    // Does what a sequence says; the text behind it.
+    fn read_sequence(&mut self, part: &'a str) -> &'a str {
+        let Some(sequence) = part.strip_prefix('[') else {
+            self.sure = false;
+            return "";
+        };
         for (at, ch) in sequence.char_indices() {
             if !ch.is_ascii_digit() && ch != ';' && ch != '?' {
                 self.perform(sequence.get(..at).unwrap_or(""), ch);
-                let from = at + ch.len_utf8();
-                return self.read_text(sequence.get(from..).unwrap_or(""));
+                return sequence.get(at + ch.len_utf8()..).unwrap_or("");
             }
         }
         self.sure = false;
-        Ok(())
+        ""
     }
 
     fn perform(&mut self, parameters: &str, last: char) {

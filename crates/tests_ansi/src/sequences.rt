@@ -5,14 +5,10 @@ use ansi_model::{
     set_region, show_cursor,
 };
 use bitflags::Flags;
-use ratatui_ansi::{AnsiBackend, AnsiError};
-use rtui_backend::{Backend, ClearType};
+use rtui_backend::ClearType;
 use rtui_cell::Cell;
-use rtui_geometry::{Position, Size};
 use rtui_style::{Color, Modifier};
-use std::alloc::{AllocError, Global};
-use std::io::ErrorKind;
-use std::str;
+use std::alloc::Global;
 use std::test::Fail;
 
 #[test]
@@ -46,75 +42,37 @@ fn cursors_and_regions(rt: HostRuntime) -> Result<(), Fail> {
     Ok(())
 }
 
-// A region of a screen of 5 rows that scrolls up or down by so many rows, and what is sent for it.
-struct Scrolled {
-    up: bool,
-    region: (u16, u16),
-    rows: u16,
-    sent: &'static str,
-}
+// Whether a region of a screen of 5 rows scrolls up, the region, by how many rows, and what is sent
+// for it.
+type Scrolled = (bool, (u16, u16), u16, &'static str);
 
 static SCROLLED: [Scrolled; 8] = [
-    Scrolled {
-        up: true,
-        region: (0, 9),
-        rows: 2,
-        sent: "\u{1b}[5;1H\r\n\n",
-    },
-    Scrolled {
-        up: true,
-        region: (0, 3),
-        rows: 1,
-        sent: "\u{1b}[1;3r\u{1b}[3;1H\r\n\u{1b}[r",
-    },
-    Scrolled {
-        up: true,
-        region: (0, 1),
-        rows: 1,
-        sent: "\u{1b}[1;2r\u{1b}[2;1H\n\u{1b}[1;1H\u{1b}[1L\u{1b}[r",
-    },
-    Scrolled {
-        up: true,
-        region: (1, 4),
-        rows: 2,
-        sent: "\u{1b}[2;4r\u{1b}[2;1H\u{1b}[2M\u{1b}[r",
-    },
-    Scrolled {
-        up: true,
-        region: (4, 9),
-        rows: 2,
-        sent: "\u{1b}[5;1H\u{1b}[2K",
-    },
-    Scrolled {
-        up: false,
-        region: (0, 3),
-        rows: 7,
-        sent: "\u{1b}[1;3r\u{1b}[1;1H\u{1b}[7L\u{1b}[r",
-    },
-    Scrolled {
-        up: false,
-        region: (2, 3),
-        rows: 1,
-        sent: "\u{1b}[3;1H\u{1b}[2K",
-    },
-    Scrolled {
-        up: false,
-        region: (5, 9),
-        rows: 1,
-        sent: "",
-    },
+    (true, (0, 9), 2, "\u{1b}[5;1H\r\n\n"),
+    (true, (0, 3), 1, "\u{1b}[1;3r\u{1b}[3;1H\r\n\u{1b}[r"),
+    (
+        true,
+        (0, 1),
+        1,
+        "\u{1b}[1;2r\u{1b}[2;1H\n\u{1b}[1;1H\u{1b}[1L\u{1b}[r",
+    ),
+    (true, (1, 4), 2, "\u{1b}[2;4r\u{1b}[2;1H\u{1b}[2M\u{1b}[r"),
+    (true, (4, 9), 2, "\u{1b}[5;1H\u{1b}[2K"),
+    (false, (0, 3), 7, "\u{1b}[1;3r\u{1b}[1;1H\u{1b}[7L\u{1b}[r"),
+    (false, (2, 3), 1, "\u{1b}[3;1H\u{1b}[2K"),
+    (false, (5, 9), 1, ""),
 ];
 
 // Whether scrolling sends what it should.
 fn scrolls(alloc: Global, case: &Scrolled) -> Result<bool, Fail> {
+    let (up, (start, end), rows, sent) = *case;
     let mut out = String::new(alloc);
-    let region = case.region.0..case.region.1;
-    if case.up {
-        scroll_region_up(&mut out, 5, region, case.rows)?;
+    let answer = if up {
+        scroll_region_up(&mut out, 5, start..end, rows)
     } else {
-        scroll_region_down(&mut out, 5, region, case.rows)?;
-    }
-    Ok(out.as_str() == case.sent)
+        scroll_region_down(&mut out, 5, start..end, rows)
+    };
+    answer?;
+    Ok(out.as_str() == sent)
 }
 
 #[test]
@@ -240,226 +198,4 @@ fn a_plain_character(rt: HostRuntime) -> Result<(), Fail> {
     push_plain(&mut out, '~')?;
     assert!(rt; out.as_str() == "~");
     Ok(())
-}
-
-// A backend that writes to memory.
-pub(crate) type Kept = AnsiBackend<Vec<u8>>;
-
-// A backend of a screen of so many columns and rows, over a writer that keeps what it is sent.
-pub(crate) fn over_kept(alloc: Global, width: u16, height: u16) -> Result<Kept, Fail> {
-    let size = Size { width, height };
-    match AnsiBackend::new(alloc, Vec::new(alloc), size) {
-        Ok(backend) => Ok(backend),
-        Err(_) => Err(Fail::from(AllocError)),
-    }
-}
-
-// What a backend was sent.
-pub(crate) fn sent(backend: &Kept) -> &str {
-    str::from_utf8(backend.writer().as_slice()).unwrap_or("not UTF-8")
-}
-
-// An error that can be compared: of a writer's error the kind alone.
-#[derive(Debug, Clone, Copy, PartialEq, Eq)]
-pub(crate) enum Why {
-    Memory,
-    Symbol(Position),
-    Style(Position),
-    Cut(Position),
-    Size,
-    Broken,
-    Write(ErrorKind),
-}
-
-// An answer, with an error that can be compared.
-pub(crate) fn by_kind<T>(answer: Result<T, AnsiError>) -> Result<T, Why> {
-    answer.map_err(|error| match error {
-        AnsiError::Memory => Why::Memory,
-        AnsiError::Symbol(place) => Why::Symbol(place),
-        AnsiError::Style(place) => Why::Style(place),
-        AnsiError::Cut(place) => Why::Cut(place),
-        AnsiError::Size => Why::Size,
-        AnsiError::Broken => Why::Broken,
-        AnsiError::Write(error) => Why::Write(error.kind()),
-    })
-}
-
-// Whether the answer of a call is this, and what was sent until then ends so.
-fn sends(
-    backend: &Kept,
-    answer: Result<(), AnsiError>,
-    wanted: Result<(), Why>,
-    end: &str,
-) -> bool {
-    by_kind(answer) == wanted && sent(backend).ends_with(end)
-}
-
-// What makes a terminal of four columns and three rows blank.
-const BLANK_4_3: &str = "\u{1b}[0m\u{1b}[r\u{1b}[3;4H\u{1b}[1J\u{1b}[1;1H\u{1b}[?25h";
-
-#[test]
-fn calls_of_the_backend(rt: HostRuntime) -> Result<(), Fail> {
-    let mut backend = over_kept(rt.alloc(), 4, 3)?;
-    assert!(rt; sent(&backend) == BLANK_4_3);
-    let answer = backend.hide_cursor();
-    assert!(rt; sends(&backend, answer, Ok(()), "\u{1b}[?25l"));
-    let answer = backend.set_cursor_position(Position { x: 9, y: 1 });
-    assert!(rt; sends(&backend, answer, Ok(()), "\u{1b}[?25l\u{1b}[2;10H"));
-    assert!(rt; by_kind(backend.get_cursor_position()) == Ok(Position { x: 3, y: 1 }));
-    let answer = backend.append_lines(2);
-    assert!(rt; sends(&backend, answer, Ok(()), "\r\n\n"));
-    assert!(rt; by_kind(backend.get_cursor()) == Ok((0, 2)));
-    let answer = backend.scroll_region_up(0..3, 1);
-    assert!(rt; sends(&backend, answer, Ok(()), "\u{1b}[3;1H\r\n\u{1b}[3;1H"));
-    let answer = backend.clear();
-    assert!(rt; sends(&backend, answer, Ok(()), "\u{1b}[3;4H\u{1b}[1J\u{1b}[3;1H"));
-    let answer = backend.clear_region(ClearType::UntilNewLine);
-    assert!(rt; sends(&backend, answer, Ok(()), "\u{1b}[3;1H\u{1b}[K\u{1b}[3;1H"));
-    let size = Size {
-        width: 4,
-        height: 3,
-    };
-    assert!(rt; by_kind(backend.size()) == Ok(size) && backend.flush().is_ok());
-    assert!(rt; backend.restart().is_ok() && sent(&backend).ends_with(BLANK_4_3));
-    assert!(rt; by_kind(backend.get_cursor()) == Ok((0, 0)));
-    Ok(())
-}
-
-// Whether drawing these cells of one row, on what was drawn before, answers so and is sent so.
-fn draws(
-    backend: &mut Kept,
-    cells: &[(u16, u16, &Cell)],
-    wanted: Result<(), Why>,
-    end: &str,
-) -> bool {
-    let before = sent(backend).len();
-    let answer = backend.draw(cells.iter().copied());
-    by_kind(answer) == wanted && sent(backend).get(before..) == Some(end)
-}
-
-#[test]
-fn moves_and_pens_only_where_they_change(rt: HostRuntime) -> Result<(), Fail> {
-    let alloc = rt.alloc();
-    let mut backend = over_kept(alloc, 80, 24)?;
-    let (a, line) = (Cell::new(alloc, "a")?, Cell::new(alloc, "─")?);
-    let (mut c, mut wide, mut d) = (
-        Cell::new(alloc, "c")?,
-        Cell::new(alloc, "コ")?,
-        Cell::new(alloc, "d")?,
-    );
-    c.fg = Color::Green;
-    wide.fg = Color::Green;
-    d.fg = Color::Green;
-    assert!(rt;
-        draws(
-            &mut backend,
-            &[
-                (1, 0, &a),
-                (2, 0, &line),
-                (3, 0, &c),
-                (4, 0, &wide),
-                (6, 0, &d)
-            ],
-            Ok(()),
-            "\u{1b}[1;2Ha─\u{1b}[0;32mc\u{1b}[1;5Hコ\u{1b}[1;7Hd\u{1b}[0m"
-        )
-    );
-    Ok(())
-}
-
-#[test]
-fn cells_in_their_places(rt: HostRuntime) -> Result<(), Fail> {
-    let alloc = rt.alloc();
-    let mut backend = over_kept(alloc, 6, 2)?;
-    let (a, b, blank) = (Cell::new(alloc, "a")?, Cell::new(alloc, "b")?, Cell::EMPTY);
-    let (wide, other) = (Cell::new(alloc, "コ")?, Cell::new(alloc, "ン")?);
-    assert!(rt;
-        draws(
-            &mut backend,
-            &[(0, 0, &a), (1, 0, &b)],
-            Ok(()),
-            "\u{1b}[1;1Hab"
-        )
-    );
-    assert!(rt;
-        draws(
-            &mut backend,
-            &[(2, 0, &wide), (3, 0, &blank)],
-            Ok(()),
-            "\u{1b}[1;3Hコ"
-        )
-    );
-    assert!(rt; by_kind(backend.get_cursor()) == Ok((4, 0)));
-    let cut = Err(Why::Cut(Position { x: 3, y: 0 }));
-    assert!(rt; draws(&mut backend, &[(3, 0, &a)], cut, ""));
-    assert!(rt; draws(&mut backend, &[(2, 0, &a)], Ok(()), "\u{1b}[1;3Ha "));
-    assert!(rt; draws(&mut backend, &[(3, 0, &a)], Ok(()), "\u{1b}[1;4Ha"));
-    assert!(rt; draws(&mut backend, &[(4, 1, &wide)], Ok(()), "\u{1b}[2;5Hコ"));
-    assert!(rt;
-        draws(
-            &mut backend,
-            &[(3, 1, &other)],
-            Ok(()),
-            "\u{1b}[2;4Hン\u{1b}[2;6H "
-        )
-    );
-    assert!(rt; draws(&mut backend, &[(9, 9, &a)], Ok(()), ""));
-    Ok(())
-}
-
-#[test]
-fn ambiguous_cells(rt: HostRuntime) -> Result<(), Fail> {
-    let alloc = rt.alloc();
-    let mut backend = over_kept(alloc, 4, 1)?;
-    let plain = Cell::new(alloc, "a")?;
-    let accented = Cell::new(alloc, "é")?;
-    let row = [
-        (0, 0, &plain),
-        (1, 0, &accented),
-        (2, 0, &plain),
-        (3, 0, &accented),
-    ];
-    assert!(rt; draws(&mut backend, &row, Ok(()), "\u{1b}[1;1Haéaé"));
-    backend.set_ambiguous_is_wide(true);
-    assert!(rt; draws(&mut backend, &row, Ok(()), "\u{1b}[1;1Haé\u{1b}[1;3Haé"));
-    Ok(())
-}
-
-static UNPRINTED: [&str; 4] = ["a\u{1b}[2J", "", "ab", "コン"];
-
-#[test]
-fn symbols_that_are_refused(rt: HostRuntime) -> Result<(), Fail> {
-    let mut backend = over_kept(rt.alloc(), 3, 1)?;
-    let refused = Err(Why::Symbol(Position { x: 1, y: 0 }));
-    for symbol in &UNPRINTED {
-        let cell = Cell::new(rt.alloc(), symbol)?;
-        assert!(rt; draws(&mut backend, &[(1, 0, &cell)], refused, ""));
-    }
-    Ok(())
-}
-
-#[test]
-fn underlines_that_are_refused(rt: HostRuntime) -> Result<(), Fail> {
-    let mut backend = over_kept(rt.alloc(), 3, 1)?;
-    let refused = Err(Why::Style(Position { x: 1, y: 0 }));
-    let mut cell = Cell::new(rt.alloc(), "a")?;
-    cell.underline_color = Color::Red;
-    assert!(rt; draws(&mut backend, &[(1, 0, &cell)], refused, ""));
-    cell.underline_color = Color::Indexed(3);
-    assert!(rt; draws(&mut backend, &[(1, 0, &cell)], refused, ""));
-    backend.set_underline_colors(true);
-    let wanted = "\u{1b}[0;58;5;3m\u{1b}[1;2Ha\u{1b}[0m";
-    assert!(rt; draws(&mut backend, &[(1, 0, &cell)], Ok(()), wanted));
-    cell.underline_color = Color::Reset;
-    assert!(rt; draws(&mut backend, &[(1, 0, &cell)], Ok(()), "\u{1b}[1;2Ha"));
-    Ok(())
-}
-
-#[test]
-fn no_backend_without_columns(rt: HostRuntime) {
-    let none = Size {
-        width: 0,
-        height: 1,
-    };
-    assert!(rt; AnsiBackend::new(rt.alloc(), Vec::<u8>::new(rt.alloc()), none).is_err());
 }

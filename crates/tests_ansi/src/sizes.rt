@@ -2,9 +2,9 @@
 //! blank in that size.
 ghost use Rattle.ratatui_core.specs.Terminal.{FitsEdges};
 
+use crate::backends::{Kept, sent};
 use crate::plays::LEFT;
 use crate::reader::Reader;
-use crate::sequences::Kept;
 use ratatui_ansi::AnsiBackend;
 use ratatui_core::backend::{Backend, TestBackend};
 use ratatui_core::buffer::Buffer;
@@ -12,7 +12,6 @@ use ratatui_core::layout::{Rect, Size};
 use ratatui_core::style::Style;
 use ratatui_core::terminal::{Terminal, TerminalOptions, Viewport};
 use std::alloc::{AllocError, Global};
-use std::str;
 use std::test::Fail;
 
 // Paints a text in the corner of a buffer, if that has one.
@@ -58,36 +57,63 @@ fn over_memory(alloc: Global, viewport: Viewport) -> Result<Terminal<TestBackend
     }
 }
 
+// A screen in memory on which a frame was drawn, and another after it took this size.
+fn drawn_in_memory(
+    alloc: Global,
+    viewport: Viewport,
+    size: Size,
+) -> Result<Terminal<TestBackend>, Fail>
+    requires { FitsEdges viewport }
+{
+    let mut memory = over_memory(alloc, viewport)?;
+    let is_drawn = draws(&mut memory, "abコ");
+    *memory.backend_mut() = TestBackend::new(alloc, size.width, size.height)?;
+    if is_drawn && draws(&mut memory, "cdeコ") {
+        Ok(memory)
+    } else {
+        Err(Fail::from(AllocError))
+    }
+}
+
+// Draws a frame, and another after the window took this size; how many bytes were sent before it
+// did, if all was done.
+fn draws_twice(terminal: &mut Terminal<Kept>, size: Size) -> Option<usize> {
+    if !draws(terminal, "abコ") {
+        return None;
+    }
+    let before = terminal.backend().writer().len();
+    let is_drawn = terminal.backend_mut().resize(size).is_ok() && draws(terminal, "cdeコ");
+    is_drawn.then_some(before)
+}
+
+// Whether what was sent since then shows a screen to a terminal that was left by another program.
+fn shows(
+    alloc: Global,
+    backend: &mut Kept,
+    before: usize,
+    screen: &TestBackend,
+) -> Result<bool, Fail> {
+    let (Ok(cursor), Ok(size)) = (backend.get_cursor_position(), backend.size()) else {
+        return Ok(false);
+    };
+    let Some(since) = sent(backend).get(before..) else {
+        return Ok(false);
+    };
+    let reader = Reader::of(alloc, size.width, size.height, LEFT, since)?;
+    Ok(reader.shows(cursor, screen))
+}
+
 // Whether a frame, drawn after the window took this size, is shown to a terminal that was left by
 // another program.
 fn is_drawn_anew(alloc: Global, viewport: Viewport, size: Size) -> Result<bool, Fail>
     requires { FitsEdges viewport }
 {
+    let memory = drawn_in_memory(alloc, viewport, size)?;
     let mut terminal = over_kept(alloc, viewport)?;
-    let mut memory = over_memory(alloc, viewport)?;
-    if !draws(&mut terminal, "abコ") || !draws(&mut memory, "abコ") {
-        return Ok(false);
+    match draws_twice(&mut terminal, size) {
+        Some(before) => shows(alloc, terminal.backend_mut(), before, memory.backend()),
+        None => Ok(false),
     }
-    let before = terminal.backend().writer().len();
-    *memory.backend_mut() = TestBackend::new(alloc, size.width, size.height)?;
-    if terminal.backend_mut().resize(size).is_err()
-        || !draws(&mut terminal, "cdeコ")
-        || !draws(&mut memory, "cdeコ")
-    {
-        return Ok(false);
-    }
-    let Ok(cursor) = terminal.backend_mut().get_cursor_position() else {
-        return Ok(false);
-    };
-    let sent = terminal.backend().writer().as_slice();
-    let Some(since) = sent.get(before..) else {
-        return Ok(false);
-    };
-    let Ok(since) = str::from_utf8(since) else {
-        return Ok(false);
-    };
-    let reader = Reader::of(alloc, size.width, size.height, LEFT, since)?;
-    Ok(reader.shows(cursor, memory.backend()))
 }
 
 const SIZES: [(u16, u16); 5] = [(9, 5), (4, 2), (6, 2), (3, 7), (1, 1)];

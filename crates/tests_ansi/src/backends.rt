@@ -1,0 +1,256 @@
+//! A backend over memory: its calls, what it sends for cells, and what it refuses.
+use ratatui_ansi::{AnsiBackend, AnsiError};
+use rtui_backend::{Backend, ClearType};
+use rtui_cell::Cell;
+use rtui_geometry::{Position, Size};
+use rtui_style::Color;
+use std::alloc::{AllocError, Global};
+use std::io::ErrorKind;
+use std::test::Fail;
+use std::{slice, str};
+
+// A backend that writes to memory.
+pub(crate) type Kept = AnsiBackend<Vec<u8>>;
+
+// A backend of a screen of so many columns and rows, over a writer that keeps what it is sent.
+pub(crate) fn over_kept(alloc: Global, width: u16, height: u16) -> Result<Kept, Fail> {
+    let size = Size { width, height };
+    match AnsiBackend::new(alloc, Vec::new(alloc), size) {
+        Ok(backend) => Ok(backend),
+        Err(_) => Err(Fail::from(AllocError)),
+    }
+}
+
+// What a backend was sent.
+pub(crate) fn sent(backend: &Kept) -> &str {
+    str::from_utf8(backend.writer().as_slice()).unwrap_or("not UTF-8")
+}
+
+// An error that can be compared: of a writer's error the kind alone.
+#[derive(Debug, Clone, Copy, PartialEq, Eq)]
+pub(crate) enum Why {
+    Memory,
+    Symbol(Position),
+    Style(Position),
+    Cut(Position),
+    Size,
+    Broken,
+    Write(ErrorKind),
+}
+
+// An answer, with an error that can be compared.
+pub(crate) fn by_kind<T>(answer: Result<T, AnsiError>) -> Result<T, Why> {
+    answer.map_err(|error| match error {
+        AnsiError::Memory => Why::Memory,
+        AnsiError::Symbol(place) => Why::Symbol(place),
+        AnsiError::Style(place) => Why::Style(place),
+        AnsiError::Cut(place) => Why::Cut(place),
+        AnsiError::Size => Why::Size,
+        AnsiError::Broken => Why::Broken,
+        AnsiError::Write(error) => Why::Write(error.kind()),
+    })
+}
+
+// Whether a call was made, and what was sent until then ends so.
+fn sends(backend: &Kept, answer: Result<(), AnsiError>, end: &str) -> bool {
+    answer.is_ok() && sent(backend).ends_with(end)
+}
+
+// What makes a terminal of four columns and three rows blank.
+const BLANK_4_3: &str = "\u{1b}[0m\u{1b}[r\u{1b}[3;4H\u{1b}[1J\u{1b}[1;1H\u{1b}[?25h";
+
+// Makes one of the calls that answer nothing.
+fn call(backend: &mut Kept, number: usize) -> Result<(), AnsiError> {
+    match number {
+        0 => backend.hide_cursor(),
+        1 => backend.set_cursor_position(Position { x: 9, y: 1 }),
+        2 => backend.append_lines(2),
+        3 => backend.scroll_region_up(0..3, 1),
+        4 => backend.clear(),
+        5 => backend.clear_region(ClearType::UntilNewLine),
+        6 => backend.flush(),
+        _ => backend.restart(),
+    }
+}
+
+// How what is sent ends after each of these calls, and where the cursor then is.
+static CALLS: [(&str, (u16, u16)); 8] = [
+    ("\u{1b}[?25l", (0, 0)),
+    ("\u{1b}[?25l\u{1b}[2;10H", (3, 1)),
+    ("\r\n\n", (0, 2)),
+    ("\u{1b}[3;1H\r\n\u{1b}[3;1H", (0, 2)),
+    ("\u{1b}[3;4H\u{1b}[1J\u{1b}[3;1H", (0, 2)),
+    ("\u{1b}[3;1H\u{1b}[K\u{1b}[3;1H", (0, 2)),
+    ("\u{1b}[3;1H\u{1b}[K\u{1b}[3;1H", (0, 2)),
+    (BLANK_4_3, (0, 0)),
+];
+
+// Whether a backend tells that its cursor is here.
+fn is_at(backend: &mut Kept, x: u16, y: u16) -> bool {
+    by_kind(backend.get_cursor_position()) == Ok(Position { x, y })
+        && by_kind(backend.get_cursor()) == Ok((x, y))
+}
+
+#[test]
+fn calls_of_the_backend(rt: HostRuntime) -> Result<(), Fail> {
+    let mut backend = over_kept(rt.alloc(), 4, 3)?;
+    assert!(rt; sent(&backend) == BLANK_4_3);
+    for (number, (end, (x, y))) in CALLS.iter().enumerate() {
+        let answer = call(&mut backend, number);
+        assert!(rt; sends(&backend, answer, end) && is_at(&mut backend, *x, *y));
+    }
+    let size = Size {
+        width: 4,
+        height: 3,
+    };
+    assert!(rt; by_kind(backend.size()) == Ok(size));
+    Ok(())
+}
+
+// Cells with these symbols.
+fn cells_of(alloc: Global, symbols: &[&str]) -> Result<Vec<Cell>, AllocError> {
+    let mut cells = Vec::new(alloc);
+    for symbol in symbols {
+        cells.push(Cell::new(alloc, symbol)?)?;
+    }
+    Ok(cells)
+}
+
+// Whether drawing cells in these places, on what was drawn before, answers so and is sent so.
+fn draws(
+    backend: &mut Kept,
+    places: &[(u16, u16)],
+    cells: &[Cell],
+    wanted: Result<(), Why>,
+    end: &str,
+) -> bool {
+    let before = sent(backend).len();
+    let placed = places.iter().zip(cells.iter());
+    let answer = backend.draw(placed.map(|((x, y), cell)| (*x, *y, cell)));
+    by_kind(answer) == wanted && sent(backend).get(before..) == Some(end)
+}
+
+#[test]
+fn moves_and_pens_only_where_they_change(rt: HostRuntime) -> Result<(), Fail> {
+    let mut backend = over_kept(rt.alloc(), 80, 24)?;
+    let mut cells = cells_of(rt.alloc(), &["a", "─", "c", "コ", "d"])?;
+    for cell in cells.iter_mut().skip(2) {
+        cell.fg = Color::Green;
+    }
+    let places = [(1, 0), (2, 0), (3, 0), (4, 0), (6, 0)];
+    let wanted = "\u{1b}[1;2Ha─\u{1b}[0;32mc\u{1b}[1;5Hコ\u{1b}[1;7Hd\u{1b}[0m";
+    assert!(rt; draws(&mut backend, &places, cells.as_slice(), Ok(()), wanted));
+    Ok(())
+}
+
+// The places of cells, their symbols, the answer to drawing them, and what is sent.
+type Drawn = (
+    &'static [(u16, u16)],
+    &'static [&'static str],
+    Result<(), Why>,
+    &'static str,
+);
+
+static SIDE_BY_SIDE: [Drawn; 2] = [
+    (&[(0, 0), (1, 0)], &["a", "b"], Ok(()), "\u{1b}[1;1Hab"),
+    (&[(2, 0), (3, 0)], &["コ", " "], Ok(()), "\u{1b}[1;3Hコ"),
+];
+
+const CUT: Result<(), Why> = Err(Why::Cut(Position { x: 3, y: 0 }));
+
+static OVER_ONE_ANOTHER: [Drawn; 6] = [
+    (&[(3, 0)], &["a"], CUT, ""),
+    (&[(2, 0)], &["a"], Ok(()), "\u{1b}[1;3Ha "),
+    (&[(3, 0)], &["a"], Ok(()), "\u{1b}[1;4Ha"),
+    (&[(4, 1)], &["コ"], Ok(()), "\u{1b}[2;5Hコ"),
+    (&[(3, 1)], &["ン"], Ok(()), "\u{1b}[2;4Hン\u{1b}[2;6H "),
+    (&[(9, 9)], &["a"], Ok(()), ""),
+];
+
+// Whether each of these draws, one after another, answers so and is sent so.
+fn draws_each(alloc: Global, backend: &mut Kept, cases: &[Drawn]) -> Result<bool, AllocError> {
+    for (places, symbols, wanted, end) in cases {
+        let cells = cells_of(alloc, symbols)?;
+        if !draws(backend, places, cells.as_slice(), *wanted, end) {
+            return Ok(false);
+        }
+    }
+    Ok(true)
+}
+
+#[test]
+fn cells_in_their_places(rt: HostRuntime) -> Result<(), Fail> {
+    let mut backend = over_kept(rt.alloc(), 6, 2)?;
+    assert!(rt; draws_each(rt.alloc(), &mut backend, &SIDE_BY_SIDE)?);
+    assert!(rt; by_kind(backend.get_cursor()) == Ok((4, 0)));
+    assert!(rt; draws_each(rt.alloc(), &mut backend, &OVER_ONE_ANOTHER)?);
+    Ok(())
+}
+
+#[test]
+fn ambiguous_cells(rt: HostRuntime) -> Result<(), Fail> {
+    let mut backend = over_kept(rt.alloc(), 4, 1)?;
+    let cells = cells_of(rt.alloc(), &["a", "é", "a", "é"])?;
+    let row = [(0, 0), (1, 0), (2, 0), (3, 0)];
+    let (narrow, wide) = ("\u{1b}[1;1Haéaé", "\u{1b}[1;1Haé\u{1b}[1;3Haé");
+    assert!(rt; draws(&mut backend, &row, cells.as_slice(), Ok(()), narrow));
+    backend.set_ambiguous_is_wide(true);
+    assert!(rt; draws(&mut backend, &row, cells.as_slice(), Ok(()), wide));
+    Ok(())
+}
+
+static UNPRINTED: [&str; 4] = ["a\u{1b}[2J", "", "ab", "コン"];
+
+#[test]
+fn symbols_that_are_refused(rt: HostRuntime) -> Result<(), Fail> {
+    let mut backend = over_kept(rt.alloc(), 3, 1)?;
+    let refused = Err(Why::Symbol(Position { x: 1, y: 0 }));
+    let cells = cells_of(rt.alloc(), &UNPRINTED)?;
+    for cell in &cells {
+        assert!(rt; draws(&mut backend, &[(1, 0)], slice::from_ref(cell), refused, ""));
+    }
+    Ok(())
+}
+
+// Whether a cell with an underline of this colour answers so and is sent so.
+fn underlines(
+    backend: &mut Kept,
+    cell: &mut Cell,
+    color: Color,
+    wanted: Result<(), Why>,
+    end: &str,
+) -> bool {
+    cell.underline_color = color;
+    draws(backend, &[(1, 0)], slice::from_ref(cell), wanted, end)
+}
+
+#[test]
+fn underlines_that_are_refused(rt: HostRuntime) -> Result<(), Fail> {
+    let mut backend = over_kept(rt.alloc(), 3, 1)?;
+    let refused = Err(Why::Style(Position { x: 1, y: 0 }));
+    let wanted = "\u{1b}[0;58;5;3m\u{1b}[1;2Ha\u{1b}[0m";
+    let mut cell = Cell::new(rt.alloc(), "a")?;
+    assert!(rt; underlines(&mut backend, &mut cell, Color::Red, refused, ""));
+    assert!(rt; underlines(&mut backend, &mut cell, Color::Indexed(3), refused, ""));
+    backend.set_underline_colors(true);
+    assert!(rt; underlines(&mut backend, &mut cell, Color::Indexed(3), Ok(()), wanted));
+    assert!(rt;
+        underlines(
+            &mut backend,
+            &mut cell,
+            Color::Reset,
+            Ok(()),
+            "\u{1b}[1;2Ha"
+        )
+    );
+    Ok(())
+}
+
+#[test]
+fn no_backend_without_columns(rt: HostRuntime) {
+    let none = Size {
+        width: 0,
+        height: 1,
+    };
+    assert!(rt; AnsiBackend::new(rt.alloc(), Vec::<u8>::new(rt.alloc()), none).is_err());
+}
