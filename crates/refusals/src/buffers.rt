@@ -26,20 +26,20 @@ pub fn letters(alloc: Global, width: u16, height: u16) -> Result<Buffer, AllocEr
     Ok(buffer)
 }
 
-// A buffer of texts that fit 16 bits, a row each.
-fn rows(alloc: Global, texts: &[&str]) -> Result<Buffer, AllocError> {
+// The area of a buffer of texts that fit 16 bits, a row each.
+fn area_of_texts(alloc: Global, texts: &[&str]) -> Result<Rect, AllocError> {
     if texts.len() > 65535 || texts_width(texts) > 65535 {
         return Err(AllocError);
     }
-    Buffer::from_texts(alloc, texts)
+    Ok(*Buffer::from_texts(alloc, texts)?.area())
 }
 
 // The same of lines.
-fn line_rows(alloc: Global, lines: &[Line<'_>]) -> Result<Buffer, AllocError> {
+fn area_of_lines(alloc: Global, lines: &[Line<'_>]) -> Result<Rect, AllocError> {
     if lines.len() > 65535 || lines_width(lines) > 65535 {
         return Err(AllocError);
     }
-    Buffer::with_lines(alloc, lines)
+    Ok(*Buffer::with_lines(alloc, lines)?.area())
 }
 
 // A buffer of two rows, one of whose symbols takes memory.
@@ -54,25 +54,22 @@ fn long_rows(alloc: Global) -> Result<Buffer, AllocError> {
 // A buffer made of a line with a long symbol.
 fn made_of_lines(alloc: Global) -> Result<Outcome, AllocError> {
     let line = Line::raw(alloc, LONG)?;
-    let area = Rect::new(0, 0, 2, 1);
-    match line_rows(alloc, slice::from_ref(&line)) {
-        Ok(buffer) => Ok(judged(false, true, *buffer.area() == area)),
-        Err(_) => {
-            let again = line_rows(alloc, slice::from_ref(&line))?;
-            Ok(judged(true, true, *again.area() == area))
-        }
+    let lines = slice::from_ref(&line);
+    let wanted = Rect::new(0, 0, 2, 1);
+    if let Ok(area) = area_of_lines(alloc, lines) {
+        return Ok(judged(false, true, area == wanted));
     }
+    let area = area_of_lines(alloc, lines)?;
+    Ok(judged(true, true, area == wanted))
 }
 
 fn made_of_texts(alloc: Global) -> Result<Outcome, AllocError> {
-    let area = Rect::new(0, 0, 2, 2);
-    match rows(alloc, &[LONG, "c"]) {
-        Ok(buffer) => Ok(judged(false, true, *buffer.area() == area)),
-        Err(_) => {
-            let again = rows(alloc, &[LONG, "c"])?;
-            Ok(judged(true, true, *again.area() == area))
-        }
+    let wanted = Rect::new(0, 0, 2, 2);
+    if let Ok(area) = area_of_texts(alloc, &[LONG, "c"]) {
+        return Ok(judged(false, true, area == wanted));
     }
+    let area = area_of_texts(alloc, &[LONG, "c"])?;
+    Ok(judged(true, true, area == wanted))
 }
 
 // A buffer over an area of the first row, whose first symbol takes memory.
@@ -85,16 +82,20 @@ fn long_part(alloc: Global, x: u16) -> Result<Buffer, AllocError> {
     Ok(buffer)
 }
 
+// Lays a buffer over another, once more if memory is refused.
+fn merged_with(buffer: &mut Buffer, before: &Buffer, over: &Buffer, area: Rect) -> Outcome {
+    let is_refused = buffer.merge(over).is_err();
+    let is_left = !is_refused || *buffer == *before;
+    let is_again = !is_refused || buffer.merge(over).is_ok();
+    judged(is_refused, is_left, is_again && *buffer.area() == area)
+}
+
 // A buffer with another laid over it, which begins in this column.
 fn merged(alloc: Global, x: u16, area: Rect) -> Result<Outcome, AllocError> {
     let mut buffer = letters(alloc, 4, 2)?;
     let before = letters(alloc, 4, 2)?;
     let over = long_part(alloc, x)?;
-    let is_refused = buffer.merge(&over).is_err();
-    let is_left = !is_refused || buffer == before;
-    let is_again = !is_refused || buffer.merge(&over).is_ok();
-    let is_right = is_again && *buffer.area() == area;
-    Ok(judged(is_refused, is_left, is_right))
+    Ok(merged_with(&mut buffer, &before, &over, area))
 }
 
 // A buffer that takes a larger area, or room for one.

@@ -68,15 +68,13 @@ fn has_line(view: &LogView<TestBackend>, lines: u64) -> bool {
 // A push after so many lines. What is refused to the terminal made no call of the backend and
 // changed nothing, so that the same push is then as if it were the first; what is refused to the
 // backend is told as the backend's.
-fn pushed(alloc: Global, lines: u64) -> Result<Outcome, AllocError> {
-    let mut view = view_of(alloc, lines)?;
-    let twin = view_of(alloc, lines)?;
+fn pushed_on(view: &mut LogView<TestBackend>, twin: &LogView<TestBackend>, lines: u64) -> Outcome {
     let answer = view.push(LINE);
     let (is_left, is_right) = match answer {
-        Ok(()) => (true, has_line(&view, lines)),
+        Ok(()) => (true, has_line(view, lines)),
         Err(TerminalError::Memory) => {
             let is_left = view.terminal() == twin.terminal() && view.count() == lines;
-            (is_left, view.push(LINE).is_ok() && has_line(&view, lines))
+            (is_left, view.push(LINE).is_ok() && has_line(view, lines))
         }
         Err(error) => {
             let is_told = error == TerminalError::Backend(TestError::Memory);
@@ -87,7 +85,13 @@ fn pushed(alloc: Global, lines: u64) -> Result<Outcome, AllocError> {
             )
         }
     };
-    Ok(judged(answer.is_err(), is_left, is_right))
+    judged(answer.is_err(), is_left, is_right)
+}
+
+fn pushed(alloc: Global, lines: u64) -> Result<Outcome, AllocError> {
+    let mut view = view_of(alloc, lines)?;
+    let twin = view_of(alloc, lines)?;
+    Ok(pushed_on(&mut view, &twin, lines))
 }
 
 static LOG: &str = "4 2\na\u{1F468}\u{200D}\u{1F469}\u{200D}\u{1F467}\u{200D}\u{1F466}b\n\ncut off";
@@ -106,23 +110,36 @@ fn is_told(fault: LogFault, written: &[u8], grows: bool) -> bool {
     }
 }
 
+// A writer that grows, or has room for all that is printed.
+fn writer(alloc: Global, grows: bool) -> Result<Vec<u8>, AllocError> {
+    if grows {
+        Ok(Vec::new(alloc))
+    } else {
+        Vec::with_capacity(alloc, PRINTED.len())
+    }
+}
+
+// Whether a run over the log printed all, or why it failed.
+fn print(alloc: Global, written: &mut Vec<u8>) -> Result<bool, LogFault> {
+    let mut reader = LOG.as_bytes();
+    let answer = run(alloc, &mut reader, written);
+    match answer {
+        Ok(()) => Ok(written.as_slice() == PRINTED.as_bytes()),
+        Err(fault) => Err(fault),
+    }
+}
+
 // A run over a log, to a writer that has room for all that is printed or grows.
 fn run_over_memory(alloc: Global, grows: bool) -> Result<Outcome, AllocError> {
-    let mut written = Vec::new(alloc);
-    let mut again = Vec::with_capacity(alloc, PRINTED.len())?;
-    if !grows {
-        written.reserve(PRINTED.len())?;
-    }
-    let mut reader = LOG.as_bytes();
-    match run(alloc, &mut reader, &mut written) {
-        Ok(()) => Ok(judged(false, true, written.as_slice() == PRINTED.as_bytes())),
+    let mut again = writer(alloc, false)?;
+    let mut written = writer(alloc, grows)?;
+    Ok(match print(alloc, &mut written) {
+        Ok(is_right) => judged(false, true, is_right),
         Err(fault) => {
-            let mut reader = LOG.as_bytes();
-            let is_right = run(alloc, &mut reader, &mut again).is_ok()
-                && again.as_slice() == PRINTED.as_bytes();
-            Ok(judged(true, is_told(fault, written.as_slice(), grows), is_right))
+            let is_right = print(alloc, &mut again).is_ok_and(|is_right| is_right);
+            judged(true, is_told(fault, written.as_slice(), grows), is_right)
         }
-    }
+    })
 }
 
 pub fn outcome_of(alloc: Global, number: usize) -> Result<Outcome, AllocError> {

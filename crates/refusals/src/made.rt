@@ -59,14 +59,8 @@ fn line_by(alloc: Global, text: &str, number: usize) -> Result<Line<'_>, AllocEr
     }
 }
 
-fn line_made(alloc: Global, text: &str, number: usize) -> Result<Outcome, AllocError> {
-    match line_by(alloc, text, number) {
-        Ok(line) => Ok(judged(false, true, line.width() == text.len())),
-        Err(_) => {
-            let again = line_by(alloc, text, number)?;
-            Ok(judged(true, true, again.width() == text.len()))
-        }
-    }
+fn line_width(alloc: Global, text: &str, number: usize) -> Result<usize, AllocError> {
+    Ok(line_by(alloc, text, number)?.width())
 }
 
 // A text of a line, by one of its calls.
@@ -139,14 +133,8 @@ fn text_by(alloc: Global, text: &str, number: usize) -> Result<Text<'_>, AllocEr
     }
 }
 
-fn text_made(alloc: Global, text: &str, number: usize) -> Result<Outcome, AllocError> {
-    match text_by(alloc, text, number) {
-        Ok(made) => Ok(judged(false, true, made.width() == text.len())),
-        Err(_) => {
-            let again = text_by(alloc, text, number)?;
-            Ok(judged(true, true, again.width() == text.len()))
-        }
-    }
+fn text_width(alloc: Global, text: &str, number: usize) -> Result<usize, AllocError> {
+    Ok(text_by(alloc, text, number)?.width())
 }
 
 // The copy of a span that has a text of its own.
@@ -178,20 +166,23 @@ fn span_of(alloc: Global, text: &str, number: usize) -> Result<Span<'static>, Al
     }
 }
 
-fn span_made(alloc: Global, text: &str, number: usize) -> Result<Outcome, AllocError> {
-    match span_of(alloc, text, number) {
-        Ok(span) => Ok(judged(false, true, span.width() == text.len())),
-        Err(_) => {
-            let again = span_of(alloc, text, number)?;
-            Ok(judged(true, true, again.width() == text.len()))
-        }
+fn span_width(alloc: Global, text: &str, number: usize) -> Result<usize, AllocError> {
+    Ok(span_of(alloc, text, number)?.width())
+}
+
+// The width of what is made of a text.
+fn width_of(alloc: Global, text: &str, number: usize) -> Result<usize, AllocError> {
+    match number {
+        0..=15 => line_width(alloc, text, number),
+        16..=27 => text_width(alloc, text, number - 16),
+        _ => span_width(alloc, text, number - 28),
     }
 }
 
 pub fn outcome_of(alloc: Global, number: usize) -> Result<Outcome, AllocError> {
-    match number {
-        0..=15 => line_made(alloc, "ab", number),
-        16..=27 => text_made(alloc, "ab", number - 16),
-        _ => span_made(alloc, "ab", number - 28),
+    if let Ok(width) = width_of(alloc, "ab", number) {
+        return Ok(judged(false, true, width == 2));
     }
+    let width = width_of(alloc, "ab", number)?;
+    Ok(judged(true, true, width == 2))
 }

@@ -89,14 +89,19 @@ fn has_symbol(buffer: &Buffer) -> bool {
     }
 }
 
+// Paints a buffer that is like another, once more if memory is refused.
+fn painted_over(painted: &Painted, buffer: &mut Buffer, before: &Buffer) -> Outcome {
+    let is_refused = paint(buffer, painted).is_err();
+    let is_left = is_kept_outside(before, buffer);
+    let is_right = (!is_refused || paint(buffer, painted).is_ok())
+        && has_symbol(buffer)
+        && is_kept_outside(before, buffer);
+    judged(is_refused, is_left, is_right)
+}
+
 pub fn outcome_of(alloc: Global, number: usize) -> Result<Outcome, AllocError> {
     let painted = painted_by(alloc, number)?;
     let mut buffer = letters(alloc, 6, 2)?;
     let before = letters(alloc, 6, 2)?;
-    let is_refused = paint(&mut buffer, &painted).is_err();
-    let is_left = is_kept_outside(&before, &buffer);
-    let is_right = (!is_refused || paint(&mut buffer, &painted).is_ok())
-        && has_symbol(&buffer)
-        && is_kept_outside(&before, &buffer);
-    Ok(judged(is_refused, is_left, is_right))
+    Ok(painted_over(&painted, &mut buffer, &before))
 }

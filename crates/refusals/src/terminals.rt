@@ -115,66 +115,96 @@ fn draw_alike(
     Ok(draw(alloc, one, "z").0.is_none() && show_alike(one, other))
 }
 
-// A draw on a screen of another size. What is refused to the terminal made one call of the backend,
-// for its size, and changed nothing, so that the next frame is shown; what is refused to the
-// backend is told as the backend's.
-fn drawn(alloc: Global, viewport: Viewport) -> Result<Outcome, AllocError>
+// A terminal over a viewport, with a frame drawn on it.
+fn painted(alloc: Global, viewport: Viewport) -> Result<Terminal<TestBackend>, AllocError>
     requires { FitsEdges viewport }
 {
     let mut terminal = started(alloc, viewport)?;
-    let mut twin = started(alloc, viewport)?;
-    if draw(alloc, &mut terminal, "y").0.is_some() || draw(alloc, &mut twin, "y").0.is_some() {
+    if draw(alloc, &mut terminal, "y").0.is_some() {
         return Err(AllocError);
     }
+    Ok(terminal)
+}
+
+// A draw on a screen of another size. What is refused to the terminal made one call of the backend,
+// for its size, and changed nothing, so that the next frame is shown; what is refused to the
+// backend is told as the backend's.
+fn drawn_anew(
+    alloc: Global,
+    terminal: &mut Terminal<TestBackend>,
+    twin: &mut Terminal<TestBackend>,
+) -> Result<Outcome, AllocError> {
     terminal.backend_mut().resize(40, 30)?;
     twin.backend_mut().resize(40, 30)?;
-    let (error, is_called, _) = draw(alloc, &mut terminal, "x");
+    let (error, is_called, _) = draw(alloc, terminal, "x");
     let is_left = match error {
         None => is_called,
         Some(TerminalError::Memory) => {
             let _ = twin.size();
-            !is_called && terminal == twin
+            !is_called && *terminal == *twin
         }
         Some(other) => {
             other == TerminalError::Backend(TestError::Memory) && terminal.clear().is_ok()
         }
     };
-    let is_right = draw_alike(alloc, &mut terminal, &mut twin)?;
+    let is_right = draw_alike(alloc, terminal, twin)?;
     Ok(judged(error.is_some(), is_left, is_right))
+}
+
+fn drawn(alloc: Global, viewport: Viewport) -> Result<Outcome, AllocError>
+    requires { FitsEdges viewport }
+{
+    let mut terminal = painted(alloc, viewport)?;
+    let mut twin = painted(alloc, viewport)?;
+    drawn_anew(alloc, &mut terminal, &mut twin)
+}
+
+// Whether a frame and then rows, inserted in both, show the same.
+fn insert_alike(
+    alloc: Global,
+    one: &mut Terminal<TestBackend>,
+    other: &mut Terminal<TestBackend>,
+    count: u16,
+) -> Result<bool, AllocError> {
+    let is_drawn = draw_alike(alloc, one, other)?;
+    let are_inserted = insert(alloc, one, count).0.is_none()
+        && insert(alloc, other, count).0.is_none();
+    Ok(is_drawn && are_inserted && show_alike(one, other))
+}
+
+// Whether a terminal is cleared, and then takes a frame and rows.
+fn is_mended(alloc: Global, terminal: &mut Terminal<TestBackend>, count: u16) -> bool {
+    terminal.clear().is_ok()
+        && draw(alloc, terminal, "z").0.is_none()
+        && insert(alloc, terminal, count).0.is_none()
 }
 
 // An insertion: what is refused to the terminal, or by the closure, made no call of the backend and
 // changed nothing.
-fn inserted(alloc: Global, count: u16) -> Result<Outcome, AllocError> {
-    let mut terminal = started(alloc, Viewport::Inline(1))?;
-    let mut twin = started(alloc, Viewport::Inline(1))?;
-    if draw(alloc, &mut terminal, "y").0.is_some() || draw(alloc, &mut twin, "y").0.is_some() {
-        return Err(AllocError);
-    }
-    let (error, is_called, is_refused) = insert(alloc, &mut terminal, count);
-    let (is_left, is_right) = match error {
-        None => (is_called && !is_refused, true),
-        Some(TerminalError::Memory) => {
-            let is_left = is_called == is_refused && terminal == twin;
-            let is_drawn = draw_alike(alloc, &mut terminal, &mut twin)?;
-            let is_inserted = insert(alloc, &mut terminal, count).0.is_none()
-                && insert(alloc, &mut twin, count).0.is_none();
-            (
-                is_left,
-                is_drawn && is_inserted && show_alike(&terminal, &twin),
-            )
-        }
-        Some(other) => {
-            let is_told = is_called && other == TerminalError::Backend(TestError::Memory);
-            let is_cleared = terminal.clear().is_ok()
-                && draw(alloc, &mut terminal, "z").0.is_none();
-            (
-                is_told,
-                is_cleared && insert(alloc, &mut terminal, count).0.is_none(),
-            )
-        }
+fn inserted_before(
+    alloc: Global,
+    terminal: &mut Terminal<TestBackend>,
+    twin: &mut Terminal<TestBackend>,
+    count: u16,
+) -> Result<Outcome, AllocError> {
+    let (error, is_called, is_refused) = insert(alloc, terminal, count);
+    let is_left = match error {
+        None => is_called && !is_refused,
+        Some(TerminalError::Memory) => is_called == is_refused && *terminal == *twin,
+        Some(other) => is_called && other == TerminalError::Backend(TestError::Memory),
     };
-    Ok(judged(error.is_some(), is_left, is_right))
+    let is_right = match error {
+        None => Ok(true),
+        Some(TerminalError::Memory) => insert_alike(alloc, terminal, twin, count),
+        Some(_) => Ok(is_mended(alloc, terminal, count)),
+    };
+    Ok(judged(error.is_some(), is_left, is_right?))
+}
+
+fn inserted(alloc: Global, count: u16) -> Result<Outcome, AllocError> {
+    let mut terminal = painted(alloc, Viewport::Inline(1))?;
+    let mut twin = painted(alloc, Viewport::Inline(1))?;
+    inserted_before(alloc, &mut terminal, &mut twin, count)
 }
 
 pub fn outcome_of(alloc: Global, number: usize) -> Result<Outcome, AllocError> {
