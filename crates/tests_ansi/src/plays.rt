@@ -381,7 +381,7 @@ fn used_terminals_are_made_blank(rt: HostRuntime) -> Result<(), Fail> {
     Ok(())
 }
 
-// Draws a wide symbol at both ends of the widest screen, and behind it; whether both do so.
+// Draws a wide symbol at both ends of the widest screen, and after it; whether both do so.
 fn draws_at_the_ends(play: &mut Play, wide: &Cell) -> bool {
     let items = [(0, 0, wide), (65533, 0, wide), (65535, 0, wide)];
     play.backend.draw(items.iter().copied()).is_ok()

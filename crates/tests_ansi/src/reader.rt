@@ -138,7 +138,7 @@ impl<'a> Reader<'a> {
         Ok(())
     }
 
-    // Does what a sequence says; the text behind it.
+    // Does what a sequence says; the text after it.
     fn read_sequence(&mut self, part: &'a str) -> &'a str {
         let Some(sequence) = part.strip_prefix('[') else {
             self.sure = false;
