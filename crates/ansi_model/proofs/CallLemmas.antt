@@ -4,16 +4,12 @@ use Rattle.std.proofs.lemmas.Bool.Decides.{nat_tests}
 use Rattle.std.proofs.Math.Path.{fun_ext}
 use Rattle.ratatui_core.specs.Backend.{Motion, clearing, Clears, with_cursor, with_visible, All, BeforeCursor, is_cleared}
 use Rattle.ansi_model.specs.Columns.{Columns, look_in, is_met, blank_column, overwritten}
-use Rattle.ansi_model.specs.Columns.Column.{Unknown}
-use Rattle.ansi_model.specs.Sgr.{default_sgr}
+use Rattle.ansi_model.specs.{Columns.Column.Unknown, Sgr.default_sgr, Emulator.Phase.Ground, Sends.Performs}
 use Rattle.ansi_model.specs.Emulator.{Emulator, rested, printed, blank_terminal, cursor_moved, erased, columns_moved, without_region, with_sgr}
-use Rattle.ansi_model.specs.Emulator.Phase.{Ground}
 use Rattle.ansi_model.specs.Emulator as terminal
-use Rattle.ansi_model.specs.Sends.{Performs}
 use Rattle.ansi_model.specs.Beginnings.{IsAsFound, anew, MakesBlank}
 use Rattle.ansi_model.specs.Screens.{screen_shown, IsIdle, IsBlankBeyond, Becomes}
-use Rattle.ansi_model.proofs.MotionLemmas.{moved-tidy, not_met}
-use Rattle.ansi_model.proofs.ScrollLemmas.{KeepsReady, stays-idle, moved-placed}
+use Rattle.ansi_model.proofs.{MotionLemmas.moved-tidy, MotionLemmas.not_met, ScrollLemmas.KeepsReady, ScrollLemmas.stays-idle, ScrollLemmas.moved-placed}
 
 pub cursor-moved : (w h x y : ℕ) → 0 < w → 0 < h → KeepsReady w h (cursor_moved x y) (λ s. Becomes (λ p q. q ≡ with_cursor x y p) s.columns s)
 cursor-moved w h x y wide high s ready =

@@ -1,20 +1,12 @@
 -- What a sent symbol leaves on a terminal.
 use Rattle.std.proofs.Common.{IfSome, Option, ◌≡◌, ℕ, ◌+◌, ◌-◌, ◌<◌, ◌||◌, not, min, Bool, List, ◌++◌, ◌==◌, length, IsUtf8, chars, true, false, refl, sym, ap, ap₂, ◌∙◌, arith, subst, Some, None}
-use Rattle.std.proofs.lemmas.Bool.{and_parts}
+use Rattle.std.proofs.lemmas.{Bool.and_parts, Bool.Decides.nat_tests, List.Folds.list_all-append, Str.chars-append, Str.IsUtf8-append}
 use lib.Utf8.{encode}
-use Rattle.std.specs.List.{list_all}
-use Rattle.std.specs.Bool.{then_some}
+use Rattle.std.specs.{List.list_all, Bool.then_some}
 use Rattle.ratatui_core.specs.Layout.{Position}
-use Rattle.std.proofs.lemmas.Bool.Decides.{nat_tests}
-use Rattle.std.proofs.lemmas.List.Folds.{list_all-append}
-use Rattle.std.proofs.lemmas.Str.{chars-append, IsUtf8-append}
-use Rattle.ansi_model.specs.declared.sgr.Sgr.{Sgr}
-use Rattle.ansi_model.specs.declared.pen.Pen.{Pen}
+use Rattle.ansi_model.specs.{declared.sgr.Sgr.Sgr, declared.pen.Pen.Pen, Emulator.Phase.Ground, Sequences.feed, Sends.Sends, Sends.Performs, Sends.typed}
 use Rattle.ansi_model.specs.Emulator.{Emulator, rested, prints, cursor_moved}
 use Rattle.ansi_model.specs.Symbols.{is_plain_char, is_symbol, is_one_plain, is_printed, printed_columns}
-use Rattle.ansi_model.specs.Emulator.Phase.{Ground}
-use Rattle.ansi_model.specs.Sequences.{feed}
-use Rattle.ansi_model.specs.Sends.{Sends, Performs, typed}
 use Rattle.ansi_model.specs.Drawing.{is_at, is_place, WritesAt, IsDrawnBy, drawn_at, Prints}
 use Rattle.ansi_model.proofs.ReadLemmas.{Sends-then}
 use Rattle.ansi_model.proofs.SymbolLemmas.{symbol-utf8, after-standing, alone-standing, plain-printed, plain-single}

@@ -1,16 +1,12 @@
 -- Parts of a screen that are erased, and cut no symbol.
 use Rattle.std.proofs.Common.{◌≡◌, ℕ, ◌+◌, ◌-◌, ◌<◌, ◌≤◌, nat_lt, if◌then◌else◌, Bool, List, true, false, refl, sym, ap, ◌∙◌, arith, inl, inr}
-use Rattle.std.proofs.lemmas.Bool.{cases_lt}
-use Rattle.std.proofs.lemmas.Bool.Decides.{nat_tests}
+use Rattle.std.proofs.lemmas.{Bool.cases_lt, Bool.Decides.nat_tests}
 use Rattle.ratatui_core.specs.Buffer.{Look, empty_look}
 use Rattle.ratatui_core.specs.Backend.{ClearType, All, AfterCursor, BeforeCursor, CurrentLine, UntilNewLine, is_cleared, Motion, clearing}
 use Rattle.ansi_model.specs.Columns.{Column, Columns, Area, is_continuation, is_met, blank_column, overwritten}
-use Rattle.ansi_model.specs.Columns.Column.{Shows, Unknown}
-use Rattle.ansi_model.specs.Emulator.{columns_moved}
+use Rattle.ansi_model.specs.{Columns.Column.Shows, Columns.Column.Unknown, Emulator.columns_moved, Flags.AreContinuations, Flags.is_cut}
 use Rattle.ansi_model.specs.Screens.{IsTidy, IsWhole, IsWholeAt, IsBlankBeyond}
-use Rattle.ansi_model.specs.Flags.{AreContinuations, is_cut}
-use Rattle.ansi_model.proofs.MotionLemmas.{moved-sized, moved-beyond}
-use Rattle.ansi_model.proofs.PutLemmas.{none_between, later-continues}
+use Rattle.ansi_model.proofs.{MotionLemmas.moved-sized, MotionLemmas.moved-beyond, PutLemmas.none_between, PutLemmas.later-continues}
 
 -- a symbol that begins left of a column that isn't after ends there, and one that has a column right of such an end begins after it
 ends-before : (row : ℕ → Column) (x a i m k : ℕ) (look : Look) → IsWholeAt row a (Shows look i m) → is_continuation (row x) ≡ false → a < x → k < (a - i) + m → k < x

@@ -1,13 +1,9 @@
 -- Flags that move with their rows.
-use Rattle.std.proofs.Common.{◌≡◌, ℕ, true, false, ◌+◌, ◌*◌, ◌<◌, ◌&&◌, nat_lt, Bool, List, length, refl, sym, ap, ◌∙◌, arith, if◌then◌else◌}
-use Rattle.std.specs.Prelude.{nat_le}
-use Rattle.std.proofs.lemmas.Nat.{mul-add-lt}
-use Rattle.std.proofs.lemmas.Bool.Decides.{nat_tests}
+use Rattle.std.proofs.Common.{◌≡◌, ℕ, true, false, ◌+◌, ◌*◌, ◌<◌, ◌&&◌, nat_lt, Bool, List, length, refl, sym, ap, ◌∙◌, arith, if◌then◌else◌, nat_le}
+use Rattle.std.proofs.lemmas.{Nat.mul-add-lt, Bool.Decides.nat_tests}
 use Rattle.rtui_grid.proofs.PlaceLemmas.{by_rows}
-use Rattle.ansi_model.specs.Columns.{Columns, is_continuation, blank_column}
-use Rattle.ansi_model.specs.Emulator.{columns_moved}
+use Rattle.ansi_model.specs.{Columns.Columns, Columns.is_continuation, Columns.blank_column, Emulator.columns_moved, Flags.flag, Flags.AreContinuations}
 use Rattle.ratatui_core.specs.Backend.{Motion, moved_by, is_cleared, AfterCursor, BeforeCursor, UntilNewLine}
-use Rattle.ansi_model.specs.Flags.{flag, AreContinuations}
 use Rattle.ratatui_core.proofs.BackendLemmas.{moved-through}
 
 -- flags that move as the columns do

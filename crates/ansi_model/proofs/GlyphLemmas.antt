@@ -1,18 +1,14 @@
 -- How a text is printed as one symbol, and in how many columns.
 use Rattle.std.proofs.Common.{◌≡◌, inl, inr, ℕ, ◌+◌, ◌-◌, ◌<◌, ◌≤◌, ◌==◌, ◌&&◌, ◌||◌, not, min, nat_lt, nat_le, nat_eq, Bool, true, false, List, [], ◌∷◌, length, chars, IsUtf8, Some, refl, sym, ap, subst, ◌∙◌, arith, if◌then◌else◌}
 use lib.Utf8.{encode}
-use Rattle.std.proofs.lemmas.Bool.{cases_lt}
-use Rattle.std.proofs.lemmas.Bool.Decides.{nat_tests}
-use Rattle.std.proofs.lemmas.Str.{length-encode, is_utf8-from_IsUtf8, encode_ascii}
+use Rattle.std.proofs.lemmas.{Bool.cases_lt, Bool.Decides.nat_tests, Str.length-encode, Str.is_utf8-from_IsUtf8, Str.encode_ascii}
 use Rattle.unicode_width.specs.Width.{char_width, str_width}
-use Rattle.unicode_width.proofs.Computing.{unicode_width}
-use Rattle.unicode_width.proofs.Rules.{width_or_zero-le}
+use Rattle.unicode_width.proofs.{Computing.unicode_width, Rules.width_or_zero-le}
 use Rattle.ratatui_core.specs.Buffer.{text_width}
 use Rattle.ratatui_core.proofs.BufferLemmas.{one_byte, one_character}
 use Rattle.ansi_model.specs.declared.glyph.Glyph.TheVariants.{Plain, Whole}
 use Rattle.ansi_model.specs.Symbols.{is_plain_char, is_shown, columns_of_char, is_one_plain, is_printed, printed_columns, IsGlyphOf}
-use Rattle.ansi_model.proofs.TextLemmas.{one-single}
-use Rattle.ansi_model.proofs.SgrLemmas.{up_to, up_to-at}
+use Rattle.ansi_model.proofs.{TextLemmas.one-single, SgrLemmas.up_to, SgrLemmas.up_to-at}
 use Rattle.ansi_model.proofs.SymbolLemmas.{one-char, one-encoded, plain-printed}
 
 -- ---- a plain character takes one column

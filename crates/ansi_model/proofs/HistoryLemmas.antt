@@ -3,10 +3,9 @@ use Rattle.std.proofs.Common.{◌≡◌, ℕ, ◌+◌, ◌==◌, ◌&&◌, nat_e
 use Rattle.std.specs.List.{list_all}
 use Rattle.ratatui_core.specs.Buffer.{Look}
 use Rattle.ansi_model.specs.Emulator.{Emulator, Phase, types, printed, rested, unsure, if_so, returned, line_fed, scrolled, row_shown}
-use Rattle.ansi_model.specs.Symbols.{is_plain_char}
+use Rattle.ansi_model.specs.{Symbols.is_plain_char, Beginnings.with_rows_above}
 use Rattle.ansi_model.specs.Emulator.Phase.{Ground, Escape, Opened, Sequence}
 use Rattle.ansi_model.specs.Sequences.{feed, reads_in, reads_sequence, is_text, is_digit, performs, performs_marked, performs_ED, performs_EL, performs_CUP, performs_DECSTBM, performs_DL, performs_IL}
-use Rattle.ansi_model.specs.Beginnings.{with_rows_above}
 
 -- two actions of which one is taken
 either : (v : Bool) (rows : List (List Look)) (a b c d : Emulator) → c ≡ with_rows_above rows a → d ≡ with_rows_above rows b

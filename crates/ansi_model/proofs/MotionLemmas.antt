@@ -4,11 +4,9 @@ use Rattle.std.proofs.lemmas.Bool.Decides.{nat_tests}
 use Rattle.ratatui_core.specs.Buffer.{empty_look}
 use Rattle.ratatui_core.specs.Backend.{Motion, moved_by, is_in_region, scrolling_up, scrolling_down}
 use Rattle.ansi_model.specs.Columns.{Column, Columns, Area, blank_column, is_met, overwritten}
-use Rattle.ansi_model.specs.Columns.Column.{Shows, Unknown}
-use Rattle.ansi_model.specs.Emulator.{columns_moved}
+use Rattle.ansi_model.specs.{Columns.Column.Shows, Columns.Column.Unknown, Emulator.columns_moved}
 use Rattle.ansi_model.specs.Screens.{HasOwnWidth, HaveOwnWidths, IsWhole, IsWholeAt, IsBlankBeyond, IsTidy}
-use Rattle.ansi_model.proofs.TextLemmas.{blank-sized}
-use Rattle.ansi_model.proofs.PutLemmas.{none_between}
+use Rattle.ansi_model.proofs.{TextLemmas.blank-sized, PutLemmas.none_between}
 
 module _ {A : Type 0} (m : Motion) (nothing : A) (was : ℕ → ℕ → A) (x y : ℕ) where
   -- what holds of all that may come to a place holds of what does

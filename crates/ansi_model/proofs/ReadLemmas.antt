@@ -1,14 +1,11 @@
 -- What a terminal makes of appended bytes, of numbers, and of whole sequences.
 use Rattle.std.proofs.Common.{◌≡◌, ℕ, ◌+◌, ◌-◌, ◌*◌, ◌/◌, ◌%◌, ◌<◌, ◌≤◌, ◌^◌, min, List, [], ◌∷◌, ◌++◌, Bool, true, false, zero, suc, refl, sym, ap, ap₂, ◌∙◌, arith, ◌==◌, ◌&&◌, nat_lt, nat_eq, if◌then◌else◌, Result, Ok, Err, OnOk, append_assoc}
-use Rattle.std.specs.Result.{is_ok}
-use Rattle.std.proofs.lemmas.Fmt.{decimal_by_steps, decimal_step, decimal_digit}
-use Rattle.std.proofs.lemmas.Bool.Decides.{nat_tests}
+use Rattle.std.specs.{Result.is_ok, Fmt.decimal}
+use Rattle.std.proofs.lemmas.{Fmt.decimal_by_steps, Fmt.decimal_step, Fmt.decimal_digit, Bool.Decides.nat_tests}
 use Rattle.std.proofs.Math.Nat.{div-add-mod'}
-use Rattle.std.specs.Fmt.{decimal}
 use Rattle.ansi_model.specs.Emulator.{Emulator, Phase, rested, cursor_moved, returned, erased, scrolled, line_fed, fed, if_so, cursor_shown, with_region, without_region, lines_deleted, lines_inserted}
-use Rattle.ansi_model.specs.Emulator.Phase.{Ground, Opened, Sequence}
+use Rattle.ansi_model.specs.{Emulator.Phase.Ground, Emulator.Phase.Opened, Emulator.Phase.Sequence, Sequences.feed, Sequences.reads_in, Sequences.is_digit}
 use Rattle.ratatui_core.specs.Backend.{ClearType, All, AfterCursor, BeforeCursor, CurrentLine, UntilNewLine}
-use Rattle.ansi_model.specs.Sequences.{feed, reads_in, is_digit}
 use Rattle.ansi_model.specs.Sends.{Sends, Performs}
 
 pub feed-append : (xs ys : List ℕ) (t : Emulator) → feed (xs ++ ys) t ≡ feed ys (feed xs t)

@@ -5,11 +5,9 @@ use Rattle.std.specs.List.{range_with_len}
 use Rattle.ratatui_core.specs.Buffer.{Look}
 use Rattle.ratatui_core.specs.Backend.{Screen, Motion, ScrollsRegion, ScrollsUp, ScrollsDown, scrolling_up, scrolling_down, is_in_region, rows_above, upper_part, CurrentLine}
 use Rattle.ansi_model.specs.Columns.{Columns, look_in, blank_column, overwritten}
-use Rattle.ansi_model.specs.Sgr.{is_own}
+use Rattle.ansi_model.specs.{Sgr.is_own, Sequences.feed, Sends.Performs}
 use Rattle.ansi_model.specs.Emulator.{Emulator, rested, cursor_moved, erased, line_fed, fed, scrolled, if_so, returned, columns_moved, fed_and_lowered, fed_and_lowered_by, with_region, without_region, lines_deleted, lines_inserted}
 use Rattle.ansi_model.specs.Screens.{screen_shown, IsIdle, Turns, Becomes}
-use Rattle.ansi_model.specs.Sequences.{feed}
-use Rattle.ansi_model.specs.Sends.{Performs}
 use Rattle.ansi_model.proofs.ReadLemmas.{Sends-then, line_fed-rested}
 use Rattle.ratatui_core.proofs.BackendLemmas.{moved-through}
 use Rattle.ansi_model.proofs.MotionLemmas.{IsOfRows, moved-tidy, row-emptied, up-still, down-still, up-and-down}

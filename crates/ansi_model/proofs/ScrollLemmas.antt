@@ -5,11 +5,8 @@ use Rattle.std.specs.List.{list_all, range_with_len}
 use Rattle.ratatui_core.specs.Buffer.{Look, empty_look}
 use Rattle.ratatui_core.specs.Backend.{Scrolls, Appends, lines_past, scrolling_up}
 use Rattle.ansi_model.specs.Columns.{Column, Columns, look_in, is_known_column, blank_column}
-use Rattle.ansi_model.specs.Sgr.{default_sgr}
+use Rattle.ansi_model.specs.{Sgr.default_sgr, Emulator.Phase.Ground, Sequences.feed, Sends.Performs}
 use Rattle.ansi_model.specs.Emulator.{Emulator, blank_terminal, rested, printed, line_fed, fed, scrolled, returned, cursor_moved, columns_moved, if_so, row_shown, is_row_known}
-use Rattle.ansi_model.specs.Emulator.Phase.{Ground}
-use Rattle.ansi_model.specs.Sequences.{feed}
-use Rattle.ansi_model.specs.Sends.{Performs}
 use Rattle.ansi_model.specs.Screens.{screen_shown, HasOwnWidth, HaveOwnWidths, IsTidy, IsIdle, Turns, Becomes}
 use Rattle.ansi_model.proofs.TextLemmas.{blank-sized, sized-known}
 use Rattle.ratatui_core.proofs.BackendLemmas.{moved-through, moved-along}

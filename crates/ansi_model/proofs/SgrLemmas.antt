@@ -1,25 +1,17 @@
 -- A rendition is read back as it is written.
 use Rattle.std.proofs.Common.{◌≡◌, ℕ, ◌+◌, ◌<◌, ◌^◌, ◌==◌, nat_lt, nat_eq, List, [], ◌∷◌, ◌++◌, Bool, true, false, IsTrue, zero, suc, inl, inr, ◌⊎◌, ◌&&◌, if◌then◌else◌, refl, sym, ap, ap₂, ◌∙◌, arith, append_assoc}
-use Rattle.std.specs.Fmt.{decimal}
-use Rattle.std.specs.List.{list_all}
-use Rattle.std.specs.Int.RustNames.{bit_and, bit_or}
-use Rattle.std.proofs.lemmas.Bool.{false≢true, and_parts}
-use Rattle.std.proofs.lemmas.Bool.Decides.{nat_tests}
-use Rattle.std.proofs.lemmas.List.Folds.{list_all-append}
+use Rattle.std.specs.{Fmt.decimal, List.list_all, Int.RustNames.bit_and, Int.RustNames.bit_or}
+use Rattle.std.proofs.lemmas.{Bool.false≢true, Bool.and_parts, Bool.Decides.nat_tests, List.Folds.list_all-append}
 use Rattle.ratatui_core.specs.Style.{Color, Reset, Rgb, Indexed, Modifier, no_modifier, bits_of, modifier_of}
 use Rattle.ratatui_core.proofs.StyleLemmas.{same_color, same_modifier}
 use Rattle.ansi_model.specs.contracts.sgr.SgrPartialEq.TheImpl as sgr_equality
-use Rattle.ansi_model.specs.declared.sgr.Sgr.{Sgr}
+use Rattle.ansi_model.specs.{declared.sgr.Sgr.Sgr, Emulator.Phase.Ground, Emulator.Phase.Sequence, Sequences.feed, Sequences.performs, Sends.Performs}
 use Rattle.ratatui_core.specs.Buffer.{Cell}
 use Rattle.ansi_model.specs.Sgr.{Awaits, Inking, inks, inks_in, is_known_parameter, are_known, default_sgr, sgr_of}
 use Rattle.ansi_model.specs.Sgr.Awaits.{Nothing, Kind, Number, Parts}
 use Rattle.ansi_model.specs.Emulator.{Emulator, rested, if_so, with_sgr}
-use Rattle.ansi_model.specs.Emulator.Phase.{Ground, Sequence}
-use Rattle.ansi_model.specs.Sequences.{feed, performs}
 use Rattle.ansi_model.specs.Parameters.{color_parameters, underline_parameters, modifier_parameters, modifier_parameter, semicolons, is_underline, is_sendable, AddsParameters}
-use Rattle.ansi_model.specs.Sends.{Performs}
-use Rattle.ansi_model.proofs.ReadLemmas.{feed-append, number-read, begun}
-use Rattle.ansi_model.proofs.TextLemmas.{and-true}
+use Rattle.ansi_model.proofs.{ReadLemmas.feed-append, ReadLemmas.number-read, ReadLemmas.begun, TextLemmas.and-true}
 
 -- all parameters after the one that resets the rendition
 abbrev pub sgr_parameters : Sgr → List ℕ

@@ -1,23 +1,14 @@
 -- Text, read as it is sent.
 use Rattle.std.proofs.Common.{◌≡◌, ℕ, ◌+◌, ◌/◌, ◌%◌, ◌≤◌, ◌&&◌, not, cond, ltb, List, [], ◌∷◌, Bool, true, false, IsTrue, IsUtf8, chars, refl, sym, ap, ◌∙◌, arith, ◌==◌, append_assoc, append-nil, ◌<◌, ◌++◌, length, suc, Some, None}
-use Rattle.std.proofs.lemmas.Bool.{and_parts, and_right}
+use Rattle.std.proofs.lemmas.{Bool.and_parts, Bool.and_right, Bool.Decides.nat_tests, List.Folds.list_all-append}
 use lib.Utf8.{encode, encodes}
-use Rattle.std.specs.List.{list_all}
-use Rattle.std.specs.Str.{is_utf8}
-use Rattle.std.proofs.lemmas.Bool.Decides.{nat_tests}
-use Rattle.std.proofs.lemmas.List.Folds.{list_all-append}
+use Rattle.std.specs.{List.list_all, Str.is_utf8}
 use Rattle.std.proofs.lemmas.Str.{chars-nil, chars-encodes, chars_past_char, encodes-chars, IsUtf8-past_char, IsUtf8-from_is_utf8, is_utf8-from_IsUtf8}
-use Rattle.unicode_segmentation.specs.Grapheme.{graphemes, is_grapheme_break}
-use Rattle.unicode_segmentation.specs.Segments.{segments, cut}
+use Rattle.unicode_segmentation.specs.{Grapheme.graphemes, Grapheme.is_grapheme_break, Segments.segments, Segments.cut}
 use Rattle.ratatui_core.specs.Buffer.{blank}
-use Rattle.ansi_model.specs.Columns.{Column, blank_column, is_known_column}
-use Rattle.ansi_model.specs.Columns.Column.{Shows, Unknown}
+use Rattle.ansi_model.specs.{Columns.Column, Columns.blank_column, Columns.is_known_column, Columns.Column.Shows, Columns.Column.Unknown, Screens.HasOwnWidth}
 use Rattle.ansi_model.specs.Symbols.{only_of, printed_columns, is_control, is_directional, is_shown, is_plain_char, is_symbol, is_single, begins_anew}
-use Rattle.ansi_model.specs.Screens.{HasOwnWidth}
-use Rattle.ansi_model.specs.Emulator.{Emulator}
-use Rattle.ansi_model.specs.Emulator.Phase.{Ground}
-use Rattle.ansi_model.specs.Sequences.{feed, reads_in, is_text}
-use Rattle.ansi_model.specs.Sends.{typed}
+use Rattle.ansi_model.specs.{Emulator.Emulator, Emulator.Phase.Ground, Sequences.feed, Sequences.reads_in, Sequences.is_text, Sends.typed}
 
 one-text : (b : ℕ) → is_text b ≡ true → (t : Emulator) → reads_in Ground b t ≡ typed (b ∷ []) t
 one-text b is t =

@@ -1,10 +1,7 @@
 -- Terminals as other programs may have left them, and what makes one blank.
 use Rattle.std.specs.Prelude.{◌≡◌, ◌⊎◌, ℕ, ◌≤◌, true, List, [], ◌++◌}
 use Rattle.ratatui_core.specs.Buffer.{Look}
-use Rattle.ansi_model.specs.Columns.{blank_column}
-use Rattle.ansi_model.specs.Emulator.{Emulator, blank_terminal}
-use Rattle.ansi_model.specs.Emulator.Phase.{Ground}
-use Rattle.ansi_model.specs.Sequences.{feed}
+use Rattle.ansi_model.specs.{Columns.blank_column, Emulator.Emulator, Emulator.blank_terminal, Emulator.Phase.Ground, Sequences.feed}
 
 -- a terminal of this size as another program may have left it, whatever its rendition, margins, cursor and contents: it isn't in the middle of a
 -- sequence, and nothing stands off its screen

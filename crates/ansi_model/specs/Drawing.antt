@@ -1,16 +1,10 @@
 -- What a symbol put in its place does to the terminal that reads it.
 use Rattle.std.specs.Prelude.{◌≡◌, ℕ, ◌+◌, zero, suc, ◌&&◌, Bool, true, false, IfSome, List, ◌++◌, ◌==◌, chars, IsUtf8, Option, Some, None}
 use Rattle.std.specs.List.{list_all}
-use Rattle.ratatui_core.specs.Layout.{Position}
-use Rattle.ratatui_core.specs.Buffer.{blank}
-use Rattle.ansi_model.specs.declared.sgr.Sgr.{Sgr}
-use Rattle.ansi_model.specs.declared.pen.Pen.{Pen}
-use Rattle.ansi_model.specs.Sgr.{default_sgr}
+use Rattle.ratatui_core.specs.{Layout.Position, Buffer.blank}
+use Rattle.ansi_model.specs.{declared.sgr.Sgr.Sgr, declared.pen.Pen.Pen, Sgr.default_sgr, Symbols.is_plain_char, Symbols.printed_columns, Emulator.Phase.Ground}
 use Rattle.ansi_model.specs.Emulator.{Emulator, rested, prints, with_sgr}
-use Rattle.ansi_model.specs.Symbols.{is_plain_char, printed_columns}
-use Rattle.ansi_model.specs.Emulator.Phase.{Ground}
-use Rattle.ansi_model.specs.Sequences.{feed}
-use Rattle.ansi_model.specs.Sends.{Performs}
+use Rattle.ansi_model.specs.{Sequences.feed, Sends.Performs}
 
 -- bytes were appended that set a rendition if the terminal has another, and none if it has this one
 pub data ChangesSgr (from to : Sgr) (old new : List ℕ) : Type 0 where

@@ -2,12 +2,9 @@
 use Rattle.std.specs.Prelude.{ℕ, ◌+◌, ◌-◌, ◌&&◌, min, nat_lt, nat_le, nat_eq, Bool, true, false, if◌then◌else◌, List, [], ◌∷◌, ◌++◌, map, zero, suc, chars, encode_utf8}
 use Rattle.std.specs.List.{list_all, range_with_len}
 use Rattle.ratatui_core.specs.Buffer.{Look, text_width}
-use Rattle.ansi_model.specs.declared.sgr.Sgr.{Sgr}
-use Rattle.ansi_model.specs.Sgr.{default_sgr, inked, is_own}
+use Rattle.ansi_model.specs.{declared.sgr.Sgr.Sgr, Sgr.default_sgr, Sgr.inked, Sgr.is_own, Symbols.is_plain_char, Symbols.is_symbol, Columns.Column.Shows}
 use Rattle.ratatui_core.specs.Backend.{ClearType, All, AfterCursor, is_cleared, Motion, moved_by, scrolling_up, scrolling_down}
-use Rattle.ansi_model.specs.Symbols.{is_plain_char, is_symbol}
 use Rattle.ansi_model.specs.Columns.{Columns, Area, blank_column, look_in, is_known_column, overwritten}
-use Rattle.ansi_model.specs.Columns.Column.{Shows}
 
 -- what the next byte belongs to: text, a sequence that just began, one that is at its first parameter or its mark, or one with a mark, some
 -- parameters and the number at hand

@@ -1,11 +1,8 @@
 -- The parameters that set a rendition.
 use Rattle.std.specs.Prelude.{◌≡◌, ℕ, ◌+◌, ◌==◌, ◌&&◌, ◌||◌, nat_lt, Bool, true, false, if◌then◌else◌, List, [], ◌∷◌, ◌++◌}
-use Rattle.std.specs.Int.RustNames.{bit_and}
-use Rattle.std.specs.List.{list_all}
-use Rattle.std.specs.Fmt.{decimal}
+use Rattle.std.specs.{Int.RustNames.bit_and, List.list_all, Fmt.decimal}
 use Rattle.ratatui_core.specs.Style.{Color, Reset, Black, Red, Green, Yellow, Blue, Magenta, Cyan, Gray, DarkGray, LightRed, LightGreen, LightYellow, LightBlue, LightMagenta, LightCyan, White, Rgb, Indexed, bits_of}
-use Rattle.ansi_model.specs.Sgr.{is_default_color}
-use Rattle.ansi_model.specs.declared.sgr.Sgr.{Sgr}
+use Rattle.ansi_model.specs.{Sgr.is_default_color, declared.sgr.Sgr.Sgr}
 
 -- of a colour: those of the text count from 30, those of the background from 40
 abbrev pub color_parameters : ℕ → Color → List ℕ

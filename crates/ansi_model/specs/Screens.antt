@@ -1,14 +1,9 @@
 -- What a terminal shows, as the backends' contract speaks of it, and when it is ready for a call of a backend.
 use Rattle.std.specs.Prelude.{◌≡◌, ℕ, ◌+◌, ◌-◌, ◌<◌, ◌≤◌, min, Bool, true, false, List, [], ◌++◌}
-use Rattle.ratatui_core.specs.Buffer.{Look}
-use Rattle.ratatui_core.specs.Backend.{Screen}
+use Rattle.ratatui_core.specs.{Buffer.Look, Backend.Screen}
 use Rattle.ansi_model.specs.Columns.{Column, Columns, blank_column, look_in, is_continuation, overwritten}
-use Rattle.ansi_model.specs.Columns.Column.{Shows, Unknown}
-use Rattle.ansi_model.specs.Sgr.{default_sgr}
-use Rattle.ansi_model.specs.declared.sgr.Sgr.{Sgr}
+use Rattle.ansi_model.specs.{Columns.Column.Shows, Columns.Column.Unknown, Sgr.default_sgr, declared.sgr.Sgr.Sgr, Emulator.Phase.Ground, Sequences.feed}
 use Rattle.ansi_model.specs.Emulator.{Emulator, Phase, rested, run}
-use Rattle.ansi_model.specs.Emulator.Phase.{Ground}
-use Rattle.ansi_model.specs.Sequences.{feed}
 use Rattle.ansi_model.specs.Symbols.{printed_columns}
 
 -- the screen of a terminal, on which so many items were drawn; a cursor after the last column is shown in it

@@ -1,7 +1,6 @@
 -- How a terminal reads bytes: text, and the sequences by their standard names.
 use Rattle.std.specs.Prelude.{ℕ, ◌+◌, ◌-◌, ◌*◌, ◌==◌, ◌&&◌, not, nat_le, Bool, true, false, if◌then◌else◌, List, [], ◌∷◌, ◌++◌}
-use Rattle.ansi_model.specs.Sgr.{inks, are_known}
-use Rattle.ansi_model.specs.Sgr.Awaits.{Nothing}
+use Rattle.ansi_model.specs.{Sgr.inks, Sgr.are_known, Sgr.Awaits.Nothing}
 use Rattle.ansi_model.specs.Emulator.{Emulator, Phase, if_so, unsure, rested, cursor_moved, returned, cursor_shown, with_sgr, erased, with_region, without_region, line_fed, lines_deleted, lines_inserted}
 use Rattle.ansi_model.specs.Emulator.Phase.{Ground, Escape, Opened, Sequence}
 use Rattle.ratatui_core.specs.Backend.{All, AfterCursor, BeforeCursor, CurrentLine, UntilNewLine}

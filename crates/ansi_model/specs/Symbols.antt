@@ -1,12 +1,10 @@
 -- What terminals print a text as: characters, and the columns that they take.
 use Rattle.std.specs.Prelude.{◌≡◌, ℕ, ◌==◌, ◌&&◌, ◌||◌, not, nat_lt, nat_le, Bool, true, false, if◌then◌else◌, List, [], ◌∷◌, length, unwrap_or, chars, encode_utf8, Option, Some, None}
-use Rattle.std.specs.List.{list_all}
-use Rattle.std.specs.Str.{is_utf8}
+use Rattle.std.specs.{List.list_all, Str.is_utf8}
 use Rattle.unicode_width.specs.Width.{char_width}
 use Rattle.unicode_segmentation.specs.Grapheme.{graphemes}
 use Rattle.ratatui_core.specs.Buffer.{text_width}
-use Rattle.ansi_model.specs.declared.glyph.Glyph.{Glyph}
-use Rattle.ansi_model.specs.declared.glyph.Glyph.TheVariants.{Plain, Whole}
+use Rattle.ansi_model.specs.{declared.glyph.Glyph.Glyph, declared.glyph.Glyph.TheVariants.Plain, declared.glyph.Glyph.TheVariants.Whole}
 
 -- control characters, which terminals obey in place of showing them
 abbrev pub is_control : ℕ → Bool

@@ -1,16 +1,12 @@
 -- Lines that were read, and the view of them.
 use Rattle.std.proofs.Common.{◌≡◌, ℕ, true, false, List, [], ◌∷◌, ◌++◌, map, Option, None, Some, IfSome, is_some, unwrap_or, refl, sym, ap, subst, ◌∙◌, append_assoc, append-nil}
-use Rattle.std.proofs.lemmas.Bool.{false≢true}
-use Rattle.std.proofs.lemmas.List.{map-append}
+use Rattle.std.proofs.lemmas.{Bool.false≢true, List.map-append}
 use Rattle.std.specs.Io.BufRead.{take_through, drop_through}
 use Rattle.ratatui_core.specs.Layout.{Size}
-use Rattle.ratatui_ansi.specs.Backend.{BackendState, shown_by}
-use Rattle.logview.specs.Views.{IsViewOf}
-use Rattle.logview.specs.declared.view.LogView.{LogView}
+use Rattle.ratatui_ansi.specs.{Backend.BackendState, Backend.shown_by, declared.error.AnsiError.AnsiError}
+use Rattle.logview.specs.{Views.IsViewOf, declared.view.LogView.LogView}
 use Rattle.logview.proofs.LogLemmas.{view_more}
-use Rattle.ratatui_ansi.specs.declared.error.AnsiError.{AnsiError}
-use Rattle.follow.specs.Ends.{StopsAtNext, StopsAfter, StopsText}
-use Rattle.follow.specs.declared.fault.Fault.{Fault}
+use Rattle.follow.specs.{Ends.StopsAtNext, Ends.StopsAfter, Ends.StopsText, declared.fault.Fault.Fault}
 use Rattle.follow.specs.declared.fault.Fault.TheVariants.{Terminal, Read, Write, Lines}
 use Rattle.follow.specs.Lines.{shown_line, AreLinesOf, ShowsInput, MovesOn}
 

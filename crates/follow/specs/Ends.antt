@@ -2,14 +2,11 @@
 use Rattle.std.specs.Prelude.{◌≡◌, ℕ, ◌-◌, true, IfSome, Option, Some, List, [], ◌++◌, map}
 use Rattle.std.specs.Io.BufRead.{take_through}
 use Rattle.ratatui_core.specs.Layout.{Size}
-use Rattle.ratatui_ansi.specs.Backend.{BackendState, shown_by}
+use Rattle.ratatui_ansi.specs.{Backend.BackendState, Backend.shown_by, declared.error.AnsiError.AnsiError}
 use Rattle.ansi_model.specs.Emulator.{Emulator, fed, returned, cursor_moved, cursor_shown, without_region, with_sgr}
 use Rattle.ansi_model.specs.Sgr.{default_sgr}
-use Rattle.ratatui_ansi.specs.declared.error.AnsiError.{AnsiError}
-use Rattle.logview.specs.Views.{IsFollowing, IsViewOf, RefusesPush}
-use Rattle.logview.specs.declared.view.LogView.{LogView}
-use Rattle.follow.specs.Lines.{shown_line, AreLinesOf}
-use Rattle.follow.specs.declared.fault.Fault.{Fault}
+use Rattle.logview.specs.{Views.IsFollowing, Views.IsViewOf, Views.RefusesPush, declared.view.LogView.LogView}
+use Rattle.follow.specs.{Lines.shown_line, Lines.AreLinesOf, declared.fault.Fault.Fault}
 use Rattle.follow.specs.declared.fault.Fault.TheVariants.{Terminal, Read, Write, Lines}
 
 -- why the next line of a text isn't shown: it can't be read, and the view stays; or the terminal or memory refuses it, as a push is refused

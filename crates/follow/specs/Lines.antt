@@ -1,16 +1,11 @@
 -- Lines as a terminal shows them, and a view of all that was read.
 use Rattle.std.specs.Prelude.{◌≡◌, ℕ, ◌+◌, ◌-◌, ◌<◌, ◌==◌, ◌||◌, Bool, true, false, Option, Some, if◌then◌else◌, List, [], ◌∷◌, ◌++◌, map, length, replicate, encode_utf8}
-use Rattle.std.specs.List.{flat_map}
-use Rattle.std.specs.Io.BufRead.{take_through, drop_through}
+use Rattle.std.specs.{List.flat_map, Io.BufRead.take_through, Io.BufRead.drop_through}
 use Rattle.unicode_segmentation.specs.Grapheme.{graphemes}
-use Rattle.ratatui_core.specs.Layout.{Size}
-use Rattle.ratatui_core.specs.Buffer.{text_width}
-use Rattle.ratatui_core.specs.Text.{has_control}
+use Rattle.ratatui_core.specs.{Layout.Size, Buffer.text_width, Text.has_control}
 use Rattle.ratatui_ansi.specs.Backend.{BackendState, shown_by}
 use Rattle.ansi_model.specs.Symbols.{is_printed}
-use Rattle.logview.specs.Rows.{counted}
-use Rattle.logview.specs.Views.{IsFollowing, IsViewOf, PushesLine}
-use Rattle.logview.specs.declared.view.LogView.{LogView}
+use Rattle.logview.specs.{Rows.counted, Views.IsFollowing, Views.IsViewOf, Views.PushesLine, declared.view.LogView.LogView}
 
 -- no cell shows a grapheme: it has a control character or no columns
 abbrev pub is_unpainted : List ℕ → Bool

@@ -1,9 +1,7 @@
 -- A gauge on the part of an area that a buffer has, and what a screen shows of one.
 use Rattle.std.proofs.Common.{◌<◌, sym, subst, arith, Result, Ok, Err, OnOk, OnErr}
-use Rattle.ratatui_core.specs.Layout.{Rect, EdgesFit, corner}
+use Rattle.ratatui_core.specs.{Layout.Rect, Layout.EdgesFit, Layout.corner, Backend.Screen, Widgets.IsClipped, Widgets.ChangesWithin}
 use Rattle.ratatui_core.specs.Buffer.{BufferData, IsEmptied, IsStyled, PaintsOrRefuses, bar_of}
-use Rattle.ratatui_core.specs.Backend.{Screen}
-use Rattle.ratatui_core.specs.Widgets.{IsClipped, ChangesWithin}
 use Rattle.ratatui_core.specs.Terminal.{TerminalData, ShowsRendered}
 use Rattle.ratatui_core.proofs.BufferLemmas.{ShowsPieces-bar, line-keeps}
 use Rattle.ratatui_core.proofs.WidgetLemmas.{OnPart-clipped, OnPart-whole, line-on-bar}

@@ -1,7 +1,7 @@
 -- A label on an empty buffer, by columns.
 use Rattle.std.proofs.Common.{◌≡◌, ◌+◌, ◌-◌, ◌≤◌, List, take, refl, ap, ◌∙◌, arith, false}
 use Rattle.ratatui_core.specs.Layout.{Position, Rect, HasPosition}
-use Rattle.ratatui_core.specs.Buffer.{look_of, empty_cell, is_skipped, Grid, BufferData, cell_in, cell_index, area_size, ShowsBuffer, Piece, columns, shown, piece_at, right_by, HasRow}
+use Rattle.ratatui_core.specs.Buffer.{look_of, empty_cell, is_skipped, Grid, cell_in, cell_index, area_size, Piece, columns, shown, piece_at, right_by, HasRow}
 use Rattle.ratatui_core.proofs.BufferLemmas.{cell-empty, shown-look, PaintsByColumns-paints}
 use Rattle.guide.specs.Labels.{ShowsLabel, StandsAt}
 

@@ -1,9 +1,7 @@
 -- An insertion and a draw after it, as a list of calls.
 use Rattle.std.proofs.Common.{◌≡◌, [], ◌∷◌, Bool, Result, Ok, Err, IfOk, OnOk, IsTrue, refl, sym, ap, ◌∙◌, inl, inr, arith}
 use Rattle.std.specs.declared.alloc.AllocError.{AllocError}
-use Rattle.ratatui_core.specs.Layout.{Rect}
-use Rattle.ratatui_core.specs.Buffer.{BufferData, IsSettledBuffer}
-use Rattle.ratatui_core.specs.Backend.{Screen, screen_area}
+use Rattle.ratatui_core.specs.{Layout.Rect, Buffer.BufferData, Buffer.IsSettledBuffer, Backend.Screen, Backend.screen_area}
 use Rattle.ratatui_core.specs.Terminal.{TerminalData, IsInline, IsInStep, TakesRows, InsertOk, DrawsFrame}
 use Rattle.ratatui_core.specs.Headline.{KeepsRows, Insert, Draw}
 use Rattle.guide.specs.Logging.{Logs}

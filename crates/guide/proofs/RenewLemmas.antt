@@ -1,10 +1,8 @@
 -- A draw, a clear, a resize and an insertion as a list of calls.
-use Rattle.std.proofs.Common.{◌≡◌, ◌<◌, ◌∷◌, [], Result, Ok, refl, sym, ap, ◌∙◌, inl, arith}
+use Rattle.std.proofs.Common.{◌≡◌, ◌<◌, ◌∷◌, [], Result, refl, ap, inl, arith}
 use Rattle.std.specs.declared.alloc.AllocError.{AllocError}
-use Rattle.ratatui_core.specs.Layout.{Rect}
-use Rattle.ratatui_core.specs.Buffer.{BufferData, IsSettledBuffer}
-use Rattle.ratatui_core.specs.Backend.{Screen, IsOnScreen}
-use Rattle.ratatui_core.specs.Terminal.{TerminalData, IsInline, IsInStep, TakesRows, InsertOk, DrawsFrame, ClearsViewport, Resizes, inserted_area}
+use Rattle.ratatui_core.specs.{Layout.Rect, Buffer.BufferData, Buffer.IsSettledBuffer, Backend.Screen}
+use Rattle.ratatui_core.specs.Terminal.{TerminalData, IsInline, IsInStep, InsertOk, DrawsFrame, ClearsViewport, Resizes}
 use Rattle.ratatui_core.specs.Headline.{IsHeadline, Draw, Clear, Resize, Insert}
 use Rattle.guide.specs.Renewing.{Renews}
 

@@ -1,8 +1,7 @@
 -- A gauge: what it makes of a buffer, and what a screen then shows.
 use Rattle.std.specs.Prelude.{ℕ, ◌+◌, min, List}
-use Rattle.ratatui_core.specs.Layout.{Rect, corner}
+use Rattle.ratatui_core.specs.{Layout.Rect, Layout.corner, Widgets.OnPart}
 use Rattle.ratatui_core.specs.Buffer.{BufferData, Grid, Piece, IsEmptied, IsSettledBuffer, PaintsOnBar, ShowsPieces, bar_of, bar_cell, line_pieces_at}
-use Rattle.ratatui_core.specs.Widgets.{OnPart}
 use Rattle.guide.specs.declared.gauge.Gauge.{Gauge}
 
 -- how many columns of an area's first row the bar fills

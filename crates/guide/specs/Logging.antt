@@ -1,8 +1,7 @@
 -- Rows above an inline viewport, and a frame below them.
 use Rattle.std.specs.Prelude.{◌∷◌, [], Result, Ok}
 use Rattle.std.specs.declared.alloc.AllocError.{AllocError}
-use Rattle.ratatui_core.specs.Buffer.{BufferData, IsSettledBuffer}
-use Rattle.ratatui_core.specs.Backend.{Screen}
+use Rattle.ratatui_core.specs.{Buffer.BufferData, Buffer.IsSettledBuffer, Backend.Screen}
 use Rattle.ratatui_core.specs.Terminal.{TerminalData, IsInStep, rows_over, AppendsRows}
 
 -- exactly the rows that were filled came to those above, and the screen shows the frame, if those rows are settled

@@ -1,10 +1,8 @@
 -- A frame, a clear, a resize and rows above the viewport, as one list of calls.
 use Rattle.std.specs.Prelude.{◌∷◌, [], Result, Ok}
 use Rattle.std.specs.declared.alloc.AllocError.{AllocError}
-use Rattle.ratatui_core.specs.Layout.{Rect}
-use Rattle.ratatui_core.specs.Buffer.{BufferData, IsSettledBuffer}
-use Rattle.ratatui_core.specs.Backend.{Screen, IsOnScreen}
-use Rattle.ratatui_core.specs.Terminal.{TerminalData, IsInline, TakesRows}
+use Rattle.ratatui_core.specs.{Layout.Rect, Buffer.BufferData, Buffer.IsSettledBuffer, Backend.Screen, Backend.IsOnScreen}
+use Rattle.ratatui_core.specs.Terminal.{TerminalData, TakesRows}
 use Rattle.ratatui_core.specs.Headline.{Draw, Clear, Resize, Insert, Along, IsFaithful}
 
 -- the states after the first three calls, and that above an inline viewport each of the four was faithful, if the rows that were filled are

@@ -1,7 +1,6 @@
 -- The style of a line's first span.
 use Rattle.std.specs.Prelude.{List, [], ◌∷◌}
-use Rattle.ratatui_core.specs.Style.{Style}
-use Rattle.ratatui_core.specs.Text.{SpanData}
+use Rattle.ratatui_core.specs.{Style.Style, Text.SpanData}
 
 -- spans of which the first has another style
 abbrev pub restyled : Style → List SpanData → List SpanData

@@ -1,21 +1,15 @@
 -- A view of the lines of a log, from its start on.
-use Rattle.std.proofs.Common.{◌≡◌, ℕ, ◌+◌, ◌<◌, ◌&&◌, List, [], ◌∷◌, ◌++◌, length, length-append, get_or, drop, Option, Some, None, IfSome, Result, Ok, Err, IfOk, if◌then◌else◌, sym, ap, ap₂, subst, ◌∙◌, arith, inr}
-use Rattle.std.specs.Prelude.{◌==◌}
-use Rattle.std.specs.Result.{result_ok}
+use Rattle.std.proofs.Common.{◌≡◌, ℕ, ◌+◌, ◌<◌, List, [], ◌∷◌, ◌++◌, length, length-append, get_or, drop, Option, Some, None, IfSome, Result, Ok, Err, IfOk, sym, ap, ap₂, subst, ◌∙◌, arith, inr}
+use Rattle.std.specs.{Result.result_ok, Str.IsUtf8, Str.Lines.lines, Io.KnownBytes.Appends}
 use Rattle.ratatui_core.specs.Layout.{Rect, Size}
 use Rattle.ratatui_core.specs.Backend.{Screen, IsBlankScreen, rows_above, TestBackend, TestError, screen_of, printed_screen}
 use Rattle.ratatui_core.specs.Terminal.{IsBlank, IsBlankBelow, row_area, IsPaintedText, IsRowOf, rows_over}
 use Rattle.ratatui_core.proofs.TerminalLemmas.{over-row}
-use Rattle.logview.specs.Rows.{counted, status_text, AreRowsOfLines}
+use Rattle.logview.specs.{Rows.counted, Rows.status_text, Rows.AreRowsOfLines, Views.StartsView, Views.PushesLine, Views.IsViewOf}
 use Rattle.script_words.specs.Words.{parsed_size}
-use Rattle.logview.specs.Views.{StartsView, PushesLine, IsViewOf}
 use Rattle.logview.specs.Engine.{ShowsLog, IsLog, IsLogFault, IsLogView, PrintsLog, StopsPushing, size_of_log}
-use Rattle.logview.specs.declared.fault.LogFault.{LogFault}
+use Rattle.logview.specs.{declared.fault.LogFault.LogFault, declared.view.LogView.LogView}
 use Rattle.logview.specs.declared.fault.LogFault.TheVariants as fault
-use Rattle.std.specs.Str.{IsUtf8}
-use Rattle.std.specs.Str.Lines.{lines}
-use Rattle.std.specs.Io.KnownBytes.{Appends}
-use Rattle.logview.specs.declared.view.LogView.{LogView}
 use Rattle.logview.proofs.RowLemmas.{rows_more}
 
 pub blank_screen : (w h : ℕ) (s : Screen) → IsBlankScreen w h s → IsBlank s

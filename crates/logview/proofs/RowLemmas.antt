@@ -1,7 +1,6 @@
 -- One more line and its row.
 use Rattle.std.proofs.Common.{ℕ, List, [], ◌∷◌, ◌++◌}
-use Rattle.ratatui_core.specs.Buffer.{Look}
-use Rattle.ratatui_core.specs.Terminal.{IsRowOf}
+use Rattle.ratatui_core.specs.{Buffer.Look, Terminal.IsRowOf}
 use Rattle.logview.specs.Rows.{AreRowsOfLines}
 
 pub rows_more : (width : ℕ) (line : List ℕ) (row : List Look) (lines : List (List ℕ)) (rows : List (List Look)) → AreRowsOfLines width lines rows → IsRowOf width line row → AreRowsOfLines width (lines ++ line ∷ []) (rows ++ row ∷ [])

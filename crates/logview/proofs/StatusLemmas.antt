@@ -1,9 +1,7 @@
 -- The status line is ASCII.
 use Rattle.std.proofs.Common.{ℕ, zero, suc, ◌<◌, ◌^◌, List, [], ◌∷◌, codes, lit<}
-use Rattle.std.specs.Fmt.{decimal}
-use Rattle.std.specs.Str.{IsAscii}
-use Rattle.std.proofs.lemmas.Fmt.{IsAscii-decimal}
-use Rattle.std.proofs.lemmas.Str.{IsAscii-append}
+use Rattle.std.specs.{Fmt.decimal, Str.IsAscii}
+use Rattle.std.proofs.lemmas.{Fmt.IsAscii-decimal, Str.IsAscii-append}
 use Rattle.logview.specs.Rows.{status_text}
 
 more : (b : ℕ) (bs : List ℕ) → b < 128 → IsAscii bs → IsAscii (b ∷ bs)

@@ -1,15 +1,12 @@
 -- A line that was inserted, and the status line that was then drawn.
 use Rattle.std.proofs.Common.{◌≡◌, ℕ, ◌+◌, ◌*◌, nat_lt, if◌then◌else◌, List, Result, Ok, Err, OnOk, IfErr, ap, ap₂, arith, refl, inr, subst, sym, ◌∙◌}
 use Rattle.std.specs.declared.alloc.AllocError.{AllocError}
-use Rattle.ratatui_core.specs.Layout.{Rect, Size}
-use Rattle.ratatui_core.specs.Buffer.{BufferData, IsEmptied, IsSettledBuffer}
-use Rattle.ratatui_core.specs.Backend.{Screen}
+use Rattle.ratatui_core.specs.{Layout.Rect, Layout.Size, Buffer.BufferData, Buffer.IsEmptied, Buffer.IsSettledBuffer, Backend.Screen}
 use Rattle.ratatui_core.specs.Terminal.{TerminalData, IsOverRow, DrawsRow, FillsRow, InsertsRow, InsertOk, InsertsBy, HasAreas, IsSized, IsBackendFault, WritesAtMost, TerminalError, Backend, Memory, Area, Closure, inserted_area}
 use Rattle.ratatui_core.proofs.TerminalLemmas.{inserts-and-draws, over-row, over-takes}
 use Rattle.ratatui_core.proofs.WidgetLemmas.{has-first-row, text-settled}
-use Rattle.logview.specs.Rows.{counted, status_text}
+use Rattle.logview.specs.{Rows.counted, Rows.status_text, declared.view.LogView.LogView}
 use Rattle.logview.specs.Views.{cells_pushed, screen_in, KeepsBelow, PushesLine, RefusesLine, RefusesPush}
-use Rattle.logview.specs.declared.view.LogView.{LogView}
 
 -- a line rendered on an empty row can be shown
 fills-settled : (line : List ℕ) (area : Rect) (sheet : BufferData) → area.height ≡ 1 → FillsRow line area sheet → IsSettledBuffer sheet

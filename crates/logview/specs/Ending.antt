@@ -1,8 +1,7 @@
 -- How a program ends that prints a log.
 use Rattle.std.specs.Prelude.{◌≡◌, ℕ, zero, suc, List, [], ◌++◌, Option, codes}
 use Rattle.std.specs.Io.KnownBytes.{Appends}
-use Rattle.logview.specs.Engine.{IsLogFault, PrintsLog, log_fault_text}
-use Rattle.logview.specs.declared.fault.LogFault.{LogFault}
+use Rattle.logview.specs.{Engine.IsLogFault, Engine.PrintsLog, Engine.log_fault_text, declared.fault.LogFault.LogFault}
 use Rattle.logview.specs.declared.fault.LogFault.TheVariants.{Size, Refused, NotText, Read, Memory, Write}
 
 -- the line that tells a fault; a failed write has none

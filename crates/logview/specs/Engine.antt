@@ -1,15 +1,10 @@
 -- From the bytes of a log to what is printed, or to a fault.
 use Rattle.std.specs.Prelude.{◌≡◌, ◌⊎◌, ℕ, ◌-◌, ◌<◌, min, List, [], ◌∷◌, ◌++◌, length, take, drop, slice_get, Option, None, Some, codes}
-use Rattle.std.specs.Fmt.{decimal}
-use Rattle.std.specs.Str.{IsUtf8}
-use Rattle.std.specs.Str.Lines.{lines}
-use Rattle.std.specs.Io.KnownBytes.{Appends}
+use Rattle.std.specs.{Fmt.decimal, Str.IsUtf8, Str.Lines.lines, Io.KnownBytes.Appends}
 use Rattle.ratatui_core.specs.Layout.{Size}
 use Rattle.ratatui_core.specs.Backend.{Screen, TestBackend, TestError, screen_of, size_of, rows_above, printed_screen}
 use Rattle.ratatui_core.specs.Terminal.{row_area, ShowsText, IsBlankBelow, TerminalError}
-use Rattle.logview.specs.Rows.{counted, status_text, AreRowsOfLines}
-use Rattle.logview.specs.Views.{IsViewOf, RefusesPush}
-use Rattle.logview.specs.declared.view.LogView.{LogView}
+use Rattle.logview.specs.{Rows.counted, Rows.status_text, Rows.AreRowsOfLines, Views.IsViewOf, Views.RefusesPush, declared.view.LogView.LogView}
 use Rattle.script_words.specs.Words.{parsed_size}
 use Rattle.logview.specs.declared.fault.LogFault.{LogFault}
 use Rattle.logview.specs.declared.fault.LogFault.TheVariants as fault

@@ -1,8 +1,7 @@
 -- Lines and status lines, as rows of a screen.
 use Rattle.std.specs.Prelude.{ℕ, ◌^◌, ◌-◌, min, List, [], ◌∷◌, ◌++◌, codes}
 use Rattle.std.specs.Fmt.{decimal}
-use Rattle.ratatui_core.specs.Buffer.{Look}
-use Rattle.ratatui_core.specs.Terminal.{IsRowOf}
+use Rattle.ratatui_core.specs.{Buffer.Look, Terminal.IsRowOf}
 
 -- a count, which stays at the greatest number
 abbrev pub counted : ℕ → ℕ

@@ -1,12 +1,9 @@
 -- Views of a log, and what a push does to them.
-use Rattle.std.specs.Prelude.{◌≡◌, ◌⊎◌, ℕ, ◌+◌, ◌-◌, ◌*◌, ◌<◌, min, nat_lt, if◌then◌else◌, List, length}
-use Rattle.ratatui_core.specs.Layout.{Size}
-use Rattle.ratatui_core.specs.Backend.{Screen, size_of}
-use Rattle.ratatui_core.specs.Buffer.{BufferData}
+use Rattle.std.specs.Prelude.{◌≡◌, ◌⊎◌, ℕ, ◌+◌, ◌-◌, ◌<◌, min, nat_lt, if◌then◌else◌, List, length}
+use Rattle.ratatui_core.specs.{Layout.Size, Backend.Screen, Backend.size_of, Buffer.BufferData}
 use Rattle.ratatui_core.specs.Terminal.{IsBlankBelow, IsOverRow, FillsRow, ShowsRow, InsertsRow, StartsOverRow, TerminalData, StopsInserting, WritesAtMost, inserted_area, rows_over}
 use Rattle.ratatui_core.specs.Terminal.{TerminalError, Backend, Memory, Area, Closure}
-use Rattle.logview.specs.Rows.{counted, status_text, AreRowsOfLines}
-use Rattle.logview.specs.declared.view.LogView.{LogView}
+use Rattle.logview.specs.{Rows.counted, Rows.status_text, Rows.AreRowsOfLines, declared.view.LogView.LogView}
 
 -- how many cells the row of a line takes at most: its own, and on a screen of one row that row again
 abbrev pub cells_pushed : Screen → ℕ

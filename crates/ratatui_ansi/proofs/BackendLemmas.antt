@@ -1,20 +1,11 @@
 -- What a backend keeps of its terminal once a call was sent.
 use Rattle.std.proofs.Common.{◌≡◌, ℕ, Bool, false, ◌-◌, ◌<◌, min, arith, List, [], ◌++◌, refl, sym, ap, ◌∙◌, subst, append-nil, string_bytes}
-use Rattle.ratatui_core.specs.Layout.{Position, Size}
-use Rattle.ratatui_core.specs.Backend.{Screen, IsBlankScreen}
-use Rattle.ratatui_ansi.specs.declared.tracker.Tracker.{Tracker}
-use Rattle.ansi_model.specs.Emulator.{Emulator, rested, blank_terminal}
-use Rattle.ansi_model.specs.Sequences.{feed}
-use Rattle.ansi_model.specs.Screens.{screen_shown}
-use Rattle.ansi_model.specs.Beginnings.{MakesBlank, anew, with_rows_above}
-use Rattle.ansi_model.specs.Columns.{blank_column}
-use Rattle.ansi_model.proofs.ScrollLemmas.{blank-idle}
-use Rattle.ansi_model.proofs.ReadLemmas.{feed-append}
-use Rattle.ansi_model.proofs.CallLemmas.{fresh-left}
-use Rattle.ansi_model.proofs.HistoryLemmas.{feed-above}
+use Rattle.ratatui_core.specs.{Layout.Position, Layout.Size, Backend.Screen, Backend.IsBlankScreen}
+use Rattle.ratatui_ansi.specs.{declared.tracker.Tracker.Tracker, Backend.reader, Backend.IsReadAlike, Backend.IsInOrder}
+use Rattle.ansi_model.specs.{Emulator.Emulator, Emulator.rested, Emulator.blank_terminal, Sequences.feed, Screens.screen_shown}
+use Rattle.ansi_model.specs.{Beginnings.MakesBlank, Beginnings.anew, Beginnings.with_rows_above, Columns.blank_column, Flags.AreContinuations}
+use Rattle.ansi_model.proofs.{ScrollLemmas.blank-idle, ReadLemmas.feed-append, CallLemmas.fresh-left, HistoryLemmas.feed-above}
 use Rattle.ratatui_ansi.specs.Tracker.{IsAwaiting, IsTracked, FitsScreen, Collects, BeginsBlank}
-use Rattle.ratatui_ansi.specs.Backend.{reader, IsReadAlike, IsInOrder}
-use Rattle.ansi_model.specs.Flags.{AreContinuations}
 
 read-on : (size : Size) (sent more new : List ℕ) → new ≡ sent ++ more → reader size new ≡ feed more (reader size sent)
 read-on size sent more new e = ap (reader size) e ∙ feed-append sent more (blank_terminal size.width size.height)

@@ -1,21 +1,14 @@
 -- What covers a column, by looks alone, and why no update between settled frames lies there.
 use Rattle.std.proofs.Common.{◌≡◌, inl, inr, ℕ, ◌+◌, ◌-◌, ◌<◌, ◌≤◌, ◌&&◌, nat_lt, nat_eq, if◌then◌else◌, Bool, true, false, List, [], ◌∷◌, ◌++◌, All, chars, map, refl, sym, ap, ap₂, subst, ◌∙◌, arith, append-nil}
-use Rattle.std.specs.Borrow.{Bor}
-use Rattle.std.specs.Iterator.{Yields, YieldsFirstBy}
-use Rattle.std.proofs.lemmas.Bool.{cases_lt, false≢true}
-use Rattle.std.proofs.lemmas.Bool.Decides.{nat_tests}
-use Rattle.std.proofs.lemmas.List.Elements.{All-head, All-tail}
+use Rattle.std.specs.{Borrow.Bor, Iterator.Yields, Iterator.YieldsFirstBy}
+use Rattle.std.proofs.lemmas.{Bool.cases_lt, Bool.false≢true, Bool.Decides.nat_tests, List.Elements.All-head, List.Elements.All-tail}
 use Rattle.ratatui_core.specs.Buffer.{width_of, width_by, empty_cell, Grid, Update, put, puts, Look, look_of, symbol_text, text_width, Cell, cell_at, is_forced, is_forced_by, IsDiff, IsSettled, Shows, ShowsColumn, IsBefore, Rises, IsCellOfNext}
 use Rattle.ratatui_core.proofs.BufferLemmas.{same_look, same_width, look-empty, width-empty}
 use Rattle.ratatui_core.specs.DiffOption as DiffOption
-use Rattle.ratatui_core.specs.Layout.{Position}
-use Rattle.ratatui_core.specs.Backend.{Screen}
+use Rattle.ratatui_core.specs.{Layout.Position, Backend.Screen}
 use Rattle.ansi_model.specs.Columns.{Column, Columns, look_in, is_continuation}
-use Rattle.ansi_model.specs.Columns.Column.{Unknown, Shows as Standing}
-use Rattle.ratatui_ansi.specs.Covered.{IsCovered, IsOpen, IsOrdinary}
-use Rattle.ansi_model.specs.Symbols.{is_one_plain, printed_columns}
-use Rattle.ratatui_ansi.specs.Frame.{IsVacant}
-use Rattle.ratatui_ansi.specs.Refusals.{lent_update, StopsInDiff}
+use Rattle.ansi_model.specs.{Columns.Column.Unknown, Columns.Column.Shows as Standing, Symbols.is_one_plain, Symbols.printed_columns}
+use Rattle.ratatui_ansi.specs.{Covered.IsCovered, Covered.IsOpen, Covered.IsOrdinary, Frame.IsVacant, Refusals.lent_update, Refusals.StopsInDiff}
 use Rattle.ratatui_ansi.specs.declared.draw.Refusal.TheVariants.{Cut}
 use Rattle.ansi_model.specs.Screens.{HasOwnWidth, HaveOwnWidths, IsWhole, IsWholeAt}
 

@@ -1,38 +1,21 @@
 -- What the bytes of a cell do to a terminal within a draw.
 use Rattle.std.proofs.Common.{◌≡◌, ℕ, ◌+◌, ◌-◌, ◌*◌, ◌^◌, ◌<◌, ◌≤◌, ◌==◌, ◌&&◌, not, min, nat_lt, nat_le, nat_eq, if◌then◌else◌, Bool, List, [], ◌∷◌, ◌++◌, IsTrue, chars, true, false, slice_index_or, IsUtf8, Option, Some, None, IfSome, refl, sym, ap, ap₂, ◌∙◌, arith, subst, inl, inr, append_assoc, append-nil, ◌⊎◌}
-use Rattle.std.proofs.lemmas.Bool.{and_parts, or_right}
+use Rattle.std.proofs.lemmas.{Bool.and_parts, Bool.or_right, Bool.Decides.nat_tests, List.Folds.list_all-append, Str.encode_ascii}
 use lib.Utf8.{encode}
-use Rattle.std.proofs.lemmas.Bool.Decides.{nat_tests}
 use Rattle.std.specs.List.{list_all}
-use Rattle.std.proofs.lemmas.List.Folds.{list_all-append}
-use Rattle.std.proofs.lemmas.Str.{encode_ascii}
-use Rattle.ratatui_core.specs.Layout.{Position}
+use Rattle.ratatui_core.specs.{Layout.Position, Backend.Draws}
 use Rattle.ratatui_core.specs.Buffer.{blank, symbol_text, Look, look_of, empty_look, width_of, text_width, Update, put, Cell}
-use Rattle.ratatui_core.specs.Backend.{Draws}
-use Rattle.ratatui_core.proofs.BackendLemmas.{Draws-none, Draws-push}
-use Rattle.ratatui_core.proofs.BufferLemmas.{one_byte}
+use Rattle.ratatui_core.proofs.{BackendLemmas.Draws-none, BackendLemmas.Draws-push, BufferLemmas.one_byte}
 use Rattle.ratatui_core.specs.DiffOption as DiffOption
-use Rattle.ansi_model.specs.declared.sgr.Sgr.{Sgr}
-use Rattle.ansi_model.specs.declared.pen.Pen.{Pen}
-use Rattle.ratatui_ansi.specs.declared.draw.DrawState.{DrawState}
-use Rattle.ansi_model.specs.declared.glyph.Glyph.{Glyph}
-use Rattle.ansi_model.specs.declared.glyph.Glyph.TheVariants.{Plain}
-use Rattle.ansi_model.specs.Columns.{Columns, look_in, is_continuation}
-use Rattle.ansi_model.specs.Flags.{AreContinuations, flag}
-use Rattle.ansi_model.specs.Parameters.{is_sendable_by}
-use Rattle.ansi_model.specs.Sgr.{default_sgr, inked, sgr_of}
-use Rattle.ansi_model.specs.Emulator.{Emulator, rested, with_sgr}
+use Rattle.ansi_model.specs.{declared.sgr.Sgr.Sgr, declared.pen.Pen.Pen, declared.glyph.Glyph.Glyph, declared.glyph.Glyph.TheVariants.Plain}
+use Rattle.ratatui_ansi.specs.{declared.draw.DrawState.DrawState, Tracker.IsAwaiting}
+use Rattle.ansi_model.specs.{Columns.Columns, Columns.look_in, Columns.is_continuation, Flags.AreContinuations, Flags.flag, Parameters.is_sendable_by}
+use Rattle.ansi_model.specs.{Sgr.default_sgr, Sgr.inked, Sgr.sgr_of, Emulator.Emulator, Emulator.rested, Emulator.with_sgr, Sequences.feed}
 use Rattle.ansi_model.specs.Symbols.{is_plain_char, is_one_plain, is_printed, printed_columns, glyph_columns}
-use Rattle.ansi_model.specs.Sequences.{feed}
-use Rattle.ansi_model.specs.Screens.{screen_shown, IsIdle}
+use Rattle.ansi_model.specs.{Screens.screen_shown, Screens.IsIdle, Drawing.ChangesSgr.Stays, Drawing.ChangesSgr.Sets}
 use Rattle.ansi_model.specs.Drawing.{printed_at, blanked, WritesAt, IsDrawnBy, ChangesSgr, Paints, Prints}
-use Rattle.ansi_model.specs.Drawing.ChangesSgr.{Stays, Sets}
-use Rattle.ratatui_ansi.specs.Tracker.{IsAwaiting}
 use Rattle.ratatui_ansi.specs.Frame.{is_fit, is_sendable_on, IsGlyph, IsVacant, IsDrawing, AreMarked, Covers, SendsUpdates, SendsDraw}
-use Rattle.ansi_model.proofs.ReadLemmas.{feed-append}
-use Rattle.ansi_model.proofs.SymbolLemmas.{plain-printed, plain-single}
-use Rattle.ansi_model.proofs.GlyphLemmas.{printed-width}
-use Rattle.ansi_model.proofs.SgrLemmas.{equal-number}
+use Rattle.ansi_model.proofs.{ReadLemmas.feed-append, SymbolLemmas.plain-printed, SymbolLemmas.plain-single, GlyphLemmas.printed-width, SgrLemmas.equal-number}
 use Rattle.ratatui_ansi.proofs.TailLemmas.{continuation-empty, laid-shown, IsTail}
 use Rattle.ratatui_ansi.proofs.LayLemmas.{Paints-then, sgr-paints, IsLaid, laid-by, laid-ready, tail-of, laid-flags}
 

@@ -1,18 +1,12 @@
 -- From the screen that a backend stands for to the terminal that has read its bytes.
 use Rattle.std.proofs.Common.{◌≡◌, ℕ, List, [], ◌∷◌, inl, refl, sym, ap, ◌∙◌, true, false, subst}
-use Rattle.ratatui_core.specs.Layout.{Size}
-use Rattle.ratatui_core.specs.Backend.{Screen}
-use Rattle.ratatui_core.specs.Buffer.{Grid, ShowsBuffer, IsSettledBuffer}
+use Rattle.ratatui_core.specs.{Layout.Size, Backend.Screen, Buffer.Grid, Buffer.ShowsBuffer, Buffer.IsSettledBuffer}
 use Rattle.ratatui_core.specs.Terminal.{TerminalData, IsInStep, DrawsFrame}
 use Rattle.ratatui_core.specs.Headline.{Event, Along, last_state, IsFaithful, Draw}
 use Rattle.ratatui_ansi.specs.Backend.{BackendState, reader, shown_by, IsReadAlike}
-use Rattle.ansi_model.specs.Beginnings.{IsAsFound, anew, with_rows_above}
-use Rattle.ansi_model.specs.Columns.{look_in}
-use Rattle.ansi_model.specs.Emulator.{Emulator, rested}
-use Rattle.ansi_model.specs.Glass.{IsStraight}
+use Rattle.ansi_model.specs.{Beginnings.IsAsFound, Beginnings.anew, Beginnings.with_rows_above, Columns.look_in, Emulator.Emulator, Emulator.rested}
+use Rattle.ansi_model.specs.{Glass.IsStraight, Screens.screen_shown, Sequences.feed}
 use Rattle.ratatui_ansi.specs.Headline.{IsReadBy, IsReadByAll, below_rows, IsShownToReader, IsShownToAll, IsHeadlineOfBytes}
-use Rattle.ansi_model.specs.Screens.{screen_shown}
-use Rattle.ansi_model.specs.Sequences.{feed}
 use Rattle.ansi_model.proofs.HistoryLemmas.{rested-above}
 
 -- faithful calls leave a terminal in step

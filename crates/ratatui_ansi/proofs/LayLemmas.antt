@@ -1,27 +1,17 @@
 -- A symbol that is printed, and blanks in what is left of another one.
 use Rattle.std.proofs.Common.{◌≡◌, ℕ, ◌+◌, ◌-◌, ◌*◌, ◌<◌, ◌≤◌, ◌&&◌, nat_lt, nat_le, if◌then◌else◌, Bool, List, [], ◌++◌, true, false, zero, suc, slice_index_or, Option, Some, None, IfSome, refl, sym, ap, ◌∙◌, arith, subst, inl, inr, append_assoc, append-nil}
 use lib.Utf8.{encode}
-use Rattle.std.proofs.lemmas.Bool.{cases_lt}
-use Rattle.std.proofs.lemmas.Bool.Decides.{nat_tests}
+use Rattle.std.proofs.lemmas.{Bool.cases_lt, Bool.Decides.nat_tests, Str.chars-nil, Str.IsUtf8-nil}
 use Rattle.std.specs.List.{list_all}
-use Rattle.std.proofs.lemmas.Str.{chars-nil, IsUtf8-nil}
-use Rattle.ratatui_core.specs.Layout.{Position}
-use Rattle.ratatui_core.specs.Buffer.{blank, Look, empty_look}
-use Rattle.ansi_model.specs.declared.sgr.Sgr.{Sgr}
-use Rattle.ansi_model.specs.declared.pen.Pen.{Pen}
-use Rattle.ansi_model.specs.Columns.{Columns, is_continuation}
-use Rattle.ansi_model.specs.Flags.{AreContinuations}
-use Rattle.ansi_model.specs.Sgr.{default_sgr, inked}
+use Rattle.ratatui_core.specs.{Layout.Position, Buffer.blank, Buffer.Look, Buffer.empty_look}
+use Rattle.ansi_model.specs.{declared.sgr.Sgr.Sgr, declared.pen.Pen.Pen, Columns.Columns, Columns.is_continuation, Flags.AreContinuations}
+use Rattle.ansi_model.specs.{Sgr.default_sgr, Sgr.inked, Symbols.is_plain_char, Symbols.printed_columns, Sequences.feed}
 use Rattle.ansi_model.specs.Emulator.{Emulator, rested, run, with_sgr}
-use Rattle.ansi_model.specs.Symbols.{is_plain_char, printed_columns}
-use Rattle.ansi_model.specs.Sequences.{feed}
 use Rattle.ansi_model.specs.Screens.{IsWhole, IsBlankBeyond, IsIdle, put_columns}
 use Rattle.ansi_model.specs.Drawing.{printed_at, blanked, WritesAt, IsDrawnBy, ChangesSgr, Paints, Prints}
 use Rattle.ansi_model.specs.Drawing.ChangesSgr.{Stays, Sets}
 use Rattle.ratatui_ansi.specs.Frame.{AreMarked}
-use Rattle.ansi_model.proofs.ReadLemmas.{feed-append}
-use Rattle.ansi_model.proofs.MotionLemmas.{tidy-along}
-use Rattle.ansi_model.proofs.TextLemmas.{blank-one}
+use Rattle.ansi_model.proofs.{ReadLemmas.feed-append, MotionLemmas.tidy-along, TextLemmas.blank-one}
 use Rattle.rtui_grid.proofs.PlaceLemmas.{by_rows}
 use Rattle.ratatui_ansi.proofs.TailLemmas.{torn, put-torn, torn-more, torn-all, laid-sized, laid-whole, laid-beyond, laid-continuations, IsTail, laid}
 

@@ -1,31 +1,18 @@
 -- What refused calls leave, and where a draw stops.
 use Rattle.std.proofs.Common.{◌≡◌, ℕ, ◌+◌, ◌*◌, ◌<◌, Bool, true, IsTrue, List, map, Option, None, Result, Ok, Err, IsErr, IsErrAnd, IfErr, OnOk, sym, subst, ◌∙◌}
 use Rattle.std.proofs.lemmas.Bool.{false≢true}
-use Rattle.ratatui_core.specs.Layout.{Position}
+use Rattle.ratatui_core.specs.{Layout.Position, Buffer.Update}
 use Rattle.ratatui_core.specs.Layout as layout
-use Rattle.ratatui_core.specs.Buffer.{Update}
 use Rattle.ratatui_core.specs.Backend.{Draws, ClearType, All, AfterCursor, BeforeCursor, CurrentLine, UntilNewLine}
-use Rattle.ratatui_ansi.specs.declared.error.AnsiError.{AnsiError}
+use Rattle.ratatui_ansi.specs.{declared.error.AnsiError.AnsiError, declared.tracker.Tracker.Tracker, declared.tracker.Call.Call}
 use Rattle.ratatui_ansi.specs.declared.error.AnsiError.TheVariants.{Memory, Symbol, Style, Cut, Size, Broken, Write}
-use Rattle.ratatui_ansi.specs.declared.tracker.Tracker.{Tracker}
-use Rattle.ratatui_ansi.specs.declared.tracker.Call.{Call}
 use Rattle.ratatui_ansi.specs.declared.tracker.Call.TheVariants as Called
-use Rattle.ratatui_ansi.specs.declared.draw.DrawState.{DrawState}
-use Rattle.ratatui_ansi.specs.declared.draw.Refusal.{Refusal}
+use Rattle.ratatui_ansi.specs.{declared.draw.DrawState.DrawState, declared.draw.Refusal.Refusal, Backend.BackendState}
 use Rattle.ratatui_ansi.specs.declared.draw.Refusal.TheVariants as Refused
-use Rattle.ratatui_ansi.specs.Backend.{BackendState}
-use Rattle.ratatui_ansi.specs.Tracker.{IsAwaiting, IsTracked, IsUncollected}
-use Rattle.ratatui_ansi.specs.Errors.{error_of}
-use Rattle.ansi_model.specs.Flags.{flag, is_clear_cut}
-use Rattle.ratatui_ansi.specs.Frame.{RefusesUpdate, IsDrawing}
-use Rattle.ansi_model.specs.Sgr.{default_sgr}
+use Rattle.ratatui_ansi.specs.{Tracker.IsAwaiting, Tracker.IsTracked, Tracker.IsUncollected, Errors.error_of, Frame.RefusesUpdate, Frame.IsDrawing}
+use Rattle.ansi_model.specs.{Flags.flag, Flags.is_clear_cut, Sgr.default_sgr, Screens.screen_shown, Sequences.feed, Emulator.Emulator, Emulator.rested}
 use Rattle.ratatui_ansi.specs.Refusals.{IsOfClearing, IsOfCall, FailsToResize, names_cell, has_place, IsRefusedOn, StopsWithin, StopsDraw}
-use Rattle.ansi_model.specs.Screens.{screen_shown}
-use Rattle.ansi_model.specs.Sequences.{feed}
-use Rattle.ansi_model.specs.Emulator.{Emulator, rested}
-use Rattle.ratatui_ansi.proofs.BackendLemmas.{cursor-column, cursor-row}
-use Rattle.ratatui_ansi.proofs.CoverLemmas.{covered-continuation}
-use Rattle.ratatui_ansi.proofs.FrameLemmas.{begins}
+use Rattle.ratatui_ansi.proofs.{BackendLemmas.cursor-column, BackendLemmas.cursor-row, CoverLemmas.covered-continuation, FrameLemmas.begins}
 
 -- ---- where a draw stops
 

@@ -1,16 +1,13 @@
 -- The columns under a symbol, and what is left of one of which it covers the first part.
 use Rattle.std.proofs.Common.{◌≡◌, ℕ, ◌+◌, ◌-◌, ◌<◌, ◌≤◌, ◌==◌, ◌&&◌, ◌||◌, nat_lt, nat_eq, if◌then◌else◌, zero, suc, Bool, true, false, inl, inr, refl, sym, ap, ap₂, ◌∙◌, arith}
-use Rattle.std.proofs.lemmas.Bool.{or_right, cases_lt}
-use Rattle.std.proofs.lemmas.Bool.Decides.{nat_tests}
+use Rattle.std.proofs.lemmas.{Bool.or_right, Bool.cases_lt, Bool.Decides.nat_tests}
 use Rattle.std.specs.List.{list_any, range_with_len}
 use Rattle.ratatui_core.specs.Buffer.{Look, look_of, empty_look, width_of, Update, put}
 use Rattle.ansi_model.specs.Columns.{Column, Columns, blank_column, look_in, is_continuation, is_met}
-use Rattle.ansi_model.specs.Columns.Column.{Shows, Unknown}
-use Rattle.ansi_model.specs.Emulator.{run}
+use Rattle.ansi_model.specs.{Columns.Column.Shows, Columns.Column.Unknown, Emulator.run, Symbols.printed_columns}
 use Rattle.ansi_model.specs.Screens.{HasOwnWidth, HaveOwnWidths, IsWhole, IsWholeAt, IsBlankBeyond, put_columns}
 use Rattle.ansi_model.proofs.PutLemmas.{none_between, apart-at, first-or-later, index-later, rest-same}
 use Rattle.ansi_model.proofs.TextLemmas.{blank-sized}
-use Rattle.ansi_model.specs.Symbols.{printed_columns}
 
 -- the columns of a row from `from` up to `end` is a continuation column, and the column at `end` doesn't
 pub record IsTail (from end y : ℕ) (c : Columns) : Type 0 where

@@ -1,24 +1,18 @@
 -- From what bytes do to a ready terminal to what a backend keeps of it.
 use Rattle.std.proofs.Common.{◌≡◌, ℕ, ◌+◌, ◌-◌, ◌*◌, ◌<◌, ◌≤◌, ◌++◌, ◌&&◌, ◌||◌, min, nat_lt, nat_le, nat_eq, if◌then◌else◌, Bool, List, length, true, false, string_bytes, refl, sym, ap, ap₂, ◌∙◌, arith, append_assoc, subst}
 use Rattle.std.proofs.lemmas.Bool.Decides.{nat_tests}
-use Rattle.ratatui_core.specs.Layout.{Position, Size}
-use Rattle.ratatui_core.specs.Buffer.{Look, empty_look, Update}
+use Rattle.ratatui_core.specs.{Layout.Position, Layout.Size, Buffer.Look, Buffer.empty_look, Buffer.Update}
 use Rattle.ratatui_core.specs.Backend.{Screen, Motion, scrolling_up, Draws, ScrollsRegion, Appends, Erases, Clears, with_cursor, with_visible, cursor_of, ClearType, All, AfterCursor, BeforeCursor, is_cleared}
 use Rattle.ansi_model.specs.Columns.{Columns, look_in, blank_column, overwritten}
 use Rattle.ansi_model.specs.Emulator.{Emulator, rested, columns_moved, cursor_moved, erased, keeps_history}
-use Rattle.ansi_model.specs.Sequences.{feed}
+use Rattle.ansi_model.specs.{Sequences.feed, Flags.flag, Flags.AreContinuations, Flags.is_cut, Sends.Performs}
 use Rattle.ansi_model.specs.Screens.{screen_shown, IsIdle, Turns, Becomes}
-use Rattle.ansi_model.specs.Flags.{flag, AreContinuations, is_cut}
-use Rattle.ratatui_ansi.specs.declared.tracker.Tracker.{Tracker}
-use Rattle.ratatui_ansi.specs.Frame.{SendsDraw}
+use Rattle.ratatui_ansi.specs.{declared.tracker.Tracker.Tracker, Frame.SendsDraw}
 use Rattle.ratatui_ansi.specs.Tracker.{IsAwaiting, IsTracked, IsTracker, Collects}
-use Rattle.ansi_model.proofs.ReadLemmas.{feed-append}
+use Rattle.ansi_model.proofs.{ReadLemmas.feed-append, FlagLemmas.AreContinuations-along, EraseLemmas.erasing, EraseLemmas.part-erased, EraseLemmas.part-tidy}
 use Rattle.ratatui_ansi.proofs.TailLemmas.{continuation-empty}
-use Rattle.ansi_model.proofs.FlagLemmas.{AreContinuations-along}
-use Rattle.ansi_model.proofs.EraseLemmas.{erasing, part-erased, part-tidy}
 use Rattle.ratatui_core.proofs.BackendLemmas.{moved-through}
 use Rattle.ansi_model.proofs.ScrollLemmas.{rested-ready, stays-idle, moved-placed}
-use Rattle.ansi_model.specs.Sends.{Performs}
 
 -- bytes were appended, after which a terminal that awaited a call awaits the next one, with the cursor and the flags after it, and its
 -- screen related so to the former

@@ -1,10 +1,7 @@
 -- What callers see of a backend that sends escape sequences, and the screen that it stands for.
 use Rattle.std.specs.Prelude.{◌≡◌, ℕ, Bool, false, List, Option, length, nat_eq}
-use Rattle.ratatui_core.specs.Layout.{Position, Size}
-use Rattle.ratatui_core.specs.Backend.{Screen}
-use Rattle.ansi_model.specs.Emulator.{Emulator, rested, blank_terminal}
-use Rattle.ansi_model.specs.Sequences.{feed}
-use Rattle.ansi_model.specs.Screens.{screen_shown}
+use Rattle.ratatui_core.specs.{Layout.Position, Layout.Size, Backend.Screen}
+use Rattle.ansi_model.specs.{Emulator.Emulator, Emulator.rested, Emulator.blank_terminal, Sequences.feed, Screens.screen_shown}
 use Rattle.ratatui_ansi.specs.Tracker.{FitsScreen, IsAwaiting}
 use Rattle.ansi_model.specs.Beginnings.{IsAsFound, anew, with_rows_above}
 

@@ -1,9 +1,8 @@
 -- The printed texts of errors.
 use Rattle.std.specs.Prelude.{ℕ, List, ◌++◌, Option, None, Some, codes}
 use Rattle.ratatui_core.specs.Layout.{position_text}
-use Rattle.ratatui_ansi.specs.declared.draw.Refusal.{Refusal}
+use Rattle.ratatui_ansi.specs.{declared.draw.Refusal.Refusal, declared.error.AnsiError.AnsiError}
 use Rattle.ratatui_ansi.specs.declared.draw.Refusal.TheVariants as Refused
-use Rattle.ratatui_ansi.specs.declared.error.AnsiError.{AnsiError}
 use Rattle.ratatui_ansi.specs.declared.error.AnsiError.TheVariants.{Memory, Symbol, Style, Cut, Size, Broken, Write}
 
 -- the printed error, which is unknown if it is the writer's

@@ -1,22 +1,12 @@
 -- What a draw knows of the terminal, and what its bytes do to it.
 use Rattle.std.specs.Prelude.{◌≡◌, ℕ, ◌+◌, ◌-◌, ◌*◌, ◌<◌, ◌≤◌, ◌==◌, ◌&&◌, ◌||◌, ◌⊎◌, not, nat_lt, nat_le, Bool, true, false, if◌then◌else◌, List, ◌++◌, length}
-use Rattle.ratatui_core.specs.Layout.{Position}
+use Rattle.ratatui_core.specs.{Layout.Position, Backend.Draws, Backend.cursor_of}
 use Rattle.ratatui_core.specs.Buffer.{symbol_text, look_of, empty_look, width_of, Update, Cell}
-use Rattle.ratatui_core.specs.Backend.{Draws, cursor_of}
-use Rattle.ansi_model.specs.declared.pen.Pen.{Pen}
-use Rattle.ratatui_ansi.specs.declared.draw.DrawState.{DrawState}
-use Rattle.ansi_model.specs.declared.glyph.Glyph.{Glyph}
-use Rattle.ratatui_ansi.specs.declared.draw.Refusal.{Refusal}
+use Rattle.ansi_model.specs.{declared.pen.Pen.Pen, declared.glyph.Glyph.Glyph, declared.sgr.Sgr.Sgr, Flags.AreContinuations, Flags.flag}
+use Rattle.ratatui_ansi.specs.{declared.draw.DrawState.DrawState, declared.draw.Refusal.Refusal, Tracker.IsAwaiting}
 use Rattle.ratatui_ansi.specs.declared.draw.Refusal.TheVariants as Refused
-use Rattle.ansi_model.specs.declared.sgr.Sgr.{Sgr}
-use Rattle.ratatui_ansi.specs.Tracker.{IsAwaiting}
-use Rattle.ansi_model.specs.Flags.{AreContinuations, flag}
-use Rattle.ansi_model.specs.Sgr.{default_sgr, sgr_of}
-use Rattle.ansi_model.specs.Parameters.{is_sendable_by}
-use Rattle.ansi_model.specs.Emulator.{Emulator, rested, with_sgr}
-use Rattle.ansi_model.specs.Symbols.{is_printed, printed_columns, IsGlyphOf}
-use Rattle.ansi_model.specs.Sequences.{feed}
-use Rattle.ansi_model.specs.Screens.{screen_shown, IsIdle}
+use Rattle.ansi_model.specs.{Sgr.default_sgr, Sgr.sgr_of, Parameters.is_sendable_by, Emulator.Emulator, Emulator.rested, Emulator.with_sgr}
+use Rattle.ansi_model.specs.{Symbols.is_printed, Symbols.printed_columns, Symbols.IsGlyphOf, Sequences.feed, Screens.screen_shown, Screens.IsIdle}
 use Rattle.ansi_model.specs.Drawing.{blanked, IsDrawnBy, Paints}
 
 -- ---- cells

@@ -1,16 +1,11 @@
 -- What the headline says of the bytes: a terminal, however it was left, that has read all that a backend's writer was sent.
 use Rattle.std.specs.Prelude.{◌≡◌, ℕ, ◌<◌, true, false, List, ◌++◌}
 use Rattle.ratatui_core.specs.Buffer.{Look, Grid, BufferData, ShowsBuffer}
-use Rattle.ratatui_core.specs.Backend.{Screen}
-use Rattle.ratatui_core.specs.Terminal.{TerminalData, IsInStep}
+use Rattle.ratatui_core.specs.{Backend.Screen, Terminal.TerminalData, Terminal.IsInStep}
 use Rattle.ratatui_core.specs.Headline.{Event, Along, last_state, Does, IsFair}
 use Rattle.ratatui_ansi.specs.Backend.{BackendState, shown_by}
-use Rattle.ansi_model.specs.Beginnings.{IsAsFound, anew}
-use Rattle.ansi_model.specs.Columns.{look_in}
-use Rattle.ansi_model.specs.Glass.{MayShow, IsStraight}
-use Rattle.ansi_model.specs.Emulator.{Emulator, rested}
-use Rattle.ansi_model.specs.Screens.{screen_shown}
-use Rattle.ansi_model.specs.Sequences.{feed}
+use Rattle.ansi_model.specs.{Beginnings.IsAsFound, Beginnings.anew, Columns.look_in, Glass.MayShow, Glass.IsStraight, Emulator.Emulator, Emulator.rested}
+use Rattle.ansi_model.specs.{Screens.screen_shown, Sequences.feed}
 
 -- a screen with these rows before those of its history
 abbrev pub below_rows : List (List Look) → Screen → Screen

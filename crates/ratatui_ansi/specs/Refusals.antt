@@ -1,27 +1,15 @@
 -- What a backend's call leaves, by its answer, and where a draw stops.
 use Rattle.std.specs.Prelude.{◌≡◌, ℕ, ◌-◌, ◌<◌, ◌⊎◌, Bool, true, false, IsTrue, List, map, Option, Some, Result, MatchResult}
-use Rattle.std.specs.Borrow.{Bor}
-use Rattle.std.specs.Iterator.{YieldsThen, YieldsFirstBy}
-use Rattle.ratatui_core.specs.Layout.{Position}
+use Rattle.std.specs.{Borrow.Bor, Iterator.YieldsThen, Iterator.YieldsFirstBy}
+use Rattle.ratatui_core.specs.{Layout.Position, Buffer.Update, Buffer.Cell, Buffer.update_by, Backend.Screen, Backend.Draws, Backend.cursor_of}
 use Rattle.ratatui_core.specs.Layout as layout
-use Rattle.ratatui_core.specs.Buffer.{Update, Cell, update_by}
-use Rattle.ratatui_core.specs.Backend.{Screen, Draws, cursor_of}
-use Rattle.ratatui_ansi.specs.declared.error.AnsiError.{AnsiError}
+use Rattle.ratatui_ansi.specs.{declared.error.AnsiError.AnsiError, declared.draw.DrawState.DrawState, declared.draw.Refusal.Refusal, declared.tracker.Call.Call}
 use Rattle.ratatui_ansi.specs.declared.error.AnsiError.TheVariants.{Memory, Symbol, Style, Cut, Size, Broken, Write}
-use Rattle.ratatui_ansi.specs.declared.draw.DrawState.{DrawState}
-use Rattle.ratatui_ansi.specs.declared.draw.Refusal.{Refusal}
 use Rattle.ratatui_ansi.specs.declared.draw.Refusal.TheVariants as Refused
-use Rattle.ratatui_ansi.specs.declared.tracker.Call.{Call}
 use Rattle.ratatui_ansi.specs.declared.tracker.Call.TheVariants as Called
-use Rattle.ratatui_ansi.specs.Backend.{BackendState}
-use Rattle.ratatui_ansi.specs.Tracker.{IsAwaiting}
-use Rattle.ratatui_ansi.specs.Covered.{IsCovered}
-use Rattle.ratatui_ansi.specs.Errors.{error_of}
+use Rattle.ratatui_ansi.specs.{Backend.BackendState, Tracker.IsAwaiting, Covered.IsCovered, Errors.error_of}
 use Rattle.ratatui_ansi.specs.Frame.{is_fit, IsVacant, IsOnScreenAt, RefusesUpdate, SendsUpdates}
-use Rattle.ansi_model.specs.Parameters.{is_sendable_by}
-use Rattle.ansi_model.specs.Sgr.{sgr_of}
-use Rattle.ansi_model.specs.Screens.{screen_shown}
-use Rattle.ansi_model.specs.Emulator.{Emulator, rested}
+use Rattle.ansi_model.specs.{Parameters.is_sendable_by, Sgr.sgr_of, Screens.screen_shown, Emulator.Emulator, Emulator.rested}
 
 -- ---- what is left
 

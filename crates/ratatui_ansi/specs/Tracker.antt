@@ -2,18 +2,11 @@
 use Rattle.std.specs.Prelude.{◌≡◌, ℕ, ◌*◌, ◌<◌, Bool, true, List, length, [], ◌++◌, string_bytes}
 use Rattle.ratatui_core.specs.Layout.{Position, Size}
 use Rattle.ratatui_core.specs.Backend.{Screen, cursor_of, Appends, Clears, ScrollsUp, ScrollsDown, with_cursor, with_visible}
-use Rattle.ansi_model.specs.Columns.{blank_column}
-use Rattle.ansi_model.specs.Beginnings.{MakesBlank}
-use Rattle.ansi_model.specs.Emulator.{Emulator, rested}
-use Rattle.ansi_model.specs.Emulator.Phase.{Ground}
-use Rattle.ansi_model.specs.Sequences.{feed}
-use Rattle.ansi_model.specs.Screens.{screen_shown, IsIdle}
-use Rattle.ratatui_ansi.specs.declared.draw.Refusal.{Refusal}
+use Rattle.ansi_model.specs.{Columns.blank_column, Beginnings.MakesBlank, Emulator.Emulator, Emulator.rested, Emulator.Phase.Ground, Sequences.feed}
+use Rattle.ansi_model.specs.{Screens.screen_shown, Screens.IsIdle, Flags.AreContinuations, Flags.is_clear_cut}
+use Rattle.ratatui_ansi.specs.{declared.draw.Refusal.Refusal, declared.tracker.Tracker.Tracker, declared.tracker.Call.Call}
 use Rattle.ratatui_ansi.specs.declared.draw.Refusal.TheVariants as Refused
-use Rattle.ratatui_ansi.specs.declared.tracker.Tracker.{Tracker}
-use Rattle.ratatui_ansi.specs.declared.tracker.Call.{Call}
 use Rattle.ratatui_ansi.specs.declared.tracker.Call.TheVariants as Called
-use Rattle.ansi_model.specs.Flags.{AreContinuations, is_clear_cut}
 
 -- a terminal between two calls: it awaits text and is idle, with its cursor there and these flags
 pub record IsAwaiting (w h : ℕ) (cursor : Position) (flags : List Bool) (t : Emulator) : Type 0 where

@@ -1,9 +1,6 @@
 -- A word is broken only if it is wider than a row.
-use Rattle.std.proofs.Common.{◌≡◌, ℕ, zero, suc, ◌+◌, ◌-◌, ◌<◌, ◌≤◌, ◌||◌, ◌==◌, ⊎_elim, Bool, true, false, nat_lt, if◌then◌else◌, List, [], ◌∷◌, take, drop, length, length-take, length-drop, refl, sym, ap, subst, ◌∙◌, arith}
-use Rattle.std.specs.Prelude.{slice_index_or}
-use Rattle.std.proofs.lemmas.Bool.{cases_lt, cases_Bool}
-use Rattle.std.proofs.lemmas.Bool.Decides.{nat_tests}
-use Rattle.std.proofs.lemmas.List.{drop_more, get_or-take}
+use Rattle.std.proofs.Common.{◌≡◌, ℕ, zero, suc, ◌+◌, ◌-◌, ◌<◌, ◌≤◌, ◌||◌, ◌==◌, ⊎_elim, Bool, true, false, nat_lt, if◌then◌else◌, List, [], ◌∷◌, take, drop, length, length-take, length-drop, refl, sym, ap, subst, ◌∙◌, arith, slice_index_or}
+use Rattle.std.proofs.lemmas.{Bool.cases_lt, Bool.cases_Bool, Bool.Decides.nat_tests, List.drop_more, List.get_or-take}
 use Rattle.ratatui_core.specs.Text.{GraphemeData}
 use Rattle.ratatui_widgets.specs.Reflow.{is_break, is_of_word, grapheme_columns, columns_taken, count_fitting, last_end, leading_word, word_around, break_at_blank, break_in_word, break_before, row_break}
 use Rattle.ratatui_widgets.proofs.ReflowLemmas.{columns-next, count-next, count-full, count-le, word-next, end_after, end_after-some, end_after-none, last_end-le}

@@ -1,18 +1,12 @@
 -- A paragraph in its box, and a grapheme painted in its columns.
 use Rattle.std.proofs.Common.{◌≡◌, ℕ, ◌+◌, ◌≤◌, Option, subst, ◌∙◌, arith, Result, Ok, Err, OnOk}
 use Rattle.std.specs.declared.alloc.AllocError.{AllocError}
-use Rattle.ratatui_core.specs.Layout.{Rect, EdgesFit}
-use Rattle.ratatui_core.specs.Style.{Style}
-use Rattle.ratatui_core.specs.Text.{GraphemeData}
+use Rattle.ratatui_core.specs.{Layout.Rect, Layout.EdgesFit, Style.Style, Text.GraphemeData}
 use Rattle.ratatui_core.specs.Buffer.{BufferData, IsPlainFrom, IsReadyFrom, IsSettledBuffer, PaintsPieces, pieces_at, room_at, text_pieces, position_of}
-use Rattle.ratatui_core.proofs.BufferLemmas.{settled-plain, ready-plain, within-same}
-use Rattle.ratatui_core.proofs.WidgetLemmas.{within-then}
-use Rattle.rtui_boxes.specs.declared.block.Block.{Block}
-use Rattle.rtui_boxes.specs.Boxes.{IsPlainIfBox}
-use Rattle.rtui_boxes.specs.Framed.{IsFramed, RendersInFrame}
+use Rattle.ratatui_core.proofs.{BufferLemmas.settled-plain, BufferLemmas.ready-plain, BufferLemmas.within-same, WidgetLemmas.within-then}
+use Rattle.rtui_boxes.specs.{declared.block.Block.Block, Boxes.IsPlainIfBox, Framed.IsFramed, Framed.RendersInFrame}
 use Rattle.rtui_boxes.proofs.InnerLemmas.{plain-framed, framed-area}
-use Rattle.ratatui_widgets.specs.declared.paragraph.Paragraph.{Paragraph}
-use Rattle.ratatui_widgets.specs.Reflow.{grapheme_columns}
+use Rattle.ratatui_widgets.specs.{declared.paragraph.Paragraph.Paragraph, Reflow.grapheme_columns}
 use Rattle.ratatui_widgets.specs.Paragraphs.{PaintsGrapheme, FillsText, RendersParagraph}
 
 -- a style and a box over plain cells

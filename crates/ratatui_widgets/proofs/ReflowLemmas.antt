@@ -1,15 +1,10 @@
 -- A row at the front of a line: where it ends, and what it keeps.
-use Rattle.std.proofs.Common.{◌≡◌, ℕ, suc, ◌+◌, ◌-◌, ◌<◌, ◌≤◌, ◌++◌, ◌&&◌, ◌||◌, ◌==◌, ⊎_elim, Bool, true, false, nat_lt, nat_le, if◌then◌else◌, List, [], ◌∷◌, filter, take, drop, length, refl, sym, ap, ap₂, subst, ◌∙◌, arith}
-use Rattle.std.specs.Prelude.{slice_index_or}
+use Rattle.std.proofs.Common.{◌≡◌, ℕ, suc, ◌+◌, ◌-◌, ◌<◌, ◌≤◌, ◌++◌, ◌&&◌, ◌||◌, ◌==◌, ⊎_elim, Bool, true, false, nat_lt, nat_le, if◌then◌else◌, List, [], ◌∷◌, filter, take, drop, length, refl, sym, ap, ap₂, subst, ◌∙◌, arith, slice_index_or}
 use Rattle.std.specs.List.{list_all, prefix_len}
 use Rattle.std.proofs.lemmas.Bool.{cases_lt, and_parts, and_right, or_right, cases_Bool}
-use Rattle.std.proofs.lemmas.Bool.Decides.{nat_tests}
+use Rattle.std.proofs.lemmas.{Bool.Decides.nat_tests, List.Elements.filter-append, List.Folds.list_all-append, List.Sums.sum_by-cons, List.Sums.sum_by-take-le}
 use Rattle.std.proofs.lemmas.List.{take-append-drop, take-take, drop-take, take_all, length-drop, length-take, length-map, take-map, drop-map, drop_more, drop_all, append_assoc, append-nil}
-use Rattle.std.proofs.lemmas.List.Elements.{filter-append}
-use Rattle.std.proofs.lemmas.List.Folds.{list_all-append}
-use Rattle.std.proofs.lemmas.List.Sums.{sum_by-cons, sum_by-take-le}
-use Rattle.ratatui_core.specs.Text.{GraphemeData, grapheme_data}
-use Rattle.ratatui_core.specs.declared.text.StyledGrapheme.{StyledGrapheme}
+use Rattle.ratatui_core.specs.{Text.GraphemeData, Text.grapheme_data, declared.text.StyledGrapheme.StyledGrapheme}
 use Rattle.ratatui_widgets.specs.Reflow.{data_of, is_break, is_of_word, grapheme_columns, columns_taken, words_of, fits_row, AllFit, count_fitting, fitting_front, after_columns, last_end, leading_word, break_at_blank, break_in_word, break_before, row_break, trimmed_start, split_row}
 
 -- ---- graphemes one by one

@@ -1,20 +1,15 @@
 -- The rows of a paragraph, painted one after the other.
-use Rattle.std.proofs.Common.{◌≡◌, ℕ, zero, suc, ◌+◌, ◌-◌, ◌<◌, ◌≤◌, ◌++◌, ⊎_elim, Bool, true, false, nat_lt, All, List, [], ◌∷◌, map, filter, take, drop, length, Some, None, refl, sym, ap, ap₂, subst, ◌∙◌, arith}
-use Rattle.std.specs.Prelude.{slice_index_or}
+use Rattle.std.proofs.Common.{◌≡◌, ℕ, zero, suc, ◌+◌, ◌-◌, ◌<◌, ◌≤◌, ◌++◌, ⊎_elim, Bool, true, false, nat_lt, All, List, [], ◌∷◌, map, filter, take, drop, length, Some, None, refl, sym, ap, ap₂, subst, ◌∙◌, arith, slice_index_or}
 use Rattle.std.specs.List.{flat_map}
-use Rattle.std.proofs.lemmas.Bool.{cases_lt, cases_Bool}
-use Rattle.std.proofs.lemmas.Bool.Decides.{nat_tests}
+use Rattle.std.proofs.lemmas.{Bool.cases_lt, Bool.cases_Bool, Bool.Decides.nat_tests}
 use Rattle.std.proofs.lemmas.List.Elements.{All-nil, All-cons, All-head, All-tail, filter-append}
 use Rattle.std.proofs.lemmas.List.{length-drop, length-map, take-append-drop, drop_more, drop_all, append_assoc, append-nil, drop-map, drop-drop}
-use Rattle.ratatui_core.specs.Layout.{Rect}
+use Rattle.ratatui_core.specs.{Layout.Rect, declared.text.StyledGrapheme.StyledGrapheme, declared.layout.HorizontalAlignment.HorizontalAlignment}
 use Rattle.ratatui_core.specs.Text.{GraphemeData, grapheme_data, LineData, has_control}
-use Rattle.ratatui_core.specs.declared.text.StyledGrapheme.{StyledGrapheme}
 use Rattle.ratatui_core.specs.Buffer.{BufferData, PaintsPieces, columns, painted_width, text_width, text_pieces, right_by, position_of}
 use Rattle.ratatui_core.proofs.BufferLemmas.{PaintsPieces-append, PaintsPieces-none, grapheme-piece, pieces-wide, text_pieces-none}
-use Rattle.ratatui_core.specs.declared.layout.HorizontalAlignment.{HorizontalAlignment}
 use Rattle.ratatui_core.specs.declared.layout.HorizontalAlignment.TheVariants.{Left, Center, Right}
-use Rattle.ratatui_widgets.specs.declared.paragraph.Paragraph.{Paragraph}
-use Rattle.ratatui_widgets.specs.declared.paragraph.Wrap.{Wrap}
+use Rattle.ratatui_widgets.specs.{declared.paragraph.Paragraph.Paragraph, declared.paragraph.Wrap.Wrap}
 use Rattle.ratatui_widgets.specs.Reflow.{data_of, grapheme_columns, columns_taken, words_of, is_of_word, AllFit, cut_row, after_columns, fits_row, split_row, rows_within, broken_rows}
 use Rattle.ratatui_widgets.specs.Paragraphs.{TextRow, alignment_of, graphemes_of, IsSingleGrapheme, row_pieces, aligned_row, aligned_rows, cut_line, broken_line, rows_of_lines, rows_shown, indent_of, PaintsGrapheme, PaintsGraphemes, PaintsRow, PaintsRows, PaintsOn}
 use Rattle.ratatui_widgets.proofs.ReflowLemmas.{split_row-is, fit-past, count-fits, next-data, columns-next, data-drop, data-count, tail-is}

@@ -1,17 +1,12 @@
 -- A paragraph: its rows, and what it changes.
 use Rattle.std.specs.Prelude.{◌≡◌, ℕ, ◌+◌, ◌-◌, ◌/◌, ◌==◌, min, length, if◌then◌else◌, nat_lt, false, List, [], ◌∷◌, ◌++◌, map, filter, take, drop, Option, Some, None, unwrap_or}
 use Rattle.std.specs.List.{flat_map}
-use Rattle.ratatui_core.specs.Layout.{Rect, EdgesFit}
-use Rattle.ratatui_core.specs.Style.{new_style, patch}
+use Rattle.ratatui_core.specs.{Layout.Rect, Layout.EdgesFit, Style.new_style, Style.patch, declared.layout.HorizontalAlignment.HorizontalAlignment}
 use Rattle.ratatui_core.specs.Text.{GraphemeData, LineData, TextData, line_graphemes, has_control}
-use Rattle.ratatui_core.specs.declared.layout.HorizontalAlignment.{HorizontalAlignment}
 use Rattle.ratatui_core.specs.declared.layout.HorizontalAlignment.TheVariants.{Left, Center, Right}
 use Rattle.ratatui_core.specs.Buffer.{BufferData, IsPlainFrom, IsSettledBuffer, IsOneGrapheme, Piece, piece_of, PaintsPieces, text_pieces, position_of}
-use Rattle.ratatui_widgets.specs.declared.paragraph.Paragraph.{Paragraph}
-use Rattle.ratatui_widgets.specs.declared.paragraph.Wrap.{Wrap}
-use Rattle.rtui_boxes.specs.Boxes.{IsPlainIfBox}
-use Rattle.rtui_boxes.specs.Titles.{InTurn}
-use Rattle.rtui_boxes.specs.Framed.{RendersInFrame, rows_around_if}
+use Rattle.ratatui_widgets.specs.{declared.paragraph.Paragraph.Paragraph, declared.paragraph.Wrap.Wrap}
+use Rattle.rtui_boxes.specs.{Boxes.IsPlainIfBox, Titles.InTurn, Framed.RendersInFrame, Framed.rows_around_if}
 use Rattle.ratatui_widgets.specs.Reflow.{grapheme_columns, columns_taken, fits_row, cut_row, broken_rows}
 
 -- a text without a box, from its first row and column on, cut and aligned to the left

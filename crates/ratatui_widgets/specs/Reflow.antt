@@ -1,9 +1,7 @@
 -- A line of graphemes cut, or broken into rows.
 use Rattle.std.specs.Prelude.{◌≡◌, ℕ, zero, suc, ◌+◌, ◌-◌, Bool, true, not, ◌&&◌, ◌||◌, ◌==◌, nat_le, nat_lt, List, [], ◌∷◌, length, map, take, drop, filter, if◌then◌else◌}
 use Rattle.std.specs.List.{sum_by, list_all, prefix_len}
-use Rattle.ratatui_core.specs.Text.{GraphemeData, grapheme_data, is_whitespace_symbol}
-use Rattle.ratatui_core.specs.Buffer.{text_width}
-use Rattle.ratatui_core.specs.declared.text.StyledGrapheme.{StyledGrapheme}
+use Rattle.ratatui_core.specs.{Text.GraphemeData, Text.grapheme_data, Text.is_whitespace_symbol, Buffer.text_width, declared.text.StyledGrapheme.StyledGrapheme}
 
 abbrev pub data_of : List StyledGrapheme → List GraphemeData
 data_of gs = map grapheme_data gs

@@ -1,10 +1,7 @@
 -- Draws one after the other.
-use Rattle.std.proofs.Common.{◌≡◌, ℕ, List, [], ◌∷◌, ◌++◌, Option, Result, map, refl, sym, ap, subst, ◌∙◌, arith, length-append}
-use Rattle.std.specs.Prelude.{OnOk}
+use Rattle.std.proofs.Common.{◌≡◌, ℕ, List, [], ◌∷◌, ◌++◌, Option, Result, map, refl, sym, ap, subst, ◌∙◌, arith, length-append, OnOk}
 use Rattle.std.specs.Iterator.{Drains}
-use Rattle.std.proofs.lemmas.Grind.{common_steps}
-use Rattle.std.proofs.lemmas.Iterator.{YieldsList, items_from_drains}
-use Rattle.std.proofs.lemmas.Result.{on_ok_weaker}
+use Rattle.std.proofs.lemmas.{Grind.common_steps, Iterator.YieldsList, Iterator.items_from_drains, Result.on_ok_weaker}
 use Rattle.rtui_cell.specs.Grid.{Grid, Update, put, puts}
 use Rattle.rtui_backend.specs.Screen.{Screen, Draws}
 

@@ -1,14 +1,10 @@
 -- Rows of cells that have the symbols of lines.
 use Rattle.std.proofs.Common.{◌≡◌, ℕ, ◌+◌, ◌<◌, List, [], ◌∷◌, ◌++◌, length, get_or, take, map, refl, sym, ap, ap₂, ◌∙◌, arith}
 use Rattle.std.proofs.lemmas.List.{length-map, get_or-map, map_more, ext_get_or}
-use Rattle.rtui_cell.specs.declared.cell.Cell.{Cell}
-use Rattle.rtui_cell.specs.Cell.{empty_cell}
-use Rattle.rtui_cell.specs.Look.{Look, look_of}
-use Rattle.rtui_cell.specs.Symbol.{blank}
+use Rattle.rtui_cell.specs.{declared.cell.Cell.Cell, Cell.empty_cell, Look.Look, Look.look_of, Symbol.blank}
 use Rattle.rtui_text.specs.Text.{line_of, plain}
 use Rattle.rtui_buffer.specs.Line.{line_row}
-use Rattle.rtui_backend.specs.ScreenLines.{symbols_of_line}
-use Rattle.rtui_backend.specs.Inner.{symbol_in, HasLine}
+use Rattle.rtui_backend.specs.{ScreenLines.symbols_of_line, Inner.symbol_in, Inner.HasLine}
 use Rattle.rtui_backend.proofs.LineLemmas.{look_at-cell}
 use Rattle.rtui_buffer.proofs.RowLemmas.{length-row}
 

@@ -1,9 +1,7 @@
 -- Looks of a list of cells.
 use Rattle.std.proofs.Common.{◌≡◌, ℕ, zero, suc, ◌+◌, ◌*◌, ◌<◌, ◌==◌, Bool, true, false, nat_lt, if◌then◌else◌, List, length, set, refl, arith}
-use Rattle.std.proofs.lemmas.List.{length-map, map-set}
-use Rattle.std.proofs.lemmas.Grind.{common_steps}
-use Rattle.rtui_cell.specs.declared.cell.Cell.{Cell}
-use Rattle.rtui_cell.specs.Look.{look_of, empty_look}
+use Rattle.std.proofs.lemmas.{List.length-map, List.map-set, Grind.common_steps}
+use Rattle.rtui_cell.specs.{declared.cell.Cell.Cell, Look.look_of, Look.empty_look}
 use Rattle.rtui_cell.proofs.CellLemmas.{look-empty}
 use Rattle.rtui_buffer.specs.BufferData.{empty_cells}
 use Rattle.rtui_backend.specs.CellGrid.{look_at, grid_of}

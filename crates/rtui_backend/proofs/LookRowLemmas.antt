@@ -1,15 +1,11 @@
 -- The rows of a buffer that is a screen have the looks of the screen's rows.
 use Rattle.std.proofs.Common.{◌≡◌, ℕ, ◌+◌, ◌-◌, ◌*◌, ◌<◌, ◌≤◌, List, map, length, take, drop, sym, ap, ◌∙◌, arith}
 use Rattle.std.proofs.Math.Nat.{mul-le-mul_right}
-use Rattle.std.proofs.lemmas.Bool.Decides.{nat_tests}
-use Rattle.std.proofs.lemmas.List.{length-map, length-take, length-drop}
+use Rattle.std.proofs.lemmas.{Bool.Decides.nat_tests, List.length-map, List.length-take, List.length-drop, List.FromFn.fill_by_all}
 use Rattle.std.specs.List.{range_with_len}
-use Rattle.std.proofs.lemmas.List.FromFn.{fill_by_all}
-use Rattle.rtui_cell.specs.declared.cell.Cell.{Cell}
-use Rattle.rtui_cell.specs.Look.{look_of, empty_look}
+use Rattle.rtui_cell.specs.{declared.cell.Cell.Cell, Look.look_of, Look.empty_look}
 use Rattle.rtui_buffer.specs.BufferData.{BufferData, buffer_row, area_size}
-use Rattle.rtui_backend.specs.Screen.{Screen, seen, row_of}
-use Rattle.rtui_backend.specs.CellGrid.{grid_of, look_at}
+use Rattle.rtui_backend.specs.{Screen.Screen, Screen.seen, Screen.row_of, CellGrid.grid_of, CellGrid.look_at}
 use Rattle.rtui_backend.proofs.SizeLemmas.{row-look}
 
 row-looks-at : (s : Screen) (w b : ℕ) (cells : List Cell) → length (take w (drop (b * w) cells)) ≡ w → b < s.height → ((x y : ℕ) → s.grid x y ≡ grid_of w cells x y)

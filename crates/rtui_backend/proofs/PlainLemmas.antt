@@ -1,13 +1,10 @@
 -- Lists of plain cells.
 use Rattle.std.proofs.Common.{ℕ, zero, suc, List, [], ◌∷◌, ◌++◌, set, refl, sym, subst}
-use Rattle.rtui_cell.specs.declared.cell.Cell.{Cell}
-use Rattle.rtui_cell.specs.Cell.{empty_cell, IsUnmarked}
+use Rattle.rtui_cell.specs.{declared.cell.Cell.Cell, Cell.empty_cell, Cell.IsUnmarked}
 use Rattle.rtui_text.specs.Text.{LineData}
-use Rattle.rtui_buffer.specs.BufferData.{empty_cells}
-use Rattle.rtui_buffer.specs.Line.{line_row, line_rows}
-use Rattle.rtui_buffer.proofs.EmptyLemmas.{cell-empty}
+use Rattle.rtui_buffer.specs.{BufferData.empty_cells, Line.line_row, Line.line_rows}
+use Rattle.rtui_buffer.proofs.{EmptyLemmas.cell-empty, PaintLemmas.unmarked-refl, PaintLemmas.unmarked-painted, PaintLemmas.unmarked-set}
 use Rattle.rtui_backend.specs.CellGrid.{AreUnmarked}
-use Rattle.rtui_buffer.proofs.PaintLemmas.{unmarked-refl, unmarked-painted, unmarked-set}
 
 pub unmarked-empty : IsUnmarked empty_cell
 unmarked-empty = record { option = refl; flag = refl }

@@ -1,9 +1,8 @@
 -- Writing a text piece by piece.
 use Rattle.rtui_cell.specs.Look.{Look}
 use Rattle.std.proofs.Common.{◌≡◌, ap, map, ◌∷◌, ℕ, zero, suc, ◌+◌, ◌-◌, ◌<◌, arith, List, [], ◌++◌, Option, Some, None, Result, Ok, Err, OnOk, refl, append_assoc}
-use Rattle.std.specs.List.{flat_map, range_with_len}
+use Rattle.std.specs.{List.flat_map, List.range_with_len, Io.KnownBytes.Appends}
 use native.Mathlib.Numerals.{unary_clauses}
-use Rattle.std.specs.Io.KnownBytes.{Appends}
 
 -- the writer has taken all but the rest of a text
 abbrev pub HasWritten : Option (List ℕ) → Option (List ℕ) → List ℕ → List ℕ → Type 0

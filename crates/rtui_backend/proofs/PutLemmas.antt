@@ -1,11 +1,7 @@
 -- A cell placed in a row-major list is put on the grid.
 use Rattle.std.proofs.Common.{◌≡◌, ℕ, ◌+◌, ◌*◌, ◌<◌, min, max, ◌==◌, ◌&&◌, nat_lt, if◌then◌else◌, List, inl, inr, arith}
-use Rattle.std.proofs.lemmas.Bool.{cases_lt}
-use Rattle.std.proofs.lemmas.Bool.Decides.{nat_tests}
-use Rattle.rtui_cell.specs.declared.cell.Cell.{Cell}
-use Rattle.rtui_cell.specs.Look.{look_of, empty_look}
-use Rattle.rtui_cell.specs.Cell.{width_of}
-use Rattle.rtui_cell.specs.Grid.{Update, put}
+use Rattle.std.proofs.lemmas.{Bool.cases_lt, Bool.Decides.nat_tests}
+use Rattle.rtui_cell.specs.{declared.cell.Cell.Cell, Look.look_of, Look.empty_look, Cell.width_of, Grid.Update, Grid.put}
 use Rattle.rtui_backend.specs.CellGrid.{look_at, grid_of}
 use Rattle.rtui_grid.proofs.PlaceLemmas.{by_rows}
 

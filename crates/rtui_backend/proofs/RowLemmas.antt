@@ -1,22 +1,14 @@
 -- A row has the symbols of a line where the line's pieces stand in it, with blanks after them.
 use Rattle.std.proofs.Common.{◌≡◌, ◌↔◌, ℕ, suc, ◌+◌, ◌-◌, ◌<◌, ◌≤◌, List, [], ◌∷◌, ◌++◌, length, take, map, refl, sym, ap, subst, ◌∙◌, arith, inl, inr}
-use Rattle.std.proofs.lemmas.Bool.{cases_lt}
-use Rattle.std.proofs.lemmas.List.{length-replicate}
-use Rattle.std.proofs.lemmas.List.Sums.{sum_by-cons}
+use Rattle.std.proofs.lemmas.{Bool.cases_lt, List.length-replicate, List.Sums.sum_by-cons}
 use Rattle.rtui_style.specs.Style.{new_style}
-use Rattle.rtui_cell.specs.declared.cell.Cell.{Cell}
-use Rattle.rtui_cell.specs.Cell.{empty_cell}
-use Rattle.rtui_cell.specs.Look.{look_of}
-use Rattle.rtui_cell.specs.Symbol.{blank}
+use Rattle.rtui_cell.specs.{declared.cell.Cell.Cell, Cell.empty_cell, Look.look_of, Symbol.blank}
 use Rattle.rtui_cell.proofs.CellLemmas.{look-empty}
 use Rattle.rtui_diff.specs.Cells.{cell}
 use Rattle.rtui_text.specs.Text.{line_of, plain}
-use Rattle.rtui_buffer.specs.BufferData.{empty_cells}
+use Rattle.rtui_buffer.specs.{BufferData.empty_cells, Line.line_pieces, Line.line_row}
 use Rattle.rtui_buffer.specs.Painting.{Piece, piece_width, piece_at, place_of, columns, AreWide, shown, painted, HasPieces}
-use Rattle.rtui_buffer.specs.Line.{line_pieces, line_row}
-use Rattle.rtui_buffer.proofs.EmptyLemmas.{cell-empty}
-use Rattle.rtui_buffer.proofs.PaintedLemmas.{HasPieces-painted}
-use Rattle.rtui_buffer.proofs.LineLemmas.{columns-line, AreWide-line}
+use Rattle.rtui_buffer.proofs.{EmptyLemmas.cell-empty, PaintedLemmas.HasPieces-painted, LineLemmas.columns-line, LineLemmas.AreWide-line}
 use Rattle.rtui_backend.specs.Inner.{symbol_in, AreBlank, Stand, HasLine}
 use Rattle.rtui_backend.proofs.LineLemmas.{look_at-cell}
 

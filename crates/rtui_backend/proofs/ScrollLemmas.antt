@@ -1,7 +1,6 @@
 -- The rows above a row, and what a scroll does to them.
 use Rattle.std.proofs.Common.{◌≡◌, ℕ, ◌+◌, ◌++◌, ◌<◌, map, sym, ap, ◌∙◌, arith, append_assoc, inl, inr}
-use Rattle.std.proofs.lemmas.Bool.{cases_lt}
-use Rattle.std.proofs.lemmas.Bool.Decides.{nat_tests}
+use Rattle.std.proofs.lemmas.{Bool.cases_lt, Bool.Decides.nat_tests}
 use Rattle.std.specs.List.{range_with_len}
 use Rattle.rtui_backend.specs.Screen.{Screen, seen, row_of, rows_above, Scrolls}
 use Rattle.rtui_grid.proofs.RangeLemmas.{map_same, places_split}

@@ -1,29 +1,17 @@
 -- Cells that move, or are emptied, and what their grid shows then.
-use Rattle.std.proofs.Common.{◌≡◌, ◌∷◌, zero, suc, ℕ, true, false, ◌+◌, ◌*◌, ◌<◌, ◌≤◌, ◌++◌, ◌&&◌, min, nat_lt, Bool, List, [], append-nil, length, map, take, refl, sym, ap, ◌∙◌, arith, inl, inr, length-take, if◌then◌else◌}
-use Rattle.std.specs.Prelude.{nat_le}
+use Rattle.std.proofs.Common.{◌≡◌, ◌∷◌, zero, suc, ℕ, true, false, ◌+◌, ◌*◌, ◌<◌, ◌≤◌, ◌++◌, ◌&&◌, min, nat_lt, Bool, List, [], append-nil, length, map, take, refl, sym, ap, ◌∙◌, arith, inl, inr, length-take, if◌then◌else◌, nat_le}
 use Rattle.std.specs.List.{range_with_len}
 use Rattle.std.proofs.Math.Nat.{mul-le-mul_right}
-use Rattle.std.proofs.lemmas.Nat.{mul-add-lt}
-use Rattle.std.proofs.lemmas.List.Elements.{All-append}
-use Rattle.std.proofs.lemmas.List.{map-append, get_or-take, take_all}
-use Rattle.std.proofs.lemmas.Bool.{cases_lt}
-use Rattle.std.proofs.lemmas.Bool.Decides.{nat_tests}
-use Rattle.rtui_grid.proofs.ItemLemmas.{past_end}
+use Rattle.std.proofs.lemmas.{Nat.mul-add-lt, List.Elements.All-append, List.map-append, List.get_or-take, List.take_all, Bool.cases_lt, Bool.Decides.nat_tests}
+use Rattle.rtui_grid.proofs.{ItemLemmas.past_end, PlaceLemmas.row_ends, PlaceLemmas.by_rows, RangeLemmas.map_same}
 use Rattle.rtui_grid.specs.Items.{item_at}
-use Rattle.rtui_grid.proofs.PlaceLemmas.{row_ends, by_rows}
-use Rattle.rtui_cell.specs.declared.cell.Cell.{Cell}
-use Rattle.rtui_cell.specs.Cell.{empty_cell, IsUnmarked}
-use Rattle.rtui_cell.specs.Look.{look_of, empty_look}
+use Rattle.rtui_cell.specs.{declared.cell.Cell.Cell, Cell.empty_cell, Cell.IsUnmarked, Look.look_of, Look.empty_look}
 use Rattle.rtui_cell.proofs.CellLemmas.{look-empty}
 use Rattle.rtui_diff.specs.Cells.{cell}
 use Rattle.rtui_backend.specs.declared.clear_type.ClearType.TheVariants.{AfterCursor, BeforeCursor, CurrentLine, UntilNewLine}
-use Rattle.rtui_backend.specs.Clear.{is_cleared}
-use Rattle.rtui_backend.specs.Screen.{Motion, moved_by}
+use Rattle.rtui_backend.specs.{Clear.is_cleared, Screen.Motion, Screen.moved_by}
 use Rattle.rtui_backend.specs.CellGrid.{look_at, grid_of, AreUnmarked, AreUnmarkedRows}
-use Rattle.rtui_backend.proofs.LineLemmas.{look_at-cell}
-use Rattle.rtui_backend.proofs.MotionLemmas.{moved-through, moved-along}
-use Rattle.rtui_backend.proofs.PlainLemmas.{unmarked-empty}
-use Rattle.rtui_grid.proofs.RangeLemmas.{map_same}
+use Rattle.rtui_backend.proofs.{LineLemmas.look_at-cell, MotionLemmas.moved-through, MotionLemmas.moved-along, PlainLemmas.unmarked-empty}
 
 -- what a cell shows in a column
 grid_at : (w x y : ℕ) (cells : List Cell) → x < w → grid_of w cells x y ≡ look_of (item_at empty_cell w cells x y)

@@ -1,20 +1,14 @@
 -- A block of cells that moves to a list of empty ones, and a row cut out of a list.
 use Rattle.std.proofs.Common.{◌≡◌, ℕ, ◌+◌, ◌-◌, ◌*◌, ◌<◌, ◌/◌, ◌%◌, Bool, true, false, min, nat_lt, if◌then◌else◌, List, length, take, drop, subst, ap, ◌∙◌, sym, arith, inl, inr}
 use Rattle.std.proofs.Math.Nat.{div-add-mod}
-use Rattle.std.proofs.lemmas.Bool.{cases_lt}
-use Rattle.std.proofs.lemmas.Bool.Decides.{nat_tests}
-use Rattle.std.proofs.lemmas.List.{get_or-take, get_or-drop}
-use Rattle.rtui_grid.specs.declared.block.Block.{Block}
-use Rattle.rtui_grid.specs.Blocks.{is_in_block, HasBlock}
+use Rattle.std.proofs.lemmas.{Bool.cases_lt, Bool.Decides.nat_tests, List.get_or-take, List.get_or-drop}
+use Rattle.rtui_grid.specs.{declared.block.Block.Block, Blocks.is_in_block, Blocks.HasBlock}
 use Rattle.rtui_grid.proofs.ItemLemmas.{past_end}
-use Rattle.rtui_cell.specs.declared.cell.Cell.{Cell}
-use Rattle.rtui_cell.specs.Cell.{empty_cell, IsUnmarked}
-use Rattle.rtui_cell.specs.Look.{look_of, empty_look}
+use Rattle.rtui_cell.specs.{declared.cell.Cell.Cell, Cell.empty_cell, Cell.IsUnmarked, Look.look_of, Look.empty_look}
 use Rattle.rtui_cell.proofs.CellLemmas.{look-empty}
 use Rattle.rtui_diff.specs.Cells.{cell}
 use Rattle.rtui_backend.specs.CellGrid.{look_at, grid_of, AreUnmarked}
-use Rattle.rtui_backend.proofs.LineLemmas.{look_at-cell}
-use Rattle.rtui_backend.proofs.PlainLemmas.{unmarked-empty}
+use Rattle.rtui_backend.proofs.{LineLemmas.look_at-cell, PlainLemmas.unmarked-empty}
 
 -- the columns and rows that two sizes share
 abbrev pub shared : ℕ → ℕ → ℕ → ℕ → Block

@@ -1,8 +1,7 @@
 -- How the walk along a row goes on.
 use Rattle.std.proofs.Common.{◌≡◌, ◌↔◌, ℕ, ◌+◌, ◌-◌, ◌<◌, ◌≤◌, true, Bool, List, [], ◌∷◌, ◌++◌, map, Option, Some, None, sym, ap, ◌∙◌, arith, append_assoc}
 use Rattle.std.specs.Borrow.{Bor}
-use Rattle.std.proofs.lemmas.List.{map-append, append-nil}
-use Rattle.std.proofs.lemmas.List.Sums.{sum_by-cons}
+use Rattle.std.proofs.lemmas.{List.map-append, List.append-nil, List.Sums.sum_by-cons}
 use Rattle.rtui_style.specs.Style.{new_style}
 use Rattle.rtui_text.specs.Text.{plain, line_of}
 use Rattle.rtui_cell.specs.Width.{text_width}

@@ -1,10 +1,7 @@
 -- The grid that a row-major list of cells stands for.
 use Rattle.std.specs.Prelude.{ℕ, ◌+◌, ◌*◌, nat_lt, if◌then◌else◌, List, map, All, slice_index_or}
-use Rattle.rtui_cell.specs.declared.cell.Cell.{Cell}
-use Rattle.rtui_cell.specs.Cell.{IsUnmarked}
+use Rattle.rtui_cell.specs.{declared.cell.Cell.Cell, Cell.IsUnmarked, Look.Look, Look.look_of, Look.empty_look, Grid.Grid}
 use Rattle.rtui_diff.specs.Cells.{cell}
-use Rattle.rtui_cell.specs.Look.{Look, look_of, empty_look}
-use Rattle.rtui_cell.specs.Grid.{Grid}
 
 -- the look at a place, and the empty one past the end
 abbrev pub look_at : List Cell → ℕ → Look

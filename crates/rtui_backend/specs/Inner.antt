@@ -1,14 +1,9 @@
 -- What private functions promise one another: when a row of symbols has the pieces of a line.
 use Rattle.std.specs.Prelude.{◌≡◌, ⊤, ℕ, ◌+◌, ◌<◌, ◌≤◌, List, [], ◌∷◌, map, Option, MatchOption}
-use Rattle.rtui_cell.specs.declared.cell.Cell.{Cell}
-use Rattle.rtui_cell.specs.Symbol.{blank}
-use Rattle.rtui_cell.specs.Look.{look_of}
-use Rattle.rtui_cell.specs.Width.{text_width}
+use Rattle.rtui_cell.specs.{declared.cell.Cell.Cell, Symbol.blank, Look.look_of, Width.text_width}
 use Rattle.rtui_text.specs.Text.{LineData}
-use Rattle.rtui_buffer.specs.Painting.{Piece, piece_width, columns}
-use Rattle.rtui_buffer.specs.Line.{line_row}
-use Rattle.rtui_backend.specs.CellGrid.{look_at}
-use Rattle.rtui_backend.specs.ScreenLines.{symbols_of_line}
+use Rattle.rtui_buffer.specs.{Painting.Piece, Painting.piece_width, Painting.columns, Line.line_row}
+use Rattle.rtui_backend.specs.{CellGrid.look_at, ScreenLines.symbols_of_line}
 
 -- the symbol at a place of a list of cells, blank past the end
 abbrev pub symbol_in : List Cell → ℕ → List ℕ

@@ -1,8 +1,7 @@
 -- The printed text of a screen.
 use Rattle.std.specs.Prelude.{ℕ, zero, suc, ◌-◌, List, [], ◌∷◌, ◌++◌, codes}
 use Rattle.std.specs.List.{flat_map, range_with_len}
-use Rattle.rtui_cell.specs.Look.{Look}
-use Rattle.rtui_cell.specs.Width.{text_width}
+use Rattle.rtui_cell.specs.{Look.Look, Width.text_width}
 use Rattle.rtui_backend.specs.Screen.{Screen, row_of}
 
 -- the symbols of a row from left to right, but for the first few columns and those after a wide symbol

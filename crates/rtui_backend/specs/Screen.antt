@@ -1,14 +1,9 @@
 -- What a screen is, and what each call of a backend does to it.
 use Rattle.std.specs.Prelude.{◌≡◌, ℕ, ◌+◌, ◌-◌, ◌^◌, ◌<◌, ◌≤◌, min, Bool, ◌++◌, ◌&&◌, ◌==◌, nat_le, map, nat_lt, if◌then◌else◌, true, false, List, [], length}
 use Rattle.std.specs.List.{range_with_len}
-use Rattle.rtui_geometry.specs.declared.position.Position.{Position}
-use Rattle.rtui_geometry.specs.declared.rect.Rect.{Rect}
-use Rattle.rtui_geometry.specs.declared.size.Size.{Size}
-use Rattle.rtui_geometry.specs.Rect.{HasPosition}
-use Rattle.rtui_cell.specs.Look.{Look, empty_look}
-use Rattle.rtui_cell.specs.Grid.{Grid, Update, puts}
-use Rattle.rtui_backend.specs.declared.clear_type.ClearType.{ClearType}
-use Rattle.rtui_backend.specs.Clear.{is_cleared}
+use Rattle.rtui_geometry.specs.{declared.position.Position.Position, declared.rect.Rect.Rect, declared.size.Size.Size, Rect.HasPosition}
+use Rattle.rtui_cell.specs.{Look.Look, Look.empty_look, Grid.Grid, Grid.Update, Grid.puts}
+use Rattle.rtui_backend.specs.{declared.clear_type.ClearType.ClearType, Clear.is_cleared}
 
 -- the rows that scrolled off, a grid of looks, a cursor, and how many items were drawn
 pub record Screen : Type 0 where

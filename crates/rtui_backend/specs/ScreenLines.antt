@@ -3,8 +3,7 @@ use Rattle.std.specs.Prelude.{◌≡◌, ℕ, ◌<◌, true, List, [], length, m
 use Rattle.rtui_cell.specs.Look.{look_of}
 use Rattle.rtui_text.specs.Text.{LineData}
 use Rattle.rtui_buffer.specs.Line.{line_row, line_rows, line_at, widest}
-use Rattle.rtui_backend.specs.Screen.{Screen, cursor_of}
-use Rattle.rtui_backend.specs.CellGrid.{look_at, grid_of}
+use Rattle.rtui_backend.specs.{Screen.Screen, Screen.cursor_of, CellGrid.look_at, CellGrid.grid_of}
 
 -- the symbol in each column of a row of a screen
 abbrev pub symbols_in : Screen → ℕ → ℕ → List ℕ

@@ -1,13 +1,9 @@
 -- What a `TestBackend` stands for.
 use Rattle.std.specs.Prelude.{◌≡◌, ◌↔◌, ℕ, ◌-◌, ◌==◌, if◌then◌else◌, map, Option, Some, None, Result, Err, MatchResult, OnErr, List}
 use Rattle.std.specs.Iterator.{Yields}
-use Rattle.rtui_cell.specs.Look.{look_of}
-use Rattle.rtui_cell.specs.Grid.{Update}
+use Rattle.rtui_cell.specs.{Look.look_of, Grid.Update}
 use Rattle.rtui_buffer.specs.BufferData.{BufferData}
-use Rattle.rtui_backend.specs.Screen.{Screen, Draws}
-use Rattle.rtui_backend.specs.CellGrid.{grid_of}
-use Rattle.rtui_backend.specs.declared.test.TestBackend.{TestBackend}
-use Rattle.rtui_backend.specs.declared.test.TestError.{TestError}
+use Rattle.rtui_backend.specs.{Screen.Screen, Screen.Draws, CellGrid.grid_of, declared.test.TestBackend.TestBackend, declared.test.TestError.TestError}
 use Rattle.rtui_backend.specs.declared.test.TestError.TheVariants.{Told}
 
 -- its screen

@@ -1,19 +1,13 @@
 -- Strokes over the cells of an area, one after the other.
 use Rattle.std.proofs.Common.{◌≡◌, ℕ, ◌-◌, ◌⊎◌, ⊎_elim, inl, inr, Bool, true, false, if◌then◌else◌, List, [], ◌∷◌, ◌++◌, refl, sym, ap, subst, ◌∙◌, arith, min, Result, Ok, Err, OnOk, OnErr, IsOk, IsErr}
-use Rattle.std.proofs.lemmas.Bool.{false_from_ne_true}
-use Rattle.std.proofs.lemmas.Bool.Decides.{nat_tests}
+use Rattle.std.proofs.lemmas.{Bool.false_from_ne_true, Bool.Decides.nat_tests}
 use Rattle.std.specs.declared.alloc.AllocError.{AllocError}
 use Rattle.ratatui_core.specs.Layout.{Rect, Position, HasPosition, right_edge, bottom_edge, IsInside}
 use Rattle.ratatui_core.specs.Buffer.{BufferData, Cell, cell_in, joined, IsShort}
-use Rattle.ratatui_core.specs.Widgets.{ChangesWithin}
-use Rattle.rtui_boxes.specs.declared.block.Block.{Block}
-use Rattle.ratatui_core.specs.Buffer.{ChangesEach, AreLight, MakesEach}
-use Rattle.ratatui_core.specs.Layout.{intersected}
-use Rattle.ratatui_core.specs.Buffer.{IsStyled, styled}
+use Rattle.ratatui_core.specs.{Widgets.ChangesWithin, Buffer.ChangesEach, Buffer.AreLight, Buffer.MakesEach, Layout.intersected, Buffer.IsStyled, Buffer.styled}
+use Rattle.rtui_boxes.specs.{declared.block.Block.Block, Titles.RendersTitles, declared.title.TitlePosition.TitlePosition}
 use Rattle.ratatui_core.specs.Widgets.{IsClipped}
 use Rattle.ratatui_core.proofs.WidgetLemmas.{within-styled, within-then, OnPart-none, OnPart-clipped}
-use Rattle.rtui_boxes.specs.Titles.{RendersTitles}
-use Rattle.rtui_boxes.specs.declared.title.TitlePosition.{TitlePosition}
 use Rattle.rtui_boxes.specs.declared.title.TitlePosition.TheVariants.{Top, Bottom}
 use Rattle.rtui_boxes.specs.Boxes.{Stroke, stroke, strokes, is_in, strikes, stroked, drawn, IsShortUnder, DrawsStrokes, IsBoxArea, titles_area, has_title, IsOffTitles, KeepsOffTitles, box_cell, placed_titles, RendersTitled, RendersBlock, IsShortBlock}
 use Rattle.ratatui_core.proofs.BufferLemmas.{Changes-within, within-same, within-wider, on-ok}

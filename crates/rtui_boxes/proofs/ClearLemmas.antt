@@ -3,8 +3,7 @@ use Rattle.std.proofs.Common.{◌≡◌, ℕ, ◌+◌, ◌<◌, ◌⊎◌, ⊎_e
 use Rattle.ratatui_core.specs.Layout.{Rect, Position, HasPosition, EdgesFit}
 use Rattle.ratatui_core.specs.Buffer.{BufferData, cell, cell_at, cell_index, empty_cell, width_of, is_skipped, is_same, IsSettled, IsSettledBuffer, IsBlankOrSkipped, position_of}
 use Rattle.ratatui_core.proofs.BufferLemmas.{width-empty, same-empty, index-at}
-use Rattle.rtui_boxes.specs.Clears.{RendersClear}
-use Rattle.rtui_boxes.specs.Boxes.{is_in}
+use Rattle.rtui_boxes.specs.{Clears.RendersClear, Boxes.is_in}
 use Rattle.rtui_boxes.proofs.BoxLemmas.{test-cases, is_in-true, is_in-has}
 
 module _ (area : Rect) (old new : BufferData) (edges : EdgesFit old.area) (is : RendersClear area old new) (was : IsSettledBuffer old) where

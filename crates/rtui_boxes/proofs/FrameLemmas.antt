@@ -3,16 +3,12 @@ use Rattle.std.proofs.Common.{◌≡◌, ℕ, ◌+◌, ◌-◌, ◌<◌, ◌≤�
 use Rattle.std.proofs.lemmas.Bool.{cases_lt}
 use Rattle.std.specs.declared.alloc.AllocError.{AllocError}
 use Rattle.ratatui_core.specs.Layout.{Rect, HasPosition, IsInside, intersected}
-use Rattle.ratatui_core.specs.Style.{Style}
-use Rattle.ratatui_core.specs.Buffer.{BufferData, IsStyled}
-use Rattle.ratatui_core.specs.Widgets.{ChangesWithin, IsClipped}
-use Rattle.ratatui_core.proofs.BufferLemmas.{within-wider}
-use Rattle.ratatui_core.proofs.WidgetLemmas.{within-then, OnPart-clipped}
+use Rattle.ratatui_core.specs.{Style.Style, Buffer.BufferData, Buffer.IsStyled, Widgets.ChangesWithin, Widgets.IsClipped}
+use Rattle.ratatui_core.proofs.{BufferLemmas.within-wider, WidgetLemmas.within-then, WidgetLemmas.OnPart-clipped}
 use Rattle.rtui_boxes.specs.declared.block.Block.{Block}
 use Rattle.rtui_boxes.specs.Boxes.{IsBoxArea, IsShortBlock, inner_of, is_in}
 use Rattle.rtui_boxes.specs.Framed.{inner_if, IsFramed, IsBare, IsInner, InFrame, RendersInFrame, IsUntitledShort, IsShortFrame}
-use Rattle.rtui_boxes.proofs.BoxLemmas.{is_in-true, is_in-has, test-cases}
-use Rattle.rtui_boxes.proofs.ShortLemmas.{short-box}
+use Rattle.rtui_boxes.proofs.{BoxLemmas.is_in-true, BoxLemmas.is_in-has, BoxLemmas.test-cases, ShortLemmas.short-box}
 
 pub if-short : (o : Option Block) (b : Block) (area : Rect) (s : BufferData) → o ≡ Some b → IsShortFrame o s → IsShortBlock b area s
 if-short o b area s e short =

@@ -2,16 +2,11 @@
 use Rattle.std.proofs.Common.{◌≡◌, ◌<◌, ◌≤◌, ◌⊎◌, ⊎_elim, inl, inr, Option, Some, None, refl, ap, ◌∙◌, arith}
 use Rattle.std.proofs.lemmas.Bool.{cases_lt}
 use Rattle.ratatui_core.specs.Layout.{Rect, EdgesFit, IsInside, intersected}
-use Rattle.ratatui_core.specs.Style.{Style}
-use Rattle.ratatui_core.specs.Buffer.{BufferData, IsPlainFrom, IsSettledBuffer}
-use Rattle.ratatui_core.specs.Widgets.{IsClipped}
+use Rattle.ratatui_core.specs.{Style.Style, Buffer.BufferData, Buffer.IsPlainFrom, Buffer.IsSettledBuffer, Widgets.IsClipped}
 use Rattle.ratatui_core.proofs.BufferLemmas.{settled-plain}
-use Rattle.rtui_boxes.specs.declared.block.Block.{Block}
-use Rattle.rtui_boxes.specs.Boxes.{IsBoxArea, IsPlainIfBox}
+use Rattle.rtui_boxes.specs.{declared.block.Block.Block, Boxes.IsBoxArea, Boxes.IsPlainIfBox}
 use Rattle.rtui_boxes.specs.Framed.{inner_if, RendersIfBox, IsFramed, IsBare, RendersInFrame}
-use Rattle.rtui_boxes.proofs.BoxLemmas.{box-area}
-use Rattle.rtui_boxes.proofs.FrameLemmas.{inner-in}
-use Rattle.rtui_boxes.proofs.PlainBoxLemmas.{plain-laid, plain-box}
+use Rattle.rtui_boxes.proofs.{BoxLemmas.box-area, FrameLemmas.inner-in, PlainBoxLemmas.plain-laid, PlainBoxLemmas.plain-box}
 
 plain-boxed : (o : Option Block) (r : Rect) (old new : BufferData) → IsPlainIfBox o → IsPlainFrom 0 old → RendersIfBox o r old new → IsPlainFrom 0 new
 plain-boxed None r old new is plain same = rw same plain

@@ -1,19 +1,14 @@
 -- A plain box keeps cells plain.
 use Rattle.std.proofs.Common.{◌≡◌, ℕ, ◌+◌, ◌-◌, ◌/◌, ◌==◌, ◌<◌, ◌≤◌, ◌⊎◌, ⊎_elim, inl, inr, Bool, true, false, if◌then◌else◌, nat_le, List, [], ◌∷◌, ◌++◌, filter, reverse, All, sym, subst, arith}
-use Rattle.std.proofs.lemmas.Bool.{cases_lt}
-use Rattle.std.proofs.lemmas.List.{reverse-append}
+use Rattle.std.proofs.lemmas.{Bool.cases_lt, List.reverse-append}
 use Rattle.std.proofs.lemmas.List.Elements.{All-nil, All-cons, All-head, All-tail, All-append, All-map, All-filter}
 use Rattle.ratatui_core.specs.Layout.{Rect, Position, HasPosition, intersected}
 use Rattle.ratatui_core.specs.declared.layout.HorizontalAlignment.{HorizontalAlignment}
 use Rattle.ratatui_core.specs.declared.layout.HorizontalAlignment.TheVariants.{Left, Center, Right}
-use Rattle.ratatui_core.specs.Style.{Style}
-use Rattle.ratatui_core.specs.Text.{LineData}
+use Rattle.ratatui_core.specs.{Style.Style, Text.LineData, declared.symbols.merge.MergeStrategy.MergeStrategy}
 use Rattle.ratatui_core.specs.Buffer.{BufferData, Cell, cell_in, joined, styled, with_symbol, symbol_text, width_of, text_width, IsStyled, IsNarrowLine, IsPlain, IsPlainFrom}
-use Rattle.ratatui_core.specs.declared.symbols.merge.MergeStrategy.{MergeStrategy}
 use Rattle.ratatui_core.proofs.BufferLemmas.{plain-styled, plain-with_symbol, plain-if, joined-columns, has-or-not, line-stays}
-use Rattle.rtui_boxes.specs.declared.block.Block.{Block}
-use Rattle.rtui_boxes.specs.declared.title.Title.{Title}
-use Rattle.rtui_boxes.specs.declared.title.TitlePosition.{TitlePosition}
+use Rattle.rtui_boxes.specs.{declared.block.Block.Block, declared.title.Title.Title, declared.title.TitlePosition.TitlePosition}
 use Rattle.rtui_boxes.specs.declared.title.TitlePosition.TheVariants.{Top, Bottom}
 use Rattle.rtui_boxes.specs.Titles.{PlacedTitle, RendersTitles, title_at, title_width, titles_width, first_columns, last_columns, without_first, without_last, shown_width, side_of, aligned, from_left, from_right, from_outside, from_centre}
 use Rattle.rtui_boxes.specs.Boxes.{Stroke, strokes, stroked, strikes, drawn, is_in, box_cell, is_placed, lines_placed, row_titles, placed_titles, titles_area, IsPlainBox, RendersTitled, RendersBlock}

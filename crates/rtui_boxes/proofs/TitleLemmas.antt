@@ -1,22 +1,12 @@
 -- Titles rendered in turn: what is done so far, and what is left.
 use Rattle.std.proofs.Common.{◌≡◌, ℕ, ◌+◌, ◌-◌, ◌<◌, ◌≤◌, ◌==◌, Bool, true, false, if◌then◌else◌, nat_le, ◌/◌, List, [], ◌∷◌, ◌++◌, reverse, length, take, drop, slice_index_or, refl, sym, ap, subst, ◌∙◌, arith}
 use Rattle.std.specs.List.{list_any}
-use Rattle.std.proofs.lemmas.Bool.{or_parts}
-use Rattle.std.proofs.lemmas.Bool.Decides.{nat_tests}
-use Rattle.std.proofs.lemmas.List.{drop_more, take_more, reverse-append}
-use Rattle.std.proofs.lemmas.List.Folds.{list_any-append}
-use Rattle.ratatui_core.specs.Layout.{Rect, IsInside}
-use Rattle.ratatui_core.specs.declared.layout.HorizontalAlignment.{HorizontalAlignment}
+use Rattle.std.proofs.lemmas.{Bool.or_parts, Bool.Decides.nat_tests, List.drop_more, List.take_more, List.reverse-append, List.Folds.list_any-append}
+use Rattle.ratatui_core.specs.{Layout.Rect, Layout.IsInside, declared.layout.HorizontalAlignment.HorizontalAlignment}
 use Rattle.ratatui_core.specs.declared.layout.HorizontalAlignment.TheVariants.{Left, Center, Right}
-use Rattle.ratatui_core.specs.Style.{Style}
-use Rattle.ratatui_core.specs.Text.{LineData}
-use Rattle.ratatui_core.specs.Buffer.{BufferData}
-use Rattle.ratatui_core.specs.Widgets.{ChangesWithin}
-use Rattle.ratatui_core.proofs.BufferLemmas.{within-wider}
-use Rattle.ratatui_core.proofs.WidgetLemmas.{within-then}
-use Rattle.rtui_boxes.specs.declared.block.Block.{Block}
-use Rattle.rtui_boxes.specs.declared.title.Title.{Title}
-use Rattle.rtui_boxes.specs.declared.title.TitlePosition.{TitlePosition}
+use Rattle.ratatui_core.specs.{Style.Style, Text.LineData, Buffer.BufferData, Widgets.ChangesWithin}
+use Rattle.ratatui_core.proofs.{BufferLemmas.within-wider, WidgetLemmas.within-then}
+use Rattle.rtui_boxes.specs.{declared.block.Block.Block, declared.title.Title.Title, declared.title.TitlePosition.TitlePosition}
 use Rattle.rtui_boxes.specs.declared.title.TitlePosition.TheVariants.{Top, Bottom}
 use Rattle.rtui_boxes.specs.Titles.{PlacedTitle, title_at, title_width, titles_width, from_centre, first_columns, last_columns, without_first, without_last, from_left, from_right, from_outside, shown_width, side_of, aligned, RendersTitle, RendersTitles}
 use Rattle.rtui_boxes.specs.Boxes.{is_in_row, has_title, is_placed, lines_placed, row_titles, placed_titles, titles_area}

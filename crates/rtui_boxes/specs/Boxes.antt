@@ -1,23 +1,15 @@
 -- A box: which symbols stand where, and what is inside.
 use Rattle.std.specs.Prelude.{◌≡◌, ℕ, Bool, true, false, ◌&&◌, ◌||◌, ◌==◌, ◌+◌, ◌-◌, ◌≤◌, ◌<◌, nat_le, nat_lt, min, Option, Some, None, List, [], ◌∷◌, ◌++◌, if◌then◌else◌, unwrap_or, map, filter, reverse, All, ⊤, Result, IsOk, OnOk}
-use Rattle.std.specs.List.{list_any}
-use Rattle.std.specs.Int.RustNames.{bit_and}
+use Rattle.std.specs.{List.list_any, Int.RustNames.bit_and, declared.alloc.AllocError.AllocError}
 use Rattle.ratatui_core.specs.Layout.{Rect, Position, HasPosition, right_edge, bottom_edge, intersected}
-use Rattle.ratatui_core.specs.Style.{Style, new_style}
-use Rattle.ratatui_core.specs.Text.{LineData}
-use Rattle.ratatui_core.specs.declared.layout.HorizontalAlignment.{HorizontalAlignment}
+use Rattle.ratatui_core.specs.{Style.Style, Style.new_style, Text.LineData, declared.layout.HorizontalAlignment.HorizontalAlignment}
 use Rattle.ratatui_core.specs.declared.layout.HorizontalAlignment.TheVariants.{Left, Center, Right}
-use Rattle.ratatui_core.specs.Widgets.{ChangesWithin, OnPart}
-use Rattle.std.specs.declared.alloc.AllocError.{AllocError}
+use Rattle.ratatui_core.specs.{Widgets.ChangesWithin, Widgets.OnPart, declared.symbols.merge.MergeStrategy.MergeStrategy}
 use Rattle.ratatui_core.specs.Buffer.{BufferData, Cell, MakesEach, place_at, position_of, cell_in, styled, with_symbol, joined, symbol_text, text_width, IsShort, IsNarrowLine}
-use Rattle.ratatui_core.specs.declared.symbols.merge.MergeStrategy.{MergeStrategy}
 use Rattle.ratatui_core.specs.declared.symbols.merge.MergeStrategy.TheVariants.{Replace, Exact, Fuzzy}
-use Rattle.rtui_boxes.specs.declared.borders.Borders.{Borders}
-use Rattle.rtui_boxes.specs.declared.block.Block.{Block}
-use Rattle.rtui_boxes.specs.declared.title.Title.{Title}
+use Rattle.rtui_boxes.specs.{declared.borders.Borders.Borders, declared.block.Block.Block, declared.title.Title.Title}
 use Rattle.rtui_boxes.specs.declared.title.TitlePosition.{TitlePosition}
-use Rattle.rtui_boxes.specs.declared.title.TitlePosition.TheVariants.{Top, Bottom}
-use Rattle.rtui_boxes.specs.Borders.{sides_of}
+use Rattle.rtui_boxes.specs.{declared.title.TitlePosition.TheVariants.Top, declared.title.TitlePosition.TheVariants.Bottom, Borders.sides_of}
 use Rattle.rtui_boxes.specs.Titles.{PlacedTitle, RendersTitles, is_same_alignment, from_left, from_centre, from_right}
 
 -- a box with these sides and plain lines, without titles, styles and padding

@@ -1,6 +1,5 @@
 -- What clearing makes of a buffer.
-use Rattle.ratatui_core.specs.Layout.{Rect}
-use Rattle.ratatui_core.specs.Buffer.{BufferData, ChangesEach, empty_cell}
+use Rattle.ratatui_core.specs.{Layout.Rect, Buffer.BufferData, Buffer.ChangesEach, Buffer.empty_cell}
 
 -- each cell of the area that the buffer has is empty, and all else is as before
 abbrev pub RendersClear : Rect → BufferData → BufferData → Type 0

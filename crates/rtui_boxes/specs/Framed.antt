@@ -1,9 +1,6 @@
 -- A style and a box over a part of a buffer, and what is left to a widget inside.
 use Rattle.std.specs.Prelude.{◌≡◌, ℕ, ◌⊎◌, ◌<◌, [], Option, Some, None, ⊤}
-use Rattle.ratatui_core.specs.Layout.{Rect, IsInside}
-use Rattle.ratatui_core.specs.Style.{Style}
-use Rattle.ratatui_core.specs.Buffer.{BufferData, IsStyled}
-use Rattle.ratatui_core.specs.Widgets.{ChangesWithin, OnPart}
+use Rattle.ratatui_core.specs.{Layout.Rect, Layout.IsInside, Style.Style, Buffer.BufferData, Buffer.IsStyled, Widgets.ChangesWithin, Widgets.OnPart}
 use Rattle.rtui_boxes.specs.declared.block.Block.{Block}
 use Rattle.rtui_boxes.specs.Boxes.{inner_of, rows_around, RendersBlock, IsBoxArea, HasShortSymbols, AreShortCells}
 

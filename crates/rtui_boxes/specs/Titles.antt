@@ -1,12 +1,8 @@
 -- Titles in a row: where each stands, and what they make of a buffer.
 use Rattle.std.specs.Prelude.{◌≡◌, ℕ, Bool, true, false, ◌+◌, ◌-◌, ◌/◌, ◌==◌, nat_le, min, List, [], ◌∷◌, Some, if◌then◌else◌, sum_by}
-use Rattle.ratatui_core.specs.Layout.{Rect}
-use Rattle.ratatui_core.specs.declared.layout.HorizontalAlignment.{HorizontalAlignment}
+use Rattle.ratatui_core.specs.{Layout.Rect, declared.layout.HorizontalAlignment.HorizontalAlignment}
 use Rattle.ratatui_core.specs.declared.layout.HorizontalAlignment.TheVariants.{Left, Center, Right}
-use Rattle.ratatui_core.specs.Style.{Style}
-use Rattle.ratatui_core.specs.Text.{LineData, line_width}
-use Rattle.ratatui_core.specs.Buffer.{BufferData, IsStyled}
-use Rattle.ratatui_core.specs.Widgets.{RendersLine}
+use Rattle.ratatui_core.specs.{Style.Style, Text.LineData, Text.line_width, Buffer.BufferData, Buffer.IsStyled, Widgets.RendersLine}
 
 -- whether both alignments are the same
 abbrev pub is_same_alignment : HorizontalAlignment → HorizontalAlignment → Bool

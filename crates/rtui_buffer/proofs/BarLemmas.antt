@@ -1,22 +1,14 @@
 -- A bar in the first row of an empty buffer, pieces painted on it, and a screen that shows them.
-use Rattle.std.proofs.Common.{◌≡◌, ℕ, ◌+◌, ◌-◌, ◌<◌, ◌≤◌, ⊎_elim, inr, Bool, true, false, cond, List, length, take, refl, ap, subst, ◌∙◌, arith}
-use Rattle.std.specs.Prelude.{nat_lt}
-use Rattle.std.proofs.lemmas.Bool.{cases_lt}
-use Rattle.std.proofs.lemmas.Bool.Decides.{nat_tests}
-use Rattle.rtui_geometry.specs.declared.position.Position.{Position}
-use Rattle.rtui_geometry.specs.declared.rect.Rect.{Rect}
-use Rattle.rtui_geometry.specs.Rect.{HasPosition, EdgesFit, corner}
+use Rattle.std.proofs.Common.{◌≡◌, ℕ, ◌+◌, ◌-◌, ◌<◌, ◌≤◌, ⊎_elim, inr, Bool, true, false, cond, List, length, take, refl, ap, subst, ◌∙◌, arith, nat_lt}
+use Rattle.std.proofs.lemmas.{Bool.cases_lt, Bool.Decides.nat_tests}
+use Rattle.rtui_geometry.specs.{declared.position.Position.Position, declared.rect.Rect.Rect, Rect.HasPosition, Rect.EdgesFit, Rect.corner}
 use Rattle.rtui_style.specs.declared.Style.{Style}
-use Rattle.rtui_cell.specs.Look.{look_of}
-use Rattle.rtui_cell.specs.Cell.{empty_cell, styled, is_skipped}
-use Rattle.rtui_cell.specs.Grid.{Grid}
+use Rattle.rtui_cell.specs.{Look.look_of, Cell.empty_cell, Cell.styled, Cell.is_skipped, Grid.Grid}
 use Rattle.rtui_buffer.specs.BufferData.{BufferData, IsEmptied, HasRow, cell_in, cell_index, area_size, position_of}
-use Rattle.rtui_buffer.specs.Shown.{ShowsBuffer}
+use Rattle.rtui_buffer.specs.{Shown.ShowsBuffer, PaintedText.IsStyled, PaintedText.PaintsPieces}
 use Rattle.rtui_buffer.specs.Painting.{Piece, columns, shown, piece_at}
-use Rattle.rtui_buffer.specs.PaintedText.{IsStyled, PaintsPieces}
 use Rattle.rtui_buffer.specs.Bar.{PaintsOnBar, ShowsPieces, bar_of, bar_cell}
-use Rattle.rtui_buffer.proofs.EmptyLemmas.{cell-empty}
-use Rattle.rtui_buffer.proofs.ShownLemmas.{look-painted, look-beside}
+use Rattle.rtui_buffer.proofs.{EmptyLemmas.cell-empty, ShownLemmas.look-painted, ShownLemmas.look-beside}
 
 -- the bar takes n columns
 module _ (r : Rect) (n : ℕ) (style : Style) (ps : List Piece) (old under new : BufferData) (g : Grid) (edges : EdgesFit r) (some : 0 < r.height) (emptied : IsEmptied r old)

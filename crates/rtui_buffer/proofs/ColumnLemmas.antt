@@ -1,22 +1,16 @@
 -- Painting within a row, seen by columns.
-use Rattle.std.proofs.Common.{◌≡◌, ℕ, ◌+◌, ◌-◌, ◌*◌, ◌<◌, ◌≤◌, ⊎_elim, List, take, ap, arith}
-use Rattle.std.proofs.lemmas.Bool.{cases_lt}
-use Rattle.std.proofs.lemmas.Nat.{row_fits}
+use Rattle.std.proofs.Common.{◌≡◌, ℕ, ◌+◌, ◌-◌, ◌*◌, ◌<◌, ◌≤◌, ⊎_elim, List, take, ap, arith, true}
+use Rattle.std.proofs.lemmas.{Bool.cases_lt, Nat.row_fits}
 use Rattle.unicode_segmentation.specs.Grapheme.{graphemes}
-use Rattle.std.specs.Prelude.{true}
-use Rattle.rtui_geometry.specs.declared.position.Position.{Position}
-use Rattle.rtui_geometry.specs.declared.rect.Rect.{Rect}
-use Rattle.rtui_geometry.specs.Rect.{HasPosition}
+use Rattle.rtui_geometry.specs.{declared.position.Position.Position, declared.rect.Rect.Rect, Rect.HasPosition}
 use Rattle.rtui_style.specs.declared.Style.{Style}
 use Rattle.rtui_cell.specs.declared.cell.Cell.{Cell}
 use Rattle.rtui_text.specs.Text.{LineData}
 use Rattle.rtui_diff.specs.Cells.{cell}
 use Rattle.rtui_buffer.specs.BufferData.{HasRow, BufferData, cell_index, cell_in}
-use Rattle.rtui_buffer.specs.Painting.{Piece, columns, IsSameOutside}
+use Rattle.rtui_buffer.specs.{Painting.Piece, Painting.columns, Painting.IsSameOutside, Line.line_pieces_at}
 use Rattle.rtui_buffer.specs.PaintedText.{room_at, pieces_at, PaintsPieces, right_by, IsBeside, IsSameBeside, PaintsByColumns}
-use Rattle.rtui_buffer.specs.Line.{line_pieces_at}
-use Rattle.rtui_buffer.proofs.PaintedLemmas.{columns-kept}
-use Rattle.rtui_buffer.proofs.LineLemmas.{columns-line}
+use Rattle.rtui_buffer.proofs.{PaintedLemmas.columns-kept, LineLemmas.columns-line}
 
 pub text-ends : (r : Rect) (x max : ℕ) (s : Style) (text : List ℕ) → columns (pieces_at r x max s text) ≤ r.x + r.width - x
 text-ends r x max s text = let k = columns-kept s (room_at r x max) (graphemes true text) in omega arith

@@ -1,17 +1,12 @@
 -- Empty buffers are settled, and blank grids show them.
 use Rattle.std.proofs.Common.{◌≡◌, ℕ, zero, suc, ◌+◌, ◌*◌, ◌<◌, refl, sym, ap, ◌∙◌, arith, List, length}
-use Rattle.rtui_cell.specs.Look.{look_of, empty_look}
-use Rattle.rtui_cell.specs.Cell.{empty_cell, width_of}
-use Rattle.rtui_cell.specs.Grid.{Grid}
+use Rattle.rtui_cell.specs.{Look.look_of, Look.empty_look, Cell.empty_cell, Cell.width_of, Grid.Grid, declared.cell.Cell.Cell}
 use Rattle.rtui_cell.proofs.CellLemmas.{look-empty, width-empty}
 use Rattle.rtui_diff.specs.Cells.{cell, cell_at}
-use Rattle.rtui_geometry.specs.declared.rect.Rect.{Rect}
+use Rattle.rtui_geometry.specs.{declared.rect.Rect.Rect, declared.position.Position.Position}
 use Rattle.rtui_buffer.specs.BufferData.{BufferData, IsEmptied, empty_cells, area_size, cell_in, cell_index, position_of}
-use Rattle.rtui_buffer.specs.PaintedText.{IsPaintable}
-use Rattle.rtui_geometry.specs.declared.position.Position.{Position}
-use Rattle.rtui_buffer.specs.Shown.{IsSettledBuffer, ShowsBuffer}
+use Rattle.rtui_buffer.specs.{PaintedText.IsPaintable, Shown.IsSettledBuffer, Shown.ShowsBuffer}
 use Rattle.std.proofs.lemmas.List.{ext_get_or, length-replicate}
-use Rattle.rtui_cell.specs.declared.cell.Cell.{Cell}
 
 pub cell-empty : (n i : ℕ) → cell (empty_cells n) i ≡ empty_cell
 cell-empty zero i = refl

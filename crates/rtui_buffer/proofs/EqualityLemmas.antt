@@ -2,9 +2,8 @@
 use Rattle.std.proofs.Common.{◌≡◌, ℕ, zero, suc, ◌<◌, Bool, true, ◌&&◌, List, [], ◌∷◌, length, get_or, nat_eq, refl, ap, arith}
 use Rattle.std.proofs.lemmas.Bool.{false≢true, and_parts, and_from}
 use Rattle.std.specs.Cmp.Lexicographic.{pointwise}
-use Rattle.rtui_geometry.specs.declared.rect.Rect.{Rect}
+use Rattle.rtui_geometry.specs.{declared.rect.Rect.Rect, contracts.rect.RectEq.TheImpl.Laws.laws-law as rect_laws}
 use Rattle.rtui_geometry.specs.contracts.rect.RectPartialEq.TheImpl as rect_equality
-use Rattle.rtui_geometry.specs.contracts.rect.RectEq.TheImpl.Laws.{laws-law as rect_laws}
 use Rattle.rtui_cell.proofs.CellLemmas.{same_number}
 
 module _ {A : Type 0} (E : A → A → Bool) (d : A) where

@@ -1,9 +1,6 @@
 -- What is kept is the longest front that fits.
-use Rattle.std.proofs.Common.{◌≡◌, ℕ, suc, zero, ◌-◌, ◌<◌, ◌≤◌, ⊎_elim, List, [], ◌∷◌, length, take, filter, refl, ap, arith}
-use Rattle.std.specs.Prelude.{sum_by}
-use Rattle.std.proofs.lemmas.Bool.{cases_lt}
-use Rattle.std.proofs.lemmas.Bool.Decides.{nat_tests}
-use Rattle.std.proofs.lemmas.List.Sums.{sum_by-cons}
+use Rattle.std.proofs.Common.{◌≡◌, ℕ, suc, zero, ◌-◌, ◌<◌, ◌≤◌, ⊎_elim, List, [], ◌∷◌, length, take, filter, refl, ap, arith, sum_by}
+use Rattle.std.proofs.lemmas.{Bool.cases_lt, Bool.Decides.nat_tests, List.Sums.sum_by-cons}
 use Rattle.rtui_cell.specs.Width.{text_width}
 use Rattle.rtui_buffer.specs.Painting.{has_painted_width, fitting, kept, IsLongestFront}
 

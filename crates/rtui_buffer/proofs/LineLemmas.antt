@@ -1,18 +1,14 @@
 -- How painting of spans goes on, a span at a time.
 use Rattle.std.proofs.Common.{◌≡◌, ◌≢◌, ℕ, ◌+◌, ◌-◌, ◌<◌, ◌≤◌, true, List, [], ◌∷◌, ◌++◌, length, get_or, drop, refl, sym, ap, subst, ◌∙◌, arith, add-one, drop-cons}
-use Rattle.std.proofs.lemmas.List.{drop_all}
-use Rattle.std.proofs.lemmas.List.Sums.{sum_by-append}
+use Rattle.std.proofs.lemmas.{List.drop_all, List.Sums.sum_by-append}
 use Rattle.unicode_segmentation.specs.Grapheme.{graphemes}
 use Rattle.rtui_geometry.specs.declared.rect.Rect.{Rect}
-use Rattle.rtui_style.specs.declared.Style.{Style}
-use Rattle.rtui_style.specs.Style.{patch}
-use Rattle.rtui_cell.specs.declared.cell.Cell.{Cell}
+use Rattle.rtui_style.specs.{declared.Style.Style, Style.patch}
+use Rattle.rtui_cell.specs.{declared.cell.Cell.Cell, Symbol.IsShort}
 use Rattle.rtui_text.specs.Text.{SpanData}
 use Rattle.rtui_buffer.specs.Painting.{Piece, piece_width, text_pieces, columns, AreWide, with_piece, painted, IsSameOutside, HasPieces}
-use Rattle.rtui_cell.specs.Symbol.{IsShort}
 use Rattle.std.proofs.lemmas.List.Elements.{All-nil, All-cons, All-head, All-tail}
-use Rattle.rtui_buffer.specs.PaintedText.{room_at, AreShort}
-use Rattle.rtui_buffer.specs.Line.{line_pieces}
+use Rattle.rtui_buffer.specs.{PaintedText.room_at, PaintedText.AreShort, Line.line_pieces}
 use Rattle.rtui_buffer.proofs.PaintLemmas.{painted-nil, painted-cons, IsSameOutside-refl, IsSameOutside-wider, IsSameOutside-then}
 use Rattle.rtui_buffer.proofs.PaintedLemmas.{AreWide-kept, columns-kept, HasPieces-painted}
 use Rattle.rtui_buffer.proofs.TextLemmas.{text_pieces-none, columns-none, PaintsPieces-none}

@@ -1,19 +1,13 @@
 -- An area that lies around another one.
 use Rattle.std.proofs.Common.{◌≡◌, ℕ, ◌+◌, ◌-◌, ◌*◌, ◌≤◌, List, [], ◌++◌, take, refl, subst, ◌∙◌, arith, mul_comm, false}
-use Rattle.std.proofs.Math.Seq.{take-nil}
-use Rattle.std.proofs.lemmas.Bool.{false_from_ne_true}
-use Rattle.std.proofs.lemmas.Bool.Decides.{nat_tests}
-use Rattle.rtui_geometry.specs.declared.position.Position.{Position}
-use Rattle.rtui_geometry.specs.declared.rect.Rect.{Rect}
-use Rattle.rtui_geometry.specs.Rect.{united, HasPosition, EdgesFit}
-use Rattle.rtui_cell.specs.declared.cell.Cell.{Cell}
-use Rattle.rtui_cell.specs.Cell.{empty_cell}
+use Rattle.std.proofs.{Math.Seq.take-nil, Math.Nat.mul-le-mul_right}
+use Rattle.std.proofs.lemmas.{Bool.false_from_ne_true, Bool.Decides.nat_tests}
+use Rattle.rtui_geometry.specs.{declared.position.Position.Position, declared.rect.Rect.Rect, Rect.united, Rect.HasPosition, Rect.EdgesFit}
+use Rattle.rtui_cell.specs.{declared.cell.Cell.Cell, Cell.empty_cell}
 use Rattle.rtui_diff.specs.Cells.{cell, cell_at}
-use Rattle.rtui_buffer.specs.BufferData.{BufferData, cell_index, empty_cells}
+use Rattle.rtui_buffer.specs.{BufferData.BufferData, BufferData.cell_index, BufferData.empty_cells, Overlay.IsOverlay}
 use Rattle.rtui_buffer.proofs.EmptyLemmas.{cell-empty}
-use Rattle.rtui_buffer.specs.Overlay.{IsOverlay}
 use Rattle.rtui_buffer.specs.Inner.{IsExtended, IsAround, HasInner, place_in}
-use Rattle.std.proofs.Math.Nat.{mul-le-mul_right}
 use Rattle.rtui_grid.proofs.BlockLemmas.{in_block}
 use Rattle.rtui_grid.specs.Blocks.{is_in_block}
 

@@ -1,14 +1,9 @@
 -- How painting goes on, a piece at a time.
 use Rattle.std.proofs.Common.{◌≡◌, ◌≢◌, ℕ, suc, zero, ◌+◌, ◌-◌, ◌<◌, ◌≤◌, Bool, true, false, cond, List, [], ◌∷◌, set, refl, sym, ap, subst, ◌∙◌, arith}
-use Rattle.std.proofs.lemmas.Bool.Decides.{nat_tests}
-use Rattle.std.proofs.lemmas.List.{get_or-set_other, length-set}
-use Rattle.std.proofs.lemmas.List.Sums.{sum_by-cons}
+use Rattle.std.proofs.lemmas.{Bool.Decides.nat_tests, List.get_or-set_other, List.length-set, List.Sums.sum_by-cons}
 use Rattle.rtui_style.specs.declared.Style.{Style}
-use Rattle.rtui_cell.specs.declared.cell.Cell.{Cell}
-use Rattle.rtui_cell.specs.Cell.{empty_cell, IsUnmarked}
-use Rattle.rtui_cell.specs.Width.{text_width}
+use Rattle.rtui_cell.specs.{declared.cell.Cell.Cell, Cell.empty_cell, Cell.IsUnmarked, Width.text_width, Symbol.IsShort}
 use Rattle.std.proofs.lemmas.List.Elements.{All-head, All-tail}
-use Rattle.rtui_cell.specs.Symbol.{IsShort}
 use Rattle.rtui_buffer.specs.PaintedText.{AreShort}
 use Rattle.rtui_buffer.specs.Painting.{has_control, painted_width, has_painted_width, fitting, kept, Piece, piece_of, pieces, piece_width, columns, emptied, with_piece, painted, IsSameOutside, KeepsUnmarked}
 use Rattle.rtui_diff.specs.Cells.{cell}

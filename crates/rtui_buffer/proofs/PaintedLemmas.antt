@@ -1,18 +1,12 @@
 -- What painting means, column by column.
-use Rattle.std.proofs.Common.{◌≡◌, ℕ, suc, zero, ◌+◌, ◌-◌, ◌<◌, ◌≤◌, ⊎_elim, List, [], ◌∷◌, length, set, take, All, refl, sym, ap, subst, ◌∙◌, arith, inl, inr, ◌&&◌, nat_lt, if◌then◌else◌}
-use Rattle.std.proofs.lemmas.Bool.{cases_lt}
-use Rattle.std.proofs.lemmas.List.{get_or-set_same, length-set, ext_get_or}
-use Rattle.std.proofs.lemmas.List.Elements.{All-nil, All-cons}
-use Rattle.std.proofs.lemmas.List.Sums.{sum_by-cons}
+use Rattle.std.proofs.Common.{◌≡◌, ℕ, suc, zero, ◌+◌, ◌-◌, ◌<◌, ◌≤◌, ⊎_elim, List, [], ◌∷◌, length, set, take, All, refl, sym, ap, subst, ◌∙◌, arith, inl, inr, ◌&&◌, nat_lt, if◌then◌else◌, nat_le}
+use Rattle.std.proofs.lemmas.{Bool.cases_lt, List.get_or-set_same, List.length-set, List.ext_get_or, List.Elements.All-nil, List.Elements.All-cons}
+use Rattle.std.proofs.lemmas.{List.Sums.sum_by-cons, Bool.Decides.nat_tests}
 use Rattle.rtui_style.specs.declared.Style.{Style}
-use Rattle.rtui_cell.specs.declared.cell.Cell.{Cell}
-use Rattle.rtui_cell.specs.Cell.{empty_cell}
-use Rattle.rtui_cell.specs.Width.{text_width}
+use Rattle.rtui_cell.specs.{declared.cell.Cell.Cell, Cell.empty_cell, Width.text_width}
 use Rattle.rtui_diff.specs.Cells.{cell}
 use Rattle.rtui_buffer.specs.Painting.{painted_width, kept, Piece, piece_of, pieces, piece_width, columns, AreWide, shown, emptied, with_piece, painted, piece_at, place_of, IsSameOutside, HasPieces}
 use Rattle.rtui_buffer.proofs.PaintLemmas.{painted_width-painted, kept-nil, kept-skip, kept-take, kept-full, IsSameOutside-refl, IsSameOutside-emptied, IsSameOutside-put, IsSameOutside-then}
-use Rattle.std.specs.Prelude.{nat_le}
-use Rattle.std.proofs.lemmas.Bool.Decides.{nat_tests}
 
 pub emptied-inside : (at n k : ℕ) (cells : List Cell) → at ≤ k → k < at + n → at + n ≤ length cells → cell (emptied at n cells) k ≡ empty_cell
 unfolding emptied

@@ -1,25 +1,17 @@
 -- Pieces painted one after the other, and the pieces of texts one after the other.
-use Rattle.std.proofs.Common.{◌≡◌, ℕ, zero, suc, ◌+◌, ◌-◌, ◌<◌, ◌≤◌, ⊎_elim, true, List, [], ◌∷◌, ◌++◌, length, length-append, take, refl, sym, ap, subst, ◌∙◌, arith, append_assoc}
-use Rattle.std.specs.Prelude.{sum_by}
-use Rattle.std.proofs.lemmas.Bool.{cases_lt}
-use Rattle.std.proofs.lemmas.List.{get_or_append_left, get_or-append_right, take-append-le}
+use Rattle.std.proofs.Common.{◌≡◌, ℕ, zero, suc, ◌+◌, ◌-◌, ◌<◌, ◌≤◌, ⊎_elim, true, List, [], ◌∷◌, ◌++◌, length, length-append, take, refl, sym, ap, subst, ◌∙◌, arith, append_assoc, sum_by}
+use Rattle.std.proofs.lemmas.{Bool.cases_lt, List.get_or_append_left, List.get_or-append_right, List.take-append-le}
 use Rattle.std.proofs.Math.Seq.{take-append-add}
 use Rattle.std.proofs.lemmas.List.Sums.{sum_by-cons, sum_by_more_le}
 use Rattle.unicode_segmentation.specs.Grapheme.{graphemes}
-use Rattle.rtui_geometry.specs.declared.position.Position.{Position}
-use Rattle.rtui_geometry.specs.declared.rect.Rect.{Rect}
-use Rattle.rtui_geometry.specs.Rect.{EdgesFit}
-use Rattle.rtui_style.specs.declared.Style.{Style}
-use Rattle.rtui_style.specs.Style.{new_style, patch}
-use Rattle.rtui_cell.specs.declared.cell.Cell.{Cell}
-use Rattle.rtui_cell.specs.Cell.{empty_cell}
-use Rattle.rtui_cell.specs.Width.{text_width}
+use Rattle.rtui_geometry.specs.{declared.position.Position.Position, declared.rect.Rect.Rect, Rect.EdgesFit}
+use Rattle.rtui_style.specs.{declared.Style.Style, Style.new_style, Style.patch}
+use Rattle.rtui_cell.specs.{declared.cell.Cell.Cell, Cell.empty_cell, Width.text_width}
 use Rattle.rtui_diff.specs.Cells.{cell}
 use Rattle.rtui_text.specs.Text.{SpanData, LineData}
-use Rattle.rtui_buffer.specs.BufferData.{BufferData, cell_index}
+use Rattle.rtui_buffer.specs.{BufferData.BufferData, BufferData.cell_index, Line.line_pieces, Line.line_pieces_at}
 use Rattle.rtui_buffer.specs.Painting.{painted_width, kept, Piece, piece_of, pieces, text_pieces, piece_width, columns, shown, piece_at, place_of, AreWide, HasPieces}
 use Rattle.rtui_buffer.specs.PaintedText.{room_at, pieces_at, right_by, PaintsPieces, IsOneGrapheme}
-use Rattle.rtui_buffer.specs.Line.{line_pieces, line_pieces_at}
 use Rattle.rtui_buffer.proofs.PaintLemmas.{painted_width-painted, kept-nil, kept-skip, kept-take, IsSameOutside-then}
 use Rattle.rtui_buffer.proofs.PaintedLemmas.{columns-kept, AreWide-kept}
 use Rattle.rtui_buffer.proofs.LineLemmas.{columns-append, line_pieces-nil, line_pieces-cons, columns-line}

@@ -1,12 +1,9 @@
 -- Painting printable characters of ASCII, a cell each.
 use Rattle.std.proofs.Common.{◌≡◌, ℕ, zero, suc, ◌+◌, ◌-◌, ◌<◌, ◌≤◌, true, List, [], ◌∷◌, ◌++◌, length, length-take-le, take, drop, set, slice_index, refl, sym, ap, subst, ◌∙◌, arith, add-one, get_or}
-use Rattle.std.proofs.lemmas.List.{map-append, get_or_default}
-use Rattle.std.proofs.lemmas.List.Sums.{sum_by-cons}
-use Rattle.std.proofs.lemmas.Str.{encode_ascii}
+use Rattle.std.proofs.lemmas.{List.map-append, List.get_or_default, List.Sums.sum_by-cons, Str.encode_ascii}
 use Rattle.unicode_segmentation.specs.Grapheme.{graphemes}
 use Rattle.rtui_style.specs.declared.Style.{Style}
-use Rattle.rtui_cell.specs.declared.cell.Cell.{Cell}
-use Rattle.rtui_cell.specs.Cell.{empty_cell}
+use Rattle.rtui_cell.specs.{declared.cell.Cell.Cell, Cell.empty_cell}
 use Rattle.rtui_cell.proofs.WidthLemmas.{one_byte}
 use Rattle.rtui_text.specs.Printable.{IsPrintable, ArePrintable, IsPrintableFront, singles}
 use Rattle.rtui_text.proofs.PrintableLemmas.{printable-plain, graphemes-front, front-bytes}
@@ -14,8 +11,7 @@ use Rattle.rtui_diff.specs.Cells.{cell}
 use Rattle.rtui_buffer.specs.PaintedText.{AreShort}
 use Rattle.rtui_buffer.specs.Painting.{painted_width, kept, Piece, piece_of, pieces, piece_width, columns, shown, emptied, with_piece, painted, text_pieces, IsSameOutside, HasPieces}
 use Rattle.rtui_buffer.proofs.PaintLemmas.{kept-take, painted-nil, painted-cons, IsSameOutside-refl, IsSameOutside-put, IsSameOutside-then}
-use Rattle.rtui_buffer.proofs.PaintedLemmas.{HasPieces-kept}
-use Rattle.rtui_buffer.proofs.LineLemmas.{columns-append, painted-append, short-rest}
+use Rattle.rtui_buffer.proofs.{PaintedLemmas.HasPieces-kept, LineLemmas.columns-append, LineLemmas.painted-append, LineLemmas.short-rest}
 
 painted_width-printable : (b : ℕ) → IsPrintable b → painted_width (b ∷ []) ≡ 1
 unfolding painted_width

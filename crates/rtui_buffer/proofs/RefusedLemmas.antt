@@ -1,23 +1,16 @@
 -- Painting that ends on its way: a front of the pieces is painted.
 use Rattle.std.proofs.Common.{◌≡◌, ℕ, ◌+◌, ◌-◌, ◌<◌, ◌≤◌, true, List, [], ◌∷◌, ◌++◌, length, take, drop, refl, sym, ap, subst, ◌∙◌, arith}
-use Rattle.std.proofs.lemmas.List.{append-nil, append_assoc}
-use Rattle.std.proofs.lemmas.List.Sums.{sum_by-cons}
+use Rattle.std.proofs.lemmas.{List.append-nil, List.append_assoc, List.Sums.sum_by-cons}
 use Rattle.unicode_segmentation.specs.Grapheme.{graphemes}
 use Rattle.rtui_geometry.specs.declared.rect.Rect.{Rect}
-use Rattle.rtui_style.specs.declared.Style.{Style}
-use Rattle.rtui_style.specs.Style.{patch}
-use Rattle.rtui_cell.specs.declared.cell.Cell.{Cell}
-use Rattle.rtui_cell.specs.Width.{text_width}
-use Rattle.rtui_text.specs.Text.{SpanData}
-use Rattle.rtui_text.specs.Printable.{IsPrintableFront, singles}
+use Rattle.rtui_style.specs.{declared.Style.Style, Style.patch}
+use Rattle.rtui_cell.specs.{declared.cell.Cell.Cell, Width.text_width}
+use Rattle.rtui_text.specs.{Text.SpanData, Printable.IsPrintableFront, Printable.singles}
 use Rattle.rtui_buffer.specs.Painting.{painted_width, kept, Piece, piece_of, piece_width, pieces, text_pieces, columns, AreWide, with_piece, painted, HasFront}
-use Rattle.rtui_buffer.specs.BufferData.{BufferData, cell_index, position_of}
-use Rattle.rtui_buffer.specs.PaintedText.{PaintsFront}
-use Rattle.rtui_buffer.specs.Line.{line_pieces}
+use Rattle.rtui_buffer.specs.{BufferData.BufferData, BufferData.cell_index, BufferData.position_of, PaintedText.PaintsFront, Line.line_pieces}
 use Rattle.rtui_buffer.proofs.PaintLemmas.{painted_width-painted, kept-take, kept-skip, painted-nil, painted-cons}
 use Rattle.rtui_buffer.proofs.PaintedLemmas.{AreWide-kept, columns-kept, HasPieces-painted}
-use Rattle.rtui_buffer.proofs.PrintableLemmas.{pieces-split, columns-singles, front-count}
-use Rattle.rtui_buffer.proofs.TextLemmas.{HasPieces-written}
+use Rattle.rtui_buffer.proofs.{PrintableLemmas.pieces-split, PrintableLemmas.columns-singles, PrintableLemmas.front-count, TextLemmas.HasPieces-written}
 use Rattle.rtui_buffer.proofs.LineLemmas.{columns-append, painted-append, columns-line, AreWide-line, span-pieces}
 
 -- the pieces painted so far, in this many columns, before those that are left

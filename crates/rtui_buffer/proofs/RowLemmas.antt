@@ -2,19 +2,15 @@
 use Rattle.std.proofs.Common.{◌≡◌, ℕ, zero, suc, ◌+◌, ◌-◌, ◌*◌, ◌<◌, ◌≤◌, true, false, List, [], ◌∷◌, ◌++◌, length, get_or, set, take, refl, sym, ap, subst, ◌∙◌, arith, add-one, append_assoc, append-nil}
 use Rattle.std.proofs.Math.Seq.{take-suc, take-append_seam, drop-append-add}
 use Rattle.std.proofs.lemmas.List.{set-append_left, set-append_right, get_or_append_left, get_or-append-add, length-append, length-set, length-replicate, length-take-le, replicate-append-replicate}
-use Rattle.std.proofs.lemmas.List.Sums.{sum_by-cons}
-use Rattle.std.proofs.lemmas.Grind.{flat_map-append}
-use Rattle.rtui_cell.specs.declared.cell.Cell.{Cell}
-use Rattle.rtui_cell.specs.Cell.{empty_cell, width_of, is_skipped}
-use Rattle.rtui_diff.specs.Cells.{cell, cell_at}
-use Rattle.rtui_diff.specs.Settled.{IsSettled, IsBlankOrSkipped}
+use Rattle.std.proofs.lemmas.{List.Sums.sum_by-cons, Grind.flat_map-append}
+use Rattle.rtui_cell.specs.{declared.cell.Cell.Cell, Cell.empty_cell, Cell.width_of, Cell.is_skipped}
+use Rattle.rtui_diff.specs.{Cells.cell, Cells.cell_at, Settled.IsSettled, Settled.IsBlankOrSkipped}
 use Rattle.rtui_text.specs.Text.{LineData}
 use Rattle.rtui_buffer.specs.BufferData.{empty_cells, row_cells}
 use Rattle.rtui_buffer.specs.Painting.{Piece, piece_width, columns, AreWide, shown, emptied, with_piece, painted, HasPieces}
 use Rattle.rtui_buffer.specs.Line.{line_pieces, line_row, line_rows, line_at, ShowsLines}
-use Rattle.rtui_buffer.proofs.EmptyLemmas.{cell-empty}
+use Rattle.rtui_buffer.proofs.{EmptyLemmas.cell-empty, SettledLemmas.IsSettled-empty, SettledLemmas.IsSettled-painted, SettledLemmas.unmarked_empty}
 use Rattle.rtui_buffer.proofs.PaintLemmas.{painted-nil, painted-cons, IsSameOutside-refl, IsSameOutside-put}
-use Rattle.rtui_buffer.proofs.SettledLemmas.{IsSettled-empty, IsSettled-painted, unmarked_empty}
 use Rattle.rtui_buffer.proofs.LineLemmas.{columns-line, AreWide-line, HasPieces-line}
 
 -- painting after a front leaves it

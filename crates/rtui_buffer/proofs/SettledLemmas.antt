@@ -1,16 +1,11 @@
 -- Painting within a row keeps a frame settled.
 use Rattle.std.proofs.Common.{◌≡◌, ℕ, suc, ◌+◌, ◌-◌, ◌*◌, ◌/◌, ◌%◌, ◌<◌, ◌≤◌, ⊎_elim, true, false, List, [], ◌∷◌, length, take, inl, refl, sym, ap, subst, ◌∙◌, arith}
-use Rattle.std.proofs.lemmas.Bool.{cases_lt}
-use Rattle.std.proofs.lemmas.Nat.{mod-mul-add, row_fits}
-use Rattle.std.proofs.lemmas.List.Sums.{sum_by-cons}
-use Rattle.rtui_cell.specs.declared.cell.Cell.{Cell}
+use Rattle.std.proofs.lemmas.{Bool.cases_lt, Nat.mod-mul-add, Nat.row_fits, List.Sums.sum_by-cons}
+use Rattle.rtui_cell.specs.{declared.cell.Cell.Cell, Equality.is_same}
 use Rattle.rtui_cell.specs.Cell.{empty_cell, width_of, is_skipped, IsUnmarked}
-use Rattle.rtui_cell.specs.Equality.{is_same}
 use Rattle.rtui_cell.proofs.CellLemmas.{width-empty, same-empty}
-use Rattle.rtui_diff.specs.Cells.{cell, cell_at}
-use Rattle.rtui_diff.specs.Settled.{IsSettled, IsSettledAt, IsBlankOrSkipped}
-use Rattle.rtui_diff.proofs.FrameLemmas.{column_in, row_start}
-use Rattle.rtui_diff.proofs.SettledLemmas.{settled_at, settled_from}
+use Rattle.rtui_diff.specs.{Cells.cell, Cells.cell_at, Settled.IsSettled, Settled.IsSettledAt, Settled.IsBlankOrSkipped}
+use Rattle.rtui_diff.proofs.{FrameLemmas.column_in, FrameLemmas.row_start, SettledLemmas.settled_at, SettledLemmas.settled_from}
 use Rattle.rtui_buffer.specs.Painting.{Piece, piece_width, columns, shown, piece_at, place_of, HasPieces}
 
 pub unmarked_empty : {c : Cell} → c ≡ empty_cell → IsUnmarked c

@@ -1,18 +1,14 @@
 -- Short graphemes make short pieces.
-use Rattle.std.proofs.Common.{ℕ, ◌-◌, Bool, true, false, cond, List, [], ◌∷◌, All, arith}
-use Rattle.std.specs.Prelude.{nat_le}
+use Rattle.std.proofs.Common.{ℕ, ◌-◌, Bool, true, false, cond, List, [], ◌∷◌, All, arith, nat_le}
 use Rattle.std.specs.Str.{IsAscii}
 use Rattle.std.proofs.lemmas.List.Elements.{All-nil, All-cons, All-head, All-tail, All-append, All-filter, All-map, All-weaker}
 use Rattle.unicode_segmentation.specs.Grapheme.{graphemes}
-use Rattle.rtui_style.specs.declared.Style.{Style}
-use Rattle.rtui_style.specs.Style.{patch}
-use Rattle.rtui_cell.specs.Symbol.{IsShort}
-use Rattle.rtui_cell.specs.Width.{text_width}
+use Rattle.rtui_style.specs.{declared.Style.Style, Style.patch}
+use Rattle.rtui_cell.specs.{Symbol.IsShort, Width.text_width}
 use Rattle.rtui_text.specs.Text.{SpanData}
 use Rattle.rtui_text.proofs.PrintableLemmas.{IsAsciiPiece, ascii-graphemes}
 use Rattle.rtui_buffer.specs.Painting.{has_painted_width, fitting, kept, Piece, piece_of, text_pieces, columns}
-use Rattle.rtui_buffer.specs.PaintedText.{AreShort, HasShortGraphemes, HaveShortGraphemes}
-use Rattle.rtui_buffer.specs.Line.{line_pieces}
+use Rattle.rtui_buffer.specs.{PaintedText.AreShort, PaintedText.HasShortGraphemes, PaintedText.HaveShortGraphemes, Line.line_pieces}
 
 either : (P : List ℕ → Type 0) (b : Bool) (g : List ℕ) (gs : List (List ℕ)) → P g → All P gs → All P (cond b (g ∷ gs) [])
 either P true g gs first rest = All-cons P g gs first rest

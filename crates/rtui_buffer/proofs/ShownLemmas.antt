@@ -1,23 +1,18 @@
 -- Empty buffers with a style, and the looks of shown cells.
 use Rattle.std.proofs.Common.{◌≡◌, ℕ, ◌+◌, ◌-◌, ◌*◌, ◌<◌, ◌≤◌, ◌⊎◌, ⊎_elim, inl, inr, List, length, take, false, refl, sym, ap, ap₂, subst, ◌∙◌, arith}
 use Rattle.std.proofs.lemmas.Bool.{cases_lt}
-use Rattle.rtui_geometry.specs.declared.position.Position.{Position}
-use Rattle.rtui_geometry.specs.declared.rect.Rect.{Rect}
+use Rattle.rtui_geometry.specs.{declared.position.Position.Position, declared.rect.Rect.Rect}
 use Rattle.rtui_geometry.specs.Rect.{HasPosition, EdgesFit, right_edge, bottom_edge}
 use Rattle.rtui_style.specs.declared.Style.{Style}
-use Rattle.rtui_cell.specs.declared.cell.Cell.{Cell}
-use Rattle.rtui_cell.specs.Look.{look_of}
+use Rattle.rtui_cell.specs.{declared.cell.Cell.Cell, Look.look_of, Grid.Grid}
 use Rattle.rtui_cell.specs.Cell.{empty_cell, styled, width_of, is_skipped, IsUnmarked}
-use Rattle.rtui_cell.specs.Grid.{Grid}
 use Rattle.rtui_cell.proofs.CellLemmas.{width-empty}
-use Rattle.rtui_diff.specs.Cells.{cell, cell_at}
-use Rattle.rtui_diff.specs.Settled.{IsSettled}
+use Rattle.rtui_diff.specs.{Cells.cell, Cells.cell_at, Settled.IsSettled}
 use Rattle.rtui_buffer.specs.BufferData.{BufferData, IsEmptied, HasRow, area_size, cell_in, cell_index, position_of}
 use Rattle.rtui_buffer.specs.Shown.{IsSettledBuffer, ShowsBuffer}
 use Rattle.rtui_buffer.specs.Painting.{Piece, columns, shown, piece_at}
 use Rattle.rtui_buffer.specs.PaintedText.{IsBeside, IsPaintable, IsStyled, PaintsPieces, PaintsByColumns, right_by}
-use Rattle.rtui_buffer.proofs.ColumnLemmas.{PaintsByColumns-paints}
-use Rattle.rtui_buffer.proofs.EmptyLemmas.{cell-empty}
+use Rattle.rtui_buffer.proofs.{ColumnLemmas.PaintsByColumns-paints, EmptyLemmas.cell-empty}
 
 -- a cell that is empty but for a style has one column and no mark
 pub record IsPlainBlank (c : Cell) : Type 0 where

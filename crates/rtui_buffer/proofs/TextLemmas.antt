@@ -1,21 +1,15 @@
 -- Painting from a position on.
-use Rattle.std.proofs.Common.{◌≡◌, ℕ, ◌+◌, ◌-◌, ◌*◌, ◌≤◌, ◌≢◌, false, List, [], ◌++◌, take, drop, length, refl, sym, ap, subst, ◌∙◌, arith}
+use Rattle.std.proofs.Common.{◌≡◌, ℕ, ◌+◌, ◌-◌, ◌*◌, ◌≤◌, ◌≢◌, false, List, [], ◌++◌, take, drop, length, refl, sym, ap, subst, ◌∙◌, arith, true}
 use Rattle.std.proofs.Math.Seq.{take-append_seam}
 use Rattle.unicode_segmentation.specs.Grapheme.{graphemes}
-use Rattle.std.specs.Prelude.{true}
-use Rattle.rtui_geometry.specs.declared.position.Position.{Position}
-use Rattle.rtui_geometry.specs.declared.rect.Rect.{Rect}
+use Rattle.rtui_geometry.specs.{declared.position.Position.Position, declared.rect.Rect.Rect}
 use Rattle.rtui_style.specs.declared.Style.{Style}
-use Rattle.rtui_cell.specs.declared.cell.Cell.{Cell}
-use Rattle.rtui_cell.specs.Cell.{width_of, is_skipped, IsUnmarked}
-use Rattle.rtui_diff.specs.Cells.{cell}
-use Rattle.rtui_diff.specs.Settled.{IsSettled}
-use Rattle.rtui_buffer.specs.BufferData.{BufferData, cell_index, position_of}
-use Rattle.rtui_buffer.specs.Shown.{IsSettledBuffer}
+use Rattle.rtui_cell.specs.{declared.cell.Cell.Cell, Cell.width_of, Cell.is_skipped, Cell.IsUnmarked}
+use Rattle.rtui_diff.specs.{Cells.cell, Settled.IsSettled}
+use Rattle.rtui_buffer.specs.{BufferData.BufferData, BufferData.cell_index, BufferData.position_of, Shown.IsSettledBuffer}
 use Rattle.rtui_buffer.specs.Painting.{Piece, pieces, text_pieces, columns, HasPieces}
 use Rattle.rtui_buffer.specs.PaintedText.{room_at, PaintsPieces, IsPaintable}
-use Rattle.rtui_buffer.proofs.PaintedLemmas.{kept-none, columns-kept, HasPieces-none}
-use Rattle.rtui_buffer.proofs.SettledLemmas.{IsSettled-painted}
+use Rattle.rtui_buffer.proofs.{PaintedLemmas.kept-none, PaintedLemmas.columns-kept, PaintedLemmas.HasPieces-none, SettledLemmas.IsSettled-painted}
 
 pub text_pieces-none : (room : ℕ) (s : Style) (text : List ℕ) → room ≡ 0 → text_pieces room s text ≡ []
 text_pieces-none room s text e = ap (λ n. text_pieces n s text) e ∙ ap (pieces s) (kept-none (graphemes true text))

@@ -1,15 +1,10 @@
 -- A bar with pieces painted on it, and what a screen shows of them.
 use Rattle.std.specs.Prelude.{◌≡◌, ℕ, ◌+◌, ◌<◌, ◌≤◌, nat_lt, if◌then◌else◌, List, length, take}
-use Rattle.rtui_geometry.specs.declared.position.Position.{Position}
-use Rattle.rtui_geometry.specs.declared.rect.Rect.{Rect}
+use Rattle.rtui_geometry.specs.{declared.position.Position.Position, declared.rect.Rect.Rect}
 use Rattle.rtui_style.specs.declared.Style.{Style}
-use Rattle.rtui_cell.specs.declared.cell.Cell.{Cell}
-use Rattle.rtui_cell.specs.Look.{look_of}
-use Rattle.rtui_cell.specs.Cell.{empty_cell, styled}
-use Rattle.rtui_cell.specs.Grid.{Grid}
-use Rattle.rtui_buffer.specs.BufferData.{BufferData}
+use Rattle.rtui_cell.specs.{declared.cell.Cell.Cell, Look.look_of, Cell.empty_cell, Cell.styled, Grid.Grid}
+use Rattle.rtui_buffer.specs.{BufferData.BufferData, PaintedText.IsStyled, PaintedText.PaintsPieces}
 use Rattle.rtui_buffer.specs.Painting.{Piece, columns, shown, piece_at}
-use Rattle.rtui_buffer.specs.PaintedText.{IsStyled, PaintsPieces}
 
 -- the first n columns of the first row of an area
 abbrev pub bar_of : ℕ → Rect → Rect

@@ -1,16 +1,11 @@
 -- What private functions promise one another.
 use Rattle.std.specs.Prelude.{◌≡◌, ℕ, ◌+◌, ◌-◌, ◌<◌, ◌≤◌, ◌&&◌, nat_le, nat_lt, if◌then◌else◌, List, length}
-use Rattle.rtui_geometry.specs.declared.position.Position.{Position}
-use Rattle.rtui_geometry.specs.declared.rect.Rect.{Rect}
-use Rattle.rtui_geometry.specs.Rect.{HasPosition}
-use Rattle.rtui_cell.specs.declared.cell.Cell.{Cell}
-use Rattle.rtui_cell.specs.Cell.{empty_cell, styled}
-use Rattle.rtui_grid.specs.declared.block.Block.{Block}
-use Rattle.rtui_grid.specs.Blocks.{HasBlock}
-use Rattle.rtui_buffer.specs.BufferData.{BufferData, cell_in}
+use Rattle.rtui_geometry.specs.{declared.position.Position.Position, declared.rect.Rect.Rect, Rect.HasPosition}
+use Rattle.rtui_cell.specs.{declared.cell.Cell.Cell, Cell.empty_cell, Cell.styled}
+use Rattle.rtui_grid.specs.{declared.block.Block.Block, Blocks.HasBlock}
+use Rattle.rtui_buffer.specs.{BufferData.BufferData, BufferData.cell_in, Painting.IsSameOutside}
 use Rattle.rtui_style.specs.declared.Style.{Style}
 use Rattle.rtui_diff.specs.Cells.{cell, cell_at}
-use Rattle.rtui_buffer.specs.Painting.{IsSameOutside}
 
 -- the first rectangle spans the second
 pub record IsAround (outer inner : Rect) : Type 0 where

@@ -1,16 +1,13 @@
 -- Painting lines of spans.
 use Rattle.std.specs.Prelude.{ℕ, ◌-◌, ◌*◌, ◌<◌, ◌≡◌, List, [], ◌∷◌, ◌++◌, length, map, slice_index_or}
-use Rattle.std.specs.List.{flat_map}
-use Rattle.std.specs.Borrow.{Bor}
+use Rattle.std.specs.{List.flat_map, Borrow.Bor}
 use Rattle.rtui_geometry.specs.declared.rect.Rect.{Rect}
-use Rattle.rtui_style.specs.declared.Style.{Style}
-use Rattle.rtui_style.specs.Style.{patch}
+use Rattle.rtui_style.specs.{declared.Style.Style, Style.patch}
 use Rattle.rtui_cell.specs.declared.cell.Cell.{Cell}
 use Rattle.rtui_text.specs.Text.{SpanData, LineData, line_of, raw_line}
 pub use Rattle.rtui_text.specs.Widths.{widest}
-use Rattle.rtui_buffer.specs.BufferData.{BufferData, empty_cells, row_cells}
+use Rattle.rtui_buffer.specs.{BufferData.BufferData, BufferData.empty_cells, BufferData.row_cells, PaintedText.room_at}
 use Rattle.rtui_buffer.specs.Painting.{Piece, text_pieces, columns, painted, HasPieces}
-use Rattle.rtui_buffer.specs.PaintedText.{room_at}
 
 -- the pieces of spans one after the other, each span in the width that is left, its style over the base style
 unfoldable pub line_pieces : ℕ → Style → List SpanData → List Piece

@@ -1,8 +1,6 @@
 -- One buffer laid over another.
 use Rattle.std.specs.Prelude.{◌≡◌}
-use Rattle.rtui_geometry.specs.declared.position.Position.{Position}
-use Rattle.rtui_geometry.specs.declared.rect.Rect.{Rect}
-use Rattle.rtui_geometry.specs.Rect.{HasPosition, united}
+use Rattle.rtui_geometry.specs.{declared.position.Position.Position, declared.rect.Rect.Rect, Rect.HasPosition, Rect.united}
 use Rattle.rtui_cell.specs.Cell.{empty_cell}
 use Rattle.rtui_buffer.specs.BufferData.{BufferData, cell_in}
 

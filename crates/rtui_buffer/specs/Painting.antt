@@ -1,11 +1,8 @@
 -- Painting pieces of text into a list of cells, one after the other.
 use Rattle.std.specs.Prelude.{ℕ, ⊤, Bool, true, ◌+◌, ◌-◌, ◌≡◌, ◌≤◌, ◌<◌, suc, zero, nat_le, nat_lt, List, [], ◌∷◌, ◌++◌, length, take, map, filter, sum_by, if◌then◌else◌, Some, slice_index_or, slice_set}
 use Rattle.unicode_segmentation.specs.Grapheme.{graphemes}
-use Rattle.rtui_style.specs.declared.Style.{Style}
-use Rattle.rtui_style.specs.Style.{new_style}
-use Rattle.rtui_cell.specs.declared.cell.Cell.{Cell}
-use Rattle.rtui_cell.specs.Cell.{empty_cell, styled, IsUnmarked}
-use Rattle.rtui_cell.specs.Width.{text_width}
+use Rattle.rtui_style.specs.{declared.Style.Style, Style.new_style}
+use Rattle.rtui_cell.specs.{declared.cell.Cell.Cell, Cell.empty_cell, Cell.styled, Cell.IsUnmarked, Width.text_width}
 pub use Rattle.rtui_text.specs.Graphemes.{has_control}
 use Rattle.rtui_diff.specs.Cells.{cell}
 

@@ -1,7 +1,6 @@
 -- Rows of two buffers, and the updates from the one to the other.
 use Rattle.std.specs.Prelude.{ℕ, ◌*◌, List, take, drop}
-use Rattle.rtui_cell.specs.declared.cell.Cell.{Cell}
-use Rattle.rtui_cell.specs.Grid.{Update}
+use Rattle.rtui_cell.specs.{declared.cell.Cell.Cell, Grid.Update}
 use Rattle.rtui_diff.specs.Diff.{IsDiff}
 use Rattle.rtui_buffer.specs.BufferData.{BufferData}
 

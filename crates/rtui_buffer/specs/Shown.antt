@@ -1,12 +1,8 @@
 -- Buffers as frames of a screen.
 use Rattle.std.specs.Prelude.{◌≡◌, ℕ, min, List, map}
 use Rattle.std.specs.Borrow.{Bor}
-use Rattle.rtui_cell.specs.declared.cell.Cell.{Cell}
-use Rattle.rtui_cell.specs.Grid.{Grid, Update, update_by}
-use Rattle.rtui_diff.specs.Settled.{IsSettled}
-use Rattle.rtui_diff.specs.Shows.{Shows, Repaints}
-use Rattle.rtui_diff.specs.Updates.{updates}
-use Rattle.rtui_diff.specs.Diff.{IsDiff}
+use Rattle.rtui_cell.specs.{declared.cell.Cell.Cell, Grid.Grid, Grid.Update, Grid.update_by}
+use Rattle.rtui_diff.specs.{Settled.IsSettled, Shows.Shows, Shows.Repaints, Updates.updates, Diff.IsDiff}
 use Rattle.rtui_buffer.specs.BufferData.{BufferData}
 
 -- a screen can show the buffer as it is

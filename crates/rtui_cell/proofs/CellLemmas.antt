@@ -1,35 +1,22 @@
 -- What equal cells have in common, and what the empty cell is.
-use Rattle.std.proofs.Common.{◌≡◌, ℕ, Bool, true, false, ◌&&◌, ◌==◌, length, nat_eq, refl, sym, ap, ◌∙◌}
-use Rattle.std.specs.Prelude.{if◌then◌else◌}
-use Rattle.std.proofs.lemmas.Bool.{false≢true, and_parts, and_from}
-use Rattle.std.proofs.lemmas.Bool.Decides.{Decides-eqb}
-use Rattle.std.specs.Int.NonZero.{non_zero_u16_get}
-use Rattle.std.specs.declared.num.NonZeroU16.{NonZeroU16}
+use Rattle.std.proofs.Common.{◌≡◌, ℕ, Bool, true, false, ◌&&◌, ◌==◌, length, nat_eq, refl, sym, ap, ◌∙◌, if◌then◌else◌}
+use Rattle.std.proofs.lemmas.{Bool.false≢true, Bool.and_parts, Bool.and_from, Bool.Decides.Decides-eqb, Slice.Eq.bytes_eq-Decides}
+use Rattle.std.specs.{Int.NonZero.non_zero_u16_get, declared.num.NonZeroU16.NonZeroU16, Str.bytes_eq, Cmp.Lexicographic.pointwise, Cmp.Lexicographic.same_text}
 use Rattle.std.specs.contracts.num.NonZeroU16 as nonzero
-use Rattle.std.specs.Str.{bytes_eq}
-use Rattle.std.proofs.lemmas.Slice.Eq.{bytes_eq-Decides}
-use Rattle.std.specs.Cmp.Lexicographic.{pointwise, same_text}
-use Rattle.rtui_style.specs.declared.color.Color.{Color}
+use Rattle.rtui_style.specs.{declared.color.Color.Color, contracts.color.ColorEq.TheImpl.Laws.laws-law as color_laws}
 use Rattle.rtui_style.specs.contracts.color.Color as color
 use Rattle.rtui_style.specs.contracts.color.ColorPartialEq.TheImpl as color_equality
-use Rattle.rtui_style.specs.contracts.color.ColorEq.TheImpl.Laws.{laws-law as color_laws}
-use Rattle.rtui_style.specs.contracts.ModifierEq.TheImpl.Laws.{laws-law as modifier_laws}
-use Rattle.rtui_style.specs.Modifier.{modifier_of, bits_of}
+use Rattle.rtui_style.specs.{contracts.ModifierEq.TheImpl.Laws.laws-law as modifier_laws, Modifier.modifier_of, Modifier.bits_of, declared.Modifier.Modifier}
 use Rattle.rtui_style.specs.contracts.ModifierPartialEq.TheImpl as modifier_equality
 use Rattle.std.specs.contracts.prelude.BoolPartialEq.TheImpl as flag_equality
-use Rattle.rtui_cell.specs.declared.cell.Cell.{Cell}
-use Rattle.rtui_cell.specs.declared.cell.CellDiffOption.{CellDiffOption}
+use Rattle.rtui_cell.specs.{declared.cell.Cell.Cell, declared.cell.CellDiffOption.CellDiffOption, Symbol.symbol_text, Width.text_width}
 use Rattle.rtui_cell.specs.declared.cell.CellDiffOption.TheVariants as DiffOption
 use Rattle.rtui_cell.specs.contracts.cell.CellDiffOption as option
 use Rattle.rtui_cell.specs.contracts.cell.CellDiffOptionPartialEq.TheImpl as option_equality
-use Rattle.rtui_cell.specs.Symbol.{symbol_text}
-use Rattle.rtui_cell.specs.Width.{text_width}
-use Rattle.rtui_cell.specs.Look.{look_of, empty_look}
+use Rattle.rtui_cell.specs.{Look.look_of, Look.empty_look, contracts.cell.CellDiffOptionEq.TheImpl.Laws.laws-law as option_laws}
 use Rattle.rtui_cell.specs.Cell.{empty_cell, width_by, width_of, is_skipped, has_no_option, is_single_byte}
-use Rattle.rtui_cell.specs.contracts.cell.CellDiffOptionEq.TheImpl.Laws.{laws-law as option_laws}
 use Rattle.rtui_cell.specs.Equality.{is_same, is_same_symbol, IsEqual}
 use Rattle.rtui_cell.proofs.DerivedLemmas.{same_value}
-use Rattle.rtui_style.specs.declared.Modifier.{Modifier}
 
 no_field : (a b : Unit {0}) → true ≡ true → a ≡ b
 no_field a b e = refl

@@ -1,20 +1,13 @@
 -- A half-width sound mark has a column of its own in the width of a text.
 use Rattle.std.proofs.Common.{◌≡◌, ◌≢◌, ℕ, suc, ◌+◌, ◌-◌, ◌<◌, ◌≤◌, ◌⊎◌, ⊎_elim, inl, inr, Bool, true, false, cond, not, ◌&&◌, ◌==◌, nat_le, List, [], ◌∷◌, length, min, Option, Some, None, count_by, refl, sym, subst, ◌∙◌, arith}
-use Rattle.std.specs.Int.{is_in_range}
-use Rattle.std.specs.Str.{chars}
-use Rattle.std.proofs.lemmas.Bool.{cases_lt}
-use Rattle.std.proofs.lemmas.Bool.Decides.{nat_tests}
-use Rattle.std.proofs.lemmas.List.Sums.{sum_by-cons}
+use Rattle.std.specs.{Int.is_in_range, Str.chars}
+use Rattle.std.proofs.lemmas.{Bool.cases_lt, Bool.Decides.nat_tests, List.Sums.sum_by-cons}
 use Rattle.ucd_emoji.specs.Binary.{is_emoji_variation_base, is_emoji_modifier_base}
-use Rattle.ucd_bidi.specs.JoiningType.{joining_type, joining_type_eq}
-use Rattle.ucd_bidi.specs.declared.JoiningType.TheVariants.{Transparent}
+use Rattle.ucd_bidi.specs.{JoiningType.joining_type, JoiningType.joining_type_eq, declared.JoiningType.TheVariants.Transparent}
 use Rattle.unicode_width.proofs.Computing.{unicode_width}
-use Rattle.unicode_width.specs.declared.kind.Kind.{Kind}
+use Rattle.unicode_width.specs.{declared.kind.Kind.Kind, declared.state.After.After, declared.state.State.State, declared.state.Change.Change}
 use Rattle.unicode_width.specs.declared.kind.Kind.TheVariants as kinds
-use Rattle.unicode_width.specs.declared.state.After.{After}
 use Rattle.unicode_width.specs.declared.state.After.TheVariants.{Nothing, LineFeed, EmojiModifier, RegionalIndicator, RegionalIndicators, Emoji, ZwjEmoji, IndicatorZwj, EvenIndicatorsZwj, OddIndicatorsZwj, TagEnd, TagDigit1, TagDigit2, TagDigit3, TagLetter1, TagLetter2, TagLetter3, TagLetter4, TagLetter5, TagLetter6, KiratE, KiratAi, Alef, SolidusAlef, ZwjLamed, ZwjYa, VowelZwjYa, Tifinagh, ZwjTifinagh, JoinerTifinagh, LisuTone, ZwjOrkhonI, KhmerLetter}
-use Rattle.unicode_width.specs.declared.state.State.{State}
-use Rattle.unicode_width.specs.declared.state.Change.{Change}
 use Rattle.unicode_width.specs.declared.state.Change.TheVariants.{Less, Same, One, Three}
 use Rattle.unicode_width.specs.Kind.{kind, is_ligature_transparent, is_text_presentation_base}
 use Rattle.rtui_cell.specs.Width.{is_sound_mark, text_columns, text_width}

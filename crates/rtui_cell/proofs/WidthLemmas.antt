@@ -1,8 +1,6 @@
 -- The width of a text of one byte, and of one character.
-use Rattle.std.proofs.Common.{◌≡◌, ℕ, ◌+◌, ◌<◌, Bool, true, false, ◌&&◌, ◌==◌, nat_lt, nat_le, List, [], ◌∷◌, refl, sym, ap, ◌∙◌, arith}
-use Rattle.std.specs.Prelude.{Some, if◌then◌else◌, length, min, chars}
-use Rattle.std.proofs.lemmas.Bool.{false≢true}
-use Rattle.std.proofs.lemmas.Bool.Decides.{nat_tests}
+use Rattle.std.proofs.Common.{◌≡◌, ℕ, ◌+◌, ◌<◌, Bool, true, false, ◌&&◌, ◌==◌, nat_lt, nat_le, List, [], ◌∷◌, refl, sym, ap, ◌∙◌, arith, Some, if◌then◌else◌, length, min, chars}
+use Rattle.std.proofs.lemmas.{Bool.false≢true, Bool.Decides.nat_tests}
 use Rattle.rtui_cell.specs.Width.{text_width}
 use Rattle.unicode_width.specs.Width.{str_width, char_width, alone, step, past_emoji, plain, added}
 

@@ -1,9 +1,7 @@
 -- What `==` of cells answers, and what it means.
 use Rattle.std.specs.Prelude.{◌≡◌, Bool}
 use Rattle.std.specs.Str.{bytes_eq}
-use Rattle.rtui_cell.specs.Symbol.{symbol_text}
-use Rattle.rtui_cell.specs.Look.{look_of}
-use Rattle.rtui_cell.specs.declared.cell.Cell.{Cell}
+use Rattle.rtui_cell.specs.{Symbol.symbol_text, Look.look_of, declared.cell.Cell.Cell}
 use Rattle.rtui_cell.specs.contracts.cell.CellPartialEq.TheImpl as equality
 
 -- equal looks, options and flags; an unset symbol looks like a blank

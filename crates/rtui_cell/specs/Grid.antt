@@ -1,8 +1,6 @@
 -- Grids of looks, and what one put does to them.
 use Rattle.std.specs.Prelude.{ℕ, ◌+◌, ◌&&◌, nat_lt, nat_eq, if◌then◌else◌, List, [], ◌∷◌}
-use Rattle.rtui_cell.specs.Look.{Look, look_of, empty_look}
-use Rattle.rtui_cell.specs.Cell.{width_of}
-use Rattle.rtui_cell.specs.declared.cell.Cell.{Cell}
+use Rattle.rtui_cell.specs.{Look.Look, Look.look_of, Look.empty_look, Cell.width_of, declared.cell.Cell.Cell}
 
 -- the look in a column and a row
 abbrev pub Grid : Type 0

@@ -1,11 +1,7 @@
 -- What a column of a screen looks like.
 use Rattle.std.specs.Prelude.{ℕ, List}
-use Rattle.rtui_style.specs.declared.color.Color.{Color}
-use Rattle.rtui_style.specs.declared.color.Color.TheVariants.{Reset}
-use Rattle.rtui_style.specs.declared.Modifier.{Modifier}
-use Rattle.rtui_style.specs.Modifier.{no_modifier}
-use Rattle.rtui_cell.specs.Symbol.{blank, symbol_text}
-use Rattle.rtui_cell.specs.declared.cell.Cell.{Cell}
+use Rattle.rtui_style.specs.{declared.color.Color.Color, declared.color.Color.TheVariants.Reset, declared.Modifier.Modifier, Modifier.no_modifier}
+use Rattle.rtui_cell.specs.{Symbol.blank, Symbol.symbol_text, declared.cell.Cell.Cell}
 
 -- a text, three colours and a set of modifiers
 pub record Look : Type 0 where

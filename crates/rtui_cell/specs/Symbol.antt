@@ -1,7 +1,6 @@
 -- What a symbol reads as. A text is the list of its bytes.
 use Rattle.std.specs.Prelude.{ℕ, ◌≤◌, List, [], ◌∷◌, ◌++◌, length, Option, Some, None}
-use Rattle.rtui_merge.specs.Merge.{merged}
-use Rattle.rtui_merge.specs.declared.MergeStrategy.{MergeStrategy}
+use Rattle.rtui_merge.specs.{Merge.merged, declared.MergeStrategy.MergeStrategy}
 
 -- one blank
 abbrev pub blank : List ℕ

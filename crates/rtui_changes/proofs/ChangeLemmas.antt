@@ -1,12 +1,9 @@
 -- Changes of each cell of an area: one cell, one after the other, and what stays.
 use Rattle.std.proofs.Common.{◌≡◌, ◌≢◌, ℕ, suc, ◌+◌, ◌-◌, ◌*◌, ◌<◌, ◌≤◌, ◌⊎◌, ⊎_elim, inl, inr, List, length, refl, sym, ap, subst, ◌∙◌, arith, min, max, Result, Ok, Err, OnOk, OnErr}
-use Rattle.std.proofs.lemmas.Bool.{cases_lt}
-use Rattle.std.proofs.lemmas.List.{get_or-set_other, get_or-set_same}
-use Rattle.rtui_geometry.specs.declared.rect.Rect.{Rect}
-use Rattle.rtui_geometry.specs.declared.position.Position.{Position}
+use Rattle.std.proofs.lemmas.{Bool.cases_lt, List.get_or-set_other, List.get_or-set_same}
+use Rattle.rtui_geometry.specs.{declared.rect.Rect.Rect, declared.position.Position.Position}
 use Rattle.rtui_geometry.specs.Rect.{HasPosition, right_edge, bottom_edge, IsInside, intersected}
-use Rattle.rtui_cell.specs.declared.cell.Cell.{Cell}
-use Rattle.rtui_cell.specs.Cell.{empty_cell}
+use Rattle.rtui_cell.specs.{declared.cell.Cell.Cell, Cell.empty_cell}
 use Rattle.rtui_buffer.specs.BufferData.{BufferData, cell_in, with_cell, cell_index, area_size, position_of}
 use Rattle.rtui_widgets.specs.Rendering.{ChangesWithin}
 use Rattle.rtui_buffer.specs.Clipped.{IsClipped}

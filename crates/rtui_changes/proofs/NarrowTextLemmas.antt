@@ -1,36 +1,25 @@
 -- Texts whose graphemes take one column each keep cells plain.
 use Rattle.std.proofs.Common.{◌≡◌, ℕ, zero, suc, ◌+◌, ◌-◌, ◌<◌, ◌≤◌, ◌⊎◌, ⊎_elim, inl, inr, Bool, true, false, if◌then◌else◌, nat_lt, ◌==◌, not, List, [], ◌∷◌, ◌++◌, length, map, take, drop, filter, slice_index_or, All, Some, Option, refl, sym, ap, subst, ◌∙◌, arith, append-nil}
 use Rattle.std.specs.List.{concat}
-use Rattle.std.proofs.lemmas.Bool.{cases_lt}
-use Rattle.std.proofs.lemmas.Bool.Decides.{nat_tests}
+use Rattle.std.proofs.lemmas.{Bool.cases_lt, Bool.Decides.nat_tests}
 use Rattle.std.proofs.lemmas.List.{get_or-take, get_or-drop, get_or_default, length-take}
 use Rattle.std.proofs.lemmas.List.Elements.{All-nil, All-cons, All-head, All-tail, All-take, All-drop, All-append, All-map}
 use Rattle.unicode_segmentation.specs.Grapheme.{graphemes}
-use Rattle.rtui_geometry.specs.declared.rect.Rect.{Rect}
-use Rattle.rtui_geometry.specs.declared.position.Position.{Position}
-use Rattle.rtui_geometry.specs.Rect.{HasPosition, intersected}
-use Rattle.rtui_style.specs.declared.Style.{Style}
-use Rattle.rtui_style.specs.Style.{new_style}
-use Rattle.rtui_cell.specs.declared.cell.Cell.{Cell}
-use Rattle.rtui_cell.specs.Cell.{empty_cell, styled, width_of}
-use Rattle.rtui_cell.specs.Width.{text_width}
-use Rattle.rtui_text.specs.Graphemes.{has_control}
+use Rattle.rtui_geometry.specs.{declared.rect.Rect.Rect, declared.position.Position.Position, Rect.HasPosition, Rect.intersected}
+use Rattle.rtui_style.specs.{declared.Style.Style, Style.new_style}
+use Rattle.rtui_cell.specs.{declared.cell.Cell.Cell, Cell.empty_cell, Cell.styled, Cell.width_of, Width.text_width}
+use Rattle.rtui_text.specs.{Graphemes.has_control, Widths.line_width}
 use Rattle.rtui_text.specs.Text.{SpanData, LineData, TextData, line_of}
-use Rattle.rtui_text.specs.Widths.{line_width}
 use Rattle.rtui_buffer.specs.BufferData.{BufferData, cell_in, cell_index, position_of}
 use Rattle.rtui_buffer.specs.Painting.{Piece, piece_of, piece_at, piece_width, columns, shown, kept, painted_width, has_painted_width}
 use Rattle.rtui_buffer.specs.PaintedText.{pieces_at, room_at, PaintsPieces, IsStyled}
-use Rattle.rtui_buffer.proofs.ShortLemmas.{All-fitting}
-use Rattle.rtui_buffer.proofs.SettledLemmas.{IsIn, is_in, width-shown}
-use Rattle.rtui_changes.specs.Changes.{ChangesEach}
-use Rattle.rtui_changes.specs.Parts.{MakesParts}
+use Rattle.rtui_buffer.proofs.{ShortLemmas.All-fitting, SettledLemmas.IsIn, SettledLemmas.is_in, SettledLemmas.width-shown}
+use Rattle.rtui_changes.specs.{Changes.ChangesEach, Parts.MakesParts, Plain.IsPlain, Plain.IsPlainFrom, Plain.IsPlainOver}
 use Rattle.rtui_widgets.specs.Span.{showing, those_at, is_behind, with_graphemes, column_with, columns_from, span_rendered}
 use Rattle.rtui_widgets.specs.Line.{Part, parts, parts_then, parts_rendered, columns_before, line_rendered}
 use Rattle.rtui_widgets.specs.Rendering.{area_row, RendersRows, in_first_row, RendersSpan, RendersLine, RendersText, text_line, text_row, alignment_or}
-use Rattle.rtui_changes.specs.Plain.{IsPlain, IsPlainFrom, IsPlainOver}
 use Rattle.rtui_changes.specs.NarrowTexts.{IsNarrowGrapheme, HasNarrowGraphemes, AreNarrowSpans, IsNarrowLine, IsNarrowText}
-use Rattle.rtui_changes.proofs.ChangeLemmas.{has-or-not}
-use Rattle.rtui_changes.proofs.PlainLemmas.{plain-empty, plain-styled, plain-if}
+use Rattle.rtui_changes.proofs.{ChangeLemmas.has-or-not, PlainLemmas.plain-empty, PlainLemmas.plain-styled, PlainLemmas.plain-if}
 
 abbrev IsOne : List ℕ → Type 0
 IsOne g = text_width g ≡ 1

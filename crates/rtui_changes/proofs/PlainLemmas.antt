@@ -1,26 +1,19 @@
 -- Plain cells are settled, and painting keeps what is still to be painted plain.
 use Rattle.std.proofs.Common.{◌≡◌, ℕ, ◌+◌, ◌-◌, ◌<◌, ◌≤◌, ◌⊎◌, ⊎_elim, inl, inr, Bool, true, false, List, take, refl, sym, ap, subst, ◌∙◌, arith, if◌then◌else◌, Result, Ok, Err, OnOk}
 use Rattle.std.proofs.lemmas.Bool.{cases_lt}
-use Rattle.rtui_buffer.proofs.ColumnLemmas.{PaintsByColumns-paints}
-use Rattle.rtui_buffer.proofs.TextLemmas.{IsSettled-row}
+use Rattle.rtui_buffer.proofs.{ColumnLemmas.PaintsByColumns-paints, TextLemmas.IsSettled-row, EmptyLemmas.cell-empty}
 use Rattle.rtui_changes.specs.Changes.{ChangesEach}
 use Rattle.rtui_changes.proofs.ChangeLemmas.{has-or-not}
-use Rattle.rtui_buffer.proofs.EmptyLemmas.{cell-empty}
-use Rattle.rtui_buffer.proofs.SettledLemmas.{IsIn, is_in, width-shown}
-use Rattle.rtui_buffer.proofs.ShownLemmas.{index-at}
+use Rattle.rtui_buffer.proofs.{SettledLemmas.IsIn, SettledLemmas.is_in, SettledLemmas.width-shown, ShownLemmas.index-at}
 use Rattle.rtui_buffer.specs.Shown.{IsSettledBuffer}
 use Rattle.rtui_buffer.specs.PaintedText.{IsPaintable, PaintsPieces, PaintsByColumns, PaintsOrRefuses}
 use Rattle.rtui_buffer.specs.Painting.{Piece, piece_at, piece_width, columns, shown}
 use Rattle.rtui_buffer.specs.BufferData.{BufferData, cell_in, cell_index, area_size, IsEmptied, HasRow, position_of}
 use Rattle.rtui_cell.proofs.CellLemmas.{width-empty}
 use Rattle.rtui_cell.specs.Cell.{empty_cell, styled, width_of, is_skipped, IsUnmarked, with_symbol}
-use Rattle.rtui_cell.specs.Width.{text_width}
-use Rattle.rtui_cell.specs.declared.cell.Cell.{Cell}
-use Rattle.rtui_diff.specs.Cells.{cell, cell_at}
-use Rattle.rtui_diff.specs.Settled.{IsSettled, IsBlankOrSkipped}
-use Rattle.rtui_geometry.specs.Rect.{HasPosition, EdgesFit}
-use Rattle.rtui_geometry.specs.declared.position.Position.{Position}
-use Rattle.rtui_geometry.specs.declared.rect.Rect.{Rect}
+use Rattle.rtui_cell.specs.{Width.text_width, declared.cell.Cell.Cell}
+use Rattle.rtui_diff.specs.{Cells.cell, Cells.cell_at, Settled.IsSettled, Settled.IsBlankOrSkipped}
+use Rattle.rtui_geometry.specs.{Rect.HasPosition, Rect.EdgesFit, declared.position.Position.Position, declared.rect.Rect.Rect}
 use Rattle.rtui_style.specs.declared.Style.{Style}
 use Rattle.std.specs.declared.alloc.AllocError.{AllocError}
 use Rattle.rtui_changes.specs.Plain.{IsPlain, IsPlainFrom, IsReadyAt, IsReadyFrom}

@@ -5,11 +5,8 @@ use Rattle.std.proofs.lemmas.List.{take_all, drop_all}
 use Rattle.std.proofs.lemmas.List.Elements.{All-nil, All-cons, All-head, All-tail}
 use Rattle.unicode_segmentation.specs.Grapheme.{graphemes}
 use Rattle.rtui_cell.specs.Width.{text_columns}
-use Rattle.rtui_text.specs.Printable.{ArePrintable, singles}
-use Rattle.rtui_text.specs.Text.{SpanData}
-use Rattle.rtui_text.specs.Widths.{span_width}
-use Rattle.rtui_text.proofs.PrintableLemmas.{graphemes-front}
-use Rattle.rtui_text.proofs.GraphemeLemmas.{graphemes-empty}
+use Rattle.rtui_text.specs.{Printable.ArePrintable, Printable.singles, Text.SpanData, Widths.span_width}
+use Rattle.rtui_text.proofs.{PrintableLemmas.graphemes-front, GraphemeLemmas.graphemes-empty}
 use Rattle.rtui_cell.proofs.WidthLemmas.{one_byte}
 use Rattle.rtui_widgets.specs.Line.{Part, last_fitting, end_of, part_of, parts}
 use Rattle.rtui_changes.specs.NarrowTexts.{IsNarrowGrapheme, HasNarrowGraphemes, AreNarrowSpans}

@@ -2,8 +2,7 @@
 use Rattle.std.specs.Prelude.{◌≡◌, ℕ, true, false, List, All}
 use Rattle.unicode_segmentation.specs.Grapheme.{graphemes}
 use Rattle.rtui_cell.specs.Width.{text_width}
-use Rattle.rtui_text.specs.Graphemes.{has_control}
-use Rattle.rtui_text.specs.Text.{SpanData, LineData, TextData}
+use Rattle.rtui_text.specs.{Graphemes.has_control, Text.SpanData, Text.LineData, Text.TextData}
 use Rattle.rtui_widgets.specs.Line.{parts}
 
 -- a grapheme that shows takes one column; one with a control character doesn't show

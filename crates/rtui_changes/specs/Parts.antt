@@ -1,8 +1,6 @@
 -- Parts of a buffer that are changed apart from each other.
 use Rattle.std.specs.Prelude.{◌≡◌, ℕ, ◌<◌}
-use Rattle.rtui_geometry.specs.declared.rect.Rect.{Rect}
-use Rattle.rtui_geometry.specs.declared.position.Position.{Position}
-use Rattle.rtui_geometry.specs.Rect.{HasPosition}
+use Rattle.rtui_geometry.specs.{declared.rect.Rect.Rect, declared.position.Position.Position, Rect.HasPosition}
 use Rattle.rtui_buffer.specs.BufferData.{BufferData, cell_in}
 
 -- a part of a buffer is what f makes of it, whatever stands beside it

@@ -1,12 +1,8 @@
 -- Plain cells, of which a settled buffer can be painted on.
 use Rattle.std.specs.Prelude.{◌≡◌, ℕ, ◌+◌, ◌<◌, ◌≤◌, ◌⊎◌, false}
-use Rattle.rtui_buffer.specs.Shown.{IsSettledBuffer}
-use Rattle.rtui_buffer.specs.BufferData.{BufferData, cell_in, position_of}
-use Rattle.rtui_cell.specs.Cell.{width_of, is_skipped, IsUnmarked}
-use Rattle.rtui_cell.specs.declared.cell.Cell.{Cell}
-use Rattle.rtui_geometry.specs.Rect.{HasPosition, EdgesFit}
-use Rattle.rtui_geometry.specs.declared.position.Position.{Position}
-use Rattle.rtui_geometry.specs.declared.rect.Rect.{Rect}
+use Rattle.rtui_buffer.specs.{Shown.IsSettledBuffer, BufferData.BufferData, BufferData.cell_in, BufferData.position_of}
+use Rattle.rtui_cell.specs.{Cell.width_of, Cell.is_skipped, Cell.IsUnmarked, declared.cell.Cell.Cell}
+use Rattle.rtui_geometry.specs.{Rect.HasPosition, Rect.EdgesFit, declared.position.Position.Position, declared.rect.Rect.Rect}
 
 -- at most one column, no option and no flag
 pub record IsPlain (c : Cell) : Type 0 where

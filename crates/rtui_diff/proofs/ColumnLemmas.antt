@@ -1,15 +1,10 @@
 -- The replay of the given places, seen at one column of a row of cells without end.
-use Rattle.std.proofs.Common.{◌≡◌, ℕ, zero, suc, ◌+◌, ◌-◌, ◌<◌, ◌≤◌, ◌&&◌, Bool, true, false, not, List, [], ◌∷◌, refl, sym, ap, subst, ◌∙◌, arith, inl, inr}
-use Rattle.std.specs.Prelude.{if◌then◌else◌, nat_lt, nat_eq, max}
-use Rattle.std.proofs.lemmas.Bool.{cases_Bool, cases_lt, false≢true}
-use Rattle.std.proofs.lemmas.Bool.Decides.{nat_tests}
-use Rattle.rtui_cell.specs.declared.cell.Cell.{Cell}
-use Rattle.rtui_cell.specs.Look.{Look, empty_look, look_of}
-use Rattle.rtui_cell.specs.Cell.{empty_cell, width_of, is_skipped}
+use Rattle.std.proofs.Common.{◌≡◌, ℕ, zero, suc, ◌+◌, ◌-◌, ◌<◌, ◌≤◌, ◌&&◌, Bool, true, false, not, List, [], ◌∷◌, refl, sym, ap, subst, ◌∙◌, arith, inl, inr, if◌then◌else◌, nat_lt, nat_eq, max}
+use Rattle.std.proofs.lemmas.{Bool.cases_Bool, Bool.cases_lt, Bool.false≢true, Bool.Decides.nat_tests}
+use Rattle.rtui_cell.specs.{declared.cell.Cell.Cell, Look.Look, Look.empty_look, Look.look_of, Cell.empty_cell, Cell.width_of, Cell.is_skipped}
 use Rattle.rtui_cell.specs.Equality.{is_same}
-use Rattle.rtui_diff.specs.Cells.{cell}
+use Rattle.rtui_diff.specs.{Cells.cell, Settled.IsBlankOrSkipped}
 use Rattle.rtui_diff.specs.DiffRule.{Walk, start, gives, gives_visited, gives_plain, step, give, given}
-use Rattle.rtui_diff.specs.Settled.{IsBlankOrSkipped}
 use Rattle.rtui_cell.proofs.CellLemmas.{same_look, same_width, same_skipped, look-empty, width-empty}
 use Rattle.rtui_diff.proofs.WalkLemmas.{step_cases, given-step, given-none, plain_same, unskipped}
 

@@ -1,15 +1,9 @@
 -- The walk in steps of a whole cell, as the code takes them.
-use Rattle.std.proofs.lemmas.List.{get_or_default}
-use Rattle.std.specs.Prelude.{max}
-use Rattle.std.proofs.Common.{◌≡◌, ℕ, zero, suc, ◌+◌, ◌-◌, ◌<◌, ◌≤◌, Bool, false, List, [], map, length, get_or, refl, sym, ap, ◌∙◌, arith}
-use Rattle.rtui_cell.specs.declared.cell.Cell.{Cell}
-use Rattle.rtui_cell.specs.Cell.{width_of, empty_cell}
-use Rattle.std.proofs.lemmas.Bool.{false≢true}
-use Rattle.rtui_diff.specs.Cells.{cell}
+use Rattle.std.proofs.lemmas.{List.get_or_default, Bool.false≢true}
+use Rattle.std.proofs.Common.{◌≡◌, ℕ, zero, suc, ◌+◌, ◌-◌, ◌<◌, ◌≤◌, Bool, false, List, [], map, length, get_or, refl, sym, ap, ◌∙◌, arith, max}
+use Rattle.rtui_cell.specs.{declared.cell.Cell.Cell, Cell.width_of, Cell.empty_cell}
+use Rattle.rtui_diff.specs.{Cells.cell, Updates.update_at, Remaining.updates_left, declared.diff.DiffWalk.DiffWalk}
 use Rattle.rtui_diff.specs.DiffRule.{Walk, start, gives_plain, gives_visited, step_plain, give, given}
-use Rattle.rtui_diff.specs.Updates.{update_at}
-use Rattle.rtui_diff.specs.Remaining.{updates_left}
-use Rattle.rtui_diff.specs.declared.diff.DiffWalk.{DiffWalk}
 use Rattle.rtui_diff.proofs.WalkLemmas.{given-step, given-none, step_cases}
 
 -- columns that are stepped over give nothing

@@ -1,23 +1,15 @@
 -- What is given for screens that leave something after.
-use Rattle.std.proofs.Common.{◌≡◌, ℕ, zero, suc, ◌+◌, ◌-◌, ◌*◌, ◌/◌, ◌%◌, ◌<◌, ◌≤◌, ◌&&◌, ◌||◌, Bool, true, false, not, List, [], refl, sym, ap, subst, arith, inl, inr}
-use Rattle.std.specs.Prelude.{nat_lt, Contains, All, if◌then◌else◌}
-use Rattle.std.proofs.lemmas.List.Elements.{All-contains}
-use Rattle.std.proofs.lemmas.Nat.{row_fits}
+use Rattle.std.proofs.Common.{◌≡◌, ℕ, zero, suc, ◌+◌, ◌-◌, ◌*◌, ◌/◌, ◌%◌, ◌<◌, ◌≤◌, ◌&&◌, ◌||◌, Bool, true, false, not, List, [], refl, sym, ap, subst, arith, inl, inr, nat_lt, Contains, All, if◌then◌else◌}
+use Rattle.std.proofs.lemmas.{List.Elements.All-contains, Nat.row_fits, Bool.Decides.nat_tests}
 use Rattle.std.proofs.lemmas.Bool.{cases_Bool, cases_lt, false≢true, and_parts}
-use Rattle.std.proofs.lemmas.Bool.Decides.{nat_tests}
-use Rattle.rtui_cell.specs.declared.cell.Cell.{Cell}
-use Rattle.rtui_cell.specs.Cell.{width_of, is_skipped}
+use Rattle.rtui_cell.specs.{declared.cell.Cell.Cell, Cell.width_of, Cell.is_skipped, Equality.is_same_symbol}
 use Rattle.rtui_diff.specs.Cells.{has_fe0f, is_forced, shows_on_blank, cell, cell_at}
-use Rattle.rtui_cell.specs.Equality.{is_same_symbol}
 use Rattle.rtui_diff.specs.DiffRule.{Walk, start, gives, gives_plain, gives_visited, step, give, given}
-use Rattle.rtui_diff.specs.Updates.{updates}
-use Rattle.rtui_diff.specs.Settled.{IsSettled}
-use Rattle.rtui_diff.specs.Completeness.{IsFree, IsDark, IsComplete}
-use Rattle.rtui_diff.proofs.GivenLemmas.{given_at, place_at}
+use Rattle.rtui_diff.specs.{Updates.updates, Settled.IsSettled, Completeness.IsFree, Completeness.IsDark, Completeness.IsComplete}
+use Rattle.rtui_diff.proofs.{GivenLemmas.given_at, GivenLemmas.place_at, ReplayLemmas.Plain, ReplayLemmas.rises, ReplayLemmas.rises_all}
 use Rattle.rtui_diff.proofs.WalkLemmas.{given-step, given-none, unskipped, step_cases}
 use Rattle.rtui_diff.proofs.ColumnLemmas.{Settled, Behind, Stands, column_step, stands_start, behind_width}
 use Rattle.rtui_diff.proofs.FrameLemmas.{settled_flat, row_start, row_end, column_in, row_in}
-use Rattle.rtui_diff.proofs.ReplayLemmas.{Plain, rises, rises_all}
 
 contains_give : (g : Bool) (i c : ℕ) (is : List ℕ) → Contains is c → Contains (give g i is) c
 contains_give true i c is h = (suc h.0, let k = h.1 in omega arith, h.2)

@@ -2,18 +2,9 @@
 use Rattle.std.proofs.Common.{◌≡◌, ◌⊎◌, ℕ, zero, suc, ◌+◌, ◌-◌, ◌*◌, ◌/◌, ◌%◌, ◌<◌, ◌≤◌, true, false, List, [], ◌∷◌, map, All, refl, sym, ap, subst, ◌∙◌, arith, inl, inr, mul_comm, add-one, length, get_or}
 use Rattle.std.proofs.lemmas.Nat.{div_below, mod_below, div-add-mod', row_fits}
 use Rattle.std.proofs.Math.Nat.{add-mul-mod_self_right, add-mul-div_right, mod-eq_of_lt, div-eq_of_lt, mul-le-mul_left, mul-le-mul_right}
-use Rattle.std.proofs.lemmas.Bool.{cases_lt}
-use Rattle.std.proofs.lemmas.Bool.Decides.{nat_tests}
-use Rattle.std.proofs.lemmas.List.Elements.{All-head, All-tail}
-use Rattle.rtui_cell.specs.declared.cell.Cell.{Cell}
-use Rattle.rtui_cell.specs.Look.{Look}
-use Rattle.std.proofs.lemmas.List.{get_or_default}
-use Rattle.rtui_cell.specs.Cell.{empty_cell, width_of, is_skipped}
-use Rattle.rtui_diff.specs.Cells.{cell, cell_at}
-use Rattle.rtui_cell.specs.Grid.{Grid, put, puts}
-use Rattle.rtui_diff.specs.Updates.{update_at}
-use Rattle.rtui_diff.specs.Settled.{IsBlankOrSkipped, IsSettled}
-use Rattle.rtui_diff.specs.Shows.{ShowsColumn}
+use Rattle.std.proofs.lemmas.{Bool.cases_lt, Bool.Decides.nat_tests, List.Elements.All-head, List.Elements.All-tail, List.get_or_default}
+use Rattle.rtui_cell.specs.{declared.cell.Cell.Cell, Look.Look, Cell.empty_cell, Cell.width_of, Cell.is_skipped, Grid.Grid, Grid.put, Grid.puts}
+use Rattle.rtui_diff.specs.{Cells.cell, Cells.cell_at, Updates.update_at, Settled.IsBlankOrSkipped, Settled.IsSettled, Shows.ShowsColumn}
 use Rattle.rtui_diff.proofs.ColumnLemmas.{Settled, ShowsPlace, put_at, after}
 
 module _ (w h : ℕ) where

@@ -1,19 +1,13 @@
 -- Why a place is given.
-use Rattle.std.proofs.Common.{◌≡◌, ℕ, zero, suc, ◌+◌, ◌-◌, ◌*◌, ◌/◌, ◌%◌, ◌<◌, ◌≤◌, ◌&&◌, ◌||◌, Bool, true, false, not, List, ◌∷◌, map, All, refl, sym, ap, subst, ◌∙◌, arith, inl, inr, length, get_or}
-use Rattle.std.specs.Prelude.{nat_lt, filter, cond, Contains}
+use Rattle.std.proofs.Common.{◌≡◌, ℕ, zero, suc, ◌+◌, ◌-◌, ◌*◌, ◌/◌, ◌%◌, ◌<◌, ◌≤◌, ◌&&◌, ◌||◌, Bool, true, false, not, List, ◌∷◌, map, All, refl, sym, ap, subst, ◌∙◌, arith, inl, inr, length, get_or, nat_lt, filter, cond, Contains}
 use Rattle.std.specs.List.{range_with_len}
-use Rattle.std.proofs.lemmas.Nat.{row_fits, mod-mul-add, div-mul-add}
-use Rattle.std.proofs.lemmas.List.{get_or-map, length-map}
+use Rattle.std.proofs.lemmas.{Nat.row_fits, Nat.mod-mul-add, Nat.div-mul-add, List.get_or-map, List.length-map, Bool.Decides.nat_tests}
 use Rattle.std.proofs.lemmas.Bool.{cases_Bool, cases_lt, false≢true, and_parts}
-use Rattle.std.proofs.lemmas.Bool.Decides.{nat_tests}
 use Rattle.std.proofs.lemmas.List.Elements.{All-nil, All-cons, All-head, All-tail, All-contains, All-contains_itself, Contains-get_or}
-use Rattle.rtui_cell.specs.declared.cell.Cell.{Cell}
-use Rattle.rtui_cell.specs.Cell.{empty_cell, width_of, is_skipped}
+use Rattle.rtui_cell.specs.{declared.cell.Cell.Cell, Cell.empty_cell, Cell.width_of, Cell.is_skipped, Equality.is_same, Equality.is_same_symbol}
 use Rattle.rtui_diff.specs.Cells.{has_fe0f, is_forced, is_always, shows_on_blank, cell, cell_at}
-use Rattle.rtui_cell.specs.Equality.{is_same, is_same_symbol}
 use Rattle.rtui_diff.specs.DiffRule.{Walk, start, gives, gives_plain, step, step_plain, give, given}
-use Rattle.rtui_diff.specs.Updates.{update_at, updates}
-use Rattle.rtui_diff.specs.Settled.{IsSettled}
+use Rattle.rtui_diff.specs.{Updates.update_at, Updates.updates, Settled.IsSettled}
 use Rattle.rtui_diff.specs.Completeness.{differing, AreNarrow, IsGiven, Uncovers, IsMinimal}
 use Rattle.rtui_cell.proofs.CellLemmas.{same_symbol, symbol_beside}
 use Rattle.rtui_diff.proofs.WalkLemmas.{given-step, given-none, step_cases, unskipped}

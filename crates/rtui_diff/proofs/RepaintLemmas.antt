@@ -1,16 +1,9 @@
 -- A full repaint of a settled frame shows it, whatever stood there.
-use Rattle.std.proofs.Common.{◌≡◌, ℕ, zero, suc, ◌+◌, ◌*◌, ◌/◌, ◌%◌, ◌<◌, ◌≤◌, ◌&&◌, Bool, true, false, not, cond, List, ◌∷◌, All, refl, sym, subst, ◌∙◌, arith, inl, inr}
-use Rattle.std.specs.Prelude.{if◌then◌else◌, nat_lt, nat_eq, filter}
+use Rattle.std.proofs.Common.{◌≡◌, ℕ, zero, suc, ◌+◌, ◌*◌, ◌/◌, ◌%◌, ◌<◌, ◌≤◌, ◌&&◌, Bool, true, false, not, cond, List, ◌∷◌, All, refl, sym, subst, ◌∙◌, arith, inl, inr, if◌then◌else◌, nat_lt, nat_eq, filter}
 use Rattle.std.specs.List.{range_with_len}
-use Rattle.std.proofs.lemmas.Bool.{cases_lt, false≢true}
-use Rattle.std.proofs.lemmas.Bool.Decides.{nat_tests}
-use Rattle.std.proofs.lemmas.List.Elements.{All-nil, All-cons}
-use Rattle.rtui_cell.specs.declared.cell.Cell.{Cell}
-use Rattle.rtui_cell.specs.Look.{Look, empty_look, look_of}
-use Rattle.rtui_cell.specs.Cell.{width_of, is_skipped}
-use Rattle.rtui_diff.specs.Cells.{cell}
-use Rattle.rtui_cell.specs.Grid.{Grid, puts}
-use Rattle.rtui_diff.specs.Settled.{IsSettled}
+use Rattle.std.proofs.lemmas.{Bool.cases_lt, Bool.false≢true, Bool.Decides.nat_tests, List.Elements.All-nil, List.Elements.All-cons}
+use Rattle.rtui_cell.specs.{declared.cell.Cell.Cell, Look.Look, Look.empty_look, Look.look_of, Cell.width_of, Cell.is_skipped, Grid.Grid, Grid.puts}
+use Rattle.rtui_diff.specs.{Cells.cell, Settled.IsSettled}
 use Rattle.rtui_diff.specs.Shows.{ShowsColumn, Shows, is_plain, repaint}
 use Rattle.rtui_diff.proofs.ColumnLemmas.{Settled, ShowsPlace, put_at, after, step_look, behind_look}
 use Rattle.rtui_diff.proofs.FrameLemmas.{Fits, row_start, row_end, column_in, row_in, settled_flat, column_shown, puts_inside}

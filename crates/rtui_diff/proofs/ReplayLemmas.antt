@@ -1,18 +1,12 @@
 -- The updates rise row by row, and putting them on a grid that shows prev gives one that shows next.
 use Rattle.std.proofs.Common.{◌≡◌, ◌⊎◌, ℕ, zero, suc, ◌+◌, ◌*◌, ◌/◌, ◌%◌, ◌<◌, ◌≤◌, Bool, true, false, List, [], ◌∷◌, map, All, refl, sym, ap, subst, arith, inl, inr}
-use Rattle.std.proofs.lemmas.Nat.{row_fits}
-use Rattle.std.proofs.lemmas.Bool.{cases_lt}
+use Rattle.std.proofs.lemmas.{Nat.row_fits, Bool.cases_lt}
 use Rattle.std.proofs.lemmas.List.Elements.{All-nil, All-cons, All-weaker, All-map}
-use Rattle.rtui_cell.specs.declared.cell.Cell.{Cell}
-use Rattle.rtui_cell.specs.Cell.{width_of, is_skipped}
-use Rattle.rtui_diff.specs.Cells.{cell}
+use Rattle.rtui_cell.specs.{declared.cell.Cell.Cell, Cell.width_of, Cell.is_skipped, Grid.Grid, Grid.puts}
+use Rattle.rtui_diff.specs.{Cells.cell, Settled.IsSettled, Shows.ShowsColumn, Shows.Shows, Shows.Replays}
 use Rattle.rtui_diff.specs.DiffRule.{Walk, start, gives, step, give, given}
-use Rattle.rtui_cell.specs.Grid.{Grid, puts}
 use Rattle.rtui_diff.specs.Updates.{update_at, updates, IsBefore, Rises, IsCellOfNext}
-use Rattle.rtui_diff.specs.Settled.{IsSettled}
-use Rattle.rtui_diff.specs.Shows.{ShowsColumn, Shows, Replays}
-use Rattle.rtui_diff.proofs.WalkLemmas.{given-step, given-none, unskipped}
-use Rattle.rtui_diff.proofs.ColumnLemmas.{replay_column}
+use Rattle.rtui_diff.proofs.{WalkLemmas.given-step, WalkLemmas.given-none, WalkLemmas.unskipped, ColumnLemmas.replay_column}
 use Rattle.rtui_diff.proofs.FrameLemmas.{Fits, row_start, column_in, row_in, row_end, settled_flat, place_shown, column_shown, puts_inside, puts_outside}
 
 abbrev pub Plain : List Cell → ℕ → Type 0

@@ -2,11 +2,8 @@
 use Rattle.std.proofs.Common.{◌≡◌, ℕ, ◌+◌, ◌*◌, ◌/◌, ◌%◌, ◌<◌, ◌≤◌, false, List, sym, subst, arith}
 use borrow.Author.Count.{below_more}
 use Rattle.std.proofs.lemmas.Nat.{mod-mul-add}
-use Rattle.rtui_cell.specs.declared.cell.Cell.{Cell}
-use Rattle.rtui_cell.specs.Cell.{width_of, is_skipped}
-use Rattle.rtui_diff.specs.Cells.{cell}
-use Rattle.rtui_diff.specs.Settled.{IsSettled, IsSettledAt}
-use Rattle.rtui_diff.specs.Shows.{Repaints}
+use Rattle.rtui_cell.specs.{declared.cell.Cell.Cell, Cell.width_of, Cell.is_skipped}
+use Rattle.rtui_diff.specs.{Cells.cell, Settled.IsSettled, Settled.IsSettledAt, Shows.Repaints}
 use Rattle.rtui_diff.proofs.FrameLemmas.{row_start, row_end, column_in, row_in, settled_flat}
 use Rattle.rtui_diff.proofs.RepaintLemmas.{repaints}
 

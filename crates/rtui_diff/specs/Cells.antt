@@ -1,14 +1,9 @@
 -- What the walk asks of a cell, and cells in a row-major list.
 use Rattle.std.specs.Prelude.{ℕ, Bool, true, false, ◌+◌, ◌*◌, ◌==◌, ◌||◌, not, List, chars, slice_index_or}
-use Rattle.std.specs.Int.RustNames.{bit_and}
-use Rattle.std.specs.List.{list_any}
-use Rattle.rtui_style.specs.declared.color.Color.{Color}
-use Rattle.rtui_style.specs.Modifier.{bits_of}
-use Rattle.rtui_cell.specs.declared.cell.Cell.{Cell}
-use Rattle.rtui_cell.specs.declared.cell.CellDiffOption.{CellDiffOption}
+use Rattle.std.specs.{Int.RustNames.bit_and, List.list_any}
+use Rattle.rtui_style.specs.{declared.color.Color.Color, Modifier.bits_of}
+use Rattle.rtui_cell.specs.{declared.cell.Cell.Cell, declared.cell.CellDiffOption.CellDiffOption, Symbol.symbol_text, Cell.empty_cell}
 use Rattle.rtui_cell.specs.declared.cell.CellDiffOption.TheVariants as DiffOption
-use Rattle.rtui_cell.specs.Symbol.{symbol_text}
-use Rattle.rtui_cell.specs.Cell.{empty_cell}
 
 -- the cell at a place of a list, and past its end the empty cell
 abbrev pub cell : List Cell → ℕ → Cell

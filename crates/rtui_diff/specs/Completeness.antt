@@ -1,11 +1,8 @@
 -- Which places are given, in words of columns.
 use Rattle.std.specs.Prelude.{◌≡◌, ℕ, ◌+◌, ◌<◌, ◌≤◌, true, false, ◌&&◌, not, List, filter, Contains}
 use Rattle.std.specs.List.{range_with_len}
-use Rattle.rtui_cell.specs.declared.cell.Cell.{Cell}
-use Rattle.rtui_cell.specs.Cell.{empty_cell, width_of, is_skipped}
+use Rattle.rtui_cell.specs.{declared.cell.Cell.Cell, Cell.empty_cell, Cell.width_of, Cell.is_skipped, Equality.is_same, Equality.is_same_symbol, Grid.Update}
 use Rattle.rtui_diff.specs.Cells.{has_fe0f, is_forced, is_always, shows_on_blank, cell, cell_at}
-use Rattle.rtui_cell.specs.Equality.{is_same, is_same_symbol}
-use Rattle.rtui_cell.specs.Grid.{Update}
 
 -- the unskipped places that differ, of len places
 abbrev pub differing : List Cell → List Cell → ℕ → List ℕ

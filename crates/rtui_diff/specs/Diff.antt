@@ -1,9 +1,7 @@
 -- What a diff promises.
 use Rattle.std.specs.Prelude.{◌≡◌, ℕ, ◌*◌, List, map, All}
-use Rattle.rtui_cell.specs.declared.cell.Cell.{Cell}
-use Rattle.rtui_cell.specs.Grid.{Update}
-use Rattle.rtui_diff.specs.Settled.{IsSettled}
-use Rattle.rtui_diff.specs.Shows.{Replays}
+use Rattle.rtui_cell.specs.{declared.cell.Cell.Cell, Grid.Update}
+use Rattle.rtui_diff.specs.{Settled.IsSettled, Shows.Replays}
 use Rattle.rtui_diff.specs.Updates.{update_at, updates, Rises, IsCellOfNext}
 use Rattle.rtui_diff.specs.Completeness.{AreNarrow, differing, IsMinimal, IsComplete}
 

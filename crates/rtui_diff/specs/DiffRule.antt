@@ -1,9 +1,7 @@
 -- Which places of two frames are given, column by column.
 use Rattle.std.specs.Prelude.{ℕ, zero, suc, ◌+◌, ◌-◌, Bool, true, false, ◌&&◌, ◌||◌, nat_lt, not, if◌then◌else◌, List, [], ◌∷◌}
-use Rattle.rtui_cell.specs.declared.cell.Cell.{Cell}
-use Rattle.rtui_cell.specs.Cell.{width_of, is_skipped}
+use Rattle.rtui_cell.specs.{declared.cell.Cell.Cell, Cell.width_of, Cell.is_skipped, Equality.is_same, Equality.is_same_symbol}
 use Rattle.rtui_diff.specs.Cells.{has_fe0f, is_forced, is_always, shows_on_blank, cell}
-use Rattle.rtui_cell.specs.Equality.{is_same, is_same_symbol}
 
 -- how many columns are stepped over, how many are visited after the present one is done with, and whether the visited ones are given at all events
 pub record Walk : Type 0 where

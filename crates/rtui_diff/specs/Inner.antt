@@ -1,8 +1,6 @@
 -- What private functions promise one another.
 use Rattle.std.specs.Prelude.{◌≡◌}
-use Rattle.rtui_diff.specs.DiffRule.{Walk}
-use Rattle.rtui_diff.specs.declared.diff.DiffWalk.{DiffWalk}
-use Rattle.rtui_diff.specs.declared.step.Step.{Step}
+use Rattle.rtui_diff.specs.{DiffRule.Walk, declared.diff.DiffWalk.DiffWalk, declared.step.Step.Step}
 
 -- the same but for where the walk is
 pub record IsSameBut (old new : DiffWalk) : Type 0 where

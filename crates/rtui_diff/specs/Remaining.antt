@@ -1,9 +1,7 @@
 -- What a diff has still to give.
 use Rattle.std.specs.Prelude.{ℕ, ◌-◌, List, map}
-use Rattle.rtui_diff.specs.DiffRule.{given}
+use Rattle.rtui_diff.specs.{DiffRule.given, Updates.update_at, declared.diff.DiffWalk.DiffWalk}
 use Rattle.rtui_cell.specs.Grid.{Update}
-use Rattle.rtui_diff.specs.Updates.{update_at}
-use Rattle.rtui_diff.specs.declared.diff.DiffWalk.{DiffWalk}
 
 -- the places that a diff has left
 abbrev pub places_left : DiffWalk → List ℕ

@@ -1,8 +1,6 @@
 -- Settled frames: those that a screen can show as they are.
 use Rattle.std.specs.Prelude.{◌≡◌, ◌⊎◌, ℕ, ◌+◌, ◌%◌, ◌<◌, ◌≤◌, true, false, List}
-use Rattle.rtui_cell.specs.declared.cell.Cell.{Cell}
-use Rattle.rtui_cell.specs.Cell.{empty_cell, width_of, is_skipped}
-use Rattle.rtui_cell.specs.Equality.{is_same}
+use Rattle.rtui_cell.specs.{declared.cell.Cell.Cell, Cell.empty_cell, Cell.width_of, Cell.is_skipped, Equality.is_same}
 use Rattle.rtui_diff.specs.Cells.{cell, cell_at}
 
 -- equal to the empty cell, or skipped

@@ -1,12 +1,9 @@
 -- What it means that a grid shows a frame, that a row agrees with a frame's row, and that updates bring a frame on a grid.
 use Rattle.std.specs.Prelude.{◌≡◌, ◌⊎◌, ℕ, ◌+◌, ◌*◌, ◌<◌, ◌≤◌, Bool, false, not, List, map, filter, length, slice_index_or}
 use Rattle.std.specs.List.{range_with_len}
-use Rattle.rtui_cell.specs.declared.cell.Cell.{Cell}
-use Rattle.rtui_cell.specs.Look.{Look, empty_look, look_of}
-use Rattle.rtui_cell.specs.Cell.{width_of, is_skipped}
+use Rattle.rtui_cell.specs.{declared.cell.Cell.Cell, Look.Look, Look.empty_look, Look.look_of, Cell.width_of, Cell.is_skipped}
 use Rattle.rtui_cell.specs.Grid.{Grid, Update, puts}
-use Rattle.rtui_diff.specs.Cells.{cell, cell_at}
-use Rattle.rtui_diff.specs.Updates.{update_at}
+use Rattle.rtui_diff.specs.{Cells.cell, Cells.cell_at, Updates.update_at}
 
 -- an unskipped cell has its look in its column, and the columns after it that it covers have the empty look
 pub record ShowsColumn (w : ℕ) (cells : List Cell) (a b : ℕ) (seen : Look) : Type 0 where

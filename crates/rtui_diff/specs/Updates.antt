@@ -1,10 +1,7 @@
 -- The updates from one frame to the next.
 use Rattle.std.specs.Prelude.{◌≡◌, ◌⊎◌, ℕ, ◌+◌, ◌*◌, ◌/◌, ◌%◌, ◌<◌, false, List, [], ◌∷◌, map, All}
-use Rattle.rtui_cell.specs.declared.cell.Cell.{Cell}
-use Rattle.rtui_cell.specs.Cell.{is_skipped}
-use Rattle.rtui_cell.specs.Grid.{Update}
-use Rattle.rtui_diff.specs.Cells.{cell, cell_at}
-use Rattle.rtui_diff.specs.DiffRule.{given, start}
+use Rattle.rtui_cell.specs.{declared.cell.Cell.Cell, Cell.is_skipped, Grid.Update}
+use Rattle.rtui_diff.specs.{Cells.cell, Cells.cell_at, DiffRule.given, DiffRule.start}
 
 -- the update that gives the cell at a place, if the frame's corner is at (x0, y0) and its rows have w columns
 abbrev pub update_at : ℕ → ℕ → ℕ → List Cell → ℕ → Update

@@ -3,8 +3,7 @@ use Rattle.std.proofs.Common.{ℕ, ◌+◌, ◌-◌, ◌<◌, ◌≤◌, List, [
 use Rattle.std.specs.List.{range_with_len, flat_map, All, AllPairs, Contains}
 use Rattle.std.proofs.lemmas.List.Elements.{All-nil, All-head, All-tail, All-append, Contains-append_left, Contains-append_right}
 use Rattle.std.proofs.Math.Nat.{eq-or-lt_of_le}
-use Rattle.std.proofs.lemmas.List.Kept.{AllPairs-cons}
-use Rattle.std.proofs.lemmas.List.FromFn.{get_or-map-range_with_len, length-map-range_with_len}
+use Rattle.std.proofs.lemmas.{List.Kept.AllPairs-cons, List.FromFn.get_or-map-range_with_len, List.FromFn.length-map-range_with_len}
 
 module _ {X : Type 0} (f : ℕ → X) where
   -- each element is f of a number of the range

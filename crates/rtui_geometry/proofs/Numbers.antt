@@ -1,8 +1,7 @@
 -- The first and the last of the numbers from one up to another.
 use Rattle.std.proofs.Common.{◌≡◌, ℕ, ◌+◌, ◌-◌, ◌<◌, ◌≤◌, [], ◌∷◌, ◌++◌, suc, zero, map, ap, ◌∙◌, arith}
 use Rattle.std.specs.List.{range_with_len}
-use Rattle.std.proofs.lemmas.List.{map-append}
-use Rattle.std.proofs.lemmas.List.FromFn.{length-map-range_with_len}
+use Rattle.std.proofs.lemmas.{List.map-append, List.FromFn.length-map-range_with_len}
 
 pub numbers_none : (from to : ℕ) → to ≤ from → range_with_len from (to - from) ≡ []
 numbers_none from to h = let e : to - from ≡ 0 = omega arith in ap (range_with_len from) e

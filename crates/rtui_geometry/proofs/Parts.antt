@@ -2,8 +2,7 @@
 use Rattle.std.proofs.Common.{◌≡◌, ℕ, ◌+◌, ◌-◌, ◌<◌, ◌≤◌, List, map, refl, arith, subst, inl, inr}
 use Rattle.std.specs.List.{range_with_len, All, Any, AllPairs, Contains}
 use Rattle.std.proofs.lemmas.List.Elements.{All-contains}
-use Rattle.rtui_geometry.specs.declared.position.Position.{Position}
-use Rattle.rtui_geometry.specs.declared.rect.Rect.{Rect}
+use Rattle.rtui_geometry.specs.{declared.position.Position.Position, declared.rect.Rect.Rect}
 use Rattle.rtui_geometry.specs.Rect.{right_edge, bottom_edge, HasPosition, IsInside}
 use Rattle.rtui_geometry.specs.Rows.{row_at, column_at, rows_of, columns_of, positions_in, positions_of, ComesBefore, ListsPositions, ListsRows, ListsColumns}
 use Rattle.rtui_geometry.proofs.Lists.{All-map_range, Contains-map_range, AllPairs-map_range, All-flat_map_range, Contains-flat_map_range, AllPairs-flat_map_range}

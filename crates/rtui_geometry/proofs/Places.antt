@@ -3,9 +3,7 @@ use Rattle.std.proofs.Common.{◌≡◌, ℕ, ◌+◌, ◌-◌, ◌*◌, ◌<◌
 use Rattle.std.specs.List.{flat_map}
 use Rattle.std.proofs.Math.Nat.{mul-le-mul}
 use Rattle.std.proofs.lemmas.List.FromFn.{length-map-range_with_len, length-range_with_len}
-use Rattle.rtui_geometry.specs.declared.position.Position.{Position}
-use Rattle.rtui_geometry.specs.declared.rect.Rect.{Rect}
-use Rattle.rtui_geometry.specs.Rect.{right_edge, bottom_edge, EdgesFit}
+use Rattle.rtui_geometry.specs.{declared.position.Position.Position, declared.rect.Rect.Rect, Rect.right_edge, Rect.bottom_edge, Rect.EdgesFit}
 use Rattle.rtui_geometry.specs.Rows.{numbers, positions_in, positions_from, positions_of}
 use Rattle.rtui_geometry.proofs.Numbers.{numbers_none, numbers_first, map_none, map_first}
 

@@ -1,8 +1,6 @@
 -- A rectangle is the set of its positions. Columns and rows go up to 65535, and edges are cut there.
 use Rattle.std.specs.Prelude.{ℕ, ◌+◌, ◌-◌, ◌*◌, ◌<◌, ◌≤◌, min, max}
-use Rattle.rtui_geometry.specs.declared.margin.Margin.{Margin}
-use Rattle.rtui_geometry.specs.declared.position.Position.{Position}
-use Rattle.rtui_geometry.specs.declared.rect.Rect.{Rect}
+use Rattle.rtui_geometry.specs.{declared.margin.Margin.Margin, declared.position.Position.Position, declared.rect.Rect.Rect}
 
 -- the column right after the rectangle
 abbrev pub right_edge : Rect → ℕ

@@ -1,10 +1,7 @@
 -- One more row of a block.
 use Rattle.std.proofs.Common.{◌≡◌, ℕ, ◌+◌, ◌-◌, ◌*◌, ◌<◌, ◌≤◌, if◌then◌else◌, List, sym, ap, subst, ◌∙◌, arith, inl, inr, true}
-use Rattle.std.proofs.lemmas.Bool.{cases_lt}
-use Rattle.std.proofs.lemmas.Bool.Decides.{nat_tests}
-use Rattle.rtui_grid.specs.declared.block.Block.{Block}
-use Rattle.rtui_grid.specs.Items.{item, item_at}
-use Rattle.rtui_grid.specs.Blocks.{is_in_block, HasBlock}
+use Rattle.std.proofs.lemmas.{Bool.cases_lt, Bool.Decides.nat_tests}
+use Rattle.rtui_grid.specs.{declared.block.Block.Block, Items.item, Items.item_at, Blocks.is_in_block, Blocks.HasBlock}
 use Rattle.rtui_grid.proofs.PlaceLemmas.{by_rows}
 
 -- the first rows of a block

@@ -1,10 +1,8 @@
 -- Elements that are written, or moved.
 use Rattle.std.proofs.Common.{◌≡◌, ℕ, ◌+◌, ◌-◌, ◌<◌, ◌≤◌, ◌++◌, nat_eq, if◌then◌else◌, List, length, take, drop, set, sym, ap, ◌∙◌, arith, inl, inr, length-drop, length-take, map, true, false}
-use Rattle.std.proofs.lemmas.Bool.{cases_lt}
-use Rattle.std.proofs.lemmas.Grind.{common_steps}
+use Rattle.std.proofs.lemmas.{Bool.cases_lt, Grind.common_steps, Bool.Decides.nat_tests}
 use Rattle.std.proofs.lemmas.List.{get_or_append_left, get_or-append_right, get_or-take, get_or-drop, get_or_past, ext_get_or, length-map, get_or-map}
 use Rattle.rtui_grid.specs.Items.{item}
-use Rattle.std.proofs.lemmas.Bool.Decides.{nat_tests}
 
 module _ {T : Type 0} (d : T) where
   -- an element that is written, and the others as they were

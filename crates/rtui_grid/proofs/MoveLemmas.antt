@@ -1,6 +1,5 @@
 -- Rows that move as their places do.
-use Rattle.std.proofs.Common.{◌≡◌, ℕ, true, false, ◌+◌, ◌-◌, ◌*◌, ◌<◌, ◌≤◌, ◌&&◌, nat_lt, Bool, List, refl, ap, ◌∙◌, arith, if◌then◌else◌}
-use Rattle.std.specs.Prelude.{nat_le}
+use Rattle.std.proofs.Common.{◌≡◌, ℕ, true, false, ◌+◌, ◌-◌, ◌*◌, ◌<◌, ◌≤◌, ◌&&◌, nat_lt, Bool, List, refl, ap, ◌∙◌, arith, if◌then◌else◌, nat_le}
 use Rattle.std.proofs.lemmas.Bool.Decides.{nat_tests}
 use Rattle.rtui_grid.specs.Items.{item, item_at}
 use Rattle.rtui_grid.proofs.PlaceLemmas.{rows_join, place_before, place_from}

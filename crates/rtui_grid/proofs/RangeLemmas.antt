@@ -1,7 +1,6 @@
 -- Lists made from a function over places.
 use Rattle.std.proofs.Common.{◌≡◌, ℕ, zero, suc, add-zero, ◌+◌, ◌<◌, ◌++◌, ◌∷◌, [], map, refl, sym, ap, ◌∙◌, arith, append_assoc, ◌≤◌}
-use Rattle.std.proofs.lemmas.List.{append-nil}
-use Rattle.std.proofs.lemmas.List.FromFn.{map-range_with_len_more}
+use Rattle.std.proofs.lemmas.{List.append-nil, List.FromFn.map-range_with_len_more}
 use Rattle.std.specs.List.{range_with_len}
 
 -- the first k places from i on, and the n after them

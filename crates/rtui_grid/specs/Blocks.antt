@@ -1,7 +1,6 @@
 -- Blocks of columns and rows.
 use Rattle.std.specs.Prelude.{◌≡◌, ℕ, ◌+◌, ◌-◌, ◌<◌, Bool, ◌&&◌, nat_le, nat_lt, if◌then◌else◌, List}
-use Rattle.rtui_grid.specs.declared.block.Block.{Block}
-use Rattle.rtui_grid.specs.Items.{item_at}
+use Rattle.rtui_grid.specs.{declared.block.Block.Block, Items.item_at}
 
 -- column a of row b is one of a block's
 abbrev pub is_in_block : Block → ℕ → ℕ → Bool

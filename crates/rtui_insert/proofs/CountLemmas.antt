@@ -3,16 +3,11 @@ use Rattle.std.proofs.Common.{◌≡◌, ℕ, zero, suc, ◌+◌, ◌*◌, ◌<�
 use Rattle.std.specs.List.{range_with_len, count_by}
 use Rattle.std.proofs.lemmas.List.{length-map, drop-drop, get_or-take, get_or-drop}
 use Rattle.std.proofs.lemmas.List.Sums.{length-filter, sum_by-cons, sum_by-append}
-use Rattle.rtui_cell.specs.declared.cell.Cell.{Cell}
-use Rattle.rtui_cell.specs.Cell.{empty_cell, width_of, is_skipped}
-use Rattle.rtui_cell.specs.Equality.{is_same}
+use Rattle.rtui_cell.specs.{declared.cell.Cell.Cell, Cell.empty_cell, Cell.width_of, Cell.is_skipped, Equality.is_same}
 use Rattle.rtui_cell.proofs.CellLemmas.{width-empty, equal_parts}
-use Rattle.rtui_diff.specs.Cells.{cell, is_always}
-use Rattle.rtui_diff.specs.Completeness.{AreNarrow, differing}
+use Rattle.rtui_diff.specs.{Cells.cell, Cells.is_always, Completeness.AreNarrow, Completeness.differing, Updates.update_at}
 use Rattle.rtui_diff.specs.DiffRule.{Walk, given, give, gives, step, start}
-use Rattle.rtui_diff.specs.Updates.{update_at}
-use Rattle.rtui_buffer.specs.BufferData.{BufferData, IsEmptied}
-use Rattle.rtui_buffer.specs.RowsDiff.{part_cells}
+use Rattle.rtui_buffer.specs.{BufferData.BufferData, BufferData.IsEmptied, RowsDiff.part_cells}
 use Rattle.rtui_insert.proofs.MarkLemmas.{part_of_empty}
 use Rattle.rtui_backend.specs.Screen.{Screen}
 use Rattle.rtui_insert.specs.Rows.{DrawsRows, lowered_update, is_nonempty, nonempty_cells, IsNarrowBuffer, WritesAtMost}

@@ -1,13 +1,9 @@
 -- An empty buffer whose first row is skipped for a while.
-use Rattle.std.proofs.Common.{◌≡◌, ℕ, ◌+◌, ◌*◌, ◌<◌, ◌≤◌, ◌&&◌, nat_lt, true, List, length, drop, if◌then◌else◌, refl, ◌∙◌, arith, inl, inr}
-use Rattle.std.specs.Prelude.{nat_le}
-use Rattle.std.proofs.lemmas.Bool.{cases_lt}
-use Rattle.std.proofs.lemmas.Bool.Decides.{nat_tests}
+use Rattle.std.proofs.Common.{◌≡◌, ℕ, ◌+◌, ◌*◌, ◌<◌, ◌≤◌, ◌&&◌, nat_lt, true, List, length, drop, if◌then◌else◌, refl, ◌∙◌, arith, inl, inr, nat_le}
+use Rattle.std.proofs.lemmas.{Bool.cases_lt, Bool.Decides.nat_tests}
 use Rattle.std.proofs.lemmas.List.{get_or-take, get_or-drop, get_or_past, length-take, take_at}
 use Rattle.rtui_geometry.specs.declared.rect.Rect.{Rect}
-use Rattle.rtui_cell.specs.declared.cell.Cell.{Cell}
-use Rattle.rtui_cell.specs.declared.cell.CellDiffOption.TheVariants.{Skip}
-use Rattle.rtui_cell.specs.Cell.{empty_cell, width_of, is_skipped}
+use Rattle.rtui_cell.specs.{declared.cell.Cell.Cell, declared.cell.CellDiffOption.TheVariants.Skip, Cell.empty_cell, Cell.width_of, Cell.is_skipped}
 use Rattle.rtui_cell.proofs.CellLemmas.{width-empty}
 use Rattle.rtui_diff.specs.Cells.{cell}
 use Rattle.rtui_buffer.specs.BufferData.{BufferData, with_cells, IsEmptied, area_size}

@@ -2,12 +2,10 @@
 use Rattle.std.proofs.Common.{◌≡◌, ℕ, ◌+◌, ◌-◌, ◌*◌, ◌<◌, ◌≤◌, List, [], refl, sym, ap, subst, ◌∙◌, arith, min, inl, inr, append-nil}
 use Rattle.rtui_geometry.specs.declared.rect.Rect.{Rect}
 use Rattle.rtui_cell.specs.Look.{Look}
-use Rattle.rtui_buffer.specs.BufferData.{BufferData, IsEmptied}
-use Rattle.rtui_buffer.specs.Shown.{IsSettledBuffer}
+use Rattle.rtui_buffer.specs.{BufferData.BufferData, BufferData.IsEmptied, Shown.IsSettledBuffer}
 use Rattle.rtui_backend.specs.Screen.{Screen, rows_above, ScrollsUp, ScrollsDown}
 use Rattle.rtui_insert.specs.Rows.{IsBlankFor, DrawsRows, DrawsFirstRow, RowsFit, IsNarrowBuffer, nonempty_cells, WritesAtMost}
-use Rattle.rtui_insert.specs.Insertion.{KeepsSizeAndVisibility, AppendsPart}
-use Rattle.rtui_insert.specs.Scrolling.{HasPushed, HasRaised, HasLowered}
+use Rattle.rtui_insert.specs.{Insertion.KeepsSizeAndVisibility, Insertion.AppendsPart, Scrolling.HasPushed, Scrolling.HasRaised, Scrolling.HasLowered}
 use Rattle.rtui_backend.proofs.RegionLemmas.{above_scrolled, blank_scrolled, below_scrolled, above_lowered, blank_lowered, moved_lowered, below_lowered}
 use Rattle.rtui_insert.proofs.ShownLemmas.{ShowsRows, above_grown, parts_join, rows_shown, blank_first, unknown_first}
 use Rattle.rtui_insert.proofs.CountLemmas.{writes_rows, writes_nonempty, nonempty_parts}

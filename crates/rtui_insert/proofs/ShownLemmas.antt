@@ -1,24 +1,16 @@
 -- Rows of a settled buffer, drawn over blank rows by the updates from empty ones.
 use Rattle.std.proofs.Common.{◌≡◌, ℕ, zero, suc, ◌+◌, ◌-◌, ◌*◌, ◌/◌, ◌%◌, ◌<◌, ◌≤◌, ◌⊎◌, min, Bool, true, false, List, [], ◌++◌, map, drop, slice_index_or, refl, sym, ap, subst, ◌∙◌, arith, append_assoc, inl, inr}
 use Rattle.std.specs.List.{range_with_len}
-use Rattle.std.proofs.lemmas.Bool.{cases_lt}
-use Rattle.std.proofs.lemmas.Bool.Decides.{nat_tests}
+use Rattle.std.proofs.lemmas.{Bool.cases_lt, Bool.Decides.nat_tests, List.FromFn.length-map-range_with_len, List.FromFn.get_or-map-range_with_len}
 use Rattle.std.proofs.lemmas.List.{get_or-drop, get_or-take, get_or_append_left, get_or-append_right, length-append}
-use Rattle.std.proofs.lemmas.List.FromFn.{length-map-range_with_len, get_or-map-range_with_len}
-use Rattle.rtui_cell.specs.declared.cell.Cell.{Cell}
-use Rattle.rtui_cell.specs.Cell.{empty_cell, width_of, is_skipped}
-use Rattle.rtui_cell.specs.Look.{Look, look_of, empty_look}
+use Rattle.rtui_cell.specs.{declared.cell.Cell.Cell, Cell.empty_cell, Cell.width_of, Cell.is_skipped, Look.Look, Look.look_of, Look.empty_look}
 use Rattle.rtui_cell.specs.Grid.{Grid, Update, puts}
 use Rattle.rtui_cell.proofs.CellLemmas.{look-empty, width-empty}
-use Rattle.rtui_diff.specs.Cells.{cell, cell_at}
-use Rattle.rtui_diff.specs.Settled.{IsSettled, IsBlankOrSkipped}
-use Rattle.rtui_diff.specs.Shows.{ShowsColumn, Shows, RowAgrees}
+use Rattle.rtui_diff.specs.{Cells.cell, Cells.cell_at, Settled.IsSettled, Settled.IsBlankOrSkipped, Shows.ShowsColumn, Shows.Shows, Shows.RowAgrees}
 use Rattle.rtui_diff.specs.DiffRule.{Walk, given, give, gives, step, start}
 use Rattle.rtui_diff.specs.Updates.{update_at, updates}
-use Rattle.rtui_diff.proofs.DiffPromise.{is_diff}
-use Rattle.rtui_diff.proofs.FrameLemmas.{row_end, row_in}
-use Rattle.rtui_buffer.specs.BufferData.{BufferData, IsEmptied, area_size}
-use Rattle.rtui_buffer.specs.Shown.{IsSettledBuffer}
+use Rattle.rtui_diff.proofs.{DiffPromise.is_diff, FrameLemmas.row_end, FrameLemmas.row_in}
+use Rattle.rtui_buffer.specs.{BufferData.BufferData, BufferData.IsEmptied, BufferData.area_size, Shown.IsSettledBuffer}
 use Rattle.rtui_buffer.proofs.EmptyLemmas.{cell-empty}
 use Rattle.rtui_backend.specs.Screen.{Screen, seen, row_of, rows_above, Draws}
 use Rattle.rtui_buffer.specs.RowsDiff.{part_cells, IsRowsDiff}

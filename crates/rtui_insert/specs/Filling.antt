@@ -1,8 +1,6 @@
 -- What a closure leaves of an empty buffer.
 use Rattle.std.specs.Prelude.{Result, Err, alloc_error}
-use Rattle.std.specs.Borrow.{MutBor}
-use Rattle.std.specs.Fn.{Once, FnOnceReturnsAtMut}
-use Rattle.std.specs.declared.alloc.AllocError.{AllocError}
+use Rattle.std.specs.{Borrow.MutBor, Fn.Once, Fn.FnOnceReturnsAtMut, declared.alloc.AllocError.AllocError}
 use Rattle.rtui_geometry.specs.declared.rect.Rect.{Rect}
 use Rattle.rtui_buffer.specs.BufferData.{BufferData, IsEmptied, HasRoomFor}
 

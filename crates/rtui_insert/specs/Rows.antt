@@ -1,13 +1,8 @@
 -- Rows of a buffer, and what a drawing of them does to a screen.
 use Rattle.std.specs.Prelude.{◌≡◌, ℕ, ◌+◌, ◌-◌, ◌^◌, ◌<◌, ◌≤◌, min, true, false, ◌&&◌, Bool, not, List, map, count_by}
-use Rattle.rtui_cell.specs.declared.cell.Cell.{Cell}
-use Rattle.rtui_cell.specs.Cell.{empty_cell, width_of, is_skipped}
-use Rattle.rtui_cell.specs.Equality.{is_same}
-use Rattle.rtui_cell.specs.Look.{empty_look}
-use Rattle.rtui_cell.specs.Grid.{Update}
+use Rattle.rtui_cell.specs.{declared.cell.Cell.Cell, Cell.empty_cell, Cell.width_of, Cell.is_skipped, Equality.is_same, Look.empty_look, Grid.Update}
 use Rattle.rtui_diff.specs.Cells.{is_always, cell, cell_at}
-use Rattle.rtui_buffer.specs.BufferData.{BufferData, IsEmptied}
-use Rattle.rtui_buffer.specs.RowsDiff.{part_cells, IsRowsDiff}
+use Rattle.rtui_buffer.specs.{BufferData.BufferData, BufferData.IsEmptied, RowsDiff.part_cells, RowsDiff.IsRowsDiff}
 use Rattle.rtui_backend.specs.Screen.{Screen, Draws}
 
 -- an update so many rows further down, at most in the last row that there can be

@@ -1,8 +1,7 @@
 -- Rows that come in above a viewport, part of the screen after part being scrolled for them.
 use Rattle.std.specs.Prelude.{◌≡◌, ℕ, ◌+◌, ◌-◌, ◌*◌, ◌<◌, ◌≤◌, min}
 use Rattle.rtui_geometry.specs.declared.rect.Rect.{Rect}
-use Rattle.rtui_buffer.specs.BufferData.{BufferData}
-use Rattle.rtui_buffer.specs.Shown.{IsSettledBuffer}
+use Rattle.rtui_buffer.specs.{BufferData.BufferData, Shown.IsSettledBuffer}
 use Rattle.rtui_backend.specs.Screen.{Screen, rows_above}
 use Rattle.rtui_insert.specs.Rows.{RowsFit, IsBlankAt, IsNarrowBuffer, nonempty_cells, WritesAtMost}
 use Rattle.rtui_insert.specs.Insertion.{KeepsSizeAndVisibility, HasPlaceAbove, AppendsPart}

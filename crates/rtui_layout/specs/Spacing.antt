@@ -1,7 +1,6 @@
 -- Signed numbers as space or overlap.
 use Rattle.std.specs.Prelude.{ℤ, pos, negsuc, ◌+◌, min}
-use Rattle.rtui_layout.specs.declared.layout.Spacing.{Spacing}
-use Rattle.rtui_layout.specs.declared.layout.Spacing.TheVariants.{Space, Overlap}
+use Rattle.rtui_layout.specs.{declared.layout.Spacing.Spacing, declared.layout.Spacing.TheVariants.Space, declared.layout.Spacing.TheVariants.Overlap}
 
 -- space, or below 0 an overlap of as much
 abbrev pub spacing_from : ℤ → Spacing

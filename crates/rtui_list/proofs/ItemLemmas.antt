@@ -1,22 +1,18 @@
 -- An item of a list over its part, and items one after the other.
-use Rattle.std.proofs.Common.{◌≡◌, ℕ, ◌+◌, ◌-◌, ◌<◌, ◌≤◌, Bool, List, length, Option, refl, sym, ◌∙◌, arith, Result}
+use Rattle.std.proofs.Common.{◌≡◌, ℕ, ◌+◌, ◌-◌, ◌<◌, ◌≤◌, Bool, List, length, Option, refl, sym, ◌∙◌, arith, Result, is_some}
 use Rattle.std.proofs.Math.ListN.{get_or}
-use Rattle.std.specs.Prelude.{is_some}
 use Rattle.std.proofs.lemmas.List.{get_or_default}
 use Rattle.std.specs.declared.alloc.AllocError.{AllocError}
 use Rattle.ratatui_core.specs.Layout.{Rect, Position, HasPosition, IsInside}
-use Rattle.ratatui_core.specs.Style.{Style}
+use Rattle.ratatui_core.specs.{Style.Style, Widgets.ChangesWithin}
 use Rattle.ratatui_core.specs.Buffer.{BufferData, pieces_at, PaintsOrRefuses, MakesParts, position_of}
-use Rattle.ratatui_core.specs.Widgets.{ChangesWithin}
 use Rattle.ratatui_core.proofs.BufferLemmas.{within-wider, text-keeps, Parts-next, Parts-within}
 use Rattle.ratatui_core.proofs.WidgetLemmas.{within-then}
 use Rattle.rtui_boxes.specs.Boxes.{IsBoxArea}
 use Rattle.rtui_boxes.proofs.PaintLemmas.{paints-within}
-use Rattle.rtui_list.specs.declared.list.List.{List as ListData}
-use Rattle.rtui_list.specs.declared.list.ListDirection.{ListDirection}
+use Rattle.rtui_list.specs.{declared.list.List.List as ListData, declared.list.ListDirection.ListDirection}
 use Rattle.rtui_list.specs.declared.list.ListDirection.TheVariants.{TopToBottom, BottomToTop}
-use Rattle.rtui_list.specs.declared.item.ListItem.{ListItem}
-use Rattle.rtui_list.specs.Windows.{item_rows, rows_before, Fit}
+use Rattle.rtui_list.specs.{declared.item.ListItem.ListItem, Windows.item_rows, Windows.rows_before, Windows.Fit}
 use Rattle.rtui_list.specs.Items.{item_part, without_columns, part_row, MarksRow, is_marked, RendersItem, nth_item, part_of_item, ShowsItems, is_selected_at, has_mark_columns, shown_as}
 use Rattle.rtui_list.proofs.WindowLemmas.{rows-next, rows-grow}
 

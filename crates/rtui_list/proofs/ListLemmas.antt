@@ -1,16 +1,12 @@
 -- A list in its style and its box.
 use Rattle.std.proofs.Common.{◌≡◌, ⊎_elim, refl, ap, subst, arith, Result, Ok, Err, OnOk}
 use Rattle.std.specs.declared.alloc.AllocError.{AllocError}
-use Rattle.ratatui_core.specs.Layout.{Rect, intersected}
-use Rattle.ratatui_core.specs.Buffer.{BufferData}
-use Rattle.ratatui_core.specs.Widgets.{ChangesWithin, IsClipped}
+use Rattle.ratatui_core.specs.{Layout.Rect, Layout.intersected, Buffer.BufferData, Widgets.ChangesWithin, Widgets.IsClipped}
 use Rattle.ratatui_core.proofs.WidgetLemmas.{OnPart-clipped}
 use Rattle.rtui_boxes.specs.Boxes.{IsBoxArea}
 use Rattle.rtui_boxes.specs.Framed.{inner_if, IsFramed, IsBare, IsInner}
 use Rattle.rtui_boxes.proofs.FrameLemmas.{frame-within, inner-within}
-use Rattle.rtui_list.specs.declared.list.List.{List as ListData}
-use Rattle.rtui_list.specs.declared.state.ListState.{ListState}
-use Rattle.rtui_list.specs.Items.{ShowsList, ListInFrame, RendersList}
+use Rattle.rtui_list.specs.{declared.list.List.List as ListData, declared.state.ListState.ListState, Items.ShowsList, Items.ListInFrame, Items.RendersList}
 
 clip-some : (area own part : Rect) → IsClipped area own part → IsBare (intersected area own) → ⊥
 clip-some area own part clip bare =

@@ -1,18 +1,12 @@
 -- A list of narrow texts keeps cells plain.
-use Rattle.std.proofs.Common.{◌≡◌, ℕ, zero, suc, ◌+◌, ◌<◌, ◌≤◌, ◌⊎◌, ⊎_elim, inl, inr, Bool, true, false, if◌then◌else◌, List, [], ◌∷◌, length, slice_index_or, All, refl, ap, ◌∙◌, arith}
-use Rattle.std.specs.Prelude.{codes, is_some}
-use Rattle.std.proofs.lemmas.Bool.{cases_lt}
-use Rattle.std.proofs.lemmas.List.Elements.{All-nil, All-head, All-tail}
-use Rattle.ratatui_core.specs.Layout.{Rect, intersected, corner}
-use Rattle.ratatui_core.specs.Style.{Style, patch}
+use Rattle.std.proofs.Common.{◌≡◌, ℕ, zero, suc, ◌+◌, ◌<◌, ◌≤◌, ◌⊎◌, ⊎_elim, inl, inr, Bool, true, false, if◌then◌else◌, List, [], ◌∷◌, length, slice_index_or, All, refl, ap, ◌∙◌, arith, codes, is_some}
+use Rattle.std.proofs.lemmas.{Bool.cases_lt, List.Elements.All-nil, List.Elements.All-head, List.Elements.All-tail}
+use Rattle.ratatui_core.specs.{Layout.Rect, Layout.intersected, Layout.corner, Style.Style, Style.patch}
 use Rattle.ratatui_core.specs.Buffer.{BufferData, Cell, with_symbol, width_of, text_width, pieces_at, IsStyled, IsPlain, IsPlainOver, IsPlainFrom, IsNarrowLine, IsNarrowText, HasNarrowGraphemes}
 use Rattle.ratatui_core.proofs.BufferLemmas.{width-empty, plain-styled, text-plain, pieces-narrow, pieces-plain, changed-plain, styled-plain, parts-plain, over-all, from-over}
-use Rattle.rtui_boxes.specs.Boxes.{IsPlainIfBox}
-use Rattle.rtui_boxes.specs.Framed.{inner_if, IsBare}
+use Rattle.rtui_boxes.specs.{Boxes.IsPlainIfBox, Framed.inner_if, Framed.IsBare}
 use Rattle.rtui_boxes.proofs.InnerLemmas.{plain-framed}
-use Rattle.rtui_list.specs.declared.list.List.{List as ListData}
-use Rattle.rtui_list.specs.declared.item.ListItem.{ListItem}
-use Rattle.rtui_list.specs.declared.state.ListState.{ListState}
+use Rattle.rtui_list.specs.{declared.list.List.List as ListData, declared.item.ListItem.ListItem, declared.state.ListState.ListState}
 use Rattle.rtui_list.specs.Items.{mark_width, without_columns, part_row, with_blank, MarksRow, MarksRows, is_marked, If, RendersItem, nth_item, part_of_item, shown_as, is_selected_at, has_mark_columns, HasNarrowItems, ShowsList, RendersList}
 
 blank-one : text_width (codes " ") ≡ 1

@@ -1,9 +1,7 @@
 -- How many rows items take, and which of them fit.
 use Rattle.std.proofs.Common.{◌≡◌, ℕ, ◌+◌, ◌-◌, ◌<◌, ◌≤◌, ⊎_elim, min, List, length, take, sum_by, refl, sym, ap, subst, ◌∙◌, arith}
 use Rattle.std.proofs.Math.ListN.{get_or}
-use Rattle.std.proofs.lemmas.Bool.{cases_lt}
-use Rattle.std.proofs.lemmas.List.{take-take}
-use Rattle.std.proofs.lemmas.List.Sums.{sum_by_more, sum_by-take-le}
+use Rattle.std.proofs.lemmas.{Bool.cases_lt, List.take-take, List.Sums.sum_by_more, List.Sums.sum_by-take-le}
 use Rattle.rtui_list.specs.declared.item.ListItem.{ListItem}
 use Rattle.rtui_list.specs.Windows.{item_rows, rows_before, Fit, IsFirst, IsPadding, IsScrolled, first_kept, last_kept}
 

@@ -1,18 +1,14 @@
 -- What a list makes of a buffer and of its state.
 use Rattle.std.specs.Prelude.{◌≡◌, ℕ, Bool, true, false, ◌+◌, ◌-◌, ◌<◌, ◌==◌, ◌&&◌, ◌||◌, min, List, [], length, codes, Option, Some, None, is_some, if◌then◌else◌, slice_index_or, All}
-use Rattle.ratatui_core.specs.Layout.{Rect, corner, intersected}
-use Rattle.ratatui_core.specs.Style.{Style, new_style, patch}
-use Rattle.ratatui_core.specs.Text.{text_of}
+use Rattle.ratatui_core.specs.{Layout.Rect, Layout.corner, Layout.intersected, Style.Style, Style.new_style, Style.patch, Text.text_of}
 use Rattle.ratatui_core.specs.Buffer.{BufferData, Cell, styled, with_symbol, pieces_at, text_columns, IsStyled, PaintsPieces, ChangesEach, MakesParts, HasShortGraphemes, HasNarrowGraphemes, IsNarrowText}
 use Rattle.ratatui_core.specs.Widgets.{RendersText, RendersShortText, ChangesWithin, OnPart}
 use Rattle.rtui_boxes.specs.Framed.{IsFramed, IsBare, IsShortFrame, inner_if}
-use Rattle.rtui_list.specs.declared.list.List.{List as ListData}
-use Rattle.rtui_list.specs.declared.list.ListDirection.{ListDirection}
+use Rattle.rtui_list.specs.{declared.list.List.List as ListData, declared.list.ListDirection.ListDirection}
 use Rattle.rtui_list.specs.declared.list.ListDirection.TheVariants.{TopToBottom, BottomToTop}
 use Rattle.rtui_list.specs.declared.list.HighlightSpacing.{HighlightSpacing}
 use Rattle.rtui_list.specs.declared.list.HighlightSpacing.TheVariants.{Always, WhenSelected, Never}
-use Rattle.rtui_list.specs.declared.item.ListItem.{ListItem}
-use Rattle.rtui_list.specs.declared.state.ListState.{ListState}
+use Rattle.rtui_list.specs.{declared.item.ListItem.ListItem, declared.state.ListState.ListState}
 use Rattle.rtui_list.specs.Windows.{item_rows, rows_before, IsCount, IsOffset, last_item}
 
 -- a list of items, without box, styles and highlight symbol

@@ -1,14 +1,9 @@
 -- The symbol of four arms, as the tables by arms give it.
 use Rattle.std.proofs.Common.{◌≡◌, ℕ, ◌&&◌, ◌||◌, not, List, [], ◌∷◌, Option, Some, None, map, refl, get_or, ap, ◌∙◌, sym, Bor, Bool, true, false, if◌then◌else◌}
-use Rattle.std.specs.List.{list_all}
-use Rattle.std.specs.Option.{option_map, option_copied}
-use Rattle.std.specs.Char.{encode_utf8}
-use Rattle.std.specs.Str.{bytes_eq}
-use Rattle.std.specs.Cmp.Lexicographic.{same_text}
+use Rattle.std.specs.{List.list_all, Option.option_map, Option.option_copied, Char.encode_utf8, Str.bytes_eq, Cmp.Lexicographic.same_text}
 use Rattle.std.proofs.lemmas.Bool.{both_ways, and_from, not_from_false, cond_both}
 use Rattle.std.proofs.Math.ListN.{get_or-map}
-use Rattle.rtui_merge.specs.declared.border_symbol.LineStyle.{LineStyle}
-use Rattle.rtui_merge.specs.declared.border_symbol.LineStyle.TheVariants.{Nothing}
+use Rattle.rtui_merge.specs.{declared.border_symbol.LineStyle.LineStyle, declared.border_symbol.LineStyle.TheVariants.Nothing}
 use Rattle.rtui_merge.specs.declared.border_symbol.BorderSymbol.{BorderSymbol}
 use Rattle.rtui_merge.specs.declared.tables.TheConstants.{CROSSINGS, HORIZONTALS, VERTICALS}
 use Rattle.rtui_merge.specs.Arms.{style_number, same_style, same_arms, is_straight, is_corner, bends, contains}

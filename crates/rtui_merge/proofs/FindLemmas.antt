@@ -1,7 +1,6 @@
 -- A search by a key in a list whose keys all have one shape.
 use Rattle.std.proofs.Common.{◌≡◌, List, [], ◌∷◌, Option, None, Some, refl, ap, ◌∙◌, sym, Bool, true, false, inl, inr}
-use Rattle.std.specs.List.{list_all, find}
-use Rattle.std.specs.Option.{option_map}
+use Rattle.std.specs.{List.list_all, List.find, Option.option_map}
 use Rattle.std.proofs.lemmas.Bool.{and_parts, false_from_ne_true, true≢false, cases_Bool}
 
 -- a key of another shape isn't found

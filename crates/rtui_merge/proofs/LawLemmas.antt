@@ -2,8 +2,7 @@
 use Rattle.std.proofs.Common.{◌≡◌, Option, Some, None, IfSome, IsSome, refl}
 use Rattle.std.specs.Char.{encode_utf8}
 use Rattle.rtui_merge.specs.declared.MergeStrategy.TheVariants.{Replace, Exact, Fuzzy}
-use Rattle.rtui_merge.specs.declared.border_symbol.BorderSymbol.{BorderSymbol}
-use Rattle.rtui_merge.specs.Symbols.{symbols, arms_of, symbol_of}
+use Rattle.rtui_merge.specs.{declared.border_symbol.BorderSymbol.BorderSymbol, Symbols.symbols, Symbols.arms_of, Symbols.symbol_of}
 use Rattle.rtui_merge.specs.Merge.{exact, fuzzy, by_arms, merged}
 use Rattle.rtui_merge.specs.Laws.{AreBoxDrawings, DifferInArms, FoundByArms, FuzzyKeepsExact, MergesWithItself}
 use Rattle.rtui_merge.proofs.TableLemmas.{symbol_of-arms_of, arms_of-symbol_of}

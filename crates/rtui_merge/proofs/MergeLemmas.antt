@@ -1,17 +1,13 @@
 -- What merging gives, computed for every pair of border symbols.
 use Rattle.std.proofs.Common.{◌≡◌, ℕ, ◌&&◌, ◌||◌, not, List, Option, Some, None, is_some, refl, ap, ◌∙◌, sym, Bool, true, false, if◌then◌else◌}
-use Rattle.std.specs.List.{list_all}
-use Rattle.std.specs.Bool.{beq}
-use Rattle.std.specs.Cmp.{booleans_Decides}
+use Rattle.std.specs.{List.list_all, Bool.beq, Cmp.booleans_Decides}
 use Rattle.std.proofs.lemmas.Bool.{and_parts, not-true, both_ways}
 use Rattle.rtui_merge.specs.declared.border_symbol.LineStyle.TheVariants.{Plain, Double, Thick}
-use Rattle.rtui_merge.specs.declared.border_symbol.BorderSymbol.{BorderSymbol}
+use Rattle.rtui_merge.specs.{declared.border_symbol.BorderSymbol.BorderSymbol, Shapes.is_mixed, Shapes.is_rounded}
 use Rattle.rtui_merge.specs.Arms.{same_style, same_arms, is_straight, is_corner, bends, contains, replace}
-use Rattle.rtui_merge.specs.Shapes.{is_mixed, is_rounded}
 use Rattle.rtui_merge.specs.Symbols.{symbols, arms_of, symbol_of}
 use Rattle.rtui_merge.specs.Merge.{exact, fuzzy, solid_unless_straight, square_unless_corner, double_or_thick, double_or_plain, right, up, left, down, has_arm, HasArmsOfBoth, Unites}
-use Rattle.rtui_merge.proofs.StyleLemmas.{same_arms-true}
-use Rattle.rtui_merge.proofs.ArmsLemmas.{looked_up, looked_up-is}
+use Rattle.rtui_merge.proofs.{StyleLemmas.same_arms-true, ArmsLemmas.looked_up, ArmsLemmas.looked_up-is}
 use Rattle.rtui_merge.proofs.TableLemmas.{arms_of-row, symbol_of-row, symbol_of-arms_of, arms_of-symbol_of}
 
 -- the rules change no symbol

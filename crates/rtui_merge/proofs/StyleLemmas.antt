@@ -2,9 +2,8 @@
 use Rattle.std.proofs.Common.{◌≡◌, ℕ, zero, suc, ◌||◌, not, List, [], ◌∷◌, map, refl, get_or, ap, ◌∙◌, sym, Bool, true, inl, inr}
 use Rattle.std.specs.List.{list_all}
 use Rattle.std.proofs.lemmas.Bool.{and_parts, eqb-true, or_cases, both_ways, not-true}
-use Rattle.rtui_merge.specs.declared.border_symbol.LineStyle.{LineStyle}
+use Rattle.rtui_merge.specs.{declared.border_symbol.LineStyle.LineStyle, declared.border_symbol.BorderSymbol.BorderSymbol}
 use Rattle.rtui_merge.specs.declared.border_symbol.LineStyle.TheVariants.{Nothing, Plain, Double, Thick, Rounded, DoubleDash, DoubleDashThick, TripleDash, TripleDashThick, QuadrupleDash, QuadrupleDashThick}
-use Rattle.rtui_merge.specs.declared.border_symbol.BorderSymbol.{BorderSymbol}
 use Rattle.rtui_merge.specs.Arms.{style_number, same_style, same_arms}
 
 -- the styles by their numbers

@@ -1,15 +1,9 @@
 -- The arms of a text, by its bytes.
 use Rattle.std.proofs.Common.{◌≡◌, ℕ, ◌+◌, ◌-◌, ◌*◌, ◌/◌, ◌%◌, ◌<◌, ◌≤◌, ◌≢◌, ◌==◌, ◌&&◌, nat_lt, nat_le, List, [], ◌∷◌, Option, None, map, length, refl, get_or, ap, arith, ◌∙◌, sym, Bool, true}
-use Rattle.std.specs.List.{range_with_len, list_all}
-use Rattle.std.specs.Option.{option_map}
-use Rattle.std.specs.Char.{encode_utf8}
-use Rattle.std.specs.Str.{bytes_eq}
-use Rattle.std.specs.Cmp.Lexicographic.{same_text}
+use Rattle.std.specs.{List.range_with_len, List.list_all, Option.option_map, Char.encode_utf8, Str.bytes_eq, Cmp.Lexicographic.same_text}
 use Rattle.std.proofs.lemmas.Bool.{and_parts, false_from_ne_true, eqb-true, leb-true, ltb-true}
-use Rattle.std.proofs.lemmas.List.FromFn.{get_or-map-range_with_len}
-use Rattle.std.proofs.lemmas.Slice.Eq.{text_from_reads}
-use Rattle.rtui_merge.specs.declared.tables.TheConstants.{ARMS}
-use Rattle.rtui_merge.specs.declared.border_symbol.BorderSymbol.{BorderSymbol}
+use Rattle.std.proofs.lemmas.{List.FromFn.get_or-map-range_with_len, Slice.Eq.text_from_reads}
+use Rattle.rtui_merge.specs.{declared.tables.TheConstants.ARMS, declared.border_symbol.BorderSymbol.BorderSymbol}
 use Rattle.rtui_merge.specs.Symbols.{Symbol, arms_of, symbols}
 use Rattle.rtui_merge.proofs.FindLemmas.{find-other_shape}
 

@@ -1,16 +1,10 @@
 -- The table of symbols as a whole: what a test of its rows says of a text and its arms.
 use Rattle.std.proofs.Common.{◌≡◌, ℕ, List, Option, Some, None, refl, ap, ◌∙◌, sym, Bool, true, false}
-use Rattle.std.specs.List.{list_all}
-use Rattle.std.specs.Char.{encode_utf8}
-use Rattle.std.specs.Str.{bytes_eq}
-use Rattle.std.specs.Cmp.Lexicographic.{same_text}
+use Rattle.std.specs.{List.list_all, Char.encode_utf8, Str.bytes_eq, Cmp.Lexicographic.same_text}
 use Rattle.std.proofs.lemmas.Bool.{both_ways}
-use Rattle.rtui_merge.specs.declared.border_symbol.BorderSymbol.{BorderSymbol}
-use Rattle.rtui_merge.specs.Arms.{same_arms, same_style}
+use Rattle.rtui_merge.specs.{declared.border_symbol.BorderSymbol.BorderSymbol, Arms.same_arms, Arms.same_style}
 use Rattle.rtui_merge.specs.Symbols.{Symbol, symbols, arms_of, symbol_of}
-use Rattle.rtui_merge.proofs.FindLemmas.{find-part}
-use Rattle.rtui_merge.proofs.StyleLemmas.{same_arms-true}
-use Rattle.rtui_merge.proofs.ArmsLemmas.{same_symbol, same_symbol-true}
+use Rattle.rtui_merge.proofs.{FindLemmas.find-part, StyleLemmas.same_arms-true, ArmsLemmas.same_symbol, ArmsLemmas.same_symbol-true}
 
 -- a text with its arms is a row
 pub arms_of-row : (test : Symbol → Bool) → list_all test symbols ≡ true → (text : List ℕ) (arms : BorderSymbol) → arms_of text ≡ Some arms → test (record { text = text; arms = arms }) ≡ true

@@ -1,8 +1,7 @@
 -- The arms of a border symbol. `Nothing` is the style of an arm that is not there.
 use Rattle.std.specs.Prelude.{ℕ, Bool, ◌==◌, ◌&&◌, ◌||◌, if◌then◌else◌}
-use Rattle.rtui_merge.specs.declared.border_symbol.LineStyle.{LineStyle}
+use Rattle.rtui_merge.specs.{declared.border_symbol.LineStyle.LineStyle, declared.border_symbol.BorderSymbol.BorderSymbol}
 use Rattle.rtui_merge.specs.declared.border_symbol.LineStyle.TheVariants.{Nothing, Plain, Double, Thick, Rounded, DoubleDash, DoubleDashThick, TripleDash, TripleDashThick, QuadrupleDash, QuadrupleDashThick}
-use Rattle.rtui_merge.specs.declared.border_symbol.BorderSymbol.{BorderSymbol}
 
 -- a number for each style, to tell them apart
 abbrev pub style_number : LineStyle → ℕ

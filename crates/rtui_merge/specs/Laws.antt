@@ -1,11 +1,8 @@
 -- The laws of merging, over the definitions alone.
 use Rattle.std.specs.Prelude.{◌≡◌, ◌↔◌, ℕ, List, ◌++◌, map, Some, IfSome, IsSome, encode_utf8}
 use Rattle.std.specs.List.{range_with_len}
-use Rattle.rtui_merge.specs.declared.MergeStrategy.{MergeStrategy}
-use Rattle.rtui_merge.specs.declared.MergeStrategy.TheVariants.{Exact, Fuzzy}
-use Rattle.rtui_merge.specs.declared.border_symbol.BorderSymbol.{BorderSymbol}
-use Rattle.rtui_merge.specs.Symbols.{symbols, arms_of, symbol_of}
-use Rattle.rtui_merge.specs.Merge.{exact, merged}
+use Rattle.rtui_merge.specs.{declared.MergeStrategy.MergeStrategy, declared.MergeStrategy.TheVariants.Exact, declared.MergeStrategy.TheVariants.Fuzzy}
+use Rattle.rtui_merge.specs.{declared.border_symbol.BorderSymbol.BorderSymbol, Symbols.symbols, Symbols.arms_of, Symbols.symbol_of, Merge.exact, Merge.merged}
 
 -- a text merged with itself is that text
 abbrev pub MergesWithItself : Type 0

@@ -2,11 +2,9 @@
 use Rattle.std.specs.Prelude.{◌≡◌, ℕ, List, Bool, not, ◌&&◌, ◌||◌, Option, Some, None, is_some, IfSome, IsSomeAnd, unwrap_or, if◌then◌else◌}
 use Rattle.rtui_merge.specs.declared.MergeStrategy.{MergeStrategy}
 use Rattle.rtui_merge.specs.declared.MergeStrategy.TheVariants.{Replace, Exact, Fuzzy}
-use Rattle.rtui_merge.specs.declared.border_symbol.LineStyle.{LineStyle}
+use Rattle.rtui_merge.specs.{declared.border_symbol.LineStyle.LineStyle, declared.border_symbol.BorderSymbol.BorderSymbol, Symbols.arms_of, Symbols.symbol_of}
 use Rattle.rtui_merge.specs.declared.border_symbol.LineStyle.TheVariants.{Plain, Double, Thick, Rounded}
-use Rattle.rtui_merge.specs.declared.border_symbol.BorderSymbol.{BorderSymbol}
 use Rattle.rtui_merge.specs.Arms.{is_nothing, contains, is_straight, is_corner, each_arm, replace, solid}
-use Rattle.rtui_merge.specs.Symbols.{arms_of, symbol_of}
 
 -- next's arm, or the one before if next has none
 abbrev pub over : LineStyle → LineStyle → LineStyle

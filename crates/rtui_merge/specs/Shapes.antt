@@ -2,8 +2,7 @@
 use Rattle.std.specs.Prelude.{nat_lt, Bool, ◌&&◌}
 use Rattle.rtui_merge.specs.declared.border_symbol.LineStyle.{LineStyle}
 use Rattle.rtui_merge.specs.declared.border_symbol.LineStyle.TheVariants.{Nothing, Rounded}
-use Rattle.rtui_merge.specs.declared.border_symbol.BorderSymbol.{BorderSymbol}
-use Rattle.rtui_merge.specs.Arms.{style_number, is_corner, contains}
+use Rattle.rtui_merge.specs.{declared.border_symbol.BorderSymbol.BorderSymbol, Arms.style_number, Arms.is_corner, Arms.contains}
 
 -- a horizontal symbol of one style
 abbrev pub across : LineStyle → BorderSymbol

@@ -1,27 +1,19 @@
 -- Shares of a number, and bars over a part of a buffer.
 use Rattle.std.proofs.Common.{◌≡◌, ℕ, ◌+◌, ◌-◌, ◌*◌, ◌/◌, ◌<◌, ◌≤◌, ⊎_elim, Bool, true, false, if◌then◌else◌, nat_lt, List, min, Option, Some, None, refl, arith, Result, Ok, Err, OnOk, OnErr}
 use Rattle.std.proofs.Math.Nat.{div-lt_iff_lt-mul}
-use Rattle.std.specs.declared.alloc.AllocError.{AllocError}
+use Rattle.std.specs.{declared.alloc.AllocError.AllocError, Borrow.Bor}
 use Rattle.ratatui_core.specs.Layout.{Rect, Position, IsInside, corner}
 use Rattle.ratatui_core.specs.Buffer.{BufferData, Cell, ChangesEach, Piece, columns, PaintsPieces, PaintsOrRefuses, HasRow, pieces_at, position_of}
-use Rattle.ratatui_core.specs.Widgets.{ChangesWithin, IsClipped}
+use Rattle.ratatui_core.specs.{Widgets.ChangesWithin, Widgets.IsClipped, Style.Style, Style.new_style, Text.LineData}
 use Rattle.ratatui_core.proofs.BufferLemmas.{Changes-within, within-wider, line-keeps, text-keeps}
 use Rattle.ratatui_core.proofs.WidgetLemmas.{OnPart-clipped}
 use Rattle.rtui_boxes.specs.Boxes.{IsBoxArea}
-use Rattle.rtui_boxes.proofs.PaintLemmas.{paints-within, part-has_row, part-starts}
-use Rattle.ratatui_core.specs.Style.{Style, new_style}
-use Rattle.ratatui_core.specs.Text.{LineData}
-use Rattle.rtui_meters.specs.declared.line_gauge.LineGauge.{LineGauge}
-use Rattle.rtui_meters.specs.declared.scrollbar.Scrollbar.{Scrollbar}
-use Rattle.rtui_meters.specs.declared.scrollbar.Marks.{Marks}
-use Rattle.std.specs.Borrow.{Bor}
-use Rattle.rtui_meters.specs.declared.scrollbar.state.ScrollbarState.{ScrollbarState}
-use Rattle.rtui_meters.specs.declared.scrollbar.ScrollbarOrientation.{ScrollbarOrientation}
+use Rattle.rtui_boxes.proofs.{PaintLemmas.paints-within, PaintLemmas.part-has_row, PaintLemmas.part-starts, BoxLemmas.box-area}
+use Rattle.rtui_meters.specs.{declared.line_gauge.LineGauge.LineGauge, declared.scrollbar.Scrollbar.Scrollbar, declared.scrollbar.Marks.Marks}
+use Rattle.rtui_meters.specs.{declared.scrollbar.state.ScrollbarState.ScrollbarState, declared.scrollbar.ScrollbarOrientation.ScrollbarOrientation}
 use Rattle.rtui_meters.specs.declared.scrollbar.ScrollbarOrientation.TheVariants.{VerticalRight, VerticalLeft, HorizontalBottom, HorizontalTop}
 use Rattle.rtui_meters.specs.Scrollbars.{bar_area, bar_length, track_length, mark_of, marks_of, marked_cell, MarksBar, RendersScrollbar, IsLightMark, IsShortIf, HasShortMarks}
-use Rattle.rtui_boxes.proofs.BoxLemmas.{box-area}
-use Rattle.rtui_meters.specs.Shares.{filled_part, percent_text}
-use Rattle.rtui_meters.specs.Gauges.{label_part}
+use Rattle.rtui_meters.specs.{Shares.filled_part, Shares.percent_text, Gauges.label_part}
 use Rattle.rtui_meters.specs.LineGauges.{pieces_of_label, line_label_pieces, line_start, line_cell, FillsLine}
 
 -- a rounded share of a number is at most the number

@@ -1,30 +1,19 @@
 -- Gauges and scroll bars of narrow symbols keep a buffer settled.
-use Rattle.std.proofs.Common.{◌≡◌, ℕ, zero, suc, ◌+◌, ◌<◌, ◌≤◌, Bool, true, false, ◌&&◌, if◌then◌else◌, nat_lt, ◌==◌, List, [], ◌∷◌, ◌⊎◌, ⊎_elim, inl, inr, Option, Some, None, refl, subst, arith}
-use Rattle.std.specs.Prelude.{codes, slice_index_or, map, drop}
-use Rattle.std.specs.Borrow.{Bor}
+use Rattle.std.proofs.Common.{◌≡◌, ℕ, zero, suc, ◌+◌, ◌<◌, ◌≤◌, Bool, true, false, ◌&&◌, if◌then◌else◌, nat_lt, ◌==◌, List, [], ◌∷◌, ◌⊎◌, ⊎_elim, inl, inr, Option, Some, None, refl, subst, arith, codes, slice_index_or, map, drop}
+use Rattle.std.specs.{Borrow.Bor, List.list_all}
 use Rattle.std.proofs.lemmas.Bool.{cases_lt, and_parts, and_from}
-use Rattle.std.specs.List.{list_all}
 use Rattle.std.proofs.Math.ListN.{get_or-map}
 use Rattle.ratatui_core.specs.Layout.{Rect, Position, EdgesFit, IsInside, intersected, corner}
-use Rattle.ratatui_core.specs.Style.{Style}
-use Rattle.ratatui_core.specs.declared.style.Color.{Color}
-use Rattle.ratatui_core.specs.Symbols.{is_narrow, block_levels}
+use Rattle.ratatui_core.specs.{Style.Style, declared.style.Color.Color, Symbols.is_narrow, Symbols.block_levels}
 use Rattle.ratatui_core.specs.Buffer.{BufferData, Cell, with_symbol, width_of, text_width, columns, IsPlain, IsPlainFrom, IsSettledBuffer}
 use Rattle.ratatui_core.proofs.BufferLemmas.{narrow-test, blocks-narrow, plain-styled, plain-with_symbol, plain-if, plain-changed, painted-settled, text-keeps, PaintsByColumns-paints, ready-row, ready-plain, ready-next, changed-settled}
 use Rattle.rtui_boxes.specs.Boxes.{IsBoxArea, IsPlainIfBox}
-use Rattle.rtui_boxes.proofs.PaintLemmas.{part-right, part-has_row, part-starts}
-use Rattle.rtui_boxes.proofs.InnerLemmas.{settled-frame}
-use Rattle.rtui_meters.specs.declared.gauge.Gauge.{Gauge}
-use Rattle.rtui_meters.specs.declared.gauge.Fill.{Fill}
-use Rattle.rtui_meters.specs.declared.gauge.TheConstants.{FULL_BLOCK, TIPS}
-use Rattle.rtui_meters.specs.declared.line_gauge.LineGauge.{LineGauge}
-use Rattle.rtui_meters.specs.declared.line_gauge.LineFill.{LineFill}
+use Rattle.rtui_boxes.proofs.{PaintLemmas.part-right, PaintLemmas.part-has_row, PaintLemmas.part-starts, InnerLemmas.settled-frame}
+use Rattle.rtui_meters.specs.{declared.gauge.Gauge.Gauge, declared.gauge.Fill.Fill, declared.gauge.TheConstants.FULL_BLOCK, declared.gauge.TheConstants.TIPS}
+use Rattle.rtui_meters.specs.{declared.line_gauge.LineGauge.LineGauge, declared.line_gauge.LineFill.LineFill, declared.scrollbar.Scrollbar.Scrollbar}
 use Rattle.rtui_meters.specs.LineGauges.{line_label_pieces, line_part, line_fill, line_cell, FillsLine, RendersLineGauge, HasNarrowLine}
-use Rattle.rtui_meters.specs.declared.scrollbar.Scrollbar.{Scrollbar}
-use Rattle.rtui_meters.specs.declared.scrollbar.Marks.{Marks}
-use Rattle.rtui_meters.specs.declared.scrollbar.state.ScrollbarState.{ScrollbarState}
+use Rattle.rtui_meters.specs.{declared.scrollbar.Marks.Marks, declared.scrollbar.state.ScrollbarState.ScrollbarState, Shares.eighths_of}
 use Rattle.rtui_meters.specs.Scrollbars.{bar_area, bar_length, track_length, mark_of, marks_of, marked, marked_cell, place_on_bar, MarksBar, RendersScrollbar, IsNarrowIf, HasNarrowMarks}
-use Rattle.rtui_meters.specs.Shares.{eighths_of}
 use Rattle.rtui_meters.specs.Gauges.{label_part, pieces_on_bar, filled_cell, in_colors, is_under_label, text_of_label, style_of_label, FillsArea, FillsGauge, RendersAreaGauge}
 use Rattle.rtui_meters.proofs.MeterLemmas.{label-in, label-row, label-column, pieces-keep}
 

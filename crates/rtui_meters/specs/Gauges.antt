@@ -1,15 +1,10 @@
 -- A gauge: which cell gets which symbol and style.
 use Rattle.std.specs.Prelude.{◌≡◌, ℕ, Bool, ◌+◌, ◌-◌, ◌/◌, ◌==◌, ◌&&◌, not, nat_le, nat_lt, min, List, codes, Option, Some, None, if◌then◌else◌, unwrap_or, slice_index_or, false}
 use Rattle.ratatui_core.specs.Layout.{Rect, Position, corner, intersected}
-use Rattle.ratatui_core.specs.Style.{Style, new_style}
-use Rattle.ratatui_core.specs.declared.style.Color.{Color}
-use Rattle.ratatui_core.specs.declared.style.Color.TheVariants.{Reset}
-use Rattle.ratatui_core.specs.Text.{SpanData}
+use Rattle.ratatui_core.specs.{Style.Style, Style.new_style, declared.style.Color.Color, declared.style.Color.TheVariants.Reset, Text.SpanData}
 use Rattle.ratatui_core.specs.Buffer.{BufferData, Cell, Piece, styled, with_symbol, pieces_at, text_columns, PaintsPieces, ChangesEach, AreShort}
 use Rattle.rtui_boxes.specs.Framed.{RendersInFrame, IsShortFrame, inner_if}
-use Rattle.rtui_meters.specs.declared.gauge.Gauge.{Gauge}
-use Rattle.rtui_meters.specs.declared.gauge.Fill.{Fill}
-use Rattle.rtui_meters.specs.declared.gauge.TheConstants.{FULL_BLOCK, TIPS}
+use Rattle.rtui_meters.specs.{declared.gauge.Gauge.Gauge, declared.gauge.Fill.Fill, declared.gauge.TheConstants.FULL_BLOCK, declared.gauge.TheConstants.TIPS}
 use Rattle.rtui_meters.specs.Shares.{share_of, filled_part, rounded_part, eighths_of, percent_text, is_full}
 
 -- an empty gauge, without box, label and styles

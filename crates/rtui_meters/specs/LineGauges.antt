@@ -1,13 +1,10 @@
 -- A gauge in one row: a label, and a line that is filled up to a column.
 use Rattle.std.specs.Prelude.{◌≡◌, ℕ, ◌+◌, ◌-◌, ◌≤◌, nat_lt, min, List, Option, Some, None, if◌then◌else◌}
 use Rattle.ratatui_core.specs.Layout.{Rect, Position, corner, intersected}
-use Rattle.ratatui_core.specs.Style.{new_style}
-use Rattle.ratatui_core.specs.Text.{LineData}
+use Rattle.ratatui_core.specs.{Style.new_style, Text.LineData}
 use Rattle.ratatui_core.specs.Buffer.{BufferData, Cell, Piece, styled, with_symbol, pieces_at, line_pieces_at, columns, PaintsPieces, ChangesEach, AreShort, IsShort, text_width}
 use Rattle.rtui_boxes.specs.Framed.{RendersInFrame, IsShortFrame, inner_if}
-use Rattle.rtui_meters.specs.declared.line_gauge.LineGauge.{LineGauge}
-use Rattle.rtui_meters.specs.declared.line_gauge.LineFill.{LineFill}
-use Rattle.rtui_meters.specs.declared.line_gauge.TheConstants.{PLAIN_LINE}
+use Rattle.rtui_meters.specs.{declared.line_gauge.LineGauge.LineGauge, declared.line_gauge.LineFill.LineFill, declared.line_gauge.TheConstants.PLAIN_LINE}
 use Rattle.rtui_meters.specs.Shares.{share_of, filled_part, percent_text}
 
 -- an empty gauge of plain lines, without box, label and styles

@@ -1,21 +1,15 @@
 -- A scroll bar: where it stands, and where its thumb is.
 use Rattle.std.specs.Prelude.{◌≡◌, ℕ, Bool, true, false, ◌+◌, ◌-◌, ◌*◌, ◌<◌, ◌≤◌, ◌⊎◌, nat_lt, min, max, List, [], ◌∷◌, codes, encode_utf8_all, Option, Some, None, if◌then◌else◌, ⊤}
 use Rattle.std.specs.Borrow.{Bor}
-use Rattle.ratatui_core.specs.Layout.{Rect, Position}
-use Rattle.ratatui_core.specs.Symbols.{scrollbar_texts}
-use Rattle.ratatui_core.specs.Style.{Style, new_style}
-use Rattle.ratatui_core.specs.declared.symbols.scrollbar.Set.{Set}
+use Rattle.ratatui_core.specs.{Layout.Rect, Layout.Position, Symbols.scrollbar_texts, Style.Style, Style.new_style, declared.symbols.scrollbar.Set.Set}
 use Rattle.ratatui_core.specs.Buffer.{BufferData, Cell, styled, with_symbol, ChangesEach, IsShort, text_width}
 use Rattle.ratatui_core.specs.Widgets.{ChangesWithin, OnPart}
 use Rattle.rtui_boxes.specs.Boxes.{last_column, last_row}
-use Rattle.rtui_meters.specs.declared.scrollbar.Scrollbar.{Scrollbar}
-use Rattle.rtui_meters.specs.declared.scrollbar.Marks.{Marks}
-use Rattle.rtui_meters.specs.declared.scrollbar.state.ScrollbarState.{ScrollbarState}
+use Rattle.rtui_meters.specs.{declared.scrollbar.Scrollbar.Scrollbar, declared.scrollbar.Marks.Marks, declared.scrollbar.state.ScrollbarState.ScrollbarState}
 use Rattle.rtui_meters.specs.declared.scrollbar.state.ScrollDirection.{ScrollDirection}
 use Rattle.rtui_meters.specs.declared.scrollbar.state.ScrollDirection.TheVariants.{Forward, Backward}
-use Rattle.rtui_meters.specs.declared.scrollbar.ScrollbarOrientation.{ScrollbarOrientation}
+use Rattle.rtui_meters.specs.{declared.scrollbar.ScrollbarOrientation.ScrollbarOrientation, Shares.rounded_quotient}
 use Rattle.rtui_meters.specs.declared.scrollbar.ScrollbarOrientation.TheVariants.{VerticalRight, VerticalLeft, HorizontalBottom, HorizontalTop}
-use Rattle.rtui_meters.specs.Shares.{rounded_quotient}
 
 -- the position is one further, as far as the content goes
 abbrev pub moved_on : ScrollbarState → ScrollbarState

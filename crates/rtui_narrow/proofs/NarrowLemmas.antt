@@ -1,19 +1,13 @@
 -- Each symbol that borders can be joined of is narrow, and so is what is joined of narrow ones.
-use Rattle.std.proofs.Common.{◌≡◌, ℕ, ◌≤◌, Bool, true, false, if◌then◌else◌, List, [], ◌∷◌, length, Option, Some, None, unwrap_or, refl, subst, arith}
-use Rattle.std.specs.Prelude.{nat_le}
-use Rattle.std.specs.List.{find, list_all}
-use Rattle.std.specs.Option.{option_map}
-use Rattle.std.specs.Char.{encode_utf8}
-use Rattle.std.proofs.lemmas.Bool.{and_parts}
-use Rattle.std.proofs.lemmas.Bool.Decides.{nat_tests}
+use Rattle.std.proofs.Common.{◌≡◌, ℕ, ◌≤◌, Bool, true, false, if◌then◌else◌, List, [], ◌∷◌, length, Option, Some, None, unwrap_or, refl, subst, arith, nat_le}
+use Rattle.std.specs.{List.find, List.list_all, Option.option_map, Char.encode_utf8}
+use Rattle.std.proofs.lemmas.{Bool.and_parts, Bool.Decides.nat_tests}
 use Rattle.unicode_width.proofs.Computing.{unicode_width}
 use Rattle.rtui_merge.specs.Symbols.{Symbol, symbols, symbol_of, arms_of}
-use Rattle.rtui_merge.specs.Arms.{same_arms}
+use Rattle.rtui_merge.specs.{Arms.same_arms, declared.MergeStrategy.MergeStrategy}
 use Rattle.rtui_merge.specs.Merge.{merged, by_arms, exact, fuzzy}
-use Rattle.rtui_merge.specs.declared.MergeStrategy.{MergeStrategy}
 use Rattle.rtui_merge.specs.declared.MergeStrategy.TheVariants.{Replace, Exact, Fuzzy}
-use Rattle.rtui_cell.specs.Symbol.{joined, symbol_text, IsShort}
-use Rattle.rtui_cell.specs.Width.{text_width}
+use Rattle.rtui_cell.specs.{Symbol.joined, Symbol.symbol_text, Symbol.IsShort, Width.text_width}
 use Rattle.rtui_narrow.specs.Narrow.{IsNarrow, is_narrow}
 
 pub narrow-test : (text : List ℕ) → is_narrow text ≡ true → IsNarrow text

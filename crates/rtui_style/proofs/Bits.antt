@@ -1,8 +1,6 @@
 -- Sets of sixteen bits as numbers: what is in either, and what is in one and not in the other.
 use Rattle.std.proofs.Common.{◌≡◌, ℕ, ◌-◌, ◌<◌, ◌^◌, sym, ap, ◌∙◌, arith}
-use Rattle.std.specs.Int.RustNames.{bit_and, bit_or}
-use Rattle.std.specs.Int.{bit_at, w16}
-use Rattle.std.specs.Int.Bits.{and_zero_l, or_zero_l, or_zero_r}
+use Rattle.std.specs.{Int.RustNames.bit_and, Int.RustNames.bit_or, Int.bit_at, Int.w16, Int.Bits.and_zero_l, Int.Bits.or_zero_l, Int.Bits.or_zero_r}
 use Rattle.std.proofs.lemmas.Nat.{and_le_l, or_lt, and_mask}
 use Rattle.std.proofs.lemmas.Nat.Bits.{bit_at_and, bit_at_or, bit_at_not, bit_at-lt, same_from_bits_below}
 use Rattle.std.proofs.Math.Nat.{mod-eq_of_lt}

@@ -1,8 +1,7 @@
 -- The names of colours: a text is compared with a name character by character.
 use Rattle.std.proofs.Common.{◌≡◌, ℕ, ◌+◌, ◌<◌, ◌≤◌, Bool, true, false, ◌&&◌, cond, nat_eq, List, [], ◌∷◌, length, drop, get_or, map, filter, ap, ap₂, eqb, sym, ◌∙◌, arith}
 use Rattle.std.specs.Cmp.Lexicographic.{pointwise}
-use Rattle.std.proofs.lemmas.List.{at_drop_more, at_drop_all, nil_from_length}
-use Rattle.std.proofs.lemmas.Bool.{eq-eqb, ne_eqb}
+use Rattle.std.proofs.lemmas.{List.at_drop_more, List.at_drop_all, List.nil_from_length, Bool.eq-eqb, Bool.ne_eqb}
 use Rattle.rtui_style.specs.Color.{is_kept, lowered}
 
 -- those of these characters that count in a name

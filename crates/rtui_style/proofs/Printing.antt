@@ -2,9 +2,7 @@
 use Rattle.std.proofs.Common.{◌≡◌, ℕ, ◌<◌, ◌^◌, ◌-◌, true, false, List, [], ◌++◌, codes, ap, ap₂, sym, ◌∙◌}
 use Rattle.std.specs.Fmt.{padded_integral, format_spec, digits}
 use Rattle.std.proofs.lemmas.Fmt as fmt
-use Rattle.rtui_style.specs.declared.color.Color.{Color}
-use Rattle.rtui_style.specs.declared.color.Color.TheVariants.{Rgb}
-use Rattle.rtui_style.specs.Color.{color_text, hex_byte}
+use Rattle.rtui_style.specs.{declared.color.Color.Color, declared.color.Color.TheVariants.Rgb, Color.color_text, Color.hex_byte}
 
 -- what `{:02X}` writes
 abbrev pub padded_hex : ℕ → List ℕ

@@ -1,7 +1,6 @@
 -- A printed colour is read as itself.
 use Rattle.std.proofs.Common.{◌≡◌, ℕ, ◌/◌, ◌%◌, ◌<◌, Bool, true, false, eqb, Option, Some, None, refl, ap, ap₂, ◌∙◌}
-use Rattle.std.specs.Fmt.{decimal, digit_glyph, digits}
-use Rattle.std.specs.Str.{chars}
+use Rattle.std.specs.{Fmt.decimal, Fmt.digit_glyph, Fmt.digits, Str.chars}
 use Rattle.std.proofs.lemmas.Bool.{agree_below, agree_below_at, eqb-true}
 use Rattle.rtui_style.specs.declared.color.Color.{Color}
 use Rattle.rtui_style.specs.declared.color.Color.TheVariants.{Reset, Black, Red, Green, Yellow, Blue, Magenta, Cyan, Gray, DarkGray, LightRed, LightGreen, LightYellow, LightBlue, LightMagenta, LightCyan, White, Rgb, Indexed}

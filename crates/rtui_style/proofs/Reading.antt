@@ -1,14 +1,10 @@
 -- Reading a colour: a name, an index, or three bytes.
 use Rattle.std.proofs.Common.{◌≡◌, ℕ, ◌<◌, ◌^◌, Bool, true, false, ◌&&◌, nat_lt, List, [], ◌∷◌, length, Option, Some, None, option_map, Result, Ok, refl, ap, sym, ◌∙◌, arith, if◌then◌else◌}
-use Rattle.std.specs.Char.{digit_value}
-use Rattle.std.specs.List.{list_all}
+use Rattle.std.specs.{Char.digit_value, List.list_all}
 use Rattle.std.specs.Str.Parse.{AllDigits, IsNumeral, digits_value, without_leading_plus}
-use Rattle.std.proofs.lemmas.Bool.Decides.{nat_tests}
-use Rattle.rtui_style.specs.declared.color.Color.{Color}
-use Rattle.rtui_style.specs.declared.color.Color.TheVariants.{Indexed}
-use Rattle.rtui_style.specs.declared.color.ParseColorError.{ParseColorError}
+use Rattle.std.proofs.lemmas.{Bool.Decides.nat_tests, Bool.and_parts, Bool.and_from}
+use Rattle.rtui_style.specs.{declared.color.Color.Color, declared.color.Color.TheVariants.Indexed, declared.color.ParseColorError.ParseColorError}
 use Rattle.rtui_style.specs.Color.{named_color, color_index, hex_color, color_of, color_or_error, first_of}
-use Rattle.std.proofs.lemmas.Bool.{and_parts, and_from}
 
 abbrev is_digit : ℕ → Bool
 is_digit c = nat_lt (digit_value c) 10

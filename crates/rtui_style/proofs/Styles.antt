@@ -1,9 +1,6 @@
 -- The laws of styles, over the definitions.
 use Rattle.std.proofs.Common.{◌≡◌, ℕ, ◌<◌, ◌^◌, Option, Some, None, refl, ap, ◌∙◌}
-use Rattle.rtui_style.specs.declared.color.Color.{Color}
-use Rattle.rtui_style.specs.declared.Modifier.{Modifier}
-use Rattle.rtui_style.specs.declared.Style.{Style}
-use Rattle.rtui_style.specs.Modifier.{bits_of, modifier_of}
+use Rattle.rtui_style.specs.{declared.color.Color.Color, declared.Modifier.Modifier, declared.Style.Style, Modifier.bits_of, Modifier.modifier_of}
 use Rattle.rtui_style.specs.Style.{new_style, patch, color_or, color_after, modifier_after}
 use Rattle.rtui_style.proofs.Bits as bits
 

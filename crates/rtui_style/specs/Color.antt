@@ -1,14 +1,9 @@
 -- The text of a colour, as it is printed and as it is read.
 use Rattle.std.specs.Prelude.{ℕ, ◌+◌, ◌*◌, ◌/◌, ◌%◌, ◌^◌, Bool, true, ◌&&◌, ◌||◌, not, nat_eq, nat_lt, ◌==◌, if◌then◌else◌, List, [], ◌∷◌, ◌++◌, codes, map, filter, find, length, Option, Some, None, option_map, Result, Ok, Err}
-use Rattle.std.specs.Char.{digit_value, to_ascii_lowercase}
-use Rattle.std.specs.Cmp.Lexicographic.{pointwise}
-use Rattle.std.specs.Fmt.{decimal, digit_glyph}
-use Rattle.std.specs.List.{list_all}
-use Rattle.std.specs.Str.{chars}
+use Rattle.std.specs.{Char.digit_value, Char.to_ascii_lowercase, Cmp.Lexicographic.pointwise, Fmt.decimal, Fmt.digit_glyph, List.list_all, Str.chars}
 use Rattle.std.specs.Str.Parse.{digits_value, without_leading_plus}
-use Rattle.rtui_style.specs.declared.color.Color.{Color}
+use Rattle.rtui_style.specs.{declared.color.Color.Color, declared.color.ParseColorError.ParseColorError}
 use Rattle.rtui_style.specs.declared.color.Color.TheVariants.{Reset, Black, Red, Green, Yellow, Blue, Magenta, Cyan, Gray, DarkGray, LightRed, LightGreen, LightYellow, LightBlue, LightMagenta, LightCyan, White, Rgb, Indexed}
-use Rattle.rtui_style.specs.declared.color.ParseColorError.{ParseColorError}
 
 -- a byte as two hexadecimal digits in upper case
 abbrev pub hex_byte : ℕ → List ℕ

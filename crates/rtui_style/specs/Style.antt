@@ -1,10 +1,7 @@
 -- Styles as data, what one laid over another comes to, and what a style makes of colours and modifiers.
 use Rattle.std.specs.Prelude.{Bool, ◌&&◌, not, Option, Some, None}
 use Rattle.rtui_style.specs.Modifier.{no_modifier, all_modifiers, modifier_with, modifier_without, has_all}
-use Rattle.rtui_style.specs.declared.color.Color.{Color}
-use Rattle.rtui_style.specs.declared.color.Color.TheVariants.{Reset}
-use Rattle.rtui_style.specs.declared.Modifier.{Modifier}
-use Rattle.rtui_style.specs.declared.Style.{Style}
+use Rattle.rtui_style.specs.{declared.color.Color.Color, declared.color.Color.TheVariants.Reset, declared.Modifier.Modifier, declared.Style.Style}
 
 -- the style that changes nothing
 abbrev pub new_style : Style

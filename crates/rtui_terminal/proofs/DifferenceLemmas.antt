@@ -1,16 +1,10 @@
 -- What a draw of the differences leaves on a screen.
 use Rattle.std.proofs.Common.{◌≡◌, ◌⊎◌, ℕ, ◌+◌, ◌*◌, ◌<◌, ◌≤◌, List, length, map, sym, ap, subst, ◌∙◌, arith, inl, inr}
-use Rattle.std.proofs.lemmas.Bool.{cases_lt}
-use Rattle.std.proofs.lemmas.List.{length-map}
-use Rattle.rtui_geometry.specs.declared.rect.Rect.{Rect}
-use Rattle.rtui_geometry.specs.Rect.{EdgesFit}
+use Rattle.std.proofs.lemmas.{Bool.cases_lt, List.length-map}
+use Rattle.rtui_geometry.specs.{declared.rect.Rect.Rect, Rect.EdgesFit}
 use Rattle.rtui_cell.specs.Grid.{Update}
-use Rattle.rtui_diff.specs.Settled.{IsSettled}
-use Rattle.rtui_diff.specs.Shows.{ShowsColumn, Shows, Replays}
-use Rattle.rtui_diff.specs.Updates.{update_at}
-use Rattle.rtui_diff.specs.Completeness.{AreNarrow, differing}
-use Rattle.rtui_buffer.specs.BufferData.{BufferData}
-use Rattle.rtui_buffer.specs.Shown.{IsSettledBuffer, common_rows, buffer_updates}
+use Rattle.rtui_diff.specs.{Settled.IsSettled, Shows.ShowsColumn, Shows.Shows, Shows.Replays, Updates.update_at, Completeness.AreNarrow, Completeness.differing}
+use Rattle.rtui_buffer.specs.{BufferData.BufferData, Shown.IsSettledBuffer, Shown.common_rows, Shown.buffer_updates}
 use Rattle.rtui_backend.specs.Screen.{Screen, Draws, IsWithin}
 use Rattle.rtui_terminal.specs.Writing.{WritesDifferences, differing_count}
 

@@ -1,26 +1,18 @@
 -- Each call that does what its relation says is faithful, and so is a list of them.
 use Rattle.std.proofs.Common.{◌≡◌, ◌⊎◌, ℕ, Bool, true, false, List, [], ◌∷◌, ◌++◌, Option, refl, sym, ap, ◌∙◌, subst, inl, inr, append_assoc, append-nil}
-use Rattle.rtui_geometry.specs.declared.position.Position.{Position}
-use Rattle.rtui_geometry.specs.declared.rect.Rect.{Rect}
-use Rattle.rtui_cell.specs.Look.{Look}
-use Rattle.rtui_cell.specs.Grid.{Grid}
+use Rattle.rtui_geometry.specs.{declared.position.Position.Position, declared.rect.Rect.Rect}
+use Rattle.rtui_cell.specs.{Look.Look, Grid.Grid}
 use Rattle.rtui_diff.specs.Shows.{ShowsColumn}
-use Rattle.rtui_buffer.specs.BufferData.{BufferData, IsEmptied}
-use Rattle.rtui_buffer.specs.Shown.{IsSettledBuffer, ShowsBuffer}
+use Rattle.rtui_buffer.specs.{BufferData.BufferData, BufferData.IsEmptied, Shown.IsSettledBuffer, Shown.ShowsBuffer}
 use Rattle.rtui_backend.specs.Screen.{Screen, KeepsSizeAndHistory, IsOnScreen, screen_area, with_visible, with_cursor}
-use Rattle.rtui_viewport.specs.Viewports.{IsFixed, IsInline}
-use Rattle.rtui_viewport.specs.declared.viewport.Viewport.{Viewport}
+use Rattle.rtui_viewport.specs.{Viewports.IsFixed, Viewports.IsInline, declared.viewport.Viewport.Viewport}
 use Rattle.rtui_viewport.specs.declared.viewport.Viewport.TheVariants.{Fullscreen, Inline, Fixed}
 use Rattle.rtui_insert.specs.Insertion.{AreRowsOfAll, AppendsRows}
-use Rattle.rtui_terminal.specs.TerminalData.{TerminalData}
+use Rattle.rtui_terminal.specs.{TerminalData.TerminalData, Cursor.Stays, Cursor.MovesCursor, Resizing.Resizes, Resizing.Autoresizes}
 use Rattle.rtui_terminal.specs.InStep.{IsReady, IsInStep, IsSized, KeepsAroundViewport, rows_over}
-use Rattle.rtui_terminal.specs.Cursor.{Stays, MovesCursor}
-use Rattle.rtui_terminal.specs.Resizing.{Resizes, Autoresizes}
-use Rattle.rtui_terminal.specs.Writing.{Applies, HasDrawn, cursor_placed}
-use Rattle.rtui_terminal.specs.Drawing.{DrawsFrame}
+use Rattle.rtui_terminal.specs.{Writing.Applies, Writing.HasDrawn, Writing.cursor_placed, Drawing.DrawsFrame}
 use Rattle.rtui_terminal.specs.Headline.{Call, Draw, Apply, Insert, Clear, Resize, Autoresize, HideCursor, ShowCursor, SetCursor, Ask, Paint, Refuse, Event, Along, last_state, inserted_by, inserted_along, MayTakeSize, Does, IsFair, HasKnownSize, IsSteady, IsKeptOrEmptied, Leaves, IsFaithful}
-use Rattle.rtui_terminal.proofs.StepLemmas.{on_same}
-use Rattle.rtui_terminal.proofs.KeepLemmas.{rest_of, size_more, placed_size}
+use Rattle.rtui_terminal.proofs.{StepLemmas.on_same, KeepLemmas.rest_of, KeepLemmas.size_more, KeepLemmas.placed_size}
 
 none_appended : (old new : List (List Look)) → new ≡ old → AppendsRows [] old new
 none_appended old new e = record { rows = []; appended = e ∙ sym (append-nil old); agree = refl }

@@ -1,28 +1,21 @@
 -- Rows that were scrolled in above a viewport, as one insertion.
-use Rattle.std.proofs.Common.{◌≡◌, ℕ, ◌+◌, ◌-◌, ◌*◌, ◌<◌, ◌≤◌, ◌++◌, min, nat_lt, if◌then◌else◌, List, [], ◌∷◌, slice_index_or, refl, sym, ap, ◌∙◌, subst, arith, append-nil, inl, inr}
-use Rattle.std.proofs.lemmas.Bool.{cases_lt}
-use Rattle.std.proofs.lemmas.Bool.Decides.{nat_tests}
+use Rattle.std.proofs.Common.{◌≡◌, ℕ, ◌+◌, ◌-◌, ◌*◌, ◌<◌, ◌≤◌, ◌++◌, min, nat_lt, if◌then◌else◌, List, [], ◌∷◌, slice_index_or, refl, sym, ap, ◌∙◌, subst, arith, append-nil, inl, inr, ◌⊎◌, Result, Ok, Err, OnOk, OnErr}
+use Rattle.std.proofs.lemmas.{Bool.cases_lt, Bool.Decides.nat_tests}
 use Rattle.rtui_geometry.specs.declared.rect.Rect.{Rect}
 use Rattle.rtui_cell.specs.Look.{Look}
 use Rattle.rtui_diff.specs.Shows.{ShowsColumn, RowAgrees}
 use Rattle.rtui_buffer.specs.BufferData.{BufferData, IsEmptied, area_size, empty_cells}
 use Rattle.rtui_buffer.specs.Shown.{IsSettledBuffer, ShowsBuffer}
 use Rattle.rtui_backend.specs.Screen.{Screen, rows_above}
-use Rattle.std.specs.Prelude.{◌⊎◌, Result, Ok, Err, OnOk, OnErr}
 use Rattle.std.specs.declared.alloc.AllocError.{AllocError}
-use Rattle.rtui_terminal.specs.Faults.{FailsOnlyByBackend}
-use Rattle.rtui_terminal.specs.declared.terminal.error.TerminalError.{TerminalError}
+use Rattle.rtui_terminal.specs.{Faults.FailsOnlyByBackend, declared.terminal.error.TerminalError.TerminalError, TerminalData.TerminalData}
 use Rattle.rtui_terminal.specs.declared.terminal.error.TerminalError.TheVariants.{Backend, Memory, Area, Closure}
-use Rattle.rtui_insert.specs.Rows.{IsBlankFor, DrawsRows, nonempty_cells}
+use Rattle.rtui_insert.specs.{Rows.IsBlankFor, Rows.DrawsRows, Rows.nonempty_cells, Following.Follows}
 use Rattle.rtui_insert.specs.Insertion.{AppendsRows, KeepsSizeAndVisibility, HasPlaceAbove, AppendsPart}
 use Rattle.rtui_insert.specs.Scrolling.{HasPushed, HasRaised, HasLowered, PushesRows, InsertsDown, InsertsUp, rows_down}
-use Rattle.rtui_insert.specs.Following.{Follows}
-use Rattle.rtui_terminal.specs.TerminalData.{TerminalData}
-use Rattle.rtui_terminal.specs.InStep.{IsInStep, rows_over}
-use Rattle.rtui_terminal.specs.Insertion.{inserted_area, TakesRows}
+use Rattle.rtui_terminal.specs.{InStep.IsInStep, InStep.rows_over, Insertion.inserted_area, Insertion.TakesRows}
 use Rattle.rtui_insert.proofs.ShownLemmas.{ShowsRows, parts_join, rows_shown, blank_first}
-use Rattle.rtui_insert.proofs.CountLemmas.{writes_rows, nonempty_parts}
-use Rattle.rtui_insert.proofs.PushLemmas.{more_rows, no_part}
+use Rattle.rtui_insert.proofs.{CountLemmas.writes_rows, CountLemmas.nonempty_parts, PushLemmas.more_rows, PushLemmas.no_part}
 use Rattle.rtui_terminal.specs.Insertion.{Inserts, StopsInserting, InsertsBy}
 
 -- all rows of a buffer were appended

@@ -1,22 +1,15 @@
 -- What calls keep of the rows above a viewport and of all columns outside it.
 use Rattle.std.proofs.Common.{◌≡◌, ℕ, ◌+◌, ◌<◌, Option, Some, None, refl, sym, ap, ◌∙◌, subst, inl, inr, arith}
-use Rattle.rtui_geometry.specs.declared.position.Position.{Position}
-use Rattle.rtui_geometry.specs.declared.rect.Rect.{Rect}
-use Rattle.rtui_buffer.specs.BufferData.{BufferData}
-use Rattle.rtui_buffer.specs.Shown.{IsSettledBuffer}
+use Rattle.rtui_geometry.specs.{declared.position.Position.Position, declared.rect.Rect.Rect}
+use Rattle.rtui_buffer.specs.{BufferData.BufferData, Shown.IsSettledBuffer}
 use Rattle.rtui_backend.specs.Screen.{Screen, KeepsSizeAndHistory, IsOnScreen, IsWithin, rows_above}
 use Rattle.rtui_backend.proofs.ScrollLemmas.{above_same}
-use Rattle.rtui_viewport.specs.Areas.{KeepsOutside, IsBlankBelow}
-use Rattle.rtui_viewport.specs.Clearing.{ClearsArea}
-use Rattle.rtui_viewport.specs.Viewports.{IsFixed, IsInline}
+use Rattle.rtui_viewport.specs.{Areas.KeepsOutside, Areas.IsBlankBelow, Clearing.ClearsArea, Viewports.IsFixed, Viewports.IsInline}
 use Rattle.rtui_viewport.specs.declared.viewport.Viewport.{Viewport}
 use Rattle.rtui_viewport.specs.declared.viewport.Viewport.TheVariants.{Fullscreen, Inline, Fixed}
 use Rattle.rtui_viewport.proofs.ClearLemmas.{keeps_outside, keeps_above}
-use Rattle.rtui_terminal.specs.TerminalData.{TerminalData, IsInPlace}
+use Rattle.rtui_terminal.specs.{TerminalData.TerminalData, TerminalData.IsInPlace, Writing.HasDrawn, Writing.cursor_placed, Cursor.Stays, Resizing.Autoresizes}
 use Rattle.rtui_terminal.specs.InStep.{IsInStep, IsSized, KeepsAroundViewport, rows_over}
-use Rattle.rtui_terminal.specs.Writing.{HasDrawn, cursor_placed}
-use Rattle.rtui_terminal.specs.Cursor.{Stays}
-use Rattle.rtui_terminal.specs.Resizing.{Autoresizes}
 
 placed_grid : (cursor : Option Position) (s : Screen) (a b : ℕ) → (cursor_placed cursor s).grid a b ≡ s.grid a b
 placed_grid None s a b = refl

@@ -1,9 +1,7 @@
 -- A call's answer that is passed on with another error.
-use Rattle.std.specs.Prelude.{◌≡◌, Result, Ok, Err, IsErr, IsErrAnd, MatchResult, OnOk, OnErr, is_ok}
-use Rattle.std.proofs.Common.{refl, sym, subst, true≢false}
-use Rattle.rtui_terminal.specs.declared.terminal.error.TerminalError.{TerminalError}
+use Rattle.std.proofs.Common.{refl, sym, subst, true≢false, ◌≡◌, Result, Ok, Err, IsErr, IsErrAnd, MatchResult, OnOk, OnErr, is_ok}
+use Rattle.rtui_terminal.specs.{declared.terminal.error.TerminalError.TerminalError, Faults.FailsOnlyByBackend}
 use Rattle.rtui_terminal.specs.declared.terminal.error.TerminalError.TheVariants.{Area, Backend, Closure, Memory}
-use Rattle.rtui_terminal.specs.Faults.{FailsOnlyByBackend}
 
 -- what the call's Ok shows
 pub passed_ok : {T U E D Q : Type 0} (called : Result T E) (passed : Result U D) → is_ok passed ≡ is_ok called → ((x : T) → called ≡ Ok x → Q) → OnOk passed Q

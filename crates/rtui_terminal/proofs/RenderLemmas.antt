@@ -1,15 +1,10 @@
 -- A closure's call, and what came before and after, as one draw.
-use Rattle.std.proofs.Common.{Option, Result, Ok, Err, sym, subst, inl, inr}
-use Rattle.std.specs.Prelude.{MatchResult}
+use Rattle.std.proofs.Common.{Option, Result, Ok, Err, sym, subst, inl, inr, MatchResult}
 use Rattle.std.specs.declared.alloc.AllocError.{AllocError}
 use Rattle.rtui_geometry.specs.declared.position.Position.{Position}
-use Rattle.rtui_buffer.specs.BufferData.{BufferData}
-use Rattle.rtui_buffer.specs.Shown.{IsSettledBuffer}
+use Rattle.rtui_buffer.specs.{BufferData.BufferData, Shown.IsSettledBuffer}
 use Rattle.rtui_backend.specs.Screen.{Screen}
-use Rattle.rtui_terminal.specs.TerminalData.{TerminalData}
-use Rattle.rtui_terminal.specs.InStep.{IsInStep}
-use Rattle.rtui_terminal.specs.Writing.{Applies, ApplyErr}
-use Rattle.rtui_terminal.specs.Resizing.{Autoresizes, AutoresizeErr}
+use Rattle.rtui_terminal.specs.{TerminalData.TerminalData, InStep.IsInStep, Writing.Applies, Writing.ApplyErr, Resizing.Autoresizes, Resizing.AutoresizeErr}
 use Rattle.rtui_terminal.specs.Drawing.{DrawOk, FrameErr, DrawErr, TryDrawErr}
 use Rattle.rtui_terminal.proofs.KeepLemmas.{rest_more, autoresized_rest, painted_rest}
 use Rattle.rtui_terminal.specs.declared.terminal.error.TerminalError.{TerminalError}

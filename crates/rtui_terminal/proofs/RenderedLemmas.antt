@@ -1,21 +1,14 @@
 -- A draw whose closure only renders over an empty buffer.
-use Rattle.std.proofs.Common.{◌≡◌, ℕ, zero, suc, ◌-◌, ◌++◌, ⊎_elim, ◌∷◌, length, take, refl, sym, ap, subst, ◌∙◌, arith, Result, Ok, Err, Option, inl, inr}
-use Rattle.std.specs.Prelude.{alloc_error}
+use Rattle.std.proofs.Common.{◌≡◌, ℕ, zero, suc, ◌-◌, ◌++◌, ⊎_elim, ◌∷◌, length, take, refl, sym, ap, subst, ◌∙◌, arith, Result, Ok, Err, Option, inl, inr, alloc_error}
 use Rattle.std.specs.declared.alloc.AllocError.{AllocError}
-use Rattle.rtui_geometry.specs.declared.position.Position.{Position}
-use Rattle.rtui_geometry.specs.declared.rect.Rect.{Rect}
+use Rattle.rtui_geometry.specs.{declared.position.Position.Position, declared.rect.Rect.Rect}
 use Rattle.rtui_cell.specs.Cell.{empty_cell}
 use Rattle.rtui_buffer.specs.BufferData.{BufferData, IsEmptied, empty_cells, area_size}
 use Rattle.rtui_backend.specs.Screen.{Screen, screen_area}
-use Rattle.rtui_terminal.specs.TerminalData.{HasAreas, TerminalData}
-use Rattle.rtui_terminal.specs.InStep.{IsReady, IsSized}
-use Rattle.rtui_terminal.specs.Faults.{IsBackendFault}
-use Rattle.rtui_terminal.specs.declared.terminal.error.TerminalError.{TerminalError}
+use Rattle.rtui_terminal.specs.{TerminalData.HasAreas, TerminalData.TerminalData, InStep.IsReady, InStep.IsSized, Faults.IsBackendFault}
+use Rattle.rtui_terminal.specs.{declared.terminal.error.TerminalError.TerminalError, Resizing.Autoresizes, Resizing.Resizes, Resizing.IsResized, Cursor.Stays}
 use Rattle.rtui_terminal.specs.declared.terminal.error.TerminalError.TheVariants.{Backend, Memory, Area, Closure}
-use Rattle.rtui_terminal.specs.Resizing.{Autoresizes, Resizes, IsResized}
-use Rattle.rtui_terminal.specs.Cursor.{Stays}
-use Rattle.rtui_terminal.specs.Drawing.{DrawOk, DrawErr, PaintedErr}
-use Rattle.rtui_terminal.specs.Rendered.{ShowsRendered}
+use Rattle.rtui_terminal.specs.{Drawing.DrawOk, Drawing.DrawErr, Drawing.PaintedErr, Rendered.ShowsRendered}
 
 -- whatever a closure painted over a current buffer, it is what this rendering over the viewport makes of that buffer
 abbrev pub OnlyRenders : {B X : Type 0} → (TerminalData B → Result (Unit {0}) X → Option Position → BufferData → Type 0) → (Rect → BufferData → BufferData → Type 0) → Type 0

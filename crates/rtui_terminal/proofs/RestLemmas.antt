@@ -1,39 +1,20 @@
 -- A terminal at rest: each call of an application keeps it so.
-use Rattle.std.proofs.Common.{◌≡◌, ◌⊎◌, ℕ, ◌+◌, ◌-◌, ◌<◌, ◌≤◌, min, nat_lt, Bool, true, false, if◌then◌else◌, Option, refl, sym, ap, subst, ◌∙◌, inl, inr, arith}
-use Rattle.std.specs.Prelude.{nat_le, ◌||◌}
-use Rattle.std.proofs.lemmas.Bool.{cases_lt}
-use Rattle.std.proofs.lemmas.Bool.Decides.{nat_tests}
-use Rattle.rtui_geometry.specs.declared.position.Position.{Position}
-use Rattle.rtui_geometry.specs.declared.rect.Rect.{Rect}
-use Rattle.rtui_geometry.specs.declared.size.Size.{Size}
-use Rattle.rtui_geometry.specs.Rect.{EdgesFit}
-use Rattle.rtui_buffer.specs.BufferData.{BufferData, IsEmptied}
-use Rattle.rtui_buffer.specs.Shown.{IsSettledBuffer, ShowsBuffer}
+use Rattle.std.proofs.Common.{◌≡◌, ◌⊎◌, ℕ, ◌+◌, ◌-◌, ◌<◌, ◌≤◌, min, nat_lt, Bool, true, false, if◌then◌else◌, Option, refl, sym, ap, subst, ◌∙◌, inl, inr, arith, nat_le, ◌||◌}
+use Rattle.std.proofs.lemmas.{Bool.cases_lt, Bool.Decides.nat_tests}
+use Rattle.rtui_geometry.specs.{declared.position.Position.Position, declared.rect.Rect.Rect, declared.size.Size.Size, Rect.EdgesFit}
+use Rattle.rtui_buffer.specs.{BufferData.BufferData, BufferData.IsEmptied, Shown.IsSettledBuffer, Shown.ShowsBuffer}
 use Rattle.rtui_backend.specs.Screen.{Screen, IsOnScreen, screen_area, size_of}
 use Rattle.rtui_viewport.specs.declared.viewport.Viewport.{Viewport}
 use Rattle.rtui_viewport.specs.declared.viewport.Viewport.TheVariants.{Fullscreen, Inline, Fixed}
-use Rattle.rtui_viewport.specs.Viewports.{IsFixed, IsInline}
-use Rattle.rtui_viewport.specs.Areas.{KeepsOutside, IsBlankBelow, Empties}
-use Rattle.rtui_viewport.specs.Sizing.{first_area}
-use Rattle.rtui_viewport.specs.Placing.{area_in, raised, inline_area}
-use Rattle.rtui_viewport.specs.Clearing.{HasPlace, ClearsArea, is_emptied}
+use Rattle.rtui_viewport.specs.{Viewports.IsFixed, Viewports.IsInline, Areas.KeepsOutside, Areas.IsBlankBelow, Areas.Empties, Sizing.first_area}
+use Rattle.rtui_viewport.specs.{Placing.area_in, Placing.raised, Placing.inline_area, Clearing.HasPlace, Clearing.ClearsArea, Clearing.is_emptied}
 use Rattle.rtui_viewport.specs.Lying.{FitsSize, MayLie}
 use Rattle.rtui_viewport.proofs.ClearLemmas.{keeps_outside}
-use Rattle.rtui_terminal.specs.TerminalData.{TerminalData, cursor_offset}
-use Rattle.rtui_terminal.specs.InStep.{IsInStep, IsSized, KeepsAroundViewport}
-use Rattle.rtui_terminal.specs.AtRest.{IsAtRest}
-use Rattle.rtui_terminal.specs.Cursor.{Stays}
-use Rattle.rtui_terminal.specs.Starting.{IsBlank, Starts}
-use Rattle.rtui_terminal.specs.Writing.{Applies}
-use Rattle.rtui_terminal.specs.Drawing.{DrawsFrame}
-use Rattle.rtui_terminal.specs.Resizing.{Resizes}
-use Rattle.rtui_terminal.specs.Clearing.{ClearsViewport}
-use Rattle.rtui_terminal.specs.Insertion.{Inserts, TakesRows}
-use Rattle.rtui_terminal.proofs.HeadlineLemmas.{not_both}
-use Rattle.rtui_terminal.proofs.InsertionLemmas.{emptied-moved}
-use Rattle.rtui_terminal.proofs.KeepLemmas.{below-kept}
-use Rattle.rtui_terminal.proofs.RenderedLemmas.{resized-empty, sized-stays}
-use Rattle.rtui_terminal.proofs.StartLemmas.{starts-blank, starts-in-step}
+use Rattle.rtui_terminal.specs.{TerminalData.TerminalData, TerminalData.cursor_offset, InStep.IsInStep, InStep.IsSized, InStep.KeepsAroundViewport}
+use Rattle.rtui_terminal.specs.{AtRest.IsAtRest, Cursor.Stays, Starting.IsBlank, Starting.Starts, Writing.Applies, Drawing.DrawsFrame, Resizing.Resizes}
+use Rattle.rtui_terminal.specs.{Clearing.ClearsViewport, Insertion.Inserts, Insertion.TakesRows}
+use Rattle.rtui_terminal.proofs.{HeadlineLemmas.not_both, InsertionLemmas.emptied-moved, KeepLemmas.below-kept}
+use Rattle.rtui_terminal.proofs.{RenderedLemmas.resized-empty, RenderedLemmas.sized-stays, StartLemmas.starts-blank, StartLemmas.starts-in-step}
 
 -- sizes and areas from columns and rows
 pub same_size : (r s : Screen) → r.width ≡ s.width → r.height ≡ s.height → size_of r ≡ size_of s

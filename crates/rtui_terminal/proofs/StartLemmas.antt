@@ -1,17 +1,12 @@
 -- What stands after the start of a terminal.
 use Rattle.std.proofs.Common.{◌≡◌, ℕ, ◌+◌, ◌<◌, ◌≤◌, sym, ap, ap₂, subst, ◌∙◌, arith, append-nil, inl, inr}
-use Rattle.std.proofs.lemmas.Bool.{cases_lt}
-use Rattle.std.proofs.lemmas.Bool.Decides.{nat_tests}
+use Rattle.std.proofs.lemmas.{Bool.cases_lt, Bool.Decides.nat_tests}
 use Rattle.rtui_geometry.specs.declared.rect.Rect.{Rect}
 use Rattle.rtui_cell.specs.Look.{empty_look}
 use Rattle.rtui_backend.specs.Screen.{Screen, Scrolls, IsOnScreen, seen, rows_above, lines_past, screen_area}
 use Rattle.rtui_backend.proofs.ScrollLemmas.{above_kept}
-use Rattle.rtui_viewport.specs.declared.viewport.Viewport.{Viewport}
-use Rattle.rtui_viewport.specs.declared.viewport.Viewport.TheVariants.{Inline}
-use Rattle.rtui_viewport.specs.Placing.{area_in, rows_scrolled}
-use Rattle.rtui_terminal.specs.TerminalData.{TerminalData}
-use Rattle.rtui_terminal.specs.InStep.{IsInStep}
-use Rattle.rtui_terminal.specs.Starting.{IsBlank, Starts, StartsInRow}
+use Rattle.rtui_viewport.specs.{declared.viewport.Viewport.Viewport, declared.viewport.Viewport.TheVariants.Inline, Placing.area_in, Placing.rows_scrolled}
+use Rattle.rtui_terminal.specs.{TerminalData.TerminalData, InStep.IsInStep, Starting.IsBlank, Starting.Starts, Starting.StartsInRow}
 
 no-rows-past : (s : Screen) → s.cursor_y + 1 ≤ s.height → lines_past s 0 ≡ 0
 no-rows-past s low = grind (arith, nat_tests)

@@ -1,27 +1,19 @@
 -- An emptied viewport is in step with an emptied buffer.
-use Rattle.std.proofs.Common.{◌≡◌, ◌∙◌, ℕ, Option, Bool, true, false, refl, ap, subst, arith}
-use Rattle.std.specs.Prelude.{nat_lt, min, ◌-◌, ◌||◌, if◌then◌else◌}
+use Rattle.std.proofs.Common.{◌≡◌, ◌∙◌, ℕ, Option, Bool, true, false, refl, ap, subst, arith, nat_lt, min, ◌-◌, ◌||◌, if◌then◌else◌}
 use Rattle.std.specs.Option.{unwrap_or}
 use Rattle.std.proofs.lemmas.Bool.Decides.{nat_tests}
-use Rattle.rtui_geometry.specs.declared.position.Position.{Position}
-use Rattle.rtui_geometry.specs.declared.rect.Rect.{Rect}
-use Rattle.rtui_geometry.specs.Rect.{corner, EdgesFit}
+use Rattle.rtui_geometry.specs.{declared.position.Position.Position, declared.rect.Rect.Rect, Rect.corner, Rect.EdgesFit}
 use Rattle.rtui_cell.specs.Look.{Look, empty_look}
 use Rattle.rtui_buffer.specs.BufferData.{BufferData, IsEmptied, IsSameBuffer}
 use Rattle.rtui_buffer.proofs.EmptyLemmas.{IsSettledBuffer-empty, ShowsBuffer-empty}
 use Rattle.rtui_backend.specs.Screen.{Screen, Scrolls, IsOnGrid, IsOnScreen, screen_area, cursor_of, with_cursor}
-use Rattle.rtui_viewport.specs.Areas.{KeepsAllButLooks, Empties, IsBlankOver}
-use Rattle.rtui_viewport.specs.Sizing.{first_area}
+use Rattle.rtui_viewport.specs.{Areas.KeepsAllButLooks, Areas.Empties, Areas.IsBlankOver, Sizing.first_area}
 use Rattle.rtui_viewport.specs.Placing.{raised, area_in, cursor_found, cursor_restored, EmptiesAllIf, Places, rows_scrolled}
-use Rattle.rtui_viewport.specs.Clearing.{HasPlace, ClearsArea, is_emptied}
-use Rattle.rtui_viewport.specs.Viewports.{IsFixed, IsInline, rows_in}
+use Rattle.rtui_viewport.specs.{Clearing.HasPlace, Clearing.ClearsArea, Clearing.is_emptied, Viewports.IsFixed, Viewports.IsInline, Viewports.rows_in}
 use Rattle.rtui_viewport.specs.declared.viewport.Viewport.{Viewport}
 use Rattle.rtui_viewport.specs.declared.viewport.Viewport.TheVariants.{Fullscreen, Inline, Fixed}
 use Rattle.rtui_viewport.proofs.ClearLemmas.{empties_more, frame_same}
-use Rattle.rtui_terminal.specs.TerminalData.{TerminalData, IsInPlace}
-use Rattle.rtui_terminal.specs.InStep.{IsInStep}
-use Rattle.rtui_terminal.specs.Resizing.{IsResized}
-use Rattle.rtui_terminal.specs.Starting.{first_cursor}
+use Rattle.rtui_terminal.specs.{TerminalData.TerminalData, TerminalData.IsInPlace, InStep.IsInStep, Resizing.IsResized, Starting.first_cursor}
 
 pub blank_in_step : {B : Type 0} (screen : B → Screen) (t : TerminalData B) → EdgesFit t.viewport_area → IsOnScreen t.viewport_area (screen t.backend) → IsBlankOver t.viewport_area (screen t.backend)
     → IsEmptied t.viewport_area t.previous → IsInStep screen t

@@ -1,30 +1,20 @@
 -- A text drawn over one row, and inserted above it.
-use Rattle.std.proofs.Common.{◌≡◌, ℕ, zero, suc, ◌*◌, ◌≤◌, ◌<◌, List, [], ◌∷◌, ◌++◌, length, append-nil, Option, None, Some, Result, Ok, Err, OnOk, OnErr, IfErr, refl, sym, ap, ap₂, subst, ◌∙◌, inl, inr, arith}
-use Rattle.std.specs.Prelude.{alloc_error, slice_index_or}
+use Rattle.std.proofs.Common.{◌≡◌, ℕ, zero, suc, ◌*◌, ◌≤◌, ◌<◌, List, [], ◌∷◌, ◌++◌, length, append-nil, Option, None, Some, Result, Ok, Err, OnOk, OnErr, IfErr, refl, sym, ap, ap₂, subst, ◌∙◌, inl, inr, arith, alloc_error, slice_index_or}
 use Rattle.std.specs.declared.alloc.AllocError.{AllocError}
-use Rattle.rtui_geometry.specs.declared.position.Position.{Position}
-use Rattle.rtui_geometry.specs.declared.rect.Rect.{Rect}
+use Rattle.rtui_geometry.specs.{declared.position.Position.Position, declared.rect.Rect.Rect}
 use Rattle.std.proofs.lemmas.List.{length-map}
 use Rattle.rtui_cell.specs.Look.{Look}
-use Rattle.rtui_diff.specs.DiffRule.{given, start}
-use Rattle.rtui_diff.specs.Shows.{RowAgrees}
-use Rattle.rtui_diff.specs.Updates.{update_at}
-use Rattle.rtui_buffer.specs.BufferData.{BufferData, IsEmptied}
-use Rattle.rtui_buffer.specs.Shown.{IsSettledBuffer, common_rows, buffer_updates}
+use Rattle.rtui_diff.specs.{DiffRule.given, DiffRule.start, Shows.RowAgrees, Updates.update_at}
+use Rattle.rtui_buffer.specs.{BufferData.BufferData, BufferData.IsEmptied, Shown.IsSettledBuffer, Shown.common_rows, Shown.buffer_updates}
 use Rattle.rtui_widgets.proofs.SettledLemmas.{has-first-row, text-settled}
 use Rattle.rtui_backend.specs.Screen.{Screen, size_of}
 use Rattle.rtui_viewport.specs.declared.viewport.Viewport.TheVariants.{Inline}
-use Rattle.rtui_insert.specs.Insertion.{AppendsRows, AreRowsOf}
-use Rattle.rtui_insert.specs.Rows.{WritesAtMost}
+use Rattle.rtui_insert.specs.{Insertion.AppendsRows, Insertion.AreRowsOf, Rows.WritesAtMost}
 use Rattle.rtui_insert.proofs.CountLemmas.{given_count}
-use Rattle.rtui_terminal.specs.Writing.{HasDrawn, cursor_placed}
-use Rattle.rtui_terminal.specs.TerminalData.{TerminalData, HasAreas}
-use Rattle.rtui_terminal.specs.InStep.{IsSized, rows_over}
-use Rattle.rtui_terminal.specs.Faults.{FaultCounts, IsBackendFault}
-use Rattle.rtui_terminal.specs.declared.terminal.error.TerminalError.{TerminalError}
+use Rattle.rtui_terminal.specs.{Writing.HasDrawn, Writing.cursor_placed, TerminalData.TerminalData, TerminalData.HasAreas, InStep.IsSized, InStep.rows_over}
+use Rattle.rtui_terminal.specs.{Faults.FaultCounts, Faults.IsBackendFault, declared.terminal.error.TerminalError.TerminalError}
 use Rattle.rtui_terminal.specs.declared.terminal.error.TerminalError.TheVariants.{Backend, Memory, Area, Closure}
-use Rattle.rtui_terminal.specs.Starting.{IsBlank, StartErr, Starts}
-use Rattle.rtui_terminal.specs.Drawing.{DrawOk, DrawErr}
+use Rattle.rtui_terminal.specs.{Starting.IsBlank, Starting.StartErr, Starting.Starts, Drawing.DrawOk, Drawing.DrawErr}
 use Rattle.rtui_terminal.specs.Insertion.{inserted_area, TakesRows, Inserts, InsertOk, InsertsBy}
 use Rattle.rtui_terminal.specs.TextRow.{row_area, IsPaintedText, IsRowOf, RendersRow, FillsRow, IsOverRow, DrawsRow, InsertsRow, StartsOverRow}
 use Rattle.rtui_terminal.proofs.RestLemmas.{rests-started, rests-drawn, rests-takes, rests-inserted}

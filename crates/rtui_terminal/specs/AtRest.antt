@@ -2,12 +2,8 @@
 use Rattle.std.specs.Prelude.{◌≡◌}
 use Rattle.rtui_buffer.specs.BufferData.{IsEmptied}
 use Rattle.rtui_backend.specs.Screen.{Screen, size_of}
-use Rattle.rtui_viewport.specs.declared.viewport.Viewport.{Viewport}
-use Rattle.rtui_viewport.specs.Areas.{IsBlankBelow}
-use Rattle.rtui_viewport.specs.Lying.{MayLie}
-use Rattle.rtui_viewport.specs.Viewports.{IsInline}
-use Rattle.rtui_terminal.specs.TerminalData.{TerminalData}
-use Rattle.rtui_terminal.specs.InStep.{IsInStep, IsSized}
+use Rattle.rtui_viewport.specs.{declared.viewport.Viewport.Viewport, Areas.IsBlankBelow, Lying.MayLie, Viewports.IsInline}
+use Rattle.rtui_terminal.specs.{TerminalData.TerminalData, InStep.IsInStep, InStep.IsSized}
 
 module _ {B : Type 0} (screen : B → Screen) where
   -- the terminal is in step over a viewport of this kind, which lies where it may, it knows the screen's size, its buffer to paint on is

@@ -4,8 +4,7 @@ use mir.Syntax.{named}
 use Rattle.std.specs.Borrow.{Lends, MutBor, Fml}
 use Rattle.rtui_buffer.specs.BufferData.{BufferData}
 use Rattle.rtui_buffer.specs.contracts.buffer.Buffer as buffer
-use Rattle.rtui_terminal.specs.declared.terminal.frame.Frame.{Frame}
-use Rattle.rtui_terminal.specs.contracts.terminal.frame.Frame.{the_row}
+use Rattle.rtui_terminal.specs.{declared.terminal.frame.Frame.Frame, contracts.terminal.frame.Frame.the_row}
 
 -- the frame whose reference is to another buffer
 abbrev pub with_buffer : Frame → BufferData → Frame

@@ -1,16 +1,12 @@
 -- What a clear does.
 use Rattle.std.specs.Prelude.{◌≡◌, ◌⊎◌, ◌<◌, ℕ, Bool}
-use Rattle.rtui_geometry.specs.declared.rect.Rect.{Rect}
-use Rattle.rtui_geometry.specs.Rect.{EdgesFit}
+use Rattle.rtui_geometry.specs.{declared.rect.Rect.Rect, Rect.EdgesFit}
 use Rattle.rtui_buffer.specs.BufferData.{IsEmptied}
 use Rattle.rtui_backend.specs.Screen.{IsOnScreen, Screen, cursor_of, with_cursor}
-use Rattle.rtui_backend.specs.Clear.{is_cleared}
-use Rattle.rtui_backend.specs.declared.clear_type.ClearType.TheVariants.{AfterCursor}
-use Rattle.rtui_viewport.specs.Viewports.{IsFixed, IsInline}
-use Rattle.rtui_viewport.specs.Areas.{KeepsAllButLooks, Empties, is_within}
+use Rattle.rtui_backend.specs.{Clear.is_cleared, declared.clear_type.ClearType.TheVariants.AfterCursor}
+use Rattle.rtui_viewport.specs.{Viewports.IsFixed, Viewports.IsInline, Areas.KeepsAllButLooks, Areas.Empties, Areas.is_within}
 use Rattle.rtui_viewport.specs.Clearing.{ClearsArea, WritesBlanks}
-use Rattle.rtui_terminal.specs.TerminalData.{TerminalData}
-use Rattle.rtui_terminal.specs.InStep.{IsInStep, KeepsAroundViewport, rows_over}
+use Rattle.rtui_terminal.specs.{TerminalData.TerminalData, InStep.IsInStep, InStep.KeepsAroundViewport, InStep.rows_over}
 
 -- the columns from the corner of a rectangle on, row by row: the corner is the nearest position of the screen
 abbrev pub is_from_corner : Rect → Screen → ℕ → ℕ → Bool

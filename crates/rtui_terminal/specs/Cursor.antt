@@ -2,8 +2,7 @@
 use Rattle.std.specs.Prelude.{◌≡◌, Bool}
 use Rattle.rtui_geometry.specs.declared.position.Position.{Position}
 use Rattle.rtui_backend.specs.Screen.{Screen}
-use Rattle.rtui_terminal.specs.TerminalData.{TerminalData}
-use Rattle.rtui_terminal.specs.InStep.{IsInStep}
+use Rattle.rtui_terminal.specs.{TerminalData.TerminalData, InStep.IsInStep}
 
 module _ {B : Type 0} (screen : B → Screen) where
   -- the backend was asked, and nothing changed

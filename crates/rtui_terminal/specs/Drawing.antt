@@ -1,17 +1,13 @@
 -- What a draw does.
 use Rattle.std.specs.Prelude.{ℕ, ◌≡◌, ◌⊎◌, Option, Result, Ok, Err, MatchResult, alloc_error}
 use Rattle.std.specs.declared.alloc.AllocError.{AllocError}
-use Rattle.rtui_geometry.specs.declared.position.Position.{Position}
-use Rattle.rtui_geometry.specs.declared.rect.Rect.{Rect}
-use Rattle.rtui_buffer.specs.BufferData.{BufferData}
-use Rattle.rtui_buffer.specs.Shown.{IsSettledBuffer}
+use Rattle.rtui_geometry.specs.{declared.position.Position.Position, declared.rect.Rect.Rect}
+use Rattle.rtui_buffer.specs.{BufferData.BufferData, Shown.IsSettledBuffer}
 use Rattle.rtui_backend.specs.Screen.{Screen}
-use Rattle.rtui_terminal.specs.TerminalData.{TerminalData}
+use Rattle.rtui_terminal.specs.{TerminalData.TerminalData, declared.terminal.error.TerminalError.TerminalError}
 use Rattle.rtui_terminal.specs.InStep.{IsInStep, IsReady, IsSized, KeepsAroundViewport}
-use Rattle.rtui_terminal.specs.declared.terminal.error.TerminalError.{TerminalError}
 use Rattle.rtui_terminal.specs.declared.terminal.error.TerminalError.TheVariants.{Area, Backend, Closure, Memory}
-use Rattle.rtui_terminal.specs.Writing.{Applies, ApplyErr, RefusesArea}
-use Rattle.rtui_terminal.specs.Resizing.{AutoresizeErr, Autoresizes}
+use Rattle.rtui_terminal.specs.{Writing.Applies, Writing.ApplyErr, Writing.RefusesArea, Resizing.AutoresizeErr, Resizing.Autoresizes}
 
 -- a completed frame: no failure was counted, its area is the last known one, and its number the count before
 pub record CompletesFrame {B : Type 0} (failures : B → ℕ) (s t : TerminalData B) (area : Rect) (count : ℕ) : Type 0 where

@@ -1,12 +1,9 @@
 -- What a closure may rely on that paints a frame, and what is known of its call.
 use Rattle.std.specs.Prelude.{◌≡◌, ◌⊎◌, ℕ, Option, None}
-use Rattle.std.specs.Borrow.{MutBor}
-use Rattle.std.specs.Fn.{Once, FnOnceReturnsAtMut}
-use Rattle.rtui_geometry.specs.declared.position.Position.{Position}
-use Rattle.rtui_geometry.specs.declared.rect.Rect.{Rect}
+use Rattle.std.specs.{Borrow.MutBor, Fn.Once, Fn.FnOnceReturnsAtMut}
+use Rattle.rtui_geometry.specs.{declared.position.Position.Position, declared.rect.Rect.Rect}
 use Rattle.rtui_buffer.specs.BufferData.{BufferData}
-use Rattle.rtui_terminal.specs.TerminalData.{TerminalData}
-use Rattle.rtui_terminal.specs.declared.terminal.frame.Frame.{Frame}
+use Rattle.rtui_terminal.specs.{TerminalData.TerminalData, declared.terminal.frame.Frame.Frame}
 
 -- a frame right before it is painted: no cursor, an area, a number, and a buffer
 pub record IsNewFrame (area : Rect) (count : ℕ) (sheet : BufferData) (frame : Frame) : Type 0 where

@@ -1,20 +1,13 @@
 -- The headline: what any list of calls that answered Ok leaves on the screen.
 use Rattle.std.specs.Prelude.{◌≡◌, ◌⊎◌, ◌<◌, true, false, List, [], ◌∷◌, ◌++◌, Option}
-use Rattle.rtui_geometry.specs.declared.position.Position.{Position}
-use Rattle.rtui_geometry.specs.declared.rect.Rect.{Rect}
-use Rattle.rtui_buffer.specs.BufferData.{BufferData, IsEmptied}
-use Rattle.rtui_buffer.specs.Shown.{IsSettledBuffer}
+use Rattle.rtui_geometry.specs.{declared.position.Position.Position, declared.rect.Rect.Rect}
+use Rattle.rtui_buffer.specs.{BufferData.BufferData, BufferData.IsEmptied, Shown.IsSettledBuffer}
 use Rattle.rtui_backend.specs.Screen.{Screen, IsOnScreen, screen_area, with_visible, with_cursor}
 use Rattle.rtui_viewport.specs.Viewports.{IsFixed, IsInline}
 use Rattle.rtui_insert.specs.Insertion.{AppendsRows}
-use Rattle.rtui_terminal.specs.TerminalData.{TerminalData}
+use Rattle.rtui_terminal.specs.{TerminalData.TerminalData, Cursor.Stays, Cursor.MovesCursor, Clearing.ClearsViewport, Resizing.Resizes, Resizing.Autoresizes}
 use Rattle.rtui_terminal.specs.InStep.{IsInStep, IsSized, KeepsAroundViewport, rows_over}
-use Rattle.rtui_terminal.specs.Cursor.{Stays, MovesCursor}
-use Rattle.rtui_terminal.specs.Clearing.{ClearsViewport}
-use Rattle.rtui_terminal.specs.Resizing.{Resizes, Autoresizes}
-use Rattle.rtui_terminal.specs.Writing.{Applies}
-use Rattle.rtui_terminal.specs.Drawing.{DrawsFrame, RefusesFrame}
-use Rattle.rtui_terminal.specs.Insertion.{TakesRows, IsLeft, Inserts}
+use Rattle.rtui_terminal.specs.{Writing.Applies, Drawing.DrawsFrame, Drawing.RefusesFrame, Insertion.TakesRows, Insertion.IsLeft, Insertion.Inserts}
 
 -- a call that answered Ok, with what it painted, inserted or was given; Ask is any call that changes nothing, also an insertion that writes
 -- nothing; Paint is any write to the current buffer; Refuse is a draw that was refused for what its closure answered or left

@@ -3,8 +3,7 @@ use Rattle.std.specs.Prelude.{◌≡◌, ◌⊎◌, List}
 use Rattle.rtui_cell.specs.Look.{Look}
 use Rattle.rtui_buffer.specs.Shown.{IsSettledBuffer, ShowsBuffer}
 use Rattle.rtui_backend.specs.Screen.{Screen, KeepsSizeAndHistory, IsOnScreen, rows_above}
-use Rattle.rtui_viewport.specs.Sizing.{IsSizeKnown}
-use Rattle.rtui_viewport.specs.Areas.{KeepsOutside}
+use Rattle.rtui_viewport.specs.{Sizing.IsSizeKnown, Areas.KeepsOutside}
 use Rattle.rtui_terminal.specs.TerminalData.{TerminalData}
 
 module _ {B : Type 0} (screen : B → Screen) where

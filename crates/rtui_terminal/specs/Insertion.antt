@@ -2,19 +2,12 @@
 use Rattle.std.specs.Prelude.{◌≡◌, ◌⊎◌, ℕ, ◌+◌, ◌-◌, ◌*◌, ◌<◌, ◌≤◌, min, max, nat_lt, if◌then◌else◌, [], ◌∷◌, Result, Ok, MatchResult}
 use Rattle.std.specs.declared.alloc.AllocError.{AllocError}
 use Rattle.rtui_geometry.specs.declared.rect.Rect.{Rect}
-use Rattle.rtui_buffer.specs.BufferData.{BufferData, area_size}
-use Rattle.rtui_buffer.specs.Shown.{IsSettledBuffer}
+use Rattle.rtui_buffer.specs.{BufferData.BufferData, BufferData.area_size, Shown.IsSettledBuffer}
 use Rattle.rtui_backend.specs.Screen.{Screen, screen_area}
-use Rattle.rtui_viewport.specs.Viewports.{IsInline}
-use Rattle.rtui_viewport.specs.Areas.{IsBlankBelow}
-use Rattle.rtui_insert.specs.Filling.{RefusesFilling}
-use Rattle.rtui_insert.specs.Rows.{nonempty_cells, IsNarrowBuffer, WritesAtMost}
-use Rattle.rtui_insert.specs.Insertion.{AppendsRows, KeepsSizeAndVisibility}
-use Rattle.rtui_insert.specs.Scrolling.{HasLowered, rows_down}
-use Rattle.rtui_insert.specs.Following.{Follows}
-use Rattle.rtui_terminal.specs.TerminalData.{TerminalData}
-use Rattle.rtui_terminal.specs.InStep.{IsInStep, rows_over}
-use Rattle.rtui_terminal.specs.declared.terminal.error.TerminalError.{TerminalError}
+use Rattle.rtui_viewport.specs.{Viewports.IsInline, Areas.IsBlankBelow}
+use Rattle.rtui_insert.specs.{Filling.RefusesFilling, Rows.nonempty_cells, Rows.IsNarrowBuffer, Rows.WritesAtMost}
+use Rattle.rtui_insert.specs.{Insertion.AppendsRows, Insertion.KeepsSizeAndVisibility, Scrolling.HasLowered, Scrolling.rows_down, Following.Follows}
+use Rattle.rtui_terminal.specs.{TerminalData.TerminalData, InStep.IsInStep, InStep.rows_over, declared.terminal.error.TerminalError.TerminalError}
 use Rattle.rtui_terminal.specs.declared.terminal.error.TerminalError.TheVariants.{Backend, Memory, Area, Closure}
 
 -- the area of a buffer of rows that are to come in above a viewport: as wide as that

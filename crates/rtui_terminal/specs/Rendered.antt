@@ -1,10 +1,8 @@
 -- What a terminal shows after a draw whose closure only renders.
 use Rattle.std.specs.Prelude.{◌≡◌, Option, None, Result, IsOk, OnOk, OnErr}
 use Rattle.std.specs.declared.alloc.AllocError.{AllocError}
-use Rattle.rtui_geometry.specs.declared.position.Position.{Position}
-use Rattle.rtui_geometry.specs.declared.rect.Rect.{Rect}
-use Rattle.rtui_buffer.specs.BufferData.{BufferData, IsEmptied}
-use Rattle.rtui_buffer.specs.Shown.{IsSettledBuffer, ShowsBuffer}
+use Rattle.rtui_geometry.specs.{declared.position.Position.Position, declared.rect.Rect.Rect}
+use Rattle.rtui_buffer.specs.{BufferData.BufferData, BufferData.IsEmptied, Shown.IsSettledBuffer, Shown.ShowsBuffer}
 use Rattle.rtui_widgets.specs.Rendering.{ChangesWithin}
 use Rattle.rtui_backend.specs.Screen.{Screen}
 use Rattle.rtui_terminal.specs.TerminalData.{TerminalData}

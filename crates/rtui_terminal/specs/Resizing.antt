@@ -3,15 +3,11 @@ use Rattle.std.specs.Prelude.{◌≡◌, ◌⊎◌, ◌-◌, ◌||◌, nat_lt, �
 use Rattle.rtui_geometry.specs.declared.rect.Rect.{Rect}
 use Rattle.rtui_buffer.specs.BufferData.{IsEmptied, IsSameBuffer, BufferData, area_size, empty_cells}
 use Rattle.rtui_backend.specs.Screen.{IsOnScreen, Screen, Scrolls, cursor_of, screen_area}
-use Rattle.rtui_viewport.specs.Viewports.{IsFixed}
-use Rattle.rtui_viewport.specs.Areas.{Empties, KeepsAllButLooks}
+use Rattle.rtui_viewport.specs.{Viewports.IsFixed, Areas.Empties, Areas.KeepsAllButLooks, Clearing.HasPlace, Clearing.WritesBlanks, Clearing.is_emptied}
 use Rattle.rtui_viewport.specs.Placing.{area_in, raised, rows_scrolled, unplaced_area}
-use Rattle.rtui_viewport.specs.Clearing.{HasPlace, WritesBlanks, is_emptied}
 use Rattle.rtui_terminal.specs.TerminalData.{HasAreas, HaveRoom, TerminalData, cursor_offset}
-use Rattle.rtui_terminal.specs.InStep.{IsInStep, IsReady, IsSized}
-use Rattle.rtui_terminal.specs.declared.terminal.error.TerminalError.{TerminalError}
+use Rattle.rtui_terminal.specs.{InStep.IsInStep, InStep.IsReady, InStep.IsSized, declared.terminal.error.TerminalError.TerminalError, Cursor.Stays}
 use Rattle.rtui_terminal.specs.declared.terminal.error.TerminalError.TheVariants.{Area, Backend, Closure, Memory}
-use Rattle.rtui_terminal.specs.Cursor.{Stays}
 
 -- the same list of cells over another area, cut, or with empty cells after them
 pub record IsResized (area : Rect) (old new : BufferData) : Type 0 where

@@ -1,19 +1,14 @@
 -- What a new terminal is.
 use Rattle.std.specs.Prelude.{ℕ, ◌≡◌, ◌+◌, ◌-◌, ◌^◌, ◌<◌, false}
-use Rattle.rtui_geometry.specs.declared.position.Position.{Position}
-use Rattle.rtui_geometry.specs.Rect.{corner}
+use Rattle.rtui_geometry.specs.{declared.position.Position.Position, Rect.corner}
 use Rattle.rtui_cell.specs.Look.{empty_look}
 use Rattle.rtui_buffer.specs.BufferData.{IsEmptied, area_size}
 use Rattle.rtui_backend.specs.Screen.{IsOnScreen, KeepsSizeAndHistory, Screen, Scrolls, cursor_of, rows_above}
 use Rattle.rtui_viewport.specs.declared.viewport.Viewport.{Viewport}
 use Rattle.rtui_viewport.specs.declared.viewport.Viewport.TheVariants.{Fixed, Fullscreen, Inline}
-use Rattle.rtui_viewport.specs.Viewports.{IsFixed, IsInline}
-use Rattle.rtui_viewport.specs.Areas.{IsBlankOver}
-use Rattle.rtui_viewport.specs.Sizing.{first_area}
+use Rattle.rtui_viewport.specs.{Viewports.IsFixed, Viewports.IsInline, Areas.IsBlankOver, Sizing.first_area}
 use Rattle.rtui_viewport.specs.Placing.{area_in, cursor_row_behind, rows_scrolled, unplaced_area}
-use Rattle.rtui_terminal.specs.TerminalData.{TerminalData}
-use Rattle.rtui_terminal.specs.InStep.{IsInStep, rows_over}
-use Rattle.rtui_terminal.specs.declared.terminal.error.TerminalError.{TerminalError}
+use Rattle.rtui_terminal.specs.{TerminalData.TerminalData, InStep.IsInStep, InStep.rows_over, declared.terminal.error.TerminalError.TerminalError}
 use Rattle.rtui_terminal.specs.declared.terminal.error.TerminalError.TheVariants.{Area, Backend, Closure, Memory}
 
 -- each column of each row of a screen is empty

@@ -1,7 +1,6 @@
 -- What callers see of a terminal.
 use Rattle.std.specs.Prelude.{◌≡◌, ◌≤◌, false, ℕ, ◌-◌, Bool}
-use Rattle.rtui_geometry.specs.declared.position.Position.{Position}
-use Rattle.rtui_geometry.specs.declared.rect.Rect.{Rect}
+use Rattle.rtui_geometry.specs.{declared.position.Position.Position, declared.rect.Rect.Rect}
 use Rattle.rtui_buffer.specs.BufferData.{BufferData, IsSameBuffer, IsEmptied, area_size}
 use Rattle.rtui_viewport.specs.declared.viewport.Viewport.{Viewport}
 use Rattle.rtui_viewport.specs.declared.viewport.Viewport.TheVariants.{Fullscreen, Inline, Fixed}

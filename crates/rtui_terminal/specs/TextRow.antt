@@ -1,19 +1,14 @@
 -- A terminal over one row of text, and rows of text above it.
 use Rattle.std.specs.Prelude.{◌≡◌, ℕ, ◌+◌, ◌-◌, ◌<◌, min, List, [], ◌∷◌, ◌++◌}
 use Rattle.rtui_geometry.specs.declared.rect.Rect.{Rect}
-use Rattle.rtui_buffer.specs.BufferData.{BufferData, IsEmptied}
-use Rattle.rtui_cell.specs.Look.{Look}
-use Rattle.rtui_cell.specs.Grid.{Grid}
+use Rattle.rtui_buffer.specs.{BufferData.BufferData, BufferData.IsEmptied, Shown.ShowsBuffer}
+use Rattle.rtui_cell.specs.{Look.Look, Grid.Grid}
 use Rattle.rtui_diff.specs.Shows.{RowAgrees}
-use Rattle.rtui_buffer.specs.Shown.{ShowsBuffer}
 use Rattle.rtui_widgets.specs.Rendering.{HasFirstRow, RendersStr}
 use Rattle.rtui_backend.specs.Screen.{Screen, size_of, rows_above}
 use Rattle.rtui_viewport.specs.declared.viewport.Viewport.TheVariants.{Inline}
 use Rattle.rtui_insert.specs.Rows.{WritesAtMost}
-use Rattle.rtui_terminal.specs.TerminalData.{TerminalData}
-use Rattle.rtui_terminal.specs.AtRest.{IsAtRest}
-use Rattle.rtui_terminal.specs.InStep.{KeepsAroundViewport, rows_over}
-use Rattle.rtui_terminal.specs.Rendered.{IsRendered}
+use Rattle.rtui_terminal.specs.{TerminalData.TerminalData, AtRest.IsAtRest, InStep.KeepsAroundViewport, InStep.rows_over, Rendered.IsRendered}
 
 -- the area of a row of this width
 abbrev pub row_area : ℕ → ℕ → Rect

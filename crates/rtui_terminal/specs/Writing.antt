@@ -3,14 +3,12 @@ use Rattle.std.specs.Prelude.{ℕ, ◌≡◌, ◌⊎◌, ◌+◌, ◌-◌, ◌*�
 use Rattle.rtui_geometry.specs.declared.position.Position.{Position}
 use Rattle.rtui_cell.specs.Grid.{Update}
 use Rattle.rtui_diff.specs.Completeness.{AreNarrow, differing}
-use Rattle.rtui_buffer.specs.BufferData.{IsEmptied, BufferData}
-use Rattle.rtui_buffer.specs.Shown.{IsSettledBuffer, ShowsBuffer, buffer_updates}
+use Rattle.rtui_buffer.specs.{BufferData.IsEmptied, BufferData.BufferData, Shown.IsSettledBuffer, Shown.ShowsBuffer, Shown.buffer_updates}
 use Rattle.rtui_backend.specs.Screen.{Draws, IsOnScreen, Screen, with_cursor, with_visible}
 use Rattle.rtui_viewport.specs.declared.viewport.Viewport.{Viewport}
 use Rattle.rtui_viewport.specs.declared.viewport.Viewport.TheVariants.{Fixed, Fullscreen, Inline}
 use Rattle.rtui_viewport.specs.Areas.{KeepsOutside}
-use Rattle.rtui_terminal.specs.TerminalData.{HasAreas, TerminalData}
-use Rattle.rtui_terminal.specs.InStep.{IsInStep, KeepsAroundViewport}
+use Rattle.rtui_terminal.specs.{TerminalData.HasAreas, TerminalData.TerminalData, InStep.IsInStep, InStep.KeepsAroundViewport}
 use Rattle.rtui_terminal.specs.declared.terminal.error.TerminalError.{TerminalError}
 use Rattle.rtui_terminal.specs.declared.terminal.error.TerminalError.TheVariants.{Area, Backend, Closure, Memory}
 

@@ -1,11 +1,8 @@
 -- Lines of a text: none of them has a line break, and a text without one is its only line.
-use Rattle.std.proofs.Common.{◌≡◌, ℕ, zero, suc, ◌<◌, ◌-◌, Bool, true, false, ◌==◌, List, [], ◌∷◌, length, take, get_or, if◌then◌else◌, refl, arith}
-use Rattle.std.specs.Prelude.{slice_index}
+use Rattle.std.proofs.Common.{◌≡◌, ℕ, zero, suc, ◌<◌, ◌-◌, Bool, true, false, ◌==◌, List, [], ◌∷◌, length, take, get_or, if◌then◌else◌, refl, arith, slice_index}
 use Rattle.std.proofs.Math.Bool.{cond}
-use Rattle.std.proofs.lemmas.Bool.{or_parts}
-use Rattle.std.proofs.lemmas.Bool.Decides.{nat_tests}
-use Rattle.std.specs.List.{list_any, slice_split, onto_first}
-use Rattle.std.specs.Str.Lines.{lines, lines_of_parts, strip_carriage_return}
+use Rattle.std.proofs.lemmas.{Bool.or_parts, Bool.Decides.nat_tests}
+use Rattle.std.specs.{List.list_any, List.slice_split, List.onto_first, Str.Lines.lines, Str.Lines.lines_of_parts, Str.Lines.strip_carriage_return}
 use Rattle.rtui_text.specs.Text.{IsUnbroken, raw_line, line_of, plain}
 
 unbroken-one : (x : List ℕ) → IsUnbroken x → slice_split (λ b. b == 10) x ≡ x ∷ []

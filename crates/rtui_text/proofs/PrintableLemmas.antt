@@ -1,13 +1,9 @@
 -- A printable character of ASCII before another character of ASCII is a grapheme of its own.
-use Rattle.std.proofs.Common.{◌≡◌, ℕ, zero, suc, ◌-◌, ◌<◌, ◌≤◌, Bool, true, false, cond, not, ◌&&◌, ◌||◌, ◌==◌, nat_le, nat_lt, List, [], ◌∷◌, ◌++◌, map, length, unwrap_or, refl, sym, ap, ◌∙◌, arith, append-nil, eqb-true, ◌⊎◌, ⊎_elim, inl, inr, take, drop, slice_index, subst, add-one, count_by}
-use Rattle.std.proofs.lemmas.Bool.{false≢true, cases_lt, or_parts}
-use Rattle.std.proofs.lemmas.Bool.Decides.{nat_tests}
+use Rattle.std.proofs.Common.{◌≡◌, ℕ, zero, suc, ◌-◌, ◌<◌, ◌≤◌, Bool, true, false, cond, not, ◌&&◌, ◌||◌, ◌==◌, nat_le, nat_lt, List, [], ◌∷◌, ◌++◌, map, length, unwrap_or, refl, sym, ap, ◌∙◌, arith, append-nil, eqb-true, ◌⊎◌, ⊎_elim, inl, inr, take, drop, slice_index, subst, add-one, count_by, encode_utf8, encode_utf8_all}
+use Rattle.std.proofs.lemmas.{Bool.false≢true, Bool.cases_lt, Bool.or_parts, Bool.Decides.nat_tests, List.Elements.All-nil, List.Elements.All-cons}
 use Rattle.std.proofs.lemmas.Str.{encode_ascii, chars-nil, chars-IsAscii, IsCharBoundary-start}
-use Rattle.std.specs.Prelude.{encode_utf8, encode_utf8_all}
-use Rattle.std.specs.Char.{is_control}
+use Rattle.std.specs.{Char.is_control, List.All, List.list_any}
 use Rattle.std.specs.Str.{chars, IsAscii, IsUtf8, IsCharBoundary}
-use Rattle.std.specs.List.{All, list_any}
-use Rattle.std.proofs.lemmas.List.Elements.{All-nil, All-cons}
 use Rattle.ucd_table.proofs.Facts.{Stepped-below}
 use Rattle.ucd_breaks.specs.GraphemeClusterBreak.{grapheme_cluster_break, grapheme_cluster_break_number}
 use Rattle.ucd_breaks.specs.declared.GraphemeClusterBreak.{GraphemeClusterBreak}
@@ -20,8 +16,7 @@ use Rattle.ucd_derived.specs.declared.IndicConjunctBreak.TheVariants as InCb
 use Rattle.ucd_derived.proofs.Computing.{ucd_derived}
 use Rattle.ucd_derived.proofs.IndicConjunctBreakLemmas.{indic_conjunct_break_stepped, indic_conjunct_break_number_injective}
 use Rattle.ucd_emoji.specs.Binary.{is_extended_pictographic}
-use Rattle.ucd_emoji.proofs.Computing.{ucd_emoji}
-use Rattle.ucd_emoji.proofs.BinaryLemmas.{is_extended_pictographic_stepped}
+use Rattle.ucd_emoji.proofs.{Computing.ucd_emoji, BinaryLemmas.is_extended_pictographic_stepped}
 use Rattle.unicode_segmentation.specs.Segments.{prepend, cut, segments}
 use Rattle.unicode_segmentation.proofs.SegmentsLemmas.{AllPieces}
 use Rattle.unicode_segmentation.specs.Grapheme.{break_by_pair, ends_in_linker, joins_conjunct, is_extend, is_zwj, is_regional, ends_in_pictograph, joins_emoji, ends_in_half_flag, joins_flag, is_grapheme_break, graphemes}

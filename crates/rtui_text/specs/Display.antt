@@ -1,7 +1,6 @@
 -- The texts that spans and lines hold, and those that they print.
 use Rattle.std.specs.Prelude.{ℕ, List, [], ◌∷◌, ◌++◌}
-use Rattle.std.specs.List.{flat_map}
-use Rattle.std.specs.Str.Lines.{lines}
+use Rattle.std.specs.{List.flat_map, Str.Lines.lines}
 use Rattle.rtui_text.specs.Text.{SpanData, LineData}
 
 -- the lines of the content, without their breaks

@@ -1,17 +1,10 @@
 -- The graphemes of styled texts.
 use Rattle.std.specs.Prelude.{ℕ, Bool, true, not, ◌&&◌, ◌||◌, List, [], ◌∷◌, ◌++◌, map, filter, chars}
-use Rattle.std.specs.Char.{is_control, is_whitespace}
-use Rattle.std.specs.List.{list_any, list_all, flat_map}
-use Rattle.std.specs.Str.{bytes_eq}
-use Rattle.std.specs.Slice.Iter.{iter_rest}
-use Rattle.unicode_segmentation.specs.Grapheme.{graphemes}
-use Rattle.unicode_segmentation.specs.Iter.{graphemes_left}
-use Rattle.rtui_style.specs.declared.Style.{Style}
-use Rattle.rtui_style.specs.Style.{patch}
-use Rattle.rtui_text.specs.declared.grapheme.StyledGrapheme.{StyledGrapheme}
-use Rattle.rtui_text.specs.declared.grapheme.SpanGraphemes.{SpanGraphemes}
-use Rattle.rtui_text.specs.declared.grapheme.LineGraphemes.{LineGraphemes}
-use Rattle.rtui_text.specs.Text.{SpanData}
+use Rattle.std.specs.{Char.is_control, Char.is_whitespace, List.list_any, List.list_all, List.flat_map, Str.bytes_eq, Slice.Iter.iter_rest}
+use Rattle.unicode_segmentation.specs.{Grapheme.graphemes, Iter.graphemes_left}
+use Rattle.rtui_style.specs.{declared.Style.Style, Style.patch}
+use Rattle.rtui_text.specs.{declared.grapheme.StyledGrapheme.StyledGrapheme, declared.grapheme.SpanGraphemes.SpanGraphemes}
+use Rattle.rtui_text.specs.{declared.grapheme.LineGraphemes.LineGraphemes, Text.SpanData}
 
 -- a grapheme in a style
 pub record GraphemeData : Type 0 where

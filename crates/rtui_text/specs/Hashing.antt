@@ -1,10 +1,8 @@
 -- Equal texts are hashed alike.
 use Rattle.std.specs.Prelude.{refl, nat_eq}
-use Rattle.std.proofs.lemmas.Bool.Decides.{Decides-eqb}
-use Rattle.std.proofs.lemmas.Slice.Eq.{slice_eq-Decides}
-use Rattle.std.specs.Cmp.Lexicographic.{pointwise}
+use Rattle.std.proofs.lemmas.{Bool.Decides.Decides-eqb, Slice.Eq.slice_eq-Decides}
+use Rattle.std.specs.{Cmp.Lexicographic.pointwise, Hash.Alike, Hash.same_Alike}
 use Rattle.std.specs.Hash as fed
-use Rattle.std.specs.Hash.{Alike, same_Alike}
 
 -- equal bytes feed a hasher the same
 pub text_Alike : Alike (pointwise nat_eq) fed.str

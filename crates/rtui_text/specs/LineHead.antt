@@ -1,6 +1,5 @@
 -- What a line has besides its spans, and a text besides its lines.
-use Rattle.rtui_text.specs.declared.line.LineHead.{LineHead}
-use Rattle.rtui_text.specs.Text.{LineData, TextData}
+use Rattle.rtui_text.specs.{declared.line.LineHead.LineHead, Text.LineData, Text.TextData}
 
 -- its style and its alignment
 abbrev pub line_head : LineData → LineHead

@@ -1,10 +1,8 @@
 -- Styled texts as data. A text is the list of its bytes.
 use Rattle.std.specs.Prelude.{◌≡◌, ℕ, ◌==◌, false, List, [], ◌∷◌, ◌++◌, Option, None, map, length, if◌then◌else◌}
-use Rattle.std.specs.List.{list_any}
-use Rattle.std.specs.Str.Lines.{lines}
+use Rattle.std.specs.{List.list_any, Str.Lines.lines}
 use Rattle.rtui_layout.specs.declared.alignment.HorizontalAlignment.{HorizontalAlignment}
-use Rattle.rtui_style.specs.declared.Style.{Style}
-use Rattle.rtui_style.specs.Style.{new_style}
+use Rattle.rtui_style.specs.{declared.Style.Style, Style.new_style}
 
 -- a text in a style
 pub record SpanData : Type 0 where

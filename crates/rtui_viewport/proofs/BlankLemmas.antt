@@ -1,19 +1,12 @@
 -- What empty cells leave that are drawn over an area.
-use Rattle.std.proofs.Common.{◌≡◌, ◌⊎◌, ℕ, zero, suc, true, false, ◌<◌, List, [], ◌∷◌, map, refl, sym, ap, ◌∙◌, arith, inl, inr}
-use Rattle.std.specs.Prelude.{if◌then◌else◌}
+use Rattle.std.proofs.Common.{◌≡◌, ◌⊎◌, ℕ, zero, suc, true, false, ◌<◌, List, [], ◌∷◌, map, refl, sym, ap, ◌∙◌, arith, inl, inr, if◌then◌else◌}
 use Rattle.std.specs.List.{Contains}
-use Rattle.std.proofs.lemmas.Bool.{cases_Bool, cases_eq, true≢false}
-use Rattle.std.proofs.lemmas.Bool.Decides.{nat_tests}
-use Rattle.rtui_geometry.specs.declared.position.Position.{Position}
-use Rattle.rtui_geometry.specs.declared.rect.Rect.{Rect}
-use Rattle.rtui_geometry.specs.Rect.{EdgesFit}
-use Rattle.rtui_geometry.specs.Rows.{ListsPositions}
-use Rattle.rtui_cell.specs.Look.{empty_look}
-use Rattle.rtui_cell.specs.Grid.{Grid, put, puts}
+use Rattle.std.proofs.lemmas.{Bool.cases_Bool, Bool.cases_eq, Bool.true≢false, Bool.Decides.nat_tests}
+use Rattle.rtui_geometry.specs.{declared.position.Position.Position, declared.rect.Rect.Rect, Rect.EdgesFit, Rows.ListsPositions}
+use Rattle.rtui_cell.specs.{Look.empty_look, Grid.Grid, Grid.put, Grid.puts}
 use Rattle.rtui_cell.proofs.CellLemmas.{look-empty, width-empty}
 use Rattle.rtui_backend.specs.Screen.{IsWithin}
-use Rattle.rtui_viewport.specs.Areas.{is_within}
-use Rattle.rtui_viewport.specs.Remaining.{blank_at}
+use Rattle.rtui_viewport.specs.{Areas.is_within, Remaining.blank_at}
 
 abbrev at : ℕ → ℕ → Position
 at a b = record { x = a; y = b }

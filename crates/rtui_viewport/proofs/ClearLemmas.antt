@@ -1,14 +1,9 @@
 -- Emptied columns, and what a clear of a viewport leaves.
-use Rattle.std.proofs.Common.{◌≡◌, ◌⊎◌, ◌==◌, ◌&&◌, ℕ, ◌-◌, ◌*◌, ◌<◌, ◌≤◌, Bool, true, false, List, map, Option, None, Some, refl, sym, subst, ap, ◌∙◌, arith, inl, inr}
-use Rattle.std.specs.Prelude.{min, nat_le, ◌||◌, if◌then◌else◌}
+use Rattle.std.proofs.Common.{◌≡◌, ◌⊎◌, ◌==◌, ◌&&◌, ℕ, ◌-◌, ◌*◌, ◌<◌, ◌≤◌, Bool, true, false, List, map, Option, None, Some, refl, sym, subst, ap, ◌∙◌, arith, inl, inr, min, nat_le, ◌||◌, if◌then◌else◌}
 use Rattle.std.proofs.lemmas.Bool.Decides.{nat_tests}
-use Rattle.rtui_geometry.specs.declared.position.Position.{Position}
-use Rattle.rtui_geometry.specs.declared.rect.Rect.{Rect}
-use Rattle.rtui_geometry.specs.Rect.{EdgesFit}
-use Rattle.rtui_geometry.specs.Rows.{ListsPositions}
+use Rattle.rtui_geometry.specs.{declared.position.Position.Position, declared.rect.Rect.Rect, Rect.EdgesFit, Rows.ListsPositions}
 use Rattle.rtui_backend.specs.declared.clear_type.ClearType.{ClearType}
-use Rattle.rtui_backend.specs.declared.clear_type.ClearType.TheVariants.{All, AfterCursor}
-use Rattle.rtui_backend.specs.Clear.{is_cleared}
+use Rattle.rtui_backend.specs.{declared.clear_type.ClearType.TheVariants.All, declared.clear_type.ClearType.TheVariants.AfterCursor, Clear.is_cleared}
 use Rattle.rtui_backend.specs.Screen.{Screen, Draws, Clears, IsOnScreen, with_cursor, rows_above}
 use Rattle.rtui_backend.proofs.ScrollLemmas.{above_same}
 use Rattle.rtui_viewport.specs.declared.viewport.Viewport.{Viewport}
@@ -16,8 +11,7 @@ use Rattle.rtui_viewport.specs.declared.viewport.Viewport.TheVariants.{Fullscree
 use Rattle.rtui_cell.specs.Look.{Look, empty_look}
 use Rattle.rtui_viewport.specs.Areas.{KeepsAllButLooks, Empties, KeepsOutside, IsBlankOver, is_between, is_within}
 use Rattle.rtui_viewport.specs.Clearing.{ClearsArea, is_emptied, blanks_needed, WritesItems, WritesBlanks}
-use Rattle.rtui_viewport.specs.Placing.{cursor_restored}
-use Rattle.rtui_viewport.specs.Remaining.{blank_at}
+use Rattle.rtui_viewport.specs.{Placing.cursor_restored, Remaining.blank_at}
 use Rattle.rtui_viewport.proofs.BlankLemmas.{decide_within, blanks_over}
 
 pub frame_same : (s : Screen) → KeepsAllButLooks s s

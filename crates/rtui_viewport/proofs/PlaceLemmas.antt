@@ -1,7 +1,6 @@
 -- Where an inline viewport goes.
 use Rattle.std.proofs.Common.{◌≡◌, ℕ, ◌+◌, refl, ap, ◌∙◌, arith, inl, inr}
-use Rattle.std.proofs.lemmas.Bool.{cases_lt}
-use Rattle.std.proofs.lemmas.Bool.Decides.{nat_tests}
+use Rattle.std.proofs.lemmas.{Bool.cases_lt, Bool.Decides.nat_tests}
 use Rattle.rtui_backend.specs.Screen.{Screen, IsOnGrid, Appends, lines_past, rows_above}
 use Rattle.rtui_backend.proofs.ScrollLemmas.{above_kept}
 use Rattle.rtui_viewport.specs.Placing.{lines_below, inline_top, inline_area, rows_left, PlacesInline}

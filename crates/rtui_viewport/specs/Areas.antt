@@ -1,7 +1,6 @@
 -- What a change of a screen empties, and what it leaves as it is.
 use Rattle.std.specs.Prelude.{◌≡◌, ℕ, ◌+◌, ◌<◌, ◌≤◌, Bool, ◌&&◌, nat_lt, nat_le, if◌then◌else◌}
-use Rattle.rtui_geometry.specs.declared.rect.Rect.{Rect}
-use Rattle.rtui_geometry.specs.Rect.{right_edge, bottom_edge}
+use Rattle.rtui_geometry.specs.{declared.rect.Rect.Rect, Rect.right_edge, Rect.bottom_edge}
 use Rattle.rtui_cell.specs.Look.{empty_look}
 use Rattle.rtui_backend.specs.Screen.{Screen, KeepsSizeAndHistory, IsWithin}
 

@@ -1,11 +1,8 @@
 -- Where a viewport goes on a screen.
 use Rattle.std.specs.Prelude.{◌≡◌, Bool, true, false, ℕ, ◌+◌, ◌-◌, min, max, nat_lt, if◌then◌else◌, Option, None, Some}
-use Rattle.rtui_geometry.specs.declared.position.Position.{Position}
-use Rattle.rtui_geometry.specs.declared.rect.Rect.{Rect}
+use Rattle.rtui_geometry.specs.{declared.position.Position.Position, declared.rect.Rect.Rect}
 use Rattle.rtui_backend.specs.Screen.{Screen, Scrolls, IsOnScreen, rows_above, lines_past, cursor_of, with_cursor}
-use Rattle.rtui_viewport.specs.Viewports.{IsInline, rows_in}
-use Rattle.rtui_viewport.specs.Areas.{Empties}
-use Rattle.rtui_viewport.specs.declared.viewport.Viewport.{Viewport}
+use Rattle.rtui_viewport.specs.{Viewports.IsInline, Viewports.rows_in, Areas.Empties, declared.viewport.Viewport.Viewport}
 use Rattle.rtui_viewport.specs.declared.viewport.Viewport.TheVariants.{Fullscreen, Inline, Fixed}
 
 -- the lines that n wanted rows need below the cursor's row, if o of them lie above it

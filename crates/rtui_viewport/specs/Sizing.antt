@@ -1,7 +1,6 @@
 -- Which area a viewport is placed on, and when it is placed again.
 use Rattle.std.specs.Prelude.{◌≡◌, ◌⊎◌, Option, None, Some}
-use Rattle.rtui_geometry.specs.declared.rect.Rect.{Rect}
-use Rattle.rtui_geometry.specs.Rect.{EdgesFit}
+use Rattle.rtui_geometry.specs.{declared.rect.Rect.Rect, Rect.EdgesFit}
 use Rattle.rtui_backend.specs.Screen.{Screen, screen_area}
 use Rattle.rtui_viewport.specs.declared.viewport.Viewport.{Viewport}
 use Rattle.rtui_viewport.specs.declared.viewport.Viewport.TheVariants.{Fullscreen, Inline, Fixed}

@@ -1,8 +1,7 @@
 -- The kinds of viewports.
 use Rattle.std.specs.Prelude.{ℕ, min, List, ◌++◌, codes}
 use Rattle.std.specs.Fmt.{decimal}
-use Rattle.rtui_geometry.specs.Rect.{EdgesFit}
-use Rattle.rtui_geometry.specs.Display.{rect_text}
+use Rattle.rtui_geometry.specs.{Rect.EdgesFit, Display.rect_text}
 use Rattle.rtui_viewport.specs.declared.viewport.Viewport.{Viewport}
 use Rattle.rtui_viewport.specs.declared.viewport.Viewport.TheVariants.{Fullscreen, Inline, Fixed}
 

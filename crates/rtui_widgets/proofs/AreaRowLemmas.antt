@@ -1,27 +1,22 @@
 -- Rows of cells as rows of a buffer.
-use Rattle.std.proofs.Common.{◌≡◌, ℕ, ◌+◌, ◌-◌, ◌*◌, ◌<◌, ◌≤◌, ◌⊎◌, ⊎_elim, inl, inr, Bool, true, false, cond, List, [], ◌∷◌, ◌++◌, length, take, drop, min, max, refl, sym, ap, subst, ◌∙◌, arith}
-use Rattle.std.specs.Prelude.{◌==◌}
-use Rattle.std.proofs.lemmas.Bool.{cases_lt}
-use Rattle.std.proofs.lemmas.Bool.Decides.{nat_tests}
+use Rattle.std.proofs.Common.{◌≡◌, ℕ, ◌+◌, ◌-◌, ◌*◌, ◌<◌, ◌≤◌, ◌⊎◌, ⊎_elim, inl, inr, Bool, true, false, cond, List, [], ◌∷◌, ◌++◌, length, take, drop, min, max, refl, sym, ap, subst, ◌∙◌, arith, ◌==◌}
+use Rattle.std.proofs.lemmas.{Bool.cases_lt, Bool.Decides.nat_tests}
 use Rattle.std.proofs.lemmas.List.{take_all, drop_all, append-nil, length-take, length-drop}
 use borrow.Rule.Slice.PartMut.{put_mid}
-use Rattle.rtui_geometry.specs.declared.position.Position.{Position}
-use Rattle.rtui_geometry.specs.declared.rect.Rect.{Rect}
+use Rattle.rtui_geometry.specs.{declared.position.Position.Position, declared.rect.Rect.Rect}
 use Rattle.rtui_geometry.specs.Rect.{HasPosition, right_edge, bottom_edge, intersected}
 use Rattle.rtui_cell.specs.declared.cell.Cell.{Cell}
 use Rattle.rtui_diff.specs.Cells.{cell}
 use Rattle.rtui_buffer.specs.BufferData.{BufferData, area_size, cell_index, refilled, HasRow}
 use Rattle.unicode_segmentation.specs.Grapheme.{graphemes}
 use Rattle.rtui_style.specs.declared.Style.{Style}
-use Rattle.rtui_buffer.specs.Painting.{Piece, columns, KeepsUnmarked}
-use Rattle.rtui_buffer.specs.PaintedText.{room_at, pieces_at, IsSameBeside}
-use Rattle.rtui_buffer.proofs.PaintedLemmas.{columns-kept}
+use Rattle.rtui_buffer.specs.{Painting.Piece, Painting.columns, Painting.KeepsUnmarked, PaintedText.room_at, PaintedText.pieces_at, PaintedText.IsSameBeside}
+use Rattle.rtui_buffer.proofs.{PaintedLemmas.columns-kept, PaintLemmas.unmarked-refl}
 use Rattle.rtui_text.specs.Text.{TextData}
 use Rattle.rtui_widgets.specs.Rendering.{area_row, ChangesWithin, RendersRows, in_first_row, first_row, text_row}
 use Rattle.rtui_widgets.specs.Refused.{LeavesFirstRow, LeavesText, HasFrontOfRow}
 use Rattle.rtui_widgets.specs.Inner.{Rows, place, cells_of_row, IsOutside, KeepsOthers, MakesRows, LeavesRows}
 use Rattle.rtui_widgets.proofs.SpanLemmas.{unmarked-written}
-use Rattle.rtui_buffer.proofs.PaintLemmas.{unmarked-refl}
 use Rattle.rtui_widgets.proofs.RowLemmas.{length-written, written-before, written-behind, written-there, same-row, other}
 use Rattle.rtui_buffer.specs.Clipped.{IsClipped}
 use Rattle.rtui_grid.proofs.PlaceLemmas.{row_ends, by_rows, apart}

@@ -1,24 +1,17 @@
 -- Texts of ASCII put one short grapheme into a column.
-use Rattle.std.proofs.Common.{◌≡◌, ℕ, zero, suc, ◌+◌, ◌-◌, ◌<◌, ◌≤◌, ⊎_elim, Bool, true, false, cond, List, [], ◌∷◌, length, All, refl, arith, append-nil, slice_index_or}
-use Rattle.std.specs.Prelude.{◌==◌, nat_le, not, sum_by, filter, Option}
-use Rattle.std.specs.List.{concat}
-use Rattle.std.specs.Str.{IsAscii}
-use Rattle.std.proofs.lemmas.Str.{IsAscii-append}
-use Rattle.std.proofs.lemmas.Bool.{cases_lt}
-use Rattle.std.proofs.lemmas.Bool.Decides.{nat_tests}
+use Rattle.std.proofs.Common.{◌≡◌, ℕ, zero, suc, ◌+◌, ◌-◌, ◌<◌, ◌≤◌, ⊎_elim, Bool, true, false, cond, List, [], ◌∷◌, length, All, refl, arith, append-nil, slice_index_or, ◌==◌, nat_le, not, sum_by, filter, Option}
+use Rattle.std.specs.{List.concat, Str.IsAscii}
+use Rattle.std.proofs.lemmas.{Str.IsAscii-append, Bool.cases_lt, Bool.Decides.nat_tests}
 use Rattle.std.proofs.lemmas.List.Elements.{All-nil, All-cons, All-head, All-tail, All-filter, filter_passes}
 use Rattle.unicode_segmentation.specs.Grapheme.{graphemes}
 use Rattle.rtui_layout.specs.declared.alignment.HorizontalAlignment.{HorizontalAlignment}
-use Rattle.rtui_cell.specs.Symbol.{IsShort}
-use Rattle.rtui_cell.specs.Width.{text_width, text_columns}
-use Rattle.rtui_text.specs.Graphemes.{has_control}
+use Rattle.rtui_cell.specs.{Symbol.IsShort, Width.text_width, Width.text_columns}
+use Rattle.rtui_text.specs.{Graphemes.has_control, Widths.span_width}
 use Rattle.rtui_text.specs.Text.{SpanData, LineData, TextData, line_of}
-use Rattle.rtui_text.specs.Widths.{span_width}
 use Rattle.rtui_text.proofs.PrintableLemmas.{IsAsciiPiece, AreAsciiChars, ascii-graphemes, piece-printable, wide-printable}
-use Rattle.rtui_buffer.specs.Painting.{fitting}
+use Rattle.rtui_buffer.specs.{Painting.fitting, BufferData.BufferData}
 use Rattle.rtui_geometry.specs.declared.rect.Rect.{Rect}
 use Rattle.rtui_style.specs.Style.{new_style}
-use Rattle.rtui_buffer.specs.BufferData.{BufferData}
 use Rattle.rtui_buffer.proofs.ShortLemmas.{All-fitting, text-short, ascii-short}
 use Rattle.rtui_widgets.specs.Span.{goes_to, those_at, showing, IsShortSpan}
 use Rattle.rtui_widgets.specs.Rendering.{AreAscii, text_line, RendersShortText, RendersShortStr}

@@ -1,19 +1,11 @@
 -- What the columns of a row hold after one more grapheme.
-use Rattle.std.proofs.Common.{◌≡◌, ◌≢◌, ℕ, ◌+◌, ◌-◌, ◌<◌, ◌≤◌, ◌⊎◌, ⊎_elim, inl, inr, Bool, true, false, cond, List, [], ◌∷◌, ◌++◌, length, length-append, refl, sym, ap, ◌∙◌, arith, append_assoc, ◌^◌}
-use Rattle.std.specs.Prelude.{◌==◌, ◌||◌, ◌&&◌, nat_lt, Some, None, Option}
-use Rattle.std.specs.List.{concat}
-use Rattle.std.specs.Int.RustNames.{bit_and, bit_or}
-use Rattle.std.proofs.lemmas.Bool.{cases_lt, or_parts}
-use Rattle.std.proofs.lemmas.Bool.Decides.{nat_tests}
-use Rattle.std.proofs.lemmas.List.{append-nil}
+use Rattle.std.proofs.Common.{◌≡◌, ◌≢◌, ℕ, ◌+◌, ◌-◌, ◌<◌, ◌≤◌, ◌⊎◌, ⊎_elim, inl, inr, Bool, true, false, cond, List, [], ◌∷◌, ◌++◌, length, length-append, refl, sym, ap, ◌∙◌, arith, append_assoc, ◌^◌, ◌==◌, ◌||◌, ◌&&◌, nat_lt, Some, None, Option}
+use Rattle.std.specs.{List.concat, Int.RustNames.bit_and, Int.RustNames.bit_or}
+use Rattle.std.proofs.lemmas.{Bool.cases_lt, Bool.or_parts, Bool.Decides.nat_tests, List.append-nil}
 use Rattle.std.proofs.lemmas.Nat.Bits.{same_from_bits, bit_at_and, bit_at_or}
 use Rattle.std.proofs.Math.Bool.{or_assoc}
-use Rattle.rtui_cell.specs.declared.cell.Cell.{Cell}
-use Rattle.rtui_cell.specs.Cell.{empty_cell, styled}
-use Rattle.rtui_style.specs.declared.Style.{Style}
-use Rattle.rtui_style.specs.declared.color.Color.{Color}
-use Rattle.rtui_style.specs.Style.{color_after}
-use Rattle.rtui_cell.specs.Width.{text_width}
+use Rattle.rtui_cell.specs.{declared.cell.Cell.Cell, Cell.empty_cell, Cell.styled, Width.text_width}
+use Rattle.rtui_style.specs.{declared.Style.Style, declared.color.Color.Color, Style.color_after}
 use Rattle.rtui_widgets.specs.Span.{goes_to, those_at, is_behind, with_graphemes, column_with}
 use Rattle.rtui_widgets.specs.Inner.{with_appended, with_grapheme}
 use Rattle.rtui_widgets.proofs.RowWith.{end_of_those}

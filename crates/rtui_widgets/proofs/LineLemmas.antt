@@ -1,19 +1,12 @@
 -- How lines are rendered.
-use Rattle.std.proofs.Common.{◌≡◌, ℕ, ◌+◌, ◌-◌, ◌<◌, ◌≤◌, Bool, true, false, cond, min, List, [], ◌∷◌, ◌++◌, length, map, take, drop, sum_by, refl, sym, ap, subst, ◌∙◌, ⊎_elim, arith, append_assoc, take-add, take-append-drop}
-use Rattle.std.specs.Prelude.{nat_le, Option, ◌==◌}
+use Rattle.std.proofs.Common.{◌≡◌, ℕ, ◌+◌, ◌-◌, ◌<◌, ◌≤◌, Bool, true, false, cond, min, List, [], ◌∷◌, ◌++◌, length, map, take, drop, sum_by, refl, sym, ap, subst, ◌∙◌, ⊎_elim, arith, append_assoc, take-add, take-append-drop, nat_le, Option, ◌==◌}
 use Rattle.rtui_layout.specs.declared.alignment.HorizontalAlignment.{HorizontalAlignment}
-use Rattle.std.proofs.lemmas.Bool.Decides.{nat_tests}
-use Rattle.std.proofs.lemmas.Bool.{cases_lt}
-use Rattle.std.proofs.lemmas.List.Folds.{concat-append}
-use Rattle.std.proofs.lemmas.List.Sums.{sum_by-cons, sum_by-append}
+use Rattle.std.proofs.lemmas.{Bool.Decides.nat_tests, Bool.cases_lt, List.Folds.concat-append, List.Sums.sum_by-cons, List.Sums.sum_by-append}
 use Rattle.std.specs.List.{concat}
 use Rattle.std.proofs.lemmas.List.{take_all, drop_all, append-nil, length-drop, length-take, length-append, drop-drop, drop_at, take_at}
-use Rattle.rtui_cell.specs.declared.cell.Cell.{Cell}
+use Rattle.rtui_cell.specs.{declared.cell.Cell.Cell, Width.text_columns, Cell.styled}
 use Rattle.rtui_style.specs.declared.Style.{Style}
-use Rattle.rtui_text.specs.Text.{SpanData, LineData, line_of}
-use Rattle.rtui_cell.specs.Width.{text_columns}
-use Rattle.rtui_text.specs.Widths.{span_width, line_width}
-use Rattle.rtui_cell.specs.Cell.{styled}
+use Rattle.rtui_text.specs.{Text.SpanData, Text.LineData, Text.line_of, Widths.span_width, Widths.line_width}
 use Rattle.rtui_widgets.specs.Span.{span_rendered, graphemes_rendered, IsShortSpan}
 use Rattle.rtui_widgets.specs.Refused.{IsShownFront, HasFrontOfSpan, HasFrontOfParts, HasFrontOfLine, columns_left}
 use Rattle.rtui_widgets.proofs.SpanLemmas.{length-span_rendered, rendered-nothing}

@@ -1,23 +1,16 @@
 -- What the author of a widget cites: a buffer changed over the part of an area that it has, and pieces on a bar there.
 use Rattle.std.proofs.Common.{◌≡◌, ℕ, ◌<◌, ◌≤◌, ◌⊎◌, ⊎_elim, List, refl, sym, ap, subst, arith, Result, Ok, Err, OnOk, OnErr}
 use Rattle.std.specs.declared.alloc.AllocError.{AllocError}
-use Rattle.rtui_geometry.specs.declared.position.Position.{Position}
-use Rattle.rtui_geometry.specs.declared.rect.Rect.{Rect}
+use Rattle.rtui_geometry.specs.{declared.position.Position.Position, declared.rect.Rect.Rect}
 use Rattle.rtui_geometry.specs.Rect.{HasPosition, EdgesFit, corner, intersected}
 use Rattle.rtui_style.specs.declared.Style.{Style}
 use Rattle.rtui_text.specs.Text.{LineData}
-use Rattle.rtui_buffer.specs.BufferData.{BufferData, IsEmptied}
-use Rattle.rtui_buffer.specs.Shown.{IsSettledBuffer}
-use Rattle.rtui_buffer.specs.Painting.{Piece, columns}
+use Rattle.rtui_buffer.specs.{BufferData.BufferData, BufferData.IsEmptied, Shown.IsSettledBuffer, Painting.Piece, Painting.columns, Bar.bar_of, Bar.PaintsOnBar}
 use Rattle.rtui_buffer.specs.PaintedText.{IsStyled, IsPaintable, IsSameBeside, PaintsOrRefuses}
-use Rattle.rtui_buffer.specs.Bar.{bar_of, PaintsOnBar}
-use Rattle.rtui_buffer.specs.Line.{line_pieces_at}
-use Rattle.rtui_buffer.proofs.ColumnLemmas.{line-ends, line-keeps}
-use Rattle.rtui_buffer.proofs.ShownLemmas.{IsSettledBuffer-styled, IsPaintable-styled}
-use Rattle.rtui_widgets.specs.Rendering.{ChangesWithin}
-use Rattle.rtui_widgets.specs.Clipped.{OnPart}
+use Rattle.rtui_buffer.specs.{Line.line_pieces_at, Clipped.IsClipped}
+use Rattle.rtui_buffer.proofs.{ColumnLemmas.line-ends, ColumnLemmas.line-keeps, ShownLemmas.IsSettledBuffer-styled, ShownLemmas.IsPaintable-styled}
+use Rattle.rtui_widgets.specs.{Rendering.ChangesWithin, Clipped.OnPart}
 use Rattle.rtui_widgets.proofs.WithinLemmas.{intersected-whole, part-row, part-left, part-starts, within-then, within-styled, within-refused}
-use Rattle.rtui_buffer.specs.Clipped.{IsClipped}
 
 -- the buffer has no part of the area
 pub OnPart-none : (f : Rect → BufferData → BufferData → Type 0) (area : Rect) (s : BufferData) → ((intersected area s.area).width ≡ 0) ⊎ ((intersected area s.area).height ≡ 0) → OnPart f area s s

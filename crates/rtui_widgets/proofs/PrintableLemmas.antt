@@ -1,22 +1,17 @@
 -- A row that begins with printable characters of ASCII.
 use Rattle.std.proofs.Common.{◌≡◌, ◌≢◌, ℕ, suc, ◌+◌, ◌-◌, ◌<◌, ◌≤◌, Bool, true, false, nat_eq, List, [], ◌∷◌, ◌++◌, length, length-append, length-take-le, take, drop, set, refl, sym, ap, subst, ◌∙◌, arith, append_assoc, append-nil}
-use Rattle.std.proofs.lemmas.Bool.Decides.{nat_tests}
-use Rattle.std.proofs.lemmas.List.{map-append}
+use Rattle.std.proofs.lemmas.{Bool.Decides.nat_tests, List.map-append}
 use Rattle.unicode_segmentation.specs.Grapheme.{graphemes}
-use Rattle.rtui_cell.specs.declared.cell.Cell.{Cell}
-use Rattle.rtui_cell.specs.Width.{text_width}
+use Rattle.rtui_cell.specs.{declared.cell.Cell.Cell, Width.text_width}
 use Rattle.rtui_style.specs.declared.Style.{Style}
 use Rattle.rtui_text.specs.Printable.{ArePrintable, IsPrintableFront, singles}
 use Rattle.rtui_text.proofs.PrintableLemmas.{printable-plain, graphemes-front, front-bytes}
 use Rattle.rtui_diff.specs.Cells.{cell}
 use Rattle.rtui_buffer.specs.Painting.{emptied, piece_of, pieces, painted, shown}
-use Rattle.rtui_buffer.proofs.PaintLemmas.{painted-nil}
+use Rattle.rtui_buffer.proofs.{PaintLemmas.painted-nil, PrintableLemmas.painted-byte}
 use Rattle.rtui_cell.proofs.WidthLemmas.{one_byte}
-use Rattle.rtui_buffer.proofs.PrintableLemmas.{painted-byte}
-use Rattle.rtui_widgets.specs.Span.{showing}
-use Rattle.rtui_widgets.specs.Inner.{with_next}
-use Rattle.rtui_widgets.proofs.RowWith.{end_of_those, IsRowWith}
-use Rattle.rtui_widgets.proofs.SpanLemmas.{showing-take, IsRowWith-none, IsRowWith-turn}
+use Rattle.rtui_widgets.specs.{Span.showing, Inner.with_next}
+use Rattle.rtui_widgets.proofs.{RowWith.end_of_those, RowWith.IsRowWith, SpanLemmas.showing-take, SpanLemmas.IsRowWith-none, SpanLemmas.IsRowWith-turn}
 
 end-singles : (x : ℕ) (bs : List ℕ) → end_of_those x (singles bs) ≡ x + length bs
 unfolding end_of_those

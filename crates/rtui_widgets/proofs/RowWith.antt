@@ -1,9 +1,7 @@
 -- A row with graphemes, column by column.
 use Rattle.std.specs.Prelude.{ℕ, ◌+◌, ◌<◌, ◌≡◌, List, [], ◌∷◌, length, slice_index_or}
 use Rattle.rtui_style.specs.declared.Style.{Style}
-use Rattle.rtui_cell.specs.declared.cell.Cell.{Cell}
-use Rattle.rtui_cell.specs.Cell.{empty_cell}
-use Rattle.rtui_cell.specs.Width.{text_width}
+use Rattle.rtui_cell.specs.{declared.cell.Cell.Cell, Cell.empty_cell, Width.text_width}
 use Rattle.rtui_widgets.specs.Span.{column_with}
 
 -- the column after these graphemes, where the first stands at x

@@ -3,12 +3,8 @@ use Rattle.std.proofs.Common.{◌≡◌, ℕ, ◌+◌, ◌<◌, ◌≤◌, List,
 use Rattle.rtui_geometry.specs.declared.rect.Rect.{Rect}
 use Rattle.rtui_style.specs.Style.{new_style}
 use Rattle.rtui_diff.specs.Settled.{IsSettled}
-use Rattle.rtui_buffer.specs.BufferData.{BufferData, IsEmptied}
-use Rattle.rtui_buffer.specs.Shown.{IsSettledBuffer}
-use Rattle.rtui_buffer.specs.PaintedText.{pieces_at}
-use Rattle.rtui_buffer.proofs.EmptyLemmas.{IsSettledBuffer-empty, IsPaintable-empty}
-use Rattle.rtui_buffer.proofs.TextLemmas.{IsSettled-row}
-use Rattle.rtui_buffer.proofs.ColumnLemmas.{text-ends}
+use Rattle.rtui_buffer.specs.{BufferData.BufferData, BufferData.IsEmptied, Shown.IsSettledBuffer, PaintedText.pieces_at}
+use Rattle.rtui_buffer.proofs.{EmptyLemmas.IsSettledBuffer-empty, EmptyLemmas.IsPaintable-empty, TextLemmas.IsSettled-row, ColumnLemmas.text-ends}
 use Rattle.rtui_widgets.specs.Rendering.{HasFirstRow, RendersStr}
 
 pub text-settled : (r area : Rect) (text : List ℕ) (old new : BufferData) → IsEmptied r old → old.area.x ≤ area.x → area.x ≤ old.area.x + old.area.width → RendersStr text area old new → IsSettledBuffer new

@@ -1,8 +1,6 @@
 -- A short text puts no more into a column than its own bytes.
-use Rattle.std.proofs.Common.{◌≡◌, ℕ, ◌+◌, ◌-◌, ◌≤◌, Bool, true, false, cond, List, [], ◌∷◌, length, length-append, filter, ap, arith}
-use Rattle.std.specs.Prelude.{◌==◌, nat_le, not}
-use Rattle.std.specs.List.{concat}
-use Rattle.std.specs.Str.{IsUtf8}
+use Rattle.std.proofs.Common.{◌≡◌, ℕ, ◌+◌, ◌-◌, ◌≤◌, Bool, true, false, cond, List, [], ◌∷◌, length, length-append, filter, ap, arith, ◌==◌, nat_le, not}
+use Rattle.std.specs.{List.concat, Str.IsUtf8}
 use Rattle.unicode_segmentation.specs.Grapheme.{graphemes}
 use Rattle.unicode_segmentation.proofs.SegmentsLemmas.{concat-segments}
 use Rattle.rtui_cell.specs.Width.{text_width}

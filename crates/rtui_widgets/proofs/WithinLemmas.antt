@@ -1,15 +1,12 @@
 -- What the author of a widget cites: the part of an area that a buffer has, and what stays within an area.
 use Rattle.std.proofs.Common.{◌≡◌, ◌+◌, ◌-◌, ◌<◌, ◌≤◌, List, min, max, refl, ap, ◌∙◌, arith}
-use Rattle.rtui_geometry.specs.declared.position.Position.{Position}
-use Rattle.rtui_geometry.specs.declared.rect.Rect.{Rect}
+use Rattle.rtui_geometry.specs.{declared.position.Position.Position, declared.rect.Rect.Rect}
 use Rattle.rtui_geometry.specs.Rect.{HasPosition, EdgesFit, right_edge, bottom_edge, corner, intersected}
 use Rattle.rtui_style.specs.declared.Style.{Style}
-use Rattle.rtui_buffer.specs.BufferData.{BufferData, HasRow}
-use Rattle.rtui_buffer.specs.Painting.{Piece, columns}
-use Rattle.rtui_buffer.specs.PaintedText.{IsStyled, IsBeside, IsSameBeside}
+use Rattle.rtui_buffer.specs.{BufferData.BufferData, BufferData.HasRow, Painting.Piece, Painting.columns}
+use Rattle.rtui_buffer.specs.{PaintedText.IsStyled, PaintedText.IsBeside, PaintedText.IsSameBeside, Clipped.IsClipped}
 use Rattle.rtui_buffer.proofs.ColumnLemmas.{same-beside}
 use Rattle.rtui_widgets.specs.Rendering.{ChangesWithin}
-use Rattle.rtui_buffer.specs.Clipped.{IsClipped}
 use Rattle.rtui_grid.proofs.PlaceLemmas.{apart}
 
 -- a buffer has the whole of its own area

@@ -1,7 +1,6 @@
 -- What is done over the part of an area that a buffer has.
 use Rattle.std.specs.Prelude.{◌≡◌, ◌⊎◌, ◌<◌}
-use Rattle.rtui_geometry.specs.declared.rect.Rect.{Rect}
-use Rattle.rtui_geometry.specs.Rect.{intersected}
+use Rattle.rtui_geometry.specs.{declared.rect.Rect.Rect, Rect.intersected}
 use Rattle.rtui_buffer.specs.BufferData.{BufferData}
 
 -- what f does, over the part of an area that the buffer has; without one nothing changes

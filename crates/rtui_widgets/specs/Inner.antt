@@ -1,15 +1,11 @@
 -- What private functions promise one another.
 use Rattle.std.specs.Prelude.{ℕ, ◌+◌, ◌*◌, ◌<◌, ◌≤◌, ◌≡◌, ◌⊎◌, List, length, take, drop, Bool, ◌-◌, ◌||◌, ◌&&◌, nat_lt, Some, if◌then◌else◌, slice_index_or, slice_set}
-use Rattle.rtui_cell.specs.declared.cell.Cell.{Cell}
+use Rattle.rtui_cell.specs.{declared.cell.Cell.Cell, Cell.empty_cell, Cell.styled, Symbol.appended, Width.text_width}
 use Rattle.rtui_diff.specs.Cells.{cell}
 use Rattle.rtui_style.specs.declared.Style.{Style}
-use Rattle.rtui_cell.specs.Cell.{empty_cell, styled}
-use Rattle.rtui_cell.specs.Symbol.{appended}
-use Rattle.rtui_cell.specs.Width.{text_width}
 use Rattle.rtui_buffer.specs.Painting.{emptied}
-use Rattle.rtui_widgets.specs.Span.{goes_to}
+use Rattle.rtui_widgets.specs.{Span.goes_to, declared.line.Part.Part}
 use Rattle.rtui_widgets.specs.Line as line
-use Rattle.rtui_widgets.specs.declared.line.Part.{Part}
 
 -- where the rows stand: the place of the first one's first cell, how many cells each row has, how far it is from one row to the next, and
 -- how many rows there are

@@ -5,11 +5,8 @@ use Rattle.unicode_segmentation.specs.Grapheme.{graphemes}
 use Rattle.rtui_layout.specs.declared.alignment.HorizontalAlignment.{HorizontalAlignment}
 use Rattle.rtui_layout.specs.declared.alignment.HorizontalAlignment.TheVariants.{Left, Center, Right}
 use Rattle.rtui_style.specs.declared.Style.{Style}
-use Rattle.rtui_cell.specs.declared.cell.Cell.{Cell}
-use Rattle.rtui_cell.specs.Cell.{styled}
-use Rattle.rtui_cell.specs.Width.{text_columns}
-use Rattle.rtui_text.specs.Text.{SpanData, LineData}
-use Rattle.rtui_text.specs.Widths.{span_width, line_width}
+use Rattle.rtui_cell.specs.{declared.cell.Cell.Cell, Cell.styled, Width.text_columns}
+use Rattle.rtui_text.specs.{Text.SpanData, Text.LineData, Widths.span_width, Widths.line_width}
 use Rattle.rtui_widgets.specs.Span.{span_rendered, IsShortSpan}
 
 -- what shows of a span: after an indent a text, which takes this many columns

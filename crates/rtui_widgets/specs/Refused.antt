@@ -1,16 +1,12 @@
 -- What a rendering leaves that is refused memory: all that was rendered before, and a front of the graphemes of the text in which it was.
 use Rattle.std.specs.Prelude.{◌≡◌, ℕ, ◌-◌, ◌<◌, ◌++◌, true, List, [], ◌∷◌, Option, length, map, take, drop}
 use Rattle.unicode_segmentation.specs.Grapheme.{graphemes}
-use Rattle.rtui_geometry.specs.declared.rect.Rect.{Rect}
-use Rattle.rtui_geometry.specs.Rect.{intersected}
+use Rattle.rtui_geometry.specs.{declared.rect.Rect.Rect, Rect.intersected}
 use Rattle.rtui_layout.specs.declared.alignment.HorizontalAlignment.{HorizontalAlignment}
 use Rattle.rtui_style.specs.declared.Style.{Style}
-use Rattle.rtui_cell.specs.declared.cell.Cell.{Cell}
-use Rattle.rtui_cell.specs.Cell.{styled}
-use Rattle.rtui_text.specs.Text.{SpanData, LineData, TextData}
-use Rattle.rtui_text.specs.Widths.{line_width}
-use Rattle.rtui_buffer.specs.BufferData.{BufferData}
-use Rattle.rtui_buffer.specs.Painting.{KeepsUnmarked}
+use Rattle.rtui_cell.specs.{declared.cell.Cell.Cell, Cell.styled}
+use Rattle.rtui_text.specs.{Text.SpanData, Text.LineData, Text.TextData, Widths.line_width}
+use Rattle.rtui_buffer.specs.{BufferData.BufferData, Painting.KeepsUnmarked}
 use Rattle.rtui_widgets.specs.Span.{showing, graphemes_rendered}
 use Rattle.rtui_widgets.specs.Line.{Part, parts, parts_then, after_first, columns_before}
 use Rattle.rtui_widgets.specs.Rendering.{area_row, first_row, text_line, text_row, alignment_or, ChangesWithin}

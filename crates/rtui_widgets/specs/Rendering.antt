@@ -1,19 +1,15 @@
 -- What rendering spans, lines and texts makes of a buffer.
 use Rattle.std.specs.Prelude.{ℕ, ◌+◌, ◌<◌, ◌≤◌, ◌≡◌, ◌==◌, List, [], Option, Some, None, map, take, drop, if◌then◌else◌, slice_index_or, All}
 use Rattle.std.specs.Str.{IsAscii}
-use Rattle.rtui_geometry.specs.declared.position.Position.{Position}
-use Rattle.rtui_geometry.specs.declared.rect.Rect.{Rect}
-use Rattle.rtui_geometry.specs.Rect.{HasPosition, intersected}
+use Rattle.rtui_geometry.specs.{declared.position.Position.Position, declared.rect.Rect.Rect, Rect.HasPosition, Rect.intersected}
 use Rattle.rtui_layout.specs.declared.alignment.HorizontalAlignment.{HorizontalAlignment}
-use Rattle.rtui_cell.specs.declared.cell.Cell.{Cell}
-use Rattle.rtui_cell.specs.Cell.{styled}
+use Rattle.rtui_cell.specs.{declared.cell.Cell.Cell, Cell.styled}
 use Rattle.rtui_text.specs.Text.{SpanData, LineData, TextData, line_of}
 use Rattle.rtui_buffer.specs.BufferData.{BufferData, cell_index, cell_in, HasRow}
 use Rattle.rtui_style.specs.Style.{new_style}
 use Rattle.rtui_buffer.specs.Painting.{KeepsUnmarked}
 use Rattle.rtui_buffer.specs.PaintedText.{pieces_at, AreShort, PaintsFront, PaintsPieces}
-use Rattle.rtui_widgets.specs.Span.{span_rendered, IsShortSpan}
-use Rattle.rtui_widgets.specs.Line.{line_rendered, IsShortLine}
+use Rattle.rtui_widgets.specs.{Span.span_rendered, Span.IsShortSpan, Line.line_rendered, Line.IsShortLine}
 
 -- row k of a rectangle in a buffer, from left to right
 abbrev pub area_row : Rect → ℕ → BufferData → List Cell

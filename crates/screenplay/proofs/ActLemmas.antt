@@ -1,25 +1,17 @@
 -- Acts of a script that were played.
-use Rattle.std.proofs.Common.{◌≡◌, ℕ, suc, ◌+◌, ◌<◌, List, [], ◌∷◌, ◌++◌, length, take, get_or, Option, Some, None, IfSome, refl, sym, ap, ap₂, ◌∙◌, subst, arith, append_assoc, length-append, drop, drop-cons, add-one}
-use Rattle.std.specs.Prelude.{slice_get, option_map, unwrap_or}
+use Rattle.std.proofs.Common.{◌≡◌, ℕ, suc, ◌+◌, ◌<◌, List, [], ◌∷◌, ◌++◌, length, take, get_or, Option, Some, None, IfSome, refl, sym, ap, ap₂, ◌∙◌, subst, arith, append_assoc, length-append, drop, drop-cons, add-one, slice_get, option_map}
+use Rattle.std.specs.Prelude.{unwrap_or}
 use Rattle.std.specs.Io.KnownBytes.{Appends}
-use Rattle.std.proofs.lemmas.List.{append-nil, get_or_append_left, take-append-drop}
-use Rattle.std.proofs.lemmas.Grind.{flat_map-append}
+use Rattle.std.proofs.lemmas.{List.append-nil, List.get_or_append_left, List.take-append-drop, Grind.flat_map-append}
 use Rattle.std.proofs.lemmas.Option.{slice_get-get_or, get_or_from_slice_get, slice_get_within}
 use Rattle.std.proofs.Math.Seq.{get_or-append_seam, take-append_seam, take-suc}
-use Rattle.rtui_backend.specs.Print.{printed_screen}
-use Rattle.rtui_backend.specs.TestBackend.{screen_of}
-use Rattle.rtui_backend.specs.declared.test.TestBackend.{TestBackend}
+use Rattle.rtui_backend.specs.{Print.printed_screen, TestBackend.screen_of, declared.test.TestBackend.TestBackend}
 use Rattle.rtui_terminal.specs.TerminalData.{TerminalData}
-use Rattle.screenplay.specs.Run.{View, IsStart, EndsEarly}
+use Rattle.screenplay.specs.{Run.View, Run.IsStart, Run.EndsEarly, declared.act.Act.Act, declared.act.Act.TheVariants.Play, declared.act.Act.TheVariants.Show}
 use Rattle.screenplay.specs.Playing.{IsCauseOfStep, IsPlaying, Plays, view_in}
 use Rattle.screenplay.specs.Print.{printed_scene, printed_scenes, shows_of, steps_of}
 use Rattle.screenplay.specs.Engine.{IsScript, PrintsActs, PrintsRun, PrintsText}
-use Rattle.screenplay.specs.declared.act.Act.{Act}
-use Rattle.screenplay.specs.declared.act.Act.TheVariants.{Play, Show}
-use Rattle.screenplay.specs.declared.script.Script.{Script}
-use Rattle.screenplay.specs.declared.scene.PlayCause.{PlayCause}
-use Rattle.screenplay.specs.declared.scene.Scene.{Scene}
-use Rattle.screenplay.specs.declared.scene.Stage.{Stage}
+use Rattle.screenplay.specs.{declared.script.Script.Script, declared.scene.PlayCause.PlayCause, declared.scene.Scene.Scene, declared.scene.Stage.Stage}
 use Rattle.screenplay.specs.declared.scene.Step.{Step}
 use Rattle.screenplay.proofs.SceneLemmas.{IsSceneOf-in, scene_in}
 use Rattle.screenplay.proofs.RunLemmas.{HasRun, HasRun-start, HasRun-push, EndsEarly-at}

@@ -1,6 +1,5 @@
 -- The rows above an inline viewport along a run.
-use Rattle.std.proofs.Common.{◌≡◌, ℕ, zero, suc, ◌+◌, ◌<◌, List, [], ◌∷◌, ◌++◌, length, get_or, Some, sym, ap, ◌∙◌, subst, arith, append-nil, refl}
-use Rattle.std.specs.Prelude.{slice_get}
+use Rattle.std.proofs.Common.{◌≡◌, ℕ, zero, suc, ◌+◌, ◌<◌, List, [], ◌∷◌, ◌++◌, length, get_or, Some, sym, ap, ◌∙◌, subst, arith, append-nil, refl, slice_get}
 use Rattle.std.proofs.lemmas.Option.{slice_get-get_or, get_or_from_slice_get, slice_get_within}
 use Rattle.rtui_geometry.specs.declared.size.Size.{Size}
 use Rattle.rtui_cell.specs.Look.{Look}
@@ -13,9 +12,7 @@ use Rattle.rtui_terminal.proofs.HeadlineLemmas.{appends_more}
 use Rattle.screenplay.proofs.PlayLemmas.{kept_rows}
 use Rattle.screenplay.specs.Run.{View, view_of_scene, view_size, rows_above_view, InsertsOn, IsAfter, IsRun}
 use Rattle.screenplay.specs.Appending.{AreFrames, AppendsTexts, texts_inserted_by, inserted_from, scene_size, KeepsSizeFor, IsAppending}
-use Rattle.screenplay.specs.declared.scene.Stage.{Stage}
-use Rattle.screenplay.specs.declared.scene.Scene.{Scene}
-use Rattle.screenplay.specs.declared.scene.Step.{Step}
+use Rattle.screenplay.specs.{declared.scene.Stage.Stage, declared.scene.Scene.Scene, declared.scene.Step.Step}
 use Rattle.screenplay.specs.declared.scene.Step.TheVariants.{Draw, Insert, Clear}
 
 frames_append : (width : ℕ) (ss ts : List TextData) (fs gs : List BufferData) → AreFrames width ss fs → AreFrames width ts gs → AreFrames width (ss ++ ts) (fs ++ gs)

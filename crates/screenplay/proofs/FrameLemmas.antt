@@ -1,19 +1,14 @@
 -- Frames of a script, of which no cell has an option or a flag.
-use Rattle.std.proofs.Common.{◌≡◌, ℕ, ◌+◌, ◌*◌, ◌<◌, Bool, true, false, if◌then◌else◌, List, [], ◌∷◌, Some, refl, sym, ap, ◌∙◌, subst, arith}
-use Rattle.std.specs.Prelude.{encode_utf8}
+use Rattle.std.proofs.Common.{◌≡◌, ℕ, ◌+◌, ◌*◌, ◌<◌, Bool, true, false, if◌then◌else◌, List, [], ◌∷◌, Some, refl, sym, ap, ◌∙◌, subst, arith, encode_utf8}
 use Rattle.rtui_geometry.specs.declared.rect.Rect.{Rect}
-use Rattle.rtui_cell.specs.declared.cell.Cell.{Cell}
-use Rattle.rtui_cell.specs.Cell.{is_skipped, IsUnmarked}
-use Rattle.rtui_cell.specs.Grid.{Grid}
-use Rattle.rtui_diff.specs.Cells.{cell_at}
-use Rattle.rtui_diff.specs.Shows.{Shows}
+use Rattle.rtui_cell.specs.{declared.cell.Cell.Cell, Cell.is_skipped, Cell.IsUnmarked, Grid.Grid}
+use Rattle.rtui_diff.specs.{Cells.cell_at, Shows.Shows}
 use Rattle.rtui_text.specs.Text.{TextData}
 use Rattle.rtui_buffer.specs.BufferData.{BufferData, IsEmptied, area_size, cell_index, cell_in, position_of, with_cell}
 use Rattle.rtui_buffer.specs.Shown.{ShowsBuffer}
 use Rattle.rtui_backend.specs.CellGrid.{AreUnmarked}
 use Rattle.rtui_backend.proofs.PlainLemmas.{AreUnmarked-empties, unmarked_set}
-use Rattle.screenplay.specs.Puts.{holds_place, with_put, with_puts}
-use Rattle.screenplay.specs.Run.{IsFrame}
+use Rattle.screenplay.specs.{Puts.holds_place, Puts.with_put, Puts.with_puts, Run.IsFrame}
 
 unskipped : (c : Cell) → IsUnmarked c → is_skipped c ≡ false
 unfolding is_skipped

@@ -1,43 +1,28 @@
 -- A terminal in the middle of a play: its start, its sizes, its frames and its clears.
-use Rattle.std.proofs.Common.{◌≡◌, ℕ, zero, suc, ◌+◌, ◌-◌, ◌<◌, ◌≤◌, min, nat_lt, true, false, if◌then◌else◌, List, [], ◌∷◌, ◌++◌, map, replicate, Option, Some, None, refl, sym, ap, ap₂, subst, ◌∙◌, inl, inr, arith}
-use Rattle.std.specs.Prelude.{nat_le, ◌||◌, ◌&&◌, ◌==◌}
+use Rattle.std.proofs.Common.{◌≡◌, ℕ, zero, suc, ◌+◌, ◌-◌, ◌<◌, ◌≤◌, min, nat_lt, true, false, if◌then◌else◌, List, [], ◌∷◌, ◌++◌, map, replicate, Option, Some, None, refl, sym, ap, ap₂, subst, ◌∙◌, inl, inr, arith, nat_le, ◌||◌, ◌&&◌, ◌==◌}
 use Rattle.std.specs.List.{range_with_len}
-use Rattle.std.proofs.lemmas.Bool.{cases_lt}
-use Rattle.std.proofs.lemmas.Bool.Decides.{nat_tests}
-use Rattle.rtui_geometry.specs.declared.rect.Rect.{Rect}
-use Rattle.rtui_geometry.specs.declared.size.Size.{Size}
+use Rattle.std.proofs.lemmas.{Bool.cases_lt, Bool.Decides.nat_tests}
+use Rattle.rtui_geometry.specs.{declared.rect.Rect.Rect, declared.size.Size.Size}
 use Rattle.rtui_cell.specs.Look.{empty_look}
 use Rattle.rtui_text.specs.Text.{TextData}
-use Rattle.rtui_buffer.specs.BufferData.{BufferData}
-use Rattle.rtui_buffer.specs.Shown.{IsSettledBuffer, ShowsBuffer}
+use Rattle.rtui_buffer.specs.{BufferData.BufferData, Shown.IsSettledBuffer, Shown.ShowsBuffer}
 use Rattle.rtui_backend.proofs.ScrollLemmas.{above_kept, above_same}
 use Rattle.rtui_backend.specs.Screen.{Screen, IsBlankScreen, TakesSize, IsOnScreen, IsWithin, seen, row_of, rows_above, screen_area, size_of}
-use Rattle.rtui_backend.specs.CellGrid.{AreUnmarked}
-use Rattle.rtui_backend.specs.TestBackend.{screen_of}
-use Rattle.rtui_backend.specs.declared.test.TestBackend.{TestBackend}
+use Rattle.rtui_backend.specs.{CellGrid.AreUnmarked, TestBackend.screen_of, declared.test.TestBackend.TestBackend}
 use Rattle.rtui_viewport.specs.declared.viewport.Viewport.{Viewport}
 use Rattle.rtui_viewport.specs.declared.viewport.Viewport.TheVariants.{Fullscreen, Inline, Fixed}
-use Rattle.rtui_viewport.specs.Viewports.{IsFixed, IsInline}
-use Rattle.rtui_viewport.specs.Areas.{KeepsOutside, IsBlankOver, Empties}
-use Rattle.rtui_viewport.specs.Sizing.{first_area}
+use Rattle.rtui_viewport.specs.{Viewports.IsFixed, Viewports.IsInline, Areas.KeepsOutside, Areas.IsBlankOver, Areas.Empties, Sizing.first_area}
 use Rattle.rtui_viewport.specs.Placing.{area_in, raised, inline_area, inline_top, rows_scrolled}
-use Rattle.rtui_viewport.specs.Clearing.{HasPlace, ClearsArea, is_emptied}
+use Rattle.rtui_viewport.specs.{Clearing.HasPlace, Clearing.ClearsArea, Clearing.is_emptied, Lying.FitsSize, Lying.MayLie}
 use Rattle.rtui_viewport.proofs.ClearLemmas.{blank_over}
-use Rattle.rtui_terminal.specs.TerminalData.{TerminalData, cursor_offset}
-use Rattle.rtui_terminal.specs.InStep.{IsInStep, IsSized}
+use Rattle.rtui_terminal.specs.{TerminalData.TerminalData, TerminalData.cursor_offset, InStep.IsInStep, InStep.IsSized, Starting.IsBlank, Starting.Starts}
 use Rattle.rtui_terminal.proofs.RestLemmas.{same_size, inline_left, inline_width, raised_by, raised_same, has_place, rests-started, rests-applied, rests-resized, rests-cleared, keeps-cleared, rests-known, rests-takes, rests-inserted}
 use Rattle.rtui_terminal.proofs.StartLemmas.{starts-blank}
-use Rattle.rtui_terminal.specs.Starting.{IsBlank, Starts}
-use Rattle.rtui_viewport.specs.Lying.{FitsSize, MayLie}
-use Rattle.rtui_terminal.specs.Insertion.{inserted_area}
-use Rattle.rtui_terminal.specs.Writing.{Applies}
-use Rattle.rtui_terminal.specs.Clearing.{ClearsViewport}
-use Rattle.rtui_terminal.specs.Resizing.{Resizes}
+use Rattle.rtui_terminal.specs.{Insertion.inserted_area, Writing.Applies, Clearing.ClearsViewport, Resizing.Resizes}
 use Rattle.screenplay.specs.Run.{stage_size, GoesOn, plain_screen, rows_above_view, IsGoodStage, IsFrame, first_viewport, first_rows, IsStart, KeepsSurroundings, size_after, View, row_count, text_area, IsInserted, InsertsOn}
 use Rattle.screenplay.proofs.FrameLemmas.{AreUnmarked-emptied, AreUnmarked-frame, shown-again}
 use Rattle.screenplay.specs.Playing.{IsPlaying, view_in, TakesNewSize, IsSizedFor, ShowsFrame, InsertsBuffer, IsCauseOfFrame, IsCauseOfStep, Plays}
-use Rattle.screenplay.specs.declared.scene.PlayCause.{PlayCause}
-use Rattle.screenplay.specs.declared.scene.PlayCause.TheVariants.{Memory, Unsettled}
+use Rattle.screenplay.specs.{declared.scene.PlayCause.PlayCause, declared.scene.PlayCause.TheVariants.Memory, declared.scene.PlayCause.TheVariants.Unsettled}
 use Rattle.screenplay.specs.declared.scene.Stage.{Stage}
 use Rattle.screenplay.specs.declared.scene.Step.TheVariants as steps
 

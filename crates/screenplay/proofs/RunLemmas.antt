@@ -1,19 +1,13 @@
 -- A run, a scene at a time.
-use Rattle.std.proofs.Common.{◌≡◌, ℕ, ◌+◌, ◌-◌, ◌<◌, List, [], ◌∷◌, ◌++◌, length, take, get_or, Some, arith, length-append, length-take, inl, inr, sym, ap, ◌∙◌, subst}
-use Rattle.std.specs.Prelude.{slice_get}
-use Rattle.std.proofs.lemmas.Bool.{cases_lt}
-use Rattle.std.proofs.lemmas.List.{get_or_append_left}
-use Rattle.std.proofs.lemmas.Option.{slice_get-get_or, get_or_from_slice_get, slice_get_within}
+use Rattle.std.proofs.Common.{◌≡◌, ℕ, ◌+◌, ◌-◌, ◌<◌, List, [], ◌∷◌, ◌++◌, length, take, get_or, Some, arith, length-append, length-take, inl, inr, sym, ap, ◌∙◌, subst, slice_get}
+use Rattle.std.proofs.lemmas.{Bool.cases_lt, List.get_or_append_left, Option.slice_get-get_or, Option.get_or_from_slice_get, Option.slice_get_within}
 use Rattle.std.proofs.Math.Seq.{get_or-append_seam}
 use Rattle.rtui_backend.specs.declared.test.TestBackend.{TestBackend}
 use Rattle.rtui_terminal.specs.TerminalData.{TerminalData}
 use Rattle.screenplay.specs.Run.{view_of_scene, IsPlainScene, IsStaged, IsStart, IsAfter, IsRun, EndsEarly}
 use Rattle.screenplay.specs.Playing.{IsPlaying, view_in, IsSceneOf, IsCauseOfStep, Plays}
-use Rattle.screenplay.specs.declared.scene.PlayCause.{PlayCause}
-use Rattle.screenplay.specs.declared.scene.PlayCause.TheVariants.{Unsettled}
-use Rattle.screenplay.specs.declared.scene.Scene.{Scene}
-use Rattle.screenplay.specs.declared.scene.Stage.{Stage}
-use Rattle.screenplay.specs.declared.scene.Step.{Step}
+use Rattle.screenplay.specs.{declared.scene.PlayCause.PlayCause, declared.scene.PlayCause.TheVariants.Unsettled, declared.scene.Scene.Scene}
+use Rattle.screenplay.specs.{declared.scene.Stage.Stage, declared.scene.Step.Step}
 
 -- steps were played: the scenes are a run of them, and the last one shows what the terminal's screen shows
 pub record HasRun (stage : Stage) (steps : List Step) (scenes : List Scene) (t : TerminalData TestBackend) : Type 0 where

@@ -1,19 +1,13 @@
 -- A scene made of what a terminal's screen shows.
 use Rattle.std.proofs.Common.{◌≡◌, List, [], ◌∷◌, map, refl, sym, subst, ap, ap₂, ◌∙◌, true}
-use Rattle.std.specs.declared.vec.Vec.{Vec}
-use Rattle.std.specs.declared.alloc.Global.{Global}
+use Rattle.std.specs.{declared.vec.Vec.Vec, declared.alloc.Global.Global}
 use Rattle.rtui_geometry.specs.declared.rect.Rect.{Rect}
-use Rattle.rtui_cell.specs.declared.cell.Cell.{Cell}
-use Rattle.rtui_cell.specs.Look.{Look, look_of}
+use Rattle.rtui_cell.specs.{declared.cell.Cell.Cell, Look.Look, Look.look_of}
 use Rattle.rtui_buffer.specs.BufferData.{BufferData, IsSameBuffer}
-use Rattle.rtui_backend.specs.Screen.{screen_area}
-use Rattle.rtui_backend.specs.CellGrid.{grid_of, AreUnmarked, AreUnmarkedRows}
-use Rattle.rtui_backend.specs.TestBackend.{screen_of, buffer_of}
-use Rattle.rtui_backend.specs.declared.test.TestBackend.{TestBackend}
+use Rattle.rtui_backend.specs.{Screen.screen_area, CellGrid.grid_of, CellGrid.AreUnmarked, CellGrid.AreUnmarkedRows}
+use Rattle.rtui_backend.specs.{TestBackend.screen_of, TestBackend.buffer_of, declared.test.TestBackend.TestBackend}
 use Rattle.rtui_terminal.specs.TerminalData.{TerminalData}
-use Rattle.screenplay.specs.Run.{View}
-use Rattle.screenplay.specs.Playing.{IsSceneOf}
-use Rattle.screenplay.specs.declared.scene.Scene.{Scene}
+use Rattle.screenplay.specs.{Run.View, Playing.IsSceneOf, declared.scene.Scene.Scene}
 
 abbrev CellRow : Type 0
 CellRow = Vec Cell Global

@@ -6,9 +6,7 @@ use Rattle.rtui_text.specs.Text.{TextData}
 use Rattle.rtui_buffer.specs.BufferData.{BufferData}
 use Rattle.rtui_insert.specs.Insertion.{AppendsRows}
 use Rattle.screenplay.specs.Run.{view_of_scene, view_size, rows_above_view, text_area, IsFrame}
-use Rattle.screenplay.specs.declared.scene.Scene.{Scene}
-use Rattle.screenplay.specs.declared.scene.Step.{Step}
-use Rattle.screenplay.specs.declared.scene.Step.TheVariants.{Insert}
+use Rattle.screenplay.specs.{declared.scene.Scene.Scene, declared.scene.Step.Step, declared.scene.Step.TheVariants.Insert}
 
 -- a frame of each text, in order, as wide as the screen
 abbrev pub AreFrames : ℕ → List TextData → List BufferData → Type 0

@@ -1,8 +1,7 @@
 -- How a program ends that prints a script.
 use Rattle.std.specs.Prelude.{◌≡◌, ℕ, zero, suc, List, [], ◌++◌, Option, codes}
 use Rattle.std.specs.Io.KnownBytes.{Appends}
-use Rattle.screenplay.specs.Engine.{IsRunFault, PrintsRun, run_fault_text}
-use Rattle.screenplay.specs.declared.fault.RunFault.{RunFault}
+use Rattle.screenplay.specs.{Engine.IsRunFault, Engine.PrintsRun, Engine.run_fault_text, declared.fault.RunFault.RunFault}
 use Rattle.screenplay.specs.declared.fault.RunFault.TheVariants.{Write}
 
 -- the line that tells a fault; a failed write has none

@@ -1,20 +1,10 @@
 -- From the bytes of a script to what is printed, or to a fault.
 use Rattle.std.specs.Prelude.{◌≡◌, ℕ, List, [], ◌++◌, Option, Some, codes, IfSome}
-use Rattle.std.specs.Fmt.{decimal}
-use Rattle.std.specs.Str.{IsUtf8}
-use Rattle.std.specs.Str.Lines.{lines}
-use Rattle.std.specs.Io.KnownBytes.{Appends}
-use Rattle.screenplay.specs.Script.{IsFirstBadLine, script_of}
-use Rattle.screenplay.specs.Run.{IsRun, EndsEarly}
-use Rattle.screenplay.specs.Print.{printed_scenes, shows_of, steps_of}
-use Rattle.screenplay.specs.declared.act.Act.{Act}
-use Rattle.screenplay.specs.declared.script.Script.{Script}
-use Rattle.screenplay.specs.declared.scene.Scene.{Scene}
-use Rattle.screenplay.specs.declared.scene.Stage.{Stage}
-use Rattle.screenplay.specs.declared.scene.StepError.{StepError}
-use Rattle.screenplay.specs.declared.scene.PlayCause.{PlayCause}
+use Rattle.std.specs.{Fmt.decimal, Str.IsUtf8, Str.Lines.lines, Io.KnownBytes.Appends}
+use Rattle.screenplay.specs.{Script.IsFirstBadLine, Script.script_of, Run.IsRun, Run.EndsEarly, Print.printed_scenes, Print.shows_of, Print.steps_of}
+use Rattle.screenplay.specs.{declared.act.Act.Act, declared.script.Script.Script, declared.scene.Scene.Scene, declared.scene.Stage.Stage}
+use Rattle.screenplay.specs.{declared.scene.StepError.StepError, declared.scene.PlayCause.PlayCause, declared.fault.RunFault.RunFault}
 use Rattle.screenplay.specs.declared.scene.PlayCause.TheVariants as cause
-use Rattle.screenplay.specs.declared.fault.RunFault.{RunFault}
 use Rattle.screenplay.specs.declared.fault.RunFault.TheVariants.{Line, Step as AtStep, NotText, Read, Memory, Write}
 
 -- the bytes are this script

@@ -2,21 +2,11 @@
 use Rattle.std.specs.Prelude.{◌≡◌, ℕ, ◌<◌, List, Option}
 use Rattle.rtui_geometry.specs.declared.size.Size.{Size}
 use Rattle.rtui_text.specs.Text.{TextData}
-use Rattle.rtui_buffer.specs.BufferData.{BufferData}
-use Rattle.rtui_buffer.specs.Shown.{IsSettledBuffer, ShowsBuffer}
-use Rattle.rtui_backend.specs.Screen.{size_of, TakesSize}
-use Rattle.rtui_backend.specs.CellGrid.{AreUnmarked}
-use Rattle.rtui_backend.specs.TestBackend.{screen_of}
-use Rattle.rtui_backend.specs.declared.test.TestBackend.{TestBackend}
-use Rattle.rtui_terminal.specs.TerminalData.{TerminalData}
-use Rattle.rtui_terminal.specs.AtRest.{IsAtRest}
-use Rattle.rtui_terminal.specs.Resizing.{Autoresizes}
-use Rattle.rtui_terminal.specs.Insertion.{inserted_area, Inserts}
+use Rattle.rtui_buffer.specs.{BufferData.BufferData, Shown.IsSettledBuffer, Shown.ShowsBuffer}
+use Rattle.rtui_backend.specs.{Screen.size_of, Screen.TakesSize, CellGrid.AreUnmarked, TestBackend.screen_of, declared.test.TestBackend.TestBackend}
+use Rattle.rtui_terminal.specs.{TerminalData.TerminalData, AtRest.IsAtRest, Resizing.Autoresizes, Insertion.inserted_area, Insertion.Inserts}
 use Rattle.screenplay.specs.Run.{View, plain_screen, view_of_scene, IsGoodStage, size_after, GoesOn, KeepsSurroundings, IsFrame, IsPlainScene, HasUnsettled, IsUnsettledStep, IsAfter}
-use Rattle.screenplay.specs.declared.scene.Stage.{Stage}
-use Rattle.screenplay.specs.declared.scene.Scene.{Scene}
-use Rattle.screenplay.specs.declared.scene.Step.{Step}
-use Rattle.screenplay.specs.declared.scene.PlayCause.{PlayCause}
+use Rattle.screenplay.specs.{declared.scene.Stage.Stage, declared.scene.Scene.Scene, declared.scene.Step.Step, declared.scene.PlayCause.PlayCause}
 use Rattle.screenplay.specs.declared.scene.PlayCause.TheVariants.{Memory, Unsettled}
 
 -- the terminal is at rest over the stage's kind of viewport, and no cell of the last frame has an option or a flag

@@ -2,11 +2,8 @@
 use Rattle.std.specs.Prelude.{ℕ, ◌+◌, List, [], ◌∷◌, option_map, unwrap_or, slice_get}
 use Rattle.std.specs.List.{flat_map}
 use Rattle.rtui_backend.specs.Print.{printed_screen}
-use Rattle.screenplay.specs.Run.{view_of_scene}
-use Rattle.screenplay.specs.declared.act.Act.{Act}
-use Rattle.screenplay.specs.declared.act.Act.TheVariants.{Play, Show}
-use Rattle.screenplay.specs.declared.scene.Scene.{Scene}
-use Rattle.screenplay.specs.declared.scene.Step.{Step}
+use Rattle.screenplay.specs.{Run.view_of_scene, declared.act.Act.Act, declared.act.Act.TheVariants.Play, declared.act.Act.TheVariants.Show}
+use Rattle.screenplay.specs.{declared.scene.Scene.Scene, declared.scene.Step.Step}
 
 -- the steps of acts
 abbrev pub steps_of : List Act → List Step

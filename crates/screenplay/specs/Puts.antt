@@ -1,7 +1,6 @@
 -- Characters set on a buffer.
 use Rattle.std.specs.Prelude.{ℕ, ◌&&◌, Bool, nat_le, nat_lt, if◌then◌else◌, List, [], ◌∷◌, Some, encode_utf8}
-use Rattle.rtui_geometry.specs.declared.rect.Rect.{Rect}
-use Rattle.rtui_geometry.specs.Rect.{right_edge, bottom_edge}
+use Rattle.rtui_geometry.specs.{declared.rect.Rect.Rect, Rect.right_edge, Rect.bottom_edge}
 use Rattle.rtui_buffer.specs.BufferData.{BufferData, cell_in, with_cell, position_of}
 
 abbrev pub holds_place : Rect → ℕ → ℕ → Bool

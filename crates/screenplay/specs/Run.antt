@@ -1,28 +1,19 @@
 -- Runs: a scene at the start and one after each step.
 use Rattle.std.specs.Prelude.{◌≡◌, ℕ, ◌+◌, ◌-◌, ◌<◌, ◌≤◌, min, true, List, [], ◌∷◌, ◌++◌, map, length, take, replicate, Option, None, Some, slice_get}
-use Rattle.rtui_geometry.specs.declared.rect.Rect.{Rect}
-use Rattle.rtui_geometry.specs.declared.size.Size.{Size}
-use Rattle.rtui_geometry.specs.Rect.{EdgesFit}
+use Rattle.rtui_geometry.specs.{declared.rect.Rect.Rect, declared.size.Size.Size, Rect.EdgesFit}
 use Rattle.rtui_cell.specs.Look.{Look, look_of, empty_look}
 use Rattle.rtui_text.specs.Text.{TextData}
-use Rattle.rtui_buffer.specs.BufferData.{BufferData, IsEmptied}
-use Rattle.rtui_buffer.specs.Shown.{IsSettledBuffer, ShowsBuffer}
+use Rattle.rtui_buffer.specs.{BufferData.BufferData, BufferData.IsEmptied, Shown.IsSettledBuffer, Shown.ShowsBuffer}
 use Rattle.rtui_widgets.specs.Rendering.{RendersText}
 use Rattle.rtui_backend.specs.Screen.{Screen, KeepsSizeAndHistory, IsOnScreen, TakesSize, size_of, screen_area, rows_above}
 use Rattle.rtui_backend.specs.CellGrid.{grid_of, AreUnmarked, AreUnmarkedRows}
 use Rattle.rtui_viewport.specs.declared.viewport.Viewport.{Viewport}
 use Rattle.rtui_viewport.specs.declared.viewport.Viewport.TheVariants.{Fullscreen, Inline, Fixed}
-use Rattle.rtui_viewport.specs.Viewports.{IsInline}
-use Rattle.rtui_viewport.specs.Lying.{at_corner, FitsSize, MayLie}
-use Rattle.rtui_viewport.specs.Areas.{KeepsOutside, IsBlankOver, IsBlankBelow}
+use Rattle.rtui_viewport.specs.{Viewports.IsInline, Lying.at_corner, Lying.FitsSize, Lying.MayLie, Areas.KeepsOutside, Areas.IsBlankOver, Areas.IsBlankBelow}
 use Rattle.rtui_insert.specs.Insertion.{AppendsRows}
-use Rattle.screenplay.specs.Puts.{with_puts}
-use Rattle.screenplay.specs.declared.scene.Stage.{Stage}
-use Rattle.screenplay.specs.declared.scene.Scene.{Scene}
-use Rattle.screenplay.specs.declared.scene.Step.{Step}
+use Rattle.screenplay.specs.{Puts.with_puts, declared.scene.Stage.Stage, declared.scene.Scene.Scene, declared.scene.Step.Step}
 use Rattle.screenplay.specs.declared.scene.Step.TheVariants.{Draw, Insert, Clear}
-use Rattle.screenplay.specs.declared.scene.PlayFault.{PlayFault}
-use Rattle.screenplay.specs.declared.scene.StepError.{StepError}
+use Rattle.screenplay.specs.{declared.scene.PlayFault.PlayFault, declared.scene.StepError.StepError}
 use Rattle.screenplay.specs.declared.scene.PlayCause.TheVariants.{Memory, Unsettled}
 
 -- a screen, of whose cursor nothing is said, and the viewport on it

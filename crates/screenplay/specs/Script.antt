@@ -1,23 +1,17 @@
 -- The script grammar: what a line commands, what stands after it, and which line is the first bad one.
 use Rattle.std.specs.Prelude.{◌≡◌, ℕ, ◌+◌, ◌-◌, ◌<◌, ◌≤◌, Bool, true, false, ◌&&◌, ◌==◌, not, nat_lt, nat_le, if◌then◌else◌, List, [], ◌∷◌, ◌++◌, length, take, codes, chars, Option, Some, None, option_map, option_and_then, slice_index_or, slice_get, encode_utf8}
-use Rattle.std.specs.Char.{is_control}
-use Rattle.std.specs.Str.{bytes_eq}
-use Rattle.rtui_geometry.specs.declared.rect.Rect.{Rect}
-use Rattle.rtui_geometry.specs.declared.size.Size.{Size}
+use Rattle.std.specs.{Char.is_control, Str.bytes_eq}
+use Rattle.rtui_geometry.specs.{declared.rect.Rect.Rect, declared.size.Size.Size}
 use Rattle.rtui_cell.specs.Width.{text_width}
 use Rattle.rtui_text.specs.Text.{TextData, raw_line, text_of}
 use Rattle.rtui_viewport.specs.declared.viewport.Viewport.{Viewport}
 use Rattle.rtui_viewport.specs.declared.viewport.Viewport.TheVariants.{Fullscreen, Inline, Fixed}
 use Rattle.script_words.specs.Words.{first_word, after_word, parsed_number, parsed_size, size_by}
-use Rattle.screenplay.specs.Run.{IsGoodStage}
-use Rattle.screenplay.specs.declared.act.Act.{Act}
+use Rattle.screenplay.specs.{Run.IsGoodStage, declared.act.Act.Act, declared.script.Command.Command, declared.script.Script.Script}
 use Rattle.screenplay.specs.declared.act.Act.TheVariants as acts
-use Rattle.screenplay.specs.declared.script.Command.{Command}
 use Rattle.screenplay.specs.declared.script.Command.TheVariants.{SetStage, TakeSize, Put, AddText, Draw, Insert, Clear, Show}
-use Rattle.screenplay.specs.declared.script.Script.{Script}
 use Rattle.screenplay.specs.declared.script.ScriptError.{ScriptError}
-use Rattle.screenplay.specs.declared.script.ScriptError.TheVariants.{Line, Memory}
-use Rattle.screenplay.specs.declared.scene.Stage.{Stage}
+use Rattle.screenplay.specs.{declared.script.ScriptError.TheVariants.Line, declared.script.ScriptError.TheVariants.Memory, declared.scene.Stage.Stage}
 use Rattle.screenplay.specs.declared.scene.Step.{Step}
 use Rattle.screenplay.specs.declared.scene.Step.TheVariants as steps
 

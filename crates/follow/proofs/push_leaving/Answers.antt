@@ -1,7 +1,6 @@
 use Rattle.std.proofs.Common.{◌-◌, refl, true, subst, string_bytes}
-use Rattle.ansi_model.specs.Sends.{Performs}
+use Rattle.ansi_model.specs.{Sends.Performs, Sgr.default_sgr}
 use Rattle.std.proofs.lemmas.Result.{on_ok_weaker}
-use Rattle.ansi_model.specs.Sgr.{default_sgr}
 use Rattle.ansi_model.specs.Emulator.{fed, returned, cursor_moved, cursor_shown, without_region, with_sgr}
 use Rattle.ansi_model.proofs.RegionLemmas.{Does-then}
 use Rattle.follow.proofs.push_leaving.Goals as goal

@@ -1,7 +1,6 @@
 use Rattle.std.proofs.Common.{◌≡◌, true, false, nat_eq, sym, subst, ◌∙◌, arith}
 use Rattle.std.proofs.lemmas.Bool.Decides.{nat_tests}
-use Rattle.ansi_model.specs.declared.glyph.Glyph.TheVariants.{Whole}
-use Rattle.ansi_model.specs.Symbols.{is_shown, columns_of_char, IsGlyphOf}
+use Rattle.ansi_model.specs.{declared.glyph.Glyph.TheVariants.Whole, Symbols.is_shown, Symbols.columns_of_char, Symbols.IsGlyphOf}
 use Rattle.ansi_model.proofs.GlyphLemmas.{plain-glyph, whole-glyph}
 use Rattle.ansi_model.proofs.glyph.glyph_of_char.Goals as goal
 

@@ -1,7 +1,6 @@
 use Rattle.std.proofs.Common.{refl, sym, ◌∙◌}
 use Rattle.ansi_model.specs.Drawing.ChangesSgr.{Stays}
-use Rattle.ansi_model.proofs.SgrLemmas.{same_sgr}
-use Rattle.ansi_model.proofs.DrawLemmas.{pen-kept}
+use Rattle.ansi_model.proofs.{SgrLemmas.same_sgr, DrawLemmas.pen-kept}
 use Rattle.ansi_model.proofs.pen.change_sgr.Goals as goal
 
 pub returns-then-eq-clause-changes : goal.returns-then-eq-clause-changes

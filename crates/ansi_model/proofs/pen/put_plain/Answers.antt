@@ -1,8 +1,7 @@
 use Rattle.std.proofs.Common.{◌≡◌, true, encode_utf8, string_bytes, refl, sym, subst, ◌∙◌, arith}
 use Rattle.std.proofs.lemmas.Bool.Decides.{nat_tests}
 use Rattle.ansi_model.specs.Sends.{Sends, typed}
-use Rattle.ansi_model.proofs.SymbolLemmas.{plain-printed, plain-single}
-use Rattle.ansi_model.proofs.DrawLemmas.{known-by, put-here, put-there}
+use Rattle.ansi_model.proofs.{SymbolLemmas.plain-printed, SymbolLemmas.plain-single, DrawLemmas.known-by, DrawLemmas.put-here, DrawLemmas.put-there}
 use Rattle.ansi_model.proofs.pen.put_plain.Goals.{then-not-is_at+in_ok-move_to, else-not-is_at}
 use Rattle.ansi_model.proofs.pen.put_plain.Goals as goal
 

@@ -2,9 +2,7 @@ use Rattle.std.proofs.Common.{◌-◌, refl}
 use Rattle.std.proofs.lemmas.Result.{on_ok_weaker}
 use Rattle.ratatui_core.specs.Backend.{BeforeCursor}
 use Rattle.ansi_model.specs.Emulator.{cursor_moved, erased}
-use Rattle.ansi_model.proofs.ScrollLemmas.{turns-from}
-use Rattle.ansi_model.proofs.RegionLemmas.{Does-then}
-use Rattle.ansi_model.proofs.CallLemmas.{screen-emptied}
+use Rattle.ansi_model.proofs.{ScrollLemmas.turns-from, RegionLemmas.Does-then, CallLemmas.screen-emptied}
 use Rattle.ansi_model.proofs.screen.clear_screen.Goals as goal
 
 pub returns : goal.returns

@@ -1,8 +1,7 @@
 use Rattle.std.proofs.Common.{refl, sym, ap, ◌∙◌}
 use Rattle.std.proofs.lemmas.Result.{on_ok_weaker}
 use Rattle.ansi_model.specs.Emulator.{cursor_moved, rested, line_fed, lines_inserted}
-use Rattle.ansi_model.proofs.ReadLemmas.{line_fed-rested}
-use Rattle.ansi_model.proofs.RegionLemmas.{Does-then}
+use Rattle.ansi_model.proofs.{ReadLemmas.line_fed-rested, RegionLemmas.Does-then}
 use Rattle.ansi_model.proofs.screen.feed_and_lower.Goals as goal
 
 pub returns : goal.returns

@@ -1,8 +1,7 @@
 use Rattle.std.proofs.Common.{◌-◌, refl, sym}
 use Rattle.std.proofs.lemmas.Result.{on_ok_weaker}
 use Rattle.ansi_model.specs.Emulator.{cursor_moved, returned, rested, fed, with_region, without_region}
-use Rattle.ansi_model.proofs.ReadLemmas.{fed-rested}
-use Rattle.ansi_model.proofs.RegionLemmas.{Does-then}
+use Rattle.ansi_model.proofs.{ReadLemmas.fed-rested, RegionLemmas.Does-then}
 use Rattle.ansi_model.proofs.screen.feed_rows.Goals as goal
 
 pub returns : goal.returns

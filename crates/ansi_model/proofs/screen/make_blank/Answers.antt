@@ -3,8 +3,7 @@ use Rattle.std.proofs.lemmas.Result.{on_ok_weaker}
 use Rattle.ratatui_core.specs.Backend.{BeforeCursor}
 use Rattle.ansi_model.specs.Sgr.{default_sgr}
 use Rattle.ansi_model.specs.Emulator.{cursor_moved, erased, without_region, with_sgr, cursor_shown}
-use Rattle.ansi_model.proofs.RegionLemmas.{Does-then}
-use Rattle.ansi_model.proofs.CallLemmas.{makes-blank}
+use Rattle.ansi_model.proofs.{RegionLemmas.Does-then, CallLemmas.makes-blank}
 use Rattle.ansi_model.proofs.screen.make_blank.Goals as goal
 
 pub returns : goal.returns

@@ -1,6 +1,5 @@
 use Rattle.std.proofs.lemmas.Result.{on_ok_weaker}
-use Rattle.ansi_model.proofs.ScrollLemmas.{turns-from}
-use Rattle.ansi_model.proofs.CallLemmas.{cursor-moved}
+use Rattle.ansi_model.proofs.{ScrollLemmas.turns-from, CallLemmas.cursor-moved}
 use Rattle.ansi_model.proofs.screen.set_cursor_position.Goals as goal
 
 pub returns : goal.returns

@@ -1,7 +1,6 @@
 use Rattle.std.proofs.Common.{true, false}
 use Rattle.std.proofs.lemmas.Result.{on_ok_weaker}
-use Rattle.ansi_model.proofs.ScrollLemmas.{turns-from}
-use Rattle.ansi_model.proofs.CallLemmas.{cursor-visible}
+use Rattle.ansi_model.proofs.{ScrollLemmas.turns-from, CallLemmas.cursor-visible}
 use Rattle.ansi_model.proofs.screen.set_visible.Goals as goal
 
 pub returns-then-visible : goal.returns-then-visible

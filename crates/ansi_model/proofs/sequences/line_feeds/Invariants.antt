@@ -1,6 +1,5 @@
 use Rattle.std.proofs.Common.{string_bytes}
-use Rattle.ansi_model.specs.Emulator.{fed, returned}
-use Rattle.ansi_model.specs.Sends.{Performs}
+use Rattle.ansi_model.specs.{Emulator.fed, Emulator.returned, Sends.Performs}
 use Rattle.ansi_model.proofs.sequences.line_feeds.Given as goal
 
 abbrev pub invariant-loop : goal.invariant-loop

@@ -2,8 +2,7 @@ use Rattle.std.proofs.Common.{string_bytes, [], ◌∷◌, ◌++◌}
 use Rattle.ratatui_core.specs.Style.{bits_of}
 use Rattle.std.proofs.lemmas.Result.{on_ok_weaker}
 use Rattle.ansi_model.specs.Parameters.{AddsParameters, modifier_parameters}
-use Rattle.ansi_model.proofs.ReadLemmas.{on_push}
-use Rattle.ansi_model.proofs.SgrLemmas.{Parameters-then, sgr-sent, sgr_parameters}
+use Rattle.ansi_model.proofs.{ReadLemmas.on_push, SgrLemmas.Parameters-then, SgrLemmas.sgr-sent, SgrLemmas.sgr_parameters}
 use Rattle.ansi_model.proofs.sgr.push_sgr.Goals as goal
 
 pub returns : goal.returns

@@ -1,7 +1,6 @@
 use Rattle.std.proofs.Common.{◌≡◌, true}
 use Rattle.std.specs.List.{list_all}
-use Rattle.unicode_segmentation.specs.Grapheme.{graphemes}
-use Rattle.unicode_segmentation.specs.Iter.{graphemes_left}
+use Rattle.unicode_segmentation.specs.{Grapheme.graphemes, Iter.graphemes_left}
 use Rattle.ansi_model.specs.Symbols.{is_columnless, is_single}
 use Rattle.ansi_model.proofs.symbol.is_single.Given as goal
 

@@ -1,5 +1,4 @@
-use Rattle.ansi_model.proofs.ReadLemmas.{pushed}
-use Rattle.ansi_model.proofs.TextLemmas.{text-read, plain-text}
+use Rattle.ansi_model.proofs.{ReadLemmas.pushed, TextLemmas.text-read, TextLemmas.plain-text}
 use Rattle.ansi_model.proofs.symbol.push_plain.Goals as goal
 
 pub returns : goal.returns

@@ -1,5 +1,4 @@
-use Rattle.ansi_model.proofs.ReadLemmas.{pushed}
-use Rattle.ansi_model.proofs.TextLemmas.{text-read, symbol-text}
+use Rattle.ansi_model.proofs.{ReadLemmas.pushed, TextLemmas.text-read, TextLemmas.symbol-text}
 use Rattle.ansi_model.proofs.symbol.push_symbol.Goals as goal
 
 pub returns : goal.returns

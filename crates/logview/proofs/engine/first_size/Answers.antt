@@ -1,7 +1,6 @@
 use Rattle.std.proofs.Common.{[], refl, ◌∙◌}
 use Rattle.std.specs.Str.Lines.{lines}
-use Rattle.std.proofs.lemmas.Iterator.Consumers.{YieldsList-turn}
-use Rattle.std.proofs.lemmas.Iterator.Splits.{YieldsList-from_lines}
+use Rattle.std.proofs.lemmas.{Iterator.Consumers.YieldsList-turn, Iterator.Splits.YieldsList-from_lines}
 use Rattle.logview.proofs.LogLemmas.{first_line}
 use Rattle.logview.proofs.engine.first_size.Goals as goal
 

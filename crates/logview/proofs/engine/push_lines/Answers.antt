@@ -1,11 +1,7 @@
-use Rattle.std.proofs.Common.{◌≡◌, ◌+◌, ◌-◌, length, take, drop, Some, ap, sym, subst, ◌∙◌, arith}
-use Rattle.std.specs.Prelude.{slice_get}
-use Rattle.std.proofs.lemmas.Option.{slice_get-get_or}
-use Rattle.std.proofs.lemmas.Grind.{common_steps}
-use Rattle.std.proofs.lemmas.List.{map-append}
+use Rattle.std.proofs.Common.{◌≡◌, ◌+◌, ◌-◌, length, take, drop, Some, ap, sym, subst, ◌∙◌, arith, slice_get}
+use Rattle.std.proofs.lemmas.{Option.slice_get-get_or, Grind.common_steps, List.map-append}
 use Rattle.std.proofs.lemmas.Iterator.Consumers.{YieldsList-so_far, YieldsList-turn, YieldsList-end}
-use Rattle.std.proofs.lemmas.Iterator.Adapters.{YieldsList-from_skip}
-use Rattle.std.proofs.lemmas.Iterator.Splits.{YieldsList-from_lines}
+use Rattle.std.proofs.lemmas.{Iterator.Adapters.YieldsList-from_skip, Iterator.Splits.YieldsList-from_lines}
 use Rattle.std.specs.Str.Lines.{lines}
 use Rattle.ratatui_core.specs.Backend.{screen_of}
 use Rattle.logview.specs.Views.{IsViewOf}

@@ -1,6 +1,5 @@
 use Rattle.std.proofs.Common.{◌≡◌, ◌+◌, [], length, map}
-use Rattle.ratatui_core.specs.Layout.{Size}
-use Rattle.ratatui_core.specs.Backend.{screen_of}
+use Rattle.ratatui_core.specs.{Layout.Size, Backend.screen_of}
 use Rattle.logview.specs.Views.{IsViewOf}
 use Rattle.logview.proofs.engine.push_lines.Given as goal
 

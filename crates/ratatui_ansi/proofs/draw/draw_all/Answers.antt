@@ -1,8 +1,7 @@
 use Rattle.std.proofs.Common.{map, rules, refl}
 use Rattle.std.proofs.lemmas.List.{map-append}
 use Rattle.ratatui_core.specs.Buffer.{update_by}
-use Rattle.ratatui_ansi.proofs.FrameLemmas.{sends-none, sends-push, sendable-push}
-use Rattle.ratatui_ansi.proofs.RefusalLemmas.{if-error}
+use Rattle.ratatui_ansi.proofs.{FrameLemmas.sends-none, FrameLemmas.sends-push, FrameLemmas.sendable-push, RefusalLemmas.if-error}
 use Rattle.ratatui_ansi.proofs.draw.draw_all.Goals as goal
 
 pub loop-x-init : goal.loop-x-init

@@ -1,6 +1,5 @@
 use Rattle.std.proofs.Common.{◌≡◌, ◌&&◌, nat_lt, false, refl, arith}
-use Rattle.std.proofs.lemmas.Bool.Decides.{nat_tests}
-use Rattle.std.proofs.lemmas.Result.{on_ok_weaker}
+use Rattle.std.proofs.lemmas.{Bool.Decides.nat_tests, Result.on_ok_weaker}
 use Rattle.ratatui_ansi.proofs.FrameLemmas.{still-sends, put-off, put-vacant, sendable-off, sendable-vacant}
 use Rattle.ratatui_ansi.proofs.draw.draw_cell.Goals.{then-x-width-via-then-x-width, then-x-width-via-else-x-width+then-y-height}
 use Rattle.ratatui_ansi.proofs.draw.draw_cell.Goals as goal

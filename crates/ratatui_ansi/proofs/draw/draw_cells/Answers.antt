@@ -1,6 +1,5 @@
 use Rattle.std.proofs.Common.{refl}
-use Rattle.ratatui_ansi.proofs.FrameLemmas.{draw-sends}
-use Rattle.ratatui_ansi.proofs.RefusalLemmas.{if-error, stops-draw}
+use Rattle.ratatui_ansi.proofs.{FrameLemmas.draw-sends, RefusalLemmas.if-error, RefusalLemmas.stops-draw}
 use Rattle.ratatui_ansi.proofs.draw.draw_cells.Goals as goal
 
 pub returns-clause-drawn : goal.returns-clause-drawn

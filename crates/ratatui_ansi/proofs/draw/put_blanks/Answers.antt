@@ -1,6 +1,5 @@
 use Rattle.std.proofs.Common.{◌≡◌, ◌+◌, ◌-◌, string_bytes, ap, subst, ◌∙◌, arith}
-use Rattle.ansi_model.specs.declared.pen.Pen.{Pen}
-use Rattle.ansi_model.specs.Drawing.{blanked, Paints}
+use Rattle.ansi_model.specs.{declared.pen.Pen.Pen, Drawing.blanked, Drawing.Paints}
 use Rattle.ratatui_ansi.proofs.LayLemmas.{blanks-none, blanks-more, blanks-own}
 use Rattle.ratatui_ansi.proofs.draw.put_blanks.Goals as goal
 

@@ -1,6 +1,5 @@
 use Rattle.std.proofs.Common.{◌≡◌, ℕ, ◌-◌, ◌<◌, ◌≤◌, string_bytes}
-use Rattle.ansi_model.specs.Sgr.{default_sgr}
-use Rattle.ansi_model.specs.Drawing.{blanked, Paints}
+use Rattle.ansi_model.specs.{Sgr.default_sgr, Drawing.blanked, Drawing.Paints}
 use Rattle.ratatui_ansi.proofs.draw.put_blanks.Given as goal
 
 abbrev pub invariant-loop-column : goal.invariant-loop-column

@@ -1,7 +1,5 @@
 use Rattle.std.proofs.Common.{◌≡◌, true, refl, subst}
-use Rattle.ansi_model.specs.Drawing.ChangesSgr.{Stays}
-use Rattle.ansi_model.specs.Parameters.{is_sendable_by}
-use Rattle.ansi_model.specs.Sgr.{sgr_of}
+use Rattle.ansi_model.specs.{Drawing.ChangesSgr.Stays, Parameters.is_sendable_by, Sgr.sgr_of}
 use Rattle.ansi_model.proofs.DrawLemmas.{pen-kept}
 use Rattle.ratatui_ansi.proofs.draw.take_sgr.Goals as goal
 

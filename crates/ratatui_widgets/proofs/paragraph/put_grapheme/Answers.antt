@@ -1,9 +1,7 @@
 use Rattle.std.proofs.Common.{arith, Ok}
-use Rattle.ratatui_core.specs.Buffer.{pieces_at}
-use Rattle.ratatui_core.proofs.BufferLemmas.{text-keeps}
+use Rattle.ratatui_core.specs.{Buffer.pieces_at, Text.grapheme_data}
+use Rattle.ratatui_core.proofs.{BufferLemmas.text-keeps, BufferLemmas.put-ready}
 use Rattle.rtui_boxes.proofs.PaintLemmas.{part-has_row, part-starts, part-right, paints-within}
-use Rattle.ratatui_core.proofs.BufferLemmas.{put-ready}
-use Rattle.ratatui_core.specs.Text.{grapheme_data}
 use Rattle.ratatui_widgets.proofs.ParagraphLemmas.{grapheme-painted}
 use Rattle.ratatui_widgets.proofs.paragraph.put_grapheme.Goals as goal
 

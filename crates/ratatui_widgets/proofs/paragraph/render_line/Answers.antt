@@ -2,8 +2,7 @@ use Rattle.std.proofs.Common.{◌≡◌, ◌+◌, ◌∙◌, ◌==◌, true, len
 use Rattle.std.proofs.lemmas.Bool.Decides.{nat_tests}
 use Rattle.ratatui_core.specs.Buffer.{IsReadyFrom}
 use Rattle.ratatui_core.proofs.WidgetLemmas.{within-then}
-use Rattle.ratatui_widgets.specs.Reflow.{data_of}
-use Rattle.ratatui_widgets.specs.Paragraphs.{aligned_row, aligned_rows}
+use Rattle.ratatui_widgets.specs.{Reflow.data_of, Paragraphs.aligned_row, Paragraphs.aligned_rows}
 use Rattle.ratatui_widgets.proofs.RowsLemmas.{fit-left, left-next, left-inside, empty-row, rows-skip, rows-paint}
 use Rattle.ratatui_widgets.proofs.paragraph.render_line.Goals as goal
 

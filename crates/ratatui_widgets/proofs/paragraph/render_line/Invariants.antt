@@ -1,8 +1,6 @@
 use Rattle.std.proofs.Common.{◌≤◌, ◌+◌, ◌-◌, length, drop}
-use Rattle.ratatui_core.specs.Widgets.{ChangesWithin}
-use Rattle.ratatui_core.specs.Buffer.{IsReadyFrom}
-use Rattle.ratatui_widgets.specs.Reflow.{data_of, broken_rows}
-use Rattle.ratatui_widgets.specs.Paragraphs.{aligned_rows}
+use Rattle.ratatui_core.specs.{Widgets.ChangesWithin, Buffer.IsReadyFrom}
+use Rattle.ratatui_widgets.specs.{Reflow.data_of, Reflow.broken_rows, Paragraphs.aligned_rows}
 use Rattle.ratatui_widgets.proofs.RowsLemmas.{rows_left, FinishesRows}
 use Rattle.ratatui_widgets.proofs.paragraph.render_line.Given as goal
 

@@ -1,12 +1,8 @@
 use Rattle.std.proofs.Common.{◌≡◌, ◌+◌, ◌≤◌, ◌∙◌, ap, subst, arith}
 use Rattle.ratatui_core.specs.Buffer.{IsReadyAt}
-use Rattle.ratatui_core.proofs.BufferLemmas.{within-same}
-use Rattle.ratatui_core.proofs.WidgetLemmas.{within-then}
-use Rattle.rtui_boxes.proofs.BoxLemmas.{inside-within}
-use Rattle.rtui_boxes.proofs.PaintLemmas.{part-has_row, part-right}
-use Rattle.ratatui_core.proofs.BufferLemmas.{ready-row}
-use Rattle.ratatui_widgets.specs.Reflow.{data_of, columns_taken}
-use Rattle.ratatui_widgets.specs.Paragraphs.{indent_of, PaintsGraphemes}
+use Rattle.ratatui_core.proofs.{BufferLemmas.within-same, WidgetLemmas.within-then, BufferLemmas.ready-row}
+use Rattle.rtui_boxes.proofs.{BoxLemmas.inside-within, PaintLemmas.part-has_row, PaintLemmas.part-right}
+use Rattle.ratatui_widgets.specs.{Reflow.data_of, Reflow.columns_taken, Paragraphs.indent_of, Paragraphs.PaintsGraphemes}
 use Rattle.ratatui_widgets.proofs.RowsLemmas.{indent-fits, grapheme-turn, row-turn}
 use Rattle.ratatui_widgets.proofs.paragraph.render_row.Goals as goal
 

@@ -1,8 +1,6 @@
 use Rattle.std.proofs.Common.{◌≤◌, ◌+◌, drop}
-use Rattle.ratatui_core.specs.Widgets.{ChangesWithin}
-use Rattle.ratatui_core.specs.Buffer.{IsReadyAt, IsReadyFrom}
-use Rattle.ratatui_widgets.specs.Reflow.{data_of, columns_taken}
-use Rattle.ratatui_widgets.specs.Paragraphs.{indent_of}
+use Rattle.ratatui_core.specs.{Widgets.ChangesWithin, Buffer.IsReadyAt, Buffer.IsReadyFrom}
+use Rattle.ratatui_widgets.specs.{Reflow.data_of, Reflow.columns_taken, Paragraphs.indent_of}
 use Rattle.ratatui_widgets.proofs.RowsLemmas.{FinishesRow}
 use Rattle.ratatui_widgets.proofs.paragraph.render_row.Given as goal
 

@@ -1,7 +1,6 @@
 use Rattle.std.specs.Cmp.Lexicographic.{pointwise}
 use Rattle.rtui_geometry.specs.contracts.rect.RectPartialEq.TheImpl as rect_equality
-use Rattle.rtui_cell.specs.Cell.{empty_cell}
-use Rattle.rtui_cell.specs.Equality.{is_same}
+use Rattle.rtui_cell.specs.{Cell.empty_cell, Equality.is_same}
 use Rattle.rtui_buffer.proofs.EqualityLemmas.{pointwise-count, pointwise-at, pointwise-from, same_rect, rect_itself}
 use Rattle.std.proofs.lemmas.Bool.{and_parts, and_from}
 use Rattle.rtui_buffer.proofs.laws.equality_is_by_cells.Goals as goal

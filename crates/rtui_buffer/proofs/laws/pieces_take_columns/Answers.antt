@@ -1,5 +1,4 @@
-use Rattle.rtui_buffer.proofs.LineLemmas.{AreWide-line}
-use Rattle.rtui_buffer.proofs.PartsLemmas.{pieces-wide}
+use Rattle.rtui_buffer.proofs.{LineLemmas.AreWide-line, PartsLemmas.pieces-wide}
 use Rattle.rtui_buffer.proofs.laws.pieces_take_columns.Goals as goal
 
 pub returns-clause-text : goal.returns-clause-text

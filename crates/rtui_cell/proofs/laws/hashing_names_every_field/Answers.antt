@@ -1,6 +1,5 @@
 use Rattle.std.proofs.Common.{refl}
-use Rattle.rtui_cell.specs.Equality.{is_same}
-use Rattle.rtui_cell.specs.contracts.cell.CellHash.TheImpl.Laws.{respects_eq-law}
+use Rattle.rtui_cell.specs.{Equality.is_same, contracts.cell.CellHash.TheImpl.Laws.respects_eq-law}
 use Rattle.rtui_cell.proofs.laws.hashing_names_every_field.Goals as goal
 
 pub returns-clause-alike : goal.returns-clause-alike

@@ -1,6 +1,5 @@
 use Rattle.std.proofs.Common.{ℕ, ◌<◌}
-use Rattle.rtui_diff.specs.Cells.{cell}
-use Rattle.rtui_diff.specs.Settled.{IsBlankOrSkipped}
+use Rattle.rtui_diff.specs.{Cells.cell, Settled.IsBlankOrSkipped}
 use Rattle.rtui_diff.proofs.settled.is_settled_at.Given as goal
 
 abbrev pub invariant-loop-k : goal.invariant-loop-k

@@ -1,6 +1,5 @@
 use Rattle.std.proofs.Common.{◌≡◌, ℕ, ◌*◌, ◌≤◌}
-use Rattle.rtui_grid.specs.Items.{item}
-use Rattle.rtui_grid.specs.Blocks.{HasBlock}
+use Rattle.rtui_grid.specs.{Items.item, Blocks.HasBlock}
 use Rattle.rtui_grid.proofs.BlockLemmas.{front}
 use Rattle.rtui_grid.proofs.block.move_block.Given as goal
 

@@ -1,5 +1,4 @@
-use Rattle.std.proofs.lemmas.Result.{on_ok_weaker}
-use Rattle.std.proofs.lemmas.Iterator.Consumers.{YieldsList-from_first}
+use Rattle.std.proofs.lemmas.{Result.on_ok_weaker, Iterator.Consumers.YieldsList-from_first}
 use Rattle.rtui_cell.specs.Grid.{update_by}
 use Rattle.rtui_insert.proofs.DrawnLemmas.{Draws-items}
 use Rattle.rtui_insert.specs.Remaining.{lowered_left}

@@ -1,7 +1,6 @@
 use Rattle.std.proofs.Common.{◌≡◌, ◌-◌, ◌≤◌, true}
 use Rattle.rtui_buffer.specs.Shown.{IsSettledBuffer}
-use Rattle.rtui_insert.specs.Insertion.{KeepsSizeAndVisibility}
-use Rattle.rtui_insert.specs.Scrolling.{HasRaised}
+use Rattle.rtui_insert.specs.{Insertion.KeepsSizeAndVisibility, Scrolling.HasRaised}
 use Rattle.rtui_insert.proofs.insert.insert_up.Given as goal
 
 abbrev pub invariant-loop-done : goal.invariant-loop-done

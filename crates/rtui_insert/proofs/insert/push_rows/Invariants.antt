@@ -1,8 +1,6 @@
 use Rattle.std.proofs.Common.{◌≡◌}
 use Rattle.rtui_buffer.specs.Shown.{IsSettledBuffer}
-use Rattle.rtui_insert.specs.Rows.{IsBlankFor, RowsFit}
-use Rattle.rtui_insert.specs.Insertion.{KeepsSizeAndVisibility}
-use Rattle.rtui_insert.specs.Scrolling.{HasPushed}
+use Rattle.rtui_insert.specs.{Rows.IsBlankFor, Rows.RowsFit, Insertion.KeepsSizeAndVisibility, Scrolling.HasPushed}
 use Rattle.rtui_insert.proofs.insert.push_rows.Given as goal
 
 abbrev pub invariant-loop-row : goal.invariant-loop-row

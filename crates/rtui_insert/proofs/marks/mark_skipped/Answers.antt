@@ -1,10 +1,7 @@
 use Rattle.std.proofs.Common.{◌≡◌, ◌<◌, length, get_or, ap, ◌∙◌, arith, true}
-use Rattle.std.proofs.lemmas.Bool.Decides.{nat_tests}
-use Rattle.std.proofs.lemmas.Grind.{common_steps}
-use Rattle.std.proofs.lemmas.List.{get_or_default}
+use Rattle.std.proofs.lemmas.{Bool.Decides.nat_tests, Grind.common_steps, List.get_or_default}
 use Rattle.rtui_grid.proofs.ItemLemmas.{item-set, set-below}
-use Rattle.rtui_cell.specs.declared.cell.CellDiffOption.TheVariants.{Skip}
-use Rattle.rtui_cell.specs.Cell.{empty_cell, is_skipped, width_of}
+use Rattle.rtui_cell.specs.{declared.cell.CellDiffOption.TheVariants.Skip, Cell.empty_cell, Cell.is_skipped, Cell.width_of}
 use Rattle.rtui_insert.proofs.MarkLemmas.{skipped-option, narrow-option}
 use Rattle.rtui_insert.proofs.marks.mark_skipped.Goals as goal
 

@@ -1,9 +1,6 @@
 use Rattle.std.proofs.Common.{true, false, length, nat_eq, sym, ap, ◌∙◌, arith}
-use Rattle.std.proofs.lemmas.Iterator.{YieldsList-from_chars}
-use Rattle.std.proofs.lemmas.Iterator.Consumers.{YieldsList-turn, YieldsList-end}
-use Rattle.std.proofs.lemmas.List.{length_push}
-use Rattle.std.specs.Cmp.Lexicographic.{pointwise}
-use Rattle.std.specs.Str.{chars}
+use Rattle.std.proofs.lemmas.{Iterator.YieldsList-from_chars, Iterator.Consumers.YieldsList-turn, Iterator.Consumers.YieldsList-end, List.length_push}
+use Rattle.std.specs.{Cmp.Lexicographic.pointwise, Str.chars}
 use Rattle.rtui_style.proofs.Names.{counting-drop, counting-end, next_same, next_differs, name_ended, text_ended}
 use Rattle.rtui_style.proofs.color.is_named.Goals as goal
 

@@ -1,6 +1,5 @@
 use Rattle.std.proofs.Common.{◌≡◌, nat_eq, length, drop}
-use Rattle.std.specs.Cmp.Lexicographic.{pointwise}
-use Rattle.std.specs.Str.{chars}
+use Rattle.std.specs.{Cmp.Lexicographic.pointwise, Str.chars}
 use Rattle.rtui_style.proofs.Names.{counting}
 use Rattle.rtui_style.proofs.color.is_named.Given as goal
 

@@ -1,11 +1,8 @@
-use Rattle.std.proofs.Common.{◌≡◌, ℕ, ◌+◌, ◌-◌, List, length, take, drop, rules, arith, ap, sym, subst}
+use Rattle.std.proofs.Common.{◌≡◌, ℕ, ◌+◌, ◌-◌, List, length, take, drop, rules, arith, ap, sym, subst, OnOk, OnErr}
 use Rattle.std.proofs.lemmas.Result.{on_ok_weaker, on_err_weaker}
-use Rattle.std.specs.Prelude.{OnOk, OnErr}
 use Rattle.rtui_cell.specs.declared.cell.Cell.{Cell}
-use Rattle.rtui_widgets.specs.Span.{span_rendered, IsShortSpan}
+use Rattle.rtui_widgets.specs.{Span.span_rendered, Span.IsShortSpan, Rendering.in_first_row, Refused.HasFrontOfSpan}
 use Rattle.rtui_geometry.specs.Rect.{intersected}
-use Rattle.rtui_widgets.specs.Rendering.{in_first_row}
-use Rattle.rtui_widgets.specs.Refused.{HasFrontOfSpan}
 use Rattle.rtui_widgets.proofs.LineLemmas.{span-none}
 use Rattle.rtui_widgets.proofs.AreaRowLemmas.{renders-nothing, first-none, first-renders, first-changes, first-columns, first-leaves}
 use Rattle.rtui_buffer.specs.BufferData.{area_size}

@@ -3,8 +3,7 @@ use Rattle.std.proofs.lemmas.Result.{on_ok_weaker, on_err_weaker}
 use Rattle.rtui_buffer.specs.BufferData.{area_size}
 use Rattle.rtui_geometry.specs.Rect.{intersected}
 use Rattle.rtui_widgets.specs.Rendering.{text_row, IsShortRow}
-use Rattle.rtui_widgets.proofs.LineLemmas.{line-in_none}
-use Rattle.rtui_widgets.proofs.RowLemmas.{both-err}
+use Rattle.rtui_widgets.proofs.{LineLemmas.line-in_none, RowLemmas.both-err}
 use Rattle.rtui_widgets.proofs.AreaRowLemmas.{renders-nothing, rows-inside, lent-renders, lent-changes, lent-leaves}
 use Rattle.rtui_widgets.proofs.buffer.text_in.Goals as goal
 

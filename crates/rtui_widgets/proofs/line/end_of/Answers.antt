@@ -1,12 +1,8 @@
 use Rattle.std.proofs.Common.{ℕ, List, [], ◌≡◌, ◌∷◌, ◌++◌, ◌+◌, ◌≤◌, true, length, take, drop, length-append, sum_by, refl, rules, arith, ap, sym, subst, ◌∙◌}
-use Rattle.std.proofs.lemmas.List.{append-nil, drop_at, take_at}
-use Rattle.std.proofs.lemmas.List.Sums.{sum_by-cons}
-use Rattle.std.proofs.lemmas.Str.{IsCharBoundary-end, IsCharBoundary-from_take}
-use Rattle.std.specs.List.{concat}
-use Rattle.std.specs.Str.{IsUtf8, IsCharBoundary}
-use Rattle.unicode_segmentation.specs.Grapheme.{graphemes}
+use Rattle.std.proofs.lemmas.{List.append-nil, List.drop_at, List.take_at, List.Sums.sum_by-cons, Str.IsCharBoundary-end, Str.IsCharBoundary-from_take}
+use Rattle.std.specs.{List.concat, Str.IsUtf8, Str.IsCharBoundary}
+use Rattle.unicode_segmentation.specs.{Grapheme.graphemes, Iter.graphemes_left}
 use Rattle.unicode_segmentation.proofs.SegmentsLemmas.{concat-segments}
-use Rattle.unicode_segmentation.specs.Iter.{graphemes_left}
 use Rattle.rtui_cell.specs.Width.{text_columns}
 use Rattle.rtui_widgets.specs.Line.{last_fitting}
 use Rattle.rtui_widgets.proofs.LineLemmas.{last_fitting-fits, taken, kept_behind, split-text}

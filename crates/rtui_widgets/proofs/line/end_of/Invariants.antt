@@ -1,8 +1,6 @@
 use Rattle.std.proofs.Common.{true, ◌≡◌, ◌≤◌, ◌++◌, List, length, sum_by, ℕ}
-use Rattle.std.specs.List.{concat}
-use Rattle.std.specs.Str.{IsCharBoundary}
-use Rattle.unicode_segmentation.specs.Grapheme.{graphemes}
-use Rattle.unicode_segmentation.specs.Iter.{graphemes_left}
+use Rattle.std.specs.{List.concat, Str.IsCharBoundary}
+use Rattle.unicode_segmentation.specs.{Grapheme.graphemes, Iter.graphemes_left}
 use Rattle.rtui_cell.specs.Width.{text_columns}
 use Rattle.rtui_widgets.proofs.line.end_of.Given as goal
 

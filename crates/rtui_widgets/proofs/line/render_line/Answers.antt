@@ -4,8 +4,7 @@ use Rattle.rtui_cell.specs.Cell.{styled}
 use Rattle.rtui_text.specs.Widths.{line_width}
 use Rattle.rtui_buffer.specs.Painting.{KeepsUnmarked}
 use Rattle.rtui_widgets.specs.Line.{columns_before}
-use Rattle.rtui_widgets.proofs.SpanLemmas.{unmarked-written, unmarked-styled}
-use Rattle.rtui_widgets.proofs.LineLemmas.{refused-line}
+use Rattle.rtui_widgets.proofs.{SpanLemmas.unmarked-written, SpanLemmas.unmarked-styled, LineLemmas.refused-line}
 use Rattle.rtui_buffer.proofs.PaintLemmas.{unmarked-then}
 use Rattle.rtui_widgets.proofs.line.render_line.Goals as goal
 

@@ -1,7 +1,6 @@
 use Rattle.std.proofs.Common.{ℕ, List, ◌≡◌, false, true, ◌∷◌, [], ◌++◌, ◌+◌, ◌-◌, ◌<◌, ◌≤◌, length, min, take, drop, slice_index_or, arith, sym, ap, subst, ◌∙◌, rules}
 use Rattle.std.proofs.lemmas.List.{drop_more, drop_all, take-append-drop}
-use Rattle.rtui_text.specs.Text.{SpanData}
-use Rattle.rtui_text.specs.Widths.{span_width}
+use Rattle.rtui_text.specs.{Text.SpanData, Widths.span_width}
 use Rattle.rtui_cell.specs.declared.cell.Cell.{Cell}
 use Rattle.rtui_widgets.specs.Span.{span_rendered, IsShortSpan}
 use Rattle.rtui_widgets.proofs.SpanLemmas.{length-span_rendered, unmarked-written}

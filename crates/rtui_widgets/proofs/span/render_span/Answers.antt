@@ -1,17 +1,13 @@
 use Rattle.std.proofs.Common.{◌≡◌, ◌∷◌, [], ◌++◌, ◌<◌, true, false, length, rules, arith, sym, ◌∙◌, take, drop, ◌≤◌}
-use Rattle.std.proofs.lemmas.Grind.{common_steps}
-use Rattle.std.proofs.lemmas.Bool.Decides.{nat_tests}
-use Rattle.unicode_segmentation.specs.Grapheme.{graphemes}
-use Rattle.unicode_segmentation.specs.Iter.{graphemes_left}
+use Rattle.std.proofs.lemmas.{Grind.common_steps, Bool.Decides.nat_tests}
+use Rattle.unicode_segmentation.specs.{Grapheme.graphemes, Iter.graphemes_left}
 use Rattle.rtui_cell.specs.Width.{text_width}
-use Rattle.rtui_text.specs.Printable.{singles}
+use Rattle.rtui_text.specs.{Printable.singles, Graphemes.has_control}
 use Rattle.rtui_buffer.specs.Painting.{pieces, painted}
 use Rattle.rtui_widgets.proofs.PrintableLemmas.{front-at, front-first, front-later, front-shows, front-row}
-use Rattle.rtui_text.specs.Graphemes.{has_control}
 use Rattle.rtui_widgets.proofs.SpanLemmas.{rendered_of, front-skip, front-turn, front-full, front-end, next-short, append-some, end-more, IsRowWith-turn, unmarked-next, IsRowWith-row}
 use Rattle.rtui_buffer.proofs.PaintLemmas.{unmarked-refl, unmarked-painted}
-use Rattle.rtui_widgets.specs.Span.{graphemes_rendered}
-use Rattle.rtui_widgets.specs.Refused.{HasFrontOfSpan}
+use Rattle.rtui_widgets.specs.{Span.graphemes_rendered, Refused.HasFrontOfSpan}
 use Rattle.rtui_widgets.proofs.span.render_span.Goals as goal
 
 pub loop-grapheme-init : goal.loop-grapheme-init

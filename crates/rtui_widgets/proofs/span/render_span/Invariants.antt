@@ -1,6 +1,5 @@
 use Rattle.std.proofs.Common.{ℕ, List, [], true, false, ◌≡◌, ◌≢◌, ◌-◌, ◌≤◌, ◌<◌, ◌++◌, length}
-use Rattle.unicode_segmentation.specs.Grapheme.{graphemes}
-use Rattle.unicode_segmentation.specs.Iter.{graphemes_left}
+use Rattle.unicode_segmentation.specs.{Grapheme.graphemes, Iter.graphemes_left}
 use Rattle.rtui_widgets.specs.Span.{showing}
 use Rattle.rtui_widgets.proofs.RowWith.{end_of_those, IsRowWith}
 use Rattle.rtui_buffer.specs.Painting.{KeepsUnmarked}

@@ -1,10 +1,8 @@
 use Rattle.std.proofs.Common.{◌≡◌, ◌≤◌, List, [], length, map, rules, sym, ap, ◌∙◌}
 use Rattle.std.proofs.lemmas.List.{get_or_past}
-use Rattle.rtui_cell.specs.declared.cell.Cell.{Cell}
-use Rattle.rtui_cell.specs.Cell.{styled}
+use Rattle.rtui_cell.specs.{declared.cell.Cell.Cell, Cell.styled}
 use Rattle.rtui_text.specs.Text.{LineData, line_of}
-use Rattle.rtui_widgets.specs.Line.{line_rendered}
-use Rattle.rtui_widgets.specs.Rendering.{alignment_or, text_line}
+use Rattle.rtui_widgets.specs.{Line.line_rendered, Rendering.alignment_or, Rendering.text_line}
 use Rattle.rtui_widgets.proofs.LineLemmas.{line-none}
 use Rattle.rtui_widgets.proofs.text.render_row.Goals as goal
 

@@ -1,9 +1,7 @@
 use Rattle.std.proofs.Common.{◌≡◌, false, true, ◌+◌, ◌-◌, ◌*◌, ◌≤◌, ℕ, length, take, drop, rules, arith, ap, sym, subst, ◌∙◌}
 use Rattle.std.proofs.lemmas.List.{length-take, length-drop}
-use Rattle.rtui_widgets.specs.Rendering.{text_row, IsShortRow}
-use Rattle.rtui_widgets.proofs.RowLemmas.{makes-row, keeps-others, leaves-row}
-use Rattle.rtui_widgets.specs.Refused.{HasFrontOfRow}
-use Rattle.rtui_widgets.proofs.SpanLemmas.{unmarked-written}
+use Rattle.rtui_widgets.specs.{Rendering.text_row, Rendering.IsShortRow, Refused.HasFrontOfRow}
+use Rattle.rtui_widgets.proofs.{RowLemmas.makes-row, RowLemmas.keeps-others, RowLemmas.leaves-row, SpanLemmas.unmarked-written}
 use Rattle.rtui_buffer.proofs.PaintLemmas.{unmarked-then}
 use Rattle.rtui_widgets.proofs.text.render_rows.Goals as goal
 

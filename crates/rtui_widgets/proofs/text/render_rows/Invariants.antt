@@ -1,5 +1,4 @@
-use Rattle.rtui_widgets.specs.Rendering.{text_row}
-use Rattle.rtui_widgets.specs.Inner.{MakesRows}
+use Rattle.rtui_widgets.specs.{Rendering.text_row, Inner.MakesRows}
 use Rattle.rtui_buffer.specs.Painting.{KeepsUnmarked}
 use Rattle.rtui_widgets.proofs.text.render_rows.Given as goal
 

@@ -1,5 +1,4 @@
-use Rattle.std.proofs.Common.{◌≡◌, take, drop, suc, refl, ap, sym, ◌∙◌, arith}
-use Rattle.std.specs.Prelude.{slice_index_or}
+use Rattle.std.proofs.Common.{◌≡◌, take, drop, suc, refl, ap, sym, ◌∙◌, arith, slice_index_or}
 use Rattle.std.proofs.Math.Seq.{take-length}
 use Rattle.screenplay.proofs.ActLemmas.{HasPlayed-none, HasPlayed-step, HasPlayed-show, PrintsActs-all, EndsEarly-next, taken_next, split_at}
 use Rattle.screenplay.proofs.engine.play_acts.Goals as goal

@@ -1,8 +1,7 @@
 use Rattle.std.proofs.Common.{◌≡◌, sym, subst}
 use Rattle.std.proofs.lemmas.Result.{on_ok_weaker}
 use Rattle.rtui_viewport.specs.Viewports.{IsFixed}
-use Rattle.rtui_backend.specs.Screen.{size_of}
-use Rattle.rtui_backend.specs.TestBackend.{screen_of}
+use Rattle.rtui_backend.specs.{Screen.size_of, TestBackend.screen_of}
 use Rattle.screenplay.proofs.PlayLemmas.{IsPlaying-resized, IsSizedFor-resized, is_free, is_other}
 use Rattle.screenplay.proofs.playing.take_size.Goals as goal
 

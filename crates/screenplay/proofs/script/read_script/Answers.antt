@@ -1,11 +1,8 @@
 use Rattle.std.proofs.Common.{List, ℕ, length, map, rules, ap, ◌∙◌, arith}
-use Rattle.std.proofs.lemmas.Grind.{common_steps}
-use Rattle.std.proofs.lemmas.List.{map-append}
+use Rattle.std.proofs.lemmas.{Grind.common_steps, List.map-append}
 use Rattle.std.proofs.lemmas.Iterator.Consumers.{YieldsList-so_far, YieldsList-turn, YieldsList-end}
 use Rattle.std.proofs.lemmas.Iterator.Splits.{YieldsList-from_lines}
-use Rattle.std.specs.Borrow.{Bor}
-use Rattle.std.specs.Str.Iter.{lines_rest}
-use Rattle.std.specs.Str.Lines.{lines}
+use Rattle.std.specs.{Borrow.Bor, Str.Iter.lines_rest, Str.Lines.lines}
 use Rattle.screenplay.proofs.ScriptLemmas.{script_of-push, IsFirstBadLine-read, lines-count}
 use Rattle.screenplay.proofs.script.read_script.Goals as goal
 

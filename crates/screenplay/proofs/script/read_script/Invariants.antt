@@ -1,6 +1,5 @@
 use Rattle.std.proofs.Common.{◌≡◌, length, map, Some, IfSome}
-use Rattle.screenplay.specs.Run.{IsGoodStage}
-use Rattle.screenplay.specs.Script.{script_of}
+use Rattle.screenplay.specs.{Run.IsGoodStage, Script.script_of}
 use Rattle.screenplay.proofs.script.read_script.Given as goal
 
 abbrev pub invariant-loop-line : goal.invariant-loop-line

@@ -1,6 +1,5 @@
 use Rattle.std.proofs.Common.{rules}
-use Rattle.ratatui_core.proofs.BufferLemmas.{IsSettledBuffer-empty}
-use Rattle.ratatui_core.proofs.WidgetLemmas.{OnPart-none}
+use Rattle.ratatui_core.proofs.{BufferLemmas.IsSettledBuffer-empty, WidgetLemmas.OnPart-none}
 use Rattle.guide.specs.Gauges.{PaintsGauge}
 use Rattle.guide.proofs.GaugeLemmas.{renders-gauge}
 use Rattle.guide.proofs.gauge.RefGaugeWidget.render.Goals as goal

@@ -1,6 +1,5 @@
 use Rattle.std.proofs.Common.{rules, subst, arith}
-use Rattle.ratatui_core.specs.Terminal.{DrawsRow}
-use Rattle.ratatui_core.specs.Widgets.{RendersShortStr}
+use Rattle.ratatui_core.specs.{Terminal.DrawsRow, Widgets.RendersShortStr}
 use Rattle.ratatui_core.proofs.TerminalLemmas.{draws-row, refused-by-backend-if}
 use Rattle.logview.specs.Rows.{status_text}
 use Rattle.logview.proofs.StatusLemmas.{ascii-status}

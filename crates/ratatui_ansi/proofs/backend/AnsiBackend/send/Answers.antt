@@ -1,7 +1,6 @@
 use Rattle.std.proofs.Common.{ap, ◌∙◌, ◌++◌}
 use Rattle.ratatui_ansi.specs.Backend.{reader}
-use Rattle.ratatui_ansi.proofs.RefusalLemmas.{if-error, uncollected-why}
-use Rattle.ratatui_ansi.proofs.BackendLemmas.{in-order-on, shown-on}
+use Rattle.ratatui_ansi.proofs.{RefusalLemmas.if-error, RefusalLemmas.uncollected-why, BackendLemmas.in-order-on, BackendLemmas.shown-on}
 use Rattle.ratatui_ansi.proofs.backend.AnsiBackend.send.Goals as goal
 
 pub invariant_of-self-2 : goal.invariant_of-self-2

@@ -1,7 +1,6 @@
 use Rattle.std.proofs.Common.{ap, refl, ◌∙◌, ◌++◌}
 use Rattle.ratatui_ansi.specs.Backend.{reader}
-use Rattle.ratatui_ansi.proofs.RefusalLemmas.{if-error, named-place}
-use Rattle.ratatui_ansi.proofs.BackendLemmas.{in-order-on, shown-on}
+use Rattle.ratatui_ansi.proofs.{RefusalLemmas.if-error, RefusalLemmas.named-place, BackendLemmas.in-order-on, BackendLemmas.shown-on}
 use Rattle.ratatui_ansi.proofs.backend.AnsiBackendBackend.draw.Goals as goal
 
 pub invariant_of-self-2 : goal.invariant_of-self-2

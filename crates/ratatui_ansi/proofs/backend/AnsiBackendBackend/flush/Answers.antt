@@ -1,7 +1,6 @@
 use Rattle.std.proofs.Common.{ap, ◌∙◌}
 use Rattle.ratatui_ansi.specs.Backend.{reader}
-use Rattle.ansi_model.specs.Screens.{screen_shown}
-use Rattle.ansi_model.specs.Emulator.{rested}
+use Rattle.ansi_model.specs.{Screens.screen_shown, Emulator.rested}
 use Rattle.ratatui_ansi.proofs.BackendLemmas.{in-order-still}
 use Rattle.ratatui_ansi.proofs.backend.AnsiBackendBackend.flush.Goals as goal
 

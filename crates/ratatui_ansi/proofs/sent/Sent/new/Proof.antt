@@ -23,8 +23,7 @@ use denote.Steps.{nothing}
 use denote.Triple.Entry.{alive}
 use denote.Triple.Walked.{Stays, stay_dropped, walk_of, Goes-dropped}
 use Rattle.ratatui_ansi.specs.contracts.sent.Sent as T
-use Rattle.ratatui_ansi.specs.contracts.sent.Sent.new.{ended, clauses}
-use Rattle.ratatui_ansi.specs.contracts.sent.Sent.new.Key.{name as #self}
+use Rattle.ratatui_ansi.specs.{contracts.sent.Sent.new.ended, contracts.sent.Sent.new.clauses, contracts.sent.Sent.new.Key.name as #self}
 use Rattle.ratatui_ansi.proofs.sent.Sent.new.Statement.{statement}
 use Rattle.ratatui_ansi.proofs.sent.Sent.new.Code as code
 

@@ -1,6 +1,5 @@
 use Rattle.std.proofs.Common.{rules, ◌≡◌, ◌∙◌, filter, min, ap}
-use Rattle.ratatui_widgets.specs.Reflow.{data_of, fits_row}
-use Rattle.ratatui_widgets.specs.Paragraphs.{graphemes_of}
+use Rattle.ratatui_widgets.specs.{Reflow.data_of, Reflow.fits_row, Paragraphs.graphemes_of}
 use Rattle.ratatui_widgets.proofs.RowsLemmas.{count-of-line, fit-of-line}
 use Rattle.ratatui_widgets.proofs.paragraph.Paragraph.count_broken.Goals as goal
 

@@ -1,6 +1,5 @@
 use Rattle.std.proofs.Common.{rules, ◌≡◌, ◌∙◌, IfOk, filter, ap, subst}
-use Rattle.ratatui_widgets.specs.Reflow.{data_of, fits_row}
-use Rattle.ratatui_widgets.specs.Paragraphs.{alignment_of, graphemes_of, PaintsOn}
+use Rattle.ratatui_widgets.specs.{Reflow.data_of, Reflow.fits_row, Paragraphs.alignment_of, Paragraphs.graphemes_of, Paragraphs.PaintsOn}
 use Rattle.ratatui_widgets.proofs.RowsLemmas.{rows-of-line, fit-of-line}
 use Rattle.ratatui_widgets.proofs.paragraph.Paragraph.render_broken.Goals as goal
 

@@ -1,6 +1,5 @@
 use Rattle.std.proofs.Common.{◌+◌, None}
-use Rattle.ratatui_core.specs.Widgets.{ChangesWithin}
-use Rattle.ratatui_core.specs.Buffer.{IsReadyFrom}
+use Rattle.ratatui_core.specs.{Widgets.ChangesWithin, Buffer.IsReadyFrom}
 use Rattle.ratatui_widgets.specs.Paragraphs.{rows_of_lines}
 use Rattle.ratatui_widgets.proofs.RowsLemmas.{FinishesCut}
 use Rattle.ratatui_widgets.proofs.paragraph.Paragraph.render_truncated.Given as goal

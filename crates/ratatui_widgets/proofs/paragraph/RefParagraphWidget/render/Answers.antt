@@ -1,5 +1,4 @@
-use Rattle.ratatui_core.proofs.BufferLemmas.{settled-plain, within-same}
-use Rattle.ratatui_core.proofs.WidgetLemmas.{OnPart-none}
+use Rattle.ratatui_core.proofs.{BufferLemmas.settled-plain, BufferLemmas.within-same, WidgetLemmas.OnPart-none}
 use Rattle.rtui_boxes.specs.Framed.{InFrame}
 use Rattle.rtui_boxes.proofs.FrameLemmas.{framed-bare, framed-some, inner-within, inner-some, inner-none, inner-own, any-err}
 use Rattle.ratatui_widgets.specs.Paragraphs.{FillsText}

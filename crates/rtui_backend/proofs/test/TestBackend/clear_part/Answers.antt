@@ -1,11 +1,9 @@
 use Rattle.std.proofs.Common.{◌≡◌, ◌+◌, ◌*◌, refl, arith, false}
 use Rattle.std.proofs.lemmas.Grind.{common_steps}
 use Rattle.rtui_buffer.specs.BufferData.{refilled}
-use Rattle.rtui_backend.proofs.ShiftLemmas.{grid_moved, unmarked_moved}
+use Rattle.rtui_backend.proofs.{ShiftLemmas.grid_moved, ShiftLemmas.unmarked_moved, PlainLemmas.unmarked-empty}
 use Rattle.rtui_cell.specs.Cell.{empty_cell}
-use Rattle.rtui_backend.specs.Clear.{is_cleared}
-use Rattle.rtui_backend.specs.Screen.{clearing}
-use Rattle.rtui_backend.proofs.PlainLemmas.{unmarked-empty}
+use Rattle.rtui_backend.specs.{Clear.is_cleared, Screen.clearing}
 use Rattle.rtui_backend.proofs.test.TestBackend.clear_part.Goals as goal
 
 pub returns-clause-cleared : goal.returns-clause-cleared

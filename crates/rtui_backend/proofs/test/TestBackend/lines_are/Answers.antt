@@ -1,9 +1,8 @@
 use Rattle.std.proofs.Common.{ℕ, List, [], get_or, rules, arith, sym, ◌∙◌}
-use Rattle.std.proofs.lemmas.Grind.{common_steps}
+use Rattle.std.proofs.lemmas.{Grind.common_steps, Bool.false≢true}
 use Rattle.std.specs.Borrow.{Bor}
 use Rattle.rtui_text.specs.Text.{raw_line}
 use Rattle.rtui_backend.proofs.LineLemmas.{item-map, below-more}
-use Rattle.std.proofs.lemmas.Bool.{false≢true}
 use Rattle.rtui_backend.proofs.test.TestBackend.lines_are.Goals as goal
 
 pub loop-y-preserved : goal.loop-y-preserved

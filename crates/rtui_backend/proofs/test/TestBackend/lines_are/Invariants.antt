@@ -1,7 +1,6 @@
 use Rattle.std.proofs.Common.{ℕ, ◌<◌}
 use Rattle.rtui_buffer.specs.Line.{raw_lines, line_at}
-use Rattle.rtui_backend.specs.ScreenLines.{RowHasLine}
-use Rattle.rtui_backend.specs.TestBackend.{screen_of}
+use Rattle.rtui_backend.specs.{ScreenLines.RowHasLine, TestBackend.screen_of}
 use Rattle.rtui_backend.proofs.test.TestBackend.lines_are.Given as goal
 
 abbrev pub invariant-loop-y : goal.invariant-loop-y

@@ -1,14 +1,10 @@
 use Rattle.std.proofs.Common.{◌≡◌, ◌+◌, ◌*◌, ◌++◌, ◌==◌, true, min, nat_lt, length, take, map, [], if◌then◌else◌, refl, ap, ◌∙◌, arith}
 use Rattle.std.specs.List.{range_with_len}
-use Rattle.std.proofs.lemmas.List.{map-append}
-use Rattle.std.proofs.lemmas.Bool.Decides.{nat_tests}
-use Rattle.std.proofs.lemmas.Grind.{common_steps}
-use Rattle.rtui_cell.specs.Look.{look_of}
+use Rattle.std.proofs.lemmas.{List.map-append, Bool.Decides.nat_tests, Grind.common_steps}
+use Rattle.rtui_cell.specs.{Look.look_of, Cell.empty_cell}
 use Rattle.rtui_grid.proofs.MoveLemmas.{rows_raised}
-use Rattle.rtui_cell.specs.Cell.{empty_cell}
-use Rattle.rtui_backend.specs.Screen.{scrolling_up}
+use Rattle.rtui_backend.specs.{Screen.scrolling_up, CellGrid.look_at}
 use Rattle.rtui_buffer.specs.BufferData.{refilled}
-use Rattle.rtui_backend.specs.CellGrid.{look_at}
 use Rattle.rtui_backend.proofs.ShiftLemmas.{unmarked_moved, unmarked_rows, unmarked_front, grid_moved, rows_left, history_left}
 use Rattle.rtui_backend.proofs.test.TestBackend.scroll_up.Goals as goal
 

@@ -1,6 +1,5 @@
 use Rattle.std.proofs.Common.{length, map, ap, subst, ◌∙◌, arith}
-use Rattle.std.proofs.lemmas.Iterator.Consumers.{YieldsList-end}
-use Rattle.std.proofs.lemmas.Iterator.Splits.{YieldsList-from_lines}
+use Rattle.std.proofs.lemmas.{Iterator.Consumers.YieldsList-end, Iterator.Splits.YieldsList-from_lines}
 use Rattle.std.specs.Str.Iter.{lines_rest}
 use Rattle.rtui_style.specs.Style.{new_style}
 use Rattle.rtui_text.specs.Text.{plain}

@@ -1,5 +1,4 @@
-use Rattle.std.proofs.Common.{length, ◌≤◌, map}
-use Rattle.std.specs.Prelude.{IfSome}
+use Rattle.std.proofs.Common.{length, ◌≤◌, map, IfSome}
 use Rattle.rtui_style.specs.Style.{new_style}
 use Rattle.rtui_text.specs.Text.{plain}
 use Rattle.rtui_buffer.specs.Line.{line_pieces}

@@ -1,15 +1,11 @@
 use Rattle.std.proofs.Common.{◌≡◌, ℕ, List, [], get_or, length, map, rules, sym, ap, ◌∙◌, arith}
-use Rattle.std.specs.Borrow.{Bor}
-use Rattle.std.specs.Str.Lines.{lines}
-use Rattle.std.proofs.lemmas.Bool.{false≢true}
-use Rattle.std.proofs.lemmas.Grind.{common_steps}
-use Rattle.std.proofs.lemmas.List.{length-map, get_or-map}
+use Rattle.std.specs.{Borrow.Bor, Str.Lines.lines}
+use Rattle.std.proofs.lemmas.{Bool.false≢true, Grind.common_steps, List.length-map, List.get_or-map}
 use Rattle.rtui_text.specs.Text.{raw_line}
 use Rattle.rtui_buffer.specs.Line.{raw_lines}
-use Rattle.rtui_backend.specs.ScreenLines.{symbols_of_line}
+use Rattle.rtui_backend.specs.{ScreenLines.symbols_of_line, Inner.symbol_in, Inner.HasLine}
 use Rattle.rtui_backend.proofs.HistoryLemmas.{symbols, row-shows, row-count, row-shown, same-more, same-at}
 use Rattle.rtui_backend.proofs.LineLemmas.{item-map}
-use Rattle.rtui_backend.specs.Inner.{symbol_in, HasLine}
 use Rattle.rtui_backend.proofs.test.lines.rows_are.Goals as goal
 use Rattle.rtui_backend.proofs.test.lines.rows_are.Goals.{then-row-width-via-then-row-width, then-row-width-via-else-row-width+then-not-row_is}
 

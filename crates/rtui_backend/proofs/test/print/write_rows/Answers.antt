@@ -1,7 +1,5 @@
 use Rattle.std.proofs.Common.{codes}
-use Rattle.rtui_backend.specs.Screen.{row_of}
-use Rattle.rtui_backend.specs.TestBackend.{screen_of}
-use Rattle.rtui_backend.specs.Print.{printed_row}
+use Rattle.rtui_backend.specs.{Screen.row_of, TestBackend.screen_of, Print.printed_row}
 use Rattle.rtui_backend.proofs.PrintLemmas.{HasWritten-next}
 use Rattle.rtui_backend.proofs.test.print.write_rows.Goals as goal
 

@@ -1,8 +1,6 @@
 use Rattle.std.proofs.Common.{codes, ◌-◌}
 use Rattle.std.specs.List.{flat_map, range_with_len}
-use Rattle.rtui_backend.specs.Screen.{row_of}
-use Rattle.rtui_backend.specs.TestBackend.{screen_of}
-use Rattle.rtui_backend.specs.Print.{printed_row}
+use Rattle.rtui_backend.specs.{Screen.row_of, TestBackend.screen_of, Print.printed_row}
 use Rattle.rtui_backend.proofs.PrintLemmas.{HasWritten}
 use Rattle.rtui_backend.proofs.test.print.write_rows.Given as goal
 

@@ -1,12 +1,9 @@
 use Rattle.std.proofs.Common.{◌≡◌, ◌+◌, ◌++◌, ◌∷◌, [], map, ap, sym, ◌∙◌, arith}
-use Rattle.std.proofs.lemmas.List.{map-append}
-use Rattle.std.proofs.lemmas.List.FromFn.{map-range_with_len_more}
-use Rattle.std.proofs.lemmas.Grind.{common_steps}
+use Rattle.std.proofs.lemmas.{List.map-append, List.FromFn.map-range_with_len_more, Grind.common_steps}
 use Rattle.rtui_cell.specs.Look.{look_of}
 use Rattle.rtui_diff.specs.Cells.{cell}
 use Rattle.rtui_backend.specs.CellGrid.{look_at}
-use Rattle.rtui_backend.proofs.LineLemmas.{look_at-cell}
-use Rattle.rtui_backend.proofs.ShiftLemmas.{unmarked_more}
+use Rattle.rtui_backend.proofs.{LineLemmas.look_at-cell, ShiftLemmas.unmarked_more}
 use Rattle.rtui_backend.proofs.test.scroll.copied_row.Goals as goal
 use Rattle.rtui_backend.proofs.test.scroll.copied_row.Goals.{in-Some+in_ok-cell-in-Some, in-None}
 

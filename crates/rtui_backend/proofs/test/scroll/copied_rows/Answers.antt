@@ -1,7 +1,5 @@
 use Rattle.std.proofs.Common.{ℕ, ◌+◌, ◌*◌, ◌++◌, ◌∷◌, [], List, map, ap, sym, ◌∙◌, arith}
-use Rattle.std.proofs.lemmas.List.{map-append}
-use Rattle.std.proofs.lemmas.List.Elements.{All-push}
-use Rattle.std.proofs.lemmas.List.FromFn.{map-range_with_len_more}
+use Rattle.std.proofs.lemmas.{List.map-append, List.Elements.All-push, List.FromFn.map-range_with_len_more}
 use Rattle.std.specs.List.{range_with_len}
 use Rattle.rtui_cell.specs.Look.{Look, look_of}
 use Rattle.rtui_backend.specs.CellGrid.{look_at, AreUnmarked}

@@ -1,7 +1,6 @@
 use Rattle.std.proofs.Common.{◌≡◌, ◌+◌, min, sum_by, drop}
 use Rattle.ratatui_core.specs.declared.layout.HorizontalAlignment.TheVariants.{Center}
-use Rattle.rtui_boxes.specs.Titles.{title_width}
-use Rattle.rtui_boxes.specs.Boxes.{lines_placed}
+use Rattle.rtui_boxes.specs.{Titles.title_width, Boxes.lines_placed}
 use Rattle.rtui_boxes.proofs.block.Block.centered_columns.Given as goal
 
 abbrev pub invariant-loop-title : goal.invariant-loop-title

@@ -1,9 +1,6 @@
 use Rattle.std.proofs.Common.{drop}
-use Rattle.ratatui_core.specs.Layout.{IsInside}
-use Rattle.ratatui_core.specs.declared.layout.HorizontalAlignment.TheVariants.{Center}
-use Rattle.ratatui_core.specs.Widgets.{ChangesWithin}
-use Rattle.rtui_boxes.specs.Titles.{from_outside}
-use Rattle.rtui_boxes.specs.Boxes.{lines_placed}
+use Rattle.ratatui_core.specs.{Layout.IsInside, declared.layout.HorizontalAlignment.TheVariants.Center, Widgets.ChangesWithin}
+use Rattle.rtui_boxes.specs.{Titles.from_outside, Boxes.lines_placed}
 use Rattle.rtui_boxes.proofs.TitleLemmas.{Finishes}
 use Rattle.rtui_boxes.proofs.block.Block.render_cut.Given as goal
 

@@ -1,6 +1,5 @@
 use Rattle.std.proofs.Common.{◌+◌, ◌∙◌, sym, refl, drop, arith}
-use Rattle.rtui_boxes.specs.Titles.{from_left}
-use Rattle.rtui_boxes.specs.Boxes.{lines_placed}
+use Rattle.rtui_boxes.specs.{Titles.from_left, Boxes.lines_placed}
 use Rattle.rtui_boxes.proofs.TitleLemmas.{lines-next, left-next, rest-inside, title-within}
 use Rattle.rtui_boxes.proofs.block.Block.render_from_left.Goals as goal
 

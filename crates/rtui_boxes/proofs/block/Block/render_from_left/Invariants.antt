@@ -1,8 +1,6 @@
 use Rattle.std.proofs.Common.{drop}
-use Rattle.ratatui_core.specs.Layout.{IsInside}
-use Rattle.ratatui_core.specs.Widgets.{ChangesWithin}
-use Rattle.rtui_boxes.specs.Titles.{from_left}
-use Rattle.rtui_boxes.specs.Boxes.{lines_placed}
+use Rattle.ratatui_core.specs.{Layout.IsInside, Widgets.ChangesWithin}
+use Rattle.rtui_boxes.specs.{Titles.from_left, Boxes.lines_placed}
 use Rattle.rtui_boxes.proofs.TitleLemmas.{Finishes}
 use Rattle.rtui_boxes.proofs.block.Block.render_from_left.Given as goal
 

@@ -1,9 +1,7 @@
 use Rattle.std.proofs.Common.{◌≡◌, ◌+◌, ◌-◌, ◌∙◌, ◌∷◌, sym, ap, refl, subst, take, reverse, arith}
 use Rattle.ratatui_core.specs.declared.layout.HorizontalAlignment.TheVariants.{Right}
-use Rattle.ratatui_core.proofs.BufferLemmas.{within-wider}
-use Rattle.ratatui_core.proofs.WidgetLemmas.{within-then}
-use Rattle.rtui_boxes.specs.Titles.{title_width, from_right, last_columns}
-use Rattle.rtui_boxes.specs.Boxes.{lines_placed}
+use Rattle.ratatui_core.proofs.{BufferLemmas.within-wider, WidgetLemmas.within-then}
+use Rattle.rtui_boxes.specs.{Titles.title_width, Titles.from_right, Titles.last_columns, Boxes.lines_placed}
 use Rattle.rtui_boxes.proofs.TitleLemmas.{lines-before, right-next, last-inside, front-inside}
 use Rattle.rtui_boxes.proofs.block.Block.render_right_titles.Goals as goal
 

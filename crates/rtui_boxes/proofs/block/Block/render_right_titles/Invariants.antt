@@ -1,9 +1,6 @@
 use Rattle.std.proofs.Common.{◌+◌, ◌≤◌, take, reverse}
-use Rattle.ratatui_core.specs.Layout.{IsInside}
-use Rattle.ratatui_core.specs.declared.layout.HorizontalAlignment.TheVariants.{Right}
-use Rattle.ratatui_core.specs.Widgets.{ChangesWithin}
-use Rattle.rtui_boxes.specs.Titles.{from_right}
-use Rattle.rtui_boxes.specs.Boxes.{lines_placed}
+use Rattle.ratatui_core.specs.{Layout.IsInside, declared.layout.HorizontalAlignment.TheVariants.Right, Widgets.ChangesWithin}
+use Rattle.rtui_boxes.specs.{Titles.from_right, Boxes.lines_placed}
 use Rattle.rtui_boxes.proofs.TitleLemmas.{Finishes}
 use Rattle.rtui_boxes.proofs.block.Block.render_right_titles.Given as goal
 

@@ -1,6 +1,5 @@
-use Rattle.std.proofs.Common.{◌++◌, ◌∙◌, sym, refl, subst, OnOk}
+use Rattle.std.proofs.Common.{◌++◌, ◌∙◌, sym, refl, subst, OnOk, reverse}
 use Rattle.ratatui_core.specs.declared.layout.HorizontalAlignment.TheVariants.{Left, Center, Right}
-use Rattle.std.specs.Prelude.{reverse}
 use Rattle.ratatui_core.proofs.BufferLemmas.{on-ok}
 use Rattle.rtui_boxes.specs.Titles.{RendersTitles, from_left, from_centre, from_right}
 use Rattle.rtui_boxes.specs.Boxes.{row_titles, titles_area, lines_placed}

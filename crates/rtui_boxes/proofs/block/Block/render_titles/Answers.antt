@@ -1,8 +1,6 @@
 use Rattle.ratatui_core.proofs.BufferLemmas.{on-ok}
-use Rattle.rtui_boxes.specs.declared.title.TitlePosition.TheVariants.{Top, Bottom}
-use Rattle.rtui_boxes.specs.Boxes.{row_titles, titles_area}
-use Rattle.rtui_boxes.proofs.BoxLemmas.{titles-keep}
-use Rattle.rtui_boxes.proofs.TitleLemmas.{titles-then}
+use Rattle.rtui_boxes.specs.{declared.title.TitlePosition.TheVariants.Top, declared.title.TitlePosition.TheVariants.Bottom, Boxes.row_titles, Boxes.titles_area}
+use Rattle.rtui_boxes.proofs.{BoxLemmas.titles-keep, TitleLemmas.titles-then}
 use Rattle.rtui_boxes.proofs.block.Block.render_titles.Goals as goal
 
 pub returns-clause-keeps : goal.returns-clause-keeps

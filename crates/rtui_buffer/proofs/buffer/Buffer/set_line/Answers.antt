@@ -1,9 +1,6 @@
 use Rattle.std.proofs.Common.{◌≡◌, rules, ap, refl, sym, length, ◌∙◌}
-use Rattle.rtui_buffer.specs.PaintedText.{room_at}
-use Rattle.rtui_buffer.specs.Line.{line_pieces, line_pieces_at}
-use Rattle.rtui_buffer.proofs.TextLemmas.{HasPieces-written, IsSettled-written}
-use Rattle.rtui_buffer.proofs.LineLemmas.{line-fits}
-use Rattle.rtui_buffer.proofs.RefusedLemmas.{PaintsFront-written}
+use Rattle.rtui_buffer.specs.{PaintedText.room_at, Line.line_pieces, Line.line_pieces_at}
+use Rattle.rtui_buffer.proofs.{TextLemmas.HasPieces-written, TextLemmas.IsSettled-written, LineLemmas.line-fits, RefusedLemmas.PaintsFront-written}
 use Rattle.rtui_buffer.proofs.buffer.Buffer.set_line.Goals as goal
 
 pub returns-clause-paints : goal.returns-clause-paints

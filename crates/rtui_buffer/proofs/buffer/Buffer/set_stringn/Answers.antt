@@ -1,8 +1,6 @@
 use Rattle.std.proofs.Common.{◌≡◌, rules, ap, sym, length, ◌∙◌}
-use Rattle.rtui_buffer.specs.Painting.{text_pieces}
-use Rattle.rtui_buffer.specs.PaintedText.{room_at, pieces_at}
-use Rattle.rtui_buffer.proofs.TextLemmas.{HasPieces-written, IsSettled-written, text-fits}
-use Rattle.rtui_buffer.proofs.RefusedLemmas.{PaintsFront-written}
+use Rattle.rtui_buffer.specs.{Painting.text_pieces, PaintedText.room_at, PaintedText.pieces_at}
+use Rattle.rtui_buffer.proofs.{TextLemmas.HasPieces-written, TextLemmas.IsSettled-written, TextLemmas.text-fits, RefusedLemmas.PaintsFront-written}
 use Rattle.rtui_buffer.proofs.buffer.Buffer.set_stringn.Goals as goal
 
 pub returns-clause-paints : goal.returns-clause-paints

@@ -1,6 +1,5 @@
 use Rattle.std.proofs.Common.{◌≡◌, arith, ◌∙◌, ap}
-use Rattle.rtui_buffer.specs.Painting.{painted}
-use Rattle.rtui_buffer.specs.Line.{line_pieces}
+use Rattle.rtui_buffer.specs.{Painting.painted, Line.line_pieces}
 use Rattle.rtui_buffer.proofs.RowLemmas.{rows-turn}
 use Rattle.rtui_buffer.proofs.buffer.lines.paint_lines.Goals as goal
 

@@ -1,6 +1,5 @@
 use Rattle.std.proofs.Common.{◌≡◌, ◌-◌, ◌*◌, ◌++◌, length, take}
-use Rattle.rtui_buffer.specs.BufferData.{empty_cells}
-use Rattle.rtui_buffer.specs.Line.{line_rows}
+use Rattle.rtui_buffer.specs.{BufferData.empty_cells, Line.line_rows}
 use Rattle.rtui_buffer.proofs.buffer.lines.paint_lines.Given as goal
 
 abbrev pub invariant-loop-line : goal.invariant-loop-line

@@ -2,8 +2,7 @@ use Rattle.std.proofs.lemmas.Bool.{false≢true}
 use Rattle.std.proofs.Common.{◌≡◌, ◌∷◌, ◌+◌, rules, arith, drop, ap, ◌∙◌, sym, refl}
 use Rattle.rtui_style.specs.Style.{patch}
 use Rattle.rtui_buffer.proofs.LineLemmas.{span-columns, span-first, span-painted, span-outside, span-refused, span-short, columns-done, painted-done, line_pieces-none, line_pieces-end, spans-more, HasPieces-line}
-use Rattle.rtui_buffer.proofs.PaintLemmas.{unmarked-then}
-use Rattle.rtui_buffer.proofs.RefusedLemmas.{so_far-span, HasFront-span}
+use Rattle.rtui_buffer.proofs.{PaintLemmas.unmarked-then, RefusedLemmas.so_far-span, RefusedLemmas.HasFront-span}
 use Rattle.rtui_buffer.proofs.buffer.lines.paint_spans.Goals as goal
 
 pub loop-span-preserved : goal.loop-span-preserved

@@ -1,7 +1,6 @@
 use Rattle.std.proofs.Common.{◌≡◌, ◌+◌, ◌-◌, ◌≤◌, drop}
 use Rattle.rtui_buffer.specs.Painting.{columns, painted, IsSameOutside, KeepsUnmarked}
-use Rattle.rtui_buffer.specs.Line.{line_pieces}
-use Rattle.rtui_buffer.specs.PaintedText.{AreShort}
+use Rattle.rtui_buffer.specs.{Line.line_pieces, PaintedText.AreShort}
 use Rattle.rtui_buffer.proofs.RefusedLemmas.{PaintsSoFar}
 use Rattle.rtui_buffer.proofs.buffer.lines.paint_spans.Given as goal
 

@@ -1,9 +1,7 @@
 use Rattle.std.proofs.Common.{map, ap, ◌∙◌}
-use Rattle.std.proofs.lemmas.Iterator.Consumers.{YieldsList-end}
-use Rattle.std.proofs.lemmas.Iterator.Splits.{YieldsList-from_lines}
+use Rattle.std.proofs.lemmas.{Iterator.Consumers.YieldsList-end, Iterator.Splits.YieldsList-from_lines}
 use Rattle.std.specs.Str.Iter.{lines_rest}
-use Rattle.rtui_text.specs.Text.{plain}
-use Rattle.rtui_text.specs.Widths.{line_width}
+use Rattle.rtui_text.specs.{Text.plain, Widths.line_width}
 use Rattle.rtui_buffer.proofs.buffer.lines.raw_width.Goals as goal
 
 pub returns : goal.returns

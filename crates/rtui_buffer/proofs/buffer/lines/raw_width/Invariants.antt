@@ -1,6 +1,5 @@
 use Rattle.std.proofs.Common.{◌≡◌, map}
-use Rattle.rtui_text.specs.Text.{plain}
-use Rattle.rtui_text.specs.Widths.{line_width}
+use Rattle.rtui_text.specs.{Text.plain, Widths.line_width}
 use Rattle.rtui_buffer.proofs.buffer.lines.raw_width.Given as goal
 
 abbrev pub invariant-loop-line : goal.invariant-loop-line

@@ -3,8 +3,7 @@ use Rattle.std.proofs.lemmas.Bool.{false≢true}
 use Rattle.rtui_text.specs.Printable.{singles}
 use Rattle.rtui_buffer.specs.Painting.{pieces, painted, KeepsUnmarked}
 use Rattle.rtui_buffer.proofs.PrintableLemmas.{columns-split, painted-split, shown-split, outside-split, short-split}
-use Rattle.rtui_buffer.proofs.PaintLemmas.{unmarked-refl, unmarked-then, unmarked-painted}
-use Rattle.rtui_buffer.proofs.RefusedLemmas.{HasFront-split}
+use Rattle.rtui_buffer.proofs.{PaintLemmas.unmarked-refl, PaintLemmas.unmarked-then, PaintLemmas.unmarked-painted, RefusedLemmas.HasFront-split}
 use Rattle.rtui_buffer.proofs.buffer.painting.paint_text.Goals as goal
 
 pub returns-in_err-more : goal.returns-in_err-more

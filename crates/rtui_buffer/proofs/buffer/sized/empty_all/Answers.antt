@@ -1,6 +1,5 @@
 use Rattle.std.proofs.Common.{length, ◌∙◌, arith}
-use Rattle.std.proofs.lemmas.Bool.Decides.{nat_tests}
-use Rattle.std.proofs.lemmas.Grind.{common_steps}
+use Rattle.std.proofs.lemmas.{Bool.Decides.nat_tests, Grind.common_steps}
 use Rattle.rtui_buffer.proofs.EmptyLemmas.{all-empty}
 use Rattle.rtui_buffer.proofs.buffer.sized.empty_all.Goals as goal
 

@@ -1,8 +1,5 @@
-use Rattle.std.proofs.Common.{◌≡◌, ◌==◌, false, ◌++◌, [], ◌∷◌, length, sym, ap, ◌∙◌, arith}
-use Rattle.std.specs.Prelude.{encode_utf8, chars}
-use Rattle.std.proofs.lemmas.Grind.{common_steps}
-use Rattle.std.proofs.lemmas.Bool.Decides.{nat_tests}
-use Rattle.std.proofs.lemmas.Str.{chars_from_encodes}
+use Rattle.std.proofs.Common.{◌≡◌, ◌==◌, false, ◌++◌, [], ◌∷◌, length, sym, ap, ◌∙◌, arith, encode_utf8, chars}
+use Rattle.std.proofs.lemmas.{Grind.common_steps, Bool.Decides.nat_tests, Str.chars_from_encodes}
 use Rattle.rtui_cell.proofs.WidthLemmas.{width_of_characters}
 use Rattle.rtui_cell.proofs.cell_width.RefStrCellWidth.cell_width.Goals as goal
 

@@ -1,6 +1,5 @@
 use Rattle.std.proofs.Common.{◌≡◌, false, true}
-use Rattle.ratatui_core.proofs.BufferLemmas.{within-wider}
-use Rattle.ratatui_core.proofs.WidgetLemmas.{within-then, within-styled}
+use Rattle.ratatui_core.proofs.{BufferLemmas.within-wider, WidgetLemmas.within-then, WidgetLemmas.within-styled}
 use Rattle.rtui_list.specs.Items.{without_columns}
 use Rattle.rtui_list.proofs.ItemLemmas.{text-in}
 use Rattle.rtui_list.proofs.list.List.render_item.Goals as goal

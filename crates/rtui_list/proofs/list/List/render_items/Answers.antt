@@ -1,6 +1,5 @@
 use Rattle.std.proofs.Common.{◌≡◌, ◌+◌, false, true, sym, subst, arith}
-use Rattle.ratatui_core.proofs.BufferLemmas.{within-wider}
-use Rattle.ratatui_core.proofs.WidgetLemmas.{within-then}
+use Rattle.ratatui_core.proofs.{BufferLemmas.within-wider, WidgetLemmas.within-then}
 use Rattle.rtui_list.proofs.WindowLemmas.{rows-next}
 use Rattle.rtui_list.proofs.ItemLemmas.{item-fits, item-in, item-area, items-next, items-within}
 use Rattle.rtui_list.specs.Items.{IsShortItem}

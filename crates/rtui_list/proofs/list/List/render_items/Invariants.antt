@@ -1,6 +1,5 @@
 use Rattle.std.proofs.Common.{◌≡◌, ◌+◌}
-use Rattle.rtui_list.specs.Windows.{rows_before}
-use Rattle.rtui_list.specs.Items.{ShowsItems}
+use Rattle.rtui_list.specs.{Windows.rows_before, Items.ShowsItems}
 use Rattle.rtui_list.proofs.list.List.render_items.Given as goal
 
 abbrev pub invariant-loop-k : goal.invariant-loop-k

@@ -1,7 +1,6 @@
 use Rattle.std.proofs.Common.{◌≡◌, rules, inr}
 use Rattle.rtui_terminal.specs.Writing.{HasDrawn}
-use Rattle.rtui_terminal.proofs.KeepLemmas.{drawn_rest}
-use Rattle.rtui_terminal.proofs.MapErrLemmas.{at_fault}
+use Rattle.rtui_terminal.proofs.{KeepLemmas.drawn_rest, MapErrLemmas.at_fault}
 use Rattle.rtui_terminal.proofs.terminal.Terminal.apply.Goals as goal
 
 pub returns-in_err-map_err-clause-outcome : goal.returns-in_err-map_err-clause-outcome

@@ -1,11 +1,9 @@
 use Rattle.std.proofs.Common.{◌≡◌, Option, Some, Ok, refl, inr, rules}
 use Rattle.rtui_geometry.specs.declared.position.Position.{Position}
-use Rattle.rtui_viewport.specs.Areas.{KeepsAllButLooks}
-use Rattle.rtui_viewport.specs.Clearing.{ClearsArea}
+use Rattle.rtui_viewport.specs.{Areas.KeepsAllButLooks, Clearing.ClearsArea}
 use Rattle.rtui_viewport.proofs.ClearLemmas.{blank_over, frame_restored, clears_restored, empties_restored, written_restored}
 use Rattle.rtui_terminal.proofs.StepLemmas.{blank_in_step, on_same, has_place, cursor_kept}
-use Rattle.rtui_terminal.proofs.KeepLemmas.{above_cleared, outside_cleared, rest_of}
-use Rattle.rtui_terminal.proofs.MapErrLemmas.{passed_ok, holds_anyway}
+use Rattle.rtui_terminal.proofs.{KeepLemmas.above_cleared, KeepLemmas.outside_cleared, KeepLemmas.rest_of, MapErrLemmas.passed_ok, MapErrLemmas.holds_anyway}
 use Rattle.rtui_terminal.proofs.terminal.Terminal.clear.Goals as goal
 
 pub returns-clause-ok : goal.returns-clause-ok

@@ -1,6 +1,5 @@
 use Rattle.std.proofs.Common.{rules}
-use Rattle.rtui_terminal.proofs.MapErrLemmas.{at_error}
-use Rattle.rtui_terminal.proofs.RenderedLemmas.{shows-rendered, drawn-weaker, refused-weaker}
+use Rattle.rtui_terminal.proofs.{MapErrLemmas.at_error, RenderedLemmas.shows-rendered, RenderedLemmas.drawn-weaker, RenderedLemmas.refused-weaker}
 use Rattle.rtui_terminal.proofs.terminal.Terminal.draw_widget.Goals as goal
 
 pub returns-clause-outcome : goal.returns-clause-outcome

@@ -1,8 +1,7 @@
 use Rattle.std.proofs.Common.{◌≡◌, Ok, ap, rules}
 use Rattle.rtui_backend.specs.Screen.{Screen}
 use Rattle.rtui_insert.proofs.PushLemmas.{still_blank}
-use Rattle.rtui_terminal.proofs.InsertionLemmas.{inserted_covered}
-use Rattle.rtui_terminal.proofs.MapErrLemmas.{passed_ok}
+use Rattle.rtui_terminal.proofs.{InsertionLemmas.inserted_covered, MapErrLemmas.passed_ok}
 use Rattle.rtui_terminal.proofs.terminal.Terminal.insert_covered.Goals as goal
 
 pub returns-clause-ok : goal.returns-clause-ok

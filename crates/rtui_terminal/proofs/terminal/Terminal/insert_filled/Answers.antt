@@ -1,6 +1,5 @@
 use Rattle.std.proofs.Common.{◌≡◌, Ok, rules}
-use Rattle.rtui_terminal.proofs.InsertionLemmas.{inserted_moved, stopped_moved}
-use Rattle.rtui_terminal.proofs.MapErrLemmas.{passed_ok, holds_anyway}
+use Rattle.rtui_terminal.proofs.{InsertionLemmas.inserted_moved, InsertionLemmas.stopped_moved, MapErrLemmas.passed_ok, MapErrLemmas.holds_anyway}
 use Rattle.rtui_terminal.proofs.terminal.Terminal.insert_filled.Goals as goal
 
 pub returns-clause-ok : goal.returns-clause-ok

@@ -1,6 +1,5 @@
 use Rattle.std.proofs.Common.{refl, rules, arith}
-use Rattle.rtui_terminal.proofs.InsertionLemmas.{inserted_by, inserted_none}
-use Rattle.rtui_terminal.proofs.MapErrLemmas.{at_error}
+use Rattle.rtui_terminal.proofs.{InsertionLemmas.inserted_by, InsertionLemmas.inserted_none, MapErrLemmas.at_error}
 use Rattle.rtui_terminal.proofs.terminal.Terminal.insert_inline.Goals as goal
 use Rattle.rtui_terminal.proofs.terminal.Terminal.insert_inline.Goals.{then-known-eq0-2-via-then-known-eq0-2, then-known-eq0-2-via-else-known-eq0-2+then-height-eq0}
 

@@ -1,6 +1,5 @@
 use Rattle.std.proofs.Common.{Ok, Err, refl}
-use Rattle.rtui_terminal.proofs.MapErrLemmas.{at_error}
-use Rattle.rtui_terminal.proofs.RenderLemmas.{draws_on}
+use Rattle.rtui_terminal.proofs.{MapErrLemmas.at_error, RenderLemmas.draws_on}
 use Rattle.rtui_terminal.proofs.terminal.Terminal.paint_and_apply.Goals as goal
 
 pub returns-in_ok-apply-in-Ok-clause-drawn : goal.returns-in_ok-apply-in-Ok-clause-drawn

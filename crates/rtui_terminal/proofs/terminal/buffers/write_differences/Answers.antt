@@ -1,6 +1,5 @@
 use Rattle.std.proofs.Common.{refl}
-use Rattle.std.proofs.lemmas.Result.{on_ok_weaker}
-use Rattle.std.proofs.lemmas.Iterator.Consumers.{YieldsList-from_first}
+use Rattle.std.proofs.lemmas.{Result.on_ok_weaker, Iterator.Consumers.YieldsList-from_first}
 use Rattle.rtui_cell.specs.Grid.{update_by}
 use Rattle.rtui_backend.proofs.DrawLemmas.{Draws-along}
 use Rattle.rtui_terminal.proofs.DifferenceLemmas.{writes_differences}

@@ -1,7 +1,6 @@
 use Rattle.std.proofs.Common.{ap, ◌∙◌, encode_utf8, chars}
 use Rattle.std.specs.List.{flat_map}
-use Rattle.std.proofs.lemmas.Iterator.{YieldsList-from_chars}
-use Rattle.std.proofs.lemmas.Iterator.Consumers.{YieldsList-end}
+use Rattle.std.proofs.lemmas.{Iterator.YieldsList-from_chars, Iterator.Consumers.YieldsList-end}
 use Rattle.rtui_text.proofs.masked.Masked.shown.Goals as goal
 
 pub returns : goal.returns

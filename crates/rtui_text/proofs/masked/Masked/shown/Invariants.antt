@@ -1,6 +1,5 @@
 use Rattle.std.proofs.Common.{◌≡◌, encode_utf8, map}
-use Rattle.std.specs.List.{flat_map}
-use Rattle.std.specs.String.{string_bytes}
+use Rattle.std.specs.{List.flat_map, String.string_bytes}
 use Rattle.rtui_text.proofs.masked.Masked.shown.Given as goal
 
 abbrev pub invariant-loop-c : goal.invariant-loop-c

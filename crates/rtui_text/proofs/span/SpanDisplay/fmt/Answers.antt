@@ -1,8 +1,6 @@
 use Rattle.std.proofs.Common.{ap, ◌∙◌}
-use Rattle.std.proofs.lemmas.Iterator.Consumers.{YieldsList-end}
-use Rattle.std.proofs.lemmas.Iterator.Splits.{YieldsList-from_lines}
-use Rattle.std.specs.Str.Iter.{lines_rest}
-use Rattle.std.specs.List.{flat_map}
+use Rattle.std.proofs.lemmas.{Iterator.Consumers.YieldsList-end, Iterator.Splits.YieldsList-from_lines}
+use Rattle.std.specs.{Str.Iter.lines_rest, List.flat_map}
 use Rattle.std.proofs.Output.{has_written_of_eq}
 use Rattle.rtui_text.proofs.span.SpanDisplay.fmt.Goals as goal
 

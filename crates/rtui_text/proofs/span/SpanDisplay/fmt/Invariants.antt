@@ -1,6 +1,5 @@
 use Rattle.std.proofs.Common.{map}
-use Rattle.std.specs.List.{flat_map}
-use Rattle.std.specs.Fmt.{HasWritten, IsPlainFormatter}
+use Rattle.std.specs.{List.flat_map, Fmt.HasWritten, Fmt.IsPlainFormatter}
 use Rattle.rtui_text.proofs.span.SpanDisplay.fmt.Given as goal
 
 abbrev pub invariant-loop-line : goal.invariant-loop-line

@@ -1,6 +1,5 @@
 use Rattle.std.proofs.Common.{◌≡◌, map, ap, ◌∙◌, rules, length, ◌==◌, false, refl}
-use Rattle.std.proofs.lemmas.Iterator.Consumers.{YieldsList-end}
-use Rattle.std.proofs.lemmas.Iterator.Splits.{YieldsList-from_lines}
+use Rattle.std.proofs.lemmas.{Iterator.Consumers.YieldsList-end, Iterator.Splits.YieldsList-from_lines}
 use Rattle.std.specs.Str.Iter.{lines_rest}
 use Rattle.rtui_text.specs.Text.{raw_line}
 use Rattle.rtui_text.proofs.text.Text.copied.Goals as goal

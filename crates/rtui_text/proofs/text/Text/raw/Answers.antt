@@ -1,7 +1,5 @@
-use Rattle.std.proofs.lemmas.List.{map-append}
+use Rattle.std.proofs.lemmas.{List.map-append, Iterator.Consumers.YieldsList-end, Iterator.Consumers.YieldsList-turn, Iterator.Splits.YieldsList-from_lines}
 use Rattle.std.proofs.Common.{◌≡◌, ◌++◌, ◌∷◌, [], map, ap, ap₂, ◌∙◌, rules, length, ◌==◌, false, refl}
-use Rattle.std.proofs.lemmas.Iterator.Consumers.{YieldsList-end, YieldsList-turn}
-use Rattle.std.proofs.lemmas.Iterator.Splits.{YieldsList-from_lines}
 use Rattle.std.specs.Str.Iter.{lines_rest}
 use Rattle.rtui_text.specs.Text.{raw_line}
 use Rattle.rtui_text.proofs.BreakLemmas.{line-unbroken}
