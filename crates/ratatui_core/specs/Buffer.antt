@@ -13,9 +13,8 @@ pub use Rattle.rtui_cell.specs.Grid.{Grid, Update, update_by, put, puts}
 unfoldable pub use Rattle.rtui_diff.specs.Cells.{is_forced}
 pub use Rattle.rtui_diff.specs.Cells.{cell, cell_at, is_forced_by}
 pub use Rattle.rtui_diff.specs.Settled.{IsBlankOrSkipped, IsSettled}
-pub use Rattle.rtui_diff.specs.Shows.{ShowsColumn, Shows, Repaints, Replays}
+pub use Rattle.rtui_diff.specs.Shows.{ShowsColumn, Shows, Repaints}
 pub use Rattle.rtui_diff.specs.Updates.{updates, IsBefore, Rises, IsCellOfNext}
-pub use Rattle.rtui_diff.specs.Completeness.{IsMinimal, IsComplete}
 pub use Rattle.rtui_diff.specs.Remaining.{updates_left}
 pub use Rattle.rtui_diff.specs.Diff.{IsDiff}
 pub use Rattle.rtui_buffer.specs.BufferData.{BufferData, area_size, IsBuffer, HasRoomFor, position_of, cell_index, place_position, cell_in, with_cell, with_cells, moved_to, buffer_row, HasRow, empty_cells, resized, IsEmptied, IsSameBuffer, IsEqualBuffer}
@@ -32,4 +31,4 @@ pub use Rattle.rtui_buffer.specs.Overlay.{no_area, IsOverlay}
 pub use Rattle.rtui_changes.specs.Changes.{ChangesEach, MakesEach, AreLight, place_at}
 pub use Rattle.rtui_changes.specs.Plain.{IsPlain, IsPlainOver, IsPlainFrom, IsReadyAt, IsReadyFrom}
 pub use Rattle.rtui_changes.specs.Parts.{MakesParts}
-pub use Rattle.rtui_changes.specs.NarrowTexts.{IsNarrowGrapheme, HasNarrowGraphemes, AreNarrowSpans, IsNarrowLine, IsNarrowText}
+pub use Rattle.rtui_changes.specs.NarrowTexts.{HasNarrowGraphemes, AreNarrowSpans, IsNarrowLine, IsNarrowText}

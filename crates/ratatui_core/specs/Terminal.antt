@@ -12,11 +12,11 @@ pub use Rattle.rtui_terminal.specs.Frames.{IsNewFrame, KeepsFrame, IsDrawFrame, 
 pub use Rattle.rtui_terminal.specs.Borrows.{LendsBuffer}
 pub use Rattle.rtui_terminal.specs.Faults.{Faults, IsBackendFault, FailsOnlyByBackend}
 pub use Rattle.rtui_terminal.specs.Starting.{IsBlank, StartErr, Starts, StartsInRow}
-pub use Rattle.rtui_terminal.specs.Writing.{FlushErr, Flushes, FailsWriting, Applies, FailsFlushing, ApplyErr, RefusesArea}
+pub use Rattle.rtui_terminal.specs.Writing.{FlushErr, Flushes, Applies, ApplyErr}
 pub use Rattle.rtui_terminal.specs.Resizing.{Resizes, ResizeErr, Autoresizes, AutoresizeErr}
 pub use Rattle.rtui_terminal.specs.Cursor.{Stays, MovesCursor}
 pub use Rattle.rtui_terminal.specs.Clearing.{FailsClearing, ClearsViewport}
-pub use Rattle.rtui_terminal.specs.Drawing.{CompletesFrame, DrawsFrame, RefusesFrame, DrawOk, ClosureErr, PaintedErr, DrawErr, TryDrawErr}
+pub use Rattle.rtui_terminal.specs.Drawing.{CompletesFrame, DrawsFrame, DrawOk, DrawErr, TryDrawErr}
 pub use Rattle.rtui_terminal.specs.Rendered.{RendersCurrent, ShowsRendered}
 pub use Rattle.rtui_viewport.specs.Lying.{FitsSize}
 pub use Rattle.rtui_terminal.specs.AtRest.{IsAtRest}
@@ -25,4 +25,4 @@ pub use Rattle.rtui_terminal.specs.Display.{terminal_error_text}
 pub use Rattle.rtui_insert.specs.Filling.{AcceptsRows, FillsRows, RefusesFilling}
 pub use Rattle.rtui_insert.specs.Rows.{WritesAtMost}
 pub use Rattle.rtui_insert.specs.Insertion.{AppendsRows}
-pub use Rattle.rtui_terminal.specs.Insertion.{inserted_area, TakesRows, Inserts, StopsInserting, InsertOk, FailsInserting, RefusesRows, InsertErr, InsertsBy}
+pub use Rattle.rtui_terminal.specs.Insertion.{inserted_area, TakesRows, Inserts, StopsInserting, InsertOk, InsertsBy}

@@ -6,4 +6,4 @@ pub use Rattle.rtui_widgets.specs.Line.{IsShortLine}
 pub use Rattle.rtui_widgets.specs.Rendering.{ChangesWithin, RendersSpan, RendersLine, RendersText, first_row, HasFirstRow, RendersStr, RendersShortSpan, RendersShortLine, RendersShortText, RendersShortStr, AreAscii}
 pub use Rattle.rtui_buffer.specs.Clipped.{IsClipped}
 pub use Rattle.rtui_widgets.specs.Clipped.{OnPart}
-pub use Rattle.rtui_widgets.specs.Refused.{HasFrontOfSpan, HasFrontOfLine, HasFrontOfRow, LeavesSpan, LeavesLine, LeavesText}
+pub use Rattle.rtui_widgets.specs.Refused.{LeavesSpan, LeavesLine, LeavesText}
