@@ -5,10 +5,6 @@ use Rattle.std.proofs.lemmas.{Grind.common_steps, Iterator.YieldsList, Iterator.
 use Rattle.rtui_cell.specs.Grid.{Grid, Update, put, puts}
 use Rattle.rtui_backend.specs.Screen.{Screen, Draws}
 
--- what a put shows at a column depends on that column alone
-put_at : (w h : ℕ) (u : Update) (f g : Grid) (a b : ℕ) → f a b ≡ g a b → put w h u f a b ≡ put w h u g a b
-put_at w h u f g a b e = rw e refl
-
 puts-push : (w h : ℕ) (us : List Update) (u : Update) (g : Grid) → puts w h (us ++ u ∷ []) g ≡ put w h u (puts w h us g)
 puts-push w h [] u g = refl
 puts-push w h (v ∷ us) u g = puts-push w h us u (put w h v g)
@@ -25,8 +21,8 @@ Draws-push {r} {s} {t} {us} {u} p q = record {
   written = λ below. grind (arith, common_steps, length-append us (u ∷ []), p.written, q.written);
   full = λ above. grind (arith, common_steps, length-append us (u ∷ []), p.written, p.full, q.full);
   grid = λ a b.
-      q.grid a b ∙ (rw (p.width, p.height) (put_at r.width r.height u s.grid (puts r.width r.height us r.grid) a b (p.grid a b)))
-      ∙ ap (λ g. g a b) (sym (puts-push r.width r.height us u r.grid));
+      let on : put s.width s.height u s.grid a b ≡ put r.width r.height u (puts r.width r.height us r.grid) a b = rw (p.width, p.height, p.grid a b) refl in
+      q.grid a b ∙ on ∙ ap (λ g. g a b) (sym (puts-push r.width r.height us u r.grid));
 }
 
 -- a draw of an iterator whose items are known

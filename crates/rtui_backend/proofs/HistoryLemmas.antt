@@ -1,7 +1,8 @@
 -- Rows of cells that have the symbols of lines.
 use Rattle.std.proofs.Common.{◌≡◌, ℕ, ◌+◌, ◌<◌, List, [], ◌∷◌, ◌++◌, length, get_or, take, map, refl, sym, ap, ap₂, ◌∙◌, arith}
+use mathlib.Core.List.{map-map}
 use Rattle.std.proofs.lemmas.List.{length-map, get_or-map, map_more, ext_get_or}
-use Rattle.rtui_cell.specs.{declared.cell.Cell.Cell, Cell.empty_cell, Look.Look, Look.look_of, Symbol.blank}
+use Rattle.rtui_cell.specs.{declared.cell.Cell.Cell, Cell.empty_cell, Look.look_of, Symbol.blank}
 use Rattle.rtui_text.specs.Text.{line_of, plain}
 use Rattle.rtui_buffer.specs.Line.{line_row}
 use Rattle.rtui_backend.specs.{ScreenLines.symbols_of_line, Inner.symbol_in, Inner.HasLine}
@@ -28,14 +29,11 @@ module _ (w : ℕ) (ts : List (List ℕ)) (cells : List Cell) where
       let inside : a < w = omega (arith, count cells) in
       symbol-at cells a (omega arith) ∙ told a inside ∙ sym (symbol-at shown a (omega arith)))
 
-  pub row-count : symbols cells ≡ symbols_of_line w (line_of (map plain ts)) → length cells ≡ w
-  row-count same = sym (count cells) ∙ ap length same ∙ count shown ∙ length-row w (line_of (map plain ts))
-
-  pub row-shown : symbols cells ≡ symbols_of_line w (line_of (map plain ts)) → HasLine (line_of (map plain ts)) w (symbol_in cells)
+  pub row-shown : symbols cells ≡ symbols_of_line w (line_of (map plain ts)) → (length cells ≡ w) × HasLine (line_of (map plain ts)) w (symbol_in cells)
   row-shown same =
       let n = length-row w (line_of (map plain ts)) in
-      let m = row-count same in
-      λ a a_in. sym (symbol-at cells a (omega arith)) ∙ ap (λ xs. get_or xs a blank) same ∙ symbol-at shown a (omega arith)
+      let m : length cells ≡ w = sym (count cells) ∙ ap length same ∙ count shown ∙ n in
+      (m, λ a a_in. sym (symbol-at cells a (omega arith)) ∙ ap (λ xs. get_or xs a blank) same ∙ symbol-at shown a (omega arith))
 
 -- two lists mapped to the same, item by item
 module _ {X Y Z : Type 0} (f : X → Z) (g : Y → Z) (xs : List X) (ys : List Y) (d : X) (e : Y) where
@@ -48,8 +46,4 @@ module _ {X Y Z : Type 0} (f : X → Z) (g : Y → Z) (xs : List X) (ys : List Y
 -- the symbols of looks of cells
 pub history-symbols : {X : Type 0} (items : X → List Cell) (rows : List X) → map (map (λ look. look.symbol)) (map (λ row. map look_of (items row)) rows) ≡ map symbols (map items rows)
 history-symbols items [] = refl
-history-symbols items (row ∷ rows) = ap₂ (λ x xs. x ∷ xs) (fused (items row)) (history-symbols items rows)
-  where
-    fused : (cells : List Cell) → map (λ (look : Look). look.symbol) (map look_of cells) ≡ symbols cells
-    fused [] = refl
-    fused (c ∷ cs) = ap (λ xs. (look_of c).symbol ∷ xs) (fused cs)
+history-symbols items (row ∷ rows) = ap₂ (λ x xs. x ∷ xs) (map-map (λ look. look.symbol) look_of (items row)) (history-symbols items rows)

@@ -1,6 +1,5 @@
 pub mod DrawLemmas
 pub mod ScrollLemmas
-pub mod LookLemmas
 pub mod PutLemmas
 pub mod PlainLemmas
 pub mod MotionLemmas
@@ -12,4 +11,3 @@ pub mod HistoryLemmas
 pub mod SizeLemmas
 pub mod RegionLemmas
 pub mod PrintLemmas
-pub mod LookRowLemmas

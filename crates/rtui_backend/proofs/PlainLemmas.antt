@@ -15,7 +15,11 @@ unmarked_set cells i c all one j = unmarked-set cells i c (λ _. one) j (all j)
 pub AreUnmarked-empties : (n : ℕ) → AreUnmarked (empty_cells n)
 AreUnmarked-empties n i = subst IsUnmarked (sym (cell-empty n i)) unmarked-empty
 
-AreUnmarked-append : (xs ys : List Cell) → AreUnmarked xs → AreUnmarked ys → AreUnmarked (xs ++ ys)
+pub AreUnmarked-one : (c : Cell) → IsUnmarked c → AreUnmarked (c ∷ [])
+AreUnmarked-one c one zero = one
+AreUnmarked-one c one (suc i) = unmarked-empty
+
+pub AreUnmarked-append : (xs ys : List Cell) → AreUnmarked xs → AreUnmarked ys → AreUnmarked (xs ++ ys)
 AreUnmarked-append [] ys all rest i = rest i
 AreUnmarked-append (x ∷ xs) ys all rest zero = all 0
 AreUnmarked-append (x ∷ xs) ys all rest (suc i) = AreUnmarked-append xs ys (λ k. all (suc k)) rest i

@@ -1,14 +1,14 @@
 -- A row has the symbols of a line where the line's pieces stand in it, with blanks after them.
 use Rattle.std.proofs.Common.{◌≡◌, ◌↔◌, ℕ, suc, ◌+◌, ◌-◌, ◌<◌, ◌≤◌, List, [], ◌∷◌, ◌++◌, length, take, map, refl, sym, ap, subst, ◌∙◌, arith, inl, inr}
-use Rattle.std.proofs.lemmas.{Bool.cases_lt, List.length-replicate, List.Sums.sum_by-cons}
+use Rattle.std.proofs.lemmas.{Bool.cases_lt, List.Sums.sum_by-cons}
 use Rattle.rtui_style.specs.Style.{new_style}
 use Rattle.rtui_cell.specs.{declared.cell.Cell.Cell, Cell.empty_cell, Look.look_of, Symbol.blank}
 use Rattle.rtui_cell.proofs.CellLemmas.{look-empty}
 use Rattle.rtui_diff.specs.Cells.{cell}
 use Rattle.rtui_text.specs.Text.{line_of, plain}
 use Rattle.rtui_buffer.specs.{BufferData.empty_cells, Line.line_pieces, Line.line_row}
-use Rattle.rtui_buffer.specs.Painting.{Piece, piece_width, piece_at, place_of, columns, AreWide, shown, painted, HasPieces}
-use Rattle.rtui_buffer.proofs.{EmptyLemmas.cell-empty, PaintedLemmas.HasPieces-painted, LineLemmas.columns-line, LineLemmas.AreWide-line}
+use Rattle.rtui_buffer.specs.Painting.{Piece, piece_width, piece_at, place_of, columns, AreWide, shown, HasPieces}
+use Rattle.rtui_buffer.proofs.{EmptyLemmas.cell-empty, RowLemmas.HasPieces-row, LineLemmas.columns-line, LineLemmas.AreWide-line}
 use Rattle.rtui_backend.specs.Inner.{symbol_in, AreBlank, Stand, HasLine}
 use Rattle.rtui_backend.proofs.LineLemmas.{look_at-cell}
 
@@ -21,31 +21,26 @@ stand-append row (p ∷ ps) qs a =
     let rest = stand-append row ps qs (a + piece_width p) in
     (λ h. let both = rest.0 h.1 in ((h.0, both.0), rw e both.1), λ h. (h.0.0, rest.1 (h.0.1, rw e at h.1)))
 
-module _ (r t : ℕ → List ℕ) where
-  -- two rows in which the same pieces stand have the same symbols
-  stand-same : (ps : List Piece) (a : ℕ) → AreWide ps → Stand r a ps → Stand t a ps → (c : ℕ) → a ≤ c → c < a + columns ps → r c ≡ t c
-  unfolding Stand
-  stand-same [] a wide h g c le lt = absurd (omega arith)
-  stand-same (p ∷ ps) a wide h g c le lt =
-      let sum : columns (p ∷ ps) ≡ piece_width p + columns ps = sum_by-cons piece_width p ps in
-      elim (cases_lt c (a + piece_width p)) [
+-- where pieces stand, they stand in a row exactly if it has the same symbols there
+stand-agree : (r t : ℕ → List ℕ) (ps : List Piece) (a : ℕ) → AreWide ps → Stand t a ps → Stand r a ps ↔ ((c : ℕ) → a ≤ c → c < a + columns ps → r c ≡ t c)
+unfolding Stand
+stand-agree r t [] a wide g = (λ h c le lt. absurd (omega arith), λ same. tt)
+stand-agree r t (p ∷ ps) a wide g =
+    let sum : columns (p ∷ ps) ≡ piece_width p + columns ps = sum_by-cons piece_width p ps in
+    let some : 0 < piece_width p = wide.0 in
+    let rest = stand-agree r t ps (a + piece_width p) wide.1 g.1 in (
+      λ h c le lt. elim (cases_lt c (a + piece_width p)) [
         | inl here ↦ elim (cases_lt a c) [
           | inl later ↦ h.0.others c (omega arith) here ∙ sym (g.0.others c (omega arith) here)
           | inr first ↦ let e : a ≡ c = omega arith in subst (λ i. r i ≡ t i) e (h.0.first ∙ sym g.0.first)
         ]
-        | inr past ↦ stand-same ps (a + piece_width p) wide.1 h.1 g.1 c past (omega arith)
-      ]
-
-  -- and pieces stand in a row with the same symbols
-  stand-from : (ps : List Piece) (a : ℕ) → AreWide ps → ((c : ℕ) → a ≤ c → c < a + columns ps → r c ≡ t c) → Stand t a ps → Stand r a ps
-  unfolding Stand
-  stand-from [] a wide same g = tt
-  stand-from (p ∷ ps) a wide same g =
-      let sum : columns (p ∷ ps) ≡ piece_width p + columns ps = sum_by-cons piece_width p ps in
-      let some : 0 < piece_width p = wide.0 in (
+        | inr past ↦ rest.0 h.1 c past (omega arith)
+      ],
+      λ same. (
         record { first = same a (omega arith) (omega arith) ∙ g.0.first; others = λ c le lt. same c (omega arith) (omega arith) ∙ g.0.others c le lt },
-        stand-from ps (a + piece_width p) wide.1 (λ c le lt. same c (omega arith) (omega arith)) g.1,
-      )
+        rest.1 (λ c le lt. same c (omega arith) (omega arith)),
+      ),
+    )
 
 -- pieces stand where they were painted
 painted-stand : (row : ℕ → List ℕ) (ps : List Piece) (at : ℕ) → AreWide ps
@@ -75,20 +70,19 @@ module _ (w : ℕ) (ts : List (List ℕ)) where
   line = line_pieces w new_style (map plain ts)
 
   abbrev cells : List Cell
-  cells = painted 0 line (empty_cells w)
+  cells = line_row w (line_of (map plain ts))
 
   abbrev symbols : ℕ → List ℕ
-  symbols = symbol_in (line_row w (line_of (map plain ts)))
+  symbols = symbol_in cells
 
   wide : AreWide line
   wide = AreWide-line w new_style (map plain ts)
 
   by-cells : (a : ℕ) → symbols a ≡ (look_of (cell cells a)).symbol
-  unfolding line_row
   by-cells a = ap (λ l. l.symbol) (look_at-cell cells a)
 
   has : HasPieces 0 line (empty_cells w) cells
-  has = let le = columns-line w new_style (map plain ts) in HasPieces-painted 0 line (empty_cells w) wide (omega (arith, length-replicate w empty_cell))
+  has = HasPieces-row w (line_of (map plain ts))
 
   blank-at : (a : ℕ) → cell cells a ≡ empty_cell → symbols a ≡ blank
   blank-at a e = by-cells a ∙ ap (λ c. (look_of c).symbol) e ∙ ap (λ l. l.symbol) look-empty
@@ -104,11 +98,11 @@ module _ (w : ℕ) (ts : List (List ℕ)) where
 
   pub has-line : (row : ℕ → List ℕ) → Stand row 0 line → AreBlank row (columns line) w → HasLine (line_of (map plain ts)) w row
   has-line row stand blanks a lt = elim (cases_lt a (columns line)) [
-    | inl before ↦ stand-same row symbols line 0 wide stand line-stands a (omega arith) (omega arith)
+    | inl before ↦ (stand-agree row symbols line 0 wide line-stands).0 stand a (omega arith) (omega arith)
     | inr past ↦ blanks a past lt ∙ sym (line-blank a past)
   ]
 
   pub line-had : (row : ℕ → List ℕ) → HasLine (line_of (map plain ts)) w row → Stand row 0 line × AreBlank row (columns line) w
   line-had row same =
       let le = columns-line w new_style (map plain ts) in
-      (stand-from row symbols line 0 wide (λ c _ lt. same c (omega arith)) line-stands, λ c past lt. same c lt ∙ line-blank c past)
+      ((stand-agree row symbols line 0 wide line-stands).1 (λ c _ lt. same c (omega arith)), λ c past lt. same c lt ∙ line-blank c past)

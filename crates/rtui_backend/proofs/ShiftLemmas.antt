@@ -1,8 +1,8 @@
 -- Cells that move, or are emptied, and what their grid shows then.
-use Rattle.std.proofs.Common.{◌≡◌, ◌∷◌, zero, suc, ℕ, true, false, ◌+◌, ◌*◌, ◌<◌, ◌≤◌, ◌++◌, ◌&&◌, min, nat_lt, Bool, List, [], append-nil, length, map, take, refl, sym, ap, ◌∙◌, arith, inl, inr, length-take, if◌then◌else◌, nat_le}
+use Rattle.std.proofs.Common.{◌≡◌, ◌∷◌, zero, suc, ℕ, true, false, ◌+◌, ◌*◌, ◌<◌, ◌≤◌, ◌++◌, ◌&&◌, min, nat_lt, Bool, List, [], append-nil, length, map, take, refl, sym, ap, ap₂, ◌∙◌, arith, inl, inr, length-take, if◌then◌else◌, nat_le}
 use Rattle.std.specs.List.{range_with_len}
 use Rattle.std.proofs.Math.Nat.{mul-le-mul_right}
-use Rattle.std.proofs.lemmas.{Nat.mul-add-lt, List.Elements.All-append, List.map-append, List.get_or-take, List.take_all, Bool.cases_lt, Bool.Decides.nat_tests}
+use Rattle.std.proofs.lemmas.{Nat.mul-add-lt, List.Elements.All-append, List.map-append, List.FromFn.map-range_with_len_more, List.get_or-take, List.take_all, Bool.cases_lt, Bool.cond_both, Bool.Decides.nat_tests}
 use Rattle.rtui_grid.proofs.{ItemLemmas.past_end, PlaceLemmas.row_ends, PlaceLemmas.by_rows, RangeLemmas.map_same}
 use Rattle.rtui_grid.specs.Items.{item_at}
 use Rattle.rtui_cell.specs.{declared.cell.Cell.Cell, Cell.empty_cell, Cell.IsUnmarked, Look.look_of, Look.empty_look}
@@ -11,25 +11,19 @@ use Rattle.rtui_diff.specs.Cells.{cell}
 use Rattle.rtui_backend.specs.declared.clear_type.ClearType.TheVariants.{AfterCursor, BeforeCursor, CurrentLine, UntilNewLine}
 use Rattle.rtui_backend.specs.{Clear.is_cleared, Screen.Motion, Screen.moved_by}
 use Rattle.rtui_backend.specs.CellGrid.{look_at, grid_of, AreUnmarked, AreUnmarkedRows}
-use Rattle.rtui_backend.proofs.{LineLemmas.look_at-cell, MotionLemmas.moved-through, MotionLemmas.moved-along, PlainLemmas.unmarked-empty}
-
--- what a cell shows in a column
-grid_at : (w x y : ℕ) (cells : List Cell) → x < w → grid_of w cells x y ≡ look_of (item_at empty_cell w cells x y)
-grid_at w x y cells x_in = let on : grid_of w cells x y ≡ look_at cells (y * w + x) = grind (arith, nat_tests) in on ∙ look_at-cell cells (y * w + x)
+use Rattle.rtui_backend.proofs.{LineLemmas.look_at-cell, LineLemmas.grid-cell, MotionLemmas.moved-through, MotionLemmas.moved-along, PlainLemmas.unmarked-empty}
 
 -- cells that move, on their grid
 pub grid_moved : (m : Motion) (w x y : ℕ) (old new : List Cell) → x < w → item_at empty_cell w new x y ≡ moved_by m empty_cell (item_at empty_cell w old) x y
     → grid_of w new x y ≡ moved_by m empty_look (grid_of w old) x y
 grid_moved m w x y old new x_in moved =
-    grid_at w x y new x_in ∙ ap look_of moved ∙ moved-through m empty_cell (item_at empty_cell w old) x y look_of
+    grid-cell w x y new x_in ∙ ap look_of moved ∙ moved-through m empty_cell (item_at empty_cell w old) x y look_of
     ∙ ap (λ none. moved_by m none (λ a b. look_of (item_at empty_cell w old a b)) x y) look-empty
-    ∙ moved-along m empty_look (λ a b. look_of (item_at empty_cell w old a b)) x y (grid_of w old) (λ b. sym (grid_at w x b old x_in))
+    ∙ moved-along m empty_look (λ a b. look_of (item_at empty_cell w old a b)) x y (grid_of w old) (λ b. sym (grid-cell w x b old x_in))
 
 -- a cell that another one or none came to, and one that was emptied
 pub unmarked_moved : (s t : Bool) (p q : Cell) → IsUnmarked p → IsUnmarked q → IsUnmarked (if s then (if t then p else empty_cell) else q)
-unmarked_moved true true p q one other = one
-unmarked_moved true false p q one other = unmarked-empty
-unmarked_moved false t p q one other = other
+unmarked_moved s t p q one other = cond_both s _ q IsUnmarked (λ _. cond_both t p empty_cell IsUnmarked (λ _. one) (λ _. unmarked-empty)) (λ _. other)
 
 pub look_emptied : (s : Bool) (old new : List Cell) (k : ℕ) → cell new k ≡ (if s then empty_cell else cell old k) → look_at new k ≡ (if s then empty_look else look_at old k)
 look_emptied true old new k e = look_at-cell new k ∙ ap look_of e ∙ look-empty
@@ -49,6 +43,15 @@ module _ (w h x y a b : ℕ) (a_in : a < w) (b_in : b < h) (x_in : x < w) where
   pub places_until : (nat_le (min (min (y * w) (w * h) + x) (w * h)) (b * w + a) && nat_lt (b * w + a) (min (min (y * w) (w * h) + w) (w * h))) ≡ is_cleared UntilNewLine x y a b
   places_until = let inside = mul-add-lt b w a h b_in a_in in by_rows _ w b y (λ p q. grind (arith, nat_tests)) (λ p q. grind (arith, nat_tests)) (λ e. grind (arith, nat_tests))
 
+-- a list that is made item by item, by what it looks like
+pub looks_pushed : {X Y : Type 0} (look : X → Y) (f : ℕ → Y) (old new : List X) (x : X) (n : ℕ) → new ≡ old ++ x ∷ [] →
+    map look old ≡ map f (range_with_len 0 n) → look x ≡ f n → map look new ≡ map f (range_with_len 0 (n + 1))
+looks_pushed look f old new x n more before here = rw more (map-append look old (x ∷ []) ∙ ap₂ (λ ys y. ys ++ y ∷ []) before here ∙ sym (map-range_with_len_more f 0 n n (omega arith)))
+
+-- and one that others come after
+pub looks_behind : {X Y : Type 0} (look : X → Y) (old new more : List X) (ys : List Y) → new ≡ old ++ more → map look more ≡ ys → map look new ≡ map look old ++ ys
+looks_behind look old new more ys e is = rw (e, ← is) (map-append look old more)
+
 -- the history, with rows that left after it if there are such
 pub history_left : {X : Type 0} (former : List X) (t s : Bool) {xs ys : List X} → s ≡ true → xs ≡ ys → former ++ (if t then xs else []) ≡ if t && s then former ++ ys else former
 history_left former true s some eq = rw (some, eq) refl
@@ -60,8 +63,7 @@ module _ (w h e : ℕ) (cells : List Cell) (size : length cells ≡ w * h) (insi
   left_look a b a_in = elim (cases_lt b e) [
     | inl above ↦
         let p = row_ends w b e above in
-        let at : look_at (take (e * w) cells) (b * w + a) ≡ look_of (cell cells (b * w + a)) = look_at-cell (take (e * w) cells) (b * w + a) ∙ ap look_of (get_or-take (e * w) cells (b * w + a) empty_cell (omega arith)) in
-        at ∙ sym (look_at-cell cells (b * w + a)) ∙ grind (arith, nat_tests)
+        look_at-cell (take (e * w) cells) (b * w + a) ∙ ap look_of (get_or-take (e * w) cells (b * w + a) empty_cell (omega arith)) ∙ sym (grid-cell w a b cells a_in) ∙ grind (arith, nat_tests)
     | inr past ↦
         let p : e * w ≤ b * w = mul-le-mul_right w past in
         let short : length (take (e * w) cells) ≤ b * w + a = simp length-take (omega arith) in
@@ -79,13 +81,6 @@ rows_are w h cells size count =
     let whole : take (h * w) cells ≡ cells = take_all (h * w) cells (omega arith) in
     ap (λ (xs : List Cell). map (λ b. map (λ a. look_at xs (b * w + a)) (range_with_len 0 w)) (range_with_len 0 count)) (sym whole)
     ∙ rows_left w h h cells size (omega arith) count
-
--- one more unmarked cell
-pub unmarked_more : (cells : List Cell) (c : Cell) → AreUnmarked cells → IsUnmarked c → AreUnmarked (cells ++ (c ∷ []))
-unmarked_more [] c plain last zero = last
-unmarked_more [] c plain last (suc i) = record { option = refl; flag = refl }
-unmarked_more (x ∷ xs) c plain last zero = plain 0
-unmarked_more (x ∷ xs) c plain last (suc i) = unmarked_more xs c (λ j. plain (suc j)) last i
 
 -- the first of unmarked cells
 pub unmarked_front : (n : ℕ) (cells : List Cell) → AreUnmarked cells → AreUnmarked (take n cells)

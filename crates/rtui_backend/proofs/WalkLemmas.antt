@@ -6,7 +6,7 @@ use Rattle.rtui_style.specs.Style.{new_style}
 use Rattle.rtui_text.specs.Text.{plain, line_of}
 use Rattle.rtui_cell.specs.Width.{text_width}
 use Rattle.rtui_buffer.specs.Painting.{painted_width, kept, Piece, piece_of, pieces, piece_width, columns, text_pieces}
-use Rattle.rtui_buffer.proofs.PaintLemmas.{kept-nil, kept-skip, kept-take, kept-full}
+use Rattle.rtui_buffer.proofs.PaintLemmas.{kept-nil, kept-skip, kept-take, kept-full, painted_width-painted}
 use Rattle.rtui_buffer.specs.Line.{line_pieces}
 use Rattle.rtui_buffer.proofs.LineLemmas.{columns-append, line_pieces-nil, line_pieces-cons}
 use Rattle.rtui_backend.specs.Inner.{AreBlank, HasSymbol, Stand, EndsAfter, HasLine}
@@ -36,21 +36,26 @@ module _ (row : ℕ → List ℕ) (room at end : ℕ) (all : List Piece) (left :
   pub text-end : left ≡ [] → EndsAfter row at all (Some end)
   text-end is = h (Some end) (rw (is, kept-nil (room - end)) (ends-nil row end))
 
-  module _ (g : List ℕ) (gs : List (List ℕ)) (is : left ≡ g ∷ gs) where
-    pub text-skip : painted_width g ≡ 0 → (o : Option ℕ) → EndsAfter row end (pieces new_style (kept (room - end) gs)) o → EndsAfter row at all o
-    text-skip none o e = h o (rw (is, kept-skip (room - end) g gs none) e)
+  module _ (g : List ℕ) (gs : List (List ℕ)) (is : left ≡ g ∷ gs) (width : ℕ) (is_width : width ≡ painted_width g) where
+    pub text-skip : width ≡ 0 → (o : Option ℕ) → EndsAfter row end (pieces new_style (kept (room - end) gs)) o → EndsAfter row at all o
+    text-skip none o e = h o (rw (is, kept-skip (room - end) g gs (sym is_width ∙ none)) e)
 
-    pub text-full : 0 < painted_width g → room - end < text_width g → EndsAfter row at all (Some end)
-    text-full some wide = h (Some end) (rw (is, kept-full (room - end) g gs some wide) (ends-nil row end))
+    pub width-text : 0 < width → width ≡ text_width g
+    width-text some = is_width ∙ painted_width-painted g (omega arith)
 
-    pub text-not : 0 < painted_width g → text_width g ≤ room - end → (HasSymbol row end g → ⊥) → EndsAfter row at all None
-    text-not some fits off = h None (rw (is, kept-take (room - end) g gs some fits) (ends-not row end (piece_of new_style g) (pieces new_style (kept (room - end - text_width g) gs)) off))
+    pub text-full : 0 < width → room - end < width → EndsAfter row at all (Some end)
+    text-full some wide = h (Some end) (rw (is, kept-full (room - end) g gs (omega arith) (omega (arith, width-text some))) (ends-nil row end))
 
-    pub text-take : (width : ℕ) → width ≡ text_width g → 0 < painted_width g → text_width g ≤ room - end → HasSymbol row end g
-        → (o : Option ℕ) → EndsAfter row (end + width) (pieces new_style (kept (room - (end + width)) gs)) o → EndsAfter row at all o
-    text-take width is_width some fits has o e =
-        let rest : room - (end + width) ≡ room - end - text_width g = omega arith in
-        h o (rw (is, kept-take (room - end) g gs some fits) (ends-cons row end (piece_of new_style g) (pieces new_style (kept (room - end - text_width g) gs)) o has (rw (rest, is_width) at e)))
+    pub text-not : 0 < width → width ≤ room - end → (HasSymbol row end g → ⊥) → EndsAfter row at all None
+    text-not some fits off =
+        h None (rw (is, kept-take (room - end) g gs (omega arith) (omega (arith, width-text some))) (ends-not row end (piece_of new_style g) (pieces new_style (kept (room - end - text_width g) gs)) off))
+
+    pub text-take : 0 < width → width ≤ room - end → HasSymbol row end g →
+        (o : Option ℕ) → EndsAfter row (end + width) (pieces new_style (kept (room - (end + width)) gs)) o → EndsAfter row at all o
+    text-take some fits has o e =
+        let rest : room - (end + width) ≡ room - end - text_width g = omega (arith, width-text some) in
+        h o (rw (is, kept-take (room - end) g gs (omega arith) (omega (arith, width-text some)))
+        (ends-cons row end (piece_of new_style g) (pieces new_style (kept (room - end - text_width g) gs)) o has (rw (rest, width-text some) at e)))
 
 -- the pieces of plain texts and one more after them
 line-push : (w : ℕ) (ts : List (List ℕ)) (t : List ℕ) → line_pieces w new_style (map plain (ts ++ t ∷ []))

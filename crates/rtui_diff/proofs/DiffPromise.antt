@@ -8,8 +8,8 @@ use Rattle.rtui_diff.proofs.EnoughLemmas.{gives_enough}
 pub is_diff : (x0 y0 w h : ℕ) (ps ns : List Cell) → IsDiff x0 y0 w h ps ns (updates x0 y0 w h ps ns)
 is_diff x0 y0 w h ps ns = record {
   walks = refl;
-  rises = updates_rises x0 y0 w h ns ps;
-  own = updates_own x0 y0 w h ns ps;
+  rises = updates_rises x0 y0 w h ps ns;
+  own = updates_own x0 y0 w h ps ns;
   narrow = λ narrow. ap (map (update_at x0 y0 w ns)) (given_narrow (w * h) ps ns narrow);
   replays = replays x0 y0 w h ps ns;
   minimal = gives_little x0 y0 w h ps ns;

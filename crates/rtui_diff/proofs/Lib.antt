@@ -1,10 +1,11 @@
 pub mod WalkLemmas
 pub mod ColumnLemmas
 pub mod FrameLemmas
+pub mod SettledLemmas
+pub mod ScreenLemmas
 pub mod ReplayLemmas
+pub mod RepaintLemmas
 pub mod GivenLemmas
 pub mod EnoughLemmas
 pub mod DiffLemmas
-pub mod RepaintLemmas
-pub mod SettledLemmas
 pub mod DiffPromise

@@ -1,105 +1,55 @@
 -- A full repaint of a settled frame shows it, whatever stood there.
-use Rattle.std.proofs.Common.{◌≡◌, ℕ, zero, suc, ◌+◌, ◌*◌, ◌/◌, ◌%◌, ◌<◌, ◌≤◌, ◌&&◌, Bool, true, false, not, cond, List, ◌∷◌, All, refl, sym, subst, ◌∙◌, arith, inl, inr, if◌then◌else◌, nat_lt, nat_eq, filter}
+use Rattle.std.proofs.Common.{◌≡◌, ℕ, zero, suc, ◌+◌, ◌-◌, ◌*◌, ◌<◌, ◌≤◌, not, List, refl, sym, subst, ◌∙◌, ap, arith, filter}
 use Rattle.std.specs.List.{range_with_len}
-use Rattle.std.proofs.lemmas.{Bool.cases_lt, Bool.false≢true, Bool.Decides.nat_tests, List.Elements.All-nil, List.Elements.All-cons}
-use Rattle.rtui_cell.specs.{declared.cell.Cell.Cell, Look.Look, Look.empty_look, Look.look_of, Cell.width_of, Cell.is_skipped, Grid.Grid, Grid.puts}
-use Rattle.rtui_diff.specs.{Cells.cell, Settled.IsSettled}
-use Rattle.rtui_diff.specs.Shows.{ShowsColumn, Shows, is_plain, repaint}
-use Rattle.rtui_diff.proofs.ColumnLemmas.{Settled, ShowsPlace, put_at, after, step_look, behind_look}
-use Rattle.rtui_diff.proofs.FrameLemmas.{Fits, row_start, row_end, column_in, row_in, settled_flat, column_shown, puts_inside}
+use Rattle.std.proofs.lemmas.Bool.{not-true}
+use Rattle.rtui_cell.specs.{declared.cell.Cell.Cell, Look.Look, Cell.width_of, Cell.is_skipped}
+use Rattle.rtui_diff.specs.{Cells.cell, Settled.IsSettled, Shows.Repaints, Shows.is_plain, DiffRule.give}
+use Rattle.rtui_diff.proofs.{WalkLemmas.give_cond, SettledLemmas.settled_flat, ScreenLemmas.RisesFrom, ScreenLemmas.rises_give, ScreenLemmas.shows_after}
+use Rattle.rtui_diff.proofs.ColumnLemmas.{Covers, Settled, ShowsPlace, Closed, Splits, after, step_look, after-give, next_place, next_covers, next_bound, next_closed, next_splits, forced_moves, blank_kept}
 
-after-cond : (g : Bool) (ns : List Cell) (i : ℕ) (is : List ℕ) (k : ℕ) (l : Look) → after ns (cond g (i ∷ is) is) k l ≡ after ns is k (step_look g ns i k l)
-after-cond true ns i is k l = refl
-after-cond false ns i is k l = refl
+-- the unskipped places of n places from i on
+abbrev plain_places : List Cell → ℕ → ℕ → List ℕ
+plain_places ns i n = filter (is_plain ns) (range_with_len i n)
 
--- what holds of column k before place i is painted
-record Painted (ns : List Cell) (i k : ℕ) (l : Look) : Type 0 where
-  pub done : k < i → ShowsPlace ns k l
-  pub ahead : i ≤ k → (j : ℕ) → j < i → is_skipped (cell ns j) ≡ false → k < j + width_of (cell ns j) → l ≡ empty_look
+plain_first : (ns : List Cell) (i n : ℕ) → plain_places ns i (suc n) ≡ give (not (is_skipped (cell ns i))) i (plain_places ns (i + 1) n)
+plain_first ns i n = sym (give_cond (not (is_skipped (cell ns i))) i (plain_places ns (i + 1) n))
 
-paint : (len : ℕ) (ns : List Cell) (i k : ℕ) (l : Look) (g : Bool) → Settled len ns → i < len → g ≡ not (is_skipped (cell ns i)) → Painted ns i k l → Painted ns (i + 1) k (step_look g ns i k l)
-paint len ns i k l true st lt e p =
-    let plain : is_skipped (cell ns i) ≡ false = by (is_skipped (cell ns i)) e in
-    record {
-      done = λ in_it. elim (cases_lt k i) [
-        | inl less ↦ let same : put_at ns i k l ≡ l = grind (arith, nat_tests) in subst (ShowsPlace ns k) (sym same) (p.done less)
-        | inr ge ↦
-            let here : i ≡ k = omega arith in
-            let look : put_at ns i k l ≡ look_of (cell ns i) = grind (arith, nat_tests) in
-            subst (λ x. ShowsPlace ns x (put_at ns i k l)) here (record {
-              look = λ _. look;
-              behind = λ j less jp covers. look ∙ behind_look len ns i st lt (record { j = j; before = less; plain = jp; covers = covers }) plain;
-            })
-      ];
-      ahead = λ past j less jp covers. elim (cases_lt j i) [
-        | inl before ↦ let old : l ≡ empty_look = p.ahead (omega arith) j before jp covers in let away : nat_eq k i ≡ false = grind (arith, nat_tests) in rw (away, old) (both (nat_lt i k && nat_lt k (i + width_of (cell ns i))))
-        | inr ge ↦ let same : j ≡ i = omega arith in let c : k < i + width_of (cell ns i) = subst (λ x. k < x + width_of (cell ns x)) same covers in grind (arith, nat_tests)
-      ];
-    }
-  where
-    by : (s : Bool) → true ≡ not s → s ≡ false
-    by true e = absurd (false≢true (sym e))
-    by false e = refl
+put_first : (ns : List Cell) (n i k : ℕ) (l : Look) → ShowsPlace ns k (after ns (plain_places ns (i + 1) n) k (step_look (not (is_skipped (cell ns i))) ns i k l)) →
+    ShowsPlace ns k (after ns (plain_places ns i (suc n)) k l)
+put_first ns n i k l shown = subst (ShowsPlace ns k) (sym (ap (λ is. after ns is k l) (plain_first ns i n) ∙ after-give (not (is_skipped (cell ns i))) ns i (plain_places ns (i + 1) n) k l)) shown
 
-    both : (b : Bool) → (if b then empty_look else empty_look) ≡ empty_look
-    both true = refl
-    both false = refl
-paint len ns i k l false st lt e p =
-    let skip : is_skipped (cell ns i) ≡ true = by (is_skipped (cell ns i)) e in
-    record {
-      done = λ in_it. elim (cases_lt k i) [
-        | inl less ↦ p.done less
-        | inr ge ↦
-            let here : i ≡ k = omega arith in
-            record {
-              look = λ plain. absurd (false≢true (sym (subst (λ x. is_skipped (cell ns x) ≡ false) (sym here) plain) ∙ skip));
-              behind = λ j less jp covers. p.ahead (omega arith) j (omega arith) jp covers;
-            }
-      ];
-      ahead = λ past j less jp covers. elim (cases_lt j i) [
-        | inl before ↦ p.ahead (omega arith) j before jp covers
-        | inr ge ↦ let same : j ≡ i = omega arith in absurd (false≢true (sym (subst (λ x. is_skipped (cell ns x) ≡ false) same jp) ∙ skip))
-      ];
-    }
-  where
-    by : (s : Bool) → false ≡ not s → s ≡ true
-    by true e = refl
-    by false e = absurd (false≢true e)
+-- from place i on, if the cells that were put before it cover `left` more columns
+painted_from : (len : ℕ) (ns : List Cell) (n left i k : ℕ) (l : Look) → Settled len ns → i + n ≡ len → k < len → Closed ns (i + left) → i + left ≤ len →
+    ((c : ℕ) → i ≤ c → c < i + left → (j : ℕ) × Covers ns j c) → Splits (λ _. Unit {0}) ns (i + left) k l → ShowsPlace ns k (after ns (plain_places ns i n) k l)
+painted_from len ns zero left i k l st e klt closed bound covered sp = sp.shown (omega arith)
+painted_from len ns (suc n) zero i k l st e klt closed bound covered sp =
+    let here : i + 0 ≡ i = omega arith in
+    let next : next_place ns i ≡ i + 1 + (width_of (cell ns i) - 1) = omega arith in
+    let free : Closed ns i = subst (Closed ns) here closed in
+    let split = next_splits len (λ _. Unit {0}) ns i k l (step_look (not (is_skipped (cell ns i))) ns i k l) st (omega arith) klt free
+    (subst (λ r. Splits (λ _. Unit {0}) ns r k l) here sp) (forced_moves ns i k l (not (is_skipped (cell ns i))) refl) in
+    put_first ns n i k l
+    (painted_from len ns n (width_of (cell ns i) - 1) (i + 1) k _ st (omega arith) klt (subst (Closed ns) next (next_closed len ns i st (omega arith) free))
+    (omega (arith, next_bound len ns i st (omega arith)))
+    (λ c a b. (i, next_covers len ns i c st (omega arith) (omega arith) (omega arith))) (subst (λ r. Splits (λ _. Unit {0}) ns r k (step_look (not (is_skipped (cell ns i))) ns i k l)) next split))
+painted_from len ns (suc n) (suc left) i k l st e klt closed bound covered sp =
+    let next : i + suc left ≡ i + 1 + left = omega arith in
+    let x : (j : ℕ) × Covers ns j i = covered i (omega arith) (omega arith) in
+    let kept = blank_kept len ns x.0 i k l (not (is_skipped (cell ns i))) st (omega arith) x.1 (not-true (is_skipped (cell ns i)))
+    (λ same. (sp.shown (omega arith)).behind x.0 (subst (Covers ns x.0) (sym same) x.1)) in
+    put_first ns n i k l
+    (painted_from len ns n left (i + 1) k _ st (omega arith) klt (subst (Closed ns) next closed) (omega arith) (λ c a b. covered c (omega arith) (omega arith))
+    (subst (Splits (λ _. Unit {0}) ns (i + 1 + left) k) (sym kept) (subst (λ r. Splits (λ _. Unit {0}) ns r k l) next sp)))
 
-painted_from : (len : ℕ) (ns : List Cell) (n i k : ℕ) (l : Look) → Settled len ns → i + n ≡ len → k < len → Painted ns i k l → ShowsPlace ns k (after ns (filter (is_plain ns) (range_with_len i n)) k l)
-painted_from len ns zero i k l st e klt p = p.done (omega arith)
-painted_from len ns (suc n) i k l st e klt p =
-    let g : Bool = not (is_skipped (cell ns i)) in
-    subst (ShowsPlace ns k) (sym (after-cond g ns i (filter (is_plain ns) (range_with_len (i + 1) n)) k l))
-    (painted_from len ns n (i + 1) k (step_look g ns i k l) st (omega arith) klt (paint len ns i k l g st (omega arith) refl p))
-
-plain_by : (s : Bool) → true ≡ not s → s ≡ false
-plain_by true e = absurd (false≢true (sym e))
-plain_by false e = refl
-
-fits_cond : (w h : ℕ) (ns : List Cell) (i : ℕ) (is : List ℕ) (g : Bool) → IsSettled w h ns → i < w * h → g ≡ not (is_skipped (cell ns i)) → All (Fits w h ns) is → All (Fits w h ns) (cond g (i ∷ is) is)
-fits_cond w h ns i is false st lt e rest = rest
-fits_cond w h ns i is true st lt e rest =
-    let p : i / w * w + i % w ≡ i = row_start w h i in
-    let plain : is_skipped (cell ns i) ≡ false = plain_by (is_skipped (cell ns i)) e in
-    All-cons (Fits w h ns) i is (record {
-      inside = lt;
-      fits = subst (λ x. i % w + width_of (cell ns x) ≤ w) p (st.within (i % w) (i / w) (column_in w h i lt) (row_in w h i lt) (subst (λ x. is_skipped (cell ns x) ≡ false) (sym p) plain));
-      plain = plain;
-    }) rest
-
-fits_from : (w h : ℕ) (ns : List Cell) (n i : ℕ) → IsSettled w h ns → i + n ≡ w * h → All (Fits w h ns) (filter (is_plain ns) (range_with_len i n))
-fits_from w h ns zero i st e = All-nil (Fits w h ns)
-fits_from w h ns (suc n) i st e =
-    fits_cond w h ns i (filter (is_plain ns) (range_with_len (i + 1) n)) (not (is_skipped (cell ns i))) st (omega arith) refl (fits_from w h ns n (i + 1) st (omega arith))
+repaint_rises : (ns : List Cell) (n i hi : ℕ) → i + n ≡ hi → RisesFrom ns i hi (plain_places ns i n)
+repaint_rises ns zero i hi e = tt
+repaint_rises ns (suc n) i hi e = subst (RisesFrom ns i hi) (sym (plain_first ns i n))
+    (rises_give ns (not (is_skipped (cell ns i))) i hi _ (omega arith) (not-true (is_skipped (cell ns i))) (repaint_rises ns n (i + 1) hi (omega arith)))
 
 -- on any grid that holds the area
-pub repaints : (W H x0 y0 w h : ℕ) → x0 + w ≤ W → y0 + h ≤ H → (ns : List Cell) (g : Grid) → IsSettled w h ns → Shows x0 y0 w h ns (puts W H (repaint x0 y0 w h ns) g)
-repaints W H x0 y0 w h x_fits y_fits ns g st = record {
-  at = λ a b a_in b_in.
-      let e : b * w + w ≤ w * h = row_end w h b b_in in
-      subst (ShowsColumn w ns a b) (sym (puts_inside w h W H x0 y0 x_fits y_fits ns (filter (is_plain ns) (range_with_len 0 (w * h))) a b g (fits_from w h ns (w * h) 0 st (omega arith)) a_in b_in))
-      (column_shown w h ns a b _
-      (painted_from (w * h) ns (w * h) 0 (b * w + a) (g (x0 + a) (y0 + b)) (settled_flat w h ns st) (omega arith) (omega arith)
-      (record { done = λ a. absurd (omega arith); ahead = λ _ j less. absurd (omega arith) })));
+pub repaints : (w h : ℕ) (ns : List Cell) → IsSettled w h ns → Repaints w h ns
+repaints w h ns st = record {
+  shows = λ W H x0 y0 g x_fits y_fits. shows_after W H x0 y0 w h x_fits y_fits ns st (plain_places ns 0 (w * h)) g (repaint_rises ns (w * h) 0 (w * h) (omega arith))
+      (λ a b a_in b_in lt. painted_from (w * h) ns (w * h) 0 0 (b * w + a) _ (settled_flat w h ns st) (omega arith) lt (record { closed = λ j x. omega (arith, x.before) }) (omega arith)
+      (λ c p q. absurd (omega arith)) (record { shown = λ p. absurd (omega arith); former = λ _. tt }));
 }

@@ -1,22 +1,22 @@
 -- Settled, place by place.
-use Rattle.std.proofs.Common.{◌≡◌, ℕ, ◌+◌, ◌*◌, ◌/◌, ◌%◌, ◌<◌, ◌≤◌, false, List, sym, subst, arith}
-use borrow.Author.Count.{below_more}
-use Rattle.std.proofs.lemmas.Nat.{mod-mul-add}
+use Rattle.std.proofs.Common.{◌≡◌, ℕ, ◌+◌, ◌-◌, ◌*◌, ◌/◌, ◌%◌, ◌<◌, ◌≤◌, false, List, subst, ap, arith}
+use Rattle.std.proofs.lemmas.Nat.{mod-mul-add, same_from_place}
 use Rattle.rtui_cell.specs.{declared.cell.Cell.Cell, Cell.width_of, Cell.is_skipped}
-use Rattle.rtui_diff.specs.{Cells.cell, Settled.IsSettled, Settled.IsSettledAt, Shows.Repaints}
-use Rattle.rtui_diff.proofs.FrameLemmas.{row_start, row_end, column_in, row_in, settled_flat}
-use Rattle.rtui_diff.proofs.RepaintLemmas.{repaints}
+use Rattle.rtui_diff.specs.{Cells.cell, Settled.IsBlankOrSkipped, Settled.IsSettled, Settled.IsSettledAt, Completeness.CoversColumn}
+use Rattle.rtui_diff.proofs.ColumnLemmas.{Covers, Settled}
+use Rattle.rtui_diff.proofs.FrameLemmas.{row_start, row_end, column_in, row_in}
 
 module _ (w h : ℕ) (cells : List Cell) where
   pub settled_at : (i : ℕ) → i < w * h → IsSettled w h cells → IsSettledAt w cells i
-  settled_at i lt s =
-      let p : i / w * w + i % w ≡ i = row_start w h i in
-      let flat = settled_flat w h cells s in
-      record {
-        skipped = flat.skipped i lt;
-        within = λ e. subst (λ x. i % w + width_of (cell cells x) ≤ w) p
-            (s.within (i % w) (i / w) (column_in w h i lt) (row_in w h i lt) (subst (λ x. is_skipped (cell cells x) ≡ false) (sym p) e));
-        behind = λ e k more less. flat.behind i k lt e more less;
+  settled_at i lt s = subst (IsSettledAt w cells) (row_start w h i) (at (i % w) (i / w) (column_in w h i lt) (row_in w h i lt))
+    where
+      at : (a b : ℕ) → a < w → b < h → IsSettledAt w cells (b * w + a)
+      at a b a_in b_in = record {
+        skipped = s.skipped a b a_in b_in;
+        within = λ e. rw (mod-mul-add b w a a_in) (s.within a b a_in b_in e);
+        behind = λ e k more less.
+            let to : b * w + (k - b * w) ≡ k = omega arith in
+            subst (λ x. IsBlankOrSkipped (cell cells x)) to (s.behind a b (k - b * w) a_in b_in e (omega arith) (omega arith));
       }
 
   pub settled_from : ((i : ℕ) → i < w * h → IsSettledAt w cells i) → IsSettled w h cells
@@ -29,11 +29,26 @@ module _ (w h : ℕ) (cells : List Cell) where
       at : (a b : ℕ) → a < w → b < h → IsSettledAt w cells (b * w + a)
       at a b a_in b_in = let e : b * w + w ≤ w * h = row_end w h b b_in in all (b * w + a) (omega arith)
 
-  pub repaints_if : ((i : ℕ) → i < w * h → IsSettledAt w cells i) → Repaints w h cells
-  repaints_if all = record { shows = λ W H x0 y0 g x_fits y_fits. repaints W H x0 y0 w h x_fits y_fits cells g (settled_from all) }
+  -- the rows joined to one
+  pub settled_flat : IsSettled w h cells → Settled (w * h) cells
+  settled_flat s = record {
+    skipped = λ i lt. (settled_at i lt s).skipped;
+    within = λ i lt e. omega (arith, (settled_at i lt s).within e, row_start w h i, row_end w h (i / w) (row_in w h i lt));
+    behind = λ i k lt x. (settled_at i (omega (arith, x.before)) s).behind x.plain k x.before x.reaches;
+  }
 
-pub settled_more : (w : ℕ) (cells : List Cell) (i : ℕ) → ((j : ℕ) → j < i → IsSettledAt w cells j) → IsSettledAt w cells i → (j : ℕ) → j < i + 1 → IsSettledAt w cells j
-settled_more w cells i before here = below_more (IsSettledAt w cells) i before here
+  -- what covers a column stands in its row
+  pub same_row : (a b k : ℕ) → IsSettled w h cells → a < w → b < h → Covers cells k (b * w + a) → (k ≡ b * w + k % w) × CoversColumn w cells (k % w) a b
+  same_row a b k s a_in b_in x =
+      let end : b * w + w ≤ w * h = row_end w h b b_in in
+      let fits : k % w + width_of (cell cells k) ≤ w = (settled_at k (omega (arith, x.before)) s).within x.plain in
+      let start : k / w * w + k % w ≡ k = row_start w h k in
+      let same = same_from_place (k / w) (k % w + (b * w + a - k)) b a w (omega (arith, x.reaches)) a_in (omega (arith, x.before)) in
+      let first : k / w * w ≡ b * w = ap (λ q. q * w) same.0 in
+      let here : k ≡ b * w + k % w = omega arith in
+      let plain : is_skipped (cell cells (b * w + k % w)) ≡ false = subst (λ y. is_skipped (cell cells y) ≡ false) here x.plain in
+      let reaches : a < k % w + width_of (cell cells (b * w + k % w)) = subst (λ y. a < k % w + width_of (cell cells y)) here (omega (arith, x.reaches)) in
+      (here, record { before = omega (arith, x.before); plain = plain; reaches = reaches })
 
 -- the first rows of a settled frame are settled
 pub settled_fewer : (w h rows : ℕ) (cells : List Cell) → rows ≤ h → IsSettled w h cells → IsSettled w rows cells

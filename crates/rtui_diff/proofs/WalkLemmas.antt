@@ -1,6 +1,6 @@
 -- What one step of the walk does, by its cases.
-use Rattle.std.proofs.Common.{◌≡◌, ℕ, zero, suc, ◌+◌, ◌-◌, ◌&&◌, ◌||◌, Bool, true, false, not, List, [], refl, sym, if◌then◌else◌, nat_lt}
-use Rattle.std.proofs.lemmas.Bool.{false≢true}
+use Rattle.std.proofs.Common.{◌*◌, ◌≡◌, ℕ, zero, suc, ◌+◌, ◌-◌, ◌&&◌, ◌||◌, Bool, true, false, not, List, [], ◌∷◌, cond, refl, if◌then◌else◌, nat_lt}
+use Rattle.std.proofs.lemmas.Bool.{false≢true, and_parts, or_parts, not-true, not-false}
 use Rattle.rtui_cell.specs.{declared.cell.Cell.Cell, declared.cell.CellDiffOption.CellDiffOption, Equality.is_same}
 use Rattle.rtui_cell.specs.declared.cell.CellDiffOption.TheVariants as DiffOption
 use Rattle.rtui_cell.specs.Cell.{width_of, is_skipped, has_no_option, is_single_byte}
@@ -41,25 +41,20 @@ pub given-none : (ps ns : List Cell) (s : Walk) (i : ℕ) → given ps ns 0 s i 
 unfolding given
 given-none ps ns s i = refl
 
+-- a place that is given or not, before the others
+pub give_cond : (g : Bool) (i : ℕ) (is : List ℕ) → give g i is ≡ cond g (i ∷ is) is
+give_cond true i is = refl
+give_cond false i is = refl
+
 -- a plain cell that is not given is skipped or the same
 pub plain_same : (p n : Cell) → gives_plain p n ≡ false → is_skipped n ≡ false → is_same p n ≡ true
-plain_same p n e f = plain_by (is_skipped n) (is_always n) (is_same p n) e f
-  where
-    plain_by : (s a m : Bool) → (not s && (a || not m)) ≡ false → s ≡ false → m ≡ true
-    plain_by true a m e f = absurd (false≢true (sym f))
-    plain_by false true m e f = absurd (false≢true (sym e))
-    plain_by false false true e f = refl
-    plain_by false false false e f = absurd (false≢true (sym e))
-
-unskipped_by : (s x : Bool) → (not s && x) ≡ true → s ≡ false
-unskipped_by true x e = absurd (false≢true e)
-unskipped_by false x e = refl
+plain_same p n e f = not-false (is_same p n) (or_parts (is_always n) (not (is_same p n)) (rw f at e)).1
 
 -- what is given is not skipped
 pub unskipped : (over left : ℕ) (force : Bool) (p n : Cell) → gives (record { over = over; left = left; force = force }) p n ≡ true → is_skipped n ≡ false
 unskipped (suc over) left force p n e = absurd (false≢true e)
-unskipped zero (suc left) force p n e = unskipped_by (is_skipped n) _ e
-unskipped zero zero force p n e = unskipped_by (is_skipped n) _ e
+unskipped zero (suc left) force p n e = not-true (is_skipped n) (and_parts (not (is_skipped n)) _ e).0
+unskipped zero zero force p n e = not-true (is_skipped n) (and_parts (not (is_skipped n)) _ e).0
 
 plain_always : (o : CellDiffOption) → has_no_option o ≡ true → is_always_by o ≡ false
 plain_always DiffOption.None e = refl
@@ -71,3 +66,7 @@ plain_always (DiffOption.ForcedWidth forced) e = refl
 pub single_byte_always : (n : Cell) → is_single_byte n ≡ true → is_always n ≡ false
 unfolding is_always
 single_byte_always n e = plain_always n.diff_option (single_byte_option n e)
+
+-- the places that are given, over h rows of w columns
+abbrev pub places : ℕ → ℕ → List Cell → List Cell → List ℕ
+places w h ps ns = given ps ns (w * h) start 0

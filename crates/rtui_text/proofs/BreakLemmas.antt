@@ -1,7 +1,6 @@
 -- Lines of a text: none of them has a line break, and a text without one is its only line.
-use Rattle.std.proofs.Common.{◌≡◌, ℕ, zero, suc, ◌<◌, ◌-◌, Bool, true, false, ◌==◌, List, [], ◌∷◌, length, take, get_or, if◌then◌else◌, refl, arith, slice_index}
-use Rattle.std.proofs.Math.Bool.{cond}
-use Rattle.std.proofs.lemmas.{Bool.or_parts, Bool.Decides.nat_tests}
+use Rattle.std.proofs.Common.{◌≡◌, ℕ, zero, suc, ◌<◌, ◌-◌, true, false, ◌==◌, List, [], ◌∷◌, length, take, get_or, refl, arith, slice_index}
+use Rattle.std.proofs.lemmas.{Bool.or_parts, Bool.cond_both, Bool.Decides.nat_tests}
 use Rattle.std.specs.{List.list_any, List.slice_split, List.onto_first, Str.Lines.lines, Str.Lines.lines_of_parts, Str.Lines.strip_carriage_return}
 use Rattle.rtui_text.specs.Text.{IsUnbroken, raw_line, line_of, plain}
 
@@ -25,33 +24,21 @@ onto-unbroken : (b : ℕ) (parts : List (List ℕ)) → (b == 10) ≡ false → 
 onto-unbroken b [] e all = (rw e refl, tt)
 onto-unbroken b (x ∷ xs) e all = (rw e all.0, all.1)
 
-more-unbroken : (t : Bool) (b : ℕ) (parts : List (List ℕ)) → (b == 10) ≡ t → AreUnbroken parts → AreUnbroken (cond t ([] ∷ parts) (onto_first b parts))
-more-unbroken true b parts e all = (refl, all)
-more-unbroken false b parts e all = onto-unbroken b parts e all
-
 parts-unbroken : (bs : List ℕ) → AreUnbroken (slice_split (λ b. b == 10) bs)
 parts-unbroken [] = (refl, tt)
-parts-unbroken (b ∷ bs) = more-unbroken (b == 10) b (slice_split (λ c. c == 10) bs) refl (parts-unbroken bs)
+parts-unbroken (b ∷ bs) = cond_both (b == 10) ([] ∷ slice_split (λ c. c == 10) bs) _ AreUnbroken (λ e. (refl, parts-unbroken bs)) (λ e. onto-unbroken b (slice_split (λ c. c == 10) bs) e (parts-unbroken bs))
 
 take-unbroken : (n : ℕ) (x : List ℕ) → IsUnbroken x → IsUnbroken (take n x)
 take-unbroken zero x e = refl
 take-unbroken (suc n) [] e = refl
 take-unbroken (suc n) (b ∷ bs) e = let h = or_parts (b == 10) (list_any (λ c. c == 10) bs) e in rw h.0 (take-unbroken n bs h.1)
 
-either-unbroken : (t : Bool) (x y : List ℕ) → IsUnbroken x → IsUnbroken y → IsUnbroken (if t then x else y)
-either-unbroken true x y p q = p
-either-unbroken false x y p q = q
-
 strip-unbroken : (x : List ℕ) → IsUnbroken x → IsUnbroken (strip_carriage_return x)
-strip-unbroken x e = either-unbroken (slice_index x (length x - 1) == 13) (take (length x - 1) x) x (take-unbroken (length x - 1) x e) e
-
-last-unbroken : (t : Bool) (x : List ℕ) → IsUnbroken x → AreUnbroken (if t then [] else x ∷ [])
-last-unbroken true x e = tt
-last-unbroken false x e = (e, tt)
+strip-unbroken x e = cond_both (slice_index x (length x - 1) == 13) (take (length x - 1) x) x IsUnbroken (λ _. take-unbroken (length x - 1) x e) (λ _. e)
 
 lines_of_parts-unbroken : (ps : List (List ℕ)) → AreUnbroken ps → AreUnbroken (lines_of_parts ps)
 lines_of_parts-unbroken [] all = tt
-lines_of_parts-unbroken (x ∷ []) all = last-unbroken (length x == 0) x all.0
+lines_of_parts-unbroken (x ∷ []) all = cond_both (length x == 0) [] (x ∷ []) AreUnbroken (λ _. tt) (λ _. (all.0, tt))
 lines_of_parts-unbroken (x ∷ y ∷ more) all = (strip-unbroken x all.0, lines_of_parts-unbroken (y ∷ more) all.1)
 
 at-unbroken : (xs : List (List ℕ)) (i : ℕ) (x : List ℕ) → AreUnbroken xs → i < length xs → IsUnbroken (get_or xs i x)

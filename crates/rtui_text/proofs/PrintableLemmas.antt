@@ -1,6 +1,6 @@
 -- A printable character of ASCII before another character of ASCII is a grapheme of its own.
-use Rattle.std.proofs.Common.{◌≡◌, ℕ, zero, suc, ◌-◌, ◌<◌, ◌≤◌, Bool, true, false, cond, not, ◌&&◌, ◌||◌, ◌==◌, nat_le, nat_lt, List, [], ◌∷◌, ◌++◌, map, length, unwrap_or, refl, sym, ap, ◌∙◌, arith, append-nil, eqb-true, ◌⊎◌, ⊎_elim, inl, inr, take, drop, slice_index, subst, add-one, count_by, encode_utf8, encode_utf8_all}
-use Rattle.std.proofs.lemmas.{Bool.false≢true, Bool.cases_lt, Bool.or_parts, Bool.Decides.nat_tests, List.Elements.All-nil, List.Elements.All-cons}
+use Rattle.std.proofs.Common.{◌≡◌, ℕ, zero, suc, ◌-◌, ◌<◌, ◌≤◌, Bool, true, false, cond, not, ◌&&◌, ◌||◌, ◌==◌, nat_le, nat_lt, List, [], ◌∷◌, ◌++◌, map, length, unwrap_or, refl, sym, ap, ◌∙◌, arith, append-nil, eqb-true, ◌⊎◌, ⊎_elim, inl, inr, take, drop, slice_index, subst, add-one, count_by, encode_utf8, encode_utf8_all, length-take, get_or-take}
+use Rattle.std.proofs.lemmas.{Bool.false≢true, Bool.cases_lt, Bool.cases_order, Bool.or_parts, Bool.Decides.nat_tests, List.Elements.All-nil, List.Elements.All-cons}
 use Rattle.std.proofs.lemmas.Str.{encode_ascii, chars-nil, chars-IsAscii, IsCharBoundary-start}
 use Rattle.std.specs.{Char.is_control, List.All, List.list_any}
 use Rattle.std.specs.Str.{chars, IsAscii, IsUtf8, IsCharBoundary}
@@ -78,29 +78,35 @@ is_ascii_kind-of : (b : ℕ) → b < 0x80 → is_ascii_kind (grapheme_cluster_br
 unfolding ucd_breaks
 is_ascii_kind-of b below = Stepped-below grapheme_cluster_break grapheme_cluster_break_stepped (λ x v. is_ascii_kind v) 0x80 refl b below
 
-no_regional : (v : GraphemeClusterBreak) → is_ascii_kind v ≡ true → is_regional v ≡ false
-no_regional Control h = refl
-no_regional Cr h = refl
-no_regional Lf h = refl
-no_regional Other h = refl
-no_regional _ h = absurd (false≢true h)
+-- so what holds of the four kinds holds of its kind
+of_ascii : (P : GraphemeClusterBreak → Type 0) → P Control → P Cr → P Lf → P Other → (b : ℕ) → b < 0x80 → P (grapheme_cluster_break b)
+of_ascii P control cr lf other b below = each (grapheme_cluster_break b) (is_ascii_kind-of b below)
+  where
+    each : (v : GraphemeClusterBreak) → is_ascii_kind v ≡ true → P v
+    each Control h = control
+    each Cr h = cr
+    each Lf h = lf
+    each Other h = other
+    each _ h = absurd (false≢true h)
 
-no_extend : (v : GraphemeClusterBreak) → is_ascii_kind v ≡ true → is_extend v ≡ false
-no_extend Control h = refl
-no_extend Cr h = refl
-no_extend Lf h = refl
-no_extend Other h = refl
-no_extend _ h = absurd (false≢true h)
+no_regional : (b : ℕ) → b < 0x80 → is_regional (grapheme_cluster_break b) ≡ false
+no_regional = of_ascii (λ v. is_regional v ≡ false) refl refl refl refl
+
+no_extend : (b : ℕ) → b < 0x80 → is_extend (grapheme_cluster_break b) ≡ false
+no_extend = of_ascii (λ v. is_extend v ≡ false) refl refl refl refl
+
+no_joiner : (b : ℕ) → b < 0x80 → is_zwj (grapheme_cluster_break b) ≡ false
+no_joiner = of_ascii (λ v. is_zwj v ≡ false) refl refl refl refl
 
 ends_in_pictograph-past : (b : ℕ) → b < 0x80 → (cs : List ℕ) → ends_in_pictograph (cs ++ b ∷ []) ≡ ends_in_pictograph cs
 unfolding ends_in_pictograph
 ends_in_pictograph-past b below [] =
-    no_pictograph (is_extended_pictographic b) (is_extend (grapheme_cluster_break b)) (is_no_pictograph b below) (no_extend (grapheme_cluster_break b) (is_ascii_kind-of b below))
+    no_pictograph (is_extended_pictographic b) (is_extend (grapheme_cluster_break b)) (is_no_pictograph b below) (no_extend b below)
 ends_in_pictograph-past b below (c ∷ cs) = ap (λ t. is_extended_pictographic c || (is_extend (grapheme_cluster_break c) && t)) (ends_in_pictograph-past b below cs)
 
 ends_in_half_flag-past : (b : ℕ) → b < 0x80 → (cs : List ℕ) → ends_in_half_flag (cs ++ b ∷ []) ≡ ends_in_half_flag cs
 unfolding ends_in_half_flag
-ends_in_half_flag-past b below [] = rw (no_regional (grapheme_cluster_break b) (is_ascii_kind-of b below)) refl
+ends_in_half_flag-past b below [] = rw (no_regional b below) refl
 ends_in_half_flag-past b below (c ∷ cs) = ap (λ t. is_regional (grapheme_cluster_break c) && not t) (ends_in_half_flag-past b below cs)
 
 is_break-past : (b : ℕ) → b < 0x80 → (c : ℕ) (cs after : List ℕ) → is_grapheme_break true (c ∷ (cs ++ b ∷ [])) after ≡ is_grapheme_break true (c ∷ cs) after
@@ -119,19 +125,19 @@ cut-past b below before (c ∷ cs) after = rw (is_break-past b below c before (c
 
 -- ---- the place after it is a break
 
-breaks_before_kind : (v : GraphemeClusterBreak) (rest : Bool) → is_ascii_kind v ≡ true → rest ≡ true → unwrap_or (break_by_pair true Other v) rest ≡ true
-breaks_before_kind Control rest h k = refl
-breaks_before_kind Cr rest h k = refl
-breaks_before_kind Lf rest h k = refl
-breaks_before_kind Other rest h k = k
-breaks_before_kind _ rest h k = absurd (false≢true h)
+-- no later rule joins two characters of ASCII
+abbrev unjoined : ℕ → ℕ → Bool
+unjoined b next = not ((true && joins_conjunct (b ∷ []) next) || joins_emoji (b ∷ []) next || joins_flag (b ∷ []) next)
+
+unjoined-ascii : (b next : ℕ) → b < 0x80 → next < 0x80 → unjoined b next ≡ true
+unfolding ends_in_linker
+unjoined-ascii b next below lower = rw (is_no_conjunct b below, no_joiner b below, no_regional next lower, and-false) refl
 
 breaks_behind : (b : ℕ) → IsPrintable b → (next : ℕ) (after : List ℕ) → next < 0x80 → is_grapheme_break true (b ∷ []) (next ∷ after) ≡ true
-unfolding is_grapheme_break ends_in_linker
-breaks_behind b p next after below =
-    rw (is_other b p, is_no_conjunct b (omega (arith, p.high)))
-    (breaks_before_kind (grapheme_cluster_break next) _ (is_ascii_kind-of next below)
-    (rw (no_regional (grapheme_cluster_break next) (is_ascii_kind-of next below), and-false) refl))
+unfolding is_grapheme_break
+breaks_behind b p next after lower =
+    ap (λ v. unwrap_or (break_by_pair true v (grapheme_cluster_break next)) (unjoined b next)) (is_other b p)
+    ∙ of_ascii (λ v. unwrap_or (break_by_pair true Other v) (unjoined b next) ≡ true) refl refl refl (unjoined-ascii b next (omega (arith, p.high)) lower) next lower
 
 -- ---- such a character is a grapheme of its own
 
@@ -145,10 +151,9 @@ abbrev pub BeginsWithAscii : List ℕ → Type 0
 BeginsWithAscii [] = Unit {0}
 BeginsWithAscii (b ∷ bs) = b < 0x80
 
-graphemes-of : (b : ℕ) → IsPrintable b → (cs : List ℕ) → is_grapheme_break true (b ∷ []) cs ≡ true
-    → cut (is_grapheme_break true) [] (b ∷ cs) [] ≡ (b ∷ []) ∷ cut (is_grapheme_break true) [] cs []
+cut-broken : (b : ℕ) (cs : List ℕ) → b < 0x80 → is_grapheme_break true (b ∷ []) cs ≡ true → cut (is_grapheme_break true) [] (b ∷ cs) [] ≡ (b ∷ []) ∷ cut (is_grapheme_break true) [] cs []
 unfolding cut
-graphemes-of b p cs broken = rw (append-nil cs, broken) (ap (λ t. (b ∷ []) ∷ t) (cut-past b (omega (arith, p.high)) [] cs []))
+cut-broken b cs below broken = rw (append-nil cs, broken) (ap (λ t. (b ∷ []) ∷ t) (cut-past b below [] cs []))
 
 one_byte : (b : ℕ) → b < 0x80 → encode_utf8_all (b ∷ []) ≡ b ∷ []
 one_byte b below = append-nil (encode_utf8 b) ∙ encode_ascii b below
@@ -163,7 +168,7 @@ unfolding segments
 graphemes-printable b rest p ascii =
     let below : b < 0x80 = omega (arith, p.high) in
     ap (λ cs. map encode_utf8_all (cut (is_grapheme_break true) [] cs [])) (chars-ascii b below rest)
-    ∙ ap (map encode_utf8_all) (graphemes-of b p (chars rest) (is_broken b p rest ascii))
+    ∙ ap (map encode_utf8_all) (cut-broken b (chars rest) below (is_broken b p rest ascii))
     ∙ ap (λ g. g ∷ graphemes true rest) (one_byte b below)
 
 -- ---- and so is each of a front of such characters
@@ -201,20 +206,18 @@ graphemes-front text (suc n) h = front-graphemes text (suc n) h.within h.printab
 -- the longest one, of what was read of the bytes
 pub longest-front : (text : List ℕ) (n len max : ℕ) → IsPrintableFront text n → n ≤ max → (len < max → len < length text → ¬ (IsPrintable (slice_index text len)))
     → (0 < len → len < length text → slice_index text len < 0x80) → n ≤ len
-longest-front text n len max h le stops follows =
-    ⊎_elim
-    (λ (past : len < n). absurd (stops (omega arith) (omega (arith, h.within)) (h.printable len past)))
-    (λ (within : n ≤ len). within)
-    (cases_lt len n)
+longest-front text n len max h le stops follows = elim (cases_lt len n) [
+  | inl past ↦ absurd (stops (omega arith) (omega (arith, h.within)) (h.printable len past))
+  | inr within ↦ within
+]
 
 pub longest-front_cut : (text : List ℕ) (n len max : ℕ) → IsPrintableFront text n → n ≤ max → (len < max → len < length text → ¬ (IsPrintable (slice_index text len)))
     → 0 < len → len < length text → 0x80 ≤ slice_index text len → n ≤ len - 1
-longest-front_cut text n len max h le stops some more high =
-    ⊎_elim
-    (λ (past : len < n). absurd (stops (omega arith) more (h.printable len past)))
-    (λ (within : n ≤ len).
-    ⊎_elim (λ (below : n < len). omega arith) (λ (same : len ≤ n). let is : n ≡ len = omega arith in absurd (let low = subst (λ m. 0 < m → m < length text → slice_index text m < 0x80) is h.followed some more in omega arith)) (cases_lt n len))
-    (cases_lt len n)
+longest-front_cut text n len max h le stops some more high = elim (cases_order n len) [
+  | inl is ↦ let low = subst (λ m. 0 < m → m < length text → slice_index text m < 0x80) is h.followed some more in absurd (omega arith)
+  | inr (inl below) ↦ omega arith
+  | inr (inr past) ↦ absurd (stops (omega arith) more (h.printable len past))
+]
 
 -- ---- widths
 
@@ -261,15 +264,9 @@ pub ruleset longest_rules = (longest-front, longest-front_cut)
 
 pub ruleset columns_rules = (columns-printable)
 
-take-printable : (text : List ℕ) (n : ℕ) → n ≤ length text → ((k : ℕ) → k < n → IsPrintable (slice_index text k)) → (k : ℕ) → k < length (take n text) → IsPrintable (slice_index (take n text) k)
-take-printable text zero le all k lt = absurd (omega arith)
-take-printable [] (suc n) le all k lt = absurd (omega arith)
-take-printable (b ∷ text) (suc n) le all zero lt = all 0 (omega arith)
-take-printable (b ∷ text) (suc n) le all (suc k) lt = take-printable text n (omega arith) (λ j low. all (suc j) (omega arith)) k (omega arith)
-
 -- the bytes of a front
 pub front-bytes : (text : List ℕ) (n : ℕ) → IsPrintableFront text n → ArePrintable (take n text)
-front-bytes text n h = take-printable text n h.within h.printable
+front-bytes text n h k lt = let low : k < n = omega (arith, length-take n text) in subst IsPrintable (sym (get_or-take n text k 0 low)) (h.printable k low)
 
 -- such a character is no control character
 pub printable-plain : (b : ℕ) → IsPrintable b → has_control (b ∷ []) ≡ false
@@ -280,71 +277,27 @@ printable-plain b p =
 
 -- ---- each grapheme of ASCII is a character, or a carriage return and a line feed
 
--- two characters of ASCII break, but for a carriage return before a line feed
-breaks_or_feeds : (l r : GraphemeClusterBreak) (rest : Bool) → is_ascii_kind l ≡ true → is_ascii_kind r ≡ true → rest ≡ true
-    → (unwrap_or (break_by_pair true l r) rest ≡ true) ⊎ (r ≡ Lf)
-breaks_or_feeds Control Control rest h g k = inl refl
-breaks_or_feeds Control Cr rest h g k = inl refl
-breaks_or_feeds Control Lf rest h g k = inr refl
-breaks_or_feeds Control Other rest h g k = inl refl
-breaks_or_feeds Control _ rest h g k = absurd (false≢true g)
-breaks_or_feeds Cr Control rest h g k = inl refl
-breaks_or_feeds Cr Cr rest h g k = inl refl
-breaks_or_feeds Cr Lf rest h g k = inr refl
-breaks_or_feeds Cr Other rest h g k = inl refl
-breaks_or_feeds Cr _ rest h g k = absurd (false≢true g)
-breaks_or_feeds Lf Control rest h g k = inl refl
-breaks_or_feeds Lf Cr rest h g k = inl refl
-breaks_or_feeds Lf Lf rest h g k = inr refl
-breaks_or_feeds Lf Other rest h g k = inl refl
-breaks_or_feeds Lf _ rest h g k = absurd (false≢true g)
-breaks_or_feeds Other Control rest h g k = inl refl
-breaks_or_feeds Other Cr rest h g k = inl refl
-breaks_or_feeds Other Lf rest h g k = inr refl
-breaks_or_feeds Other Other rest h g k = inl k
-breaks_or_feeds Other _ rest h g k = absurd (false≢true g)
-breaks_or_feeds _ r rest h g k = absurd (false≢true h)
-
-breaks_behind_feed : (r : GraphemeClusterBreak) (rest : Bool) → is_ascii_kind r ≡ true → unwrap_or (break_by_pair true Lf r) rest ≡ true
-breaks_behind_feed Control rest g = refl
-breaks_behind_feed Cr rest g = refl
-breaks_behind_feed Lf rest g = refl
-breaks_behind_feed Other rest g = refl
-breaks_behind_feed _ rest g = absurd (false≢true g)
-
 -- the characters are of ASCII
 abbrev pub AreAsciiChars : List ℕ → Type 0
 AreAsciiChars [] = Unit {0}
 AreAsciiChars (c ∷ cs) = (c < 0x80) × AreAsciiChars cs
 
-no_joiner : (v : GraphemeClusterBreak) → is_ascii_kind v ≡ true → is_zwj v ≡ false
-no_joiner Control h = refl
-no_joiner Cr h = refl
-no_joiner Lf h = refl
-no_joiner Other h = refl
-no_joiner _ h = absurd (false≢true h)
-
-rest_breaks : (b next : ℕ) → b < 0x80 → next < 0x80
-    → not ((true && joins_conjunct (b ∷ []) next) || joins_emoji (b ∷ []) next || joins_flag (b ∷ []) next) ≡ true
-unfolding ends_in_linker
-rest_breaks b next below lower =
-    rw (is_no_conjunct b below, no_joiner (grapheme_cluster_break b) (is_ascii_kind-of b below), no_regional (grapheme_cluster_break next) (is_ascii_kind-of next lower), and-false) refl
-
+-- two characters of ASCII break, but for a carriage return before a line feed
 ascii-pair : (b next : ℕ) (after : List ℕ) → b < 0x80 → next < 0x80 → (is_grapheme_break true (b ∷ []) (next ∷ after) ≡ true) ⊎ (grapheme_cluster_break next ≡ Lf)
 unfolding is_grapheme_break
 ascii-pair b next after below lower =
-    breaks_or_feeds (grapheme_cluster_break b) (grapheme_cluster_break next) _ (is_ascii_kind-of b below) (is_ascii_kind-of next lower) (rest_breaks b next below lower)
+    of_ascii (λ l. (unwrap_or (break_by_pair true l (grapheme_cluster_break next)) (unjoined b next) ≡ true) ⊎ (grapheme_cluster_break next ≡ Lf))
+    (of_ascii (λ r. (unwrap_or (break_by_pair true Control r) (unjoined b next) ≡ true) ⊎ (r ≡ Lf)) (inl refl) (inl refl) (inr refl) (inl refl) next lower)
+    (of_ascii (λ r. (unwrap_or (break_by_pair true Cr r) (unjoined b next) ≡ true) ⊎ (r ≡ Lf)) (inl refl) (inl refl) (inr refl) (inl refl) next lower)
+    (of_ascii (λ r. (unwrap_or (break_by_pair true Lf r) (unjoined b next) ≡ true) ⊎ (r ≡ Lf)) (inl refl) (inl refl) (inr refl) (inl refl) next lower)
+    (of_ascii (λ r. (unwrap_or (break_by_pair true Other r) (unjoined b next) ≡ true) ⊎ (r ≡ Lf)) (inl refl) (inl refl) (inr refl) (inl (unjoined-ascii b next below lower)) next lower)
+    b below
 
 behind-feed : (b : ℕ) (cs : List ℕ) → grapheme_cluster_break b ≡ Lf → AreAsciiChars cs → is_grapheme_break true (b ∷ []) cs ≡ true
 unfolding is_grapheme_break
 behind-feed b [] feed low = refl
 behind-feed b (c ∷ cs) feed low =
-    let rest : Bool = not ((true && joins_conjunct (b ∷ []) c) || joins_emoji (b ∷ []) c || joins_flag (b ∷ []) c) in
-    ap (λ v. unwrap_or (break_by_pair true v (grapheme_cluster_break c)) rest) feed ∙ breaks_behind_feed (grapheme_cluster_break c) rest (is_ascii_kind-of c low.0)
-
-cut-broken : (b : ℕ) (cs : List ℕ) → b < 0x80 → is_grapheme_break true (b ∷ []) cs ≡ true → cut (is_grapheme_break true) [] (b ∷ cs) [] ≡ (b ∷ []) ∷ cut (is_grapheme_break true) [] cs []
-unfolding cut
-cut-broken b cs below broken = rw (append-nil cs, broken) (ap (λ t. (b ∷ []) ∷ t) (cut-past b below [] cs []))
+    ap (λ v. unwrap_or (break_by_pair true v (grapheme_cluster_break c)) (unjoined b c)) feed ∙ of_ascii (λ r. unwrap_or (break_by_pair true Lf r) (unjoined b c) ≡ true) refl refl refl refl c low.0
 
 cut-none : cut (is_grapheme_break true) [] [] [] ≡ []
 unfolding cut

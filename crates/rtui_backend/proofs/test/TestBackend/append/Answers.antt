@@ -1,11 +1,11 @@
-use Rattle.std.proofs.Common.{◌≡◌, ◌+◌, ◌*◌, ◌++◌, length, map, refl, ap, ◌∙◌, arith, mul_comm}
+use Rattle.std.proofs.Common.{◌≡◌, ◌+◌, ◌*◌, length, map, refl, ◌∙◌, arith, mul_comm}
 use Rattle.std.specs.List.{range_with_len}
-use Rattle.std.proofs.lemmas.{List.map-append, Bool.Decides.nat_tests, Grind.common_steps}
+use Rattle.std.proofs.lemmas.{Bool.Decides.nat_tests, Grind.common_steps}
 use Rattle.rtui_cell.specs.{Look.look_of, Cell.empty_cell}
 use Rattle.rtui_buffer.specs.BufferData.{refilled}
 use Rattle.rtui_backend.specs.{CellGrid.look_at, Screen.lines_past, Screen.scrolling_up, TestBackend.screen_of}
 use Rattle.rtui_grid.proofs.MoveLemmas.{rows_raised}
-use Rattle.rtui_backend.proofs.ShiftLemmas.{unmarked_moved, unmarked_rows, rows_are, grid_moved}
+use Rattle.rtui_backend.proofs.ShiftLemmas.{unmarked_moved, unmarked_rows, rows_are, looks_behind, grid_moved}
 use Rattle.rtui_backend.proofs.test.TestBackend.append.Goals as goal
 
 pub returns-clause-ok : goal.returns-clause-ok
@@ -26,10 +26,7 @@ returns-clause-ok c =
     let moved = rw (c.cells_mut-cells.ensures.cells, end, c.from-4.ensures, c.area-area.ensures.area, count) at c.shift_up.ensures in
     record {
       scrolled = record {
-        history =
-            ap (map (λ r. map look_of r.items)) c.in_ok-append.ensures.items
-            ∙ map-append (λ r. map look_of r.items) s.scrollback.items c.in_ok-rows.rows.items
-            ∙ ap (λ rs. map (λ r. map look_of r.items) s.scrollback.items ++ rs) (rows ∙ rows_are w h cells size past);
+        history = looks_behind (λ r. map look_of r.items) s.scrollback.items _ c.in_ok-rows.rows.items _ c.in_ok-append.ensures.items (rows ∙ rows_are w h cells size past);
         width = refl;
         height = refl;
         grid = λ a b a_in b_in. rw items (grid_moved (scrolling_up 0 h past) w a b cells new a_in (rows_raised empty_cell w a a_in cells new 0 h past (rw top moved) b) ∙ grind (arith, nat_tests));

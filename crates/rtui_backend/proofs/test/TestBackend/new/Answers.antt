@@ -1,6 +1,6 @@
 use Rattle.std.proofs.Common.{refl, arith}
 use Rattle.std.proofs.lemmas.Grind.{common_steps}
-use Rattle.rtui_backend.proofs.LookLemmas.{grid_of-empty}
+use Rattle.rtui_backend.proofs.LineLemmas.{grid_of-empty}
 use Rattle.rtui_backend.proofs.test.TestBackend.new.Goals as goal
 
 pub returns-clause-screen : goal.returns-clause-screen

@@ -1,11 +1,11 @@
-use Rattle.std.proofs.Common.{◌≡◌, ◌+◌, ◌*◌, ◌++◌, ◌==◌, true, min, nat_lt, length, take, map, [], if◌then◌else◌, refl, ap, ◌∙◌, arith}
+use Rattle.std.proofs.Common.{◌≡◌, ◌+◌, ◌*◌, ◌==◌, true, min, nat_lt, length, take, map, [], if◌then◌else◌, refl, ◌∙◌, arith}
 use Rattle.std.specs.List.{range_with_len}
-use Rattle.std.proofs.lemmas.{List.map-append, Bool.Decides.nat_tests, Grind.common_steps}
+use Rattle.std.proofs.lemmas.{Bool.Decides.nat_tests, Grind.common_steps}
 use Rattle.rtui_cell.specs.{Look.look_of, Cell.empty_cell}
 use Rattle.rtui_grid.proofs.MoveLemmas.{rows_raised}
 use Rattle.rtui_backend.specs.{Screen.scrolling_up, CellGrid.look_at}
 use Rattle.rtui_buffer.specs.BufferData.{refilled}
-use Rattle.rtui_backend.proofs.ShiftLemmas.{unmarked_moved, unmarked_rows, unmarked_front, grid_moved, rows_left, history_left}
+use Rattle.rtui_backend.proofs.ShiftLemmas.{unmarked_moved, unmarked_rows, unmarked_front, grid_moved, rows_left, looks_behind, history_left}
 use Rattle.rtui_backend.proofs.test.TestBackend.scroll_up.Goals as goal
 
 pub returns-clause-ok : goal.returns-clause-ok
@@ -27,9 +27,7 @@ returns-clause-ok c =
     rw (c.content.ensures.cells, c.from.ensures, c.from-width.ensures, end, c.area-area.ensures.area) at c.in_ok-rows.ensures.looks in
     record {
       history =
-          ap (map (λ r. map look_of r.items)) c.in_ok-append.ensures.items
-          ∙ map-append (λ r. map look_of r.items) s.scrollback.items c.in_ok-rows.rows.items
-          ∙ ap (λ rs. map (λ r. map look_of r.items) s.scrollback.items ++ rs) rows
+          looks_behind (λ r. map look_of r.items) s.scrollback.items _ c.in_ok-rows.rows.items _ c.in_ok-append.ensures.items rows
           ∙ history_left (map (λ r. map look_of r.items) s.scrollback.items) (a == 0) (nat_lt 0 e) some (rows_left w h e cells size (omega arith) c.args.n);
       width = refl;
       height = refl;

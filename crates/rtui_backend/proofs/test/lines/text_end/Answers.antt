@@ -1,53 +1,38 @@
-use Rattle.std.proofs.Common.{◌≡◌, ◌<◌, ◌∷◌, [], sym, ◌∙◌, rules, arith}
+use Rattle.std.proofs.Common.{◌≡◌, [], sym, ◌∙◌, rules, arith}
 use Rattle.std.proofs.lemmas.Bool.{false≢true}
 use Rattle.unicode_segmentation.specs.Iter.{graphemes_left}
-use Rattle.rtui_buffer.specs.Painting.{painted_width}
 use Rattle.rtui_buffer.proofs.PaintLemmas.{painted_width-painted}
 use Rattle.rtui_backend.proofs.WalkLemmas.{text-end, text-skip, text-full, text-not, text-take}
 use Rattle.rtui_backend.proofs.test.lines.text_end.Goals as goal
 
 pub loop-grapheme-preserved-then-width-eq0 : goal.loop-grapheme-preserved-then-width-eq0
-loop-grapheme-preserved-then-width-eq0 c =
-    let is : graphemes_left c.loop-grapheme.grapheme-iterator ≡ c.in-Some.grapheme.now ∷ graphemes_left c.next.new.self = search rules in
-    let width : c.from-width.result ≡ painted_width c.in-Some.grapheme.now = c.from-width.ensures ∙ c.painted_width.ensures in
-    record {
-      can = search rules;
-      ends = search rules;
-      within = c.loop-grapheme.invariant.within;
-      left = text-skip _ _ _ _ _ _ c.loop-grapheme.invariant.left _ _ is (omega arith);
-    }
+loop-grapheme-preserved-then-width-eq0 c = record {
+  can = search rules;
+  ends = search rules;
+  within = c.loop-grapheme.invariant.within;
+  left = text-skip _ _ _ _ _ _ c.loop-grapheme.invariant.left c.in-Some.grapheme.now (graphemes_left c.next.new.self) (search rules) c.from-width.result (c.from-width.ensures ∙ c.painted_width.ensures) (omega arith);
+}
 
 pub returns-then-width-row-clause-end : goal.returns-then-width-row-clause-end
 returns-then-width-row-clause-end c =
-    let is : graphemes_left c.loop-grapheme.grapheme-iterator ≡ c.in-Some.grapheme.now ∷ graphemes_left c.next.new.self = search rules in
-    let width : c.from-width.result ≡ painted_width c.in-Some.grapheme.now = c.from-width.ensures ∙ c.painted_width.ensures in
-    let some : 0 < painted_width c.in-Some.grapheme.now = omega arith in
-    text-full _ _ _ _ _ _ c.loop-grapheme.invariant.left _ _ is some (omega (arith, painted_width-painted c.in-Some.grapheme.now some))
+    text-full _ _ _ _ _ _ c.loop-grapheme.invariant.left c.in-Some.grapheme.now (graphemes_left c.next.new.self) (search rules) c.from-width.result (c.from-width.ensures ∙ c.painted_width.ensures) (omega arith) (omega arith)
 
 pub is_piece-requires-clause-width : goal.is_piece-requires-clause-width
-is_piece-requires-clause-width c =
-    let width : c.from-width.result ≡ painted_width c.in-Some.grapheme.now = c.from-width.ensures ∙ c.painted_width.ensures in
-    width ∙ painted_width-painted c.in-Some.grapheme.now (omega arith)
+is_piece-requires-clause-width c = c.from-width.ensures ∙ c.painted_width.ensures ∙ painted_width-painted c.in-Some.grapheme.now (omega (arith, c.from-width.ensures, c.painted_width.ensures))
 
 pub returns-then-not-is_piece-clause-end : goal.returns-then-not-is_piece-clause-end
 returns-then-not-is_piece-clause-end c =
-    let is : graphemes_left c.loop-grapheme.grapheme-iterator ≡ c.in-Some.grapheme.now ∷ graphemes_left c.next.new.self = search rules in
-    let width : c.from-width.result ≡ painted_width c.in-Some.grapheme.now = c.from-width.ensures ∙ c.painted_width.ensures in
-    let some : 0 < painted_width c.in-Some.grapheme.now = omega arith in
-    text-not _ _ _ _ _ _ c.loop-grapheme.invariant.left _ _ is some (omega (arith, painted_width-painted c.in-Some.grapheme.now some)) (λ has. false≢true (sym c.if-not-is_piece.true ∙ c.is_piece.ensures.1 has))
+    text-not _ _ _ _ _ _ c.loop-grapheme.invariant.left c.in-Some.grapheme.now (graphemes_left c.next.new.self) (search rules) c.from-width.result (c.from-width.ensures ∙ c.painted_width.ensures) (omega arith) (omega arith)
+    (λ has. false≢true (sym c.if-not-is_piece.true ∙ c.is_piece.ensures.1 has))
 
 pub loop-grapheme-preserved : goal.loop-grapheme-preserved
-loop-grapheme-preserved c =
-    let is : graphemes_left c.loop-grapheme.grapheme-iterator ≡ c.in-Some.grapheme.now ∷ graphemes_left c.next.new.self = search rules in
-    let width : c.from-width.result ≡ painted_width c.in-Some.grapheme.now = c.from-width.ensures ∙ c.painted_width.ensures in
-    let some : 0 < painted_width c.in-Some.grapheme.now = omega arith in
-    let same = painted_width-painted c.in-Some.grapheme.now some in
-    record {
-      can = search rules;
-      ends = search rules;
-      within = omega arith;
-      left = text-take _ _ _ _ _ _ c.loop-grapheme.invariant.left _ _ is _ (width ∙ same) some (omega arith) (c.is_piece.ensures.0 c.if-not-is_piece.false);
-    }
+loop-grapheme-preserved c = record {
+  can = search rules;
+  ends = search rules;
+  within = omega arith;
+  left = text-take _ _ _ _ _ _ c.loop-grapheme.invariant.left c.in-Some.grapheme.now (graphemes_left c.next.new.self) (search rules) c.from-width.result (c.from-width.ensures ∙ c.painted_width.ensures) (omega arith) (omega arith)
+      (c.is_piece.ensures.0 c.if-not-is_piece.false);
+}
 
 pub returns-clause-end : goal.returns-clause-end
 returns-clause-end c = text-end _ _ _ _ _ _ c.loop-grapheme.invariant.left (let none : graphemes_left c.loop-grapheme.grapheme-iterator ≡ [] = search rules in none)

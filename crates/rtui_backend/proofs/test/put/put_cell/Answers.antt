@@ -1,6 +1,6 @@
 use Rattle.std.proofs.Common.{◌+◌, ◌*◌, ◌<◌, length, arith, false}
 use Rattle.std.proofs.lemmas.{Bool.Decides.nat_tests, Grind.common_steps}
-use Rattle.rtui_backend.proofs.{LookLemmas.look_at-set, PutLemmas.put_shows, ShiftLemmas.look_emptied, ShiftLemmas.unmarked_moved}
+use Rattle.rtui_backend.proofs.{LineLemmas.look_at-set, PutLemmas.put_shows, ShiftLemmas.look_emptied, ShiftLemmas.unmarked_moved}
 use Rattle.rtui_backend.proofs.PlainLemmas.{unmarked_set, unmarked-empty}
 use Rattle.rtui_cell.specs.Cell.{empty_cell}
 use Rattle.rtui_backend.proofs.test.put.put_cell.Goals as goal
