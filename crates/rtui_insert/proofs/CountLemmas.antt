@@ -51,6 +51,17 @@ given_count ps ns (suc k) s i =
     either true is le = omega arith
     either false is le = omega arith
 
+-- what is drawn in two steps
+pub writes_then : (a b c : ℕ) (old mid new : Screen) → a + b ≤ c → WritesAtMost a old mid → WritesAtMost b mid new → WritesAtMost c old new
+writes_then a b c old mid new all first next room = let so_far = first (omega (arith, all, room)) in omega (arith, all, so_far, next (omega (arith, all, so_far, room)))
+
+-- a step that draws nothing, before it and after it
+pub writes_after : (n : ℕ) (old mid new : Screen) → mid.written ≡ old.written → WritesAtMost n mid new → WritesAtMost n old new
+writes_after n old mid new same next room = omega (arith, same, next (omega (arith, same, room)))
+
+pub writes_before : (n : ℕ) (old mid new : Screen) → new.written ≡ mid.written → WritesAtMost n old mid → WritesAtMost n old new
+writes_before n old mid new same first room = omega (arith, same, first room)
+
 module _ {former s : BufferData} {i n y : ℕ} {old new : Screen} (draws : DrawsRows former s i n y old new) where
   by_updates : (m : ℕ) → length draws.updates ≤ m → WritesAtMost m old new
   by_updates m le room =

@@ -8,7 +8,7 @@ use Rattle.rtui_insert.specs.Rows.{IsBlankFor, DrawsRows, DrawsFirstRow, RowsFit
 use Rattle.rtui_insert.specs.{Insertion.KeepsSizeAndVisibility, Insertion.AppendsPart, Scrolling.HasPushed, Scrolling.HasRaised, Scrolling.HasLowered}
 use Rattle.rtui_backend.proofs.RegionLemmas.{above_scrolled, blank_scrolled, below_scrolled, above_lowered, blank_lowered, moved_lowered, below_lowered}
 use Rattle.rtui_insert.proofs.ShownLemmas.{ShowsRows, above_grown, parts_join, rows_shown, blank_first, unknown_first}
-use Rattle.rtui_insert.proofs.CountLemmas.{writes_rows, writes_nonempty, nonempty_parts}
+use Rattle.rtui_insert.proofs.CountLemmas.{writes_rows, writes_nonempty, writes_then, writes_after, writes_before, nonempty_parts}
 use Rattle.rtui_backend.proofs.ScrollLemmas.{above_same}
 
 same_shape : (s : Screen) → KeepsSizeAndVisibility s s
@@ -32,10 +32,6 @@ still_blank {m} {s} {old} {new} is emptied = record {
 -- no rows have no cells
 no_cells : (s : BufferData) (i : ℕ) → nonempty_cells s i 0 ≡ 0
 no_cells s i = let none : s.area.width * 0 ≡ 0 = omega arith in rw none refl
-
--- the cells of k rows and of n more
-pub more_rows : (w k n : ℕ) → w * (k + n) ≡ w * k + w * n
-more_rows w k n = omega arith
 
 -- nothing yet
 pub pushed_none : (s : BufferData) (q : Screen) → HasPushed s 0 q q
@@ -73,12 +69,8 @@ module _ (s : BufferData) (k : ℕ) (old cur mid new : Screen) (before : HasPush
         below = λ a b a_in b_in low.
             below_scrolled (omega arith) some up a b (omega (arith, shown.width, before.shape.width)) (omega (arith, shown.height, before.shape.height)) (omega arith)
             ∙ shown.outside a b (inr (omega arith)) ∙ before.below a b a_in b_in low;
-        few = λ narrow room. let le = few narrow room in omega (arith, le, up.written);
-        most = λ room.
-            let parts : s.area.width * (k + 1) ≡ s.area.width * k + s.area.width * 1 = more_rows s.area.width k 1 in
-            let so_far : cur.written ≤ old.written + s.area.width * k = before.most (omega (arith, parts)) in
-            let last : mid.written ≤ cur.written + s.area.width * 1 = row (omega (arith, parts, so_far)) in
-            omega (arith, parts, so_far, last, up.written);
+        few = λ narrow. writes_before _ old mid new up.written (few narrow);
+        most = writes_before _ old mid new up.written (writes_then _ _ _ old cur mid (omega arith) before.most row);
       }
 
   -- the first one, whatever stood there
@@ -90,14 +82,10 @@ module _ (s : BufferData) (k : ℕ) (old cur mid new : Screen) (before : HasPush
         settled = settled;
         shown = unknown_first drew.former cur drew.unknown;
       }) in
-      pushed_one (subst (λ j. ShowsRows s j 1 0 cur mid) (sym first) shown) (subst (λ w. WritesAtMost (w * 1) cur mid) (sym drew.width) (writes_rows drew.drawn)) (λ narrow room.
-      let w : ℕ = s.area.width in
-      let one : drew.former.area.width * 1 ≡ s.area.width = omega (arith, drew.width) in
+      pushed_one (subst (λ j. ShowsRows s j 1 0 cur mid) (sym first) shown) (subst (λ w. WritesAtMost (w * 1) cur mid) (sym drew.width) (writes_rows drew.drawn)) (λ narrow.
       let whole : min (k + 1) 1 * s.area.width ≡ s.area.width = ap (λ m. m * s.area.width) (let e : min (k + 1) 1 ≡ 1 = omega arith in e) ∙ omega arith in
       let none : min k 1 * s.area.width + nonempty_cells s 0 k ≡ 0 = ap (λ j. min j 1 * s.area.width + nonempty_cells s 0 j) first ∙ omega (arith, no_cells s 0) in
-      let so_far : cur.written ≤ old.written + (min k 1 * s.area.width + nonempty_cells s 0 k) = before.few narrow (omega (arith, none)) in
-      let row : mid.written ≤ cur.written + drew.former.area.width * 1 = writes_rows drew.drawn (omega (arith, one, none, so_far, whole)) in
-      omega (arith, one, none, so_far, whole, row))
+      writes_then _ _ _ old cur mid (omega (arith, drew.width, none, whole)) (before.few narrow) (writes_rows drew.drawn))
 
   -- any further one, over the row that is blank then
   pub pushed_next : {m : ℕ} (blank : BufferData) → IsBlankFor m s blank → 0 < k → DrawsRows blank s k 1 0 cur mid → HasPushed s (k + 1) old new
@@ -109,14 +97,12 @@ module _ (s : BufferData) (k : ℕ) (old cur mid new : Screen) (before : HasPush
         settled = settled;
         shown = blank_first blank 1 0 cur is.empty (sym wide ∙ fit_now.width) (before.blank more);
       }) in
-      pushed_one shown (subst (λ w. WritesAtMost (w * 1) cur mid) (sym wide) (writes_rows drew)) (λ narrow room.
+      pushed_one shown (subst (λ w. WritesAtMost (w * 1) cur mid) (sym wide) (writes_rows drew)) (λ narrow.
       let same : min (k + 1) 1 ≡ min k 1 = omega arith in
       let whole : min (k + 1) 1 * s.area.width ≡ min k 1 * s.area.width = ap (λ m. m * s.area.width) same in
       let place : 0 + k ≡ k = omega arith in
       let parts : nonempty_cells s 0 (k + 1) ≡ nonempty_cells s 0 k + nonempty_cells s k 1 = nonempty_parts s 0 k 1 ∙ ap (λ j. nonempty_cells s 0 k + nonempty_cells s j 1) place in
-      let so_far : cur.written ≤ old.written + (min k 1 * s.area.width + nonempty_cells s 0 k) = before.few narrow (omega (arith, parts, whole)) in
-      let row : mid.written ≤ cur.written + nonempty_cells s k 1 = writes_nonempty drew wide is.empty narrow (omega (arith, parts, whole, so_far)) in
-      omega (arith, parts, whole, so_far, row))
+      writes_then _ _ _ old cur mid (omega (arith, parts, whole)) (before.few narrow) (writes_nonempty drew wide is.empty narrow))
 
 -- the rows above row d scrolled up by t, and t rows more drawn above it
 module _ (s : BufferData) (i n j d t : ℕ) (old cur mid new : Screen) (j_is : j ≡ i + n) (before : HasRaised s i n d old cur) (width : s.area.width ≡ old.width) (fits : d ≤ old.height) (settled : IsSettledBuffer s)
@@ -151,16 +137,12 @@ module _ (s : BufferData) (i n j d t : ℕ) (old cur mid new : Screen) (j_is : j
         shown.outside a b (inr (omega arith))
         ∙ below_scrolled some high up a b (omega (arith, before.shape.width)) (omega (arith, before.shape.height)) low
         ∙ before.below a b a_in b_in low;
-    few = λ narrow room.
+    few = λ narrow.
         let parts : nonempty_cells s i (n + t) ≡ nonempty_cells s i n + nonempty_cells s j t = nonempty_parts s i n t ∙ ap (λ e. nonempty_cells s i n + nonempty_cells s e t) (sym j_is) in
-        let so_far : cur.written ≤ old.written + nonempty_cells s i n = before.few narrow (omega (arith, parts)) in
-        let rows : new.written ≤ mid.written + nonempty_cells s j t = writes_nonempty drew is.width is.empty narrow (omega (arith, parts, so_far, up.written)) in
-        omega (arith, parts, so_far, rows, up.written);
-    most = λ room.
-        let parts : s.area.width * (n + t) ≡ s.area.width * n + s.area.width * t = more_rows s.area.width n t in
-        let so_far : cur.written ≤ old.written + s.area.width * n = before.most (omega (arith, parts)) in
-        let rows : new.written ≤ mid.written + s.area.width * t = subst (λ w. WritesAtMost (w * t) mid new) (sym is.width) (writes_rows drew) (omega (arith, parts, so_far, up.written)) in
-        omega (arith, parts, so_far, rows, up.written);
+        writes_then _ _ _ old cur new (omega (arith, parts)) (before.few narrow) (writes_after _ cur mid new up.written (writes_nonempty drew is.width is.empty narrow));
+    most =
+        let rows : WritesAtMost (s.area.width * t) mid new = subst (λ w. WritesAtMost (w * t) mid new) (sym is.width) (writes_rows drew) in
+        writes_then _ _ _ old cur new (omega arith) before.most (writes_after _ cur mid new up.written rows);
   }
 
 -- a viewport's rows moved down by n, and n rows drawn where it stood
@@ -186,10 +168,8 @@ module _ (s : BufferData) (n : ℕ) (r : Rect) (old mid new : Screen) (width : s
         (above_grown s 0 n r.y mid new drawn.history drawn.width drawn.height (λ a b a_in b_in. (drawn.shown a b a_in b_in).look) (λ a b low. drawn.outside a b (inl low)) fit_mid);
     moved = λ a b a_in b_in. drawn.outside a (r.y + n + b) (inr (omega arith)) ∙ moved_lowered down (omega arith) a b a_in (omega arith);
     below = λ a b a_in b_in low. drawn.outside a b (inr (omega arith)) ∙ below_lowered down a b a_in b_in (omega arith);
-    few = λ narrow room. let rows : new.written ≤ mid.written + nonempty_cells s 0 n = writes_nonempty drew is.width is.empty narrow (omega (arith, down.written)) in omega (arith, rows, down.written);
-    most = λ room.
-        let rows : new.written ≤ mid.written + s.area.width * n = subst (λ w. WritesAtMost (w * n) mid new) (sym is.width) (writes_rows drew) (omega (arith, down.written)) in
-        omega (arith, rows, down.written);
+    few = λ narrow. writes_after _ old mid new down.written (writes_nonempty drew is.width is.empty narrow);
+    most = writes_after _ old mid new down.written (subst (λ w. WritesAtMost (w * n) mid new) (sym is.width) (writes_rows drew));
   }
 
 pub raised_by : (s : BufferData) (i n m d : ℕ) (old new : Screen) → n ≡ m → HasRaised s i m d old new → HasRaised s i n d old new

@@ -10,13 +10,13 @@ use Rattle.rtui_diff.specs.{Cells.cell, Cells.cell_at, Settled.IsSettled, Settle
 use Rattle.rtui_diff.specs.DiffRule.{Walk, given, give, gives, step, start}
 use Rattle.rtui_diff.specs.Updates.{update_at, updates}
 use Rattle.rtui_diff.proofs.{DiffPromise.is_diff, FrameLemmas.row_end, FrameLemmas.row_in}
-use Rattle.rtui_buffer.specs.{BufferData.BufferData, BufferData.IsEmptied, BufferData.area_size, Shown.IsSettledBuffer}
-use Rattle.rtui_buffer.proofs.EmptyLemmas.{cell-empty}
+use Rattle.rtui_buffer.specs.{BufferData.BufferData, BufferData.IsEmptied, Shown.IsSettledBuffer}
 use Rattle.rtui_backend.specs.Screen.{Screen, seen, row_of, rows_above, Draws}
 use Rattle.rtui_buffer.specs.RowsDiff.{part_cells, IsRowsDiff}
 use Rattle.rtui_insert.specs.Rows.{DrawsRows, IsUnknownRow, RowsFit, lowered_update, IsBlankAt}
 use Rattle.rtui_insert.specs.Insertion.{AppendsPart}
 use Rattle.rtui_grid.proofs.RangeLemmas.{range_split, same_places}
+use Rattle.rtui_insert.proofs.MarkLemmas.{part_of_empty}
 
 -- the first n rows of a buffer are settled, and a screen shows them at row y
 pub record ShowsFirst (s : BufferData) (n y : ℕ) (screen : Screen) : Type 0 where
@@ -93,24 +93,24 @@ module _ (s : BufferData) (i n : ℕ) where
 
 -- the cells of a part of an empty buffer
 module _ (s : BufferData) (emptied : IsEmptied s.area s) (i n : ℕ) where
-  part_empty : (a b : ℕ) → a < s.area.width → b < n → cell_at s.area.width (part_cells s i n) a b ≡ empty_cell
-  part_empty a b a_in b_in = part_cell s i n a b a_in b_in ∙ rw emptied.cells (cell-empty (area_size s.area) ((i + b) * s.area.width + a))
+  part_empty : (a b : ℕ) → cell_at s.area.width (part_cells s i n) a b ≡ empty_cell
+  part_empty a b = part_of_empty s.area s emptied i n (b * s.area.width + a)
 
-  one_column : (a b : ℕ) → a < s.area.width → b < n → width_of (cell_at s.area.width (part_cells s i n) a b) ≡ 1
-  one_column a b a_in b_in = ap width_of (part_empty a b a_in b_in) ∙ width-empty
+  one_column : (a b : ℕ) → width_of (cell_at s.area.width (part_cells s i n) a b) ≡ 1
+  one_column a b = ap width_of (part_empty a b) ∙ width-empty
 
   pub empty_settled : IsSettled s.area.width n (part_cells s i n)
   empty_settled = record {
-    skipped = λ a b a_in b_in skip. let one = one_column a b a_in b_in in omega arith;
-    within = λ a b a_in b_in plain. let one = one_column a b a_in b_in in omega arith;
-    behind = λ a b k a_in b_in plain more less. let one = one_column a b a_in b_in in absurd (omega arith);
+    skipped = λ a b a_in b_in skip. omega (arith, one_column a b);
+    within = λ a b a_in b_in plain. omega (arith, one_column a b);
+    behind = λ a b k a_in b_in plain more less. absurd (omega (arith, one_column a b));
   }
 
   pub empty_shows : (y : ℕ) (screen : Screen) → s.area.width ≡ screen.width → IsBlankAt n y screen → Shows 0 y s.area.width n (part_cells s i n) screen.grid
   empty_shows y screen wide blank = record {
     at = λ a b a_in b_in. record {
-      look = λ plain. ap (λ x. screen.grid x (y + b)) (zero_and a) ∙ blank.at a b (omega arith) b_in ∙ sym (ap look_of (part_empty a b a_in b_in) ∙ look-empty);
-      behind = λ j before plain covers. let one = one_column j b (omega arith) b_in in absurd (omega arith);
+      look = λ plain. ap (λ x. screen.grid x (y + b)) (zero_and a) ∙ blank.at a b (omega arith) b_in ∙ sym (ap look_of (part_empty a b) ∙ look-empty);
+      behind = λ j before plain covers. absurd (omega (arith, one_column j b));
     };
   }
 

@@ -5,14 +5,13 @@ use Rattle.rtui_cell.specs.{Look.Look, Grid.Grid}
 use Rattle.rtui_diff.specs.Shows.{ShowsColumn}
 use Rattle.rtui_buffer.specs.{BufferData.BufferData, BufferData.IsEmptied, Shown.IsSettledBuffer, Shown.ShowsBuffer}
 use Rattle.rtui_backend.specs.Screen.{Screen, KeepsSizeAndHistory, IsOnScreen, screen_area, with_visible, with_cursor}
-use Rattle.rtui_viewport.specs.{Viewports.IsFixed, Viewports.IsInline, declared.viewport.Viewport.Viewport}
-use Rattle.rtui_viewport.specs.declared.viewport.Viewport.TheVariants.{Fullscreen, Inline, Fixed}
+use Rattle.rtui_viewport.specs.{Viewports.IsFixed, Viewports.IsInline}
 use Rattle.rtui_insert.specs.Insertion.{AreRowsOfAll, AppendsRows}
 use Rattle.rtui_terminal.specs.{TerminalData.TerminalData, Cursor.Stays, Cursor.MovesCursor, Resizing.Resizes, Resizing.Autoresizes}
 use Rattle.rtui_terminal.specs.InStep.{IsReady, IsInStep, IsSized, KeepsAroundViewport, rows_over}
 use Rattle.rtui_terminal.specs.{Writing.Applies, Writing.HasDrawn, Writing.cursor_placed, Drawing.DrawsFrame}
 use Rattle.rtui_terminal.specs.Headline.{Call, Draw, Apply, Insert, Clear, Resize, Autoresize, HideCursor, ShowCursor, SetCursor, Ask, Paint, Refuse, Event, Along, last_state, inserted_by, inserted_along, MayTakeSize, Does, IsFair, HasKnownSize, IsSteady, IsKeptOrEmptied, Leaves, IsFaithful}
-use Rattle.rtui_terminal.proofs.{StepLemmas.on_same, KeepLemmas.rest_of, KeepLemmas.size_more, KeepLemmas.placed_size}
+use Rattle.rtui_terminal.proofs.{StepLemmas.on_same, StepLemmas.not_both, KeepLemmas.rest_of, KeepLemmas.size_more, KeepLemmas.placed_size}
 
 none_appended : (old new : List (List Look)) → new ≡ old → AppendsRows [] old new
 none_appended old new e = record { rows = []; appended = e ∙ sym (append-nil old); agree = refl }
@@ -28,11 +27,6 @@ appends_more ss ts a b c p q = record {
   appended = q.appended ∙ ap (λ xs. xs ++ q.rows) p.appended ∙ append_assoc a p.rows q.rows;
   agree = all_append ss ts p.rows q.rows p.agree q.agree;
 }
-
-pub not_both : (kind : Viewport) → IsInline kind → IsFixed kind → ⊥
-not_both Fullscreen inline fixed = inline
-not_both (Inline n) inline fixed = fixed
-not_both (Fixed r) inline fixed = inline
 
 area_same : (old new : Screen) → KeepsSizeAndHistory old new → screen_area new ≡ screen_area old
 area_same old new size = rw (size.width, size.height) refl
@@ -71,6 +65,9 @@ module _ {B : Type 0} (screen : B → Screen) where
     size = record { width = ap (λ (x : Screen). x.width) stays.screen_stays; height = ap (λ (x : Screen). x.height) stays.screen_stays; history = ap (λ (x : Screen). x.history) stays.screen_stays };
     grid = λ a b. ap (λ (x : Screen). x.grid a b) stays.screen_stays;
   }
+
+  pub stays_step : (s t : TerminalData B) → Stays screen s t → IsInStep screen s → IsInStep screen t
+  stays_step s t stays = kept_step s t (stays_keeps s t stays)
 
   keeps_current : (s t : TerminalData B) → t ≡ record s { current = t.current } → Keeps s t
   keeps_current s t e = record {

@@ -15,7 +15,7 @@ use Rattle.rtui_insert.specs.Insertion.{AppendsRows, KeepsSizeAndVisibility, Has
 use Rattle.rtui_insert.specs.Scrolling.{HasPushed, HasRaised, HasLowered, PushesRows, InsertsDown, InsertsUp, rows_down}
 use Rattle.rtui_terminal.specs.{InStep.IsInStep, InStep.rows_over, Insertion.inserted_area, Insertion.TakesRows}
 use Rattle.rtui_insert.proofs.ShownLemmas.{ShowsRows, parts_join, rows_shown, blank_first}
-use Rattle.rtui_insert.proofs.{CountLemmas.writes_rows, CountLemmas.nonempty_parts, PushLemmas.more_rows, PushLemmas.no_part}
+use Rattle.rtui_insert.proofs.{CountLemmas.writes_rows, CountLemmas.writes_then, CountLemmas.nonempty_parts, PushLemmas.no_part}
 use Rattle.rtui_terminal.specs.Insertion.{Inserts, StopsInserting, InsertsBy}
 
 -- all rows of a buffer were appended
@@ -131,20 +131,13 @@ module _ {B : Type 0} (screen : B → Screen) (s : TerminalData B) (inserted : B
         settled = step.settled;
         shown = shown_again takes step settled;
       };
-      few = λ takes step settled narrow room.
+      few = λ takes step settled narrow.
           let covered : (if nat_lt s.viewport_area.height s.last_known_area.height then 0 else 2 * inserted.area.width) ≡ 2 * inserted.area.width = grind (arith, nat_tests) in
           let once : min inserted.area.height 1 * inserted.area.width ≡ inserted.area.width = ap (λ m. m * inserted.area.width) (let one : min inserted.area.height 1 ≡ 1 = omega arith in one) ∙ omega arith in
-          let columns : blank.area.width * 1 ≡ inserted.area.width = omega (arith, is.width) in
-          let pushes : (screen mid).written ≤ (screen s.backend).written + (min inserted.area.height 1 * inserted.area.width + nonempty_cells inserted 0 inserted.area.height) =
-          (has_pushed takes settled).few narrow (omega (arith, covered, once, room)) in
-          let repairs : (screen b).written ≤ (screen mid).written + blank.area.width * 1 = writes_rows (redrawn step.area) (omega (arith, covered, once, columns, pushes, room)) in
-          omega (arith, covered, once, columns, pushes, repairs);
-      most = λ takes step settled room.
+          writes_then _ _ _ (screen s.backend) (screen mid) (screen b) (omega (arith, covered, once, is.width)) ((has_pushed takes settled).few narrow) (writes_rows (redrawn step.area));
+      most = λ takes step settled.
           let covered : (if nat_lt s.viewport_area.height s.last_known_area.height then 0 else inserted.area.width) ≡ inserted.area.width = grind (arith, nat_tests) in
-          let columns : blank.area.width * 1 ≡ inserted.area.width = omega (arith, is.width) in
-          let pushes : (screen mid).written ≤ (screen s.backend).written + inserted.area.width * inserted.area.height = (has_pushed takes settled).most (omega (arith, covered, room)) in
-          let repairs : (screen b).written ≤ (screen mid).written + blank.area.width * 1 = writes_rows (redrawn step.area) (omega (arith, covered, columns, pushes, room)) in
-          omega (arith, covered, columns, pushes, repairs);
+          writes_then _ _ _ (screen s.backend) (screen mid) (screen b) (omega (arith, covered, is.width)) (has_pushed takes settled).most (writes_rows (redrawn step.area));
     }
 
   -- above one that doesn't: first it moves down, then the rows above it move up
@@ -215,21 +208,17 @@ module _ {B : Type 0} (screen : B → Screen) (s : TerminalData B) (inserted : B
             settled = subst IsSettledBuffer (sym e) (rw step.area at step.settled);
             shown = subst (λ o. ShowsBuffer o (screen b).grid) (sym e) whole;
           };
-      few = λ takes step settled narrow room.
-          let place : 0 + n ≡ n = omega arith in
+      few = λ takes step settled narrow.
           let all : n + (inserted.area.height - n) ≡ inserted.area.height = omega (arith, n_is) in
           let parts : nonempty_cells inserted 0 inserted.area.height ≡ nonempty_cells inserted 0 n + nonempty_cells inserted n (inserted.area.height - n) =
-          ap (nonempty_cells inserted 0) (sym all) ∙ nonempty_parts inserted 0 n (inserted.area.height - n) ∙ ap (λ k. nonempty_cells inserted 0 n + nonempty_cells inserted k (inserted.area.height - n)) place in
-          let first : (screen mid).written ≤ (screen s.backend).written + nonempty_cells inserted 0 n = (lowered takes step settled).few narrow (omega (arith, parts, room)) in
-          let rest : (screen b).written ≤ (screen mid).written + nonempty_cells inserted n (inserted.area.height - n) = (raised takes step settled).few narrow (omega (arith, parts, first, room)) in
-          omega (arith, parts, first, rest);
-      most = λ takes step settled room.
+          ap (nonempty_cells inserted 0) (sym all) ∙ nonempty_parts inserted 0 n (inserted.area.height - n)
+          ∙ ap (λ k. nonempty_cells inserted 0 n + nonempty_cells inserted k (inserted.area.height - n)) (omega arith) in
+          writes_then _ _ _ (screen s.backend) (screen mid) (screen b) (omega (arith, parts)) ((lowered takes step settled).few narrow) ((raised takes step settled).few narrow);
+      most = λ takes step settled.
           let all : n + (inserted.area.height - n) ≡ inserted.area.height = omega (arith, n_is) in
           let parts : inserted.area.width * inserted.area.height ≡ inserted.area.width * n + inserted.area.width * (inserted.area.height - n) =
-          ap (λ h. inserted.area.width * h) (sym all) ∙ more_rows inserted.area.width n (inserted.area.height - n) in
-          let first : (screen mid).written ≤ (screen s.backend).written + inserted.area.width * n = (lowered takes step settled).most (omega (arith, parts, room)) in
-          let rest : (screen b).written ≤ (screen mid).written + inserted.area.width * (inserted.area.height - n) = (raised takes step settled).most (omega (arith, parts, first, room)) in
-          omega (arith, parts, first, rest);
+          ap (λ h. inserted.area.width * h) (sym all) ∙ omega arith in
+          writes_then _ _ _ (screen s.backend) (screen mid) (screen b) (omega (arith, parts)) (lowered takes step settled).most (raised takes step settled).most;
     }
 
   -- a backend failed after that move

@@ -2,7 +2,7 @@
 use Rattle.std.proofs.Common.{◌≡◌, ◌⊎◌, ℕ, ◌+◌, ◌-◌, ◌<◌, ◌≤◌, min, nat_lt, Bool, true, false, if◌then◌else◌, Option, refl, sym, ap, subst, ◌∙◌, inl, inr, arith, nat_le, ◌||◌}
 use Rattle.std.proofs.lemmas.{Bool.cases_lt, Bool.Decides.nat_tests}
 use Rattle.rtui_geometry.specs.{declared.position.Position.Position, declared.rect.Rect.Rect, declared.size.Size.Size, Rect.EdgesFit}
-use Rattle.rtui_buffer.specs.{BufferData.BufferData, BufferData.IsEmptied, Shown.IsSettledBuffer, Shown.ShowsBuffer}
+use Rattle.rtui_buffer.specs.{BufferData.BufferData, BufferData.IsEmptied, Shown.IsSettledBuffer}
 use Rattle.rtui_backend.specs.Screen.{Screen, IsOnScreen, screen_area, size_of}
 use Rattle.rtui_viewport.specs.declared.viewport.Viewport.{Viewport}
 use Rattle.rtui_viewport.specs.declared.viewport.Viewport.TheVariants.{Fullscreen, Inline, Fixed}
@@ -13,7 +13,7 @@ use Rattle.rtui_viewport.proofs.ClearLemmas.{keeps_outside}
 use Rattle.rtui_terminal.specs.{TerminalData.TerminalData, TerminalData.cursor_offset, InStep.IsInStep, InStep.IsSized, InStep.KeepsAroundViewport}
 use Rattle.rtui_terminal.specs.{AtRest.IsAtRest, Cursor.Stays, Starting.IsBlank, Starting.Starts, Writing.Applies, Drawing.DrawsFrame, Resizing.Resizes}
 use Rattle.rtui_terminal.specs.{Clearing.ClearsViewport, Insertion.Inserts, Insertion.TakesRows}
-use Rattle.rtui_terminal.proofs.{HeadlineLemmas.not_both, InsertionLemmas.emptied-moved, KeepLemmas.below-kept}
+use Rattle.rtui_terminal.proofs.{StepLemmas.not_both, StepLemmas.empties_or, HeadlineLemmas.stays_step, InsertionLemmas.emptied-moved, KeepLemmas.below-kept, KeepLemmas.stays_rest}
 use Rattle.rtui_terminal.proofs.{RenderedLemmas.resized-empty, RenderedLemmas.sized-stays, StartLemmas.starts-blank, StartLemmas.starts-in-step}
 
 -- sizes and areas from columns and rows
@@ -74,16 +74,6 @@ emptied_below (Inline n) r more old new inline width height left empties = recor
       is ∙ rw gone refl;
 }
 emptied_below (Fixed f) r more old new inline width height left empties = absurd inline
-
-cleared_below : (kind : Viewport) (r : Rect) (old new : Screen) → IsInline kind → new.width ≡ old.width → new.height ≡ old.height → Empties (is_emptied kind r old.height) old new → IsBlankBelow r new
-cleared_below Fullscreen r old new inline width height empties = absurd inline
-cleared_below (Inline n) r old new inline width height empties = record {
-  at = λ a b a_in b_in under.
-      let is = empties.grid a b (omega arith) (omega arith) in
-      let gone : nat_le (min r.y (old.height - 1)) b ≡ true = grind (arith, nat_tests) in
-      is ∙ rw gone refl;
-}
-cleared_below (Fixed f) r old new inline width height empties = absurd inline
 
 pub inline_left : (kind : Viewport) (size : Size) (r : Rect) → IsInline kind → MayLie kind size r → r.x ≡ 0
 inline_left Fullscreen size r inline lies = absurd inline
@@ -200,18 +190,8 @@ module _ {B : Type 0} (screen : B → Screen) where
   rests-stays : (kind : Viewport) (s t : TerminalData B) → Stays screen s t → IsAtRest screen kind s → IsAtRest screen kind t
   rests-stays kind s t stays rest =
       let same = stays.rest in
-      let is = stays.screen_stays in
-      let at = rest.in_step in
-      let view : t.viewport_area ≡ s.viewport_area = ap (λ (x : TerminalData B). x.viewport_area) same in
-      let here : IsInStep screen (record s { backend = t.backend }) = record { on_screen = subst (IsOnScreen s.viewport_area) (sym is) at.on_screen; area = at.area; settled = at.settled; shown = subst (λ (x : Screen). ShowsBuffer s.previous x.grid) (sym is) at.shown } in
-      record {
-        kind_is = ap (λ (x : TerminalData B). x.viewport) same ∙ rest.kind_is;
-        sized = sized_kept s t (ap (λ (x : TerminalData B). x.viewport) same) (ap (λ (x : TerminalData B). x.last_known_area) same) (ap (λ (x : Screen). x.width) is) (ap (λ (x : Screen). x.height) is) rest.sized;
-        lies = subst (MayLie kind (size_of (screen t.backend))) (sym view) (subst (λ (x : Screen). MayLie kind (size_of x) s.viewport_area) (sym is) rest.lies);
-        in_step = subst (IsInStep screen) (sym same) here;
-        current = subst (λ (x : TerminalData B). IsEmptied x.viewport_area x.current) (sym same) rest.current;
-        below = λ inline. subst (λ r. IsBlankBelow r (screen t.backend)) (sym view) (subst (IsBlankBelow s.viewport_area) (sym is) (rest.below inline));
-      }
+      rests-kept kind s t rest (ap (λ (x : TerminalData B). x.viewport) same) (ap (λ (x : TerminalData B). x.last_known_area) same) (stays_step screen s t stays rest.in_step)
+      (subst (λ (x : TerminalData B). IsEmptied x.viewport_area x.current) (sym same) rest.current) (stays_rest screen s t stays)
 
   -- a draw at the known size
   pub rests-drawn : (kind : Viewport) (s t : TerminalData B) → IsAtRest screen kind s → IsSettledBuffer t.previous → DrawsFrame screen s t → IsAtRest screen kind t
@@ -267,7 +247,7 @@ module _ {B : Type 0} (screen : B → Screen) where
         lies = subst (MayLie kind (size_of new)) (sym view) (subst (λ z. MayLie kind z r) (sym (same_size new old width height)) rest.lies);
         in_step = clears.in_step at.on_screen at.area;
         current = subst (λ area. IsEmptied area t.current) (sym view) (subst (IsEmptied r) (sym (ap (λ (x : TerminalData B). x.current) clears.rest)) rest.current);
-        below = λ inline. subst (λ q. IsBlankBelow q new) (sym view) (cleared_below kind r old new inline width height empties);
+        below = λ inline. subst (λ q. IsBlankBelow q new) (sym view) (emptied_below kind r false old new inline width height (inline_left kind (size_of old) r inline rest.lies) (λ _. empties_or empties));
       }
 
   -- above an inline viewport rows can be inserted

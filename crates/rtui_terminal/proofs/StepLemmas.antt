@@ -45,6 +45,14 @@ pub emptied_frame : (narrow : Bool) {s m : Screen} → EmptiesAllIf narrow s m �
 emptied_frame true p = p.frame
 emptied_frame false {s} same = rw same (frame_same s)
 
+-- columns that were emptied, or for no other reason
+pub empties_or : {e : ℕ → ℕ → Bool} {s t : Screen} → Empties e s t → Empties (λ a b. e a b || false) s t
+empties_or {e} {s} p = record { frame = p.frame; grid = λ a b a_in b_in. p.grid a b a_in b_in ∙ either (e a b) (s.grid a b) }
+  where
+    either : (x : Bool) (look : Look) → (if x then empty_look else look) ≡ (if x || false then empty_look else look)
+    either true look = refl
+    either false look = refl
+
 -- an emptied viewport after an emptied screen, or after an untouched one
 pub emptied_after : (v : Viewport) (r : Rect) (narrow : Bool) {s m t : Screen} → EmptiesAllIf narrow s m → ClearsArea v r m t → HasPlace v r s
     → Empties (λ a b. is_emptied v r s.height a b || narrow) s t
@@ -52,21 +60,16 @@ emptied_after v r true {s} {m} {t} first clears place =
     let same = first.frame.size in
     empties_more first (subst (λ h. Empties (is_emptied v r h) m t) same.height (clears (place_same v r s m same.width same.height place)))
 emptied_after v r false {s} {m} {t} same clears place =
-    let p : Empties (is_emptied v r s.height) s t = subst (λ k. Empties (is_emptied v r k.height) k t) same (clears (rw same place)) in
-    record { frame = p.frame; grid = λ a b a_in b_in. p.grid a b a_in b_in ∙ either (is_emptied v r s.height a b) (s.grid a b) }
-  where
-    either : (x : Bool) (look : Look) → (if x then empty_look else look) ≡ (if x || false then empty_look else look)
-    either true look = refl
-    either false look = refl
+    empties_or (subst (λ k. Empties (is_emptied v r k.height) k t) same (clears (rw same place)))
 
 pub resized_same : (r : Rect) {a b c : BufferData} → IsSameBuffer a b → IsResized r b c → IsResized r a c
 resized_same r p q = record { area_is = q.area_is; cells = rw (← p.cells) q.cells }
 
--- a fixed viewport isn't inline
-pub not_inline : (v : Viewport) → IsFixed v → IsInline v → ⊥
-not_inline Fullscreen fixed inline = fixed
-not_inline (Inline n) fixed inline = fixed
-not_inline (Fixed r) fixed inline = inline
+-- an inline viewport isn't fixed
+pub not_both : (v : Viewport) → IsInline v → IsFixed v → ⊥
+not_both Fullscreen inline fixed = inline
+not_both (Inline n) inline fixed = fixed
+not_both (Fixed r) inline fixed = inline
 
 -- a viewport of no columns can't become narrower
 pub never_raised : (r : Rect) → raised 0 r ≡ r

@@ -1,5 +1,5 @@
 -- A text drawn over one row, and inserted above it.
-use Rattle.std.proofs.Common.{◌≡◌, ℕ, zero, suc, ◌*◌, ◌≤◌, ◌<◌, List, [], ◌∷◌, ◌++◌, length, append-nil, Option, None, Some, Result, Ok, Err, OnOk, OnErr, IfErr, refl, sym, ap, ap₂, subst, ◌∙◌, inl, inr, arith, alloc_error, slice_index_or}
+use Rattle.std.proofs.Common.{◌≡◌, ℕ, zero, suc, ◌*◌, ◌≤◌, ◌<◌, List, [], ◌∷◌, ◌++◌, length, append-nil, Option, None, Some, Result, Ok, Err, OnOk, OnErr, IfErr, refl, sym, ap, ap₂, subst, ◌∙◌, inl, inr, arith, alloc_error, slice_index_or, mul-le-mul_left}
 use Rattle.std.specs.declared.alloc.AllocError.{AllocError}
 use Rattle.rtui_geometry.specs.{declared.position.Position.Position, declared.rect.Rect.Rect}
 use Rattle.std.proofs.lemmas.List.{length-map}
@@ -21,15 +21,11 @@ use Rattle.rtui_terminal.proofs.RestLemmas.{rests-started, rests-drawn, rests-ta
 use Rattle.rtui_terminal.proofs.RenderedLemmas.{OnlyRenders, shows-rendered, sized-stays, refused-by-backend}
 use Rattle.rtui_terminal.proofs.StartLemmas.{starts-in-row}
 
--- a list of one
-record IsOne {X : Type 0} (xs : List X) : Type 0 where
-  item : X
-  is : xs ≡ item ∷ []
-
-one : {X : Type 0} (xs : List X) → length xs ≡ 1 → IsOne xs
-one [] e = absurd (omega arith)
-one (x ∷ []) e = record { item = x; is = refl }
-one (x ∷ y ∷ xs) e = absurd (omega arith)
+-- a list of one row
+only_row : (rows : List (List Look)) → length rows ≡ 1 → rows ≡ slice_index_or rows 0 [] ∷ []
+only_row [] e = absurd (omega arith)
+only_row (row ∷ []) e = refl
+only_row (row ∷ next ∷ rows) e = absurd (omega arith)
 
 -- the one row that came in with a painted text
 record HasRow (width : ℕ) (text : List ℕ) (old new : List (List Look)) : Type 0 where
@@ -44,16 +40,10 @@ row-appended width text sheet old new over painted appends =
     let first : List (List Look) = appends.agree.0 in
     let are : AreRowsOf sheet first = appends.agree.3 in
     let all : appends.rows ≡ first = appends.agree.2 ∙ ap (λ rows. first ++ rows) appends.agree.4 ∙ append-nil first in
-    let single : IsOne first = one first (are.count ∙ high) in
     record {
-      row = single.item;
-      painted = record {
-        sheet = sheet;
-        over = over;
-        painted = painted;
-        agrees = subst (λ n. RowAgrees n sheet.cells 0 single.item) wide (subst (λ rows. RowAgrees sheet.area.width sheet.cells 0 (slice_index_or rows 0 [])) single.is (are.agree 0 (omega arith)));
-      };
-      above = appends.appended ∙ ap (λ rows. old ++ rows) (all ∙ single.is);
+      row = slice_index_or first 0 [];
+      painted = record { sheet = sheet; over = over; painted = painted; agrees = subst (λ n. RowAgrees n sheet.cells 0 (slice_index_or first 0 [])) wide (are.agree 0 (omega arith)) };
+      above = appends.appended ∙ ap (λ rows. old ++ rows) (all ∙ only_row first (are.count ∙ high));
     }
 
 -- a text was rendered in an empty row
@@ -68,11 +58,6 @@ row-settled text sheet is =
     let left : is.blank.area.x ≡ sheet.area.x = ap (λ (r : Rect). r.x) is.emptied.area in
     text-settled sheet.area sheet.area text is.blank sheet is.emptied (omega arith) (omega arith) is.rendered
 
-at_most_one_row : (w rows width : ℕ) → w ≡ width → rows ≤ 1 → w * rows ≤ width
-at_most_one_row w zero width is le = omega arith
-at_most_one_row w (suc zero) width is le = omega (arith, is)
-at_most_one_row w (suc (suc n)) width is le = absurd (omega (arith, le))
-
 -- placing a cursor writes no cell
 placed_written : (cursor : Option Position) (s : Screen) → (cursor_placed cursor s).written ≡ s.written
 placed_written None s = refl
@@ -84,14 +69,13 @@ row_written width y cursor s old new over drawn room =
     let wide : s.previous.area.width ≡ width = ap (λ (r : Rect). r.width) over in
     let high : s.previous.area.height ≡ 1 = ap (λ (r : Rect). r.height) over in
     let rows : ℕ = common_rows s.previous s.current in
-    let some : rows ≤ 1 = omega (arith, high) in
     let count : length (buffer_updates s.previous s.current) ≡ length (given s.previous.cells s.current.cells (s.previous.area.width * rows) start 0) =
     length-map _ (update_at s.previous.area.x s.previous.area.y s.previous.area.width s.current.cells) in
     let le = given_count s.previous.cells s.current.cells (s.previous.area.width * rows) start 0 in
-    let cells : s.previous.area.width * rows ≤ width = at_most_one_row s.previous.area.width rows width wide some in
+    let cells : s.previous.area.width * rows ≤ s.previous.area.width * 1 = mul-le-mul_left s.previous.area.width (omega (arith, high)) in
     let same : new.written ≡ drawn.0.written = ap (λ (t : Screen). t.written) drawn.2 ∙ placed_written cursor drawn.0 in
-    let is = drawn.1.drawn.written (omega (arith, room, count, le, cells)) in
-    omega (arith, count, le, cells, same, is)
+    let is = drawn.1.drawn.written (omega (arith, room, count, le, cells, wide)) in
+    omega (arith, count, le, cells, wide, same, is)
 
 module _ {B : Type 0} (screen : B → Screen) where
   -- its viewport is one row of the screen's width
@@ -185,11 +169,8 @@ module _ {B : Type 0} (screen : B → Screen) where
       }
 
   -- the terminal of a start over one row knows its screen's size
-  starts-known : (b : B) (t : TerminalData B) → Starts screen (Inline 1) b t → record { x = 0; y = 0; width = (screen t.backend).width; height = (screen t.backend).height } ≡ t.last_known_area
-  starts-known b t starts = ap₂ (λ w h. record { x = 0; y = 0; width = w; height = h }) starts.scrolls.width starts.scrolls.height ∙ sym starts.last_known_area
-
   pub starts-sized : (b : B) (t : TerminalData B) → Starts screen (Inline 1) b t → IsSized screen t
-  starts-sized b t starts = inr (starts-known b t starts)
+  starts-sized b t starts = inr (ap₂ (λ w h. record { x = 0; y = 0; width = w; height = h }) starts.scrolls.width starts.scrolls.height ∙ sym starts.last_known_area)
 
   pub starts-areas : (b : B) (t : TerminalData B) → Starts screen (Inline 1) b t → HasAreas t
   starts-areas b t starts = record { current = starts.current.area; previous = starts.previous.area }

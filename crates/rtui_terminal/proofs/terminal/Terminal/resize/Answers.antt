@@ -38,7 +38,7 @@ returns-clause-outcome g c =
     let middle : KeepsAllButLooks (screen c.place_viewport.new.backend) (screen c.clear_area.new.backend) = rw between at cleared.frame in
     let frame : KeepsAllButLooks (screen c.place_viewport.new.backend) (screen c.restore_cursor.new.backend) = frame_restored c.in_ok-placed.placed.cursor restored middle in
     let places = rw (viewport_2, former, c.saturating_sub-offset.ensures, cursor_2, area_2) at found.placed in
-    let emptied = emptied_frame _ places.empties in
+    let emptied = emptied_frame _ {s = places.scrolled} {m = screen c.place_viewport.new.backend} places.empties in
     let clears = clears_restored s.viewport next c.in_ok-placed.placed.cursor restored (rw (viewport, between) at cleared.cleared) in
     rw (area, viewport, cursor, hidden, count)
     (record {
@@ -49,7 +49,7 @@ returns-clause-outcome g c =
       scrolled = places.scrolled;
       scrolls = places.scrolls;
       frame = frame_more {r = places.scrolled} emptied frame;
-      empties = λ place. emptied_after s.viewport next _ places.empties clears place;
+      empties = λ place. emptied_after s.viewport next _ {s = places.scrolled} {m = screen c.place_viewport.new.backend} {t = screen c.restore_cursor.new.backend} places.empties clears place;
       cursor = cursor_back s.viewport (screen s.backend) (screen c.place_viewport.new.backend) (screen c.clear_area.new.backend) _ _ (rw (viewport_2, former) at found.cursor) (rw (viewport_2, former) at found.on_grid)
           (middle.size.width ∙ emptied.size.width ∙ places.scrolls.width) (middle.size.height ∙ emptied.size.height ∙ places.scrolls.height) places.cursor (rw (viewport, between) at cleared.cursor) restored;
       written = written_restored s.viewport next c.in_ok-placed.placed.cursor places.scrolled (screen c.place_viewport.new.backend) _ _ places.written emptied.size.width restored (rw (viewport, between) at cleared.written);

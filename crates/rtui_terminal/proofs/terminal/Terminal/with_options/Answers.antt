@@ -1,7 +1,7 @@
 use Rattle.std.proofs.Common.{◌≡◌, Ok, refl, ap, ◌∙◌, arith, rules}
 use Rattle.rtui_buffer.specs.BufferData.{IsEmptied}
 use Rattle.rtui_viewport.specs.Placing.{area_in}
-use Rattle.rtui_terminal.proofs.StepLemmas.{blank_in_step, never_raised, not_inline, first_cursor_is, first_area_open, placed_empty, placed_scrolls}
+use Rattle.rtui_terminal.proofs.StepLemmas.{blank_in_step, never_raised, not_both, first_cursor_is, first_area_open, placed_empty, placed_scrolls}
 use Rattle.rtui_terminal.proofs.terminal.Terminal.with_options.Goals as goal
 
 pub returns-clause-starts : goal.returns-clause-starts
@@ -28,7 +28,7 @@ returns-clause-starts g c =
       scrolls = placed_scrolls viewport _ 0 placed.placed;
       cursor_row = placed.placed.cursor_row;
       untouched = λ other. ap screen (placed.quiet other (omega arith)).1 ∙ asked.stays;
-      fixed = λ fixed. (placed.quiet (not_inline viewport fixed) (omega arith)).1 ∙ (asked.fixed fixed).1;
+      fixed = λ fixed. (placed.quiet (λ inline. not_both viewport inline fixed) (omega arith)).1 ∙ (asked.fixed fixed).1;
       on_screen = λ other. placed.on_screen (asked.area ∙ first_area_open viewport (screen c.args.backend) other);
       in_step = λ on blank. blank_in_step screen _ placed.fits on blank previous;
     }
