@@ -1,6 +1,7 @@
 -- Painting within a row, seen by columns.
-use Rattle.std.proofs.Common.{◌≡◌, ℕ, ◌+◌, ◌-◌, ◌*◌, ◌<◌, ◌≤◌, ⊎_elim, List, take, ap, arith, true}
-use Rattle.std.proofs.lemmas.{Bool.cases_lt, Nat.row_fits}
+use Rattle.std.proofs.Common.{◌≡◌, ℕ, ◌+◌, ◌-◌, ◌*◌, ◌≤◌, inl, inr, List, take, ap, arith, true}
+use Rattle.std.proofs.lemmas.Bool.{cases_lt}
+use Rattle.rtui_grid.proofs.PlaceLemmas.{by_rows}
 use Rattle.unicode_segmentation.specs.Grapheme.{graphemes}
 use Rattle.rtui_geometry.specs.{declared.position.Position.Position, declared.rect.Rect.Rect, Rect.HasPosition}
 use Rattle.rtui_style.specs.declared.Style.{Style}
@@ -33,33 +34,20 @@ place-right r p n j le = omega arith
 
 -- a position beside these columns whose place isn't before the first one stands after the last one
 place-behind : (r : Rect) (p q : Position) (n : ℕ) → HasRow r p.y → r.x ≤ p.x → n ≤ r.x + r.width - p.x → HasPosition r q → IsBeside p n q
-    → cell_index r p ≤ cell_index r q → 0 < n → cell_index r p + n ≤ cell_index r q
-place-behind r p q n row le fits h beside ge some =
+    → cell_index r p ≤ cell_index r q → cell_index r p + n ≤ cell_index r q
+place-behind r p q n row le fits h beside ge =
     let top = row.top in let above = h.top in let left = h.left in let right = h.right in
-    ⊎_elim
-    (λ (lt : q.y < p.y). absurd (let rows = row_fits (q.y - r.y) r.width (p.y - r.y) r.width (omega arith) (omega arith) in omega arith))
-    (λ (le_y : p.y ≤ q.y).
-    ⊎_elim
-    (λ (lt : p.y < q.y). let rows = row_fits (p.y - r.y) r.width (q.y - r.y) r.width (omega arith) (omega arith) in omega arith)
-    (λ (le_q : q.y ≤ p.y).
-    let same : q.y ≡ p.y = omega arith in
-    let rows : (q.y - r.y) * r.width ≡ (p.y - r.y) * r.width = ap (λ y. (y - r.y) * r.width) same in
-    ⊎_elim (λ (before : q.x < p.x). absurd (omega arith)) (λ (behind : p.x + n ≤ q.x). omega arith) (beside same))
-    (cases_lt p.y q.y))
-    (cases_lt q.y p.y)
+    by_rows _ r.width (q.y - r.y) (p.y - r.y) (λ _ e. absurd (omega arith)) (λ _ e. omega arith) (λ e.
+    let rows : (q.y - r.y) * r.width ≡ (p.y - r.y) * r.width = ap (λ y. y * r.width) e in
+    elim (beside (omega arith)) [ inl before ↦ absurd (omega arith) | inr behind ↦ omega arith ])
 
 -- such a position is beside the painted part
 beside-same : (r : Rect) (p q : Position) (n : ℕ) (old new : List Cell) → HasRow r p.y → r.x ≤ p.x → n ≤ r.x + r.width - p.x → HasPosition r q → IsBeside p n q
     → IsSameOutside (cell_index r p) (cell_index r p + n) old new → cell new (cell_index r q) ≡ cell old (cell_index r q)
-beside-same r p q n old new row le fits h beside same =
-    ⊎_elim
-    (λ (lt : cell_index r q < cell_index r p). same.before (cell_index r q) lt)
-    (λ (ge : cell_index r p ≤ cell_index r q).
-    ⊎_elim
-    (λ (some : 0 < n). same.behind (cell_index r q) (place-behind r p q n row le fits h beside ge some))
-    (λ (none : n ≤ 0). same.behind (cell_index r q) (omega arith))
-    (cases_lt 0 n))
-    (cases_lt (cell_index r q) (cell_index r p))
+beside-same r p q n old new row le fits h beside same = elim (cases_lt (cell_index r q) (cell_index r p)) [
+  | inl lt ↦ same.before (cell_index r q) lt
+  | inr ge ↦ same.behind (cell_index r q) (place-behind r p q n row le fits h beside ge)
+]
 
 -- a refused painting changes nothing beside its columns
 pub same-beside : (p q : Position) (ps : List Piece) (old new : BufferData) → HasRow old.area p.y → old.area.x ≤ p.x → columns ps ≤ old.area.x + old.area.width - p.x

@@ -1,10 +1,9 @@
 -- Two lists are equal, item by item.
 use Rattle.std.proofs.Common.{◌≡◌, ℕ, zero, suc, ◌<◌, Bool, true, ◌&&◌, List, [], ◌∷◌, length, get_or, nat_eq, refl, ap, arith}
-use Rattle.std.proofs.lemmas.Bool.{false≢true, and_parts, and_from}
+use Rattle.std.proofs.lemmas.Bool.{false≢true, and_parts, and_from, Decides.nat_tests}
 use Rattle.std.specs.Cmp.Lexicographic.{pointwise}
 use Rattle.rtui_geometry.specs.{declared.rect.Rect.Rect, contracts.rect.RectEq.TheImpl.Laws.laws-law as rect_laws}
 use Rattle.rtui_geometry.specs.contracts.rect.RectPartialEq.TheImpl as rect_equality
-use Rattle.rtui_cell.proofs.CellLemmas.{same_number}
 
 module _ {A : Type 0} (E : A → A → Bool) (d : A) where
   pub pointwise-count : (xs ys : List A) → pointwise E xs ys ≡ true → length xs ≡ length ys
@@ -28,13 +27,11 @@ module _ {A : Type 0} (E : A → A → Bool) (d : A) where
 
 pub same_rect : (a b : Rect) → rect_equality.eq-value.it a b ≡ true → a ≡ b
 same_rect a b e =
-    let p = and_parts (nat_eq a.x b.x) (nat_eq a.y b.y && (nat_eq a.width b.width && nat_eq a.height b.height)) e in
-    let q = and_parts (nat_eq a.y b.y) (nat_eq a.width b.width && nat_eq a.height b.height) p.1 in
-    let r = and_parts (nat_eq a.width b.width) (nat_eq a.height b.height) q.1 in
-    let x = same_number a.x b.x p.0 in
-    let y = same_number a.y b.y q.0 in
-    let width = same_number a.width b.width r.0 in
-    let height = same_number a.height b.height r.1 in
+    let tests : (nat_eq a.x b.x && (nat_eq a.y b.y && (nat_eq a.width b.width && nat_eq a.height b.height))) ≡ true = e in
+    let x : a.x ≡ b.x = grind (arith, nat_tests, tests) in
+    let y : a.y ≡ b.y = grind (arith, nat_tests, tests) in
+    let width : a.width ≡ b.width = grind (arith, nat_tests, tests) in
+    let height : a.height ≡ b.height = grind (arith, nat_tests, tests) in
     rw (x, y, width, height) refl
 
 pub rect_itself : (a b : Rect) → a ≡ b → rect_equality.eq-value.it a b ≡ true

@@ -1,5 +1,5 @@
 -- What is kept is the longest front that fits.
-use Rattle.std.proofs.Common.{◌≡◌, ℕ, suc, zero, ◌-◌, ◌<◌, ◌≤◌, ⊎_elim, List, [], ◌∷◌, length, take, filter, refl, ap, arith, sum_by}
+use Rattle.std.proofs.Common.{◌≡◌, ℕ, suc, zero, ◌-◌, ◌<◌, ◌≤◌, inl, inr, List, [], ◌∷◌, length, take, filter, refl, ap, arith, sum_by}
 use Rattle.std.proofs.lemmas.{Bool.cases_lt, Bool.Decides.nat_tests, List.Sums.sum_by-cons}
 use Rattle.rtui_cell.specs.Width.{text_width}
 use Rattle.rtui_buffer.specs.Painting.{has_painted_width, fitting, kept, IsLongestFront}
@@ -28,18 +28,18 @@ one-longer room g gs front fits h (suc n) le sum = let k : n ≤ length front = 
 IsLongestFront-fitting : (gs : List (List ℕ)) (room : ℕ) → IsLongestFront room gs (fitting room gs)
 IsLongestFront-fitting [] room = rw (fitting-nil room) (record { first = refl; fits = omega arith; longest = λ n le sum. le })
 IsLongestFront-fitting (g ∷ gs) room =
-    ⊎_elim
-    (λ (lt : room < text_width g). rw (fitting-full room g gs lt) (record { first = refl; fits = omega arith; longest = λ n le sum. none-longer room g gs lt n sum }))
-    (λ (le : text_width g ≤ room).
-    let h = IsLongestFront-fitting gs (room - text_width g) in
-    let fits = h.fits in
-    rw (fitting-take room g gs le)
-    (record {
-      first = ap (λ hs. g ∷ hs) h.first;
-      fits = omega (arith, sum_by-cons text_width g (fitting (room - text_width g) gs));
-      longest = one-longer room g gs (fitting (room - text_width g) gs) le h;
-    }))
-    (cases_lt room (text_width g))
+    elim (cases_lt room (text_width g)) [
+      | inl lt ↦ rw (fitting-full room g gs lt) (record { first = refl; fits = omega arith; longest = λ n le sum. none-longer room g gs lt n sum })
+      | inr le ↦
+          let h = IsLongestFront-fitting gs (room - text_width g) in
+          let fits = h.fits in
+          rw (fitting-take room g gs le)
+          (record {
+            first = ap (λ hs. g ∷ hs) h.first;
+            fits = omega (arith, sum_by-cons text_width g (fitting (room - text_width g) gs));
+            longest = one-longer room g gs (fitting (room - text_width g) gs) le h;
+          })
+    ]
 
 pub IsLongestFront-kept : (room : ℕ) (gs : List (List ℕ)) → IsLongestFront room (filter has_painted_width gs) (kept room gs)
 unfolding kept

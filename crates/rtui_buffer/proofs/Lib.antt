@@ -1,4 +1,3 @@
-pub mod FrameLemmas
 pub mod EmptyLemmas
 pub mod PaintLemmas
 pub mod PrintableLemmas
@@ -16,5 +15,4 @@ pub mod ColumnLemmas
 pub mod EqualityLemmas
 pub mod ShownLemmas
 pub mod BarLemmas
-pub mod RowsDiffLemmas
 pub mod PartsLemmas

@@ -28,22 +28,15 @@ module _ (r u : Rect) (edges : EdgesFit u) (around : IsAround r u) (block old ne
 
   of_rest : (p : Position) → HasPosition r p → ¬ (HasPosition u p) → cell_over r new p ≡ cell_over r old p
   of_rest p h not_in =
-      let a = h.left in let b = h.right in let c = h.top in let d = h.bottom in
-      let l = around.left in let n = around.top in
-      let off : is_in_block (place_in r u) (p.x - r.x) (p.y - r.y) ≡ false =
-      false_from_ne_true _ (λ t. not_in (let i = in_block (place_in r u) (p.x - r.x) (p.y - r.y) t in record { left = omega (arith, i.0); right = omega (arith, i.1); top = omega (arith, i.2); bottom = omega (arith, i.3) })) in
+      let off : is_in_block (place_in r u) (p.x - r.x) (p.y - r.y) ≡ false = false_from_ne_true _ (λ t. not_in (let i = in_block (place_in r u) (p.x - r.x) (p.y - r.y) t in omega arith)) in
       is.at (p.x - r.x) (p.y - r.y) (omega arith) ∙ rw off refl
 
 -- the union of two areas lies around both
 pub IsAround-first : (a b : Rect) → EdgesFit a → EdgesFit b → IsAround (united a b) a
-IsAround-first a b f g =
-    let x = f.right in let y = f.bottom in let z = g.right in let t = g.bottom in
-    record { left = omega arith; right = omega arith; top = omega arith; bottom = omega arith }
+IsAround-first a b f g = omega arith
 
 pub IsAround-second : (a b : Rect) → EdgesFit a → EdgesFit b → IsAround (united a b) b
-IsAround-second a b f g =
-    let x = f.right in let y = f.bottom in let z = g.right in let t = g.bottom in
-    record { left = omega arith; right = omega arith; top = omega arith; bottom = omega arith }
+IsAround-second a b f g = omega arith
 
 -- a list that was filled up from none is empty throughout
 pub filled-empty : (n m : ℕ) (none filled : List Cell) → filled ≡ take n none ++ empty_cells m → none ≡ [] → (i : ℕ) → cell filled i ≡ empty_cell
@@ -77,13 +70,9 @@ IsOverlay-block lower upper mid new cells lower_edges upper_edges extended area 
     }
   where
     HasPosition-around : (outer inner : Rect) → IsAround outer inner → EdgesFit inner → (p : Position) → HasPosition inner p → HasPosition outer p
-    HasPosition-around outer inner a f p h =
-        let l = a.left in let m = a.right in let n = a.top in let o = a.bottom in
-        let x = h.left in let y = h.right in let z = h.top in let t = h.bottom in
-        record { left = omega arith; right = omega arith; top = omega arith; bottom = omega arith }
+    HasPosition-around outer inner a f p h = omega arith
 
 -- and its rows reach to the inner one's last
 pub inner-rows : (r u : Rect) → IsAround r u → (u.y - r.y + u.height) * r.width ≤ r.width * r.height
 inner-rows r u a =
-    let top = a.top in let bottom = a.bottom in
     let e : (u.y - r.y + u.height) * r.width ≤ r.height * r.width = mul-le-mul_right r.width (omega arith) in omega (arith, mul_comm r.height r.width)

@@ -1,21 +1,14 @@
 -- How painting goes on, a piece at a time.
-use Rattle.std.proofs.Common.{◌≡◌, ◌≢◌, ℕ, suc, zero, ◌+◌, ◌-◌, ◌<◌, ◌≤◌, Bool, true, false, cond, List, [], ◌∷◌, set, refl, sym, ap, subst, ◌∙◌, arith}
-use Rattle.std.proofs.lemmas.{Bool.Decides.nat_tests, List.get_or-set_other, List.length-set, List.Sums.sum_by-cons}
-use Rattle.rtui_style.specs.declared.Style.{Style}
-use Rattle.rtui_cell.specs.{declared.cell.Cell.Cell, Cell.empty_cell, Cell.IsUnmarked, Width.text_width, Symbol.IsShort}
-use Rattle.std.proofs.lemmas.List.Elements.{All-head, All-tail}
-use Rattle.rtui_buffer.specs.PaintedText.{AreShort}
-use Rattle.rtui_buffer.specs.Painting.{has_control, painted_width, has_painted_width, fitting, kept, Piece, piece_of, pieces, piece_width, columns, emptied, with_piece, painted, IsSameOutside, KeepsUnmarked}
+use Rattle.std.proofs.Common.{◌≡◌, ◌≢◌, ℕ, suc, zero, ◌+◌, ◌-◌, ◌<◌, ◌≤◌, true, List, [], ◌∷◌, set, refl, ◌∙◌, arith}
+use Rattle.std.proofs.lemmas.{Bool.cond_both, Bool.Decides.nat_tests, List.get_or-set_other, List.length-set}
+use Rattle.rtui_cell.specs.{declared.cell.Cell.Cell, Cell.empty_cell, Cell.IsUnmarked, Width.text_width}
+use Rattle.rtui_buffer.specs.Painting.{has_control, painted_width, has_painted_width, fitting, kept, Piece, piece_width, emptied, with_piece, painted, IsSameOutside, KeepsUnmarked}
 use Rattle.rtui_diff.specs.Cells.{cell}
-
-painted_width-cases : (g : List ℕ) (b : Bool) → has_control g ≡ b → 0 < painted_width g → painted_width g ≡ text_width g
-unfolding painted_width
-painted_width-cases g true e lt = absurd (let none : cond (has_control g) 0 (text_width g) ≡ 0 = rw e in omega arith)
-painted_width-cases g false e lt = rw e
 
 -- a grapheme that is painted takes its width
 pub painted_width-painted : (g : List ℕ) → 0 < painted_width g → painted_width g ≡ text_width g
-painted_width-painted g lt = painted_width-cases g (has_control g) refl lt
+unfolding painted_width
+painted_width-painted g = cond_both (has_control g) 0 (text_width g) (λ n. 0 < n → n ≡ text_width g) (λ _ lt. absurd (omega arith)) (λ _ lt. refl)
 
 pub kept-nil : (room : ℕ) → kept room [] ≡ []
 unfolding kept fitting
@@ -105,56 +98,5 @@ pub unmarked-painted : (ps : List Piece) (at : ℕ) (old new : List Cell) → Ke
 unfolding painted
 unmarked-painted [] at old new h = h
 unmarked-painted (p ∷ ps) at old new h = unmarked-painted ps (at + piece_width p) old (with_piece at p new) (unmarked-put at p old new h)
-
--- a turn of the loop paints the next grapheme
-pub painted-turn : (s : Style) (start used room width : ℕ) (left gs : List (List ℕ)) (g : List ℕ) (cells more whole : List Cell)
-    → left ≡ g ∷ gs → width ≡ painted_width g → 0 < width → width ≤ room - used → more ≡ with_piece (start + used) (piece_of s g) cells
-    → painted (start + used) (pieces s (kept (room - used) left)) cells ≡ whole
-    → painted (start + (used + width)) (pieces s (kept (room - (used + width)) gs)) more ≡ whole
-painted-turn s start used room width left gs g cells more whole is wide pos fits put h =
-    let p : 0 < painted_width g = omega arith in
-    let same = painted_width-painted g p in
-    let fits' : text_width g ≤ room - used = omega arith in
-    let rest : room - (used + width) ≡ room - used - text_width g = omega arith in
-    let place : start + (used + width) ≡ start + used + text_width g = omega arith in
-    rw (rest, place, put) (sym (painted-cons (start + used) (piece_of s g) (pieces s (kept (room - used - text_width g) gs)) cells)
-    ∙ ap (λ ks. painted (start + used) (pieces s ks) cells) (sym (kept-take (room - used) g gs p fits') ∙ ap (kept (room - used)) (sym is)) ∙ h)
-
-pub columns-turn : (s : Style) (used room width all : ℕ) (left gs : List (List ℕ)) (g : List ℕ)
-    → left ≡ g ∷ gs → width ≡ painted_width g → 0 < width → width ≤ room - used
-    → used + columns (pieces s (kept (room - used) left)) ≡ all
-    → used + width + columns (pieces s (kept (room - (used + width)) gs)) ≡ all
-columns-turn s used room width all left gs g is wide pos fits h =
-    let p : 0 < painted_width g = omega arith in
-    let same = painted_width-painted g p in
-    let fits' : text_width g ≤ room - used = omega arith in
-    let rest : room - (used + width) ≡ room - used - text_width g = omega arith in
-    let first : columns (pieces s (kept (room - used) left)) ≡ text_width g + columns (pieces s (kept (room - used - text_width g) gs)) =
-    ap (λ l. columns (pieces s (kept (room - used) l))) is ∙ ap (λ ks. columns (pieces s ks)) (kept-take (room - used) g gs p fits')
-    ∙ sum_by-cons piece_width (piece_of s g) (pieces s (kept (room - used - text_width g) gs)) in
-    rw rest (omega arith)
-
--- and it leaves the rest alone
-pub outside-turn : (s : Style) (start used width : ℕ) (g : List ℕ) (old cells more : List Cell)
-    → width ≡ painted_width g → 0 < width → more ≡ with_piece (start + used) (piece_of s g) cells
-    → IsSameOutside start (start + used) old cells → IsSameOutside start (start + (used + width)) old more
-outside-turn s start used width g old cells more wide pos put h =
-    let p : 0 < painted_width g = omega arith in
-    let same = painted_width-painted g p in
-    let place : start + (used + width) ≡ start + used + text_width g = omega arith in
-    rw (place, put) (IsSameOutside-put start (start + used) (piece_of s g) old cells (omega arith) (omega arith) h)
-
--- of short pieces the first is short, and so are those after it
-pub short-turn : (s : Style) (used room width : ℕ) (left gs : List (List ℕ)) (g : List ℕ)
-    → left ≡ g ∷ gs → width ≡ painted_width g → 0 < width → width ≤ room - used
-    → AreShort (pieces s (kept (room - used) left)) → IsShort g × AreShort (pieces s (kept (room - (used + width)) gs))
-short-turn s used room width left gs g is wide pos fits h =
-    let p : 0 < painted_width g = omega arith in
-    let same = painted_width-painted g p in
-    let fits' : text_width g ≤ room - used = omega arith in
-    let rest : room - (used + width) ≡ room - used - text_width g = omega arith in
-    let all : AreShort (pieces s (g ∷ kept (room - used - text_width g) gs)) = subst (λ ks. AreShort (pieces s ks)) (ap (kept (room - used)) is ∙ kept-take (room - used) g gs p fits') h in
-    let first : IsShort g = All-head (λ p. IsShort p.symbol) (piece_of s g) (pieces s (kept (room - used - text_width g) gs)) all in
-    (first, rw rest (All-tail (λ p. IsShort p.symbol) (piece_of s g) (pieces s (kept (room - used - text_width g) gs)) all))
 
 pub ruleset paint_steps = (painted_width-painted, kept-nil, kept-skip, kept-take, kept-full, painted-nil, painted-cons, IsSameOutside-refl, IsSameOutside-wider, unmarked-refl)

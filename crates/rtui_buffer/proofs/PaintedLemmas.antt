@@ -1,8 +1,9 @@
 -- What painting means, column by column.
-use Rattle.std.proofs.Common.{◌≡◌, ℕ, suc, zero, ◌+◌, ◌-◌, ◌<◌, ◌≤◌, ⊎_elim, List, [], ◌∷◌, length, set, take, All, refl, sym, ap, subst, ◌∙◌, arith, inl, inr, ◌&&◌, nat_lt, if◌then◌else◌, nat_le}
+use Rattle.std.proofs.Common.{◌≡◌, ℕ, suc, zero, ◌+◌, ◌-◌, ◌<◌, ◌≤◌, ⊎_elim, List, [], ◌∷◌, ◌++◌, length, length-append, set, take, All, refl, sym, ap, subst, ◌∙◌, arith, inl, inr, ◌&&◌, nat_lt, if◌then◌else◌, nat_le}
 use Rattle.std.proofs.lemmas.{Bool.cases_lt, List.get_or-set_same, List.length-set, List.ext_get_or, List.Elements.All-nil, List.Elements.All-cons}
-use Rattle.std.proofs.lemmas.{List.Sums.sum_by-cons, Bool.Decides.nat_tests}
-use Rattle.rtui_style.specs.declared.Style.{Style}
+use Rattle.std.proofs.lemmas.{List.Sums.sum_by-cons, List.Sums.sum_by-append, List.Sums.sum_by_more_le, List.get_or_append_left, List.get_or-append_right, List.take-append-le, Bool.Decides.nat_tests}
+use Rattle.std.proofs.Math.Seq.{take-append-add}
+use Rattle.rtui_style.specs.{declared.Style.Style, Style.new_style}
 use Rattle.rtui_cell.specs.{declared.cell.Cell.Cell, Cell.empty_cell, Width.text_width}
 use Rattle.rtui_diff.specs.Cells.{cell}
 use Rattle.rtui_buffer.specs.Painting.{painted_width, kept, Piece, piece_of, pieces, piece_width, columns, AreWide, shown, emptied, with_piece, painted, piece_at, place_of, IsSameOutside, HasPieces}
@@ -54,33 +55,68 @@ with_piece-behind at j p cells pos lt fits =
     let len : length (set cells at c) ≡ length cells = length-set cells at c in
     emptied-inside (at + 1) (piece_width p - 1) (at + j) (set cells at c) (omega arith) (omega arith) (omega arith)
 
-HasPieces-cons : (at : ℕ) (p : Piece) (ps : List Piece) (cells more new : List Cell) → 0 < piece_width p
-    → IsSameOutside at (at + piece_width p) cells more
-    → cell more at ≡ shown p (cell cells at)
-    → ((j : ℕ) → 0 < j → j < piece_width p → cell more (at + j) ≡ empty_cell)
-    → HasPieces (at + piece_width p) ps more new → HasPieces at (p ∷ ps) cells new
-HasPieces-cons at p ps cells more new pos put first behind rest = record {
-  starts = λ k lt. starts_at k lt;
-  behind = λ k j lt q r. behind_at k j lt q r;
-  outside = let sum : columns (p ∷ ps) ≡ piece_width p + columns ps = sum_by-cons piece_width p ps in
-      let end : at + columns (p ∷ ps) ≡ at + piece_width p + columns ps = omega arith in
-      rw end (IsSameOutside-then at (at + piece_width p) (at + piece_width p + columns ps) cells more new (omega arith) (omega arith) put rest.outside);
-} where
-  next_place : (k : ℕ) → at + columns (take (suc k) (p ∷ ps)) ≡ at + piece_width p + columns (take k ps)
-  next_place k = omega (arith, sum_by-cons piece_width p (take k ps))
+-- a piece ends before the pieces after it begin, and it takes a column
+wide-at : (ps : List Piece) (k : ℕ) (d : Piece) → AreWide ps → k < length ps → 0 < piece_width (piece_at ps k)
+wide-at [] k d wide lt = absurd (omega arith)
+wide-at (p ∷ ps) zero d wide lt = wide.0
+wide-at (p ∷ ps) (suc k) d wide lt = wide-at ps k d wide.1 (omega arith)
 
-  starts_at : (k : ℕ) → k < length (p ∷ ps) → cell new (place_of at (p ∷ ps) k) ≡ shown (piece_at (p ∷ ps) k) (cell cells (place_of at (p ∷ ps) k))
-  starts_at zero lt =
-      let here : at + columns [] ≡ at = omega arith in
-      rw here (rest.outside.before at (omega arith) ∙ first)
-  starts_at (suc k) lt =
-      rw (next_place k) (rest.starts k (omega arith) ∙ ap (shown (piece_at ps k)) (put.behind (at + piece_width p + columns (take k ps)) (omega arith)))
+abbrev no_piece : Piece
+no_piece = piece_of new_style []
 
-  behind_at : (k j : ℕ) → k < length (p ∷ ps) → 0 < j → j < piece_width (piece_at (p ∷ ps) k) → cell new (place_of at (p ∷ ps) k + j) ≡ empty_cell
-  behind_at zero j lt q r =
-      let here : at + columns [] + j ≡ at + j = omega arith in
-      rw here (rest.outside.before (at + j) (omega arith) ∙ behind j q r)
-  behind_at (suc k) j lt q r = rw (next_place k) (rest.behind k j (omega arith) q r)
+module _ (at : ℕ) (ps qs : List Piece) (old mid new : List Cell) (wide : AreWide ps) (first : HasPieces at ps old mid) (second : HasPieces (at + columns ps) qs mid new) where
+  -- a piece of the first ones
+  module _ (k : ℕ) (lt : k < length ps) where
+    front-at : piece_at (ps ++ qs) k ≡ piece_at ps k
+    front-at = get_or_append_left ps qs no_piece k lt
+
+    front-place : place_of at (ps ++ qs) k ≡ place_of at ps k
+    front-place = ap (λ rs. at + columns rs) (take-append-le k ps qs (omega arith))
+
+    front-ends : place_of at ps k + piece_width (piece_at ps k) ≤ at + columns ps
+    front-ends = let e = sum_by_more_le piece_width ps k no_piece lt in omega arith
+
+  -- a piece of the others
+  module _ (k : ℕ) (ge : length ps ≤ k) where
+    rest-at : piece_at (ps ++ qs) k ≡ piece_at qs (k - length ps)
+    rest-at = get_or-append_right ps qs (length ps) k no_piece refl ge
+
+    rest-place : place_of at (ps ++ qs) k ≡ place_of (at + columns ps) qs (k - length ps)
+    rest-place =
+        let e : k ≡ length ps + (k - length ps) = omega arith in
+        ap (λ rs. at + columns rs) (ap (λ i. take i (ps ++ qs)) e ∙ take-append-add ps qs (k - length ps)) ∙ (let sum = sum_by-append piece_width ps (take (k - length ps) qs) in omega arith)
+
+  pub HasPieces-append : HasPieces at (ps ++ qs) old new
+  HasPieces-append =
+      let both : length (ps ++ qs) ≡ length ps + length qs = length-append ps qs in
+      let ends : at + columns (ps ++ qs) ≡ at + columns ps + columns qs = omega (arith, sum_by-append piece_width ps qs) in
+      record {
+        starts = λ k lt. elim (cases_lt k (length ps)) [
+          | inl front ↦
+              let some = wide-at ps k no_piece wide front in let end = front-ends k front in
+              rw (front-place k front, front-at k front) (second.outside.before (place_of at ps k) (omega arith) ∙ first.starts k front)
+          | inr rest ↦
+              rw (rest-place k rest, rest-at k rest)
+              (second.starts (k - length ps) (omega arith) ∙ ap (shown (piece_at qs (k - length ps))) (first.outside.behind (place_of (at + columns ps) qs (k - length ps)) (omega arith)))
+        ];
+        behind = λ k j lt some less. elim (cases_lt k (length ps)) [
+          | inl front ↦
+              let inside : j < piece_width (piece_at ps k) = rw (front-at k front) at less in let end = front-ends k front in
+              rw (front-place k front) (second.outside.before (place_of at ps k + j) (omega arith) ∙ first.behind k j front some inside)
+          | inr rest ↦ rw (rest-place k rest) (second.behind (k - length ps) j (omega arith) some (rw (rest-at k rest) at less))
+        ];
+        outside = rw ends (IsSameOutside-then at (at + columns ps) (at + columns ps + columns qs) old mid new (omega arith) (omega arith) first.outside second.outside);
+      }
+
+HasPieces-one : (at : ℕ) (p : Piece) (cells : List Cell) → 0 < piece_width p → at + piece_width p ≤ length cells → HasPieces at (p ∷ []) cells (with_piece at p cells)
+HasPieces-one at p cells pos fits =
+    let here : at + columns [] ≡ at = omega arith in
+    let one : columns (p ∷ []) ≡ piece_width p = sum_by-cons piece_width p [] ∙ omega arith in
+    record {
+      starts = λ k lt. let first : k ≡ 0 = omega arith in rw (first, here) (with_piece-first at p cells (omega arith));
+      behind = λ k j lt q r. let first : k ≡ 0 = omega arith in rw (first, here) (with_piece-behind at j p cells q (rw first at r) fits);
+      outside = rw one (IsSameOutside-put at at p cells cells (omega arith) pos (IsSameOutside-refl at at cells));
+    }
 
 pub HasPieces-none : (at : ℕ) (cells : List Cell) → HasPieces at [] cells cells
 HasPieces-none at cells = record {
@@ -95,26 +131,24 @@ HasPieces-painted at [] cells wide fits = HasPieces-none at cells
 HasPieces-painted at (p ∷ ps) cells wide fits =
     let pos : 0 < piece_width p = wide.0 in
     let sum : columns (p ∷ ps) ≡ piece_width p + columns ps = sum_by-cons piece_width p ps in
-    let more : List Cell = with_piece at p cells in
-    let put : IsSameOutside at (at + piece_width p) cells more = IsSameOutside-put at at p cells cells (omega arith) pos (IsSameOutside-refl at at cells) in
-    let len : length more ≡ length cells = put.count in
-    let rest : HasPieces (at + piece_width p) ps more (painted (at + piece_width p) ps more) = HasPieces-painted (at + piece_width p) ps more wide.1 (omega arith) in
-    HasPieces-cons at p ps cells more (painted (at + piece_width p) ps more) pos put (with_piece-first at p cells (omega arith)) (λ j q lt. with_piece-behind at j p cells q lt (omega arith)) rest
+    let one : columns (p ∷ []) ≡ piece_width p = sum_by-cons piece_width p [] ∙ omega arith in
+    let put = HasPieces-one at p cells pos (omega arith) in
+    let rest = HasPieces-painted (at + piece_width p) ps (with_piece at p cells) wide.1 (omega (arith, put.outside.count)) in
+    HasPieces-append at (p ∷ []) ps cells (with_piece at p cells) _ (pos, tt) put (rw one rest)
 
 -- what holds of no graphemes, and with one more of some width, holds of the kept ones
 kept-step : (P : ℕ → List (List ℕ) → Type 0) → ((room : ℕ) → P room [])
     → ((room : ℕ) (g : List ℕ) (ks : List (List ℕ)) → 0 < text_width g → text_width g ≤ room → P (room - text_width g) ks → P room (g ∷ ks))
     → (room : ℕ) (g : List ℕ) (gs : List (List ℕ)) → ((r : ℕ) → P r (kept r gs)) → P room (kept room (g ∷ gs))
-kept-step P none more room g gs h =
-    ⊎_elim
-    (λ (pos : 0 < painted_width g).
-    let same = painted_width-painted g pos in
-    ⊎_elim
-    (λ (lt : room < text_width g). subst (P room) (sym (kept-full room g gs pos lt)) (none room))
-    (λ (le : text_width g ≤ room). subst (P room) (sym (kept-take room g gs pos le)) (more room g (kept (room - text_width g) gs) (omega arith) le (h (room - text_width g))))
-    (cases_lt room (text_width g)))
-    (λ (none_wide : painted_width g ≤ 0). let e : painted_width g ≡ 0 = omega arith in subst (P room) (sym (kept-skip room g gs e)) (h room))
-    (cases_lt 0 (painted_width g))
+kept-step P none more room g gs h = elim (cases_lt 0 (painted_width g)) [
+  | inl pos ↦
+      let same = painted_width-painted g pos in
+      elim (cases_lt room (text_width g)) [
+        | inl lt ↦ rw (kept-full room g gs pos lt) (none room)
+        | inr le ↦ rw (kept-take room g gs pos le) (more room g (kept (room - text_width g) gs) (omega arith) le (h (room - text_width g)))
+      ]
+  | inr none_wide ↦ rw (kept-skip room g gs (omega arith)) (h room)
+]
 
 kept-ind : (P : ℕ → List (List ℕ) → Type 0) → ((room : ℕ) → P room [])
     → ((room : ℕ) (g : List ℕ) (ks : List (List ℕ)) → 0 < text_width g → text_width g ≤ room → P (room - text_width g) ks → P room (g ∷ ks))
@@ -135,10 +169,4 @@ columns-kept s room gs = kept-ind (λ r ks. columns (pieces s ks) ≤ r) (λ r. 
 pub kept-none : (gs : List (List ℕ)) → kept 0 gs ≡ []
 kept-none gs = kept-ind (λ r ks. r ≡ 0 → ks ≡ []) (λ r e. refl) (λ r g ks pos le h e. absurd (omega arith)) gs 0 refl
 
-pub HasPieces-kept : (s : Style) (at room : ℕ) (gs : List (List ℕ)) (cells new : List Cell) → new ≡ painted at (pieces s (kept room gs)) cells → at + room ≤ length cells
-    → HasPieces at (pieces s (kept room gs)) cells new
-HasPieces-kept s at room gs cells new e fits =
-    let le = columns-kept s room gs in
-    rw e (HasPieces-painted at (pieces s (kept room gs)) cells (AreWide-kept s room gs) (omega arith))
-
-pub ruleset shown_steps = (HasPieces-kept)
+pub ruleset shown_steps = (HasPieces-none)

@@ -1,11 +1,11 @@
 -- Lines painted in rows of their own.
-use Rattle.std.proofs.Common.{◌≡◌, ℕ, zero, suc, ◌+◌, ◌-◌, ◌*◌, ◌<◌, ◌≤◌, true, false, List, [], ◌∷◌, ◌++◌, length, get_or, set, take, refl, sym, ap, subst, ◌∙◌, arith, add-one, append_assoc, append-nil}
-use Rattle.std.proofs.Math.Seq.{take-suc, take-append_seam, drop-append-add}
-use Rattle.std.proofs.lemmas.List.{set-append_left, set-append_right, get_or_append_left, get_or-append-add, length-append, length-set, length-replicate, length-take-le, replicate-append-replicate}
+use Rattle.std.proofs.Common.{◌≡◌, ℕ, zero, suc, ◌+◌, ◌-◌, ◌*◌, ◌<◌, ◌≤◌, List, [], ◌∷◌, ◌++◌, length, get_or, set, take, refl, sym, ap, subst, ◌∙◌, arith, add-one, append_assoc, append-nil}
+use Rattle.std.proofs.Math.Seq.{take-suc, take-length, take-append_seam, drop-append-add}
+use Rattle.std.proofs.lemmas.List.{set-append_left, set-append_right, get_or_append_left, get_or-append-add, get_or_default, length-append, length-set, length-replicate, length-take-le, replicate-append-replicate}
 use Rattle.std.proofs.lemmas.{List.Sums.sum_by-cons, Grind.flat_map-append}
-use Rattle.rtui_cell.specs.{declared.cell.Cell.Cell, Cell.empty_cell, Cell.width_of, Cell.is_skipped}
-use Rattle.rtui_diff.specs.{Cells.cell, Cells.cell_at, Settled.IsSettled, Settled.IsBlankOrSkipped}
-use Rattle.rtui_text.specs.Text.{LineData}
+use Rattle.rtui_cell.specs.{declared.cell.Cell.Cell, Cell.empty_cell}
+use Rattle.rtui_diff.specs.{Cells.cell, Settled.IsSettled}
+use Rattle.rtui_text.specs.Text.{LineData, line_of}
 use Rattle.rtui_buffer.specs.BufferData.{empty_cells, row_cells}
 use Rattle.rtui_buffer.specs.Painting.{Piece, piece_width, columns, AreWide, shown, emptied, with_piece, painted, HasPieces}
 use Rattle.rtui_buffer.specs.Line.{line_pieces, line_row, line_rows, line_at, ShowsLines}
@@ -13,57 +13,42 @@ use Rattle.rtui_buffer.proofs.{EmptyLemmas.cell-empty, SettledLemmas.IsSettled-e
 use Rattle.rtui_buffer.proofs.PaintLemmas.{painted-nil, painted-cons, IsSameOutside-refl, IsSameOutside-put}
 use Rattle.rtui_buffer.proofs.LineLemmas.{columns-line, AreWide-line, HasPieces-line}
 
--- painting after a front leaves it
-module _ (front : List Cell) where
-  set-behind : (cells : List Cell) (at : ℕ) (c : Cell) → set (front ++ cells) (length front + at) c ≡ front ++ set cells at c
-  set-behind cells at c =
+-- painting between a front and others leaves both
+module _ (front others : List Cell) where
+  set-within : (cells : List Cell) (at : ℕ) (c : Cell) → at < length cells → set (front ++ (cells ++ others)) (length front + at) c ≡ front ++ (set cells at c ++ others)
+  set-within cells at c inside =
       let e : length front + at - length front ≡ at = omega arith in
-      set-append_right front cells (length front) (length front + at) c refl (omega arith) ∙ ap (λ n. front ++ set cells n c) e
+      set-append_right front (cells ++ others) (length front) (length front + at) c refl (omega arith)
+      ∙ ap (λ cs. front ++ cs) (ap (λ n. set (cells ++ others) n c) e ∙ set-append_left cells others at c inside)
 
-  emptied-behind : (at n : ℕ) (cells : List Cell) → emptied (length front + at) n (front ++ cells) ≡ front ++ emptied at n cells
+  emptied-within : (at n : ℕ) (cells : List Cell) → at + n ≤ length cells → emptied (length front + at) n (front ++ (cells ++ others)) ≡ front ++ (emptied at n cells ++ others)
   unfolding emptied
-  emptied-behind at zero cells = refl
-  emptied-behind at (suc n) cells =
+  emptied-within at zero cells le = refl
+  emptied-within at (suc n) cells le =
       let e : length front + at + 1 ≡ length front + (at + 1) = omega arith in
-      rw (e, set-behind cells at empty_cell) (emptied-behind (at + 1) n (set cells at empty_cell))
-
-  with_piece-front : (at : ℕ) (p : Piece) (cells : List Cell) → with_piece (length front + at) p (front ++ cells) ≡ front ++ with_piece at p cells
-  unfolding with_piece
-  with_piece-front at p cells =
-      let e : length front + at + 1 ≡ length front + (at + 1) = omega arith in
-      rw (e, get_or-append-add front cells at empty_cell, set-behind cells at (shown p (cell cells at))) (emptied-behind (at + 1) (piece_width p - 1) (set cells at (shown p (cell cells at))))
-
-  pub painted-front : (at : ℕ) (ps : List Piece) (cells : List Cell) → painted (length front + at) ps (front ++ cells) ≡ front ++ painted at ps cells
-  painted-front at [] cells = painted-nil (length front + at) (front ++ cells) ∙ ap (λ cs. front ++ cs) (sym (painted-nil at cells))
-  painted-front at (p ∷ ps) cells =
-      let e : length front + at + piece_width p ≡ length front + (at + piece_width p) = omega arith in
-      rw (painted-cons (length front + at) p ps (front ++ cells), painted-cons at p ps cells, e, with_piece-front at p cells) (painted-front (at + piece_width p) ps (with_piece at p cells))
-
--- painting before others leaves them
-module _ (others : List Cell) where
-  emptied-others : (at n : ℕ) (cells : List Cell) → at + n ≤ length cells → emptied at n (cells ++ others) ≡ emptied at n cells ++ others
-  unfolding emptied
-  emptied-others at zero cells le = refl
-  emptied-others at (suc n) cells le =
       let len : length (set cells at empty_cell) ≡ length cells = length-set cells at empty_cell in
-      let inside : at < length cells = omega arith in
-      rw (set-append_left cells others at empty_cell inside) (emptied-others (at + 1) n (set cells at empty_cell) (omega arith))
+      rw (e, set-within cells at empty_cell (omega arith)) (emptied-within (at + 1) n (set cells at empty_cell) (omega arith))
 
-  with_piece-others : (at : ℕ) (p : Piece) (cells : List Cell) → 0 < piece_width p → at + piece_width p ≤ length cells → with_piece at p (cells ++ others) ≡ with_piece at p cells ++ others
+  with_piece-within : (at : ℕ) (p : Piece) (cells : List Cell) → 0 < piece_width p → at + piece_width p ≤ length cells
+      → with_piece (length front + at) p (front ++ (cells ++ others)) ≡ front ++ (with_piece at p cells ++ others)
   unfolding with_piece
-  with_piece-others at p cells pos le =
+  with_piece-within at p cells pos le =
+      let e : length front + at + 1 ≡ length front + (at + 1) = omega arith in
       let inside : at < length cells = omega arith in
       let more : List Cell = set cells at (shown p (cell cells at)) in
       let len : length more ≡ length cells = length-set cells at (shown p (cell cells at)) in
-      rw (get_or_append_left cells others empty_cell at inside, set-append_left cells others at (shown p (cell cells at)) inside) (emptied-others (at + 1) (piece_width p - 1) more (omega arith))
+      rw (e, get_or-append-add front (cells ++ others) at empty_cell, get_or_append_left cells others empty_cell at inside, set-within cells at (shown p (cell cells at)) inside)
+      (emptied-within (at + 1) (piece_width p - 1) more (omega arith))
 
-  pub painted-others : (at : ℕ) (ps : List Piece) (cells : List Cell) → AreWide ps → at + columns ps ≤ length cells → painted at ps (cells ++ others) ≡ painted at ps cells ++ others
-  painted-others at [] cells wide le = painted-nil at (cells ++ others) ∙ ap (λ cs. cs ++ others) (sym (painted-nil at cells))
-  painted-others at (p ∷ ps) cells wide le =
+  painted-within : (at : ℕ) (ps : List Piece) (cells : List Cell) → AreWide ps → at + columns ps ≤ length cells → painted (length front + at) ps (front ++ (cells ++ others)) ≡ front ++ (painted at ps cells ++ others)
+  painted-within at [] cells wide le = rw (painted-nil, painted-nil at cells) refl
+  painted-within at (p ∷ ps) cells wide le =
       let sum : columns (p ∷ ps) ≡ piece_width p + columns ps = sum_by-cons piece_width p ps in
       let pos : 0 < piece_width p = wide.0 in
+      let e : length front + at + piece_width p ≡ length front + (at + piece_width p) = omega arith in
       let len : length (with_piece at p cells) ≡ length cells = (IsSameOutside-put at at p cells cells (omega arith) pos (IsSameOutside-refl at at cells)).count in
-      rw (painted-cons at p ps (cells ++ others), painted-cons at p ps cells, with_piece-others at p cells pos (omega arith)) (painted-others (at + piece_width p) ps (with_piece at p cells) wide.1 (omega arith))
+      rw (painted-cons (length front + at) p ps (front ++ (cells ++ others)), painted-cons at p ps cells, e, with_piece-within at p cells pos (omega arith))
+      (painted-within (at + piece_width p) ps (with_piece at p cells) wide.1 (omega arith))
 
 pub HasPieces-row : (w : ℕ) (l : LineData) → HasPieces 0 (line_pieces w l.style l.spans) (empty_cells w) (line_row w l)
 unfolding line_row
@@ -101,57 +86,36 @@ rows-turn w i start ls l cells more lt is place former put =
     let room : length (empty_cells w) ≡ w = length-replicate w empty_cell in
     let le : columns ps ≤ w = columns-line w l.style l.spans in
     put ∙ ap (λ cs. painted start ps cs) (former ∙ ap (λ cs. front ++ cs) split) ∙ ap (λ n. painted n ps (front ++ (empty_cells w ++ others))) at
-    ∙ painted-front front 0 ps (empty_cells w ++ others)
-    ∙ ap (λ cs. front ++ cs) (painted-others others 0 ps (empty_cells w) (AreWide-line w l.style l.spans) (omega arith))
+    ∙ painted-within front others 0 ps (empty_cells w) (AreWide-line w l.style l.spans) (omega arith)
     ∙ sym (append_assoc front (painted 0 ps (empty_cells w)) others)
     ∙ ap (λ cs. cs ++ others) (ap (λ r. front ++ r) (row-is w l) ∙ sym (rows-suc w i ls l lt is))
 
-module _ (w n : ℕ) (row others : List Cell) (len : length row ≡ w) (h : IsSettled w 1 row) (g : IsSettled w n others) where
-  in_first : (a : ℕ) → a < w → cell_at w (row ++ others) a 0 ≡ cell_at w row a 0
-  in_first a lt = get_or_append_left row others empty_cell (0 * w + a) (omega arith)
-
-  in_others : (a b : ℕ) → cell_at w (row ++ others) a (suc b) ≡ cell_at w others a b
-  in_others a b =
-      let e : suc b * w + a ≡ length row + (b * w + a) = omega arith in
-      ap (λ i. cell (row ++ others) i) e ∙ get_or-append-add row others (b * w + a) empty_cell
-
-  pub IsSettled-cons : IsSettled w (suc n) (row ++ others)
-  IsSettled-cons = record {
-    skipped = λ a b al bl s. skipped_at a b al bl s;
-    within = λ a b al bl s. within_at a b al bl s;
-    behind = λ a b k al bl s more less. behind_at a b k al bl s more less;
-  } where
-    skipped_at : (a b : ℕ) → a < w → b < suc n → is_skipped (cell_at w (row ++ others) a b) ≡ true → width_of (cell_at w (row ++ others) a b) ≤ 1
-    skipped_at a zero al bl s = subst (λ c. width_of c ≤ 1) (sym (in_first a al)) (h.skipped a 0 al (omega arith) (subst (λ c. is_skipped c ≡ true) (in_first a al) s))
-    skipped_at a (suc b) al bl s = subst (λ c. width_of c ≤ 1) (sym (in_others a b)) (g.skipped a b al (omega arith) (subst (λ c. is_skipped c ≡ true) (in_others a b) s))
-
-    within_at : (a b : ℕ) → a < w → b < suc n → is_skipped (cell_at w (row ++ others) a b) ≡ false → a + width_of (cell_at w (row ++ others) a b) ≤ w
-    within_at a zero al bl s = subst (λ c. a + width_of c ≤ w) (sym (in_first a al)) (h.within a 0 al (omega arith) (subst (λ c. is_skipped c ≡ false) (in_first a al) s))
-    within_at a (suc b) al bl s = subst (λ c. a + width_of c ≤ w) (sym (in_others a b)) (g.within a b al (omega arith) (subst (λ c. is_skipped c ≡ false) (in_others a b) s))
-
-    behind_at : (a b k : ℕ) → a < w → b < suc n → is_skipped (cell_at w (row ++ others) a b) ≡ false → a < k → k < a + width_of (cell_at w (row ++ others) a b) → IsBlankOrSkipped (cell_at w (row ++ others) k b)
-    behind_at a zero k al bl s more less =
-        let ends = within_at a zero al bl s in
-        let kl : k < w = omega arith in
-        subst IsBlankOrSkipped (sym (in_first k kl)) (h.behind a 0 k al (omega arith) (subst (λ c. is_skipped c ≡ false) (in_first a al) s) more (subst (λ c. k < a + width_of c) (in_first a al) less))
-    behind_at a (suc b) k al bl s more less =
-        subst IsBlankOrSkipped (sym (in_others k b)) (g.behind a b k al (omega arith) (subst (λ c. is_skipped c ≡ false) (in_others a b) s) more (subst (λ c. k < a + width_of c) (in_others a b) less))
-
-row-settled : (w : ℕ) (l : LineData) → IsSettled w 1 (line_row w l)
-row-settled w l =
-    let le : columns (line_pieces w l.style l.spans) ≤ w = columns-line w l.style l.spans in
-    let here : 0 ≡ 0 * w + 0 = omega arith in
-    IsSettled-painted w 1 0 0 (line_pieces w l.style l.spans) (empty_cells w) (line_row w l)
-    (subst (λ n. HasPieces n (line_pieces w l.style l.spans) (empty_cells w) (line_row w l)) here (HasPieces-row w l))
-    (IsSettled-empty w 1 (empty_cells w) (cell-empty w)) (λ a le lt. unmarked_empty (cell-empty w (0 * w + a))) (λ a lt. absurd (omega arith)) (omega arith) (omega arith)
+-- after each turn the rows are settled: the one that was painted was empty
+settled-front : (w : ℕ) (ls : List LineData) (i : ℕ) → i ≤ length ls → IsSettled w (length ls) (line_rows w (take i ls) ++ empty_cells (w * (length ls - i)))
+settled-front w ls zero le = IsSettled-empty w (length ls) _ (cell-empty (w * (length ls - 0)))
+settled-front w ls (suc i) le =
+    let l = line_at ls i in
+    let ps : List Piece = line_pieces w l.style l.spans in
+    let front : List Cell = line_rows w (take i ls) in
+    let now : List Cell = front ++ empty_cells (w * (length ls - i)) in
+    let start : i * w + 0 ≡ i * w = omega arith in
+    let len : length front ≡ w * i = length-rows w (take i ls) ∙ ap (λ n. w * n) (length-take-le i ls (omega arith)) in
+    let left : length ls - i ≡ suc (length ls - (i + 1)) = omega arith in
+    let size : w * (length ls - i) ≡ w + w * (length ls - (i + 1)) = rw left (omega arith) in
+    let count : length now ≡ w * i + w * (length ls - i) = simp (length-append, length-replicate) (omega arith) in
+    let columns_ : columns ps ≤ w = columns-line w l.style l.spans in
+    let empty : (a : ℕ) → cell now (i * w + a) ≡ empty_cell = λ a. ap (cell now) (omega arith) ∙ get_or-append-add front _ a empty_cell ∙ cell-empty _ a in
+    let next = rows-turn w i (i * w + 0) ls l now (painted (i * w + 0) ps now) (omega arith) (get_or_default ls i (line_of []) l (omega arith)) start refl refl in
+    rw (← add-one i, ← next)
+    (IsSettled-painted w (length ls) 0 i ps now (painted (i * w + 0) ps now) (HasPieces-line (i * w + 0) w l.style l.spans now _ refl (omega arith)) (settled-front w ls i (omega arith))
+    (λ a from to. unmarked_empty (empty a)) (λ a lt. absurd (omega arith)) (omega arith) (omega arith))
 
 pub IsSettled-rows : (w : ℕ) (ls : List LineData) → IsSettled w (length ls) (line_rows w ls)
-IsSettled-rows w [] = record {
-  skipped = λ a b al bl. absurd (omega arith);
-  within = λ a b al bl. absurd (omega arith);
-  behind = λ a b k al bl. absurd (omega arith);
-}
-IsSettled-rows w (l ∷ ls) = IsSettled-cons w (length ls) (line_row w l) (line_rows w ls) (length-row w l) (row-settled w l) (IsSettled-rows w ls)
+IsSettled-rows w ls =
+    let zero_ : length ls - length ls ≡ 0 = omega arith in
+    let none : w * 0 ≡ 0 = omega arith in
+    let all : line_rows w (take (length ls) ls) ++ empty_cells (w * (length ls - length ls)) ≡ line_rows w ls = rw (zero_, none, take-length ls) (append-nil (line_rows w ls)) in
+    subst (IsSettled w (length ls)) all (settled-front w ls (length ls) (omega arith))
 
 row-at : (w : ℕ) (ls : List LineData) (k : ℕ) → k < length ls → row_cells w (line_rows w ls) k ≡ line_row w (line_at ls k)
 row-at w [] k lt = absurd (omega arith)

@@ -1,11 +1,12 @@
 -- Painting within a row keeps a frame settled.
-use Rattle.std.proofs.Common.{◌≡◌, ℕ, suc, ◌+◌, ◌-◌, ◌*◌, ◌/◌, ◌%◌, ◌<◌, ◌≤◌, ⊎_elim, true, false, List, [], ◌∷◌, length, take, inl, refl, sym, ap, subst, ◌∙◌, arith}
-use Rattle.std.proofs.lemmas.{Bool.cases_lt, Nat.mod-mul-add, Nat.row_fits, List.Sums.sum_by-cons}
+use Rattle.std.proofs.Common.{◌≡◌, ℕ, suc, ◌+◌, ◌-◌, ◌*◌, ◌/◌, ◌%◌, ◌<◌, ◌≤◌, ⊎_elim, true, false, List, [], ◌∷◌, length, take, inl, inr, refl, sym, ap, subst, ◌∙◌, arith}
+use Rattle.std.proofs.lemmas.{Bool.cases_lt, Nat.mod-mul-add, List.Sums.sum_by-cons}
 use Rattle.rtui_cell.specs.{declared.cell.Cell.Cell, Equality.is_same}
 use Rattle.rtui_cell.specs.Cell.{empty_cell, width_of, is_skipped, IsUnmarked}
 use Rattle.rtui_cell.proofs.CellLemmas.{width-empty, same-empty}
-use Rattle.rtui_diff.specs.{Cells.cell, Cells.cell_at, Settled.IsSettled, Settled.IsSettledAt, Settled.IsBlankOrSkipped}
+use Rattle.rtui_diff.specs.{Cells.cell, Cells.cell_at, Settled.IsSettled, Settled.IsSettledAt}
 use Rattle.rtui_diff.proofs.{FrameLemmas.column_in, FrameLemmas.row_start, SettledLemmas.settled_at, SettledLemmas.settled_from}
+use Rattle.rtui_grid.proofs.PlaceLemmas.{by_rows}
 use Rattle.rtui_buffer.specs.Painting.{Piece, piece_width, columns, shown, piece_at, place_of, HasPieces}
 
 pub unmarked_empty : {c : Cell} → c ≡ empty_cell → IsUnmarked c
@@ -94,48 +95,32 @@ module _ (w h x y : ℕ) (ps : List Piece) (old new : List Cell) (is : HasPieces
       let at : IsSettledAt w old i = settled_at w h old i lt was in
       let ends : i % w + width_of (cell old i) ≤ w = at.within plain in
       let split : i / w * w + i % w ≡ i = row_start w h i in
-      ⊎_elim
-      (λ (above : i / w < y). let r : i / w * w + w ≤ y * w = row_fits (i / w) w y w above (omega arith) in omega arith)
-      (λ (not_above : y ≤ i / w).
-      ⊎_elim
-      (λ (below : y < i / w). let r : y * w + w ≤ i / w * w = row_fits y w (i / w) w below (omega arith) in absurd (omega arith))
-      (λ (not_below : i / w ≤ y).
-      let same : i / w ≡ y = omega arith in
+      by_rows _ w (i / w) y (λ _ r. omega arith) (λ _ r. absurd (omega arith)) (λ same.
       let start : i / w * w ≡ y * w = ap (λ q. q * w) same in
       let here : y * w + i % w ≡ i = omega arith in
       let plain' : is_skipped (cell_at w old (i % w) y) ≡ false = subst (λ n. is_skipped (cell old n) ≡ false) (sym here) plain in
       let reach : i % w + width_of (cell old i) ≤ x = subst (λ n. i % w + width_of (cell old n) ≤ x) here (uncovered (i % w) (omega arith) plain') in
       omega arith)
-      (cases_lt y (i / w)))
-      (cases_lt (i / w) y)
 
   -- a cell that is as before, and so are those that it covers
   settled_at-former : (i : ℕ) → i < w * h → cell new i ≡ cell old i
       → ((k : ℕ) → is_skipped (cell old i) ≡ false → i < k → k < i + width_of (cell old i) → cell new k ≡ cell old k) → IsSettledAt w new i
   settled_at-former i lt same covered =
       let at : IsSettledAt w old i = settled_at w h old i lt was in
-      let plain_too : is_skipped (cell new i) ≡ is_skipped (cell old i) = ap is_skipped same in
-      let wide_too : width_of (cell new i) ≡ width_of (cell old i) = ap width_of same in
       record {
-        skipped = λ s. let n = at.skipped (sym plain_too ∙ s) in omega arith;
-        within = λ s. let n = at.within (sym plain_too ∙ s) in omega arith;
-        behind = λ s k more less.
-            let s' : is_skipped (cell old i) ≡ false = sym plain_too ∙ s in
-            let less' : k < i + width_of (cell old i) = omega arith in
-            subst IsBlankOrSkipped (sym (covered k s' more less')) (at.behind s' k more less');
+        skipped = rw same at.skipped;
+        within = rw same at.within;
+        behind = rw same (λ s k more less. rw (covered k s more less) (at.behind s k more less));
       }
 
   settled_at-painted : (i : ℕ) → i < w * h → IsSettledAt w new i
-  settled_at-painted i lt =
-      ⊎_elim
-      (λ (before : i < y * w + x).
-      settled_at-former i lt (is.outside.before i before) (λ k s more less. let e = ends_before i lt before s in is.outside.before k (omega arith)))
-      (λ (from : y * w + x ≤ i).
-      ⊎_elim
-      (λ (inside : i < y * w + x + columns ps). settled_at-inside i lt (is_in ps (i - (y * w + x)) (omega arith)) from)
-      (λ (behind : y * w + x + columns ps ≤ i). settled_at-former i lt (is.outside.behind i behind) (λ k s more less. is.outside.behind k (omega arith)))
-      (cases_lt i (y * w + x + columns ps)))
-      (cases_lt i (y * w + x))
+  settled_at-painted i lt = elim (cases_lt i (y * w + x)) [
+    | inl before ↦ settled_at-former i lt (is.outside.before i before) (λ k s more less. let e = ends_before i lt before s in is.outside.before k (omega arith))
+    | inr from ↦ elim (cases_lt i (y * w + x + columns ps)) [
+      | inl inside ↦ settled_at-inside i lt (is_in ps (i - (y * w + x)) (omega arith)) from
+      | inr behind ↦ settled_at-former i lt (is.outside.behind i behind) (λ k s more less. is.outside.behind k (omega arith))
+    ]
+  ]
 
   pub IsSettled-painted : IsSettled w h new
   IsSettled-painted = settled_from w h new settled_at-painted

@@ -1,6 +1,7 @@
 -- Short graphemes make short pieces.
-use Rattle.std.proofs.Common.{ℕ, ◌-◌, Bool, true, false, cond, List, [], ◌∷◌, All, arith, nat_le}
+use Rattle.std.proofs.Common.{ℕ, ◌-◌, true, List, [], ◌∷◌, All, arith}
 use Rattle.std.specs.Str.{IsAscii}
+use Rattle.std.proofs.lemmas.Bool.{cond_both}
 use Rattle.std.proofs.lemmas.List.Elements.{All-nil, All-cons, All-head, All-tail, All-append, All-filter, All-map, All-weaker}
 use Rattle.unicode_segmentation.specs.Grapheme.{graphemes}
 use Rattle.rtui_style.specs.{declared.Style.Style, Style.patch}
@@ -10,16 +11,12 @@ use Rattle.rtui_text.proofs.PrintableLemmas.{IsAsciiPiece, ascii-graphemes}
 use Rattle.rtui_buffer.specs.Painting.{has_painted_width, fitting, kept, Piece, piece_of, text_pieces, columns}
 use Rattle.rtui_buffer.specs.{PaintedText.AreShort, PaintedText.HasShortGraphemes, PaintedText.HaveShortGraphemes, Line.line_pieces}
 
-either : (P : List ℕ → Type 0) (b : Bool) (g : List ℕ) (gs : List (List ℕ)) → P g → All P gs → All P (cond b (g ∷ gs) [])
-either P true g gs first rest = All-cons P g gs first rest
-either P false g gs first rest = All-nil P
-
 -- what holds of each grapheme holds of those that fit
 pub All-fitting : (P : List ℕ → Type 0) (room : ℕ) (gs : List (List ℕ)) → All P gs → All P (fitting room gs)
 unfolding fitting
 All-fitting P room [] all = All-nil P
 All-fitting P room (g ∷ gs) all =
-    either P (nat_le (text_width g) room) g (fitting (room - text_width g) gs) (All-head P g gs all) (All-fitting P (room - text_width g) gs (All-tail P g gs all))
+    cond_both _ (g ∷ fitting (room - text_width g) gs) [] (All P) (λ _. All-cons P g _ (All-head P g gs all) (All-fitting P (room - text_width g) gs (All-tail P g gs all))) (λ _. All-nil P)
 
 All-kept : (P : List ℕ → Type 0) (room : ℕ) (gs : List (List ℕ)) → All P gs → All P (kept room gs)
 unfolding kept

@@ -1,13 +1,12 @@
 -- Empty buffers with a style, and the looks of shown cells.
-use Rattle.std.proofs.Common.{◌≡◌, ℕ, ◌+◌, ◌-◌, ◌*◌, ◌<◌, ◌≤◌, ◌⊎◌, ⊎_elim, inl, inr, List, length, take, false, refl, sym, ap, ap₂, subst, ◌∙◌, arith}
-use Rattle.std.proofs.lemmas.Bool.{cases_lt}
+use Rattle.std.proofs.Common.{◌≡◌, ℕ, ◌+◌, ◌-◌, ◌*◌, ◌<◌, ◌≤◌, ◌⊎◌, inl, inr, List, length, take, false, refl, sym, ap, ap₂, subst, ◌∙◌, arith}
 use Rattle.rtui_geometry.specs.{declared.position.Position.Position, declared.rect.Rect.Rect}
-use Rattle.rtui_geometry.specs.Rect.{HasPosition, EdgesFit, right_edge, bottom_edge}
+use Rattle.rtui_geometry.specs.Rect.{HasPosition, EdgesFit}
 use Rattle.rtui_style.specs.declared.Style.{Style}
 use Rattle.rtui_cell.specs.{declared.cell.Cell.Cell, Look.look_of, Grid.Grid}
 use Rattle.rtui_cell.specs.Cell.{empty_cell, styled, width_of, is_skipped, IsUnmarked}
 use Rattle.rtui_cell.proofs.CellLemmas.{width-empty}
-use Rattle.rtui_diff.specs.{Cells.cell, Cells.cell_at, Settled.IsSettled}
+use Rattle.rtui_diff.specs.{Cells.cell_at, Settled.IsSettled}
 use Rattle.rtui_buffer.specs.BufferData.{BufferData, IsEmptied, HasRow, area_size, cell_in, cell_index, position_of}
 use Rattle.rtui_buffer.specs.Shown.{IsSettledBuffer, ShowsBuffer}
 use Rattle.rtui_buffer.specs.Painting.{Piece, columns, shown, piece_at}
@@ -27,23 +26,7 @@ unfolding width_of
 blank-styled s = record { width = width-empty; unmarked = record { option = refl; flag = refl } }
 
 has-or-not : (r : Rect) (p : Position) → HasPosition r p ⊎ ¬ (HasPosition r p)
-has-or-not r p =
-    ⊎_elim
-    (λ (lt : p.x < r.x). inr (λ h. let l = h.left in absurd (omega arith)))
-    (λ (left : r.x ≤ p.x).
-    ⊎_elim
-    (λ (right : p.x < right_edge r).
-    ⊎_elim
-    (λ (above : p.y < r.y). inr (λ h. let t = h.top in absurd (omega arith)))
-    (λ (top : r.y ≤ p.y).
-    ⊎_elim
-    (λ (bottom : p.y < bottom_edge r). inl (record { left = left; right = right; top = top; bottom = bottom }))
-    (λ (below : bottom_edge r ≤ p.y). inr (λ h. let b = h.bottom in absurd (omega arith)))
-    (cases_lt p.y (bottom_edge r)))
-    (cases_lt p.y r.y))
-    (λ (past : right_edge r ≤ p.x). inr (λ h. let b = h.right in absurd (omega arith)))
-    (cases_lt p.x (right_edge r)))
-    (cases_lt p.x r.x)
+has-or-not r p = grind arith
 
 -- the place of a cell by how far it lies from its area's corner
 pub index-at : (x y w a b : ℕ) → (y + b - y) * w + (x + a - x) ≡ b * w + a
@@ -60,20 +43,17 @@ module _ (r area : Rect) (s : Style) (old new : BufferData) (edges : EdgesFit r)
   former p = rw emptied.cells (cell-empty (area_size r) (cell_index old.area p))
 
   here : (p : Position) → HasPosition old.area p → IsPlainBlank (cell_in new p)
-  here p has =
-      ⊎_elim
-      (λ (yes : HasPosition area p). subst IsPlainBlank (sym (is.inside p has yes ∙ ap (styled s) (former p))) (blank-styled s))
-      (λ (no : ¬ (HasPosition area p)). subst IsPlainBlank (sym (is.outside p has no ∙ former p)) blank-empty)
-      (has-or-not area p)
+  here p has = elim (has-or-not area p) [
+    | inl under ↦ rw (is.inside p has under, former p) (blank-styled s)
+    | inr beside ↦ rw (is.outside p has beside, former p) blank-empty
+  ]
 
   plain-at : (a b : ℕ) → a < old.area.width → b < old.area.height → IsPlainBlank (cell_at old.area.width new.cells a b)
   plain-at a b a_in b_in =
       let e = own-edges in
-      let right = e.right in let bottom = e.bottom in
       let p : Position = record { x = old.area.x + a; y = old.area.y + b } in
-      let has : HasPosition old.area p = record { left = omega arith; right = omega arith; top = omega arith; bottom = omega arith } in
-      subst (λ i. IsPlainBlank (cell new.cells i)) (index-at old.area.x old.area.y old.area.width a b)
-      (subst (λ q. IsPlainBlank (cell new.cells (cell_index q p))) is.area (here p has))
+      let has : HasPosition old.area p = omega arith in
+      rw (is.area, index-at) at (here p has)
 
   pub IsSettledBuffer-styled : IsSettledBuffer new
   IsSettledBuffer-styled = subst (λ q. IsSettled q.width q.height new.cells) (sym is.area) (record {
@@ -85,14 +65,10 @@ module _ (r area : Rect) (s : Style) (old new : BufferData) (edges : EdgesFit r)
   pub IsPaintable-styled : (p : Position) (n : ℕ) → HasRow old.area p.y → old.area.x ≤ p.x → p.x + n ≤ old.area.x + old.area.width → IsPaintable p n new
   IsPaintable-styled p n row le fits =
       let e = own-edges in
-      let right = e.right in let bottom = e.bottom in
-      let top = row.top in let under = row.bottom in
       let left : new.area.x ≡ old.area.x = ap (λ q. q.x) is.area in
       record {
-        unmarked = λ a from to. (here (position_of (a, p.y)) (record { left = omega arith; right = omega arith; top = top; bottom = omega arith })).unmarked;
-        uncovered = λ a from to plain.
-            let one = (here (position_of (a, p.y)) (record { left = omega arith; right = omega arith; top = top; bottom = omega arith })).width in
-            omega arith;
+        unmarked = λ a from to. (here (position_of (a, p.y)) (omega arith)).unmarked;
+        uncovered = λ a from to plain. omega (arith, (here (position_of (a, p.y)) (omega arith)).width);
       }
 
 -- the look in a column of a shown buffer
@@ -102,10 +78,6 @@ shown-look s g p shows has plain =
     let x : s.area.x + (p.x - s.area.x) ≡ p.x = omega arith in
     let y : s.area.y + (p.y - s.area.y) ≡ p.y = omega arith in
     ap₂ g (sym x) (sym y) ∙ (shows.at (p.x - s.area.x) (p.y - s.area.y) (omega arith) (omega arith)).look plain
-
-plain-shown : (p : Piece) (c : Cell) → is_skipped c ≡ false → is_skipped (shown p c) ≡ false
-unfolding is_skipped
-plain-shown p c plain = plain
 
 -- pieces painted in a row, on a screen that shows them
 module _ (p : Position) (ps : List Piece) (old new : BufferData) (g : Grid) (row : HasRow old.area p.y) (left : old.area.x ≤ p.x) (fits : columns ps ≤ old.area.x + old.area.width - p.x)
@@ -119,7 +91,8 @@ module _ (p : Position) (ps : List Piece) (old new : BufferData) (g : Grid) (row
   -- each piece has its look over the former cell, in the column where it begins
   pub look-painted : (k : ℕ) → k < length ps → HasPosition old.area (right_by (columns (take k ps)) p) → is_skipped (cell_in old (right_by (columns (take k ps)) p)) ≡ false
       → g (p.x + columns (take k ps)) p.y ≡ look_of (shown (piece_at ps k) (cell_in old (right_by (columns (take k ps)) p)))
-  look-painted k k_in has plain = look-at (right_by (columns (take k ps)) p) _ has (by.starts k k_in) (plain-shown (piece_at ps k) _ plain)
+  unfolding is_skipped
+  look-painted k k_in has plain = look-at (right_by (columns (take k ps)) p) _ has (by.starts k k_in) plain
 
   -- and each cell beside them its own
   pub look-beside : (q : Position) → HasPosition old.area q → IsBeside p (columns ps) q → is_skipped (cell_in old q) ≡ false → g q.x q.y ≡ look_of (cell_in old q)

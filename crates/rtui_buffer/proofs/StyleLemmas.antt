@@ -34,14 +34,10 @@ module _ (w left right top row : ℕ) (s : Style) (old now more : List Cell) (fi
   in_row : (a : ℕ) → a < w → cell_at w more a row ≡ (if nat_le left a && nat_lt a right && nat_le top row && nat_lt row (row + 1) then styled s (cell_at w old a row) else cell_at w old a row)
   in_row a lt =
       let f = former a lt in
-      ⊎_elim
-      (λ (before : a < left). let e : cell_at w more a row ≡ cell_at w now a row = g.outside.before (row * w + a) (omega arith) in let e2 : cell_at w more a row ≡ cell_at w old a row = e ∙ f in grind (arith, nat_tests))
-      (λ (from_left : left ≤ a).
-      ⊎_elim
-      (λ (inside : a < right). let e : cell_at w more a row ≡ styled s (cell_at w now a row) = g.inside (row * w + a) (omega arith) (omega arith) in let e2 : cell_at w more a row ≡ styled s (cell_at w old a row) = e ∙ ap (styled s) f in grind (arith, nat_tests))
-      (λ (behind : right ≤ a). let e : cell_at w more a row ≡ cell_at w now a row = g.outside.behind (row * w + a) (omega arith) in let e2 : cell_at w more a row ≡ cell_at w old a row = e ∙ f in grind (arith, nat_tests))
-      (cases_lt a right))
-      (cases_lt a left)
+      let before = g.outside.before (row * w + a) in
+      let inside = g.inside (row * w + a) in
+      let behind = g.outside.behind (row * w + a) in
+      grind (arith, nat_tests)
 
   pub IsStyledRows-more : IsStyledRows w left right top (row + 1) s old more
   IsStyledRows-more = record {

@@ -1,16 +1,20 @@
 -- What the columns of a row hold after one more grapheme.
-use Rattle.std.proofs.Common.{◌≡◌, ◌≢◌, ℕ, ◌+◌, ◌-◌, ◌<◌, ◌≤◌, ◌⊎◌, ⊎_elim, inl, inr, Bool, true, false, cond, List, [], ◌∷◌, ◌++◌, length, length-append, refl, sym, ap, ◌∙◌, arith, append_assoc, ◌^◌, ◌==◌, ◌||◌, ◌&&◌, nat_lt, Some, None, Option}
+use Rattle.std.proofs.Common.{◌≡◌, ◌≢◌, ℕ, ◌+◌, ◌-◌, ◌<◌, ◌≤◌, ◌⊎◌, inl, inr, Bool, true, false, cond, List, [], ◌∷◌, ◌++◌, length, length-append, refl, sym, ap, ◌∙◌, arith, ◌^◌, ◌==◌, ◌||◌, ◌&&◌, nat_lt, Some, None, Option}
 use Rattle.std.specs.{List.concat, Int.RustNames.bit_and, Int.RustNames.bit_or}
-use Rattle.std.proofs.lemmas.{Bool.cases_lt, Bool.or_parts, Bool.Decides.nat_tests, List.append-nil}
+use Rattle.std.proofs.lemmas.{Bool.cases_lt, Bool.cond_both, Bool.or_parts, Bool.or_right, List.Folds.concat-append, Bool.Decides.nat_tests, List.append-nil}
 use Rattle.std.proofs.lemmas.Nat.Bits.{same_from_bits, bit_at_and, bit_at_or}
 use Rattle.std.proofs.Math.Bool.{or_assoc}
 use Rattle.rtui_cell.specs.{declared.cell.Cell.Cell, Cell.empty_cell, Cell.styled, Width.text_width}
 use Rattle.rtui_style.specs.{declared.Style.Style, declared.color.Color.Color, Style.color_after}
 use Rattle.rtui_widgets.specs.Span.{goes_to, those_at, is_behind, with_graphemes, column_with}
 use Rattle.rtui_widgets.specs.Inner.{with_appended, with_grapheme}
-use Rattle.rtui_widgets.proofs.RowWith.{end_of_those}
 
 -- ---- the end of the graphemes
+
+-- the column after these graphemes, where the first stands at x
+unfoldable pub end_of_those : ℕ → List (List ℕ) → ℕ
+end_of_those x [] = x
+end_of_those x (g ∷ gs) = end_of_those (x + text_width g) gs
 
 pub end-le : (x : ℕ) (gs : List (List ℕ)) → x ≤ end_of_those x gs
 unfolding end_of_those
@@ -35,27 +39,22 @@ cond-cons-append : (b : Bool) (h : List ℕ) (us vs ts : List (List ℕ)) → us
 cond-cons-append true h us vs ts e = ap (λ w. h ∷ w) e
 cond-cons-append false h us vs ts e = e
 
-pub those_at-append : (k x : ℕ) (gs : List (List ℕ)) (g : List ℕ) → those_at k x (gs ++ g ∷ []) ≡ those_at k x gs ++ here k (end_of_those x gs) g
-unfolding those_at end_of_those
-those_at-append k x [] g = refl
-those_at-append k x (h ∷ gs) g = cond-cons-append (goes_to x h == k) h _ _ _ (those_at-append k (x + text_width h) gs g)
-
 -- what goes to a column, of a front of the graphemes and of the others
 pub those_at-both : (k x : ℕ) (gs hs : List (List ℕ)) → those_at k x (gs ++ hs) ≡ those_at k x gs ++ those_at k (end_of_those x gs) hs
 unfolding those_at end_of_those
 those_at-both k x [] hs = refl
 those_at-both k x (g ∷ gs) hs = cond-cons-append (goes_to x g == k) g _ _ _ (those_at-both k (x + text_width g) gs hs)
 
-concat-both : (ts us : List (List ℕ)) → concat (ts ++ us) ≡ concat ts ++ concat us
-concat-both [] us = refl
-concat-both (t ∷ ts) us = ap (λ w. t ++ w) (concat-both ts us) ∙ sym (append_assoc t (concat ts) (concat us))
+pub those_at-append : (k x : ℕ) (gs : List (List ℕ)) (g : List ℕ) → those_at k x (gs ++ g ∷ []) ≡ those_at k x gs ++ here k (end_of_those x gs) g
+unfolding those_at
+those_at-append k x gs g = those_at-both k x gs (g ∷ [])
 
 -- a front puts no longer text into a column than all of them
 pub front-no_longer : (k : ℕ) (gs hs whole : List (List ℕ)) → gs ++ hs ≡ whole → length (concat (those_at k 0 gs)) ≤ length (concat (those_at k 0 whole))
 front-no_longer k gs hs whole e =
     let both : length (concat (those_at k 0 whole)) ≡ length (concat (those_at k 0 gs)) + length (concat (those_at k (end_of_those 0 gs) hs)) =
     ap (λ w. length (concat (those_at k 0 w))) (sym e) ∙ ap (λ w. length (concat w)) (those_at-both k 0 gs hs)
-    ∙ ap length (concat-both (those_at k 0 gs) (those_at k (end_of_those 0 gs) hs)) ∙ length-append (concat (those_at k 0 gs)) (concat (those_at k (end_of_those 0 gs) hs)) in
+    ∙ ap length (concat-append (those_at k 0 gs) (those_at k (end_of_those 0 gs) hs)) ∙ length-append (concat (those_at k 0 gs)) (concat (those_at k (end_of_those 0 gs) hs)) in
     omega arith
 
 pub is_behind-append : (k x : ℕ) (gs : List (List ℕ)) (g : List ℕ) → is_behind k x (gs ++ g ∷ []) ≡ (is_behind k x gs || hides k (end_of_those x gs) g)
@@ -66,15 +65,13 @@ is_behind-append k x (h ∷ gs) g =
 
 -- ---- what the graphemes before reach
 
-goes-before : (k x : ℕ) (g : List ℕ) → x + text_width g ≤ k → 0 < k → (goes_to x g == k) ≡ false
-goes-before k x g le lt = grind (arith, nat_tests)
-
 pub those_at-far : (k x : ℕ) (gs : List (List ℕ)) → end_of_those x gs ≤ k → 0 < k → those_at k x gs ≡ []
 unfolding those_at end_of_those
 those_at-far k x [] le lt = refl
 those_at-far k x (h ∷ gs) le lt =
     let reach = end-le (x + text_width h) gs in
-    rw (goes-before k x h (omega arith) lt) (those_at-far k (x + text_width h) gs le lt)
+    let other : (goes_to x h == k) ≡ false = grind (arith, nat_tests, reach) in
+    rw other (those_at-far k (x + text_width h) gs le lt)
 
 hides-none : (k x : ℕ) (g : List ℕ) → (k ≤ x) ⊎ (x + text_width g ≤ k) → hides k x g ≡ false
 hides-none k x g h = grind (arith, nat_tests)
@@ -86,14 +83,6 @@ is_behind-far k x (h ∷ gs) le =
     let reach = end-le (x + text_width h) gs in
     rw (hides-none k x h (inr (omega arith))) (is_behind-far k (x + text_width h) gs le)
 
-cond-cons-some : (b : Bool) (h : List ℕ) (us : List (List ℕ)) → us ≢ [] → cond b (h ∷ us) us ≢ []
-cond-cons-some true h us n e = cc
-cond-cons-some false h us n e = n e
-
-cond-cons-here : (b : Bool) (h : List ℕ) (us : List (List ℕ)) → b ≡ true → cond b (h ∷ us) us ≢ []
-cond-cons-here true h us n e = cc
-cond-cons-here false h us n e = cc
-
 goes-here : (k x : ℕ) (g : List ℕ) → x ≤ k → k < x + text_width g → hides k x g ≡ false → (goes_to x g == k) ≡ true
 goes-here k x g le lt h = grind (arith, nat_tests)
 
@@ -103,10 +92,10 @@ unfolding those_at is_behind end_of_those
 reached k x [] le lt h = absurd (omega arith)
 reached k x (g ∷ gs) le lt h =
     let parts = or_parts (hides k x g) (is_behind k (x + text_width g) gs) h in
-    ⊎_elim
-    (λ (in_it : k < x + text_width g). cond-cons-here (goes_to x g == k) g (those_at k (x + text_width g) gs) (goes-here k x g le in_it parts.0))
-    (λ (past : x + text_width g ≤ k). cond-cons-some (goes_to x g == k) g (those_at k (x + text_width g) gs) (reached k (x + text_width g) gs past lt parts.1))
-    (cases_lt k (x + text_width g))
+    elim (cases_lt k (x + text_width g)) [
+      | inl in_it ↦ rw (goes-here k x g le in_it parts.0) (λ e. cc)
+      | inr past ↦ cond_both (goes_to x g == k) (g ∷ those_at k (x + text_width g) gs) _ (λ us. us ≢ []) (λ _ e. cc) (λ _. reached k (x + text_width g) gs past lt parts.1)
+    ]
 
 goes-first : (g : List ℕ) → (goes_to 0 g == 0) ≡ true
 goes-first g = grind (arith, nat_tests)
@@ -115,7 +104,7 @@ goes-first g = grind (arith, nat_tests)
 pub first_reached : (gs : List (List ℕ)) → gs ≢ [] → those_at 0 0 gs ≢ []
 unfolding those_at
 first_reached [] n = absurd (n refl)
-first_reached (g ∷ gs) n = cond-cons-here (goes_to 0 g == 0) g (those_at 0 (0 + text_width g) gs) (goes-first g)
+first_reached (g ∷ gs) n = rw (goes-first g) (λ e. cc)
 
 -- ---- a style laid twice
 
@@ -131,24 +120,13 @@ styled-twice s c t = rw (colour-twice s.fg c.fg, colour-twice s.bg c.bg, colour-
 
 -- ---- the column that gets it
 
-concat-more : (ts : List (List ℕ)) (g : List ℕ) → concat (ts ++ g ∷ []) ≡ concat ts ++ g
-concat-more [] g = append-nil g
-concat-more (t ∷ ts) g = ap (λ w. t ++ w) (concat-more ts g) ∙ sym (append_assoc t (concat ts) g)
-
 pub with_graphemes-more : (s : Style) (ts : List (List ℕ)) (g : List ℕ) (c : Cell) → (ts ≡ [] → c ≡ empty_cell) → with_graphemes s (ts ++ g ∷ []) c ≡ with_appended s g (with_graphemes s ts c)
 with_graphemes-more s [] g c e =
     let none : c.symbol ≡ None = ap (λ d. d.symbol) (e refl) in
     rw (append-nil, none)
 with_graphemes-more s (t ∷ ts) g c e =
-    ap (λ w. styled s (record c { symbol = Some w })) (concat-more (t ∷ ts) g)
+    ap (λ w. styled s (record c { symbol = Some w })) (concat-append (t ∷ ts) (g ∷ []) ∙ ap (λ w. concat (t ∷ ts) ++ w) (append-nil g))
     ∙ sym (styled-twice s (record c { symbol = Some (concat (t ∷ ts)) }) (Some (concat (t ∷ ts) ++ g)))
-
-with_graphemes-one : (s : Style) (g : List ℕ) (c : Cell) → with_graphemes s (g ∷ []) c ≡ with_grapheme s g c
-with_graphemes-one s g c = rw append-nil
-
-or-true : (a b : Bool) → b ≡ true → (a || b) ≡ true
-or-true true b h = refl
-or-true false b h = h
 
 or-none : (a b : Bool) → b ≡ false → (a || b) ≡ a
 or-none true b h = refl
@@ -157,10 +135,6 @@ or-none false b h = h
 symbol-joined : (s : Style) (ts : List (List ℕ)) (g : List ℕ) (c : Cell) → (with_graphemes s (ts ++ g ∷ []) c).symbol ≡ Some (concat (ts ++ g ∷ []))
 symbol-joined s [] g c = refl
 symbol-joined s (t ∷ ts) g c = refl
-
-behind-or : (b : Bool) (c : Cell) → (b ≡ false → ⊥) → cond b empty_cell c ≡ empty_cell
-behind-or true c h = refl
-behind-or false c h = absurd (h refl)
 
 -- ---- each column after one more grapheme, which stands at x
 
@@ -171,7 +145,7 @@ module _ (s : Style) (gs : List (List ℕ)) (g : List ℕ) (x k : ℕ) (c : Cell
       let far = those_at-far k 0 gs (omega arith) (omega arith) in
       let no : (goes_to (end_of_those 0 gs) g == k) ≡ false = grind (arith, nat_tests, ends, lt, lt2) in
       let yes : hides k (end_of_those 0 gs) g ≡ true = grind (arith, nat_tests, ends, lt, lt2) in
-      let hidden : (is_behind k 0 gs || hides k (end_of_those 0 gs) g) ≡ true = or-true (is_behind k 0 gs) (hides k (end_of_those 0 gs) g) yes in
+      let hidden : (is_behind k 0 gs || hides k (end_of_those 0 gs) g) ≡ true = or_right (is_behind k 0 gs) (hides k (end_of_those 0 gs) g) yes in
       rw (those_at-append, is_behind-append, far, no, hidden)
 
   -- neither its own nor after it
@@ -201,9 +175,10 @@ module _ (s : Style) (gs : List (List ℕ)) (g : List ℕ) (x k : ℕ) (c : Cell
   -- its own, where the graphemes before don't reach
   pub column-set : k ≡ goes_to x g → those_at k 0 gs ≡ [] → is_behind k 0 gs ≡ false → column_with s (gs ++ g ∷ []) k c ≡ with_grapheme s g (column_with s gs k c)
   column-set is none open_ =
-      column-here is ∙ rw (none, open_) (with_graphemes-one s g c)
+      column-here is ∙ rw (none, open_, append-nil) refl
 
   -- its own, where they do
   pub column-append : k ≡ goes_to x g → (is_behind k 0 gs ≡ false → those_at k 0 gs ≢ []) → column_with s (gs ++ g ∷ []) k c ≡ with_appended s g (column_with s gs k c)
   column-append is reach =
-      column-here is ∙ with_graphemes-more s (those_at k 0 gs) g (cond (is_behind k 0 gs) empty_cell c) (λ none. behind-or (is_behind k 0 gs) c (λ open_. reach open_ none))
+      column-here is ∙ with_graphemes-more s (those_at k 0 gs) g (cond (is_behind k 0 gs) empty_cell c)
+      (λ none. cond_both (is_behind k 0 gs) empty_cell c (λ d. d ≡ empty_cell) (λ _. refl) (λ open_. absurd (reach open_ none)))

@@ -9,5 +9,4 @@ pub mod WithinLemmas
 pub mod PartLemmas
 pub mod ShortLemmas
 pub mod AsciiLemmas
-pub mod RowWith
 pub mod SettledLemmas

@@ -1,9 +1,11 @@
 -- How lines are rendered.
-use Rattle.std.proofs.Common.{◌≡◌, ℕ, ◌+◌, ◌-◌, ◌<◌, ◌≤◌, Bool, true, false, cond, min, List, [], ◌∷◌, ◌++◌, length, map, take, drop, sum_by, refl, sym, ap, subst, ◌∙◌, ⊎_elim, arith, append_assoc, take-add, take-append-drop, nat_le, Option, ◌==◌}
+use Rattle.std.proofs.Common.{◌≡◌, ℕ, ◌+◌, ◌-◌, ◌<◌, ◌≤◌, true, false, min, List, [], ◌∷◌, ◌++◌, length, map, take, drop, sum_by, slice_index_or, refl, sym, ap, subst, ◌∙◌, arith, append_assoc, take-add, take-append-drop, nat_le, Option}
 use Rattle.rtui_layout.specs.declared.alignment.HorizontalAlignment.{HorizontalAlignment}
-use Rattle.std.proofs.lemmas.{Bool.Decides.nat_tests, Bool.cases_lt, List.Folds.concat-append, List.Sums.sum_by-cons, List.Sums.sum_by-append}
+use Rattle.std.proofs.lemmas.{Bool.Decides.nat_tests, Bool.cond_both, List.Folds.concat-append, List.Sums.sum_by-cons, List.Sums.sum_by-append}
 use Rattle.std.specs.List.{concat}
-use Rattle.std.proofs.lemmas.List.{take_all, drop_all, append-nil, length-drop, length-take, length-append, drop-drop, drop_at, take_at}
+use Rattle.std.proofs.Math.Seq.{take-nil, drop-nil, take-append-add, drop-append-add}
+use Rattle.std.proofs.lemmas.List.{take_all, drop_all, take_min, drop_min, take_rest, drop_more, append-nil, length-drop, length-take, length-take-le, length-append, drop-drop}
+use borrow.Rule.Slice.PartMut.{put_mid}
 use Rattle.rtui_cell.specs.{declared.cell.Cell.Cell, Width.text_columns, Cell.styled}
 use Rattle.rtui_style.specs.declared.Style.{Style}
 use Rattle.rtui_text.specs.{Text.SpanData, Text.LineData, Text.line_of, Widths.span_width, Widths.line_width}
@@ -28,9 +30,8 @@ pub last_fitting-behind : (room : ℕ) (front : List (List ℕ)) (g : List ℕ) 
     → last_fitting room (front ++ g ∷ kept) ≡ kept
 last_fitting-behind room [] g kept fits over = last_fitting-drop room g kept (omega (arith, over, sum_by-cons text_columns g kept)) ∙ last_fitting-fits room kept fits
 last_fitting-behind room (h ∷ front) g kept fits over =
-    let sum : sum_by text_columns (h ∷ (front ++ g ∷ kept)) ≡ text_columns h + (sum_by text_columns front + (text_columns g + sum_by text_columns kept)) =
-    sum_by-cons text_columns h (front ++ g ∷ kept) ∙ ap (λ n. text_columns h + n) (sum_by-append text_columns front (g ∷ kept) ∙ ap (λ n. sum_by text_columns front + n) (sum_by-cons text_columns g kept)) in
-    last_fitting-drop room h (front ++ g ∷ kept) (omega (arith, over, sum)) ∙ last_fitting-behind room front g kept fits over
+    last_fitting-drop room h (front ++ g ∷ kept) (omega (arith, over, sum_by-cons text_columns h (front ++ g ∷ kept), sum_by-append text_columns front (g ∷ kept), sum_by-cons text_columns g kept))
+    ∙ last_fitting-behind room front g kept fits over
 
 -- the last grapheme of those that are left, taken
 pub taken : (front : List (List ℕ)) (g : List ℕ) (kept left : List (List ℕ)) → left ≡ front ++ g ∷ [] → front ++ g ∷ kept ≡ left ++ kept
@@ -47,9 +48,9 @@ split-text text front behind is = sym (concat-append front behind) ∙ is
 
 -- ---- spans
 
-pub parts-nil : (skip : ℕ) (row : List Cell) → parts_rendered (parts skip []) row ≡ row
-unfolding parts parts_then
-parts-nil skip row = refl
+pub parts-nil : (skip i : ℕ) (ss : List SpanData) → length ss ≤ i → parts skip (drop i ss) ≡ []
+unfolding parts
+parts-nil skip i ss le = rw (drop_all i ss le) refl
 
 pub parts-skip : (skip : ℕ) (s : SpanData) (ss : List SpanData) → span_width s ≤ skip → parts skip (s ∷ ss) ≡ parts (skip - span_width s) ss
 unfolding parts
@@ -62,131 +63,45 @@ parts-take skip s ss lt =
     let none : skip - span_width s ≡ 0 = omega arith in
     rw (no, none)
 
-take-min : {A : Type 0} (n : ℕ) (l : List A) → take (min n (length l)) l ≡ take n l
-take-min n l = ⊎_elim (λ (a : n < length l). (let e : min n (length l) ≡ n = omega arith in rw e)) (λ (b : length l ≤ n). (let e : min n (length l) ≡ length l = omega arith in rw e (take_all (length l) l (omega arith) ∙ sym (take_all n l b)))) (cases_lt n (length l))
+-- ---- a row whose columns from one on were lent
 
-drop-min : {A : Type 0} (n : ℕ) (l : List A) → drop (min n (length l)) l ≡ drop n l
-drop-min n l = ⊎_elim (λ (a : n < length l). (let e : min n (length l) ≡ n = omega arith in rw e)) (λ (b : length l ≤ n). (let e : min n (length l) ≡ length l = omega arith in rw e (drop_all (length l) l (omega arith) ∙ sym (drop_all n l b)))) (cases_lt n (length l))
+abbrev pub lent_from : ℕ → List Cell → List Cell → List Cell
+lent_from at row part = put_mid at (length row - at) row part
 
-rendered-part : (f : List Cell → List Cell) (p : Part) (ps : List Part) (row : List Cell)
-    → parts_then f (p ∷ ps) row ≡ after_first p.indent (λ left. after_first p.width (parts_then f ps) (span_rendered p.style p.content left)) row
-unfolding parts_then
-rendered-part f p ps row = refl
+put-part : (at : ℕ) (row part : List Cell) → lent_from at row part ≡ take at row ++ part
+put-part at row part =
+    let none : drop (length row - at) (drop at row) ≡ [] = drop_all _ (drop at row) (omega (arith, length-drop at row)) in
+    rw (none, append-nil) refl
 
-pub rest-none : {A : Type 0} (a : ℕ) (xs : List A) → drop (length xs - a) (drop a xs) ≡ []
-rest-none a xs = drop_all (length xs - a) (drop a xs) (omega (arith, length-drop a xs))
+put-made : (g : List Cell → List Cell) (at : ℕ) (row part : List Cell) → part ≡ g (take (length row - at) (drop at row)) → lent_from at row part ≡ take at row ++ g (drop at row)
+put-made g at row part is = put-part at row part ∙ ap (λ cells. take at row ++ cells) (is ∙ ap g (take_rest row at))
 
-pub rest-all : {A : Type 0} (a : ℕ) (xs : List A) → take (length xs - a) (drop a xs) ≡ drop a xs
-rest-all a xs = take_all (length xs - a) (drop a xs) (omega (arith, length-drop a xs))
+pub length-rest : (at : ℕ) (row : List Cell) → length (take (length row - at) (drop at row)) ≡ length row - at
+length-rest at row = ap length (take_rest row at) ∙ length-drop at row
 
-drop-front : {A : Type 0} (n m : ℕ) (xs ys : List A) → length xs ≡ n → drop (n + m) (xs ++ ys) ≡ drop m ys
-drop-front n m xs ys e = sym (drop-drop m n (xs ++ ys)) ∙ ap (drop m) (drop_at xs ys n e)
+pub length-lent : (at : ℕ) (row part : List Cell) → at ≤ length row → length part ≡ length row - at → length (lent_from at row part) ≡ length row
+length-lent at row part le e = simp (length-append, length-take, length-drop) (omega arith)
 
-take-front : {A : Type 0} (n m : ℕ) (xs ys : List A) → length xs ≡ n → take (n + m) (xs ++ ys) ≡ xs ++ take m ys
-take-front n m xs ys e = take-add n m (xs ++ ys) ∙ rw (take_at xs ys n e, drop_at xs ys n e)
+-- ---- in no column nothing shows
 
-pub length-rest : (a : ℕ) (row : List Cell) → length (take (length row - a) (drop a row)) ≡ length row - a
-length-rest a row = ap length (rest-all a row) ∙ length-drop a row
-
--- a row of which the columns from a on were lent has as many columns as before
-pub length-lent : (a : ℕ) (row part : List Cell) → a ≤ length row → length part ≡ length row - a → length (take a row ++ (part ++ drop (length row - a) (drop a row))) ≡ length row
-length-lent a row part le e = simp (length-append, length-take, length-drop) (omega arith)
-
--- in no column nothing shows
 pub span-none : (style : Style) (text : List ℕ) → span_rendered style text [] ≡ []
 span-none style text = sym (rendered-nothing style text [] refl)
 
-parts-done : (row : List Cell) → parts_rendered [] row ≡ row
-unfolding parts_then
-parts-done row = refl
-
-take-none : (n : ℕ) (none : List Cell) → length none ≡ 0 → take n none ≡ none
-take-none n none e = take_all n none (omega arith)
-
-drop-none : (n : ℕ) (none : List Cell) → length none ≡ 0 → drop n none ≡ []
-drop-none n none e = drop_all n none (omega arith)
-
 parts-none : (ps : List Part) → parts_rendered ps [] ≡ []
-parts-none [] = parts-done []
-parts-none (p ∷ ps) = rendered-part (λ row. row) p ps [] ∙ rw (take-none p.indent [] refl, drop-none p.indent [] refl, span-none p.style p.content, take-none p.width [] refl, drop-none p.width [] refl) (parts-none ps)
-
--- a part that takes no memory, and the others
-pub short-part : (columns : ℕ) (p : Part) (ps : List Part) → AreShortParts columns (p ∷ ps) → IsShortSpan (columns - p.indent) p.content
-unfolding AreShortParts
-short-part columns p ps short = short.0
-
-pub short-others : (columns : ℕ) (p : Part) (ps : List Part) → AreShortParts columns (p ∷ ps) → AreShortParts (columns - p.indent - p.width) ps
-unfolding AreShortParts
-short-others columns p ps short = short.1
-
--- where the part's indent takes all columns that are left, nothing of it and of the others shows
-pub parts-past : (p : Part) (ps : List Part) (row : List Cell) (start start1 : ℕ) → start ≤ length row → start1 ≡ start + min p.indent (length row - start) → start1 ≡ length row
-    → row ≡ after_first start (parts_rendered (p ∷ ps)) row
-parts-past p ps row start start1 within s1 past =
-    let all : take p.indent (drop start row) ≡ drop start row = take_all p.indent (drop start row) (omega (arith, length-drop start row)) in
-    let none : drop p.indent (drop start row) ≡ [] = drop_all p.indent (drop start row) (omega (arith, length-drop start row)) in
-    sym (rw (rendered-part, all, none, span-none p.style p.content, take-none p.width [] refl, drop-none p.width [] refl, parts-none ps, append-nil) (take-append-drop start row))
-
--- a part's indent in the columns from start on
-module _ (p : Part) (row : List Cell) (start start1 : ℕ) (s1 : start1 ≡ start + min p.indent (length row - start)) where
-  indented : take start1 row ≡ take start row ++ take p.indent (drop start row)
-  indented = rw (s1, ← length-drop start row) (take-add start (min p.indent (length (drop start row))) row ∙ ap (λ cells. take start row ++ cells) (take-min p.indent (drop start row)))
-
-  behind : drop start1 row ≡ drop p.indent (drop start row)
-  behind = rw (s1, ← length-drop start row) (sym (drop-drop (min p.indent (length (drop start row))) start row) ∙ drop-min p.indent (drop start row))
-
-  -- what a row becomes of which the columns from there on were lent
-  pub lent-part : (g : List Cell → List Cell) (part : List Cell) → part ≡ g (take (length row - start1) (drop start1 row))
-      → take start1 row ++ (part ++ drop (length row - start1) (drop start1 row)) ≡ after_first start (after_first p.indent g) row
-  lent-part g part is =
-      let lent : take start1 row ++ (part ++ drop (length row - start1) (drop start1 row)) ≡ take start1 row ++ g (drop start1 row) =
-      rw (rest-none start1 row, append-nil) (ap (λ cells. take start1 row ++ cells) (is ∙ ap g (rest-all start1 row))) in
-      lent ∙ ap (λ cells. cells ++ g (drop start1 row)) indented ∙ append_assoc (take start row) (take p.indent (drop start row)) (g (drop start1 row))
-      ∙ ap (λ cells. take start row ++ (take p.indent (drop start row) ++ g cells)) behind
-
--- a part in the columns from start on: in front of the row that is left, what is done
-module _ (f : List Cell → List Cell) (p : Part) (ps : List Part) (row part : List Cell) (start start1 start2 : ℕ) (within : start ≤ length row)
-    (s1 : start1 ≡ start + min p.indent (length row - start))
-    (is : part ≡ span_rendered p.style p.content (take (length row - start1) (drop start1 row)))
-    (s2 : start2 ≡ start1 + min p.width (length row - start1)) where
-  abbrev shown : List Cell
-  shown = span_rendered p.style p.content (drop start1 row)
-
-  lent : take start1 row ++ (part ++ drop (length row - start1) (drop start1 row)) ≡ take start1 row ++ shown
-  lent = rw (rest-none start1 row, append-nil) (ap (λ cells. take start1 row ++ cells) (is ∙ ap (span_rendered p.style p.content) (rest-all start1 row)))
-
-  count : length shown ≡ length row - start1
-  count = length-span_rendered p.style p.content (drop start1 row) ∙ length-drop start1 row
-
-  front : length (take start1 row) ≡ start1
-  front = length-take start1 row ∙ omega arith
-
-  done : take start2 (take start1 row ++ shown) ≡ take start1 row ++ take p.width shown
-  done = rw (s2, ← count) (take-front start1 (min p.width (length shown)) (take start1 row) shown front ∙ ap (λ cells. take start1 row ++ cells) (take-min p.width shown))
-
-  left : drop start2 (take start1 row ++ shown) ≡ drop p.width shown
-  left = rw (s2, ← count) (drop-front start1 (min p.width (length shown)) (take start1 row) shown front ∙ drop-min p.width shown)
-
-  pub part-turn : after_first start2 (parts_then f ps) (take start1 row ++ (part ++ drop (length row - start1) (drop start1 row))) ≡ after_first start (parts_then f (p ∷ ps)) row
-  part-turn =
-      let rest : List Cell = parts_then f ps (drop p.width shown) in
-      let both : take start row ++ (take p.indent (drop start row) ++ (take p.width shown ++ rest)) ≡ (take start1 row ++ take p.width shown) ++ rest =
-      sym (append_assoc (take start row) (take p.indent (drop start row)) (take p.width shown ++ rest))
-      ∙ ap (λ cells. cells ++ (take p.width shown ++ rest)) (sym (indented p row start start1 s1))
-      ∙ sym (append_assoc (take start1 row) (take p.width shown) rest) in
-      let here : after_first start2 (parts_then f ps) (take start1 row ++ shown) ≡ (take start1 row ++ take p.width shown) ++ rest = rw (done, left) refl in
-      let there : parts_then f (p ∷ ps) (drop start row) ≡ take p.indent (drop start row) ++ (take p.width shown ++ rest) = rendered-part f p ps (drop start row) ∙ rw (← behind p row start start1 s1) refl in
-      ap (after_first start2 (parts_then f ps)) lent ∙ here ∙ sym both ∙ sym (ap (λ cells. take start row ++ cells) there)
-
--- ---- some parts whole, and a front of the next one
-
-then-done : (f : List Cell → List Cell) (row : List Cell) → parts_then f [] row ≡ f row
 unfolding parts_then
-then-done f row = refl
+parts-none [] = refl
+parts-none (p ∷ ps) = rw (take-nil p.indent, drop-nil p.indent, span-none p.style p.content, take-nil p.width, drop-nil p.width) (parts-none ps)
+
+-- ---- parts one after the other
 
 columns_left-more : (n : ℕ) (ps : List Part) (p : Part) → columns_left n (ps ++ p ∷ []) ≡ columns_left n ps - p.indent - p.width
 columns_left-more n [] p = refl
 columns_left-more n (q ∷ ps) p = columns_left-more (n - q.indent - q.width) ps p
+
+short-left : (n : ℕ) (ps left : List Part) → AreShortParts n (ps ++ left) → AreShortParts (columns_left n ps) left
+unfolding AreShortParts
+short-left n [] left short = short
+short-left n (p ∷ ps) left short = short-left (n - p.indent - p.width) ps left short.1
 
 -- these parts but for those that are left are rendered, in the columns before start
 pub record HasDone (ps left : List Part) (start : ℕ) (old row : List Cell) : Type 0 where
@@ -195,72 +110,112 @@ pub record HasDone (ps left : List Part) (start : ℕ) (old row : List Cell) : T
   pub columns : columns_left (length old) whole ≡ length row - start
   pub follows : (f : List Cell → List Cell) (qs : List Part) → after_first start (parts_then f qs) row ≡ parts_then f (whole ++ qs) old
 
--- one part more
-pub done-turn : (ps : List Part) (p : Part) (left : List Part) (old row part : List Cell) (start start1 start2 : ℕ) → start ≤ length row
-    → start1 ≡ start + min p.indent (length row - start)
-    → part ≡ span_rendered p.style p.content (take (length row - start1) (drop start1 row))
-    → start2 ≡ start1 + min p.width (length row - start1)
-    → length (take start1 row ++ (part ++ drop (length row - start1) (drop start1 row))) ≡ length row
-    → HasDone ps (p ∷ left) start old row → HasDone ps left start2 old (take start1 row ++ (part ++ drop (length row - start1) (drop start1 row)))
-done-turn ps p left old row part start start1 start2 within s1 is s2 count h = record {
-  whole = h.whole ++ p ∷ [];
-  are = h.are ∙ sym (append_assoc h.whole (p ∷ []) left);
-  columns = columns_left-more (length old) h.whole p ∙ omega (arith, h.columns, count, s1, s2, within);
-  follows = λ f qs. part-turn f p qs row part start start1 start2 within s1 is s2 ∙ h.follows f (p ∷ qs) ∙ ap (λ rs. parts_then f rs old) (sym (append_assoc h.whole (p ∷ []) qs));
-}
+-- if none is left, all are
+pub done-all : (ps left : List Part) (start : ℕ) (old row : List Cell) → left ≡ [] → HasDone ps left start old row → row ≡ parts_rendered ps old
+unfolding parts_then
+done-all ps left start old row none h =
+    sym (take-append-drop start row) ∙ h.follows (λ cells. cells) [] ∙ ap (λ qs. parts_rendered qs old) (ap (λ qs. h.whole ++ qs) (sym none) ∙ sym h.are)
 
--- the next part was refused memory
-pub refused-part : (ps : List Part) (p : Part) (left : List Part) (old row part : List Cell) (start start1 : ℕ) → start ≤ length row
-    → start1 ≡ start + min p.indent (length row - start)
-    → HasFrontOfSpan p.style p.content (take (length row - start1) (drop start1 row)) part
-    → HasDone ps (p ∷ left) start old row → HasFrontOfParts ps old (take start1 row ++ (part ++ drop (length row - start1) (drop start1 row)))
-refused-part ps p left old row part start start1 within s1 front h =
-    let f : List Cell → List Cell = after_first p.indent (graphemes_rendered p.style front.front) in
-    let columns : length (take (length row - start1) (drop start1 row)) ≡ columns_left (length old) h.whole - p.indent = length-rest start1 row ∙ omega (arith, h.columns, s1, within) in
-    record {
-      whole = h.whole;
-      next = p;
-      others = left;
-      are = h.are;
-      front = front.front;
-      is = subst (λ n. IsShownFront n p.content front.front) columns front.is;
-      row = lent-part p row start start1 s1 (graphemes_rendered p.style front.front) part front.row
-          ∙ sym (ap (λ cells. take start row ++ cells) (then-done f (drop start row)))
-          ∙ h.follows f [] ∙ ap (λ qs. parts_then f qs old) (append-nil h.whole);
-    }
+-- the next span: its part, if it has one
+module _ (ps : List Part) (skip i width start : ℕ) (spans : List SpanData) (span : SpanData) (old row : List Cell) (lt : i < length spans) (is : span ≡ slice_index_or spans i span) (wide : width ≡ span_width span)
+    (h : HasDone ps (parts skip (drop i spans)) start old row) where
+  rest-is : drop i spans ≡ span ∷ drop (i + 1) spans
+  rest-is = drop_more spans i span lt ∙ ap (λ s. s ∷ drop (i + 1) spans) (sym is)
+
+  pub done-skip : width ≤ skip → HasDone ps (parts (skip - width) (drop (i + 1) spans)) start old row
+  done-skip le = subst (λ left. HasDone ps left start old row) (ap (parts skip) rest-is ∙ rw wide (parts-skip skip span (drop (i + 1) spans) (omega arith))) h
+
+  pub done-next : skip < width → HasDone ps (part_of skip span ∷ parts 0 (drop (i + 1) spans)) start old row
+  done-next lt = subst (λ left. HasDone ps left start old row) (ap (parts skip) rest-is ∙ parts-take skip span (drop (i + 1) spans) (omega arith)) h
+
+-- the next part, in the columns from start on, and after its indent
+module _ (ps : List Part) (p : Part) (left : List Part) (start indent : ℕ) (old row : List Cell) (within : start ≤ length row) (indent-is : indent ≡ min p.indent (length row - start)) (h : HasDone ps (p ∷ left) start old row) where
+  abbrev at : ℕ
+  at = start + indent
+
+  before : take at row ≡ take start row ++ take p.indent (drop start row)
+  before = rw (indent-is, ← length-drop start row) (take-add start _ row ∙ ap (λ cells. take start row ++ cells) (take_min p.indent (drop start row)))
+
+  behind : drop at row ≡ drop p.indent (drop start row)
+  behind = rw (indent-is, ← length-drop start row) (sym (drop-drop _ start row) ∙ drop_min p.indent (drop start row))
+
+  -- what f makes of the columns after its indent
+  indented : (f : List Cell → List Cell) → take at row ++ f (drop at row) ≡ after_first start (after_first p.indent f) row
+  indented f = rw (before, behind) (append_assoc (take start row) (take p.indent (drop start row)) (f (drop p.indent (drop start row))))
+
+  -- the part, and what f makes of the columns after it
+  abbrev shown : (List Cell → List Cell) → List Cell → List Cell
+  shown f cells = after_first p.width f (span_rendered p.style p.content cells)
+
+  -- no column is left for it and the others
+  pub done-past : at ≡ length row → row ≡ parts_rendered ps old
+  unfolding parts_then
+  done-past past =
+      let all : take at row ≡ row = take_all at row (omega arith) in
+      let none : drop at row ≡ [] = drop_all at row (omega arith) in
+      let nothing : shown (parts_rendered left) [] ≡ [] = rw (span-none p.style p.content, take-nil p.width, drop-nil p.width) (parts-none left) in
+      sym (append-nil row) ∙ rw (← nothing, ← none) (ap (λ cells. cells ++ shown (parts_rendered left) (drop at row)) (sym all))
+      ∙ indented (shown (parts_rendered left)) ∙ h.follows (λ cells. cells) (p ∷ left) ∙ ap (λ qs. parts_rendered qs old) (sym h.are)
+
+  -- it is rendered
+  pub done-turn : (part : List Cell) (width : ℕ) → part ≡ span_rendered p.style p.content (take (length row - at) (drop at row)) → width ≡ min p.width (length row - at)
+      → length (lent_from at row part) ≡ length row → HasDone ps left (at + width) old (lent_from at row part)
+  unfolding parts_then
+  done-turn part width is width-is count = record {
+    whole = h.whole ++ p ∷ [];
+    are = h.are ∙ sym (append_assoc h.whole (p ∷ []) left);
+    columns = columns_left-more (length old) h.whole p ∙ omega (arith, h.columns, count, indent-is, width-is, within);
+    follows = λ f qs.
+        let cells : List Cell = span_rendered p.style p.content (drop at row) in
+        let len : length (take at row) ≡ at = length-take-le at row (omega arith) in
+        let columns : length cells ≡ length row - at = length-span_rendered p.style p.content (drop at row) ∙ length-drop at row in
+        let end : at + width ≡ length (take at row) + min p.width (length cells) = omega arith in
+        let after : after_first (at + width) (parts_then f qs) (take at row ++ cells) ≡ take at row ++ shown (parts_then f qs) (drop at row) =
+        rw (end, take-append-add (take at row) cells _, drop-append-add (take at row) cells _, take_min p.width cells, drop_min p.width cells) (append_assoc (take at row) (take p.width cells) _) in
+        ap (after_first (at + width) (parts_then f qs)) (put-made (span_rendered p.style p.content) at row part is) ∙ after
+        ∙ indented (shown (parts_then f qs)) ∙ h.follows f (p ∷ qs) ∙ ap (λ rs. parts_then f rs old) (sym (append_assoc h.whole (p ∷ []) qs));
+  }
+
+  -- it takes no memory if all don't
+  pub done-short : AreShortParts (length old) ps → IsShortSpan (length (take (length row - at) (drop at row))) p.content
+  unfolding AreShortParts
+  done-short short =
+      let columns : columns_left (length old) h.whole - p.indent ≡ length (take (length row - at) (drop at row)) = omega (arith, h.columns, indent-is, within, length-rest at row) in
+      subst (λ n. IsShortSpan n p.content) columns (short-left (length old) h.whole (p ∷ left) (subst (AreShortParts (length old)) h.are short)).0
+
+  -- it was refused memory
+  pub done-refused : (part : List Cell) → HasFrontOfSpan p.style p.content (take (length row - at) (drop at row)) part → HasFrontOfParts ps old (lent_from at row part)
+  unfolding parts_then
+  done-refused part front =
+      let columns : length (take (length row - at) (drop at row)) ≡ columns_left (length old) h.whole - p.indent = omega (arith, h.columns, indent-is, within, length-rest at row) in
+      let f : List Cell → List Cell = graphemes_rendered p.style front.front in
+      record {
+        whole = h.whole;
+        next = p;
+        others = left;
+        are = h.are;
+        front = front.front;
+        is = subst (λ n. IsShownFront n p.content front.front) columns front.is;
+        row = put-made f at row part front.row ∙ indented f ∙ h.follows (after_first p.indent f) [] ∙ ap (λ qs. parts_then (after_first p.indent f) qs old) (append-nil h.whole);
+      }
 
 -- the line was: its style lies over the row, and at columns stand before its parts
 pub refused-line : (alignment : Option HorizontalAlignment) (line : LineData) (old laid : List Cell) (at skip : ℕ) (spans : List SpanData) (left : List Cell)
     → laid ≡ map (styled line.style) old → at ≡ columns_before alignment (length old - line_width line.spans) → skip ≡ columns_before alignment (line_width line.spans - length old)
-    → spans ≡ line.spans → HasFrontOfParts (parts skip spans) (take (length laid - at) (drop at laid)) left
-    → HasFrontOfLine alignment line old (take at laid ++ (left ++ drop (length laid - at) (drop at laid)))
-refused-line alignment line old laid at skip spans left l a s e front =
-    let whole = subst (λ cells. HasFrontOfParts (parts skip spans) cells left) (rest-all at laid) front in
-    let own = subst (λ ss. HasFrontOfParts (parts skip ss) (drop at laid) left) e whole in
-    let cut = subst (λ n. HasFrontOfParts (parts n line.spans) (drop at laid) left) s own in
-    let indented = subst (λ n. HasFrontOfParts (parts (columns_before alignment (line_width line.spans - length old)) line.spans) (drop n laid) left) a cut in
-    record {
-      left = left;
-      parts_are = subst (λ cells. HasFrontOfParts (parts (columns_before alignment (line_width line.spans - length old)) line.spans) (drop (columns_before alignment (length old - line_width line.spans)) cells) left) l indented;
-      row = ap (λ rest. take at laid ++ (left ++ rest)) (rest-none at laid) ∙ ap (λ cells. take at laid ++ cells) (append-nil left)
-          ∙ ap (λ n. take n laid ++ left) a ∙ ap (λ cells. take (columns_before alignment (length old - line_width line.spans)) cells ++ left) l;
-    }
-
-part-style-cases : (b : Bool) (p q : Part) (s : Style) → p.style ≡ s → q.style ≡ s → (cond b p q).style ≡ s
-part-style-cases true p q s e h = e
-part-style-cases false p q s e h = h
+    → spans ≡ line.spans → HasFrontOfParts (parts skip spans) (take (length laid - at) (drop at laid)) left → HasFrontOfLine alignment line old (lent_from at laid left)
+refused-line alignment line old laid at skip spans left l a s e front = record {
+  left = left;
+  parts_are = rw (take_rest laid at, l, a, s, e) at front;
+  row = put-part at laid left ∙ rw (l, a) refl;
+}
 
 pub part-style : (skip : ℕ) (s : SpanData) → (part_of skip s).style ≡ s.style
-part-style skip s = part-style-cases _ _ _ s.style refl refl
-
-same-either : (b : Bool) (row : List Cell) → cond b row row ≡ row
-same-either true row = refl
-same-either false row = refl
+part-style skip s = cond_both _ _ _ (λ (p : Part). p.style ≡ s.style) (λ _. refl) (λ _. refl)
 
 -- a line without spans leaves the row as it is
 pub line-none : (alignment : Option HorizontalAlignment) (row : List Cell) → line_rendered alignment (line_of []) row ≡ row
 unfolding line_rendered
-line-none alignment row = same-either (length row == 0) row
+line-none alignment row = cond_both _ row row (λ cells. cells ≡ row) (λ _. refl) (λ _. refl)
 
 -- in no column nothing of a line shows
 pub line-in_none : (alignment : Option HorizontalAlignment) (line : LineData) → line_rendered alignment line [] ≡ []

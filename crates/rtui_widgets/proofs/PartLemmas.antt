@@ -1,8 +1,8 @@
 -- What the author of a widget cites: a buffer changed over the part of an area that it has, and pieces on a bar there.
-use Rattle.std.proofs.Common.{◌≡◌, ℕ, ◌<◌, ◌≤◌, ◌⊎◌, ⊎_elim, List, refl, sym, ap, subst, arith, Result, Ok, Err, OnOk, OnErr}
+use Rattle.std.proofs.Common.{◌≡◌, ℕ, ◌<◌, ◌≤◌, ◌⊎◌, List, refl, sym, ap, subst, arith, Result, Ok, Err, OnOk, OnErr}
 use Rattle.std.specs.declared.alloc.AllocError.{AllocError}
-use Rattle.rtui_geometry.specs.{declared.position.Position.Position, declared.rect.Rect.Rect}
-use Rattle.rtui_geometry.specs.Rect.{HasPosition, EdgesFit, corner, intersected}
+use Rattle.rtui_geometry.specs.{declared.rect.Rect.Rect}
+use Rattle.rtui_geometry.specs.Rect.{EdgesFit, corner, intersected}
 use Rattle.rtui_style.specs.declared.Style.{Style}
 use Rattle.rtui_text.specs.Text.{LineData}
 use Rattle.rtui_buffer.specs.{BufferData.BufferData, BufferData.IsEmptied, Shown.IsSettledBuffer, Painting.Piece, Painting.columns, Bar.bar_of, Bar.PaintsOnBar}
@@ -10,13 +10,13 @@ use Rattle.rtui_buffer.specs.PaintedText.{IsStyled, IsPaintable, IsSameBeside, P
 use Rattle.rtui_buffer.specs.{Line.line_pieces_at, Clipped.IsClipped}
 use Rattle.rtui_buffer.proofs.{ColumnLemmas.line-ends, ColumnLemmas.line-keeps, ShownLemmas.IsSettledBuffer-styled, ShownLemmas.IsPaintable-styled}
 use Rattle.rtui_widgets.specs.{Rendering.ChangesWithin, Clipped.OnPart}
-use Rattle.rtui_widgets.proofs.WithinLemmas.{intersected-whole, part-row, part-left, part-starts, within-then, within-styled, within-refused}
+use Rattle.rtui_widgets.proofs.WithinLemmas.{intersected-whole, part-around, part-row, within-then, within-styled, within-beside}
 
 -- the buffer has no part of the area
 pub OnPart-none : (f : Rect → BufferData → BufferData → Type 0) (area : Rect) (s : BufferData) → ((intersected area s.area).width ≡ 0) ⊎ ((intersected area s.area).height ≡ 0) → OnPart f area s s
 OnPart-none f area s none = record {
   nothing = λ _. refl;
-  part = λ wide high. ⊎_elim (λ (e : (intersected area s.area).width ≡ 0). absurd (omega arith)) (λ (e : (intersected area s.area).height ≡ 0). absurd (omega arith)) none;
+  part = λ wide high. absurd (omega arith);
 }
 
 -- it has this part
@@ -26,7 +26,7 @@ OnPart-clipped f area part old new is done =
     let high : part.height ≡ (intersected area old.area).height = ap (λ q. q.height) is.value in
     let columns_ = is.columns in let rows = is.rows in
     record {
-      nothing = λ none. ⊎_elim (λ (e : (intersected area old.area).width ≡ 0). absurd (omega arith)) (λ (e : (intersected area old.area).height ≡ 0). absurd (omega arith)) none;
+      nothing = λ none. absurd (omega arith);
       part = λ _ _. subst (λ q. f q old new) is.value done;
     }
 
@@ -49,18 +49,17 @@ module _ (area part : Rect) (n : ℕ) (style : Style) (line : LineData) (old und
       let ends = line-ends under.area part.x part.width line in
       let x : under.area.x ≡ own.x = ap (λ q. q.x) bar.area in
       let w : under.area.width ≡ own.width = ap (λ q. q.width) bar.area in
-      let starts = part-starts area own part is in let left = part-left area own part is in
+      let around = part-around area own part is in let some = is.columns in
       keeps (IsSettledBuffer-styled own (bar_of n part) style old under is.edges emptied bar)
-      (IsPaintable-styled own (bar_of n part) style old under is.edges emptied bar (corner part) (columns ps) (part-row area own part is) left (omega arith))
+      (IsPaintable-styled own (bar_of n part) style old under is.edges emptied bar (corner part) (columns ps) (part-row area own part is) around.left (omega arith))
 
   within : n ≤ part.width → IsSameBeside (corner part) ps under new → ChangesWithin area old new
   within narrow refused =
-      let rows = is.rows in
-      let inside : (p : Position) → HasPosition own p → HasPosition (bar_of n part) p → HasPosition area p = λ p in_own h.
-      let r = h.right in let b = h.bottom in
-      is.of_area p (record { left = h.left; right = omega arith; top = h.top; bottom = omega arith }) in
-      within-then area old under new (within-styled area (bar_of n part) style old under inside bar)
-      (within-refused area part under new ps (subst (λ q. IsClipped area q part) (sym bar.area) is) (line-keeps under.area part.x part.width line) (line-ends under.area part.x part.width line) refused)
+      let keeps = line-keeps under.area part.x part.width line in
+      let here : IsClipped area under.area part = subst (λ q. IsClipped area q part) (sym bar.area) is in
+      let around = part-around area under.area part here in
+      within-then area old under new (within-styled area (bar_of n part) style old under (λ p in_own h. is.of_area p (omega arith)) bar)
+      (within-beside area (corner part) ps under new (part-row area under.area part here) around.left (line-ends under.area part.x part.width line) (λ q in_own from to same. here.of_area q (omega arith)) refused)
 
   -- Ok, the line stands on the bar, and of an empty buffer came a settled one; refused, nothing outside the area changed
   pub line-on-bar : {A : Type 0} (r : Result A AllocError) → n ≤ part.width → PaintsOrRefuses (corner part) ps r under new

@@ -1,12 +1,12 @@
 -- Rows made anew, one after the other.
-use Rattle.std.proofs.Common.{◌≡◌, ℕ, ◌+◌, ◌*◌, ◌<◌, ◌≤◌, ◌⊎◌, ⊎_elim, inl, inr, List, length, get_or, take, drop, refl, sym, ap, subst, ◌∙◌, arith, Result, Ok, Err, OnErr}
-use Rattle.std.proofs.lemmas.{Bool.cases_lt, Slice.take-put_mid_below, Slice.drop-put_mid}
-use Rattle.std.proofs.lemmas.List.{length-append, length-take, length-drop, get_or-take, get_or-drop, take_at, drop_at, ext_get_or}
+use Rattle.std.proofs.Common.{◌≡◌, ◌≢◌, ℕ, ◌+◌, ◌<◌, ◌≤◌, ◌⊎◌, inl, inr, List, length, get_or, take, drop, refl, sym, ap, subst, ◌∙◌, arith}
+use Rattle.std.proofs.lemmas.{Bool.cases_eq, Slice.drop-put_mid}
+use Rattle.std.proofs.lemmas.List.{length-append, length-take, length-drop, get_or-take, get_or-drop, get_or_append_left, take_at, drop_at, ext_get_or}
 use borrow.Rule.Slice.PartMut.{put_mid}
 use Rattle.rtui_cell.specs.{declared.cell.Cell.Cell, Cell.empty_cell}
 use Rattle.rtui_diff.specs.Cells.{cell}
-use Rattle.rtui_widgets.specs.Inner.{Rows, cells_of_row, IsOutside, KeepsOthers, MakesRows, LeavesRows}
-use Rattle.rtui_grid.proofs.PlaceLemmas.{row_ends}
+use Rattle.rtui_widgets.specs.Inner.{Rows, place, cells_of_row, KeepsOthers, MakesRows, LeavesRows}
+use Rattle.rtui_grid.proofs.PlaceLemmas.{by_rows}
 
 -- ---- a part of a list that was written
 
@@ -14,122 +14,99 @@ module _ (at n : ℕ) (cells part : List Cell) (inside : at + n ≤ length cells
   pub length-written : length (put_mid at n cells part) ≡ length cells
   length-written = simp (length-append, length-take, length-drop) (omega arith)
 
-  pub written-before : (i : ℕ) → i < at → cell (put_mid at n cells part) i ≡ cell cells i
-  written-before i lt =
-      sym (get_or-take (i + 1) (put_mid at n cells part) i empty_cell (omega arith))
-      ∙ ap (λ front. get_or front i empty_cell) (take-put_mid_below at n cells part (i + 1) (omega arith) (omega arith))
-      ∙ get_or-take (i + 1) cells i empty_cell (omega arith)
+  written-before : (i : ℕ) → i < at → cell (put_mid at n cells part) i ≡ cell cells i
+  written-before i lt = get_or_append_left (take at cells) _ empty_cell i (simp length-take (omega arith)) ∙ get_or-take at cells i empty_cell lt
 
   from_drop : (xs : List Cell) (i : ℕ) → get_or (drop i xs) 0 empty_cell ≡ cell xs i
-  from_drop xs i = get_or-drop i xs 0 empty_cell ∙ ap (λ k. cell xs k) (let e : i + 0 ≡ i = omega arith in e)
+  from_drop xs i = get_or-drop i xs 0 empty_cell ∙ ap (cell xs) (omega arith)
 
-  pub written-behind : (i : ℕ) → at + n ≤ i → cell (put_mid at n cells part) i ≡ cell cells i
+  written-behind : (i : ℕ) → at + n ≤ i → cell (put_mid at n cells part) i ≡ cell cells i
   written-behind i le =
       sym (from_drop (put_mid at n cells part) i)
       ∙ ap (λ rest. get_or rest 0 empty_cell) (drop-put_mid at n cells part i le (omega arith) len)
       ∙ from_drop cells i
 
-  pub written-there : take n (drop at (put_mid at n cells part)) ≡ part
-  written-there =
-      ap (take n) (drop_at (take at cells) _ at (length-take at cells ∙ omega arith)) ∙ take_at part _ n len
+  written-there : take n (drop at (put_mid at n cells part)) ≡ part
+  written-there = ap (take n) (drop_at (take at cells) _ at (length-take at cells ∙ omega arith)) ∙ take_at part _ n len
 
 -- equal cells make equal rows
-pub same-row : (from width : ℕ) (xs ys : List Cell) → length xs ≡ length ys → from + width ≤ length ys → ((i : ℕ) → from ≤ i → i < from + width → cell xs i ≡ cell ys i)
+same-row : (from width : ℕ) (xs ys : List Cell) → length xs ≡ length ys → from + width ≤ length ys → ((i : ℕ) → from ≤ i → i < from + width → cell xs i ≡ cell ys i)
     → take width (drop from xs) ≡ take width (drop from ys)
 same-row from width xs ys len fits h =
-    let count : (zs : List Cell) → length zs ≡ length ys → length (take width (drop from zs)) ≡ width = λ zs e. length-take width (drop from zs) ∙ (let d = length-drop from zs in omega arith) in
+    let count : (zs : List Cell) → length zs ≡ length ys → length (take width (drop from zs)) ≡ width = λ zs e. simp (length-take, length-drop) (omega arith) in
+    let at : (zs : List Cell) (i : ℕ) → i < width → get_or (take width (drop from zs)) i empty_cell ≡ cell zs (from + i) = λ zs i less. get_or-take width (drop from zs) i empty_cell less ∙ get_or-drop from zs i empty_cell in
     ext_get_or empty_cell (take width (drop from xs)) (take width (drop from ys)) (count xs len ∙ sym (count ys refl))
     (λ i lt.
-    let c = count xs len in
-    let less : i < width = omega arith in
-    get_or-take width (drop from xs) i empty_cell less ∙ get_or-drop from xs i empty_cell
-    ∙ h (from + i) (omega arith) (omega arith)
-    ∙ sym (get_or-take width (drop from ys) i empty_cell less ∙ get_or-drop from ys i empty_cell))
+    let less : i < width = omega (arith, lt, count xs len) in
+    at xs i less ∙ h (from + i) (omega arith) (omega arith) ∙ sym (at ys i less))
 
 -- ---- rows
 
--- two facts of a refusal
-pub both-err : {T E : Type 0} (P Q : Type 0) (r : Result T E) → OnErr r P → OnErr r Q → OnErr r (P × Q)
-both-err P Q (Ok x) p q = tt
-both-err P Q (Err e) p q = (p, q)
+-- the first rows are what f makes of them, and all else is as before
+pub record HasMade (r : Rows) (f : ℕ → List Cell → List Cell) (k : ℕ) (old now : List Cell) : Type 0 where
+  pub keeps : KeepsOthers r old now
+  pub above : (j : ℕ) → j < k → cells_of_row r j now ≡ f j (cells_of_row r j old)
+  pub below : (j : ℕ) → k ≤ j → j < r.count → cells_of_row r j now ≡ cells_of_row r j old
 
-module _ (start width stride : ℕ) (apart : width ≤ stride) where
-  abbrev rows : ℕ → Rows
-  rows count = record { start = start; width = width; stride = stride; count = count }
+pub made-none : (r : Rows) (f : ℕ → List Cell → List Cell) (cells : List Cell) → HasMade r f 0 cells cells
+made-none r f cells = record { keeps = record { length_stays = refl; others = λ i out. refl }; above = λ j lt. absurd (omega arith); below = λ j ge lt. refl }
 
-  fewer : (k count i : ℕ) → k ≤ count → IsOutside (rows count) i → IsOutside (rows k) i
-  fewer k count i le h j lt = h j (omega arith)
+pub made-all : (r : Rows) (f : ℕ → List Cell → List Cell) (k : ℕ) (old now : List Cell) → r.count ≤ k → HasMade r f k old now → MakesRows r f old now
+made-all r f k old now all h = record { keeps = h.keeps; rows = λ j lt. h.above j (omega arith) }
 
-  -- a place of another row
-  pub other : (j k i : ℕ) → (j < k) ⊎ (k < j) → start + j * stride ≤ i → i < start + j * stride + width → (i < start + k * stride) ⊎ (start + k * stride + width ≤ i)
-  other j k i h le lt =
-      ⊎_elim
-      (λ (a : j < k). inl (let b = row_ends stride j k a in omega arith))
-      (λ (a : k < j). inr (let b = row_ends stride k j a in omega arith)) h
+-- row k is written
+module _ (r : Rows) (spread : r.width ≤ r.stride) (k at n : ℕ) (now part : List Cell) (here : at ≡ place r k) (wide : n ≡ r.width) (lt : k < r.count)
+    (inside : (j : ℕ) → j < r.count → place r j + r.width ≤ length now) (len : length part ≡ r.width) where
+  abbrev more : List Cell
+  more = put_mid at n now part
 
-  pub apart-from : (j k i : ℕ) → k ≤ j → start + j * stride ≤ i → i < start + j * stride + width → IsOutside (rows k) i
-  apart-from j k i le from to m lt = other j m i (inr (omega arith)) from to
+  fits : at + n ≤ length now
+  fits = let i = inside k lt in omega arith
 
-  module _ (f : ℕ → List Cell → List Cell) (old now : List Cell) (k n : ℕ) (part : List Cell) (width-is : n ≡ width)
-      (inside : start + k * stride + width ≤ length now) (len : length part ≡ width) (h : MakesRows (rows k) f old now) where
-    abbrev at : ℕ
-    at = start + k * stride
+  count : length part ≡ n
+  count = omega arith
 
-    abbrev more : List Cell
-    more = put_mid at n now part
+  beside : (i : ℕ) → (i < place r k) ⊎ (place r k + r.width ≤ i) → cell more i ≡ cell now i
+  beside i out = elim out [ inl before ↦ written-before at n now part fits count i (omega arith) | inr behind ↦ written-behind at n now part fits count i (omega arith) ]
 
-    fits : at + n ≤ length now
-    fits = omega arith
+  pub row-here : cells_of_row r k more ≡ part
+  row-here = rw (← here, ← wide) (written-there at n now part fits count)
 
-    count : length part ≡ n
-    count = omega arith
+  pub row-other : (j : ℕ) → j < r.count → j ≢ k → cells_of_row r j more ≡ cells_of_row r j now
+  row-other j j_in other =
+      same-row (place r j) r.width more now (length-written at n now part fits count) (inside j j_in)
+      (λ i from to. beside i (by_rows _ r.stride j k (λ _ e. inl (omega arith)) (λ _ e. inr (omega arith)) (λ e. absurd (other e))))
 
-    beside : (i : ℕ) → (i < at) ⊎ (at + width ≤ i) → cell more i ≡ cell now i
-    beside i out = ⊎_elim (λ (a : i < at). written-before at n now part fits count i a) (λ (a : at + width ≤ i). written-behind at n now part fits count i (omega arith)) out
+  pub others-stay : KeepsOthers r now more
+  others-stay = record { length_stays = length-written at n now part fits count; others = λ i out. beside i (out k lt) }
 
-    pub keeps-others : (all : ℕ) → k < all → KeepsOthers (rows all) old more
-    keeps-others all lt = record {
-      length_stays = length-written at n now part fits count ∙ h.keeps.length_stays;
-      others = λ i out. beside i (out k lt) ∙ h.keeps.others i (fewer k all i (omega arith) out);
+  module _ (f : ℕ → List Cell → List Cell) (old : List Cell) (h : HasMade r f k old now) where
+    pub keeps-others : KeepsOthers r old more
+    keeps-others = record { length_stays = others-stay.length_stays ∙ h.keeps.length_stays; others = λ i out. others-stay.others i out ∙ h.keeps.others i out }
+
+    rows-above : (j : ℕ) → j < k → cells_of_row r j more ≡ f j (cells_of_row r j old)
+    rows-above j before = row-other j (omega arith) (omega arith) ∙ h.above j before
+
+    rows-below : (j : ℕ) → k < j → j < r.count → cells_of_row r j more ≡ cells_of_row r j old
+    rows-below j after j_in = row-other j j_in (omega arith) ∙ h.below j (omega arith) j_in
+
+    -- it is what f makes of it
+    pub made-more : part ≡ f k (take r.width (drop (place r k) now)) → HasMade r f (k + 1) old more
+    made-more is = record {
+      keeps = keeps-others;
+      above = λ j j_in. elim (cases_eq j k) [
+        | inl same ↦ subst (λ m. cells_of_row r m more ≡ f m (cells_of_row r m old)) (sym same) (row-here ∙ is ∙ ap (f k) (h.below k (omega arith) lt))
+        | inr other ↦ rows-above j (omega arith)
+      ];
+      below = λ j ge j_in. rows-below j (omega arith) j_in;
     }
 
-    before : (j : ℕ) → j < k → cells_of_row (rows (k + 1)) j more ≡ f j (cells_of_row (rows (k + 1)) j old)
-    before j lt =
-        let b = row_ends stride j k lt in
-        same-row (start + j * stride) width more now (length-written at n now part fits count) (omega arith) (λ i from to. beside i (other j k i (inl lt) from to))
-        ∙ h.rows j lt
-
-    former : cells_of_row (rows (k + 1)) k now ≡ cells_of_row (rows (k + 1)) k old
-    former =
-        let same = h.keeps.length_stays in
-        same-row at width now old same (omega arith) (λ i from to. h.keeps.others i (apart-from k k i (omega arith) from to))
-
-    -- the row at which it was refused
-    pub leaves-row : (all : ℕ) → k < all → ((j : ℕ) → j < all → start + j * stride + width ≤ length now) → (g : ℕ → List Cell → List Cell → Type 0)
-        → g k (take width (drop at now)) part → LeavesRows (rows all) f g old more
-    leaves-row all lt all-inside g left = record {
+    -- it was refused, and is as g says
+    pub leaves-row : (g : ℕ → List Cell → List Cell → Type 0) → g k (take r.width (drop (place r k) now)) part → LeavesRows r f g old more
+    leaves-row g left = record {
       at = k;
       there = lt;
-      above = before;
-      row =
-          let own : part ≡ take width (drop at more) = sym (ap (λ w. take w (drop at more)) (sym width-is) ∙ written-there at n now part fits count) in
-          subst (g k (cells_of_row (rows all) k old)) own (subst (λ cells. g k cells part) former left);
-      below = λ j after lt'.
-          let same = h.keeps.length_stays in
-          let there = all-inside j lt' in
-          same-row (start + j * stride) width more now (length-written at n now part fits count) there (λ i from to. beside i (other j k i (inr after) from to))
-          ∙ same-row (start + j * stride) width now old same (omega arith) (λ i from to. h.keeps.others i (apart-from j k i (omega arith) from to));
-    }
-
-    pub makes-row : part ≡ f k (take width (drop at now)) → MakesRows (rows (k + 1)) f old more
-    makes-row is = record {
-      keeps = keeps-others (k + 1) (omega arith);
-      rows = λ j lt.
-          ⊎_elim
-          (λ (a : j < k). before j a)
-          (λ (a : k ≤ j).
-          let here : k ≡ j = omega arith in
-          let own : take width (drop at more) ≡ part = ap (λ w. take w (drop at more)) (sym width-is) ∙ written-there at n now part fits count in
-          subst (λ m. cells_of_row (rows (k + 1)) m more ≡ f m (cells_of_row (rows (k + 1)) m old)) here (own ∙ is ∙ ap (f k) former))
-          (cases_lt j k);
+      above = rows-above;
+      row = subst (g k (cells_of_row r k old)) (sym row-here) (subst (λ cells. g k cells part) (h.below k (omega arith) lt) left);
+      below = rows-below;
     }

@@ -1,10 +1,10 @@
 -- What the author of a widget cites: the part of an area that a buffer has, and what stays within an area.
 use Rattle.std.proofs.Common.{◌≡◌, ◌+◌, ◌-◌, ◌<◌, ◌≤◌, List, min, max, refl, ap, ◌∙◌, arith}
 use Rattle.rtui_geometry.specs.{declared.position.Position.Position, declared.rect.Rect.Rect}
-use Rattle.rtui_geometry.specs.Rect.{HasPosition, EdgesFit, right_edge, bottom_edge, corner, intersected}
+use Rattle.rtui_geometry.specs.Rect.{HasPosition, EdgesFit, right_edge, bottom_edge, intersected}
 use Rattle.rtui_style.specs.declared.Style.{Style}
 use Rattle.rtui_buffer.specs.{BufferData.BufferData, BufferData.HasRow, Painting.Piece, Painting.columns}
-use Rattle.rtui_buffer.specs.{PaintedText.IsStyled, PaintedText.IsBeside, PaintedText.IsSameBeside, Clipped.IsClipped}
+use Rattle.rtui_buffer.specs.{PaintedText.IsStyled, PaintedText.IsSameBeside, Clipped.IsClipped, Inner.IsAround}
 use Rattle.rtui_buffer.proofs.ColumnLemmas.{same-beside}
 use Rattle.rtui_widgets.specs.Rendering.{ChangesWithin}
 use Rattle.rtui_grid.proofs.PlaceLemmas.{apart}
@@ -19,34 +19,18 @@ intersected-whole r edges =
     let h : min (bottom_edge r) (bottom_edge r) - r.y ≡ r.height = omega arith in
     rw (x, y, w, h) refl
 
--- where the part of an area begins
-module _ (area own part : Rect) (is : IsClipped area own part) where
-  x-is : part.x ≡ max area.x own.x
-  x-is = ap (λ q. q.x) is.value
+-- the part of an area lies in the buffer's own
+pub part-around : (area own part : Rect) → IsClipped area own part → IsAround own part
+part-around area own part is =
+    let x : part.x ≡ max area.x own.x = ap (λ q. q.x) is.value in
+    let y : part.y ≡ max area.y own.y = ap (λ q. q.y) is.value in
+    let width : part.width ≡ min (right_edge area) (right_edge own) - max area.x own.x = ap (λ q. q.width) is.value in
+    let height : part.height ≡ min (bottom_edge area) (bottom_edge own) - max area.y own.y = ap (λ q. q.height) is.value in
+    let columns_ = is.columns in let rows = is.rows in
+    record { left = omega arith; right = omega arith; top = omega arith; bottom = omega arith }
 
-  y-is : part.y ≡ max area.y own.y
-  y-is = ap (λ q. q.y) is.value
-
-  width-is : part.width ≡ min (right_edge area) (right_edge own) - max area.x own.x
-  width-is = ap (λ q. q.width) is.value
-
-  height-is : part.height ≡ min (bottom_edge area) (bottom_edge own) - max area.y own.y
-  height-is = ap (λ q. q.height) is.value
-
-  pub part-row : HasRow own part.y
-  part-row = record { top = omega (arith, y-is); bottom = omega (arith, y-is, height-is, is.rows) }
-
-  pub part-left : own.x ≤ part.x
-  part-left = omega (arith, x-is)
-
-  pub part-starts : part.x < own.x + own.width
-  part-starts = omega (arith, x-is, width-is, is.columns)
-
-  -- a position in the part's first row
-  pub in-first-row : (p : Position) → HasPosition own p → part.x ≤ p.x → p.x < part.x + part.width → p.y ≡ part.y → HasPosition area p
-  in-first-row p in_own from to e =
-      let r = in_own.right in let b = in_own.bottom in let some = is.rows in
-      is.of_area p (record { left = from; right = omega arith; top = omega arith; bottom = omega arith })
+pub part-row : (area own part : Rect) → IsClipped area own part → HasRow own part.y
+part-row area own part is = let around = part-around area own part is in let rows = is.rows in record { top = omega arith; bottom = omega arith }
 
 -- one change after another
 pub within-then : (area : Rect) (old between new : BufferData) → ChangesWithin area old between → ChangesWithin area between new → ChangesWithin area old new
@@ -64,13 +48,11 @@ within-styled area r style old new inside is = record {
   outside = λ p in_own off. is.outside p in_own (λ h. off (inside p in_own h));
 }
 
--- a refused painting in the first row of the part
-pub within-refused : (area part : Rect) (old new : BufferData) (ps : List Piece) → IsClipped area old.area part → columns ps ≤ part.width → columns ps ≤ old.area.x + old.area.width - part.x
-    → IsSameBeside (corner part) ps old new → ChangesWithin area old new
-within-refused area part old new ps is narrow ends refused = record {
+-- a refused painting in a row, in columns of an area
+pub within-beside : (area : Rect) (p : Position) (ps : List Piece) (old new : BufferData) → HasRow old.area p.y → old.area.x ≤ p.x → columns ps ≤ old.area.x + old.area.width - p.x
+    → ((q : Position) → HasPosition old.area q → p.x ≤ q.x → q.x < p.x + columns ps → q.y ≡ p.y → HasPosition area q) → IsSameBeside p ps old new → ChangesWithin area old new
+within-beside area p ps old new row left ends inside refused = record {
   same_area = refused.area;
   same_room = refused.room;
-  outside = λ p in_own off.
-      let beside : IsBeside (corner part) (columns ps) p = λ same. apart p.x part.x (columns ps) (λ from to. off (in-first-row area old.area part is p in_own from (omega arith) same)) in
-      same-beside (corner part) p ps old new (part-row area old.area part is) (part-left area old.area part is) ends refused in_own beside;
+  outside = λ q in_own off. same-beside p q ps old new row left ends refused in_own (λ same. apart q.x p.x (columns ps) (λ from to. off (inside q in_own from to same)));
 }

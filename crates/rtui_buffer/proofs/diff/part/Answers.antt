@@ -1,7 +1,16 @@
-use Rattle.std.proofs.Common.{◌≡◌, ◌+◌, ◌-◌, ◌*◌, refl, ap, arith}
+use Rattle.std.proofs.Common.{◌≡◌, ℕ, ◌+◌, ◌-◌, ◌*◌, ◌≤◌, List, length, take, drop, length-take, length-drop, refl, ap, arith}
 use Rattle.rtui_geometry.specs.declared.rect.Rect.{Rect}
-use Rattle.rtui_buffer.proofs.RowsDiffLemmas.{part_count}
+use Rattle.std.proofs.Math.Nat.{mul-le-mul_right}
+use Rattle.rtui_cell.specs.declared.cell.Cell.{Cell}
 use Rattle.rtui_buffer.proofs.diff.part.Goals as goal
+
+-- how many cells some rows have
+part_count : (w h i n : ℕ) (cells : List Cell) → length cells ≡ w * h → i + n ≤ h → length (take (w * n) (drop (i * w) cells)) ≡ w * n
+part_count w h i n cells size inside =
+    let p : (i + n) * w ≤ h * w = mul-le-mul_right w inside in
+    let q : (i + n) * w ≡ i * w + w * n = grind arith in
+    let r : h * w ≡ w * h = grind arith in
+    simp (length-take, length-drop) (omega (arith, size))
 
 pub returns-clause-cells : goal.returns-clause-cells
 returns-clause-cells c =

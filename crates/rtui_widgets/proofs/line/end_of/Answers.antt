@@ -14,27 +14,20 @@ loop-grapheme-init c =
     let count : length c.args.text.now ≡ length (concat (graphemes_left c.graphemes-left.result)) = sym (ap (λ gs. length (concat gs)) c.graphemes-left.ensures.left ∙ ap length whole) in
     ([], append-nil _ ∙ c.graphemes-left.ensures.left, refl, omega arith, count, IsCharBoundary-end c.args.text.now)
 
-pub returns-then-columns-room-clause-content : goal.returns-then-columns-room-clause-content
-returns-then-columns-room-clause-content c =
+pub returns-then-columns-room : goal.returns-then-columns-room
+returns-then-columns-room c =
     let i = c.loop-grapheme.invariant in
-    let g : List ℕ = c.in-Some.grapheme.now in
-    let front : List (List ℕ) = graphemes_left c.next_back.new.self in
-    let is : graphemes_left c.loop-grapheme.left ≡ front ++ g ∷ [] = search rules in
+    let left : List (List ℕ) = graphemes_left c.loop-grapheme.left in
+    let is : left ≡ graphemes_left c.next_back.new.self ++ c.in-Some.grapheme.now ∷ [] = search rules in
     let kept : last_fitting c.args.room (graphemes true c.args.text.now) ≡ i.0 =
-    kept_behind c.args.room (graphemes_left c.loop-grapheme.left) front g i.0 (graphemes true c.args.text.now) is i.1 (omega (arith, i.2, i.3)) (omega (arith, i.2, i.3, c.if-columns-room.true, c.text_columns-columns.ensures.value)) in
-    c.range_from.ensures.value ∙ ap (λ n. drop n c.args.text.now) i.4
-    ∙ sym (ap (drop (length (concat (graphemes_left c.loop-grapheme.left)))) (split-text c.args.text.now (graphemes_left c.loop-grapheme.left) i.0 (ap concat i.1 ∙ concat-segments _ _ c.utf8.text)))
-    ∙ drop_at (concat (graphemes_left c.loop-grapheme.left)) (concat i.0) _ refl ∙ ap concat (sym kept)
-
-pub returns-then-columns-room-clause-width : goal.returns-then-columns-room-clause-width
-returns-then-columns-room-clause-width c =
-    let i = c.loop-grapheme.invariant in
-    let g : List ℕ = c.in-Some.grapheme.now in
-    let front : List (List ℕ) = graphemes_left c.next_back.new.self in
-    let is : graphemes_left c.loop-grapheme.left ≡ front ++ g ∷ [] = search rules in
-    let kept : last_fitting c.args.room (graphemes true c.args.text.now) ≡ i.0 =
-    kept_behind c.args.room (graphemes_left c.loop-grapheme.left) front g i.0 (graphemes true c.args.text.now) is i.1 (omega (arith, i.2, i.3)) (omega (arith, i.2, i.3, c.if-columns-room.true, c.text_columns-columns.ensures.value)) in
-    i.2 ∙ ap (sum_by text_columns) (sym kept)
+    kept_behind c.args.room left _ c.in-Some.grapheme.now i.0 _ is i.1 (omega (arith, i.2, i.3)) (omega (arith, i.2, i.3, c.if-columns-room.true, c.text_columns-columns.ensures.value)) in
+    record {
+      content = c.range_from.ensures.value ∙ ap (λ n. drop n c.args.text.now) i.4
+          ∙ sym (ap (drop (length (concat left))) (split-text c.args.text.now left i.0 (ap concat i.1 ∙ concat-segments _ _ c.utf8.text)))
+          ∙ drop_at (concat left) (concat i.0) _ refl ∙ ap concat (sym kept);
+      width = i.2 ∙ ap (sum_by text_columns) (sym kept);
+      fits = i.3;
+    }
 
 pub loop-grapheme-preserved : goal.loop-grapheme-preserved
 loop-grapheme-preserved c =

@@ -1,7 +1,6 @@
-use Rattle.std.proofs.Common.{◌≡◌, ◌+◌, ◌-◌, ◌≤◌}
+use Rattle.std.proofs.Common.{◌-◌, ◌≤◌}
 use Rattle.unicode_segmentation.specs.Iter.{graphemes_left}
-use Rattle.rtui_buffer.specs.Painting.{kept, pieces, text_pieces, columns, painted, IsSameOutside, KeepsUnmarked}
-use Rattle.rtui_buffer.specs.PaintedText.{AreShort}
+use Rattle.rtui_buffer.specs.Painting.{kept, pieces, text_pieces}
 use Rattle.rtui_buffer.proofs.RefusedLemmas.{PaintsSoFar}
 use Rattle.rtui_buffer.proofs.buffer.painting.paint_graphemes.Given as goal
 
@@ -10,10 +9,5 @@ invariant-loop-grapheme l = record {
   can : (goal.iterator-loop-grapheme).can_next l.grapheme-iterator;
   ends : (goal.iterator-loop-grapheme).is_finite l.grapheme-iterator;
   within : l.used ≤ l.room;
-  columns : l.used + columns (pieces l.style (kept (l.room - l.used) (graphemes_left l.grapheme-iterator))) ≡ columns (text_pieces l.room l.style l.text);
-  cells : painted (l.start + l.used) (pieces l.style (kept (l.room - l.used) (graphemes_left l.grapheme-iterator))) l.cells ≡ painted l.start (text_pieces l.room l.style l.text) l.initial.cells;
   so_far : PaintsSoFar l.start l.used (pieces l.style (kept (l.room - l.used) (graphemes_left l.grapheme-iterator))) (text_pieces l.room l.style l.text) l.initial.cells l.cells;
-  short : AreShort (text_pieces l.room l.style l.text) → AreShort (pieces l.style (kept (l.room - l.used) (graphemes_left l.grapheme-iterator)));
-  outside : IsSameOutside l.start (l.start + l.used) l.initial.cells l.cells;
-  marks : KeepsUnmarked l.initial.cells l.cells;
 }
