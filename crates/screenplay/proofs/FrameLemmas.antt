@@ -1,14 +1,14 @@
 -- Frames of a script, of which no cell has an option or a flag.
-use Rattle.std.proofs.Common.{◌≡◌, ℕ, ◌+◌, ◌*◌, ◌<◌, Bool, true, false, if◌then◌else◌, List, [], ◌∷◌, Some, refl, sym, ap, ◌∙◌, subst, arith, encode_utf8}
+use Rattle.std.proofs.Common.{◌≡◌, ℕ, ◌+◌, ◌*◌, ◌<◌, Bool, true, false, if◌then◌else◌, List, [], ◌∷◌, Some, refl, sym, ◌∙◌, subst, encode_utf8}
 use Rattle.rtui_geometry.specs.declared.rect.Rect.{Rect}
 use Rattle.rtui_cell.specs.{declared.cell.Cell.Cell, Cell.is_skipped, Cell.IsUnmarked, Grid.Grid}
 use Rattle.rtui_diff.specs.{Cells.cell_at, Shows.Shows}
 use Rattle.rtui_text.specs.Text.{TextData}
 use Rattle.rtui_buffer.specs.BufferData.{BufferData, IsEmptied, area_size, cell_index, cell_in, position_of, with_cell}
-use Rattle.rtui_buffer.specs.Shown.{ShowsBuffer}
 use Rattle.rtui_backend.specs.CellGrid.{AreUnmarked}
+use Rattle.rtui_viewport.specs.Areas.{is_within}
 use Rattle.rtui_backend.proofs.PlainLemmas.{AreUnmarked-empties, unmarked_set}
-use Rattle.screenplay.specs.{Puts.holds_place, Puts.with_put, Puts.with_puts, Run.IsFrame}
+use Rattle.screenplay.specs.{Puts.with_put, Puts.with_puts, Run.IsFrame}
 
 unskipped : (c : Cell) → IsUnmarked c → is_skipped c ≡ false
 unfolding is_skipped
@@ -18,7 +18,7 @@ pub AreUnmarked-emptied : (r : Rect) (s : BufferData) → IsEmptied r s → AreU
 AreUnmarked-emptied r s emptied = subst AreUnmarked (sym emptied.cells) (AreUnmarked-empties (area_size r))
 
 AreUnmarked-put : (put : ℕ × ℕ × ℕ) (s : BufferData) → AreUnmarked s.cells → AreUnmarked (with_put put s).cells
-AreUnmarked-put put s all = either (holds_place s.area put.0 put.1)
+AreUnmarked-put put s all = either (is_within s.area put.0 put.1)
   where
     either : (holds : Bool) → AreUnmarked (if holds then with_cell s (position_of (put.0, put.1)) (record (cell_in s (position_of (put.0, put.1))) { symbol = Some (encode_utf8 put.2) }) else s).cells
     either true = let former = all (cell_index s.area (position_of (put.0, put.1))) in unmarked_set s.cells _ _ all (record { option = former.option; flag = former.flag })
@@ -33,20 +33,9 @@ AreUnmarked-frame area text puts frame made =
     subst (λ (s : BufferData). AreUnmarked s.cells) (sym made.painted)
     (AreUnmarked-puts puts made.rendered (λ k. made.renders.marks.at k (AreUnmarked-emptied area made.blank made.emptied k)))
 
--- two grids that show the same cells, none of which is marked, show the same there
-shown_same : (x y x' y' w h : ℕ) (cells : List Cell) (g g' : Grid) → AreUnmarked cells → Shows x y w h cells g → Shows x' y' w h cells g'
-    → (a b : ℕ) → a < w → b < h → g' (x' + a) (y' + b) ≡ g (x + a) (y + b)
-shown_same x y x' y' w h cells g g' unmarked shown again a b a_in b_in =
-    let plain = unskipped (cell_at w cells a b) (unmarked (b * w + a)) in
+-- cells without marks that are shown in an area, and then in other rows of its columns
+pub shown_again : (r : Rect) (y : ℕ) (cells : List Cell) (g g' : Grid) → AreUnmarked cells → Shows r.x r.y r.width r.height cells g → Shows r.x y r.width r.height cells g'
+    → (a b : ℕ) → a < r.width → b < r.height → g' (r.x + a) (y + b) ≡ g (r.x + a) (r.y + b)
+shown_again r y cells g g' unmarked shown again a b a_in b_in =
+    let plain = unskipped (cell_at r.width cells a b) (unmarked (b * r.width + a)) in
     (again.at a b a_in b_in).look plain ∙ sym ((shown.at a b a_in b_in).look plain)
-
--- an unmarked frame that is shown in an area, and then in another of its size
-pub shown-again : (last : BufferData) (r q : Rect) (g g' : Grid) → last.area ≡ r → q.width ≡ r.width → q.height ≡ r.height → AreUnmarked last.cells → ShowsBuffer last g → ShowsBuffer (record last { area = q }) g'
-    → (a b : ℕ) → a < r.width → b < r.height → g' (q.x + a) (q.y + b) ≡ g (r.x + a) (r.y + b)
-shown-again last r q g g' at width height unmarked shown again a b a_in b_in =
-    let w : last.area.width ≡ r.width = ap (λ (r : Rect). r.width) at in
-    let h : last.area.height ≡ r.height = ap (λ (r : Rect). r.height) at in
-    let there : Shows q.x q.y last.area.width last.area.height last.cells g' =
-    subst (λ n. Shows q.x q.y n last.area.height last.cells g') (width ∙ sym w) (subst (λ n. Shows q.x q.y q.width n last.cells g') (height ∙ sym h) again) in
-    subst (λ (p : Rect). g' (q.x + a) (q.y + b) ≡ g (p.x + a) (p.y + b)) at
-    (shown_same last.area.x last.area.y q.x q.y last.area.width last.area.height last.cells g g' unmarked shown there a b (omega (arith, a_in, w)) (omega (arith, b_in, h)))

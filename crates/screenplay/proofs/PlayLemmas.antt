@@ -1,112 +1,74 @@
 -- A terminal in the middle of a play: its start, its sizes, its frames and its clears.
-use Rattle.std.proofs.Common.{◌≡◌, ℕ, zero, suc, ◌+◌, ◌-◌, ◌<◌, ◌≤◌, min, nat_lt, true, false, if◌then◌else◌, List, [], ◌∷◌, ◌++◌, map, replicate, Option, Some, None, refl, sym, ap, ap₂, subst, ◌∙◌, inl, inr, arith, nat_le, ◌||◌, ◌&&◌, ◌==◌}
+use Rattle.std.proofs.Common.{◌≡◌, ℕ, ◌+◌, ◌-◌, ◌<◌, min, nat_lt, List, [], ◌++◌, map, Option, Some, None, refl, sym, ap, ap₂, subst, ◌∙◌, inl, inr, arith, ◌||◌}
 use Rattle.std.specs.List.{range_with_len}
 use Rattle.std.proofs.lemmas.{Bool.cases_lt, Bool.Decides.nat_tests}
 use Rattle.rtui_geometry.specs.{declared.rect.Rect.Rect, declared.size.Size.Size}
-use Rattle.rtui_cell.specs.Look.{empty_look}
 use Rattle.rtui_text.specs.Text.{TextData}
 use Rattle.rtui_buffer.specs.{BufferData.BufferData, Shown.IsSettledBuffer, Shown.ShowsBuffer}
 use Rattle.rtui_backend.proofs.ScrollLemmas.{above_kept, above_same}
-use Rattle.rtui_backend.specs.Screen.{Screen, IsBlankScreen, TakesSize, IsOnScreen, IsWithin, seen, row_of, rows_above, screen_area, size_of}
+use Rattle.rtui_backend.specs.Screen.{Screen, IsBlankScreen, TakesSize, IsOnScreen, IsWithin, row_of, rows_above, screen_area, size_of}
 use Rattle.rtui_backend.specs.{CellGrid.AreUnmarked, TestBackend.screen_of, declared.test.TestBackend.TestBackend}
 use Rattle.rtui_viewport.specs.declared.viewport.Viewport.{Viewport}
 use Rattle.rtui_viewport.specs.declared.viewport.Viewport.TheVariants.{Fullscreen, Inline, Fixed}
-use Rattle.rtui_viewport.specs.{Viewports.IsFixed, Viewports.IsInline, Areas.KeepsOutside, Areas.IsBlankOver, Areas.Empties, Sizing.first_area}
-use Rattle.rtui_viewport.specs.Placing.{area_in, raised, inline_area, inline_top, rows_scrolled}
-use Rattle.rtui_viewport.specs.{Clearing.HasPlace, Clearing.ClearsArea, Clearing.is_emptied, Lying.FitsSize, Lying.MayLie}
+use Rattle.rtui_viewport.specs.{Viewports.IsFixed, Viewports.IsInline, Areas.KeepsOutside, Areas.IsBlankOver, Areas.Empties}
+use Rattle.rtui_viewport.specs.Placing.{area_in, raised, inline_area, rows_scrolled}
+use Rattle.rtui_viewport.specs.{Clearing.HasPlace, Clearing.ClearsArea, Clearing.is_emptied, Lying.FitsSize, Lying.MayLie, Lying.at_corner}
 use Rattle.rtui_viewport.proofs.ClearLemmas.{blank_over}
-use Rattle.rtui_terminal.specs.{TerminalData.TerminalData, TerminalData.cursor_offset, InStep.IsInStep, InStep.IsSized, Starting.IsBlank, Starting.Starts}
+use Rattle.rtui_terminal.specs.{TerminalData.TerminalData, TerminalData.cursor_offset, InStep.IsInStep, Starting.Starts}
 use Rattle.rtui_terminal.proofs.RestLemmas.{same_size, inline_left, inline_width, raised_by, raised_same, has_place, rests-started, rests-applied, rests-resized, rests-cleared, keeps-cleared, rests-known, rests-takes, rests-inserted}
-use Rattle.rtui_terminal.proofs.StartLemmas.{starts-blank}
 use Rattle.rtui_terminal.specs.{Insertion.inserted_area, Writing.Applies, Clearing.ClearsViewport, Resizing.Resizes}
-use Rattle.screenplay.specs.Run.{stage_size, GoesOn, plain_screen, rows_above_view, IsGoodStage, IsFrame, first_viewport, first_rows, IsStart, KeepsSurroundings, size_after, View, row_count, text_area, IsInserted, InsertsOn}
-use Rattle.screenplay.proofs.FrameLemmas.{AreUnmarked-emptied, AreUnmarked-frame, shown-again}
-use Rattle.screenplay.specs.Playing.{IsPlaying, view_in, TakesNewSize, IsSizedFor, ShowsFrame, InsertsBuffer, IsCauseOfFrame, IsCauseOfStep, Plays}
+use Rattle.screenplay.specs.Run.{stage_size, GoesOn, plain_screen, rows_above_view, IsGoodStage, IsFrame, IsStart, KeepsSurroundings, size_after, IsCauseOfStep, View, row_count, text_area}
+use Rattle.screenplay.proofs.FrameLemmas.{AreUnmarked-emptied, AreUnmarked-frame, shown_again}
+use Rattle.screenplay.specs.Playing.{IsPlaying, view_in, TakesNewSize, IsSizedFor, InsertsBuffer, Plays}
 use Rattle.screenplay.specs.{declared.scene.PlayCause.PlayCause, declared.scene.PlayCause.TheVariants.Memory, declared.scene.PlayCause.TheVariants.Unsettled}
 use Rattle.screenplay.specs.declared.scene.Stage.{Stage}
 use Rattle.screenplay.specs.declared.scene.Step.TheVariants as steps
 
--- a list of one value
-all_same : {X : Type 0} (f : ℕ → X) (x : X) (a n : ℕ) → ((i : ℕ) → a ≤ i → i < a + n → f i ≡ x) → map f (range_with_len a n) ≡ replicate n x
-all_same f x a zero same = refl
-all_same f x a (suc n) same =
-    ap₂ (λ y ys. y ∷ ys) (same a (omega arith) (omega arith)) (all_same f x (a + 1) n (λ i low high. same i (omega arith) (omega arith)))
-
--- the size of an area
-abbrev size_in : Rect → Size
-size_in r = record { width = r.width; height = r.height }
-
 -- the start
-module _ (w h : ℕ) (s : Screen) (blank : IsBlankScreen w h s) where
-  corner_y : s.cursor_y ≡ 0
-  corner_y = ap (λ p. p.y) blank.cursor
-
-  started_area : (kind : Viewport) → area_in kind (first_area kind s) 0 s.cursor_y ≡ first_viewport kind (size_of s)
-  started_area Fullscreen = refl
-  started_area (Inline n) = ap (λ y. record { x = 0; y = y; width = s.width; height = min n s.height }) (top s.cursor_y corner_y)
-    where
-      top : (r : ℕ) → r ≡ 0 → inline_top n s.height 0 r ≡ 0
-      top r e = omega arith
-  started_area (Fixed r) = refl
-
-  started_rows : (kind : Viewport) → 0 < h → FitsSize kind (record { width = w; height = h }) → rows_scrolled kind 0 s ≡ first_rows kind (record { width = w; height = h })
-  started_rows Fullscreen some good = refl
-  started_rows (Inline n) some good = let e = corner_y in let f = blank.height in grind (arith, nat_tests)
-  started_rows (Fixed r) some good = refl
-
-  seen_blank : (a b : ℕ) → seen s a b ≡ empty_look
-  seen_blank a b = elim (nat_lt b s.height) as (λ t. (if t then s.grid a b else empty_look) ≡ empty_look) [ true ↦ blank.grid a b | false ↦ refl ]
-
-  blank_rows : (k : ℕ) → rows_above s k ≡ replicate k (replicate w empty_look)
-  blank_rows k =
-      ap (λ xs. xs ++ map (row_of s) (range_with_len 0 k)) blank.history
-      ∙ all_same (row_of s) (replicate w empty_look) 0 k (λ b low high. all_same (λ a. seen s a b) empty_look 0 s.width (λ a low high. seen_blank a b) ∙ ap (λ n. replicate n empty_look) blank.width)
-
 pub IsPlaying-started : (stage : Stage) (b : TestBackend) (t : TerminalData TestBackend) → IsGoodStage stage → IsBlankScreen stage.width stage.height (screen_of b) → Starts screen_of stage.viewport b t
     → IsPlaying stage t × IsStart stage (view_in t)
 IsPlaying-started stage b t good blank starts =
     let s : Screen = screen_of b in
-    let u : Screen = screen_of t.backend in
     let kind = stage.viewport in
-    let moved = starts.scrolls in
-    let width : u.width ≡ stage.width = moved.width ∙ blank.width in
-    let height : u.height ≡ stage.height = moved.height ∙ blank.height in
-    let size : size_of u ≡ stage_size stage = rw (width, height) refl in
-    let own : size_of s ≡ stage_size stage = rw (blank.width, blank.height) refl in
-    let view : t.viewport_area ≡ first_viewport kind (size_of u) =
-    starts.viewport_area ∙ ap (λ r. area_in kind r 0 s.cursor_y) starts.last_known_area ∙ started_area stage.width stage.height s blank kind ∙ ap (first_viewport kind) (sym (same_size u s moved.width moved.height)) in
-    let is : IsBlank s = record { at = λ a c a_in c_in. blank.grid a c } in (
+    let scrolls = starts.scrolls in
+    let own : size_of s ≡ stage_size stage = rw (blank.width, blank.height) refl in (
       record {
-        rest = rests-started screen_of kind b t (subst (FitsSize kind) (sym own) good.viewport) is starts;
+        rest = rests-started screen_of kind b t (subst (FitsSize kind) (sym own) good.viewport) (record { at = λ a c a_in c_in. blank.grid a c }) starts;
         plain = AreUnmarked-emptied t.viewport_area t.previous starts.previous;
       },
       record {
-        size = size;
-        viewport = view ∙ ap (first_viewport kind) size;
-        history = moved.history ∙ blank_rows stage.width stage.height s blank _ ∙ ap (λ k. replicate k (replicate stage.width empty_look)) (started_rows stage.width stage.height s blank kind good.height good.viewport);
-        blank = λ a c a_in c_in. (starts-blank screen_of kind b t starts is).at a c (omega (arith, a_in, width)) (omega (arith, c_in, height));
+        blank = s;
+        is_blank = blank;
+        viewport = starts.viewport_area ∙ ap (λ r. area_in kind r 0 s.cursor_y) starts.last_known_area;
+        scrolls = record { history = scrolls.history; width = scrolls.width; height = scrolls.height; grid = scrolls.grid; visible = sym blank.visible; written = sym blank.written };
       },
     )
 
 -- a settled frame painted on the empty buffer and drawn
-pub IsPlaying-drawn : (stage : Stage) (text : TextData) (puts : List (ℕ × ℕ × ℕ)) (frame : BufferData) (s t : TerminalData TestBackend) → IsPlaying stage s → IsFrame s.viewport_area text puts frame → IsSettledBuffer frame
-    → Applies screen_of None (record s { current = frame }) t → IsPlaying stage t × ShowsFrame text puts s t
-IsPlaying-drawn stage text puts frame s t playing made settled applied =
+pub Plays-frame : (stage : Stage) (text : TextData) (puts : List (ℕ × ℕ × ℕ)) (frame : BufferData) (s t : TerminalData TestBackend) → IsPlaying stage s → IsFrame s.viewport_area text puts frame → IsSettledBuffer frame
+    → Applies screen_of None (record s { current = frame }) t → Plays stage (steps.Draw None text puts) s t
+Plays-frame stage text puts frame s t playing made settled applied =
     let at = playing.rest.in_step in
     let here : IsInStep screen_of (record s { current = frame }) = record { on_screen = at.on_screen; area = at.area; settled = at.settled; shown = at.shown } in
-    let keeps = applied.keeps here settled in (
-      record {
+    let keeps = applied.keeps here settled in
+    let size : size_of (screen_of t.backend) ≡ size_of (screen_of s.backend) = same_size (screen_of t.backend) (screen_of s.backend) keeps.size.width keeps.size.height in
+    record {
+      playing = record {
         rest = rests-applied screen_of stage.viewport None frame s t playing.rest settled applied;
         plain = subst (λ (f : BufferData). AreUnmarked f.cells) (sym applied.painted) (AreUnmarked-frame s.viewport_area text puts frame made);
-      },
-      record {
-        rest = record { viewport = keeps.viewport_area; size = record { width = keeps.size.width; height = keeps.size.height; history = keeps.size.history }; outside = record { at = keeps.outside.at } };
-        frame = frame;
-        made = subst (λ r. IsFrame r text puts frame) (sym keeps.viewport_area) made;
-        settled = settled;
-        shown = subst (λ f. ShowsBuffer f (screen_of t.backend).grid) applied.painted (applied.in_step here settled).shown;
-      },
-    )
+      };
+      after = record {
+        size = size;
+        shows = record {
+          frame = frame;
+          made = subst (λ r. IsFrame r text puts frame) (sym keeps.viewport_area) made;
+          settled = settled;
+          shown = subst (λ f. ShowsBuffer f (screen_of t.backend).grid) applied.painted (applied.in_step here settled).shown;
+        };
+        same = λ _. record { viewport = keeps.viewport_area; size = record { width = keeps.size.width; height = keeps.size.height; history = keeps.size.history }; outside = record { at = keeps.outside.at } };
+        other = λ out. absurd (out size);
+      };
+    }
 
 -- the size that a draw gives is taken unless the viewport is fixed
 size_after_free : (kind : Viewport) (given own : Size) → (IsFixed kind → ⊥) → size_after kind (Some given) own ≡ given
@@ -122,22 +84,15 @@ above_emptied : (kind : Viewport) (size : Size) (former o : ℕ) (b scrolled u :
 above_emptied Fullscreen size former o b scrolled u r free good width height is left on tall empties x y x_in y_in above =
     let top : r.y ≡ 0 = ap (λ (q : Rect). q.y) (is ∙ raised_same (screen_area b) refl (nat_lt b.width former)) in
     absurd (omega (arith, top, above))
-above_emptied (Inline n) size former o b scrolled u r free good width height is left on tall empties x y x_in y_in above = elim (cases_lt b.width former) [
-  | inl narrower ↦
-      let less : nat_lt b.width former ≡ true = grind (arith, nat_tests) in
-      let top : r.y ≡ 0 = rw less at (ap (λ (q : Rect). q.y) is) in
-      absurd (omega (arith, top, above))
-  | inr wide ↦
-      let not_less : nat_lt b.width former ≡ false = grind (arith, nat_tests) in
-      let same = raised_by (inline_area n b.width b.height o b.cursor_y) (nat_lt b.width former) in
-      let rows : r.height ≡ min n b.height = ap (λ (q : Rect). q.height) is ∙ same.2 in
-      let bottom = on.bottom in
-      let kept : nat_le (min r.y (scrolled.height - 1)) y ≡ false = grind (arith, nat_tests) in
-      (empties (left tt)).grid x y x_in y_in ∙ rw (kept, not_less) refl
-]
+above_emptied (Inline n) size former o b scrolled u r free good width height is left on tall empties x y x_in y_in above =
+    let top = ap (λ (q : Rect). q.y) is in
+    let rows = ap (λ (q : Rect). q.height) is ∙ (raised_by (inline_area n b.width b.height o b.cursor_y) (nat_lt b.width former)).2 in
+    let bottom = on.bottom in
+    let now = (empties (left tt)).grid x y x_in y_in in
+    grind (arith, nat_tests, top, rows, bottom, now)
 above_emptied (Fixed f) size former o b scrolled u r free good width height is left on tall empties x y x_in y_in above = absurd (free tt)
 
--- a screen took another size, and the terminal found it
+-- a screen took another size, and the terminal was resized to it
 module _ (stage : Stage) (given : Size) (s t : TerminalData TestBackend) (free : IsFixed stage.viewport → ⊥) (playing : IsPlaying stage s)
     (other : size_of (screen_of s.backend) ≡ given → ⊥) (taken : TakesNewSize given s t) where
   abbrev between : Screen
@@ -146,34 +101,11 @@ module _ (stage : Stage) (given : Size) (s t : TerminalData TestBackend) (free :
   abbrev new : Screen
   new = screen_of t.backend
 
-  not_sized : IsSized screen_of (record s { backend = taken.backend }) → ⊥
-  not_sized sized = elim sized [
-    | inl fixed ↦ free (subst IsFixed playing.rest.kind_is fixed)
-    | inr is ↦ elim playing.rest.sized [
-      | inl fixed ↦ free (subst IsFixed playing.rest.kind_is fixed)
-      | inr was ↦
-          let same : screen_area between ≡ screen_area (screen_of s.backend) = is ∙ sym was in
-          other (ap size_in (sym same) ∙ taken.takes.size)
-    ]
-  ]
-
   resized : Resizes screen_of (screen_area between) (record s { backend = taken.backend }) t
-  resized = elim taken.found.case [
-    | inl same ↦ absurd (not_sized same.0)
-    | inr is ↦ is.1
-  ]
-
-  resized_width : new.width ≡ between.width
-  resized_width = resized.frame.size.width ∙ resized.scrolls.width
-
-  resized_height : new.height ≡ between.height
-  resized_height = resized.frame.size.height ∙ resized.scrolls.height
+  resized = subst (λ z. Resizes screen_of (at_corner z) (record s { backend = taken.backend }) t) (sym taken.takes.size) taken.resizes
 
   resized_size : size_of new ≡ given
-  resized_size = same_size new between resized_width resized_height ∙ taken.takes.size
-
-  resized_on : IsOnScreen t.viewport_area new
-  resized_on = resized.on_screen refl
+  resized_size = same_size new between (resized.frame.size.width ∙ resized.scrolls.width) (resized.frame.size.height ∙ resized.scrolls.height) ∙ taken.takes.size
 
   pub IsPlaying-resized : IsPlaying stage t
   IsPlaying-resized = record {
@@ -182,43 +114,26 @@ module _ (stage : Stage) (given : Size) (s t : TerminalData TestBackend) (free :
   }
 
   -- the rows above the viewport are the topmost of the screen in between
-  abbrev scrolled_rows : ℕ
-  scrolled_rows = rows_scrolled s.viewport (cursor_offset s) between
-
-  kept_above : FitsSize stage.viewport (stage_size stage) → (a b : ℕ) → a < resized.scrolled.width → b < resized.scrolled.height → b < t.viewport_area.y → new.grid a b ≡ resized.scrolled.grid a b
-  kept_above good =
-      above_emptied stage.viewport (stage_size stage) s.viewport_area.width (cursor_offset s) between resized.scrolled new t.viewport_area free good resized.scrolls.width resized.scrolls.height
-      (subst (λ k. t.viewport_area ≡ raised s.viewport_area.width (area_in k (screen_area between) (cursor_offset s) between.cursor_y)) playing.rest.kind_is resized.viewport_area)
-      (λ inline. inline_left stage.viewport (size_of new) t.viewport_area inline IsPlaying-resized.rest.lies) resized_on resized.frame.size.height
-      (subst (λ k. HasPlace k t.viewport_area resized.scrolled → Empties (λ a b. is_emptied k t.viewport_area resized.scrolled.height a b || nat_lt between.width s.viewport_area.width) resized.scrolled new) playing.rest.kind_is resized.empties)
-
   goes_on : IsGoodStage stage → GoesOn (view_in s) (view_in t)
-  goes_on good = record {
-    between = plain_screen between;
-    takes = record {
-      history = taken.takes.history;
-      size = taken.takes.size ∙ sym resized_size;
-      grid = λ a b a_in b_in. taken.takes.grid a b (omega (arith, a_in, resized_width_is)) (omega (arith, b_in, resized_height_is));
-      cursor = ap₂ (λ x y. record { x = x; y = y }) (corner new.width) (corner new.height);
-      visible = refl;
-      written = refl;
-    };
-    count = scrolled_rows + t.viewport_area.y;
-    above =
-        above_same resized.scrolled new t.viewport_area.y resized.frame.size.history resized.frame.size.width resized.frame.size.height (kept_above good.viewport)
-        ∙ above_kept resized.scrolls t.viewport_area.y;
-    left = map (row_of between) (range_with_len 0 scrolled_rows);
-    history = resized.frame.size.history ∙ resized.scrolls.history ∙ ap (λ h. h ++ map (row_of between) (range_with_len 0 scrolled_rows)) taken.takes.history;
-  }
-    where
-      corner : (n : ℕ) → 0 ≡ min 0 (n - 1)
-      corner n = omega arith
-
-      resized_width_is : new.width ≡ given.width
-      resized_width_is = ap (λ (z : Size). z.width) resized_size
-
-      resized_height_is : new.height ≡ given.height
-      resized_height_is = ap (λ (z : Size). z.height) resized_size
+  goes_on good =
+      let rows = rows_scrolled s.viewport (cursor_offset s) between in
+      let corner : (n : ℕ) → 0 ≡ min 0 (n - 1) = λ n. omega arith in
+      record {
+        between = plain_screen between;
+        takes =
+            subst (λ z. TakesSize (plain_screen (screen_of s.backend)) z (plain_screen between)) (sym resized_size)
+            (record { history = taken.takes.history; size = taken.takes.size; grid = taken.takes.grid; cursor = ap₂ (λ x y. record { x = x; y = y }) (corner given.width) (corner given.height); visible = refl; written = refl });
+        count = rows + t.viewport_area.y;
+        above =
+            above_same resized.scrolled new t.viewport_area.y resized.frame.size.history resized.frame.size.width resized.frame.size.height
+            (above_emptied stage.viewport (stage_size stage) s.viewport_area.width (cursor_offset s) between resized.scrolled new t.viewport_area free good.viewport resized.scrolls.width resized.scrolls.height
+            (subst (λ k. t.viewport_area ≡ raised s.viewport_area.width (area_in k (screen_area between) (cursor_offset s) between.cursor_y)) playing.rest.kind_is resized.viewport_area)
+            (λ inline. inline_left stage.viewport (size_of new) t.viewport_area inline IsPlaying-resized.rest.lies) (resized.on_screen refl) resized.frame.size.height
+            (subst (λ k. HasPlace k t.viewport_area resized.scrolled → Empties (λ a b. is_emptied k t.viewport_area resized.scrolled.height a b || nat_lt between.width s.viewport_area.width) resized.scrolled new) playing.rest.kind_is resized.empties))
+            ∙ above_kept resized.scrolls t.viewport_area.y;
+        left = map (row_of between) (range_with_len 0 rows);
+        history = resized.frame.size.history ∙ resized.scrolls.history ∙ ap (λ h. h ++ map (row_of between) (range_with_len 0 rows)) taken.takes.history;
+      }
 
   pub IsSizedFor-resized : IsSizedFor stage (Some given) s t
   IsSizedFor-resized = record {
@@ -231,12 +146,6 @@ pub is_free : (kind : Viewport) → ((r : Rect) → kind ≡ Fixed r → ⊥) �
 is_free Fullscreen not fixed = fixed
 is_free (Inline n) not fixed = fixed
 is_free (Fixed r) not fixed = not r refl
-
-pub is_other : (own given : Size) → ((own.width == given.width) && (own.height == given.height)) ≡ false → own ≡ given → ⊥
-is_other own given differs same =
-    let width = ap (λ (z : Size). z.width) same in
-    let height = ap (λ (z : Size). z.height) same in
-    grind (arith, nat_tests)
 
 pub Plays-cleared : (stage : Stage) (s t : TerminalData TestBackend) → IsGoodStage stage → IsPlaying stage s → ClearsViewport screen_of s t → Plays stage steps.Clear s t
 Plays-cleared stage s t good playing clears =
@@ -265,48 +174,41 @@ kept_rows old new k =
     (λ a b a_in b_in above. k.outside.at a b a_in b_in (λ within. omega (arith, within.top, above))))
 
 -- a frame drawn after its size
-pub Plays-drawn : (stage : Stage) (given : Option Size) (text : TextData) (puts : List (ℕ × ℕ × ℕ)) (s m t : TerminalData TestBackend) → IsGoodStage stage → IsSizedFor stage given s m → IsPlaying stage t → ShowsFrame text puts m t
+pub Plays-drawn : (stage : Stage) (given : Option Size) (text : TextData) (puts : List (ℕ × ℕ × ℕ)) (s m t : TerminalData TestBackend) → IsGoodStage stage → IsSizedFor stage given s m → Plays stage (steps.Draw None text puts) m t
     → Plays stage (steps.Draw given text puts) s t
-Plays-drawn stage given text puts s m t good sized playing shows =
-    let size : size_of (screen_of t.backend) ≡ size_of (screen_of m.backend) = same_size (screen_of t.backend) (screen_of m.backend) shows.rest.size.width shows.rest.size.height in
+Plays-drawn stage given text puts s m t good sized drawn =
+    let size = drawn.after.size in
+    let rest = drawn.after.same size in
     record {
-      playing = playing;
+      playing = drawn.playing;
       after = record {
         size = size ∙ sized.size;
-        frame = shows.frame;
-        made = shows.made;
-        settled = shows.settled;
-        shown = shows.shown;
-        same = λ e. subst (λ x. KeepsSurroundings (view_in x) (view_in t)) (sized.same (sym size ∙ e)) shows.rest;
+        shows = drawn.after.shows;
+        same = λ e. subst (λ x. KeepsSurroundings (view_in x) (view_in t)) (sized.same (sym size ∙ e)) rest;
         other = λ out.
             let goes = sized.other (λ e. out (size ∙ e)) good in
             record {
               between = goes.between;
               takes = subst (λ z. TakesSize (plain_screen (screen_of s.backend)) z goes.between) (sym size) goes.takes;
               count = goes.count;
-              above = kept_rows (view_in m) (view_in t) shows.rest ∙ goes.above;
+              above = kept_rows (view_in m) (view_in t) rest ∙ goes.above;
               left = goes.left;
-              history = shows.rest.size.history ∙ goes.history;
+              history = rest.size.history ∙ goes.history;
             };
       };
     }
 
 -- a frame that isn't settled, after its size
-pub IsCauseOfStep-drawn : (stage : Stage) (given : Option Size) (text : TextData) (puts : List (ℕ × ℕ × ℕ)) (s m : TerminalData TestBackend) (cause : PlayCause) → IsPlaying stage m → IsSizedFor stage given s m → IsCauseOfFrame text puts m cause
+pub IsCauseOfStep-drawn : (stage : Stage) (given : Option Size) (text : TextData) (puts : List (ℕ × ℕ × ℕ)) (s m : TerminalData TestBackend) (cause : PlayCause) → IsSizedFor stage given s m → IsCauseOfStep stage (steps.Draw None text puts) (view_in m) cause
     → IsCauseOfStep stage (steps.Draw given text puts) (view_in s) cause
-IsCauseOfStep-drawn stage given text puts s m Memory playing sized why = tt
-IsCauseOfStep-drawn stage given text puts s m (Unsettled area) playing sized why = (
+IsCauseOfStep-drawn stage given text puts s m Memory sized why = tt
+IsCauseOfStep-drawn stage given text puts s m (Unsettled area) sized why = (
   record {
-    lies = subst (MayLie stage.viewport _) (sym why.0) (subst (λ z. MayLie stage.viewport z m.viewport_area) sized.size playing.rest.lies);
-    stays = λ e. why.0 ∙ ap (λ (x : TerminalData TestBackend). x.viewport_area) (sized.same (sized.size ∙ e));
+    lies = subst (λ z. MayLie stage.viewport z area) sized.size why.0.lies;
+    stays = λ e. why.0.stays refl ∙ ap (λ (x : TerminalData TestBackend). x.viewport_area) (sized.same (sized.size ∙ e));
   },
   why.1,
 )
-
-inserts_inline : (kind : Viewport) (text : TextData) (before after : View) → IsInline kind → IsInserted text before after → InsertsOn kind text before after
-inserts_inline Fullscreen text before after inline inserted = absurd inline
-inserts_inline (Inline n) text before after inline inserted = inserted
-inserts_inline (Fixed f) text before after inline inserted = absurd inline
 
 -- the area of the rows of a text
 pub frame_area : (area : Rect) (text : TextData) (rows : BufferData) → IsFrame area text [] rows → rows.area ≡ area
@@ -319,73 +221,72 @@ rows_area s text rows made =
 
 -- rows of a text that were inserted
 module _ (stage : Stage) (text : TextData) (rows : BufferData) (s t : TerminalData TestBackend) (inline : IsInline stage.viewport) (playing : IsPlaying stage s)
-    (made : IsFrame (text_area s.viewport_area.width text) text [] rows) where
-  abbrev screen_before : Screen
-  screen_before = screen_of s.backend
+    (made : IsFrame (text_area s.viewport_area.width text) text [] rows) (good : IsGoodStage stage) (settled : IsSettledBuffer rows) (has : InsertsBuffer rows s t) where
+  abbrev old : Screen
+  old = screen_of s.backend
 
-  abbrev screen_after : Screen
-  screen_after = screen_of t.backend
+  made_wide : IsFrame (text_area old.width text) text [] rows
+  made_wide = subst (λ w. IsFrame (text_area w text) text [] rows) (inline_width stage.viewport (size_of old) s.viewport_area inline playing.rest.lies) made
 
-  made_wide : IsFrame (text_area screen_before.width text) text [] rows
-  made_wide = subst (λ w. IsFrame (text_area w text) text [] rows) (inline_width stage.viewport (size_of screen_before) s.viewport_area inline playing.rest.lies) made
+  known_height : old.height ≡ s.last_known_area.height
+  known_height = ap (λ (r : Rect). r.height) (rests-known screen_of stage.viewport s inline playing.rest)
 
-  module _ (good : IsGoodStage stage) (settled : IsSettledBuffer rows) (has : InsertsBuffer rows s t) where
-    known_height : screen_before.height ≡ s.last_known_area.height
-    known_height = ap (λ (r : Rect). r.height) (rests-known screen_of stage.viewport s inline playing.rest)
-
-    count : rows.area.height ≡ row_count text
-    count = ap (λ (r : Rect). r.height) (frame_area (text_area s.viewport_area.width text) text rows made)
-
-    inserted_none : screen_before.height ≡ 0 → Plays stage (steps.Insert text) s s
-    inserted_none flat =
-        let on = playing.rest.in_step.on_screen in
-        let top : s.viewport_area.y ≡ min (s.viewport_area.y + row_count text) (screen_before.height - s.viewport_area.height) = omega (arith, on.bottom, flat) in
-        record {
-          playing = playing;
-          after = inserts_inline stage.viewport text (view_in s) (view_in s) inline (record {
+  inserted_none : old.height ≡ 0 → Plays stage (steps.Insert text) s s
+  inserted_none flat =
+      let on = playing.rest.in_step.on_screen in
+      record {
+        playing = playing;
+        after = (
+          λ _. record {
             size = refl;
-            viewport = ap (λ y. record s.viewport_area { y = y }) top;
+            viewport = ap (λ y. record s.viewport_area { y = y }) (omega (arith, on.bottom, flat));
             frame = rows;
             made = made_wide;
             settled = settled;
             above = λ some. absurd (omega (arith, flat, some));
             shown = λ a b a_in b_in. refl;
             none = λ _. refl;
-          });
-        }
+          },
+          λ not. absurd (not inline),
+        );
+      }
 
-    inserted_some : 0 < screen_before.height → Plays stage (steps.Insert text) s t
-    inserted_some some =
-        let at = playing.rest.in_step in
-        let inserts = has.inserts (omega (arith, some, known_height)) in
-        let takes = rests-takes screen_of stage.viewport (stage_size stage) s inline good.viewport some playing.rest in
-        let view : t.viewport_area ≡ record s.viewport_area { y = t.viewport_area.y } = ap (λ (x : TerminalData TestBackend). x.viewport_area) inserts.rest in
-        let top : t.viewport_area.y ≡ min (s.viewport_area.y + row_count text) (screen_before.height - s.viewport_area.height) =
-        omega (arith, inserts.top, count, known_height, at.on_screen.bottom) in
-        let shown = inserts.in_step takes at settled in
-        record {
-          playing = record {
-            rest = rests-inserted screen_of stage.viewport rows s t inline playing.rest takes settled inserts;
-            plain = subst (λ (f : BufferData). AreUnmarked f.cells) (sym (inserts.left takes at)) playing.plain;
-          };
-          after = inserts_inline stage.viewport text (view_in s) (view_in t) inline (record {
-            size = same_size screen_after screen_before inserts.shape.width inserts.shape.height;
-            viewport = view ∙ ap (λ y. record s.viewport_area { y = y }) top;
+  inserted_some : 0 < old.height → Plays stage (steps.Insert text) s t
+  inserted_some some =
+      let new : Screen = screen_of t.backend in
+      let at = playing.rest.in_step in
+      let inserts = has.inserts (omega (arith, some, known_height)) in
+      let takes = rests-takes screen_of stage.viewport (stage_size stage) s inline good.viewport some playing.rest in
+      let view : t.viewport_area ≡ record s.viewport_area { y = t.viewport_area.y } = ap (λ (x : TerminalData TestBackend). x.viewport_area) inserts.rest in
+      let count : rows.area.height ≡ row_count text = ap (λ (r : Rect). r.height) (frame_area (text_area s.viewport_area.width text) text rows made) in
+      let shown = inserts.in_step takes at settled in
+      record {
+        playing = record {
+          rest = rests-inserted screen_of stage.viewport rows s t inline playing.rest takes settled inserts;
+          plain = subst (λ (f : BufferData). AreUnmarked f.cells) (sym (inserts.left takes at)) playing.plain;
+        };
+        after = (
+          λ _. record {
+            size = same_size new old inserts.shape.width inserts.shape.height;
+            viewport = view ∙ ap (λ y. record s.viewport_area { y = y }) (omega (arith, inserts.top, count, known_height, at.on_screen.bottom));
             frame = rows;
             made = made_wide;
             settled = settled;
             above = λ _. inserts.above takes at settled;
             shown =
-                shown-again s.previous s.viewport_area t.viewport_area screen_before.grid screen_after.grid at.area (ap (λ (r : Rect). r.width) view) (ap (λ (r : Rect). r.height) view) playing.plain at.shown
-                (subst (λ o. ShowsBuffer o screen_after.grid) (inserts.left takes at) shown.shown);
+                shown_again s.viewport_area t.viewport_area.y s.previous.cells old.grid new.grid playing.plain
+                (subst (λ (r : Rect). ShowsBuffer (record s.previous { area = r }) old.grid) at.area at.shown)
+                (subst (λ (r : Rect). ShowsBuffer (record s.previous { area = r }) new.grid) view (subst (λ f. ShowsBuffer f new.grid) (inserts.left takes at) shown.shown));
             none = λ flat. absurd (omega (arith, flat, some));
-          });
-        }
+          },
+          λ not. absurd (not inline),
+        );
+      }
 
-    pub Plays-inserted : Plays stage (steps.Insert text) s t
-    Plays-inserted = elim (cases_lt 0 screen_before.height) [
-      | inl some ↦ inserted_some some
-      | inr none ↦
-          let flat : screen_before.height ≡ 0 = omega (arith, none) in
-          subst (Plays stage (steps.Insert text) s) (sym (has.none (sym known_height ∙ flat))) (inserted_none flat)
-    ]
+  pub Plays-inserted : Plays stage (steps.Insert text) s t
+  Plays-inserted = elim (cases_lt 0 old.height) [
+    | inl some ↦ inserted_some some
+    | inr none ↦
+        let flat : old.height ≡ 0 = omega (arith, none) in
+        subst (Plays stage (steps.Insert text) s) (sym (has.none (sym known_height ∙ flat))) (inserted_none flat)
+  ]

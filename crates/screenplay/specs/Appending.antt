@@ -1,5 +1,6 @@
 -- The rows above an inline viewport along a run.
-use Rattle.std.specs.Prelude.{◌≡◌, ℕ, zero, suc, ◌+◌, ◌<◌, ◌≤◌, List, [], ◌∷◌, ◌++◌, Option, Some, slice_get}
+use Rattle.std.specs.Prelude.{◌≡◌, ℕ, ◌<◌, ◌≤◌, List, [], ◌∷◌, take, drop, Some, slice_get}
+use Rattle.std.specs.List.{flat_map}
 use Rattle.rtui_geometry.specs.declared.size.Size.{Size}
 use Rattle.rtui_cell.specs.Look.{Look}
 use Rattle.rtui_text.specs.Text.{TextData}
@@ -21,25 +22,21 @@ pub record AppendsTexts (width : ℕ) (texts : List TextData) (old new : List (L
   pub appends : AppendsRows frames old new
 
 -- the texts that a step inserts
-abbrev pub texts_inserted_by : Option Step → List TextData
-texts_inserted_by (Some (Insert text)) = text ∷ []
+abbrev pub texts_inserted_by : Step → List TextData
+texts_inserted_by (Insert text) = text ∷ []
 texts_inserted_by other = []
-
--- and n steps from step i on
-abbrev pub inserted_from : List Step → ℕ → ℕ → List TextData
-inserted_from steps i zero = []
-inserted_from steps i (suc n) = texts_inserted_by (slice_get steps i) ++ inserted_from steps (i + 1) n
 
 abbrev pub scene_size : Scene → Size
 scene_size scene = view_size (view_of_scene scene)
 
--- n scenes after scene i have its size
-abbrev pub KeepsSizeFor : List Scene → ℕ → ℕ → Size → Type 0
-KeepsSizeFor scenes i n size = (k : ℕ) (scene : Scene) → i ≤ k → k ≤ i + n → slice_get scenes k ≡ Some scene → scene_size scene ≡ size
+-- the first scene and n more have this size
+abbrev pub KeepsSizeFor : ℕ → List Scene → Size → Type 0
+KeepsSizeFor n scenes size = (k : ℕ) (scene : Scene) → k ≤ n → slice_get scenes k ≡ Some scene → scene_size scene ≡ size
 
--- while the size stays, the rows above an inline viewport are the former ones followed by all that were inserted since
+-- from scene i on, n scenes later and while the size stays, the rows above an inline viewport are the former ones followed by all that
+-- were inserted since
 abbrev pub IsAppending : List Step → List Scene → Type 0
 IsAppending steps scenes =
-    (i n : ℕ) (first last : Scene) → slice_get scenes i ≡ Some first → slice_get scenes (i + n) ≡ Some last
-    → 0 < (scene_size first).height → KeepsSizeFor scenes i n (scene_size first)
-    → AppendsTexts (scene_size first).width (inserted_from steps i n) (rows_above_view (view_of_scene first)) (rows_above_view (view_of_scene last))
+    (i n : ℕ) (first last : Scene) → slice_get (drop i scenes) 0 ≡ Some first → slice_get (drop i scenes) n ≡ Some last
+    → 0 < (scene_size first).height → KeepsSizeFor n (drop i scenes) (scene_size first)
+    → AppendsTexts (scene_size first).width (flat_map texts_inserted_by (take n (drop i steps))) (rows_above_view (view_of_scene first)) (rows_above_view (view_of_scene last))

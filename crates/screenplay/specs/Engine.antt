@@ -1,7 +1,7 @@
 -- From the bytes of a script to what is printed, or to a fault.
-use Rattle.std.specs.Prelude.{◌≡◌, ℕ, List, [], ◌++◌, Option, Some, codes, IfSome}
+use Rattle.std.specs.Prelude.{◌≡◌, ℕ, List, [], ◌∷◌, ◌++◌, Option, Some, codes, MatchOption}
 use Rattle.std.specs.{Fmt.decimal, Str.IsUtf8, Str.Lines.lines, Io.KnownBytes.Appends}
-use Rattle.screenplay.specs.{Script.IsFirstBadLine, Script.script_of, Run.IsRun, Run.EndsEarly, Print.printed_scenes, Print.shows_of, Print.steps_of}
+use Rattle.screenplay.specs.{Script.IsFirstBadLine, Script.script_of, Run.IsRun, Run.EndsEarly, Run.view_of_scene, Print.printed_from, Print.steps_of}
 use Rattle.screenplay.specs.{declared.act.Act.Act, declared.script.Script.Script, declared.scene.Scene.Scene, declared.scene.Stage.Stage}
 use Rattle.screenplay.specs.{declared.scene.StepError.StepError, declared.scene.PlayCause.PlayCause, declared.fault.RunFault.RunFault}
 use Rattle.screenplay.specs.declared.scene.PlayCause.TheVariants as cause
@@ -12,24 +12,16 @@ pub record IsScript (bytes : List ℕ) (script : Script) : Type 0 where
   pub text : IsUtf8 bytes
   pub is : script_of (lines bytes) ≡ Some script
 
--- the bytes are a script with these acts, and these are the scenes of a run of its steps
-pub record IsPlayed (bytes : List ℕ) (acts : List Act) (scenes : List Scene) : Type 0 where
-  pub script : Script
-  pub is : IsScript bytes script
-  pub acts_are : acts ≡ script.acts
-  pub run : IfSome script.stage (λ stage. IsRun stage (steps_of acts) scenes)
-
 -- a run of the acts prints this text
 abbrev pub PrintsActs : Stage → List Act → List ℕ → Type 0
 PrintsActs stage acts text =
-    (scenes : List Scene) × IsRun stage (steps_of acts) scenes × (text ≡ printed_scenes (shows_of 0 acts) scenes)
+    (first : Scene) × (later : List Scene) × IsRun stage (steps_of acts) (first ∷ later) × (text ≡ printed_from (view_of_scene first) acts later)
 
--- the bytes are a script, and this is the printed text of a run of it
+-- the bytes are a script, and a run of it prints this text; without a stage there is nothing to print
 pub record PrintsText (bytes text : List ℕ) : Type 0 where
-  pub acts : List Act
-  pub scenes : List Scene
-  pub played : IsPlayed bytes acts scenes
-  pub text_is : text ≡ printed_scenes (shows_of 0 acts) scenes
+  pub script : Script
+  pub is : IsScript bytes script
+  pub prints : MatchOption script.stage (text ≡ []) (λ stage. PrintsActs stage script.acts text)
 
 -- the writer took that text
 pub record PrintsRun (bytes : List ℕ) (old new : Option (List ℕ)) : Type 0 where
@@ -44,20 +36,20 @@ pub record HasStepError (bytes : List ℕ) (error : StepError) : Type 0 where
   pub stage : Stage
   pub staged : script.stage ≡ Some stage
   pub scenes : List Scene
-  pub ends : EndsEarly stage (steps_of script.acts) scenes error
+  pub ends : EndsEarly stage (steps_of script.acts) scenes error.step error.cause
 
--- why nothing of these bytes was printed, or with a failed writer a part: they are a script that was played
+-- why nothing of these bytes was printed, or with a failed writer a part of what a run of them prints
 abbrev pub IsRunFault : List ℕ → RunFault → Type 0
 IsRunFault bytes (Line n) = IsUtf8 bytes × IsFirstBadLine (lines bytes) n
 IsRunFault bytes (AtStep error) = HasStepError bytes error
 IsRunFault bytes NotText = IsUtf8 bytes → ⊥
 IsRunFault bytes Read = Unit {0}
 IsRunFault bytes Memory = Unit {0}
-IsRunFault bytes Write = (acts : List Act) × (scenes : List Scene) × IsPlayed bytes acts scenes
+IsRunFault bytes Write = (text : List ℕ) × PrintsText bytes text
 
 -- a step of the acts can't be played, or memory was refused
 abbrev pub StopsAtStep : Stage → List Act → RunFault → Type 0
-StopsAtStep stage acts (AtStep error) = (scenes : List Scene) × EndsEarly stage (steps_of acts) scenes error
+StopsAtStep stage acts (AtStep error) = (scenes : List Scene) × EndsEarly stage (steps_of acts) scenes error.step error.cause
 StopsAtStep stage acts Memory = Unit {0}
 StopsAtStep stage acts other = ⊥
 

@@ -1,8 +1,7 @@
--- The printed text of scenes.
-use Rattle.std.specs.Prelude.{ℕ, ◌+◌, List, [], ◌∷◌, option_map, unwrap_or, slice_get}
-use Rattle.std.specs.List.{flat_map}
+-- The printed text of a play.
+use Rattle.std.specs.Prelude.{ℕ, List, [], ◌∷◌, ◌++◌}
 use Rattle.rtui_backend.specs.Print.{printed_screen}
-use Rattle.screenplay.specs.{Run.view_of_scene, declared.act.Act.Act, declared.act.Act.TheVariants.Play, declared.act.Act.TheVariants.Show}
+use Rattle.screenplay.specs.{Run.View, Run.view_of_scene, declared.act.Act.Act, declared.act.Act.TheVariants.Play, declared.act.Act.TheVariants.Show}
 use Rattle.screenplay.specs.{declared.scene.Scene.Scene, declared.scene.Step.Step}
 
 -- the steps of acts
@@ -11,16 +10,10 @@ steps_of [] = []
 steps_of (Play step ∷ acts) = step ∷ steps_of acts
 steps_of (Show ∷ acts) = steps_of acts
 
--- how many steps stand before each show, if n stand before the acts
-abbrev pub shows_of : ℕ → List Act → List ℕ
-shows_of n [] = []
-shows_of n (Play step ∷ acts) = shows_of (n + 1) acts
-shows_of n (Show ∷ acts) = n ∷ shows_of n acts
-
--- the history, each row after `^`, and then the screen, each row after `|`
-abbrev pub printed_scene : Scene → List ℕ
-printed_scene scene = printed_screen (view_of_scene scene).screen
-
--- the printed text of the scenes after these numbers of steps, in order
-abbrev pub printed_scenes : List ℕ → List Scene → List ℕ
-printed_scenes shows scenes = flat_map (λ k. unwrap_or (option_map printed_scene (slice_get scenes k)) []) shows
+-- the printed text of acts from a view on, after whose steps these scenes stand: for each show what stands then, its history with each row
+-- after `^`, and its screen with each row after `|`
+abbrev pub printed_from : View → List Act → List Scene → List ℕ
+printed_from s [] scenes = []
+printed_from s (Show ∷ acts) scenes = printed_screen s.screen ++ printed_from s acts scenes
+printed_from s (Play step ∷ acts) [] = []
+printed_from s (Play step ∷ acts) (scene ∷ scenes) = printed_from (view_of_scene scene) acts scenes

@@ -1,19 +1,20 @@
 -- Runs: a scene at the start and one after each step.
-use Rattle.std.specs.Prelude.{◌≡◌, ℕ, ◌+◌, ◌-◌, ◌<◌, ◌≤◌, min, true, List, [], ◌∷◌, ◌++◌, map, length, take, replicate, Option, None, Some, slice_get}
+use Rattle.std.specs.Prelude.{◌≡◌, ℕ, ◌+◌, ◌-◌, ◌<◌, min, true, List, [], ◌∷◌, ◌++◌, map, length, Option, None, Some}
 use Rattle.rtui_geometry.specs.{declared.rect.Rect.Rect, declared.size.Size.Size, Rect.EdgesFit}
-use Rattle.rtui_cell.specs.Look.{Look, look_of, empty_look}
+use Rattle.rtui_cell.specs.Look.{Look, look_of}
 use Rattle.rtui_text.specs.Text.{TextData}
 use Rattle.rtui_buffer.specs.{BufferData.BufferData, BufferData.IsEmptied, Shown.IsSettledBuffer, Shown.ShowsBuffer}
 use Rattle.rtui_widgets.specs.Rendering.{RendersText}
-use Rattle.rtui_backend.specs.Screen.{Screen, KeepsSizeAndHistory, IsOnScreen, TakesSize, size_of, screen_area, rows_above}
+use Rattle.rtui_backend.specs.Screen.{Screen, IsBlankScreen, KeepsSizeAndHistory, IsOnScreen, Scrolls, TakesSize, size_of, screen_area, rows_above}
 use Rattle.rtui_backend.specs.CellGrid.{grid_of, AreUnmarked, AreUnmarkedRows}
 use Rattle.rtui_viewport.specs.declared.viewport.Viewport.{Viewport}
-use Rattle.rtui_viewport.specs.declared.viewport.Viewport.TheVariants.{Fullscreen, Inline, Fixed}
-use Rattle.rtui_viewport.specs.{Viewports.IsInline, Lying.at_corner, Lying.FitsSize, Lying.MayLie, Areas.KeepsOutside, Areas.IsBlankOver, Areas.IsBlankBelow}
+use Rattle.rtui_viewport.specs.declared.viewport.Viewport.TheVariants.{Fixed}
+use Rattle.rtui_viewport.specs.{Viewports.IsInline, Lying.FitsSize, Lying.MayLie, Areas.KeepsOutside, Areas.IsBlankOver, Areas.IsBlankBelow}
+use Rattle.rtui_viewport.specs.{Sizing.first_area, Placing.area_in, Placing.rows_scrolled}
 use Rattle.rtui_insert.specs.Insertion.{AppendsRows}
 use Rattle.screenplay.specs.{Puts.with_puts, declared.scene.Stage.Stage, declared.scene.Scene.Scene, declared.scene.Step.Step}
 use Rattle.screenplay.specs.declared.scene.Step.TheVariants.{Draw, Insert, Clear}
-use Rattle.screenplay.specs.{declared.scene.PlayFault.PlayFault, declared.scene.StepError.StepError}
+use Rattle.screenplay.specs.declared.scene.PlayCause.{PlayCause}
 use Rattle.screenplay.specs.declared.scene.PlayCause.TheVariants.{Memory, Unsettled}
 
 -- a screen, of whose cursor nothing is said, and the viewport on it
@@ -72,23 +73,12 @@ pub record IsFrame (area : Rect) (text : TextData) (puts : List (ℕ × ℕ × �
   pub renders : RendersText text area blank rendered
   pub painted : frame ≡ with_puts puts rendered
 
--- if the viewport is at the start
-abbrev pub first_viewport : Viewport → Size → Rect
-first_viewport Fullscreen size = at_corner size
-first_viewport (Inline rows) size = record { x = 0; y = 0; width = size.width; height = min rows size.height }
-first_viewport (Fixed r) size = r
-
--- how many blank rows scrolled off then: those that an inline viewport wants and the screen hasn't
-abbrev pub first_rows : Viewport → Size → ℕ
-first_rows (Inline rows) size = rows - size.height
-first_rows other size = 0
-
--- at the start all is blank
+-- at the start: the viewport was placed on a new screen of the stage's size, off which the rows scrolled that an inline one has no room for
 pub record IsStart (stage : Stage) (s : View) : Type 0 where
-  pub size : view_size s ≡ stage_size stage
-  pub viewport : s.viewport ≡ first_viewport stage.viewport (stage_size stage)
-  pub history : s.screen.history ≡ replicate (first_rows stage.viewport (stage_size stage)) (replicate stage.width empty_look)
-  pub blank : (a b : ℕ) → a < stage.width → b < stage.height → s.screen.grid a b ≡ empty_look
+  pub blank : Screen
+  pub is_blank : IsBlankScreen stage.width stage.height blank
+  pub viewport : s.viewport ≡ area_in stage.viewport (first_area stage.viewport blank) 0 blank.cursor_y
+  pub scrolls : Scrolls blank (rows_scrolled stage.viewport 0 blank) s.screen
 
 -- the size, the viewport, the history and all columns outside the viewport stay
 pub record KeepsSurroundings (old new : View) : Type 0 where
@@ -111,14 +101,18 @@ pub record GoesOn (old new : View) : Type 0 where
   pub left : List (List Look)
   pub history : new.screen.history ≡ old.screen.history ++ left
 
+-- the viewport shows the settled frame of a text and puts
+pub record ShowsFrame (text : TextData) (puts : List (ℕ × ℕ × ℕ)) (s : View) : Type 0 where
+  pub frame : BufferData
+  pub made : IsFrame s.viewport text puts frame
+  pub settled : IsSettledBuffer frame
+  pub shown : ShowsBuffer frame s.screen.grid
+
 -- a draw: the screen has its size and shows the settled frame over the viewport; all else stays if the size does, and at another size
 -- the history and the rows above the viewport go on
 pub record IsDrawn (stage : Stage) (given : Option Size) (text : TextData) (puts : List (ℕ × ℕ × ℕ)) (old new : View) : Type 0 where
   pub size : view_size new ≡ size_after stage.viewport given (view_size old)
-  pub frame : BufferData
-  pub made : IsFrame new.viewport text puts frame
-  pub settled : IsSettledBuffer frame
-  pub shown : ShowsBuffer frame new.screen.grid
+  pub shows : ShowsFrame text puts new
   pub same : view_size new ≡ view_size old → KeepsSurroundings old new
   pub other : (view_size new ≡ view_size old → ⊥) → GoesOn old new
 
@@ -135,14 +129,8 @@ row_count text = min (length text.lines) 65535
 abbrev pub text_area : ℕ → TextData → Rect
 text_area width text = record { x = 0; y = 0; width = width; height = row_count text }
 
--- each column of the viewport shows what it did
-abbrev pub ShowsAgain : View → View → Type 0
-ShowsAgain old new =
-    (a b : ℕ) → a < old.viewport.width → b < old.viewport.height
-    → new.screen.grid (new.viewport.x + a) (new.viewport.y + b) ≡ old.screen.grid (old.viewport.x + a) (old.viewport.y + b)
-
 -- an insertion: exactly the rows of the settled frame of the text came to those above the viewport, which moved down as far as there was
--- room, and shows what it did; on a screen without rows nothing changes
+-- room, and each column of which shows what it did; on a screen without rows nothing changes
 pub record IsInserted (text : TextData) (old new : View) : Type 0 where
   pub size : view_size new ≡ view_size old
   pub viewport : new.viewport ≡ record old.viewport { y = min (old.viewport.y + row_count text) (old.screen.height - old.viewport.height) }
@@ -150,18 +138,14 @@ pub record IsInserted (text : TextData) (old new : View) : Type 0 where
   pub made : IsFrame (text_area old.screen.width text) text [] frame
   pub settled : IsSettledBuffer frame
   pub above : 0 < old.screen.height → AppendsRows (frame ∷ []) (rows_above_view old) (rows_above_view new)
-  pub shown : ShowsAgain old new
+  pub shown : (a b : ℕ) → a < old.viewport.width → b < old.viewport.height
+      → new.screen.grid (old.viewport.x + a) (new.viewport.y + b) ≡ old.screen.grid (old.viewport.x + a) (old.viewport.y + b)
   pub none : old.screen.height ≡ 0 → new ≡ old
 
--- only an inline viewport has rows above
-abbrev pub InsertsOn : Viewport → TextData → View → View → Type 0
-InsertsOn (Inline rows) text old new = IsInserted text old new
-InsertsOn other text old new = new ≡ old
-
--- what stands after a step
+-- what stands after a step; an insertion changes nothing if the viewport isn't inline, for it has no rows above
 abbrev pub IsAfter : Stage → Step → View → View → Type 0
 IsAfter stage (Draw given text puts) old new = IsDrawn stage given text puts old new
-IsAfter stage (Insert text) old new = InsertsOn stage.viewport text old new
+IsAfter stage (Insert text) old new = (IsInline stage.viewport → IsInserted text old new) × ((IsInline stage.viewport → ⊥) → new ≡ old)
 IsAfter stage Clear old new = IsEmptiedView old new
 
 -- a scene of looks alone: its screen has its corner at (0, 0), and no cell of it or of the history has an option or a flag
@@ -170,13 +154,9 @@ pub record IsPlainScene (scene : Scene) : Type 0 where
   pub screen : AreUnmarked scene.screen.cells
   pub history : AreUnmarkedRows (map (λ row. row.items) scene.history.items)
 
--- the scenes from a start through the steps, one more than those
-pub record IsRun (stage : Stage) (steps : List Step) (scenes : List Scene) : Type 0 where
-  pub count : length scenes ≡ length steps + 1
-  pub staged : (k : ℕ) (scene : Scene) → slice_get scenes k ≡ Some scene → IsPlainScene scene × IsStaged stage (view_of_scene scene)
-  pub start : (scene : Scene) → slice_get scenes 0 ≡ Some scene → IsStart stage (view_of_scene scene)
-  pub after : (k : ℕ) (step : Step) (old new : Scene) → slice_get steps k ≡ Some step → slice_get scenes k ≡ Some old → slice_get scenes (k + 1) ≡ Some new
-      → IsAfter stage step (view_of_scene old) (view_of_scene new)
+-- a scene of a play: of looks alone, with the viewport where it may lie
+abbrev pub IsScene : Stage → Scene → Type 0
+IsScene stage scene = IsPlainScene scene × IsStaged stage (view_of_scene scene)
 
 -- a frame that can't be shown
 pub record HasUnsettled (area : Rect) (text : TextData) (puts : List (ℕ × ℕ × ℕ)) : Type 0 where
@@ -189,21 +169,33 @@ pub record MayCover (stage : Stage) (size : Size) (s : View) (area : Rect) : Typ
   pub lies : MayLie stage.viewport size area
   pub stays : size ≡ view_size s → area ≡ s.viewport
 
--- the step can't be played: its frame over this viewport can't be shown, or what it is to insert above it
-abbrev pub IsUnsettledStep : Stage → Step → View → Rect → Type 0
-IsUnsettledStep stage (Draw given text puts) s area = MayCover stage (size_after stage.viewport given (view_size s)) s area × HasUnsettled area text puts
-IsUnsettledStep stage (Insert text) s area = IsInline stage.viewport × (area ≡ s.viewport) × HasUnsettled (text_area s.screen.width text) text []
-IsUnsettledStep stage Clear s area = ⊥
+-- why a step can't be played: want of memory, or its frame over this viewport can't be shown, or what it is to insert above it
+abbrev pub IsCauseOfStep : Stage → Step → View → PlayCause → Type 0
+IsCauseOfStep stage step s Memory = Unit {0}
+IsCauseOfStep stage (Draw given text puts) s (Unsettled area) =
+    MayCover stage (size_after stage.viewport given (view_size s)) s area × HasUnsettled area text puts
+IsCauseOfStep stage (Insert text) s (Unsettled area) =
+    IsInline stage.viewport × (area ≡ s.viewport) × HasUnsettled (text_area s.screen.width text) text []
+IsCauseOfStep stage Clear s (Unsettled area) = ⊥
 
--- a play ended early, at a step, of which these are the scenes: they are a run of the steps before it, and a step that is called unsettled is
-pub record EndsEarly (stage : Stage) (steps : List Step) (scenes : List Scene) (error : StepError) : Type 0 where
-  pub inside : error.step ≤ length steps
-  pub early : error.step ≡ 0 → (scenes ≡ []) × (error.cause ≡ Memory)
-  pub run : 0 < error.step → IsRun stage (take (error.step - 1) steps) scenes
-  pub unsettled : (area : Rect) → error.cause ≡ Unsettled area
-      → (step : Step) × (scene : Scene) × (slice_get steps (error.step - 1) ≡ Some step) × (slice_get scenes (error.step - 1) ≡ Some scene)
-      × IsUnsettledStep stage step (view_of_scene scene) area
+-- the scenes after each step from a view on, up to the end: all steps were played, or the next one can't be for this cause
+abbrev pub AreScenesFrom : Stage → Option PlayCause → View → List Step → List Scene → Type 0
+AreScenesFrom stage end old [] [] = end ≡ None
+AreScenesFrom stage end old [] (scene ∷ scenes) = ⊥
+AreScenesFrom stage end old (step ∷ steps) [] = (cause : PlayCause) × (end ≡ Some cause) × IsCauseOfStep stage step old cause
+AreScenesFrom stage end old (step ∷ steps) (scene ∷ scenes) =
+    IsScene stage scene × IsAfter stage step old (view_of_scene scene) × AreScenesFrom stage end (view_of_scene scene) steps scenes
 
--- the same of a fault that has the scenes
-abbrev pub IsFault : Stage → List Step → PlayFault → Type 0
-IsFault stage steps fault = EndsEarly stage steps fault.scenes.items (record { step = fault.step; cause = fault.cause })
+-- the scenes of a play up to its end: none if there was no memory to start, else that at the start and those that follow
+abbrev pub IsPlay : Stage → Option PlayCause → List Step → List Scene → Type 0
+IsPlay stage end steps [] = end ≡ Some Memory
+IsPlay stage end steps (scene ∷ scenes) =
+    IsScene stage scene × IsStart stage (view_of_scene scene) × AreScenesFrom stage end (view_of_scene scene) steps scenes
+
+-- a play of all steps
+abbrev pub IsRun : Stage → List Step → List Scene → Type 0
+IsRun stage steps scenes = IsPlay stage None steps scenes
+
+-- a play that ended early for a cause: at the step after these scenes, or at 0 before the start
+abbrev pub EndsEarly : Stage → List Step → List Scene → ℕ → PlayCause → Type 0
+EndsEarly stage steps scenes step cause = (step ≡ length scenes) × IsPlay stage (Some cause) steps scenes

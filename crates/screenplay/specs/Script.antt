@@ -1,9 +1,9 @@
 -- The script grammar: what a line commands, what stands after it, and which line is the first bad one.
-use Rattle.std.specs.Prelude.{◌≡◌, ℕ, ◌+◌, ◌-◌, ◌<◌, ◌≤◌, Bool, true, false, ◌&&◌, ◌==◌, not, nat_lt, nat_le, if◌then◌else◌, List, [], ◌∷◌, ◌++◌, length, take, codes, chars, Option, Some, None, option_map, option_and_then, slice_index_or, slice_get, encode_utf8}
-use Rattle.std.specs.{Char.is_control, Str.bytes_eq}
+use Rattle.std.specs.Prelude.{◌≡◌, ℕ, ◌+◌, Bool, true, false, ◌&&◌, ◌==◌, not, nat_lt, nat_le, if◌then◌else◌, List, [], ◌∷◌, ◌++◌, length, codes, chars, Option, Some, None, option_map, option_and_then, slice_get, encode_utf8}
+use Rattle.std.specs.{Char.is_control, List.fold, Str.bytes_eq}
 use Rattle.rtui_geometry.specs.{declared.rect.Rect.Rect, declared.size.Size.Size}
 use Rattle.rtui_cell.specs.Width.{text_width}
-use Rattle.rtui_text.specs.Text.{TextData, raw_line, text_of}
+use Rattle.rtui_text.specs.Text.{raw_line, text_of}
 use Rattle.rtui_viewport.specs.declared.viewport.Viewport.{Viewport}
 use Rattle.rtui_viewport.specs.declared.viewport.Viewport.TheVariants.{Fullscreen, Inline, Fixed}
 use Rattle.script_words.specs.Words.{first_word, after_word, parsed_number, parsed_size, size_by}
@@ -16,13 +16,9 @@ use Rattle.screenplay.specs.declared.scene.Step.{Step}
 use Rattle.screenplay.specs.declared.scene.Step.TheVariants as steps
 
 -- the first character of a text, if it is all of it, takes one column and isn't a control character
-abbrev pub char_if : List ℕ → Option ℕ → Option ℕ
-char_if text None = None
-char_if text (Some c) = if (length text == length (encode_utf8 c)) && (text_width text == 1) && not (is_control c) then Some c else None
-
--- exactly one character of width 1, no control character
 unfoldable pub char_of : List ℕ → Option ℕ
-char_of text = char_if text (slice_get (chars text) 0)
+char_of text =
+    option_and_then (λ c. if (length text == length (encode_utf8 c)) && (text_width text == 1) && not (is_control c) then Some c else None) (slice_get (chars text) 0)
 
 -- four numbers as a rectangle
 abbrev pub rect_by : Option ℕ → Option ℕ → Option ℕ → Option ℕ → Option Rect
@@ -115,59 +111,42 @@ without_text s = record s { text = text_of [] }
 abbrev pub with_act : Act → Script → Script
 with_act act s = record s { acts = s.acts ++ act ∷ [] }
 
--- a text with one line more
-abbrev pub with_line : List ℕ → TextData → TextData
-with_line line text = record text { lines = text.lines ++ raw_line line ∷ [] }
-
 abbrev pub is_fixed : Viewport → Bool
 is_fixed (Fixed r) = true
 is_fixed other = false
 
--- the script after a command, if the command may stand on its stage: a size only if the viewport isn't fixed, an insertion of at most 65535
--- lines
-abbrev pub after_on : Stage → Command → Script → Option Script
-after_on stage (SetStage other) s = None
-after_on stage (TakeSize size) s = if is_fixed stage.viewport then None else Some (record s { size = Some size })
-after_on stage (Put x y c) s = Some (record s { puts = s.puts ++ (x, y, c) ∷ [] })
-after_on stage (AddText line) s = Some (record s { text = with_line line s.text })
-after_on stage Draw s = Some (with_act (acts.Play (draw_of s)) (record (without_text s) { size = None; puts = [] }))
-after_on stage Insert s = if nat_le (length s.text.lines) 65535 then Some (with_act (acts.Play (steps.Insert s.text)) (without_text s)) else None
-after_on stage Clear s = Some (with_act (acts.Play steps.Clear) s)
-after_on stage Show s = Some (with_act acts.Show s)
-
--- before a stage is set no other command may stand
-abbrev pub first_after : Command → Script → Option Script
-first_after (SetStage stage) s = Some (record s { stage = Some stage })
-first_after other s = None
-
-abbrev pub after_by : Option Stage → Command → Script → Option Script
-after_by None c s = first_after c s
-after_by (Some stage) c s = after_on stage c s
-
--- the script after a command, if it may stand there
-abbrev pub after : Command → Script → Option Script
-after c s = after_by s.stage c s
+-- the script after a command, if the command may stand on its stage: one that sets it on none, and any other on one, but a size only if the
+-- viewport isn't fixed, and an insertion of at most 65535 lines
+abbrev pub after_on : Option Stage → Command → Script → Option Script
+after_on None (SetStage stage) s = Some (record s { stage = Some stage })
+after_on None other s = None
+after_on (Some stage) (SetStage other) s = None
+after_on (Some stage) (TakeSize size) s = if is_fixed stage.viewport then None else Some (record s { size = Some size })
+after_on (Some stage) (Put x y c) s = Some (record s { puts = s.puts ++ (x, y, c) ∷ [] })
+after_on (Some stage) (AddText line) s = Some (record s { text = record s.text { lines = s.text.lines ++ raw_line line ∷ [] } })
+after_on (Some stage) Draw s = Some (with_act (acts.Play (draw_of s)) (record (without_text s) { size = None; puts = [] }))
+after_on (Some stage) Insert s = if nat_le (length s.text.lines) 65535 then Some (with_act (acts.Play (steps.Insert s.text)) (without_text s)) else None
+after_on (Some stage) Clear s = Some (with_act (acts.Play steps.Clear) s)
+after_on (Some stage) Show s = Some (with_act acts.Show s)
 
 -- the script after a line, if that is good: it is empty, or a command that may stand there
 abbrev pub after_line : List ℕ → Script → Option Script
-after_line line s = if length line == 0 then Some s else option_and_then (λ c. after c s) (command_of line)
-
--- the script after some lines
-abbrev pub read_from : Option Script → List (List ℕ) → Option Script
-read_from s [] = s
-read_from s (line ∷ lines) = read_from (option_and_then (after_line line) s) lines
+after_line line s = if length line == 0 then Some s else option_and_then (λ c. after_on s.stage c s) (command_of line)
 
 -- the script that some lines are, if all of them are good
 abbrev pub script_of : List (List ℕ) → Option Script
-script_of lines = read_from (Some nothing) lines
+script_of lines = fold (λ s line. option_and_then (after_line line) s) (Some nothing) lines
 
 -- line n, counted from 1, is bad, and those before it are good
 pub record IsFirstBadLine (lines : List (List ℕ)) (n : ℕ) : Type 0 where
-  pub counted : 0 < n
-  pub inside : n ≤ length lines
+  pub good : List (List ℕ)
+  pub bad : List ℕ
+  pub rest : List (List ℕ)
+  pub parts : lines ≡ good ++ bad ∷ rest
+  pub count : n ≡ length good + 1
   pub before : Script
-  pub good : script_of (take (n - 1) lines) ≡ Some before
-  pub bad : after_line (slice_index_or lines (n - 1) []) before ≡ None
+  pub read : script_of good ≡ Some before
+  pub refused : after_line bad before ≡ None
 
 -- a script is refused at its first bad line, or for want of memory
 abbrev pub IsRefusedScript : List (List ℕ) → ScriptError → Type 0

@@ -9,8 +9,8 @@ ghost use Rattle.screenplay.specs.declared.scene.PlayCause.TheVariants.{Memory};
 ghost use Rattle.rtui_buffer.specs.Shown.{IsSettledBuffer};
 ghost use Rattle.rtui_buffer.specs.BufferData.{IsEmptied};
 ghost use Rattle.screenplay.specs.Puts.{with_put, with_puts};
-ghost use Rattle.screenplay.specs.Run.{IsGoodStage, IsFrame, text_area, IsRun, IsFault, IsStart};
-ghost use Rattle.screenplay.specs.Playing.{IsPlaying, IsSceneOf, TakesNewSize, IsSizedFor, ShowsFrame, InsertsBuffer, IsCauseOfFrame, IsCauseOfStep, Plays, view_in};
+ghost use Rattle.screenplay.specs.Run.{IsGoodStage, IsFrame, text_area, IsCauseOfStep, IsRun, EndsEarly, IsStart};
+ghost use Rattle.screenplay.specs.Playing.{IsPlaying, IsSceneOf, TakesNewSize, IsSizedFor, InsertsBuffer, Plays, view_in};
 ghost use Rattle.rtui_geometry.specs.declared.rect.Rect.{Rect};
 ghost use Rattle.screenplay.specs.declared.scene.Scene.{Scene};
 ghost use Rattle.screenplay.specs.declared.scene.Stage.{Stage};
@@ -87,7 +87,7 @@ pub fn open(alloc: Global, stage: Stage) -> Result<Terminal<TestBackend>, Termin
     Terminal::with_options(alloc, backend, options)
 }
 
-// Gives the screen another size, and places the viewport on it.
+// Gives the screen another size, and resizes the terminal to it.
 fn resize(terminal: &mut Terminal<TestBackend>, size: Size) -> Result<(), TerminalError<TestError>>
     ensures { OnOk result (TakesNewSize size terminal.old terminal.new) }
 {
@@ -95,7 +95,12 @@ fn resize(terminal: &mut Terminal<TestBackend>, size: Size) -> Result<(), Termin
         Ok(()) => {}
         Err(_) => return Err(TerminalError::Memory),
     }
-    terminal.autoresize()?;
+    terminal.resize(Rect {
+        x: 0,
+        y: 0,
+        width: size.width,
+        height: size.height,
+    })?;
     Ok(())
 }
 
@@ -132,7 +137,7 @@ fn apply(terminal: &mut Terminal<TestBackend>) -> Result<(), PlayCause>
     }
 }
 
-// Paints a frame of a text and puts, and draws it if it is settled.
+// Paints a frame of a text and puts, and draws it if it is settled: a draw that gives no size.
 fn draw_frame(
     alloc: Global,
     terminal: &mut Terminal<TestBackend>,
@@ -140,9 +145,9 @@ fn draw_frame(
     puts: &Puts,
 ) -> Result<(), PlayCause>
     ensures ok { OnOk result ((stage : Stage) → IsPlaying stage terminal.old
-        → IsPlaying stage terminal.new × ShowsFrame text.now puts.now terminal.old terminal.new) }
+        → Plays stage (Draw None text.now puts.now) terminal.old terminal.new) }
     ensures err { IfErr result (λ cause. (stage : Stage) → IsPlaying stage terminal.old
-        → IsCauseOfFrame text.now puts.now terminal.old cause) }
+        → IsCauseOfStep stage (Draw None text.now puts.now) (view_in terminal.old) cause) }
 {
     let area = terminal.viewport_area();
     match paint(alloc, terminal.current_buffer_mut(), text, puts) {
@@ -360,7 +365,8 @@ fn add_scene(
 pub fn play(alloc: Global, stage: Stage, steps: &[Step<'_>]) -> Result<Vec<Scene>, PlayFault>
     requires { IsGoodStage stage }
     ensures ok { IfOk result (λ scenes. IsRun stage steps.now scenes.items) }
-    ensures fault { IfErr result (IsFault stage steps.now) }
+    ensures fault { IfErr result (λ fault.
+        EndsEarly stage steps.now fault.scenes.items fault.step fault.cause) }
 {
     let mut scenes = Vec::new(alloc);
     let mut terminal = match open(alloc, stage) {

@@ -7,7 +7,7 @@ ghost use Rattle.script_words.specs.Words.{parsed_size};
 ghost use Rattle.rtui_text.specs.Text.{raw_line};
 ghost use Rattle.screenplay.specs.Run.{IsGoodStage};
 ghost use Rattle.screenplay.specs.Script.{char_of, rect_of, screen_command, inline_of, fixed_of, put_of, command_with, command_of, IsGoodCommand};
-ghost use Rattle.screenplay.specs.Script.{nothing, draw_of, without_text, after_on, first_after, after, after_line, script_of, IsRefusedScript};
+ghost use Rattle.screenplay.specs.Script.{nothing, draw_of, without_text, after_on, after_line, script_of, IsRefusedScript};
 
 use crate::act::{Act, Acts};
 use crate::scene::{Puts, Stage, Step};
@@ -286,7 +286,7 @@ impl<'a> Script<'a> {
 
     // Takes the command that sets the stage; it answers whether it is that one.
     fn take_first(&mut self, command: &Command<'a>) -> bool
-        ensures taken { first_after command.now self.old
+        ensures taken { after_on None command.now self.old
             ≡ (if result then Some self.new else None) }
         ensures stage { IsGoodCommand command.now → IfSome self.old.stage IsGoodStage
             → IfSome self.new.stage IsGoodStage }
@@ -307,7 +307,7 @@ impl<'a> Script<'a> {
         stage: Stage,
         command: &Command<'a>,
     ) -> Result<bool, AllocError>
-        ensures taken { IfOk result (λ good. after_on stage command.now self.old
+        ensures taken { IfOk result (λ good. after_on (Some stage) command.now self.old
             ≡ (if good then Some self.new else None)) }
         ensures stage { self.new.stage ≡ self.old.stage }
     {
@@ -340,7 +340,7 @@ impl<'a> Script<'a> {
 
     // Takes a command; it answers whether the command may stand there.
     fn take(&mut self, alloc: Global, command: &Command<'a>) -> Result<bool, AllocError>
-        ensures taken { IfOk result (λ good. after command.now self.old
+        ensures taken { IfOk result (λ good. after_on self.old.stage command.now self.old
             ≡ (if good then Some self.new else None)) }
         ensures stage { IsGoodCommand command.now → IfSome self.old.stage IsGoodStage
             → IfOk result (λ good. IfSome self.new.stage IsGoodStage) }

@@ -1,18 +1,10 @@
-use Rattle.std.proofs.Common.{List, ℕ, length, map, rules, ap, ◌∙◌, arith}
+use Rattle.std.proofs.Common.{List, ℕ, length, map, rules, arith}
 use Rattle.std.proofs.lemmas.{Grind.common_steps, List.map-append}
 use Rattle.std.proofs.lemmas.Iterator.Consumers.{YieldsList-so_far, YieldsList-turn, YieldsList-end}
 use Rattle.std.proofs.lemmas.Iterator.Splits.{YieldsList-from_lines}
-use Rattle.std.specs.{Borrow.Bor, Str.Iter.lines_rest, Str.Lines.lines}
-use Rattle.screenplay.proofs.ScriptLemmas.{script_of-push, IsFirstBadLine-read, lines-count}
+use Rattle.std.specs.{Borrow.Bor, Str.Lines.lines}
+use Rattle.screenplay.proofs.ScriptLemmas.{script_of-push, IsFirstBadLine-read}
 use Rattle.screenplay.proofs.script.read_script.Goals as goal
-
-pub overflow_add-number : goal.overflow_add-number
-overflow_add-number c =
-    let road = YieldsList-from_lines c.args.text.now (ap lines_rest c.into_iter-line-iterator.ensures.into_iter_gives ∙ c.lines-line-items.ensures.rest) in
-    let turn = YieldsList-turn road c.loop-line.yielded _ c.loop-line.yielded_by c.next.result _ c.in-Some.line c.in-Some.is c.next.ensures.steps in
-    let count = lines-count c.args.text.now in
-    let number = c.loop-line.invariant.count in
-    omega (arith, turn.0, count, number)
 
 pub loop-line-preserved : goal.loop-line-preserved
 loop-line-preserved c =
@@ -28,7 +20,7 @@ pub returns-then-not-branch-clause-err : goal.returns-then-not-branch-clause-err
 returns-then-not-branch-clause-err c =
     let all = lines c.args.text.now in
     let done = map (λ (line : Bor (List ℕ)). line.now) c.loop-line.yielded in
-    let road = YieldsList-from_lines c.args.text.now (ap lines_rest c.into_iter-line-iterator.ensures.into_iter_gives ∙ c.lines-line-items.ensures.rest) in
+    let road = YieldsList-from_lines c.args.text.now (cc) in
     let turn = YieldsList-turn road c.loop-line.yielded _ c.loop-line.yielded_by c.next.result _ c.in-Some.line c.in-Some.is c.next.ensures.steps in
     let front = YieldsList-so_far road c.loop-line.yielded _ c.loop-line.yielded_by in
     rw c.loop-line.invariant.count
@@ -36,6 +28,6 @@ returns-then-not-branch-clause-err c =
 
 pub returns-clause-ok : goal.returns-clause-ok
 returns-clause-ok c =
-    let road = YieldsList-from_lines c.args.text.now (ap lines_rest c.into_iter-line-iterator.ensures.into_iter_gives ∙ c.lines-line-items.ensures.rest) in
+    let road = YieldsList-from_lines c.args.text.now (cc) in
     let end = YieldsList-end road c.loop-line.yielded _ c.loop-line.yielded_by _ _ c.in-None.is c.next.ensures.steps in
     rw end.0 at c.loop-line.invariant.read
