@@ -1,4 +1,3 @@
-pub mod DrawnLemmas
 pub mod ShownLemmas
 pub mod CountLemmas
 pub mod MarkLemmas

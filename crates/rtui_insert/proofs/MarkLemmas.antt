@@ -20,13 +20,15 @@ pub narrow-option : width_of (record empty_cell { diff_option = Skip }) ≡ 1
 unfolding width_of
 narrow-option = width-empty
 
+-- the cells of a part are the buffer's
+pub part_at : (s : BufferData) (i n k : ℕ) → k < s.area.width * n → cell (part_cells s i n) k ≡ cell s.cells (i * s.area.width + k)
+part_at s i n k low =
+    get_or-take (s.area.width * n) (drop (i * s.area.width) s.cells) k empty_cell low ∙ get_or-drop (i * s.area.width) s.cells k empty_cell
+
 -- a part of empty cells has empty ones alone
 pub part_of_empty : (over : Rect) (s : BufferData) → IsEmptied over s → (i n k : ℕ) → cell (part_cells s i n) k ≡ empty_cell
 part_of_empty over s emptied i n k = elim (cases_lt k (s.area.width * n)) [
-  | inl low ↦
-      get_or-take (s.area.width * n) (drop (i * s.area.width) s.cells) k empty_cell low
-      ∙ get_or-drop (i * s.area.width) s.cells k empty_cell
-      ∙ rw emptied.cells (cell-empty (area_size over) (i * s.area.width + k))
+  | inl low ↦ part_at s i n k low ∙ rw emptied.cells (cell-empty (area_size over) (i * s.area.width + k))
   | inr past ↦ get_or_past (part_cells s i n) k empty_cell (simp length-take (omega arith))
 ]
 

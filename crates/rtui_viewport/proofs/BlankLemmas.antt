@@ -1,7 +1,7 @@
 -- What empty cells leave that are drawn over an area.
-use Rattle.std.proofs.Common.{◌≡◌, ◌⊎◌, ℕ, zero, suc, true, false, ◌<◌, List, [], ◌∷◌, map, refl, sym, ap, ◌∙◌, arith, inl, inr, if◌then◌else◌}
+use Rattle.std.proofs.Common.{◌≡◌, ◌⊎◌, ℕ, zero, suc, true, false, ◌<◌, List, [], ◌∷◌, map, refl, ◌∙◌, arith, inl, inr, if◌then◌else◌}
 use Rattle.std.specs.List.{Contains}
-use Rattle.std.proofs.lemmas.{Bool.cases_Bool, Bool.cases_eq, Bool.true≢false, Bool.Decides.nat_tests}
+use Rattle.std.proofs.lemmas.{Bool.cases_Bool, Bool.Decides.nat_tests}
 use Rattle.rtui_geometry.specs.{declared.position.Position.Position, declared.rect.Rect.Rect, Rect.EdgesFit, Rows.ListsPositions}
 use Rattle.rtui_cell.specs.{Look.empty_look, Grid.Grid, Grid.put, Grid.puts}
 use Rattle.rtui_cell.proofs.CellLemmas.{look-empty, width-empty}
@@ -20,32 +20,20 @@ module _ (w h : ℕ) where
   put_away : (p : Position) (g : Grid) (a b : ℕ) → (p ≡ at a b → ⊥) → put w h (blank_at p) g a b ≡ g a b
   put_away p g a b other =
       let one = width-empty in
-      elim (cases_eq p.x a) [
-        | inl x ↦ elim (cases_eq p.y b) [
-          | inl y ↦ absurd (other (rw (← x, ← y) refl))
-          | inr y ↦ let off : b ≡ p.y → ⊥ = λ e. y (sym e) in grind (arith, nat_tests)
-        ]
-        | inr x ↦ let off : a ≡ p.x → ⊥ = λ e. x (sym e) in grind (arith, nat_tests)
-      ]
+      let off : a ≡ p.x → b ≡ p.y → ⊥ = λ x y. other (rw (x, y) refl) in
+      grind (arith, nat_tests)
 
   -- an empty column stays so
-  put_empty : (p : Position) (g : Grid) (a b : ℕ) → a < w → b < h → g a b ≡ empty_look → put w h (blank_at p) g a b ≡ empty_look
-  put_empty p g a b a_in b_in was = elim (cases_eq p.x a) [
-    | inl x ↦ elim (cases_eq p.y b) [
-      | inl y ↦ rw (x, y) (put_here g a b a_in b_in)
-      | inr y ↦ put_away p g a b (λ e. y (ap (λ q. q.y) e)) ∙ was
-    ]
-    | inr x ↦ put_away p g a b (λ e. x (ap (λ q. q.x) e)) ∙ was
-  ]
+  put_empty : (p : Position) (g : Grid) (a b : ℕ) → g a b ≡ empty_look → put w h (blank_at p) g a b ≡ empty_look
+  put_empty p g a b was = let look = look-empty in grind (arith, nat_tests)
 
-  puts_empty : (ps : List Position) (g : Grid) (a b : ℕ) → a < w → b < h → g a b ≡ empty_look → puts w h (map blank_at ps) g a b ≡ empty_look
-  puts_empty [] g a b a_in b_in was = was
-  puts_empty (p ∷ ps) g a b a_in b_in was = puts_empty ps (put w h (blank_at p) g) a b a_in b_in (put_empty p g a b a_in b_in was)
+  puts_empty : (ps : List Position) (g : Grid) (a b : ℕ) → g a b ≡ empty_look → puts w h (map blank_at ps) g a b ≡ empty_look
+  puts_empty [] g a b was = was
+  puts_empty (p ∷ ps) g a b was = puts_empty ps (put w h (blank_at p) g) a b (put_empty p g a b was)
 
   puts_here : (ps : List Position) (g : Grid) (a b : ℕ) → a < w → b < h → Contains ps (at a b) → puts w h (map blank_at ps) g a b ≡ empty_look
   puts_here [] g a b a_in b_in (k, low, e) = absurd (omega (arith, low))
-  puts_here (p ∷ ps) g a b a_in b_in (zero, low, e) =
-      puts_empty ps (put w h (blank_at p) g) a b a_in b_in (rw e (put_here g a b a_in b_in))
+  puts_here (p ∷ ps) g a b a_in b_in (zero, low, e) = puts_empty ps (put w h (blank_at p) g) a b (rw e (put_here g a b a_in b_in))
   puts_here (p ∷ ps) g a b a_in b_in (suc k, low, e) = puts_here ps (put w h (blank_at p) g) a b a_in b_in (k, omega (arith, low), e)
 
   puts_away : (ps : List Position) (g : Grid) (a b : ℕ) → (Contains ps (at a b) → ⊥) → puts w h (map blank_at ps) g a b ≡ g a b
@@ -58,21 +46,13 @@ module _ (w h : ℕ) where
 pub decide_within : (r : Rect) (a b : ℕ) → (IsWithin r a b × (is_within r a b ≡ true)) ⊎ ((IsWithin r a b → ⊥) × (is_within r a b ≡ false))
 decide_within r a b = elim (cases_Bool (is_within r a b)) [
   | inl on ↦ inl (record { left = grind (arith, nat_tests); right = grind (arith, nat_tests); top = grind (arith, nat_tests); bottom = grind (arith, nat_tests) }, on)
-  | inr off ↦ inr (
-    λ w.
-        let left = w.left in let right = w.right in let top = w.top in let bottom = w.bottom in
-        let on : is_within r a b ≡ true = grind (arith, nat_tests) in
-        true≢false (sym on ∙ off),
-    off,
-  )
+  | inr off ↦ inr (λ w. absurd (grind (arith, nat_tests, w.left, w.right, w.top, w.bottom)), off)
 ]
 
 -- drawn over an area that lies on the grid
 pub blanks_over : (r : Rect) (w h : ℕ) (ps : List Position) → EdgesFit r → ListsPositions r ps
     → (g : Grid) (a b : ℕ) → a < w → b < h → puts w h (map blank_at ps) g a b ≡ if is_within r a b then empty_look else g a b
 blanks_over r w h ps fits lists g a b a_in b_in = elim (decide_within r a b) [
-  | inl (within, is) ↦ rw is (puts_here w h ps g a b a_in b_in ((lists.each (at a b)).1
-      within))
-  | inr (out, is) ↦ rw is (puts_away w h ps g a b (λ c. let p = (lists.each (at a b)).0 c in
-      out p))
+  | inl (within, is) ↦ rw is (puts_here w h ps g a b a_in b_in ((lists.each (at a b)).1 within))
+  | inr (out, is) ↦ rw is (puts_away w h ps g a b (λ c. out ((lists.each (at a b)).0 c)))
 ]

@@ -1,12 +1,13 @@
+use Rattle.std.proofs.Common.{ℕ, Ok}
 use Rattle.std.proofs.lemmas.{Result.on_ok_weaker, Iterator.Consumers.YieldsList-from_first}
 use Rattle.rtui_cell.specs.Grid.{update_by}
-use Rattle.rtui_insert.proofs.DrawnLemmas.{Draws-items}
+use Rattle.rtui_backend.proofs.DrawLemmas.{Draws-along}
 use Rattle.rtui_insert.specs.Remaining.{lowered_left}
 use Rattle.rtui_insert.proofs.draw.draw_rows.Goals as goal
 
 pub returns-clause-ok : goal.returns-clause-ok
 returns-clause-ok g c =
-    let drawn = Draws-items _ _ c.in_ok-draw.ensures.ok (YieldsList-from_first (update_by (λ cell. cell.now)) lowered_left _ c.new.ensures) in
+    let drawn = Draws-along {T = ℕ} {E = ℕ} (Ok 0) _ _ c.in_ok-draw.ensures.ok (YieldsList-from_first (update_by (λ cell. cell.now)) lowered_left _ c.new.ensures) in
     on_ok_weaker c.flush.result
     (λ same. rw same (record { updates = _; diff = c.diff_rows-updates.ensures; drawn = drawn }))
     c.flush.ensures.ok

@@ -1,7 +1,7 @@
-use Rattle.std.proofs.Common.{◌≡◌, ◌+◌, ◌-◌, ap, arith, rules}
+use Rattle.std.proofs.Common.{◌≡◌, ◌-◌, ap, arith, rules}
 use Rattle.std.proofs.lemmas.Grind.{common_steps}
 use Rattle.rtui_geometry.specs.declared.rect.Rect.{Rect}
-use Rattle.rtui_insert.proofs.PushLemmas.{raised_none, raised_by, raised_more}
+use Rattle.rtui_insert.proofs.PushLemmas.{raised_none, raised_more}
 use Rattle.rtui_insert.proofs.insert.insert_up.Goals as goal
 
 pub loop-done-init : goal.loop-done-init
@@ -12,7 +12,7 @@ loop-done-init g c = let same : c.area.result.now.height ≡ c.args.rows.now.are
   counts = search rules;
   shape = search rules;
   flushed = search rules;
-  raised = λ wide fits settled. raised_by c.args.rows.now c.args.first _ 0 c.args.top _ _ (omega arith) (raised_none c.args.rows.now c.args.first c.args.top (g.B.Backend.screen c.args.backend.now));
+  raised = λ wide fits settled. raised_none c.args.rows.now c.args.first _ c.args.top (g.B.Backend.screen c.args.backend.now) (omega arith);
 }
 
 pub loop-done-preserved : goal.loop-done-preserved
@@ -26,6 +26,6 @@ loop-done-preserved g c =
       shape = grind (arith, common_steps);
       flushed = search rules;
       raised = λ wide fits settled.
-          raised_by c.args.rows.now c.args.first _ (c.loop-done.done - c.args.first + c.min-count.result) c.args.top _ _ (omega arith)
-          (raised_more c.args.rows.now c.args.first (c.loop-done.done - c.args.first) c.loop-done.done c.args.top c.min-count.result _ _ _ _ (omega arith) (before.raised wide fits settled) wide fits settled (omega arith) (c.requires.room (omega arith)) (omega arith) c.in_ok-scroll_region_up.ensures.ok c.args.blank.now c.requires.blank (omega arith) c.in_ok-draw_rows.ensures.ok);
+          raised_more c.args.rows.now c.args.first (c.loop-done.done - c.args.first) c.loop-done.done c.args.top c.min-count.result _ _ _ _ (omega arith) (before.raised wide fits settled) wide fits settled
+          (omega arith) (c.requires.room (omega arith)) (omega arith) c.in_ok-scroll_region_up.ensures.ok c.args.blank.now c.requires.blank (omega arith) c.in_ok-draw_rows.ensures.ok _ (omega arith);
     }

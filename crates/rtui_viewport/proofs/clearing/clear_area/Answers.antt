@@ -1,11 +1,11 @@
 use Rattle.std.proofs.lemmas.Result.{on_ok_weaker}
-use Rattle.rtui_viewport.proofs.ClearLemmas.{clears_inline, clears_fullscreen}
+use Rattle.rtui_viewport.proofs.ClearLemmas.{clears_inline, frame_cleared}
 use Rattle.rtui_viewport.proofs.clearing.clear_area.Goals as goal
 
 pub returns-in-Fullscreen-clause-cleared : goal.returns-in-Fullscreen-clause-cleared
 returns-in-Fullscreen-clause-cleared g c =
     on_ok_weaker c.clear_region.result
-    (λ p. rw c.in-Fullscreen.is (λ place. clears_fullscreen p))
+    (λ p. rw c.in-Fullscreen.is (λ place. record { frame = frame_cleared _ p; grid = p.grid }))
     c.clear_region.ensures.ok
 
 pub returns-in_ok-set_cursor_position-in-Inline-clause-cleared :
