@@ -8,7 +8,7 @@ use Rattle.rtui_diff.proofs.{WalkLemmas.unskipped, WalkLemmas.places, ColumnLemm
 use Rattle.rtui_diff.proofs.FrameLemmas.{row_start, column_in, row_in}
 use Rattle.rtui_diff.proofs.ScreenLemmas.{Plain, RisesFrom, rises_give, rises_all, place_shown, puts_outside, shows_after}
 
-rises : (ps ns : List Cell) (n : ℕ) (s : Walk) (i hi : ℕ) → i + n ≡ hi → RisesFrom ns i hi (given ps ns n s i)
+pub rises : (ps ns : List Cell) (n : ℕ) (s : Walk) (i hi : ℕ) → i + n ≡ hi → RisesFrom ns i hi (given ps ns n s i)
 unfolding given
 rises ps ns zero s i hi e = tt
 rises ps ns (suc n) s i hi e =

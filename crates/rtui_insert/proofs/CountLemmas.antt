@@ -7,7 +7,7 @@ use Rattle.rtui_cell.specs.{declared.cell.Cell.Cell, Cell.empty_cell, Cell.width
 use Rattle.rtui_cell.proofs.CellLemmas.{width-empty, equal_parts}
 use Rattle.rtui_diff.specs.{Cells.cell, Cells.is_always, Completeness.AreNarrow, Completeness.differing, Updates.update_at}
 use Rattle.rtui_diff.specs.DiffRule.{Walk, given, start}
-use Rattle.rtui_diff.proofs.ReplayLemmas.{Plain, RisesFrom, rises}
+use Rattle.rtui_diff.proofs.{ScreenLemmas.RisesFrom, ReplayLemmas.rises}
 use Rattle.rtui_buffer.specs.{BufferData.BufferData, BufferData.IsEmptied, RowsDiff.part_cells}
 use Rattle.rtui_insert.proofs.MarkLemmas.{part_at, part_of_empty}
 use Rattle.rtui_backend.specs.Screen.{Screen}
@@ -31,7 +31,7 @@ module _ {X : Type 0} (q : X → Bool) (d : X) (none : q d ≡ false) where
 pub given_count : (ps ns : List Cell) (k : ℕ) (s : Walk) (i : ℕ) → length (given ps ns k s i) ≤ k
 given_count ps ns k s i = omega (arith, places (i + k) i _ (rises ps ns k s i (i + k) refl))
   where
-    places : (hi lo : ℕ) (is : List ℕ) → RisesFrom (Plain ns) lo hi is → length is ≤ hi - lo
+    places : (hi lo : ℕ) (is : List ℕ) → RisesFrom ns lo hi is → length is ≤ hi - lo
     places hi lo [] r = omega arith
     places hi lo (j ∷ is) r = omega (arith, r.0, r.1, places hi (j + 1) is r.3)
 

@@ -8,7 +8,7 @@ use Rattle.rtui_cell.proofs.CellLemmas.{look-empty, width-empty}
 use Rattle.rtui_diff.specs.{Cells.cell, Cells.cell_at, Settled.IsSettled, Shows.ShowsColumn, Shows.Shows, Shows.RowAgrees}
 use Rattle.rtui_diff.specs.DiffRule.{start}
 use Rattle.rtui_diff.specs.Updates.{update_at, updates}
-use Rattle.rtui_diff.proofs.ReplayLemmas.{Plain, RisesFrom, rises}
+use Rattle.rtui_diff.proofs.{ScreenLemmas.RisesFrom, ReplayLemmas.rises}
 use Rattle.rtui_diff.proofs.{DiffPromise.is_diff, FrameLemmas.row_end, FrameLemmas.row_in}
 use Rattle.rtui_buffer.specs.{BufferData.BufferData, BufferData.IsEmptied, Shown.IsSettledBuffer}
 use Rattle.rtui_backend.specs.Screen.{Screen, seen, row_of, rows_above, Draws}
@@ -48,7 +48,7 @@ module _ (w n y : ℕ) (fits : y + n ≤ 65535) (ps ns : List Cell) where
       let row : min (0 + i / w + y) 65535 ≡ y + i / w = omega arith in
       ap (λ k. record { x = 0 + i % w; y = k; cell = cell ns i }) row
 
-  lowered_given : (lo : ℕ) (is : List ℕ) → RisesFrom (Plain ns) lo (w * n) is → map (lowered_update y) (map (update_at 0 0 w ns) is) ≡ map (update_at 0 y w ns) is
+  lowered_given : (lo : ℕ) (is : List ℕ) → RisesFrom ns lo (w * n) is → map (lowered_update y) (map (update_at 0 0 w ns) is) ≡ map (update_at 0 y w ns) is
   lowered_given lo [] r = refl
   lowered_given lo (i ∷ is) r = cc (lowered_one i r.1, lowered_given (i + 1) is r.3)
 
