@@ -32,15 +32,6 @@ pub step_cases : (P : Walk → Type 0) (p n : Cell) →
     P (step_plain p n)
 step_cases P p n = pick P start _ _ _ (is_skipped n) (is_forced n) (gives_plain p n) (nat_lt 1 (width_of n)) (has_fe0f n) (nat_lt (width_of n) (width_of p) && shows_on_blank p)
 
-pub given-step : (ps ns : List Cell) (k : ℕ) (s : Walk) (i : ℕ) →
-    given ps ns (suc k) s i ≡ give (gives s (cell ps i) (cell ns i)) i (given ps ns k (step s (cell ps i) (cell ns i)) (i + 1))
-unfolding given
-given-step ps ns k s i = refl
-
-pub given-none : (ps ns : List Cell) (s : Walk) (i : ℕ) → given ps ns 0 s i ≡ []
-unfolding given
-given-none ps ns s i = refl
-
 -- a place that is given or not, before the others
 pub give_cond : (g : Bool) (i : ℕ) (is : List ℕ) → give g i is ≡ cond g (i ∷ is) is
 give_cond true i is = refl
