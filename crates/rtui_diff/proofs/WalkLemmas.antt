@@ -1,12 +1,12 @@
 -- What one step of the walk does, by its cases.
-use Rattle.std.proofs.Common.{◌*◌, ◌≡◌, ℕ, zero, suc, ◌+◌, ◌-◌, ◌&&◌, ◌||◌, Bool, true, false, not, List, [], ◌∷◌, cond, refl, if◌then◌else◌, nat_lt}
+use Rattle.std.proofs.Common.{◌*◌, ◌≡◌, ℕ, zero, suc, ◌-◌, ◌&&◌, ◌||◌, Bool, true, false, not, List, ◌∷◌, cond, refl, if◌then◌else◌, nat_lt}
 use Rattle.std.proofs.lemmas.Bool.{false≢true, and_parts, or_parts, not-true, not-false}
 use Rattle.rtui_cell.specs.{declared.cell.Cell.Cell, declared.cell.CellDiffOption.CellDiffOption, Equality.is_same}
 use Rattle.rtui_cell.specs.declared.cell.CellDiffOption.TheVariants as DiffOption
 use Rattle.rtui_cell.specs.Cell.{width_of, is_skipped, has_no_option, is_single_byte}
 use Rattle.rtui_cell.proofs.CellLemmas.{single_byte_option}
-use Rattle.rtui_diff.specs.Cells.{has_fe0f, is_forced, is_always, is_always_by, shows_on_blank, cell}
-use Rattle.rtui_diff.specs.DiffRule.{Walk, start, gives, gives_plain, step, step_plain, give, given}
+use Rattle.rtui_diff.specs.Cells.{has_fe0f, is_forced, is_always, is_always_by, shows_on_blank}
+use Rattle.rtui_diff.specs.DiffRule.{Walk, start, gives, gives_plain, step_plain, give, given}
 
 pick : (P : Walk → Type 0) (s0 s1 s2 s3 : Walk) (sk fo gi wide fe vis : Bool) →
     (sk ≡ true → P s0) → (sk ≡ false → P s1) →
