@@ -35,7 +35,7 @@ impl<'a> CellChange for Stroke<'a> {
 }
 
 impl<'a> Block<'a> {
-    // DrawsStrokes the sides and then the corners.
+    // Draws the sides and then the corners.
     pub(crate) fn render_borders(&self, area: Rect, buf: &mut Buffer) -> Result<(), AllocError>
         requires some { IsBoxArea area }
         requires inside { IsInside area buf.old.area }
@@ -46,7 +46,7 @@ impl<'a> Block<'a> {
         self.render_corners(area, buf)
     }
 
-    // DrawsStrokes the sides.
+    // Draws the sides.
     fn render_sides(&self, area: Rect, buf: &mut Buffer) -> Result<(), AllocError>
         requires some { IsBoxArea area }
         requires inside { IsInside area buf.old.area }
@@ -95,7 +95,7 @@ impl<'a> Block<'a> {
         self.has_side(first) && self.has_side(second)
     }
 
-    // DrawsStrokes a symbol over a part of an area, if it is to be drawn.
+    // Draws a symbol over a part of an area, if it is to be drawn.
     fn draw(
         &self,
         area: Rect,
