@@ -4,7 +4,6 @@ use Rattle.std.specs.{Result.result_ok, Str.IsUtf8, Str.Lines.lines, Io.KnownByt
 use Rattle.ratatui_core.specs.Layout.{Rect, Size}
 use Rattle.ratatui_core.specs.Backend.{Screen, IsBlankScreen, rows_above, TestBackend, TestError, screen_of, printed_screen}
 use Rattle.ratatui_core.specs.Terminal.{IsBlank, IsBlankBelow, row_area, IsPaintedText, IsRowOf, rows_over}
-use Rattle.ratatui_core.proofs.TerminalLemmas.{over-row}
 use Rattle.logview.specs.{Rows.counted, Rows.status_text, Rows.AreRowsOfLines, Views.StartsView, Views.PushesLine, Views.IsViewOf}
 use Rattle.script_words.specs.Words.{parsed_size}
 use Rattle.logview.specs.Engine.{ShowsLog, IsLog, IsLogFault, IsLogView, PrintsLog, StopsPushing, size_of_log}
@@ -27,7 +26,7 @@ module _ {B E : Type 0} (screen : B → Screen) where
         size_is = starts.starts.size ∙ ap₂ (λ w h. record { width = w; height = h }) blank.width blank.height;
         top = starts.starts.top ∙ row ∙ omega arith;
         above = subst (AreRowsOfLines size.width []) (sym (starts.starts.above ∙ ap (rows_above (screen b)) row ∙ ap (λ h. h ++ []) blank.history)) tt;
-        below = starts.starts.over.rest.below tt;
+        below = starts.starts.below;
       }
 
   -- one more line
@@ -45,14 +44,14 @@ module _ {B E : Type 0} (screen : B → Screen) where
         size_is = ins.size ∙ is.size_is;
         top = (let t = ins.top in let f = is.top in omega arith);
         above = subst (AreRowsOfLines size.width (lines ++ line ∷ [])) (sym ins.above) (rows_more size.width line ins.row lines (rows_over screen v.terminal) is.above painted);
-        below = ins.over.rest.below tt;
+        below = ins.below is.below;
       }
 
   -- what its screen shows
   pub shows_log : (size : Size) (lines : List (List ℕ)) (v : LogView B E) → IsViewOf screen size lines v → ShowsLog size lines (screen v.terminal.backend)
   shows_log size lines v is =
       let wide : (screen v.terminal.backend).width ≡ size.width = ap (λ (s : Size). s.width) is.size_is in
-      let place : v.terminal.viewport_area ≡ row_area size.width v.terminal.viewport_area.y = over-row screen v.terminal is.following ∙ ap (λ n. row_area n v.terminal.viewport_area.y) wide in
+      let place : v.terminal.viewport_area ≡ row_area size.width v.terminal.viewport_area.y = is.following.row ∙ ap (λ n. row_area n v.terminal.viewport_area.y) wide in
       record {
         size_is = is.size_is;
         top = v.terminal.viewport_area.y;

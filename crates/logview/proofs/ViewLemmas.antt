@@ -3,7 +3,7 @@ use Rattle.std.proofs.Common.{◌≡◌, ℕ, ◌+◌, ◌*◌, nat_lt, if◌the
 use Rattle.std.specs.declared.alloc.AllocError.{AllocError}
 use Rattle.ratatui_core.specs.{Layout.Rect, Layout.Size, Buffer.BufferData, Buffer.IsEmptied, Buffer.IsSettledBuffer, Backend.Screen}
 use Rattle.ratatui_core.specs.Terminal.{TerminalData, IsOverRow, DrawsRow, FillsRow, InsertsRow, InsertOk, InsertsBy, HasAreas, IsSized, IsBackendFault, WritesAtMost, TerminalError, Backend, Memory, Area, Closure, inserted_area}
-use Rattle.ratatui_core.proofs.TerminalLemmas.{inserts-and-draws, over-row, over-takes}
+use Rattle.ratatui_core.proofs.TerminalLemmas.{inserts-and-draws, over-takes}
 use Rattle.ratatui_core.proofs.WidgetLemmas.{has-first-row, text-settled}
 use Rattle.logview.specs.{Rows.counted, Rows.status_text, declared.view.LogView.LogView}
 use Rattle.logview.specs.Views.{cells_pushed, screen_in, KeepsBelow, PushesLine, RefusesLine, RefusesPush}
@@ -24,15 +24,15 @@ module _ {B : Type 0} (screen : B → Screen) where
   inserts-most line s t filled is only ins room =
       let may = over-takes screen s is in
       let known : (screen s.backend).height ≡ s.last_known_area.height = ap (λ (r : Rect). r.height) (over-takes screen s is).known in
-      let high : s.viewport_area.height ≡ 1 = ap (λ (r : Rect). r.height) (over-row screen s is) in
-      let bottom = is.rest.in_step.on_screen.bottom in
+      let high : s.viewport_area.height ≡ 1 = ap (λ (r : Rect). r.height) is.row in
+      let bottom = is.in_step.on_screen.bottom in
       let inserts = ins.inserts (omega arith) in
       let settled = fills-settled line (inserted_area s 1) ins.inserted refl (only ins.inserted ins.closure) in
       let wide : ins.inserted.area.width ≡ (screen s.backend).width = ap (λ (r : Rect). r.width) ins.over ∙ may.width in
       let tall : ins.inserted.area.height ≡ 1 = ap (λ (r : Rect). r.height) ins.over in
       let again : (if nat_lt s.viewport_area.height s.last_known_area.height then 0 else ins.inserted.area.width) ≡ (if nat_lt 1 (screen s.backend).height then 0 else (screen s.backend).width) = rw (high, known, wide) refl in
       let own : ins.inserted.area.width * ins.inserted.area.height ≡ (screen s.backend).width = rw (tall, wide) (omega arith) in
-      let most = inserts.most may is.rest.in_step settled (omega (arith, again, own, room)) in
+      let most = inserts.most may is.in_step settled (omega (arith, again, own, room)) in
       omega (arith, again, own, most)
 
   -- by the answer of the insertion
@@ -50,12 +50,12 @@ module _ {B E : Type 0} (screen : B → Screen) where
   inserts-below line v w filled is only ins =
       let s = v.terminal in
       let known : (screen s.backend).height ≡ s.last_known_area.height = ap (λ (r : Rect). r.height) (over-takes screen s is).known in
-      let high : s.viewport_area.height ≡ 1 = ap (λ (r : Rect). r.height) (over-row screen s is) in
-      let bottom = is.rest.in_step.on_screen.bottom in
+      let high : s.viewport_area.height ≡ 1 = ap (λ (r : Rect). r.height) is.row in
+      let bottom = is.in_step.on_screen.bottom in
       let inserts = ins.inserts (omega arith) in
       let settled = fills-settled line (inserted_area s 1) ins.inserted refl (only ins.inserted ins.closure) in
       let same : w.terminal.viewport_area.height ≡ s.viewport_area.height = ap (λ (x : TerminalData B). x.viewport_area.height) inserts.rest in
-      record { at = λ a b a_in b_in low. inserts.kept (over-takes screen s is) is.rest.in_step settled a b a_in b_in (omega arith) }
+      record { at = λ a b a_in b_in low. inserts.kept (over-takes screen s is) is.in_step settled a b a_in b_in (omega arith) }
 
   -- by the answer of the insertion
   pub inserts-below-if : {T F : Type 0} (line : List ℕ) (v w : LogView B E) (filled : Result (Unit {0}) AllocError → BufferData → Type 0) (result : Result T (TerminalError F)) → IsOverRow screen v.terminal
@@ -81,7 +81,7 @@ module _ {B E : Type 0} (screen : B → Screen) where
       let width : (screen m.terminal.backend).width ≡ (screen v.terminal.backend).width = ap (λ (z : Size). z.width) inserts.size in
       let height : (screen m.terminal.backend).height ≡ (screen v.terminal.backend).height = ap (λ (z : Size). z.height) inserts.size in
       let top : w.terminal.viewport_area.y ≡ m.terminal.viewport_area.y = ap (λ (r : Rect). r.y) keeps.viewport_area in
-      let high : m.terminal.viewport_area.height ≡ 1 = ap (λ (r : Rect). r.height) (over-row screen m.terminal inserts.over) in
+      let high : m.terminal.viewport_area.height ≡ 1 = ap (λ (r : Rect). r.height) inserts.over.row in
       record {
         at = λ a b a_in b_in low.
             keeps.outside.at a b (omega arith) (omega arith) (λ within. omega (arith, within.bottom, high, low, top)) ∙ kept.at a b a_in b_in (omega (arith, low, top));
@@ -119,4 +119,4 @@ pub refused_if : {B E T : Type 0} (screen : B → Screen) (line : List ℕ) (v m
 refused_if screen line v m w (Ok x) inserts count by = tt
 refused_if screen line v m w (Err e) inserts count by =
     let over = inserts.over in
-    lacks_status screen line v m w e inserts count (by (record { current = over.rest.current.area; previous = over.rest.in_step.area }) over.rest.sized)
+    lacks_status screen line v m w e inserts count (by (record { current = over.current.area; previous = over.in_step.area }) (inr over.known))

@@ -5,7 +5,9 @@
 
 /// What a terminal draws on.
 pub mod backend {
-    pub use rtui_backend::{AsCell, Backend, ClearType, TestBackend, TestError, WindowSize};
+    pub use rtui_backend::{
+        AsCell, Backend, ClearType, Resizable, TestBackend, TestError, WindowSize,
+    };
 }
 
 /// Cells, grids of cells, and the differences between two grids.

@@ -8,17 +8,20 @@ pub enum Outcome {
     Accepted,
     /// Memory was refused to it, what it must leave stands, and the same call was then accepted.
     Held,
+    /// The same, and it said before which step.
+    HeldAt(usize),
     /// Something else stands than should.
     Broken,
 }
 
 impl fmt::Display for Outcome {
     fn fmt<W: fmt::Write>(&self, f: &mut fmt::Formatter<W>) -> fmt::Result {
-        f.write_str(match self {
-            Outcome::Accepted => "accepted",
-            Outcome::Held => "refused, and as it was",
-            Outcome::Broken => "broken",
-        })
+        match self {
+            Outcome::Accepted => f.write_str("accepted"),
+            Outcome::Held => f.write_str("refused, and as it was"),
+            Outcome::HeldAt(step) => write!(f, "refused at step {step}, and as it was"),
+            Outcome::Broken => f.write_str("broken"),
+        }
     }
 }
 
@@ -31,6 +34,14 @@ pub fn judged(is_refused: bool, is_left: bool, is_right: bool) -> Outcome {
         Outcome::Held
     } else {
         Outcome::Accepted
+    }
+}
+
+/// The same of a play, by the step before which it was refused, if it was.
+pub fn judged_at(refused: Option<usize>, is_left: bool, is_right: bool) -> Outcome {
+    match refused {
+        Some(step) if is_left && is_right => Outcome::HeldAt(step),
+        _ => judged(refused.is_some(), is_left, is_right),
     }
 }
 

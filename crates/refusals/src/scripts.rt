@@ -1,5 +1,5 @@
 //! Plays of steps, and runs of scripts.
-use crate::outcome::{Outcome, judged};
+use crate::outcome::{Outcome, judged, judged_at};
 use rtui_terminal::Viewport;
 use rtui_text::Text;
 use screenplay::{PlayCause, PlayFault, Puts, RunFault, Scene, Stage, Step, play, run};
@@ -25,57 +25,72 @@ fn play_steps(alloc: Global, steps: &[Step<'_>]) -> Result<Vec<Scene>, PlayFault
     play(alloc, stage, steps)
 }
 
-// A play that is refused memory says so, and has a scene for the start and each step that was done.
+fn is_same_scene(one: &Scene, other: &Scene) -> bool {
+    one.viewport == other.viewport && one.screen == other.screen && one.history == other.history
+}
+
+// Whether some scenes are the first ones of others.
+fn begins(scenes: &[Scene], all: &[Scene]) -> bool {
+    scenes.len() <= all.len()
+        && scenes
+            .iter()
+            .zip(all.iter())
+            .all(|(one, other)| is_same_scene(one, other))
+}
+
+// A play that is refused memory says before which step, and its scenes are the first ones of the
+// same play with memory: of the start and of each step that was done.
 pub fn played(alloc: Global) -> Result<Outcome, AllocError> {
     let steps = steps(alloc)?;
-    let (is_refused, is_left) = match play_steps(alloc, steps.as_slice()) {
-        Ok(scenes) => (false, scenes.len() == 3),
-        Err(fault) => (
-            true,
-            fault.cause == PlayCause::Memory && fault.scenes.len() == fault.step,
-        ),
+    let fault = match play_steps(alloc, steps.as_slice()) {
+        Ok(scenes) => return Ok(judged(false, scenes.len() == 3, true)),
+        Err(fault) => fault,
     };
-    let is_right = !is_refused
-        || match play_steps(alloc, steps.as_slice()) {
-            Ok(scenes) => scenes.len() == 3,
-            Err(_) => false,
-        };
-    Ok(judged(is_refused, is_left, is_right))
+    let is_told = fault.cause == PlayCause::Memory && fault.scenes.len() == fault.step;
+    let is_right = match play_steps(alloc, steps.as_slice()) {
+        Ok(all) => all.len() == 3 && begins(fault.scenes.as_slice(), all.as_slice()),
+        Err(_) => false,
+    };
+    Ok(judged_at(Some(fault.step), is_told, is_right))
 }
 
 static SCRIPT: &str = "inline 3 2 1\ntext ab\ndraw\ntext cd\nput 2 1 x\ninsert\nshow\ndraw\nshow\n";
 
 static SHOWN: &str = "|cd \n|ab \n|cd \n|  x\n";
 
-// Whether a run was refused memory; none if something else came of it.
-fn run_script(alloc: Global, written: &mut Vec<u8>) -> Option<bool> {
+// What comes of a run.
+#[derive(Debug, Clone, Copy, PartialEq, Eq)]
+enum Ran {
+    Whole,
+    // Memory was refused: to the reading or the writing, or before this step.
+    Refused,
+    RefusedAt(usize),
+    Otherwise,
+}
+
+fn run_script(alloc: Global, written: &mut Vec<u8>) -> Ran {
     let mut reader = SCRIPT.as_bytes();
     match run(alloc, &mut reader, written) {
-        Ok(()) => Some(false),
-        Err(RunFault::Memory) => Some(true),
-        Err(RunFault::Step(fault)) => {
-            if fault.cause == PlayCause::Memory {
-                Some(true)
-            } else {
-                None
-            }
-        }
-        Err(RunFault::Write) => Some(true),
-        Err(_) => None,
+        Ok(()) => Ran::Whole,
+        Err(RunFault::Memory) | Err(RunFault::Write) => Ran::Refused,
+        Err(RunFault::Step(fault)) if fault.cause == PlayCause::Memory => Ran::RefusedAt(fault.step),
+        Err(_) => Ran::Otherwise,
     }
 }
 
-// A run that is refused memory says so, and has written nothing.
+// A run that is refused memory says so, or before which step, and has written nothing.
 pub fn run_over_memory(alloc: Global) -> Result<Outcome, AllocError> {
     let mut written = Vec::new(alloc);
     let first = run_script(alloc, &mut written);
-    let is_left = match first {
-        Some(true) => written.is_empty(),
-        Some(false) => written.as_slice() == SHOWN.as_bytes(),
-        None => false,
-    };
+    if first == Ran::Whole {
+        return Ok(judged(false, written.as_slice() == SHOWN.as_bytes(), true));
+    }
+    let is_left = written.is_empty() && first != Ran::Otherwise;
     let mut again = Vec::new(alloc);
-    let is_right = first != Some(true)
-        || (run_script(alloc, &mut again) == Some(false) && again.as_slice() == SHOWN.as_bytes());
-    Ok(judged(first == Some(true), is_left, is_right))
+    let second = run_script(alloc, &mut again);
+    let is_right = second == Ran::Whole && again.as_slice() == SHOWN.as_bytes();
+    Ok(match first {
+        Ran::RefusedAt(step) => judged_at(Some(step), is_left, is_right),
+        _ => judged(true, is_left, is_right),
+    })
 }

@@ -159,7 +159,7 @@ pub trait Backend {
             ≡ with_cursor position.x position.y (screen self.old)) }
         ensures counts { Counts result (failures self.old) (failures self.new) };
 
-    /// The previous name of `get_cursor_position`: the column and the row.
+    /// The old name of `get_cursor_position`: the column and the row.
     ///
     /// # Errors
     ///
@@ -177,7 +177,7 @@ pub trait Backend {
         Ok((position.x, position.y))
     }
 
-    /// The previous name of `set_cursor_position`.
+    /// The old name of `set_cursor_position`.
     ///
     /// # Errors
     ///

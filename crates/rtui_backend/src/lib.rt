@@ -8,8 +8,10 @@
 
 mod backend;
 mod clear_type;
+mod resizable;
 mod test;
 
 pub use backend::{AsCell, Backend, WindowSize};
 pub use clear_type::ClearType;
+pub use resizable::Resizable;
 pub use test::{TestBackend, TestError};

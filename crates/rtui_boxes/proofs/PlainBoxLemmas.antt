@@ -1,5 +1,5 @@
 -- A plain box keeps cells plain.
-use Rattle.std.proofs.Common.{◌≡◌, ℕ, ◌+◌, ◌-◌, ◌/◌, ◌==◌, ◌<◌, ◌≤◌, ◌⊎◌, ⊎_elim, inl, inr, Bool, true, false, if◌then◌else◌, nat_le, List, [], ◌∷◌, ◌++◌, filter, reverse, All, sym, subst, arith}
+use Rattle.std.proofs.Common.{◌≡◌, ℕ, ◌+◌, ◌-◌, ◌/◌, ◌==◌, ◌<◌, ◌≤◌, ◌⊎◌, ⊎_elim, inl, inr, Bool, true, false, if◌then◌else◌, nat_le, List, [], ◌∷◌, ◌++◌, filter, reverse, All, sym, subst, arith, lit<}
 use Rattle.std.proofs.lemmas.{Bool.cases_lt, List.reverse-append}
 use Rattle.std.proofs.lemmas.List.Elements.{All-nil, All-cons, All-head, All-tail, All-append, All-map, All-filter}
 use Rattle.ratatui_core.specs.Layout.{Rect, Position, HasPosition, intersected}
@@ -31,7 +31,7 @@ plain-stroked b (s ∷ ss) p c all is =
     (plain-if (strikes s p) (drawn b.merge_borders b.border_style s.symbol c) c (plain-drawn b.merge_borders b.border_style s.symbol c is all.0) is)
 
 narrow-strokes : (b : Block) (r : Rect) → IsPlainBox b → AreNarrow (strokes b r)
-narrow-strokes b r is = (is.left, (is.top, (is.right, (is.bottom, (is.bottom_right, (is.top_right, (is.bottom_left, (is.top_left, tt))))))))
+narrow-strokes b r is = let all = is.symbols in (all 4 (lit< tt), (all 6 (lit< tt), (all 5 (lit< tt), (all 7 (lit< tt), (all 3 (lit< tt), (all 1 (lit< tt), (all 2 (lit< tt), (all 0 (lit< tt), tt))))))))
 
 plain-cell : (b : Block) (r : Rect) (p : Position) (c : Cell) → IsPlainBox b → IsPlain c → IsPlain (box_cell b r p c)
 plain-cell b r p c is plain =

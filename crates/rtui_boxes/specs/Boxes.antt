@@ -2,6 +2,7 @@
 use Rattle.std.specs.Prelude.{◌≡◌, ℕ, Bool, true, false, ◌&&◌, ◌||◌, ◌==◌, ◌+◌, ◌-◌, ◌≤◌, ◌<◌, nat_le, nat_lt, min, Option, Some, None, List, [], ◌∷◌, ◌++◌, if◌then◌else◌, unwrap_or, map, filter, reverse, All, ⊤, Result, IsOk, OnOk}
 use Rattle.std.specs.{List.list_any, Int.RustNames.bit_and, declared.alloc.AllocError.AllocError}
 use Rattle.ratatui_core.specs.Layout.{Rect, Position, HasPosition, right_edge, bottom_edge, intersected}
+use Rattle.ratatui_core.specs.Symbols.{border_texts, plain_border}
 use Rattle.ratatui_core.specs.{Style.Style, Style.new_style, Text.LineData, declared.layout.HorizontalAlignment.HorizontalAlignment}
 use Rattle.ratatui_core.specs.declared.layout.HorizontalAlignment.TheVariants.{Left, Center, Right}
 use Rattle.ratatui_core.specs.{Widgets.ChangesWithin, Widgets.OnPart, declared.symbols.merge.MergeStrategy.MergeStrategy}
@@ -19,6 +20,7 @@ pub record IsNewBlock (sides : ℕ) (b : Block) : Type 0 where
   pub titles_left : b.titles_alignment ≡ Left
   pub titles_top : b.titles_position ≡ Top
   pub borders : sides_of b.borders ≡ sides
+  pub lines : border_texts b.border_set ≡ plain_border
   pub borders_plain : b.border_style ≡ new_style
   pub plain : b.style ≡ new_style
   pub unpadded : b.padding ≡ record { left = 0; right = 0; top = 0; bottom = 0 }
@@ -238,15 +240,8 @@ pub record IsShortBlock (b : Block) (area : Rect) (s : BufferData) : Type 0 wher
   pub short : (p : Position) → HasPosition s.area p → IsShortUnder b (strokes b (intersected area s.area)) p (if is_in (intersected area s.area) p then styled b.style (cell_in s p) else cell_in s p)
 
 -- each symbol of the border takes no memory
-pub record HasShortSymbols (b : Block) : Type 0 where
-  pub left : IsShort b.border_set.vertical_left.now
-  pub top : IsShort b.border_set.horizontal_top.now
-  pub right : IsShort b.border_set.vertical_right.now
-  pub bottom : IsShort b.border_set.horizontal_bottom.now
-  pub bottom_right : IsShort b.border_set.bottom_right.now
-  pub top_right : IsShort b.border_set.top_right.now
-  pub bottom_left : IsShort b.border_set.bottom_left.now
-  pub top_left : IsShort b.border_set.top_left.now
+abbrev pub HasShortSymbols : Block → Type 0
+HasShortSymbols b = All IsShort (border_texts b.border_set)
 
 -- no cell's symbol takes memory
 abbrev pub AreShortCells : BufferData → Type 0
@@ -255,14 +250,7 @@ AreShortCells s = (p : Position) → HasPosition s.area p → IsShort (symbol_te
 -- a box whose symbols, and whose titles' graphemes, take at most one column each; it may have no titles
 pub record IsPlainBox (b : Block) : Type 0 where
   pub titles : All (λ title. IsNarrowLine title.line) b.titles.items
-  pub left : text_width b.border_set.vertical_left.now ≤ 1
-  pub top : text_width b.border_set.horizontal_top.now ≤ 1
-  pub right : text_width b.border_set.vertical_right.now ≤ 1
-  pub bottom : text_width b.border_set.horizontal_bottom.now ≤ 1
-  pub bottom_right : text_width b.border_set.bottom_right.now ≤ 1
-  pub top_right : text_width b.border_set.top_right.now ≤ 1
-  pub bottom_left : text_width b.border_set.bottom_left.now ≤ 1
-  pub top_left : text_width b.border_set.top_left.now ≤ 1
+  pub symbols : All (λ symbol. text_width symbol ≤ 1) (border_texts b.border_set)
 
 -- the box is plain, if there is one
 abbrev pub IsPlainIfBox : Option Block → Type 0

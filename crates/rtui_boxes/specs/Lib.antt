@@ -3,3 +3,4 @@ pub mod Titles
 pub mod Boxes
 pub mod Clears
 pub mod Framed
+pub mod Kinds

@@ -2,6 +2,8 @@
 
 ghost use Rattle.std.specs.Prelude.{◌≡◌, ◌-◌, ◌≤◌, IfOk, None, Some};
 ghost use Rattle.rtui_boxes.specs.declared.title.TitlePosition.TheVariants.{Top, Bottom};
+ghost use Rattle.ratatui_core.specs.Symbols.{border_texts};
+ghost use Rattle.rtui_boxes.specs.Kinds.{border_of_kind};
 ghost use Rattle.rtui_boxes.specs.Boxes.{AddsTitle, IsNewBlock, has_side, has_row, has_title, is_in_row, one_if, inner_of, rows_around};
 
 use crate::border_type::BorderType;
@@ -162,7 +164,10 @@ impl<'a> Block<'a> {
     }
 
     /// The box with borders of a kind.
-    pub fn border_type(self, border_type: BorderType) -> Block<'a> {
+    pub fn border_type(self, border_type: BorderType) -> Block<'a>
+        ensures symbols { border_texts result.border_set ≡ border_of_kind border_type }
+        ensures rest { result ≡ record self.entry { border_set = result.border_set } }
+    {
         self.border_set(border_type.to_border_set())
     }
 

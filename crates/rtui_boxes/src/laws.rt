@@ -1,12 +1,19 @@
 //! Laws of widgets that are no single call's clause.
 
 ghost use Rattle.std.specs.Prelude.{◌≡◌, []};
-ghost use Rattle.ratatui_core.specs.Layout.{EdgesFit};
+ghost use Rattle.ratatui_core.specs.Layout.{EdgesFit, IsInside};
 ghost use Rattle.ratatui_core.specs.Buffer.{BufferData, IsPlainFrom, IsSettledBuffer};
 ghost use Rattle.ratatui_core.specs.Layout.{Rect};
 ghost use Rattle.rtui_boxes.specs.declared.block.Block.{Block};
-ghost use Rattle.rtui_boxes.specs.Boxes.{RendersBlock, IsPlainBox, HasShortSymbols, AreShortCells, IsShortBlock};
+ghost use Rattle.rtui_boxes.specs.Boxes.{RendersBlock, IsPlainBox, inner_of, HasShortSymbols, AreShortCells, IsShortBlock};
 ghost use Rattle.rtui_boxes.specs.Clears.{RendersClear};
+ghost use Rattle.rtui_boxes.specs.declared.border_type.BorderType.{BorderType};
+ghost use Rattle.rtui_boxes.specs.declared.border_type.BorderType.TheVariants.{Plain};
+ghost use Rattle.rtui_boxes.specs.declared.title.TitlePosition.{TitlePosition};
+ghost use Rattle.rtui_boxes.specs.declared.title.TitlePosition.TheVariants.{Top};
+
+use crate::border_type::BorderType;
+use crate::title::TitlePosition;
 
 /// A box of symbols of one column, with titles of such symbols or without, leaves a buffer of plain
 /// cells one of plain cells, however its borders are joined with what stands there.
@@ -26,4 +33,16 @@ pub fn boxes_of_short_symbols_take_no_memory()
 pub fn clearing_keeps_settled()
     ensures { (area : Rect) (old new : BufferData) → EdgesFit old.area → RendersClear area old new
         → IsSettledBuffer old → IsSettledBuffer new }
+{}
+
+/// What is inside a box lies in its area.
+pub fn insides_lie_in_their_areas()
+    ensures { (b : Block) (area : Rect) → IsInside (inner_of b area) area }
+{}
+
+/// A box has plain lines, and its titles stand in its first row, unless it is told otherwise.
+pub fn boxes_have_these_defaults()
+    ensures border_type { (t : BorderType) → ⟦<BorderType as Default>⟧.is_default t → t ≡ Plain }
+    ensures position { (p : TitlePosition) → ⟦<TitlePosition as Default>⟧.is_default p
+        → p ≡ Top }
 {}

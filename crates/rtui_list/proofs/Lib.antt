@@ -2,3 +2,4 @@ pub mod WindowLemmas
 pub mod ItemLemmas
 pub mod ListLemmas
 pub mod NarrowListLemmas
+pub mod ShownLemmas

@@ -2,6 +2,7 @@
 
 ghost use Rattle.std.specs.Prelude.{◌≡◌, length};
 ghost use Rattle.ratatui_core.specs.Style.{new_style};
+ghost use Rattle.ratatui_core.specs.Text.{widest};
 ghost use Rattle.rtui_list.specs.Windows.{item_rows};
 
 use ratatui_core::style::Style;
@@ -40,7 +41,9 @@ impl<'a> ListItem<'a> {
     }
 
     /// How many columns its widest line takes.
-    pub fn width(&self) -> usize {
+    pub fn width(&self) -> usize
+        ensures { result ≡ widest self.now.content.lines }
+    {
         self.content.width()
     }
 }

@@ -1,2 +1,3 @@
 pub mod MeterLemmas
 pub mod SettledLemmas
+pub mod WholeLemmas

@@ -1,5 +1,5 @@
 -- Shares of a number, and bars over a part of a buffer.
-use Rattle.std.proofs.Common.{◌≡◌, ℕ, ◌+◌, ◌-◌, ◌*◌, ◌/◌, ◌<◌, ◌≤◌, ⊎_elim, Bool, true, false, if◌then◌else◌, nat_lt, List, min, Option, Some, None, refl, arith, Result, Ok, Err, OnOk, OnErr}
+use Rattle.std.proofs.Common.{lit<, ◌≡◌, ℕ, ◌+◌, ◌-◌, ◌*◌, ◌/◌, ◌<◌, ◌≤◌, ⊎_elim, Bool, true, false, if◌then◌else◌, nat_lt, List, min, Option, Some, None, refl, arith, Result, Ok, Err, OnOk, OnErr}
 use Rattle.std.proofs.Math.Nat.{div-lt_iff_lt-mul}
 use Rattle.std.specs.{declared.alloc.AllocError.AllocError, Borrow.Bor}
 use Rattle.ratatui_core.specs.Layout.{Rect, Position, IsInside, corner}
@@ -136,8 +136,8 @@ one-light false a b la lb = lb
 pub marks-light : (b : Scrollbar) (m : Marks) (k : ℕ) → m.bar ≡ b → HasShortMarks b → IsLightMark (mark_of m k)
 marks-light b m k e short =
     let is : HasShortMarks m.bar = rw e short in
-    let track = light-if m.bar.track_symbol m.bar.track_style is.track in
-    one-light (nat_lt k m.track) _ _ (light-if m.bar.begin_symbol m.bar.begin_style is.begin)
+    let track = light-if m.bar.track_symbol m.bar.track_style (is 1 (lit< tt)) in
+    one-light (nat_lt k m.track) _ _ (light-if m.bar.begin_symbol m.bar.begin_style (is 2 (lit< tt)))
     (one-light (nat_lt k m.thumb) _ _ track
-    (one-light (nat_lt k m.after_thumb) _ _ is.thumb
-    (one-light (nat_lt k m.after_track) _ _ track (light-if m.bar.end_symbol m.bar.end_style is.end))))
+    (one-light (nat_lt k m.after_thumb) _ _ (is 0 (lit< tt))
+    (one-light (nat_lt k m.after_track) _ _ track (light-if m.bar.end_symbol m.bar.end_style (is 3 (lit< tt))))))

@@ -1,5 +1,5 @@
 -- A gauge: which cell gets which symbol and style.
-use Rattle.std.specs.Prelude.{◌≡◌, ℕ, Bool, ◌+◌, ◌-◌, ◌/◌, ◌==◌, ◌&&◌, not, nat_le, nat_lt, min, List, codes, Option, Some, None, if◌then◌else◌, unwrap_or, slice_index_or, false}
+use Rattle.std.specs.Prelude.{◌≡◌, ℕ, Bool, ◌+◌, ◌-◌, ◌/◌, ◌==◌, ◌&&◌, not, nat_le, nat_lt, min, List, [], ◌∷◌, codes, Option, Some, None, if◌then◌else◌, unwrap_or, slice_index_or, false}
 use Rattle.ratatui_core.specs.Layout.{Rect, Position, corner, intersected}
 use Rattle.ratatui_core.specs.{Style.Style, Style.new_style, declared.style.Color.Color, declared.style.Color.TheVariants.Reset, Text.SpanData}
 use Rattle.ratatui_core.specs.Buffer.{BufferData, Cell, Piece, styled, with_symbol, pieces_at, text_columns, PaintsPieces, ChangesEach, AreShort}
@@ -27,6 +27,11 @@ label_width text r = min (text_columns text) r.width
 -- where a label stands: in the middle of an area
 abbrev pub label_part : List ℕ → Rect → Rect
 label_part text r = record { x = r.x + (r.width - label_width text r) / 2; y = r.y + r.height / 2; width = label_width text r; height = 1 }
+
+-- the characters of a column that is filled by eighths, from none to all
+abbrev pub tip_codes : List (List ℕ)
+tip_codes =
+    codes " " ∷ codes "▏" ∷ codes "▎" ∷ codes "▍" ∷ codes "▌" ∷ codes "▋" ∷ codes "▊" ∷ codes "▉" ∷ codes "█" ∷ []
 
 -- the symbol of the column after the whole ones
 abbrev pub tip_text : Gauge → Rect → List ℕ

@@ -1,5 +1,5 @@
 -- A scroll bar: where it stands, and where its thumb is.
-use Rattle.std.specs.Prelude.{◌≡◌, ℕ, Bool, true, false, ◌+◌, ◌-◌, ◌*◌, ◌<◌, ◌≤◌, ◌⊎◌, nat_lt, min, max, List, [], ◌∷◌, codes, encode_utf8_all, Option, Some, None, if◌then◌else◌, ⊤}
+use Rattle.std.specs.Prelude.{◌≡◌, ℕ, Bool, true, false, ◌+◌, ◌-◌, ◌*◌, ◌<◌, ◌≤◌, ◌⊎◌, nat_lt, min, max, List, [], ◌∷◌, codes, encode_utf8_all, Option, Some, None, if◌then◌else◌, All, ⊤}
 use Rattle.std.specs.Borrow.{Bor}
 use Rattle.ratatui_core.specs.{Layout.Rect, Layout.Position, Symbols.scrollbar_texts, Style.Style, Style.new_style, declared.symbols.scrollbar.Set.Set}
 use Rattle.ratatui_core.specs.Buffer.{BufferData, Cell, styled, with_symbol, ChangesEach, IsShort, text_width}
@@ -176,12 +176,13 @@ abbrev pub IsShortIf : Option (Bor (List ℕ)) → Type 0
 IsShortIf None = ⊤
 IsShortIf (Some symbol) = IsShort symbol.now
 
+-- the symbols of a bar: of the thumb, the track, the beginning and the end
+abbrev pub bar_symbols : Scrollbar → List (Option (Bor (List ℕ)))
+bar_symbols b = Some b.thumb_symbol ∷ b.track_symbol ∷ b.begin_symbol ∷ b.end_symbol ∷ []
+
 -- each symbol of a bar takes no memory
-pub record HasShortMarks (b : Scrollbar) : Type 0 where
-  pub thumb : IsShort b.thumb_symbol.now
-  pub track : IsShortIf b.track_symbol
-  pub begin : IsShortIf b.begin_symbol
-  pub end : IsShortIf b.end_symbol
+abbrev pub HasShortMarks : Scrollbar → Type 0
+HasShortMarks b = All IsShortIf (bar_symbols b)
 
 -- a symbol of at most one column, if there is one
 abbrev pub IsNarrowIf : Option (Bor (List ℕ)) → Type 0
@@ -189,8 +190,5 @@ IsNarrowIf None = ⊤
 IsNarrowIf (Some symbol) = text_width symbol.now ≤ 1
 
 -- each symbol of a bar takes at most one column
-pub record HasNarrowMarks (b : Scrollbar) : Type 0 where
-  pub thumb : text_width b.thumb_symbol.now ≤ 1
-  pub track : IsNarrowIf b.track_symbol
-  pub begin : IsNarrowIf b.begin_symbol
-  pub end : IsNarrowIf b.end_symbol
+abbrev pub HasNarrowMarks : Scrollbar → Type 0
+HasNarrowMarks b = All IsNarrowIf (bar_symbols b)

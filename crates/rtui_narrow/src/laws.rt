@@ -1,7 +1,9 @@
 //! Each symbol is narrow: it takes at most one column, and no memory in a cell.
 
-ghost use Rattle.std.specs.Prelude.{ℕ, List};
-ghost use Rattle.rtui_symbols.specs.Sets.{bar_levels, block_levels, border_texts, line_texts, normal_lines, plain_border, scrollbar_texts};
+ghost use Rattle.std.specs.Prelude.{◌≡◌, ℕ, List, map};
+ghost use Rattle.rtui_symbols.specs.Sets.{bar_levels, block_levels, normal_lines, plain_border};
+ghost use Rattle.rtui_symbols.specs.Sets.{border_texts, border_sets, line_texts, line_sets};
+ghost use Rattle.rtui_symbols.specs.Sets.{scrollbar_texts, scrollbar_sets};
 ghost use Rattle.rtui_merge.specs.Merge.{merged};
 ghost use Rattle.rtui_merge.specs.declared.MergeStrategy.{MergeStrategy};
 ghost use Rattle.std.specs.List.{flat_map};
@@ -33,7 +35,8 @@ pub fn symbols_are_narrow()
 
 /// The sets of borders: each symbol is narrow.
 pub fn borders() -> [border::Set<'static>; 18]
-    ensures { AreNarrowTexts (flat_map border_texts result) }
+    ensures sets { map border_texts result ≡ border_sets }
+    ensures narrow { AreNarrowTexts (flat_map border_texts result) }
 {
     [
         border::PLAIN,
@@ -59,7 +62,8 @@ pub fn borders() -> [border::Set<'static>; 18]
 
 /// The sets of lines: each symbol is narrow.
 pub fn lines() -> [line::Set<'static>; 10]
-    ensures { AreNarrowTexts (flat_map line_texts result) }
+    ensures sets { map line_texts result ≡ line_sets }
+    ensures narrow { AreNarrowTexts (flat_map line_texts result) }
 {
     [
         line::NORMAL,
@@ -77,7 +81,8 @@ pub fn lines() -> [line::Set<'static>; 10]
 
 /// The sets of scrollbars: each symbol is narrow.
 pub fn scrollbars() -> [scrollbar::Set<'static>; 4]
-    ensures { AreNarrowTexts (flat_map scrollbar_texts result) }
+    ensures sets { map scrollbar_texts result ≡ scrollbar_sets }
+    ensures narrow { AreNarrowTexts (flat_map scrollbar_texts result) }
 {
     [
         scrollbar::DOUBLE_VERTICAL,

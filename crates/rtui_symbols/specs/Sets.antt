@@ -1,7 +1,8 @@
 -- Sets of symbols as the texts of their fields, in order.
-use Rattle.std.specs.Prelude.{ℕ, List, [], ◌∷◌, codes}
+use Rattle.std.specs.Prelude.{ℕ, List, [], ◌∷◌, codes, encode_utf8_all}
 use Rattle.rtui_symbols.specs.declared.bar.TheConstants as bar_symbol
 use Rattle.rtui_symbols.specs.declared.block.TheConstants as block_symbol
+use Rattle.rtui_symbols.specs.declared.border.TheConstants as border_symbol
 use Rattle.rtui_symbols.specs.declared.line.TheConstants as line_symbol
 use Rattle.rtui_symbols.specs.declared.bar.Set as bar
 use Rattle.rtui_symbols.specs.declared.block.Set as block
@@ -72,3 +73,107 @@ border_of l =
 abbrev pub plain_border : List (List ℕ)
 plain_border =
     line_symbol.TOP_LEFT.now ∷ line_symbol.TOP_RIGHT.now ∷ line_symbol.BOTTOM_LEFT.now ∷ line_symbol.BOTTOM_RIGHT.now ∷ line_symbol.VERTICAL.now ∷ line_symbol.VERTICAL.now ∷ line_symbol.HORIZONTAL.now ∷ line_symbol.HORIZONTAL.now ∷ []
+
+-- the border that lines make: their corners, the upright line on both sides, the level one at the top and at the bottom
+abbrev pub border_by : List (List ℕ) → List (List ℕ)
+border_by (upright ∷ level ∷ top_right ∷ top_left ∷ bottom_right ∷ bottom_left ∷ joints) =
+    top_left ∷ top_right ∷ bottom_left ∷ bottom_right ∷ upright ∷ upright ∷ level ∷ level ∷ []
+border_by lines = []
+
+-- dashed lines, of two, three and four dashes
+abbrev pub light_double_dashed_lines : List (List ℕ)
+light_double_dashed_lines =
+    with_dashes line_symbol.LIGHT_DOUBLE_DASH_VERTICAL.now line_symbol.LIGHT_DOUBLE_DASH_HORIZONTAL.now normal_lines
+
+abbrev pub heavy_double_dashed_lines : List (List ℕ)
+heavy_double_dashed_lines =
+    with_dashes line_symbol.HEAVY_DOUBLE_DASH_VERTICAL.now line_symbol.HEAVY_DOUBLE_DASH_HORIZONTAL.now thick_lines
+
+abbrev pub light_triple_dashed_lines : List (List ℕ)
+light_triple_dashed_lines =
+    with_dashes line_symbol.LIGHT_TRIPLE_DASH_VERTICAL.now line_symbol.LIGHT_TRIPLE_DASH_HORIZONTAL.now normal_lines
+
+abbrev pub heavy_triple_dashed_lines : List (List ℕ)
+heavy_triple_dashed_lines =
+    with_dashes line_symbol.HEAVY_TRIPLE_DASH_VERTICAL.now line_symbol.HEAVY_TRIPLE_DASH_HORIZONTAL.now thick_lines
+
+abbrev pub light_quadruple_dashed_lines : List (List ℕ)
+light_quadruple_dashed_lines =
+    with_dashes line_symbol.LIGHT_QUADRUPLE_DASH_VERTICAL.now line_symbol.LIGHT_QUADRUPLE_DASH_HORIZONTAL.now normal_lines
+
+abbrev pub heavy_quadruple_dashed_lines : List (List ℕ)
+heavy_quadruple_dashed_lines =
+    with_dashes line_symbol.HEAVY_QUADRUPLE_DASH_VERTICAL.now line_symbol.HEAVY_QUADRUPLE_DASH_HORIZONTAL.now thick_lines
+
+-- half blocks towards the outside, and towards the inside, with the corners that join them
+abbrev pub outside_border : List (List ℕ)
+outside_border =
+    border_symbol.QUADRANT_TOP_LEFT_TOP_RIGHT_BOTTOM_LEFT.now ∷ border_symbol.QUADRANT_TOP_LEFT_TOP_RIGHT_BOTTOM_RIGHT.now
+    ∷ border_symbol.QUADRANT_TOP_LEFT_BOTTOM_LEFT_BOTTOM_RIGHT.now ∷ border_symbol.QUADRANT_TOP_RIGHT_BOTTOM_LEFT_BOTTOM_RIGHT.now
+    ∷ border_symbol.QUADRANT_LEFT_HALF.now ∷ border_symbol.QUADRANT_RIGHT_HALF.now
+    ∷ border_symbol.QUADRANT_TOP_HALF.now ∷ border_symbol.QUADRANT_BOTTOM_HALF.now ∷ []
+
+abbrev pub inside_border : List (List ℕ)
+inside_border =
+    border_symbol.QUADRANT_BOTTOM_RIGHT.now ∷ border_symbol.QUADRANT_BOTTOM_LEFT.now
+    ∷ border_symbol.QUADRANT_TOP_RIGHT.now ∷ border_symbol.QUADRANT_TOP_LEFT.now
+    ∷ border_symbol.QUADRANT_RIGHT_HALF.now ∷ border_symbol.QUADRANT_LEFT_HALF.now
+    ∷ border_symbol.QUADRANT_BOTTOM_HALF.now ∷ border_symbol.QUADRANT_TOP_HALF.now ∷ []
+
+-- eighths of a block: sides of full height at the edges of the columns, and the other way round
+abbrev pub one_eighth_wide_border : List (List ℕ)
+one_eighth_wide_border =
+    let above = border_symbol.ONE_EIGHTH_TOP_EIGHT.now in
+    let below = border_symbol.ONE_EIGHTH_BOTTOM_EIGHT.now in
+    below ∷ below ∷ above ∷ above ∷ border_symbol.ONE_EIGHTH_LEFT_EIGHT.now ∷ border_symbol.ONE_EIGHTH_RIGHT_EIGHT.now ∷ below ∷ above ∷ []
+
+abbrev pub one_eighth_tall_border : List (List ℕ)
+one_eighth_tall_border =
+    let left = border_symbol.ONE_EIGHTH_LEFT_EIGHT.now in
+    let right = border_symbol.ONE_EIGHTH_RIGHT_EIGHT.now in
+    right ∷ left ∷ right ∷ left ∷ right ∷ left ∷ border_symbol.ONE_EIGHTH_TOP_EIGHT.now ∷ border_symbol.ONE_EIGHTH_BOTTOM_EIGHT.now ∷ []
+
+-- sides that look as thick as each other: whole blocks upright, half blocks level; and the other way round
+abbrev pub proportional_wide_border : List (List ℕ)
+proportional_wide_border =
+    let whole = border_symbol.QUADRANT_BLOCK.now in
+    let above = border_symbol.QUADRANT_TOP_HALF.now in
+    let below = border_symbol.QUADRANT_BOTTOM_HALF.now in
+    below ∷ below ∷ above ∷ above ∷ whole ∷ whole ∷ below ∷ above ∷ []
+
+abbrev pub proportional_tall_border : List (List ℕ)
+proportional_tall_border =
+    let whole = border_symbol.QUADRANT_BLOCK.now in
+    whole ∷ whole ∷ whole ∷ whole ∷ whole ∷ whole ∷ border_symbol.QUADRANT_TOP_HALF.now ∷ border_symbol.QUADRANT_BOTTOM_HALF.now ∷ []
+
+-- one symbol everywhere
+abbrev pub border_all : List ℕ → List (List ℕ)
+border_all symbol = symbol ∷ symbol ∷ symbol ∷ symbol ∷ symbol ∷ symbol ∷ symbol ∷ symbol ∷ []
+
+-- all sets of borders, in the order in which `border` has them
+abbrev pub border_sets : List (List (List ℕ))
+border_sets =
+    border_by normal_lines ∷ border_by rounded_lines ∷ border_by double_lines ∷ border_by thick_lines
+    ∷ border_by light_double_dashed_lines ∷ border_by heavy_double_dashed_lines
+    ∷ border_by light_triple_dashed_lines ∷ border_by heavy_triple_dashed_lines
+    ∷ border_by light_quadruple_dashed_lines ∷ border_by heavy_quadruple_dashed_lines
+    ∷ outside_border ∷ inside_border ∷ one_eighth_wide_border ∷ one_eighth_tall_border
+    ∷ proportional_wide_border ∷ proportional_tall_border ∷ border_all block_symbol.FULL.now ∷ border_all (codes " ") ∷ []
+
+-- all sets of lines, in the order in which `line` has them
+abbrev pub line_sets : List (List (List ℕ))
+line_sets =
+    normal_lines ∷ rounded_lines ∷ double_lines ∷ thick_lines ∷ light_double_dashed_lines ∷ heavy_double_dashed_lines
+    ∷ light_triple_dashed_lines ∷ heavy_triple_dashed_lines ∷ light_quadruple_dashed_lines ∷ heavy_quadruple_dashed_lines ∷ []
+
+-- a scroll bar: its line, a whole block for its thumb, and an arrow at each end
+abbrev pub scrollbar_by : List ℕ → List ℕ → List ℕ → List (List ℕ)
+scrollbar_by track begin end = track ∷ block_symbol.FULL.now ∷ encode_utf8_all begin ∷ encode_utf8_all end ∷ []
+
+-- all sets of scroll bars, in the order in which `scrollbar` has them
+abbrev pub scrollbar_sets : List (List (List ℕ))
+scrollbar_sets =
+    scrollbar_by line_symbol.DOUBLE_VERTICAL.now (codes "▲") (codes "▼")
+    ∷ scrollbar_by line_symbol.DOUBLE_HORIZONTAL.now (codes "◄") (codes "►")
+    ∷ scrollbar_by line_symbol.VERTICAL.now (codes "↑") (codes "↓")
+    ∷ scrollbar_by line_symbol.HORIZONTAL.now (codes "←") (codes "→") ∷ []

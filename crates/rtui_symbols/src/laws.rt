@@ -16,12 +16,12 @@ pub fn braille_patterns_have_their_dots()
     ensures { BRAILLE ≡ map braille_of (range_with_len 0 256) }
 {}
 
-/// The sextants stand in the order of their characters, but for the four that are previous.
+/// The sextants stand in the order of their characters, but for the four older ones.
 pub fn sextants_are_in_order()
     ensures { SEXTANTS ≡ filled older_sextants 64 0 0x1fb00 }
 {}
 
-/// The octants stand in the order of their characters, but for those that are previous.
+/// The octants stand in the order of their characters, but for the older ones.
 pub fn octants_are_in_order()
     ensures { OCTANTS ≡ filled older_octants 256 0 0x1cd00 }
 {}

@@ -1,5 +1,5 @@
 -- An emptied viewport is in step with an emptied buffer.
-use Rattle.std.proofs.Common.{◌≡◌, ◌∙◌, ℕ, Option, Bool, true, false, refl, ap, subst, arith, nat_lt, min, ◌-◌, ◌||◌, if◌then◌else◌}
+use Rattle.std.proofs.Common.{◌≡◌, ◌∙◌, ℕ, Option, Bool, true, false, refl, ap, subst, arith, nat_lt, min, ◌-◌, ◌<◌, ◌||◌, if◌then◌else◌}
 use Rattle.std.specs.Option.{unwrap_or}
 use Rattle.std.proofs.lemmas.Bool.Decides.{nat_tests}
 use Rattle.rtui_geometry.specs.{declared.position.Position.Position, declared.rect.Rect.Rect, Rect.corner, Rect.EdgesFit}
@@ -7,7 +7,7 @@ use Rattle.rtui_cell.specs.Look.{Look, empty_look}
 use Rattle.rtui_buffer.specs.BufferData.{BufferData, IsEmptied, IsSameBuffer}
 use Rattle.rtui_buffer.proofs.EmptyLemmas.{IsSettledBuffer-empty, ShowsBuffer-empty}
 use Rattle.rtui_backend.specs.Screen.{Screen, Scrolls, IsOnGrid, IsOnScreen, screen_area, cursor_of, with_cursor}
-use Rattle.rtui_viewport.specs.{Areas.KeepsAllButLooks, Areas.Empties, Areas.IsBlankOver, Sizing.first_area}
+use Rattle.rtui_viewport.specs.{Areas.KeepsAllButLooks, Areas.Empties, Areas.is_within, Areas.IsBlankOver, Sizing.first_area}
 use Rattle.rtui_viewport.specs.Placing.{raised, area_in, cursor_found, cursor_restored, EmptiesAllIf, Places, rows_scrolled}
 use Rattle.rtui_viewport.specs.{Clearing.HasPlace, Clearing.ClearsArea, Clearing.is_emptied, Viewports.IsFixed, Viewports.IsInline, Viewports.rows_in}
 use Rattle.rtui_viewport.specs.declared.viewport.Viewport.{Viewport}
@@ -52,6 +52,18 @@ empties_or {e} {s} p = record { frame = p.frame; grid = λ a b a_in b_in. p.grid
     either : (x : Bool) (look : Look) → (if x then empty_look else look) ≡ (if x || false then empty_look else look)
     either true look = refl
     either false look = refl
+
+-- columns that were emptied after the whole screen was, or after nothing was
+pub emptied_twice : (e : ℕ → ℕ → Bool) (narrow : Bool) {s m t : Screen} → EmptiesAllIf narrow s m → Empties e m t
+    → Empties (λ a b. e a b || narrow) s t
+emptied_twice e true first empties = empties_more first empties
+emptied_twice e false {s} {m} {t} same empties = empties_or (subst (λ k. Empties e k t) same empties)
+
+-- a fixed viewport past the edge likewise
+pub cut_after : (v : Viewport) (r : Rect) (narrow : Bool) {s m t : Screen} → EmptiesAllIf narrow s m
+    → (IsFixed v → r.y < m.height → Empties (is_within r) m t) → IsFixed v → r.y < s.height → Empties (λ a b. is_within r a b || narrow) s t
+cut_after v r narrow {s} {m} {t} first cut fixed top =
+    emptied_twice (is_within r) narrow first (cut fixed (let same = (emptied_frame narrow {s} {m} first).size.height in omega arith))
 
 -- an emptied viewport after an emptied screen, or after an untouched one
 pub emptied_after : (v : Viewport) (r : Rect) (narrow : Bool) {s m t : Screen} → EmptiesAllIf narrow s m → ClearsArea v r m t → HasPlace v r s

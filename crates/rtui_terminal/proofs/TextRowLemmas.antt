@@ -7,8 +7,8 @@ use Rattle.rtui_cell.specs.Look.{Look}
 use Rattle.rtui_diff.specs.{DiffRule.given, DiffRule.start, Shows.RowAgrees, Updates.update_at}
 use Rattle.rtui_buffer.specs.{BufferData.BufferData, BufferData.IsEmptied, Shown.IsSettledBuffer, Shown.common_rows, Shown.buffer_updates}
 use Rattle.rtui_widgets.proofs.SettledLemmas.{has-first-row, text-settled}
-use Rattle.rtui_backend.specs.Screen.{Screen, size_of}
-use Rattle.rtui_viewport.specs.declared.viewport.Viewport.TheVariants.{Inline}
+use Rattle.rtui_backend.specs.Screen.{Screen, screen_area}
+use Rattle.rtui_viewport.specs.{declared.viewport.Viewport.TheVariants.Inline, Viewports.IsInline}
 use Rattle.rtui_insert.specs.{Insertion.AppendsRows, Insertion.AreRowsOf, Rows.WritesAtMost}
 use Rattle.rtui_insert.proofs.CountLemmas.{given_count}
 use Rattle.rtui_terminal.specs.{Writing.HasDrawn, Writing.cursor_placed, TerminalData.TerminalData, TerminalData.HasAreas, InStep.IsSized, InStep.rows_over}
@@ -17,9 +17,9 @@ use Rattle.rtui_terminal.specs.declared.terminal.error.TerminalError.TheVariants
 use Rattle.rtui_terminal.specs.{Starting.IsBlank, Starting.StartErr, Starting.Starts, Drawing.DrawOk, Drawing.DrawErr}
 use Rattle.rtui_terminal.specs.Insertion.{inserted_area, TakesRows, Inserts, InsertOk, InsertsBy}
 use Rattle.rtui_terminal.specs.TextRow.{row_area, IsPaintedText, IsRowOf, RendersRow, FillsRow, IsOverRow, DrawsRow, InsertsRow, StartsOverRow}
-use Rattle.rtui_terminal.proofs.RestLemmas.{rests-started, rests-drawn, rests-takes, rests-inserted}
 use Rattle.rtui_terminal.proofs.RenderedLemmas.{OnlyRenders, shows-rendered, sized-stays, refused-by-backend}
-use Rattle.rtui_terminal.proofs.StartLemmas.{starts-in-row}
+use Rattle.rtui_terminal.proofs.StartLemmas.{starts-in-row, starts-in-step, starts-blank}
+use Rattle.rtui_terminal.proofs.{InsertionLemmas.emptied-moved, KeepLemmas.below-kept}
 
 -- a list of one row
 only_row : (rows : List (List Look)) → length rows ≡ 1 → rows ≡ slice_index_or rows 0 [] ∷ []
@@ -78,16 +78,11 @@ row_written width y cursor s old new over drawn room =
     omega (arith, count, le, cells, wide, same, is)
 
 module _ {B : Type 0} (screen : B → Screen) where
-  -- its viewport is one row of the screen's width
-  pub over-row : (t : TerminalData B) → IsOverRow screen t → t.viewport_area ≡ row_area (screen t.backend).width t.viewport_area.y
-  over-row t is =
-      let lies = is.rest.lies in
-      let high : t.viewport_area.height ≡ 1 = omega (arith, lies.height, is.some) in
-      ap₂ (λ x w. record t.viewport_area { x = x; width = w }) lies.x lies.width ∙ ap (λ h. record { x = 0; y = t.viewport_area.y; width = (screen t.backend).width; height = h }) high
-
   -- rows can be inserted above it
   pub over-takes : (s : TerminalData B) → IsOverRow screen s → TakesRows screen s
-  over-takes s is = rests-takes screen (Inline 1) (size_of (screen s.backend)) s tt (omega arith) is.some is.rest
+  over-takes s is =
+      let high : s.viewport_area.height ≡ 1 = ap (λ (r : Rect). r.height) is.row in
+      record { inline = is.kind; known = is.known; row = omega arith; width = ap (λ (r : Rect). r.width) is.row }
 
   -- the row of a text was inserted
   pub inserts-row : (text : List ℕ) (s t : TerminalData B) (filled : Result (Unit {0}) AllocError → BufferData → Type 0) → IsOverRow screen s
@@ -95,9 +90,9 @@ module _ {B : Type 0} (screen : B → Screen) where
       → InsertOk screen (inserted_area s 1) filled s t → InsertsRow screen text s t
   inserts-row text s t filled is only ins =
       let may = over-takes s is in
-      let high : s.viewport_area.height ≡ 1 = ap (λ (r : Rect). r.height) (over-row s is) in
+      let high : s.viewport_area.height ≡ 1 = ap (λ (r : Rect). r.height) is.row in
       let known : (screen s.backend).height ≡ s.last_known_area.height = ap (λ (r : Rect). r.height) may.known in
-      let bottom = is.rest.in_step.on_screen.bottom in
+      let bottom = is.in_step.on_screen.bottom in
       let sheet = ins.inserted in
       let inserts : Inserts screen sheet s t = ins.inserts (omega arith) in
       let over : sheet.area ≡ row_area (screen s.backend).width 0 = ins.over ∙ ap (λ w. row_area w 0) may.width in
@@ -106,15 +101,26 @@ module _ {B : Type 0} (screen : B → Screen) where
       let renders = subst (λ (r : Rect). RendersRow text r fills.before sheet) (fills.empty.area ∙ sym ins.over) fills.renders in
       let painted : IsPaintedText text sheet = row-painted text 0 (screen s.backend).width fills.before sheet over empty renders in
       let settled : IsSettledBuffer sheet = row-settled text sheet painted in
-      let row : HasRow (screen s.backend).width text (rows_over screen s) (rows_over screen t) = row-appended (screen s.backend).width text sheet (rows_over screen s) (rows_over screen t) over painted (inserts.above may is.rest.in_step settled) in
+      let row : HasRow (screen s.backend).width text (rows_over screen s) (rows_over screen t) = row-appended (screen s.backend).width text sheet (rows_over screen s) (rows_over screen t) over painted (inserts.above may is.in_step settled) in
       let height : sheet.area.height ≡ 1 = ap (λ (r : Rect). r.height) over in
+      let kept = inserts.rest in
+      let here : t.viewport_area ≡ row_area (screen t.backend).width t.viewport_area.y =
+      ap (λ (x : TerminalData B). x.viewport_area) kept ∙ ap (λ (r : Rect). record r { y = t.viewport_area.y }) is.row ∙ ap (λ w. row_area w t.viewport_area.y) (sym inserts.shape.width) in
       record {
-        over = record { rest = rests-inserted screen (Inline 1) sheet s t tt is.rest may settled inserts; some = (let h = inserts.shape.height in let is_some = is.some in omega arith) };
+        over = record {
+          kind = subst IsInline (sym (ap (λ (x : TerminalData B). x.viewport) kept)) is.kind;
+          known = ap₂ (λ w h. record { x = 0; y = 0; width = w; height = h }) inserts.shape.width inserts.shape.height ∙ is.known
+              ∙ sym (ap (λ (x : TerminalData B). x.last_known_area) kept);
+          row = here;
+          in_step = inserts.in_step may is.in_step settled;
+          current = emptied-moved screen sheet s t inserts is.current;
+        };
         size = ap₂ (λ w h. record { width = w; height = h }) inserts.shape.width inserts.shape.height;
         top = (let top = inserts.top in omega arith);
         row = row.row;
         painted = row.painted;
         above = row.above;
+        below = inserts.below may is.in_step settled;
       }
 
   -- by the answer of the insertion
@@ -128,23 +134,30 @@ module _ {B : Type 0} (screen : B → Screen) where
   pub draws-row : {X : Type 0} (text : List ℕ) (s t : TerminalData B) (ran : TerminalData B → Result (Unit {0}) X → Option Position → BufferData → Type 0) → IsOverRow screen s → OnlyRenders ran (RendersRow text) → DrawOk screen ran s t
       → DrawsRow screen text s t
   draws-row text s t ran is only drawn =
-      let sized : IsSized screen s = is.rest.sized in
-      let shows = shows-rendered screen ran (RendersRow text) s t (inl is.rest.in_step) is.rest.current only drawn in
+      let sized : IsSized screen s = inr is.known in
+      let shows = shows-rendered screen ran (RendersRow text) s t (inl is.in_step) is.current only drawn in
       let applied = drawn.draws.applied in
       let stays = sized-stays screen s drawn.draws.sized sized drawn.draws.autoresized in
       let kept : t.viewport_area ≡ s.viewport_area = ap (λ (x : TerminalData B). x.viewport_area) applied.rest ∙ ap (λ (x : TerminalData B). x.viewport_area) stays.rest in
-      let over : t.previous.area ≡ row_area (screen s.backend).width s.viewport_area.y = shows.area ∙ kept ∙ over-row s is in
+      let over : t.previous.area ≡ row_area (screen s.backend).width s.viewport_area.y = shows.area ∙ kept ∙ is.row in
       let painted : IsPaintedText text t.previous = row-painted text s.viewport_area.y (screen s.backend).width shows.rendered.blank t.previous over shows.rendered.emptied shows.rendered.rendered in
       let settled : IsSettledBuffer t.previous = row-settled text t.previous painted in
-      let keeps = drawn.draws.keeps is.rest.in_step sized settled in
-      let step = drawn.draws.in_step (inl is.rest.in_step) settled in
+      let keeps = drawn.draws.keeps is.in_step sized settled in
+      let step = drawn.draws.in_step (inl is.in_step) settled in
       record {
-        over = record { rest = rests-drawn screen (Inline 1) s t is.rest settled drawn.draws; some = (let h = keeps.size.height in let is_some = is.some in omega arith) };
+        over = record {
+          kind = subst IsInline (sym (ap (λ (x : TerminalData B). x.viewport) applied.rest ∙ ap (λ (x : TerminalData B). x.viewport) stays.rest)) is.kind;
+          known = ap₂ (λ w h. record { x = 0; y = 0; width = w; height = h }) keeps.size.width keeps.size.height ∙ is.known
+              ∙ sym (ap (λ (x : TerminalData B). x.last_known_area) applied.rest ∙ ap (λ (x : TerminalData B). x.last_known_area) stays.rest);
+          row = kept ∙ is.row ∙ ap₂ row_area (sym keeps.size.width) (sym (ap (λ (r : Rect). r.y) kept));
+          in_step = step;
+          current = subst (λ (r : Rect). IsEmptied r t.current) (sym (ap (λ (x : TerminalData B). x.viewport_area) applied.rest)) applied.emptied;
+        };
         shown = record { sheet = t.previous; over = shows.area; painted = painted; shown = step.shown };
         keeps = keeps;
         most = subst (λ (x : Screen). WritesAtMost (screen s.backend).width x (screen t.backend)) stays.screen_stays
             (row_written (screen s.backend).width s.viewport_area.y drawn.draws.cursor (record drawn.draws.sized { current = t.previous }) (screen drawn.draws.sized.backend) (screen t.backend)
-            (applied.areas.previous ∙ ap (λ (x : TerminalData B). x.viewport_area) stays.rest ∙ over-row s is) applied.drawn);
+            (applied.areas.previous ∙ ap (λ (x : TerminalData B). x.viewport_area) stays.rest ∙ is.row) applied.drawn);
       }
 
   -- by the answer of a draw that takes no memory
@@ -166,29 +179,44 @@ module _ {B : Type 0} (screen : B → Screen) where
         row = inserts.row;
         painted = inserts.painted;
         above = keeps.above ∙ inserts.above;
+        below = λ blank. below-kept screen s t keeps (inserts.below blank);
       }
 
   -- the terminal of a start over one row knows its screen's size
+  starts-known : (b : B) (t : TerminalData B) → Starts screen (Inline 1) b t → screen_area (screen t.backend) ≡ t.last_known_area
+  starts-known b t starts =
+      ap₂ (λ w h. record { x = 0; y = 0; width = w; height = h }) starts.scrolls.width starts.scrolls.height ∙ sym starts.last_known_area
+
   pub starts-sized : (b : B) (t : TerminalData B) → Starts screen (Inline 1) b t → IsSized screen t
-  starts-sized b t starts = inr (ap₂ (λ w h. record { x = 0; y = 0; width = w; height = h }) starts.scrolls.width starts.scrolls.height ∙ sym starts.last_known_area)
+  starts-sized b t starts = inr (starts-known b t starts)
 
   pub starts-areas : (b : B) (t : TerminalData B) → Starts screen (Inline 1) b t → HasAreas t
   starts-areas b t starts = record { current = starts.current.area; previous = starts.previous.area }
 
   -- a start on a blank screen
   pub starts-over-row : (b : B) (t : TerminalData B) → IsBlank (screen b) → 0 < (screen b).height → Starts screen (Inline 1) b t → IsOverRow screen t
-  starts-over-row b t blank some starts = record { rest = rests-started screen (Inline 1) b t (omega arith) blank starts; some = (let h = starts.scrolls.height in omega arith) }
+  starts-over-row b t blank some starts =
+      let row = starts-in-row screen b t some starts in
+      record {
+        kind = subst IsInline (sym starts.kind) tt;
+        known = starts-known b t starts;
+        row = row.viewport_area ∙ ap₂ row_area (sym row.size.width) (sym (ap (λ (r : Rect). r.y) row.viewport_area));
+        in_step = starts-in-step screen (Inline 1) b t starts (starts.on_screen (λ fixed. fixed)) blank;
+        current = starts.current;
+      }
 
   -- a start on a blank screen, and then a text drawn
   pub starts-and-draws : (text : List ℕ) (b : B) (s t : TerminalData B) → IsBlank (screen b) → 0 < (screen b).height → Starts screen (Inline 1) b s → DrawsRow screen text s t → StartsOverRow screen b t
   starts-and-draws text b s t blank some starts drawn =
       let row = starts-in-row screen b s some starts in
       let keeps = drawn.keeps in
+      let still = starts-blank screen (Inline 1) b s starts blank in
       record {
         over = drawn.over;
         size = ap₂ (λ w h. record { width = w; height = h }) (keeps.size.width ∙ row.size.width) (keeps.size.height ∙ row.size.height);
         top = ap (λ (r : Rect). r.y) (keeps.viewport_area ∙ row.viewport_area);
         above = keeps.above ∙ row.above;
+        below = below-kept screen s t keeps (record { at = λ a c a_in c_in low. still.at a c a_in c_in });
       }
 
 -- a start whose first frame was refused, by the backend

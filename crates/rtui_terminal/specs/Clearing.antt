@@ -4,13 +4,18 @@ use Rattle.rtui_geometry.specs.{declared.rect.Rect.Rect, Rect.EdgesFit}
 use Rattle.rtui_buffer.specs.BufferData.{IsEmptied}
 use Rattle.rtui_backend.specs.Screen.{IsOnScreen, Screen, cursor_of, with_cursor}
 use Rattle.rtui_backend.specs.{Clear.is_cleared, declared.clear_type.ClearType.TheVariants.AfterCursor}
-use Rattle.rtui_viewport.specs.{Viewports.IsFixed, Viewports.IsInline, Areas.KeepsAllButLooks, Areas.Empties, Areas.is_within}
+use Rattle.rtui_viewport.specs.{declared.viewport.Viewport.Viewport, Viewports.IsFixed, Viewports.IsInline, Areas.KeepsAllButLooks, Areas.Empties, Areas.is_within}
 use Rattle.rtui_viewport.specs.Clearing.{ClearsArea, WritesBlanks}
 use Rattle.rtui_terminal.specs.{TerminalData.TerminalData, InStep.IsInStep, InStep.KeepsAroundViewport, InStep.rows_over}
 
 -- the columns from the corner of a rectangle on, row by row: the corner is the nearest position of the screen
 abbrev pub is_from_corner : Rect → Screen → ℕ → ℕ → Bool
 is_from_corner r s a b = is_cleared AfterCursor (with_cursor r.x r.y s).cursor_x (with_cursor r.x r.y s).cursor_y a b
+
+-- a viewport that has its place was emptied, and a fixed one past the edge as far as the screen has it
+pub record EmptiesViewport (v : Viewport) (r : Rect) (old new : Screen) : Type 0 where
+  pub clears : ClearsArea v r old new
+  pub cut : IsFixed v → r.y < old.height → Empties (is_within r) old new
 
 module _ {B : Type 0} (screen : B → Screen) where
   -- a clear: the previous buffer is empty, and so is the viewport, whose edges fit, an inline one from its corner on, a fixed one as
@@ -33,4 +38,5 @@ module _ {B : Type 0} (screen : B → Screen) where
   -- a backend failed in a clear; if only the cursor wasn't set back, the viewport was emptied, and so is the previous buffer
   pub record FailsClearing (s t : TerminalData B) : Type 0 where
     pub rest : t ≡ record s { backend = t.backend; previous = t.previous }
-    pub previous : (t.previous ≡ s.previous) ⊎ ((cleared : B) × ClearsArea s.viewport s.viewport_area (screen s.backend) (screen cleared) × IsEmptied s.previous.area t.previous)
+    pub previous : (t.previous ≡ s.previous) ⊎ (IsEmptied s.previous.area t.previous
+        × ((emptied : B) × EmptiesViewport s.viewport s.viewport_area (screen s.backend) (screen emptied)))

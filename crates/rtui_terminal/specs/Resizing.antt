@@ -1,9 +1,10 @@
 -- What a resize does, and when a terminal resizes by itself.
-use Rattle.std.specs.Prelude.{◌≡◌, ◌⊎◌, ◌-◌, ◌||◌, nat_lt, ◌++◌, length, take}
+use Rattle.std.specs.Prelude.{◌≡◌, ◌⊎◌, ◌-◌, ◌<◌, ◌||◌, Bool, nat_lt, ◌++◌, length, take}
 use Rattle.rtui_geometry.specs.declared.rect.Rect.{Rect}
 use Rattle.rtui_buffer.specs.BufferData.{IsEmptied, IsSameBuffer, BufferData, area_size, empty_cells}
 use Rattle.rtui_backend.specs.Screen.{IsOnScreen, Screen, Scrolls, cursor_of, screen_area}
-use Rattle.rtui_viewport.specs.{Viewports.IsFixed, Areas.Empties, Areas.KeepsAllButLooks, Clearing.HasPlace, Clearing.WritesBlanks, Clearing.is_emptied}
+use Rattle.rtui_viewport.specs.{declared.viewport.Viewport.Viewport, Viewports.IsFixed, Areas.Empties, Areas.KeepsAllButLooks}
+use Rattle.rtui_viewport.specs.{Areas.is_within, Clearing.HasPlace, Clearing.WritesBlanks, Clearing.is_emptied}
 use Rattle.rtui_viewport.specs.Placing.{area_in, raised, rows_scrolled, unplaced_area}
 use Rattle.rtui_terminal.specs.TerminalData.{HasAreas, HaveRoom, TerminalData, cursor_offset}
 use Rattle.rtui_terminal.specs.{InStep.IsInStep, InStep.IsReady, InStep.IsSized, declared.terminal.error.TerminalError.TerminalError, Cursor.Stays}
@@ -24,10 +25,10 @@ pub record KeepsBuffers {B : Type 0} (s t : TerminalData B) : Type 0 where
   pub current : IsSameBuffer s.current t.current
   pub previous : IsSameBuffer s.previous t.previous
 
--- both buffers were cut or filled up for the viewport's new area; the previous one may be empty already
-pub record ResizesBuffers {B : Type 0} (s t : TerminalData B) : Type 0 where
-  pub current : IsResized t.viewport_area s.current t.current
-  pub previous : IsResized t.viewport_area s.previous t.previous ⊎ IsEmptied t.viewport_area t.previous
+-- a viewport was emptied at a new place, a fixed one as far as the screen has it; all columns were, if the viewport became narrower
+pub record EmptiesPlaced (v : Viewport) (r : Rect) (is_narrower : Bool) (old new : Screen) : Type 0 where
+  pub empties : HasPlace v r old → Empties (λ a b. is_emptied v r old.height a b || is_narrower) old new
+  pub cut : IsFixed v → r.y < old.height → Empties (λ a b. is_within r a b || is_narrower) old new
 
 module _ {B : Type 0} (screen : B → Screen) where
   -- a resize to an area: the viewport was placed on it, which may scroll, and cleared, or the whole screen if it became narrower; the
@@ -42,15 +43,31 @@ module _ {B : Type 0} (screen : B → Screen) where
     pub frame : KeepsAllButLooks scrolled (screen t.backend)
     pub empties : HasPlace s.viewport t.viewport_area scrolled
         → Empties (λ a b. is_emptied s.viewport t.viewport_area scrolled.height a b || nat_lt area.width s.viewport_area.width) scrolled (screen t.backend)
+    pub cut : IsFixed s.viewport → t.viewport_area.y < scrolled.height
+        → Empties (λ a b. is_within t.viewport_area a b || nat_lt area.width s.viewport_area.width) scrolled (screen t.backend)
     pub cursor : (IsFixed s.viewport → ⊥) → cursor_of (screen t.backend) ≡ cursor_of (screen s.backend)
     pub written : WritesBlanks s.viewport t.viewport_area scrolled (screen t.backend)
     pub on_screen : area ≡ screen_area (screen s.backend) → IsOnScreen t.viewport_area (screen t.backend)
     pub in_step : IsOnScreen t.viewport_area (screen t.backend) → IsInStep screen t
 
+  -- the screen scrolled, the viewport was emptied at its new place, and the previous buffer is empty
+  pub record EmptiesPrevious (area : Rect) (s t : TerminalData B) : Type 0 where
+    pub previous : IsEmptied t.viewport_area t.previous
+    pub scrolled : Screen
+    pub scrolls : Scrolls (screen s.backend) (rows_scrolled s.viewport (cursor_offset s) (screen s.backend)) scrolled
+    pub emptied : B
+    pub empties : EmptiesPlaced s.viewport t.viewport_area (nat_lt area.width s.viewport_area.width) scrolled (screen emptied)
+
+  -- both buffers were cut or filled up for the viewport's new area, or the previous one is empty, and so was the viewport
+  pub record ResizesBuffers (area : Rect) (s t : TerminalData B) : Type 0 where
+    pub current : IsResized t.viewport_area s.current t.current
+    pub previous : IsResized t.viewport_area s.previous t.previous ⊎ EmptiesPrevious area s t
+
   -- a backend failed in a resize, before the viewport and both buffers had got their new area, or after that; the last known area stays
   pub record FailsResizing (area : Rect) (s t : TerminalData B) : Type 0 where
     pub rest : t ≡ record s { backend = t.backend; current = t.current; previous = t.previous; viewport_area = t.viewport_area }
-    pub left : KeepsBuffers s t ⊎ (ResizesBuffers s t × (t.viewport_area ≡ raised s.viewport_area.width (area_in s.viewport area (cursor_offset s) (screen s.backend).cursor_y)))
+    pub left : KeepsBuffers s t ⊎ (ResizesBuffers area s t
+        × (t.viewport_area ≡ raised s.viewport_area.width (area_in s.viewport area (cursor_offset s) (screen s.backend).cursor_y)))
     pub areas : HasAreas s → HasAreas t
 
   -- a refused resize: for want of memory, if a buffer had no room, and then nothing changed but the room of the buffers

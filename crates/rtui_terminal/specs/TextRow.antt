@@ -1,14 +1,15 @@
 -- A terminal over one row of text, and rows of text above it.
-use Rattle.std.specs.Prelude.{◌≡◌, ℕ, ◌+◌, ◌-◌, ◌<◌, min, List, [], ◌∷◌, ◌++◌}
+use Rattle.std.specs.Prelude.{◌≡◌, ℕ, ◌+◌, ◌-◌, min, List, [], ◌∷◌, ◌++◌}
 use Rattle.rtui_geometry.specs.declared.rect.Rect.{Rect}
 use Rattle.rtui_buffer.specs.{BufferData.BufferData, BufferData.IsEmptied, Shown.ShowsBuffer}
 use Rattle.rtui_cell.specs.{Look.Look, Grid.Grid}
 use Rattle.rtui_diff.specs.Shows.{RowAgrees}
 use Rattle.rtui_widgets.specs.Rendering.{HasFirstRow, RendersStr}
-use Rattle.rtui_backend.specs.Screen.{Screen, size_of, rows_above}
-use Rattle.rtui_viewport.specs.declared.viewport.Viewport.TheVariants.{Inline}
+use Rattle.rtui_backend.specs.Screen.{Screen, size_of, screen_area, rows_above}
+use Rattle.rtui_viewport.specs.{Viewports.IsInline, Areas.IsBlankBelow}
 use Rattle.rtui_insert.specs.Rows.{WritesAtMost}
-use Rattle.rtui_terminal.specs.{TerminalData.TerminalData, AtRest.IsAtRest, InStep.KeepsAroundViewport, InStep.rows_over, Rendered.IsRendered}
+use Rattle.rtui_terminal.specs.{TerminalData.TerminalData, InStep.IsInStep, InStep.KeepsAroundViewport, InStep.rows_over}
+use Rattle.rtui_terminal.specs.Rendered.{IsRendered}
 
 -- the area of a row of this width
 abbrev pub row_area : ℕ → ℕ → Rect
@@ -43,10 +44,13 @@ pub record FillsRow (text : List ℕ) (area : Rect) (sheet : BufferData) : Type 
   pub renders : RendersRow text before.area before sheet
 
 module _ {B : Type 0} (screen : B → Screen) where
-  -- the terminal is at rest over one row of a screen that has some
+  -- the terminal is in step over one row as wide as the screen, whose size it knows, and its buffer to paint on is empty
   pub record IsOverRow (t : TerminalData B) : Type 0 where
-    pub rest : IsAtRest screen (Inline 1) t
-    pub some : 0 < (screen t.backend).height
+    pub kind : IsInline t.viewport
+    pub known : screen_area (screen t.backend) ≡ t.last_known_area
+    pub row : t.viewport_area ≡ row_area (screen t.backend).width t.viewport_area.y
+    pub in_step : IsInStep screen t
+    pub current : IsEmptied t.viewport_area t.current
 
   -- the viewport shows a text
   abbrev pub ShowsRow : List ℕ → TerminalData B → Type 0
@@ -59,8 +63,8 @@ module _ {B : Type 0} (screen : B → Screen) where
     pub keeps : KeepsAroundViewport screen s t
     pub most : WritesAtMost (screen s.backend).width (screen s.backend) (screen t.backend)
 
-  -- a text was inserted: the terminal is still over one row, which went down by one if there was room, and exactly one row, the text's, came to
-  -- those above
+  -- a text was inserted: the terminal is still over one row, which went down by one if there was room, exactly one row, the
+  -- text's, came to those above, and if the rows below were blank, they still are
   pub record InsertsRow (text : List ℕ) (s t : TerminalData B) : Type 0 where
     pub over : IsOverRow t
     pub size : size_of (screen t.backend) ≡ size_of (screen s.backend)
@@ -68,10 +72,13 @@ module _ {B : Type 0} (screen : B → Screen) where
     pub row : List Look
     pub painted : IsRowOf (screen s.backend).width text row
     pub above : rows_over screen t ≡ rows_over screen s ++ row ∷ []
+    pub below : IsBlankBelow s.viewport_area (screen s.backend) → IsBlankBelow t.viewport_area (screen t.backend)
 
-  -- a start on a blank screen: the terminal is over one row, the cursor's, and the rows above are those that were there
+  -- a start on a blank screen: the terminal is over one row, the cursor's, the rows above are those that were there, and the
+  -- rows below are blank
   pub record StartsOverRow (b : B) (t : TerminalData B) : Type 0 where
     pub over : IsOverRow t
     pub size : size_of (screen t.backend) ≡ size_of (screen b)
     pub top : t.viewport_area.y ≡ (screen b).cursor_y
     pub above : rows_over screen t ≡ rows_above (screen b) (screen b).cursor_y
+    pub below : IsBlankBelow t.viewport_area (screen t.backend)

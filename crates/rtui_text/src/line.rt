@@ -68,7 +68,8 @@ impl<'a> Line<'a> {
         Line::from(Spans::new(alloc))
     }
 
-    /// A plain span for each line of a text, none for the empty text.
+    /// A plain span for each line of a text, none for the empty text. The line breaks themselves
+    /// vanish: the lines stand one after the other.
     ///
     /// # Errors
     ///
@@ -321,9 +322,10 @@ impl<'a> Line<'a> {
     ///
     /// # Errors
     ///
-    /// `AllocError` if memory is refused; the line is gone then.
+    /// `AllocError` if memory is refused; the line is gone then. A line without spans takes none.
     pub fn try_into_string(self) -> Result<String, AllocError>
-        ensures { IfOk result (λ s. string_bytes s ≡ line_content self.entry.spans) }
+        ensures content { IfOk result (λ s. string_bytes s ≡ line_content self.entry.spans) }
+        ensures succeeds { self.entry.spans ≡ [] → IsOk result }
     {
         let mut content = String::new(self.spans.allocator());
         for span in self.spans.as_slice() {

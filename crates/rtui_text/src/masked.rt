@@ -1,4 +1,4 @@
-ghost use Rattle.std.specs.Prelude.{◌≡◌, ◌++◌, [], Some, IfOk, nat_eq};
+ghost use Rattle.std.specs.Prelude.{◌≡◌, ◌++◌, [], Some, IfOk, IsOk, nat_eq};
 ghost use Rattle.std.specs.Cow.{cow_str_bytes};
 ghost use Rattle.std.specs.Hash as fed;
 ghost use Rattle.std.specs.Hash.{on_Alike, and-Alike};
@@ -71,9 +71,10 @@ impl<'a> Masked<'a> {
     ///
     /// # Errors
     ///
-    /// `AllocError` if memory is refused.
+    /// `AllocError` if memory is refused. An empty text takes none.
     pub fn value(&self, alloc: Global) -> Result<CowStr<'a>, AllocError>
-        ensures { IfOk result (λ value. cow_str_bytes value ≡ mask_value self.now) }
+        ensures value { IfOk result (λ value. cow_str_bytes value ≡ mask_value self.now) }
+        ensures succeeds { self.now.content ≡ [] → IsOk result }
     {
         Ok(CowStr::Owned(self.shown(alloc)?))
     }
@@ -109,7 +110,8 @@ impl<'a> Masked<'a> {
 
     // What is shown.
     fn shown(&self, alloc: Global) -> Result<String, AllocError>
-        ensures { IfOk result (λ text. string_bytes text ≡ mask_value self.now) }
+        ensures value { IfOk result (λ text. string_bytes text ≡ mask_value self.now) }
+        ensures succeeds { self.now.content ≡ [] → IsOk result }
     {
         let mut shown = String::new(alloc);
         for _c in self.inner.as_str().chars() {

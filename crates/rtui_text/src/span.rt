@@ -131,7 +131,7 @@ impl<'a> Span<'a> {
         Ok(Line::from_span(alloc, self)?.left_aligned())
     }
 
-    /// The previous name of `into_left_aligned_line`.
+    /// The old name of `into_left_aligned_line`.
     ///
     /// # Errors
     ///
@@ -155,7 +155,7 @@ impl<'a> Span<'a> {
         Ok(Line::from_span(alloc, self)?.centered())
     }
 
-    /// The previous name of `into_centered_line`.
+    /// The old name of `into_centered_line`.
     ///
     /// # Errors
     ///
@@ -179,7 +179,7 @@ impl<'a> Span<'a> {
         Ok(Line::from_span(alloc, self)?.right_aligned())
     }
 
-    /// The previous name of `into_right_aligned_line`.
+    /// The old name of `into_right_aligned_line`.
     ///
     /// # Errors
     ///

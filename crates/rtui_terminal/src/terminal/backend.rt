@@ -36,6 +36,14 @@ impl<B: Backend> Terminal<B> {
         self.viewport_area
     }
 
+    /// The area of the screen when the terminal last asked for it, in columns and rows: a draw on
+    /// a screen of another size resizes first. A fixed viewport's own area stays in its place.
+    pub fn last_known_area(&self) -> Rect
+        ensures { result ≡ self.now.last_known_area }
+    {
+        self.last_known_area
+    }
+
     /// The size of the backend's screen, in columns and rows.
     ///
     /// # Errors

@@ -55,7 +55,7 @@ impl<B: Backend> Terminal<B> {
         self.hidden_cursor
     }
 
-    /// The previous name of `get_cursor_position`: the column and the row.
+    /// The old name of `get_cursor_position`: the column and the row.
     ///
     /// # Errors
     ///
@@ -74,7 +74,7 @@ impl<B: Backend> Terminal<B> {
         Ok((position.x, position.y))
     }
 
-    /// The previous name of `set_cursor_position`.
+    /// The old name of `set_cursor_position`.
     ///
     /// # Errors
     ///

@@ -16,7 +16,7 @@ use std::alloc::AllocError;
 /// let area = frame.area();
 /// frame.buffer_mut().set_style(area, Style::new().bg(Color::Blue));
 /// frame.render_widget("Name: ", area)?;
-/// frame.set_cursor_position(Position::new(area.x + 6, area.y));
+/// frame.set_cursor_position(Position::new(area.x.saturating_add(6), area.y));
 /// ```
 #[derive(Debug, PartialEq, Eq, Hash, Drop)]
 pub struct Frame<'a> {
@@ -37,7 +37,7 @@ impl Frame<'_> {
         self.viewport_area
     }
 
-    /// The previous name of `area`.
+    /// The old name of `area`.
     pub fn size(&self) -> Rect
         ensures { result ≡ self.now.viewport_area }
     {
@@ -51,7 +51,7 @@ impl Frame<'_> {
         self.cursor_position = Some(position);
     }
 
-    /// The previous name of `set_cursor_position`.
+    /// The old name of `set_cursor_position`.
     pub fn set_cursor(&mut self, x: u16, y: u16)
         ensures { self.new ≡ record self.old { cursor_position = Some (record { x = x; y = y }) } }
     {
@@ -95,6 +95,12 @@ impl Frame<'_> {
     }
 
     /// Renders a widget over an area of the frame's buffer, from its state on.
+    ///
+    /// ```
+    /// let mut state = ListState::default();
+    /// state.select(Some(2));
+    /// frame.render_stateful_widget(list, area, &mut state)?;
+    /// ```
     ///
     /// # Conditions
     ///

@@ -44,6 +44,12 @@ impl<B: Backend + Drop> Terminal<B> {
     /// is on the screen and blank. If an inline viewport doesn't fit below the cursor, the screen
     /// scrolls.
     ///
+    /// ```
+    /// // Three rows at the cursor, below what the screen shows already.
+    /// let options = TerminalOptions { viewport: Viewport::Inline(3) };
+    /// let mut terminal = Terminal::with_options(alloc, backend, options)?;
+    /// ```
+    ///
     /// # Conditions
     ///
     /// The edges of a fixed viewport are at most 65535.

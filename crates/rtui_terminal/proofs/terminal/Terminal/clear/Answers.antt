@@ -2,6 +2,7 @@ use Rattle.std.proofs.Common.{◌≡◌, Option, Some, Ok, refl, inr, rules}
 use Rattle.rtui_geometry.specs.declared.position.Position.{Position}
 use Rattle.rtui_viewport.specs.{Areas.KeepsAllButLooks, Clearing.ClearsArea}
 use Rattle.rtui_viewport.proofs.ClearLemmas.{blank_over, frame_restored, clears_restored, empties_restored, written_restored}
+use Rattle.rtui_terminal.specs.Clearing.{EmptiesViewport}
 use Rattle.rtui_terminal.proofs.StepLemmas.{blank_in_step, on_same, has_place, cursor_kept}
 use Rattle.rtui_terminal.proofs.{KeepLemmas.above_cleared, KeepLemmas.outside_cleared, KeepLemmas.rest_of, MapErrLemmas.passed_ok, MapErrLemmas.holds_anyway}
 use Rattle.rtui_terminal.proofs.terminal.Terminal.clear.Goals as goal
@@ -40,5 +41,7 @@ pub returns-clause-err : goal.returns-clause-err
 returns-clause-err g c =
     let asked : c.get_cursor_position.result ≡ Ok c.in_ok-cursor.cursor = search rules in
     let cleared : c.clear_area.result ≡ Ok tt = search rules in
-    let clear = rw (cleared, (rw asked at c.get_cursor_position.ensures.stays)) at c.clear_area.ensures.cleared in
-    holds_anyway c.map_err-3.result (rw (← c.self.view_is) (record { rest = refl; previous = inr (c.clear_area.new.backend, clear, c.reset.ensures.emptied) }))
+    let clear = rw (cleared, (rw asked at c.get_cursor_position.ensures.stays)) at c.clear_area.ensures in
+    let emptied : EmptiesViewport c.self.inside.viewport c.self.inside.viewport_area (g.B.Backend.screen c.self.inside.backend) (g.B.Backend.screen c.clear_area.new.backend) =
+    record { clears = clear.cleared; cut = clear.cut } in
+    holds_anyway c.map_err-3.result (rw (← c.self.view_is) (record { rest = refl; previous = inr (c.reset.ensures.emptied, (c.clear_area.new.backend, emptied)) }))

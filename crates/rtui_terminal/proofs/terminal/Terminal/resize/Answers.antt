@@ -1,9 +1,9 @@
 use Rattle.std.proofs.Common.{◌≡◌, Ok, rules, refl, sym, ap, ◌∙◌}
 use Rattle.rtui_buffer.specs.BufferData.{IsEmptied}
 use Rattle.rtui_viewport.specs.Areas.{KeepsAllButLooks}
-use Rattle.rtui_viewport.proofs.ClearLemmas.{blank_over, frame_more, frame_restored, clears_restored, written_restored}
+use Rattle.rtui_viewport.proofs.ClearLemmas.{blank_over, frame_more, frame_restored, clears_restored, empties_restored, written_restored}
 use Rattle.rtui_terminal.specs.Resizing.{IsResized}
-use Rattle.rtui_terminal.proofs.StepLemmas.{blank_in_step, on_same, has_place, emptied_frame, emptied_after, resized_same, cursor_back}
+use Rattle.rtui_terminal.proofs.StepLemmas.{blank_in_step, on_same, has_place, emptied_frame, emptied_after, cut_after, resized_same, cursor_back}
 use Rattle.rtui_terminal.proofs.terminal.Terminal.resize.Goals as goal
 
 pub returns-clause-outcome : goal.returns-clause-outcome
@@ -50,6 +50,8 @@ returns-clause-outcome g c =
       scrolls = places.scrolls;
       frame = frame_more {r = places.scrolled} emptied frame;
       empties = λ place. emptied_after s.viewport next _ {s = places.scrolled} {m = screen c.place_viewport.new.backend} {t = screen c.restore_cursor.new.backend} places.empties clears place;
+      cut = cut_after s.viewport next _ {s = places.scrolled} {m = screen c.place_viewport.new.backend} {t = screen c.restore_cursor.new.backend} places.empties
+          (λ fixed top. empties_restored c.in_ok-placed.placed.cursor restored ((rw (viewport, between) at cleared.cut) fixed top));
       cursor = cursor_back s.viewport (screen s.backend) (screen c.place_viewport.new.backend) (screen c.clear_area.new.backend) _ _ (rw (viewport_2, former) at found.cursor) (rw (viewport_2, former) at found.on_grid)
           (middle.size.width ∙ emptied.size.width ∙ places.scrolls.width) (middle.size.height ∙ emptied.size.height ∙ places.scrolls.height) places.cursor (rw (viewport, between) at cleared.cursor) restored;
       written = written_restored s.viewport next c.in_ok-placed.placed.cursor places.scrolled (screen c.place_viewport.new.backend) _ _ places.written emptied.size.width restored (rw (viewport, between) at cleared.written);
