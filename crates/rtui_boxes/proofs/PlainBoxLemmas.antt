@@ -31,7 +31,7 @@ plain-stroked b (s ∷ ss) p c all is =
     (plain-if (strikes s p) (drawn b.merge_borders b.border_style s.symbol c) c (plain-drawn b.merge_borders b.border_style s.symbol c is all.0) is)
 
 narrow-strokes : (b : Block) (r : Rect) → IsPlainBox b → AreNarrow (strokes b r)
-narrow-strokes b r is = let all = is.symbols in (all 4 (lit< tt), (all 6 (lit< tt), (all 5 (lit< tt), (all 7 (lit< tt), (all 3 (lit< tt), (all 1 (lit< tt), (all 2 (lit< tt), (all 0 (lit< tt), tt))))))))
+narrow-strokes b r is = let all = is.symbols in (all 4 [] (lit< tt), (all 6 [] (lit< tt), (all 5 [] (lit< tt), (all 7 [] (lit< tt), (all 3 [] (lit< tt), (all 1 [] (lit< tt), (all 2 [] (lit< tt), (all 0 [] (lit< tt), tt))))))))
 
 plain-cell : (b : Block) (r : Rect) (p : Position) (c : Cell) → IsPlainBox b → IsPlain c → IsPlain (box_cell b r p c)
 plain-cell b r p c is plain =

@@ -24,7 +24,7 @@ short-under b (s ∷ ss) p c all short =
     )
 
 short-strokes : (b : Block) (r : Rect) → HasShortSymbols b → AreShortStrokes (strokes b r)
-short-strokes b r is = (is 4 (lit< tt), (is 6 (lit< tt), (is 5 (lit< tt), (is 7 (lit< tt), (is 3 (lit< tt), (is 1 (lit< tt), (is 2 (lit< tt), (is 0 (lit< tt), tt))))))))
+short-strokes b r is = (is 4 [] (lit< tt), (is 6 [] (lit< tt), (is 5 [] (lit< tt), (is 7 [] (lit< tt), (is 3 [] (lit< tt), (is 1 [] (lit< tt), (is 2 [] (lit< tt), (is 0 [] (lit< tt), tt))))))))
 
 -- a box of short symbols on cells with short ones
 pub short-box : (b : Block) (area : Rect) (s : BufferData) → b.titles.items ≡ [] → HasShortSymbols b → AreShortCells s → IsShortBlock b area s

@@ -1,5 +1,5 @@
 -- Shares of a number, and bars over a part of a buffer.
-use Rattle.std.proofs.Common.{lit<, ◌≡◌, ℕ, ◌+◌, ◌-◌, ◌*◌, ◌/◌, ◌<◌, ◌≤◌, ⊎_elim, Bool, true, false, if◌then◌else◌, nat_lt, List, min, Option, Some, None, refl, arith, Result, Ok, Err, OnOk, OnErr}
+use Rattle.std.proofs.Common.{lit<, sym, subst, ◌≡◌, ℕ, ◌+◌, ◌-◌, ◌*◌, ◌/◌, ◌<◌, ◌≤◌, ⊎_elim, Bool, true, false, if◌then◌else◌, nat_lt, List, min, Option, Some, None, refl, arith, Result, Ok, Err, OnOk, OnErr}
 use Rattle.std.proofs.Math.Nat.{div-lt_iff_lt-mul}
 use Rattle.std.specs.{declared.alloc.AllocError.AllocError, Borrow.Bor}
 use Rattle.ratatui_core.specs.Layout.{Rect, Position, IsInside, corner}
@@ -135,9 +135,9 @@ one-light false a b la lb = lb
 -- each mark of a bar of short symbols is short
 pub marks-light : (b : Scrollbar) (m : Marks) (k : ℕ) → m.bar ≡ b → HasShortMarks b → IsLightMark (mark_of m k)
 marks-light b m k e short =
-    let is : HasShortMarks m.bar = rw e short in
-    let track = light-if m.bar.track_symbol m.bar.track_style (is 1 (lit< tt)) in
-    one-light (nat_lt k m.track) _ _ (light-if m.bar.begin_symbol m.bar.begin_style (is 2 (lit< tt)))
+    let is : HasShortMarks m.bar = subst HasShortMarks (sym e) short in
+    let track = light-if m.bar.track_symbol m.bar.track_style (is 1 None (lit< tt)) in
+    one-light (nat_lt k m.track) _ _ (light-if m.bar.begin_symbol m.bar.begin_style (is 2 None (lit< tt)))
     (one-light (nat_lt k m.thumb) _ _ track
-    (one-light (nat_lt k m.after_thumb) _ _ (is 0 (lit< tt))
-    (one-light (nat_lt k m.after_track) _ _ track (light-if m.bar.end_symbol m.bar.end_style (is 3 (lit< tt))))))
+    (one-light (nat_lt k m.after_thumb) _ _ (is 0 None (lit< tt))
+    (one-light (nat_lt k m.after_track) _ _ track (light-if m.bar.end_symbol m.bar.end_style (is 3 None (lit< tt))))))

@@ -109,11 +109,11 @@ plain-choice false a b c pa pb = pb
 
 plain-mark : (m : Marks) (k : ℕ) (c : Cell) → HasNarrowMarks m.bar → IsPlain c → IsPlain (marked (mark_of m k) c)
 plain-mark m k c narrow is =
-    let track = plain-marked m.bar.track_symbol m.bar.track_style c (narrow 1 (lit< tt)) is in
-    plain-choice (nat_lt k m.track) _ _ c (plain-marked m.bar.begin_symbol m.bar.begin_style c (narrow 2 (lit< tt)) is)
+    let track = plain-marked m.bar.track_symbol m.bar.track_style c (narrow 1 None (lit< tt)) is in
+    plain-choice (nat_lt k m.track) _ _ c (plain-marked m.bar.begin_symbol m.bar.begin_style c (narrow 2 None (lit< tt)) is)
     (plain-choice (nat_lt k m.thumb) _ _ c track
-    (plain-choice (nat_lt k m.after_thumb) _ _ c (plain-marked (Some m.bar.thumb_symbol) m.bar.thumb_style c (narrow 0 (lit< tt)) is)
-    (plain-choice (nat_lt k m.after_track) _ _ c track (plain-marked m.bar.end_symbol m.bar.end_style c (narrow 3 (lit< tt)) is))))
+    (plain-choice (nat_lt k m.after_thumb) _ _ c (plain-marked (Some m.bar.thumb_symbol) m.bar.thumb_style c (narrow 0 None (lit< tt)) is)
+    (plain-choice (nat_lt k m.after_track) _ _ c track (plain-marked m.bar.end_symbol m.bar.end_style c (narrow 3 None (lit< tt)) is))))
 
 plain-bar : (b : Scrollbar) (s : ScrollbarState) (r : Rect) (old new : BufferData) → HasNarrowMarks b → IsPlainFrom 0 old → MarksBar b s r old new → IsPlainFrom 0 new
 plain-bar b s r old new narrow plain is =

@@ -16,7 +16,9 @@ whole-rounded n d some =
     ap (λ k. k / (2 * d)) e ∙ div-mul-add n (2 * d) d (omega arith)
 
 none-rounded : (n d : ℕ) → 0 < d → n ≡ 0 → rounded_quotient n d ≡ 0
-none-rounded n d some e = ap (λ k. (2 * k + d) / (2 * d)) e ∙ div-mul-add 0 (2 * d) d (omega arith)
+none-rounded n d some e =
+    let least : 2 * n + d ≡ 0 * (2 * d) + d = omega arith in
+    ap (λ k. k / (2 * d)) least ∙ div-mul-add 0 (2 * d) d (omega arith)
 
 -- all parts
 all-parts : (s : Share) → is_full s ≡ true → parts_of s ≡ whole_of s

@@ -9,3 +9,4 @@ pub mod RenderedLemmas
 pub mod StartLemmas
 pub mod TextRowLemmas
 pub mod RestLemmas
+pub mod AskedLemmas

@@ -63,7 +63,7 @@ emptied_twice e false {s} {m} {t} same empties = empties_or (subst (λ k. Emptie
 pub cut_after : (v : Viewport) (r : Rect) (narrow : Bool) {s m t : Screen} → EmptiesAllIf narrow s m
     → (IsFixed v → r.y < m.height → Empties (is_within r) m t) → IsFixed v → r.y < s.height → Empties (λ a b. is_within r a b || narrow) s t
 cut_after v r narrow {s} {m} {t} first cut fixed top =
-    emptied_twice (is_within r) narrow first (cut fixed (let same = (emptied_frame narrow {s} {m} first).size.height in omega arith))
+    emptied_twice (is_within r) narrow first (cut fixed (let same = (emptied_frame narrow {s = s} {m = m} first).size.height in omega arith))
 
 -- an emptied viewport after an emptied screen, or after an untouched one
 pub emptied_after : (v : Viewport) (r : Rect) (narrow : Bool) {s m t : Screen} → EmptiesAllIf narrow s m → ClearsArea v r m t → HasPlace v r s

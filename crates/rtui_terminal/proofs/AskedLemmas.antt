@@ -1,0 +1,66 @@
+-- A resize after the backend was asked for its size, which leaves the screen as it is.
+use Rattle.std.proofs.Common.{◌≡◌, ◌⊎◌, ⊎_elim, Result, Ok, Err, MatchResult, refl, sym, ap, inl, inr, ◌∙◌}
+use Rattle.rtui_geometry.specs.declared.rect.Rect.{Rect}
+use Rattle.rtui_backend.specs.Screen.{Screen, screen_area}
+use Rattle.rtui_viewport.specs.Viewports.{IsFixed}
+use Rattle.rtui_terminal.specs.{TerminalData.TerminalData, InStep.IsSized, declared.terminal.error.TerminalError.TerminalError}
+use Rattle.rtui_terminal.specs.declared.terminal.error.TerminalError.TheVariants.{Area, Backend, Closure, Memory}
+use Rattle.rtui_terminal.specs.Resizing.{Autoresizes, AutoresizeErr, EmptiesPrevious, FailsResizing, KeepsBuffers, ResizeErr, Resizes, ResizesBuffers}
+
+module _ {B : Type 0} (screen : B → Screen) (s : TerminalData B) (asked : B) (same : screen asked ≡ screen s.backend) where
+  resizes-asked : (area : Rect) (t : TerminalData B) → Resizes screen area (record s { backend = asked }) t → Resizes screen area s t
+  resizes-asked area t is = record {
+    rest = is.rest;
+    viewport_area = rw same at is.viewport_area;
+    current = is.current;
+    previous = is.previous;
+    scrolled = is.scrolled;
+    scrolls = rw same at is.scrolls;
+    frame = is.frame;
+    empties = is.empties;
+    cut = is.cut;
+    cursor = rw same at is.cursor;
+    written = is.written;
+    on_screen = rw same at is.on_screen;
+    in_step = is.in_step;
+  }
+
+  emptied-asked : (area : Rect) (t : TerminalData B) → EmptiesPrevious screen area (record s { backend = asked }) t → EmptiesPrevious screen area s t
+  emptied-asked area t is =
+      record { previous = is.previous; scrolled = is.scrolled; scrolls = rw same at is.scrolls; emptied = is.emptied; empties = is.empties }
+
+  buffers-asked : (area : Rect) (t : TerminalData B) → ResizesBuffers screen area (record s { backend = asked }) t → ResizesBuffers screen area s t
+  buffers-asked area t is = record {
+    current = is.current;
+    previous = ⊎_elim (λ resized. inl resized) (λ (empty : EmptiesPrevious screen area (record s { backend = asked }) t). inr (emptied-asked area t empty)) is.previous;
+  }
+
+  fails-asked : (area : Rect) (t : TerminalData B) → FailsResizing screen area (record s { backend = asked }) t → FailsResizing screen area s t
+  fails-asked area t is = record {
+    rest = is.rest;
+    left = ⊎_elim
+        (λ (kept : KeepsBuffers (record s { backend = asked }) t).
+            inl (record { viewport_area = kept.viewport_area; current = kept.current; previous = kept.previous }))
+        (λ moved. inr (buffers-asked area t moved.0, rw same at moved.1)) is.left;
+    areas = λ has. is.areas (record { current = has.current; previous = has.previous });
+  }
+
+  -- an autoresize by the answer of its resize
+  pub autoresized-by : {T E : Type 0} (area : Rect) (t : TerminalData B) (result : Result T (TerminalError E)) → (IsSized screen s → ⊥)
+      → area ≡ screen_area (screen s.backend)
+      → MatchResult result (λ _. Resizes screen area (record s { backend = asked }) t) (ResizeErr screen area (record s { backend = asked }) t)
+      → MatchResult result (λ _. Autoresizes screen s t) (AutoresizeErr screen s t)
+  autoresized-by area t (Ok x) unsized is by =
+      let resizes : Resizes screen (screen_area (screen s.backend)) s t = rw is at (resizes-asked area t by) in
+      record {
+        case = inr (unsized, resizes);
+        fixed = λ fixed. absurd (unsized (inl fixed));
+        in_step = λ _. resizes.in_step (resizes.on_screen refl);
+      }
+  autoresized-by area t (Err (Backend error)) unsized is by = ((λ fixed. unsized (inl fixed)), rw is at (fails-asked area t by))
+  autoresized-by area t (Err Memory) unsized is by =
+      let left : t.backend ≡ asked = ap (λ (x : TerminalData B). x.backend) by.1 in
+      (unsized, (λ room. by.0 (rw is (record { current = room.current; previous = room.previous }))),
+          by.1 ∙ ap (λ b. record s { backend = b; current = t.current; previous = t.previous }) (sym left), ap screen left ∙ same, by.2, by.3)
+  autoresized-by area t (Err Area) unsized is by = absurd by
+  autoresized-by area t (Err (Closure error)) unsized is by = absurd by
