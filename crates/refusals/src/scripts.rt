@@ -73,7 +73,9 @@ fn run_script(alloc: Global, written: &mut Vec<u8>) -> Ran {
     match run(alloc, &mut reader, written) {
         Ok(()) => Ran::Whole,
         Err(RunFault::Memory) | Err(RunFault::Write) => Ran::Refused,
-        Err(RunFault::Step(fault)) if fault.cause == PlayCause::Memory => Ran::RefusedAt(fault.step),
+        Err(RunFault::Step(fault)) if fault.cause == PlayCause::Memory => Ran::RefusedAt(
+            fault.step,
+        ),
         Err(_) => Ran::Otherwise,
     }
 }

@@ -23,15 +23,15 @@ module _ (items : List ListItem) (height selected first last was begins : ℕ) (
       (λ (near : was ≤ last).
       ⊎_elim
       (λ (lacks : rows_before items was + height < rows_before items (last + 1)).
-          let is = scrolled.down near lacks in
-          ⊎_elim
-          (λ (late : selected < begins).
-          ⊎_elim
-          (λ (here : selected < was). let le = rows-grow items first was (omega arith) in omega arith)
-          (λ (there : was ≤ selected). let no = is.nearest selected there late in let le = rows-grow items first selected before in omega arith)
-          (cases_lt selected was))
-          (λ (least : begins ≤ selected). least)
-          (cases_lt selected begins))
+      let is = scrolled.down near lacks in
+      ⊎_elim
+      (λ (late : selected < begins).
+      ⊎_elim
+      (λ (here : selected < was). let le = rows-grow items first was (omega arith) in omega arith)
+      (λ (there : was ≤ selected). let no = is.nearest selected there late in let le = rows-grow items first selected before in omega arith)
+      (cases_lt selected was))
+      (λ (least : begins ≤ selected). least)
+      (cases_lt selected begins))
       (λ (is_fit : rows_before items (last + 1) ≤ rows_before items was + height). let e = scrolled.up (inr is_fit) in omega arith)
       (cases_lt (rows_before items was + height) (rows_before items (last + 1))))
       (cases_lt last was)
@@ -43,26 +43,28 @@ module _ (items : List ListItem) (height selected first last was begins : ℕ) (
       (λ (near : was ≤ last).
       ⊎_elim
       (λ (lacks : rows_before items was + height < rows_before items (last + 1)).
-          let is = scrolled.down near lacks in
-          ⊎_elim is.fits
-          (λ (end : last ≤ begins).
-              let least = begins-before in let le = rows-grow items first begins (omega arith) in omega arith)
-          (cases_lt begins last))
+      let is = scrolled.down near lacks in
+      ⊎_elim is.fits
+      (λ (end : last ≤ begins).
+      let least = begins-before in let le = rows-grow items first begins (omega arith) in omega arith)
+      (cases_lt begins last))
       (λ (is_fit : rows_before items (last + 1) ≤ rows_before items was + height).
-          let e = scrolled.up (inr is_fit) in
-          ⊎_elim (λ (less : first < was). let same : begins ≡ first = omega arith in rw same fits)
-          (λ (more : was ≤ first). let same : begins ≡ was = omega arith in rw same is_fit)
-          (cases_lt first was))
+      let e = scrolled.up (inr is_fit) in
+      ⊎_elim (λ (less : first < was). let same : begins ≡ first = omega arith in rw same fits)
+      (λ (more : was ≤ first). let same : begins ≡ was = omega arith in rw same is_fit)
+      (cases_lt first was))
       (cases_lt (rows_before items was + height) (rows_before items (last + 1))))
       (cases_lt last was)
 
   shown-from : (count : ℕ) → IsCount items height begins count → (begins ≤ selected) × (selected < begins + count)
   shown-from count is =
-      let after = around.after in let inside = around.inside in let least = begins-before in let fits = fits-from in
-      (least, ⊎_elim (λ (shown : selected < begins + count). shown)
-      (λ (no : begins + count ≤ selected).
-          let more = is.longest (omega arith) in let le = rows-grow items (begins + count + 1) (last + 1) (omega arith) in omega arith)
-      (cases_lt selected (begins + count)))
+      let after = around.after in let inside = around.inside in let least = begins-before in let fits = fits-from in (
+        least,
+        ⊎_elim (λ (shown : selected < begins + count). shown)
+            (λ (no : begins + count ≤ selected).
+            let more = is.longest (omega arith) in let le = rows-grow items (begins + count + 1) (last + 1) (omega arith) in omega arith)
+            (cases_lt selected (begins + count)),
+      )
 
 -- the items that are kept in view around the selected one, if that fits by itself
 kept-around : (items : List ListItem) (height asked selected padding : ℕ) → selected < length items → Fit items height selected (selected + 1)

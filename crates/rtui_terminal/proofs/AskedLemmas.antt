@@ -40,7 +40,7 @@ module _ {B : Type 0} (screen : B → Screen) (s : TerminalData B) (asked : B) (
     rest = is.rest;
     left = ⊎_elim
         (λ (kept : KeepsBuffers (record s { backend = asked }) t).
-            inl (record { viewport_area = kept.viewport_area; current = kept.current; previous = kept.previous }))
+        inl (record { viewport_area = kept.viewport_area; current = kept.current; previous = kept.previous }))
         (λ moved. inr (buffers-asked area t moved.0, rw same at moved.1)) is.left;
     areas = λ has. is.areas (record { current = has.current; previous = has.previous });
   }
@@ -59,8 +59,13 @@ module _ {B : Type 0} (screen : B → Screen) (s : TerminalData B) (asked : B) (
       }
   autoresized-by area t (Err (Backend error)) unsized is by = ((λ fixed. unsized (inl fixed)), rw is at (fails-asked area t by))
   autoresized-by area t (Err Memory) unsized is by =
-      let left : t.backend ≡ asked = ap (λ (x : TerminalData B). x.backend) by.1 in
-      (unsized, (λ room. by.0 (rw is (record { current = room.current; previous = room.previous }))),
-          by.1 ∙ ap (λ b. record s { backend = b; current = t.current; previous = t.previous }) (sym left), ap screen left ∙ same, by.2, by.3)
+      let left : t.backend ≡ asked = ap (λ (x : TerminalData B). x.backend) by.1 in (
+        unsized,
+        (λ room. by.0 (rw is (record { current = room.current; previous = room.previous }))),
+        by.1 ∙ ap (λ b. record s { backend = b; current = t.current; previous = t.previous }) (sym left),
+        ap screen left ∙ same,
+        by.2,
+        by.3,
+      )
   autoresized-by area t (Err Area) unsized is by = absurd by
   autoresized-by area t (Err (Closure error)) unsized is by = absurd by

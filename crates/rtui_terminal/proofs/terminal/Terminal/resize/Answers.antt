@@ -97,20 +97,23 @@ returns-in_err-map_err-2-clause-outcome g c =
     let places = rw (viewport_2, former, c.saturating_sub-offset.ensures, cursor_2, area_2) at found.placed in
     at_fault _ _ _ (only_by_backend g c) c.from_residual-in_err-map_err-2.ensures.0 (λ error. rw (area, viewport, cursor, known, hidden, count) (record {
       rest = refl;
-      left = inr (record {
-        current = current;
-        previous = inr (record {
-          previous = previous;
-          scrolled = places.scrolled;
-          scrolls = places.scrolls;
-          emptied = c.clear_area.new.backend;
-          empties = record {
-            empties = λ place. emptied_after s.viewport next _ {s = places.scrolled} {m = screen c.place_viewport.new.backend} {t = screen c.clear_area.new.backend} places.empties
-                (rw (viewport, between) at cleared.cleared) place;
-            cut = cut_after s.viewport next _ {s = places.scrolled} {m = screen c.place_viewport.new.backend} {t = screen c.clear_area.new.backend} places.empties
-                (rw (viewport, between) at cleared.cut);
-          };
-        });
-      }, rw (c.saturating_sub-offset.ensures, area_2, viewport_2, cursor_2, former) at found.area);
+      left = inr (
+        record {
+          current = current;
+          previous = inr (record {
+            previous = previous;
+            scrolled = places.scrolled;
+            scrolls = places.scrolls;
+            emptied = c.clear_area.new.backend;
+            empties = record {
+              empties = λ place. emptied_after s.viewport next _ {s = places.scrolled} {m = screen c.place_viewport.new.backend} {t = screen c.clear_area.new.backend} places.empties
+                  (rw (viewport, between) at cleared.cleared) place;
+              cut = cut_after s.viewport next _ {s = places.scrolled} {m = screen c.place_viewport.new.backend} {t = screen c.clear_area.new.backend} places.empties
+                  (rw (viewport, between) at cleared.cut);
+            };
+          });
+        },
+        rw (c.saturating_sub-offset.ensures, area_2, viewport_2, cursor_2, former) at found.area,
+      );
       areas = λ _. record { current = current.area_is; previous = previous.area };
     }))
