@@ -14,7 +14,7 @@ const SIZE: Size = Size {
 };
 
 // What leaves the terminal with its cursor shown below the screen.
-const LEAVING: &str = "\u{1b}[0m\u{1b}[r\u{1b}[?25h\u{1b}[3;1H\r\n";
+const LEAVING: &str = "\u{1b}[0m\u{1b}[r\u{1b}[?25h\u{1b}[65535;1H\r\n";
 
 // A writer that keeps what it is given. After so many calls it fails once.
 #[derive(Drop)]
