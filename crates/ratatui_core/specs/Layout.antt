@@ -12,3 +12,5 @@ pub use Rattle.rtui_layout.specs.Constraint.{IsMin, IsMax, IsLength, IsPercentag
 pub use Rattle.rtui_layout.specs.Layout.{LayoutData, default_layout}
 pub use Rattle.rtui_layout.specs.Names.{ReadsName, direction_name, horizontal_name, vertical_name, flex_name, ReadsBack}
 pub use Rattle.rtui_layout.specs.Spacing.{spacing_from, cut_spacing_from}
+pub use Rattle.rtui_split.specs.Split.{inner, centered_layout, IsSplit, HasWish, WithinWish, FitWishes, SharesRest, LeavesNothing}
+pub use Rattle.rtui_split.specs.Spacers.{IsSplitWithSpacers, AreSpacers}

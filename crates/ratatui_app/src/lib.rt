@@ -1,0 +1,15 @@
+//! An application on a terminal: what is typed decides what is shown.
+#![tactic(auto)]
+
+mod application;
+mod by_hand;
+mod counter;
+mod from_blank;
+pub mod laws;
+mod running;
+
+pub use application::Application;
+pub use by_hand::count_by_hand;
+pub use counter::Counter;
+pub use from_blank::count_from_blank;
+pub use running::{Fault, draw, feed, run, step};

@@ -1,0 +1,229 @@
+//! Running an application.
+
+ghost use Rattle.std.specs.Prelude.{◌≡◌, Bool, Some, [], false, OnOk, IfOk, IfErr};
+ghost use Rattle.std.specs.Io.KnownBytes.{IsAtEnd};
+ghost use Rattle.ratatui_core.specs.Backend.{size_of};
+ghost use Rattle.ratatui_core.specs.Terminal.{IsAtRest, Fullscreen, DrawsFrame};
+ghost use Rattle.ratatui_input.specs.Encodings.{untouched};
+ghost use Rattle.ratatui_input.specs.declared.decoder.Decoder.{Decoder};
+ghost use Rattle.ratatui_reads.specs.Moments.{HasEnded};
+ghost use Rattle.ratatui_app.specs.Showing.{MayDraw, TakesTold, ShowsState, FeedsTo, StepsTo, RunsTo, StopsFeeding, RefusesState, Stops, StopsRun, IsEnd};
+
+use crate::application::{Application, Page};
+use ratatui_core::backend::{Backend, Resizable};
+use ratatui_core::layout::Size;
+use ratatui_core::terminal::laws::calls_leave_a_terminal_at_rest;
+use ratatui_core::terminal::{Terminal, TerminalError};
+use ratatui_input::Decoder;
+use ratatui_reads::take;
+use std::io::{self, ErrorKind, Read};
+
+/// Why a run ended before the application was over.
+#[derive(Debug, Drop)]
+pub enum Fault<E> {
+    /// The reader failed.
+    Read(io::Error),
+    /// An update was refused memory.
+    Memory,
+    /// A draw was refused.
+    Draw(TerminalError<E>),
+    /// A size that the terminal told was refused: by the backend's own error, or without one.
+    Resize(Option<E>),
+}
+
+/// Draws a frame of an application.
+///
+/// # Errors
+///
+/// Those of [`Terminal::draw_widget`].
+pub fn draw<B: Backend, A: Application>(
+    terminal: &mut Terminal<B>,
+    application: &A,
+) -> Result<(), TerminalError<B::Error>>
+    ensures draws { OnOk result (DrawsFrame B.screen terminal.old terminal.new) }
+    ensures faults { OnOk result
+        (B.failures terminal.new.backend ≡ B.failures terminal.old.backend) }
+    ensures shows { MayDraw B.screen B.failures terminal.old
+        → OnOk result (ShowsState B.screen B.is_flushed A.paints application.now terminal.new) }
+    ensures size { MayDraw B.screen B.failures terminal.old → OnOk result
+        (size_of (B.screen terminal.new.backend) ≡ size_of (B.screen terminal.old.backend)) }
+    ensures refused { IfErr result
+        (RefusesState B.screen A.paints application.now terminal.old terminal.new) }
+{
+    calls_leave_a_terminal_at_rest::<B>();
+    terminal.draw_widget(Page(application))?;
+    Ok(())
+}
+
+// Gives a backend another size, which it may refuse without an error.
+fn take_size<B: Resizable>(backend: &mut B, size: Size) -> Result<(), Option<B::Error>>
+    ensures size { OnOk result (size_of (B.screen backend.new) ≡ size) }
+    ensures faults { OnOk result (B.failures backend.new ≡ B.failures backend.old) }
+{
+    match backend.take_size(size) {
+        Ok(true) => Ok(()),
+        Ok(false) => Err(None),
+        Err(error) => Err(Some(error)),
+    }
+}
+
+// Gives the screen another size.
+fn give_size<B: Resizable>(
+    terminal: &mut Terminal<B>,
+    columns: u16,
+    rows: u16,
+) -> Result<(), Option<B::Error>>
+    ensures only { terminal.new ≡ record terminal.old { backend = terminal.new.backend } }
+    ensures ok { IsAtRest B.screen Fullscreen terminal.old
+        → ((terminal.old.viewport_area.width ≡ columns) × (terminal.old.viewport_area.height ≡ rows) → ⊥)
+        → OnOk result (TakesTold B.screen B.failures (Some (columns, rows)) terminal.old terminal.new) }
+{
+    let size = Size {
+        width: columns,
+        height: rows,
+    };
+    take_size(terminal.backend_mut(), size)
+}
+
+// Gives the screen a size, if there is one and the screen hasn't that already.
+fn resize<B: Resizable>(
+    terminal: &mut Terminal<B>,
+    size: Option<(u16, u16)>,
+) -> Result<(), Option<B::Error>>
+    ensures only { terminal.new ≡ record terminal.old { backend = terminal.new.backend } }
+    ensures ok { IsAtRest B.screen Fullscreen terminal.old
+        → OnOk result (TakesTold B.screen B.failures size terminal.old terminal.new) }
+{
+    let Some((columns, rows)) = size else {
+        return Ok(());
+    };
+    let area = terminal.viewport_area();
+    if area.width == columns && area.height == rows {
+        return Ok(());
+    }
+    give_size(terminal, columns, rows)
+}
+
+/// Takes the events of the bytes of a read, none where nothing came, and draws a frame if there
+/// were any or nothing came.
+///
+/// # Errors
+///
+/// `Memory` if an update was refused memory, `Resize` if the backend refused a size that was told,
+/// and `Draw` if the draw was refused.
+pub fn feed<B: Resizable, A: Application>(
+    bytes: &[u8],
+    decoder: &mut Decoder,
+    terminal: &mut Terminal<B>,
+    application: &mut A,
+) -> Result<(), Fault<B::Error>>
+    ensures fed { ShowsState B.screen B.is_flushed A.paints application.old terminal.old
+        → OnOk result (FeedsTo B.screen B.failures B.is_flushed A.paints A.updated A.is_over
+        (record { decoder = decoder.old; state = application.old }) terminal.old bytes.now
+        (record { decoder = decoder.new; state = application.new }) terminal.new) }
+    ensures stops { ShowsState B.screen B.is_flushed A.paints application.old terminal.old
+        → IfErr result (StopsFeeding B.screen B.failures B.is_flushed A.paints A.updated A.is_over
+        (record { decoder = decoder.old; state = application.old }) terminal.old bytes.now
+        (record { decoder = decoder.new; state = application.new }) terminal.new) }
+{
+    let taken = match take(bytes, decoder, application) {
+        Ok(taken) => taken,
+        Err(_) => return Err(Fault::Memory),
+    };
+    if !taken.any && !bytes.is_empty() {
+        return Ok(());
+    }
+    match resize(terminal, taken.size) {
+        Ok(()) => {}
+        Err(error) => return Err(Fault::Resize(error)),
+    }
+    match draw(terminal, application) {
+        Ok(()) => Ok(()),
+        Err(error) => Err(Fault::Draw(error)),
+    }
+}
+
+/// Reads once, and feeds what was read. Answers whether something came.
+///
+/// # Errors
+///
+/// `Read` if the reader failed; nothing has changed then. Else those of [`feed`].
+pub fn step<R: Read, B: Resizable, A: Application>(
+    reader: &mut R,
+    decoder: &mut Decoder,
+    terminal: &mut Terminal<B>,
+    application: &mut A,
+) -> Result<bool, Fault<B::Error>>
+    ensures steps { ShowsState B.screen B.is_flushed A.paints application.old terminal.old
+        → IfOk result (StepsTo B.screen B.failures B.is_flushed A.paints A.updated A.is_over
+        (record { decoder = decoder.old; state = application.old }) (R.remaining reader.old)
+        terminal.old
+        (record { decoder = decoder.new; state = application.new }) (R.remaining reader.new)
+        terminal.new) }
+    ensures stops { ShowsState B.screen B.is_flushed A.paints application.old terminal.old
+        → IfErr result (Stops B.screen B.failures B.is_flushed A.paints A.updated A.is_over
+        (record { decoder = decoder.old; state = application.old }) (R.remaining reader.old)
+        terminal.old
+        (record { decoder = decoder.new; state = application.new }) (R.remaining reader.new)
+        terminal.new) }
+    ensures end { IfOk result (λ came. came ≡ false → IsAtEnd (R.remaining reader.new)) }
+{
+    let mut buf = [0u8; 1024];
+    let count = match reader.read(&mut buf) {
+        Ok(count) => count,
+        Err(error) => return Err(Fault::Read(error)),
+    };
+    match feed(&buf[..count], decoder, terminal, application) {
+        Ok(()) => Ok(count != 0),
+        Err(fault) => Err(fault),
+    }
+}
+
+/// Draws a frame of an application, and then reads, takes the events of what was read and draws
+/// again, until the application is over or, unless nothing read is a tick, nothing more comes.
+///
+/// # Errors
+///
+/// Those of [`step`].
+pub fn run<R: Read, B: Resizable, A: Application>(
+    reader: &mut R,
+    has_ticks: bool,
+    terminal: &mut Terminal<B>,
+    application: &mut A,
+) -> Result<(), Fault<B::Error>>
+    ensures runs { IsAtRest B.screen Fullscreen terminal.old → OnOk result (
+        (decoder : Decoder) × RunsTo B.screen B.failures B.is_flushed A.paints A.updated A.is_over
+        terminal.old
+        (record { decoder = untouched; state = application.old }) (R.remaining reader.old)
+        (record { decoder = decoder; state = application.new }) (R.remaining reader.new)
+        terminal.new) }
+    ensures typed { IsAtRest B.screen Fullscreen terminal.old → has_ticks ≡ false
+        → OnOk result (HasEnded A.updated A.is_over
+        (record { decoder = untouched; state = application.old }) (R.remaining reader.old)
+        application.new (R.remaining reader.new)) }
+    ensures ended { OnOk result
+        (IsEnd A.is_over has_ticks application.new (R.remaining reader.new)) }
+    ensures stops { IsAtRest B.screen Fullscreen terminal.old → IfErr result (
+        StopsRun B.screen B.failures B.is_flushed A.paints A.updated A.is_over
+        (record { decoder = untouched; state = application.old }) (R.remaining reader.old)
+        terminal.old application.new (R.remaining reader.new) terminal.new) }
+{
+    let mut decoder = Decoder::new();
+    match draw(terminal, application) {
+        Ok(()) => {}
+        Err(error) => return Err(Fault::Draw(error)),
+    }
+    for _ in 0..u64::MAX {
+        if application.is_over() {
+            return Ok(());
+        }
+        let came = match step(reader, &mut decoder, terminal, application) {
+            Ok(came) => came,
+            Err(fault) => return Err(fault),
+        };
+        if !came && !has_ticks {
+            return Ok(());
+        }
+    }
+    Err(Fault::Read(io::Error::from(ErrorKind::Other)))
+}

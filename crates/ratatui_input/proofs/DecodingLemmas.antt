@@ -1,0 +1,120 @@
+-- Laws of the decoder.
+use Rattle.std.proofs.Common.{◌≡◌, ◌≢◌, ℕ, ◌≤◌, Bool, true, false, List, [], ◌∷◌, ◌++◌, Option, Some, None, length, refl, ap, sym, ◌∙◌, append_assoc, arith}
+use Rattle.std.specs.Prelude.{◌==◌, if◌then◌else◌}
+use Rattle.std.proofs.lemmas.Bool.Decides.{nat_tests}
+use Rattle.ratatui_events.specs.declared.event.Event.{Event}
+use Rattle.ratatui_events.specs.declared.event.Event.TheVariants.{Key, Unknown}
+use Rattle.ratatui_events.specs.declared.key.KeyCode.TheVariants.{Esc}
+use Rattle.ratatui_events.specs.Key.{pressed, held}
+use Rattle.ratatui_input.specs.declared.decoder.Decoder.{Decoder}
+use Rattle.ratatui_input.specs.declared.decoder.State.{State}
+use Rattle.ratatui_input.specs.declared.decoder.State.TheVariants.{Ground, Escape, Single, Bracket, Function, Numbers, Click, ClickButton, ClickColumn, Character}
+use Rattle.ratatui_input.specs.declared.decoder.Next.{Next}
+use Rattle.ratatui_input.specs.declared.decoder.Next.TheVariants.{Whole, More, Apart}
+use Rattle.ratatui_input.specs.Keys.{with_alt, typed_key}
+use Rattle.ratatui_input.specs.Sequences.{pushed}
+use Rattle.ratatui_input.specs.Decoding.{Told, stepped, first, after_escape, after_bracket, in_sequence, after_single, after_function, in_character, after_click, cut, read}
+use Rattle.ratatui_input.specs.Decoding.{told_event, fresh, after_cut, fed_byte, fed_next, decoded, next_told, escaped, some_list, settled, settled_single}
+use Rattle.ratatui_input.specs.Encodings.{untouched, settled_after}
+
+-- bytes in two pieces give what they give at once
+pub decoded-append : (d : Decoder) (a b : List ℕ) → decoded d (a ++ b) ≡ next_told (decoded d a) b
+unfolding decoded
+decoded-append d [] b = refl
+decoded-append d (x ∷ a) b =
+    ap (λ (t : Told). ((fed_byte d x).0 ++ t.0, t.1)) (decoded-append (fed_byte d x).1 a b)
+    ∙ ap (λ (es : List Event). (es, (decoded (decoded (fed_byte d x).1 a).1 b).1)) (sym (append_assoc (fed_byte d x).0 (decoded (fed_byte d x).1 a).0 (decoded (decoded (fed_byte d x).1 a).1 b).0))
+
+-- whatever has come, ESC begins anew
+pub fed-escape : (state : State) (is_pasting : Bool) → fed_byte (record { state = state; is_pasting = is_pasting }) 27 ≡ escaped (cut state) is_pasting
+unfolding fed_byte stepped first after_escape after_bracket in_sequence after_single after_function in_character after_click cut pushed
+fed-escape Ground p = refl
+fed-escape Escape p = refl
+fed-escape (Single n) p = refl
+fed-escape Bracket p = refl
+fed-escape Function p = refl
+fed-escape (Numbers s) p = refl
+fed-escape Click p = refl
+fed-escape (ClickButton b) p = refl
+fed-escape (ClickColumn b c) p = refl
+fed-escape (Character q) p = refl
+
+-- outside a paste, what had come is told as it is
+cut-plain : (state : State) → escaped (cut state) false ≡ (some_list (cut state), record { state = Escape; is_pasting = false })
+unfolding cut read
+cut-plain Ground = refl
+cut-plain Escape = refl
+cut-plain (Single n) =
+    elim (n == 0) as (λ b. escaped (Some (if b then with_alt (typed_key 79) true else Unknown)) false
+    ≡ (some_list (Some (if b then with_alt (typed_key 79) true else Unknown)), record { state = Escape; is_pasting = false }))
+    [ true ↦ refl | false ↦ refl ]
+cut-plain Bracket = refl
+cut-plain Function = refl
+cut-plain (Numbers s) = refl
+cut-plain Click = refl
+cut-plain (ClickButton b) = refl
+cut-plain (ClickColumn b c) = refl
+cut-plain (Character q) = refl
+
+-- from ESC on all is read as if nothing had come
+pub anew-from-escape : (state : State) (rest : List ℕ) → decoded (record { state = state; is_pasting = false }) (27 ∷ rest)
+    ≡ (some_list (cut state) ++ (decoded untouched (27 ∷ rest)).0, (decoded untouched (27 ∷ rest)).1)
+unfolding decoded fed_byte stepped first
+anew-from-escape state rest = ap (λ (t : Told). let r = decoded t.1 rest in (t.0 ++ r.0, r.1)) (fed-escape state false ∙ cut-plain state)
+
+-- ---- at most two events
+
+fresh-one : (next : Next) (p : Bool) → length (fresh next p).0 ≤ 1
+fresh-one (Whole event) p = omega arith
+fresh-one (More state) p = omega arith
+fresh-one Apart p = omega arith
+
+after_cut-two : (what : Option Event) (b : ℕ) (p : Bool) → length (after_cut what b p).0 ≤ 2
+after_cut-two None b p = let h = fresh-one (first b false) p in omega (arith, h)
+after_cut-two (Some event) b p = let h = fresh-one (first b false) (read p event).1 in omega (arith, h)
+
+next-two : (next : Next) (state : State) (b : ℕ) (p : Bool) → length (fed_next next state b p).0 ≤ 2
+next-two (Whole event) state b p = omega arith
+next-two (More further) state b p = omega arith
+next-two Apart state b p = after_cut-two (cut state) b p
+
+pub fed-two : (d : Decoder) (b : ℕ) → length (fed_byte d b).0 ≤ 2
+unfolding fed_byte
+fed-two d b = next-two (stepped d.state b) d.state b d.is_pasting
+
+-- ---- settling
+
+other-number : (n : ℕ) → n ≢ 0 → (n == 0) ≡ false
+other-number n h = grind (arith, nat_tests)
+
+single-others : (n : ℕ) (p : Bool) → (Single n ≡ Single 0 → ⊥)
+    → settled_single n (record { state = Single n; is_pasting = p }) ≡ ([], record { state = Single n; is_pasting = p })
+single-others n p z =
+    ap (λ (b : Bool). if b then told_event (with_alt (typed_key 79) true) Ground p else ([], record { state = Single n; is_pasting = p }))
+    (other-number n (λ e. z (ap Single e)))
+
+pub settled-others : (state : State) (p : Bool) → (state ≡ Escape → ⊥) → (state ≡ Bracket → ⊥) → (state ≡ Single 0 → ⊥)
+    → settled state (record { state = state; is_pasting = p }) ≡ ([], record { state = state; is_pasting = p })
+unfolding settled
+settled-others Ground p x y z = refl
+settled-others Escape p x y z = absurd (x refl)
+settled-others (Single n) p x y z = single-others n p z
+settled-others Bracket p x y z = absurd (y refl)
+settled-others Function p x y z = refl
+settled-others (Numbers s) p x y z = refl
+settled-others Click p x y z = refl
+settled-others (ClickButton b) p x y z = refl
+settled-others (ClickColumn b c) p x y z = refl
+settled-others (Character q) p x y z = refl
+
+pub settled-escape : settled_after (27 ∷ []) ≡ (Key (pressed Esc (held 0)) ∷ [], untouched)
+unfolding decoded fed_byte stepped first settled read
+settled-escape = refl
+
+pub settled-bracket : settled_after (27 ∷ 91 ∷ []) ≡ (with_alt (typed_key 91) true ∷ [], untouched)
+unfolding decoded fed_byte stepped first after_escape settled read
+settled-bracket = refl
+
+pub settled-single : settled_after (27 ∷ 79 ∷ []) ≡ (with_alt (typed_key 79) true ∷ [], untouched)
+unfolding decoded fed_byte stepped first after_escape settled read
+settled-single = refl

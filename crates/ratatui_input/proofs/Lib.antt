@@ -1,0 +1,9 @@
+pub mod DecodingLemmas
+pub mod EncodingLemmas
+pub mod PasteLemmas
+pub mod ReaderLemmas
+pub mod TableLemmas
+pub mod StepLemmas
+pub mod CharacterLemmas
+pub mod GrammarLemmas
+pub mod NothingLemmas

@@ -1,0 +1,216 @@
+-- What bytes make of a decoder: which bytes belong together, apart from what they stand for.
+use Rattle.std.specs.Prelude.{ℕ, ◌+◌, ◌-◌, ◌*◌, ◌^◌, ◌==◌, ◌&&◌, ◌||◌, min, Bool, true, false, Option, Some}
+use Rattle.std.specs.Prelude.{None, List, [], ◌∷◌, ◌++◌, nat_le, nat_lt, if◌then◌else◌}
+use Rattle.std.specs.Int.RustNames.{bit_and}
+use Rattle.std.specs.Char.{is_control}
+use Rattle.ratatui_events.specs.Key.{held, pressed}
+use Rattle.ratatui_input.specs.Keys.{typed_key, control_key, with_alt, scalar_at}
+use Rattle.ratatui_input.specs.Sequences.{sequence_event, pushed, no_numbers, from_mouse, single_event}
+use Rattle.ratatui_input.specs.Mouse.{mouse_event}
+use Rattle.ratatui_events.specs.declared.event.Event.{Event}
+use Rattle.ratatui_events.specs.declared.event.Event.TheVariants.{Unknown, Key, PasteBegun, PasteEnded}
+use Rattle.ratatui_events.specs.declared.event.Event.TheVariants.{Pasted}
+use Rattle.ratatui_events.specs.declared.key.KeyCode.{KeyCode}
+use Rattle.ratatui_input.specs.declared.decoder.Decoder.{Decoder}
+use Rattle.ratatui_input.specs.declared.decoder.Fed.{Fed}
+use Rattle.ratatui_events.specs.declared.key.KeyCode.TheVariants.{F, Esc, Char, Enter, Tab}
+use Rattle.ratatui_input.specs.declared.sequence.Sequence.{Sequence}
+use Rattle.ratatui_input.specs.declared.decoder.State.{State}
+use Rattle.ratatui_input.specs.declared.decoder.State.TheVariants.{Ground, Escape, Single, Bracket, Function}
+use Rattle.ratatui_input.specs.declared.decoder.State.TheVariants.{Numbers, Click, ClickButton, ClickColumn}
+use Rattle.ratatui_input.specs.declared.decoder.State.TheVariants.{Character}
+use Rattle.ratatui_input.specs.declared.decoder.Partial.{Partial}
+use Rattle.ratatui_input.specs.declared.decoder.Next.{Next}
+use Rattle.ratatui_input.specs.declared.decoder.Next.TheVariants.{Whole, More, Apart}
+
+-- whether a number lies between two others
+abbrev pub is_between_codes : ℕ → ℕ → ℕ → Bool
+is_between_codes low high b = nat_le low b && nat_le b high
+
+abbrev pub partial : Bool → ℕ → ℕ → ℕ → ℕ → Option Partial
+partial is_alt code left low high = Some (record {
+  is_alt = is_alt;
+  code = code;
+  left = left;
+  low = low;
+  high = high;
+})
+
+-- a character that begins with this byte: the bits that the byte gives, how many bytes are to come, and
+-- between which the next is
+unfoldable pub begun : ℕ → Bool → Option Partial
+begun b alt =
+    if is_between_codes 194 223 b then partial alt (bit_and b 31) 1 128 191
+    else (if b == 224 then partial alt 0 2 160 191
+    else (if b == 237 then partial alt 13 2 128 159
+    else (if is_between_codes 225 239 b then partial alt (bit_and b 15) 2 128 191
+    else (if b == 240 then partial alt 0 3 144 191
+    else (if is_between_codes 241 243 b then partial alt (bit_and b 7) 3 128 191
+    else (if b == 244 then partial alt 4 3 128 143
+    else None))))))
+
+-- what a byte of a character is, where it is no ASCII
+abbrev pub beginning : Option Partial → Bool → Next
+beginning (Some p) is_alt = More (Character p)
+beginning None true = Apart
+beginning None false = Whole Unknown
+
+-- what a byte is with nothing before it, or after ESC
+unfoldable pub first : ℕ → Bool → Next
+first b is_alt =
+    if b == 27 then More Escape
+    else (if nat_le b 31 || (b == 127) then Whole (with_alt (control_key b) is_alt)
+    else (if is_between_codes 32 126 b then Whole (with_alt (typed_key b) is_alt)
+    else beginning (begun b is_alt) is_alt))
+
+unfoldable pub after_escape : ℕ → Next
+after_escape b = if b == 27 then Apart else (if b == 91 then More Bracket else (if b == 79
+    then More (Single 0) else first b true))
+
+abbrev pub going_on : Option Sequence → Next
+going_on (Some longer) = More (Numbers longer)
+going_on None = Apart
+
+unfoldable pub in_sequence : Sequence → ℕ → Next
+in_sequence s b = if is_between_codes 64 126 b then Whole (sequence_event s b) else going_on (pushed s b)
+
+unfoldable pub after_bracket : ℕ → Next
+after_bracket b =
+    if b == 91 then More Function
+    else (if b == 77 then More Click
+    else (if b == 60 then More (Numbers from_mouse)
+    else in_sequence no_numbers b))
+
+unfoldable pub after_single : ℕ → ℕ → Next
+after_single number b =
+    if is_between_codes 48 57 b then More (Single (min (number * 10 + bit_and b 15) (2 ^ 32 - 1)))
+    else (if is_between_codes 64 126 b then Whole (single_event number b) else Apart)
+
+unfoldable pub after_function : ℕ → Next
+after_function b =
+    if is_between_codes 65 69 b then Whole (with_alt (pressed (F (b - 64)) (held 0)) false)
+    else (if is_between_codes 64 126 b then Whole Unknown else Apart)
+
+abbrev pub scalar_event : Option ℕ → Bool → Event
+scalar_event None is_alt = Unknown
+scalar_event (Some c) is_alt = if is_control c then Unknown else with_alt (typed_key c) is_alt
+
+-- the event of a character's code
+unfoldable pub character_event : ℕ → Bool → Event
+character_event code is_alt = scalar_event (scalar_at code) is_alt
+
+unfoldable pub in_character : Partial → ℕ → Next
+in_character p b =
+    let code = min (p.code * 64 + bit_and b 63) (2 ^ 32 - 1) in
+    if nat_lt b 128 || (nat_lt b p.low || nat_lt p.high b) then Apart
+    else (if nat_lt 1 p.left
+    then More (Character (record {
+      is_alt = p.is_alt;
+      code = code;
+      left = p.left - 1;
+      low = 128;
+      high = 191;
+    }))
+    else Whole (character_event code p.is_alt))
+
+unfoldable pub after_click : ℕ → Next → Next
+after_click b next = if nat_lt b 32 then Apart else next
+
+-- what a byte makes of what has come
+unfoldable pub stepped : State → ℕ → Next
+stepped Ground b = first b false
+stepped Escape b = after_escape b
+stepped (Single number) b = after_single number b
+stepped Bracket b = after_bracket b
+stepped Function b = after_function b
+stepped (Numbers s) b = in_sequence s b
+stepped Click b = after_click b (More (ClickButton b))
+stepped (ClickButton button) b = after_click b (More (ClickColumn button b))
+stepped (ClickColumn button column) b = after_click b (Whole (mouse_event (button - 32) (column - 32) (b - 32) false))
+stepped (Character p) b = in_character p b
+
+-- what has come, where nothing goes on with it
+unfoldable pub cut : State → Option Event
+cut Ground = None
+cut Escape = Some (Key (pressed Esc (held 0)))
+cut (Single number) = Some (if number == 0 then with_alt (typed_key 79) true else Unknown)
+cut Bracket = Some (with_alt (typed_key 91) true)
+cut _ = Some Unknown
+
+-- the character that a key is in a paste
+abbrev pub pasted_code : KeyCode → ℕ → Event
+pasted_code (Char c) bits = if nat_le bits 1 then Pasted c else (if (c == 106) && (bits == 4)
+    then Pasted 10 else Unknown)
+pasted_code Enter bits = if bits == 0 then Pasted 13 else Unknown
+pasted_code Tab bits = if bits == 0 then Pasted 9 else Unknown
+pasted_code _ bits = Unknown
+
+-- an event as it is read outside a paste and within one, and whether a paste goes on after it
+unfoldable pub read : Bool → Event → Event × Bool
+read false PasteBegun = (PasteBegun, true)
+read false PasteEnded = (Unknown, false)
+read false event = (event, false)
+read true PasteEnded = (PasteEnded, false)
+read true (Key key) = (pasted_code key.code key.modifiers.0, true)
+read true event = (Unknown, true)
+
+-- what is told: the events, and the decoder that is left
+abbrev pub Told : Type 0
+Told = List Event × Decoder
+
+abbrev pub told_event : Event → State → Bool → Told
+told_event event state is_pasting = let r = read is_pasting event
+    in (r.0 ∷ [], record { state = state; is_pasting = r.1 })
+
+-- a byte with nothing before it
+abbrev pub fresh : Next → Bool → Told
+fresh (Whole event) is_pasting = told_event event Ground is_pasting
+fresh (More state) is_pasting = ([], record { state = state; is_pasting = is_pasting })
+fresh Apart is_pasting = ([], record { state = Ground; is_pasting = is_pasting })
+
+abbrev pub after_cut : Option Event → ℕ → Bool → Told
+after_cut None b is_pasting = fresh (first b false) is_pasting
+after_cut (Some event) b is_pasting =
+    let r = read is_pasting event in let told = fresh (first b false) r.1 in (r.0 ∷ told.0, told.1)
+
+abbrev pub fed_next : Next → State → ℕ → Bool → Told
+fed_next Apart state b is_pasting = after_cut (cut state) b is_pasting
+fed_next next state b is_pasting = fresh next is_pasting
+
+-- what one more byte gives
+unfoldable pub fed_byte : Decoder → ℕ → Told
+fed_byte d b = fed_next (stepped d.state b) d.state b d.is_pasting
+
+-- what bytes give
+unfoldable pub decoded : Decoder → List ℕ → Told
+decoded d [] = ([], d)
+decoded d (b ∷ bs) = let one = fed_byte d b in let rest = decoded one.1 bs in (one.0 ++ rest.0, rest.1)
+
+abbrev pub some_list : Option Event → List Event
+some_list None = []
+some_list (Some e) = e ∷ []
+
+-- the events of a byte, in order
+abbrev pub events_of : Fed → List Event
+events_of f = some_list f.cut ++ some_list f.event
+
+-- what was told, and then what further bytes give
+abbrev pub next_told : Told → List ℕ → Told
+next_told told bs = let r = decoded told.1 bs in (told.0 ++ r.0, r.1)
+
+-- what ESC gives: what had come is told, and ESC begins anew
+abbrev pub escaped : Option Event → Bool → Told
+escaped None is_pasting = ([], record { state = Escape; is_pasting = is_pasting })
+escaped (Some event) is_pasting = let r = read is_pasting event
+    in (r.0 ∷ [], record { state = Escape; is_pasting = r.1 })
+
+-- what is told where nothing more follows for now: ESC, ESC [ and ESC O are keys
+abbrev pub settled_single : ℕ → Decoder → Told
+settled_single number d = if number == 0
+    then told_event (with_alt (typed_key 79) true) Ground d.is_pasting else ([], d)
+
+unfoldable pub settled : State → Decoder → Told
+settled Escape d = told_event (Key (pressed Esc (held 0))) Ground d.is_pasting
+settled Bracket d = told_event (with_alt (typed_key 91) true) Ground d.is_pasting
+settled (Single number) d = settled_single number d
+settled state d = ([], d)

@@ -1,0 +1,59 @@
+-- Bytes that stand for events, whatever follows them; what a paste is; and what settling tells.
+use Rattle.std.specs.Prelude.{◌≡◌, ◌⊎◌, ◌≤◌, ◌+◌, ◌-◌, ◌*◌, ◌^◌, min, ℕ, List, [], ◌∷◌, ◌++◌, false}
+use Rattle.std.specs.Prelude.{encode_utf8_all}
+use Rattle.std.specs.Char.{IsScalar, is_control}
+use Rattle.ratatui_events.specs.declared.event.Event.{Event}
+use Rattle.ratatui_events.specs.declared.event.Event.TheVariants.{Key, PasteEnded}
+use Rattle.ratatui_input.specs.declared.decoder.Decoder.{Decoder}
+use Rattle.ratatui_input.specs.declared.decoder.State.TheVariants.{Ground}
+use Rattle.ratatui_input.specs.Decoding.{Told, decoded, settled}
+
+-- a decoder that has read nothing
+abbrev pub untouched : Decoder
+untouched = record { state = Ground; is_pasting = false }
+
+-- the bytes give these events, and nothing of them is left
+pub record Gives (bytes : List ℕ) (events : List Event) : Type 0 where
+  pub all : decoded untouched bytes ≡ (events, untouched)
+
+-- a character of a text that is pasted: a tab, an end of a line, or one that is no control character
+abbrev pub IsTextCharacter : ℕ → Type 0
+IsTextCharacter c = (IsScalar c × (is_control c ≡ false)) ⊎ (c ≡ 9) ⊎ (c ≡ 10) ⊎ (c ≡ 13)
+
+abbrev pub IsPlainText : List ℕ → Type 0
+IsPlainText [] = Unit {0}
+IsPlainText (c ∷ cs) = IsTextCharacter c × IsPlainText cs
+
+-- a text in brackets, as a terminal sends what is pasted
+abbrev pub in_brackets : List ℕ → List ℕ
+in_brackets text =
+    27 ∷ 91 ∷ 50 ∷ 48 ∷ 48 ∷ 126 ∷ (encode_utf8_all text ++ (27 ∷ 91 ∷ 50 ∷ 48 ∷ 49 ∷ 126 ∷ []))
+
+-- only digits
+abbrev pub IsDigits : List ℕ → Type 0
+IsDigits [] = Unit {0}
+IsDigits (b ∷ bs) = (48 ≤ b) × (b ≤ 57) × IsDigits bs
+
+-- the number with further digits; none grows above 2 ^ 32 - 1
+abbrev pub value_after : ℕ → List ℕ → ℕ
+value_after n [] = n
+value_after n (b ∷ bs) = value_after (min (n * 10 + (b - 48)) (2 ^ 32 - 1)) bs
+
+-- an event that isn't a key
+abbrev pub IsNoKey : Event → Type 0
+IsNoKey (Key key) = ⊥
+IsNoKey event = Unit {0}
+
+abbrev pub AreNoKeys : List Event → Type 0
+AreNoKeys [] = Unit {0}
+AreNoKeys (event ∷ events) = IsNoKey event × AreNoKeys events
+
+-- among events is the end of a paste
+abbrev pub HaveEnd : List Event → Type 0
+HaveEnd [] = ⊥
+HaveEnd (PasteEnded ∷ events) = Unit {0}
+HaveEnd (event ∷ events) = HaveEnd events
+
+-- what is told of bytes where nothing follows them
+abbrev pub settled_after : List ℕ → Told
+settled_after bytes = let told = decoded untouched bytes in settled told.1.state told.1

@@ -1,0 +1,186 @@
+-- Which bytes stand for which event: the encodings of the terminals' protocols, each with what it stands for.
+use Rattle.std.specs.Prelude.{◌≡◌, ◌≢◌, ◌⊎◌, ◌<◌, ◌≤◌, ◌+◌, ◌-◌, ◌*◌, ◌/◌, ◌%◌, ◌^◌, ℕ, Bool, true, false}
+use Rattle.std.specs.Prelude.{Some, List, [], ◌∷◌, ◌++◌, encode_utf8, if◌then◌else◌}
+use Rattle.std.specs.Int.RustNames.{bit_and}
+use Rattle.std.specs.Char.{IsScalar, is_control}
+use Rattle.ratatui_events.specs.declared.event.Event.{Event}
+use Rattle.ratatui_events.specs.declared.event.Event.TheVariants.{Key, Mouse, FocusGained, FocusLost, Size}
+use Rattle.ratatui_events.specs.declared.event.Event.TheVariants.{Position}
+use Rattle.ratatui_events.specs.declared.key.KeyCode.{KeyCode}
+use Rattle.ratatui_events.specs.declared.key.KeyCode.TheVariants.{F, Enter, BackTab}
+use Rattle.ratatui_events.specs.declared.key.KeyEventKind.{KeyEventKind}
+use Rattle.ratatui_events.specs.declared.key.KeyEventKind.TheVariants.{Press}
+use Rattle.ratatui_events.specs.declared.mouse.MouseEventKind.{MouseEventKind}
+use Rattle.ratatui_events.specs.Key.{held, locks, pressed, key_of_kind}
+use Rattle.ratatui_input.specs.Keys.{typed_key, control_key, with_alt, tab_key}
+use Rattle.ratatui_input.specs.Mouse.{mouse_kind}
+use Rattle.ratatui_input.specs.Sequences.{kind_of}
+use Rattle.ratatui_input.specs.Encodings.{IsDigits}
+use Rattle.ratatui_input.specs.KeyTables.{IsLetter, IsTilde, IsCode}
+
+-- the number that digits write after others that wrote n
+abbrev pub value_from : ℕ → List ℕ → ℕ
+value_from n [] = n
+value_from n (b ∷ bs) = value_from (n * 10 + (b - 48)) bs
+
+-- the bytes are digits that write this number; no digit writes 0
+pub record WritesEvent (ds : List ℕ) (n : ℕ) : Type 0 where
+  pub digits : IsDigits ds
+  pub number : value_from 0 ds ≡ n
+
+-- two numbers, and three, with semicolons between them
+abbrev pub two_numbers : List ℕ → List ℕ → List ℕ
+two_numbers ds es = ds ++ (59 ∷ es)
+
+abbrev pub three_numbers : List ℕ → List ℕ → List ℕ → List ℕ
+three_numbers ds es fs = ds ++ (59 ∷ (es ++ (59 ∷ fs)))
+
+-- ESC [, what stands in a sequence, and its last byte
+abbrev pub csi : List ℕ → ℕ → List ℕ
+csi body last = 27 ∷ 91 ∷ (body ++ (last ∷ []))
+
+-- what stands after a key's number: the number of what is held, and perhaps, after a colon, what the key did
+pub data Held : List ℕ → ℕ → KeyEventKind → Type 0 where
+  held_down : {es : List ℕ} {m : ℕ} → WritesEvent es m → Held (59 ∷ es) m Press
+  held_told : {es ks : List ℕ} {m k : ℕ} → WritesEvent es m → WritesEvent ks k → k < 256
+      → Held (59 ∷ (es ++ (58 ∷ ks))) m (kind_of k)
+
+-- further codes of a key, each after a colon, and the codes of its text, after a semicolon: digits and colons
+abbrev pub AreCodes : List ℕ → Type 0
+AreCodes [] = Unit {0}
+AreCodes (b ∷ bs) = (48 ≤ b) × (b ≤ 58) × AreCodes bs
+
+-- a key, and what the number says that is held: one less than it, bit by bit Shift, Alt, Control, Super,
+-- Hyper, Meta, Caps Lock and Num Lock
+abbrev pub key_told : KeyCode → Bool → ℕ → KeyEventKind → Event
+key_told code is_keypad m kind =
+    Key (key_of_kind code (held ((m - 1) % 64)) kind (locks ((m - 1) / 64 + (if is_keypad then 4 else 0))))
+
+-- BackTab is told with Shift, whether the number has it or not
+abbrev pub letter_number : KeyCode → ℕ → ℕ
+letter_number BackTab m = (m - 1) / 2 * 2 + 2
+letter_number code m = m
+
+abbrev pub letter_told : KeyCode → ℕ → KeyEventKind → Event
+letter_told code m kind = key_told code false (letter_number code m) kind
+
+-- Tab with Shift is BackTab
+abbrev pub code_told : KeyCode → Bool → ℕ → KeyEventKind → Event
+code_told code is_keypad m kind = key_told (tab_key code m) is_keypad m kind
+
+-- what the mouse did, with Shift, Alt and Control as the bits 4, 8 and 16 of the number; columns and rows are
+-- counted from 1
+abbrev pub mouse_told : MouseEventKind → ℕ → ℕ → ℕ → Event
+mouse_told kind n x y =
+    Mouse (record { kind = kind; column = x - 1; row = y - 1; modifiers = held (bit_and (n / 4) 7) })
+
+-- bytes that stand for an event
+pub data Encodes : List ℕ → Event → Type 0 where
+  -- characters in UTF-8 and control characters, and after ESC the same with Alt
+  character : (c : ℕ) → IsScalar c → is_control c ≡ false → Encodes (encode_utf8 c) (with_alt (typed_key c) false)
+  control : (b : ℕ) → (b < 32) ⊎ (b ≡ 127) → b ≢ 27 → Encodes (b ∷ []) (with_alt (control_key b) false)
+  alt_character : (c : ℕ) → IsScalar c → is_control c ≡ false → c ≢ 91 → c ≢ 79
+      → Encodes (27 ∷ encode_utf8 c) (with_alt (typed_key c) true)
+  alt_control : (b : ℕ) → (b < 32) ⊎ (b ≡ 127) → b ≢ 27
+      → Encodes (27 ∷ b ∷ []) (with_alt (control_key b) true)
+  -- keys with a letter: after ESC [, after ESC [ 1 and what is held, after ESC O, and F1 to F5 of a console
+  by_letter : {b n : ℕ} {code : KeyCode} {ds : List ℕ} → IsLetter b code → WritesEvent ds n → n ≤ 256
+      → Encodes (csi ds b) (letter_told code n Press)
+  by_letter_held : {b m : ℕ} {code : KeyCode} {ds tail : List ℕ} {kind : KeyEventKind} → IsLetter b code
+      → WritesEvent ds 1
+      → Held tail m kind → m ≤ 256 → Encodes (csi (ds ++ tail) b) (letter_told code m kind)
+  by_single : {b n : ℕ} {code : KeyCode} {ds : List ℕ} → IsLetter b code → WritesEvent ds n → n ≤ 256
+      → Encodes (27 ∷ 79 ∷ (ds ++ (b ∷ []))) (letter_told code n Press)
+  single_enter : {n : ℕ} {ds : List ℕ} → WritesEvent ds n → n ≤ 256
+      → Encodes (27 ∷ 79 ∷ (ds ++ (77 ∷ []))) (key_told Enter false n Press)
+  by_console : (b : ℕ) → 65 ≤ b → b ≤ 69
+      → Encodes (27 ∷ 91 ∷ 91 ∷ b ∷ []) (Key (pressed (F (b - 64)) (held 0)))
+  -- keys with a number before a tilde, and keys by their code point, which stands first before u, and third
+  -- before a tilde
+  by_tilde : {n : ℕ} {code : KeyCode} {ds : List ℕ} → IsTilde n code → WritesEvent ds n
+      → Encodes (csi ds 126) (key_told code false 0 Press)
+  by_tilde_held : {n m : ℕ} {code : KeyCode} {ds tail : List ℕ} {kind : KeyEventKind} → IsTilde n code
+      → WritesEvent ds n
+      → Held tail m kind → m ≤ 256 → Encodes (csi (ds ++ tail) 126) (key_told code false m kind)
+  by_code : {n : ℕ} {code : KeyCode} {is_keypad : Bool} {ds : List ℕ} → IsCode n code is_keypad → WritesEvent ds n
+      → Encodes (csi ds 117) (code_told code is_keypad 0 Press)
+  by_code_held : {n m : ℕ} {code : KeyCode} {is_keypad : Bool} {ds tail : List ℕ} {kind : KeyEventKind}
+      → IsCode n code is_keypad → WritesEvent ds n → Held tail m kind → m ≤ 256
+      → Encodes (csi (ds ++ tail) 117) (code_told code is_keypad m kind)
+  by_codes : {n m : ℕ} {code : KeyCode} {is_keypad : Bool} {ds tail : List ℕ} {kind : KeyEventKind} (codes text : List ℕ)
+      → IsCode n code is_keypad → WritesEvent ds n → AreCodes codes → Held tail m kind → m ≤ 256 → AreCodes text
+      → Encodes (csi (ds ++ (58 ∷ (codes ++ (tail ++ (59 ∷ text))))) 117) (code_told code is_keypad m kind)
+  by_other : {n m : ℕ} {code : KeyCode} {is_keypad : Bool} {ds es fs : List ℕ} → IsCode n code is_keypad
+      → WritesEvent ds 27 → WritesEvent es m → m ≤ 256 → WritesEvent fs n
+      → Encodes (csi (three_numbers ds es fs) 126) (code_told code is_keypad m Press)
+  -- the mouse: by numbers after <, by three bytes, and by numbers
+  by_numbers_down : {n x y : ℕ} {ds es fs : List ℕ} {kind : MouseEventKind} → WritesEvent ds n → WritesEvent es x
+      → WritesEvent fs y
+      → n ≤ 255 → x ≤ 65535 → y ≤ 65535 → mouse_kind n false ≡ Some kind
+      → Encodes (csi (60 ∷ three_numbers ds es fs) 77) (mouse_told kind n x y)
+  by_numbers_up : {n x y : ℕ} {ds es fs : List ℕ} {kind : MouseEventKind} → WritesEvent ds n → WritesEvent es x
+      → WritesEvent fs y
+      → n ≤ 255 → x ≤ 65535 → y ≤ 65535 → mouse_kind n true ≡ Some kind
+      → Encodes (csi (60 ∷ three_numbers ds es fs) 109) (mouse_told kind n x y)
+  by_bytes : {kind : MouseEventKind} (n x y : ℕ) → n ≤ 223 → x ≤ 223 → y ≤ 223
+      → mouse_kind n false ≡ Some kind
+      → Encodes (27 ∷ 91 ∷ 77 ∷ (n + 32) ∷ (x + 32) ∷ (y + 32) ∷ []) (mouse_told kind n x y)
+  by_plain_numbers : {n x y : ℕ} {ds es fs : List ℕ} {kind : MouseEventKind} → WritesEvent ds (n + 32)
+      → WritesEvent es x
+      → WritesEvent fs y → n ≤ 255 → x ≤ 65535 → y ≤ 65535 → mouse_kind n false ≡ Some kind
+      → Encodes (csi (three_numbers ds es fs) 77) (mouse_told kind n x y)
+  -- the focus, the size in rows and columns, and where the cursor is: row and column, from 1 on
+  focus_gained : Encodes (csi [] 73) FocusGained
+  focus_lost : Encodes (csi [] 79) FocusLost
+  size : {n rows columns : ℕ} {ds es fs : List ℕ} → WritesEvent ds n → (n ≡ 8) ⊎ (n ≡ 48) → WritesEvent es rows
+      → rows ≤ 65535
+      → WritesEvent fs columns → columns ≤ 65535 → Encodes (csi (three_numbers ds es fs) 116) (Size columns rows)
+  position : {row column : ℕ} {ds es : List ℕ} → WritesEvent ds row → row ≢ 1 → row ≤ 65535 → WritesEvent es column
+      → column ≤ 65535 → Encodes (csi (two_numbers ds es) 82) (Position (column - 1) (row - 1))
+
+-- bytes that no sequence of an event has: one of the marks but <
+abbrev pub IsMark : ℕ → Type 0
+IsMark b = ((32 ≤ b) × (b ≤ 47)) ⊎ ((61 ≤ b) × (b ≤ 63))
+
+-- digits, semicolons and colons
+abbrev pub AreNumbers : List ℕ → Type 0
+AreNumbers [] = Unit {0}
+AreNumbers (b ∷ bs) = (48 ≤ b) × (b ≤ 59) × AreNumbers bs
+
+-- bytes that may stand in a sequence
+abbrev pub AreInside : List ℕ → Type 0
+AreInside [] = Unit {0}
+AreInside (b ∷ bs) = (32 ≤ b) × (b ≤ 63) × AreInside bs
+
+-- last bytes of sequences that are no key's
+abbrev pub IsNameless : ℕ → Type 0
+IsNameless b = (b ≡ 64) ⊎ (b ≡ 71) ⊎ ((74 ≤ b) × (b ≤ 76)) ⊎ (b ≡ 78) ⊎ ((84 ≤ b) × (b ≤ 89)) ⊎ ((92 ≤ b)
+    × (b ≤ 115))
+    ⊎ ((118 ≤ b) × (b ≤ 125))
+
+-- numbers before a tilde that are no key's
+abbrev pub IsNoTilde : ℕ → Type 0
+IsNoTilde n = (n ≡ 0) ⊎ (n ≡ 9) ⊎ (n ≡ 10) ⊎ (n ≡ 16) ⊎ (n ≡ 22) ⊎ (n ≡ 30) ⊎ ((35 ≤ n) × (n ≢ 200)
+    × (n ≢ 201))
+
+-- bytes that stand for nothing, though they belong together
+pub data StandsForNothing : List ℕ → Type 0 where
+  -- a byte that begins no character in UTF-8
+  stray : (b : ℕ) → ((128 ≤ b) × (b ≤ 193)) ⊎ (245 ≤ b) → StandsForNothing (b ∷ [])
+  -- a sequence with a mark that no event has
+  marked : (before after : List ℕ) (mark last : ℕ) → AreNumbers before → IsMark mark → AreInside after
+      → 64 ≤ last → last ≤ 126
+      → StandsForNothing (csi (before ++ (mark ∷ after)) last)
+  -- a key with more held than there is to hold
+  held_by_letter : {b m : ℕ} {code : KeyCode} {ds es : List ℕ} → IsLetter b code → WritesEvent ds 1
+      → WritesEvent es m → 256 < m
+      → m < 2 ^ 32 → StandsForNothing (csi (two_numbers ds es) b)
+  held_by_tilde : {n m : ℕ} {code : KeyCode} {ds es : List ℕ} → IsTilde n code → WritesEvent ds n
+      → WritesEvent es m → 256 < m
+      → m < 2 ^ 32 → StandsForNothing (csi (two_numbers ds es) 126)
+  held_by_code : {n m : ℕ} {code : KeyCode} {is_keypad : Bool} {ds es : List ℕ} → IsCode n code is_keypad
+      → WritesEvent ds n
+      → WritesEvent es m → 256 < m → m < 2 ^ 32 → StandsForNothing (csi (two_numbers ds es) 117)
+  -- a letter and a number that no key has
+  nameless : {b n : ℕ} {ds : List ℕ} → IsNameless b → WritesEvent ds n → n < 2 ^ 32 → StandsForNothing (csi ds b)
+  numberless : {n : ℕ} {ds : List ℕ} → IsNoTilde n → WritesEvent ds n → n < 2 ^ 32 → StandsForNothing (csi ds 126)

@@ -1,0 +1,135 @@
+-- Sequences that begin with ESC [ or ESC O, and what they stand for.
+use Rattle.std.specs.Prelude.{ℕ, ◌+◌, ◌-◌, ◌*◌, ◌/◌, ◌%◌, ◌^◌, ◌==◌, ◌&&◌, ◌||◌, min, Bool, true, false}
+use Rattle.std.specs.Prelude.{Option, Some, None, nat_le, nat_lt, if◌then◌else◌}
+use Rattle.std.specs.Int.RustNames.{bit_and}
+use Rattle.ratatui_events.specs.Key.{held, locks, key_of_kind}
+use Rattle.ratatui_input.specs.Keys.{letter_key, number_key, code_key, tab_key}
+use Rattle.ratatui_input.specs.Mouse.{mouse_event}
+use Rattle.ratatui_events.specs.declared.event.Event.{Event}
+use Rattle.ratatui_events.specs.declared.event.Event.TheVariants.{Unknown, Key, FocusGained, FocusLost}
+use Rattle.ratatui_events.specs.declared.event.Event.TheVariants.{PasteBegun, PasteEnded, Size, Position}
+use Rattle.ratatui_events.specs.declared.key.KeyCode.{KeyCode}
+use Rattle.ratatui_events.specs.declared.key.KeyCode.TheVariants.{BackTab}
+use Rattle.ratatui_events.specs.declared.key.KeyEventKind.{KeyEventKind}
+use Rattle.ratatui_events.specs.declared.key.KeyEventKind.TheVariants.{Press, Repeat, Release}
+use Rattle.ratatui_input.specs.declared.sequence.Sequence.{Sequence}
+use Rattle.ratatui_input.specs.declared.sequence.Source.{Source}
+use Rattle.ratatui_input.specs.declared.sequence.Source.TheVariants.{Keys, Mouse, Other}
+
+abbrev pub no_numbers : Sequence
+no_numbers = record { source = Keys; numbers = 0; parts = 0; first = 0; second = 0; third = 0; kind = 0 }
+
+abbrev pub from_mouse : Sequence
+from_mouse = record no_numbers { source = Mouse }
+
+-- a number with a further digit; no number grows above 2 ^ 32 - 1
+abbrev pub with_digit : ℕ → ℕ → ℕ
+with_digit number b = min (number * 10 + bit_and b 15) (2 ^ 32 - 1)
+
+-- the sequence with a further digit: of its first three numbers, and of what stands after the first colon of
+-- the second
+unfoldable pub digit_pushed : Sequence → ℕ → Sequence
+digit_pushed s b =
+    if (s.numbers == 0) && (s.parts == 0) then record s { first = with_digit s.first b }
+    else (if (s.numbers == 1) && (s.parts == 0) then record s { second = with_digit s.second b }
+    else (if (s.numbers == 2) && (s.parts == 0) then record s { third = with_digit s.third b }
+    else (if (s.numbers == 1) && (s.parts == 1) then record s { kind = with_digit s.kind b }
+    else s)))
+
+-- the sequence with a byte that doesn't end it; none where no such byte stands in a sequence
+unfoldable pub pushed : Sequence → ℕ → Option Sequence
+pushed s b =
+    if nat_le 48 b && nat_le b 57 then Some (digit_pushed s b)
+    else (if b == 59 then Some (record s {
+      numbers = if nat_lt s.numbers 3 then s.numbers + 1
+          else 3;
+      parts = 0;
+    })
+    else (if b == 58 then Some (record s { parts = if nat_lt s.parts 2 then s.parts + 1 else 2 })
+    else (if (nat_le 32 b && nat_le b 47) || (nat_le 60 b && nat_le b 63)
+    then Some (record s { source = Other })
+    else None)))
+
+abbrev pub kind_of : ℕ → KeyEventKind
+kind_of n = if n == 2 then Repeat else (if n == 3 then Release else Press)
+
+-- a key, with what the number after it says of the keys and locks held
+unfoldable pub key_event : ℕ → KeyCode → Bool → ℕ → Event
+key_event kind code is_keypad mask =
+    if nat_lt 256 mask then Unknown
+    else Key (key_of_kind code (held ((mask - 1) % 64)) (kind_of kind) (locks ((mask - 1) / 64 + (if is_keypad then 4 else 0))))
+
+-- Shift with what the number says: BackTab has it
+abbrev pub with_shift : ℕ → ℕ
+with_shift mask = if nat_lt 256 mask then mask else (mask - 1) / 2 * 2 + 2
+
+abbrev pub letter_code_event : Option KeyCode → ℕ → ℕ → Event
+letter_code_event None kind mask = Unknown
+letter_code_event (Some BackTab) kind mask = key_event kind BackTab false (with_shift mask)
+letter_code_event (Some code) kind mask = key_event kind code false mask
+
+-- a key that ends with a letter: a lone number says what is held, and else the second one does
+unfoldable pub letter_event : Sequence → ℕ → Event
+letter_event s b = letter_code_event (letter_key b) s.kind (if s.numbers == 0 then s.first else s.second)
+
+abbrev pub code_key_event : Option (KeyCode × Bool) → ℕ → ℕ → Event
+code_key_event None kind mask = Unknown
+code_key_event (Some key) kind mask = key_event kind (tab_key key.0 mask) key.1 mask
+
+-- a key by its code point
+unfoldable pub code_event : Sequence → ℕ → Event
+code_event s code = code_key_event (code_key code) s.kind s.second
+
+abbrev pub number_key_event : Option KeyCode → ℕ → ℕ → Event
+number_key_event None kind mask = Unknown
+number_key_event (Some code) kind mask = key_event kind code false mask
+
+unfoldable pub tilde_event : Sequence → Event
+tilde_event s =
+    if s.first == 200 then PasteBegun
+    else (if s.first == 201 then PasteEnded
+    else (if s.first == 27 then code_event s s.third
+    else number_key_event (number_key s.first) s.kind s.second))
+
+-- the terminal's size: rows, then columns
+unfoldable pub size_event : Sequence → Event
+size_event s =
+    if ((s.first == 48) || (s.first == 8)) && (nat_le 2 s.numbers && (nat_le s.second 65535
+    && nat_le s.third 65535))
+    then Size s.third s.second else Unknown
+
+-- where the cursor stands: row, then column, from 1 on
+unfoldable pub position_event : Sequence → Event
+position_event s = if nat_le s.first 65535 && nat_le s.second 65535
+    then Position (s.second - 1) (s.first - 1) else Unknown
+
+unfoldable pub keys_event : Sequence → ℕ → Event
+keys_event s b =
+    if b == 126 then tilde_event s
+    else (if b == 117 then code_event s s.first
+    else (if b == 116 then size_event s
+    else (if (b == 82) && ((s.numbers == 1) && (if s.first == 1 then false else true)) then position_event s
+    else (if b == 77 then (if nat_le 2 s.numbers && nat_le 32 s.first
+    then mouse_event (s.first - 32) s.second s.third false else Unknown)
+    else (if (b == 73) && (s.numbers == 0) then FocusGained
+    else (if (b == 79) && (s.numbers == 0) then FocusLost
+    else letter_event s b))))))
+
+unfoldable pub pointer_event : Sequence → ℕ → Event
+pointer_event s b =
+    if s.numbers == 2 then (if b == 77 then mouse_event s.first s.second s.third false
+    else (if b == 109 then mouse_event s.first s.second s.third true else Unknown))
+    else Unknown
+
+abbrev pub source_event : Source → Sequence → ℕ → Event
+source_event Keys s b = keys_event s b
+source_event Mouse s b = pointer_event s b
+source_event Other s b = Unknown
+
+-- what a sequence stands for that ends with this byte
+unfoldable pub sequence_event : Sequence → ℕ → Event
+sequence_event s b = source_event s.source s b
+
+-- what ESC O, a number and this byte stand for
+unfoldable pub single_event : ℕ → ℕ → Event
+single_event number b = letter_event (record no_numbers { first = number }) b

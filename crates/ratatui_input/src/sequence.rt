@@ -1,0 +1,250 @@
+//! Sequences that begin with ESC [.
+
+ghost use Rattle.std.specs.Prelude.{◌≡◌, false};
+ghost use Rattle.ratatui_input.specs.Sequences.{with_digit, digit_pushed, pushed, key_event, with_shift};
+ghost use Rattle.ratatui_input.specs.Sequences.{letter_event, code_event, tilde_event, size_event};
+ghost use Rattle.ratatui_input.specs.Sequences.{position_event, keys_event, pointer_event, sequence_event};
+ghost use Rattle.ratatui_input.specs.Sequences.{no_numbers};
+ghost use Rattle.ratatui_events.specs.declared.key.KeyCode.TheVariants.{BackTab};
+
+use crate::keys::{code_key, letter_key, number_key, tab_key};
+use crate::mouse::mouse_event;
+use ratatui_events::{Event, KeyCode, KeyEvent, KeyEventKind, KeyEventState, KeyModifiers};
+
+/// Who a sequence is from.
+#[derive(Debug, Clone, Copy, PartialEq, Eq)]
+pub(crate) enum Source {
+    Keys,
+    Mouse,
+    Other,
+}
+
+/// The numbers of a sequence that have come.
+#[derive(Debug, Clone, Copy, PartialEq, Eq)]
+pub(crate) struct Sequence {
+    pub source: Source,
+    // How many semicolons have come, 3 for more.
+    pub numbers: u8,
+    // How many colons have come since, 2 for more.
+    pub parts: u8,
+    pub first: u32,
+    pub second: u32,
+    pub third: u32,
+    // The part after a colon in the second number.
+    pub kind: u32,
+}
+
+fn with_digit(number: u32, byte: u8) -> u32
+    ensures { result ≡ with_digit number byte }
+{
+    number.saturating_mul(10).saturating_add((byte & 15) as u32)
+}
+
+impl Sequence {
+    pub(crate) const EMPTY: Sequence = Sequence {
+        source: Source::Keys,
+        numbers: 0,
+        parts: 0,
+        first: 0,
+        second: 0,
+        third: 0,
+        kind: 0,
+    };
+
+    #[tactic(auto, unfolding(crate::specs::Sequences::digit_pushed))]
+    fn push_digit(mut self, byte: u8) -> Sequence
+        ensures { result ≡ digit_pushed self byte }
+    {
+        match (self.numbers, self.parts) {
+            (0, 0) => self.first = with_digit(self.first, byte),
+            (1, 0) => self.second = with_digit(self.second, byte),
+            (2, 0) => self.third = with_digit(self.third, byte),
+            (1, 1) => self.kind = with_digit(self.kind, byte),
+            _ => {}
+        }
+        self
+    }
+
+    // The sequence with a byte that doesn't end it, or nothing where none stands.
+    #[tactic(auto, unfolding(crate::specs::Sequences::pushed))]
+    pub(crate) fn push(self, byte: u8) -> Option<Sequence>
+        ensures { result ≡ pushed self byte }
+    {
+        match byte {
+            b'0'..=b'9' => Some(self.push_digit(byte)),
+            b';' => Some(Sequence {
+                numbers: if self.numbers < 3 {
+                    self.numbers + 1
+                } else {
+                    3
+                },
+                parts: 0,
+                ..self
+            }),
+            b':' => Some(Sequence {
+                parts: if self.parts < 2 { self.parts + 1 } else { 2 },
+                ..self
+            }),
+            b' '..=b'/' | b'<'..=b'?' => Some(Sequence {
+                source: Source::Other,
+                ..self
+            }),
+            _ => None,
+        }
+    }
+
+    // The event of the sequence with its last byte.
+    #[tactic(auto, unfolding(crate::specs::Sequences::sequence_event))]
+    pub(crate) fn event(self, byte: u8) -> Event
+        ensures { result ≡ sequence_event self byte }
+    {
+        match self.source {
+            Source::Keys => self.keys_event(byte),
+            Source::Mouse => self.mouse_event(byte),
+            Source::Other => Event::Unknown,
+        }
+    }
+
+    #[tactic(auto, unfolding(crate::specs::Sequences::pointer_event))]
+    fn mouse_event(self, byte: u8) -> Event
+        ensures { result ≡ pointer_event self byte }
+    {
+        if self.numbers != 2 {
+            return Event::Unknown;
+        }
+        match byte {
+            b'M' => mouse_event(self.first, self.second, self.third, false),
+            b'm' => mouse_event(self.first, self.second, self.third, true),
+            _ => Event::Unknown,
+        }
+    }
+
+    // A key, with what the second number says of it.
+    #[tactic(auto, unfolding(crate::specs::Sequences::key_event))]
+    fn key(self, code: KeyCode, is_keypad: bool, mask: u32) -> Event
+        ensures { result ≡ key_event self.kind code is_keypad mask }
+    {
+        if mask > 256 {
+            return Event::Unknown;
+        }
+        let held = mask.saturating_sub(1);
+        let keypad = if is_keypad { 4 } else { 0 };
+        let kind = match self.kind {
+            2 => KeyEventKind::Repeat,
+            3 => KeyEventKind::Release,
+            _ => KeyEventKind::Press,
+        };
+        Event::Key(KeyEvent {
+            code,
+            modifiers: KeyModifiers::of((held % 64) as u8),
+            kind,
+            state: KeyEventState::of((held / 64) as u8 + keypad),
+        })
+    }
+
+    #[tactic(auto, unfolding(crate::specs::Sequences::letter_event))]
+    fn letter_event(self, byte: u8) -> Event
+        ensures { result ≡ letter_event self byte }
+    {
+        let mask = if self.numbers == 0 {
+            self.first
+        } else {
+            self.second
+        };
+        match letter_key(byte) {
+            None => Event::Unknown,
+            Some(KeyCode::BackTab) => self.back_tab(mask),
+            Some(code) => self.key(code, false, mask),
+        }
+    }
+
+    fn back_tab(self, mask: u32) -> Event
+        ensures { result ≡ key_event self.kind BackTab false (with_shift mask) }
+    {
+        let with_shift = if mask > 256 {
+            mask
+        } else {
+            mask.saturating_sub(1) / 2 * 2 + 2
+        };
+        self.key(KeyCode::BackTab, false, with_shift)
+    }
+
+    #[tactic(auto, unfolding(crate::specs::Sequences::tilde_event))]
+    fn tilde_event(self) -> Event
+        ensures { result ≡ tilde_event self }
+    {
+        match self.first {
+            200 => Event::PasteBegun,
+            201 => Event::PasteEnded,
+            27 => self.code_event(self.third),
+            _ => match number_key(self.first) {
+                None => Event::Unknown,
+                Some(code) => self.key(code, false, self.second),
+            },
+        }
+    }
+
+    #[tactic(auto, unfolding(crate::specs::Sequences::code_event))]
+    fn code_event(self, code: u32) -> Event
+        ensures { result ≡ code_event self code }
+    {
+        match code_key(code) {
+            None => Event::Unknown,
+            Some((key, is_keypad)) => {
+                self.key(tab_key(key, self.second), is_keypad, self.second)
+            }
+        }
+    }
+
+    #[tactic(auto, unfolding(crate::specs::Sequences::size_event))]
+    fn size_event(self) -> Event
+        ensures { result ≡ size_event self }
+    {
+        let is_report = self.first == 48 || self.first == 8;
+        if !is_report || self.numbers < 2 || self.second > 65535 || self.third > 65535 {
+            return Event::Unknown;
+        }
+        Event::Size(self.third as u16, self.second as u16)
+    }
+
+    #[tactic(auto, unfolding(crate::specs::Sequences::position_event))]
+    fn position_event(self) -> Event
+        ensures { result ≡ position_event self }
+    {
+        if self.first > 65535 || self.second > 65535 {
+            return Event::Unknown;
+        }
+        Event::Position(
+            (self.second as u16).saturating_sub(1),
+            (self.first as u16).saturating_sub(1),
+        )
+    }
+
+    #[tactic(auto, unfolding(crate::specs::Sequences::keys_event))]
+    fn keys_event(self, byte: u8) -> Event
+        ensures { result ≡ keys_event self byte }
+    {
+        match byte {
+            b'~' => self.tilde_event(),
+            b'u' => self.code_event(self.first),
+            b't' => self.size_event(),
+            b'R' if self.numbers == 1 && self.first != 1 => self.position_event(),
+            b'M' if self.numbers >= 2 && self.first >= 32 => {
+                mouse_event(self.first - 32, self.second, self.third, false)
+            }
+            b'I' if self.numbers == 0 => Event::FocusGained,
+            b'O' if self.numbers == 0 => Event::FocusLost,
+            b'M' => Event::Unknown,
+            _ => self.letter_event(byte),
+        }
+    }
+}
+
+impl Sequence {
+    // The event of ESC O, a number and this byte.
+    pub(crate) fn single_event(self, byte: u8) -> Event
+        ensures { result ≡ letter_event self byte }
+    {
+        self.letter_event(byte)
+    }
+}

@@ -1,0 +1,59 @@
+//! Readers that give bytes in pieces, and one that fails between two of them.
+
+use crate::EventReader;
+use ratatui_events::{Event, KeyCode, KeyEvent, KeyModifiers};
+use std::io::{self, ErrorKind, Read};
+
+// Gives `a` and ESC, then an error, then `[A`, and then nothing.
+#[derive(Drop)]
+struct Interrupted {
+    reads: u8,
+}
+
+impl Read for Interrupted {
+    fn read(&mut self, buf: &mut [u8]) -> io::Result<usize> {
+        self.reads = self.reads.saturating_add(1);
+        if buf.len() < 2 {
+            return Ok(0);
+        }
+        match self.reads {
+            1 => {
+                buf[0] = b'a';
+                buf[1] = 0x1b;
+                Ok(2)
+            }
+            2 => Err(io::Error::from(ErrorKind::Interrupted)),
+            3 => {
+                buf[0] = b'[';
+                buf[1] = b'A';
+                Ok(2)
+            }
+            _ => Ok(0),
+        }
+    }
+}
+
+// Whether the next event is this key, pressed with nothing held.
+fn is_next<R: Read>(events: &mut EventReader<R>, code: KeyCode) -> bool {
+    match events.read() {
+        Ok(Some(event)) => event == Event::Key(KeyEvent::new(code, KeyModifiers::NONE)),
+        _ => false,
+    }
+}
+
+#[test]
+fn a_reader_that_fails_loses_nothing(rt: HostRuntime) {
+    let mut events = EventReader::new(Interrupted { reads: 0 });
+    assert!(rt; is_next(&mut events, KeyCode::Char('a')));
+    assert!(rt; events.read().is_err());
+    assert!(rt; is_next(&mut events, KeyCode::Up));
+    assert!(rt; matches!(events.read(), Ok(None)));
+}
+
+#[test]
+fn escape_at_the_end_is_a_key(rt: HostRuntime) {
+    let mut events = EventReader::new(&b"\x1b[B\x1b"[..]);
+    assert!(rt; is_next(&mut events, KeyCode::Down));
+    assert!(rt; is_next(&mut events, KeyCode::Esc));
+    assert!(rt; matches!(events.read(), Ok(None)));
+}

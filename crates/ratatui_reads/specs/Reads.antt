@@ -1,0 +1,77 @@
+-- What reads make of a decoder and of the state of an application.
+use Rattle.std.specs.Prelude.{◌≡◌, ℕ, Bool, if◌then◌else◌, List, [], ◌∷◌, ◌++◌}
+use Rattle.ratatui_events.specs.declared.event.Event.{Event}
+use Rattle.ratatui_input.specs.declared.decoder.Decoder.{Decoder}
+use Rattle.std.specs.Prelude.{◌+◌, min, nat_lt, ◌&&◌, Option, Some, None}
+use Rattle.ratatui_events.specs.declared.event.Event.TheVariants.{Size, Position}
+use Rattle.ratatui_input.specs.Decoding.{Told, decoded, settled}
+
+-- what a read tells: the events of its bytes; where nothing came, what had come is taken as whole, as ESC is
+abbrev pub told_by : Decoder → List ℕ → Told
+told_by d [] = settled d.state d
+told_by d (b ∷ bs) = decoded d (b ∷ bs)
+
+-- a decoder and a state between two reads
+pub record Between (S : Type 0) : Type 0 where
+  pub decoder : Decoder
+  pub state : S
+
+module _ {S : Type 0} (updated : S → Event → S) (is_over : S → Bool) where
+  -- an event is taken, unless the state is over
+  abbrev pub next_state : S → Event → S
+  next_state s e = if is_over s then s else updated s e
+
+  -- the state after events, one after the other
+  abbrev pub all_updated : S → List Event → S
+  all_updated s [] = s
+  all_updated s (e ∷ es) = all_updated (next_state s e) es
+
+  -- what a read makes of both
+  abbrev pub after_told : Told → S → Between S
+  after_told told s = record { decoder = told.1; state = all_updated s told.0 }
+
+  abbrev pub after_read : Between S → List ℕ → Between S
+  after_read b bytes = after_told (told_by b.decoder bytes) b.state
+
+  -- what bytes make of both in one read, or in any reads of which none is empty
+  abbrev pub after_bytes : Between S → List ℕ → Between S
+  after_bytes b bytes = after_told (decoded b.decoder bytes) b.state
+
+  -- what reads make of both
+  abbrev pub after_reads : Between S → List (List ℕ) → Between S
+  after_reads b [] = b
+  after_reads b (r ∷ rs) = after_reads (after_read b r) rs
+
+-- all bytes of reads
+abbrev pub all_bytes : List (List ℕ) → List ℕ
+all_bytes [] = []
+all_bytes (r ∷ rs) = r ++ all_bytes rs
+
+-- no read is empty
+abbrev pub IsNonEmpty : List ℕ → Type 0
+IsNonEmpty [] = ⊥
+IsNonEmpty (b ∷ bs) = Unit {0}
+
+abbrev pub AreNonEmpty : List (List ℕ) → Type 0
+AreNonEmpty [] = Unit {0}
+AreNonEmpty (r ∷ rs) = IsNonEmpty r × AreNonEmpty rs
+
+-- the columns and rows that an event tells: those of the terminal, or of the last place, where the cursor was sent to ask for it; one
+-- without columns or rows is none
+abbrev pub size_in : Event → Option (ℕ × ℕ)
+size_in (Size columns rows) = if nat_lt 0 columns && nat_lt 0 rows then Some (columns, rows) else None
+size_in (Position x y) = Some (min (x + 1) 65535, min (y + 1) 65535)
+size_in _ = None
+
+abbrev pub later : Option (ℕ × ℕ) → Option (ℕ × ℕ) → Option (ℕ × ℕ)
+later (Some new) old = Some new
+later None old = old
+
+-- the last size that events tell, after one that is known
+abbrev pub last_size : Option (ℕ × ℕ) → List Event → Option (ℕ × ℕ)
+last_size known [] = known
+last_size known (e ∷ es) = last_size (later (size_in e) known) es
+
+-- the last size that a read tells
+abbrev pub size_told : Decoder → List ℕ → Option (ℕ × ℕ)
+size_told d bytes = last_size None (told_by d bytes).0

@@ -1,0 +1,6 @@
+pub mod CutLemmas
+pub mod FlexLemmas
+pub mod LevelLemmas
+pub mod Lists
+pub mod ShareLemmas
+pub mod SplitLemmas

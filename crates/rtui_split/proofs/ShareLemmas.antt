@@ -1,0 +1,102 @@
+-- Sums of wishes, turn by turn, and what sizes keep to.
+use Rattle.std.proofs.Common.{ℕ, ◌≡◌, ◌<◌, ◌≤◌, ◌+◌, ◌-◌, ◌*◌, ◌^◌, List, [], ◌∷◌, sum, sum_by, map, Bool, refl, subst, arith}
+use Rattle.std.proofs.lemmas.Bool.Decides.{nat_tests}
+use Rattle.std.proofs.lemmas.List.Sums.{sum_by-cons, sum_by-le-sum_by, sum-map}
+use Rattle.std.specs.List.{AllZip}
+use Rattle.rtui_layout.specs.declared.constraint.Constraint.{Constraint}
+use Rattle.rtui_layout.specs.declared.constraint.Constraint.TheVariants.{Min, Max, Length, Percentage, Ratio, Fill}
+use Rattle.rtui_split.specs.declared.{part.Part.Part, level.Takers.Takers}
+use Rattle.rtui_split.specs.Wishes.{turn}
+use Rattle.rtui_split.specs.Shares.{if_before, if_in, wanted_before, wanted_in, sized, size_of_constraint, TakesNothing, Settled}
+use Rattle.rtui_split.specs.Shares.{IsGranted, IsModest, IsShared, IsFilled}
+use Rattle.rtui_split.proofs.Lists.{AllZip-weaker, AllZip-mapped}
+
+one_before_next : (t : ℕ) (p : Part) → if_before (t + 1) p ≡ if_before t p + if_in t p
+one_before_next t p = grind (arith, nat_tests)
+
+-- those before the next turn are those before this one, and those of this one
+pub before-next : (t : ℕ) (ps : List Part) → wanted_before (t + 1) ps ≡ wanted_before t ps + wanted_in t ps
+before-next t [] = refl
+before-next t (p ∷ ps) = omega (
+  arith,
+  one_before_next t p,
+  before-next t ps,
+  sum_by-cons (if_before (t + 1)) p ps,
+  sum_by-cons (if_before t) p ps,
+  sum_by-cons (if_in t) p ps,
+)
+
+one_before_first : (p : Part) → if_before 0 p ≡ 0
+one_before_first p = grind (arith, nat_tests)
+
+-- nobody comes before the first turn
+pub before-first : (ps : List Part) → wanted_before 0 ps ≡ 0
+before-first [] = refl
+before-first (p ∷ ps) = omega (arith, one_before_first p, before-first ps, sum_by-cons (if_before 0) p ps)
+
+one_before_later : (t u : ℕ) → t ≤ u → (p : Part) → if_before t p ≤ if_before u p
+one_before_later t u later p = grind (arith, nat_tests)
+
+pub before-later : (t u : ℕ) (ps : List Part) → t ≤ u → wanted_before t ps ≤ wanted_before u ps
+before-later t u ps later = sum_by-le-sum_by (if_before t) (if_before u) ps (one_before_later t u later)
+
+-- a number is at most another if it can't come after it
+pub not_after : (u t : ℕ) → (t + 1 ≤ u → ⊥) → u ≤ t
+not_after u t not_later = grind (arith, nat_tests, not_later)
+
+-- what is left after all turns
+pub all_left : (ps : List Part) (room t left : ℕ) → t ≡ 5 → left + wanted_before t ps ≡ room → left + wanted_before 5 ps ≡ room
+all_left ps room t left last whole = let P : ℕ → Type 0 = λ u. left + wanted_before u ps ≡ room in subst P last whole
+
+pub all_fit : (ps : List Part) (room t left : ℕ) → t ≡ 5 → left + wanted_before t ps ≡ room → wanted_before 5 ps ≤ room
+all_fit ps room t left last whole = omega (arith, all_left ps room t left last whole)
+
+-- sizes that are settled for a turn that comes too short are shared
+pub settled_share : (legacy : Bool) (ps : List Part) (room : ℕ) (sizes : List ℕ) (t : ℕ) → t < 5
+    → AllZip (Settled t) ps sizes → sum sizes ≡ room → room < wanted_before (t + 1) ps
+    → IsShared legacy ps room sizes 0
+settled_share legacy ps room sizes t short each all misses = record {
+  total = omega arith;
+  granted = λ u last fits. AllZip-weaker (Settled t) (IsGranted u) (λ p s settled first.
+      let within : u ≤ t = not_after u t (λ later. absurd (omega (arith, misses, before-later (t + 1) u ps later))) in
+      let own : s ≡ p.wanted = settled.before (omega arith) in
+      omega arith) ps sizes each;
+  at_most = AllZip-weaker (Settled t) IsModest (λ p s settled modest. settled.at_most) ps sizes each;
+  short = λ u last missing. all;
+  filled = λ small fits. absurd (omega (arith, misses, before-later (t + 1) 5 ps (omega arith)));
+}
+
+-- a size at a level is a wish, or more if the part takes something of what is left
+granted_at : (takers : Takers) (level wanted : ℕ) (c : Constraint) → turn c < 5
+    → wanted ≤ size_of_constraint takers level wanted c
+granted_at takers level wanted (Min n) first = grind (arith, nat_tests)
+granted_at takers level wanted (Length n) first = omega arith
+granted_at takers level wanted (Percentage n) first = omega arith
+granted_at takers level wanted (Ratio m n) first = omega arith
+granted_at takers level wanted (Max n) first = omega arith
+granted_at takers level wanted (Fill n) first = absurd (omega arith)
+
+modest_at : (takers : Takers) (level wanted : ℕ) (c : Constraint) → TakesNothing c
+    → size_of_constraint takers level wanted c ≤ wanted
+modest_at takers level wanted (Min n) modest = absurd modest
+modest_at takers level wanted (Length n) modest = omega arith
+modest_at takers level wanted (Percentage n) modest = omega arith
+modest_at takers level wanted (Ratio m n) modest = omega arith
+modest_at takers level wanted (Max n) modest = omega arith
+modest_at takers level wanted (Fill n) modest = absurd modest
+
+-- sizes at a level are shared, if all wishes fit and the sizes do
+pub filled_share : (legacy : Bool) (ps : List Part) (room : ℕ) (takers : Takers) (level over : ℕ) → takers.legacy ≡ legacy
+    → wanted_before 5 ps ≤ room → sum_by (sized takers level) ps ≤ room → over ≤ room - sum (map (sized takers level) ps)
+    → (room < 2 ^ 43 → level < (room + 1) * 1048576 → room < sum_by (sized takers (level + 1048576)) ps)
+    → IsShared legacy ps room (map (sized takers level) ps) over
+filled_share legacy ps room takers level over same fits within rest most =
+    let P : Bool → Type 0 = λ b. IsFilled b ps room (map (sized takers level) ps) in
+    record {
+      total = omega (arith, sum-map (sized takers level) ps);
+      granted = λ u last _. AllZip-mapped (IsGranted u) (sized takers level)
+          (λ p first. granted_at takers level p.wanted p.constraint (omega arith)) ps;
+      at_most = AllZip-mapped IsModest (sized takers level) (λ p modest. modest_at takers level p.wanted p.constraint modest) ps;
+      short = λ u last misses. absurd (omega (arith, before-later u 5 ps last));
+      filled = λ small _. subst P same (takers.even, level, refl, λ some. most small (omega (arith, some, within)));
+    }

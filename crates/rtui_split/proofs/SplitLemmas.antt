@@ -1,0 +1,347 @@
+-- What exact sizes make of the cells of a part.
+use Rattle.std.proofs.Common.{ℕ, ◌≡◌, ◌<◌, ◌≤◌, ◌+◌, ◌-◌, ◌*◌, ◌/◌, max, Bool, true, false, inl, inr, List, [], ◌∷◌, map, length}
+use Rattle.std.proofs.Common.{sum_by, All, refl, sym, ◌∙◌, ap, suc, nat_lt, if◌then◌else◌, subst, add-mul, mul-le-mul_right}
+use Rattle.std.proofs.Common.{arith}
+use Rattle.std.proofs.Math.Nat.{suc-mul, mul_right_comm, div-mul-le_self, lt-div-mul-add}
+use Rattle.std.proofs.lemmas.List.Sums.{sum_by-cons}
+use Rattle.std.specs.List.{AllZip}
+use Rattle.rtui_layout.specs.declared.constraint.Constraint.{Constraint}
+use Rattle.rtui_layout.specs.declared.constraint.Constraint.TheVariants.{Min, Max, Length, Percentage, Ratio, Fill}
+use Rattle.rtui_split.specs.{Cut.AtMostCells, Cut.AtLeastCells, Wishes.turn, Wishes.wish, Wishes.wished_before}
+use Rattle.rtui_geometry.specs.declared.rect.Rect.{Rect}
+use Rattle.rtui_layout.specs.{Layout.LayoutData, declared.direction.Direction.Direction, declared.flex.Flex.Flex}
+use Rattle.rtui_layout.specs.declared.direction.Direction.TheVariants.{Horizontal, Vertical}
+use Rattle.rtui_split.specs.declared.{flex.Spaces.Spaces, part.Part.Part}
+use Rattle.rtui_split.specs.Cut.{first_cell, area_end, length_of, IsPartAlong, InOrder, IsSpace, Alternate, SpansAcross}
+use Rattle.rtui_split.specs.{Spacers.AreSpacers, declared.place.Lane.Lane}
+use Rattle.rtui_split.specs.Shares.{part_in, wanted_before, if_before, sized, TakesNothing, IsGranted, IsModest}
+use Rattle.rtui_split.specs.Spaces.{least_spaces, KeepsWishes, FitsBefore, HasRoomForSpaces, IsCutTo, IsArranged}
+use Rattle.rtui_split.specs.Split.{IsCutFrom, LeavesNothing}
+use Rattle.rtui_split.specs.declared.flex.Room.{Room}
+use Rattle.rtui_split.specs.Split.{gap_units, FitWishes, IsLane, HasWish, WithinWish, IsGivenBefore, IsWithinWish, IsSplit, size_at}
+use Rattle.rtui_split.specs.Split.{IsCutAt, HasTaker, SharesRest}
+use Rattle.std.proofs.lemmas.List.Elements.{All-head, All-tail}
+use Rattle.std.proofs.lemmas.List.{length-map}
+
+-- a share q/u of x by n parts
+ratio_within : (x n q size : ℕ) → q ≤ x * 5040000 / n → size * 5040000 < q + 5040000 → 0 < n → size * n < x + n
+ratio_within x n q size few cut some =
+    let cells : suc (size * 5040000) * n ≤ (q + 5040000) * n = mul-le-mul_right n cut in
+    let share : q * n ≤ x * 5040000 / n * n = mul-le-mul_right n few in
+    omega (
+      arith,
+      cells,
+      share,
+      div-mul-le_self (x * 5040000) n,
+      suc-mul (size * 5040000) n,
+      add-mul q 5040000 n,
+      mul_right_comm size 5040000 n,
+    )
+
+ratio_given : (x n size : ℕ) → x * 5040000 / n < size * 5040000 + 5040000 → 0 < n → x < size * n + n
+ratio_given x n size cut some =
+    let cells : suc (x * 5040000 / n) * n ≤ (size * 5040000 + 5040000) * n = mul-le-mul_right n cut in
+    omega (
+      arith,
+      cells,
+      lt-div-mul-add {a = x * 5040000} {b = n} some,
+      suc-mul (x * 5040000 / n) n,
+      add-mul (size * 5040000) 5040000 n,
+      mul_right_comm size 5040000 n,
+    )
+
+-- a size of at most the wish
+pub wish_within : (cells : ℕ) (c : Constraint) (units size : ℕ) → (TakesNothing c → units ≤ wish cells c) → AtMostCells units size
+    → WithinWish cells c size
+wish_within cells (Min n) units size few cut = tt
+wish_within cells (Length n) units size few cut = omega (arith, few tt, cut)
+wish_within cells (Percentage n) units size few cut = omega (arith, few tt, cut)
+wish_within cells (Ratio m n) units size few cut =
+    ratio_within (cells * m) (max n 1) units size (omega (arith, few tt)) cut (omega arith)
+wish_within cells (Max n) units size few cut = omega (arith, few tt, cut)
+wish_within cells (Fill n) units size few cut = tt
+
+-- a size of the wish
+pub wish_given : (cells : ℕ) (c : Constraint) (units size : ℕ) → wish cells c ≤ units → AtLeastCells units size → size ≤ 65535
+    → WithinWish cells c size → HasWish cells c size
+wish_given cells (Min n) units size enough cut small few = omega (arith, enough, cut)
+wish_given cells (Length n) units size enough cut small few = omega (arith, enough, cut, few)
+wish_given cells (Percentage n) units size enough cut small few = (few, omega (arith, enough, cut))
+wish_given cells (Ratio m n) units size enough cut small few =
+    (few, ratio_given (cells * m) (max n 1) size (omega (arith, enough, cut, small)) (omega arith))
+wish_given cells (Max n) units size enough cut small few = omega (arith, enough, cut, few)
+wish_given cells (Fill n) units size enough cut small few = tt
+
+-- the wishes of parts are those of their constraints
+pub wanted_is_wished : (t cells : ℕ) (cs : List Constraint) → wanted_before t (map (part_in cells) cs) ≡ wished_before t cells cs
+wanted_is_wished t cells [] = refl
+wanted_is_wished t cells (c ∷ cs) =
+    omega (
+      arith,
+      wanted_is_wished t cells cs,
+      sum_by-cons (if_before t) (part_in cells c) (map (part_in cells) cs),
+      sum_by-cons (λ d. if nat_lt (turn d) t then wish cells d else 0) c cs,
+    )
+
+-- wishes that are granted are given
+given_each : (t cells : ℕ) (d : Direction) (c : Constraint) (units : ℕ) (p : Rect) → IsGranted t (part_in cells c) units
+    → IsModest (part_in cells c) units
+    → AtMostCells units (length_of d p) → AtLeastCells units (length_of d p) → length_of d p ≤ 65535 → IsGivenBefore t cells d c p
+given_each t cells d c units p granted modest most least small =
+    λ first. wish_given cells c units (length_of d p) (granted first) least small
+    (wish_within cells c units (length_of d p) modest most)
+
+pub given_all : (t cells : ℕ) (d : Direction) (cs : List Constraint) (us : List ℕ) (ps : List Rect)
+    → AllZip (IsGranted t) (map (part_in cells) cs) us → AllZip IsModest (map (part_in cells) cs) us
+    → AllZip (IsCutTo AtMostCells d) us ps → AllZip (IsCutTo AtLeastCells d) us ps → AllZip (λ u p. length_of d p ≤ 65535) us ps
+    → AllZip (IsGivenBefore t cells d) cs ps
+given_all t cells d [] [] [] granted modest most least small = tt
+given_all t cells d [] [] (p ∷ ps) granted modest most least small = absurd most
+given_all t cells d [] (u ∷ us) ps granted modest most least small = absurd granted
+given_all t cells d (c ∷ cs) [] ps granted modest most least small = absurd granted
+given_all t cells d (c ∷ cs) (u ∷ us) [] granted modest most least small = absurd most
+given_all t cells d (c ∷ cs) (u ∷ us) (p ∷ ps) granted modest most least small = (
+  given_each t cells d c u p granted.0 modest.0 most.0 least.0 small.0,
+  given_all t cells d cs us ps granted.1 modest.1 most.1 least.1 small.1,
+)
+
+pub within_all : (cells : ℕ) (d : Direction) (cs : List Constraint) (us : List ℕ) (ps : List Rect)
+    → AllZip IsModest (map (part_in cells) cs) us → AllZip (IsCutTo AtMostCells d) us ps → AllZip (IsWithinWish cells d) cs ps
+within_all cells d [] [] [] modest most = tt
+within_all cells d [] [] (p ∷ ps) modest most = absurd most
+within_all cells d [] (u ∷ us) ps modest most = absurd modest
+within_all cells d (c ∷ cs) [] ps modest most = absurd modest
+within_all cells d (c ∷ cs) (u ∷ us) [] modest most = absurd most
+within_all cells d (c ∷ cs) (u ∷ us) (p ∷ ps) modest most =
+    (wish_within cells c u (length_of d p) modest.0 most.0, within_all cells d cs us ps modest.1 most.1)
+
+-- no part has more than 65535 columns or rows
+size_small : (d : Direction) (area : Rect) (a b : ℕ) (p : Rect) → b ≤ 65535 → IsPartAlong d area a b p → length_of d p ≤ 65535
+size_small Horizontal area a b p small part = omega (arith, part.to)
+size_small Vertical area a b p small part = omega (arith, part.to)
+
+all_small : (d : Direction) (area : Rect) (a b : ℕ) (us : List ℕ) (ps : List Rect) → b ≤ 65535 → All (IsPartAlong d area a b) ps
+    → AllZip (IsCutTo AtMostCells d) us ps → AllZip (λ u p. length_of d p ≤ 65535) us ps
+all_small d area a b [] [] small inside most = tt
+all_small d area a b [] (p ∷ ps) small inside most = absurd most
+all_small d area a b (u ∷ us) [] small inside most = absurd most
+all_small d area a b (u ∷ us) (p ∷ ps) small inside most = (
+  size_small d area a b p small (All-head (IsPartAlong d area a b) p ps inside),
+  all_small d area a b us ps small (All-tail (IsPartAlong d area a b) p ps inside) most.1,
+)
+
+-- what placing makes of sizes
+pub record Placed (space : Type 0) (area : Rect) (units : List ℕ) (spaces : Spaces) (parts : List Rect) (d : Direction) (a b : ℕ)
+    : Type 0 where
+  pub inside : All (IsPartAlong d area a b) parts
+  pub in_order : space → InOrder d a b parts
+  pub at_most : AllZip (IsCutTo AtMostCells d) units parts
+  pub at_least : space → HasRoomForSpaces spaces (b - a) units → AllZip (IsCutTo AtLeastCells d) units parts
+
+pub moved : (space : Type 0) (area : Rect) (units : List ℕ) (spaces : Spaces) (parts : List Rect) (d e : Direction) (a b p q : ℕ)
+    → d ≡ e → a ≡ p → b ≡ q → Placed space area units spaces parts d a b → Placed space area units spaces parts e p q
+moved space area units spaces parts d e a b p q same_d same_a same_b placed =
+    let P : Direction → Type 0 = λ x. Placed space area units spaces parts x a b in
+    let Q : ℕ → Type 0 = λ x. Placed space area units spaces parts e x b in
+    let R : ℕ → Type 0 = λ x. Placed space area units spaces parts e p x in
+    subst R same_b (subst Q same_a (subst P same_d placed))
+
+-- the same of what is arranged in another room, of other parts
+pub rearranged : (ps qs : List Part) (units : List ℕ) (spaces : Spaces) (w w' g g' o : ℕ) (f f' : Flex) → ps ≡ qs → w ≡ w'
+    → g ≡ g' → f ≡ f'
+    → (KeepsWishes f (length ps) → IsArranged ps (record { whole = w; flex = f; gap = g; overlap = o }) units spaces)
+    → KeepsWishes f' (length qs) → IsArranged qs (record { whole = w'; flex = f'; gap = g'; overlap = o }) units spaces
+rearranged ps qs units spaces w w' g g' o f f' same_ps same_w same_g same_f arranged =
+    let P : List Part → Type 0 = λ x. KeepsWishes f (length x)
+    → IsArranged x (record { whole = w; flex = f; gap = g; overlap = o }) units spaces in
+    let Q : ℕ → Type 0 = λ x. KeepsWishes f (length qs) → IsArranged qs (record { whole = x; flex = f; gap = g; overlap = o })
+    units spaces in
+    let R : ℕ → Type 0 = λ x. KeepsWishes f (length qs) → IsArranged qs (record { whole = w'; flex = f; gap = x; overlap = o })
+    units spaces in
+    let S : Flex → Type 0 = λ x. KeepsWishes x (length qs) → IsArranged qs
+    (record { whole = w'; flex = x; gap = g'; overlap = o }) units spaces in
+    subst S same_f (subst R same_g (subst Q same_w (subst P same_ps arranged)))
+
+-- the size of a part at a level is that of its constraint
+sized_is : (cells : ℕ) (even : Bool) (level : ℕ) (c : Constraint)
+    → sized (record { legacy = false; even = even }) level (part_in cells c) ≡ size_at cells even level c
+sized_is cells even level (Min n) = refl
+sized_is cells even level (Length n) = refl
+sized_is cells even level (Percentage n) = refl
+sized_is cells even level (Ratio m n) = refl
+sized_is cells even level (Max n) = refl
+sized_is cells even level (Fill n) = refl
+
+sum_sized_is : (cells : ℕ) (even : Bool) (level : ℕ) (cs : List Constraint)
+    → sum_by (sized (record { legacy = false; even = even }) level) (map (part_in cells) cs) ≡ sum_by (size_at cells even level)
+    cs
+sum_sized_is cells even level [] = refl
+sum_sized_is cells even level (c ∷ cs) =
+    omega (
+      arith,
+      sized_is cells even level c,
+      sum_sized_is cells even level cs,
+      sum_by-cons (size_at cells even level) c cs,
+      sum_by-cons (sized (record { legacy = false; even = even }) level) (part_in cells c) (map (part_in cells) cs),
+    )
+
+-- a weight above 0 takes at least the level
+one_weight : (k level : ℕ) → 0 < k → level / 1048576 ≤ k * level / 1048576
+one_weight k level some = let more : 1 * level ≤ k * level = mul-le-mul_right level some in omega (arith, more)
+
+some_weight : (even : Bool) (n : ℕ) → 0 < n → 0 < (if even then max n 1 else n)
+some_weight true n some = omega arith
+some_weight false n some = some
+
+taker_le : (cells : ℕ) (even : Bool) (level : ℕ) (cs : List Constraint) → HasTaker cs
+    → level / 1048576 ≤ sum_by (size_at cells even level) cs
+taker_le cells even level [] some = absurd some
+taker_le cells even level (Min n ∷ cs) some = omega (arith, sum_by-cons (size_at cells even level) (Min n) cs)
+taker_le cells even level (Length n ∷ cs) some = omega (
+  arith,
+  sum_by-cons (size_at cells even level) (Length n) cs,
+  taker_le cells even level cs some,
+)
+taker_le cells even level (Percentage n ∷ cs) some = omega (
+  arith,
+  sum_by-cons (size_at cells even level) (Percentage n) cs,
+  taker_le cells even level cs some,
+)
+taker_le cells even level (Ratio m n ∷ cs) some = omega (
+  arith,
+  sum_by-cons (size_at cells even level) (Ratio m n) cs,
+  taker_le cells even level cs some,
+)
+taker_le cells even level (Max n ∷ cs) some = omega (
+  arith,
+  sum_by-cons (size_at cells even level) (Max n) cs,
+  taker_le cells even level cs some,
+)
+taker_le cells even level (Fill n ∷ cs) (inl weight) =
+    omega (
+      arith,
+      sum_by-cons (size_at cells even level) (Fill n) cs,
+      one_weight (if even then max n 1 else n) level (some_weight even n weight),
+    )
+taker_le cells even level (Fill n ∷ cs) (inr some) = omega (
+  arith,
+  sum_by-cons (size_at cells even level) (Fill n) cs,
+  taker_le cells even level cs some,
+)
+
+-- parts that are cut from sizes at a level
+cut_one : (cells : ℕ) (even : Bool) (level : ℕ) (d : Direction) (c : Constraint) (p : Rect)
+    → AtMostCells (sized (record { legacy = false; even = even }) level (part_in cells c)) (length_of d p)
+    → AtLeastCells (sized (record { legacy = false; even = even }) level (part_in cells c)) (length_of d p)
+    → IsCutAt cells even level d c p
+cut_one cells even level d c p most least =
+    let P : ℕ → Type 0 = λ n. AtMostCells n (length_of d p) in
+    let Q : ℕ → Type 0 = λ n. AtLeastCells n (length_of d p) in
+    record { at_most = subst P (sized_is cells even level c) most; at_least = subst Q (sized_is cells even level c) least }
+
+cut_all : (cells : ℕ) (even : Bool) (level : ℕ) (d : Direction) (cs : List Constraint) (ps : List Rect)
+    → AllZip (IsCutTo AtMostCells d) (map (sized (record { legacy = false; even = even }) level) (map (part_in cells) cs)) ps
+    → AllZip (IsCutTo AtLeastCells d) (map (sized (record { legacy = false; even = even }) level) (map (part_in cells) cs)) ps
+    → AllZip (IsCutAt cells even level d) cs ps
+cut_all cells even level d [] [] most least = tt
+cut_all cells even level d [] (p ∷ ps) most least = absurd most
+cut_all cells even level d (c ∷ cs) [] most least = absurd most
+cut_all cells even level d (c ∷ cs) (p ∷ ps) most least = (
+  cut_one cells even level d c p most.0 least.0,
+  cut_all cells even level d cs ps most.1 least.1,
+)
+
+cut_from : (d : Direction) (us : List ℕ) (ps : List Rect) → AllZip (IsCutTo AtMostCells d) us ps
+    → AllZip (IsCutTo AtLeastCells d) us ps → AllZip (IsCutFrom d) us ps
+cut_from d [] [] most least = tt
+cut_from d [] (p ∷ ps) most least = absurd most
+cut_from d (u ∷ us) [] most least = absurd most
+cut_from d (u ∷ us) (p ∷ ps) most least =
+    (record { at_most = most.0; at_least = least.0 }, cut_from d us ps most.1 least.1)
+
+-- parts that are placed as they are arranged split the area
+pub is_split : (l : LayoutData) (area : Rect) (units : List ℕ) (spaces : Spaces) (parts : List Rect) (cells o : ℕ)
+    → cells ≡ area_end l.direction area - first_cell l.direction area → area_end l.direction area ≤ 65535
+    → length parts ≡ length l.constraints
+    → (IsSpace l.spacing → KeepsWishes l.flex (length (map (part_in cells) l.constraints))
+    → IsArranged (map (part_in cells) l.constraints) (record
+    { whole = cells * 5040000; flex = l.flex; gap = gap_units l.spacing; overlap = o }) units spaces)
+    → Placed (IsSpace l.spacing) area units spaces parts l.direction (first_cell l.direction area) (area_end l.direction area)
+    → IsSplit l area parts
+is_split l area units spaces parts cells o cells_are small long arranged placed =
+    let cs = l.constraints in
+    let d = l.direction in
+    let long_cs : length (map (part_in cells) cs) ≡ length cs = length-map cs (part_in cells) in
+    let keeps : KeepsWishes l.flex (length cs) → KeepsWishes l.flex (length (map (part_in cells) cs)) =
+    λ k. let P : ℕ → Type 0 = λ n. KeepsWishes l.flex n in subst P (sym long_cs) k in
+    let fits : (t : ℕ) → FitWishes t l cells → FitsBefore t (map (part_in cells) cs)
+    (record { whole = cells * 5040000; flex = l.flex; gap = gap_units l.spacing; overlap = o }) =
+    λ t f. omega (arith, f, wanted_is_wished t cells cs, ap (λ n. least_spaces l.flex n * gap_units l.spacing) long_cs) in
+    let W : ℕ → Type 0 = λ n. AllZip (IsWithinWish n d) cs parts in
+    record {
+      count = long;
+      inside = placed.inside;
+      in_order = placed.in_order;
+      within = λ space k. subst W cells_are (within_all cells d cs units parts (arranged space (keeps k)).at_most placed.at_most);
+      given = λ space k t last. let H : ℕ → Type 0 = λ n. FitWishes t l n → AllZip (IsGivenBefore t n d) cs parts in
+          subst H cells_are (λ fit. given_all t cells d cs units parts
+          ((arranged space (keeps k)).granted t last (fits t fit)) (arranged space (keeps k)).at_most placed.at_most
+          (placed.at_least space (omega (arith, (arranged space (keeps k)).fit t (fits t fit), cells_are)))
+          (all_small d area (first_cell d area) (area_end d area) units parts small placed.inside placed.at_most));
+      short = λ space k t last. let H : ℕ → Type 0 = λ n. FitWishes 0 l n → (FitWishes t l n → ⊥) → LeavesNothing l n parts in
+          subst H cells_are (λ spaced misses.
+          let room : Room = record { whole = cells * 5040000; flex = l.flex; gap = gap_units l.spacing; overlap = o } in
+          let least = placed.at_least space (omega (arith, (arranged space (keeps k)).fit 0 (fits 0 spaced), cells_are)) in
+          let unfit : FitsBefore t (map (part_in cells) cs) room → ⊥ =
+          λ f. misses (omega (
+            arith,
+            f,
+            wanted_is_wished t cells cs,
+            ap (λ n. least_spaces l.flex n * gap_units l.spacing) long_cs,
+          )) in (
+            units,
+            cut_from d units parts placed.at_most least,
+            omega (
+              arith,
+              (arranged space (keeps k)).short t last (fits 0 spaced) unfit,
+              ap (λ n. least_spaces l.flex n * gap_units l.spacing) long_cs,
+            ),
+          ));
+      rest = λ space k. let H : ℕ → Type 0 = λ n. FitWishes 5 l n → SharesRest l n parts in
+          subst H cells_are (λ fit.
+          let filled = (arranged space (keeps k)).filled (omega (arith, cells_are, small)) (fits 5 fit) in
+          let even = filled.0 in
+          let level = filled.1 in
+          let least = placed.at_least space (omega (arith, (arranged space (keeps k)).fit 5 (fits 5 fit), cells_are)) in
+          let A : List ℕ → Type 0 = λ us. AllZip (IsCutTo AtMostCells d) us parts in
+          let B : List ℕ → Type 0 = λ us. AllZip (IsCutTo AtLeastCells d) us parts in (
+            even,
+            level,
+            cut_all cells even level d cs parts (subst A filled.2 placed.at_most) (subst B filled.2 least),
+            λ some. omega (
+              arith,
+              filled.3 (omega (arith, taker_le cells even level cs some, sum_sized_is cells even level cs)),
+              sum_sized_is cells even (level + 1048576) cs,
+              ap (λ n. least_spaces l.flex n * gap_units l.spacing) long_cs,
+            ),
+          ));
+    }
+
+-- spaces between the edges of a lane are spacers of the area
+pub are_spacers : (l : LayoutData) (area : Rect) (lane : Lane) (spacers parts : List Rect) → IsLane l area lane
+    → IsSplit l area parts
+    → length spacers ≡ length parts + 1 → All (SpansAcross lane.direction lane.area) spacers
+    → (InOrder lane.direction lane.start lane.end parts → Alternate lane.direction lane.start lane.end spacers parts)
+    → AreSpacers l area spacers parts
+are_spacers l area lane spacers parts is_lane split count across turns =
+    let A : Rect → Type 0 = λ x. All (SpansAcross lane.direction x) spacers in
+    let D : Direction → Type 0 = λ x. All (SpansAcross x area) spacers in
+    let P : Direction → Type 0 = λ x. InOrder x lane.start lane.end parts → Alternate x lane.start lane.end spacers parts in
+    let Q : ℕ → Type 0 = λ x. InOrder l.direction x lane.end parts → Alternate l.direction x lane.end spacers parts in
+    let R : ℕ → Type 0 = λ x. InOrder l.direction (first_cell l.direction area) x parts
+    → Alternate l.direction (first_cell l.direction area) x spacers parts in
+    record {
+      count = count ∙ ap (λ n. n + 1) split.count;
+      across = subst D is_lane.direction (subst A is_lane.cut across);
+      turns = λ space. subst R is_lane.end (subst Q is_lane.start (subst P is_lane.direction turns)) (split.in_order space);
+    }

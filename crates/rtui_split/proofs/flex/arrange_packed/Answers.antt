@@ -1,0 +1,30 @@
+use Rattle.std.proofs.Common.{ℕ, ◌≡◌, ◌+◌, ◌*◌, ◌-◌, length, Bool, false, ap, subst, ◌∙◌, arith}
+use Rattle.std.proofs.Math.Nat.{mul_comm}
+use Rattle.rtui_split.specs.Shares.{IsShared}
+use Rattle.rtui_split.specs.Spaces.{FitsBefore, least_spaces}
+use Rattle.rtui_split.proofs.FlexLemmas.{arranged, one_more, packed_least}
+use Rattle.rtui_split.proofs.flex.arrange_packed.Goals as goal
+
+pub returns : goal.returns
+returns c = λ keeps.
+    let parts = c.args.parts.now in
+    let room = c.args.room in
+    let n = length parts in
+    let sizes = c.share-left.new.sizes in
+    let for_parts = c.saturating_sub-for_parts.result in
+    let shared : IsShared false parts for_parts sizes c.share-left.result = let P : Bool → Type 0 =
+    λ b. IsShared b parts for_parts sizes c.share-left.result in
+    subst P (c.is_legacy-legacy.ensures n keeps) c.share-left.ensures in
+    let least : least_spaces room.flex n * room.gap ≡ (n - 1) * room.gap =
+    ap (λ k. k * room.gap) (packed_least room.flex n c.requires.flex) in
+    let long : length sizes ≡ n = omega arith in
+    let same : length sizes * room.gap ≡ n * room.gap = ap (λ k. k * room.gap) long in
+    let inner : room.gap * c.saturating_sub-inner.result ≡ (n - 1) * room.gap =
+    mul_comm room.gap c.saturating_sub-inner.result ∙ ap (λ k. k * room.gap) c.saturating_sub-inner.ensures in
+    let left_for : (t : ℕ) → FitsBefore t parts room → for_parts + (n - 1) * room.gap ≡ room.whole = λ t fits.
+    omega (arith, fits, least, inner, c.saturating_mul.ensures, c.saturating_sub-for_parts.ensures) in
+    arranged parts room sizes c.share-left.result for_parts (record { first = c.lead_of.result; middle = room.gap }) shared
+    (omega (arith, c.saturating_sub-for_parts.ensures))
+    (λ t fits. omega (arith, left_for t fits, fits, least))
+    (λ t fits. omega (arith, left_for t fits, least))
+    (λ t fits. omega (arith, left_for t fits, one_more n room.gap, same, c.share-left.ensures.total, c.lead_of.ensures))

@@ -1,0 +1,29 @@
+use Rattle.std.proofs.Common.{◌≡◌, ◌≤◌, ◌+◌, ◌*◌, length, sum, ap, arith}
+use Rattle.rtui_split.specs.Shares.{wanted_before}
+use Rattle.rtui_split.specs.Spaces.{least_spaces}
+use Rattle.rtui_split.proofs.FlexLemmas.{arranged, spread_room, spread_beside}
+use Rattle.rtui_split.proofs.flex.arrange_spread.Goals as goal
+
+pub returns : goal.returns
+returns c = λ keeps.
+    let parts = c.args.parts.now in
+    let room = c.args.room in
+    let sizes = c.share.new.sizes in
+    let for_parts = c.room_after_mins-for_parts.result in
+    let count = c.least_of-first.ensures c.requires.flex in
+    let long : length sizes ≡ length parts = omega arith in
+    let within : sum sizes ≤ for_parts = omega (arith, c.share.ensures.total) in
+    arranged parts room sizes c.share.result for_parts c.spaces_of.result c.share.ensures (omega arith)
+    (λ t fits. spread_room room.whole room.gap c.least_of-first.result.0 c.least_of-first.result.1
+    (least_spaces room.flex (length parts))
+    c.min-least.result c.saturating_mul-2.result for_parts (wanted_before t parts) count (omega arith) (omega arith) (omega arith)
+    fits)
+    (λ t fits. spread_beside room.whole room.gap c.least_of-first.result.0 c.least_of-first.result.1
+    (least_spaces room.flex (length parts))
+    c.min-least.result c.saturating_mul-2.result for_parts count (omega arith) (omega arith) (omega arith))
+    (λ t fits.
+    let spaced : c.spaces_of.result.first + length parts * c.spaces_of.result.middle ≤ c.rest_of.result
+    + c.spaces_of.result.middle = c.spaces_of.ensures in
+    let same : length sizes * c.spaces_of.result.middle ≡ length parts * c.spaces_of.result.middle =
+    ap (λ n. n * c.spaces_of.result.middle) long in
+    omega (arith, spaced, same, c.rest_of.ensures, within, c.room_after_mins-for_parts.ensures.most))

@@ -1,0 +1,12 @@
+use Rattle.std.proofs.Common.{◌+◌, arith}
+use Rattle.rtui_split.proofs.LevelLemmas.{sizes_later}
+use Rattle.rtui_split.proofs.level.level_between.Goals as goal
+
+pub returns-clause-most : goal.returns-clause-most
+returns-clause-most c =
+    omega (
+      arith,
+      c.halves.invariant.misses,
+      sizes_later c.args.takers c.halves.high (c.halves.low + 1048576) c.args.parts.now
+          (omega arith),
+    )

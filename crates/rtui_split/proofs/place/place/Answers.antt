@@ -1,0 +1,62 @@
+use Rattle.std.proofs.Common.{ℕ, ◌≡◌, ◌<◌, ◌+◌, ◌*◌, ◌-◌, min, List, take, drop, length, get_or, sum_by, subst, sym, take_all}
+use Rattle.std.proofs.Common.{arith}
+use Rattle.std.proofs.lemmas.List.Sums.{sum_by-drop_more}
+use Rattle.rtui_geometry.specs.declared.rect.Rect.{Rect}
+use Rattle.rtui_split.specs.Cut.{length_of, IsPartAlong, InOrder, AtMostCells, AtLeastCells}
+use Rattle.rtui_split.specs.Spaces.{IsCutTo}
+use Rattle.rtui_split.proofs.Lists.{All-written, AllZip-written}
+use Rattle.rtui_split.proofs.CutLemmas.{cut_at_most, cut_at_least, cut_later, InOrder-later, InOrder-written}
+use Rattle.rtui_split.proofs.place.place.Goals as goal
+
+pub loop-i-preserved : goal.loop-i-preserved
+loop-i-preserved c =
+    let lane = c.args.lane in
+    let d = lane.direction in
+    let i = c.loop-i.i in
+    let at = c.loop-i.at in
+    let part = c.across.result in
+    let inv = c.loop-i.invariant in
+    let begin = c.min-begin.result in
+    let finish = c.min-finish.result in
+    let rounding = c.rounding_of-rounding.result in
+    let sizes = c.args.sizes.now in
+    let size = get_or sizes i 0 in
+    let own = λ (s : ℕ). s + c.args.spaces.middle in
+    let own_size : own size + sum_by own (drop (i + 1) sizes) ≡ sum_by own (drop i sizes) =
+    sym (sum_by-drop_more own sizes i 0 c.loop-i-test.true) in
+    let in_parts : i < length c.loop-i.parts = omega arith in
+    let on_whole : c.from-whole.result * 5040000 ≡ (lane.end - lane.start) * 5040000 = omega arith in
+    let is_part : IsPartAlong d lane.area lane.start lane.end part = record {
+      from = omega arith;
+      to = omega arith;
+      across = c.across.ensures.across;
+    } in
+    record {
+      inside = All-written (IsPartAlong d lane.area lane.start lane.end) c.loop-i.parts i part in_parts inv.inside is_part;
+      in_order = λ none. InOrder-written d lane.start _ _ i c.loop-i.parts part in_parts (inv.in_order none)
+          (omega arith)
+          (omega (
+            arith,
+            cut_later finish (min c.saturating_sub-at.result (c.from-whole.result * 5040000)) rounding
+                (omega arith),
+          ));
+      at_most = AllZip-written (IsCutTo AtMostCells d) sizes c.loop-i.parts i 0 part c.loop-i-test.true in_parts inv.at_most
+          (cut_at_most begin finish size rounding lane.start c.cell_of-from.result c.cell_of-to.result (length_of d part)
+          (omega arith)
+          c.cell_of-from.ensures.value c.cell_of-to.ensures.value c.across.ensures.size);
+      room = λ none roomy. omega (arith, inv.room none roomy, own_size);
+      at_least = λ none roomy. AllZip-written (IsCutTo AtLeastCells d) sizes c.loop-i.parts i 0 part c.loop-i-test.true in_parts
+          (inv.at_least none roomy)
+          (cut_at_least begin finish size rounding lane.start c.cell_of-from.result c.cell_of-to.result (length_of d part)
+          (omega (arith, inv.room none roomy, own_size))
+          c.cell_of-from.ensures.value c.cell_of-to.ensures.value c.across.ensures.size);
+    }
+
+pub returns-clause-in_order : goal.returns-clause-in_order
+returns-clause-in_order c = λ none.
+    let lane = c.args.lane in
+    let parts = c.loop-i.parts in
+    let P : List Rect → Type 0 = λ ps. InOrder lane.direction lane.start lane.end ps in
+    let all : take c.loop-i.i parts ≡ parts = take_all c.loop-i.i parts (omega arith) in
+    subst P all (InOrder-later lane.direction lane.start _ lane.end (take c.loop-i.i parts) (omega arith)
+    (c.loop-i.invariant.in_order none))

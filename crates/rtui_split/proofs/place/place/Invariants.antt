@@ -1,0 +1,17 @@
+use Rattle.std.proofs.Common.{◌≡◌, ◌≤◌, ◌+◌, ◌-◌, ◌/◌, min, take, drop, All, sum_by}
+use Rattle.std.specs.List.{AllZip}
+use Rattle.rtui_split.specs.Cut.{IsPartAlong, InOrder, AtMostCells, AtLeastCells}
+use Rattle.rtui_split.specs.Spaces.{HasRoomForSpaces, IsCutTo}
+use Rattle.rtui_split.proofs.place.place.Given as goal
+
+abbrev pub invariant-loop-i : goal.invariant-loop-i
+invariant-loop-i l = record {
+  inside : All (IsPartAlong l.fn.lane.direction l.fn.lane.area l.fn.lane.start l.fn.lane.end) (take l.i l.parts);
+  in_order : l.overlap ≡ 0 → InOrder l.fn.lane.direction l.fn.lane.start
+      (l.fn.lane.start + (min l.at l.whole + l.rounding) / 5040000) (take l.i l.parts);
+  at_most : AllZip (IsCutTo AtMostCells l.fn.lane.direction) (take l.i l.sizes) (take l.i l.parts);
+  room : l.overlap ≡ 0 → HasRoomForSpaces l.fn.spaces (l.fn.lane.end - l.fn.lane.start) l.sizes
+      → l.at + sum_by (λ s. s + l.fn.spaces.middle) (drop l.i l.sizes) ≤ l.whole + l.fn.spaces.middle;
+  at_least : l.overlap ≡ 0 → HasRoomForSpaces l.fn.spaces (l.fn.lane.end - l.fn.lane.start) l.sizes
+      → AllZip (IsCutTo AtLeastCells l.fn.lane.direction) (take l.i l.sizes) (take l.i l.parts);
+}

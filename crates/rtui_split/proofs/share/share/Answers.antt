@@ -1,0 +1,32 @@
+use Rattle.std.proofs.Common.{ℕ, ◌≡◌, ◌≤◌, ◌-◌, map, sum, ap, subst, sym, arith, List}
+use Rattle.rtui_split.specs.Shares.{wanted_before, sized, IsShared}
+use Rattle.rtui_split.proofs.ShareLemmas.{before-next, all_fit, settled_share, filled_share}
+use Rattle.rtui_split.proofs.share.share.Goals as goal
+
+pub settle-requires-clause-left : goal.settle-requires-clause-left
+settle-requires-clause-left c =
+    omega (arith, c.first_short-short.ensures.short (omega arith), before-next c.first_short-short.result.turn c.args.parts.now)
+
+pub returns-then-short-lt-FILL : goal.returns-then-short-lt-FILL
+returns-then-short-lt-FILL c =
+    let short = c.first_short-short.result in
+    settled_share c.args.legacy c.args.parts.now c.args.room c.settle.new.sizes short.turn c.if-short-lt-FILL.true
+    c.settle.ensures.each
+    (omega (arith, c.settle.ensures.all, c.first_short-short.ensures.left))
+    (c.first_short-short.ensures.short c.if-short-lt-FILL.true)
+
+pub returns : goal.returns
+returns c =
+    let parts = c.args.parts.now in
+    let room = c.args.room in
+    let takers = c.takers_of-takers.result in
+    let level = c.level_of-level.result in
+    let turn : c.first_short-short.result.turn ≡ 5 = omega (arith, c.first_short-short.ensures.turn, c.if-short-lt-FILL.false) in
+    let fits : wanted_before 5 parts ≤ room = all_fit parts room c.first_short-short.result.turn c.first_short-short.result.left
+    turn c.first_short-short.ensures.left in
+    let P : List ℕ → Type 0 = λ sizes. IsShared c.args.legacy parts room sizes c.left_at.result in
+    let rest : c.left_at.result ≤ room - sum (map (sized takers level) parts) =
+    omega (arith, c.left_at.ensures, ap sum c.fill.ensures) in
+    subst P (sym c.fill.ensures)
+    (filled_share c.args.legacy parts room takers level c.left_at.result c.takers_of-takers.ensures fits
+    c.level_of-level.ensures.fits rest c.level_of-level.ensures.most)

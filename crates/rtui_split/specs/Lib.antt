@@ -1,0 +1,6 @@
+pub mod Cut
+pub mod Shares
+pub mod Spacers
+pub mod Spaces
+pub mod Split
+pub mod Wishes

@@ -1,0 +1,74 @@
+-- Parts with what they wish, and the sizes that they get, in units.
+use Rattle.std.specs.Prelude.{ℕ, ◌≡◌, ◌==◌, ◌+◌, ◌*◌, ◌/◌, ◌<◌, ◌≤◌, max, List, Bool, sum_by, nat_lt}
+use Rattle.std.specs.Prelude.{if◌then◌else◌, sum, map, ◌^◌, ⊤}
+use Rattle.std.specs.List.{AllZip}
+use Rattle.rtui_layout.specs.declared.constraint.Constraint.{Constraint}
+use Rattle.rtui_layout.specs.declared.constraint.Constraint.TheVariants.{Min, Fill}
+use Rattle.rtui_split.specs.declared.part.Part.{Part}
+use Rattle.rtui_split.specs.declared.level.Takers.{Takers}
+use Rattle.rtui_split.specs.Wishes.{turn, wish}
+
+-- the part of a constraint in an area of so many columns or rows
+abbrev pub part_in : ℕ → Constraint → Part
+part_in cells c = record { constraint = c; wanted = wish cells c }
+
+-- what a part wishes if its turn comes before this one, and if this is its turn
+abbrev pub if_before : ℕ → Part → ℕ
+if_before t p = if nat_lt (turn p.constraint) t then p.wanted else 0
+
+abbrev pub if_in : ℕ → Part → ℕ
+if_in t p = if turn p.constraint == t then p.wanted else 0
+
+-- what all parts wish together whose turn comes before this one, and whose turn this is
+abbrev pub wanted_before : ℕ → List Part → ℕ
+wanted_before t ps = sum_by (if_before t) ps
+
+abbrev pub wanted_in : ℕ → List Part → ℕ
+wanted_in t ps = sum_by (if_in t) ps
+
+-- a size at a level of what is left, in 1048576ths of a unit: the wish, or at least the share
+abbrev pub size_of_constraint : Takers → ℕ → ℕ → Constraint → ℕ
+size_of_constraint takers level wanted (Fill n) = (if takers.even then max n 1 else n) * level / 1048576
+size_of_constraint takers level wanted (Min n) = if takers.legacy then wanted else max wanted
+    (level / 1048576)
+size_of_constraint takers level wanted _ = wanted
+
+-- the part takes nothing of what is left
+abbrev pub TakesNothing : Constraint → Type 0
+TakesNothing (Fill n) = ⊥
+TakesNothing (Min n) = ⊥
+TakesNothing _ = ⊤
+
+-- the size of a part at a level
+abbrev pub sized : Takers → ℕ → Part → ℕ
+sized takers level p = size_of_constraint takers level p.wanted p.constraint
+
+-- those before a turn have their wishes, and nobody has more
+pub record Settled (t : ℕ) (p : Part) (size : ℕ) : Type 0 where
+  pub at_most : size ≤ p.wanted
+  pub before : turn p.constraint < t → size ≡ p.wanted
+
+-- the part has its wish if its turn comes before this one
+abbrev pub IsGranted : ℕ → Part → ℕ → Type 0
+IsGranted t p size = turn p.constraint < t → p.wanted ≤ size
+
+-- a part that takes nothing of what is left has at most its wish
+abbrev pub IsModest : Part → ℕ → Type 0
+IsModest p size = TakesNothing p.constraint → size ≤ p.wanted
+
+-- the sizes are those at a level, which is the highest that has room, but for less than a unit, if any part
+-- takes more at a higher one
+abbrev pub IsFilled : Bool → List Part → ℕ → List ℕ → Type 0
+IsFilled legacy parts room sizes = (even : Bool) × (level : ℕ)
+    × (sizes ≡ map (sized (record { legacy = legacy; even = even }) level) parts)
+    × (level / 1048576 ≤ sum_by (sized (record { legacy = legacy; even = even }) level) parts
+    → room < sum_by (sized (record { legacy = legacy; even = even }) (level + 1048576)) parts)
+
+-- sizes in so much room: wishes in turns, nothing over what takes part in the rest, and all of the room if a
+-- turn comes too short
+pub record IsShared (legacy : Bool) (parts : List Part) (room : ℕ) (sizes : List ℕ) (left : ℕ) : Type 0 where
+  pub total : sum sizes + left ≤ room
+  pub granted : (t : ℕ) → t ≤ 5 → wanted_before t parts ≤ room → AllZip (IsGranted t) parts sizes
+  pub at_most : AllZip IsModest parts sizes
+  pub short : (t : ℕ) → t ≤ 5 → room < wanted_before t parts → sum sizes ≡ room
+  pub filled : room < 2 ^ 43 → wanted_before 5 parts ≤ room → IsFilled legacy parts room sizes

@@ -1,0 +1,151 @@
+-- What a layout makes of an area.
+use Rattle.std.specs.Prelude.{ℕ, ◌≡◌, ◌+◌, ◌-◌, ◌*◌, ◌/◌, ◌<◌, ◌⊎◌, Bool, sum_by, ◌≤◌, max, List, [], ◌∷◌}
+use Rattle.std.specs.Prelude.{sum, length, All, nat_le, if◌then◌else◌, ⊤}
+use Rattle.std.specs.List.{AllZip}
+use Rattle.rtui_geometry.specs.{Rect.doubled, Rect.shrunk, declared.margin.Margin.Margin}
+use Rattle.rtui_geometry.specs.{declared.rect.Rect.Rect}
+use Rattle.rtui_layout.specs.{Layout.LayoutData, declared.layout.Spacing.Spacing}
+use Rattle.rtui_layout.specs.{declared.layout.Spacing.TheVariants.Space}
+use Rattle.rtui_layout.specs.{declared.constraint.Constraint.Constraint}
+use Rattle.rtui_layout.specs.{declared.direction.Direction.Direction}
+use Rattle.rtui_layout.specs.declared.constraint.Constraint.TheVariants.{Min, Max, Length, Percentage, Ratio}
+use Rattle.rtui_layout.specs.declared.constraint.Constraint.TheVariants.{Fill}
+use Rattle.rtui_layout.specs.Layout.{default_layout}
+use Rattle.rtui_layout.specs.declared.flex.Flex.TheVariants as flex
+use Rattle.rtui_split.specs.declared.{place.Lane.Lane, lane.Rule.Rule}
+use Rattle.rtui_split.specs.{Cut.first_cell, Cut.area_end, Cut.length_of, Cut.IsPartAlong, Cut.InOrder, Cut.IsSpace}
+use Rattle.rtui_split.specs.{Cut.AtMostCells, Cut.AtLeastCells, Wishes.turn, Wishes.wish}
+use Rattle.rtui_split.specs.{Wishes.wished_before}
+use Rattle.rtui_split.specs.Spaces.{least_spaces, KeepsWishes}
+
+-- no area, at the corner
+abbrev pub area_of_nothing : Rect
+area_of_nothing = record { x = 0; y = 0; width = 0; height = 0 }
+
+-- the area less a margin, or nothing if it has no room for the margin
+abbrev pub inner : Rect → Margin → Rect
+inner area m = if nat_le (doubled m.horizontal) area.width
+    then (if nat_le (doubled m.vertical) area.height then shrunk area m else area_of_nothing)
+    else area_of_nothing
+
+-- how many columns or rows an area has along a direction
+abbrev pub cells_of : Direction → Rect → ℕ
+cells_of d area = area_end d area - first_cell d area
+
+-- the space between two parts, in units
+abbrev pub gap_units : Spacing → ℕ
+gap_units (Space n) = n * 5040000
+gap_units _ = 0
+
+-- the wishes before a turn fit, with the spaces
+abbrev pub FitWishes : ℕ → LayoutData → ℕ → Type 0
+FitWishes t l cells = wished_before t cells l.constraints + least_spaces l.flex (length l.constraints)
+    * gap_units l.spacing ≤ cells * 5040000
+
+-- so many columns or rows are what a part wishes: exactly, if it wishes a whole number, and else within one;
+-- for a `Min` at least
+abbrev pub HasWish : ℕ → Constraint → ℕ → Type 0
+HasWish cells (Min n) size = n ≤ size
+HasWish cells (Length n) size = size ≡ n
+HasWish cells (Percentage n) size = (size * 100 < cells * n + 100) × (cells * n < size * 100 + 100)
+HasWish cells (Ratio m n) size = (size * max n 1 < cells * m + max n 1)
+    × (cells * m < size * max n 1 + max n 1)
+HasWish cells (Max n) size = size ≡ n
+HasWish cells (Fill n) size = ⊤
+
+-- a part that takes nothing of what is left is not over its wish; a share of the area by less than one
+abbrev pub WithinWish : ℕ → Constraint → ℕ → Type 0
+WithinWish cells (Min n) size = ⊤
+WithinWish cells (Length n) size = size ≤ n
+WithinWish cells (Percentage n) size = size * 100 < cells * n + 100
+WithinWish cells (Ratio m n) size = size * max n 1 < cells * m + max n 1
+WithinWish cells (Max n) size = size ≤ n
+WithinWish cells (Fill n) size = ⊤
+
+-- the exact size of a part at a level of what is left, in units: what it wishes, or its share if that is
+-- more; a level counts 1048576ths of a unit
+abbrev pub size_at : ℕ → Bool → ℕ → Constraint → ℕ
+size_at cells even level (Min n) = max (n * 5040000) (level / 1048576)
+size_at cells even level (Length n) = n * 5040000
+size_at cells even level (Percentage n) = cells * n * 50400
+size_at cells even level (Ratio m n) = wish cells (Ratio m n)
+size_at cells even level (Max n) = n * 5040000
+size_at cells even level (Fill n) = (if even then max n 1 else n) * level / 1048576
+
+-- a part is cut from that size to the whole number of cells below or above
+pub record IsCutAt (cells : ℕ) (even : Bool) (level : ℕ) (d : Direction) (c : Constraint) (p : Rect)
+    : Type 0 where
+  pub at_most : AtMostCells (size_at cells even level c) (length_of d p)
+  pub at_least : AtLeastCells (size_at cells even level c) (length_of d p)
+
+-- some part takes what is left
+abbrev pub HasTaker : List Constraint → Type 0
+HasTaker [] = ⊥
+HasTaker (Min n ∷ cs) = ⊤
+HasTaker (Length n ∷ cs) = HasTaker cs
+HasTaker (Percentage n ∷ cs) = HasTaker cs
+HasTaker (Ratio m n ∷ cs) = HasTaker cs
+HasTaker (Max n ∷ cs) = HasTaker cs
+HasTaker (Fill n ∷ cs) = (0 < n) ⊎ HasTaker cs
+
+-- the parts have their sizes at one level, and if some part takes what is left, there is no room for a unit
+-- more for each weight
+abbrev pub SharesRest : LayoutData → ℕ → List Rect → Type 0
+SharesRest l cells parts = (even : Bool) × (level : ℕ)
+    × AllZip (IsCutAt cells even level l.direction) l.constraints parts
+    × (HasTaker l.constraints → cells * 5040000 < sum_by (size_at cells even (level + 1048576))
+    l.constraints + least_spaces l.flex (length l.constraints) * gap_units l.spacing)
+
+-- an exact size, in units, and the part that it is cut to: the whole number of cells below or above
+pub record IsCutFrom (d : Direction) (units : ℕ) (p : Rect) : Type 0 where
+  pub at_most : AtMostCells units (length_of d p)
+  pub at_least : AtLeastCells units (length_of d p)
+
+-- the parts are cut from exact sizes that leave nothing over but the least spaces
+abbrev pub LeavesNothing : LayoutData → ℕ → List Rect → Type 0
+LeavesNothing l cells parts = (units : List ℕ) × AllZip (IsCutFrom l.direction) units parts
+    × (cells * 5040000 ≤ sum units + least_spaces l.flex (length l.constraints) * gap_units l.spacing)
+
+-- the part has its wish if its turn comes before this one
+abbrev pub IsGivenBefore : ℕ → ℕ → Direction → Constraint → Rect → Type 0
+IsGivenBefore t cells d c p = turn c < t → HasWish cells c (length_of d p)
+
+abbrev pub IsWithinWish : ℕ → Direction → Constraint → Rect → Type 0
+IsWithinWish cells d c p = WithinWish cells c (length_of d p)
+
+-- a part for each constraint, inside and in order. Without overlap, if no part is stretched: nobody has more
+-- than it wishes, all whose wishes fit have theirs, if a turn
+-- comes too short nothing is left over, and if all fit, what is left is shared by weight
+pub record IsSplit (l : LayoutData) (area : Rect) (parts : List Rect) : Type 0 where
+  pub count : length parts ≡ length l.constraints
+  pub inside : All (IsPartAlong l.direction area (first_cell l.direction area) (area_end l.direction area)) parts
+  pub in_order : IsSpace l.spacing → InOrder l.direction (first_cell l.direction area)
+      (area_end l.direction area) parts
+  pub within : IsSpace l.spacing → KeepsWishes l.flex (length l.constraints)
+      → AllZip (IsWithinWish (cells_of l.direction area) l.direction) l.constraints parts
+  pub given : IsSpace l.spacing → KeepsWishes l.flex (length l.constraints) → (t : ℕ) → t ≤ 5
+      → FitWishes t l (cells_of l.direction area) → AllZip (IsGivenBefore t (cells_of l.direction area) l.direction)
+      l.constraints parts
+  pub short : IsSpace l.spacing → KeepsWishes l.flex (length l.constraints) → (t : ℕ) → t ≤ 5
+      → FitWishes 0 l (cells_of l.direction area) → (FitWishes t l (cells_of l.direction area) → ⊥)
+      → LeavesNothing l (cells_of l.direction area) parts
+  pub rest : IsSpace l.spacing → KeepsWishes l.flex (length l.constraints)
+      → FitWishes 5 l (cells_of l.direction area) → SharesRest l (cells_of l.direction area) parts
+
+-- the columns or rows of an area along a layout's direction
+pub record IsLane (l : LayoutData) (area : Rect) (lane : Lane) : Type 0 where
+  pub cut : lane.area ≡ area
+  pub direction : lane.direction ≡ l.direction
+  pub start : lane.start ≡ first_cell l.direction area
+  pub end : lane.end ≡ area_end l.direction area
+
+-- what a layout says of its parts and of the room that none takes
+pub record IsRule (l : LayoutData) (constraints : List Constraint) (rule : Rule) : Type 0 where
+  pub parts : constraints ≡ l.constraints
+  pub flex : rule.flex ≡ l.flex
+  pub gap : rule.gap ≡ gap_units l.spacing
+  pub overlap : IsSpace l.spacing → rule.overlap ≡ 0
+
+-- one part in the middle, without margin
+abbrev pub centered_layout : Direction → Constraint → LayoutData
+centered_layout d c = record default_layout { direction = d; constraints = c ∷ []; flex = flex.Center }

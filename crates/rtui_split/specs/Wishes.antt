@@ -1,0 +1,31 @@
+-- What each part of a layout wishes, and whose wishes come first. Exact sizes are counted in units.
+use Rattle.std.specs.Prelude.{ℕ, ◌*◌, ◌/◌, ◌-◌, ◌^◌, min, max, List, sum_by, nat_lt, if◌then◌else◌}
+use Rattle.rtui_layout.specs.declared.constraint.Constraint.{Constraint}
+use Rattle.rtui_layout.specs.declared.constraint.Constraint.TheVariants.{Min, Max, Length, Percentage, Ratio}
+use Rattle.rtui_layout.specs.declared.constraint.Constraint.TheVariants.{Fill}
+
+-- so many units make one column or row
+abbrev pub unit : ℕ
+unit = 5040000
+
+-- wishes are met in turns, from 0 on; a `Fill` only takes what is left
+abbrev pub turn : Constraint → ℕ
+turn (Min n) = 0
+turn (Length n) = 1
+turn (Percentage n) = 2
+turn (Ratio m n) = 3
+turn (Max n) = 4
+turn (Fill n) = 5
+
+-- what a part wishes in an area of so many columns or rows, in units (which are 64 bits)
+abbrev pub wish : ℕ → Constraint → ℕ
+wish cells (Min n) = n * 5040000
+wish cells (Length n) = n * 5040000
+wish cells (Percentage n) = cells * n * 50400
+wish cells (Ratio m n) = min (cells * m * 5040000 / max n 1) (2 ^ 64 - 1)
+wish cells (Max n) = n * 5040000
+wish cells (Fill n) = 0
+
+-- what all wish whose turn comes before this one
+abbrev pub wished_before : ℕ → ℕ → List Constraint → ℕ
+wished_before t cells cs = sum_by (λ c. if nat_lt (turn c) t then wish cells c else 0) cs

@@ -1,0 +1,174 @@
+//! Where the room goes that no part takes.
+ghost use Rattle.std.specs.Prelude.{◌≡◌, ◌≤◌, ◌+◌, ◌*◌, ◌-◌, ◌^◌, ◌<◌, ℕ, false, length};
+ghost use Rattle.rtui_split.specs.Spaces.{IsArranged, KeepsWishes, IsPacked, IsSpread, least_spaces};
+
+use crate::draft::Draft;
+use crate::edge::{Overlapped, share_overlapped};
+use crate::part::{Part, left_before};
+use crate::share::{rest_of, share, stretch};
+use rtui_layout::Flex;
+
+/// The space before the first part, and the one between two parts, in units. The last one has the
+/// rest.
+#[derive(Debug, Clone, Copy, Drop)]
+pub(crate) struct Spaces {
+    pub first: u64,
+    pub middle: u64,
+}
+
+/// What is to be shared: so many units, with so much between the parts, or so much of them over one
+/// another.
+#[derive(Debug, Clone, Copy, Drop)]
+pub(crate) struct Room {
+    pub whole: u64,
+    pub flex: Flex,
+    pub gap: u64,
+    pub overlap: u64,
+}
+
+fn is_legacy(flex: Flex) -> bool
+    ensures { (n : ℕ) → KeepsWishes flex n → result ≡ false }
+{
+    matches!(flex, Flex::Legacy)
+}
+
+// How much of what is left comes before the first part.
+fn lead_of(flex: Flex, left: u64) -> u64
+    ensures { result ≤ left }
+{
+    match flex {
+        Flex::End => left,
+        Flex::Center => left / 2,
+        _ => 0,
+    }
+}
+
+// Parts with equal spaces between them, and what is left at the ends.
+fn arrange_packed(parts: &[Part], room: Room, drafts: &mut [Draft], sizes: &mut [u64]) -> Spaces
+    requires sizes { length sizes.old ≡ length parts.now }
+    requires drafts { length drafts.old ≡ length parts.now }
+    requires flex { IsPacked room.flex }
+    ensures { KeepsWishes room.flex (length parts.now)
+        → IsArranged parts.now room sizes.new result }
+{
+    let inner = (parts.len() as u64).saturating_sub(1);
+    let legacy = is_legacy(room.flex);
+    let for_parts = room.whole.saturating_sub(room.gap.saturating_mul(inner));
+    let left = share(parts, legacy, for_parts, drafts, sizes);
+    if legacy && left > 0 {
+        stretch(parts, left, sizes);
+        return Spaces {
+            first: 0,
+            middle: room.gap,
+        };
+    }
+    Spaces {
+        first: lead_of(room.flex, left),
+        middle: room.gap,
+    }
+}
+
+// The room for the parts if the spaces take so much first, and so much more right after the wishes
+// of the `Min`s.
+fn room_after_mins(parts: &[Part], room: u64, more: u64) -> u64
+    ensures most { result ≤ room }
+    ensures least { room ≤ result + more }
+{
+    match left_before(parts, 1, room) {
+        Some(left) => room - more.min(left),
+        None => room,
+    }
+}
+
+// Spaces that share the rest: so many of equal size, or those at the ends half of the others.
+fn spaces_of(rest: u64, flex: Flex, count: u64) -> Spaces
+    requires { count < 2 ^ 63 }
+    ensures { result.first + count * result.middle ≤ rest + result.middle }
+{
+    match flex {
+        Flex::SpaceBetween => Spaces {
+            first: 0,
+            middle: rest / count.saturating_sub(1).max(1),
+        },
+        Flex::SpaceAround if count > 1 => {
+            let first = rest / (2 * count);
+            Spaces {
+                first,
+                middle: 2 * first,
+            }
+        }
+        _ => {
+            let each = rest / (count + 1);
+            Spaces {
+                first: each,
+                middle: each,
+            }
+        }
+    }
+}
+
+// How many spaces of the least size come before all parts, and how many right after the wishes of
+// the `Min`s.
+fn least_of(flex: Flex, count: u64) -> (u64, u64)
+    requires { count < 2 ^ 63 }
+    ensures { IsSpread flex → result.0 + result.1 ≡ least_spaces flex count }
+{
+    match flex {
+        Flex::SpaceBetween => (count.saturating_sub(1), 0),
+        Flex::SpaceAround if count > 1 => (count, count),
+        _ => (count + 1, 0),
+    }
+}
+
+// Parts with spaces that share what is left.
+fn arrange_spread(parts: &[Part], room: Room, drafts: &mut [Draft], sizes: &mut [u64]) -> Spaces
+    requires sizes { length sizes.old ≡ length parts.now }
+    requires drafts { length drafts.old ≡ length parts.now }
+    requires flex { IsSpread room.flex }
+    ensures { KeepsWishes room.flex (length parts.now)
+        → IsArranged parts.now room sizes.new result }
+{
+    let count = parts.len() as u64;
+    let (first, after) = least_of(room.flex, count);
+    let least = room.gap.saturating_mul(first).min(room.whole);
+    let for_parts = room_after_mins(parts, room.whole - least, room.gap.saturating_mul(after));
+    share(parts, false, for_parts, drafts, sizes);
+    spaces_of(rest_of(room.whole, sizes), room.flex, count)
+}
+
+/// Gives the parts their sizes, and answers what the spaces have.
+pub(crate) fn arrange(parts: &[Part], room: Room, drafts: &mut [Draft], sizes: &mut [u64]) -> Spaces
+    requires sizes { length sizes.old ≡ length parts.now }
+    requires drafts { length drafts.old ≡ length parts.now }
+    ensures { room.overlap ≡ 0 → KeepsWishes room.flex (length parts.now)
+        → IsArranged parts.now room sizes.new result }
+{
+    let inner = (parts.len() as u64).saturating_sub(1);
+    if room.overlap > 0 && inner > 0 {
+        let case = Overlapped {
+            overlap: room.overlap,
+            whole: room.whole,
+            flex: room.flex,
+        };
+        let gaps = share_overlapped(parts, case, drafts, sizes);
+        return Spaces {
+            first: gaps.lead,
+            middle: gaps.middle / inner,
+        };
+    }
+    match room.flex {
+        Flex::Legacy | Flex::Start | Flex::End | Flex::Center => {
+            arrange_packed(parts, room, drafts, sizes)
+        }
+        Flex::SpaceBetween if inner == 0 => {
+            if let Some(size) = sizes.first_mut() {
+                *size = room.whole;
+            }
+            Spaces {
+                first: 0,
+                middle: 0,
+            }
+        }
+        _ => arrange_spread(parts, room, drafts, sizes),
+    }
+}

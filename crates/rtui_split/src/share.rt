@@ -1,0 +1,222 @@
+//! Shares room among the parts.
+ghost use Rattle.std.specs.Prelude.{◌≡◌, ◌-◌, ◌≤◌, ◌<◌, ◌+◌, ◌*◌, ℕ, length, sum, sum_by, map, min};
+ghost use Rattle.std.specs.List.{AllZip};
+ghost use Rattle.rtui_split.specs.Shares.{if_before, if_in, wanted_before, wanted_in};
+ghost use Rattle.rtui_split.specs.Shares.{sized, Settled, IsShared};
+
+use crate::draft::Draft;
+use crate::level::{Takers, level_of, size_at, takers_of, top_of};
+use crate::part::{FILL, Part, left_before, total_in, turn_of};
+use crate::smooth::smooth;
+use rtui_layout::Constraint;
+
+/// The first turn whose wishes don't fit, and what is left for it; `FILL` if all fit.
+#[derive(Debug, Clone, Copy, Drop)]
+pub(crate) struct Short {
+    pub turn: usize,
+    pub left: u64,
+}
+
+pub(crate) fn first_short(parts: &[Part], room: u64) -> Short
+    ensures turn { result.turn ≤ 5 }
+    ensures left { result.left + wanted_before result.turn parts.now ≡ room }
+    ensures short { result.turn < 5 → room < wanted_before (result.turn + 1) parts.now }
+{
+    let mut left = room;
+    for turn in 0..FILL {
+        match left_before(parts, turn + 1, room) {
+            Some(rest) => left = rest,
+            None => return Short { turn, left },
+        }
+    }
+    Short { turn: FILL, left }
+}
+
+// All try the same size, but none more than it wishes.
+fn level_down(parts: &[Part], turn: usize, room: u64, drafts: &mut [Draft]) {
+    let mut cap: u64 = 0;
+    for _ in parts {
+        let mut left = room;
+        let mut others: u64 = 0;
+        for part in parts {
+            if turn_of(part.constraint) == turn {
+                if part.wanted <= cap {
+                    left = left.saturating_sub(part.wanted);
+                } else {
+                    others = others.saturating_add(1);
+                }
+            }
+        }
+        if others == 0 || left / others <= cap {
+            break;
+        }
+        cap = left / others;
+    }
+    for draft in drafts.iter_mut() {
+        draft.tried = cap;
+    }
+}
+
+// What the parts try whose turn comes too short: first come, first served; or all the same; or so
+// that neighbours differ least.
+fn try_short(parts: &[Part], short: Short, legacy: bool, drafts: &mut [Draft]) {
+    if legacy {
+        for draft in drafts.iter_mut() {
+            draft.tried = u64::MAX;
+        }
+    } else if short.turn == 0 {
+        level_down(parts, short.turn, short.left, drafts);
+    } else {
+        smooth(parts, short.turn, short.left, drafts);
+    }
+}
+
+// What the parts of a turn have to go without, where so much is left for them.
+fn excess_of(parts: &[Part], short: Short) -> u64
+    requires { short.left ≤ wanted_in short.turn parts.now }
+    ensures { short.left + result ≤ wanted_in short.turn parts.now }
+{
+    total_in(parts, short.turn).saturating_sub(short.left)
+}
+
+// What a part gets, and what is left after it to get and to go without.
+#[derive(Debug, Clone, Copy, Drop)]
+struct Grant {
+    size: u64,
+    left: u64,
+    excess: u64,
+}
+
+// A part before a turn gets its wish. One of the turn gets what it tried, as far as it leaves nothing
+// over.
+fn grant_of(part: &Part, turn: usize, tried: u64, left: u64, excess: u64) -> Grant
+    ensures settled { Settled turn part.now result.size }
+    ensures given { result.size + result.left ≡ if_before turn part.now + left }
+    ensures wished { (rest : ℕ) → (0 < left → left + excess ≤ if_in turn part.now + rest)
+        → 0 < result.left → result.left + result.excess ≤ rest }
+{
+    let own = turn_of(part.constraint);
+    if own < turn {
+        Grant {
+            size: part.wanted,
+            left,
+            excess,
+        }
+    } else if own == turn {
+        let denied = part.wanted.saturating_sub(tried).min(excess);
+        let size = (part.wanted - denied).min(left);
+        Grant {
+            size,
+            left: left - size,
+            excess: excess - denied,
+        }
+    } else {
+        Grant {
+            size: 0,
+            left,
+            excess,
+        }
+    }
+}
+
+// All before a turn get their wishes, and those of the turn what is left.
+fn settle(parts: &[Part], short: Short, drafts: &[Draft], sizes: &mut [u64])
+    requires sizes { length sizes.old ≡ length parts.now }
+    requires drafts { length drafts.now ≡ length parts.now }
+    requires left { short.left ≤ wanted_in short.turn parts.now }
+    ensures each { AllZip (Settled short.turn) parts.now sizes.new }
+    ensures all { sum sizes.new ≡ wanted_before short.turn parts.now + short.left }
+{
+    let mut excess = excess_of(parts, short);
+    let mut left = short.left;
+    for (i, part) in parts.iter().enumerate() {
+        let grant = grant_of(part, short.turn, drafts[i].tried, left, excess);
+        sizes[i] = grant.size;
+        left = grant.left;
+        excess = grant.excess;
+    }
+}
+
+// Each part gets its size at a level.
+fn fill(parts: &[Part], takers: Takers, level: u64, sizes: &mut [u64])
+    requires { length sizes.old ≡ length parts.now }
+    ensures { sizes.new ≡ map (sized takers level) parts.now }
+{
+    for (i, part) in parts.iter().enumerate() {
+        sizes[i] = size_at(part, takers, level);
+    }
+}
+
+/// Gives the parts their sizes in so much room, and answers what nobody takes.
+pub(crate) fn share(
+    parts: &[Part],
+    legacy: bool,
+    room: u64,
+    drafts: &mut [Draft],
+    sizes: &mut [u64],
+) -> u64
+    requires sizes { length sizes.old ≡ length parts.now }
+    requires drafts { length drafts.old ≡ length parts.now }
+    ensures { IsShared legacy parts.now room sizes.new result }
+{
+    let short = first_short(parts, room);
+    if short.turn < FILL {
+        try_short(parts, short, legacy, drafts);
+        settle(parts, short, drafts, sizes);
+        return 0;
+    }
+    let takers = takers_of(parts, legacy);
+    let level = level_of(parts, takers, room);
+    fill(parts, takers, level, sizes);
+    left_at(level, room, sizes)
+}
+
+// What nobody takes, if the sizes are those at a level.
+fn left_at(level: u64, room: u64, sizes: &[u64]) -> u64
+    ensures { result ≤ room - sum sizes.now }
+{
+    if level < top_of(room) {
+        0
+    } else {
+        rest_of(room, sizes)
+    }
+}
+
+/// What the parts leave of the whole.
+pub(crate) fn rest_of(whole: u64, sizes: &[u64]) -> u64
+    ensures { result ≡ whole - sum sizes.now }
+{
+    let mut rest = whole;
+    for size in sizes {
+        rest = rest.saturating_sub(*size);
+    }
+    rest
+}
+
+// How little a part minds to be stretched.
+fn patience_of(constraint: Constraint) -> u8 {
+    match constraint {
+        Constraint::Fill(_) => 5,
+        Constraint::Min(_) => 4,
+        Constraint::Ratio(..) => 3,
+        Constraint::Percentage(_) => 2,
+        Constraint::Length(_) => 1,
+        Constraint::Max(_) => 0,
+    }
+}
+
+/// What nobody takes goes to the last part of the kind that minds least.
+pub(crate) fn stretch(parts: &[Part], left: u64, sizes: &mut [u64]) {
+    let mut most: u8 = 0;
+    let mut at: usize = 0;
+    for (i, part) in parts.iter().enumerate() {
+        let patience = patience_of(part.constraint);
+        if patience >= most {
+            most = patience;
+            at = i;
+        }
+    }
+    if let Some(size) = sizes.get_mut(at) {
+        *size = size.saturating_add(left);
+    }
+}
