@@ -1,13 +1,16 @@
 -- Moves of the cursor, its visibility, and the screen emptied.
-use Rattle.std.proofs.Common.{◌≡◌, inl, inr, ℕ, ◌-◌, ◌<◌, ◌||◌, min, nat_lt, if◌then◌else◌, Bool, true, false, List, [], refl, sym, ap, ap₂, subst, ◌∙◌, arith}
+use Rattle.std.proofs.Common.{◌≡◌, ◌⊎◌, inl, inr, ℕ, ◌+◌, ◌-◌, ◌<◌, ◌≤◌, ◌&&◌, ◌||◌, min, nat_lt, nat_le, if◌then◌else◌, Bool, true, false, List, [], refl, sym, ap, ap₂, subst, ◌∙◌, arith}
 use Rattle.std.proofs.lemmas.Bool.Decides.{nat_tests}
 use Rattle.std.proofs.Math.Path.{fun_ext}
 use Rattle.ratatui_core.specs.Backend.{Motion, clearing, Clears, with_cursor, with_visible, All, BeforeCursor, is_cleared}
 use Rattle.ansi_model.specs.Columns.{Columns, look_in, is_met, blank_column, overwritten}
 use Rattle.ansi_model.specs.{Columns.Column.Unknown, Sgr.default_sgr, Emulator.Phase.Ground, Sends.Performs}
-use Rattle.ansi_model.specs.Emulator.{Emulator, rested, printed, blank_terminal, cursor_moved, erased, columns_moved, without_region, with_sgr}
+use Rattle.ansi_model.specs.Emulator.{Emulator, rested, standing, printed, prints, returned, run, blank_terminal, cursor_moved, erased, columns_moved, without_region, with_sgr}
 use Rattle.ansi_model.specs.Emulator as terminal
-use Rattle.ansi_model.specs.Beginnings.{IsAsFound, anew, MakesBlank}
+use Rattle.ansi_model.specs.Beginnings.{IsAsFound, anew, without_modes, MakesBlank}
+use Rattle.ansi_model.specs.{Columns.Column.Shows, Sgr.inked, Modes.no_modes, Symbols.is_plain_char, Symbols.printed_columns, Sends.Sends, Sends.typed}
+use lib.Utf8.{encode}
+use Rattle.ansi_model.proofs.{ReadLemmas.Sends-then, PutLemmas.none_between, SymbolLemmas.alone-standing, SymbolLemmas.plain-printed, SymbolLemmas.plain-single, SymbolLemmas.one-undisputed}
 use Rattle.ansi_model.specs.Screens.{screen_shown, IsIdle, IsBlankBeyond, Becomes}
 use Rattle.ansi_model.proofs.{MotionLemmas.moved-tidy, MotionLemmas.not_met, ScrollLemmas.KeepsReady, ScrollLemmas.stays-idle, ScrollLemmas.moved-placed}
 
@@ -36,6 +39,9 @@ cursor-visible w h visible s ready = (
   },
   record { screens = λ written. refl; columns = λ a b. refl },
 )
+
+pub nothing-changed : (w h : ℕ) → KeepsReady w h (λ t. t) (λ s. Becomes (λ p q. q ≡ p) s.columns s)
+nothing-changed w h s ready = (ready, record { screens = λ written. refl; columns = λ a b. refl })
 
 -- ---- the screen emptied
 
@@ -92,11 +98,53 @@ screen-emptied w h x y wide high s ready =
 -- ---- a blank beginning
 
 same-fields : (s t : Emulator) → s.width ≡ t.width → s.height ≡ t.height → s.phase ≡ t.phase → s.text ≡ t.text → s.sgr ≡ t.sgr → s.x ≡ t.x → s.y ≡ t.y → s.top ≡ t.top → s.bottom ≡ t.bottom
-    → s.columns ≡ t.columns → s.history ≡ t.history → s.visible ≡ t.visible → s.sure ≡ t.sure → s ≡ t
-same-fields s t width height phase text sgr x y top bottom columns history visible sure = rw (width, height, phase, text, sgr, x, y, top, bottom, columns, history, visible, sure) refl
+    → s.columns ≡ t.columns → s.history ≡ t.history → s.visible ≡ t.visible → s.modes ≡ t.modes → s.sure ≡ t.sure → s ≡ t
+same-fields s t width height phase text sgr x y top bottom columns history visible modes sure =
+    rw (width, height, phase, text, sgr, x, y, top, bottom, columns, history, visible, modes, sure) refl
+
+-- m and é, one over the other in the terminal's first column
+abbrev pub lettered : Emulator → Emulator
+lettered t = prints (encode 233) (printed_columns (encode 233)) (returned (prints (encode 109) (printed_columns (encode 109)) t))
+
+abbrev pub own : Emulator → Emulator
+own t = without_region (with_sgr default_sgr (without_modes t))
+
+abbrev pub emptied : ℕ → ℕ → Emulator → Emulator
+emptied w h t = terminal.cursor_shown true (cursor_moved 0 0 (erased BeforeCursor (cursor_moved (w - 1) (h - 1) t)))
 
 abbrev pub begun : ℕ → ℕ → Emulator → Emulator
-begun w h s = terminal.cursor_shown true (cursor_moved 0 0 (erased BeforeCursor (cursor_moved (w - 1) (h - 1) (without_region (with_sgr default_sgr s)))))
+begun w h s = emptied w h (lettered (own s))
+
+m-one : printed_columns (encode 109) ≡ 1
+m-one = rw (plain-single 109 refl) refl
+
+e-one : printed_columns (encode 233) ≡ 1
+e-one = rw (plain-single 233 refl) refl
+
+-- a letter that stands alone, in no mode
+letter-stands : (c : ℕ) (t : Emulator) → is_plain_char c ≡ true → t.modes ≡ no_modes → t.text ≡ [] → standing (typed (encode c) t) ≡ prints (encode c) (printed_columns (encode c)) (standing t)
+letter-stands c t plain modes none = alone-standing (encode c) t modes (plain-printed c plain) (one-undisputed (encode c) (plain-single c plain)) none
+
+letters-stand : (t : Emulator) → rested (typed (encode 233) (returned (rested (typed (encode 109) (own (rested t)))))) ≡ lettered (own (rested t))
+letters-stand t =
+    let u : Emulator = own (rested t) in
+    let v : Emulator = returned (prints (encode 109) (printed_columns (encode 109)) u) in
+    ap (λ (x : Emulator). rested (typed (encode 233) (returned (record x { phase = Ground })))) (letter-stands 109 u refl refl refl)
+    ∙ ap (λ (x : Emulator). record x { phase = Ground }) (letter-stands 233 v refl refl refl)
+
+-- what is blank off the screen stays so
+off-kept : (new c : Columns) (a b : ℕ) → run 0 0 1 a b ≡ false → c a b ≡ blank_column → overwritten (run 0 0 1) new c a b ≡ blank_column
+off-kept new c a b out blank =
+    let met : is_met (run 0 0 1) a b blank_column ≡ false = none_between (λ k. run 0 0 1 k b) (a - 0) 1 (λ k low high. grind (arith, nat_tests)) in
+    rw (out, blank, met) refl
+
+letters-off : (w h : ℕ) (s : Emulator) → 0 < w → 0 < h → IsAsFound w h s → (a b : ℕ) → (w ≤ a) ⊎ (h ≤ b) → (lettered (own s)).columns a b ≡ blank_column
+letters-off w h s wide high left a b out =
+    let apart : run 0 0 1 a b ≡ false = elim out [ inl right ↦ grind (arith, nat_tests) | inr below ↦ grind (arith, nat_tests) ] in
+    let first : Columns = overwritten (run 0 0 1) (λ i j. Shows (inked (encode 109) default_sgr) (i - 0) 1) s.columns in
+    ap₂ (λ m n. overwritten (run 0 0 n) (λ i j. Shows (inked (encode 233) default_sgr) (i - 0) n) (overwritten (run 0 0 m) (λ i j. Shows (inked (encode 109) default_sgr) (i - 0) m) s.columns) a b) m-one e-one
+    ∙ off-kept (λ i j. Shows (inked (encode 233) default_sgr) (i - 0) 1) first a b apart
+    (off-kept (λ i j. Shows (inked (encode 109) default_sgr) (i - 0) 1) s.columns a b apart (left.off a b out))
 
 blank-begun : (w h : ℕ) (s : Emulator) → 0 < w → 0 < h → IsAsFound w h s → s.sure ≡ true → begun w h s ≡ record (blank_terminal w h) { history = s.history }
 blank-begun w h s wide high left sure =
@@ -107,14 +155,24 @@ blank-begun w h s wide high left sure =
     let side : min 0 (s.width - 1) ≡ 0 = omega arith in
     let top : min 0 (s.height - 1) ≡ 0 = omega arith in
     let inside : nat_lt (min (w - 1) (s.width - 1)) s.width ≡ true = grind (arith, nat_tests) in
-    let still : (begun w h s).sure ≡ true = rw (sure, inside) refl in
+    let one_wide : nat_le 1 s.width ≡ true = grind (arith, nat_tests) in
+    let one_high : nat_lt 0 s.height ≡ true = grind (arith, nat_tests) in
+    let fits : (n : ℕ) → n ≡ 1 → (nat_lt 0 n && nat_le (0 + n) s.width && nat_lt 0 s.height) ≡ true = λ n one. rw (one, one_wide, one_high) refl in
+    let still : (begun w h s).sure ≡ true
+    = ap (λ b. ((b && (nat_lt 0 (printed_columns (encode 109)) && nat_le (0 + printed_columns (encode 109)) s.width && nat_lt 0 s.height))
+    && (nat_lt 0 (printed_columns (encode 233)) && nat_le (0 + printed_columns (encode 233)) s.width && nat_lt 0 s.height))
+    && (true && nat_lt (min (w - 1) (s.width - 1)) s.width && true)) sure
+    ∙ ap₂ (λ p q. (p && q) && (true && nat_lt (min (w - 1) (s.width - 1)) s.width && true)) (fits (printed_columns (encode 109)) m-one) (fits (printed_columns (encode 233)) e-one)
+    ∙ ap (λ b. b && true) inside in
+    let c : Columns = (lettered (own s)).columns in
     let blank : (a b : ℕ) → (begun w h s).columns a b ≡ blank_column = λ a b.
-    ap₂ (λ i j. overwritten (is_cleared BeforeCursor i j) (λ k r. blank_column) s.columns a b) column row ∙ erased-emptied w h s.columns wide high (λ k r out. left.off k r (inl out)) a b
-    ∙ elim (nat_lt b h) as (λ p. nat_lt b h ≡ p → (if p then blank_column else s.columns a b) ≡ blank_column) [
+    ap₂ (λ i j. overwritten (is_cleared BeforeCursor i j) (λ k r. blank_column) c a b) column row
+    ∙ erased-emptied w h c wide high (λ k r out. letters-off w h s wide high left k r (inl out)) a b
+    ∙ elim (nat_lt b h) as (λ p. nat_lt b h ≡ p → (if p then blank_column else c a b) ≡ blank_column) [
       | true ↦ λ in_rows. refl
-      | false ↦ λ below. left.off a b (inr (grind (arith, nat_tests)))
+      | false ↦ λ below. letters-off w h s wide high left a b (inr (grind (arith, nat_tests)))
     ] refl in
-    same-fields (begun w h s) (record (blank_terminal w h) { history = s.history }) width height left.phase left.text refl side top refl height (fun_ext (λ a. fun_ext (λ b. blank a b))) refl refl still
+    same-fields (begun w h s) (record (blank_terminal w h) { history = s.history }) width height left.phase left.text refl side top refl height (fun_ext (λ a. fun_ext (λ b. blank a b))) refl refl refl still
 
 pub rested-left : (w h : ℕ) (t : Emulator) → IsAsFound w h t → rested t ≡ t
 rested-left w h t left =
@@ -124,14 +182,19 @@ rested-left w h t left =
 left-anew : (w h : ℕ) (t : Emulator) → IsAsFound w h t → IsAsFound w h (anew t)
 left-anew w h t left = record { phase = left.phase; text = left.text; width = left.width; height = left.height; off = left.off }
 
-pub makes-blank : (w h : ℕ) (old new : List ℕ) → 0 < w → 0 < h → Performs old new (begun w h) → MakesBlank w h old new
-makes-blank w h old new wide high does = record {
-  bytes = does.bytes;
-  appended = does.appended;
-  made = λ t left.
-      let again : IsAsFound w h (anew t) = left-anew w h t left in
-      does.read (anew t) again.phase ∙ ap (begun w h) (rested-left w h (anew t) again) ∙ blank-begun w h (anew t) wide high again refl;
-}
+pub makes-blank : (w h : ℕ) (old first second new : List ℕ) → 0 < w → 0 < h → Performs old first own → Sends first second (λ t. typed (encode 233) (returned (rested (typed (encode 109) t))))
+    → Performs second new (emptied w h) → MakesBlank w h old new
+makes-blank w h old first second new wide high owns letters empties =
+    let letter : Emulator → Emulator = λ t. typed (encode 233) (returned (rested (typed (encode 109) t))) in
+    let both = Sends-then old first second (λ t. own (rested t)) letter owns letters (λ t. refl) in
+    let all = Sends-then old second new (λ t. letter (own (rested t))) (λ t. emptied w h (rested t)) both empties (λ t. refl) in
+    record {
+      bytes = all.bytes;
+      appended = all.appended;
+      made = λ t left.
+          let again : IsAsFound w h (anew t) = left-anew w h t left in
+          all.read (anew t) again.phase ∙ ap (emptied w h) (letters-stand (anew t)) ∙ ap (begun w h) (rested-left w h (anew t) again) ∙ blank-begun w h (anew t) wide high again refl;
+    }
 
 -- a new terminal is one that was left so
 pub fresh-left : (w h : ℕ) → IsAsFound w h (blank_terminal w h)

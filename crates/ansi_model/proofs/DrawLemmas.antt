@@ -6,10 +6,11 @@ use Rattle.std.specs.{List.list_all, Bool.then_some}
 use Rattle.ratatui_core.specs.Layout.{Position}
 use Rattle.ansi_model.specs.{declared.sgr.Sgr.Sgr, declared.pen.Pen.Pen, Emulator.Phase.Ground, Sequences.feed, Sends.Sends, Sends.Performs, Sends.typed}
 use Rattle.ansi_model.specs.Emulator.{Emulator, rested, prints, cursor_moved}
-use Rattle.ansi_model.specs.Symbols.{is_plain_char, is_symbol, is_one_plain, is_printed, printed_columns}
+use Rattle.ansi_model.specs.Symbols.{is_plain_char, is_symbol, is_one_plain, is_printed, is_disputed, printed_columns}
 use Rattle.ansi_model.specs.Drawing.{is_at, is_place, WritesAt, IsDrawnBy, drawn_at, Prints}
+use Rattle.ansi_model.specs.Modes.{no_modes}
 use Rattle.ansi_model.proofs.ReadLemmas.{Sends-then}
-use Rattle.ansi_model.proofs.SymbolLemmas.{symbol-utf8, after-standing, alone-standing, plain-printed, plain-single}
+use Rattle.ansi_model.proofs.SymbolLemmas.{symbol-utf8, rested-modes, after-standing, alone-standing, plain-printed, plain-single}
 
 -- ---- a symbol in its place
 
@@ -23,9 +24,9 @@ known-by true x y symbol one = (refl, refl, one)
 known-by false x y symbol one = tt
 
 -- after a symbol that was printed the terminal is drawn as the pen says
-drawn-after : (x y : ℕ) (sgr : Sgr) (symbol : List ℕ) (after : Pen) (t u : Emulator) → u.phase ≡ Ground → after.sgr ≡ sgr → KnowsPlace x y symbol after
+drawn-after : (x y : ℕ) (sgr : Sgr) (symbol : List ℕ) (after : Pen) (t u : Emulator) → t.modes ≡ no_modes → u.phase ≡ Ground → after.sgr ≡ sgr → KnowsPlace x y symbol after
     → rested u ≡ prints symbol (printed_columns symbol) (drawn_at x y sgr t) → (is_one_plain (chars symbol) ≡ true → IsUtf8 u.text × (list_all is_plain_char (chars u.text) ≡ true)) → IsDrawnBy after u
-drawn-after x y sgr symbol after t u ground same knows e plain = record { phase = ground; sgr = ap (λ (v : Emulator). v.sgr) e ∙ sym same; placed = placed after.at knows }
+drawn-after x y sgr symbol after t u modes ground same knows e plain = record { phase = ground; sgr = ap (λ (v : Emulator). v.sgr) e ∙ sym same; modes = ap (λ (v : Emulator). v.modes) e ∙ modes; placed = placed after.at knows }
   where
     placed : (at : Option Position) → IfSome at (λ p. (p.x ≡ x + 1) × (p.y ≡ y) × (is_one_plain (chars symbol) ≡ true)) → IfSome at (λ p. WritesAt p.x p.y u)
     placed None known = tt
@@ -46,11 +47,11 @@ more-plain : (xs ys : List ℕ) → IsUtf8 xs → list_all is_plain_char (chars 
 more-plain xs ys utf8 e f = ap (list_all is_plain_char) (chars-append xs ys utf8) ∙ list_all-append is_plain_char (chars xs) (chars ys) ∙ rw (e, f) refl
 
 -- what a symbol's bytes do to a terminal that has its cursor and its rendition
-at-drawn : (x y : ℕ) (sgr : Sgr) (t : Emulator) → t.x ≡ x → t.y ≡ y → t.sgr ≡ sgr → t ≡ drawn_at x y sgr t
+pub at-drawn : (x y : ℕ) (sgr : Sgr) (t : Emulator) → t.x ≡ x → t.y ≡ y → t.sgr ≡ sgr → t ≡ drawn_at x y sgr t
 at-drawn x y sgr t ex ey ep = rw (← ex, ← ey, ← ep) refl
 
 -- the cursor and the rendition are all that a move changes
-moved-drawn : (x y : ℕ) (sgr : Sgr) (t : Emulator) → drawn_at x y sgr (cursor_moved x y t) ≡ drawn_at x y sgr t
+pub moved-drawn : (x y : ℕ) (sgr : Sgr) (t : Emulator) → drawn_at x y sgr (cursor_moved x y t) ≡ drawn_at x y sgr t
 moved-drawn x y sgr t = refl
 
 writes-at : (x y : ℕ) (at : Option Position) (t : Emulator) → is_place x y at ≡ true → IfSome at (λ p. WritesAt p.x p.y t) → WritesAt x y t
@@ -71,7 +72,7 @@ put-here w h x y before after c old new sends plain at same knows =
     let columns : 1 ≡ printed_columns symbol = rw single refl in
     let shown : (t : Emulator) → IsDrawnBy before t → rested (feed sends.bytes t) ≡ prints symbol (printed_columns symbol) (drawn_at x y before.sgr (rested t)) = λ t drawn.
     let here = writes-at x y before.at t at drawn.placed in
-    ap rested (sends.read t drawn.phase) ∙ ap (λ (v : Emulator). record v { phase = Ground }) (after-standing symbol t text single here.utf8 here.plain)
+    ap rested (sends.read t drawn.phase) ∙ ap (λ (v : Emulator). record v { phase = Ground }) (after-standing symbol t text single (sym (rested-modes t) ∙ drawn.modes) here.utf8 here.plain)
     ∙ ap₂ (λ n v. prints symbol n v) columns (at-drawn x y before.sgr (rested t) here.column here.row drawn.sgr) in
     record {
       bytes = sends.bytes;
@@ -79,7 +80,7 @@ put-here w h x y before after c old new sends plain at same knows =
       drawn = λ t wide high drawn.
           let here = writes-at x y before.at t at drawn.placed in
           let e : feed sends.bytes t ≡ typed symbol t = sends.read t drawn.phase in
-          drawn-after x y before.sgr symbol after (rested t) (feed sends.bytes t) (ap (λ (v : Emulator). v.phase) e ∙ drawn.phase) same knows (shown t drawn)
+          drawn-after x y before.sgr symbol after (rested t) (feed sends.bytes t) drawn.modes (ap (λ (v : Emulator). v.phase) e ∙ drawn.phase) same knows (shown t drawn)
           (λ one. (
             subst IsUtf8 (sym (ap (λ (v : Emulator). v.text) e)) (IsUtf8-append t.text symbol here.utf8 utf8),
             ap (λ (v : Emulator). list_all is_plain_char (chars v.text)) e ∙ more-plain t.text symbol here.utf8 here.plain (one-plain (chars symbol) single),
@@ -89,8 +90,8 @@ put-here w h x y before after c old new sends plain at same knows =
 
 -- a symbol in a place, with a move
 pub put-there : (w h x y : ℕ) (before after : Pen) (symbol old first new : List ℕ) → x < w → y < h → Performs old first (cursor_moved x y) → Sends first new (typed symbol)
-    → is_printed symbol ≡ true → after.sgr ≡ before.sgr → KnowsPlace x y symbol after → Prints w h old before x y before.sgr symbol new after
-put-there w h x y before after symbol old first new x_in y_in moves sends is same knows =
+    → is_printed symbol ≡ true → is_disputed symbol ≡ false → after.sgr ≡ before.sgr → KnowsPlace x y symbol after → Prints w h old before x y before.sgr symbol new after
+put-there w h x y before after symbol old first new x_in y_in moves sends is agreed same knows =
     let sgr = before.sgr in
     let text = (and_parts (is_symbol symbol) (is_one_plain (chars symbol) || not (list_all is_plain_char (chars symbol))) is).0 in
     let both : Sends old new (λ t. typed symbol (cursor_moved x y (rested t))) = Sends-then old first new (λ t. cursor_moved x y (rested t)) (typed symbol) moves sends (λ t. refl) in
@@ -99,7 +100,7 @@ put-there w h x y before after symbol old first new x_in y_in moves sends is sam
     let cursor_y : min y ((rested t).height - 1) ≡ y = omega arith in
     at-drawn x y sgr (cursor_moved x y (rested t)) cursor_x cursor_y drawn.sgr ∙ moved-drawn x y sgr (rested t) in
     let shown : (t : Emulator) → (rested t).width ≡ w → (rested t).height ≡ h → IsDrawnBy before t → rested (feed both.bytes t) ≡ prints symbol (printed_columns symbol) (drawn_at x y sgr (rested t))
-    = λ t wide high drawn. ap rested (both.read t drawn.phase) ∙ ap (λ (v : Emulator). record v { phase = Ground }) (alone-standing symbol (cursor_moved x y (rested t)) is refl)
+    = λ t wide high drawn. ap rested (both.read t drawn.phase) ∙ ap (λ (v : Emulator). record v { phase = Ground }) (alone-standing symbol (cursor_moved x y (rested t)) drawn.modes is agreed refl)
     ∙ ap (prints symbol (printed_columns symbol)) (there t wide high drawn) in
     record {
       bytes = both.bytes;
@@ -107,16 +108,16 @@ put-there w h x y before after symbol old first new x_in y_in moves sends is sam
       drawn = λ t wide high drawn.
           let e : feed both.bytes t ≡ typed symbol (cursor_moved x y (rested t)) = both.read t drawn.phase in
           let only : (feed both.bytes t).text ≡ symbol = ap (λ (v : Emulator). v.text) e in
-          drawn-after x y sgr symbol after (rested t) (feed both.bytes t) (ap (λ (v : Emulator). v.phase) e) same knows (shown t wide high drawn)
+          drawn-after x y sgr symbol after (rested t) (feed both.bytes t) drawn.modes (ap (λ (v : Emulator). v.phase) e) same knows (shown t wide high drawn)
           (λ one. (subst IsUtf8 (sym only) (symbol-utf8 symbol text), ap (λ xs. list_all is_plain_char (chars xs)) only ∙ one-plain (chars symbol) one));
       printed = shown;
     }
 
 -- a symbol after which no place is known
-pub put_unplaced : (w h x y : ℕ) (before after : Pen) (symbol old first new : List ℕ) → Performs old first (cursor_moved x y) → Sends first new (typed symbol) → is_printed symbol ≡ true
+pub put_unplaced : (w h x y : ℕ) (before after : Pen) (symbol old first new : List ℕ) → Performs old first (cursor_moved x y) → Sends first new (typed symbol) → is_printed symbol ≡ true → is_disputed symbol ≡ false
     → after.sgr ≡ before.sgr → after.at ≡ None → x < w → y < h → Prints w h old before x y before.sgr symbol new after
-put_unplaced w h x y before after symbol old first new moves sends is same unplaced column row =
-    put-there w h x y before after symbol old first new column row moves sends is same
+put_unplaced w h x y before after symbol old first new moves sends is agreed same unplaced column row =
+    put-there w h x y before after symbol old first new column row moves sends is agreed same
     (subst (λ at. IfSome at (λ p. (p.x ≡ x + 1) × (p.y ≡ y) × (is_one_plain (chars symbol) ≡ true))) (sym unplaced) tt)
 
 -- a pen with the rendition that it has

@@ -83,7 +83,7 @@ printed-width text utf8 = elim (is_one_plain (chars text)) as (λ v. is_one_plai
 pub plain-glyph : (text : List ℕ) (c : ℕ) → is_plain_char c ≡ true → IsUtf8 text → chars text ≡ c ∷ [] → IsGlyphOf text (Plain c)
 plain-glyph text c plain utf8 only =
     let same : encode c ≡ text = one-encoded text c utf8 only in
-    record { printed = subst (λ xs. is_printed xs ≡ true) same (plain-printed c plain); columns = rw (only, plain) refl; plain = (plain, sym same) }
+    record { printed = subst (λ xs. is_printed xs ≡ true) same (plain-printed c plain); columns = rw (only, plain) refl; disputed = rw only refl; plain = (plain, sym same) }
 
 shown-by : (p q : Bool) → (true && (p && true) && (false || q) && true && (false || not false)) ≡ (p && q)
 shown-by true true = refl
@@ -97,4 +97,4 @@ other-printed text c other utf8 only =
 pub whole-glyph : (text : List ℕ) (c : ℕ) → is_plain_char c ≡ false → is_shown c ≡ true → (nat_eq (columns_of_char c) 0) ≡ false → IsUtf8 text → chars text ≡ c ∷ [] → IsGlyphOf text (Whole (columns_of_char c))
 whole-glyph text c other shown some utf8 only =
     let test : nat_lt 0 (columns_of_char c) ≡ true = grind (arith, nat_tests) in
-    record { printed = other-printed text c other utf8 only ∙ rw (shown, test) refl; columns = rw (only, other) (sym (other-columns text c shown other utf8 only)); plain = tt }
+    record { printed = other-printed text c other utf8 only ∙ rw (shown, test) refl; columns = rw (only, other) (sym (other-columns text c shown other utf8 only)); disputed = rw only refl; plain = tt }

@@ -10,5 +10,7 @@ pub mod CallLemmas
 pub mod FlagLemmas
 pub mod EraseLemmas
 pub mod DrawLemmas
+pub mod PaintLemmas
+pub mod DisputeLemmas
 pub mod HistoryLemmas
 pub mod PutLemmas

@@ -3,10 +3,15 @@ use Rattle.std.proofs.Common.{◌≡◌, ℕ, ◌+◌, ◌-◌, ◌*◌, ◌/◌
 use Rattle.std.specs.{Result.is_ok, Fmt.decimal}
 use Rattle.std.proofs.lemmas.{Fmt.decimal_by_steps, Fmt.decimal_step, Fmt.decimal_digit, Bool.Decides.nat_tests}
 use Rattle.std.proofs.Math.Nat.{div-add-mod'}
-use Rattle.ansi_model.specs.Emulator.{Emulator, Phase, rested, cursor_moved, returned, erased, scrolled, line_fed, fed, if_so, cursor_shown, with_region, without_region, lines_deleted, lines_inserted}
+use Rattle.ansi_model.specs.Emulator.{Emulator, Phase, rested, cursor_moved, returned, erased, scrolled, line_fed, fed, if_so, cursor_shown, with_region, without_region, lines_deleted, lines_inserted, with_modes, with_sgr}
 use Rattle.ansi_model.specs.{Emulator.Phase.Ground, Emulator.Phase.Opened, Emulator.Phase.Sequence, Sequences.feed, Sequences.reads_in, Sequences.is_digit}
 use Rattle.ratatui_core.specs.Backend.{ClearType, All, AfterCursor, BeforeCursor, CurrentLine, UntilNewLine}
 use Rattle.ansi_model.specs.Sends.{Sends, Performs}
+use Rattle.ansi_model.specs.{Endings.left_below, Beginnings.without_modes, Sgr.default_sgr, Sgr.inks, Sgr.are_known}
+
+and-true : (b : Bool) → (b && true) ≡ b
+and-true true = refl
+and-true false = refl
 
 pub feed-append : (xs ys : List ℕ) (t : Emulator) → feed (xs ++ ys) t ≡ feed ys (feed xs t)
 unfolding feed
@@ -84,7 +89,7 @@ first-more n ds big rest t =
     ∙ digit-read false [] (n / 10) (n % 10) (within (Sequence false [] (n / 10)) t) (omega arith)
     ∙ ap (λ k. within (Sequence false [] k) t) (div-add-mod' n 10)
 
-first-read : (n : ℕ) → n < 2 ^ 64 → ReadsFirst n (decimal n)
+pub first-read : (n : ℕ) → n < 2 ^ 64 → ReadsFirst n (decimal n)
 first-read n small = decimal_by_steps ReadsFirst first-one first-more n small
 
 -- a sequence begins
@@ -199,6 +204,213 @@ return-read t ground = ap (λ p. reads_in p 13 t) ground
 pub feed-read : (t : Emulator) → t.phase ≡ Ground → feed (10 ∷ []) t ≡ line_fed (rested t)
 unfolding feed
 feed-read t ground = ap (λ p. reads_in p 10 t) ground
+
+-- ---- what leaves a terminal
+
+reset-read : (t : Emulator) → t.phase ≡ Ground → feed (27 ∷ 91 ∷ 48 ∷ 109 ∷ []) t ≡ with_sgr default_sgr (rested t)
+unfolding feed inks are_known
+reset-read t ground =
+    let s : Emulator = rested t in
+    begun (48 ∷ 109 ∷ []) t ground ∙ ap (λ sure. record (with_sgr default_sgr s) { sure = sure }) (and-true s.sure)
+
+last_row-read : (t : Emulator) → t.phase ≡ Ground → feed (27 ∷ 91 ∷ 54 ∷ 53 ∷ 53 ∷ 51 ∷ 53 ∷ 59 ∷ 49 ∷ 72 ∷ []) t ≡ cursor_moved 0 65534 (rested t)
+unfolding feed
+last_row-read t ground = begun (54 ∷ 53 ∷ 53 ∷ 51 ∷ 53 ∷ 59 ∷ 49 ∷ 72 ∷ []) t ground
+
+abbrev pub leaving_bytes : List ℕ
+leaving_bytes =
+    27 ∷ 91 ∷ 48 ∷ 109 ∷ 27 ∷ 91 ∷ 114 ∷ 27 ∷ 91 ∷ 63 ∷ 50 ∷ 53 ∷ 104 ∷ 27 ∷ 91 ∷ 54 ∷ 53 ∷ 53 ∷ 51 ∷ 53 ∷ 59 ∷ 49 ∷ 72 ∷ 13 ∷ 10 ∷ []
+
+pub leaving-read : (t : Emulator) → t.phase ≡ Ground → feed leaving_bytes t ≡ left_below (rested t)
+leaving-read t ground =
+    let reset = 27 ∷ 91 ∷ 48 ∷ 109 ∷ [] in
+    let region = 27 ∷ 91 ∷ 114 ∷ [] in
+    let cursor = 27 ∷ 91 ∷ 63 ∷ 50 ∷ 53 ∷ 104 ∷ [] in
+    let move = 27 ∷ 91 ∷ 54 ∷ 53 ∷ 53 ∷ 51 ∷ 53 ∷ 59 ∷ 49 ∷ 72 ∷ [] in
+    let ends : List ℕ = 13 ∷ 10 ∷ [] in
+    let t1 : Emulator = with_sgr default_sgr (rested t) in
+    let t2 : Emulator = without_region t1 in
+    let t3 : Emulator = cursor_shown true t2 in
+    let t4 : Emulator = cursor_moved 0 65534 t3 in
+    let t5 : Emulator = returned t4 in
+    feed-append reset (region ++ (cursor ++ (move ++ ends))) t ∙ ap (feed (region ++ (cursor ++ (move ++ ends)))) (reset-read t ground)
+    ∙ feed-append region (cursor ++ (move ++ ends)) t1 ∙ ap (feed (cursor ++ (move ++ ends))) (no_region-read t1 refl)
+    ∙ feed-append cursor (move ++ ends) t2 ∙ ap (feed (move ++ ends)) (showing-read t2 refl)
+    ∙ feed-append move ends t3 ∙ ap (feed ends) (last_row-read t3 refl)
+    ∙ feed-append (13 ∷ []) (10 ∷ []) t4 ∙ ap (feed (10 ∷ [])) (return-read t4 refl)
+    ∙ feed-read t5 refl
+
+-- ---- what settles a terminal's modes
+
+string-read : (t : Emulator) → t.phase ≡ Ground → feed (27 ∷ 92 ∷ []) t ≡ rested t
+unfolding feed
+string-read t ground = ap (λ p. feed (92 ∷ []) (reads_in p 27 t)) ground
+
+shift-read : (t : Emulator) → t.phase ≡ Ground → feed (15 ∷ []) t ≡ with_modes (record (rested t).modes { shifted = false }) (rested t)
+unfolding feed
+shift-read t ground = ap (λ p. reads_in p 15 t) ground
+
+letters-read : (t : Emulator) → t.phase ≡ Ground → feed (27 ∷ 40 ∷ 66 ∷ []) t ≡ with_modes (record (rested t).modes { lettered = false }) (rested t)
+unfolding feed
+letters-read t ground = ap (λ p. feed (40 ∷ 66 ∷ []) (reads_in p 27 t)) ground
+
+coding-read : (t : Emulator) → t.phase ≡ Ground → feed (27 ∷ 37 ∷ 71 ∷ []) t ≡ with_modes (record (rested t).modes { coded = false }) (rested t)
+unfolding feed
+coding-read t ground = ap (λ p. feed (37 ∷ 71 ∷ []) (reads_in p 27 t)) ground
+
+insert-read : (t : Emulator) → t.phase ≡ Ground → feed (27 ∷ 91 ∷ 52 ∷ 108 ∷ []) t ≡ with_modes (record (rested t).modes { inserts = false }) (rested t)
+unfolding feed
+insert-read t ground = begun (52 ∷ 108 ∷ []) t ground
+
+origin-read : (t : Emulator) → t.phase ≡ Ground → feed (27 ∷ 91 ∷ 63 ∷ 54 ∷ 108 ∷ []) t ≡ record (rested t) { modes = record (rested t).modes { origin = false }; x = 0; y = 0 }
+unfolding feed
+origin-read t ground = begun (63 ∷ 54 ∷ 108 ∷ []) t ground
+
+sides-read : (t : Emulator) → t.phase ≡ Ground → feed (27 ∷ 91 ∷ 63 ∷ 54 ∷ 57 ∷ 108 ∷ []) t ≡ with_modes (record (rested t).modes { sides = false }) (rested t)
+unfolding feed
+sides-read t ground = begun (63 ∷ 54 ∷ 57 ∷ 108 ∷ []) t ground
+
+wrap-read : (t : Emulator) → t.phase ≡ Ground → feed (27 ∷ 91 ∷ 63 ∷ 55 ∷ 104 ∷ []) t ≡ with_modes (record (rested t).modes { unwrapped = false }) (rested t)
+unfolding feed
+wrap-read t ground = begun (63 ∷ 55 ∷ 104 ∷ []) t ground
+
+update-read : (t : Emulator) → t.phase ≡ Ground → feed (27 ∷ 91 ∷ 63 ∷ 50 ∷ 48 ∷ 50 ∷ 54 ∷ 108 ∷ []) t ≡ with_modes (record (rested t).modes { held = false }) (rested t)
+unfolding feed
+update-read t ground = begun (63 ∷ 50 ∷ 48 ∷ 50 ∷ 54 ∷ 108 ∷ []) t ground
+
+abbrev pub settling_bytes : List ℕ
+settling_bytes =
+    27 ∷ 92 ∷ 15 ∷ 27 ∷ 40 ∷ 66 ∷ 27 ∷ 37 ∷ 71 ∷ 27 ∷ 91 ∷ 52 ∷ 108 ∷ 27 ∷ 91 ∷ 63 ∷ 54 ∷ 108 ∷ 27 ∷ 91 ∷ 63 ∷ 54 ∷ 57 ∷ 108
+    ∷ 27 ∷ 91 ∷ 63 ∷ 55 ∷ 104 ∷ 27 ∷ 91 ∷ 63 ∷ 50 ∷ 48 ∷ 50 ∷ 54 ∷ 108 ∷ []
+
+pub settling-read : (t : Emulator) → t.phase ≡ Ground → feed settling_bytes t ≡ without_modes (rested t)
+settling-read t ground =
+    let a1 : List ℕ = 27 ∷ 92 ∷ [] in
+    let a2 : List ℕ = 15 ∷ [] in
+    let a3 : List ℕ = 27 ∷ 40 ∷ 66 ∷ [] in
+    let a4 : List ℕ = 27 ∷ 37 ∷ 71 ∷ [] in
+    let a5 : List ℕ = 27 ∷ 91 ∷ 52 ∷ 108 ∷ [] in
+    let a6 : List ℕ = 27 ∷ 91 ∷ 63 ∷ 54 ∷ 108 ∷ [] in
+    let a7 : List ℕ = 27 ∷ 91 ∷ 63 ∷ 54 ∷ 57 ∷ 108 ∷ [] in
+    let a8 : List ℕ = 27 ∷ 91 ∷ 63 ∷ 55 ∷ 104 ∷ [] in
+    let a9 : List ℕ = 27 ∷ 91 ∷ 63 ∷ 50 ∷ 48 ∷ 50 ∷ 54 ∷ 108 ∷ [] in
+    let r8 : List ℕ = a8 ++ a9 in
+    let r7 : List ℕ = a7 ++ r8 in
+    let r6 : List ℕ = a6 ++ r7 in
+    let r5 : List ℕ = a5 ++ r6 in
+    let r4 : List ℕ = a4 ++ r5 in
+    let r3 : List ℕ = a3 ++ r4 in
+    let r2 : List ℕ = a2 ++ r3 in
+    let t1 : Emulator = rested t in
+    let t2 : Emulator = with_modes (record t1.modes { shifted = false }) t1 in
+    let t3 : Emulator = with_modes (record t2.modes { lettered = false }) t2 in
+    let t4 : Emulator = with_modes (record t3.modes { coded = false }) t3 in
+    let t5 : Emulator = with_modes (record t4.modes { inserts = false }) t4 in
+    let t6 : Emulator = record t5 { modes = record t5.modes { origin = false }; x = 0; y = 0 } in
+    let t7 : Emulator = with_modes (record t6.modes { sides = false }) t6 in
+    let t8 : Emulator = with_modes (record t7.modes { unwrapped = false }) t7 in
+    feed-append a1 r2 t ∙ ap (feed r2) (string-read t ground)
+    ∙ feed-append a2 r3 t1 ∙ ap (feed r3) (shift-read t1 refl)
+    ∙ feed-append a3 r4 t2 ∙ ap (feed r4) (letters-read t2 refl)
+    ∙ feed-append a4 r5 t3 ∙ ap (feed r5) (coding-read t3 refl)
+    ∙ feed-append a5 r6 t4 ∙ ap (feed r6) (insert-read t4 refl)
+    ∙ feed-append a6 r7 t5 ∙ ap (feed r7) (origin-read t5 refl)
+    ∙ feed-append a7 r8 t6 ∙ ap (feed r8) (sides-read t6 refl)
+    ∙ feed-append a8 a9 t7 ∙ ap (feed a9) (wrap-read t7 refl)
+    ∙ update-read t8 refl
+
+-- ---- what changes nothing on the screen
+
+quiet_1000h : (t : Emulator) → t.phase ≡ Ground → feed (27 ∷ 91 ∷ 63 ∷ 49 ∷ 48 ∷ 48 ∷ 48 ∷ 104 ∷ []) t ≡ rested t
+unfolding feed
+quiet_1000h t ground = begun (63 ∷ 49 ∷ 48 ∷ 48 ∷ 48 ∷ 104 ∷ []) t ground
+
+quiet_1002h : (t : Emulator) → t.phase ≡ Ground → feed (27 ∷ 91 ∷ 63 ∷ 49 ∷ 48 ∷ 48 ∷ 50 ∷ 104 ∷ []) t ≡ rested t
+unfolding feed
+quiet_1002h t ground = begun (63 ∷ 49 ∷ 48 ∷ 48 ∷ 50 ∷ 104 ∷ []) t ground
+
+quiet_1003h : (t : Emulator) → t.phase ≡ Ground → feed (27 ∷ 91 ∷ 63 ∷ 49 ∷ 48 ∷ 48 ∷ 51 ∷ 104 ∷ []) t ≡ rested t
+unfolding feed
+quiet_1003h t ground = begun (63 ∷ 49 ∷ 48 ∷ 48 ∷ 51 ∷ 104 ∷ []) t ground
+
+quiet_1006h : (t : Emulator) → t.phase ≡ Ground → feed (27 ∷ 91 ∷ 63 ∷ 49 ∷ 48 ∷ 48 ∷ 54 ∷ 104 ∷ []) t ≡ rested t
+unfolding feed
+quiet_1006h t ground = begun (63 ∷ 49 ∷ 48 ∷ 48 ∷ 54 ∷ 104 ∷ []) t ground
+
+quiet_1006l : (t : Emulator) → t.phase ≡ Ground → feed (27 ∷ 91 ∷ 63 ∷ 49 ∷ 48 ∷ 48 ∷ 54 ∷ 108 ∷ []) t ≡ rested t
+unfolding feed
+quiet_1006l t ground = begun (63 ∷ 49 ∷ 48 ∷ 48 ∷ 54 ∷ 108 ∷ []) t ground
+
+quiet_1003l : (t : Emulator) → t.phase ≡ Ground → feed (27 ∷ 91 ∷ 63 ∷ 49 ∷ 48 ∷ 48 ∷ 51 ∷ 108 ∷ []) t ≡ rested t
+unfolding feed
+quiet_1003l t ground = begun (63 ∷ 49 ∷ 48 ∷ 48 ∷ 51 ∷ 108 ∷ []) t ground
+
+quiet_1002l : (t : Emulator) → t.phase ≡ Ground → feed (27 ∷ 91 ∷ 63 ∷ 49 ∷ 48 ∷ 48 ∷ 50 ∷ 108 ∷ []) t ≡ rested t
+unfolding feed
+quiet_1002l t ground = begun (63 ∷ 49 ∷ 48 ∷ 48 ∷ 50 ∷ 108 ∷ []) t ground
+
+quiet_1000l : (t : Emulator) → t.phase ≡ Ground → feed (27 ∷ 91 ∷ 63 ∷ 49 ∷ 48 ∷ 48 ∷ 48 ∷ 108 ∷ []) t ≡ rested t
+unfolding feed
+quiet_1000l t ground = begun (63 ∷ 49 ∷ 48 ∷ 48 ∷ 48 ∷ 108 ∷ []) t ground
+
+quiet_2004h : (t : Emulator) → t.phase ≡ Ground → feed (27 ∷ 91 ∷ 63 ∷ 50 ∷ 48 ∷ 48 ∷ 52 ∷ 104 ∷ []) t ≡ rested t
+unfolding feed
+quiet_2004h t ground = begun (63 ∷ 50 ∷ 48 ∷ 48 ∷ 52 ∷ 104 ∷ []) t ground
+
+quiet_2004l : (t : Emulator) → t.phase ≡ Ground → feed (27 ∷ 91 ∷ 63 ∷ 50 ∷ 48 ∷ 48 ∷ 52 ∷ 108 ∷ []) t ≡ rested t
+unfolding feed
+quiet_2004l t ground = begun (63 ∷ 50 ∷ 48 ∷ 48 ∷ 52 ∷ 108 ∷ []) t ground
+
+quiet_1004h : (t : Emulator) → t.phase ≡ Ground → feed (27 ∷ 91 ∷ 63 ∷ 49 ∷ 48 ∷ 48 ∷ 52 ∷ 104 ∷ []) t ≡ rested t
+unfolding feed
+quiet_1004h t ground = begun (63 ∷ 49 ∷ 48 ∷ 48 ∷ 52 ∷ 104 ∷ []) t ground
+
+quiet_1004l : (t : Emulator) → t.phase ≡ Ground → feed (27 ∷ 91 ∷ 63 ∷ 49 ∷ 48 ∷ 48 ∷ 52 ∷ 108 ∷ []) t ≡ rested t
+unfolding feed
+quiet_1004l t ground = begun (63 ∷ 49 ∷ 48 ∷ 48 ∷ 52 ∷ 108 ∷ []) t ground
+
+quiet_6n : (t : Emulator) → t.phase ≡ Ground → feed (27 ∷ 91 ∷ 54 ∷ 110 ∷ []) t ≡ rested t
+unfolding feed
+quiet_6n t ground = begun (54 ∷ 110 ∷ []) t ground
+
+pub mouse_on-read : (t : Emulator) → t.phase ≡ Ground → feed (27 ∷ 91 ∷ 63 ∷ 49 ∷ 48 ∷ 48 ∷ 48 ∷ 104 ∷ 27 ∷ 91 ∷ 63 ∷ 49 ∷ 48 ∷ 48 ∷ 50 ∷ 104 ∷ 27 ∷ 91 ∷ 63 ∷ 49 ∷ 48 ∷ 48 ∷ 51 ∷ 104 ∷ 27 ∷ 91 ∷ 63 ∷ 49 ∷ 48 ∷ 48 ∷ 54 ∷ 104 ∷ []) t ≡ rested t
+mouse_on-read t ground =
+    let a0 : List ℕ = 27 ∷ 91 ∷ 63 ∷ 49 ∷ 48 ∷ 48 ∷ 48 ∷ 104 ∷ [] in
+    let a1 : List ℕ = 27 ∷ 91 ∷ 63 ∷ 49 ∷ 48 ∷ 48 ∷ 50 ∷ 104 ∷ [] in
+    let a2 : List ℕ = 27 ∷ 91 ∷ 63 ∷ 49 ∷ 48 ∷ 48 ∷ 51 ∷ 104 ∷ [] in
+    let a3 : List ℕ = 27 ∷ 91 ∷ 63 ∷ 49 ∷ 48 ∷ 48 ∷ 54 ∷ 104 ∷ [] in
+    let r2 : List ℕ = a2 ++ a3 in
+    let r1 : List ℕ = a1 ++ r2 in
+    let s : Emulator = rested t in
+    feed-append a0 r1 t ∙ ap (feed r1) (quiet_1000h t ground) ∙ feed-append a1 r2 s ∙ ap (feed r2) (quiet_1002h s refl)
+    ∙ feed-append a2 a3 s ∙ ap (feed a3) (quiet_1003h s refl) ∙ quiet_1006h s refl
+
+pub mouse_off-read : (t : Emulator) → t.phase ≡ Ground → feed (27 ∷ 91 ∷ 63 ∷ 49 ∷ 48 ∷ 48 ∷ 54 ∷ 108 ∷ 27 ∷ 91 ∷ 63 ∷ 49 ∷ 48 ∷ 48 ∷ 51 ∷ 108 ∷ 27 ∷ 91 ∷ 63 ∷ 49 ∷ 48 ∷ 48 ∷ 50 ∷ 108 ∷ 27 ∷ 91 ∷ 63 ∷ 49 ∷ 48 ∷ 48 ∷ 48 ∷ 108 ∷ []) t ≡ rested t
+mouse_off-read t ground =
+    let a0 : List ℕ = 27 ∷ 91 ∷ 63 ∷ 49 ∷ 48 ∷ 48 ∷ 54 ∷ 108 ∷ [] in
+    let a1 : List ℕ = 27 ∷ 91 ∷ 63 ∷ 49 ∷ 48 ∷ 48 ∷ 51 ∷ 108 ∷ [] in
+    let a2 : List ℕ = 27 ∷ 91 ∷ 63 ∷ 49 ∷ 48 ∷ 48 ∷ 50 ∷ 108 ∷ [] in
+    let a3 : List ℕ = 27 ∷ 91 ∷ 63 ∷ 49 ∷ 48 ∷ 48 ∷ 48 ∷ 108 ∷ [] in
+    let r2 : List ℕ = a2 ++ a3 in
+    let r1 : List ℕ = a1 ++ r2 in
+    let s : Emulator = rested t in
+    feed-append a0 r1 t ∙ ap (feed r1) (quiet_1006l t ground) ∙ feed-append a1 r2 s ∙ ap (feed r2) (quiet_1003l s refl)
+    ∙ feed-append a2 a3 s ∙ ap (feed a3) (quiet_1002l s refl) ∙ quiet_1000l s refl
+
+pub paste_on-read : (t : Emulator) → t.phase ≡ Ground → feed (27 ∷ 91 ∷ 63 ∷ 50 ∷ 48 ∷ 48 ∷ 52 ∷ 104 ∷ []) t ≡ rested t
+paste_on-read = quiet_2004h
+
+pub paste_off-read : (t : Emulator) → t.phase ≡ Ground → feed (27 ∷ 91 ∷ 63 ∷ 50 ∷ 48 ∷ 48 ∷ 52 ∷ 108 ∷ []) t ≡ rested t
+paste_off-read = quiet_2004l
+
+pub focus_on-read : (t : Emulator) → t.phase ≡ Ground → feed (27 ∷ 91 ∷ 63 ∷ 49 ∷ 48 ∷ 48 ∷ 52 ∷ 104 ∷ []) t ≡ rested t
+focus_on-read = quiet_1004h
+
+pub focus_off-read : (t : Emulator) → t.phase ≡ Ground → feed (27 ∷ 91 ∷ 63 ∷ 49 ∷ 48 ∷ 48 ∷ 52 ∷ 108 ∷ []) t ≡ rested t
+focus_off-read = quiet_1004l
+
+pub place-read : (t : Emulator) → t.phase ≡ Ground → feed (27 ∷ 91 ∷ 54 ∷ 110 ∷ []) t ≡ rested t
+place-read = quiet_6n
 
 -- a rested terminal stays so
 pub line_fed-rested : (t : Emulator) → line_fed (rested t) ≡ rested (line_fed (rested t))

@@ -51,6 +51,7 @@ stays-idle w h x y s c d rows ready row same tidy = record {
     sgr = ready.rest.sgr;
     top = ready.rest.top;
     bottom = ready.rest.bottom;
+    modes = ready.rest.modes;
     sure = refl;
   };
   row = row;
@@ -67,7 +68,7 @@ moved-placed x y t x_in y_in =
 -- a blank terminal is idle
 pub blank-idle : (w h : ℕ) → 0 < h → IsIdle w h (blank_terminal w h)
 blank-idle w h some = record {
-  rest = record { phase = refl; text = refl; width = refl; height = refl; sgr = refl; top = refl; bottom = refl; sure = refl };
+  rest = record { phase = refl; text = refl; width = refl; height = refl; sgr = refl; top = refl; bottom = refl; modes = refl; sure = refl };
   row = some;
   tidy = record { sized = λ a b. blank-sized; whole = λ a b. blank-whole a; beyond = λ a b out. refl };
 }

@@ -1,25 +1,19 @@
 -- A rendition is read back as it is written.
-use Rattle.std.proofs.Common.{◌≡◌, ℕ, ◌+◌, ◌<◌, ◌^◌, ◌==◌, nat_lt, nat_eq, List, [], ◌∷◌, ◌++◌, Bool, true, false, IsTrue, zero, suc, inl, inr, ◌⊎◌, ◌&&◌, if◌then◌else◌, refl, sym, ap, ap₂, ◌∙◌, arith, append_assoc}
-use Rattle.std.specs.{Fmt.decimal, List.list_all, Int.RustNames.bit_and, Int.RustNames.bit_or}
-use Rattle.std.proofs.lemmas.{Bool.false≢true, Bool.and_parts, Bool.Decides.nat_tests, List.Folds.list_all-append}
+use Rattle.std.proofs.Common.{◌≡◌, ℕ, ◌+◌, ◌<◌, ◌^◌, ◌==◌, nat_lt, nat_eq, List, [], ◌∷◌, ◌++◌, Bool, true, false, IsTrue, zero, suc, inl, inr, ◌⊎◌, ◌&&◌, ◌≤◌, nat_le, length, length-append, if◌then◌else◌, refl, sym, ap, ap₂, ◌∙◌, arith, append_assoc, append-nil, take, get_or}
+use Rattle.std.specs.{Fmt.decimal, List.list_all, List.flat_map, Int.RustNames.bit_and, Int.RustNames.bit_or}
+use Rattle.std.proofs.lemmas.{Bool.false≢true, Bool.and_parts, Bool.Decides.nat_tests, List.Folds.list_all-append, List.take_more, Grind.flat_map-append}
+use Rattle.std.proofs.Math.ListN.{get_or-map}
 use Rattle.ratatui_core.specs.Style.{Color, Reset, Rgb, Indexed, Modifier, no_modifier, bits_of, modifier_of}
 use Rattle.ratatui_core.proofs.StyleLemmas.{same_color, same_modifier}
 use Rattle.ansi_model.specs.contracts.sgr.SgrPartialEq.TheImpl as sgr_equality
-use Rattle.ansi_model.specs.{declared.sgr.Sgr.Sgr, Emulator.Phase.Ground, Emulator.Phase.Sequence, Sequences.feed, Sequences.performs, Sends.Performs}
+use Rattle.ansi_model.specs.{declared.sgr.Sgr.Sgr, Emulator.Phase.Ground, Emulator.Phase.Opened, Emulator.Phase.Sequence, Sequences.feed, Sends.Performs}
 use Rattle.ratatui_core.specs.Buffer.{Cell}
 use Rattle.ansi_model.specs.Sgr.{Awaits, Inking, inks, inks_in, is_known_parameter, are_known, default_sgr, sgr_of}
 use Rattle.ansi_model.specs.Sgr.Awaits.{Nothing, Kind, Number, Parts}
 use Rattle.ansi_model.specs.Emulator.{Emulator, rested, if_so, with_sgr}
-use Rattle.ansi_model.specs.Parameters.{color_parameters, underline_parameters, modifier_parameters, modifier_parameter, semicolons, is_underline, is_sendable, AddsParameters}
-use Rattle.ansi_model.proofs.{ReadLemmas.feed-append, ReadLemmas.number-read, ReadLemmas.begun, TextLemmas.and-true}
-
--- all parameters after the one that resets the rendition
-abbrev pub sgr_parameters : Sgr → List ℕ
-sgr_parameters p = modifier_parameters (bits_of p.modifier) ++ (color_parameters 30 p.fg ++ (color_parameters 40 p.bg ++ underline_parameters p.underline_color))
-
--- the bytes that set a rendition
-abbrev pub sgr_bytes : Sgr → List ℕ
-sgr_bytes p = 27 ∷ 91 ∷ 48 ∷ (semicolons (sgr_parameters p) ++ 109 ∷ [])
+use Rattle.ansi_model.specs.Parameters.{color_parameters, underline_parameters, modifier_parameters, modifier_parameter, modifier_numbers, semicolons, led, is_underline, is_sendable, AddsParameters, color_count, lead_of, count_with, is_joined}
+use Rattle.ansi_model.proofs.ReadLemmas.{feed-append, number-read, first-read, begun, within, after-those}
+use Rattle.ansi_model.proofs.TextLemmas.{and-true}
 
 fits : (p : ℕ) → nat_lt p 256 ≡ true → p < 2 ^ 64
 fits p small =
@@ -31,27 +25,67 @@ semicolons-append [] qs = refl
 semicolons-append (p ∷ ps) qs =
     ap (λ rest. 59 ∷ (decimal p ++ rest)) (semicolons-append ps qs) ∙ ap (λ rest. 59 ∷ rest) (sym (append_assoc (decimal p) (semicolons ps) (semicolons qs)))
 
+-- a semicolon before the first of some parameters
+led-semicolon : (ps : List ℕ) → led (59 ∷ []) ps ≡ semicolons ps
+led-semicolon [] = refl
+led-semicolon (p ∷ ps) = refl
+
 -- parameters after others
-pub Parameters-then : (a b c ps qs : List ℕ) → AddsParameters a b ps → AddsParameters b c qs → AddsParameters a c (ps ++ qs)
+pub Parameters-then : (a b c ps qs : List ℕ) → AddsParameters (59 ∷ []) a b ps → AddsParameters (59 ∷ []) b c qs
+    → AddsParameters (59 ∷ []) a c (ps ++ qs)
 Parameters-then a b c ps qs first second = record {
-  appended = second.appended ∙ ap (λ xs. xs ++ semicolons qs) first.appended ∙ append_assoc a (semicolons ps) (semicolons qs) ∙ ap (λ xs. a ++ xs) (sym (semicolons-append ps qs));
+  appended = second.appended ∙ ap₂ (λ xs ys. xs ++ ys) (first.appended ∙ ap (λ ys. a ++ ys) (led-semicolon ps)) (led-semicolon qs)
+      ∙ append_assoc a (semicolons ps) (semicolons qs) ∙ ap (λ xs. a ++ xs) (sym (led-semicolon (ps ++ qs) ∙ semicolons-append ps qs));
   small = list_all-append (λ p. nat_lt p 256) ps qs ∙ rw (first.small, second.small) refl;
 }
 
--- written parameters are the ones that a sequence performs
-pub parameters-read : (ps : List ℕ) → list_all (λ p. nat_lt p 256) ps ≡ true → (done : List ℕ) (n : ℕ) (t : Emulator)
-    → feed (semicolons ps ++ 109 ∷ []) (record t { phase = Sequence false done n }) ≡ performs (done ++ n ∷ ps) 109 (record t { phase = Ground })
+-- what a sequence has read of its numbers but the one at hand, and that one, after more parameters
+abbrev done_after : List ℕ → ℕ → List ℕ → List ℕ
+done_after done n [] = done
+done_after done n (p ∷ ps) = done_after (done ++ n ∷ []) p ps
+
+abbrev last_after : ℕ → List ℕ → ℕ
+last_after n [] = n
+last_after n (p ∷ ps) = last_after p ps
+
+all-after : (done : List ℕ) (n : ℕ) (ps : List ℕ) → done_after done n ps ++ last_after n ps ∷ [] ≡ done ++ n ∷ ps
+all-after done n [] = refl
+all-after done n (p ∷ ps) = all-after (done ++ n ∷ []) p ps ∙ append_assoc done (n ∷ []) (p ∷ ps)
+
+-- a terminal in the midst of a sequence without a mark, with a rendition
+abbrev midway : List ℕ → ℕ → Sgr → Emulator → Emulator
+midway done n sgr t = record t { sgr = sgr; phase = Sequence false done n }
+
+-- written parameters are read
+semicolons-read : (ps : List ℕ) → list_all (λ p. nat_lt p 256) ps ≡ true → (done : List ℕ) (n : ℕ) (sgr : Sgr) (t : Emulator)
+    → feed (semicolons ps) (midway done n sgr t) ≡ midway (done_after done n ps) (last_after n ps) sgr t
 unfolding feed
-parameters-read [] small done n t = refl
-parameters-read (p ∷ ps) small done n t =
-    let rest = semicolons ps ++ 109 ∷ [] in
+semicolons-read [] small done n sgr t = refl
+semicolons-read (p ∷ ps) small done n sgr t =
     let both = and_parts (nat_lt p 256) (list_all (λ q. nat_lt q 256) ps) small in
-    let opened : Emulator = record t { phase = Sequence false (done ++ n ∷ []) 0 } in
-    ap (λ bs. feed bs opened) (append_assoc (decimal p) (semicolons ps) (109 ∷ []))
-    ∙ feed-append (decimal p) rest opened
-    ∙ ap (feed rest) (number-read p (fits p both.0) false (done ++ n ∷ []) t)
-    ∙ parameters-read ps both.1 (done ++ n ∷ []) p t
-    ∙ ap (λ xs. performs xs 109 (record t { phase = Ground })) (append_assoc done (n ∷ []) (p ∷ ps))
+    feed-append (decimal p) (semicolons ps) (midway (done ++ n ∷ []) 0 sgr t)
+    ∙ ap (feed (semicolons ps)) (number-read p (fits p both.0) false (done ++ n ∷ []) (record t { sgr = sgr }))
+    ∙ semicolons-read ps both.1 (done ++ n ∷ []) p sgr t
+
+-- the modifiers, each with its number
+abbrev pub numbered : List (Modifier × ℕ)
+numbered =
+    (modifier_of 1, 1) ∷ (modifier_of 2, 2) ∷ (modifier_of 4, 3) ∷ (modifier_of 8, 4) ∷ (modifier_of 16, 5) ∷ (modifier_of 32, 6)
+    ∷ (modifier_of 64, 7) ∷ (modifier_of 128, 8) ∷ (modifier_of 256, 9) ∷ []
+
+-- the parameters of the first modifiers, as many as i
+abbrev pub first_modifiers : ℕ → ℕ → List ℕ
+first_modifiers bits i = flat_map (λ m. modifier_parameter bits m.0 m.1) (take i modifier_numbers)
+
+-- one more of them
+pub modifiers-more : (bits i : ℕ) → i < 9
+    → first_modifiers bits (i + 1) ≡ first_modifiers bits i ++ modifier_parameter bits (get_or numbered i (no_modifier, 0)).0.0 (get_or numbered i (no_modifier, 0)).1
+modifiers-more bits i below =
+    let f : ℕ × ℕ → List ℕ = λ m. modifier_parameter bits m.0 m.1 in
+    let g : Modifier × ℕ → ℕ × ℕ = λ m. (bits_of m.0, m.1) in
+    ap (flat_map f) (take_more modifier_numbers i (0, 0) below)
+    ∙ flat_map-append f (take i modifier_numbers) (get_or modifier_numbers i (0, 0) ∷ [])
+    ∙ ap (λ xs. first_modifiers bits i ++ xs) (append-nil (f (get_or modifier_numbers i (0, 0))) ∙ ap f (get_or-map g numbered i (no_modifier, 0)))
 
 pub inks-append : (xs ys : List ℕ) (i : Inking) → inks (xs ++ ys) i ≡ inks ys (inks xs i)
 unfolding inks
@@ -109,7 +143,7 @@ unfolding inks
 modifiers-inked bits =
     marked 1 1 bits _ _ (λ m. refl) ∙ marked 2 2 bits _ _ (λ m. refl) ∙ marked 3 4 bits _ _ (λ m. refl) ∙ marked 4 8 bits _ _ (λ m. refl)
     ∙ marked 5 16 bits _ _ (λ m. refl) ∙ marked 6 32 bits _ _ (λ m. refl) ∙ marked 7 64 bits _ _ (λ m. refl) ∙ marked 8 128 bits _ _ (λ m. refl)
-    ∙ mark 9 256 (bit_and bits 256 == 0) _ (λ m. refl)
+    ∙ marked 9 256 bits [] _ (λ m. refl)
 
 -- whether a test holds of each number below n
 abbrev pub up_to : (ℕ → Bool) → ℕ → Bool
@@ -139,21 +173,6 @@ inks-reset : (ps : List ℕ) (sgr : Sgr) → inks (0 ∷ ps) (done_with sgr) ≡
 unfolding inks
 inks-reset ps sgr = refl
 
--- the parameters of a rendition make it
-inks-sgr : (p : Sgr) → bits_of p.modifier < 512 → IsTrue (is_underline p.underline_color) → inks (sgr_parameters p) (done_with default_sgr) ≡ done_with p
-inks-sgr p bits sent =
-    let m = modifier_parameters (bits_of p.modifier) in
-    let f = color_parameters 30 p.fg in
-    let b = color_parameters 40 p.bg in
-    let u = underline_parameters p.underline_color in
-    let p1 : Sgr = record default_sgr { modifier = p.modifier } in
-    let p2 : Sgr = record p1 { fg = p.fg } in
-    let p3 : Sgr = record p2 { bg = p.bg } in
-    inks-append m (f ++ (b ++ u)) (done_with default_sgr) ∙ ap (inks (f ++ (b ++ u))) (modifier-inks (bits_of p.modifier) bits)
-    ∙ inks-append f (b ++ u) (done_with p1) ∙ ap (inks (b ++ u)) (fg-inks p.fg p1 refl)
-    ∙ inks-append b u (done_with p2) ∙ ap (inks u) (bg-inks p.bg p2 refl)
-    ∙ underline-inks p.underline_color p3 sent refl
-
 -- ---- terminals take a rendition's parameters alike
 
 known-append : (xs ys : List ℕ) (a : Awaits) → are_known xs a ≡ true → are_known ys Nothing ≡ true → are_known (xs ++ ys) a ≡ true
@@ -181,7 +200,8 @@ modifiers-known bits =
     (known-append (modifier_parameter bits 16 5) _ Nothing (mark-known (bit_and bits 16 == 0) 5 refl)
     (known-append (modifier_parameter bits 32 6) _ Nothing (mark-known (bit_and bits 32 == 0) 6 refl)
     (known-append (modifier_parameter bits 64 7) _ Nothing (mark-known (bit_and bits 64 == 0) 7 refl)
-    (known-append (modifier_parameter bits 128 8) _ Nothing (mark-known (bit_and bits 128 == 0) 8 refl) (mark-known (bit_and bits 256 == 0) 9 refl))))))))
+    (known-append (modifier_parameter bits 128 8) _ Nothing (mark-known (bit_and bits 128 == 0) 8 refl)
+    (known-append (modifier_parameter bits 256 9) [] Nothing (mark-known (bit_and bits 256 == 0) 9 refl) refl))))))))
 
 abbrev are_bytes : List ℕ → Bool
 are_bytes ps = list_all (λ q. nat_lt q 256) ps
@@ -207,44 +227,190 @@ underline-known (Rgb r g b) sent small = small
 underline-known (Indexed n) sent small = small
 underline-known _ sent small = let h : ⊥ = cc in absurd h
 
-sgr-known : (p : Sgr) → IsTrue (is_underline p.underline_color) → are_bytes (sgr_parameters p) ≡ true → are_known (0 ∷ sgr_parameters p) Nothing ≡ true
-unfolding are_known
-sgr-known p sent small =
+-- ---- a rendition is read back
+
+-- a terminal in the midst of a sequence of so many parameters: once that is closed, it has this rendition
+record IsMidway (sgr : Sgr) (count : ℕ) (t u : Emulator) : Type 0 where
+  done : List ℕ
+  number : ℕ
+  from : Sgr
+  is : u ≡ midway done number from t
+  inked : inks (done ++ number ∷ []) (done_with from) ≡ done_with sgr
+  known : are_known (done ++ number ∷ []) Nothing ≡ true
+  counted : length (done ++ number ∷ []) ≡ count
+
+-- more parameters of the same sequence
+joins : (sgr next : Sgr) (count : ℕ) (ps : List ℕ) (t u : Emulator) → IsMidway sgr count t u → inks ps (done_with sgr) ≡ done_with next
+    → are_known ps Nothing ≡ true → are_bytes ps ≡ true → IsMidway next (count + length ps) t (feed (semicolons ps) u)
+joins sgr next count ps t u mid inked known small =
+    let all = all-after mid.done mid.number ps in
+    let split : mid.done ++ mid.number ∷ ps ≡ (mid.done ++ mid.number ∷ []) ++ ps = sym (append_assoc mid.done (mid.number ∷ []) ps) in
+    record {
+      done = done_after mid.done mid.number ps;
+      number = last_after mid.number ps;
+      from = mid.from;
+      is = ap (feed (semicolons ps)) mid.is ∙ semicolons-read ps small mid.done mid.number mid.from t;
+      inked = ap (λ xs. inks xs (done_with mid.from)) (all ∙ split) ∙ inks-append (mid.done ++ mid.number ∷ []) ps (done_with mid.from) ∙ ap (inks ps) mid.inked ∙ inked;
+      known = ap (λ xs. are_known xs Nothing) (all ∙ split) ∙ known-append (mid.done ++ mid.number ∷ []) ps Nothing mid.known known;
+      counted = ap length (all ∙ split) ∙ length-append (mid.done ++ mid.number ∷ []) ps ∙ ap (λ k. k + length ps) mid.counted;
+    }
+
+-- the sequence is closed
+closes : (sgr : Sgr) (count : ℕ) (t u : Emulator) → IsMidway sgr count (rested t) u → count ≤ 16 → feed (109 ∷ []) u ≡ with_sgr sgr (rested t)
+unfolding feed
+closes sgr count t u mid few =
+    let s : Emulator = rested t in
+    let all = mid.done ++ mid.number ∷ [] in
+    let fits : nat_le (length all) 16 ≡ true = let e = mid.counted in grind (arith, nat_tests) in
+    ap (feed (109 ∷ [])) mid.is
+    ∙ ap₂ (λ a b. if_so (a && b) (with_sgr (inks all (done_with mid.from)).sgr s)) fits mid.known
+    ∙ ap (λ (i : Inking). if_so true (with_sgr i.sgr s)) mid.inked
+    ∙ ap (λ sure. record (with_sgr sgr s) { sure = sure }) (and-true s.sure)
+
+-- the sequence is closed, and another one begun
+reopens : (sgr next : Sgr) (count p : ℕ) (ps : List ℕ) (t u : Emulator) → IsMidway sgr count (rested t) u → count ≤ 16
+    → inks (p ∷ ps) (done_with sgr) ≡ done_with next → are_known (p ∷ ps) Nothing ≡ true → are_bytes (p ∷ ps) ≡ true
+    → IsMidway next (length (p ∷ ps)) (rested t) (feed (109 ∷ 27 ∷ 91 ∷ (decimal p ++ semicolons ps)) u)
+unfolding feed
+reopens sgr next count p ps t u mid few inked known small =
+    let both = and_parts (nat_lt p 256) (are_bytes ps) small in
+    let all = all-after [] p ps in
+    let closed : Emulator = with_sgr sgr (rested t) in
+    record {
+      done = done_after [] p ps;
+      number = last_after p ps;
+      from = sgr;
+      is = feed-append (109 ∷ []) (27 ∷ 91 ∷ (decimal p ++ semicolons ps)) u
+          ∙ ap (feed (27 ∷ 91 ∷ (decimal p ++ semicolons ps))) (closes sgr count t u mid few)
+          ∙ begun (decimal p ++ semicolons ps) closed refl
+          ∙ feed-append (decimal p) (semicolons ps) (within Opened closed)
+          ∙ ap (feed (semicolons ps)) (first-read p (fits p both.0) closed)
+          ∙ semicolons-read ps both.1 [] p sgr (rested t);
+      inked = ap (λ xs. inks xs (done_with sgr)) all ∙ inked;
+      known = ap (λ xs. are_known xs Nothing) all ∙ known;
+      counted = ap length all;
+    }
+
+-- a colour, in the same sequence or in another
+colors : (sgr next : Sgr) (count more : ℕ) (ps : List ℕ) (t u : Emulator) → IsMidway sgr count (rested t) u → count ≤ 16 → length ps ≡ more → more ≤ 16
+    → inks ps (done_with sgr) ≡ done_with next → are_known ps Nothing ≡ true → are_bytes ps ≡ true
+    → IsMidway next (count_with count more) (rested t) (feed (led (lead_of count more) ps) u) × (count_with count more ≤ 16)
+unfolding feed inks
+colors sgr next count more [] t u mid few long room inked known small =
+    let none : more ≡ 0 = sym long in
+    let fits : is_joined count more ≡ true = grind (arith, nat_tests) in
+    let same : sgr ≡ next = ap (λ (i : Inking). i.sgr) inked in
+    let e : count_with count more ≡ count = rw fits (omega arith) in
+    (rw (e, ← same) mid, rw e few)
+colors sgr next count more (p ∷ ps) t u mid few long room inked known small =
+    elim (is_joined count more) as (λ b. is_joined count more ≡ b
+    → IsMidway next (if b then count + more else more) (rested t) (feed ((if b then 59 ∷ [] else 109 ∷ 27 ∷ 91 ∷ []) ++ (decimal p ++ semicolons ps)) u) × ((if b then count + more else more) ≤ 16)) [
+      | true ↦ λ is. (rw (← long) (joins sgr next count (p ∷ ps) (rested t) u mid inked known small), grind (arith, nat_tests))
+      | false ↦ λ is. (rw (← long) (reopens sgr next count p ps t u mid few inked known small), room)
+    ] refl
+
+-- how many parameters the colours have
+fg-count : (c : Color) → length (color_parameters 30 c) ≡ color_count c
+fg-count Reset = refl
+fg-count (Rgb r g b) = refl
+fg-count (Indexed n) = refl
+fg-count _ = refl
+
+bg-count : (c : Color) → length (color_parameters 40 c) ≡ color_count c
+bg-count Reset = refl
+bg-count (Rgb r g b) = refl
+bg-count (Indexed n) = refl
+bg-count _ = refl
+
+underline-count : (c : Color) → IsTrue (is_underline c) → length (underline_parameters c) ≡ color_count c
+underline-count Reset sent = refl
+underline-count (Rgb r g b) sent = refl
+underline-count (Indexed n) sent = refl
+underline-count _ sent = let h : ⊥ = cc in absurd h
+
+pub count-small : (c : Color) → color_count c ≤ 5
+count-small Reset = omega arith
+count-small (Rgb r g b) = omega arith
+count-small (Indexed n) = omega arith
+count-small _ = omega arith
+
+-- the sequence begins: the terminal's own rendition
+opens : (t : Emulator) → t.phase ≡ Ground → IsMidway default_sgr 1 (rested t) (feed (27 ∷ 91 ∷ 48 ∷ []) t)
+unfolding feed inks are_known
+opens t ground = record {
+  done = [];
+  number = 0;
+  from = (rested t).sgr;
+  is = begun (48 ∷ []) t ground;
+  inked = refl;
+  known = refl;
+  counted = refl;
+}
+
+-- the bytes that set a rendition: the modifiers and the colour of the text in the first sequence, and the other colours where they fit
+abbrev pub first_count : Sgr → ℕ
+first_count p = 1 + length (modifier_parameters (bits_of p.modifier)) + color_count p.fg
+
+abbrev pub second_count : Sgr → ℕ
+second_count p = count_with (first_count p) (color_count p.bg)
+
+abbrev sgr_bytes : Sgr → List ℕ
+sgr_bytes p =
+    (27 ∷ 91 ∷ 48 ∷ []) ++ (semicolons (modifier_parameters (bits_of p.modifier) ++ color_parameters 30 p.fg)
+    ++ (led (lead_of (first_count p) (color_count p.bg)) (color_parameters 40 p.bg)
+    ++ (led (lead_of (second_count p) (color_count p.underline_color)) (underline_parameters p.underline_color) ++ 109 ∷ [])))
+
+-- a rendition that can be sent is read back
+sgr-read : (p : Sgr) (t : Emulator) → bits_of p.modifier < 512 → IsTrue (is_underline p.underline_color) → length (modifier_parameters (bits_of p.modifier)) ≤ 9
+    → are_bytes (modifier_parameters (bits_of p.modifier) ++ color_parameters 30 p.fg) ≡ true → are_bytes (color_parameters 40 p.bg) ≡ true → are_bytes (underline_parameters p.underline_color) ≡ true
+    → t.phase ≡ Ground → feed (sgr_bytes p) t ≡ with_sgr p (rested t)
+sgr-read p t bits sent few first second third ground =
     let m = modifier_parameters (bits_of p.modifier) in
     let f = color_parameters 30 p.fg in
     let b = color_parameters 40 p.bg in
     let u = underline_parameters p.underline_color in
-    let one = and_parts (are_bytes m) (are_bytes (f ++ (b ++ u))) (sym (list_all-append (λ q. nat_lt q 256) m (f ++ (b ++ u))) ∙ small) in
-    let two = and_parts (are_bytes f) (are_bytes (b ++ u)) (sym (list_all-append (λ q. nat_lt q 256) f (b ++ u)) ∙ one.1) in
-    let three = and_parts (are_bytes b) (are_bytes u) (sym (list_all-append (λ q. nat_lt q 256) b u) ∙ two.1) in
-    known-append m (f ++ (b ++ u)) Nothing (modifiers-known (bits_of p.modifier))
-    (known-append f (b ++ u) Nothing (fg-known p.fg two.0) (known-append b u Nothing (bg-known p.bg three.0) (underline-known p.underline_color sent three.1)))
-
--- a rendition that can be sent is read back
-sgr-read : (p : Sgr) (t : Emulator) → bits_of p.modifier < 512 → IsTrue (is_underline p.underline_color) → list_all (λ q. nat_lt q 256) (sgr_parameters p) ≡ true → t.phase ≡ Ground
-    → feed (sgr_bytes p) t ≡ with_sgr p (rested t)
-unfolding feed
-sgr-read p t bits sent small ground =
-    let s : Emulator = rested t in
-    let ps = sgr_parameters p in
-    begun (48 ∷ (semicolons ps ++ 109 ∷ [])) t ground
-    ∙ parameters-read ps small [] 0 s
-    ∙ ap₂ (λ known (i : Inking). if_so known (with_sgr i.sgr s)) (sgr-known p sent small) (inks-reset ps s.sgr ∙ inks-sgr p bits sent)
-    ∙ ap (λ sure. record (with_sgr p s) { sure = sure }) (and-true s.sure)
+    let p1 : Sgr = record default_sgr { modifier = p.modifier } in
+    let p2 : Sgr = record p1 { fg = p.fg } in
+    let p3 : Sgr = record p2 { bg = p.bg } in
+    let parts = and_parts (are_bytes m) (are_bytes f) (sym (list_all-append (λ q. nat_lt q 256) m f) ∙ first) in
+    let fg_few = count-small p.fg in
+    let bg_few = count-small p.bg in
+    let underline_few = count-small p.underline_color in
+    let fs = fg-count p.fg in
+    let one = joins default_sgr p2 1 (m ++ f) (rested t) (feed (27 ∷ 91 ∷ 48 ∷ []) t) (opens t ground)
+    (inks-append m f (done_with default_sgr) ∙ ap (inks f) (modifier-inks (bits_of p.modifier) bits) ∙ fg-inks p.fg p1 refl)
+    (known-append m f Nothing (modifiers-known (bits_of p.modifier)) (fg-known p.fg parts.1)) first in
+    let counted : 1 + length (m ++ f) ≡ first_count p = omega (arith, length-append m f, fs) in
+    let one_counted : IsMidway p2 (first_count p) (rested t) (feed (semicolons (m ++ f)) (feed (27 ∷ 91 ∷ 48 ∷ []) t)) = rw (← counted) one in
+    let two = colors p2 p3 (first_count p) (color_count p.bg) b t _ one_counted (omega arith) (bg-count p.bg) (omega arith)
+    (bg-inks p.bg p2 refl) (bg-known p.bg second) second in
+    let three = colors p3 p (second_count p) (color_count p.underline_color) u t _ two.0 two.1 (underline-count p.underline_color sent) (omega arith)
+    (underline-inks p.underline_color p3 sent refl) (underline-known p.underline_color sent third) third in
+    let lead_b = led (lead_of (first_count p) (color_count p.bg)) b in
+    let lead_u = led (lead_of (second_count p) (color_count p.underline_color)) u in
+    feed-append (27 ∷ 91 ∷ 48 ∷ []) (semicolons (m ++ f) ++ (lead_b ++ (lead_u ++ 109 ∷ []))) t
+    ∙ feed-append (semicolons (m ++ f)) (lead_b ++ (lead_u ++ 109 ∷ [])) _
+    ∙ feed-append lead_b (lead_u ++ 109 ∷ []) _
+    ∙ feed-append lead_u (109 ∷ []) _
+    ∙ closes p (count_with (second_count p) (color_count p.underline_color)) t _ three.0 three.1
 
 -- the bytes of a rendition that can be sent set it
-pub sgr-sent : (p : Sgr) (old mid new : List ℕ) → IsTrue (is_sendable p) → AddsParameters (old ++ (27 ∷ 91 ∷ 48 ∷ [])) mid (sgr_parameters p) → new ≡ mid ++ 109 ∷ [] → Performs old new (with_sgr p)
-sgr-sent p old mid new is tells e =
+pub sgr-sent : (p : Sgr) (old a b c new : List ℕ) → IsTrue (is_sendable p) → length (modifier_parameters (bits_of p.modifier)) ≤ 9
+    → AddsParameters (59 ∷ []) (old ++ (27 ∷ 91 ∷ 48 ∷ [])) a (modifier_parameters (bits_of p.modifier) ++ color_parameters 30 p.fg)
+    → AddsParameters (lead_of (first_count p) (color_count p.bg)) a b (color_parameters 40 p.bg)
+    → AddsParameters (lead_of (second_count p) (color_count p.underline_color)) b c (underline_parameters p.underline_color)
+    → new ≡ c ++ 109 ∷ [] → Performs old new (with_sgr p)
+sgr-sent p old a b c new is few first second third e =
     let sent : is_sendable p ≡ true = grind (arith, nat_tests) in
     let both = and_parts (is_underline p.underline_color) (nat_lt (bits_of p.modifier) 512) sent in
     let bits : bits_of p.modifier < 512 = let test = both.1 in grind (arith, nat_tests) in
     let underline : IsTrue (is_underline p.underline_color) = let test = both.0 in grind (arith, nat_tests) in
-    let ps = sgr_parameters p in
-    let rest = semicolons ps ++ 109 ∷ [] in
+    let mf = modifier_parameters (bits_of p.modifier) ++ color_parameters 30 p.fg in
     record {
       bytes = sgr_bytes p;
-      appended = e ∙ ap (λ xs. xs ++ 109 ∷ []) tells.appended ∙ append_assoc (old ++ (27 ∷ 91 ∷ 48 ∷ [])) (semicolons ps) (109 ∷ []) ∙ append_assoc old (27 ∷ 91 ∷ 48 ∷ []) rest;
-      read = λ t ground. sgr-read p t bits underline tells.small ground;
+      appended = after-those old (old ++ (27 ∷ 91 ∷ 48 ∷ [])) new _ _ refl
+          (after-those _ a new _ _ (first.appended ∙ ap (λ ys. (old ++ (27 ∷ 91 ∷ 48 ∷ [])) ++ ys) (led-semicolon mf)) (after-those a b new _ _ second.appended (after-those b c new _ _ third.appended e)));
+      read = λ t ground. sgr-read p t bits underline few first.small second.small third.small ground;
     }
 
 -- ---- equal renditions

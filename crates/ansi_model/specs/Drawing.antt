@@ -3,8 +3,8 @@ use Rattle.std.specs.Prelude.{◌≡◌, ℕ, ◌+◌, zero, suc, ◌&&◌, Bool
 use Rattle.std.specs.List.{list_all}
 use Rattle.ratatui_core.specs.{Layout.Position, Buffer.blank}
 use Rattle.ansi_model.specs.{declared.sgr.Sgr.Sgr, declared.pen.Pen.Pen, Sgr.default_sgr, Symbols.is_plain_char, Symbols.printed_columns, Emulator.Phase.Ground}
-use Rattle.ansi_model.specs.Emulator.{Emulator, rested, prints, with_sgr}
-use Rattle.ansi_model.specs.{Sequences.feed, Sends.Performs}
+use Rattle.ansi_model.specs.Emulator.{Emulator, rested, prints, prints_disputed, with_sgr}
+use Rattle.ansi_model.specs.{Sequences.feed, Sends.Performs, Modes.no_modes}
 
 -- bytes were appended that set a rendition if the terminal has another, and none if it has this one
 pub data ChangesSgr (from to : Sgr) (old new : List ℕ) : Type 0 where
@@ -22,6 +22,7 @@ pub record WritesAt (x y : ℕ) (t : Emulator) : Type 0 where
 pub record IsDrawnBy (pen : Pen) (t : Emulator) : Type 0 where
   pub phase : t.phase ≡ Ground
   pub sgr : (rested t).sgr ≡ pen.sgr
+  pub modes : (rested t).modes ≡ no_modes
   pub placed : IfSome pen.at (λ p. WritesAt p.x p.y t)
 
 -- whether this is a known column and row
@@ -48,11 +49,19 @@ pub record Paints (w h : ℕ) (old : List ℕ) (before : Pen) (effect : Emulator
 abbrev pub printed_at : ℕ → ℕ → Sgr → List ℕ → Emulator → Emulator
 printed_at x y sgr symbol t = prints symbol (printed_columns symbol) (drawn_at x y sgr t)
 
+-- the same of a symbol of which terminals differ on the columns
+abbrev pub disputed_at : ℕ → ℕ → Sgr → List ℕ → Emulator → Emulator
+disputed_at x y sgr symbol t = prints_disputed symbol (printed_columns symbol) (drawn_at x y sgr t)
+
 -- bytes were appended that print a symbol in a column and a row of a screen of this size, in a rendition, and nothing else
 abbrev pub Prints : ℕ → ℕ → List ℕ → Pen → ℕ → ℕ → Sgr → List ℕ → List ℕ → Pen → Type 0
 Prints w h old before x y sgr symbol new after = Paints w h old before (printed_at x y sgr symbol) new after
 
--- blanks printed in so many columns of a row, one by one, in the terminal's own rendition
+-- blanks printed in so many columns of a row, one by one, in a rendition
+abbrev pub blanked_in : Sgr → ℕ → ℕ → ℕ → Emulator → Emulator
+blanked_in sgr x y zero t = t
+blanked_in sgr x y (suc n) t = printed_at (x + n) y sgr blank (blanked_in sgr x y n t)
+
+-- the same in the terminal's own rendition
 abbrev pub blanked : ℕ → ℕ → ℕ → Emulator → Emulator
-blanked x y zero t = t
-blanked x y (suc n) t = printed_at (x + n) y default_sgr blank (blanked x y n t)
+blanked x y n t = blanked_in default_sgr x y n t

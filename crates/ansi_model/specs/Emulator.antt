@@ -1,18 +1,23 @@
 -- A model terminal: what it shows, and what each of its actions does.
-use Rattle.std.specs.Prelude.{ℕ, ◌+◌, ◌-◌, ◌&&◌, min, nat_lt, nat_le, nat_eq, Bool, true, false, if◌then◌else◌, List, [], ◌∷◌, ◌++◌, map, zero, suc, chars, encode_utf8}
-use Rattle.std.specs.List.{list_all, range_with_len}
-use Rattle.ratatui_core.specs.Buffer.{Look, text_width}
-use Rattle.ansi_model.specs.{declared.sgr.Sgr.Sgr, Sgr.default_sgr, Sgr.inked, Sgr.is_own, Symbols.is_plain_char, Symbols.is_symbol, Columns.Column.Shows}
+use Rattle.std.specs.Prelude.{ℕ, ◌+◌, ◌-◌, ◌&&◌, min, nat_lt, nat_le, nat_eq, ◌==◌, Bool, true, false, if◌then◌else◌, List, [], ◌∷◌, ◌++◌, map, zero, suc, chars, encode_utf8}
+use Rattle.std.specs.{List.list_all, List.range_with_len, Str.bytes_eq}
+use Rattle.ratatui_core.specs.Buffer.{Look, text_width, blank}
+use Rattle.ratatui_core.specs.Style.{Color, bits_of}
+use Rattle.ansi_model.specs.{declared.sgr.Sgr.Sgr, Sgr.default_sgr, Sgr.inked, Sgr.is_own, Symbols.is_plain_char, Symbols.is_symbol, Symbols.is_disputed, Parameters.color_parameters}
 use Rattle.ratatui_core.specs.Backend.{ClearType, All, AfterCursor, is_cleared, Motion, moved_by, scrolling_up, scrolling_down}
-use Rattle.ansi_model.specs.Columns.{Columns, Area, blank_column, look_in, is_known_column, overwritten}
+use Rattle.ansi_model.specs.Modes.{Modes, no_modes, has_none}
+use Rattle.ansi_model.specs.Columns.Column.{Shows, Unknown}
+use Rattle.ansi_model.specs.Columns.{Column, Columns, Area, blank_column, look_in, is_known_column, overwritten}
 
 -- what the next byte belongs to: text, a sequence that just began, one that is at its first parameter or its mark, or one with a mark, some
--- parameters and the number at hand
+-- parameters and the number at hand; or one that sets G0, or the coding
 pub data Phase : Type 0 where
   Ground : Phase
   Escape : Phase
   Opened : Phase
   Sequence : (mark : Bool) (done : List ℕ) (number : ℕ) → Phase
+  Letters : Phase
+  Coding : Phase
 
 -- a terminal: `text` is what it has read since the last sequence; a cursor in column `width` is after the last one; line feeds scroll the
 -- rows from `top` up to `bottom`, its scroll region. Once it isn't sure, real terminals differ
@@ -29,6 +34,7 @@ pub record Emulator : Type 0 where
   pub columns : Columns
   pub history : List (List Look)
   pub visible : Bool
+  pub modes : Modes
   pub sure : Bool
 
 -- sure only if this holds
@@ -53,18 +59,49 @@ prints symbol n t = record t {
   sure = t.sure && (nat_lt 0 n && nat_le (t.x + n) t.width && nat_lt t.y t.height);
 }
 
+-- whether two colours are one: they have the same parameters
+abbrev pub is_same_color : Color → Color → Bool
+is_same_color a b = bytes_eq (color_parameters 30 a) (color_parameters 30 b)
+
+-- whether a column shows a blank in a rendition
+abbrev pub is_blank_in : Sgr → Column → Bool
+is_blank_in sgr (Shows look index count) =
+    bytes_eq look.symbol blank && is_same_color look.fg sgr.fg && is_same_color look.bg sgr.bg
+    && is_same_color look.underline_color sgr.underline_color && (bits_of look.modifier == bits_of sgr.modifier) && (count == 1)
+is_blank_in sgr Unknown = false
+
+-- whether n columns from the cursor on show blanks in the rendition
+abbrev pub are_blank : ℕ → Emulator → Bool
+are_blank n t = list_all (λ a. is_blank_in t.sgr (t.columns a t.y)) (range_with_len t.x n)
+
+-- a symbol of n columns of which some terminals print no more than the first one: all look alike if there were blanks before. They differ on
+-- the cursor then, so it is taken to be after the last column, where nothing is sure until it moves
+abbrev pub prints_disputed : List ℕ → ℕ → Emulator → Emulator
+prints_disputed symbol n t = record (prints symbol n (if_so (are_blank n t) t)) { x = t.width }
+
+-- a symbol that isn't plain
+abbrev pub prints_whole : List ℕ → ℕ → Emulator → Emulator
+prints_whole symbol n t = if is_disputed symbol then prints_disputed symbol n t else prints symbol n t
+
 -- characters, each printed by itself
 abbrev pub types : List ℕ → Emulator → Emulator
 types [] t = t
 types (c ∷ cs) t = types cs (prints (encode_utf8 c) 1 t)
 
--- a text printed: plain characters one by one, any other text as one symbol
+-- plain characters one by one, any other text as one symbol
+abbrev pub printed_alike : List ℕ → Emulator → Emulator
+printed_alike text t =
+    if list_all is_plain_char (chars text) then types (chars text) t
+    else if_so (is_symbol text) (prints_whole text (text_width text) t)
+
+-- sure only if none of these modes is set
+abbrev pub by_modes : Modes → Emulator → Emulator
+by_modes m t = if has_none m then t else unsure t
+
+-- a text printed
 abbrev pub printed : List ℕ → Emulator → Emulator
 printed [] t = t
-printed (b ∷ bs) t =
-    let text = b ∷ bs in
-    if list_all is_plain_char (chars text) then types (chars text) t
-    else if_so (is_symbol text) (prints text (text_width text) t)
+printed (b ∷ bs) t = by_modes t.modes (printed_alike (b ∷ bs) t)
 
 -- the text that was read stands on the screen
 abbrev pub standing : Emulator → Emulator
@@ -87,6 +124,10 @@ returned t = record t { x = 0 }
 -- DECTCEM (text cursor enable mode)
 abbrev pub cursor_shown : Bool → Emulator → Emulator
 cursor_shown visible t = record t { visible = visible }
+
+-- with these modes
+abbrev pub with_modes : Modes → Emulator → Emulator
+with_modes modes t = record t { modes = modes }
 
 -- SGR (select graphic rendition) that all terminals know
 abbrev pub with_sgr : Sgr → Emulator → Emulator
@@ -195,5 +236,6 @@ blank_terminal w h = record {
   columns = λ a b. blank_column;
   history = [];
   visible = true;
+  modes = no_modes;
   sure = true;
 }

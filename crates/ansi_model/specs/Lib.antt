@@ -3,10 +3,12 @@ pub mod Flags
 pub mod Glass
 pub mod Sgr
 pub mod Symbols
+pub mod Parameters
+pub mod Modes
 pub mod Emulator
 pub mod Sequences
-pub mod Parameters
 pub mod Sends
 pub mod Drawing
 pub mod Screens
 pub mod Beginnings
+pub mod Endings

@@ -1,8 +1,8 @@
 -- The parameters that set a rendition.
-use Rattle.std.specs.Prelude.{◌≡◌, ℕ, ◌+◌, ◌==◌, ◌&&◌, ◌||◌, nat_lt, Bool, true, false, if◌then◌else◌, List, [], ◌∷◌, ◌++◌}
-use Rattle.std.specs.{Int.RustNames.bit_and, List.list_all, Fmt.decimal}
+use Rattle.std.specs.Prelude.{◌≡◌, ℕ, ◌+◌, ◌==◌, ◌&&◌, ◌||◌, nat_lt, nat_le, Bool, true, false, if◌then◌else◌, List, [], ◌∷◌, ◌++◌}
+use Rattle.std.specs.{Int.RustNames.bit_and, List.list_all, List.flat_map, Fmt.decimal}
 use Rattle.ratatui_core.specs.Style.{Color, Reset, Black, Red, Green, Yellow, Blue, Magenta, Cyan, Gray, DarkGray, LightRed, LightGreen, LightYellow, LightBlue, LightMagenta, LightCyan, White, Rgb, Indexed, bits_of}
-use Rattle.ansi_model.specs.{Sgr.is_default_color, declared.sgr.Sgr.Sgr}
+use Rattle.ansi_model.specs.{Sgr.is_default_color, Sgr.most_parameters, declared.sgr.Sgr.Sgr}
 
 -- of a colour: those of the text count from 30, those of the background from 40
 abbrev pub color_parameters : ℕ → Color → List ℕ
@@ -47,22 +47,48 @@ is_sendable p = is_underline p.underline_color && nat_lt (bits_of p.modifier) 51
 abbrev pub is_sendable_by : Bool → Sgr → Bool
 is_sendable_by colors p = is_sendable p && (colors || is_default_color p.underline_color)
 
--- the modifier with this bit, by its number
+-- the modifier with this bit, by its number, if it is set
 abbrev pub modifier_parameter : ℕ → ℕ → ℕ → List ℕ
 modifier_parameter bits bit n = if bit_and bits bit == 0 then [] else n ∷ []
 
+-- the bits of the nine modifiers, each with its number
+abbrev pub modifier_numbers : List (ℕ × ℕ)
+modifier_numbers =
+    (1, 1) ∷ (2, 2) ∷ (4, 3) ∷ (8, 4) ∷ (16, 5) ∷ (32, 6) ∷ (64, 7) ∷ (128, 8) ∷ (256, 9) ∷ []
+
 abbrev pub modifier_parameters : ℕ → List ℕ
-modifier_parameters bits =
-    modifier_parameter bits 1 1 ++ (modifier_parameter bits 2 2 ++ (modifier_parameter bits 4 3 ++ (modifier_parameter bits 8 4
-    ++ (modifier_parameter bits 16 5 ++ (modifier_parameter bits 32 6 ++ (modifier_parameter bits 64 7 ++ (modifier_parameter bits 128 8
-    ++ modifier_parameter bits 256 9)))))))
+modifier_parameters bits = flat_map (λ m. modifier_parameter bits m.0 m.1) modifier_numbers
 
 -- parameters as they are written, each after a semicolon
 abbrev pub semicolons : List ℕ → List ℕ
 semicolons [] = []
 semicolons (p ∷ ps) = 59 ∷ (decimal p ++ semicolons ps)
 
--- parameters of a byte each were appended
-pub record AddsParameters (old new parameters : List ℕ) : Type 0 where
-  pub appended : new ≡ old ++ semicolons parameters
+-- the same, but the first one after this lead
+abbrev pub led : List ℕ → List ℕ → List ℕ
+led lead [] = []
+led lead (p ∷ ps) = lead ++ (decimal p ++ semicolons ps)
+
+-- parameters of a byte each were appended, the first one after this lead
+pub record AddsParameters (lead old new parameters : List ℕ) : Type 0 where
+  pub appended : new ≡ old ++ led lead parameters
   pub small : list_all (λ p. nat_lt p 256) parameters ≡ true
+
+-- how many parameters a colour has
+abbrev pub color_count : Color → ℕ
+color_count Reset = 0
+color_count (Rgb r g b) = 5
+color_count (Indexed n) = 3
+color_count _ = 1
+
+-- whether so many parameters may follow others in one sequence
+abbrev pub is_joined : ℕ → ℕ → Bool
+is_joined count more = nat_le (count + more) most_parameters
+
+-- what stands before them: a semicolon, or else what closes the sequence and begins another, which is m, ESC and [
+abbrev pub lead_of : ℕ → ℕ → List ℕ
+lead_of count more = if is_joined count more then 59 ∷ [] else 109 ∷ 27 ∷ 91 ∷ []
+
+-- how many the sequence has with them
+abbrev pub count_with : ℕ → ℕ → ℕ
+count_with count more = if is_joined count more then count + more else more

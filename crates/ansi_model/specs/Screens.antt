@@ -4,6 +4,7 @@ use Rattle.ratatui_core.specs.{Buffer.Look, Backend.Screen}
 use Rattle.ansi_model.specs.Columns.{Column, Columns, blank_column, look_in, is_continuation, overwritten}
 use Rattle.ansi_model.specs.{Columns.Column.Shows, Columns.Column.Unknown, Sgr.default_sgr, declared.sgr.Sgr.Sgr, Emulator.Phase.Ground, Sequences.feed}
 use Rattle.ansi_model.specs.Emulator.{Emulator, Phase, rested, run}
+use Rattle.ansi_model.specs.Modes.{Modes, no_modes}
 use Rattle.ansi_model.specs.Symbols.{printed_columns}
 
 -- the screen of a terminal, on which so many items were drawn; a cursor after the last column is shown in it
@@ -47,8 +48,8 @@ pub record IsTidy (w : ℕ) (columns : Columns) : Type 0 where
   pub whole : IsWhole columns
   pub beyond : IsBlankBeyond w columns
 
--- a terminal of this size awaits text and is sure, in its default rendition and without margins
-pub record IsResting (w h : ℕ) (at : Phase) (read : List ℕ) (wide high : ℕ) (own : Sgr) (first end : ℕ) (agreed : Bool) : Type 0 where
+-- a terminal of this size awaits text and is sure, in its default rendition, without margins and in no mode that changes how it takes text
+pub record IsResting (w h : ℕ) (at : Phase) (read : List ℕ) (wide high : ℕ) (own : Sgr) (first end : ℕ) (set : Modes) (agreed : Bool) : Type 0 where
   pub phase : at ≡ Ground
   pub text : read ≡ []
   pub width : wide ≡ w
@@ -56,11 +57,12 @@ pub record IsResting (w h : ℕ) (at : Phase) (read : List ℕ) (wide high : ℕ
   pub sgr : own ≡ default_sgr
   pub top : first ≡ 0
   pub bottom : end ≡ h
+  pub modes : set ≡ no_modes
   pub sure : agreed ≡ true
 
 -- a terminal between two calls of a backend, with its cursor in its rows
 pub record IsIdle (w h : ℕ) (t : Emulator) : Type 0 where
-  pub rest : IsResting w h t.phase t.text t.width t.height t.sgr t.top t.bottom t.sure
+  pub rest : IsResting w h t.phase t.text t.width t.height t.sgr t.top t.bottom t.modes t.sure
   pub row : t.y < h
   pub tidy : IsTidy w t.columns
 

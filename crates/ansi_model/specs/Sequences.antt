@@ -1,8 +1,8 @@
 -- How a terminal reads bytes: text, and the sequences by their standard names.
-use Rattle.std.specs.Prelude.{ℕ, ◌+◌, ◌-◌, ◌*◌, ◌==◌, ◌&&◌, not, nat_le, Bool, true, false, if◌then◌else◌, List, [], ◌∷◌, ◌++◌}
-use Rattle.ansi_model.specs.{Sgr.inks, Sgr.are_known, Sgr.Awaits.Nothing}
-use Rattle.ansi_model.specs.Emulator.{Emulator, Phase, if_so, unsure, rested, cursor_moved, returned, cursor_shown, with_sgr, erased, with_region, without_region, line_fed, lines_deleted, lines_inserted}
-use Rattle.ansi_model.specs.Emulator.Phase.{Ground, Escape, Opened, Sequence}
+use Rattle.std.specs.Prelude.{ℕ, ◌+◌, ◌-◌, ◌*◌, ◌==◌, ◌&&◌, ◌||◌, not, nat_le, Bool, true, false, if◌then◌else◌, List, [], ◌∷◌, ◌++◌, length}
+use Rattle.ansi_model.specs.{Sgr.inks, Sgr.are_known, Sgr.most_parameters, Sgr.Awaits.Nothing}
+use Rattle.ansi_model.specs.Emulator.{Emulator, Phase, if_so, unsure, rested, cursor_moved, returned, cursor_shown, with_modes, with_sgr, erased, with_region, without_region, line_fed, lines_deleted, lines_inserted}
+use Rattle.ansi_model.specs.Emulator.Phase.{Ground, Escape, Opened, Sequence, Letters, Coding}
 use Rattle.ratatui_core.specs.Backend.{All, AfterCursor, BeforeCursor, CurrentLine, UntilNewLine}
 
 -- ED
@@ -38,22 +38,47 @@ performs_IL _ t = unsure t
 
 -- SGR
 abbrev pub performs_SGR : List ℕ → Emulator → Emulator
-performs_SGR parameters t = if_so (are_known parameters Nothing) (with_sgr (inks parameters (record { sgr = t.sgr; awaits = Nothing })).sgr t)
+performs_SGR parameters t =
+    if_so (nat_le (length parameters) most_parameters && are_known parameters Nothing)
+    (with_sgr (inks parameters (record { sgr = t.sgr; awaits = Nothing })).sgr t)
 
--- a whole sequence, by its last byte: H CUP, m SGR, J ED, K EL, r DECSTBM, M DL, L IL
+-- SM and RM (set mode, reset mode)
+abbrev pub performs_mode : Bool → List ℕ → Emulator → Emulator
+performs_mode on (n ∷ []) t = if n == 4 then with_modes (record t.modes { inserts = on }) t else unsure t
+performs_mode on _ t = unsure t
+
+-- DSR (device status report): 6 asks for the cursor's place
+abbrev pub performs_DSR : List ℕ → Emulator → Emulator
+performs_DSR (n ∷ []) t = if n == 6 then t else unsure t
+performs_DSR _ t = unsure t
+
+-- a whole sequence, by its last byte: H CUP, m SGR, J ED, K EL, r DECSTBM, M DL, L IL, h SM, l RM, n DSR
 abbrev pub performs : List ℕ → ℕ → Emulator → Emulator
 performs parameters final t =
     if final == 72 then performs_CUP parameters t
     else (if final == 109 then performs_SGR parameters t
     else (if final == 74 then performs_ED parameters t else (if final == 75 then performs_EL parameters t
     else (if final == 114 then performs_DECSTBM parameters t else (if final == 77 then performs_DL parameters t
-    else (if final == 76 then performs_IL parameters t else unsure t))))))
+    else (if final == 76 then performs_IL parameters t
+    else (if final == 104 then performs_mode true parameters t else (if final == 108 then performs_mode false parameters t
+    else (if final == 110 then performs_DSR parameters t else unsure t)))))))))
 
--- a sequence with the mark `?`: DECTCEM (text cursor enable mode) shows the cursor by h and hides it by l
+-- modes that change nothing on the screen: what is told of the mouse (1000, 1002, 1003, 1006) and of the focus (1004), and how a paste is (2004)
+abbrev pub is_quiet : ℕ → Bool
+is_quiet m = (m == 1000) || (m == 1002) || (m == 1003) || (m == 1006) || (m == 1004) || (m == 2004)
+
+-- DECSET and DECRST: 25 DECTCEM, 6 DECOM, which takes the cursor to the corner, 69 DECLRMM, 7 DECAWM, 2026 a synchronized update
+abbrev pub sets_mode : Bool → ℕ → Emulator → Emulator
+sets_mode on m t =
+    if m == 25 then cursor_shown on t
+    else (if m == 6 then record t { modes = record t.modes { origin = on }; x = 0; y = 0 }
+    else (if m == 69 then with_modes (record t.modes { sides = on }) t
+    else (if m == 7 then with_modes (record t.modes { unwrapped = not on }) t
+    else (if m == 2026 then with_modes (record t.modes { held = on }) t else (if is_quiet m then t else unsure t)))))
+
+-- a sequence with the mark `?`: h sets, l resets
 abbrev pub performs_marked : List ℕ → ℕ → Emulator → Emulator
-performs_marked (m ∷ []) final t =
-    if (m == 25) && (final == 104) then cursor_shown true t
-    else (if (m == 25) && (final == 108) then cursor_shown false t else unsure t)
+performs_marked (m ∷ []) final t = if final == 104 then sets_mode true m t else (if final == 108 then sets_mode false m t else unsure t)
 performs_marked _ final t = unsure t
 
 abbrev pub is_digit : ℕ → Bool
@@ -71,13 +96,36 @@ reads_sequence mark done n b t =
     else (if mark then performs_marked (done ++ n ∷ []) b (record t { phase = Ground })
     else performs (done ++ n ∷ []) b (record t { phase = Ground })))
 
--- one byte, read: a sequence is ESC [, perhaps ?, numbers between semicolons, and the byte that names it
+-- after ESC: [ opens a sequence, \ ends a string, ( sets the letters of G0, % the coding
+abbrev pub reads_escape : ℕ → Emulator → Emulator
+reads_escape b t =
+    if b == 91 then record t { phase = Opened }
+    else (if b == 92 then record t { phase = Ground }
+    else (if b == 40 then record t { phase = Letters } else (if b == 37 then record t { phase = Coding } else unsure t)))
+
+-- the letters of G0: B is ASCII, 0 lines
+abbrev pub reads_letters : ℕ → Emulator → Emulator
+reads_letters b t =
+    if b == 66 then record t { phase = Ground; modes = record t.modes { lettered = false } }
+    else (if b == 48 then record t { phase = Ground; modes = record t.modes { lettered = true } } else unsure t)
+
+-- the coding: G is UTF-8, @ isn't
+abbrev pub reads_coding : ℕ → Emulator → Emulator
+reads_coding b t =
+    if b == 71 then record t { phase = Ground; modes = record t.modes { coded = false } }
+    else (if b == 64 then record t { phase = Ground; modes = record t.modes { coded = true } } else unsure t)
+
+-- one byte, read: a sequence is ESC [, perhaps ?, numbers between semicolons, and the byte that names it; SI and SO shift
 abbrev pub reads_in : Phase → ℕ → Emulator → Emulator
 reads_in Ground b t =
     if b == 27 then record (rested t) { phase = Escape }
     else (if is_text b then record t { text = t.text ++ b ∷ [] }
-    else (if b == 13 then returned (rested t) else (if b == 10 then line_fed (rested t) else unsure (rested t))))
-reads_in Escape b t = if b == 91 then record t { phase = Opened } else unsure t
+    else (if b == 13 then returned (rested t) else (if b == 10 then line_fed (rested t)
+    else (if b == 15 then with_modes (record (rested t).modes { shifted = false }) (rested t)
+    else (if b == 14 then with_modes (record (rested t).modes { shifted = true }) (rested t) else unsure (rested t))))))
+reads_in Escape b t = reads_escape b t
+reads_in Letters b t = reads_letters b t
+reads_in Coding b t = reads_coding b t
 reads_in Opened b t = if b == 63 then record t { phase = Sequence true [] 0 } else reads_sequence false [] 0 b t
 reads_in (Sequence mark done n) b t = reads_sequence mark done n b t
 

@@ -102,6 +102,10 @@ unfoldable pub are_known : List ℕ → Awaits → Bool
 are_known [] awaits = is_complete awaits
 are_known (n ∷ ns) awaits = is_known_parameter awaits n && are_known ns (inks_in awaits n default_sgr).awaits
 
+-- how many parameters of one sequence all terminals take: some ignore a longer one, and one crashes on it
+abbrev pub most_parameters : ℕ
+most_parameters = 16
+
 -- parameters, in order
 unfoldable pub inks : List ℕ → Inking → Inking
 inks [] i = i

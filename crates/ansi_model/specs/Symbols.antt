@@ -1,10 +1,10 @@
 -- What terminals print a text as: characters, and the columns that they take.
-use Rattle.std.specs.Prelude.{◌≡◌, ℕ, ◌==◌, ◌&&◌, ◌||◌, not, nat_lt, nat_le, Bool, true, false, if◌then◌else◌, List, [], ◌∷◌, length, unwrap_or, chars, encode_utf8, Option, Some, None}
-use Rattle.std.specs.{List.list_all, Str.is_utf8}
+use Rattle.std.specs.Prelude.{◌≡◌, ℕ, ◌==◌, ◌&&◌, ◌||◌, not, nat_lt, nat_le, Bool, true, false, if◌then◌else◌, List, [], ◌∷◌, length, drop, unwrap_or, chars, encode_utf8, Option, Some, None}
+use Rattle.std.specs.{List.list_all, List.list_any, Str.is_utf8}
 use Rattle.unicode_width.specs.Width.{char_width}
 use Rattle.unicode_segmentation.specs.Grapheme.{graphemes}
 use Rattle.ratatui_core.specs.Buffer.{text_width}
-use Rattle.ansi_model.specs.{declared.glyph.Glyph.Glyph, declared.glyph.Glyph.TheVariants.Plain, declared.glyph.Glyph.TheVariants.Whole}
+use Rattle.ansi_model.specs.{declared.glyph.Glyph.Glyph, declared.glyph.Glyph.TheVariants.Plain, declared.glyph.Glyph.TheVariants.Whole, declared.glyph.Glyph.TheVariants.Disputed}
 
 -- control characters, which terminals obey in place of showing them
 abbrev pub is_control : ℕ → Bool
@@ -47,6 +47,10 @@ is_single (g ∷ gs) = list_all is_columnless gs
 abbrev pub is_symbol : List ℕ → Bool
 is_symbol text = is_utf8 text && list_all is_shown (chars text) && begins_anew (chars text) && is_single (graphemes true text)
 
+-- whether terminals differ on a symbol's columns: with U+FE0F after its first character, some give it one column
+abbrev pub is_disputed : List ℕ → Bool
+is_disputed text = list_any (λ c. c == 0xFE0F) (drop 1 (chars text))
+
 -- the character of a list that has only one
 abbrev pub only_of : List ℕ → Option ℕ
 only_of [] = None
@@ -69,14 +73,22 @@ printed_columns text = if is_one_plain (chars text) then 1 else text_width text
 abbrev pub glyph_columns : Glyph → ℕ
 glyph_columns (Plain c) = 1
 glyph_columns (Whole n) = n
+glyph_columns (Disputed n) = n
+
+-- whether terminals differ on the columns of what is printed as a glyph
+abbrev pub is_disputed_glyph : Glyph → Bool
+is_disputed_glyph (Plain c) = false
+is_disputed_glyph (Whole n) = false
+is_disputed_glyph (Disputed n) = true
 
 -- a plain glyph's character is all of a text
 abbrev pub IsPlainIn : List ℕ → Glyph → Type 0
 IsPlainIn text (Plain c) = (is_plain_char c ≡ true) × (text ≡ encode_utf8 c)
-IsPlainIn text (Whole n) = Unit {0}
+IsPlainIn text _ = Unit {0}
 
 -- a text is printed as one symbol, and as this glyph
 pub record IsGlyphOf (text : List ℕ) (glyph : Glyph) : Type 0 where
   pub printed : is_printed text ≡ true
   pub columns : glyph_columns glyph ≡ printed_columns text
+  pub disputed : is_disputed_glyph glyph ≡ is_disputed text
   pub plain : IsPlainIn text glyph

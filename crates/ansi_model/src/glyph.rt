@@ -2,7 +2,7 @@
 
 ghost use Rattle.std.specs.Prelude.{◌≡◌, ◌∷◌, [], List, ℕ, false, chars, IsUtf8, MatchOption, None};
 ghost use Rattle.std.specs.List.{list_all};
-ghost use Rattle.ansi_model.specs.Symbols.{is_plain_char, is_printed, only_of, glyph_columns, IsGlyphOf};
+ghost use Rattle.ansi_model.specs.Symbols.{is_plain_char, is_printed, is_disputed, only_of, glyph_columns, IsGlyphOf};
 
 use crate::symbol::{columns_of_char, is_plain, is_shown, is_symbol, only_char};
 use ratatui_core::buffer::CellWidth;
@@ -14,6 +14,8 @@ pub enum Glyph {
     Plain(char),
     /// As one symbol that isn't plain, in so many columns.
     Whole(u16),
+    /// The same, with U+FE0F: some terminals print it in one column.
+    Disputed(u16),
 }
 
 impl Glyph {
@@ -23,7 +25,7 @@ impl Glyph {
     {
         match self {
             Glyph::Plain(_) => 1,
-            Glyph::Whole(columns) => columns,
+            Glyph::Whole(columns) | Glyph::Disputed(columns) => columns,
         }
     }
 }
@@ -33,6 +35,13 @@ fn are_plain(text: &str) -> bool
     ensures { result ≡ list_all is_plain_char (chars text.now) }
 {
     text.chars().all(|c| is_plain(c))
+}
+
+// Whether terminals differ on a symbol's columns: it has U+FE0F after its first character.
+fn is_disputed(text: &str) -> bool
+    ensures { result ≡ is_disputed text.now }
+{
+    text.chars().skip(1).any(|c| c == '\u{fe0f}')
 }
 
 // How terminals print a text of this one character.
@@ -64,7 +73,11 @@ fn glyph_of_text(text: &str) -> Option<Glyph>
     if are_plain(text) {
         return None;
     }
-    Some(Glyph::Whole(text.cell_width()))
+    let columns = text.cell_width();
+    if is_disputed(text) {
+        return Some(Glyph::Disputed(columns));
+    }
+    Some(Glyph::Whole(columns))
 }
 
 /// How terminals print a text as one symbol: one plain character, or a symbol that isn't plain

@@ -10,6 +10,7 @@
 //! symbol was written over.
 #![tactic(auto)]
 
+mod command;
 mod flags;
 mod glyph;
 pub mod laws;
@@ -19,14 +20,15 @@ mod sequences;
 mod sgr;
 mod symbol;
 
+pub use command::{Command, push_command};
 pub use flags::{
     blank_flags, clear_flags, clear_part_flags, is_continuation, lower_flags, mark_symbol,
     raise_flags, symbol_end, tail_end,
 };
 pub use glyph::{Glyph, glyph_of, is_printed};
-pub use pen::{Pen, change_sgr, put_plain, put_symbol, set_sgr};
+pub use pen::{Pen, change_sgr, put_disputed, put_plain, put_spaces, put_symbol, set_sgr};
 pub use screen::{
-    append_lines, clear_screen, make_blank, scroll_region_down, scroll_region_up,
+    append_lines, clear_screen, leaving, make_blank, scroll_region_down, scroll_region_up,
     set_cursor_position, set_visible,
 };
 pub use sequences::{

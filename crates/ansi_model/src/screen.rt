@@ -1,10 +1,11 @@
 //! What a backend's calls do to the screen that a terminal shows; and a blank beginning.
 
-ghost use Rattle.std.specs.Prelude.{◌≡◌, ℕ, ◌+◌, ◌-◌, ◌<◌, ◌≤◌, min, nat_lt, OnOk, string_bytes};
+ghost use Rattle.std.specs.Prelude.{◌≡◌, ℕ, List, ◌++◌, ◌+◌, ◌-◌, ◌<◌, ◌≤◌, min, nat_lt, OnOk, string_bytes, encode_utf8};
 ghost use Rattle.ratatui_core.specs.Backend.{Appends, scrolling_up, scrolling_down, clearing, ScrollsUp, ScrollsDown, Clears, with_cursor, with_visible, All, CurrentLine};
-ghost use Rattle.ansi_model.specs.Beginnings.{MakesBlank};
-ghost use Rattle.ansi_model.specs.Emulator.{cursor_moved, returned, erased, line_fed, fed, with_region, without_region, lines_deleted, lines_inserted, fed_and_lowered, fed_and_lowered_by, columns_moved};
-ghost use Rattle.ansi_model.specs.Sends.{Performs};
+ghost use Rattle.ansi_model.specs.Beginnings.{MakesBlank, without_modes};
+ghost use Rattle.ansi_model.specs.Endings.{left_below};
+ghost use Rattle.ansi_model.specs.Emulator.{cursor_moved, returned, erased, line_fed, fed, with_region, without_region, lines_deleted, lines_inserted, fed_and_lowered, fed_and_lowered_by, columns_moved, rested};
+ghost use Rattle.ansi_model.specs.Sends.{Sends, Performs, typed};
 ghost use Rattle.ansi_model.specs.Screens.{Turns, Becomes};
 
 use crate::sequences::{
@@ -12,6 +13,7 @@ use crate::sequences::{
     set_region, show_cursor,
 };
 use crate::sgr::{Sgr, push_sgr};
+use crate::symbol::push_plain;
 use ratatui_core::backend::ClearType;
 use std::alloc::AllocError;
 use std::ops::Range;
@@ -66,9 +68,29 @@ pub fn clear_screen(
     move_to(out, x, y)
 }
 
+// Ends a string that another program left open, and resets the modes that change how text is taken.
+fn settle(out: &mut String) -> Result<(), AllocError>
+    ensures { OnOk result (Performs (string_bytes out.old) (string_bytes out.new) without_modes) }
+{
+    out.push_str(
+        "\u{1b}\\\u{f}\u{1b}(B\u{1b}%G\u{1b}[4l\u{1b}[?6l\u{1b}[?69l\u{1b}[?7h\u{1b}[?2026l",
+    )
+}
+
+// Prints two letters, one over the other: m ends a sequence that another program left open, and
+// the bytes of é end a half of a character.
+fn print_letters(out: &mut String) -> Result<(), AllocError>
+    ensures { OnOk result (Sends (string_bytes out.old) (string_bytes out.new)
+        (λ t. typed (encode_utf8 233) (returned (rested (typed (encode_utf8 109) t))))) }
+{
+    push_plain(out, 'm')?;
+    out.push_str("\r")?;
+    push_plain(out, 'é')
+}
+
 /// Makes a terminal of so many columns and rows, at least one of each, what a new one is, however
-/// another program left it: in its own colours, without margins, empty, and with its cursor shown
-/// in the corner. Its history stays.
+/// another program left it: in its own colours, without margins, in no mode that changes how it
+/// takes text, empty, and with its cursor shown in the corner. Its history stays.
 ///
 /// # Errors
 ///
@@ -77,11 +99,21 @@ pub fn make_blank(out: &mut String, width: u16, height: u16) -> Result<(), Alloc
     ensures { OnOk result (0 < width → 0 < height
         → MakesBlank width height (string_bytes out.old) (string_bytes out.new)) }
 {
+    settle(out)?;
     push_sgr(out, &Sgr::DEFAULT)?;
     reset_region(out)?;
+    print_letters(out)?;
     erase_all(out, width, height)?;
     move_to(out, 0, 0)?;
     show_cursor(out)
+}
+
+/// What leaves a terminal in its own colours, without margins, and with its cursor shown below its
+/// last row. It takes no memory.
+pub fn leaving() -> &'static str
+    ensures { (old : List ℕ) → Performs old (old ++ result.now) left_below }
+{
+    "\u{1b}[0m\u{1b}[r\u{1b}[?25h\u{1b}[65535;1H\r\n"
 }
 
 /// Moves the cursor's row down by `n` on a screen of at least one row and one column; what goes

@@ -1,10 +1,8 @@
--- Why a text is not shown to its end, what is shown then, and how the terminal is left.
-use Rattle.std.specs.Prelude.{◌≡◌, ℕ, ◌-◌, true, IfSome, Option, Some, List, [], ◌++◌, map}
+-- Why a text is not shown to its end, and what is shown then.
+use Rattle.std.specs.Prelude.{◌≡◌, ℕ, IfSome, Option, Some, List, [], ◌++◌, map}
 use Rattle.std.specs.Io.BufRead.{take_through}
 use Rattle.ratatui_core.specs.Layout.{Size}
 use Rattle.ratatui_ansi.specs.{Backend.BackendState, Backend.shown_by, declared.error.AnsiError.AnsiError}
-use Rattle.ansi_model.specs.Emulator.{Emulator, fed, returned, cursor_moved, cursor_shown, without_region, with_sgr}
-use Rattle.ansi_model.specs.Sgr.{default_sgr}
 use Rattle.logview.specs.{Views.IsFollowing, Views.IsViewOf, Views.RefusesPush, declared.view.LogView.LogView}
 use Rattle.follow.specs.{Lines.shown_line, Lines.AreLinesOf, declared.fault.Fault.Fault}
 use Rattle.follow.specs.declared.fault.Fault.TheVariants.{Terminal, Read, Write, Lines}
@@ -41,7 +39,3 @@ IsOfShowing _ = Unit {0}
 abbrev pub EndsBy : Option (List ℕ) → Option (List ℕ) → Fault → Type 0
 EndsBy old new (Write error) = IfSome old (λ _. new ≡ Some [])
 EndsBy old new _ = Unit {0}
-
--- a terminal of so many rows in its own colours, without margins, and with its cursor shown at the beginning of the row below its last one
-abbrev pub left_below : ℕ → Emulator → Emulator
-left_below h t = fed 1 (returned (cursor_moved 0 (h - 1) (cursor_shown true (without_region (with_sgr default_sgr t)))))

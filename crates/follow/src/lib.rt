@@ -7,25 +7,24 @@
 //! standard input.
 #![tactic(auto)]
 
-ghost use Rattle.std.specs.Prelude.{◌≡◌, [], Some, IfOk, IfErr, IfSome, OnOk, string_bytes};
+ghost use Rattle.std.specs.Prelude.{◌≡◌, [], Some, IfOk, IfErr, IfSome, OnOk};
 ghost use Rattle.std.specs.Io.KnownBytes.{Appends};
 ghost use Rattle.ratatui_ansi.specs.Backend.{shown_by};
 ghost use Rattle.logview.specs.Views.{IsViewOf};
-ghost use Rattle.ansi_model.specs.Sends.{Performs};
 ghost use Rattle.follow.specs.Lines.{MovesOn, ShowsInput};
-ghost use Rattle.follow.specs.Ends.{StopsAtNext, StopsText, IsOfShowing, EndsBy, left_below};
+ghost use Rattle.follow.specs.Ends.{StopsAtNext, StopsText, IsOfShowing, EndsBy};
 
 mod fault;
 mod shown;
 
-use ansi_model::{Sgr, line_feeds, move_to, push_sgr, reset_region, show_cursor};
+use ansi_model::leaving;
 pub use fault::Fault;
 use logview::LogView;
 use ratatui_ansi::AnsiBackend;
 use ratatui_core::terminal::TerminalError;
 use rtui_geometry::Size;
 pub use shown::push_shown;
-use std::alloc::{AllocError, Global};
+use std::alloc::Global;
 use std::io::{self, BufRead, Write};
 
 // Shows one more line of a reader; answers whether there was one.
@@ -98,19 +97,6 @@ fn show_lines<R: BufRead, W: Write + Drop>(
     push_lines(alloc, reader, &mut view)
 }
 
-// Sends what leaves a terminal of so many rows in its own colours and without margins, with its
-// cursor shown below its rows.
-fn push_leaving(out: &mut String, height: u16) -> Result<(), AllocError>
-    ensures { OnOk result
-        (Performs (string_bytes out.old) (string_bytes out.new) (left_below height)) }
-{
-    push_sgr(out, &Sgr::DEFAULT)?;
-    reset_region(out)?;
-    show_cursor(out)?;
-    move_to(out, 0, height.saturating_sub(1))?;
-    line_feeds(out, 1)
-}
-
 // Writes a text whole, and has it sent on.
 fn send<W: Write>(writer: &mut W, text: &str) -> io::Result<()>
     ensures { OnOk result
@@ -123,8 +109,7 @@ fn send<W: Write>(writer: &mut W, text: &str) -> io::Result<()>
 /// Shows the lines of a reader to its end on a terminal of `size` columns and rows, and gives the
 /// terminal back: its own colours, no margins, the cursor shown below its rows.
 ///
-/// The bytes that give it back are built first, so that no want of memory prevents it, and are
-/// written after a fault, too.
+/// No want of memory prevents that, and it is done after a fault, too.
 ///
 /// # Errors
 ///
@@ -144,10 +129,8 @@ pub fn follow<R: BufRead, W: Write>(
     ensures failed { IfErr result
         (EndsBy (R.remaining reader.old) (R.remaining reader.new)) }
 {
-    let mut leaving = String::new(alloc);
-    push_leaving(&mut leaving, size.height)?;
     let shown = show_lines(alloc, reader, &mut *writer, size);
-    let left = send(writer, leaving.as_str());
+    let left = send(writer, leaving());
     shown?;
     match left {
         Ok(()) => Ok(()),

@@ -15,9 +15,10 @@ use Rattle.ansi_model.specs.Symbols.{is_plain_char, is_one_plain, is_printed, pr
 use Rattle.ansi_model.specs.{Screens.screen_shown, Screens.IsIdle, Drawing.ChangesSgr.Stays, Drawing.ChangesSgr.Sets}
 use Rattle.ansi_model.specs.Drawing.{printed_at, blanked, WritesAt, IsDrawnBy, ChangesSgr, Paints, Prints}
 use Rattle.ratatui_ansi.specs.Frame.{is_fit, is_sendable_on, IsGlyph, IsVacant, IsDrawing, AreMarked, Covers, SendsUpdates, SendsDraw}
-use Rattle.ansi_model.proofs.{ReadLemmas.feed-append, SymbolLemmas.plain-printed, SymbolLemmas.plain-single, GlyphLemmas.printed-width, SgrLemmas.equal-number}
+use Rattle.ansi_model.proofs.{ReadLemmas.feed-append, SymbolLemmas.plain-printed, SymbolLemmas.plain-single, SymbolLemmas.one-undisputed, GlyphLemmas.printed-width, SgrLemmas.equal-number}
 use Rattle.ratatui_ansi.proofs.TailLemmas.{continuation-empty, laid-shown, IsTail}
-use Rattle.ratatui_ansi.proofs.LayLemmas.{Paints-then, sgr-paints, IsLaid, laid-by, laid-ready, tail-of, laid-flags}
+use Rattle.ansi_model.proofs.PaintLemmas.{Paints-then}
+use Rattle.ratatui_ansi.proofs.LayLemmas.{sgr-paints, IsLaid, laid-by, laid-ready, tail-of, laid-flags}
 
 -- ---- what the screen shows
 
@@ -91,7 +92,7 @@ printable-fits room c b text low high own some =
     let one : is_one_plain (chars (symbol_text c.symbol)) ≡ true = subst (λ xs. is_one_plain (chars xs) ≡ true) same (plain-single b plain) in
     let wide : width_of c ≡ 1 = own ∙ ap text_width text ∙ one_byte b in
     let inside : nat_le 1 room ≡ true = grind (arith, nat_tests) in
-    record { fits = rw (printed, one, wide, inside) refl; symbol = record { printed = printed; columns = rw one refl; plain = (plain, sym same) } }
+    record { fits = rw (printed, one, wide, inside) refl; symbol = record { printed = printed; columns = rw one refl; disputed = sym (one-undisputed (symbol_text c.symbol) one); plain = (plain, sym same) } }
 
 pub printable-gives : (c : Cell) (found : Option ℕ) → IfSome found (λ b. (symbol_text c.symbol ≡ b ∷ []) × (32 ≤ b) × (b ≤ 126)) → width_of c ≡ text_width (symbol_text c.symbol)
     → IfSome found (λ b. (room : ℕ) → 0 < room → IsGlyph room c (Plain b))
@@ -264,6 +265,7 @@ begins w h d cursor flags t own unplaced at is = record {
   drawn = record {
     phase = is.phase;
     sgr = is.ready.rest.sgr ∙ sym own;
+    modes = is.ready.rest.modes;
     placed = subst (λ at. IfSome at (λ p. WritesAt p.x p.y t)) (sym unplaced) tt;
   };
   ready = record {
@@ -275,6 +277,7 @@ begins w h d cursor flags t own unplaced at is = record {
       sgr = refl;
       top = is.ready.rest.top;
       bottom = is.ready.rest.bottom;
+      modes = is.ready.rest.modes;
       sure = is.ready.rest.sure;
     };
     row = is.ready.row;
@@ -294,6 +297,7 @@ with-own w h t own ready = record {
     sgr = own;
     top = ready.rest.top;
     bottom = ready.rest.bottom;
+    modes = ready.rest.modes;
     sure = ready.rest.sure;
   };
   row = ready.row;

@@ -1,6 +1,5 @@
 -- A symbol that is printed, and blanks in what is left of another one.
-use Rattle.std.proofs.Common.{◌≡◌, ℕ, ◌+◌, ◌-◌, ◌*◌, ◌<◌, ◌≤◌, ◌&&◌, nat_lt, nat_le, if◌then◌else◌, Bool, List, [], ◌++◌, true, false, zero, suc, slice_index_or, Option, Some, None, IfSome, refl, sym, ap, ◌∙◌, arith, subst, inl, inr, append_assoc, append-nil}
-use lib.Utf8.{encode}
+use Rattle.std.proofs.Common.{◌≡◌, ℕ, ◌+◌, ◌-◌, ◌*◌, ◌<◌, ◌≤◌, ◌&&◌, nat_lt, nat_le, if◌then◌else◌, Bool, List, [], true, false, zero, suc, slice_index_or, Option, Some, None, IfSome, refl, sym, ap, ◌∙◌, arith, subst, inl, inr, append-nil}
 use Rattle.std.proofs.lemmas.{Bool.cases_lt, Bool.Decides.nat_tests, Str.chars-nil, Str.IsUtf8-nil}
 use Rattle.std.specs.List.{list_all}
 use Rattle.ratatui_core.specs.{Layout.Position, Buffer.blank, Buffer.Look, Buffer.empty_look}
@@ -8,35 +7,18 @@ use Rattle.ansi_model.specs.{declared.sgr.Sgr.Sgr, declared.pen.Pen.Pen, Columns
 use Rattle.ansi_model.specs.{Sgr.default_sgr, Sgr.inked, Symbols.is_plain_char, Symbols.printed_columns, Sequences.feed}
 use Rattle.ansi_model.specs.Emulator.{Emulator, rested, run, with_sgr}
 use Rattle.ansi_model.specs.Screens.{IsWhole, IsBlankBeyond, IsIdle, put_columns}
-use Rattle.ansi_model.specs.Drawing.{printed_at, blanked, WritesAt, IsDrawnBy, ChangesSgr, Paints, Prints}
+use Rattle.ansi_model.specs.Drawing.{printed_at, blanked, WritesAt, IsDrawnBy, ChangesSgr, Paints}
 use Rattle.ansi_model.specs.Drawing.ChangesSgr.{Stays, Sets}
 use Rattle.ratatui_ansi.specs.Frame.{AreMarked}
-use Rattle.ansi_model.proofs.{ReadLemmas.feed-append, MotionLemmas.tidy-along, TextLemmas.blank-one}
+use Rattle.ansi_model.proofs.{MotionLemmas.tidy-along, TextLemmas.blank-one}
+use Rattle.ansi_model.proofs.PaintLemmas.{OnlyPrinted, blanked-only, blanked-width, blanked-height, Paints-then}
 use Rattle.rtui_grid.proofs.PlaceLemmas.{by_rows}
 use Rattle.ratatui_ansi.proofs.TailLemmas.{torn, put-torn, torn-more, torn-all, laid-sized, laid-whole, laid-beyond, laid-continuations, IsTail, laid}
 
 -- ---- blanks
 
-pub blank-encoded : encode 32 ≡ blank
-unfolding encode
-blank-encoded = refl
-
--- all but the columns, the cursor, the rendition and the doubt stays
-abbrev pub OnlyPrinted : Emulator → Emulator → Type 0
-OnlyPrinted s u = record u { columns = s.columns; x = s.x; y = s.y; sgr = s.sgr; sure = s.sure } ≡ s
-
 only-then : (s t u : Emulator) → OnlyPrinted s t → OnlyPrinted t u → OnlyPrinted s u
 only-then s t u first second = ap (λ (v : Emulator). record v { columns = s.columns; x = s.x; y = s.y; sgr = s.sgr; sure = s.sure }) second ∙ first
-
-blanked-only : (x y n : ℕ) (t : Emulator) → OnlyPrinted t (blanked x y n t)
-blanked-only x y zero t = refl
-blanked-only x y (suc n) t = blanked-only x y n t
-
-blanked-width : (x y n : ℕ) (t : Emulator) → (blanked x y n t).width ≡ t.width
-blanked-width x y n t = ap (λ (v : Emulator). v.width) (blanked-only x y n t)
-
-blanked-height : (x y n : ℕ) (t : Emulator) → (blanked x y n t).height ≡ t.height
-blanked-height x y n t = ap (λ (v : Emulator). v.height) (blanked-only x y n t)
 
 blanked-x : (x y n : ℕ) (t : Emulator) → t.x ≡ x → (blanked x y n t).x ≡ x + n
 blanked-x x y zero t e = e ∙ omega arith
@@ -50,8 +32,8 @@ blanked-sure : (x y n : ℕ) (t : Emulator) → t.sure ≡ true → x + n ≤ t.
 blanked-sure x y zero t sure fits row = sure
 blanked-sure x y (suc n) t sure fits row =
     let before : (blanked x y n t).sure ≡ true = blanked-sure x y n t sure (omega arith) row in
-    let wide = blanked-width x y n t in
-    let high = blanked-height x y n t in
+    let wide = blanked-width default_sgr x y n t in
+    let high = blanked-height default_sgr x y n t in
     let column : nat_le (x + n + 1) t.width ≡ true = grind (arith, nat_tests) in
     let below : nat_lt y t.height ≡ true = grind (arith, nat_tests) in
     rw (before, blank-one, wide, high, column, below) refl
@@ -68,27 +50,6 @@ blanked-torn x y n end (suc m) k look c t whole left tail same reached high a b 
     ∙ torn-more x y n (x + n + m) end look c (blanked (x + n) y m t).columns whole left tail (omega arith) (omega arith) before a b
     ∙ ap (λ j. torn x y n j end look c a b) e
 
--- bytes that do nothing, and bytes after others
-abbrev pub KeepsSize : (Emulator → Emulator) → Type 0
-KeepsSize effect = (t : Emulator) → ((effect t).width ≡ t.width) × ((effect t).height ≡ t.height)
-
-pub Paints-then : (w h : ℕ) (a b c : List ℕ) (p q r : Pen) (f g : Emulator → Emulator) → KeepsSize f → Paints w h a p f b q → Paints w h b q g c r → Paints w h a p (λ t. g (f t)) c r
-Paints-then w h a b c p q r f g keeps first second =
-    let fed : (t : Emulator) → feed (first.bytes ++ second.bytes) t ≡ feed second.bytes (feed first.bytes t) = feed-append first.bytes second.bytes in
-    let wide : (t : Emulator) → (rested t).width ≡ w → (rested t).height ≡ h → IsDrawnBy p t → (rested (feed first.bytes t)).width ≡ w =
-    λ t width height drawn. ap (λ (v : Emulator). v.width) (first.printed t width height drawn) ∙ (keeps (rested t)).0 ∙ width in
-    let high : (t : Emulator) → (rested t).width ≡ w → (rested t).height ≡ h → IsDrawnBy p t → (rested (feed first.bytes t)).height ≡ h =
-    λ t width height drawn. ap (λ (v : Emulator). v.height) (first.printed t width height drawn) ∙ (keeps (rested t)).1 ∙ height in
-    record {
-      bytes = first.bytes ++ second.bytes;
-      appended = second.appended ∙ ap (λ xs. xs ++ second.bytes) first.appended ∙ append_assoc a first.bytes second.bytes;
-      drawn = λ t width height drawn.
-          subst (IsDrawnBy r) (sym (fed t)) (second.drawn (feed first.bytes t) (wide t width height drawn) (high t width height drawn) (first.drawn t width height drawn));
-      printed = λ t width height drawn.
-          ap rested (fed t) ∙ second.printed (feed first.bytes t) (wide t width height drawn) (high t width height drawn) (first.drawn t width height drawn)
-          ∙ ap g (first.printed t width height drawn);
-    }
-
 -- a rendition that is set where the terminal has another
 with_sgr-same : (sgr : Sgr) (t : Emulator) → t.sgr ≡ sgr → t ≡ with_sgr sgr t
 with_sgr-same sgr t e = rw (← e) refl
@@ -102,7 +63,7 @@ unfolding feed
 sgr-paints w h before sgr old new (Stays same none) = record {
   bytes = [];
   appended = none ∙ sym (append-nil old);
-  drawn = λ t width height drawn. record { phase = drawn.phase; sgr = drawn.sgr ∙ same; placed = drawn.placed };
+  drawn = λ t width height drawn. record { phase = drawn.phase; sgr = drawn.sgr ∙ same; modes = drawn.modes; placed = drawn.placed };
   printed = λ t width height drawn. with_sgr-same sgr (rested t) (drawn.sgr ∙ same);
 }
 sgr-paints w h before sgr old new (Sets does) =
@@ -113,28 +74,11 @@ sgr-paints w h before sgr old new (Sets does) =
       drawn = λ t width height drawn. subst (IsDrawnBy (record before { sgr = sgr })) (sym (fed t drawn)) (record {
         phase = refl;
         sgr = refl;
+        modes = drawn.modes;
         placed = placed-with sgr t before.at drawn.placed;
       });
       printed = λ t width height drawn. ap rested (fed t drawn);
     }
-
-pub blanks-none : (w h : ℕ) (old : List ℕ) (pen : Pen) (x y n : ℕ) → n ≡ 0 → Paints w h old pen (blanked x y n) old pen
-unfolding feed
-blanks-none w h old pen x y n e = record {
-  bytes = [];
-  appended = sym (append-nil old);
-  drawn = λ t width height drawn. drawn;
-  printed = λ t width height drawn. ap (λ k. blanked x y k (rested t)) (sym e);
-}
-
-pub blanks-more : (w h x y column m k : ℕ) (old mid new : List ℕ) (before between after : Pen) → Paints w h old before (blanked x y m) mid between → between.sgr ≡ default_sgr
-    → Prints w h mid between column y between.sgr (encode 32) new after → column ≡ x + m → k ≡ suc m → Paints w h old before (blanked x y k) new after
-blanks-more w h x y column m k old mid new before between after done own more at count =
-    let keeps : KeepsSize (blanked x y m) = λ t. (blanked-width x y m t, blanked-height x y m t) in
-    let more_blank : Prints w h mid between column y between.sgr blank new after = subst (λ bs. Prints w h mid between column y between.sgr bs new after) blank-encoded more in
-    let more_own : Prints w h mid between column y default_sgr blank new after = subst (λ p. Prints w h mid between column y p blank new after) own more_blank in
-    let more_at : Prints w h mid between (x + m) y default_sgr blank new after = subst (λ j. Prints w h mid between j y default_sgr blank new after) at more_own in
-    subst (λ j. Paints w h old before (blanked x y j) new after) (sym count) (Paints-then w h old mid new before between after (blanked x y m) (printed_at (x + m) y default_sgr blank) keeps done more_at)
 
 blanked-sgr : (x y n : ℕ) (t : Emulator) → blanked x y (suc n) (with_sgr default_sgr t) ≡ blanked x y (suc n) t
 blanked-sgr x y zero t = refl
@@ -181,7 +125,7 @@ laid-by w h x y n end sgr symbol s ready en some fits inside row left tail =
     let three : nat_lt y s.height ≡ true = grind (arith, nat_tests) in
     rw (ready.rest.sure, en, one, two, three) refl in
     record {
-      only = only-then s t (blanked (x + n) y m t) refl (blanked-only (x + n) y m t);
+      only = only-then s t (blanked (x + n) y m t) refl (blanked-only default_sgr (x + n) y m t);
       columns = λ a b. blanked-torn x y n end m end look s.columns t ready.tidy.whole left tail put reached (omega arith) a b ∙ torn-all x y n end look s.columns a b;
       x_at = blanked-x (x + n) y m t (ap (λ j. x + j) en) ∙ reached;
       y_at = blanked-y (x + n) y m t refl;
@@ -199,6 +143,7 @@ laid-ready w h x y n end look s u ready takes fits row left tail is = record {
     sgr = refl;
     top = ap (λ (v : Emulator). v.top) is.only ∙ ready.rest.top;
     bottom = ap (λ (v : Emulator). v.bottom) is.only ∙ ready.rest.bottom;
+    modes = ap (λ (v : Emulator). v.modes) is.only ∙ ready.rest.modes;
     sure = is.certain;
   };
   row = let at : u.y ≡ y = is.y_at in omega arith;

@@ -95,6 +95,7 @@ size-stays (Err (Write error)) size old new same fails own = fails.1 ∙ own
 pub uncollected-why : (k : Tracker) (t : Emulator) (call : Call) (written : ℕ) (refusal : Refusal) → 0 < k.size.width → IsTracked k t → IsUncollected call k refusal → IsOfCall call (screen_shown written (rested t)) (error_of refusal)
 uncollected-why k t (Called.Move p) written Refused.Memory wide is why = tt
 uncollected-why k t (Called.Show visible) written Refused.Memory wide is why = tt
+uncollected-why k t (Called.Command command) written Refused.Memory wide is why = tt
 uncollected-why k t (Called.Append n) written Refused.Memory wide is why = tt
 uncollected-why k t (Called.ScrollUp region n) written Refused.Memory wide is why = tt
 uncollected-why k t (Called.ScrollDown region n) written Refused.Memory wide is why = tt
@@ -103,6 +104,7 @@ uncollected-why k t call written (Refused.Symbol p) wide is why = absurd why
 uncollected-why k t call written (Refused.Style p) wide is why = absurd why
 uncollected-why k t (Called.Move q) written (Refused.Cut p) wide is why = absurd why.1
 uncollected-why k t (Called.Show visible) written (Refused.Cut p) wide is why = absurd why.1
+uncollected-why k t (Called.Command command) written (Refused.Cut p) wide is why = absurd why.1
 uncollected-why k t (Called.Append n) written (Refused.Cut p) wide is why = absurd why.1
 uncollected-why k t (Called.ScrollUp region n) written (Refused.Cut p) wide is why = absurd why.1
 uncollected-why k t (Called.ScrollDown region n) written (Refused.Cut p) wide is why = absurd why.1

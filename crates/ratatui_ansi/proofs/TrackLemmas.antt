@@ -71,6 +71,14 @@ visible-kept w h visible place flags s t ready at continuations became = record 
   screens = became.screens;
 }
 
+pub still-kept : (w h : ℕ) (place : Position) (flags : List Bool) (s t : Emulator) → IsIdle w h s → cursor_of (screen_shown 0 s) ≡ place → AreContinuations w h flags s.columns
+    → Becomes (λ p q. q ≡ p) s.columns s t → IsKept w h place flags (λ p q. q ≡ p) s t
+still-kept w h place flags s t ready at continuations became = record {
+  cursor = ap cursor_of (became.screens 0) ∙ at;
+  continuations = AreContinuations-along w h flags s.columns t.columns became.columns continuations;
+  screens = became.screens;
+}
+
 pub cursor-kept : (w h x y : ℕ) (flags : List Bool) (s t : Emulator) → IsIdle w h s → AreContinuations w h flags s.columns
     → Becomes (λ p q. q ≡ with_cursor x y p) s.columns s t → IsKept w h (record { x = min x (w - 1); y = min y (h - 1) }) flags (λ p q. q ≡ with_cursor x y p) s t
 cursor-kept w h x y flags s t ready continuations became =

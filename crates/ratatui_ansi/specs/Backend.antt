@@ -4,6 +4,8 @@ use Rattle.ratatui_core.specs.{Layout.Position, Layout.Size, Backend.Screen}
 use Rattle.ansi_model.specs.{Emulator.Emulator, Emulator.rested, Emulator.blank_terminal, Sequences.feed, Screens.screen_shown}
 use Rattle.ratatui_ansi.specs.Tracker.{FitsScreen, IsAwaiting}
 use Rattle.ansi_model.specs.Beginnings.{IsAsFound, anew, with_rows_above}
+use Rattle.ansi_model.specs.{Sends.Performs, Endings.left_below}
+use Rattle.std.specs.Io.KnownBytes.{Appends}
 
 -- the writer, what it held as the backend began or began anew, if that is known, what it was sent since, and what of that after the last
 -- flush; the terminal's size, whether it is sent colours of the underline, and places after ambiguous characters as if these were wide; how many items were drawn and how many calls failed, and whether a write failed
@@ -30,6 +32,12 @@ reader size bytes = feed bytes (blank_terminal size.width size.height)
 -- the screen of the new terminal that has read what the writer was sent
 abbrev pub shown_by : {W : Type 0} → BackendState W → Screen
 shown_by b = screen_shown b.written (rested (reader b.size b.sent))
+
+-- after what was sent since the backend began a writer has taken bytes that leave each terminal below its last row
+pub record LeavesTerminal {W : Type 0} (b : BackendState W) (contents : Option (List ℕ)) : Type 0 where
+  pub sent : List ℕ
+  pub leaves : Performs b.sent sent left_below
+  pub tied : Appends b.before contents sent
 
 -- a terminal of this size that reads these bytes becomes what a new one would, however it was left; its history stays above
 abbrev pub IsReadAlike : Size → List ℕ → Type 0

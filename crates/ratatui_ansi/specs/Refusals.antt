@@ -58,6 +58,11 @@ IsOfFlushing Broken = Unit {0}
 IsOfFlushing (Write error) = Unit {0}
 IsOfFlushing _ = ⊥
 
+-- an error of leaving: neither memory nor an earlier failure prevents it
+abbrev pub IsOfLeaving : AnsiError → Type 0
+IsOfLeaving (Write error) = Unit {0}
+IsOfLeaving _ = ⊥
+
 -- an error of a clear: the cell that it names is the cursor's, and a symbol covers it from the left
 abbrev pub IsOfClearing : Screen → AnsiError → Type 0
 IsOfClearing s (Cut p) = (p ≡ cursor_of s) × IsCovered s.grid p.x p.y

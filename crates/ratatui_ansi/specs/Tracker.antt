@@ -63,6 +63,7 @@ CallDoes (Called.Append n) s t = Appends s n t
 CallDoes (Called.ScrollUp region n) s t = ScrollsUp region.start region.end n s t
 CallDoes (Called.ScrollDown region n) s t = ScrollsDown region.start region.end n s t
 CallDoes (Called.Clear kind) s t = Clears s kind t
+CallDoes (Called.Command command) s t = t ≡ s
 
 -- a clear would cut a symbol at the cursor
 abbrev pub IsCutByCall : Call → Tracker → Type 0

@@ -7,17 +7,18 @@ ghost use Rattle.std.specs.Iterator.{IsFinite, Drains};
 ghost use Rattle.ratatui_core.specs.Buffer.{update_by};
 ghost use Rattle.ratatui_core.specs.Backend.{Counts, IsBlankScreen, IsOnGrid, Draws, Appends, Clears, ScrollsUp, ScrollsDown, with_visible, with_cursor, cursor_of, size_of, All};
 ghost use Rattle.ansi_model.specs.Beginnings.{MakesBlank};
-ghost use Rattle.ratatui_ansi.specs.Backend.{BackendState, shown_by, is_flushed};
+ghost use Rattle.ratatui_ansi.specs.Backend.{BackendState, shown_by, is_flushed, LeavesTerminal};
 ghost use Rattle.ratatui_ansi.specs.Frame.{is_sendable_on};
 ghost use Rattle.ratatui_ansi.specs.Headline.{IsReadByAll};
 ghost use Rattle.ratatui_ansi.specs.Tracker.{CallDoes};
 ghost use Rattle.ratatui_ansi.specs.Refusals.{IsUnsent, Answers, RefusesToBegin, FailsToRestart, FailsToResize, StopsBy};
-ghost use Rattle.ratatui_ansi.specs.Refusals.{IsOfWriting, IsOfFlushing, IsOfClearing, IsOfCall};
+ghost use Rattle.ratatui_ansi.specs.Refusals.{IsOfWriting, IsOfFlushing, IsOfLeaving, IsOfClearing, IsOfCall};
 ghost use Rattle.ratatui_ansi.specs.declared.error.AnsiError.TheVariants.{Broken};
 
 use crate::error::AnsiError;
 use crate::sender::Sender;
 use crate::tracker::{Call, Tracker};
+use ansi_model::{Command, leaving};
 use ratatui_core::backend::{AsCell, Backend, ClearType, WindowSize};
 use ratatui_core::layout::{Position, Size};
 use std::alloc::Global;
@@ -125,6 +126,24 @@ impl<W: Write + Drop> AnsiBackend<W> {
         self.sender.writer
     }
 
+    /// Gives the terminal back, also after a failed write, and answers the writer: the terminal is
+    /// in its own colours and without margins, its cursor is shown below its last row, and the
+    /// writer has sent all on. This takes no memory.
+    ///
+    /// # Errors
+    ///
+    /// `Write`: the writer failed. It is dropped then.
+    pub fn leave(mut self) -> Result<W, AnsiError>
+        ensures left { IfOk result (λ writer. self.is_broken ≡ false
+            → LeavesTerminal self (W.contents writer)) }
+        ensures why { IfErr result IsOfLeaving }
+    {
+        let count = self.sender.failures;
+        self.sender.send(leaving(), count)?;
+        self.sender.flush(count)?;
+        Ok(self.sender.writer)
+    }
+
     /// From now on the backend sends colours of the underline, or refuses them, as it does at
     /// first: some terminals misread them.
     pub fn set_underline_colors(&mut self, has_underline_colors: bool)
@@ -194,6 +213,79 @@ impl<W: Write + Drop> AnsiBackend<W> {
         self.sender.send(tracker.out.as_str(), failures)?;
         self.tracker = tracker;
         Ok(())
+    }
+
+    /// From now on the terminal tells presses, moves and the wheel of the mouse on its input, or no
+    /// longer. The screen stays.
+    ///
+    /// # Errors
+    ///
+    /// `Memory`, `Broken` and `Write`, as of every call that writes.
+    pub fn set_mouse_capture(&mut self, is_captured: bool) -> Result<(), AnsiError>
+        ensures ok { OnOk result (shown_by self.new ≡ shown_by self.old) }
+        ensures why { IfErr result IsOfWriting }
+        ensures state { Answers result self.old self.new }
+        ensures counts { Counts result self.old.failures self.new.failures }
+    {
+        let command = if is_captured {
+            Command::EnableMouseCapture
+        } else {
+            Command::DisableMouseCapture
+        };
+        self.send(Call::Command(command))
+    }
+
+    /// From now on the terminal encloses what is pasted in marks on its input, or no longer. The screen stays.
+    ///
+    /// # Errors
+    ///
+    /// `Memory`, `Broken` and `Write`, as of every call that writes.
+    pub fn set_bracketed_paste(&mut self, is_bracketed: bool) -> Result<(), AnsiError>
+        ensures ok { OnOk result (shown_by self.new ≡ shown_by self.old) }
+        ensures why { IfErr result IsOfWriting }
+        ensures state { Answers result self.old self.new }
+        ensures counts { Counts result self.old.failures self.new.failures }
+    {
+        let command = if is_bracketed {
+            Command::EnableBracketedPaste
+        } else {
+            Command::DisableBracketedPaste
+        };
+        self.send(Call::Command(command))
+    }
+
+    /// From now on the terminal tells on its input that its window has the focus or lost it, or no
+    /// longer. The screen stays.
+    ///
+    /// # Errors
+    ///
+    /// `Memory`, `Broken` and `Write`, as of every call that writes.
+    pub fn set_focus_change(&mut self, is_told: bool) -> Result<(), AnsiError>
+        ensures ok { OnOk result (shown_by self.new ≡ shown_by self.old) }
+        ensures why { IfErr result IsOfWriting }
+        ensures state { Answers result self.old self.new }
+        ensures counts { Counts result self.old.failures self.new.failures }
+    {
+        let command = if is_told {
+            Command::EnableFocusChange
+        } else {
+            Command::DisableFocusChange
+        };
+        self.send(Call::Command(command))
+    }
+
+    /// Asks the terminal where its cursor is; the answer comes on its input. The screen stays.
+    ///
+    /// # Errors
+    ///
+    /// `Memory`, `Broken` and `Write`, as of every call that writes.
+    pub fn ask_cursor_position(&mut self) -> Result<(), AnsiError>
+        ensures ok { OnOk result (shown_by self.new ≡ shown_by self.old) }
+        ensures why { IfErr result IsOfWriting }
+        ensures state { Answers result self.old self.new }
+        ensures counts { Counts result self.old.failures self.new.failures }
+    {
+        self.send(Call::Command(Command::AskCursorPosition))
     }
 
     // Makes a call that draws no cells.

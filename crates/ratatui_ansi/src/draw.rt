@@ -13,8 +13,8 @@ ghost use Rattle.ratatui_ansi.specs.Frame.{is_fit, is_sendable_on, IsGlyph, IsVa
 ghost use Rattle.ratatui_ansi.specs.Refusals.{has_place, StopsWithin, StopsDraw};
 
 use ansi_model::{
-    Glyph, Pen, Sgr, change_sgr, glyph_of, mark_symbol, only_printable, put_plain, put_symbol,
-    set_sgr, tail_end,
+    Glyph, Pen, Sgr, change_sgr, glyph_of, mark_symbol, only_printable, put_disputed, put_plain,
+    put_spaces, put_symbol, set_sgr, tail_end,
 };
 use ratatui_core::backend::AsCell;
 use ratatui_core::buffer::{Cell, CellDiffOption, CellWidth};
@@ -126,10 +126,7 @@ fn put_blanks(out: &mut String, pen: &mut Pen, x: u16, y: u16, end: u16) -> Resu
     ensures sgr { OnOk result (pen.new.sgr ≡ default_sgr) }
 {
     change_sgr(out, pen, &Sgr::DEFAULT)?;
-    for column in x..end {
-        put_plain(out, pen, column, y, ' ')?;
-    }
-    Ok(())
+    put_spaces(out, pen, x, y, end)
 }
 
 // Sets the flags of a symbol of so many columns, and empties what is left of another one of which
@@ -168,26 +165,28 @@ fn cover(
     Ok(end)
 }
 
-// Prints a cell's symbol in a column and a row of a screen, in the pen's rendition.
+// Prints a cell's symbol in a place of a screen of so many columns, in the pen's rendition.
 #[inline(always)]
 fn put(
     out: &mut String,
     pen: &mut Pen,
-    x: u16,
-    y: u16,
+    width: u16,
+    place: Position,
     cell: &Cell,
     glyph: Glyph,
 ) -> Result<(), AllocError>
-    requires column { x < 65535 }
-    requires glyph { IsGlyphOf (symbol_text cell.now.symbol) glyph }
-    ensures prints { OnOk result ((w h : ℕ) → x < w → y < h → Prints w h (string_bytes out.old)
-        pen.old x y pen.old.sgr (symbol_text cell.now.symbol) (string_bytes out.new)
-        pen.new) }
+    requires column { place.x < width }
+    requires glyph { IsGlyph (width - place.x) cell.now glyph }
+    ensures prints { OnOk result ((h : ℕ) → place.y < h → Prints width h (string_bytes out.old)
+        pen.old place.x place.y pen.old.sgr (symbol_text cell.now.symbol)
+        (string_bytes out.new) pen.new) }
     ensures sgr { OnOk result (pen.new.sgr ≡ pen.old.sgr) }
 {
+    let Position { x, y } = place;
     match glyph {
         Glyph::Plain(c) => put_plain(out, pen, x, y, c),
         Glyph::Whole(_) => put_symbol(out, pen, x, y, cell.symbol()),
+        Glyph::Disputed(columns) => { put_disputed(out, pen, place, width, cell.symbol(), columns) }
     }
 }
 
@@ -270,7 +269,7 @@ fn draw_glyph(
     let Position { x, y } = place;
     let pen = &mut drawing.pen;
     take_sgr(out, pen, target.has_underline_colors, place, cell)?;
-    put(out, pen, x, y, cell, glyph)?;
+    put(out, pen, target.width, place, cell, glyph)?;
     let end = cover(
         out,
         continuations,

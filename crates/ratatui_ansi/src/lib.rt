@@ -12,6 +12,7 @@ mod checked;
 mod draw;
 mod error;
 pub mod laws;
+mod resizable;
 mod sender;
 mod sent;
 mod tracker;

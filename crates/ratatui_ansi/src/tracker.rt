@@ -15,9 +15,9 @@ ghost use Rattle.ratatui_ansi.specs.Tracker.{IsTracker, KeepsTracked, Collects, 
 use crate::draw::{Refusal, Target, draw_cells};
 use crate::error::AnsiError;
 use ansi_model::{
-    append_lines, blank_flags, clear_flags, clear_part_flags, clear_screen, erase, is_continuation,
-    lower_flags, make_blank, move_to, raise_flags, scroll_region_down, scroll_region_up,
-    set_cursor_position, set_visible, symbol_end,
+    Command, append_lines, blank_flags, clear_flags, clear_part_flags, clear_screen, erase,
+    is_continuation, lower_flags, make_blank, move_to, push_command, raise_flags,
+    scroll_region_down, scroll_region_up, set_cursor_position, set_visible, symbol_end,
 };
 use ratatui_core::backend::{AsCell, ClearType};
 use ratatui_core::layout::{Position, Size};
@@ -34,6 +34,7 @@ pub(crate) enum Call {
     ScrollUp(Range<u16>, u16),
     ScrollDown(Range<u16>, u16),
     Clear(ClearType),
+    Command(Command),
 }
 
 /// A terminal's size, where its cursor is, and which of its columns are continuation columns, row
@@ -102,6 +103,15 @@ impl Tracker {
         ensures err { OnErr result (KeepsTracked self.old self.new) }
     {
         set_visible(&mut self.out, visible)
+    }
+
+    // Asks what changes nothing on the screen.
+    fn command(&mut self, command: Command) -> Result<(), AllocError>
+        requires { IsTracker self.old }
+        ensures ok { OnOk result (Collects self.old (λ s t. t ≡ s) self.new) }
+        ensures err { OnErr result (KeepsTracked self.old self.new) }
+    {
+        push_command(&mut self.out, command)
     }
 
     // Moves the cursor's row down by `n`, and scrolls what goes past the last row.
@@ -272,6 +282,7 @@ impl Tracker {
             Call::ScrollUp(region, n) => self.scroll_up(region, n)?,
             Call::ScrollDown(region, n) => self.scroll_down(region, n)?,
             Call::Clear(clear_type) => self.clear_uncut(clear_type)?,
+            Call::Command(command) => self.command(command)?,
         }
         Ok(())
     }

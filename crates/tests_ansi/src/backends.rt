@@ -57,7 +57,8 @@ fn sends(backend: &Kept, answer: Result<(), AnsiError>, end: &str) -> bool {
 }
 
 // What makes a terminal of four columns and three rows blank.
-const BLANK_4_3: &str = "\u{1b}[0m\u{1b}[r\u{1b}[3;4H\u{1b}[1J\u{1b}[1;1H\u{1b}[?25h";
+const BLANK_4_3: &str =
+    "\u{1b}\\\u{f}\u{1b}(B\u{1b}%G\u{1b}[4l\u{1b}[?6l\u{1b}[?69l\u{1b}[?7h\u{1b}[?2026l\u{1b}[0m\u{1b}[rm\ré\u{1b}[3;4H\u{1b}[1J\u{1b}[1;1H\u{1b}[?25h";
 
 // Makes one of the calls that answer nothing.
 fn call(backend: &mut Kept, number: usize) -> Result<(), AnsiError> {
@@ -158,6 +159,28 @@ static SIDE_BY_SIDE: [Drawn; 2] = [
 
 const CUT: Result<(), Why> = Err(Why::Cut(Position { x: 3, y: 0 }));
 
+// Of a symbol with U+FE0F all columns are blanked first, and a move follows it within its row.
+static DISPUTED: [Drawn; 3] = [
+    (
+        &[(0, 0), (2, 0)],
+        &["❤\u{fe0f}", "a"],
+        Ok(()),
+        "\u{1b}[1;1H  \u{1b}[1;1H❤\u{fe0f}\u{1b}[1;3Ha",
+    ),
+    (
+        &[(3, 0), (4, 0)],
+        &["a", "❤\u{fe0f}"],
+        Ok(()),
+        "\u{1b}[1;4Ha  \u{1b}[1;5H❤\u{fe0f}",
+    ),
+    (
+        &[(5, 1)],
+        &["❤\u{fe0f}"],
+        Err(Why::Symbol(Position { x: 5, y: 1 })),
+        "",
+    ),
+];
+
 static OVER_ONE_ANOTHER: [Drawn; 6] = [
     (&[(3, 0)], &["a"], CUT, ""),
     (&[(2, 0)], &["a"], Ok(()), "\u{1b}[1;3Ha "),
@@ -184,6 +207,13 @@ fn cells_in_their_places(rt: HostRuntime) -> Result<(), Fail> {
     assert!(rt; draws_each(rt.alloc(), &mut backend, &SIDE_BY_SIDE)?);
     assert!(rt; by_kind(backend.get_cursor()) == Ok((4, 0)));
     assert!(rt; draws_each(rt.alloc(), &mut backend, &OVER_ONE_ANOTHER)?);
+    Ok(())
+}
+
+#[test]
+fn symbols_of_disputed_columns(rt: HostRuntime) -> Result<(), Fail> {
+    let mut backend = over_kept(rt.alloc(), 6, 2)?;
+    assert!(rt; draws_each(rt.alloc(), &mut backend, &DISPUTED)?);
     Ok(())
 }
 
@@ -243,6 +273,59 @@ fn underlines_that_are_refused(rt: HostRuntime) -> Result<(), Fail> {
             "\u{1b}[1;2Ha"
         )
     );
+    Ok(())
+}
+
+// Asks what changes nothing on the screen.
+fn ask(backend: &mut Kept, number: usize) -> Result<(), AnsiError> {
+    match number {
+        0 => backend.set_mouse_capture(true),
+        1 => backend.set_mouse_capture(false),
+        2 => backend.set_bracketed_paste(true),
+        3 => backend.set_bracketed_paste(false),
+        4 => backend.set_focus_change(true),
+        5 => backend.set_focus_change(false),
+        _ => backend.ask_cursor_position(),
+    }
+}
+
+static ASKED: [&str; 7] = [
+    "\u{1b}[?1000h\u{1b}[?1002h\u{1b}[?1003h\u{1b}[?1006h",
+    "\u{1b}[?1006l\u{1b}[?1003l\u{1b}[?1002l\u{1b}[?1000l",
+    "\u{1b}[?2004h",
+    "\u{1b}[?2004l",
+    "\u{1b}[?1004h",
+    "\u{1b}[?1004l",
+    "\u{1b}[6n",
+];
+
+#[test]
+fn commands(rt: HostRuntime) -> Result<(), Fail> {
+    let mut backend = over_kept(rt.alloc(), 4, 3)?;
+    for (number, wanted) in ASKED.iter().enumerate() {
+        let before = sent(&backend).len();
+        let answer = ask(&mut backend, number);
+        assert!(rt; answer.is_ok() && sent(&backend).get(before..) == Some(*wanted));
+    }
+    assert!(rt; is_at(&mut backend, 0, 0));
+    Ok(())
+}
+
+const LEFT_BELOW: &str = "\u{1b}[?25l\u{1b}[0m\u{1b}[r\u{1b}[?25h\u{1b}[65535;1H\r\n";
+
+// Whether a terminal is left as it should be.
+fn is_left(backend: Kept) -> bool {
+    match backend.leave() {
+        Ok(writer) => writer.as_slice().ends_with(LEFT_BELOW.as_bytes()),
+        Err(_) => false,
+    }
+}
+
+#[test]
+fn a_terminal_is_left(rt: HostRuntime) -> Result<(), Fail> {
+    let mut backend = over_kept(rt.alloc(), 4, 3)?;
+    assert!(rt; backend.hide_cursor().is_ok());
+    assert!(rt; is_left(backend));
     Ok(())
 }
 

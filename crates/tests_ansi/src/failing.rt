@@ -174,3 +174,27 @@ fn held_after_a_draw(alloc: Global) -> Option<usize> {
 fn a_draw_flushes_its_writer(rt: HostRuntime) {
     assert!(rt; held_after_a_draw(rt.alloc()) == Some(0));
 }
+
+// How many bytes a writer holds once it was left.
+fn held_after_leaving(alloc: Global) -> Option<usize> {
+    let backend = AnsiBackend::new(alloc, Holding { held: 0 }, SIZE).ok()?;
+    Some(backend.leave().ok()?.held)
+}
+
+// What leaves a terminal is written after a failed write, too, and may fail itself.
+fn is_left_after(alloc: Global, calls: u64, cell: &Cell) -> Option<Result<(), Why>> {
+    let mut backend = over_tearing(alloc, calls).ok()?;
+    let _drawn = call(&mut backend, 0, cell);
+    Some(by_kind(backend.leave()).map(|_| ()))
+}
+
+#[test]
+fn leaving_after_failed_writes(rt: HostRuntime) -> Result<(), Fail> {
+    let cell = Cell::new(rt.alloc(), "a")?;
+    let torn = Err(Why::Write(ErrorKind::BrokenPipe));
+    assert!(rt; held_after_leaving(rt.alloc()) == Some(0));
+    assert!(rt; is_left_after(rt.alloc(), 1, &cell) == Some(Ok(())));
+    assert!(rt; is_left_after(rt.alloc(), 2, &cell) == Some(torn));
+    assert!(rt; is_left_after(rt.alloc(), 3, &cell) == Some(torn));
+    Ok(())
+}

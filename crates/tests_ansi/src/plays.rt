@@ -38,7 +38,7 @@ impl Random {
     }
 }
 
-const SYMBOLS: [&str; 14] = [
+const SYMBOLS: [&str; 15] = [
     " ",
     "a",
     "~",
@@ -48,6 +48,7 @@ const SYMBOLS: [&str; 14] = [
     "ン",
     "e\u{301}",
     "👩\u{200d}🔬",
+    "❤\u{fe0f}",
     "",
     "\u{7}",
     "ab",
@@ -344,9 +345,9 @@ fn plays_are_shown(rt: HostRuntime) -> Result<(), Fail> {
 }
 
 // What another program leaves: rows that scrolled off, a symbol over halves of others, a rendition,
-// margins, and a hidden cursor.
+// margins, a hidden cursor, and every mode that changes how text is taken.
 pub(crate) const LEFT: &str =
-    "ab\n\n\n\n\r\u{1b}[1;1Hコココ\u{1b}[1;2Hコ\u{1b}[?25l\u{1b}[0;1;31m\u{1b}[2;3r";
+    "ab\n\n\n\n\r\u{1b}[1;1Hコココ\u{1b}[1;2Hコ\u{1b}[?25l\u{1b}[0;1;31m\u{1b}[2;3r\u{1b}[4h\u{1b}[?6h\u{1b}[?69h\u{1b}[?7l\u{1b}[?2026h\u{e}\u{1b}(0\u{1b}%@";
 
 // Whether a text, which is what another text has from its end on, makes a terminal blank that read
 // the other.

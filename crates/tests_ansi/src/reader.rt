@@ -69,8 +69,22 @@ pub struct Reader<'a> {
     // How many of its rows were left there.
     rows_left: usize,
     visible: bool,
+    modes: Modes,
     sure: bool,
     alloc: Global,
+}
+
+// Modes that other programs may leave set, and that change how a terminal takes text.
+#[derive(Clone, Copy, Default, PartialEq, Eq)]
+struct Modes {
+    inserts: bool,
+    origin: bool,
+    sides: bool,
+    unwrapped: bool,
+    held: bool,
+    shifted: bool,
+    lettered: bool,
+    coded: bool,
 }
 
 impl<'a> Reader<'a> {
@@ -96,6 +110,7 @@ impl<'a> Reader<'a> {
             history: Vec::new(alloc),
             rows_left: 0,
             visible: true,
+            modes: Modes::default(),
             sure: true,
             alloc,
         };
@@ -124,14 +139,17 @@ impl<'a> Reader<'a> {
     fn read_text(&mut self, text: &'a str) -> Result<(), AllocError> {
         let mut from = 0;
         for (at, ch) in text.char_indices() {
-            if ch == '\r' || ch == '\n' {
-                self.print(text.get(from..at).unwrap_or(""));
-                from = at + 1;
-                if ch == '\r' {
-                    self.x = 0;
-                } else {
-                    self.feed_line()?;
-                }
+            if !ch.is_control() {
+                continue;
+            }
+            self.print(text.get(from..at).unwrap_or(""));
+            from = at + ch.len_utf8();
+            match ch {
+                '\r' => self.x = 0,
+                '\n' => self.feed_line()?,
+                '\u{e}' => self.modes.shifted = true,
+                '\u{f}' => self.modes.shifted = false,
+                _ => self.sure = false,
             }
         }
         self.print(text.get(from..).unwrap_or(""));
@@ -141,8 +159,7 @@ impl<'a> Reader<'a> {
     // Does what a sequence says; the text after it.
     fn read_sequence(&mut self, part: &'a str) -> &'a str {
         let Some(sequence) = part.strip_prefix('[') else {
-            self.sure = false;
-            return "";
+            return self.read_escape(part);
         };
         for (at, ch) in sequence.char_indices() {
             if !ch.is_ascii_digit() && ch != ';' && ch != '?' {
@@ -154,6 +171,36 @@ impl<'a> Reader<'a> {
         ""
     }
 
+    // The end of a string, the letters of G0, or the coding; the text after it.
+    fn read_escape(&mut self, part: &'a str) -> &'a str {
+        let length = if part.starts_with('\\') { 1 } else { 2 };
+        match part.get(..length) {
+            Some("\\") => {}
+            Some("(B") => self.modes.lettered = false,
+            Some("(0") => self.modes.lettered = true,
+            Some("%G") => self.modes.coded = false,
+            Some("%@") => self.modes.coded = true,
+            _ => self.sure = false,
+        }
+        part.get(length..).unwrap_or("")
+    }
+
+    // DECSET and DECRST.
+    fn set_mode(&mut self, mode: &str, on: bool) {
+        match mode {
+            "25" => self.visible = on,
+            "6" => {
+                self.modes.origin = on;
+                self.x = 0;
+                self.y = 0;
+            }
+            "69" => self.modes.sides = on,
+            "7" => self.modes.unwrapped = !on,
+            "2026" => self.modes.held = on,
+            _ => self.sure = false,
+        }
+    }
+
     fn perform(&mut self, parameters: &str, last: char) {
         if last == 'm' {
             let (sgr, is_known) = with_parameters(self.sgr, parameters);
@@ -161,9 +208,9 @@ impl<'a> Reader<'a> {
             self.sure = self.sure && is_known;
             return;
         }
-        if parameters == "?25" {
-            self.visible = last == 'h';
+        if let Some(mode) = parameters.strip_prefix('?') {
             self.sure = self.sure && (last == 'h' || last == 'l');
+            self.set_mode(mode, last == 'h');
             return;
         }
         let mut numbers = parameters.split(';');
@@ -195,6 +242,8 @@ impl<'a> Reader<'a> {
             ('K', 0) => self.erase(ClearType::UntilNewLine),
             ('K', 2) => self.erase(ClearType::CurrentLine),
             ('r', 0) => self.set_region(0, self.height),
+            ('h', 4) => self.modes.inserts = true,
+            ('l', 4) => self.modes.inserts = false,
             ('M', _) => {
                 let is_row = 0 < self.y && self.top <= self.y && self.y < self.bottom;
                 self.sure = self.sure && self.has_own_sgr() && is_row && self.x == 0 && 0 < n;
@@ -222,14 +271,42 @@ impl<'a> Reader<'a> {
 
     // Plain characters one by one, any other text as one symbol.
     fn print(&mut self, text: &'a str) {
+        self.sure = self.sure && (text.is_empty() || self.modes == Modes::default());
         if text.chars().all(|c| is_plain(c)) {
             for (at, ch) in text.char_indices() {
                 self.print_symbol(text.get(at..at + ch.len_utf8()).unwrap_or(""), 1);
             }
         } else {
             self.sure = self.sure && is_symbol(text);
-            self.print_symbol(text, text.cell_width());
+            self.print_whole(text, text.cell_width());
         }
+    }
+
+    // A symbol that isn't plain; with U+FE0F some terminals print it in one column, and all look
+    // alike over blanks only.
+    fn print_whole(&mut self, symbol: &'a str, count: u16) {
+        if !symbol.chars().skip(1).any(|c| c == '\u{fe0f}') {
+            self.print_symbol(symbol, count);
+            return;
+        }
+        self.sure = self.sure && self.are_blank(count);
+        self.print_symbol(symbol, count);
+        self.x = self.width;
+    }
+
+    // Whether so many columns from the cursor on show blanks in the rendition.
+    fn are_blank(&self, count: u16) -> bool {
+        let sgr = self.sgr;
+        for k in 0..count {
+            let is_blank = match self.column(self.x.saturating_add(k), self.y) {
+                Some(column) => column.symbol == " " && column.sgr == sgr && column.count == 1,
+                None => false,
+            };
+            if !is_blank {
+                return false;
+            }
+        }
+        true
     }
 
     fn print_symbol(&mut self, symbol: &'a str, count: u16) {
@@ -360,6 +437,7 @@ impl<'a> Reader<'a> {
         let x = self.x.min(self.width.saturating_sub(1));
         let is_calm = self.sure
             && self.has_own_sgr()
+            && self.modes == Modes::default()
             && self.top == 0
             && self.bottom == self.height;
         if !is_calm

@@ -92,7 +92,7 @@ struct Rendition {
     sent: &'static str,
 }
 
-static RENDITIONS: [Rendition; 6] = [
+static RENDITIONS: [Rendition; 8] = [
     Rendition {
         fg: Color::Reset,
         bg: Color::Reset,
@@ -120,6 +120,20 @@ static RENDITIONS: [Rendition; 6] = [
         underline: Color::Indexed(0),
         modifiers: 0,
         sent: "\u{1b}[0;38;5;9;48;2;1;20;255;58;5;0m",
+    },
+    Rendition {
+        fg: Color::Rgb(1, 20, 255),
+        bg: Color::Rgb(2, 3, 4),
+        underline: Color::Indexed(7),
+        modifiers: 0b1_0100_1111,
+        sent: "\u{1b}[0;1;2;3;4;7;9;38;2;1;20;255m\u{1b}[48;2;2;3;4;58;5;7m",
+    },
+    Rendition {
+        fg: Color::Rgb(1, 20, 255),
+        bg: Color::Rgb(2, 3, 4),
+        underline: Color::Rgb(5, 6, 7),
+        modifiers: 0b1_1111,
+        sent: "\u{1b}[0;1;2;3;4;5;38;2;1;20;255;48;2;2;3;4m\u{1b}[58;2;5;6;7m",
     },
     Rendition {
         fg: Color::Reset,
@@ -175,11 +189,12 @@ static NO_SYMBOLS: [&str; 10] = [
     "コa",
 ];
 
-static GLYPHS: [(&str, Option<Glyph>); 7] = [
+static GLYPHS: [(&str, Option<Glyph>); 8] = [
     ("─", Some(Glyph::Plain('─'))),
     ("é", Some(Glyph::Plain('é'))),
     ("コ", Some(Glyph::Whole(2))),
     ("e\u{301}", Some(Glyph::Whole(1))),
+    ("❤\u{fe0f}", Some(Glyph::Disputed(2))),
     ("ab", None),
     ("", None),
     ("\u{9b}", None),

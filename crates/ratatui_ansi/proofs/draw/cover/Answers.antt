@@ -1,5 +1,7 @@
 use Rattle.std.proofs.Common.{◌+◌, ◌-◌, ◌*◌, inl, inr, refl, arith}
-use Rattle.ratatui_ansi.proofs.LayLemmas.{blanks-none, one-marked}
+use Rattle.ansi_model.specs.Sgr.{default_sgr}
+use Rattle.ansi_model.proofs.PaintLemmas.{blanks-none}
+use Rattle.ratatui_ansi.proofs.LayLemmas.{one-marked}
 use Rattle.ratatui_ansi.proofs.draw.cover.Goals.{then-past_it-end+in_ok-put_blanks, else-past_it-end}
 use Rattle.ratatui_ansi.proofs.draw.cover.Goals as goal
 
@@ -11,7 +13,7 @@ returns-after-past_it-end c = record {
   unset = λ within. rw (c.from.ensures, c.from-2.ensures) at (c.tail_end-end.ensures.ended within);
   paints = λ h row. elim c.if-past_it-end.branch [
     | then-past_it-end+in_ok-put_blanks v ↦ rw (v.out-is, v.pen-is) (v.in_ok-put_blanks.ensures.paints c.args.width h c.tail_end-end.ensures.high row)
-    | else-past_it-end v ↦ rw (v.out-is, v.pen-is) (blanks-none c.args.width h _ _ (c.args.place.x + c.args.columns) c.args.place.y (c.tail_end-end.result - (c.args.place.x + c.args.columns)) (omega arith))
+    | else-past_it-end v ↦ rw (v.out-is, v.pen-is) (blanks-none c.args.width h _ _ default_sgr (c.args.place.x + c.args.columns) c.args.place.y (c.tail_end-end.result - (c.args.place.x + c.args.columns)) (omega arith))
   ];
   sgr = elim c.if-past_it-end.branch [
     | then-past_it-end+in_ok-put_blanks v ↦ inr (rw v.pen-is v.in_ok-put_blanks.ensures.sgr)
@@ -29,7 +31,7 @@ returns-else-x-end c = record {
   inside = c.tail_end-end.ensures.high;
   set = λ k low high. rw (c.from.ensures, c.from-2.ensures) at (c.tail_end-end.ensures.continuations k low high);
   unset = λ within. rw (c.from.ensures, c.from-2.ensures) at (c.tail_end-end.ensures.ended within);
-  paints = λ h row. blanks-none c.args.width h _ _ (c.args.place.x + c.args.columns) c.args.place.y (c.tail_end-end.result - (c.args.place.x + c.args.columns)) (omega arith);
+  paints = λ h row. blanks-none c.args.width h _ _ default_sgr (c.args.place.x + c.args.columns) c.args.place.y (c.tail_end-end.result - (c.args.place.x + c.args.columns)) (omega arith);
   sgr = inl refl;
   marked = record {
     count = refl;
