@@ -6,7 +6,7 @@ use Rattle.ratatui_core.specs.{Layout.Rect, Buffer.BufferData, Backend.Screen}
 use Rattle.ratatui_core.specs.Layout.{EdgesFit}
 use Rattle.ratatui_core.specs.Terminal.{TerminalData, TerminalError, Viewport, IsAtRest, IsReady, IsFixed, IsSized, IsInStep, Fullscreen, Stays, DrawsFrame, Resizes, Applies, ShowsRendered}
 use Rattle.ratatui_core.specs.{Layout.Size, Layout.Position, Buffer.IsEmptied, Buffer.IsSettledBuffer, Backend.screen_area, Backend.size_of}
-use Rattle.ratatui_input.specs.Encodings.{untouched}
+use Rattle.ratatui_input.specs.Encodings.{fresh_decoder}
 use Rattle.ratatui_events.specs.declared.event.Event.{Event}
 use Rattle.ratatui_input.specs.declared.decoder.Decoder.{Decoder}
 use Rattle.ratatui_reads.specs.Reads.{Between, told_by, all_updated, size_told, last_size}
@@ -26,11 +26,11 @@ true-false e = search rules
 
 module _ {B S : Type 0} (screen : B → Screen) (failures : B → ℕ) (is_flushed : B → Bool) (paints : S → Rect → BufferData → BufferData → Type 0) (u : S → Event → S) (o : S → Bool) where
   -- the first frame
-  pub runs-start : (t0 : TerminalData B) (d : Decoder) (s : S) (all : Option (List ℕ)) (t : TerminalData B) → d ≡ untouched → DrawsFrame screen t0 t → failures t.backend ≡ failures t0.backend → ShowsState screen is_flushed paints s t
-      → RunsTo screen failures is_flushed paints u o t0 (record { decoder = untouched; state = s }) all (record { decoder = d; state = s }) all t
+  pub runs-start : (t0 : TerminalData B) (d : Decoder) (s : S) (all : Option (List ℕ)) (t : TerminalData B) → d ≡ fresh_decoder → DrawsFrame screen t0 t → failures t.backend ≡ failures t0.backend → ShowsState screen is_flushed paints s t
+      → RunsTo screen failures is_flushed paints u o t0 (record { decoder = fresh_decoder; state = s }) all (record { decoder = d; state = s }) all t
   runs-start t0 d s all t e draws same sh =
-      subst (λ (x : Decoder). RunsTo screen failures is_flushed paints u o t0 (record { decoder = untouched; state = s }) all (record { decoder = x; state = s }) all t) (sym e)
-      (ran-start u o (ShowsState screen is_flushed paints) (Moves screen failures) (HasSize screen failures) t0 (record { decoder = untouched; state = s }) all t
+      subst (λ (x : Decoder). RunsTo screen failures is_flushed paints u o t0 (record { decoder = fresh_decoder; state = s }) all (record { decoder = x; state = s }) all t) (sym e)
+      (ran-start u o (ShowsState screen is_flushed paints) (Moves screen failures) (HasSize screen failures) t0 (record { decoder = fresh_decoder; state = s }) all t
       (record { drawn = inr (record { before = t0; taken = inl refl; then = draws }); faults = same }) sh)
 
   -- the size that a screen keeps

@@ -1,7 +1,7 @@
 //! A counter from nothing to the glass.
 
 ghost use Rattle.std.specs.Prelude.{◌≡◌, false, IfSome};
-ghost use Rattle.ratatui_input.specs.Encodings.{untouched};
+ghost use Rattle.ratatui_input.specs.Encodings.{fresh_decoder};
 ghost use Rattle.ratatui_reads.specs.Moments.{HasEnded};
 ghost use Rattle.ratatui_app.specs.Counting.{PaintsCount, count_after};
 ghost use Rattle.ratatui_app.specs.Glass.{IsOnGlass};
@@ -28,7 +28,7 @@ pub fn count_from_blank<R: Read, W: Write + Drop>(
 ) -> Option<Terminal<AnsiBackend<W>>>
     ensures { IfSome result (λ t. (s : Counter)
         × HasEnded count_after (λ c. c.is_over)
-        (record { decoder = untouched; state = record { count = 0; is_over = false } })
+        (record { decoder = fresh_decoder; state = record { count = 0; is_over = false } })
         (R.remaining reader.old) s (R.remaining reader.new)
         × IsOnGlass PaintsCount s t) }
 {

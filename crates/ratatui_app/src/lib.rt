@@ -7,6 +7,8 @@ mod counter;
 mod from_blank;
 pub mod laws;
 mod running;
+#[cfg(test)]
+mod tests;
 
 pub use application::Application;
 pub use by_hand::count_by_hand;

@@ -4,7 +4,7 @@ ghost use Rattle.std.specs.Prelude.{◌≡◌, Bool, Some, [], false, OnOk, IfOk
 ghost use Rattle.std.specs.Io.KnownBytes.{IsAtEnd};
 ghost use Rattle.ratatui_core.specs.Backend.{size_of};
 ghost use Rattle.ratatui_core.specs.Terminal.{IsAtRest, Fullscreen, DrawsFrame};
-ghost use Rattle.ratatui_input.specs.Encodings.{untouched};
+ghost use Rattle.ratatui_input.specs.Encodings.{fresh_decoder};
 ghost use Rattle.ratatui_input.specs.declared.decoder.Decoder.{Decoder};
 ghost use Rattle.ratatui_reads.specs.Moments.{HasEnded};
 ghost use Rattle.ratatui_app.specs.Showing.{MayDraw, TakesTold, ShowsState, FeedsTo, StepsTo, RunsTo, StopsFeeding, RefusesState, Stops, StopsRun, IsEnd};
@@ -194,18 +194,18 @@ pub fn run<R: Read, B: Resizable, A: Application>(
     ensures runs { IsAtRest B.screen Fullscreen terminal.old → OnOk result (
         (decoder : Decoder) × RunsTo B.screen B.failures B.is_flushed A.paints A.updated A.is_over
         terminal.old
-        (record { decoder = untouched; state = application.old }) (R.remaining reader.old)
+        (record { decoder = fresh_decoder; state = application.old }) (R.remaining reader.old)
         (record { decoder = decoder; state = application.new }) (R.remaining reader.new)
         terminal.new) }
     ensures typed { IsAtRest B.screen Fullscreen terminal.old → has_ticks ≡ false
         → OnOk result (HasEnded A.updated A.is_over
-        (record { decoder = untouched; state = application.old }) (R.remaining reader.old)
+        (record { decoder = fresh_decoder; state = application.old }) (R.remaining reader.old)
         application.new (R.remaining reader.new)) }
     ensures ended { OnOk result
         (IsEnd A.is_over has_ticks application.new (R.remaining reader.new)) }
     ensures stops { IsAtRest B.screen Fullscreen terminal.old → IfErr result (
         StopsRun B.screen B.failures B.is_flushed A.paints A.updated A.is_over
-        (record { decoder = untouched; state = application.old }) (R.remaining reader.old)
+        (record { decoder = fresh_decoder; state = application.old }) (R.remaining reader.old)
         terminal.old application.new (R.remaining reader.new) terminal.new) }
 {
     let mut decoder = Decoder::new();

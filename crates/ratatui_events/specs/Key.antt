@@ -9,8 +9,8 @@ use Rattle.ratatui_events.specs.declared.key.KeyCode.TheVariants.{Char}
 use Rattle.ratatui_events.specs.declared.key.KeyEvent.{KeyEvent}
 
 -- the six keys that are held beside others, by name, each with its bit
-abbrev pub key_modifier_table : List (List ℕ × ℕ)
-key_modifier_table =
+abbrev pub held_table : List (List ℕ × ℕ)
+held_table =
     (codes "SHIFT", 1) ∷ (codes "ALT", 2) ∷ (codes "CONTROL", 4) ∷ (codes "SUPER", 8)
     ∷ (codes "HYPER", 16) ∷ (codes "META", 32) ∷ []
 
@@ -48,6 +48,6 @@ abbrev pub pressed : KeyCode → KeyModifiers → KeyEvent
 pressed key modifiers = key_of_kind key modifiers Press (locks 0)
 
 -- the character of a key
-abbrev pub letter_of : KeyCode → Option ℕ
-letter_of (Char c) = Some c
-letter_of _ = None
+abbrev pub key_character : KeyCode → Option ℕ
+key_character (Char c) = Some c
+key_character _ = None

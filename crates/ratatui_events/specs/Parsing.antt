@@ -17,12 +17,12 @@ use Rattle.ratatui_events.specs.declared.parsing.ParseKeyError.{ParseKeyError}
 use Rattle.ratatui_events.specs.declared.parsing.TheConstants.{NAMED}
 
 -- whether two texts are the same
-abbrev pub is_key_text : List ℕ → List ℕ → Bool
-is_key_text a b = pointwise nat_eq a b
+abbrev pub is_same_text : List ℕ → List ℕ → Bool
+is_same_text a b = pointwise nat_eq a b
 
 -- the key among these that has this name
 abbrev pub code_among : List KeyCode → List ℕ → Option KeyCode
-code_among keys text = find (λ code. is_key_text (code_name code) text) keys
+code_among keys text = find (λ code. is_same_text (code_name code) text) keys
 
 -- the key that has this name
 abbrev pub named_code : List ℕ → Option KeyCode
@@ -58,7 +58,7 @@ either_code None other = other
 abbrev pub code_of_text : List ℕ → Option KeyCode
 code_of_text text =
     either_code (named_code text) (either_code (function_code text)
-    (if is_key_text text (codes "Space") then Some (Char 32) else option_map Char (only_character text)))
+    (if is_same_text text (codes "Space") then Some (Char 32) else option_map Char (only_character text)))
 
 -- a key, or the error if there is none
 abbrev pub code_or_error : Option KeyCode → Result KeyCode ParseKeyError
@@ -96,12 +96,12 @@ key_or_error (Some key) = Ok key
 key_or_error None = Err (record {})
 
 -- numbers, and each of them with a bit more
-abbrev pub doubled_text : ℕ → List ℕ → List ℕ
-doubled_text bit numbers = numbers ++ map (λ n. n + bit) numbers
+abbrev pub with_bit : ℕ → List ℕ → List ℕ
+with_bit bit numbers = numbers ++ map (λ n. n + bit) numbers
 
 -- the numbers from 0 to 63: each set of keys held
 abbrev pub all_held : List ℕ
-all_held = doubled_text 32 (doubled_text 16 (doubled_text 8 (doubled_text 4 (doubled_text 2 (doubled_text 1 (0 ∷ []))))))
+all_held = with_bit 32 (with_bit 16 (with_bit 8 (with_bit 4 (with_bit 2 (with_bit 1 (0 ∷ []))))))
 
 -- a key is read back from its text
 abbrev pub reads_back : ℕ → KeyCode → Option KeyEvent

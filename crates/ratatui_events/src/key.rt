@@ -1,8 +1,8 @@
 //! Keys: which one, what was held beside it, and whether it went down or up.
 
 ghost use Rattle.std.specs.Prelude.{⊤, ◌≡◌, ◌↔◌, IsTrue, Some};
-ghost use Rattle.ratatui_events.specs.Key.{key_modifier_table, modifier_bits, held, state_table, state_bits};
-ghost use Rattle.ratatui_events.specs.Key.{locks, letter_of};
+ghost use Rattle.ratatui_events.specs.Key.{held_table, modifier_bits, held, state_table, state_bits};
+ghost use Rattle.ratatui_events.specs.Key.{locks, key_character};
 ghost use Rattle.ratatui_events.specs.declared.key.KeyEventKind.TheVariants.{Press, Repeat, Release};
 ghost use Rattle.ratatui_events.specs.declared.key.KeyCode.TheVariants.{F, Char};
 
@@ -48,7 +48,7 @@ impl Flags for KeyModifiers {
 
     ghost exact = { ⊤ };
 
-    ghost table = { key_modifier_table };
+    ghost table = { held_table };
 
     ghost set_of = { modifier_bits };
 
@@ -214,7 +214,7 @@ impl KeyCode {
 
     /// The character of the key, if it has one.
     pub fn as_char(self) -> Option<char>
-        ensures { result ≡ letter_of self }
+        ensures { result ≡ key_character self }
     {
         match self {
             KeyCode::Char(c) => Some(c),

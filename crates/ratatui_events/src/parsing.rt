@@ -2,7 +2,7 @@
 
 ghost use Rattle.std.specs.Prelude.{◌≡◌, Some, codes};
 ghost use Rattle.ratatui_events.specs.Names.{code_name};
-ghost use Rattle.ratatui_events.specs.Parsing.{is_key_text, code_among, named_code, function_code};
+ghost use Rattle.ratatui_events.specs.Parsing.{is_same_text, code_among, named_code, function_code};
 ghost use Rattle.ratatui_events.specs.Parsing.{only_character, code_of_text, code_or_error, stripped};
 ghost use Rattle.ratatui_events.specs.Parsing.{split_held, key_beside, key_of_text, key_or_error};
 
@@ -80,7 +80,7 @@ static NAMED: [KeyCode; 49] = [
 
 // Whether a key has this name.
 fn has_name(code: KeyCode, text: &str) -> bool
-    ensures { result ≡ is_key_text (code_name code) text.now }
+    ensures { result ≡ is_same_text (code_name code) text.now }
 {
     code.name() == text
 }

@@ -12,8 +12,8 @@ use Rattle.ratatui_input.specs.declared.decoder.State.{State}
 use Rattle.ratatui_input.specs.declared.decoder.State.TheVariants.{Ground, Escape, Character}
 use Rattle.ratatui_input.specs.declared.decoder.Next.TheVariants.{Whole, More}
 use Rattle.ratatui_input.specs.Keys.{typed_key, control_key, with_alt}
-use Rattle.ratatui_input.specs.Decoding.{stepped, first, begun, partial, after_escape, in_character, character_event, read, fed_byte, decoded, told_event}
-use Rattle.ratatui_input.specs.Encodings.{untouched, Gives}
+use Rattle.ratatui_input.specs.Decoding.{stepped, first, begun, partial, after_escape, in_character, character_event, read, byte_told, decoded, told_event}
+use Rattle.ratatui_input.specs.Encodings.{fresh_decoder, Gives}
 use Rattle.ratatui_input.proofs.EncodingLemmas.{first-typed}
 use Rattle.ratatui_input.proofs.StepLemmas.{at, Leads, leads-one, leads-cons, ends}
 
@@ -90,7 +90,7 @@ character-is : (c : ℕ) (alt : Bool) → (c < 55296) ⊎ ((57344 ≤ c) × (c <
 unfolding character_event
 character-is c alt scalar h = grind (arith, common_steps)
 
-key-told : (key : KeyEvent) (alt : Bool) → told_event (with_alt key alt) Ground false ≡ (with_alt key alt ∷ [], untouched)
+key-told : (key : KeyEvent) (alt : Bool) → told_event (with_alt key alt) Ground false ≡ (with_alt key alt ∷ [], fresh_decoder)
 unfolding read
 key-told key alt = refl
 
@@ -267,8 +267,8 @@ ground-first b = refl
 no-escape : (c : ℕ) → is_control c ≡ false → c ≢ 27
 no-escape c plain e = grind (arith, nat_tests)
 
-pub escape-reached : (rest : List ℕ) → decoded untouched (27 ∷ rest) ≡ decoded (at false Escape) rest
-unfolding decoded fed_byte stepped first
+pub escape-reached : (rest : List ℕ) → decoded fresh_decoder (27 ∷ rest) ≡ decoded (at false Escape) rest
+unfolding decoded byte_told stepped first
 escape-reached rest = refl
 
 pub character-gives : (c : ℕ) → IsScalar c → is_control c ≡ false → Gives (encode c) (with_alt (typed_key c) false ∷ [])

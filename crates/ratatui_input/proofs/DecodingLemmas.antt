@@ -14,20 +14,20 @@ use Rattle.ratatui_input.specs.declared.decoder.Next.TheVariants.{Whole, More, A
 use Rattle.ratatui_input.specs.Keys.{with_alt, typed_key}
 use Rattle.ratatui_input.specs.Sequences.{pushed}
 use Rattle.ratatui_input.specs.Decoding.{Told, stepped, first, after_escape, after_bracket, in_sequence, after_single, after_function, in_character, after_click, cut, read}
-use Rattle.ratatui_input.specs.Decoding.{told_event, fresh, after_cut, fed_byte, fed_next, decoded, next_told, escaped, some_list, settled, settled_single}
-use Rattle.ratatui_input.specs.Encodings.{untouched, settled_after}
+use Rattle.ratatui_input.specs.Decoding.{told_event, fresh, after_cut, byte_told, fed_next, decoded, next_told, escaped, some_list, settled, settled_single}
+use Rattle.ratatui_input.specs.Encodings.{fresh_decoder, settled_after}
 
 -- bytes in two pieces give what they give at once
 pub decoded-append : (d : Decoder) (a b : List ℕ) → decoded d (a ++ b) ≡ next_told (decoded d a) b
 unfolding decoded
 decoded-append d [] b = refl
 decoded-append d (x ∷ a) b =
-    ap (λ (t : Told). ((fed_byte d x).0 ++ t.0, t.1)) (decoded-append (fed_byte d x).1 a b)
-    ∙ ap (λ (es : List Event). (es, (decoded (decoded (fed_byte d x).1 a).1 b).1)) (sym (append_assoc (fed_byte d x).0 (decoded (fed_byte d x).1 a).0 (decoded (decoded (fed_byte d x).1 a).1 b).0))
+    ap (λ (t : Told). ((byte_told d x).0 ++ t.0, t.1)) (decoded-append (byte_told d x).1 a b)
+    ∙ ap (λ (es : List Event). (es, (decoded (decoded (byte_told d x).1 a).1 b).1)) (sym (append_assoc (byte_told d x).0 (decoded (byte_told d x).1 a).0 (decoded (decoded (byte_told d x).1 a).1 b).0))
 
 -- whatever has come, ESC begins anew
-pub fed-escape : (state : State) (is_pasting : Bool) → fed_byte (record { state = state; is_pasting = is_pasting }) 27 ≡ escaped (cut state) is_pasting
-unfolding fed_byte stepped first after_escape after_bracket in_sequence after_single after_function in_character after_click cut pushed
+pub fed-escape : (state : State) (is_pasting : Bool) → byte_told (record { state = state; is_pasting = is_pasting }) 27 ≡ escaped (cut state) is_pasting
+unfolding byte_told stepped first after_escape after_bracket in_sequence after_single after_function in_character after_click cut pushed
 fed-escape Ground p = refl
 fed-escape Escape p = refl
 fed-escape (Single n) p = refl
@@ -58,8 +58,8 @@ cut-plain (Character q) = refl
 
 -- from ESC on all is read as if nothing had come
 pub anew-from-escape : (state : State) (rest : List ℕ) → decoded (record { state = state; is_pasting = false }) (27 ∷ rest)
-    ≡ (some_list (cut state) ++ (decoded untouched (27 ∷ rest)).0, (decoded untouched (27 ∷ rest)).1)
-unfolding decoded fed_byte stepped first
+    ≡ (some_list (cut state) ++ (decoded fresh_decoder (27 ∷ rest)).0, (decoded fresh_decoder (27 ∷ rest)).1)
+unfolding decoded byte_told stepped first
 anew-from-escape state rest = ap (λ (t : Told). let r = decoded t.1 rest in (t.0 ++ r.0, r.1)) (fed-escape state false ∙ cut-plain state)
 
 -- ---- at most two events
@@ -78,8 +78,8 @@ next-two (Whole event) state b p = omega arith
 next-two (More further) state b p = omega arith
 next-two Apart state b p = after_cut-two (cut state) b p
 
-pub fed-two : (d : Decoder) (b : ℕ) → length (fed_byte d b).0 ≤ 2
-unfolding fed_byte
+pub fed-two : (d : Decoder) (b : ℕ) → length (byte_told d b).0 ≤ 2
+unfolding byte_told
 fed-two d b = next-two (stepped d.state b) d.state b d.is_pasting
 
 -- ---- settling
@@ -107,14 +107,14 @@ settled-others (ClickButton b) p x y z = refl
 settled-others (ClickColumn b c) p x y z = refl
 settled-others (Character q) p x y z = refl
 
-pub settled-escape : settled_after (27 ∷ []) ≡ (Key (pressed Esc (held 0)) ∷ [], untouched)
-unfolding decoded fed_byte stepped first settled read
+pub settled-escape : settled_after (27 ∷ []) ≡ (Key (pressed Esc (held 0)) ∷ [], fresh_decoder)
+unfolding decoded byte_told stepped first settled read
 settled-escape = refl
 
-pub settled-bracket : settled_after (27 ∷ 91 ∷ []) ≡ (with_alt (typed_key 91) true ∷ [], untouched)
-unfolding decoded fed_byte stepped first after_escape settled read
+pub settled-bracket : settled_after (27 ∷ 91 ∷ []) ≡ (with_alt (typed_key 91) true ∷ [], fresh_decoder)
+unfolding decoded byte_told stepped first after_escape settled read
 settled-bracket = refl
 
-pub settled-single : settled_after (27 ∷ 79 ∷ []) ≡ (with_alt (typed_key 79) true ∷ [], untouched)
-unfolding decoded fed_byte stepped first after_escape settled read
+pub settled-single : settled_after (27 ∷ 79 ∷ []) ≡ (with_alt (typed_key 79) true ∷ [], fresh_decoder)
+unfolding decoded byte_told stepped first after_escape settled read
 settled-single = refl

@@ -5,12 +5,12 @@ use Rattle.ratatui_input.specs.declared.decoder.Next.TheVariants.{Whole}
 use Rattle.ratatui_events.specs.declared.event.Event.{Event}
 use Rattle.ratatui_input.specs.Keys.{typed_key, with_alt}
 use Rattle.ratatui_input.specs.Decoding.{Told, first, decoded, next_told}
-use Rattle.ratatui_input.specs.Encodings.{untouched, Gives}
+use Rattle.ratatui_input.specs.Encodings.{fresh_decoder, Gives}
 use Rattle.ratatui_input.proofs.DecodingLemmas.{decoded-append}
 
 -- what stands for events stands for them whatever follows
-pub gives-before : (a rest : List ℕ) (xs : List Event) → Gives a xs → decoded untouched (a ++ rest) ≡ (xs ++ (decoded untouched rest).0, (decoded untouched rest).1)
-gives-before a rest xs h = decoded-append untouched a rest ∙ ap (λ (t : Told). next_told t rest) h.all
+pub gives-before : (a rest : List ℕ) (xs : List Event) → Gives a xs → decoded fresh_decoder (a ++ rest) ≡ (xs ++ (decoded fresh_decoder rest).0, (decoded fresh_decoder rest).1)
+gives-before a rest xs h = decoded-append fresh_decoder a rest ∙ ap (λ (t : Told). next_told t rest) h.all
 
 -- and so do bytes of several events, one after the other
 pub gives-append : (a b : List ℕ) (xs ys : List Event) → Gives a xs → Gives b ys → Gives (a ++ b) (xs ++ ys)

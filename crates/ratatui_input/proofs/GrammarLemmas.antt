@@ -20,12 +20,12 @@ use Rattle.ratatui_input.specs.declared.decoder.Next.TheVariants.{Whole, More}
 use Rattle.ratatui_input.specs.declared.sequence.Sequence.{Sequence}
 use Rattle.ratatui_input.specs.declared.sequence.Source.TheVariants.{Keys, Mouse as FromMouse}
 use Rattle.ratatui_input.specs.Keys.{key_at, code_key, tab_key}
-use Rattle.ratatui_input.specs.Mouse.{mouse_kind, mouse_event, clicked}
+use Rattle.ratatui_input.specs.Mouse.{mouse_kind, mouse_event, kind_told}
 use Rattle.ratatui_input.specs.Sequences.{sequence_event, keys_event, pointer_event, tilde_event, code_event, code_key_event, pushed, digit_pushed, size_event, position_event, letter_event, single_event, key_event, kind_of}
-use Rattle.ratatui_input.specs.Decoding.{Told, stepped, first, after_escape, after_bracket, in_sequence, after_single, after_function, after_click, cut, read, fed_byte, decoded, some_list}
-use Rattle.ratatui_input.specs.Encodings.{untouched, Gives}
+use Rattle.ratatui_input.specs.Decoding.{Told, stepped, first, after_escape, after_bracket, in_sequence, after_single, after_function, after_click, cut, read, byte_told, decoded, some_list}
+use Rattle.ratatui_input.specs.Encodings.{fresh_decoder, Gives}
 use Rattle.ratatui_input.specs.KeyTables.{IsLetter, IsTilde, IsCode}
-use Rattle.ratatui_input.specs.Grammar.{Encodes, WritesEvent, Held, AreCodes, held_down, held_told, csi, two_numbers, three_numbers, key_told, letter_told, code_told, mouse_told}
+use Rattle.ratatui_input.specs.Grammar.{Encodes, WritesNumber, Held, AreCodes, held_down, held_told, csi, two_numbers, three_numbers, key_told, letter_told, code_told, mouse_told}
 use Rattle.ratatui_input.specs.Grammar.{character, control, alt_character, alt_control, by_letter, by_letter_held, by_single, single_enter, by_console}
 use Rattle.ratatui_input.specs.Grammar.{by_tilde, by_tilde_held, by_code, by_code_held, by_codes, by_other, by_numbers_down, by_numbers_up, by_bytes, by_plain_numbers}
 use Rattle.ratatui_input.specs.Grammar.{focus_gained, focus_lost, size, position}
@@ -71,7 +71,7 @@ record HeldRead (body : List ℕ) (n m : ℕ) (kind : KeyEventKind) : Type 0 whe
   leads : Leads Bracket body (Numbers (seq Keys 1 parts n m 0 number))
   is : kind_of number ≡ kind
 
-held-read : {ds tail : List ℕ} {n m : ℕ} {kind : KeyEventKind} → WritesEvent ds n → n < 2 ^ 32 → Held tail m kind → m ≤ 256 → HeldRead (ds ++ tail) n m kind
+held-read : {ds tail : List ℕ} {n m : ℕ} {kind : KeyEventKind} → WritesNumber ds n → n < 2 ^ 32 → Held tail m kind → m ≤ 256 → HeldRead (ds ++ tail) n m kind
 held-read {ds = ds} {n = n} {m = m} w small (held_down {es = es} v) low =
     record { parts = 0; number = 0; leads = bracket-two ds es n m w small v (omega arith); is = refl }
 held-read {ds = ds} {n = n} {m = m} w small (held_told {es = es} {ks = ks} {k = k} v u tiny) low = record {
@@ -83,11 +83,11 @@ held-read {ds = ds} {n = n} {m = m} w small (held_told {es = es} {ks = ks} {k = 
   is = refl;
 }
 
-letter-read : {b n : ℕ} {code : KeyCode} {ds : List ℕ} → IsLetter b code → WritesEvent ds n → n ≤ 256 → Gives (csi ds b) (letter_told code n Press ∷ [])
+letter-read : {b n : ℕ} {code : KeyCode} {ds : List ℕ} → IsLetter b code → WritesNumber ds n → n ≤ 256 → Gives (csi ds b) (letter_told code n Press ∷ [])
 letter-read {b = b} {n = n} {code = code} {ds = ds} letter w small =
     csi-alone ds n b (letter_told code n Press) w (omega arith) (letter-ends letter) (letter-alone letter n ∙ letter-is letter 0 n small) (key-plain _)
 
-letter-held-read : {b m : ℕ} {code : KeyCode} {ds tail : List ℕ} {kind : KeyEventKind} → IsLetter b code → WritesEvent ds 1 → Held tail m kind → m ≤ 256
+letter-held-read : {b m : ℕ} {code : KeyCode} {ds tail : List ℕ} {kind : KeyEventKind} → IsLetter b code → WritesNumber ds 1 → Held tail m kind → m ≤ 256
     → Gives (csi (ds ++ tail) b) (letter_told code m kind ∷ [])
 letter-held-read {b = b} {m = m} {code = code} {ds = ds} {tail = tail} {kind = kind} letter w h small =
     let r = held-read w (omega arith) h small in
@@ -95,21 +95,21 @@ letter-held-read {b = b} {m = m} {code = code} {ds = ds} {tail = tail} {kind = k
     csi-gives (ds ++ tail) (seq Keys 1 r.parts 1 m 0 r.number) b (letter_told code m kind) r.leads ending.low ending.high
     (letter-held letter r.parts m r.number ∙ letter-is letter r.number m small ∙ ap (letter_told code m) r.is) (key-plain _)
 
-single-reached : (rest : List ℕ) → decoded untouched (27 ∷ 79 ∷ rest) ≡ decoded (at false (Single 0)) rest
-unfolding decoded fed_byte stepped first after_escape
+single-reached : (rest : List ℕ) → decoded fresh_decoder (27 ∷ 79 ∷ rest) ≡ decoded (at false (Single 0)) rest
+unfolding decoded byte_told stepped first after_escape
 single-reached rest = refl
 
 single-last : (n b : ℕ) → 64 ≤ b → b ≤ 126 → stepped (Single n) b ≡ Whole (single_event n b)
 unfolding stepped after_single
 single-last n b low high = grind (arith, common_steps)
 
-single-gives : (ds : List ℕ) (n b : ℕ) (event : Event) → WritesEvent ds n → n < 2 ^ 32 → 64 ≤ b → b ≤ 126 → single_event n b ≡ event → IsPlain event
+single-gives : (ds : List ℕ) (n b : ℕ) (event : Event) → WritesNumber ds n → n < 2 ^ 32 → 64 ≤ b → b ≤ 126 → single_event n b ≡ event → IsPlain event
     → Gives (27 ∷ 79 ∷ (ds ++ (b ∷ []))) (event ∷ [])
 single-gives ds n b event w small low high e plain = record {
   all = single-reached (ds ++ (b ∷ [])) ∙ Leads.to (single-read ds n w small) false (b ∷ []) ∙ ends-plain (Single n) b event (single-last n b low high ∙ ap Whole e) plain;
 }
 
-single-read-letter : {b n : ℕ} {code : KeyCode} {ds : List ℕ} → IsLetter b code → WritesEvent ds n → n ≤ 256
+single-read-letter : {b n : ℕ} {code : KeyCode} {ds : List ℕ} → IsLetter b code → WritesNumber ds n → n ≤ 256
     → Gives (27 ∷ 79 ∷ (ds ++ (b ∷ []))) (letter_told code n Press ∷ [])
 single-read-letter {b = b} {n = n} {code = code} {ds = ds} letter w small =
     let ending = letter-ends letter in
@@ -119,12 +119,12 @@ enter-told : (n : ℕ) → single_event n 77 ≡ key_event 0 Enter false n
 unfolding single_event letter_event key_at
 enter-told n = refl
 
-single-read-enter : {n : ℕ} {ds : List ℕ} → WritesEvent ds n → n ≤ 256 → Gives (27 ∷ 79 ∷ (ds ++ (77 ∷ []))) (key_told Enter false n Press ∷ [])
+single-read-enter : {n : ℕ} {ds : List ℕ} → WritesNumber ds n → n ≤ 256 → Gives (27 ∷ 79 ∷ (ds ++ (77 ∷ []))) (key_told Enter false n Press ∷ [])
 single-read-enter {n = n} {ds = ds} w small =
     single-gives ds n 77 (key_told Enter false n Press) w (omega arith) (omega arith) (omega arith) (enter-told n ∙ key-is 0 Enter false n small) (key-plain _)
 
-function-reached : (rest : List ℕ) → decoded untouched (27 ∷ 91 ∷ 91 ∷ rest) ≡ decoded (at false Function) rest
-unfolding decoded fed_byte stepped first after_escape after_bracket
+function-reached : (rest : List ℕ) → decoded fresh_decoder (27 ∷ 91 ∷ 91 ∷ rest) ≡ decoded (at false Function) rest
+unfolding decoded byte_told stepped first after_escape after_bracket
 function-reached rest = refl
 
 console-last : (b : ℕ) → 65 ≤ b → b ≤ 69 → stepped Function b ≡ Whole (Key (pressed (F (b - 64)) (held 0)))
@@ -137,11 +137,11 @@ console-read b low high = record { all = function-reached (b ∷ []) ∙ ends-pl
 tilde-ends : EndsSequence 126
 tilde-ends = record { low = omega arith; high = omega arith; no_bracket = λ e. omega (arith, e); no_click = λ e. omega (arith, e) }
 
-tilde-read : {n : ℕ} {code : KeyCode} {ds : List ℕ} → IsTilde n code → WritesEvent ds n → Gives (csi ds 126) (key_told code false 0 Press ∷ [])
+tilde-read : {n : ℕ} {code : KeyCode} {ds : List ℕ} → IsTilde n code → WritesNumber ds n → Gives (csi ds 126) (key_told code false 0 Press ∷ [])
 tilde-read {n = n} {code = code} {ds = ds} tilde w =
     csi-alone ds n 126 (key_told code false 0 Press) w (tilde-small tilde) tilde-ends (tilde-told tilde 0 0 0 0 0 ∙ key-is 0 code false 0 (omega arith)) (key-plain _)
 
-tilde-held-read : {n m : ℕ} {code : KeyCode} {ds tail : List ℕ} {kind : KeyEventKind} → IsTilde n code → WritesEvent ds n → Held tail m kind → m ≤ 256
+tilde-held-read : {n m : ℕ} {code : KeyCode} {ds tail : List ℕ} {kind : KeyEventKind} → IsTilde n code → WritesNumber ds n → Held tail m kind → m ≤ 256
     → Gives (csi (ds ++ tail) 126) (key_told code false m kind ∷ [])
 tilde-held-read {n = n} {m = m} {code = code} {ds = ds} {tail = tail} {kind = kind} tilde w h small =
     let r = held-read w (tilde-small tilde) h small in
@@ -164,12 +164,12 @@ code-third n m = refl
 code-ends : EndsSequence 117
 code-ends = record { low = omega arith; high = omega arith; no_bracket = λ e. omega (arith, e); no_click = λ e. omega (arith, e) }
 
-code-read : {n : ℕ} {code : KeyCode} {is_keypad : Bool} {ds : List ℕ} → IsCode n code is_keypad → WritesEvent ds n
+code-read : {n : ℕ} {code : KeyCode} {is_keypad : Bool} {ds : List ℕ} → IsCode n code is_keypad → WritesNumber ds n
     → Gives (csi ds 117) (code_told code is_keypad 0 Press ∷ [])
 code-read {n = n} {code = code} {is_keypad = is_keypad} {ds = ds} h w =
     csi-alone ds n 117 (code_told code is_keypad 0 Press) w (code-small h) code-ends (code-first 0 0 n 0 0 0 ∙ code-event-is h 0 0 (omega arith)) (key-plain _)
 
-code-held-read : {n m : ℕ} {code : KeyCode} {is_keypad : Bool} {ds tail : List ℕ} {kind : KeyEventKind} → IsCode n code is_keypad → WritesEvent ds n → Held tail m kind
+code-held-read : {n m : ℕ} {code : KeyCode} {is_keypad : Bool} {ds tail : List ℕ} {kind : KeyEventKind} → IsCode n code is_keypad → WritesNumber ds n → Held tail m kind
     → m ≤ 256 → Gives (csi (ds ++ tail) 117) (code_told code is_keypad m kind ∷ [])
 code-held-read {n = n} {m = m} {code = code} {is_keypad = is_keypad} {ds = ds} {tail = tail} {kind = kind} c w h small =
     let r = held-read w (code-small c) h small in
@@ -292,7 +292,7 @@ text-begins p n m k = refl
 whole-codes : (ds codes tail text : List ℕ) → (ds ++ (58 ∷ [])) ++ (codes ++ (tail ++ (59 ∷ text))) ≡ ds ++ (58 ∷ (codes ++ (tail ++ (59 ∷ text))))
 whole-codes ds codes tail text = append_assoc ds (58 ∷ []) (codes ++ (tail ++ (59 ∷ text)))
 
-codes-held-read : {n m : ℕ} {code : KeyCode} {is_keypad : Bool} {ds tail : List ℕ} {kind : KeyEventKind} (codes text : List ℕ) → IsCode n code is_keypad → WritesEvent ds n
+codes-held-read : {n m : ℕ} {code : KeyCode} {is_keypad : Bool} {ds tail : List ℕ} {kind : KeyEventKind} (codes text : List ℕ) → IsCode n code is_keypad → WritesNumber ds n
     → AreCodes codes → Held tail m kind → m ≤ 256 → AreCodes text
     → Gives (csi (ds ++ (58 ∷ (codes ++ (tail ++ (59 ∷ text))))) 117) (code_told code is_keypad m kind ∷ [])
 codes-held-read {n = n} {m = m} {code = code} {is_keypad = is_keypad} {ds = ds} {tail = tail} {kind = kind} codes text c w further_codes h small text_codes =
@@ -313,7 +313,7 @@ codes-held-read {n = n} {m = m} {code = code} {is_keypad = is_keypad} {ds = ds} 
     (omega arith) (omega arith)
     (code-first 2 last.parts n m last.third held_part.number ∙ code-event-is c held_part.number m small ∙ ap (code_told code is_keypad m) held_part.is) (key-plain _)
 
-other-read : {n m : ℕ} {code : KeyCode} {is_keypad : Bool} {ds es fs : List ℕ} → IsCode n code is_keypad → WritesEvent ds 27 → WritesEvent es m → m ≤ 256 → WritesEvent fs n
+other-read : {n m : ℕ} {code : KeyCode} {is_keypad : Bool} {ds es fs : List ℕ} → IsCode n code is_keypad → WritesNumber ds 27 → WritesNumber es m → m ≤ 256 → WritesNumber fs n
     → Gives (csi (three_numbers ds es fs) 126) (code_told code is_keypad m Press ∷ [])
 other-read {n = n} {m = m} {code = code} {is_keypad = is_keypad} {ds = ds} {es = es} {fs = fs} c w v small u =
     csi-gives (three_numbers ds es fs) (seq Keys 2 0 27 m n 0) 126 (code_told code is_keypad m Press)
@@ -325,8 +325,8 @@ mouse-is : (n x y : ℕ) (is_up : Bool) (kind : MouseEventKind) → n ≤ 255 �
     → mouse_event n x y is_up ≡ mouse_told kind n x y
 unfolding mouse_event
 mouse-is n x y is_up kind a b c e =
-    let within : mouse_event n x y is_up ≡ clicked (mouse_kind n is_up) n x y = grind (arith, nat_tests) in
-    within ∙ ap (λ (o : Option MouseEventKind). clicked o n x y) e
+    let within : mouse_event n x y is_up ≡ kind_told (mouse_kind n is_up) n x y = grind (arith, nat_tests) in
+    within ∙ ap (λ (o : Option MouseEventKind). kind_told o n x y) e
 
 pointer-down : (n x y : ℕ) → sequence_event (seq FromMouse 2 0 n x y 0) 77 ≡ mouse_event n x y false
 unfolding sequence_event pointer_event
@@ -340,27 +340,27 @@ plain-numbers : (n x y : ℕ) → sequence_event (seq Keys 2 0 (n + 32) x y 0) 7
 unfolding sequence_event keys_event
 plain-numbers n x y = grind (arith, nat_tests)
 
-down-read : {n x y : ℕ} {ds es fs : List ℕ} {kind : MouseEventKind} → WritesEvent ds n → WritesEvent es x → WritesEvent fs y → n ≤ 255 → x ≤ 65535 → y ≤ 65535
+down-read : {n x y : ℕ} {ds es fs : List ℕ} {kind : MouseEventKind} → WritesNumber ds n → WritesNumber es x → WritesNumber fs y → n ≤ 255 → x ≤ 65535 → y ≤ 65535
     → mouse_kind n false ≡ Some kind → Gives (csi (60 ∷ three_numbers ds es fs) 77) (mouse_told kind n x y ∷ [])
 down-read {n = n} {x = x} {y = y} {ds = ds} {es = es} {fs = fs} {kind = kind} w v u a b c e =
     csi-gives (60 ∷ three_numbers ds es fs) (seq FromMouse 2 0 n x y 0) 77 (mouse_told kind n x y)
     (mouse-three ds es fs n x y w (omega arith) v (less x b) u (less y c)) (omega arith) (omega arith) (pointer-down n x y ∙ mouse-is n x y false kind a b c e) (mouse-plain _)
 
-up-read : {n x y : ℕ} {ds es fs : List ℕ} {kind : MouseEventKind} → WritesEvent ds n → WritesEvent es x → WritesEvent fs y → n ≤ 255 → x ≤ 65535 → y ≤ 65535
+up-read : {n x y : ℕ} {ds es fs : List ℕ} {kind : MouseEventKind} → WritesNumber ds n → WritesNumber es x → WritesNumber fs y → n ≤ 255 → x ≤ 65535 → y ≤ 65535
     → mouse_kind n true ≡ Some kind → Gives (csi (60 ∷ three_numbers ds es fs) 109) (mouse_told kind n x y ∷ [])
 up-read {n = n} {x = x} {y = y} {ds = ds} {es = es} {fs = fs} {kind = kind} w v u a b c e =
     csi-gives (60 ∷ three_numbers ds es fs) (seq FromMouse 2 0 n x y 0) 109 (mouse_told kind n x y)
     (mouse-three ds es fs n x y w (omega arith) v (less x b) u (less y c)) (omega arith) (omega arith) (pointer-up n x y ∙ mouse-is n x y true kind a b c e) (mouse-plain _)
 
-plain-numbers-read : {n x y : ℕ} {ds es fs : List ℕ} {kind : MouseEventKind} → WritesEvent ds (n + 32) → WritesEvent es x → WritesEvent fs y → n ≤ 255 → x ≤ 65535 → y ≤ 65535
+plain-numbers-read : {n x y : ℕ} {ds es fs : List ℕ} {kind : MouseEventKind} → WritesNumber ds (n + 32) → WritesNumber es x → WritesNumber fs y → n ≤ 255 → x ≤ 65535 → y ≤ 65535
     → mouse_kind n false ≡ Some kind → Gives (csi (three_numbers ds es fs) 77) (mouse_told kind n x y ∷ [])
 plain-numbers-read {n = n} {x = x} {y = y} {ds = ds} {es = es} {fs = fs} {kind = kind} w v u a b c e =
     csi-gives (three_numbers ds es fs) (seq Keys 2 0 (n + 32) x y 0) 77 (mouse_told kind n x y)
     (bracket-three ds es fs (n + 32) x y w (omega arith) v (less x b) u (less y c)) (omega arith) (omega arith)
     (plain-numbers n x y ∙ mouse-is n x y false kind a b c e) (mouse-plain _)
 
-click-reached : (rest : List ℕ) → decoded untouched (27 ∷ 91 ∷ 77 ∷ rest) ≡ decoded (at false Click) rest
-unfolding decoded fed_byte stepped first after_escape after_bracket
+click-reached : (rest : List ℕ) → decoded fresh_decoder (27 ∷ 91 ∷ 77 ∷ rest) ≡ decoded (at false Click) rest
+unfolding decoded byte_told stepped first after_escape after_bracket
 click-reached rest = refl
 
 click-first : (n : ℕ) → stepped Click (n + 32) ≡ More (ClickButton (n + 32))
@@ -396,7 +396,7 @@ lost-told : sequence_event (seq Keys 0 0 0 0 0 0) 79 ≡ FocusLost
 unfolding sequence_event keys_event
 lost-told = refl
 
-no-digits : WritesEvent [] 0
+no-digits : WritesNumber [] 0
 no-digits = record { digits = tt; number = refl }
 
 gained-read : Gives (csi [] 73) (FocusGained ∷ [])
@@ -411,7 +411,7 @@ size-told : (n rows columns : ℕ) → (n ≡ 8) ⊎ (n ≡ 48) → rows ≤ 655
 unfolding sequence_event keys_event size_event
 size-told n rows columns h a b = grind (arith, nat_tests)
 
-size-read : {n rows columns : ℕ} {ds es fs : List ℕ} → WritesEvent ds n → (n ≡ 8) ⊎ (n ≡ 48) → WritesEvent es rows → rows ≤ 65535 → WritesEvent fs columns → columns ≤ 65535
+size-read : {n rows columns : ℕ} {ds es fs : List ℕ} → WritesNumber ds n → (n ≡ 8) ⊎ (n ≡ 48) → WritesNumber es rows → rows ≤ 65535 → WritesNumber fs columns → columns ≤ 65535
     → Gives (csi (three_numbers ds es fs) 116) (Size columns rows ∷ [])
 size-read {n = n} {rows = rows} {columns = columns} {ds = ds} {es = es} {fs = fs} w h v a u b =
     csi-gives (three_numbers ds es fs) (seq Keys 2 0 n rows columns 0) 116 (Size columns rows)
@@ -421,7 +421,7 @@ position-told : (row column : ℕ) → row ≢ 1 → row ≤ 65535 → column �
 unfolding sequence_event keys_event position_event
 position-told row column h a b = grind (arith, nat_tests)
 
-position-read : {row column : ℕ} {ds es : List ℕ} → WritesEvent ds row → row ≢ 1 → row ≤ 65535 → WritesEvent es column → column ≤ 65535
+position-read : {row column : ℕ} {ds es : List ℕ} → WritesNumber ds row → row ≢ 1 → row ≤ 65535 → WritesNumber es column → column ≤ 65535
     → Gives (csi (two_numbers ds es) 82) (Position (column - 1) (row - 1) ∷ [])
 position-read {row = row} {column = column} {ds = ds} {es = es} w h a v b =
     csi-gives (two_numbers ds es) (seq Keys 1 0 row column 0 0) 82 (Position (column - 1) (row - 1)) (bracket-two ds es row column w (less row a) v (less column b))
@@ -455,13 +455,13 @@ encodes-read (position w n a v b) = position-read w n a v b
 
 -- among others
 pub encodes-among : (before bytes after : List ℕ) (events : List Event) (event : Event) → Gives before events → Encodes bytes event
-    → decoded untouched ((before ++ bytes) ++ after) ≡ ((events ++ (event ∷ [])) ++ (decoded untouched after).0, (decoded untouched after).1)
+    → decoded fresh_decoder ((before ++ bytes) ++ after) ≡ ((events ++ (event ∷ [])) ++ (decoded fresh_decoder after).0, (decoded fresh_decoder after).1)
 encodes-among before bytes after events event h e =
     gives-before (before ++ bytes) after (events ++ (event ∷ [])) (gives-append before bytes events (event ∷ []) h (encodes-read e))
 
 -- after whatever has come of an event that isn't whole
 pub encodes-anyhow : (state : State) (bytes after : List ℕ) (event : Event) → Encodes (27 ∷ bytes) event
-    → decoded (at false state) (27 ∷ (bytes ++ after)) ≡ (some_list (cut state) ++ (event ∷ (decoded untouched after).0), (decoded untouched after).1)
+    → decoded (at false state) (27 ∷ (bytes ++ after)) ≡ (some_list (cut state) ++ (event ∷ (decoded fresh_decoder after).0), (decoded fresh_decoder after).1)
 encodes-anyhow state bytes after event e =
     anew-from-escape state (bytes ++ after)
     ∙ ap (λ (t : Told). (some_list (cut state) ++ t.0, t.1)) (gives-before (27 ∷ bytes) after (event ∷ []) (encodes-read e))

@@ -21,7 +21,7 @@ use Rattle.ratatui_input.specs.declared.decoder.Partial.{Partial}
 use Rattle.ratatui_input.specs.Encodings.{Gives}
 use Rattle.ratatui_input.specs.KeyTables.{IsLetter, IsTilde, IsCode}
 use Rattle.ratatui_input.specs.KeyTables.{letter_up, letter_down, letter_right, letter_left, letter_keypad_begin, letter_end, letter_home, letter_f1, letter_f2, letter_f3, letter_f4, letter_back_tab}
-use Rattle.ratatui_input.specs.Grammar.{WritesEvent, csi, two_numbers, IsMark, AreNumbers, AreInside, StandsForNothing, stray, marked, held_by_letter, held_by_tilde, held_by_code, nameless, numberless, IsNameless, IsNoTilde}
+use Rattle.ratatui_input.specs.Grammar.{WritesNumber, csi, two_numbers, IsMark, AreNumbers, AreInside, StandsForNothing, stray, marked, held_by_letter, held_by_tilde, held_by_code, nameless, numberless, IsNameless, IsNoTilde}
 use Rattle.ratatui_input.proofs.TableLemmas.{none-above, seq, EndsSequence, letter-held, letter-ends, tilde-told, tilde-small, code-told, code-small}
 use Rattle.ratatui_input.proofs.StepLemmas.{csi-alone, Leads, leads-none, leads-cons, leads-append, IsPlain, ends-plain, csi-gives, bracket-two}
 use Rattle.ratatui_input.proofs.GrammarLemmas.{code-first}
@@ -204,20 +204,20 @@ letter-too-many letter_f3 k m h = too-many k _ false m h
 letter-too-many letter_f4 k m h = too-many k _ false m h
 letter-too-many letter_back_tab k m h = shift-too-many k m h
 
-letter-told : {b m : ℕ} {code : KeyCode} {ds es : List ℕ} → IsLetter b code → WritesEvent ds 1 → WritesEvent es m → 256 < m → m < 2 ^ 32
+letter-told : {b m : ℕ} {code : KeyCode} {ds es : List ℕ} → IsLetter b code → WritesNumber ds 1 → WritesNumber es m → 256 < m → m < 2 ^ 32
     → Gives (csi (two_numbers ds es) b) (Unknown ∷ [])
 letter-told {b = b} {m = m} {ds = ds} {es = es} letter w v many small =
     let ending = letter-ends letter in
     csi-gives (two_numbers ds es) (seq Keys 1 0 1 m 0 0) b Unknown (bracket-two ds es 1 m w (omega arith) v small) ending.low ending.high
     (letter-held letter 0 m 0 ∙ letter-too-many letter 0 m many) unknown-plain
 
-tilde-nothing : {n m : ℕ} {code : KeyCode} {ds es : List ℕ} → IsTilde n code → WritesEvent ds n → WritesEvent es m → 256 < m → m < 2 ^ 32
+tilde-nothing : {n m : ℕ} {code : KeyCode} {ds es : List ℕ} → IsTilde n code → WritesNumber ds n → WritesNumber es m → 256 < m → m < 2 ^ 32
     → Gives (csi (two_numbers ds es) 126) (Unknown ∷ [])
 tilde-nothing {n = n} {m = m} {code = code} {ds = ds} {es = es} tilde w v many small =
     csi-gives (two_numbers ds es) (seq Keys 1 0 n m 0 0) 126 Unknown (bracket-two ds es n m w (tilde-small tilde) v small) (omega arith) (omega arith)
     (tilde-told tilde 1 0 m 0 0 ∙ too-many 0 code false m many) unknown-plain
 
-code-nothing : {n m : ℕ} {code : KeyCode} {is_keypad : Bool} {ds es : List ℕ} → IsCode n code is_keypad → WritesEvent ds n → WritesEvent es m → 256 < m → m < 2 ^ 32
+code-nothing : {n m : ℕ} {code : KeyCode} {is_keypad : Bool} {ds es : List ℕ} → IsCode n code is_keypad → WritesNumber ds n → WritesNumber es m → 256 < m → m < 2 ^ 32
     → Gives (csi (two_numbers ds es) 117) (Unknown ∷ [])
 code-nothing {n = n} {m = m} {code = code} {is_keypad = is_keypad} {ds = ds} {es = es} c w v many small =
     csi-gives (two_numbers ds es) (seq Keys 1 0 n m 0 0) 117 Unknown (bracket-two ds es n m w (code-small c) v small) (omega arith) (omega arith)
@@ -236,7 +236,7 @@ nameless-event : (n b : ℕ) → IsNameless b → sequence_event (seq Keys 0 0 n
 unfolding sequence_event keys_event letter_event
 nameless-event n b h = grind (arith, nat_tests)
 
-nameless-told : {b n : ℕ} {ds : List ℕ} → IsNameless b → WritesEvent ds n → n < 2 ^ 32 → Gives (csi ds b) (Unknown ∷ [])
+nameless-told : {b n : ℕ} {ds : List ℕ} → IsNameless b → WritesNumber ds n → n < 2 ^ 32 → Gives (csi ds b) (Unknown ∷ [])
 nameless-told {b = b} {n = n} {ds = ds} h w small =
     csi-alone ds n b Unknown w small (nameless-bounds b h)
     (nameless-event n b h ∙ ap (λ (o : Option KeyCode). letter_code_event o 0 n) (nameless-key b h)) unknown-plain
@@ -258,7 +258,7 @@ numberless-event n h = grind (arith, nat_tests)
 tilde-ending : EndsSequence 126
 tilde-ending = record { low = omega arith; high = omega arith; no_bracket = λ e. omega (arith, e); no_click = λ e. omega (arith, e) }
 
-numberless-told : {n : ℕ} {ds : List ℕ} → IsNoTilde n → WritesEvent ds n → n < 2 ^ 32 → Gives (csi ds 126) (Unknown ∷ [])
+numberless-told : {n : ℕ} {ds : List ℕ} → IsNoTilde n → WritesNumber ds n → n < 2 ^ 32 → Gives (csi ds 126) (Unknown ∷ [])
 numberless-told {n = n} {ds = ds} h w small =
     csi-alone ds n 126 Unknown w small tilde-ending
     (numberless-event n h ∙ ap (λ (o : Option KeyCode). number_key_event o 0 0) (numberless-key n h)) unknown-plain

@@ -15,8 +15,8 @@ use Rattle.ratatui_input.specs.declared.decoder.Next.{Next}
 use Rattle.ratatui_input.specs.declared.decoder.Next.TheVariants.{Whole, More, Apart}
 use Rattle.ratatui_input.specs.Keys.{control_key, typed_key, with_alt}
 use Rattle.ratatui_input.specs.Sequences.{sequence_event, keys_event, tilde_event, pushed, digit_pushed}
-use Rattle.ratatui_input.specs.Decoding.{Told, stepped, first, after_escape, after_bracket, in_sequence, cut, read, fresh, after_cut, fed_byte, fed_next, decoded, next_told, pasted_code, settled, told_event}
-use Rattle.ratatui_input.specs.Encodings.{untouched, in_brackets, IsPlainText, IsTextCharacter, IsNoKey, AreNoKeys, HaveEnd}
+use Rattle.ratatui_input.specs.Decoding.{Told, stepped, first, after_escape, after_bracket, in_sequence, cut, read, fresh, after_cut, byte_told, fed_next, decoded, next_told, pasted_code, settled, told_event}
+use Rattle.ratatui_input.specs.Encodings.{fresh_decoder, in_brackets, IsPlainText, IsTextCharacter, IsNoKey, AreNoKeys, HaveEnd}
 use Rattle.ratatui_input.proofs.DecodingLemmas.{decoded-append}
 use Rattle.ratatui_input.proofs.StepLemmas.{at}
 use Rattle.ratatui_input.proofs.CharacterLemmas.{character-read, ground-begins, ground-first}
@@ -31,12 +31,12 @@ opening = 27 ∷ 91 ∷ 50 ∷ 48 ∷ 48 ∷ 126 ∷ []
 abbrev closing : List ℕ
 closing = 27 ∷ 91 ∷ 50 ∷ 48 ∷ 49 ∷ 126 ∷ []
 
-opened : decoded untouched opening ≡ (PasteBegun ∷ [], inside)
-unfolding decoded fed_byte stepped first after_escape after_bracket in_sequence read sequence_event keys_event tilde_event pushed digit_pushed
+opened : decoded fresh_decoder opening ≡ (PasteBegun ∷ [], inside)
+unfolding decoded byte_told stepped first after_escape after_bracket in_sequence read sequence_event keys_event tilde_event pushed digit_pushed
 opened = refl
 
-closed : decoded inside closing ≡ (PasteEnded ∷ [], untouched)
-unfolding decoded fed_byte stepped first after_escape after_bracket in_sequence read sequence_event keys_event tilde_event pushed digit_pushed
+closed : decoded inside closing ≡ (PasteEnded ∷ [], fresh_decoder)
+unfolding decoded byte_told stepped first after_escape after_bracket in_sequence read sequence_event keys_event tilde_event pushed digit_pushed
 closed = refl
 
 small : (u : Bool) (c : ℕ) → pasted_code (Char c) (if u then 1 else 0) ≡ Pasted c
@@ -44,15 +44,15 @@ small true c = refl
 small false c = refl
 
 tab-pasted : decoded inside (encode 9) ≡ (Pasted 9 ∷ [], inside)
-unfolding decoded fed_byte stepped first control_key read encode
+unfolding decoded byte_told stepped first control_key read encode
 tab-pasted = refl
 
 line-pasted : decoded inside (encode 10) ≡ (Pasted 10 ∷ [], inside)
-unfolding decoded fed_byte stepped first control_key read encode
+unfolding decoded byte_told stepped first control_key read encode
 line-pasted = refl
 
 return-pasted : decoded inside (encode 13) ≡ (Pasted 13 ∷ [], inside)
-unfolding decoded fed_byte stepped first control_key read encode
+unfolding decoded byte_told stepped first control_key read encode
 return-pasted = refl
 
 one-pasted : (c : ℕ) → IsTextCharacter c → decoded inside (encode c) ≡ (Pasted c ∷ [], inside)
@@ -70,9 +70,9 @@ text-pasted (c ∷ text) h =
     decoded-append inside (encode c) (encodes text) ∙ ap (λ (t : Told). next_told t (encodes text)) (one-pasted c h.0)
     ∙ ap (λ (t : Told). (Pasted c ∷ t.0, t.1)) (text-pasted text h.1)
 
-pub pasted-whole : (text : List ℕ) → IsPlainText text → decoded untouched (in_brackets text) ≡ (PasteBegun ∷ (map Pasted text ++ (PasteEnded ∷ [])), untouched)
+pub pasted-whole : (text : List ℕ) → IsPlainText text → decoded fresh_decoder (in_brackets text) ≡ (PasteBegun ∷ (map Pasted text ++ (PasteEnded ∷ [])), fresh_decoder)
 pasted-whole text h =
-    decoded-append untouched opening (encodes text ++ closing)
+    decoded-append fresh_decoder opening (encodes text ++ closing)
     ∙ ap (λ (t : Told). next_told t (encodes text ++ closing)) opened
     ∙ ap (λ (t : Told). (PasteBegun ∷ t.0, t.1)) (decoded-append inside (encodes text) closing
     ∙ ap (λ (t : Told). next_told t closing) (text-pasted text h) ∙ ap (λ (t : Told). (map Pasted text ++ t.0, t.1)) closed)
@@ -141,8 +141,8 @@ next-no_keys (Whole event) state b = (read-no_key event, tt)
 next-no_keys (More further) state b = tt
 next-no_keys Apart state b = after_cut-no_keys (cut state) b (cut-keeps state)
 
-pub fed-no_keys : (state : State) (b : ℕ) → AreNoKeys (fed_byte (at true state) b).0
-unfolding fed_byte
+pub fed-no_keys : (state : State) (b : ℕ) → AreNoKeys (byte_told (at true state) b).0
+unfolding byte_told
 fed-no_keys state b = next-no_keys (stepped state b) state b
 
 -- ---- a paste goes on until its end is told
@@ -183,8 +183,8 @@ next-goes_on (Whole event) state b = fresh-goes_on (Whole event)
 next-goes_on (More further) state b = inl refl
 next-goes_on Apart state b = after_cut-goes_on (cut state) b (cut-keeps state)
 
-pub fed-goes_on : (state : State) (b : ℕ) → GoesOn (fed_byte (at true state) b)
-unfolding fed_byte
+pub fed-goes_on : (state : State) (b : ℕ) → GoesOn (byte_told (at true state) b)
+unfolding byte_told
 fed-goes_on state b = next-goes_on (stepped state b) state b
 
 -- ---- settling within a paste

@@ -10,7 +10,7 @@ use Rattle.ratatui_events.specs.declared.event.Event.{Event}
 use Rattle.ratatui_input.specs.declared.decoder.Decoder.{Decoder}
 use Rattle.ratatui_input.specs.declared.reader.Kept.{Kept}
 use Rattle.ratatui_input.specs.declared.reader.EventReader.{EventReader}
-use Rattle.ratatui_input.specs.Decoding.{Told, fed_byte, decoded, next_told, settled, some_list}
+use Rattle.ratatui_input.specs.Decoding.{Told, byte_told, decoded, next_told, settled, some_list}
 use Rattle.ratatui_input.specs.Reading.{left_bytes, kept_told, TellsFirst, TellsNothing, unread, source, Reads, KeepsAll}
 use Rattle.ratatui_input.proofs.DecodingLemmas.{decoded-append}
 
@@ -47,7 +47,7 @@ told-byte d bytes next end h k =
     ∙ ap (λ (b : ℕ). b ∷ drop (next + 1) (take end bytes)) (get_or-take end bytes next 0 h)
 
 pub told-fed : (d : Decoder) (bytes : List ℕ) (next end : ℕ) (cut event : Option Event) (d' : Decoder) → next < end → next < length bytes
-    → (some_list cut ++ some_list event, d') ≡ fed_byte d (get_or bytes next 0)
+    → (some_list cut ++ some_list event, d') ≡ byte_told d (get_or bytes next 0)
     → kept_told (kept d None bytes next end)
     ≡ ((some_list cut ++ some_list event) ++ (kept_told (kept d' None bytes (next + 1) end)).0, (kept_told (kept d' None bytes (next + 1) end)).1)
 unfolding kept_told decoded
@@ -65,17 +65,17 @@ told-one d bytes next end (Some e) d' h = h
 
 -- a byte with an event that what came before it has, and perhaps one of its own
 pub told-first : (d : Decoder) (second : Option Event) (bytes : List ℕ) (next end b : ℕ) (cut event : Option Event) (d' : Decoder) (first : Event)
-    → second ≡ None → next < end → slice_get bytes next ≡ Some b → cut ≡ Some first → (some_list cut ++ some_list event, d') ≡ fed_byte d b
+    → second ≡ None → next < end → slice_get bytes next ≡ Some b → cut ≡ Some first → (some_list cut ++ some_list event, d') ≡ byte_told d b
     → TellsFirst (kept d second bytes next end) first (kept d' event bytes (next + 1) end)
 unfolding kept_told
 told-first d second bytes next end b cut event d' first none h k e f =
     subst (λ (s : Option Event). TellsFirst (kept d s bytes next end) first (kept d' event bytes (next + 1) end)) (sym none)
     (told-fed d bytes next end (Some first) event d' h (slice_get_within bytes next b k)
-    (ap (λ (c : Option Event). let t : Told = (some_list c ++ some_list event, d') in t) (sym e) ∙ f ∙ ap (fed_byte d) (sym (get_or_from_slice_get bytes next b 0 k))))
+    (ap (λ (c : Option Event). let t : Told = (some_list c ++ some_list event, d') in t) (sym e) ∙ f ∙ ap (byte_told d) (sym (get_or_from_slice_get bytes next b 0 k))))
 
 -- a byte with an event of its own alone, or with none
 pub told-only : (d : Decoder) (second : Option Event) (bytes : List ℕ) (next end b : ℕ) (cut event : Option Event) (d' : Decoder)
-    → second ≡ None → next < end → slice_get bytes next ≡ Some b → cut ≡ None → (some_list cut ++ some_list event, d') ≡ fed_byte d b
+    → second ≡ None → next < end → slice_get bytes next ≡ Some b → cut ≡ None → (some_list cut ++ some_list event, d') ≡ byte_told d b
     → MatchOption event (kept_told (kept d' second bytes (next + 1) end) ≡ kept_told (kept d second bytes next end))
     (λ e. TellsFirst (kept d second bytes next end) e (kept d' second bytes (next + 1) end))
 unfolding kept_told
@@ -83,7 +83,7 @@ told-only d second bytes next end b cut event d' none h k e f =
     subst (λ (s : Option Event). MatchOption event (kept_told (kept d' s bytes (next + 1) end) ≡ kept_told (kept d s bytes next end))
     (λ e. TellsFirst (kept d s bytes next end) e (kept d' s bytes (next + 1) end))) (sym none)
     (told-one d bytes next end event d' (told-fed d bytes next end None event d' h (slice_get_within bytes next b k)
-    (ap (λ (c : Option Event). let t : Told = (some_list c ++ some_list event, d') in t) (sym e) ∙ f ∙ ap (fed_byte d) (sym (get_or_from_slice_get bytes next b 0 k)))))
+    (ap (λ (c : Option Event). let t : Told = (some_list c ++ some_list event, d') in t) (sym e) ∙ f ∙ ap (byte_told d) (sym (get_or_from_slice_get bytes next b 0 k)))))
 
 -- the second event of a byte is told
 pub told-stored : (d : Decoder) (second : Option Event) (bytes : List ℕ) (next end : ℕ) (event : Event) → second ≡ Some event

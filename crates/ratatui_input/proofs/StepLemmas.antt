@@ -13,9 +13,9 @@ use Rattle.ratatui_input.specs.declared.sequence.Sequence.{Sequence}
 use Rattle.ratatui_input.specs.declared.sequence.Source.{Source}
 use Rattle.ratatui_input.specs.declared.sequence.Source.TheVariants.{Keys, Mouse as FromMouse}
 use Rattle.ratatui_input.specs.Sequences.{sequence_event, pushed, digit_pushed, no_numbers}
-use Rattle.ratatui_input.specs.Decoding.{stepped, first, after_escape, after_bracket, in_sequence, after_single, read, fed_byte, fed_next, decoded, told_event}
-use Rattle.ratatui_input.specs.Encodings.{untouched, Gives, IsDigits, value_after}
-use Rattle.ratatui_input.specs.Grammar.{WritesEvent, value_from, csi, three_numbers}
+use Rattle.ratatui_input.specs.Decoding.{stepped, first, after_escape, after_bracket, in_sequence, after_single, read, byte_told, fed_next, decoded, told_event}
+use Rattle.ratatui_input.specs.Encodings.{fresh_decoder, Gives, IsDigits, value_after}
+use Rattle.ratatui_input.specs.Grammar.{WritesNumber, value_from, csi, three_numbers}
 use Rattle.ratatui_input.proofs.TableLemmas.{seq, EndsSequence}
 
 -- a decoder within a paste, or outside one
@@ -30,7 +30,7 @@ pub leads-none : (s : State) → Leads s [] s
 leads-none s = record { to = λ p rest. refl }
 
 pub leads-one : (s s' : State) (b : ℕ) → stepped s b ≡ More s' → Leads s (b ∷ []) s'
-unfolding decoded fed_byte
+unfolding decoded byte_told
 leads-one s s' b e = record { to = λ p rest. ap (λ (n : Next). let t = fed_next n s b p in let u = decoded t.1 rest in (t.0 ++ u.0, u.1)) e }
 
 pub leads-append : (s s' s'' : State) (a b : List ℕ) → Leads s a s' → Leads s' b s'' → Leads s (a ++ b) s''
@@ -41,14 +41,14 @@ leads-cons s s' s'' b bs e k = leads-append s s' s'' (b ∷ []) bs (leads-one s 
 
 -- a byte that ends an event
 pub ends : (p : Bool) (s : State) (b : ℕ) (event : Event) → stepped s b ≡ Whole event → decoded (at p s) (b ∷ []) ≡ told_event event Ground p
-unfolding decoded fed_byte
+unfolding decoded byte_told
 ends p s b event e = ap (λ (n : Next). let t = fed_next n s b p in (t.0 ++ [], t.1)) e
 
 -- an event that is told as it is, outside a paste
 pub record IsPlain (event : Event) : Type 0 where
   pub told : read false event ≡ (event, false)
 
-pub ends-plain : (s : State) (b : ℕ) (event : Event) → stepped s b ≡ Whole event → IsPlain event → decoded (at false s) (b ∷ []) ≡ (event ∷ [], untouched)
+pub ends-plain : (s : State) (b : ℕ) (event : Event) → stepped s b ≡ Whole event → IsPlain event → decoded (at false s) (b ∷ []) ≡ (event ∷ [], fresh_decoder)
 ends-plain s b event e plain = ends false s b event e ∙ ap (λ (t : Event × Bool). (t.0 ∷ [], record { state = Ground; is_pasting = t.1 })) plain.told
 
 -- ---- numbers
@@ -79,7 +79,7 @@ module _ (state : ℕ → State) (one : (n b : ℕ) → 48 ≤ b → b ≤ 57 �
   digits-from ds m n h e small =
       subst (λ (v : ℕ). Leads (state m) ds (state v)) (kept-whole ds m (subst (λ (v : ℕ). v < 2 ^ 32) (sym e) small) ∙ e) (digits-kept ds m h)
 
-  pub number-read : (ds : List ℕ) (n : ℕ) → WritesEvent ds n → n < 2 ^ 32 → Leads (state 0) ds (state n)
+  pub number-read : (ds : List ℕ) (n : ℕ) → WritesNumber ds n → n < 2 ^ 32 → Leads (state 0) ds (state n)
   number-read ds n w small = digits-from ds 0 n w.digits w.number small
 
 abbrev pub at_first : Source → ℕ → State
@@ -114,32 +114,32 @@ single-digit : (n b : ℕ) → 48 ≤ b → b ≤ 57 → stepped (Single n) b �
 unfolding stepped after_single
 single-digit n b low high = grind (arith, common_steps, digit_of b low high)
 
-pub first-read : (source : Source) (ds : List ℕ) (n : ℕ) → WritesEvent ds n → n < 2 ^ 32 → Leads (at_first source 0) ds (at_first source n)
+pub first-read : (source : Source) (ds : List ℕ) (n : ℕ) → WritesNumber ds n → n < 2 ^ 32 → Leads (at_first source 0) ds (at_first source n)
 first-read source = number-read (at_first source) (first-digit source)
 
-pub single-read : (ds : List ℕ) (n : ℕ) → WritesEvent ds n → n < 2 ^ 32 → Leads (Single 0) ds (Single n)
+pub single-read : (ds : List ℕ) (n : ℕ) → WritesNumber ds n → n < 2 ^ 32 → Leads (Single 0) ds (Single n)
 single-read = number-read Single single-digit
 
 -- a semicolon, and a further number
-pub second-read : (source : Source) (f : ℕ) (es : List ℕ) (n : ℕ) → WritesEvent es n → n < 2 ^ 32 → Leads (at_first source f) (59 ∷ es) (at_second source f n)
+pub second-read : (source : Source) (f : ℕ) (es : List ℕ) (n : ℕ) → WritesNumber es n → n < 2 ^ 32 → Leads (at_first source f) (59 ∷ es) (at_second source f n)
 unfolding stepped in_sequence pushed
 second-read source f es n w small =
     leads-cons (at_first source f) (at_second source f 0) (at_second source f n) 59 es refl (number-read (at_second source f) (second-digit source f) es n w small)
 
-pub third-read : (source : Source) (f s : ℕ) (es : List ℕ) (n : ℕ) → WritesEvent es n → n < 2 ^ 32 → Leads (at_second source f s) (59 ∷ es) (at_third source f s n)
+pub third-read : (source : Source) (f s : ℕ) (es : List ℕ) (n : ℕ) → WritesNumber es n → n < 2 ^ 32 → Leads (at_second source f s) (59 ∷ es) (at_third source f s n)
 unfolding stepped in_sequence pushed
 third-read source f s es n w small =
     leads-cons (at_second source f s) (at_third source f s 0) (at_third source f s n) 59 es refl (number-read (at_third source f s) (third-digit source f s) es n w small)
 
 -- a colon, and what the key did
-pub kind-read : (f s : ℕ) (es : List ℕ) (n : ℕ) → WritesEvent es n → n < 2 ^ 32 → Leads (at_second Keys f s) (58 ∷ es) (at_kind f s n)
+pub kind-read : (f s : ℕ) (es : List ℕ) (n : ℕ) → WritesNumber es n → n < 2 ^ 32 → Leads (at_second Keys f s) (58 ∷ es) (at_kind f s n)
 unfolding stepped in_sequence pushed
 kind-read f s es n w small = leads-cons (at_second Keys f s) (at_kind f s 0) (at_kind f s n) 58 es refl (number-read (at_kind f s) (kind-digit f s) es n w small)
 
 -- ---- after ESC [
 
-pub bracket-reached : (rest : List ℕ) → decoded untouched (27 ∷ 91 ∷ rest) ≡ decoded (at false Bracket) rest
-unfolding decoded fed_byte stepped first after_escape
+pub bracket-reached : (rest : List ℕ) → decoded fresh_decoder (27 ∷ 91 ∷ rest) ≡ decoded (at false Bracket) rest
+unfolding decoded byte_told stepped first after_escape
 bracket-reached rest = refl
 
 bracket-digit : (b : ℕ) → 48 ≤ b → b ≤ 57 → stepped Bracket b ≡ More (at_first Keys (b - 48))
@@ -147,7 +147,7 @@ unfolding stepped after_bracket in_sequence pushed digit_pushed
 bracket-digit b low high = grind (arith, common_steps, digit_of b low high)
 
 -- a first number, and a semicolon and a second one
-pub bracket-two : (ds es : List ℕ) (n m : ℕ) → WritesEvent ds n → n < 2 ^ 32 → WritesEvent es m → m < 2 ^ 32 → Leads Bracket (ds ++ (59 ∷ es)) (at_second Keys n m)
+pub bracket-two : (ds es : List ℕ) (n m : ℕ) → WritesNumber ds n → n < 2 ^ 32 → WritesNumber es m → m < 2 ^ 32 → Leads Bracket (ds ++ (59 ∷ es)) (at_second Keys n m)
 unfolding stepped after_bracket in_sequence pushed
 bracket-two [] es n m w small v less =
     leads-cons Bracket (at_second Keys n 0) (at_second Keys n m) 59 es (ap (λ (f : ℕ). More (at_second Keys f 0)) w.number) (number-read (at_second Keys n) (second-digit Keys n) es m v less)
@@ -158,13 +158,13 @@ bracket-two (b ∷ ds) es n m w small v less =
     (second-read Keys n es m v less)
 
 -- the same after a colon and further codes, which are read over
-pub second-after : (parts f : ℕ) (es : List ℕ) (n : ℕ) → WritesEvent es n → n < 2 ^ 32 → Leads (Numbers (seq Keys 0 parts f 0 0 0)) (59 ∷ es) (at_second Keys f n)
+pub second-after : (parts f : ℕ) (es : List ℕ) (n : ℕ) → WritesNumber es n → n < 2 ^ 32 → Leads (Numbers (seq Keys 0 parts f 0 0 0)) (59 ∷ es) (at_second Keys f n)
 unfolding stepped in_sequence pushed
 second-after parts f es n w small =
     leads-cons (Numbers (seq Keys 0 parts f 0 0 0)) (at_second Keys f 0) (at_second Keys f n) 59 es refl (number-read (at_second Keys f) (second-digit Keys f) es n w small)
 
 -- a first number, and a colon
-pub bracket-colon : (ds : List ℕ) (n : ℕ) → WritesEvent ds n → n < 2 ^ 32 → Leads Bracket (ds ++ (58 ∷ [])) (Numbers (seq Keys 0 1 n 0 0 0))
+pub bracket-colon : (ds : List ℕ) (n : ℕ) → WritesNumber ds n → n < 2 ^ 32 → Leads Bracket (ds ++ (58 ∷ [])) (Numbers (seq Keys 0 1 n 0 0 0))
 unfolding stepped after_bracket in_sequence pushed
 bracket-colon [] n w small =
     leads-one Bracket (Numbers (seq Keys 0 1 n 0 0 0)) 58 (ap (λ (f : ℕ). More (Numbers (seq Keys 0 1 f 0 0 0))) w.number)
@@ -174,14 +174,14 @@ bracket-colon (b ∷ ds) n w small =
     (digits-from (at_first Keys) (first-digit Keys) ds (b - 48) n w.digits.2 (ap (λ (v : ℕ). value_from v ds) (omega arith) ∙ w.number) small))
     (leads-one (at_first Keys n) (Numbers (seq Keys 0 1 n 0 0 0)) 58 refl)
 
-pub bracket-three : (ds es fs : List ℕ) (n m t : ℕ) → WritesEvent ds n → n < 2 ^ 32 → WritesEvent es m → m < 2 ^ 32 → WritesEvent fs t → t < 2 ^ 32
+pub bracket-three : (ds es fs : List ℕ) (n m t : ℕ) → WritesNumber ds n → n < 2 ^ 32 → WritesNumber es m → m < 2 ^ 32 → WritesNumber fs t → t < 2 ^ 32
     → Leads Bracket (three_numbers ds es fs) (at_third Keys n m t)
 bracket-three ds es fs n m t w small v less u little =
     subst (λ (bs : List ℕ). Leads Bracket bs (at_third Keys n m t)) (append_assoc ds (59 ∷ es) (59 ∷ fs))
     (leads-append Bracket (at_second Keys n m) (at_third Keys n m t) (ds ++ (59 ∷ es)) (59 ∷ fs) (bracket-two ds es n m w small v less) (third-read Keys n m fs t u little))
 
 -- the same after <
-pub mouse-three : (ds es fs : List ℕ) (n m t : ℕ) → WritesEvent ds n → n < 2 ^ 32 → WritesEvent es m → m < 2 ^ 32 → WritesEvent fs t → t < 2 ^ 32
+pub mouse-three : (ds es fs : List ℕ) (n m t : ℕ) → WritesNumber ds n → n < 2 ^ 32 → WritesNumber es m → m < 2 ^ 32 → WritesNumber fs t → t < 2 ^ 32
     → Leads Bracket (60 ∷ three_numbers ds es fs) (at_third FromMouse n m t)
 unfolding stepped after_bracket
 mouse-three ds es fs n m t w small v less u little =
@@ -206,7 +206,7 @@ csi-gives body q b event h low high e plain = record {
 }
 
 -- a lone number, or none
-pub csi-alone : (ds : List ℕ) (n b : ℕ) (event : Event) → WritesEvent ds n → n < 2 ^ 32 → EndsSequence b → sequence_event (seq Keys 0 0 n 0 0 0) b ≡ event → IsPlain event
+pub csi-alone : (ds : List ℕ) (n b : ℕ) (event : Event) → WritesNumber ds n → n < 2 ^ 32 → EndsSequence b → sequence_event (seq Keys 0 0 n 0 0 0) b ≡ event → IsPlain event
     → Gives (csi ds b) (event ∷ [])
 csi-alone [] n b event w small h e plain = record {
   all = bracket-reached (b ∷ [])

@@ -24,8 +24,8 @@ use Rattle.ratatui_input.specs.declared.decoder.Next.{Next}
 use Rattle.ratatui_input.specs.declared.decoder.Next.TheVariants.{Whole, More, Apart}
 
 -- whether a number lies between two others
-abbrev pub is_between_codes : ℕ → ℕ → ℕ → Bool
-is_between_codes low high b = nat_le low b && nat_le b high
+abbrev pub lies_in : ℕ → ℕ → ℕ → Bool
+lies_in low high b = nat_le low b && nat_le b high
 
 abbrev pub partial : Bool → ℕ → ℕ → ℕ → ℕ → Option Partial
 partial is_alt code left low high = Some (record {
@@ -40,12 +40,12 @@ partial is_alt code left low high = Some (record {
 -- between which the next is
 unfoldable pub begun : ℕ → Bool → Option Partial
 begun b alt =
-    if is_between_codes 194 223 b then partial alt (bit_and b 31) 1 128 191
+    if lies_in 194 223 b then partial alt (bit_and b 31) 1 128 191
     else (if b == 224 then partial alt 0 2 160 191
     else (if b == 237 then partial alt 13 2 128 159
-    else (if is_between_codes 225 239 b then partial alt (bit_and b 15) 2 128 191
+    else (if lies_in 225 239 b then partial alt (bit_and b 15) 2 128 191
     else (if b == 240 then partial alt 0 3 144 191
-    else (if is_between_codes 241 243 b then partial alt (bit_and b 7) 3 128 191
+    else (if lies_in 241 243 b then partial alt (bit_and b 7) 3 128 191
     else (if b == 244 then partial alt 4 3 128 143
     else None))))))
 
@@ -60,7 +60,7 @@ unfoldable pub first : ℕ → Bool → Next
 first b is_alt =
     if b == 27 then More Escape
     else (if nat_le b 31 || (b == 127) then Whole (with_alt (control_key b) is_alt)
-    else (if is_between_codes 32 126 b then Whole (with_alt (typed_key b) is_alt)
+    else (if lies_in 32 126 b then Whole (with_alt (typed_key b) is_alt)
     else beginning (begun b is_alt) is_alt))
 
 unfoldable pub after_escape : ℕ → Next
@@ -72,7 +72,7 @@ going_on (Some longer) = More (Numbers longer)
 going_on None = Apart
 
 unfoldable pub in_sequence : Sequence → ℕ → Next
-in_sequence s b = if is_between_codes 64 126 b then Whole (sequence_event s b) else going_on (pushed s b)
+in_sequence s b = if lies_in 64 126 b then Whole (sequence_event s b) else going_on (pushed s b)
 
 unfoldable pub after_bracket : ℕ → Next
 after_bracket b =
@@ -83,13 +83,13 @@ after_bracket b =
 
 unfoldable pub after_single : ℕ → ℕ → Next
 after_single number b =
-    if is_between_codes 48 57 b then More (Single (min (number * 10 + bit_and b 15) (2 ^ 32 - 1)))
-    else (if is_between_codes 64 126 b then Whole (single_event number b) else Apart)
+    if lies_in 48 57 b then More (Single (min (number * 10 + bit_and b 15) (2 ^ 32 - 1)))
+    else (if lies_in 64 126 b then Whole (single_event number b) else Apart)
 
 unfoldable pub after_function : ℕ → Next
 after_function b =
-    if is_between_codes 65 69 b then Whole (with_alt (pressed (F (b - 64)) (held 0)) false)
-    else (if is_between_codes 64 126 b then Whole Unknown else Apart)
+    if lies_in 65 69 b then Whole (with_alt (pressed (F (b - 64)) (held 0)) false)
+    else (if lies_in 64 126 b then Whole Unknown else Apart)
 
 abbrev pub scalar_event : Option ℕ → Bool → Event
 scalar_event None is_alt = Unknown
@@ -126,7 +126,8 @@ stepped Function b = after_function b
 stepped (Numbers s) b = in_sequence s b
 stepped Click b = after_click b (More (ClickButton b))
 stepped (ClickButton button) b = after_click b (More (ClickColumn button b))
-stepped (ClickColumn button column) b = after_click b (Whole (mouse_event (button - 32) (column - 32) (b - 32) false))
+stepped (ClickColumn button column) b =
+    after_click b (Whole (mouse_event (button - 32) (column - 32) (b - 32) false))
 stepped (Character p) b = in_character p b
 
 -- what has come, where nothing goes on with it
@@ -178,13 +179,13 @@ fed_next Apart state b is_pasting = after_cut (cut state) b is_pasting
 fed_next next state b is_pasting = fresh next is_pasting
 
 -- what one more byte gives
-unfoldable pub fed_byte : Decoder → ℕ → Told
-fed_byte d b = fed_next (stepped d.state b) d.state b d.is_pasting
+unfoldable pub byte_told : Decoder → ℕ → Told
+byte_told d b = fed_next (stepped d.state b) d.state b d.is_pasting
 
 -- what bytes give
 unfoldable pub decoded : Decoder → List ℕ → Told
 decoded d [] = ([], d)
-decoded d (b ∷ bs) = let one = fed_byte d b in let rest = decoded one.1 bs in (one.0 ++ rest.0, rest.1)
+decoded d (b ∷ bs) = let one = byte_told d b in let rest = decoded one.1 bs in (one.0 ++ rest.0, rest.1)
 
 abbrev pub some_list : Option Event → List Event
 some_list None = []

@@ -9,12 +9,12 @@ use Rattle.ratatui_input.specs.declared.decoder.State.TheVariants.{Ground}
 use Rattle.ratatui_input.specs.Decoding.{Told, decoded, settled}
 
 -- a decoder that has read nothing
-abbrev pub untouched : Decoder
-untouched = record { state = Ground; is_pasting = false }
+abbrev pub fresh_decoder : Decoder
+fresh_decoder = record { state = Ground; is_pasting = false }
 
 -- the bytes give these events, and nothing of them is left
 pub record Gives (bytes : List ℕ) (events : List Event) : Type 0 where
-  pub all : decoded untouched bytes ≡ (events, untouched)
+  pub all : decoded fresh_decoder bytes ≡ (events, fresh_decoder)
 
 -- a character of a text that is pasted: a tab, an end of a line, or one that is no control character
 abbrev pub IsTextCharacter : ℕ → Type 0
@@ -56,4 +56,4 @@ HaveEnd (event ∷ events) = HaveEnd events
 
 -- what is told of bytes where nothing follows them
 abbrev pub settled_after : List ℕ → Told
-settled_after bytes = let told = decoded untouched bytes in settled told.1.state told.1
+settled_after bytes = let told = decoded fresh_decoder bytes in settled told.1.state told.1

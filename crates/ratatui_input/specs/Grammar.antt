@@ -24,7 +24,7 @@ value_from n [] = n
 value_from n (b ∷ bs) = value_from (n * 10 + (b - 48)) bs
 
 -- the bytes are digits that write this number; no digit writes 0
-pub record WritesEvent (ds : List ℕ) (n : ℕ) : Type 0 where
+pub record WritesNumber (ds : List ℕ) (n : ℕ) : Type 0 where
   pub digits : IsDigits ds
   pub number : value_from 0 ds ≡ n
 
@@ -41,8 +41,8 @@ csi body last = 27 ∷ 91 ∷ (body ++ (last ∷ []))
 
 -- what stands after a key's number: the number of what is held, and perhaps, after a colon, what the key did
 pub data Held : List ℕ → ℕ → KeyEventKind → Type 0 where
-  held_down : {es : List ℕ} {m : ℕ} → WritesEvent es m → Held (59 ∷ es) m Press
-  held_told : {es ks : List ℕ} {m k : ℕ} → WritesEvent es m → WritesEvent ks k → k < 256
+  held_down : {es : List ℕ} {m : ℕ} → WritesNumber es m → Held (59 ∷ es) m Press
+  held_told : {es ks : List ℕ} {m k : ℕ} → WritesNumber es m → WritesNumber ks k → k < 256
       → Held (59 ∷ (es ++ (58 ∷ ks))) m (kind_of k)
 
 -- further codes of a key, each after a colon, and the codes of its text, after a semicolon: digits and colons
@@ -77,65 +77,73 @@ mouse_told kind n x y =
 -- bytes that stand for an event
 pub data Encodes : List ℕ → Event → Type 0 where
   -- characters in UTF-8 and control characters, and after ESC the same with Alt
-  character : (c : ℕ) → IsScalar c → is_control c ≡ false → Encodes (encode_utf8 c) (with_alt (typed_key c) false)
+  character : (c : ℕ) → IsScalar c → is_control c ≡ false
+      → Encodes (encode_utf8 c) (with_alt (typed_key c) false)
   control : (b : ℕ) → (b < 32) ⊎ (b ≡ 127) → b ≢ 27 → Encodes (b ∷ []) (with_alt (control_key b) false)
   alt_character : (c : ℕ) → IsScalar c → is_control c ≡ false → c ≢ 91 → c ≢ 79
       → Encodes (27 ∷ encode_utf8 c) (with_alt (typed_key c) true)
   alt_control : (b : ℕ) → (b < 32) ⊎ (b ≡ 127) → b ≢ 27
       → Encodes (27 ∷ b ∷ []) (with_alt (control_key b) true)
   -- keys with a letter: after ESC [, after ESC [ 1 and what is held, after ESC O, and F1 to F5 of a console
-  by_letter : {b n : ℕ} {code : KeyCode} {ds : List ℕ} → IsLetter b code → WritesEvent ds n → n ≤ 256
+  by_letter : {b n : ℕ} {code : KeyCode} {ds : List ℕ} → IsLetter b code → WritesNumber ds n → n ≤ 256
       → Encodes (csi ds b) (letter_told code n Press)
   by_letter_held : {b m : ℕ} {code : KeyCode} {ds tail : List ℕ} {kind : KeyEventKind} → IsLetter b code
-      → WritesEvent ds 1
+      → WritesNumber ds 1
       → Held tail m kind → m ≤ 256 → Encodes (csi (ds ++ tail) b) (letter_told code m kind)
-  by_single : {b n : ℕ} {code : KeyCode} {ds : List ℕ} → IsLetter b code → WritesEvent ds n → n ≤ 256
+  by_single : {b n : ℕ} {code : KeyCode} {ds : List ℕ} → IsLetter b code → WritesNumber ds n → n ≤ 256
       → Encodes (27 ∷ 79 ∷ (ds ++ (b ∷ []))) (letter_told code n Press)
-  single_enter : {n : ℕ} {ds : List ℕ} → WritesEvent ds n → n ≤ 256
+  single_enter : {n : ℕ} {ds : List ℕ} → WritesNumber ds n → n ≤ 256
       → Encodes (27 ∷ 79 ∷ (ds ++ (77 ∷ []))) (key_told Enter false n Press)
   by_console : (b : ℕ) → 65 ≤ b → b ≤ 69
       → Encodes (27 ∷ 91 ∷ 91 ∷ b ∷ []) (Key (pressed (F (b - 64)) (held 0)))
   -- keys with a number before a tilde, and keys by their code point, which stands first before u, and third
   -- before a tilde
-  by_tilde : {n : ℕ} {code : KeyCode} {ds : List ℕ} → IsTilde n code → WritesEvent ds n
+  by_tilde : {n : ℕ} {code : KeyCode} {ds : List ℕ} → IsTilde n code → WritesNumber ds n
       → Encodes (csi ds 126) (key_told code false 0 Press)
   by_tilde_held : {n m : ℕ} {code : KeyCode} {ds tail : List ℕ} {kind : KeyEventKind} → IsTilde n code
-      → WritesEvent ds n
+      → WritesNumber ds n
       → Held tail m kind → m ≤ 256 → Encodes (csi (ds ++ tail) 126) (key_told code false m kind)
-  by_code : {n : ℕ} {code : KeyCode} {is_keypad : Bool} {ds : List ℕ} → IsCode n code is_keypad → WritesEvent ds n
+  by_code : {n : ℕ} {code : KeyCode} {is_keypad : Bool} {ds : List ℕ} → IsCode n code is_keypad
+      → WritesNumber ds n
       → Encodes (csi ds 117) (code_told code is_keypad 0 Press)
   by_code_held : {n m : ℕ} {code : KeyCode} {is_keypad : Bool} {ds tail : List ℕ} {kind : KeyEventKind}
-      → IsCode n code is_keypad → WritesEvent ds n → Held tail m kind → m ≤ 256
+      → IsCode n code is_keypad → WritesNumber ds n → Held tail m kind → m ≤ 256
       → Encodes (csi (ds ++ tail) 117) (code_told code is_keypad m kind)
-  by_codes : {n m : ℕ} {code : KeyCode} {is_keypad : Bool} {ds tail : List ℕ} {kind : KeyEventKind} (codes text : List ℕ)
-      → IsCode n code is_keypad → WritesEvent ds n → AreCodes codes → Held tail m kind → m ≤ 256 → AreCodes text
+  by_codes : {n m : ℕ} {code : KeyCode} {is_keypad : Bool} {ds tail : List ℕ} {kind : KeyEventKind}
+      (codes text : List ℕ) → IsCode n code is_keypad → WritesNumber ds n → AreCodes codes → Held tail m kind → m ≤ 256
+      → AreCodes text
       → Encodes (csi (ds ++ (58 ∷ (codes ++ (tail ++ (59 ∷ text))))) 117) (code_told code is_keypad m kind)
   by_other : {n m : ℕ} {code : KeyCode} {is_keypad : Bool} {ds es fs : List ℕ} → IsCode n code is_keypad
-      → WritesEvent ds 27 → WritesEvent es m → m ≤ 256 → WritesEvent fs n
+      → WritesNumber ds 27 → WritesNumber es m → m ≤ 256 → WritesNumber fs n
       → Encodes (csi (three_numbers ds es fs) 126) (code_told code is_keypad m Press)
   -- the mouse: by numbers after <, by three bytes, and by numbers
-  by_numbers_down : {n x y : ℕ} {ds es fs : List ℕ} {kind : MouseEventKind} → WritesEvent ds n → WritesEvent es x
-      → WritesEvent fs y
+  by_numbers_down : {n x y : ℕ} {ds es fs : List ℕ} {kind : MouseEventKind} → WritesNumber ds n
+      → WritesNumber es x
+      → WritesNumber fs y
       → n ≤ 255 → x ≤ 65535 → y ≤ 65535 → mouse_kind n false ≡ Some kind
       → Encodes (csi (60 ∷ three_numbers ds es fs) 77) (mouse_told kind n x y)
-  by_numbers_up : {n x y : ℕ} {ds es fs : List ℕ} {kind : MouseEventKind} → WritesEvent ds n → WritesEvent es x
-      → WritesEvent fs y
+  by_numbers_up : {n x y : ℕ} {ds es fs : List ℕ} {kind : MouseEventKind} → WritesNumber ds n
+      → WritesNumber es x
+      → WritesNumber fs y
       → n ≤ 255 → x ≤ 65535 → y ≤ 65535 → mouse_kind n true ≡ Some kind
       → Encodes (csi (60 ∷ three_numbers ds es fs) 109) (mouse_told kind n x y)
   by_bytes : {kind : MouseEventKind} (n x y : ℕ) → n ≤ 223 → x ≤ 223 → y ≤ 223
       → mouse_kind n false ≡ Some kind
       → Encodes (27 ∷ 91 ∷ 77 ∷ (n + 32) ∷ (x + 32) ∷ (y + 32) ∷ []) (mouse_told kind n x y)
-  by_plain_numbers : {n x y : ℕ} {ds es fs : List ℕ} {kind : MouseEventKind} → WritesEvent ds (n + 32)
-      → WritesEvent es x
-      → WritesEvent fs y → n ≤ 255 → x ≤ 65535 → y ≤ 65535 → mouse_kind n false ≡ Some kind
+  by_plain_numbers : {n x y : ℕ} {ds es fs : List ℕ} {kind : MouseEventKind} → WritesNumber ds (n + 32)
+      → WritesNumber es x
+      → WritesNumber fs y → n ≤ 255 → x ≤ 65535 → y ≤ 65535 → mouse_kind n false ≡ Some kind
       → Encodes (csi (three_numbers ds es fs) 77) (mouse_told kind n x y)
   -- the focus, the size in rows and columns, and where the cursor is: row and column, from 1 on
   focus_gained : Encodes (csi [] 73) FocusGained
   focus_lost : Encodes (csi [] 79) FocusLost
-  size : {n rows columns : ℕ} {ds es fs : List ℕ} → WritesEvent ds n → (n ≡ 8) ⊎ (n ≡ 48) → WritesEvent es rows
+  size : {n rows columns : ℕ} {ds es fs : List ℕ} → WritesNumber ds n → (n ≡ 8) ⊎ (n ≡ 48)
+      → WritesNumber es rows
       → rows ≤ 65535
-      → WritesEvent fs columns → columns ≤ 65535 → Encodes (csi (three_numbers ds es fs) 116) (Size columns rows)
-  position : {row column : ℕ} {ds es : List ℕ} → WritesEvent ds row → row ≢ 1 → row ≤ 65535 → WritesEvent es column
+      → WritesNumber fs columns → columns ≤ 65535
+      → Encodes (csi (three_numbers ds es fs) 116) (Size columns rows)
+  position : {row column : ℕ} {ds es : List ℕ} → WritesNumber ds row → row ≢ 1 → row ≤ 65535
+      → WritesNumber es column
       → column ≤ 65535 → Encodes (csi (two_numbers ds es) 82) (Position (column - 1) (row - 1))
 
 -- bytes that no sequence of an event has: one of the marks but <
@@ -172,15 +180,17 @@ pub data StandsForNothing : List ℕ → Type 0 where
       → 64 ≤ last → last ≤ 126
       → StandsForNothing (csi (before ++ (mark ∷ after)) last)
   -- a key with more held than there is to hold
-  held_by_letter : {b m : ℕ} {code : KeyCode} {ds es : List ℕ} → IsLetter b code → WritesEvent ds 1
-      → WritesEvent es m → 256 < m
+  held_by_letter : {b m : ℕ} {code : KeyCode} {ds es : List ℕ} → IsLetter b code → WritesNumber ds 1
+      → WritesNumber es m → 256 < m
       → m < 2 ^ 32 → StandsForNothing (csi (two_numbers ds es) b)
-  held_by_tilde : {n m : ℕ} {code : KeyCode} {ds es : List ℕ} → IsTilde n code → WritesEvent ds n
-      → WritesEvent es m → 256 < m
+  held_by_tilde : {n m : ℕ} {code : KeyCode} {ds es : List ℕ} → IsTilde n code → WritesNumber ds n
+      → WritesNumber es m → 256 < m
       → m < 2 ^ 32 → StandsForNothing (csi (two_numbers ds es) 126)
   held_by_code : {n m : ℕ} {code : KeyCode} {is_keypad : Bool} {ds es : List ℕ} → IsCode n code is_keypad
-      → WritesEvent ds n
-      → WritesEvent es m → 256 < m → m < 2 ^ 32 → StandsForNothing (csi (two_numbers ds es) 117)
+      → WritesNumber ds n
+      → WritesNumber es m → 256 < m → m < 2 ^ 32 → StandsForNothing (csi (two_numbers ds es) 117)
   -- a letter and a number that no key has
-  nameless : {b n : ℕ} {ds : List ℕ} → IsNameless b → WritesEvent ds n → n < 2 ^ 32 → StandsForNothing (csi ds b)
-  numberless : {n : ℕ} {ds : List ℕ} → IsNoTilde n → WritesEvent ds n → n < 2 ^ 32 → StandsForNothing (csi ds 126)
+  nameless : {b n : ℕ} {ds : List ℕ} → IsNameless b → WritesNumber ds n → n < 2 ^ 32
+      → StandsForNothing (csi ds b)
+  numberless : {n : ℕ} {ds : List ℕ} → IsNoTilde n → WritesNumber ds n → n < 2 ^ 32
+      → StandsForNothing (csi ds 126)

@@ -19,7 +19,7 @@ use Rattle.ratatui_input.specs.declared.keys.TheConstants.{LETTERS, NUMBERS, COD
 abbrev pub is_scalar : ℕ → Bool
 is_scalar code = nat_lt code 55296 || (nat_le 57344 code && nat_lt code 1114112)
 
--- a character that was typed_key: a capital letter with Shift
+-- a character that was typed: a capital letter with Shift
 abbrev pub typed_key : ℕ → KeyEvent
 typed_key c = pressed (Char c) (held (if is_uppercase c then 1 else 0))
 

@@ -42,9 +42,9 @@ mouse_kind number is_up =
     let button = bit_and number 3 + number / 64 * 4 in
     if bit_and number 32 == 0 then still_kind button is_up else moving_kind button
 
-abbrev pub clicked : Option MouseEventKind → ℕ → ℕ → ℕ → Event
-clicked None number column row = Unknown
-clicked (Some kind) number column row = Mouse (record {
+abbrev pub kind_told : Option MouseEventKind → ℕ → ℕ → ℕ → Event
+kind_told None number column row = Unknown
+kind_told (Some kind) number column row = Mouse (record {
   kind = kind;
   column = column - 1;
   row = row - 1;
@@ -55,4 +55,4 @@ clicked (Some kind) number column row = Mouse (record {
 unfoldable pub mouse_event : ℕ → ℕ → ℕ → Bool → Event
 mouse_event number column row is_up =
     if nat_le number 255 && (nat_le column 65535 && nat_le row 65535)
-    then clicked (mouse_kind number is_up) number column row else Unknown
+    then kind_told (mouse_kind number is_up) number column row else Unknown

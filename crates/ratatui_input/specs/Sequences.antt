@@ -57,7 +57,8 @@ kind_of n = if n == 2 then Repeat else (if n == 3 then Release else Press)
 unfoldable pub key_event : ℕ → KeyCode → Bool → ℕ → Event
 key_event kind code is_keypad mask =
     if nat_lt 256 mask then Unknown
-    else Key (key_of_kind code (held ((mask - 1) % 64)) (kind_of kind) (locks ((mask - 1) / 64 + (if is_keypad then 4 else 0))))
+    else Key (key_of_kind code (held ((mask - 1) % 64)) (kind_of kind)
+    (locks ((mask - 1) / 64 + (if is_keypad then 4 else 0))))
 
 -- Shift with what the number says: BackTab has it
 abbrev pub with_shift : ℕ → ℕ

@@ -3,13 +3,14 @@
 ghost use Rattle.std.specs.Prelude.{◌≡◌, ◌-◌, true, false};
 ghost use Rattle.ratatui_input.specs.Decoding.{begun, first, after_escape, after_bracket, in_sequence};
 ghost use Rattle.ratatui_input.specs.Decoding.{after_single, after_function, in_character, character_event};
-ghost use Rattle.ratatui_input.specs.Decoding.{stepped, cut, pasted_code, read, fed_byte, events_of, some_list};
+ghost use Rattle.ratatui_input.specs.Decoding.{stepped, cut, pasted_code, read, byte_told, events_of};
+ghost use Rattle.ratatui_input.specs.Decoding.{some_list};
 ghost use Rattle.ratatui_input.specs.Decoding.{after_cut, settled};
 ghost use Rattle.ratatui_input.specs.Keys.{with_alt};
 ghost use Rattle.ratatui_input.specs.Mouse.{mouse_event};
 ghost use Rattle.ratatui_input.specs.declared.decoder.State.TheVariants.{Ground};
 
-use crate::keys::{character, control_key, typed_key};
+use crate::keys::{character, control_key, typed};
 use crate::mouse::mouse_event;
 use crate::sequence::{Sequence, Source};
 use ratatui_events::{Event, KeyCode, KeyEvent, KeyModifiers};
@@ -105,7 +106,7 @@ fn first(byte: u8, is_alt: bool) -> Next
     match byte {
         0x1b => Next::More(State::Escape),
         0..=0x1f | 0x7f => Next::Whole(with_alt(control_key(byte), is_alt)),
-        b' '..=b'~' => Next::Whole(with_alt(typed_key(byte as char), is_alt)),
+        b' '..=b'~' => Next::Whole(with_alt(typed(byte as char), is_alt)),
         _ => match begun(byte, is_alt) {
             Some(partial) => Next::More(State::Character(partial)),
             None if is_alt => Next::Apart,
@@ -196,7 +197,7 @@ fn character_event(code: u32, is_alt: bool) -> Event
             if c.is_control() {
                 Event::Unknown
             } else {
-                with_alt(typed_key(c), is_alt)
+                with_alt(typed(c), is_alt)
             }
         }
     }
@@ -226,7 +227,7 @@ fn in_character(partial: Partial, byte: u8) -> Next
 }
 
 #[tactic(auto, unfolding(crate::specs::Decoding::stepped, crate::specs::Decoding::after_click))]
-fn stepped(state: State, byte: u8) -> Next
+fn step(state: State, byte: u8) -> Next
     ensures { result ≡ stepped state byte }
 {
     match state {
@@ -265,8 +266,8 @@ fn cut(state: State) -> Option<Event>
     match state {
         State::Ground => None,
         State::Escape => Some(Event::Key(KeyEvent::new(KeyCode::Esc, KeyModifiers::NONE))),
-        State::Single(0) => Some(with_alt(typed_key('O'), true)),
-        State::Bracket => Some(with_alt(typed_key('['), true)),
+        State::Single(0) => Some(with_alt(typed('O'), true)),
+        State::Bracket => Some(with_alt(typed('['), true)),
         _ => Some(Event::Unknown),
     }
 }
@@ -326,11 +327,11 @@ impl Decoder {
     }
 
     /// Reads one more byte.
-    #[tactic(auto, unfolding(crate::specs::Decoding::fed_byte))]
+    #[tactic(auto, unfolding(crate::specs::Decoding::byte_told))]
     pub fn feed(&mut self, byte: u8) -> Fed
-        ensures { (events_of result, self.new) ≡ fed_byte self.old byte }
+        ensures { (events_of result, self.new) ≡ byte_told self.old byte }
     {
-        match stepped(self.state, byte) {
+        match step(self.state, byte) {
             Next::Whole(event) => {
                 self.state = State::Ground;
                 Fed {
@@ -392,8 +393,8 @@ impl Decoder {
     {
         let key = match self.state {
             State::Escape => Event::Key(KeyEvent::new(KeyCode::Esc, KeyModifiers::NONE)),
-            State::Bracket => with_alt(typed_key('['), true),
-            State::Single(0) => with_alt(typed_key('O'), true),
+            State::Bracket => with_alt(typed('['), true),
+            State::Single(0) => with_alt(typed('O'), true),
             _ => return None,
         };
         self.state = State::Ground;

@@ -7,8 +7,8 @@ ghost use Rattle.ratatui_input.specs.Keys.{name_key};
 
 use ratatui_events::{KeyCode, KeyEvent, KeyModifiers, MediaKeyCode, ModifierKeyCode};
 
-// A character that was typed_key.
-pub(crate) fn typed_key(c: char) -> KeyEvent
+// A character that was typed.
+pub(crate) fn typed(c: char) -> KeyEvent
     ensures { result ≡ typed_key c }
 {
     let held = if c.is_uppercase() {

@@ -6,11 +6,13 @@ ghost use Rattle.ratatui_events.specs.declared.event.Event.{Event};
 ghost use Rattle.ratatui_events.specs.declared.event.Event.TheVariants.{Key, PasteBegun, PasteEnded, Pasted};
 ghost use Rattle.ratatui_events.specs.declared.event.Event.TheVariants.{Unknown};
 ghost use Rattle.ratatui_events.specs.declared.key.KeyCode.TheVariants.{Esc};
-ghost use Rattle.ratatui_input.specs.Encodings.{untouched, Gives, in_brackets, IsPlainText, AreNoKeys, HaveEnd};
+ghost use Rattle.ratatui_input.specs.Encodings.{fresh_decoder, Gives, in_brackets, IsPlainText, AreNoKeys};
+ghost use Rattle.ratatui_input.specs.Encodings.{HaveEnd};
 ghost use Rattle.ratatui_input.specs.Encodings.{settled_after};
 ghost use Rattle.ratatui_input.specs.Grammar.{Encodes, StandsForNothing};
 ghost use Rattle.ratatui_input.specs.Keys.{typed_key, with_alt};
-ghost use Rattle.ratatui_input.specs.Decoding.{decoded, next_told, fed_byte, escaped, cut, settled, some_list};
+ghost use Rattle.ratatui_input.specs.Decoding.{decoded, next_told, byte_told, escaped, cut, settled};
+ghost use Rattle.ratatui_input.specs.Decoding.{some_list};
 ghost use Rattle.ratatui_input.specs.declared.decoder.Decoder.{Decoder};
 ghost use Rattle.ratatui_input.specs.declared.decoder.State.{State};
 ghost use Rattle.ratatui_input.specs.declared.decoder.State.TheVariants.{Escape, Bracket, Single};
@@ -24,14 +26,14 @@ pub fn pieces_give_the_whole()
 /// follows is taken for a part of it.
 pub fn escape_begins_anew()
     ensures { (state : State) (p : Bool)
-        → fed_byte (record { state = state; is_pasting = p }) 27 ≡ escaped (cut state) p }
+        → byte_told (record { state = state; is_pasting = p }) 27 ≡ escaped (cut state) p }
 {}
 
 /// What stands for events stands for them whatever comes before or after it.
 pub fn events_are_read_one_by_one()
     ensures before { (a rest : List ℕ) (xs : List Event) → Gives a xs
-        → decoded untouched (a ++ rest)
-        ≡ (xs ++ (decoded untouched rest).0, (decoded untouched rest).1) }
+        → decoded fresh_decoder (a ++ rest)
+        ≡ (xs ++ (decoded fresh_decoder rest).0, (decoded fresh_decoder rest).1) }
     ensures append { (a b : List ℕ) (xs ys : List Event)
         → Gives a xs → Gives b ys → Gives (a ++ b) (xs ++ ys) }
 {}
@@ -42,21 +44,21 @@ pub fn from_escape_on_nothing_is_lost()
     ensures { (state : State) (rest : List ℕ)
         → decoded (record { state = state; is_pasting = false }) (27 ∷ rest)
         ≡ (
-          some_list (cut state) ++ (decoded untouched (27 ∷ rest)).0,
-          (decoded untouched (27 ∷ rest)).1,
+          some_list (cut state) ++ (decoded fresh_decoder (27 ∷ rest)).0,
+          (decoded fresh_decoder (27 ∷ rest)).1,
         ) }
 {}
 
 /// A text in brackets is told character by character. Within a paste no byte tells a key, nor does
 /// settling, and the paste goes on until its end is told.
 pub fn what_is_pasted_is_no_key()
-    ensures text { (text : List ℕ) → IsPlainText text → decoded untouched (in_brackets text)
-        ≡ (PasteBegun ∷ (map Pasted text ++ (PasteEnded ∷ [])), untouched) }
+    ensures text { (text : List ℕ) → IsPlainText text → decoded fresh_decoder (in_brackets text)
+        ≡ (PasteBegun ∷ (map Pasted text ++ (PasteEnded ∷ [])), fresh_decoder) }
     ensures keys { (state : State) (b : ℕ)
-        → AreNoKeys (fed_byte (record { state = state; is_pasting = true }) b).0 }
+        → AreNoKeys (byte_told (record { state = state; is_pasting = true }) b).0 }
     ensures goes_on { (state : State) (b : ℕ)
-        → ((fed_byte (record { state = state; is_pasting = true }) b).1.is_pasting ≡ true)
-        ⊎ HaveEnd (fed_byte (record { state = state; is_pasting = true }) b).0 }
+        → ((byte_told (record { state = state; is_pasting = true }) b).1.is_pasting ≡ true)
+        ⊎ HaveEnd (byte_told (record { state = state; is_pasting = true }) b).0 }
     ensures settled { (state : State)
         → AreNoKeys (settled state (record { state = state; is_pasting = true })).0 }
 {}
@@ -67,12 +69,15 @@ pub fn encodings_are_read()
     ensures alone { (bytes : List ℕ) (event : Event) → Encodes bytes event → Gives bytes (event ∷ []) }
     ensures among { (before bytes after : List ℕ) (events : List Event) (event : Event)
         → Gives before events → Encodes bytes event
-        → decoded untouched ((before ++ bytes) ++ after)
-        ≡ ((events ++ (event ∷ [])) ++ (decoded untouched after).0, (decoded untouched after).1) }
+        → decoded fresh_decoder ((before ++ bytes) ++ after)
+        ≡ ((events ++ (event ∷ [])) ++ (decoded fresh_decoder after).0, (decoded fresh_decoder after).1) }
     ensures anyhow { (state : State) (bytes after : List ℕ) (event : Event)
         → Encodes (27 ∷ bytes) event
         → decoded (record { state = state; is_pasting = false }) (27 ∷ (bytes ++ after))
-        ≡ (some_list (cut state) ++ (event ∷ (decoded untouched after).0), (decoded untouched after).1) }
+        ≡ (
+          some_list (cut state) ++ (event ∷ (decoded fresh_decoder after).0),
+          (decoded fresh_decoder after).1,
+        ) }
 {}
 
 /// Bytes that belong together and stand for nothing are told as one unknown event, and nothing else.
@@ -82,14 +87,14 @@ pub fn other_bytes_are_unknown()
 
 /// A byte tells two events at most.
 pub fn a_byte_tells_two_events_at_most()
-    ensures { (d : Decoder) (b : ℕ) → length (fed_byte d b).0 ≤ 2 }
+    ensures { (d : Decoder) (b : ℕ) → length (byte_told d b).0 ≤ 2 }
 {}
 
 /// Settling takes ESC, ESC [ and ESC O for keys, and leaves all else as it is.
 pub fn settling_ends_only_keys()
-    ensures escape { settled_after (27 ∷ []) ≡ (Key (pressed Esc (held 0)) ∷ [], untouched) }
-    ensures bracket { settled_after (27 ∷ 91 ∷ []) ≡ (with_alt (typed_key 91) true ∷ [], untouched) }
-    ensures single { settled_after (27 ∷ 79 ∷ []) ≡ (with_alt (typed_key 79) true ∷ [], untouched) }
+    ensures escape { settled_after (27 ∷ []) ≡ (Key (pressed Esc (held 0)) ∷ [], fresh_decoder) }
+    ensures bracket { settled_after (27 ∷ 91 ∷ []) ≡ (with_alt (typed_key 91) true ∷ [], fresh_decoder) }
+    ensures single { settled_after (27 ∷ 79 ∷ []) ≡ (with_alt (typed_key 79) true ∷ [], fresh_decoder) }
     ensures others { (state : State) (p : Bool) → (state ≡ Escape → ⊥) → (state ≡ Bracket → ⊥)
         → (state ≡ Single 0 → ⊥)
         → settled state (record { state = state; is_pasting = p })

@@ -2,7 +2,7 @@
 
 ghost use Rattle.std.specs.Prelude.{◌≡◌, ◌<◌, ◌+◌, [], None, Some, slice_get, IfNone, MatchOption};
 ghost use Rattle.std.specs.Prelude.{MatchResult};
-ghost use Rattle.ratatui_input.specs.Encodings.{untouched};
+ghost use Rattle.ratatui_input.specs.Encodings.{fresh_decoder};
 ghost use Rattle.ratatui_input.specs.Reading.{kept_told, unread, source, TellsFirst, TellsNothing, Reads};
 ghost use Rattle.ratatui_input.specs.Reading.{KeepsAll};
 
@@ -28,7 +28,7 @@ struct Kept {
 impl Kept {
     // Nothing is read yet.
     fn new() -> Kept
-        ensures { kept_told result ≡ ([], untouched) }
+        ensures { kept_told result ≡ ([], fresh_decoder) }
     {
         Kept {
             decoder: Decoder::new(),
@@ -114,7 +114,7 @@ impl<R: Read> EventReader<R> {
     /// Nothing is read yet.
     pub fn new(reader: R) -> EventReader<R>
         ensures source { source result ≡ reader }
-        ensures nothing { unread result ≡ ([], untouched) }
+        ensures nothing { unread result ≡ ([], fresh_decoder) }
     {
         EventReader {
             reader,

@@ -56,9 +56,9 @@ module _ {S T : Type 0} (u : S → Event → S) (o : S → Bool) (shows : S → 
         began = ran.began;
         begins = ran.begins;
         moments = ran.moments ++ (m ∷ []);
-        are = are-append first ran.begun ran.moments m ran.are (step.fed_byte.taken ∙ ap (λ (b : Between S). after_read u o b step.bytes) ran.now_is)
-            (subst (λ (x : T). moves x t') ran.terminal_is step.fed_byte.moved)
-            (subst (λ (b : Between S). IfSome (size_told b.decoder step.bytes) (λ size. has_size size t')) ran.now_is step.fed_byte.sized) step.fed_byte.shown;
+        are = are-append first ran.begun ran.moments m ran.are (step.fed.taken ∙ ap (λ (b : Between S). after_read u o b step.bytes) ran.now_is)
+            (subst (λ (x : T). moves x t') ran.terminal_is step.fed.moved)
+            (subst (λ (b : Between S). IfSome (size_told b.decoder step.bytes) (λ size. has_size size t')) ran.now_is step.fed.sized) step.fed.shown;
         now_is = sym (last_between-append first ran.moments m);
         terminal_is = sym (last_terminal-append ran.begun ran.moments m);
         consumed = subst (λ (l : List ℕ). Consumes all left l)
@@ -101,7 +101,7 @@ module _ {S : Type 0} (u : S → Event → S) (o : S → Bool) where
   typed-step shows moves has_size first all now rest t next left t' came typed step came_is = record {
     bytes = typed.bytes ++ step.bytes;
     consumed = consumes-more all rest left typed.bytes step.bytes typed.consumed step.consumed;
-    now_is = step.fed_byte.taken ∙ ap (λ (b : Between S). after_read u o b step.bytes) typed.now_is ∙ read-some u o (after_bytes u o first typed.bytes) step.bytes (step.some came_is)
+    now_is = step.fed.taken ∙ ap (λ (b : Between S). after_read u o b step.bytes) typed.now_is ∙ read-some u o (after_bytes u o first typed.bytes) step.bytes (step.some came_is)
         ∙ sym (ReadLemmas.bytes-append u o first typed.bytes step.bytes);
   }
 
@@ -116,5 +116,5 @@ module _ {S : Type 0} (u : S → Event → S) (o : S → Bool) where
   ended-empty shows moves has_size first all now rest t d s left t' came typed step no' end = record {
     bytes = typed.bytes;
     consumed = subst (λ (l : List ℕ). Consumes all left l) (ap (λ (l : List ℕ). typed.bytes ++ l) (step.none no') ∙ append-nil typed.bytes) (consumes-more all rest left typed.bytes step.bytes typed.consumed step.consumed);
-    state_is = inr (end, ap (λ (b : Between S). b.state) (step.fed_byte.taken ∙ ap (λ (b : Between S). after_read u o b step.bytes) typed.now_is) ∙ ap (λ (l : List ℕ). (after_read u o (after_bytes u o first typed.bytes) l).state) (step.none no'));
+    state_is = inr (end, ap (λ (b : Between S). b.state) (step.fed.taken ∙ ap (λ (b : Between S). after_read u o b step.bytes) typed.now_is) ∙ ap (λ (l : List ℕ). (after_read u o (after_bytes u o first typed.bytes) l).state) (step.none no'));
   }

@@ -4,14 +4,14 @@ use Rattle.std.proofs.Math.Seq.{drop-cons}
 use Rattle.std.proofs.lemmas.List.{drop_all}
 use Rattle.ratatui_events.specs.declared.event.Event.{Event}
 use Rattle.ratatui_input.specs.declared.decoder.Decoder.{Decoder}
-use Rattle.ratatui_input.specs.Decoding.{Told, some_list, fed_byte, decoded, next_told}
+use Rattle.ratatui_input.specs.Decoding.{Told, some_list, byte_told, decoded, next_told}
 use Rattle.ratatui_input.proofs.DecodingLemmas.{decoded-append}
 use Rattle.ratatui_reads.specs.Reads.{Between, told_by, all_updated, after_read, after_reads, after_bytes, all_bytes, IsNonEmpty, AreNonEmpty, size_in, later, last_size}
 
 -- the same of one byte
-one-byte : (d : Decoder) (b : ℕ) → decoded d (b ∷ []) ≡ fed_byte d b
+one-byte : (d : Decoder) (b : ℕ) → decoded d (b ∷ []) ≡ byte_told d b
 unfolding decoded
-one-byte d b = ap (λ (es : List Event). (es, (fed_byte d b).1)) (append-nil (fed_byte d b).0)
+one-byte d b = ap (λ (es : List Event). (es, (byte_told d b).1)) (append-nil (byte_told d b).0)
 
 -- both lists are empty
 pub both-nil : {A : Type 0} (a b : List A) → a ≡ [] → b ≡ [] → a ++ b ≡ []
@@ -73,13 +73,13 @@ module _ {S : Type 0} (u : S → Event → S) (o : S → Bool) where
   pub left-all : (d : Decoder) (s : S) (bytes : List ℕ) → Left d s bytes d s false None bytes
   left-all d s bytes = record { told = []; whole = refl; state = refl; quiet = λ e. refl; sized = refl }
 
-  next-byte : (told : List Event) (d : Decoder) (b : ℕ) (rest : List ℕ) → next_told (told, d) (b ∷ rest) ≡ next_told (told ++ (fed_byte d b).0, (fed_byte d b).1) rest
+  next-byte : (told : List Event) (d : Decoder) (b : ℕ) (rest : List ℕ) → next_told (told, d) (b ∷ rest) ≡ next_told (told ++ (byte_told d b).0, (byte_told d b).1) rest
   unfolding decoded
-  next-byte told d b rest = ap (λ (es : List Event). (es, (decoded (fed_byte d b).1 rest).1)) (sym (append_assoc told (fed_byte d b).0 (decoded (fed_byte d b).1 rest).0))
+  next-byte told d b rest = ap (λ (es : List Event). (es, (decoded (byte_told d b).1 rest).1)) (sym (append_assoc told (byte_told d b).0 (decoded (byte_told d b).1 rest).0))
 
-  -- one more byte is fed_byte
+  -- one more byte is fed
   pub left-fed : (d : Decoder) (s : S) (bytes : List ℕ) (d' : Decoder) (s' : S) (any : Bool) (i : ℕ) (cut event : Option Event) (d'' : Decoder) (s1 s2 : S) (first any' : Bool) (z z1 z2 : Option (ℕ × ℕ))
-      → i < length bytes → (some_list cut ++ some_list event, d'') ≡ fed_byte d' (get_or bytes i 0) → s1 ≡ all_updated u o s' (some_list cut) → s2 ≡ all_updated u o s1 (some_list event)
+      → i < length bytes → (some_list cut ++ some_list event, d'') ≡ byte_told d' (get_or bytes i 0) → s1 ≡ all_updated u o s' (some_list cut) → s2 ≡ all_updated u o s1 (some_list event)
       → (first ≡ false → (any ≡ false) × (some_list cut ≡ [])) → (any' ≡ false → (first ≡ false) × (some_list event ≡ [])) → z1 ≡ last_size z (some_list cut) → z2 ≡ last_size z1 (some_list event)
       → Left d s bytes d' s' any z (drop i bytes) → Left d s bytes d'' s2 any' z2 (drop (i + 1) bytes)
   left-fed d s bytes d' s' any i cut event d'' s1 s2 first any' z z1 z2 lt f e1 e2 qa qb g1 g2 h =

@@ -44,22 +44,22 @@ module _ {S T : Type 0} (updated : S → Event → S) (is_over : S → Bool) (sh
     pub terminal_is : t ≡ last_terminal begun moments
     pub consumed : Consumes all rest (all_bytes (reads_of moments))
 
-  -- bytes of a read, some or none, were fed_byte: what they make of the state is shown, at the last size that they told
+  -- bytes of a read, some or none, were fed: what they make of the state is shown, at the last size that they told
   pub record Feeds (before : Between S) (t : T) (bytes : List ℕ) (after : Between S) (t' : T) : Type 0 where
     pub taken : after ≡ after_read updated is_over before bytes
     pub moved : moves t t'
     pub sized : IfSome (size_told before.decoder bytes) (λ size. has_size size t')
     pub shown : shows after.state t'
 
-  -- one read: bytes were taken from the reader, and fed_byte
+  -- one read: bytes were taken from the reader, and fed
   pub record Steps (before : Between S) (all : Option (List ℕ)) (t : T) (after : Between S) (rest : Option (List ℕ)) (t' : T) (came : Bool) : Type 0 where
     pub bytes : List ℕ
     pub some : came ≡ true → IsNonEmpty bytes
     pub none : came ≡ false → bytes ≡ []
     pub consumed : Consumes all rest bytes
-    pub fed_byte : Feeds before t bytes after t'
+    pub fed : Feeds before t bytes after t'
 
--- where nothing read is no tick: the bytes that were read, in whatever pieces, and what they make of decoder and state
+-- if nothing read is no tick: the bytes that were read, in whatever pieces, and what they make of decoder and state
 pub record HasTyped {S : Type 0} (updated : S → Event → S) (is_over : S → Bool) (first : Between S) (all : Option (List ℕ)) (now : Between S) (rest : Option (List ℕ)) : Type 0 where
   pub bytes : List ℕ
   pub consumed : Consumes all rest bytes

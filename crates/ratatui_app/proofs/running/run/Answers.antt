@@ -1,5 +1,5 @@
 use Rattle.std.proofs.Common.{rules, ◌≡◌, true, false, inl, inr, refl}
-use Rattle.ratatui_input.specs.Encodings.{untouched}
+use Rattle.ratatui_input.specs.Encodings.{fresh_decoder}
 use Rattle.ratatui_reads.proofs.MomentLemmas.{typed-start, typed-step, ended-over, ended-empty}
 use Rattle.ratatui_app.specs.Showing.{ShowsState, Moves, HasSize}
 use Rattle.ratatui_app.proofs.RunLemmas.{runs-start, runs-step, runs-shows, keeps-known, came-if}
@@ -8,7 +8,7 @@ use Rattle.ratatui_app.proofs.running.run.Goals as goal
 pub loop-init : goal.loop-init
 loop-init g c = λ rest. (
   runs-start g.B.Backend.screen g.B.Backend.failures g.B.Backend.is_flushed g.A.Application.paints g.A.Updates.updated g.A.Updates.is_over _ _ _ _ _ c.new-decoder.ensures c.in-Ok.ensures.draws c.in-Ok.ensures.faults (c.in-Ok.ensures.shows (inl rest)),
-  λ no'. rw c.new-decoder.ensures (typed-start g.A.Updates.updated g.A.Updates.is_over (record { decoder = untouched; state = c.args.application.now }) (g.R.Read.remaining c.args.reader.now)),
+  λ no'. rw c.new-decoder.ensures (typed-start g.A.Updates.updated g.A.Updates.is_over (record { decoder = fresh_decoder; state = c.args.application.now }) (g.R.Read.remaining c.args.reader.now)),
 )
 
 pub loop-preserved : goal.loop-preserved
