@@ -8,12 +8,15 @@ use Rattle.ratatui_reads.specs.Reads.{Between}
 use Rattle.ratatui_app.specs.Showing.{RunsTo}
 
 -- a run on a terminal that is sent bytes
-abbrev pub RunsOnGlass : {W S : Type 0} → (S → Rect → BufferData → BufferData → Type 0) → (S → Event → S) → (S → Bool) → TerminalData (BackendState W) → Between S → Option (List ℕ) → Between S → Option (List ℕ) → TerminalData (BackendState W) → Type 0
+abbrev pub RunsOnGlass : {W S : Type 0} → (S → Rect → BufferData → BufferData → Type 0) → (S → Event → S)
+    → (S → Bool) → TerminalData (BackendState W) → Between S → Option (List ℕ) → Between S → Option (List ℕ)
+    → TerminalData (BackendState W) → Type 0
 RunsOnGlass {W = W} = RunsTo shown_by (λ (b : BackendState W). b.failures) is_flushed
 
--- a buffer that is what painting the state makes of an empty one is shown by each terminal of the backend's size that has read what was sent,
--- however it was left before, and all of it was flushed
-pub record IsOnGlass {W S : Type 0} (paints : S → Rect → BufferData → BufferData → Type 0) (s : S) (t : TerminalData (BackendState W)) : Type 0 where
+-- a buffer that is what painting the state makes of an empty one is shown by each terminal of the backend's size that has
+-- read what was sent, however it was left before, and all of it was flushed
+pub record IsOnGlass {W S : Type 0} (paints : S → Rect → BufferData → BufferData → Type 0) (s : S)
+    (t : TerminalData (BackendState W)) : Type 0 where
   pub painted : ShowsRendered shown_by (paints s) t
   pub shown : IsShownToAll t.previous t.backend
   pub flushed : is_flushed t.backend ≡ true

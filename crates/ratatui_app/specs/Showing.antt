@@ -1,7 +1,8 @@
 -- What a terminal shows of an application's state, and how a run moves it.
 use Rattle.std.specs.Prelude.{◌≡◌, ◌⊎◌, ℕ, Bool, true, false, List, Option, Result, Ok, Err}
 use Rattle.ratatui_core.specs.{Backend.size_of, Layout.Rect, Buffer.BufferData, Backend.Screen}
-use Rattle.ratatui_core.specs.Terminal.{TerminalData, IsAtRest, IsInStep, DrawsFrame, Viewport, Fullscreen, ShowsRendered}
+use Rattle.ratatui_core.specs.Terminal.{TerminalData, IsAtRest, IsInStep, DrawsFrame, Viewport, Fullscreen}
+use Rattle.ratatui_core.specs.Terminal.{ShowsRendered}
 use Rattle.ratatui_events.specs.declared.event.Event.{Event}
 use Rattle.ratatui_input.specs.declared.decoder.Decoder.{Decoder}
 use Rattle.std.specs.Prelude.{⊤, IfSome}
@@ -13,8 +14,10 @@ use Rattle.ratatui_app.specs.declared.running.Fault.{Fault}
 use Rattle.ratatui_app.specs.declared.running.Fault.TheVariants.{Read, Memory, Draw, Resize}
 use Rattle.ratatui_reads.specs.Moments.{Ran, Feeds, Steps}
 
-module _ {B S : Type 0} (screen : B → Screen) (is_flushed : B → Bool) (paints : S → Rect → BufferData → BufferData → Type 0) where
-  -- the terminal is at rest, the buffer that its screen shows is what painting the state makes of an empty one, and all of it was sent
+module _ {B S : Type 0} (screen : B → Screen) (is_flushed : B → Bool)
+    (paints : S → Rect → BufferData → BufferData → Type 0) where
+  -- the terminal is at rest, the buffer that its screen shows is what painting the state makes of an empty one, and all of
+  -- it was sent
   pub record ShowsState (s : S) (t : TerminalData B) : Type 0 where
     pub rest : IsAtRest screen Fullscreen t
     pub painted : ShowsRendered screen (paints s) t
@@ -36,7 +39,8 @@ module _ {B : Type 0} (screen : B → Screen) (failures : B → ℕ) where
   abbrev pub HasSize : ℕ × ℕ → TerminalData B → Type 0
   HasSize size t = size_of (screen t.backend) ≡ record { width = size.0; height = size.1 }
 
-  -- the screen took a size that was told, if one was and it was another one; then it has any contents, and a draw will find its size
+  -- the screen took a size that was told, if one was and it was another one; then it has any contents, and a draw will
+  -- find its size
   pub record TakesTold (size : Option (ℕ × ℕ)) (s t : TerminalData B) : Type 0 where
     pub may : MayDraw t
     pub taken : MayTakeSize screen s t
@@ -48,42 +52,57 @@ module _ {B : Type 0} (screen : B → Screen) (failures : B → ℕ) where
     pub drawn : (t ≡ s) ⊎ AtAnySize screen (DrawsFrame screen) s t
     pub faults : failures t.backend ≡ failures s.backend
 
-module _ {B S : Type 0} (screen : B → Screen) (failures : B → ℕ) (is_flushed : B → Bool) (paints : S → Rect → BufferData → BufferData → Type 0) (updated : S → Event → S) (is_over : S → Bool) where
-  abbrev pub RunsTo : TerminalData B → Between S → Option (List ℕ) → Between S → Option (List ℕ) → TerminalData B → Type 0
+module _ {B S : Type 0} (screen : B → Screen) (failures : B → ℕ) (is_flushed : B → Bool)
+    (paints : S → Rect → BufferData → BufferData → Type 0) (updated : S → Event → S) (is_over : S → Bool) where
+  -- a run, the bytes of a read that are fed, and one read, on a terminal that shows the state after each
+  abbrev pub RunsTo : TerminalData B → Between S → Option (List ℕ) → Between S → Option (List ℕ) → TerminalData B
+      → Type 0
   RunsTo = Ran updated is_over (ShowsState screen is_flushed paints) (Moves screen failures) (HasSize screen failures)
 
   abbrev pub FeedsTo : Between S → TerminalData B → List ℕ → Between S → TerminalData B → Type 0
   FeedsTo = Feeds updated is_over (ShowsState screen is_flushed paints) (Moves screen failures) (HasSize screen failures)
 
-  abbrev pub StepsTo : Between S → Option (List ℕ) → TerminalData B → Between S → Option (List ℕ) → TerminalData B → Bool → Type 0
+  abbrev pub StepsTo : Between S → Option (List ℕ) → TerminalData B → Between S → Option (List ℕ) → TerminalData B
+      → Bool → Type 0
   StepsTo = Steps updated is_over (ShowsState screen is_flushed paints) (Moves screen failures) (HasSize screen failures)
 
 -- a draw of a state was refused: nothing was written after the resize, or the backend failed
-abbrev pub RefusesState : {B S E : Type 0} → (B → Screen) → (S → Rect → BufferData → BufferData → Type 0) → S → TerminalData B → TerminalData B → TerminalError E → Type 0
+abbrev pub RefusesState : {B S E : Type 0} → (B → Screen) → (S → Rect → BufferData → BufferData → Type 0) → S
+    → TerminalData B → TerminalData B → TerminalError E → Type 0
 RefusesState screen paints s = DrawErr screen (RendersCurrent (paints s) (λ _ _ _. ⊤) (λ area. area) (λ _ _. ⊥))
 
-module _ {B S : Type 0} (screen : B → Screen) (failures : B → ℕ) (is_flushed : B → Bool) (paints : S → Rect → BufferData → BufferData → Type 0) (updated : S → Event → S) (is_over : S → Bool) where
-  -- the state is what bytes make of the one before, and its frame was refused, at the size that the screen had or had taken
-  pub record LacksFrame {E : Type 0} (before : Between S) (t : TerminalData B) (bytes : List ℕ) (after : Between S) (t' : TerminalData B) (error : TerminalError E) : Type 0 where
+module _ {B S : Type 0} (screen : B → Screen) (failures : B → ℕ) (is_flushed : B → Bool)
+    (paints : S → Rect → BufferData → BufferData → Type 0) (updated : S → Event → S) (is_over : S → Bool) where
+  -- the state is what bytes make of the one before, and its frame was refused, at the size that the screen had or had
+  -- taken
+  pub record LacksFrame {E : Type 0} (before : Between S) (t : TerminalData B) (bytes : List ℕ) (after : Between S)
+      (t' : TerminalData B) (error : TerminalError E) : Type 0 where
     pub taken : after ≡ after_read updated is_over before bytes
     pub sized : TerminalData B
     pub given : MayTakeSize screen t sized
     pub refused : RefusesState screen paints after.state sized t' error
 
-  -- where bytes and their frame stop: at a refused update the terminal stayed, and at a refused size all of it but the backend
-  abbrev pub StopsFeeding : {E : Type 0} → Between S → TerminalData B → List ℕ → Between S → TerminalData B → Fault E → Type 0
+  -- where bytes and their frame stop: at a refused update the terminal stayed, and at a refused size all of it but the
+  -- backend
+  abbrev pub StopsFeeding : {E : Type 0} → Between S → TerminalData B → List ℕ → Between S → TerminalData B → Fault E
+      → Type 0
   StopsFeeding before t bytes after t' (Read error) = ⊥
   StopsFeeding before t bytes after t' Memory = t' ≡ t
   StopsFeeding before t bytes after t' (Draw error) = LacksFrame before t bytes after t' error
-  StopsFeeding before t bytes after t' (Resize error) = (after ≡ after_read updated is_over before bytes) × (t' ≡ record t { backend = t'.backend })
+  StopsFeeding before t bytes after t' (Resize error) =
+      (after ≡ after_read updated is_over before bytes) × (t' ≡ record t { backend = t'.backend })
 
-  -- where a read, its events and its frame stop: at a failed read nothing has changed, and else bytes were taken from the reader
-  abbrev pub Stops : {E : Type 0} → Between S → Option (List ℕ) → TerminalData B → Between S → Option (List ℕ) → TerminalData B → Fault E → Type 0
+  -- where a read, its events and its frame stop: at a failed read nothing has changed, and else bytes were taken from the
+  -- reader
+  abbrev pub Stops : {E : Type 0} → Between S → Option (List ℕ) → TerminalData B → Between S → Option (List ℕ)
+      → TerminalData B → Fault E → Type 0
   Stops before all t after rest t' (Read error) = (after ≡ before) × (t' ≡ t) × Keeps all rest
-  Stops before all t after rest t' fault = (bytes : List ℕ) × Consumes all rest bytes × StopsFeeding before t bytes after t' fault
+  Stops before all t after rest t' fault =
+      (bytes : List ℕ) × Consumes all rest bytes × StopsFeeding before t bytes after t' fault
 
-  -- a run that stopped: the first frame was refused, or it ran up to some moment and the next read stopped
-  pub record StopsLater {E : Type 0} (t0 : TerminalData B) (first : Between S) (all : Option (List ℕ)) (state : S) (rest : Option (List ℕ)) (t' : TerminalData B) (fault : Fault E) : Type 0 where
+  -- a run up to some moment, after which the next read stopped
+  pub record StopsLater {E : Type 0} (t0 : TerminalData B) (first : Between S) (all : Option (List ℕ)) (state : S)
+      (rest : Option (List ℕ)) (t' : TerminalData B) (fault : Fault E) : Type 0 where
     pub now : Between S
     pub left : Option (List ℕ)
     pub terminal : TerminalData B
@@ -91,14 +110,20 @@ module _ {B S : Type 0} (screen : B → Screen) (failures : B → ℕ) (is_flush
     pub decoder : Decoder
     pub stops : Stops now left terminal (record { decoder = decoder; state = state }) rest t' fault
 
-  abbrev pub RefusesFirst : {E : Type 0} → Between S → Option (List ℕ) → TerminalData B → S → Option (List ℕ) → TerminalData B → Fault E → Type 0
-  RefusesFirst first all t state rest t' (Draw error) = (state ≡ first.state) × (rest ≡ all) × RefusesState screen paints state t t' error
+  -- the first frame was refused, and nothing was read
+  abbrev pub RefusesFirst : {E : Type 0} → Between S → Option (List ℕ) → TerminalData B → S → Option (List ℕ)
+      → TerminalData B → Fault E → Type 0
+  RefusesFirst first all t state rest t' (Draw error) =
+      (state ≡ first.state) × (rest ≡ all) × RefusesState screen paints state t t' error
   RefusesFirst first all t state rest t' (Read error) = ⊥
   RefusesFirst first all t state rest t' Memory = ⊥
   RefusesFirst first all t state rest t' (Resize error) = ⊥
 
-  abbrev pub StopsRun : {E : Type 0} → Between S → Option (List ℕ) → TerminalData B → S → Option (List ℕ) → TerminalData B → Fault E → Type 0
-  StopsRun first all t state rest t' fault = RefusesFirst first all t state rest t' fault ⊎ StopsLater t first all state rest t' fault
+  -- a run that stopped: the first frame was refused, or a later read stopped
+  abbrev pub StopsRun : {E : Type 0} → Between S → Option (List ℕ) → TerminalData B → S → Option (List ℕ)
+      → TerminalData B → Fault E → Type 0
+  StopsRun first all t state rest t' fault =
+      RefusesFirst first all t state rest t' fault ⊎ StopsLater t first all state rest t' fault
 
 -- why a run ended well: the application is over, or no byte is left and nothing read is no tick
 abbrev pub IsEnd : {S : Type 0} → (S → Bool) → Bool → S → Option (List ℕ) → Type 0

@@ -7,7 +7,8 @@ ghost use Rattle.ratatui_core.specs.Terminal.{IsAtRest, Fullscreen, DrawsFrame};
 ghost use Rattle.ratatui_input.specs.Encodings.{fresh_decoder};
 ghost use Rattle.ratatui_input.specs.declared.decoder.Decoder.{Decoder};
 ghost use Rattle.ratatui_reads.specs.Moments.{HasEnded};
-ghost use Rattle.ratatui_app.specs.Showing.{MayDraw, TakesTold, ShowsState, FeedsTo, StepsTo, RunsTo, StopsFeeding, RefusesState, Stops, StopsRun, IsEnd};
+ghost use Rattle.ratatui_app.specs.Showing.{MayDraw, TakesTold, ShowsState, FeedsTo, StepsTo, RunsTo};
+ghost use Rattle.ratatui_app.specs.Showing.{StopsFeeding, RefusesState, Stops, StopsRun, IsEnd};
 
 use crate::application::{Application, Page};
 use ratatui_core::backend::{Backend, Resizable};
@@ -75,8 +76,10 @@ fn give_size<B: Resizable>(
 ) -> Result<(), Option<B::Error>>
     ensures only { terminal.new ≡ record terminal.old { backend = terminal.new.backend } }
     ensures ok { IsAtRest B.screen Fullscreen terminal.old
-        → ((terminal.old.viewport_area.width ≡ columns) × (terminal.old.viewport_area.height ≡ rows) → ⊥)
-        → OnOk result (TakesTold B.screen B.failures (Some (columns, rows)) terminal.old terminal.new) }
+        → ((terminal.old.viewport_area.width ≡ columns)
+        × (terminal.old.viewport_area.height ≡ rows) → ⊥)
+        → OnOk result
+        (TakesTold B.screen B.failures (Some (columns, rows)) terminal.old terminal.new) }
 {
     let size = Size {
         width: columns,

@@ -25,16 +25,22 @@ module _ {S T : Type 0} where
   reads_of [] = []
   reads_of (m ∷ ms) = m.bytes ∷ reads_of ms
 
-module _ {S T : Type 0} (updated : S → Event → S) (is_over : S → Bool) (shows : S → T → Type 0) (moves : T → T → Type 0) (has_size : ℕ × ℕ → T → Type 0) where
-  -- after each read the state is what the read makes of the one before, the terminal moved on from the one before, has the last size that the
-  -- read told, and shows the state
+module _ {S T : Type 0} (updated : S → Event → S) (is_over : S → Bool)
+    (shows : S → T → Type 0) (moves : T → T → Type 0) (has_size : ℕ × ℕ → T → Type 0) where
+  -- after each read the state is what the read makes of the one before, the terminal moved on from the one before, has
+  -- the last size that the read told, and shows the state
   abbrev pub AreMoments : Between S → T → List (Moment S T) → Type 0
   AreMoments b t [] = Unit {0}
-  AreMoments b t (m ∷ ms) = (m.between ≡ after_read updated is_over b m.bytes) × moves t m.terminal × IfSome (size_told b.decoder m.bytes) (λ size. has_size size m.terminal) × shows m.between.state m.terminal × AreMoments m.between m.terminal ms
+  AreMoments b t (m ∷ ms) = (m.between ≡ after_read updated is_over b m.bytes)
+      × moves t m.terminal
+      × IfSome (size_told b.decoder m.bytes) (λ size. has_size size m.terminal)
+      × shows m.between.state m.terminal
+      × AreMoments m.between m.terminal ms
 
-  -- a run that is between two reads: its first frame on a terminal, and each moment up to now; what it read was taken from the reader's bytes,
-  -- as far as these are known
-  pub record Ran (before : T) (first : Between S) (all : Option (List ℕ)) (now : Between S) (rest : Option (List ℕ)) (t : T) : Type 0 where
+  -- a run that is between two reads: its first frame on a terminal, and each moment up to now; what it read was taken from
+  -- the reader's bytes, as far as these are known
+  pub record Ran (before : T) (first : Between S) (all : Option (List ℕ)) (now : Between S) (rest : Option (List ℕ))
+      (t : T) : Type 0 where
     pub begun : T
     pub began : moves before begun
     pub begins : shows first.state begun
@@ -52,7 +58,8 @@ module _ {S T : Type 0} (updated : S → Event → S) (is_over : S → Bool) (sh
     pub shown : shows after.state t'
 
   -- one read: bytes were taken from the reader, and fed
-  pub record Steps (before : Between S) (all : Option (List ℕ)) (t : T) (after : Between S) (rest : Option (List ℕ)) (t' : T) (came : Bool) : Type 0 where
+  pub record Steps (before : Between S) (all : Option (List ℕ)) (t : T) (after : Between S) (rest : Option (List ℕ))
+      (t' : T) (came : Bool) : Type 0 where
     pub bytes : List ℕ
     pub some : came ≡ true → IsNonEmpty bytes
     pub none : came ≡ false → bytes ≡ []
@@ -60,13 +67,16 @@ module _ {S T : Type 0} (updated : S → Event → S) (is_over : S → Bool) (sh
     pub fed : Feeds before t bytes after t'
 
 -- if nothing read is no tick: the bytes that were read, in whatever pieces, and what they make of decoder and state
-pub record HasTyped {S : Type 0} (updated : S → Event → S) (is_over : S → Bool) (first : Between S) (all : Option (List ℕ)) (now : Between S) (rest : Option (List ℕ)) : Type 0 where
+pub record HasTyped {S : Type 0} (updated : S → Event → S) (is_over : S → Bool)
+    (first : Between S) (all : Option (List ℕ)) (now : Between S) (rest : Option (List ℕ)) : Type 0 where
   pub bytes : List ℕ
   pub consumed : Consumes all rest bytes
   pub now_is : now ≡ after_bytes updated is_over first bytes
 
 -- and at the end, after which what had come is taken as whole, if the reader came to its end
-pub record HasEnded {S : Type 0} (updated : S → Event → S) (is_over : S → Bool) (first : Between S) (all : Option (List ℕ)) (state : S) (rest : Option (List ℕ)) : Type 0 where
+pub record HasEnded {S : Type 0} (updated : S → Event → S) (is_over : S → Bool)
+    (first : Between S) (all : Option (List ℕ)) (state : S) (rest : Option (List ℕ)) : Type 0 where
   pub bytes : List ℕ
   pub consumed : Consumes all rest bytes
-  pub state_is : (state ≡ (after_bytes updated is_over first bytes).state) ⊎ (IsAtEnd rest × (state ≡ (after_read updated is_over (after_bytes updated is_over first bytes) []).state))
+  pub state_is : (state ≡ (after_bytes updated is_over first bytes).state)
+      ⊎ (IsAtEnd rest × (state ≡ (after_read updated is_over (after_bytes updated is_over first bytes) []).state))

@@ -56,8 +56,8 @@ abbrev pub AreNonEmpty : List (List ℕ) → Type 0
 AreNonEmpty [] = Unit {0}
 AreNonEmpty (r ∷ rs) = IsNonEmpty r × AreNonEmpty rs
 
--- the columns and rows that an event tells: those of the terminal, or of the last place, where the cursor was sent to ask for it; one
--- without columns or rows is none
+-- the columns and rows that an event tells: those of the terminal, or of the last place, where the cursor was sent to ask
+-- for it; a size without columns or rows is none
 abbrev pub size_in : Event → Option (ℕ × ℕ)
 size_in (Size columns rows) = if nat_lt 0 columns && nat_lt 0 rows then Some (columns, rows) else None
 size_in (Position x y) = Some (min (x + 1) 65535, min (y + 1) 65535)
