@@ -2,14 +2,41 @@
 //!
 //! Its first line is the screen's size, `W H`. A log that can't be read or shown gives one line on
 //! standard error, status 1 and no output. If writing fails the status is 1, and nothing stands on
-//! standard error.
+//! standard error. `--help` says so; other words are an error, with status 2.
 #![tactic(auto)]
 
 use logview::{LogFault, print_log, tell};
+use std::env;
 use std::io::BufWriter;
 use std::process::ExitCode;
 
+static HELP: &str = "logview: reads a log from standard input and prints the screen that shows it.
+The first line is the screen's size, `W H`, in columns and rows from 1 to 65535; each other line is a
+line of the log. Printed are the rows that scrolled off and those of the screen, the last of them the
+status line. A log that can't be read or shown gives one line on standard error, and status 1.
+";
+
+// The first word of the command line.
+fn first_word(rt: &HostRuntime) -> Option<String> {
+    let mut words = env::args(rt).ok()?;
+    let _program = words.next()?;
+    words.next()
+}
+
+// What a word gives: a page on the program, or an error.
+fn answer(rt: &HostRuntime, word: &str) -> ExitCode {
+    if word == "--help" {
+        let _ = print!(rt; "{HELP}");
+        return ExitCode::SUCCESS;
+    }
+    let _ = eprintln!(rt; "logview: it takes no words; --help says what it reads");
+    ExitCode::from(2)
+}
+
 fn main(rt: HostRuntime) -> ExitCode {
+    if let Some(word) = first_word(&rt) {
+        return answer(&rt, word.as_str());
+    }
     let (mut reader, mut errors) = (rt.reader(), rt.stderr());
     let Ok(mut writer) = BufWriter::new(rt.alloc(), rt.stdout()) else {
         let _ = tell(&mut errors, LogFault::Memory);
