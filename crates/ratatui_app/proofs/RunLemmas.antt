@@ -1,10 +1,9 @@
 -- A run, its start, a step of it, and its ends.
-use Rattle.std.proofs.Common.{arith, rules, length, ◌<◌, ◌+◌, ◌∷◌, ◌≡◌, ◌⊎◌, inl, inr, ℕ, Bool, true, false, List, [], Option, Result, Ok, Err, OnOk, refl, ap, ap₂, sym, subst, ◌∙◌}
+use Rattle.std.proofs.Common.{arith, rules, length, ◌<◌, ◌∷◌, ◌≡◌, ◌⊎◌, inl, inr, ℕ, Bool, true, false, List, [], Option, Result, Ok, Err, OnOk, refl, ap, ap₂, sym, subst, ◌∙◌}
 use Rattle.std.specs.Io.KnownBytes.{Consumes, Keeps}
 use Rattle.std.proofs.Common.{None, Some, IfSome}
 use Rattle.ratatui_core.specs.{Layout.Rect, Buffer.BufferData, Backend.Screen}
-use Rattle.ratatui_core.specs.Layout.{EdgesFit}
-use Rattle.ratatui_core.specs.Terminal.{TerminalData, TerminalError, Viewport, IsAtRest, IsReady, IsFixed, IsSized, IsInStep, Fullscreen, Stays, DrawsFrame, Resizes, Applies, ShowsRendered}
+use Rattle.ratatui_core.specs.Terminal.{TerminalData, TerminalError, Viewport, IsAtRest, IsReady, IsFixed, IsSized, IsInStep, Fullscreen, Stays, DrawsFrame, Resizes, Applies}
 use Rattle.ratatui_core.specs.{Layout.Size, Layout.Position, Buffer.IsEmptied, Buffer.IsSettledBuffer, Backend.screen_area, Backend.size_of}
 use Rattle.ratatui_input.specs.Encodings.{fresh_decoder}
 use Rattle.ratatui_events.specs.declared.event.Event.{Event}

@@ -1,5 +1,5 @@
 -- A number that keys change, and how it is painted.
-use Rattle.std.specs.Prelude.{◌≡◌, ℕ, ◌+◌, ◌-◌, ◌==◌, min, Bool, true, if◌then◌else◌, List}
+use Rattle.std.specs.Prelude.{◌≡◌, ℕ, ◌+◌, ◌-◌, ◌==◌, min, true, if◌then◌else◌}
 use Rattle.std.specs.Fmt.{decimal}
 use Rattle.ratatui_core.specs.{Layout.Rect, Buffer.BufferData, Widgets.HasFirstRow, Widgets.RendersStr}
 use Rattle.ratatui_events.specs.declared.event.Event.{Event}

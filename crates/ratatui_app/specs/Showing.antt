@@ -1,7 +1,7 @@
 -- What a terminal shows of an application's state, and how a run moves it.
-use Rattle.std.specs.Prelude.{◌≡◌, ◌⊎◌, ℕ, Bool, true, false, List, Option, Result, Ok, Err}
+use Rattle.std.specs.Prelude.{◌≡◌, ◌⊎◌, ℕ, Bool, true, false, List, Option}
 use Rattle.ratatui_core.specs.{Backend.size_of, Layout.Rect, Buffer.BufferData, Backend.Screen}
-use Rattle.ratatui_core.specs.Terminal.{TerminalData, IsAtRest, IsInStep, DrawsFrame, Viewport, Fullscreen}
+use Rattle.ratatui_core.specs.Terminal.{TerminalData, IsAtRest, DrawsFrame, Fullscreen}
 use Rattle.ratatui_core.specs.Terminal.{ShowsRendered}
 use Rattle.ratatui_events.specs.declared.event.Event.{Event}
 use Rattle.ratatui_input.specs.declared.decoder.Decoder.{Decoder}

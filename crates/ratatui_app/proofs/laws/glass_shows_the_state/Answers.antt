@@ -1,4 +1,4 @@
-use Rattle.std.proofs.Common.{◌≡◌, ◌∙◌}
+use Rattle.std.proofs.Common.{◌∙◌}
 use Rattle.ratatui_core.specs.Terminal.{TerminalData}
 use Rattle.ratatui_ansi.specs.Backend.{BackendState, shown_by, is_flushed}
 use Rattle.ratatui_reads.proofs.MomentLemmas.{ran-kept}

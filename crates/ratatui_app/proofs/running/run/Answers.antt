@@ -1,7 +1,6 @@
-use Rattle.std.proofs.Common.{rules, ◌≡◌, true, false, inl, inr, refl}
+use Rattle.std.proofs.Common.{rules, inl, inr, refl}
 use Rattle.ratatui_input.specs.Encodings.{fresh_decoder}
 use Rattle.ratatui_reads.proofs.MomentLemmas.{typed-start, typed-step, ended-over, ended-empty}
-use Rattle.ratatui_app.specs.Showing.{ShowsState, Moves, HasSize}
 use Rattle.ratatui_app.proofs.RunLemmas.{runs-start, runs-step, runs-shows, keeps-known, came-if}
 use Rattle.ratatui_app.proofs.running.run.Goals as goal
 
