@@ -108,15 +108,15 @@ whole p s alt bytes code r c h low k e scalar plain =
     ∙ ends p (waiting alt code 1 128 191) (128 + r) (with_alt (typed_key c) alt)
     (last-byte alt code r low k ∙ ap Whole (ap (λ (x : ℕ). character_event x alt) e ∙ character-is c alt (scalar_cases c scalar) plain))
 
-encode-two : (c : ℕ) → 128 ≤ c → c < 2048 → encode c ≡ (192 + c / 64) ∷ (128 + c % 64) ∷ []
+pub encode-two : (c : ℕ) → 128 ≤ c → c < 2048 → encode c ≡ (192 + c / 64) ∷ (128 + c % 64) ∷ []
 unfolding encode
 encode-two c low high = grind (arith, nat_tests)
 
-encode-three : (c : ℕ) → 2048 ≤ c → c < 65536 → encode c ≡ (224 + c / 4096) ∷ (128 + c / 64 % 64) ∷ (128 + c % 64) ∷ []
+pub encode-three : (c : ℕ) → 2048 ≤ c → c < 65536 → encode c ≡ (224 + c / 4096) ∷ (128 + c / 64 % 64) ∷ (128 + c % 64) ∷ []
 unfolding encode
 encode-three c low high = grind (arith, nat_tests)
 
-encode-four : (c : ℕ) → 65536 ≤ c → encode c ≡ (240 + c / 262144) ∷ (128 + c / 4096 % 64) ∷ (128 + c / 64 % 64) ∷ (128 + c % 64) ∷ []
+pub encode-four : (c : ℕ) → 65536 ≤ c → encode c ≡ (240 + c / 262144) ∷ (128 + c / 4096 % 64) ∷ (128 + c / 64 % 64) ∷ (128 + c % 64) ∷ []
 unfolding encode
 encode-four c low = grind (arith, nat_tests)
 
@@ -219,7 +219,7 @@ four-bytes p s alt c h scalar plain low high =
     (middle-byte alt (c / 262144 * 64 + c / 4096 % 64) 2 128 191 (c / 64 % 64) (omega arith) (omega arith) (omega arith) (omega arith) (omega arith)))))
     (omega arith) (omega arith) (omega arith) scalar plain
 
-encode-one : (c : ℕ) → c < 128 → encode c ≡ c ∷ []
+pub encode-one : (c : ℕ) → c < 128 → encode c ≡ c ∷ []
 unfolding encode
 encode-one c low = grind (arith, nat_tests)
 

@@ -321,7 +321,7 @@ other-read {n = n} {m = m} {code = code} {is_keypad = is_keypad} {ds = ds} {es =
 
 -- ---- the mouse
 
-mouse-is : (n x y : ℕ) (is_up : Bool) (kind : MouseEventKind) → n ≤ 255 → x ≤ 65535 → y ≤ 65535 → mouse_kind n is_up ≡ Some kind
+pub mouse-is : (n x y : ℕ) (is_up : Bool) (kind : MouseEventKind) → n ≤ 255 → x ≤ 65535 → y ≤ 65535 → mouse_kind n is_up ≡ Some kind
     → mouse_event n x y is_up ≡ mouse_told kind n x y
 unfolding mouse_event
 mouse-is n x y is_up kind a b c e =

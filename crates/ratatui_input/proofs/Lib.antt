@@ -7,3 +7,7 @@ pub mod StepLemmas
 pub mod CharacterLemmas
 pub mod GrammarLemmas
 pub mod NothingLemmas
+pub mod ComeLemmas
+pub mod ToleratedLemmas
+pub mod UnknownLemmas
+pub mod PieceLemmas

@@ -50,10 +50,10 @@ stray-told b h = record { all = ends-plain Ground b Unknown (ground-stray b h) u
 -- ---- a sequence with a mark
 
 -- a byte in a sequence leads on in it, and a sequence with a mark keeps it
-record Goes (s : Sequence) (b : ℕ) : Type 0 where
-  next : Sequence
-  leads : pushed s b ≡ Some next
-  keeps : s.source ≡ Other → next.source ≡ Other
+pub record Goes (s : Sequence) (b : ℕ) : Type 0 where
+  pub next : Sequence
+  pub leads : pushed s b ≡ Some next
+  pub keeps : s.source ≡ Other → next.source ≡ Other
 
 either : (b : Bool) (x y : Sequence) → x.source ≡ Other → y.source ≡ Other → (if b then x else y).source ≡ Other
 either true x y h k = h
@@ -65,7 +65,7 @@ digit-keeps s b h =
     either ((s.numbers == 0) && (s.parts == 0)) _ _ h
     (either ((s.numbers == 1) && (s.parts == 0)) _ _ h (either ((s.numbers == 2) && (s.parts == 0)) _ _ h (either ((s.numbers == 1) && (s.parts == 1)) _ _ h h)))
 
-digit-goes : (s : Sequence) (b : ℕ) → 48 ≤ b → b ≤ 57 → pushed s b ≡ Some (digit_pushed s b)
+pub digit-goes : (s : Sequence) (b : ℕ) → 48 ≤ b → b ≤ 57 → pushed s b ≡ Some (digit_pushed s b)
 unfolding pushed
 digit-goes s b low high = grind (arith, nat_tests)
 
@@ -81,7 +81,7 @@ semicolon-goes : (s : Sequence) → pushed s 59 ≡ Some (record s { numbers = i
 unfolding pushed
 semicolon-goes s = refl
 
-goes : (s : Sequence) (b : ℕ) → 32 ≤ b → b ≤ 63 → Goes s b
+pub goes : (s : Sequence) (b : ℕ) → 32 ≤ b → b ≤ 63 → Goes s b
 goes s b low high =
     elim (cases_lt b 48) [
       | inl small ↦ record { next = record s { source = Other }; leads = mark-goes s b (inl (low, omega arith)); keeps = λ h. refl }
@@ -97,11 +97,11 @@ goes s b low high =
       ]
     ]
 
-inside-step : (s : Sequence) (b : ℕ) → 32 ≤ b → b ≤ 63 → stepped (Numbers s) b ≡ going_on (pushed s b)
+pub inside-step : (s : Sequence) (b : ℕ) → 32 ≤ b → b ≤ 63 → stepped (Numbers s) b ≡ going_on (pushed s b)
 unfolding stepped in_sequence
 inside-step s b low high = grind (arith, nat_tests)
 
-bracket-step : (b : ℕ) → 32 ≤ b → b ≤ 63 → b ≢ 60 → stepped Bracket b ≡ going_on (pushed no_numbers b)
+pub bracket-step : (b : ℕ) → 32 ≤ b → b ≤ 63 → b ≢ 60 → stepped Bracket b ≡ going_on (pushed no_numbers b)
 unfolding stepped after_bracket in_sequence
 bracket-step b low high other = grind (arith, nat_tests)
 
@@ -190,7 +190,7 @@ shift-stays m h = grind (arith, nat_tests)
 shift-too-many : (k m : ℕ) → 256 < m → key_event k BackTab false (with_shift m) ≡ Unknown
 shift-too-many k m h = ap (key_event k BackTab false) (shift-stays m h) ∙ too-many k BackTab false m h
 
-letter-too-many : {b : ℕ} {code : KeyCode} → IsLetter b code → (k m : ℕ) → 256 < m → letter_code_event (Some code) k m ≡ Unknown
+pub letter-too-many : {b : ℕ} {code : KeyCode} → IsLetter b code → (k m : ℕ) → 256 < m → letter_code_event (Some code) k m ≡ Unknown
 letter-too-many letter_up k m h = too-many k _ false m h
 letter-too-many letter_down k m h = too-many k _ false m h
 letter-too-many letter_right k m h = too-many k _ false m h

@@ -70,7 +70,7 @@ digit_of b low high = and_mask b 4 ∙ omega arith
 
 -- states that differ by a number, to which each digit is added
 module _ (state : ℕ → State) (one : (n b : ℕ) → 48 ≤ b → b ≤ 57 → stepped (state n) b ≡ More (state (min (n * 10 + (b - 48)) (2 ^ 32 - 1)))) where
-  digits-kept : (ds : List ℕ) (n : ℕ) → IsDigits ds → Leads (state n) ds (state (value_after n ds))
+  pub digits-kept : (ds : List ℕ) (n : ℕ) → IsDigits ds → Leads (state n) ds (state (value_after n ds))
   digits-kept [] n h = leads-none (state n)
   digits-kept (b ∷ ds) n h = leads-cons (state n) (state (min (n * 10 + (b - 48)) (2 ^ 32 - 1))) (state (value_after (min (n * 10 + (b - 48)) (2 ^ 32 - 1)) ds)) b ds
       (one n b h.0 h.1) (digits-kept ds (min (n * 10 + (b - 48)) (2 ^ 32 - 1)) h.2)
@@ -94,11 +94,11 @@ at_third source f s n = Numbers (seq source 2 0 f s n 0)
 abbrev pub at_kind : ℕ → ℕ → ℕ → State
 at_kind f s n = Numbers (seq Keys 1 1 f s 0 n)
 
-first-digit : (source : Source) (n b : ℕ) → 48 ≤ b → b ≤ 57 → stepped (at_first source n) b ≡ More (at_first source (min (n * 10 + (b - 48)) (2 ^ 32 - 1)))
+pub first-digit : (source : Source) (n b : ℕ) → 48 ≤ b → b ≤ 57 → stepped (at_first source n) b ≡ More (at_first source (min (n * 10 + (b - 48)) (2 ^ 32 - 1)))
 unfolding stepped in_sequence pushed digit_pushed
 first-digit source n b low high = grind (arith, common_steps, digit_of b low high)
 
-second-digit : (source : Source) (f n b : ℕ) → 48 ≤ b → b ≤ 57 → stepped (at_second source f n) b ≡ More (at_second source f (min (n * 10 + (b - 48)) (2 ^ 32 - 1)))
+pub second-digit : (source : Source) (f n b : ℕ) → 48 ≤ b → b ≤ 57 → stepped (at_second source f n) b ≡ More (at_second source f (min (n * 10 + (b - 48)) (2 ^ 32 - 1)))
 unfolding stepped in_sequence pushed digit_pushed
 second-digit source f n b low high = grind (arith, common_steps, digit_of b low high)
 
@@ -195,7 +195,7 @@ pub last-byte : (q : Sequence) (b : ℕ) → 64 ≤ b → b ≤ 126 → stepped 
 unfolding stepped in_sequence
 last-byte q b low high = grind (arith, common_steps)
 
-bracket-last : (b : ℕ) → EndsSequence b → stepped Bracket b ≡ Whole (sequence_event no_numbers b)
+pub bracket-last : (b : ℕ) → EndsSequence b → stepped Bracket b ≡ Whole (sequence_event no_numbers b)
 unfolding stepped after_bracket in_sequence
 bracket-last b h = let low = h.low in let high = h.high in let x = h.no_bracket in let y = h.no_click in grind (arith, common_steps)
 

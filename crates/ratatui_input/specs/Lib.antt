@@ -6,3 +6,4 @@ pub mod Encodings
 pub mod Reading
 pub mod KeyTables
 pub mod Grammar
+pub mod Pieces

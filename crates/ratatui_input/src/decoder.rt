@@ -1,6 +1,6 @@
 //! A decoder: bytes in, events out.
 
-ghost use Rattle.std.specs.Prelude.{◌≡◌, ◌-◌, true, false};
+ghost use Rattle.std.specs.Prelude.{◌≡◌, ◌↔◌, ◌-◌, IsTrue, true, false};
 ghost use Rattle.ratatui_input.specs.Decoding.{begun, first, after_escape, after_bracket, in_sequence};
 ghost use Rattle.ratatui_input.specs.Decoding.{after_single, after_function, in_character, character_event};
 ghost use Rattle.ratatui_input.specs.Decoding.{stepped, cut, pasted_code, read, byte_told, events_of};
@@ -378,7 +378,9 @@ impl Decoder {
     }
 
     /// Whether nothing of a further event has come.
-    pub fn is_empty(&self) -> bool {
+    pub fn is_empty(&self) -> bool
+        ensures { IsTrue result ↔ (self.now.state ≡ Ground) }
+    {
         match self.state {
             State::Ground => true,
             _ => false,

@@ -10,12 +10,13 @@ ghost use Rattle.ratatui_input.specs.Encodings.{fresh_decoder, Gives, in_bracket
 ghost use Rattle.ratatui_input.specs.Encodings.{HaveEnd};
 ghost use Rattle.ratatui_input.specs.Encodings.{settled_after};
 ghost use Rattle.ratatui_input.specs.Grammar.{Encodes, StandsForNothing};
+ghost use Rattle.ratatui_input.specs.Pieces.{AreBytes, IsReadInPieces, Tolerates};
 ghost use Rattle.ratatui_input.specs.Keys.{typed_key, with_alt};
 ghost use Rattle.ratatui_input.specs.Decoding.{decoded, next_told, byte_told, escaped, cut, settled};
-ghost use Rattle.ratatui_input.specs.Decoding.{some_list};
+ghost use Rattle.ratatui_input.specs.Decoding.{some_list, told_event};
 ghost use Rattle.ratatui_input.specs.declared.decoder.Decoder.{Decoder};
 ghost use Rattle.ratatui_input.specs.declared.decoder.State.{State};
-ghost use Rattle.ratatui_input.specs.declared.decoder.State.TheVariants.{Escape, Bracket, Single};
+ghost use Rattle.ratatui_input.specs.declared.decoder.State.TheVariants.{Ground, Escape, Bracket, Single};
 
 /// Bytes in two pieces give what they give at once, and so do bytes in any pieces.
 pub fn pieces_give_the_whole()
@@ -83,6 +84,23 @@ pub fn encodings_are_read()
 /// Bytes that belong together and stand for nothing are told as one unknown event, and nothing else.
 pub fn other_bytes_are_unknown()
     ensures { (bytes : List ℕ) → StandsForNothing bytes → Gives bytes (Unknown ∷ []) }
+{}
+
+/// Whatever bytes are read, they are pieces, one for each event that is told, in order, and then bytes
+/// that tell nothing yet: no byte is lost, and none is read twice. Outside a paste a piece is bytes
+/// that stand for its event: by the grammar, by a sequence with further numbers, or as ESC, ESC [ or
+/// ESC O by themselves. Unknown is told of bytes that stand for nothing, and of the end of a paste that
+/// hasn't begun, and of nothing else. Within a paste an event is the character of a key, the paste's
+/// end, or unknown.
+pub fn what_is_read_is_pieces()
+    ensures { (bytes : List ℕ) → AreBytes bytes → IsReadInPieces false bytes (decoded fresh_decoder bytes) }
+{}
+
+/// A sequence with more, or other, numbers than the protocols send is read as its event alone: the
+/// numbers that no event has use for mean nothing.
+pub fn further_numbers_mean_nothing()
+    ensures { (p : Bool) (bytes : List ℕ) (event : Event) → Tolerates bytes event
+        → decoded (record { state = Ground; is_pasting = p }) bytes ≡ told_event event Ground p }
 {}
 
 /// A byte tells two events at most.
