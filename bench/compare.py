@@ -9,9 +9,15 @@ that with a tenth of them; the programs run in turns. Without runs (`--runs 0`) 
 it. A ratio is that of the second program to the first; `-` stands for a program that doesn't know the workload.
 """
 import argparse
+import os
 import re
 import resource
 import subprocess
+import sys
+
+sys.path.insert(0, f"{os.path.dirname(os.path.dirname(os.path.abspath(__file__)))}/tools")
+sys.dont_write_bytecode = True
+from shared import refuse
 
 # All workloads that README.md names. The twin has no widgets.
 WORKLOADS = (
@@ -24,6 +30,21 @@ WORKLOADS = (
 ).split()
 SECONDS = 0.25
 FEW, MANY = 4, 10
+
+
+def size_of(word):
+    """The columns and rows that a word as 200x60 says."""
+    if not re.fullmatch(r"[1-9]\d*x[1-9]\d*", word):
+        refuse(f"{word!r} is no size such as 200x60")
+    return tuple(map(int, word.split("x")))
+
+
+def named(word):
+    """The name and the program that a word says."""
+    name, _, program = word.partition("=")
+    if not os.access(program, os.X_OK):
+        refuse(f"{word!r} is no NAME=PROGRAM, or there is no such program")
+    return name, program
 
 
 def run(program, workload, size, rounds):
@@ -96,9 +117,10 @@ def main():
     parser.add_argument("--runs", type=int, default=10)
     parser.add_argument("--only", default=",".join(WORKLOADS))
     parser.add_argument("programs", nargs=2, metavar="NAME=PROGRAM")
+    parser.error = refuse
     options = parser.parse_args()
-    sizes = [tuple(map(int, size.split("x"))) for size in (options.size, options.also) if size]
-    programs = [tuple(program.split("=", 1)) for program in options.programs]
+    sizes = [size_of(size) for size in (options.size, options.also) if size]
+    programs = [named(word) for word in options.programs]
     names = [name for name, _ in programs]
     units = ["us"] * (options.runs > 0) + ["bytes"] + [f"kinstr. at {width}x{height}" for width, height in sizes]
     print("| workload |" + "".join(heads(names, unit) for unit in units))

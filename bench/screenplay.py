@@ -15,7 +15,9 @@ import sys
 import tempfile
 import time
 
-TOP = os.path.dirname(os.path.dirname(os.path.abspath(__file__)))
+sys.path.insert(0, f"{os.path.dirname(os.path.dirname(os.path.abspath(__file__)))}/tools")
+sys.dont_write_bytecode = True
+from shared import TOP, refuse, words
 
 
 def inserts():
@@ -76,8 +78,11 @@ def run(program, script):
 
 
 def main():
-    words = sys.argv[1:] or [f"port={TOP}/crates/screenplay_program/out/screenplay_program"]
-    programs = [word.split("=", 1) if "=" in word else ("port", word) for word in words]
+    given = words(__doc__) or [f"port={TOP}/crates/screenplay_program/out/screenplay_program"]
+    programs = [word.split("=", 1) if "=" in word else ("port", word) for word in given]
+    for _, program in programs:
+        if not os.access(program, os.X_OK):
+            refuse(f"no program {program}")
     resource.setrlimit(resource.RLIMIT_CORE, (0, 0))
     with tempfile.TemporaryDirectory() as folder:
         for title, made in SCRIPTS.items():
