@@ -1,8 +1,9 @@
 //! The program `follow`: shows standard input line by line above a status line, as it comes.
 //!
 //! `follow COLUMNS ROWS` sends escape sequences to standard output, for a terminal of this size;
-//! without words the size is that of the variables COLUMNS and LINES. If the size isn't known, its
-//! words are wrong or a call fails, one line stands on standard error, and the status is not 0.
+//! without words the size is that of the variables COLUMNS and LINES. If the size isn't known or a
+//! call fails, one line stands on standard error, and the status is not 0; if a word is wrong, clap's
+//! several lines. What stands there begins with `follow: `.
 #![tactic(auto)]
 
 mod size;
@@ -21,24 +22,38 @@ fn run(rt: &HostRuntime, size: Size) -> Result<(), Fault> {
     follow(rt.alloc(), &mut reader, &mut writer, size)
 }
 
-fn main(rt: HostRuntime) -> anyhow::Result<ExitCode> {
-    let words: Vec<String> = env::args(&rt)?.collect(rt.alloc())?;
+// Reads the words, and shows standard input.
+fn start(rt: &HostRuntime) -> anyhow::Result<ExitCode> {
+    let words: Vec<String> = env::args(rt)?.collect(rt.alloc())?;
     let matches = match command(rt.alloc())?.try_get_matches_from(words.as_slice()) {
         Ok(matches) => matches,
         Err(error) => {
-            error.print(&rt)?;
+            if error.use_stderr() {
+                eprint!(rt; "follow: ")?;
+            }
+            error.print(rt)?;
             return Ok(ExitCode::from(error.exit_code() as u8));
         }
     };
-    let Some(size) = size_of(&rt, &matches) else {
-        eprintln!(&rt; "follow: no size: give COLUMNS and ROWS, or set COLUMNS and LINES")?;
+    let Some(size) = size_of(rt, &matches) else {
+        eprintln!(rt; "follow: no size: give COLUMNS and ROWS, or set COLUMNS and LINES")?;
         return Ok(ExitCode::from(2));
     };
-    match run(&rt, size) {
+    match run(rt, size) {
         Ok(()) => Ok(ExitCode::SUCCESS),
         Err(fault) => {
-            eprintln!(&rt; "follow: {fault}")?;
+            eprintln!(rt; "follow: {fault}")?;
             Ok(ExitCode::FAILURE)
+        }
+    }
+}
+
+fn main(rt: HostRuntime) -> ExitCode {
+    match start(&rt) {
+        Ok(status) => status,
+        Err(error) => {
+            let _ = eprintln!(rt; "follow: {error}");
+            ExitCode::FAILURE
         }
     }
 }

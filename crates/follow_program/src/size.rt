@@ -14,6 +14,7 @@ pub fn command<'a>(alloc: Global) -> Result<Command<'a>, AllocError> {
         .help("How high the terminal is; else the variable LINES says it")
         .value_parser(value_parser!(u16).range(1..=65535));
     Command::new(alloc, "follow")
+        .bin_name("follow")?
         .about("Shows standard input line by line above a status line, as it comes")
         .arg(columns)?
         .arg(rows)
