@@ -61,17 +61,6 @@ module _ {B S : Type 0} (screen : B → Screen) (failures : B → ℕ) (is_flush
     refused = refused;
   }
 
-  -- no event came
-  pub feeds-quiet : (d : Decoder) (s : S) (t : TerminalData B) (d' : Decoder) (s' : S) (bytes : List ℕ)
-      → d' ≡ (told_by d bytes).1 → s' ≡ all_updated u o s (told_by d bytes).0 → (told_by d bytes).0 ≡ []
-      → ShowsState screen is_flushed paints s t → FeedsTo screen failures is_flushed paints u o (record { decoder = d; state = s }) t bytes (record { decoder = d'; state = s' }) t
-  feeds-quiet d s t d' s' bytes e1 e2 quiet shown = record {
-    taken = ap₂ (λ (x : Decoder) (y : S). record { decoder = x; state = y }) e1 e2;
-    moved = record { drawn = inl refl; faults = refl };
-    sized = subst (λ (es : List Event). IfSome (last_size None es) (λ x. HasSize screen failures x t)) (sym quiet) tt;
-    shown = subst (λ (x : S). ShowsState screen is_flushed paints x t) (sym (e2 ∙ ap (all_updated u o s) quiet)) shown;
-  }
-
   -- bytes that were read and fed
   pub steps-fed : (before : Between S) (all : Option (List ℕ)) (t : TerminalData B) (after : Between S) (rest : Option (List ℕ)) (t' : TerminalData B) (bytes piece : List ℕ) (came : Bool)
       → (came ≡ true → 0 < length piece) → (came ≡ false → length piece ≡ 0) → Consumes all rest bytes → piece ≡ bytes
@@ -159,15 +148,6 @@ module _ {B : Type 0} (screen : B → Screen) (failures : B → ℕ) where
       let size = (draws.applied.keeps here settled).size in
       same-size (screen draws.sized.backend) (screen t.backend) size.width size.height ∙ sized-size s draws.sized draws.autoresized.case
 
-  -- a screen of a viewport's own size already has that
-  pub resizes-same : (s : TerminalData B) (w h : ℕ) → s.viewport_area.width ≡ w → s.viewport_area.height ≡ h → IsAtRest screen Fullscreen s → Showing.TakesTold screen failures (Some (w, h)) s s
-  resizes-same s w h ew eh rest = record {
-    may = inl rest;
-    taken = inl refl;
-    has = ap₂ (λ (x y : ℕ). record { width = x; height = y }) (sym (ap (λ (r : Rect). r.width) rest.lies) ∙ ew) (sym (ap (λ (r : Rect). r.height) rest.lies) ∙ eh);
-    faults = refl;
-  }
-
   -- another size isn't known
   known-size : (s : TerminalData B) (b : B) (w h : ℕ) → size_of (screen b) ≡ record { width = w; height = h } → IsAtRest screen Fullscreen s
       → IsFixed s.viewport ⊎ (screen_area (screen b) ≡ s.last_known_area) → IsFixed s.viewport ⊎ (screen_area (screen s.backend) ≡ s.last_known_area)
@@ -191,10 +171,6 @@ module _ {B : Type 0} (screen : B → Screen) (failures : B → ℕ) where
       → OnOk result (size_of (screen b) ≡ record { width = w; height = h }) → OnOk result (failures b ≡ failures s.backend) → IsAtRest screen Fullscreen s → OnOk result (Showing.TakesTold screen failures (Some (w, h)) s (record s { backend = b }))
   resizes-if s b w h (Ok x) other size same rest = resizes-new s b w h other size same rest
   resizes-if s b w h (Err e) other size same rest = tt
-
-pub not-both : {P Q : Type 0} → (P × (Q → ⊥)) ⊎ (P → ⊥) → P × Q → ⊥
-not-both (inl x) both = x.1 both.1
-not-both (inr x) both = x both.0
 
 -- something came, where an empty read would have ended the run
 pub came-if : (came ticks : Bool) → ticks ≡ false → ((came ≡ false) × (ticks ≡ true)) ⊎ (came ≡ true) → came ≡ true
