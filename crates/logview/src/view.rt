@@ -161,4 +161,12 @@ impl<B: Backend> LogView<B> {
     {
         &self.terminal
     }
+
+    /// The terminal, when the view is done with: as the last call left it.
+    pub fn into_terminal(self) -> Terminal<B>
+        ensures { result ≡ self.terminal }
+    {
+        let LogView { terminal, count: _ } = self;
+        terminal
+    }
 }

@@ -1,4 +1,4 @@
-ghost use Rattle.std.specs.Prelude.{◌≡◌, ◌↔◌, map, IsTrue, IfOk, Some};
+ghost use Rattle.std.specs.Prelude.{◌≡◌, ◌↔◌, [], map, IsTrue, IfOk, IsOk, Some};
 ghost use Rattle.rtui_layout.specs.Constraint.{IsMin, IsMax, IsLength, IsPercentage, IsRatio, IsFill, constraint_text};
 
 use std::alloc::{AllocError, Global};
@@ -74,10 +74,14 @@ impl Constraint {
     ///
     /// # Errors
     ///
-    /// `AllocError` if memory is refused.
+    /// `AllocError` if memory is refused; no numbers take none.
     pub fn from_lengths(alloc: Global, lengths: &[u16]) -> Result<Vec<Self>, AllocError>
-        ensures { IfOk result (λ v. v.items ≡ map Constraint.Length lengths.now) }
+        ensures ok { IfOk result (λ v. v.items ≡ map Constraint.Length lengths.now) }
+        ensures succeeds { lengths.now ≡ [] → IsOk result }
     {
+        if lengths.is_empty() {
+            return Ok(Vec::new(alloc));
+        }
         lengths
             .iter()
             .map(|n| Constraint::Length(*n))
@@ -88,11 +92,15 @@ impl Constraint {
     ///
     /// # Errors
     ///
-    /// `AllocError` if memory is refused.
+    /// `AllocError` if memory is refused; no numbers take none.
     pub fn from_ratios(alloc: Global, ratios: &[(u32, u32)]) -> Result<Vec<Self>, AllocError>
-        ensures { IfOk result (λ v.
+        ensures ok { IfOk result (λ v.
             v.items ≡ map (λ pair. Constraint.Ratio pair.0 pair.1) ratios.now) }
+        ensures succeeds { ratios.now ≡ [] → IsOk result }
     {
+        if ratios.is_empty() {
+            return Ok(Vec::new(alloc));
+        }
         ratios
             .iter()
             .map(|pair| Constraint::Ratio(pair.0, pair.1))
@@ -103,10 +111,14 @@ impl Constraint {
     ///
     /// # Errors
     ///
-    /// `AllocError` if memory is refused.
+    /// `AllocError` if memory is refused; no numbers take none.
     pub fn from_percentages(alloc: Global, percentages: &[u16]) -> Result<Vec<Self>, AllocError>
-        ensures { IfOk result (λ v. v.items ≡ map Constraint.Percentage percentages.now) }
+        ensures ok { IfOk result (λ v. v.items ≡ map Constraint.Percentage percentages.now) }
+        ensures succeeds { percentages.now ≡ [] → IsOk result }
     {
+        if percentages.is_empty() {
+            return Ok(Vec::new(alloc));
+        }
         percentages
             .iter()
             .map(|n| Constraint::Percentage(*n))
@@ -117,10 +129,14 @@ impl Constraint {
     ///
     /// # Errors
     ///
-    /// `AllocError` if memory is refused.
+    /// `AllocError` if memory is refused; no numbers take none.
     pub fn from_maxes(alloc: Global, maxes: &[u16]) -> Result<Vec<Self>, AllocError>
-        ensures { IfOk result (λ v. v.items ≡ map Constraint.Max maxes.now) }
+        ensures ok { IfOk result (λ v. v.items ≡ map Constraint.Max maxes.now) }
+        ensures succeeds { maxes.now ≡ [] → IsOk result }
     {
+        if maxes.is_empty() {
+            return Ok(Vec::new(alloc));
+        }
         maxes.iter().map(|n| Constraint::Max(*n)).collect(alloc)
     }
 
@@ -128,10 +144,14 @@ impl Constraint {
     ///
     /// # Errors
     ///
-    /// `AllocError` if memory is refused.
+    /// `AllocError` if memory is refused; no numbers take none.
     pub fn from_mins(alloc: Global, mins: &[u16]) -> Result<Vec<Self>, AllocError>
-        ensures { IfOk result (λ v. v.items ≡ map Constraint.Min mins.now) }
+        ensures ok { IfOk result (λ v. v.items ≡ map Constraint.Min mins.now) }
+        ensures succeeds { mins.now ≡ [] → IsOk result }
     {
+        if mins.is_empty() {
+            return Ok(Vec::new(alloc));
+        }
         mins.iter().map(|n| Constraint::Min(*n)).collect(alloc)
     }
 
@@ -139,10 +159,14 @@ impl Constraint {
     ///
     /// # Errors
     ///
-    /// `AllocError` if memory is refused.
+    /// `AllocError` if memory is refused; no numbers take none.
     pub fn from_fills(alloc: Global, fills: &[u16]) -> Result<Vec<Self>, AllocError>
-        ensures { IfOk result (λ v. v.items ≡ map Constraint.Fill fills.now) }
+        ensures ok { IfOk result (λ v. v.items ≡ map Constraint.Fill fills.now) }
+        ensures succeeds { fills.now ≡ [] → IsOk result }
     {
+        if fills.is_empty() {
+            return Ok(Vec::new(alloc));
+        }
         fills.iter().map(|n| Constraint::Fill(*n)).collect(alloc)
     }
 }

@@ -1,5 +1,5 @@
 //! Lists of constraints.
-ghost use Rattle.std.specs.Prelude.{◌≡◌, [], IfOk};
+ghost use Rattle.std.specs.Prelude.{◌≡◌, [], IfOk, IsOk};
 ghost use Rattle.std.specs.Cmp.{partial_equiv_from_equiv};
 ghost use Rattle.std.specs.Cmp.Lexicographic.{pointwise, lists_equiv};
 ghost use Rattle.std.specs.Hash as fed;
@@ -37,8 +37,12 @@ impl Constraints {
     }
 
     pub(crate) fn from_slice(alloc: Global, constraints: &[Constraint]) -> Result<Self, AllocError>
-        ensures { IfOk result (λ s. s ≡ constraints.now) }
+        ensures ok { IfOk result (λ s. s ≡ constraints.now) }
+        ensures succeeds { constraints.now ≡ [] → IsOk result }
     {
+        if constraints.is_empty() {
+            return Ok(Constraints::new(alloc));
+        }
         let items = Vec::from_slice(alloc, constraints)?;
         Ok(Constraints { items })
     }

@@ -1,4 +1,4 @@
-ghost use Rattle.std.specs.Prelude.{◌≡◌, pos, IfOk};
+ghost use Rattle.std.specs.Prelude.{◌≡◌, [], pos, IfOk, IsOk};
 ghost use Rattle.rtui_layout.specs.Layout.{LayoutData, default_layout};
 ghost use Rattle.rtui_layout.specs.Spacing.{spacing_from, cut_spacing_from};
 
@@ -118,14 +118,15 @@ impl Layout {
     ///
     /// # Errors
     ///
-    /// `AllocError` if memory is refused.
+    /// `AllocError` if memory is refused; no constraints take none.
     pub fn new(
         alloc: Global,
         direction: Direction,
         constraints: &[Constraint],
     ) -> Result<Self, AllocError>
-        ensures { IfOk result (λ l.
+        ensures ok { IfOk result (λ l.
             l ≡ record default_layout { direction = direction; constraints = constraints.now }) }
+        ensures succeeds { constraints.now ≡ [] → IsOk result }
     {
         Layout::default_in(alloc)
             .direction(direction)
@@ -136,11 +137,12 @@ impl Layout {
     ///
     /// # Errors
     ///
-    /// `AllocError` if memory is refused.
+    /// `AllocError` if memory is refused; no constraints take none.
     pub fn vertical(alloc: Global, constraints: &[Constraint]) -> Result<Self, AllocError>
-        ensures { IfOk result (λ l.
+        ensures ok { IfOk result (λ l.
             l ≡ record default_layout
             { direction = Direction.Vertical; constraints = constraints.now }) }
+        ensures succeeds { constraints.now ≡ [] → IsOk result }
     {
         Layout::new(alloc, Direction::Vertical, constraints)
     }
@@ -149,11 +151,12 @@ impl Layout {
     ///
     /// # Errors
     ///
-    /// `AllocError` if memory is refused.
+    /// `AllocError` if memory is refused; no constraints take none.
     pub fn horizontal(alloc: Global, constraints: &[Constraint]) -> Result<Self, AllocError>
-        ensures { IfOk result (λ l.
+        ensures ok { IfOk result (λ l.
             l ≡ record default_layout
             { direction = Direction.Horizontal; constraints = constraints.now }) }
+        ensures succeeds { constraints.now ≡ [] → IsOk result }
     {
         Layout::new(alloc, Direction::Horizontal, constraints)
     }
@@ -170,9 +173,10 @@ impl Layout {
     ///
     /// # Errors
     ///
-    /// `AllocError` if memory is refused; the layout is gone then.
+    /// `AllocError` if memory is refused; the layout is gone then. No constraints take none.
     pub fn constraints(mut self, constraints: &[Constraint]) -> Result<Self, AllocError>
-        ensures { IfOk result (λ l. l ≡ record self { constraints = constraints.now }) }
+        ensures ok { IfOk result (λ l. l ≡ record self { constraints = constraints.now }) }
+        ensures succeeds { constraints.now ≡ [] → IsOk result }
     {
         self.constraints = Constraints::from_slice(self.constraints.allocator(), constraints)?;
         Ok(self)
@@ -258,9 +262,10 @@ impl Layout {
     ///
     /// # Errors
     ///
-    /// `AllocError` if memory is refused.
+    /// `AllocError` if memory is refused; a layout of no constraints takes none.
     pub fn clone(&self, alloc: Global) -> Result<Self, AllocError>
-        ensures { IfOk result (λ l. l ≡ self.now) }
+        ensures ok { IfOk result (λ l. l ≡ self.now) }
+        ensures succeeds { self.now.constraints ≡ [] → IsOk result }
     {
         Ok(Layout {
             direction: self.direction,

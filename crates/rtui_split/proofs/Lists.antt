@@ -43,25 +43,6 @@ pub AllZip-mapped : {A B : Type 0} (R : A → B → Type 0) (f : A → B) → ((
 AllZip-mapped R f holds [] = tt
 AllZip-mapped R f holds (x ∷ xs) = (holds x, AllZip-mapped R f holds xs)
 
--- the same of what the elements were made of
-pub AllZip-unmapped : {A B C : Type 0} (R : B → C → Type 0) (f : A → B) (xs : List A) (ys : List C) → AllZip R (map f xs) ys
-    → AllZip (λ x y. R (f x) y) xs ys
-AllZip-unmapped R f [] [] all = tt
-AllZip-unmapped R f [] (y ∷ ys) all = absurd all
-AllZip-unmapped R f (x ∷ xs) [] all = absurd all
-AllZip-unmapped R f (x ∷ xs) (y ∷ ys) all = (all.0, AllZip-unmapped R f xs ys all.1)
-
--- two relations in turn
-pub AllZip-then : {A B C : Type 0} (R : A → B → Type 0) (S : B → C → Type 0) (T : A → C → Type 0)
-    → ((x : A) (y : B) (z : C) → R x y → S y z → T x z)
-    → (xs : List A) (ys : List B) (zs : List C) → AllZip R xs ys → AllZip S ys zs → AllZip T xs zs
-AllZip-then R S T both [] [] [] r s = tt
-AllZip-then R S T both [] [] (z ∷ zs) r s = absurd s
-AllZip-then R S T both [] (y ∷ ys) zs r s = absurd r
-AllZip-then R S T both (x ∷ xs) [] zs r s = absurd r
-AllZip-then R S T both (x ∷ xs) (y ∷ ys) [] r s = absurd s
-AllZip-then R S T both (x ∷ xs) (y ∷ ys) (z ∷ zs) r s = (both x y z r.0 s.0, AllZip-then R S T both xs ys zs r.1 s.1)
-
 -- a list from a place on
 pub drop_cons : {A : Type 0} (xs : List A) (i : ℕ) (d : A) → i < length xs → drop i xs ≡ get_or xs i d ∷ drop (i + 1) xs
 drop_cons xs i d within = rw add-one (drop-cons xs i d within)

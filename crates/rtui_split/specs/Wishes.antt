@@ -1,12 +1,9 @@
--- What each part of a layout wishes, and whose wishes come first. Exact sizes are counted in units.
+-- What each part of a layout wishes, and whose wishes come first. Exact sizes are counted in units, of which
+-- 5040000 make one column or row.
 use Rattle.std.specs.Prelude.{ℕ, ◌*◌, ◌/◌, ◌-◌, ◌^◌, min, max, List, sum_by, nat_lt, if◌then◌else◌}
 use Rattle.rtui_layout.specs.declared.constraint.Constraint.{Constraint}
 use Rattle.rtui_layout.specs.declared.constraint.Constraint.TheVariants.{Min, Max, Length, Percentage, Ratio}
 use Rattle.rtui_layout.specs.declared.constraint.Constraint.TheVariants.{Fill}
-
--- so many units make one column or row
-abbrev pub unit : ℕ
-unit = 5040000
 
 -- wishes are met in turns, from 0 on; a `Fill` only takes what is left
 abbrev pub turn : Constraint → ℕ

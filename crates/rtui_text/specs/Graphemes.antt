@@ -3,8 +3,8 @@ use Rattle.std.specs.Prelude.{ℕ, Bool, true, not, ◌&&◌, ◌||◌, List, []
 use Rattle.std.specs.{Char.is_control, Char.is_whitespace, List.list_any, List.list_all, List.flat_map, Str.bytes_eq, Slice.Iter.iter_rest}
 use Rattle.unicode_segmentation.specs.{Grapheme.graphemes, Iter.graphemes_left}
 use Rattle.rtui_style.specs.{declared.Style.Style, Style.patch}
-use Rattle.rtui_text.specs.{declared.grapheme.StyledGrapheme.StyledGrapheme, declared.grapheme.SpanGraphemes.SpanGraphemes}
-use Rattle.rtui_text.specs.{declared.grapheme.LineGraphemes.LineGraphemes, Text.SpanData}
+use Rattle.rtui_text.specs.{declared.grapheme.StyledGrapheme.StyledGrapheme, declared.span_graphemes.SpanGraphemes.SpanGraphemes}
+use Rattle.rtui_text.specs.{declared.grapheme.LineGraphemes.LineGraphemes, Text.SpanData, Printable.singles}
 
 -- a grapheme in a style
 pub record GraphemeData : Type 0 where
@@ -32,7 +32,7 @@ line_graphemes base spans = flat_map (span_graphemes base) spans
 
 -- what the graphemes of a span have left
 abbrev pub span_graphemes_left : SpanGraphemes → List GraphemeData
-span_graphemes_left it = in_style it.style (graphemes_left it.graphemes)
+span_graphemes_left it = in_style it.style (singles it.front.now ++ graphemes_left it.graphemes)
 
 -- what the graphemes of a line have left
 abbrev pub line_graphemes_left : LineGraphemes → List GraphemeData

@@ -1,13 +1,12 @@
 ghost use Rattle.std.specs.Prelude.{◌≡◌, true, chars};
 ghost use Rattle.std.specs.Char.{is_whitespace};
 ghost use Rattle.std.specs.List.{list_all};
-ghost use Rattle.unicode_segmentation.specs.Grapheme.{graphemes};
-ghost use Rattle.rtui_text.specs.Graphemes.{has_control, in_style, is_whitespace_symbol};
+ghost use Rattle.rtui_text.specs.Graphemes.{has_control, is_whitespace_symbol};
 
 use crate::span::Span;
+use crate::span_graphemes::SpanGraphemes;
 use rtui_style::Style;
 use std::slice;
-use unicode_segmentation::{Graphemes, UnicodeSegmentation};
 
 const NO_BREAK_SPACE: &str = "\u{A0}";
 
@@ -48,52 +47,11 @@ fn is_white_space(text: &str) -> bool
     text.chars().all(|c| c.is_whitespace())
 }
 
-/// The graphemes of a span, which takes no memory.
-#[derive(Debug, Drop)]
-pub struct SpanGraphemes<'a> {
-    graphemes: Graphemes<'a>,
-    style: Style,
-}
-
-impl<'a> SpanGraphemes<'a> {
-    ghost use Rattle.rtui_text.specs.Graphemes.{span_graphemes_left};
-
-    pub(crate) fn new(text: &'a str, style: Style) -> SpanGraphemes<'a>
-        ensures { span_graphemes_left result ≡ in_style style (graphemes true text.now) }
-    {
-        SpanGraphemes {
-            graphemes: text.graphemes(true),
-            style,
-        }
-    }
-}
-
 /// Whether a control character stands in a text.
 pub fn has_control(text: &str) -> bool
     ensures { result ≡ has_control text.now }
 {
     text.chars().any(|c| c.is_control())
-}
-
-impl<'a> Iterator for SpanGraphemes<'a> {
-    ghost use Rattle.std.specs.Iterator.{YieldsFirstBy, item_count};
-    ghost use Rattle.rtui_text.specs.Graphemes.{span_graphemes_left, grapheme_data};
-
-    type Item = StyledGrapheme<'a>;
-
-    ghost next_gives = { YieldsFirstBy grapheme_data span_graphemes_left };
-
-    ghost remaining = { item_count span_graphemes_left };
-
-    fn next(&mut self) -> Option<StyledGrapheme<'a>> {
-        while let Some(symbol) = self.graphemes.next() {
-            if !has_control(symbol) {
-                let style = self.style;
-                return Some(StyledGrapheme { symbol, style });
-            }
-        }
-        None
-    }
 }
 
 /// The graphemes of a line, which takes no memory.

@@ -14,15 +14,17 @@ mod lines;
 mod masked;
 mod printable;
 mod span;
+mod span_graphemes;
 mod spans;
 mod text;
 
 pub use columns::text_columns;
-pub use grapheme::{LineGraphemes, SpanGraphemes, StyledGrapheme, has_control};
+pub use grapheme::{LineGraphemes, StyledGrapheme, has_control};
 pub use line::Line;
 pub use lines::Lines;
 pub use masked::Masked;
 pub use printable::printable_front;
 pub use span::Span;
+pub use span_graphemes::SpanGraphemes;
 pub use spans::Spans;
 pub use text::Text;

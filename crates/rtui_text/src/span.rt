@@ -16,8 +16,8 @@ ghost use Rattle.rtui_text.specs.Display.{printed_span};
 ghost use Rattle.rtui_text.specs.Hashing.{text_Alike};
 
 use crate::columns::text_columns;
-use crate::grapheme::SpanGraphemes;
 use crate::line::Line;
+use crate::span_graphemes::SpanGraphemes;
 use rtui_layout::HorizontalAlignment;
 use rtui_style::Style;
 use std::alloc::{AllocError, Global};

@@ -29,6 +29,25 @@ impl<B: Backend> Terminal<B> {
         &mut self.backend
     }
 
+    /// The backend, when the terminal is done with: as the last call left it. A cursor that the
+    /// terminal hid stays hidden.
+    pub fn into_backend(self) -> B
+        ensures { result ≡ self.backend }
+    {
+        let Terminal {
+            backend,
+            current: _,
+            previous: _,
+            viewport: _,
+            viewport_area: _,
+            last_known_area: _,
+            last_known_cursor_pos: _,
+            hidden_cursor: _,
+            frame_count: _,
+        } = self;
+        backend
+    }
+
     /// The viewport: the part of the screen that is drawn on, in columns and rows.
     pub fn viewport_area(&self) -> Rect
         ensures { result ≡ self.now.viewport_area }
