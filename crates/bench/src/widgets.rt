@@ -36,11 +36,16 @@ fn long_lines(alloc: Global, count: u16) -> Result<Text<'static>, AllocError> {
     Ok(text)
 }
 
-// Two hundred lines, wrapped, each round.
-fn paragraphs(alloc: Global, size: Size) -> Done {
+// One line of 320,000 columns.
+fn long_line(alloc: Global) -> Result<Text<'static>, AllocError> {
+    Text::raw_string(alloc, "a wrapped ".repeat(alloc, 32_000)?)
+}
+
+// A text, wrapped, each round.
+fn paragraphs(alloc: Global, size: Size, text: Text<'static>) -> Done {
     let area = Rect::new(0, 0, size.width, size.height);
     let mut buffer = Buffer::empty(alloc, area)?;
-    let paragraph = Paragraph::new(long_lines(alloc, 200)?).wrap(Wrap { trim: true });
+    let paragraph = Paragraph::new(text).wrap(Wrap { trim: true });
     for _round in 0..size.count {
         buffer.reset();
         (&paragraph).render(area, &mut buffer)?;
@@ -82,7 +87,8 @@ fn lists(alloc: Global, size: Size, count: u32) -> Done {
 pub fn run(alloc: Global, name: &str, size: Size) -> Done {
     match name {
         "block" => blocks(alloc, size),
-        "paragraph_wrapped" => paragraphs(alloc, size),
+        "paragraph_wrapped" => paragraphs(alloc, size, long_lines(alloc, 200)?),
+        "paragraph_long" => paragraphs(alloc, size, long_line(alloc)?),
         "list" => lists(alloc, size, 100_000),
         "list_1000" => lists(alloc, size, 1_000),
         _ => Ok(None),

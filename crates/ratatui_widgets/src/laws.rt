@@ -1,12 +1,5 @@
 //! Laws of widgets that are no single call's clause.
 
-ghost use Rattle.std.specs.Prelude.{◌≡◌, ℕ, ◌-◌, ◌<◌, ◌≤◌, Bool, false, List, length, slice_index_or, All};
-ghost use Rattle.std.specs.List.{flat_map};
-ghost use Rattle.ratatui_core.specs.Buffer.{BufferData, PaintsPieces, position_of};
-ghost use Rattle.ratatui_core.specs.Text.{GraphemeData};
-ghost use Rattle.ratatui_widgets.specs.Paragraphs.{IsSingleGrapheme, row_pieces, PaintsGraphemes};
-ghost use Rattle.ratatui_widgets.specs.Reflow.{is_break, columns_taken, words_of, AllFit, word_around, row_break, broken_rows};
-
 pub use rtui_boxes::laws::{
     boxes_of_short_symbols_take_no_memory, clearing_keeps_settled, plain_boxes_keep_cells_plain,
 };
@@ -15,29 +8,6 @@ pub use rtui_meters::laws::{
     gauges_on_plain_cells_are_settled, line_gauges_on_plain_cells_are_settled,
     scroll_bars_keep_cells_plain,
 };
-
-/// Of a line that is broken into rows nothing is lost but blanks: no row is wider than the width,
-/// and the rows have the graphemes of all words, in order.
-pub fn wrapping_loses_nothing()
-    ensures fits { (width : ℕ) (trim : Bool) (gs : List GraphemeData) → AllFit width gs
-        → All (λ row. columns_taken row ≤ width) (broken_rows width trim gs) }
-    ensures words { (width : ℕ) (trim : Bool) (gs : List GraphemeData) → AllFit width gs
-        → flat_map words_of (broken_rows width trim gs) ≡ words_of gs }
-{}
-
-/// A word is broken only if it is wider than a row: if no blank stands before the place at which a
-/// line is broken, and none after it, then the word there doesn't fit a row.
-pub fn words_are_broken_only_if_wide()
-    ensures { (width : ℕ) (gs : List GraphemeData) (d : GraphemeData)
-        → let k = (row_break width gs).1 in k < length gs
-        → is_break (slice_index_or gs (k - 1) d) ≡ false
-        → is_break (slice_index_or gs k d) ≡ false
-        → width < columns_taken (word_around gs k) }
-{}
-
-/// Whole graphemes that are painted in a row one after the other are painted together.
-pub fn whole_graphemes_are_painted_together()
-    ensures { (x y : ℕ) (gs : List GraphemeData) (old new : BufferData)
-        → old.area.x ≤ x → All IsSingleGrapheme gs → PaintsGraphemes x y gs old new
-        → PaintsPieces (position_of (x, y)) (row_pieces gs) old new }
-{}
+pub use rtui_paragraph::laws::{
+    whole_graphemes_are_painted_together, words_are_broken_only_if_wide, wrapping_loses_nothing,
+};

@@ -1,0 +1,5 @@
+mod AheadLemmas
+pub mod ParagraphLemmas
+pub mod ReflowLemmas
+pub mod RowsLemmas
+pub mod BreakLemmas

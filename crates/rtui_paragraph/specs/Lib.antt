@@ -1,0 +1,3 @@
+pub mod Ahead
+pub mod Paragraphs
+pub mod Reflow

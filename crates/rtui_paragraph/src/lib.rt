@@ -1,0 +1,13 @@
+//! A text in an area: each line cut, or broken into rows.
+//!
+//! It stands on `ratatui_core` and `rtui_boxes`. `specs/Reflow` says how a line is cut and broken,
+//! `specs/Paragraphs` which rows a paragraph has and what it makes of a buffer. A broken line is
+//! read only as far as rows are skipped and shown.
+#![tactic(auto)]
+
+mod ahead;
+pub mod laws;
+mod paragraph;
+mod reflow;
+
+pub use paragraph::{Paragraph, Wrap};

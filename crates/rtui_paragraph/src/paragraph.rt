@@ -1,0 +1,498 @@
+//! A text in an area.
+
+ghost use Rattle.std.specs.Prelude.{◌≡◌, ◌+◌, ◌<◌, ◌≤◌, ◌∷◌, [], min, length, Some, None, IfOk, OnOk};
+ghost use Rattle.ratatui_core.specs.Layout.{IsInside};
+ghost use Rattle.ratatui_core.specs.Buffer.{IsSettledBuffer, IsReadyAt, IsReadyFrom, position_of};
+ghost use Rattle.ratatui_core.specs.Text.{grapheme_data};
+ghost use Rattle.ratatui_core.specs.Widgets.{ChangesWithin};
+ghost use Rattle.ratatui_core.specs.declared.layout.HorizontalAlignment.TheVariants.{Left, Center, Right};
+ghost use Rattle.rtui_boxes.specs.Boxes.{IsBoxArea};
+ghost use Rattle.rtui_boxes.specs.Framed.{rows_around_if};
+ghost use Rattle.rtui_paragraph.specs.Paragraphs.{IsNewParagraph, aligned_row, aligned_rows, columns_scrolled, cut_line, broken_line, rows_of_lines, paragraph_rows, rows_taken, rows_shown, indent_of, PaintsGrapheme, PaintsRow, PaintsRows, PaintsOn, FillsText};
+ghost use Rattle.rtui_paragraph.specs.Ahead.{left_of, IsAhead};
+ghost use Rattle.rtui_paragraph.specs.Reflow.{data_of, grapheme_columns, columns_taken, AllFit, broken_rows};
+
+use crate::ahead::Ahead;
+use crate::reflow::{columns_of, truncated};
+use ratatui_core::buffer::{Buffer, CellWidth};
+use ratatui_core::layout::{HorizontalAlignment, Position, Rect};
+use ratatui_core::style::Style;
+use ratatui_core::text::{Line, StyledGrapheme, Text};
+use ratatui_core::widgets::Widget;
+use rtui_boxes::{Block, render_frame};
+use std::alloc::{AllocError, Global};
+
+/// How lines are broken that don't fit.
+#[derive(Debug, Clone, Copy, PartialEq, Eq, Hash)]
+pub struct Wrap {
+    /// Whether blanks at the beginning of a row are left out.
+    pub trim: bool,
+}
+
+/// A text in an area, in a box if it has one: each line in a row of its own, cut or broken into
+/// rows.
+///
+/// ```
+/// let text = Text::raw(alloc, "The quick brown fox")?;
+/// let paragraph = Paragraph::new(text)
+///     .wrap(Wrap { trim: true })
+///     .block(Block::bordered(alloc));
+/// frame.render_widget(paragraph, area)?;
+/// ```
+#[derive(Debug, Drop)]
+pub struct Paragraph<'a> {
+    block: Option<Block<'a>>,
+    style: Style,
+    wrap: Option<Wrap>,
+    text: Text<'a>,
+    scroll: Position,
+    alignment: HorizontalAlignment,
+}
+
+impl<'a> Paragraph<'a> {
+    /// A paragraph of a text; takes no memory.
+    pub fn new(text: Text<'a>) -> Paragraph<'a>
+        ensures { IsNewParagraph text.entry result }
+    {
+        Paragraph {
+            block: None,
+            style: Style::new(),
+            wrap: None,
+            text,
+            scroll: Position { x: 0, y: 0 },
+            alignment: HorizontalAlignment::Left,
+        }
+    }
+
+    /// The paragraph in a box.
+    pub fn block(mut self, block: Block<'a>) -> Paragraph<'a>
+        ensures { result ≡ record self.entry { block = Some block.entry } }
+    {
+        self.block = Some(block);
+        self
+    }
+
+    /// The paragraph in a style.
+    pub fn style(mut self, style: Style) -> Paragraph<'a>
+        ensures { result ≡ record self.entry { style = style } }
+    {
+        self.style = style;
+        self
+    }
+
+    /// The paragraph with its lines broken if they don't fit.
+    pub fn wrap(mut self, wrap: Wrap) -> Paragraph<'a>
+        ensures { result ≡ record self.entry { wrap = Some wrap } }
+    {
+        self.wrap = Some(wrap);
+        self
+    }
+
+    /// The paragraph without its first rows and its first columns, in this order.
+    pub fn scroll(mut self, offset: (u16, u16)) -> Paragraph<'a>
+        ensures { let place = position_of (offset.1, offset.0) in
+            result ≡ record self.entry { scroll = place } }
+    {
+        self.scroll = Position {
+            x: offset.1,
+            y: offset.0,
+        };
+        self
+    }
+
+    /// The paragraph with this alignment for each line that has none of its own.
+    pub fn alignment(mut self, alignment: HorizontalAlignment) -> Paragraph<'a>
+        ensures { result ≡ record self.entry { alignment = alignment } }
+    {
+        self.alignment = alignment;
+        self
+    }
+
+    /// The paragraph, aligned to the left.
+    pub fn left_aligned(self) -> Paragraph<'a>
+        ensures { result ≡ record self.entry { alignment = Left } }
+    {
+        self.alignment(HorizontalAlignment::Left)
+    }
+
+    /// The paragraph, centred.
+    pub fn centered(self) -> Paragraph<'a>
+        ensures { result ≡ record self.entry { alignment = Center } }
+    {
+        self.alignment(HorizontalAlignment::Center)
+    }
+
+    /// The paragraph, aligned to the right.
+    pub fn right_aligned(self) -> Paragraph<'a>
+        ensures { result ≡ record self.entry { alignment = Right } }
+    {
+        self.alignment(HorizontalAlignment::Right)
+    }
+
+    /// How many rows the paragraph takes in so many columns, with those of its box: none if there
+    /// are no columns, and at most `usize::MAX`.
+    ///
+    /// # Errors
+    ///
+    /// `AllocError` if memory is refused.
+    pub fn line_count(&self, alloc: Global, width: u16) -> Result<usize, AllocError>
+        ensures { IfOk result (λ n. n ≡ rows_taken self.now width) }
+    {
+        if width < 1 {
+            return Ok(0);
+        }
+        let rows = self.count_rows(alloc, width)?;
+        Ok(rows.saturating_add(self.rows_around()))
+    }
+
+    // How many rows the text takes in so many columns.
+    fn count_rows(&self, alloc: Global, width: u16) -> Result<usize, AllocError>
+        ensures { IfOk result (λ n.
+            n ≡ min (length (paragraph_rows self.now width)) 18446744073709551615) }
+    {
+        match self.wrap {
+            None => Ok(self.text.height()),
+            Some(wrap) => self.count_broken_rows(alloc, width, wrap),
+        }
+    }
+
+    // How many rows the lines take that are broken.
+    fn count_broken_rows(&self, alloc: Global, width: u16, wrap: Wrap) -> Result<usize, AllocError>
+        ensures { let rows = rows_of_lines (Some wrap) self.now width self.now.text.lines in
+            IfOk result (λ n. n ≡ min (length rows) 18446744073709551615) }
+    {
+        let mut count = 0usize;
+        for line in self.text.lines.as_slice() {
+            count = count.saturating_add(self.count_broken(alloc, line, width, wrap)?);
+        }
+        Ok(count)
+    }
+
+    // How many rows a line takes that is broken: one if it is empty.
+    fn count_broken(
+        &self,
+        alloc: Global,
+        line: &Line<'a>,
+        width: u16,
+        wrap: Wrap,
+    ) -> Result<usize, AllocError>
+        ensures { let rows = broken_line self.now width wrap line.now in
+            IfOk result (λ n. n ≡ min (length rows) 18446744073709551615) }
+    {
+        let graphemes = line.styled_graphemes(self.text.style);
+        row_count(Ahead::new(alloc, graphemes, width, wrap.trim))
+    }
+
+    // How many rows a box takes.
+    fn rows_around(&self) -> usize
+        ensures { result ≡ rows_around_if self.now.block }
+    {
+        match &self.block {
+            None => 0,
+            Some(block) => block.rows_around(),
+        }
+    }
+
+    // Renders the text in a part of the buffer.
+    fn render_text(&self, part: Rect, buf: &mut Buffer) -> Result<(), AllocError>
+        requires some { IsBoxArea part }
+        requires inside { IsInside part buf.old.area }
+        ensures within { ChangesWithin part buf.old buf.new }
+        ensures ok { OnOk result (FillsText self.now part buf.old buf.new) }
+        ensures settled { IsReadyFrom part.y buf.old → OnOk result (IsSettledBuffer buf.new) }
+    {
+        match self.wrap {
+            Some(wrap) => self.render_wrapped(part, wrap, buf),
+            None => self.render_truncated(part, buf),
+        }
+    }
+
+    // Each line cut, in a row of its own.
+    fn render_truncated(&self, part: Rect, buf: &mut Buffer) -> Result<(), AllocError>
+        requires some { IsBoxArea part }
+        requires inside { IsInside part buf.old.area }
+        ensures within { ChangesWithin part buf.old buf.new }
+        ensures ok { let rows = rows_of_lines None self.now part.width self.now.text.lines in
+            let shown = rows_shown part.height self.now.scroll.y rows in
+            OnOk result (PaintsRows part part.y shown buf.old buf.new) }
+        ensures settled { IsReadyFrom part.y buf.old → OnOk result (IsSettledBuffer buf.new) }
+    {
+        let lines = self.text.lines.as_slice();
+        for k in 0..part.height {
+            let Some(line) = lines.get(usize::from(self.scroll.y) + usize::from(k)) else {
+                return Ok(());
+            };
+            self.render_cut(line, part, k, buf)?;
+        }
+        Ok(())
+    }
+
+    // A line cut, in row k of a part.
+    fn render_cut(
+        &self,
+        line: &Line<'a>,
+        part: Rect,
+        k: u16,
+        buf: &mut Buffer,
+    ) -> Result<(), AllocError>
+        requires some { IsBoxArea part }
+        requires inside { IsInside part buf.old.area }
+        requires row { k < part.height }
+        ensures within { ChangesWithin part buf.old buf.new }
+        ensures ok { let row = cut_line self.now part.width line.now in
+            OnOk result (PaintsRow part (part.y + k) row buf.old buf.new) }
+        ensures ready { IsReadyFrom (part.y + k) buf.old
+            → OnOk result (IsReadyFrom (part.y + k + 1) buf.new) }
+    {
+        let alignment = line.alignment.unwrap_or(self.alignment);
+        let row = truncated(
+            buf.allocator(),
+            line.styled_graphemes(self.text.style),
+            part.width,
+            columns_scrolled(alignment, self.scroll.x),
+        )?;
+        render_row(row.as_slice(), alignment, part, k, buf)
+    }
+
+    // Each line broken into rows.
+    fn render_wrapped(&self, part: Rect, wrap: Wrap, buf: &mut Buffer) -> Result<(), AllocError>
+        requires some { IsBoxArea part }
+        requires inside { IsInside part buf.old.area }
+        ensures within { ChangesWithin part buf.old buf.new }
+        ensures ok { let rows = rows_of_lines (Some wrap) self.now part.width self.now.text.lines in
+            let shown = rows_shown part.height self.now.scroll.y rows in
+            OnOk result (PaintsRows part part.y shown buf.old buf.new) }
+        ensures settled { IsReadyFrom part.y buf.old → OnOk result (IsSettledBuffer buf.new) }
+    {
+        let mut skip = self.scroll.y;
+        let mut k = 0;
+        for line in self.text.lines.as_slice() {
+            if k == part.height {
+                return Ok(());
+            }
+            k = self.render_broken(line, wrap, &mut skip, part, k, buf)?;
+        }
+        Ok(())
+    }
+
+    // A line broken into rows, the first one in row k of a part, without as many rows as are still
+    // to be skipped; answers the row after the last one.
+    fn render_broken(
+        &self,
+        line: &Line<'a>,
+        wrap: Wrap,
+        skip: &mut u16,
+        part: Rect,
+        k: u16,
+        buf: &mut Buffer,
+    ) -> Result<u16, AllocError>
+        requires some { IsBoxArea part }
+        requires inside { IsInside part buf.old.area }
+        requires row { k ≤ part.height }
+        ensures within { ChangesWithin part buf.old buf.new }
+        ensures row { IfOk result (λ n. n ≤ part.height) }
+        ensures ok { let rows = broken_line self.now part.width wrap line.now in
+            IfOk result (λ n. PaintsOn part k n skip.old skip.new rows buf.old buf.new) }
+        ensures ready { IsReadyFrom (part.y + k) buf.old
+            → IfOk result (λ n. IsReadyFrom (part.y + n) buf.new) }
+    {
+        let alignment = line.alignment.unwrap_or(self.alignment);
+        let graphemes = line.styled_graphemes(self.text.style);
+        let ahead = Ahead::new(buf.allocator(), graphemes, part.width, wrap.trim);
+        render_line(ahead, alignment, skip, part, k, buf)
+    }
+}
+
+// How many columns a line that is aligned so is scrolled.
+fn columns_scrolled(alignment: HorizontalAlignment, columns: u16) -> u16
+    ensures { result ≡ columns_scrolled alignment columns }
+{
+    match alignment {
+        HorizontalAlignment::Left => columns,
+        _ => 0,
+    }
+}
+
+// Renders a row in row k of a part, if no rows are to be skipped and the part has that row; answers
+// the row after it.
+fn render_next(
+    row: &[StyledGrapheme<'_>],
+    alignment: HorizontalAlignment,
+    skip: &mut u16,
+    part: Rect,
+    k: u16,
+    buf: &mut Buffer,
+) -> Result<u16, AllocError>
+    requires some { IsBoxArea part }
+    requires inside { IsInside part buf.old.area }
+    requires row { k ≤ part.height }
+    requires fits { columns_taken (data_of row.now) ≤ part.width }
+    ensures within { ChangesWithin part buf.old buf.new }
+    ensures row { IfOk result (λ n. n ≤ part.height) }
+    ensures ok { let rows = aligned_row alignment (data_of row.now) ∷ [] in
+        IfOk result (λ n. PaintsOn part k n skip.old skip.new rows buf.old buf.new) }
+    ensures ready { IsReadyFrom (part.y + k) buf.old
+        → IfOk result (λ n. IsReadyFrom (part.y + n) buf.new) }
+{
+    if *skip > 0 {
+        *skip -= 1;
+        return Ok(k);
+    }
+    if k == part.height {
+        return Ok(k);
+    }
+    render_row(row, alignment, part, k, buf)?;
+    Ok(k + 1)
+}
+
+// Renders the rows of a line, the first one in row k of a part, without as many rows as are still
+// to be skipped; answers the row after the last one.
+fn render_line(
+    line: Ahead<'_, '_>,
+    alignment: HorizontalAlignment,
+    skip: &mut u16,
+    part: Rect,
+    k: u16,
+    buf: &mut Buffer,
+) -> Result<u16, AllocError>
+    requires some { IsBoxArea part }
+    requires inside { IsInside part buf.old.area }
+    requires row { k ≤ part.height }
+    requires line { IsAhead line }
+    requires width { line.width ≡ part.width }
+    requires fit { AllFit part.width (left_of line) }
+    ensures within { ChangesWithin part buf.old buf.new }
+    ensures row { IfOk result (λ n. n ≤ part.height) }
+    ensures ok { let broken = broken_rows part.width line.entry.trim (left_of line.entry) in
+        let rows = aligned_rows alignment broken in
+        IfOk result (λ n. PaintsOn part k n skip.old skip.new rows buf.old buf.new) }
+    ensures ready { IsReadyFrom (part.y + k) buf.old
+        → IfOk result (λ n. IsReadyFrom (part.y + n) buf.new) }
+{
+    let mut line = line;
+    line.fill()?;
+    if line.is_empty() {
+        return render_next(&[], alignment, skip, part, k, buf);
+    }
+    let mut k = k;
+    while !line.is_empty() {
+        if *skip == 0 && k == part.height {
+            return Ok(k);
+        }
+        let (row, count) = line.row();
+        k = render_next(row, alignment, skip, part, k, buf)?;
+        line.pass(count);
+        line.fill()?;
+    }
+    Ok(k)
+}
+
+// How many rows a line takes that is broken: one if it is empty.
+fn row_count(line: Ahead<'_, '_>) -> Result<usize, AllocError>
+    requires ahead { IsAhead line }
+    requires fit { AllFit line.width (left_of line) }
+    ensures { let rows = broken_rows line.entry.width line.entry.trim (left_of line.entry) in
+        IfOk result (λ n. n ≡ min (length rows) 18446744073709551615) }
+{
+    let mut line = line;
+    let mut count = 0usize;
+    line.fill()?;
+    while !line.is_empty() {
+        let (_, taken) = line.row();
+        line.pass(taken);
+        line.fill()?;
+        count = count.saturating_add(1);
+    }
+    Ok(count.max(1))
+}
+
+// The column in which a row of this width begins.
+fn indent(width: u16, room: u16, alignment: HorizontalAlignment) -> u16
+    ensures { result ≡ indent_of alignment width room }
+{
+    match alignment {
+        HorizontalAlignment::Left => 0,
+        HorizontalAlignment::Center => (room / 2).saturating_sub(width / 2),
+        HorizontalAlignment::Right => room.saturating_sub(width),
+    }
+}
+
+// Paints a grapheme in a place of a part, in at most so many columns.
+fn put_grapheme(
+    grapheme: &StyledGrapheme<'_>,
+    columns: u16,
+    part: Rect,
+    x: u16,
+    y: u16,
+    buf: &mut Buffer,
+) -> Result<(), AllocError>
+    requires some { IsBoxArea part }
+    requires inside { IsInside part buf.old.area }
+    requires left { part.x ≤ x }
+    requires right { x + columns ≤ part.x + part.width }
+    requires top { part.y ≤ y }
+    requires bottom { y < part.y + part.height }
+    requires width { columns ≡ grapheme_columns (grapheme_data grapheme.now) }
+    ensures within { ChangesWithin part buf.old buf.new }
+    ensures ok { let g = grapheme_data grapheme.now in
+        OnOk result (PaintsGrapheme x y g buf.old buf.new) }
+    ensures ready { IsReadyAt x y buf.old → OnOk result (IsReadyAt (x + columns) y buf.new) }
+{
+    buf.set_stringn(x, y, grapheme.symbol, usize::from(columns), grapheme.style)?;
+    Ok(())
+}
+
+// Renders graphemes that fit in row k of a part.
+#[tactic(auto, using(crate::proofs::ParagraphLemmas::within_steps))]
+fn render_row(
+    row: &[StyledGrapheme<'_>],
+    alignment: HorizontalAlignment,
+    part: Rect,
+    k: u16,
+    buf: &mut Buffer,
+) -> Result<(), AllocError>
+    requires some { IsBoxArea part }
+    requires inside { IsInside part buf.old.area }
+    requires row { k < part.height }
+    requires fits { columns_taken (data_of row.now) ≤ part.width }
+    ensures within { ChangesWithin part buf.old buf.new }
+    ensures ok { let shown = aligned_row alignment (data_of row.now) in
+        OnOk result (PaintsRow part (part.y + k) shown buf.old buf.new) }
+    ensures ready { IsReadyFrom (part.y + k) buf.old
+        → OnOk result (IsReadyFrom (part.y + k + 1) buf.new) }
+{
+    let mut used = indent(columns_of(row), part.width, alignment);
+    for grapheme in row {
+        let columns = grapheme.symbol.cell_width();
+        put_grapheme(grapheme, columns, part, part.x + used, part.y + k, buf)?;
+        used += columns;
+    }
+    Ok(())
+}
+
+/// Over the area, as far as the buffer has it: the style, the box, and the text inside it.
+impl<'b, 'a> Widget for &'b Paragraph<'a> {
+    ghost use Rattle.rtui_paragraph.specs.Paragraphs.{RendersParagraph};
+
+    ghost renders = { λ p. RendersParagraph p.now };
+
+    fn render(self, area: Rect, buf: &mut Buffer) -> Result<(), AllocError> {
+        let Some(part) = buf.part(area) else {
+            return Ok(());
+        };
+        let Some(inner) = render_frame(self.style, &self.block, part, buf)? else {
+            return Ok(());
+        };
+        self.render_text(inner, buf)
+    }
+}
+
+impl<'a> Widget for Paragraph<'a> {
+    ghost use Rattle.rtui_paragraph.specs.Paragraphs.{RendersParagraph};
+
+    ghost renders = { RendersParagraph };
+
+    fn render(self, area: Rect, buf: &mut Buffer) -> Result<(), AllocError> {
+        (&self).render(area, buf)
+    }
+}

@@ -1,0 +1,211 @@
+//! Lines of graphemes cut, or broken into rows.
+
+ghost use Rattle.std.specs.Prelude.{◌≡◌, ◌+◌, ◌≤◌, ◌<◌, [], ◌∷◌, min, nat_lt, length, filter, take, drop, IfOk};
+ghost use Rattle.std.specs.List.{prefix_len};
+ghost use Rattle.ratatui_core.specs.Text.{line_graphemes_left};
+ghost use Rattle.rtui_paragraph.specs.Reflow.{data_of, is_break, is_of_word, columns_taken, words_of, fits_row, AllFit, count_fitting, cut_row, last_end, leading_word, break_at_blank, break_in_word, row_break, trimmed_start, split_row};
+
+use ratatui_core::buffer::CellWidth;
+use ratatui_core::text::{LineGraphemes, StyledGrapheme};
+use std::alloc::{AllocError, Global};
+
+// Graphemes one after the other.
+pub(crate) type Row<'t> = Vec<StyledGrapheme<'t>>;
+
+// How many columns graphemes take, at most 65535.
+pub(crate) fn columns_of(row: &[StyledGrapheme<'_>]) -> u16
+    ensures { result ≡ min (columns_taken (data_of row.now)) 65535 }
+{
+    let mut columns = 0u16;
+    for grapheme in row {
+        columns = columns.saturating_add(grapheme.symbol.cell_width());
+    }
+    columns
+}
+
+// The graphemes of a line from a column on, as many as fit the width; a line that isn't moved
+// begins at its first one.
+pub(crate) fn truncated<'t, 'a>(
+    alloc: Global,
+    graphemes: LineGraphemes<'t, 'a>,
+    width: u16,
+    offset: u16,
+) -> Result<Row<'t>, AllocError>
+    ensures { IfOk result (λ row.
+        data_of row.items ≡ cut_row width offset (line_graphemes_left graphemes.entry)) }
+{
+    let mut row = Vec::new(alloc);
+    let mut used = 0u16;
+    let mut offset = offset;
+    for grapheme in graphemes {
+        let columns = grapheme.symbol.cell_width();
+        if columns > width {
+            continue;
+        }
+        if columns > width.saturating_sub(used) {
+            return Ok(row);
+        }
+        if offset > 0 && columns <= offset {
+            offset -= columns;
+            continue;
+        }
+        offset = 0;
+        used += columns;
+        row.push(grapheme)?;
+    }
+    Ok(row)
+}
+
+// How many blanks stand first.
+fn leading_blanks(graphemes: &[StyledGrapheme<'_>]) -> usize
+    ensures { result ≡ prefix_len is_break (data_of graphemes.now) }
+{
+    let mut count = 0;
+    for grapheme in graphemes {
+        if !grapheme.is_whitespace() {
+            return count;
+        }
+        count += 1;
+    }
+    count
+}
+
+// How many graphemes fit the width, counted from the first one.
+fn fitting_count(graphemes: &[StyledGrapheme<'_>], width: u16) -> usize
+    ensures { result ≡ count_fitting width (data_of graphemes.now) }
+{
+    let mut used = 0u16;
+    let mut count = 0;
+    for grapheme in graphemes {
+        let columns = grapheme.symbol.cell_width();
+        if columns > width.saturating_sub(used) {
+            return count;
+        }
+        used += columns;
+        count += 1;
+    }
+    count
+}
+
+// Where the last word ends; 0 if there is none.
+fn words_end(graphemes: &[StyledGrapheme<'_>]) -> usize
+    ensures { result ≡ last_end is_of_word (data_of graphemes.now) }
+{
+    let mut end = 0;
+    let mut count = 0;
+    for grapheme in graphemes {
+        count += 1;
+        if !grapheme.is_whitespace() {
+            end = count;
+        }
+    }
+    end
+}
+
+// Where the last word begins: after the last blank; 0 if there is none.
+fn last_word(graphemes: &[StyledGrapheme<'_>]) -> usize
+    ensures { result ≡ last_end is_break (data_of graphemes.now) }
+{
+    let mut start = 0;
+    let mut count = 0;
+    for grapheme in graphemes {
+        count += 1;
+        if grapheme.is_whitespace() {
+            start = count;
+        }
+    }
+    start
+}
+
+// Whether the word that stands first is wider than a row.
+fn is_wide_word(graphemes: &[StyledGrapheme<'_>], width: u16) -> bool
+    ensures { result ≡ nat_lt width (columns_taken (leading_word (data_of graphemes.now))) }
+{
+    let mut left = width;
+    for grapheme in graphemes {
+        if grapheme.is_whitespace() {
+            return false;
+        }
+        let columns = grapheme.symbol.cell_width();
+        if columns > left {
+            return true;
+        }
+        left -= columns;
+    }
+    false
+}
+
+// Where a row of so many graphemes ends that a word crosses, and where the next one begins.
+fn break_in_word(graphemes: &[StyledGrapheme<'_>], count: usize, width: u16) -> (usize, usize)
+    requires { count ≤ length graphemes.now }
+    ensures { result ≡ break_in_word width (data_of graphemes.now) count }
+{
+    let word = last_word(&graphemes[..count]);
+    let end = words_end(&graphemes[..word]);
+    if end > 0 {
+        return (end, word);
+    }
+    if word == 0 || is_wide_word(&graphemes[word..], width) {
+        return (count, count);
+    }
+    (word, word)
+}
+
+// Where a row of so many graphemes ends that a blank crosses, and where the next one begins: after
+// this blank.
+fn break_at_blank(graphemes: &[StyledGrapheme<'_>], count: usize) -> (usize, usize)
+    requires { count < length graphemes.now }
+    ensures { result ≡ break_at_blank (data_of graphemes.now) count }
+{
+    let end = words_end(&graphemes[..count]);
+    if end > 0 {
+        return (end, count + 1);
+    }
+    (count, count + 1)
+}
+
+// Where the row at the front ends, and where the next one begins: it has as many words as fit the
+// width, and a word is broken only if it is wider than a row.
+fn row_ends(graphemes: &[StyledGrapheme<'_>], width: u16) -> (usize, usize)
+    ensures { result ≡ row_break width (data_of graphemes.now) }
+{
+    let count = fitting_count(graphemes, width);
+    if count == graphemes.len() {
+        return (count, count);
+    }
+    if graphemes[count].is_whitespace() {
+        break_at_blank(graphemes, count)
+    } else {
+        break_in_word(graphemes, count, width)
+    }
+}
+
+// How many blanks are left out before a row, if rows are trimmed.
+pub(crate) fn trimmed_start(graphemes: &[StyledGrapheme<'_>], trim: bool) -> usize
+    ensures { result ≡ trimmed_start trim (data_of graphemes.now) }
+{
+    if trim { leading_blanks(graphemes) } else { 0 }
+}
+
+// The row at the front of a line, and how many graphemes stand before the next one. The row has at
+// most the width. Only blanks are left out: those at the front if rows are trimmed, and those at
+// which the line is broken.
+pub(crate) fn split_row<'s, 't>(
+    graphemes: &'s [StyledGrapheme<'t>],
+    width: u16,
+    trim: bool,
+) -> (&'s [StyledGrapheme<'t>], usize)
+    requires { AllFit width (data_of graphemes.now) }
+    ensures value { (data_of result.0.now, result.1)
+        ≡ split_row width trim (data_of graphemes.now) }
+    ensures fits { columns_taken (data_of result.0.now) ≤ width }
+    ensures keeps { words_of (take result.1 (data_of graphemes.now))
+        ≡ words_of (data_of result.0.now) }
+    ensures some { 0 < length graphemes.now → 0 < result.1 }
+    ensures inside { result.1 ≤ length graphemes.now }
+{
+    let start = trimmed_start(graphemes, trim);
+    let rest = &graphemes[start..];
+    let (end, next) = row_ends(rest, width);
+    (&rest[..end], start + next)
+}
