@@ -7,6 +7,10 @@ pub mod StepLemmas
 pub mod CharacterLemmas
 pub mod GrammarLemmas
 pub mod NothingLemmas
+pub mod StandLemmas
+pub mod CodeLemmas
+pub mod NumberLemmas
+pub mod SequenceLemmas
 pub mod ComeLemmas
 pub mod ToleratedLemmas
 pub mod UnknownLemmas

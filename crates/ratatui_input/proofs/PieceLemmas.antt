@@ -13,7 +13,8 @@ use Rattle.ratatui_input.specs.Pieces.{StandsFor, IsNothing, by_grammar, by_numb
 use Rattle.ratatui_input.specs.Pieces.{IsPiece, unknown_piece, nothing_piece, early_end_piece, event_piece, begun_piece, pasted_piece, ended_piece, no_piece, then_pieces, IsReadInPieces, AreBytes}
 use Rattle.ratatui_input.proofs.StepLemmas.{at, Leads, leads-none, leads-one, leads-append, ends}
 use Rattle.ratatui_input.proofs.UnknownLemmas.{nothing-whole, nothing-cut}
-use Rattle.ratatui_input.proofs.ComeLemmas.{Stands, grammar_stands, numbers_stand, escape_stands, bracket_stands, single_stands, not_known, HasCome, Follows, nothing, follows, first-follows, IsJoined, first-joined, IsCut, cut-stands}
+use Rattle.ratatui_input.proofs.StandLemmas.{Stands, grammar_stands, numbers_stand, escape_stands, bracket_stands, single_stands, not_known}
+use Rattle.ratatui_input.proofs.ComeLemmas.{HasCome, Follows, nothing, follows, first-follows, IsJoined, first-joined, IsCut, cut-stands}
 
 -- ---- an event as it is read, within a paste and outside one
 

@@ -121,11 +121,6 @@ module _ {R : Type 0} (remaining : R → Option (List ℕ)) where
   pub keeps-start : (old : EventReader R) → KeepsAll remaining old old
   keeps-start old = record { bytes = []; consumed = Consumes-nil (remaining (source old)); kept = sym (next_told-nil (unread old)) }
 
-  -- an event of what was kept
-  pub reads-first : (old mid : EventReader R) (k : Kept) (event : Event) → KeepsAll remaining old mid → TellsFirst mid.kept event k
-      → Reads remaining old (Some event) (record { reader = mid.reader; kept = k })
-  reads-first old mid k event h t = record { bytes = h.bytes; consumed = h.consumed; tells = inl (sym h.kept ∙ t) }
-
   -- a read that failed
   pub keeps-failed : (old mid : EventReader R) (k : Kept) (bytes : List ℕ) (r : R) → KeepsAll remaining old mid → TellsNothing mid.kept k
       → Keeps (remaining mid.reader) (remaining r) → KeepsAll remaining old (record { reader = r; kept = record k { bytes = bytes } })

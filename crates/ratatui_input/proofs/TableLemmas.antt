@@ -155,10 +155,6 @@ tilde-small tilde_f18 = lit< tt
 tilde-small tilde_f19 = lit< tt
 tilde-small tilde_f20 = lit< tt
 
--- a character has no entry of its own in the tables
-abbrev IsElsewhere : ℕ → ℕ → Type 0
-IsElsewhere c n = n ≢ c
-
 abbrev lies_elsewhere : ℕ → Bool
 lies_elsewhere n = (nat_le 57344 n && nat_lt n 63744) || is_control n
 

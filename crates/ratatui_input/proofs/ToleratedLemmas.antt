@@ -29,7 +29,8 @@ use Rattle.ratatui_input.proofs.TableLemmas.{seq, letter-is, key-is, letter-ends
 use Rattle.ratatui_input.proofs.StepLemmas.{at, Leads, leads-none, leads-one, leads-cons, leads-append, ends, digit_of, digits-kept, first-digit, second-digit, bracket-last, last-byte}
 use Rattle.ratatui_input.proofs.NothingLemmas.{inside-step, digit-goes, bracket-step, goes}
 use Rattle.ratatui_input.proofs.GrammarLemmas.{code-first, mouse-is}
-use Rattle.ratatui_input.proofs.ComeLemmas.{at-table, names, pads, IsName, IsPad, function-code, more_parts}
+use Rattle.ratatui_input.proofs.CodeLemmas.{at-table, names, pads, IsName, IsPad, function-code}
+use Rattle.ratatui_input.proofs.NumberLemmas.{more_parts}
 
 -- ---- digits and colons that mean nothing
 

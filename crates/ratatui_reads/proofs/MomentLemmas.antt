@@ -75,14 +75,6 @@ module _ {S T : Type 0} (u : S → Event → S) (o : S → Bool) (shows : S → 
   ran-shows t0 first all now rest t ran =
       subst (λ (b : Between S). shows b.state t) (sym ran.now_is) (subst (λ (x : T). shows (last_between first ran.moments).state x) (sym ran.terminal_is) (shows-last first ran.begun ran.moments ran.are ran.begins))
 
-  reads-last : (b : Between S) (t : T) (ms : List (Moment S T)) → AreMoments u o shows moves has_size b t ms → last_between b ms ≡ after_reads u o b (reads_of ms)
-  reads-last b t [] are = refl
-  reads-last b t (m ∷ ms) are = reads-last m.between m.terminal ms are.4 ∙ ap (λ (x : Between S). after_reads u o x (reads_of ms)) are.0
-
-  -- the state is that of all reads
-  pub ran-reads : (t0 : T) (first : Between S) (all : Option (List ℕ)) (now : Between S) (rest : Option (List ℕ)) (t : T) (ran : Ran u o shows moves has_size t0 first all now rest t) → now ≡ after_reads u o first (reads_of ran.moments)
-  ran-reads t0 first all now rest t ran = ran.now_is ∙ reads-last first ran.begun ran.moments ran.are
-
   kept-last : (f : T → ℕ) → ((s t : T) → moves s t → f t ≡ f s) → (b : Between S) (t : T) (ms : List (Moment S T)) → AreMoments u o shows moves has_size b t ms → f (last_terminal t ms) ≡ f t
   kept-last f keep b t [] are = refl
   kept-last f keep b t (m ∷ ms) are = kept-last f keep m.between m.terminal ms are.4 ∙ keep t m.terminal are.1

@@ -8,11 +8,6 @@ use Rattle.ratatui_input.specs.Decoding.{Told, some_list, byte_told, decoded, ne
 use Rattle.ratatui_input.proofs.DecodingLemmas.{decoded-append}
 use Rattle.ratatui_reads.specs.Reads.{Between, told_by, all_updated, after_read, after_reads, after_bytes, all_bytes, IsNonEmpty, AreNonEmpty, size_in, later, last_size}
 
--- the same of one byte
-one-byte : (d : Decoder) (b : ℕ) → decoded d (b ∷ []) ≡ byte_told d b
-unfolding decoded
-one-byte d b = ap (λ (es : List Event). (es, (byte_told d b).1)) (append-nil (byte_told d b).0)
-
 -- both lists are empty
 pub both-nil : {A : Type 0} (a b : List A) → a ≡ [] → b ≡ [] → a ++ b ≡ []
 both-nil {A = A} a b ea eb = ap₂ (λ (x y : List A). x ++ y) ea eb
