@@ -1,6 +1,6 @@
 //! A list of items.
 
-ghost use Rattle.std.specs.Prelude.{◌≡◌, ◌==◌, ◌≤◌, ◌<◌, ◌+◌, if◌then◌else◌, Some, OnOk, IsOk, IfSome, length};
+ghost use Rattle.std.specs.Prelude.{◌≡◌, ◌==◌, ◌≤◌, ◌<◌, ◌+◌, if◌then◌else◌, Some, OnOk, OnErr, IsOk, IfSome, length};
 ghost use Rattle.ratatui_core.specs.Layout.{IsInside};
 ghost use Rattle.ratatui_core.specs.Widgets.{ChangesWithin};
 ghost use Rattle.ratatui_core.specs.Buffer.{IsStyled, HasShortGraphemes};
@@ -389,6 +389,7 @@ impl<'a> List<'a> {
         ensures within { ChangesWithin inner buf.old buf.new }
         ensures ok { OnOk result
             (ShowsList self.now state.old state.new inner buf.old buf.new) }
+        ensures left { OnErr result (state.new ≡ state.old) }
         ensures short { HasShortItems self.now → IsOk result }
     {
         let items = self.items.as_slice();
@@ -399,10 +400,11 @@ impl<'a> List<'a> {
         let height = usize::from(inner.height);
         let selected = at_most(state.selected, items.len() - 1);
         let offset = offset_for(items, self.scroll_padding, selected, state.offset, height);
+        let count = count_from(items, offset, height);
+        self.render_items(selected, offset, count, inner, buf)?;
         state.selected = selected;
         state.offset = offset;
-        let count = count_from(items, offset, height);
-        self.render_items(selected, offset, count, inner, buf)
+        Ok(())
     }
 }
 
@@ -451,13 +453,16 @@ impl CellChange for Blank {
 
 /// Over the area, as far as the buffer has it: the style, the box, and inside the items from the
 /// state's first one on, as many as fit whole. The state's selection is at most the last item, and
-/// its first item such that the selected one is in view.
+/// its first item such that the selected one is in view. A refused list leaves its state as it was.
 impl<'b, 'a> StatefulWidget for &'b List<'a> {
     type State = ListState;
 
+    ghost use Rattle.std.specs.Prelude.{◌≡◌};
     ghost use Rattle.rtui_list.specs.Items.{RendersList, IsShortList};
 
     ghost renders = { λ list. RendersList list.now };
+
+    ghost leaves = { λ _ old new _ _ _. new ≡ old };
 
     ghost is_short = { λ list _ _. IsShortList list.now };
 
@@ -475,9 +480,12 @@ impl<'b, 'a> StatefulWidget for &'b List<'a> {
 impl<'a> StatefulWidget for List<'a> {
     type State = ListState;
 
+    ghost use Rattle.std.specs.Prelude.{◌≡◌};
     ghost use Rattle.rtui_list.specs.Items.{RendersList, IsShortList};
 
     ghost renders = { RendersList };
+
+    ghost leaves = { λ _ old new _ _ _. new ≡ old };
 
     ghost is_short = { λ list _ _. IsShortList list };
 

@@ -358,9 +358,12 @@ impl<'a> CellChange for Marks<'a> {
 impl<'b, 'a> StatefulWidget for &'b Scrollbar<'a> {
     type State = ScrollbarState;
 
+    ghost use Rattle.std.specs.Prelude.{◌≡◌};
     ghost use Rattle.rtui_meters.specs.Scrollbars.{RendersScrollbar, HasShortMarks};
 
     ghost renders = { λ bar. RendersScrollbar bar.now };
+
+    ghost leaves = { λ _ old new _ _ _. new ≡ old };
 
     ghost is_short = { λ bar _ _ _. HasShortMarks bar.now };
 
@@ -384,9 +387,12 @@ impl<'b, 'a> StatefulWidget for &'b Scrollbar<'a> {
 impl<'a> StatefulWidget for Scrollbar<'a> {
     type State = ScrollbarState;
 
+    ghost use Rattle.std.specs.Prelude.{◌≡◌};
     ghost use Rattle.rtui_meters.specs.Scrollbars.{RendersScrollbar, HasShortMarks};
 
     ghost renders = { RendersScrollbar };
+
+    ghost leaves = { λ _ old new _ _ _. new ≡ old };
 
     ghost is_short = { λ bar _ _ _. HasShortMarks bar };
 
