@@ -92,10 +92,14 @@ impl Answer {
         }
     }
 
-    /// Adds what is printed of a value, as a text between quotes.
+    /// Adds what is printed of a value, as a text between quotes, and says so if its alternate form
+    /// (`{:#}`) is another text.
     pub fn print<T: Display>(&mut self, alloc: Global, value: &T) -> Result<(), Fault> {
         let printed = value.to_string(alloc)?;
         self.part()?;
+        if format!(in alloc; "{value:#}")? != printed {
+            self.text.push_str("alternate: ")?;
+        }
         quote(printed.as_str(), &mut self.text)?;
         Ok(())
     }
