@@ -1,21 +1,24 @@
 #!/usr/bin/env python3
 """Measures two builds of the bench beside each other, by workload: a round's instructions and user time, and the bytes that it sends.
 
-    compare.py [--size WxH] [--also WxH] [--runs N] [--only WORKLOAD,..] NAME=PROGRAM NAME=PROGRAM
+    compare.py [--size WxH] [--also WxH] [--runs N] [--only WORKLOAD,..] [--write] NAME=PROGRAM NAME=PROGRAM
 
 The instructions are valgrind's (callgrind), which don't change with the machine's load; a round's are those of a run less those of one
 with fewer rounds, so that the start of the process doesn't count. So is its time: the least user time of N runs with many rounds, less
 that with a tenth of them; the programs run in turns. Without runs (`--runs 0`) no time is measured. Another size adds the instructions at
-it. A ratio is that of the second program to the first; `-` stands for a program that doesn't know the workload.
+it. A ratio is that of the second program to the first; `-` stands for a program that doesn't know the workload. With `--write` the table is also
+written to FIGURES.md beside this file.
 """
 import argparse
+import datetime
 import os
 import re
 import resource
 import subprocess
 import sys
 
-sys.path.insert(0, f"{os.path.dirname(os.path.dirname(os.path.abspath(__file__)))}/tools")
+HERE = os.path.dirname(os.path.abspath(__file__))
+sys.path.insert(0, f"{os.path.dirname(HERE)}/tools")
 sys.dont_write_bytecode = True
 from shared import refuse
 
@@ -110,12 +113,30 @@ def heads(names, unit):
     return "".join(f" {name}, {unit} |" for name in names) + " ratio |"
 
 
+def write(table):
+    """Writes FIGURES.md: how it was measured, and the table."""
+    how = [word for word in sys.argv[1:] if "=" not in word and word != "--write"]
+    head = (
+        "# Figures\n\nWritten by `bench/compare.py --write`; bench/README.md says what is measured, and how.\n\n"
+        f"`{' '.join(['compare.py', *how])}`, {datetime.date.today()}, version {version()}.\n\n"
+    )
+    with open(f"{HERE}/FIGURES.md", "w", encoding="utf-8") as file:
+        file.write(head + "\n".join(table) + "\n")
+
+
+def version():
+    """The newest version that CHANGELOG.md names."""
+    with open(f"{os.path.dirname(HERE)}/CHANGELOG.md", encoding="utf-8") as file:
+        return re.search(r"^## (\S+)", file.read(), re.M).group(1)
+
+
 def main():
     parser = argparse.ArgumentParser(description=__doc__, formatter_class=argparse.RawDescriptionHelpFormatter)
     parser.add_argument("--size", default="200x60")
     parser.add_argument("--also", default="")
     parser.add_argument("--runs", type=int, default=10)
     parser.add_argument("--only", default=",".join(WORKLOADS))
+    parser.add_argument("--write", action="store_true")
     parser.add_argument("programs", nargs=2, metavar="NAME=PROGRAM")
     parser.error = refuse
     options = parser.parse_args()
@@ -123,8 +144,14 @@ def main():
     programs = [named(word) for word in options.programs]
     names = [name for name, _ in programs]
     units = ["us"] * (options.runs > 0) + ["bytes"] + [f"kinstr. at {width}x{height}" for width, height in sizes]
-    print("| workload |" + "".join(heads(names, unit) for unit in units))
-    print("|---|" + "---|" * (3 * len(units)))
+    table = []
+
+    def tell(line):
+        print(line, flush=True)
+        table.append(line)
+
+    tell("| workload |" + "".join(heads(names, unit) for unit in units))
+    tell("|---|" + "---|" * (3 * len(units)))
     for workload in options.only.split(","):
         able = [(name, program) for name, program in programs if knows(program, workload, sizes[0])]
         results = {name: result(program, workload, sizes[0], 10) for name, program in able}
@@ -135,7 +162,9 @@ def main():
         row += cells(names, sent, 0) if sent else " | | |"
         for size in sizes:
             row += cells(names, {name: instructions(program, workload, size) for name, program in able}, 0)
-        print(f"| `{workload}` |{row}", flush=True)
+        tell(f"| `{workload}` |{row}")
+    if options.write:
+        write(table)
 
 
 if __name__ == "__main__":

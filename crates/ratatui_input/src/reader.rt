@@ -100,7 +100,7 @@ impl Kept {
 ///
 /// ```
 /// let mut events = EventReader::new(rt.reader());
-/// while let Some(event) = events.read()? {
+/// if let Some(event) = events.read()? {
 ///     println!(rt; "{event:?}")?;
 /// }
 /// ```
