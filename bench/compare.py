@@ -29,7 +29,7 @@ WORKLOADS = (
     "text_ascii text_wide line_ascii text_widget text_raw line_center line_right line_cut span_marks spans_2000 "
     "widths_letters widths_wide boxes_exact boxes_fuzzy diff_letters diff_empty diff_wide style reset sets fill_reset "
     "merge_same merge_half empty filled clone resize term_resize "
-    "block paragraph_wrapped paragraph_long list_1000 list"
+    "block paragraph_wrapped paragraph_long list_1000 list keys_text keys_arrows keys_mouse split_3 split_8 split_20"
 ).split()
 SECONDS = 0.25
 FEW, MANY = 4, 10

@@ -1,0 +1,70 @@
+//! Workloads on keys and areas.
+ghost use Rattle.std.specs.Prelude.{◌<◌, ◌^◌};
+
+use crate::{Done, Size};
+use ratatui_core::layout::{Constraint, Layout, Rect, SplitInto};
+use ratatui_input::Decoder;
+use std::alloc::{AllocError, Global};
+
+// A text's bytes decoded each round; the sum counts the events.
+fn decodes(alloc: Global, size: Size, text: &str) -> Done {
+    let bytes = text.repeat(alloc, 100)?;
+    let mut decoder = Decoder::new();
+    let mut events = 0u64;
+    for _round in 0..size.count {
+        for byte in bytes.as_bytes() {
+            if decoder.feed(*byte).event.is_some() {
+                events = events.saturating_add(1);
+            }
+        }
+    }
+    Ok(Some((size.count, events)))
+}
+
+// A row cut into N parts each round; the sum counts their columns.
+fn splits<const N: usize>(size: Size, layout: &Layout) -> Done
+    requires { N < 2 ^ 32 }
+{
+    let mut columns = 0u64;
+    for _round in 0..size.count {
+        let area = Rect::new(0, 0, size.width, 1);
+        let Ok(parts) = layout.try_areas(area) else {
+            return Ok(None);
+        };
+        let parts: [Rect; N] = parts;
+        for part in &parts {
+            columns = columns.saturating_add(u64::from(part.width));
+        }
+    }
+    Ok(Some((size.count, columns)))
+}
+
+// The first of these constraints, as a row.
+fn row(alloc: Global, count: usize) -> Result<Layout, AllocError> {
+    let mixed = [
+        Constraint::Length(5),
+        Constraint::Fill(1),
+        Constraint::Percentage(10),
+        Constraint::Min(3),
+        Constraint::Max(7),
+        Constraint::Ratio(1, 9),
+    ];
+    let mut constraints = Vec::new(alloc);
+    for constraint in mixed.iter().cycle().take(count) {
+        constraints.push(*constraint)?;
+    }
+    Layout::horizontal(alloc, constraints.as_slice())
+}
+
+/// The workload of this name, if it is one.
+pub fn run(alloc: Global, name: &str, size: Size) -> Done {
+    match name {
+        "keys_text" => decodes(alloc, size, "the quick brown fox jumps over "),
+        "keys_arrows" => decodes(alloc, size, "\u{1b}[A\u{1b}[B\u{1b}[1;5C"),
+        "keys_mouse" => decodes(alloc, size, "\u{1b}[<0;12;34M\u{1b}[<35;13;34m"),
+        "split_3" => splits::<3>(size, &row(alloc, 3)?),
+        "split_8" => splits::<8>(size, &row(alloc, 8)?),
+        "split_20" => splits::<20>(size, &row(alloc, 20)?),
+        _ => Ok(None),
+    }
+}
