@@ -40,6 +40,26 @@ cursor-visible w h visible s ready = (
   record { screens = λ written. refl; columns = λ a b. refl },
 )
 
+-- the cursor moved somewhere, and back
+pub cursor-back : (w h a b x y : ℕ) → 0 < w → 0 < h → KeepsReady w h (λ t. cursor_moved x y (cursor_moved a b t)) (λ s. Becomes (λ p q. p.cursor_x ≡ x → p.cursor_y ≡ y → q ≡ p) s.columns s)
+cursor-back w h a b x y wide high s ready =
+    let width : s.width ≡ w = ready.rest.width in
+    let height : s.height ≡ h = ready.rest.height in
+    let row : s.y < h = ready.row in (
+      record {
+        rest = ready.rest;
+        row = omega arith;
+        tidy = ready.tidy;
+      },
+      record {
+        screens = λ written at_x at_y.
+            let cursor_x : min (min x (s.width - 1)) (s.width - 1) ≡ min s.x (s.width - 1) = omega arith in
+            let cursor_y : min y (s.height - 1) ≡ s.y = omega arith in
+            ap₂ (λ i j. record (screen_shown written s) { cursor_x = i; cursor_y = j }) cursor_x cursor_y;
+        columns = λ i j. refl;
+      },
+    )
+
 pub nothing-changed : (w h : ℕ) → KeepsReady w h (λ t. t) (λ s. Becomes (λ p q. q ≡ p) s.columns s)
 nothing-changed w h s ready = (ready, record { screens = λ written. refl; columns = λ a b. refl })
 

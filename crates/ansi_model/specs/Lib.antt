@@ -11,4 +11,5 @@ pub mod Sends
 pub mod Drawing
 pub mod Screens
 pub mod Beginnings
+pub mod Commands
 pub mod Endings

@@ -68,6 +68,29 @@ pub fn clear_screen(
     move_to(out, x, y)
 }
 
+// Moves the cursor as far down and right as it goes, and asks where it is.
+fn ask_at_the_end(out: &mut String) -> Result<(), AllocError>
+    ensures { OnOk result (Performs (string_bytes out.old) (string_bytes out.new)
+        (cursor_moved 65534 65534)) }
+{
+    out.push_str("\u{1b}[65535;65535H\u{1b}[6n")
+}
+
+/// Asks a terminal, whose cursor is in this column and row, for its size: the answer is the place
+/// of its last column and row, as `ESC [ ROWS ; COLUMNS R`. The screen stays.
+///
+/// # Errors
+///
+/// `AllocError` if memory is refused. What the text holds then isn't said.
+pub fn ask_size(out: &mut String, x: u16, y: u16) -> Result<(), AllocError>
+    ensures { OnOk result ((w h : ℕ) → 0 < w → 0 < h → Turns w h (string_bytes out.old)
+        (string_bytes out.new) (λ s. Becomes (λ p q. p.cursor_x ≡ x → p.cursor_y ≡ y
+        → q ≡ p) s.columns s)) }
+{
+    ask_at_the_end(out)?;
+    move_to(out, x, y)
+}
+
 // Ends a string that another program left open, and resets the modes that change how text is taken.
 fn settle(out: &mut String) -> Result<(), AllocError>
     ensures { OnOk result (Performs (string_bytes out.old) (string_bytes out.new) without_modes) }

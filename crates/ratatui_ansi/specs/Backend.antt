@@ -8,7 +8,8 @@ use Rattle.ansi_model.specs.{Sends.Performs, Endings.left_below}
 use Rattle.std.specs.Io.KnownBytes.{Appends}
 
 -- the writer, what it held as the backend began or began anew, if that is known, what it was sent since, and what of that after the last
--- flush; the terminal's size, whether it is sent colours of the underline, and places after ambiguous characters as if these were wide; how many items were drawn and how many calls failed, and whether a write failed
+-- flush; the terminal's size, whether it is sent colours of the underline, places after ambiguous characters as if these were wide, and draws within
+-- synchronized updates; how many items were drawn and how many calls failed, and whether a write failed
 pub record BackendState (W : Type 0) : Type 0 where
   pub writer : W
   pub before : Option (List ℕ)
@@ -17,6 +18,7 @@ pub record BackendState (W : Type 0) : Type 0 where
   pub size : Size
   pub has_underline_colors : Bool
   pub ambiguous_is_wide : Bool
+  pub is_synchronized : Bool
   pub written : ℕ
   pub failures : ℕ
   pub is_broken : Bool
@@ -45,8 +47,9 @@ IsReadAlike size sent = (t : Emulator) → IsAsFound size.width size.height t �
 
 -- what a backend keeps is in order: its tracker fits its screen, and unless a write failed, the new terminal that has read what was sent awaits
 -- the next call as it is tracked, however it was left at first; no write failed if no call did
-pub record IsInOrder (size : Size) (cursor : Position) (flags draft : List Bool) (is_broken : Bool) (failures : ℕ) (sent : List ℕ) : Type 0 where
+pub record IsInOrder (size : Size) (cursor : Position) (flags draft : List Bool) (visible is_broken : Bool) (failures : ℕ) (sent : List ℕ) : Type 0 where
   pub tracker : FitsScreen size flags draft
   pub unfailed : failures ≡ 0 → is_broken ≡ false
   pub awaiting : is_broken ≡ false → IsAwaiting size.width size.height cursor flags (reader size sent)
+  pub seen : is_broken ≡ false → (rested (reader size sent)).visible ≡ visible
   pub alike : is_broken ≡ false → IsReadAlike size sent

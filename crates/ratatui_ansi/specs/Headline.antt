@@ -18,7 +18,7 @@ module _ {W : Type 0} where
   pub record IsReadBy (b : BackendState W) (t : Emulator) : Type 0 where
     pub sure : (rested (feed b.sent (anew t))).sure ≡ true
     pub screen : screen_shown b.written (rested (feed b.sent (anew t))) ≡ below_rows t.history (shown_by b)
-    pub glass : (g : Grid) → MayShow b.size.width (rested (feed b.sent (anew t))).columns g
+    pub glass : (g : Grid) → MayShow (rested (feed b.sent (anew t))).modes.held b.size.width (rested (feed b.sent (anew t))).columns g
         → (x y : ℕ) → IsStraight b.size.width (shown_by b).grid y → x < b.size.width → g x y ≡ (shown_by b).grid x y
 
   -- so it is for each terminal of the backend's size

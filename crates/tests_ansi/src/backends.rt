@@ -1,5 +1,5 @@
 //! A backend over memory: its calls, what it sends for cells, and what it refuses.
-use ratatui_ansi::{AnsiBackend, AnsiError};
+use ratatui_ansi::{AnsiBackend, AnsiError, SetCursorStyle};
 use rtui_backend::{Backend, ClearType};
 use rtui_cell::Cell;
 use rtui_geometry::{Position, Size};
@@ -276,6 +276,27 @@ fn underlines_that_are_refused(rt: HostRuntime) -> Result<(), Fail> {
     Ok(())
 }
 
+#[test]
+fn draws_within_updates(rt: HostRuntime) -> Result<(), Fail> {
+    let mut backend = over_kept(rt.alloc(), 6, 2)?;
+    let cells = cells_of(rt.alloc(), &["a", "b"])?;
+    let row = [(0, 0), (1, 0)];
+    backend.set_synchronized(true);
+    let held = "\u{1b}[?2026h\u{1b}[1;1Hab\u{1b}[?2026l";
+    assert!(rt; draws(&mut backend, &row, cells.as_slice(), Ok(()), held));
+    backend.set_synchronized(false);
+    assert!(rt;
+        draws(
+            &mut backend,
+            &row,
+            cells.as_slice(),
+            Ok(()),
+            "\u{1b}[1;1Hab"
+        )
+    );
+    Ok(())
+}
+
 // Asks what changes nothing on the screen.
 fn ask(backend: &mut Kept, number: usize) -> Result<(), AnsiError> {
     match number {
@@ -285,11 +306,16 @@ fn ask(backend: &mut Kept, number: usize) -> Result<(), AnsiError> {
         3 => backend.set_bracketed_paste(false),
         4 => backend.set_focus_change(true),
         5 => backend.set_focus_change(false),
-        _ => backend.ask_cursor_position(),
+        6 => backend.ask_cursor_position(),
+        7 => backend.ask_size(),
+        8 => backend.set_cursor_style(SetCursorStyle::DefaultUserShape),
+        9 => backend.set_cursor_style(SetCursorStyle::SteadyBar),
+        10 => backend.send_title("a\u{1b}]b\u{7}コ"),
+        _ => backend.show_cursor(),
     }
 }
 
-static ASKED: [&str; 7] = [
+static ASKED: [&str; 12] = [
     "\u{1b}[?1000h\u{1b}[?1002h\u{1b}[?1003h\u{1b}[?1006h",
     "\u{1b}[?1006l\u{1b}[?1003l\u{1b}[?1002l\u{1b}[?1000l",
     "\u{1b}[?2004h",
@@ -297,6 +323,11 @@ static ASKED: [&str; 7] = [
     "\u{1b}[?1004h",
     "\u{1b}[?1004l",
     "\u{1b}[6n",
+    "\u{1b}[65535;65535H\u{1b}[6n\u{1b}[1;1H",
+    "\u{1b}[0 q",
+    "\u{1b}[6 q",
+    "\u{1b}]2;a]bコ\u{1b}\\",
+    "",
 ];
 
 #[test]

@@ -10,7 +10,7 @@ use ratatui_core::terminal::Terminal;
 use rtui_backend::Backend;
 use rtui_cell::Cell;
 use rtui_geometry::{Position, Size};
-use std::alloc::Global;
+use std::alloc::{AllocError, Global};
 use std::io::{self, ErrorKind, Write};
 use std::iter;
 use std::test::Fail;
@@ -196,5 +196,18 @@ fn leaving_after_failed_writes(rt: HostRuntime) -> Result<(), Fail> {
     assert!(rt; is_left_after(rt.alloc(), 1, &cell) == Some(Ok(())));
     assert!(rt; is_left_after(rt.alloc(), 2, &cell) == Some(torn));
     assert!(rt; is_left_after(rt.alloc(), 3, &cell) == Some(torn));
+    Ok(())
+}
+
+// What is sent last if a draw within a synchronized update fails to write.
+#[test]
+fn a_failed_draw_ends_its_update(rt: HostRuntime) -> Result<(), Fail> {
+    let cell = Cell::new(rt.alloc(), "a")?;
+    let Ok(mut backend) = over_tearing(rt.alloc(), 1) else {
+        return Err(Fail::from(AllocError));
+    };
+    backend.set_synchronized(true);
+    assert!(rt; call(&mut backend, 0, &cell) == Err(Why::Write(ErrorKind::BrokenPipe)));
+    assert!(rt; backend.writer().sent.as_slice().ends_with(b"\x1b[?2026l"));
     Ok(())
 }

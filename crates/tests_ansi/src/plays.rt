@@ -3,7 +3,7 @@ use crate::backends::{Kept, over_kept, sent};
 use crate::reader::Reader;
 use ansi_model::is_symbol;
 use bitflags::Flags;
-use ratatui_ansi::AnsiError;
+use ratatui_ansi::{AnsiError, SetCursorStyle};
 use rtui_backend::{Backend, ClearType, TestBackend};
 use rtui_cell::{Cell, CellWidth};
 use rtui_geometry::Position;
@@ -250,9 +250,25 @@ impl Play {
         }
     }
 
+    // Asks or tells something, which leaves the screen as it is.
+    fn asks(&mut self, random: &mut Random) -> bool {
+        let is_on = random.below(2) == 0;
+        let answer = match random.below(7) {
+            0 => self.backend.set_mouse_capture(is_on),
+            1 => self.backend.set_bracketed_paste(is_on),
+            2 => self.backend.set_focus_change(is_on),
+            3 => self.backend.ask_cursor_position(),
+            4 => self.backend.ask_size(),
+            5 => self.backend.set_cursor_style(SetCursorStyle::SteadyBar),
+            _ => self.backend.send_title("a\u{7}\u{1b}コ\u{9c}"),
+        };
+        answer.is_ok()
+    }
+
     // Makes a call of both; whether both answer as they should.
     fn calls(&mut self, random: &mut Random) -> Result<bool, Fail> {
-        match random.below(16) {
+        match random.below(17) {
+            16 => Ok(self.asks(random)),
             0 => Ok(self.moves(random)),
             1 => Ok(self.hides(random)),
             2 => {
@@ -316,6 +332,7 @@ fn is_played(alloc: Global, width: u16, height: u16, seed: u64) -> Result<bool, 
     play.has_underline_colors = seed % 2 == 0;
     play.backend.set_underline_colors(seed % 2 == 0);
     play.backend.set_ambiguous_is_wide(seed % 3 == 0);
+    play.backend.set_synchronized(seed % 4 == 1);
     play.is_played(seed)
 }
 

@@ -162,7 +162,7 @@ impl<'a> Reader<'a> {
             return self.read_escape(part);
         };
         for (at, ch) in sequence.char_indices() {
-            if !ch.is_ascii_digit() && ch != ';' && ch != '?' {
+            if !ch.is_ascii_digit() && ch != ';' && ch != '?' && ch != ' ' {
                 self.perform(sequence.get(..at).unwrap_or(""), ch);
                 return sequence.get(at + ch.len_utf8()..).unwrap_or("");
             }
@@ -171,8 +171,13 @@ impl<'a> Reader<'a> {
         ""
     }
 
-    // The end of a string, the letters of G0, or the coding; the text after it.
+    // A string for the operating system, the end of one, the letters of G0, or the coding; the text
+    // after it.
     fn read_escape(&mut self, part: &'a str) -> &'a str {
+        if part.starts_with(']') {
+            self.sure = self.sure && !part.chars().any(|c| c.is_control());
+            return "";
+        }
         let length = if part.starts_with('\\') { 1 } else { 2 };
         match part.get(..length) {
             Some("\\") => {}
@@ -197,6 +202,7 @@ impl<'a> Reader<'a> {
             "69" => self.modes.sides = on,
             "7" => self.modes.unwrapped = !on,
             "2026" => self.modes.held = on,
+            "1000" | "1002" | "1003" | "1004" | "1006" | "2004" => {}
             _ => self.sure = false,
         }
     }
@@ -211,6 +217,10 @@ impl<'a> Reader<'a> {
         if let Some(mode) = parameters.strip_prefix('?') {
             self.sure = self.sure && (last == 'h' || last == 'l');
             self.set_mode(mode, last == 'h');
+            return;
+        }
+        if let Some(style) = parameters.strip_suffix(' ') {
+            self.sure = self.sure && last == 'q' && style.len() == 1 && style <= "6";
             return;
         }
         let mut numbers = parameters.split(';');
@@ -244,6 +254,7 @@ impl<'a> Reader<'a> {
             ('r', 0) => self.set_region(0, self.height),
             ('h', 4) => self.modes.inserts = true,
             ('l', 4) => self.modes.inserts = false,
+            ('n', 6) => {}
             ('M', _) => {
                 let is_row = 0 < self.y && self.top <= self.y && self.y < self.bottom;
                 self.sure = self.sure && self.has_own_sgr() && is_row && self.x == 0 && 0 < n;
@@ -271,7 +282,11 @@ impl<'a> Reader<'a> {
 
     // Plain characters one by one, any other text as one symbol.
     fn print(&mut self, text: &'a str) {
-        self.sure = self.sure && (text.is_empty() || self.modes == Modes::default());
+        let taken = Modes {
+            held: false,
+            ..self.modes
+        };
+        self.sure = self.sure && (text.is_empty() || taken == Modes::default());
         if text.chars().all(|c| is_plain(c)) {
             for (at, ch) in text.char_indices() {
                 self.print_symbol(text.get(at..at + ch.len_utf8()).unwrap_or(""), 1);
