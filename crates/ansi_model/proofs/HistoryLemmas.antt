@@ -4,7 +4,7 @@ use Rattle.std.specs.List.{list_all}
 use Rattle.ratatui_core.specs.Buffer.{Look, text_width}
 use Rattle.ansi_model.specs.Emulator.{Emulator, Phase, types, prints, prints_disputed, prints_whole, printed, printed_alike, with_modes, holding, rested, unsure, if_so, returned, line_fed, scrolled, row_shown, cursor_shown}
 use Rattle.ansi_model.specs.{Symbols.is_plain_char, Symbols.is_symbol, Symbols.is_disputed, Modes.has_none, Beginnings.with_rows_above}
-use Rattle.ansi_model.specs.Emulator.Phase.{Ground, Escape, Opened, Sequence, Spaced, Letters, Coding, Told}
+use Rattle.ansi_model.specs.Emulator.Phase.{Ground, Escape, Opened, Sequence, Spaced, Letters, Coding, Told, Switching}
 use Rattle.ansi_model.specs.Sequences.{feed, reads_in, reads_sequence, reads_spaced, is_text, is_digit, performs, performs_marked, performs_mode, performs_DSR, performs_DECSCUSR, is_quiet, sets_mode, performs_ED, performs_EL, performs_CUP, performs_DECSTBM, performs_DL, performs_IL}
 use Rattle.ansi_model.proofs.SymbolLemmas.{rested-modes}
 
@@ -152,7 +152,8 @@ module _ (rows : List (List Look)) (held same : Bool) where
       (one-of (m == 69) _ _ _ _ (goes-on (λ u. with_modes (record u.modes { sides = on }) u) (λ r h u. refl) t kept)
       (one-of (m == 7) _ _ _ _ (goes-on (λ u. with_modes (record u.modes { unwrapped = not on }) u) (λ r h u. refl) t kept)
       (one-of (m == 2026) _ _ _ _ (record { held = on; is = refl; kept = λ e. refl })
-      (one-of (is_quiet m) _ _ _ _ (goes-on (λ u. u) (λ r h u. refl) t kept) (goes-on unsure (λ r h u. refl) t kept))))))
+      (one-of (m == 1049) _ _ _ _ (goes-on (λ u. record u { phase = Switching on }) (λ r h u. refl) t kept)
+      (one-of (is_quiet m) _ _ _ _ (goes-on (λ u. u) (λ r h u. refl) t kept) (goes-on unsure (λ r h u. refl) t kept)))))))
 
   marked-beside : (ps : List ℕ) (final : ℕ) (t : Emulator) → (same ≡ true → held ≡ t.modes.held) → IsBeside rows same (performs_marked ps final (beside rows held t)) (performs_marked ps final t)
   marked-beside [] final t kept = goes-on unsure (λ r h u. refl) t kept
@@ -175,6 +176,7 @@ module _ (rows : List (List Look)) (held same : Bool) where
   reads-beside Letters b t kept = goes-on (reads_in Letters b) (λ r h u. letters-beside r h b u) t kept
   reads-beside Coding b t kept = goes-on (reads_in Coding b) (λ r h u. coding-beside r h b u) t kept
   reads-beside Told b t kept = goes-on (reads_in Told b) (λ r h u. told-beside r h b u) t kept
+  reads-beside (Switching on) b t kept = goes-on (λ u. u) (λ r h u. refl) t kept
   reads-beside (Spaced ps) b t kept = goes-on (reads_in (Spaced ps) b) (λ r h u. spaced-beside r h ps b u) t kept
   reads-beside Opened b t kept = one-of (b == 63) _ _ _ _ (goes-on (λ u. record u { phase = Sequence true [] 0 }) (λ r h u. refl) t kept) (sequence-beside false [] 0 b t kept)
   reads-beside (Sequence mark done n) b t kept = sequence-beside mark done n b t kept

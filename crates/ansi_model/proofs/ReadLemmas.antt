@@ -211,7 +211,7 @@ feed-read t ground = ap (λ p. reads_in p 10 t) ground
 
 -- ---- what leaves a terminal
 
-reset-read : (t : Emulator) → t.phase ≡ Ground → feed (27 ∷ 91 ∷ 48 ∷ 109 ∷ []) t ≡ with_sgr default_sgr (rested t)
+pub reset-read : (t : Emulator) → t.phase ≡ Ground → feed (27 ∷ 91 ∷ 48 ∷ 109 ∷ []) t ≡ with_sgr default_sgr (rested t)
 unfolding feed inks are_known
 reset-read t ground =
     let s : Emulator = rested t in
@@ -246,7 +246,7 @@ leaving-read t ground =
 
 -- ---- what settles a terminal's modes
 
-string-read : (t : Emulator) → t.phase ≡ Ground → feed (27 ∷ 92 ∷ []) t ≡ rested t
+pub string-read : (t : Emulator) → t.phase ≡ Ground → feed (27 ∷ 92 ∷ []) t ≡ rested t
 unfolding feed
 string-read t ground = ap (λ p. feed (92 ∷ []) (reads_in p 27 t)) ground
 

@@ -11,7 +11,7 @@ use Rattle.ansi_model.specs.Columns.{Column, Columns, Area, blank_column, look_i
 
 -- what the next byte belongs to: text, a sequence that just began, one that is at its first parameter or its mark, or one with a mark, some
 -- parameters and the number at hand, or one with its parameters and a blank after them; or one that sets G0, or the coding; or a string for the
--- operating system
+-- operating system. One that was told to show its other screen waits until it does (Windows)
 pub data Phase : Type 0 where
   Ground : Phase
   Escape : Phase
@@ -21,6 +21,7 @@ pub data Phase : Type 0 where
   Letters : Phase
   Coding : Phase
   Told : Phase
+  Switching : (alternate : Bool) → Phase
 
 -- a terminal: `text` is what it has read since the last sequence; a cursor in column `width` is after the last one; line feeds scroll the
 -- rows from `top` up to `bottom`, its scroll region. Once it isn't sure, real terminals differ

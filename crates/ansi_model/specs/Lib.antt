@@ -7,6 +7,7 @@ pub mod Parameters
 pub mod Modes
 pub mod Emulator
 pub mod Sequences
+pub mod Windows
 pub mod Sends
 pub mod Drawing
 pub mod Screens

@@ -2,7 +2,7 @@
 use Rattle.std.specs.Prelude.{ℕ, ◌+◌, ◌-◌, ◌*◌, ◌==◌, ◌&&◌, ◌||◌, not, nat_le, Bool, true, false, if◌then◌else◌, List, [], ◌∷◌, ◌++◌, length}
 use Rattle.ansi_model.specs.{Sgr.inks, Sgr.are_known, Sgr.most_parameters, Sgr.Awaits.Nothing}
 use Rattle.ansi_model.specs.Emulator.{Emulator, Phase, if_so, unsure, rested, cursor_moved, returned, cursor_shown, with_modes, holding, with_sgr, erased, with_region, without_region, line_fed, lines_deleted, lines_inserted}
-use Rattle.ansi_model.specs.Emulator.Phase.{Ground, Escape, Opened, Sequence, Spaced, Letters, Coding, Told}
+use Rattle.ansi_model.specs.Emulator.Phase.{Ground, Escape, Opened, Sequence, Spaced, Letters, Coding, Told, Switching}
 use Rattle.ratatui_core.specs.Backend.{All, AfterCursor, BeforeCursor, CurrentLine, UntilNewLine}
 
 -- ED
@@ -72,14 +72,16 @@ performs parameters final t =
 abbrev pub is_quiet : ℕ → Bool
 is_quiet m = (m == 1000) || (m == 1002) || (m == 1003) || (m == 1006) || (m == 1004) || (m == 2004)
 
--- DECSET and DECRST: 25 DECTCEM, 6 DECOM, which takes the cursor to the corner, 69 DECLRMM, 7 DECAWM, 2026 a synchronized update
+-- DECSET and DECRST: 25 DECTCEM, 6 DECOM, which takes the cursor to the corner, 69 DECLRMM, 7 DECAWM, 2026 a synchronized update, 1049 the
+-- alternate screen
 abbrev pub sets_mode : Bool → ℕ → Emulator → Emulator
 sets_mode on m t =
     if m == 25 then cursor_shown on t
     else (if m == 6 then record t { modes = record t.modes { origin = on }; x = 0; y = 0 }
     else (if m == 69 then with_modes (record t.modes { sides = on }) t
     else (if m == 7 then with_modes (record t.modes { unwrapped = not on }) t
-    else (if m == 2026 then holding on t else (if is_quiet m then t else unsure t)))))
+    else (if m == 2026 then holding on t
+    else (if m == 1049 then record t { phase = Switching on } else (if is_quiet m then t else unsure t))))))
 
 -- a sequence with the mark `?`: h sets, l resets
 abbrev pub performs_marked : List ℕ → ℕ → Emulator → Emulator
@@ -142,6 +144,7 @@ reads_in Escape b t = reads_escape b t
 reads_in Letters b t = reads_letters b t
 reads_in Coding b t = reads_coding b t
 reads_in Told b t = reads_told b t
+reads_in (Switching alternate) b t = t
 reads_in (Spaced parameters) b t = reads_spaced parameters b t
 reads_in Opened b t = if b == 63 then record t { phase = Sequence true [] 0 } else reads_sequence false [] 0 b t
 reads_in (Sequence mark done n) b t = reads_sequence mark done n b t

@@ -28,8 +28,9 @@ pub use flags::{
 pub use glyph::{Glyph, glyph_of, is_printed};
 pub use pen::{Pen, change_sgr, put_disputed, put_plain, put_spaces, put_symbol, set_sgr};
 pub use screen::{
-    append_lines, ask_size, clear_screen, leaving, make_blank, scroll_region_down,
-    scroll_region_up, set_cursor_position, set_visible,
+    append_lines, ask_size, clear_screen, closing_alternate, leaving, make_blank,
+    opening_alternate, save_screen, scroll_region_down, scroll_region_up, set_cursor_position,
+    set_visible,
 };
 pub use sequences::{
     delete_lines, erase, erase_all, hide_cursor, insert_lines, line_feeds, move_to, reset_region,

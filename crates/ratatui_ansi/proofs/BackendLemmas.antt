@@ -1,10 +1,12 @@
 -- What a backend keeps of its terminal once a call was sent.
-use Rattle.std.proofs.Common.{◌≡◌, ℕ, Bool, false, ◌-◌, ◌<◌, min, arith, List, [], ◌++◌, refl, sym, ap, ◌∙◌, subst, append-nil, string_bytes}
+use Rattle.std.proofs.Common.{◌≡◌, ℕ, Bool, false, ◌-◌, ◌<◌, min, arith, List, [], ◌++◌, refl, sym, ap, ◌∙◌, subst, append-nil, string_bytes, Option, Some}
 use Rattle.ratatui_core.specs.{Layout.Position, Layout.Size, Backend.Screen, Backend.IsBlankScreen}
-use Rattle.ratatui_ansi.specs.{declared.tracker.Tracker.Tracker, Backend.reader, Backend.IsReadAlike, Backend.IsInOrder}
+use Rattle.ratatui_ansi.specs.{declared.tracker.Tracker.Tracker, Backend.BackendState, Backend.reader, Backend.IsReadAlike, Backend.IsInOrder, Backend.BringsBack}
+use Rattle.std.specs.Io.KnownBytes.{Appends}
+use Rattle.ansi_model.specs.{Endings.ClosesAlternate, Windows.Window, Windows.feed_window, Emulator.Phase.Ground}
 use Rattle.ansi_model.specs.{Emulator.Emulator, Emulator.rested, Emulator.blank_terminal, Sequences.feed, Screens.screen_shown}
 use Rattle.ansi_model.specs.{Beginnings.MakesBlank, Beginnings.anew, Beginnings.with_rows_above, Columns.blank_column, Flags.AreContinuations}
-use Rattle.ansi_model.proofs.{ScrollLemmas.blank-idle, ReadLemmas.feed-append, CallLemmas.fresh-left, HistoryLemmas.feed-above}
+use Rattle.ansi_model.proofs.{ScrollLemmas.blank-idle, ReadLemmas.feed-append, CallLemmas.fresh-left, HistoryLemmas.feed-above, WindowLemmas.window-read, WindowLemmas.window-append}
 use Rattle.ratatui_ansi.specs.Tracker.{IsAwaiting, IsTracked, FitsScreen, Collects, BeginsBlank}
 
 read-on : (size : Size) (sent more new : List ℕ) → new ≡ sent ++ more → reader size new ≡ feed more (reader size sent)
@@ -128,3 +130,19 @@ pub blank-shown-by : {size : Size} {k : Tracker} {sent : List ℕ} → BeginsBla
 blank-shown-by {size} {k} {sent} begins blank =
     subst (λ n. IsBlankScreen size.width size.height (screen_shown n (rested (reader k.size sent)))) (sym begins.written)
     (subst (λ s. IsBlankScreen size.width size.height (screen_shown 0 (rested (reader s sent)))) (sym begins.size) (blank-shown size sent blank))
+
+-- ---- the end
+
+-- what was sent and what closes the alternate screen bring the main one back
+pub brings-back : {W : Type 0} (b : BackendState W) (contents : Option (List ℕ)) (sent : List ℕ) → ClosesAlternate b.sent sent → IsReadAlike b.size b.sent → (reader b.size b.sent).phase ≡ Ground
+    → Appends b.before contents sent → BringsBack b contents
+brings-back b contents sent closes alike ground tied = record {
+  sent = sent;
+  closes = closes;
+  back = λ t main left.
+      let w : Window = record { shown = anew t; aside = Some main } in
+      let phase : (feed b.sent (anew t)).phase ≡ Ground = ap (λ (u : Emulator). u.phase) (alike t left) ∙ ground in
+      ap (λ bytes. feed_window bytes w) closes.appended ∙ window-append b.sent closes.bytes w
+      ∙ ap (feed_window closes.bytes) (window-read b.sent (anew t) (Some main) phase) ∙ closes.closed (feed b.sent (anew t)) main phase;
+  tied = tied;
+}

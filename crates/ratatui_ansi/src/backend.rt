@@ -1,19 +1,21 @@
 //! A backend for terminals that read escape sequences.
 
-ghost use Rattle.std.specs.Prelude.{◌≡◌, ◌<◌, [], false, IfOk, IfErr, OnOk};
+ghost use Rattle.std.specs.Prelude.{◌≡◌, ℕ, ◌<◌, List, [], ◌++◌, true, false, IfOk, IfErr, OnOk};
 ghost use Rattle.std.specs.Io.KnownBytes.{Appends as AppendsKnown};
 ghost use Rattle.ratatui_core.specs.Backend.{Counts, IsBlankScreen};
-ghost use Rattle.ansi_model.specs.Beginnings.{MakesBlank};
-ghost use Rattle.ratatui_ansi.specs.Backend.{BackendState, shown_by, LeavesTerminal};
+ghost use Rattle.ansi_model.specs.Beginnings.{MakesBlank, SavesScreen, OpensAlternate};
+ghost use Rattle.ansi_model.specs.Endings.{left_below, ClosesAlternate};
+ghost use Rattle.ansi_model.specs.Sends.{Performs};
+ghost use Rattle.ratatui_ansi.specs.Backend.{BackendState, shown_by, BeginsBy, LeavesTerminal, BringsBack};
 ghost use Rattle.ratatui_ansi.specs.Headline.{IsReadByAll};
-ghost use Rattle.ratatui_ansi.specs.Tracker.{CallDoes, IsCommanded};
+ghost use Rattle.ratatui_ansi.specs.Tracker.{BeginsBlank, CallDoes, IsCommanded};
 ghost use Rattle.ratatui_ansi.specs.Refusals.{Answers, RefusesToBegin, FailsToRestart, FailsToResize};
 ghost use Rattle.ratatui_ansi.specs.Refusals.{IsOfLeaving, IsOfCall};
 
 use crate::error::AnsiError;
 use crate::sender::Sender;
 use crate::tracker::{Call, Tracker};
-use ansi_model::leaving;
+use ansi_model::{closing_alternate, leaving, opening_alternate, save_screen};
 use ratatui_core::layout::Size;
 use std::alloc::Global;
 use std::io::Write;
@@ -22,12 +24,13 @@ use std::marker::Model;
 /// A backend that writes escape sequences to a writer. It begins with those that make any terminal
 /// of its size blank, and its screen is what such a terminal shows that has read what the writer
 /// was sent. Each call writes once, or nothing if it is refused or the terminal is so already, and
-/// counts as failed until it has succeeded; after a failed write every call is refused until `restart`. It keeps no byte of what
-/// it wrote.
+/// counts as failed until it has succeeded; after a failed write every call is refused until
+/// `restart`. It keeps no byte of what it wrote.
 #[derive(Drop)]
 pub struct AnsiBackend<W: Write> {
     pub(crate) sender: Sender<W>,
     pub(crate) tracker: Tracker,
+    is_on_alternate: bool,
     alloc: Global,
 }
 
@@ -47,6 +50,7 @@ impl<W: Write> Model for AnsiBackend<W> {
       has_underline_colors = b.tracker.has_underline_colors;
       ambiguous_is_wide = b.tracker.ambiguous_is_wide;
       is_synchronized = b.tracker.is_synchronized;
+      is_on_alternate = b.is_on_alternate;
       written = b.tracker.written;
       failures = b.sender.failures;
       is_broken = b.sender.is_broken;
@@ -60,8 +64,47 @@ impl<W: Write> Model for AnsiBackend<W> {
 }
 
 impl<W: Write + Drop> AnsiBackend<W> {
+    // A backend of a screen of this size, whose beginning is tracked: the writer is sent a text
+    // first, which doesn't count as sent, and then what was collected.
+    fn begin(
+        alloc: Global,
+        writer: W,
+        size: Size,
+        tracker: Tracker,
+        first: &str,
+        is_on_alternate: bool,
+    ) -> Result<AnsiBackend<W>, AnsiError>
+        requires blank { BeginsBlank size tracker }
+        requires colors { tracker.has_underline_colors ≡ false }
+        requires ambiguous { tracker.ambiguous_is_wide ≡ false }
+        requires synchronized { tracker.is_synchronized ≡ false }
+        ensures blank { IfOk result (λ b. IsBlankScreen size.width size.height (shown_by b)) }
+        ensures before { IfOk result
+            (λ b. AppendsKnown (W.contents writer) b.before first.now) }
+        ensures sent { IfOk result (λ b. MakesBlank size.width size.height [] b.sent) }
+        ensures is_size { IfOk result (λ b. b.size ≡ size) }
+        ensures colors { IfOk result (λ b. b.has_underline_colors ≡ false) }
+        ensures ambiguous { IfOk result (λ b. b.ambiguous_is_wide ≡ false) }
+        ensures synchronized { IfOk result (λ b. b.is_synchronized ≡ false) }
+        ensures alternate { IfOk result (λ b. b.is_on_alternate ≡ is_on_alternate) }
+        ensures failures { IfOk result (λ b. b.failures ≡ 0) }
+        ensures works { IfOk result (λ b. b.is_broken ≡ false) }
+        ensures refused { IfErr result IsOfLeaving }
+    {
+        let mut sender = Sender::new(writer);
+        sender.send(first, 0)?;
+        sender.renew();
+        sender.send(tracker.out.as_str(), 0)?;
+        Ok(AnsiBackend {
+            sender,
+            tracker,
+            is_on_alternate,
+            alloc,
+        })
+    }
+
     /// A backend of a screen of this size in columns and rows, over a terminal that is made blank:
-    /// what makes it blank is written.
+    /// what stood on it is scrolled into its history, and then what makes it blank is written.
     ///
     /// ```
     /// let writer = BufWriter::new(alloc, rt.stdout())?;
@@ -78,25 +121,52 @@ impl<W: Write + Drop> AnsiBackend<W> {
     /// The writer is dropped then.
     pub fn new(alloc: Global, writer: W, size: Size) -> Result<AnsiBackend<W>, AnsiError>
         ensures blank { IfOk result (λ b. IsBlankScreen size.width size.height (shown_by b)) }
-        ensures before { IfOk result (λ b. b.before ≡ W.contents writer) }
+        ensures before { IfOk result (λ b. BeginsBy (SavesScreen size.width size.height)
+            (W.contents writer) b.before) }
         ensures sent { IfOk result (λ b. MakesBlank size.width size.height [] b.sent) }
         ensures is_size { IfOk result (λ b. b.size ≡ size) }
         ensures colors { IfOk result (λ b. b.has_underline_colors ≡ false) }
         ensures ambiguous { IfOk result (λ b. b.ambiguous_is_wide ≡ false) }
         ensures synchronized { IfOk result (λ b. b.is_synchronized ≡ false) }
+        ensures alternate { IfOk result (λ b. b.is_on_alternate ≡ false) }
         ensures failures { IfOk result (λ b. b.failures ≡ 0) }
         ensures works { IfOk result (λ b. b.is_broken ≡ false) }
         ensures size { OnOk result ((0 < size.width) × (0 < size.height)) }
         ensures refused { IfErr result (RefusesToBegin size.width size.height) }
     {
         let tracker = Tracker::new(alloc, size)?;
-        let mut sender = Sender::new(writer);
-        sender.send(tracker.out.as_str(), 0)?;
-        Ok(AnsiBackend {
-            sender,
-            tracker,
-            alloc,
-        })
+        let mut first = String::new(alloc);
+        save_screen(&mut first, size.height)?;
+        AnsiBackend::begin(alloc, writer, size, tracker, first.as_str(), false)
+    }
+
+    /// The same on the terminal's alternate screen: its main screen is put aside as it is, and
+    /// `leave` brings it back. Rows that scroll off an alternate screen can't be scrolled back to.
+    ///
+    /// # Errors
+    ///
+    /// As of `new`.
+    pub fn new_on_alternate_screen(
+        alloc: Global,
+        writer: W,
+        size: Size,
+    ) -> Result<AnsiBackend<W>, AnsiError>
+        ensures blank { IfOk result (λ b. IsBlankScreen size.width size.height (shown_by b)) }
+        ensures before { IfOk result (λ b. BeginsBy (OpensAlternate size.width size.height)
+            (W.contents writer) b.before) }
+        ensures sent { IfOk result (λ b. MakesBlank size.width size.height [] b.sent) }
+        ensures is_size { IfOk result (λ b. b.size ≡ size) }
+        ensures colors { IfOk result (λ b. b.has_underline_colors ≡ false) }
+        ensures ambiguous { IfOk result (λ b. b.ambiguous_is_wide ≡ false) }
+        ensures synchronized { IfOk result (λ b. b.is_synchronized ≡ false) }
+        ensures alternate { IfOk result (λ b. b.is_on_alternate ≡ true) }
+        ensures failures { IfOk result (λ b. b.failures ≡ 0) }
+        ensures works { IfOk result (λ b. b.is_broken ≡ false) }
+        ensures size { OnOk result ((0 < size.width) × (0 < size.height)) }
+        ensures refused { IfErr result (RefusesToBegin size.width size.height) }
+    {
+        let tracker = Tracker::new(alloc, size)?;
+        AnsiBackend::begin(alloc, writer, size, tracker, opening_alternate(), true)
     }
 
     /// The writer. If its bytes are known, and no write failed since the backend began or began
@@ -122,21 +192,39 @@ impl<W: Write + Drop> AnsiBackend<W> {
         self.sender.writer
     }
 
-    /// Gives the terminal back, also after a failed write, and answers the writer: the terminal is
-    /// in its own colours and without margins, its cursor is shown below its last row, and the
-    /// writer has sent all on. This takes no memory.
+    // What gives the terminal back.
+    fn farewell(&self) -> &'static str
+        ensures left { self.now.is_on_alternate ≡ false
+            → (old : List ℕ) → Performs old (old ++ result.now) left_below }
+        ensures back { self.now.is_on_alternate ≡ true
+            → (old : List ℕ) → ClosesAlternate old (old ++ result.now) }
+    {
+        if self.is_on_alternate {
+            closing_alternate()
+        } else {
+            leaving()
+        }
+    }
+
+    /// Gives the terminal back, also after a failed write, and answers the writer, which has sent
+    /// all on: the terminal is in its own colours and without margins, and its cursor is shown. On
+    /// its main screen that stands below the last row; from its alternate screen the main one comes
+    /// back as it was put aside, with its cursor. This takes no memory.
     ///
     /// # Errors
     ///
     /// `Write`: the writer failed. It is dropped then.
     pub fn leave(mut self) -> Result<W, AnsiError>
         ensures left { IfOk result (λ writer. self.is_broken ≡ false
-            → LeavesTerminal self (W.contents writer)) }
+            → self.is_on_alternate ≡ false → LeavesTerminal self (W.contents writer)) }
+        ensures back { IfOk result (λ writer. self.is_broken ≡ false
+            → self.is_on_alternate ≡ true → BringsBack self (W.contents writer)) }
         ensures why { IfErr result IsOfLeaving }
     {
         let count = self.sender.failures;
+        let last = self.farewell();
         self.sender.mend();
-        self.sender.send(leaving(), count)?;
+        self.sender.send(last, count)?;
         self.sender.flush(count)?;
         Ok(self.sender.writer)
     }
@@ -186,6 +274,7 @@ impl<W: Write + Drop> AnsiBackend<W> {
         ensures colors { self.new.has_underline_colors ≡ self.old.has_underline_colors }
         ensures ambiguous { self.new.ambiguous_is_wide ≡ self.old.ambiguous_is_wide }
         ensures synchronized { self.new.is_synchronized ≡ self.old.is_synchronized }
+        ensures alternate { self.new.is_on_alternate ≡ self.old.is_on_alternate }
         ensures counts { Counts result self.old.failures self.new.failures }
     {
         let size = self.tracker.size;
@@ -211,6 +300,7 @@ impl<W: Write + Drop> AnsiBackend<W> {
         ensures colors { self.new.has_underline_colors ≡ self.old.has_underline_colors }
         ensures ambiguous { self.new.ambiguous_is_wide ≡ self.old.ambiguous_is_wide }
         ensures synchronized { self.new.is_synchronized ≡ self.old.is_synchronized }
+        ensures alternate { self.new.is_on_alternate ≡ self.old.is_on_alternate }
         ensures counts { Counts result self.old.failures self.new.failures }
     {
         let failures = self.sender.count();

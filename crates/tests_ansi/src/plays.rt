@@ -97,29 +97,36 @@ struct Play {
     has_underline_colors: bool,
     // What another program left on the terminal.
     left: &'static str,
+    // How much was sent before the backend's own beginning.
+    first: usize,
     alloc: Global,
 }
 
 impl Play {
     fn new(alloc: Global, width: u16, height: u16) -> Result<Play, Fail> {
+        let backend = over_kept(alloc, width, height)?;
+        let first = sent(&backend).rfind("\u{1b}\\").unwrap_or(0);
         Ok(Play {
-            backend: over_kept(alloc, width, height)?,
+            backend,
             screen: TestBackend::new(alloc, width, height)?,
             width,
             height,
             has_underline_colors: false,
             left: LEFT,
+            first,
             alloc,
         })
     }
 
     fn read(&self) -> Result<Reader<'_>, AllocError> {
+        let all = sent(&self.backend);
+        let (first, rest) = all.split_at_checked(self.first).unwrap_or(("", all));
         Reader::of(
             self.alloc,
             self.width,
             self.height,
-            self.left,
-            sent(&self.backend),
+            (self.left, first),
+            rest,
         )
     }
 
@@ -373,7 +380,7 @@ fn blanks(alloc: Global, texts: Option<(&str, &str)>) -> Result<bool, Fail> {
         return Ok(false);
     };
     let blank = TestBackend::new(alloc, 7, 4)?;
-    Ok(Reader::of(alloc, 7, 4, left, rest)?.shows(Position::ORIGIN, &blank))
+    Ok(Reader::of(alloc, 7, 4, (left, ""), rest)?.shows(Position::ORIGIN, &blank))
 }
 
 // Whether a backend that begins anew after a play makes the terminal blank, and its screen is
@@ -396,6 +403,16 @@ fn used_terminals_are_made_blank(rt: HostRuntime) -> Result<(), Fail> {
     for seed in 0..PLAYS {
         assert!(rt; is_begun_anew(alloc, seed)?);
     }
+    Ok(())
+}
+
+// What stood on the screen is in the history, and no more.
+#[test]
+fn the_screen_is_saved(rt: HostRuntime) -> Result<(), Fail> {
+    let backend = over_kept(rt.alloc(), 3, 2)?;
+    let left = "a\u{1b}[31mb\r\ncde\n\rf\u{1b}[1;1H";
+    let reader = Reader::of(rt.alloc(), 3, 2, (left, ""), sent(&backend))?;
+    assert!(rt; reader.has_above(&["cde", "f  "]));
     Ok(())
 }
 

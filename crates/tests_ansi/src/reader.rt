@@ -88,13 +88,13 @@ struct Modes {
 }
 
 impl<'a> Reader<'a> {
-    // A terminal of this size after it has read a text; before, another program left it as this
-    // other text does.
+    // A terminal of this size after it has read a text; before, other programs left it as these two
+    // other texts do.
     pub fn of(
         alloc: Global,
         width: u16,
         height: u16,
-        left: &'a str,
+        left: (&'a str, &'a str),
         sent: &'a str,
     ) -> Result<Reader<'a>, AllocError> {
         let count = usize::from(width) * usize::from(height);
@@ -114,7 +114,8 @@ impl<'a> Reader<'a> {
             sure: true,
             alloc,
         };
-        reader.read(left)?;
+        reader.read(left.0)?;
+        reader.read(left.1)?;
         reader.rows_left = reader.history.len();
         reader.sure = true;
         reader.read(sent)?;
@@ -438,6 +439,19 @@ impl<'a> Reader<'a> {
         Ok(())
     }
 
+    /// Whether it is sure of what it shows, and these are all the rows that scrolled off, without
+    /// what its history had before.
+    pub fn has_above(&self, rows: &[&str]) -> bool {
+        self.sure
+            && self.history.len().checked_sub(self.rows_left) == Some(rows.len())
+            && self
+                .history
+                .iter()
+                .skip(self.rows_left)
+                .zip(rows.iter())
+                .all(|(row, text)| are_letters(row.as_slice(), text))
+    }
+
     /// Whether a place is covered by a symbol that begins left of it.
     pub fn is_behind(&self, x: u16, y: u16) -> bool {
         match self.column(x, y) {
@@ -471,6 +485,14 @@ impl<'a> Reader<'a> {
                 .zip(screen.scrollback().iter())
                 .all(|(row, cells)| are_shown(row.as_slice(), cells.as_slice()))
     }
+}
+
+// Whether the columns show the letters of a text, one each.
+fn are_letters(columns: &[Option<Column<'_>>], text: &str) -> bool {
+    columns.len() == text.len()
+        && columns.iter().zip(text.char_indices()).all(|(column, (at, _))| column.is_some_and(
+            |shown| text.get(at..at + 1) == Some(shown.symbol),
+        ))
 }
 
 // Whether what stands in a column has the look of a cell.
