@@ -26,7 +26,9 @@ use std::marker::Model;
 /// was sent. Each call writes once, or nothing if it is refused or the terminal is so already, and
 /// counts as failed until it has succeeded; after a failed write every call is refused until
 /// `restart`. It keeps no byte of what it wrote.
-#[derive(Drop)]
+///
+/// A drop brings the main screen back, where an alternate one is shown, as `leave` does; it can't
+/// tell that the writer failed.
 pub struct AnsiBackend<W: Write> {
     pub(crate) sender: Sender<W>,
     pub(crate) tracker: Tracker,
@@ -61,6 +63,20 @@ impl<W: Write> Model for AnsiBackend<W> {
         b.sender.sent.bytes
         × (b.sender.is_broken ≡ false
         → Appends b.sender.sent.before (W.contents b.sender.writer) b.sender.sent.bytes) };
+}
+
+impl<W: Write + Drop> Drop for AnsiBackend<W> {
+    fn drop(self) {
+        let AnsiBackend {
+            mut sender,
+            tracker: _tracker,
+            is_on_alternate,
+            alloc: _alloc,
+        } = self;
+        if is_on_alternate {
+            sender.give_back(closing_alternate());
+        }
+    }
 }
 
 impl<W: Write + Drop> AnsiBackend<W> {
@@ -189,7 +205,13 @@ impl<W: Write + Drop> AnsiBackend<W> {
         ensures tied { self.is_broken ≡ false
             → AppendsKnown self.before (W.contents result) self.sent }
     {
-        self.sender.writer
+        let AnsiBackend {
+            sender,
+            tracker: _tracker,
+            is_on_alternate: _,
+            alloc: _alloc,
+        } = self;
+        sender.writer
     }
 
     // What gives the terminal back.
@@ -214,19 +236,25 @@ impl<W: Write + Drop> AnsiBackend<W> {
     /// # Errors
     ///
     /// `Write`: the writer failed. It is dropped then.
-    pub fn leave(mut self) -> Result<W, AnsiError>
+    pub fn leave(self) -> Result<W, AnsiError>
         ensures left { IfOk result (λ writer. self.is_broken ≡ false
             → self.is_on_alternate ≡ false → LeavesTerminal self (W.contents writer)) }
         ensures back { IfOk result (λ writer. self.is_broken ≡ false
             → self.is_on_alternate ≡ true → BringsBack self (W.contents writer)) }
         ensures why { IfErr result IsOfLeaving }
     {
-        let count = self.sender.failures;
         let last = self.farewell();
-        self.sender.mend();
-        self.sender.send(last, count)?;
-        self.sender.flush(count)?;
-        Ok(self.sender.writer)
+        let AnsiBackend {
+            mut sender,
+            tracker: _tracker,
+            is_on_alternate: _,
+            alloc: _alloc,
+        } = self;
+        let count = sender.failures;
+        sender.mend();
+        sender.send(last, count)?;
+        sender.flush(count)?;
+        Ok(sender.writer)
     }
 
     /// From now on the backend sends colours of the underline, or refuses them, as it does at

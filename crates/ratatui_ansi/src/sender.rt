@@ -125,6 +125,13 @@ impl<W: Write> Sender<W> {
         }
     }
 
+    /// Writes a last text and has it sent on, as far as the writer takes that.
+    pub(crate) fn give_back(&mut self, text: &str) {
+        self.mend();
+        let _written = self.writer.write_all(text.as_bytes());
+        let _flushed = self.writer.flush();
+    }
+
     /// Writes the text of a draw whole, as `send` does; after an Err no synchronized update goes
     /// on, as far as the writer takes its end.
     pub(crate) fn send_draw(

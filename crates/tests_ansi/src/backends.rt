@@ -396,6 +396,26 @@ fn the_main_screen_comes_back(rt: HostRuntime) -> Result<(), Fail> {
     Ok(())
 }
 
+// Begins on the alternate screen of a terminal and drops the backend; whether that worked.
+fn begins_and_drops(alloc: Global, writer: &mut Vec<u8>) -> bool {
+    let size = Size {
+        width: 4,
+        height: 3,
+    };
+    AnsiBackend::new_on_alternate_screen(alloc, writer, size).is_ok()
+}
+
+#[test]
+fn a_drop_brings_the_main_screen_back(rt: HostRuntime) {
+    let mut writer = Vec::new(rt.alloc());
+    assert!(rt; begins_and_drops(rt.alloc(), &mut writer));
+    assert!(rt;
+        writer
+            .as_slice()
+            .ends_with(b"\x1b[r\x1b[?25h\x1b[?1049l\x1b[0m")
+    );
+}
+
 #[test]
 fn no_backend_without_columns(rt: HostRuntime) {
     let none = Size {
