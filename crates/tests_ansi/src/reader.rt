@@ -1,58 +1,11 @@
 //! A terminal that reads what a writer was sent: the model, computed.
+use crate::columns::{Area, BLANK, Column, are_letters, are_shown};
 use crate::parameters::with_parameters;
 use ansi_model::{Sgr, is_plain, is_symbol};
 use rtui_backend::{ClearType, TestBackend};
-use rtui_cell::{Cell, CellWidth};
+use rtui_cell::CellWidth;
 use rtui_geometry::Position;
 use std::alloc::{AllocError, Global};
-
-// One of the columns of a symbol, counted from 0, and how many the symbol takes; none at all if
-// nothing is known.
-#[derive(Clone, Copy)]
-struct Column<'a> {
-    symbol: &'a str,
-    sgr: Sgr,
-    index: u16,
-    count: u16,
-}
-
-const BLANK: Column<'static> = Column {
-    symbol: " ",
-    sgr: Sgr::DEFAULT,
-    index: 0,
-    count: 1,
-};
-
-// Columns that are written over.
-#[derive(Clone, Copy)]
-enum Area {
-    Run(Position, u16),
-    Part(ClearType, Position),
-}
-
-impl Area {
-    fn has(self, a: u16, b: u16) -> bool {
-        match self {
-            Area::Run(from, count) => { b == from.y && from.x <= a && a - from.x < count }
-            Area::Part(ClearType::All, _) => true,
-            Area::Part(ClearType::AfterCursor, at) => at.y < b || (b == at.y && at.x <= a),
-            Area::Part(ClearType::BeforeCursor, at) => b < at.y || (b == at.y && a <= at.x),
-            Area::Part(ClearType::CurrentLine, at) => b == at.y,
-            Area::Part(ClearType::UntilNewLine, at) => b == at.y && at.x <= a,
-        }
-    }
-
-    // Whether a symbol, of which this is column `a` of row `b`, has a column here.
-    fn meets(self, a: u16, b: u16, column: Column<'_>) -> bool {
-        let first = a.saturating_sub(column.index);
-        for k in 0..column.count {
-            if self.has(first.saturating_add(k), b) {
-                return true;
-            }
-        }
-        false
-    }
-}
 
 // A terminal that was blank; `sure` until real terminals would differ.
 #[derive(Drop)]
@@ -485,31 +438,4 @@ impl<'a> Reader<'a> {
                 .zip(screen.scrollback().iter())
                 .all(|(row, cells)| are_shown(row.as_slice(), cells.as_slice()))
     }
-}
-
-// Whether the columns show the letters of a text, one each.
-fn are_letters(columns: &[Option<Column<'_>>], text: &str) -> bool {
-    columns.len() == text.len()
-        && columns.iter().zip(text.char_indices()).all(|(column, (at, _))| column.is_some_and(
-            |shown| text.get(at..at + 1) == Some(shown.symbol),
-        ))
-}
-
-// Whether what stands in a column has the look of a cell.
-fn is_shown(column: Option<Column<'_>>, cell: &Cell) -> bool {
-    match column {
-        Some(column) if column.index == 0 => {
-            cell.symbol() == column.symbol && Sgr::of(cell) == column.sgr
-        }
-        Some(_) => cell.symbol() == " " && Sgr::of(cell) == Sgr::DEFAULT,
-        None => false,
-    }
-}
-
-fn are_shown(columns: &[Option<Column<'_>>], cells: &[Cell]) -> bool {
-    columns.len() == cells.len()
-        && columns
-            .iter()
-            .zip(cells.iter())
-            .all(|(column, cell)| is_shown(*column, cell))
 }
