@@ -8,7 +8,7 @@ use Rattle.ansi_model.specs.Columns.{Columns, look_in, is_met, blank_column, ove
 use Rattle.ansi_model.specs.{Columns.Column.Unknown, Sgr.default_sgr, Emulator.Phase.Ground, Sends.Performs}
 use Rattle.ansi_model.specs.Emulator.{Emulator, rested, standing, printed, prints, returned, fed, run, blank_terminal, cursor_moved, erased, columns_moved, without_region, with_sgr}
 use Rattle.ansi_model.specs.Emulator as terminal
-use Rattle.ansi_model.specs.Beginnings.{IsAsFound, anew, without_modes, MakesBlank, SavesScreen, AreKnown, rows_shown, scrolled_off}
+use Rattle.ansi_model.specs.Beginnings.{IsAsFound, anew, without_modes, MakesBlank, SavesScreen, AreKnown, screen_rows, scrolled_off}
 use Rattle.ansi_model.specs.{Columns.Column.Shows, Sgr.inked, Modes.no_modes, Symbols.is_plain_char, Symbols.printed_columns, Sends.Sends, Sends.typed}
 use lib.Utf8.{encode}
 use Rattle.ansi_model.proofs.{ReadLemmas.Sends-then, PutLemmas.none_between, SymbolLemmas.alone-standing, SymbolLemmas.plain-printed, SymbolLemmas.plain-single, SymbolLemmas.one-undisputed}
@@ -229,7 +229,7 @@ gone h c a b off =
     ] refl
 
 screen-saved : (w h : ℕ) (s : Emulator) → 0 < w → 0 < h → IsAsFound w h s → s.sure ≡ true → AreKnown s.columns
-    → fed h (returned (cursor_moved 0 (h - 1) (own s))) ≡ scrolled_off w h (s.history ++ rows_shown s) s
+    → fed h (returned (cursor_moved 0 (h - 1) (own s))) ≡ scrolled_off w h (s.history ++ screen_rows s) s
 screen-saved w h s wide high left sure known =
     let width : s.width ≡ w = left.width in
     let height : s.height ≡ h = left.height in
@@ -238,10 +238,10 @@ screen-saved w h s wide high left sure known =
     let feeds : Feeds s.height h v (fed h v) = fed-feeds h v refl (λ some. omega arith) in
     let columns : (a b : ℕ) → (fed h v).columns a b ≡ blank_column = λ a b.
     feeds.columns a b ∙ ap (λ end. columns_moved (scrolling_up 0 end h) s.columns a b) height ∙ gone h s.columns a b (λ below. left.off a b (inr below)) in
-    let rows : map (region_row s.height v) (range_with_len 0 h) ≡ rows_shown s
+    let rows : map (region_row s.height v) (range_with_len 0 h) ≡ screen_rows s
     = ap (λ n. map (region_row s.height v) (range_with_len 0 n)) (sym height) ∙ region-rows s.height v 0 s.height (omega arith) in
     feeds.rest
-    ∙ same-fields (record v { columns = (fed h v).columns; history = (fed h v).history; sure = (fed h v).sure }) (scrolled_off w h (s.history ++ rows_shown s) s) width height left.phase left.text refl refl row refl height
+    ∙ same-fields (record v { columns = (fed h v).columns; history = (fed h v).history; sure = (fed h v).sure }) (scrolled_off w h (s.history ++ screen_rows s) s) width height left.phase left.text refl refl row refl height
     (fun_ext (λ a. fun_ext (λ b. columns a b))) (feeds.history ∙ ap (λ xs. s.history ++ xs) rows) refl refl (feeds.sure sure refl (omega arith) known)
 
 pub saves-screen : (w h : ℕ) (old new : List ℕ) → 0 < w → 0 < h → Performs old new (λ t. fed h (returned (cursor_moved 0 (h - 1) (own t)))) → SavesScreen w h old new

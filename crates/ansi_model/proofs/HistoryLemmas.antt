@@ -5,7 +5,7 @@ use Rattle.ratatui_core.specs.Buffer.{Look, text_width}
 use Rattle.ansi_model.specs.Emulator.{Emulator, Phase, types, prints, prints_disputed, prints_whole, printed, printed_alike, with_modes, holding, rested, unsure, if_so, returned, line_fed, scrolled, row_shown, cursor_shown}
 use Rattle.ansi_model.specs.{Symbols.is_plain_char, Symbols.is_symbol, Symbols.is_disputed, Modes.has_none, Beginnings.with_rows_above}
 use Rattle.ansi_model.specs.Emulator.Phase.{Ground, Escape, Opened, Sequence, Spaced, Letters, Coding, Told, Switching}
-use Rattle.ansi_model.specs.Sequences.{feed, reads_in, reads_sequence, reads_spaced, is_text, is_digit, performs, performs_marked, performs_mode, performs_DSR, performs_DECSCUSR, is_quiet, sets_mode, performs_ED, performs_EL, performs_CUP, performs_DECSTBM, performs_DL, performs_IL}
+use Rattle.ansi_model.specs.Sequences.{feed, reads_in, reads_sequence, reads_spaced, is_text, is_digit, performs, performs_marked, performs_mode, performs_DSR, is_quiet, sets_mode, performs_ED, performs_EL, performs_CUP, performs_DECSTBM, performs_DL, performs_IL}
 use Rattle.ansi_model.proofs.SymbolLemmas.{rested-modes}
 
 -- a terminal with these rows before those of its history, in a synchronized update or in none

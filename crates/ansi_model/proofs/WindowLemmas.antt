@@ -3,7 +3,7 @@ use Rattle.std.proofs.Common.{◌≡◌, ℕ, Bool, true, List, [], ◌∷◌, �
 use Rattle.ansi_model.specs.Emulator.{Emulator, Phase, rested, with_sgr, cursor_shown, without_region}
 use Rattle.ansi_model.specs.Emulator.Phase.{Ground, Escape, Opened, Sequence, Spaced, Letters, Coding, Told, Switching}
 use Rattle.ansi_model.specs.Windows.{Window, alternate_of, come_back, settled_in, reads_on, feed_window}
-use Rattle.ansi_model.specs.{Sequences.feed, Sequences.reads_in, Sgr.default_sgr, Endings.left_back, Endings.ClosesAlternate, Beginnings.OpensAlternate, Beginnings.IsAsFound, Beginnings.anew}
+use Rattle.ansi_model.specs.{Sequences.feed, Sequences.reads_in, Sgr.default_sgr, Endings.ClosesAlternate, Beginnings.OpensAlternate, Beginnings.IsAsFound, Beginnings.anew}
 use Rattle.ansi_model.proofs.{ReadLemmas.feed-append, ReadLemmas.string-read, ReadLemmas.reset-read, ReadLemmas.no_region-read, ReadLemmas.showing-read, CallLemmas.rested-left, CallLemmas.left-anew}
 
 -- a screen that is to be switched reads nothing

@@ -1,8 +1,8 @@
 -- Terminals as other programs may have left them, and what makes one blank.
-use Rattle.std.specs.Prelude.{◌≡◌, ◌⊎◌, ℕ, ◌-◌, ◌≤◌, true, List, [], ◌++◌, map, Option, Some, None}
+use Rattle.std.specs.Prelude.{◌≡◌, ◌⊎◌, ℕ, ◌-◌, ◌≤◌, true, List, [], ◌++◌, map, Some, None}
 use Rattle.std.specs.List.{range_with_len}
 use Rattle.ratatui_core.specs.Buffer.{Look}
-use Rattle.ansi_model.specs.{Columns.Columns, Columns.blank_column, Columns.is_known_column, Emulator.Emulator, Emulator.blank_terminal, Emulator.row_shown, Emulator.with_sgr, Emulator.Phase.Ground, Modes.no_modes, Sgr.default_sgr, Sequences.feed, Windows.Window, Windows.alternate_of, Windows.feed_window}
+use Rattle.ansi_model.specs.{Columns.Columns, Columns.blank_column, Columns.is_known_column, Emulator.Emulator, Emulator.blank_terminal, Emulator.row_shown, Emulator.with_sgr, Emulator.Phase.Ground, Modes.no_modes, Sgr.default_sgr, Sequences.feed, Windows.alternate_of, Windows.feed_window}
 
 -- a terminal of this size as another program may have left it, whatever its rendition, margins, modes, cursor and contents: it isn't in the middle
 -- of a sequence, and nothing stands off its screen
@@ -36,8 +36,8 @@ abbrev pub AreKnown : Columns → Type 0
 AreKnown columns = (a b : ℕ) → is_known_column (columns a b) ≡ true
 
 -- the rows of a screen, from the first one
-abbrev pub rows_shown : Emulator → List (List Look)
-rows_shown t = map (row_shown t) (range_with_len 0 t.height)
+abbrev pub screen_rows : Emulator → List (List Look)
+screen_rows t = map (row_shown t) (range_with_len 0 t.height)
 
 -- a blank terminal of this size, with these rows in its history, and its cursor in the last row, shown or not
 abbrev pub scrolled_off : ℕ → ℕ → List (List Look) → Emulator → Emulator
@@ -47,7 +47,7 @@ scrolled_off w h rows t = record (blank_terminal w h) { history = rows; y = h - 
 pub record SavesScreen (w h : ℕ) (old new : List ℕ) : Type 0 where
   pub bytes : List ℕ
   pub appended : new ≡ old ++ bytes
-  pub saved : (t : Emulator) → IsAsFound w h t → AreKnown t.columns → feed bytes (anew t) ≡ scrolled_off w h (t.history ++ rows_shown t) t
+  pub saved : (t : Emulator) → IsAsFound w h t → AreKnown t.columns → feed bytes (anew t) ≡ scrolled_off w h (t.history ++ screen_rows t) t
 
 -- bytes were appended that put the main screen of each window of this size aside, however it was left, and show a blank one
 pub record OpensAlternate (w h : ℕ) (old new : List ℕ) : Type 0 where

@@ -4,7 +4,7 @@ use Rattle.ratatui_core.specs.{Layout.Position, Layout.Size, Backend.Screen}
 use Rattle.ansi_model.specs.{Emulator.Emulator, Emulator.rested, Emulator.blank_terminal, Sequences.feed, Screens.screen_shown}
 use Rattle.ratatui_ansi.specs.Tracker.{FitsScreen, IsAwaiting}
 use Rattle.ansi_model.specs.Beginnings.{IsAsFound, anew, with_rows_above}
-use Rattle.ansi_model.specs.{Sends.Performs, Endings.left_below, Endings.left_back, Endings.ClosesAlternate, Windows.Window, Windows.feed_window}
+use Rattle.ansi_model.specs.{Sends.Performs, Endings.left_below, Endings.left_back, Endings.ClosesAlternate, Windows.feed_window}
 use Rattle.std.specs.Io.KnownBytes.{Appends}
 
 -- the writer, what it held as the backend began or began anew, if that is known, what it was sent since, and what of that after the last

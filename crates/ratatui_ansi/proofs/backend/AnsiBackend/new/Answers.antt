@@ -1,4 +1,4 @@
-use Rattle.std.proofs.Common.{List, [], sym, subst, string_bytes}
+use Rattle.std.proofs.Common.{[], sym, subst, string_bytes}
 use Rattle.std.proofs.lemmas.Result.{IfOk-weaker}
 use Rattle.ansi_model.specs.Beginnings.{SavesScreen}
 use Rattle.ratatui_ansi.proofs.backend.AnsiBackend.new.Goals as goal

@@ -1,4 +1,4 @@
-use Rattle.std.proofs.Common.{ap, sym, length, ◌∙◌}
+use Rattle.std.proofs.Common.{◌∙◌}
 use Rattle.std.proofs.lemmas.{List.with_items_is, Result.IfOk-weaker}
 use Rattle.ratatui_ansi.proofs.tracker.Tracker.draft.Goals as goal
 
