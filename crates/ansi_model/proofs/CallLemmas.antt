@@ -1,18 +1,19 @@
 -- Moves of the cursor, its visibility, and the screen emptied.
-use Rattle.std.proofs.Common.{◌≡◌, ◌⊎◌, inl, inr, ℕ, ◌+◌, ◌-◌, ◌<◌, ◌≤◌, ◌&&◌, ◌||◌, min, nat_lt, nat_le, if◌then◌else◌, Bool, true, false, List, [], refl, sym, ap, ap₂, subst, ◌∙◌, arith}
+use Rattle.std.proofs.Common.{◌≡◌, ◌⊎◌, inl, inr, ℕ, ◌+◌, ◌-◌, ◌<◌, ◌≤◌, ◌&&◌, ◌||◌, min, nat_lt, nat_le, if◌then◌else◌, Bool, true, false, List, [], ◌++◌, map, refl, sym, ap, ap₂, subst, ◌∙◌, arith}
 use Rattle.std.proofs.lemmas.Bool.Decides.{nat_tests}
 use Rattle.std.proofs.Math.Path.{fun_ext}
-use Rattle.ratatui_core.specs.Backend.{Motion, clearing, Clears, with_cursor, with_visible, All, BeforeCursor, is_cleared}
+use Rattle.std.specs.List.{range_with_len}
+use Rattle.ratatui_core.specs.Backend.{Motion, scrolling_up, clearing, Clears, with_cursor, with_visible, All, BeforeCursor, is_cleared}
 use Rattle.ansi_model.specs.Columns.{Columns, look_in, is_met, blank_column, overwritten}
 use Rattle.ansi_model.specs.{Columns.Column.Unknown, Sgr.default_sgr, Emulator.Phase.Ground, Sends.Performs}
-use Rattle.ansi_model.specs.Emulator.{Emulator, rested, standing, printed, prints, returned, run, blank_terminal, cursor_moved, erased, columns_moved, without_region, with_sgr}
+use Rattle.ansi_model.specs.Emulator.{Emulator, rested, standing, printed, prints, returned, fed, run, blank_terminal, cursor_moved, erased, columns_moved, without_region, with_sgr}
 use Rattle.ansi_model.specs.Emulator as terminal
-use Rattle.ansi_model.specs.Beginnings.{IsAsFound, anew, without_modes, MakesBlank}
+use Rattle.ansi_model.specs.Beginnings.{IsAsFound, anew, without_modes, MakesBlank, SavesScreen, AreKnown, screen_rows, scrolled_off}
 use Rattle.ansi_model.specs.{Columns.Column.Shows, Sgr.inked, Modes.no_modes, Symbols.is_plain_char, Symbols.printed_columns, Sends.Sends, Sends.typed}
 use lib.Utf8.{encode}
 use Rattle.ansi_model.proofs.{ReadLemmas.Sends-then, PutLemmas.none_between, SymbolLemmas.alone-standing, SymbolLemmas.plain-printed, SymbolLemmas.plain-single, SymbolLemmas.one-undisputed}
 use Rattle.ansi_model.specs.Screens.{screen_shown, IsIdle, IsBlankBeyond, Becomes}
-use Rattle.ansi_model.proofs.{MotionLemmas.moved-tidy, MotionLemmas.not_met, ScrollLemmas.KeepsReady, ScrollLemmas.stays-idle, ScrollLemmas.moved-placed}
+use Rattle.ansi_model.proofs.{MotionLemmas.moved-tidy, MotionLemmas.not_met, ScrollLemmas.KeepsReady, ScrollLemmas.stays-idle, ScrollLemmas.moved-placed, ScrollLemmas.Feeds, ScrollLemmas.fed-feeds, ScrollLemmas.region_row, ScrollLemmas.region-rows}
 
 pub cursor-moved : (w h x y : ℕ) → 0 < w → 0 < h → KeepsReady w h (cursor_moved x y) (λ s. Becomes (λ p q. q ≡ with_cursor x y p) s.columns s)
 cursor-moved w h x y wide high s ready =
@@ -39,6 +40,26 @@ cursor-visible w h visible s ready = (
   },
   record { screens = λ written. refl; columns = λ a b. refl },
 )
+
+-- the cursor moved somewhere, and back
+pub cursor-back : (w h a b x y : ℕ) → 0 < w → 0 < h → KeepsReady w h (λ t. cursor_moved x y (cursor_moved a b t)) (λ s. Becomes (λ p q. p.cursor_x ≡ x → p.cursor_y ≡ y → q ≡ p) s.columns s)
+cursor-back w h a b x y wide high s ready =
+    let width : s.width ≡ w = ready.rest.width in
+    let height : s.height ≡ h = ready.rest.height in
+    let row : s.y < h = ready.row in (
+      record {
+        rest = ready.rest;
+        row = omega arith;
+        tidy = ready.tidy;
+      },
+      record {
+        screens = λ written at_x at_y.
+            let cursor_x : min (min x (s.width - 1)) (s.width - 1) ≡ min s.x (s.width - 1) = omega arith in
+            let cursor_y : min y (s.height - 1) ≡ s.y = omega arith in
+            ap₂ (λ i j. record (screen_shown written s) { cursor_x = i; cursor_y = j }) cursor_x cursor_y;
+        columns = λ i j. refl;
+      },
+    )
 
 pub nothing-changed : (w h : ℕ) → KeepsReady w h (λ t. t) (λ s. Becomes (λ p q. q ≡ p) s.columns s)
 nothing-changed w h s ready = (ready, record { screens = λ written. refl; columns = λ a b. refl })
@@ -179,7 +200,7 @@ rested-left w h t left =
     ap (λ xs. record (printed xs t) { text = []; phase = Ground }) left.text
     ∙ ap₂ (λ xs p. record t { text = xs; phase = p }) (sym left.text) (sym left.phase)
 
-left-anew : (w h : ℕ) (t : Emulator) → IsAsFound w h t → IsAsFound w h (anew t)
+pub left-anew : (w h : ℕ) (t : Emulator) → IsAsFound w h t → IsAsFound w h (anew t)
 left-anew w h t left = record { phase = left.phase; text = left.text; width = left.width; height = left.height; off = left.off }
 
 pub makes-blank : (w h : ℕ) (old first second new : List ℕ) → 0 < w → 0 < h → Performs old first own → Sends first second (λ t. typed (encode 233) (returned (rested (typed (encode 109) t))))
@@ -195,6 +216,43 @@ makes-blank w h old first second new wide high owns letters empties =
           let again : IsAsFound w h (anew t) = left-anew w h t left in
           all.read (anew t) again.phase ∙ ap (emptied w h) (letters-stand (anew t)) ∙ ap (begun w h) (rested-left w h (anew t) again) ∙ blank-begun w h (anew t) wide high again refl;
     }
+
+-- ---- the screen scrolled into the history
+
+-- where as many rows scroll as there are, nothing is left
+gone : (h : ℕ) (c : Columns) (a b : ℕ) → (h ≤ b → c a b ≡ blank_column) → columns_moved (scrolling_up 0 h h) c a b ≡ blank_column
+gone h c a b off =
+    let low : nat_le 0 b ≡ true = grind (arith, nat_tests) in
+    elim (nat_lt b h) as (λ p. nat_lt b h ≡ p → (if nat_le 0 b && p then (if nat_lt (b + h) h then c a (b + h) else blank_column) else c a b) ≡ blank_column) [
+      | true ↦ λ inside. let past : nat_lt (b + h) h ≡ false = grind (arith, nat_tests) in rw (low, past) refl
+      | false ↦ λ below. rw low (off (grind (arith, nat_tests)))
+    ] refl
+
+screen-saved : (w h : ℕ) (s : Emulator) → 0 < w → 0 < h → IsAsFound w h s → s.sure ≡ true → AreKnown s.columns
+    → fed h (returned (cursor_moved 0 (h - 1) (own s))) ≡ scrolled_off w h (s.history ++ screen_rows s) s
+screen-saved w h s wide high left sure known =
+    let width : s.width ≡ w = left.width in
+    let height : s.height ≡ h = left.height in
+    let v : Emulator = returned (cursor_moved 0 (h - 1) (own s)) in
+    let row : min (h - 1) (s.height - 1) ≡ h - 1 = omega arith in
+    let feeds : Feeds s.height h v (fed h v) = fed-feeds h v refl (λ some. omega arith) in
+    let columns : (a b : ℕ) → (fed h v).columns a b ≡ blank_column = λ a b.
+    feeds.columns a b ∙ ap (λ end. columns_moved (scrolling_up 0 end h) s.columns a b) height ∙ gone h s.columns a b (λ below. left.off a b (inr below)) in
+    let rows : map (region_row s.height v) (range_with_len 0 h) ≡ screen_rows s
+    = ap (λ n. map (region_row s.height v) (range_with_len 0 n)) (sym height) ∙ region-rows s.height v 0 s.height (omega arith) in
+    feeds.rest
+    ∙ same-fields (record v { columns = (fed h v).columns; history = (fed h v).history; sure = (fed h v).sure }) (scrolled_off w h (s.history ++ screen_rows s) s) width height left.phase left.text refl refl row refl height
+    (fun_ext (λ a. fun_ext (λ b. columns a b))) (feeds.history ∙ ap (λ xs. s.history ++ xs) rows) refl refl (feeds.sure sure refl (omega arith) known)
+
+pub saves-screen : (w h : ℕ) (old new : List ℕ) → 0 < w → 0 < h → Performs old new (λ t. fed h (returned (cursor_moved 0 (h - 1) (own t)))) → SavesScreen w h old new
+saves-screen w h old new wide high does = record {
+  bytes = does.bytes;
+  appended = does.appended;
+  saved = λ t left known.
+      let again : IsAsFound w h (anew t) = left-anew w h t left in
+      does.read (anew t) again.phase ∙ ap (λ u. fed h (returned (cursor_moved 0 (h - 1) (own u)))) (rested-left w h (anew t) again)
+      ∙ screen-saved w h (anew t) wide high again refl known;
+}
 
 -- a new terminal is one that was left so
 pub fresh-left : (w h : ℕ) → IsAsFound w h (blank_terminal w h)

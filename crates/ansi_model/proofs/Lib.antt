@@ -13,4 +13,5 @@ pub mod DrawLemmas
 pub mod PaintLemmas
 pub mod DisputeLemmas
 pub mod HistoryLemmas
+pub mod WindowLemmas
 pub mod PutLemmas

@@ -3,7 +3,8 @@ use Rattle.std.proofs.Common.{◌≡◌, ℕ, zero, suc, ◌+◌, ◌-◌, ◌<�
 use Rattle.std.proofs.lemmas.Bool.Decides.{nat_tests}
 use Rattle.ratatui_core.specs.Buffer.{empty_look}
 use Rattle.ratatui_core.specs.Backend.{Motion, moved_by, is_in_region, scrolling_up, scrolling_down}
-use Rattle.ansi_model.specs.Columns.{Column, Columns, Area, blank_column, is_met, overwritten}
+use Rattle.ansi_model.specs.Columns.{Column, Columns, Area, blank_column, is_known_column, is_met, overwritten}
+use Rattle.ansi_model.specs.Beginnings.{AreKnown}
 use Rattle.ansi_model.specs.{Columns.Column.Shows, Columns.Column.Unknown, Emulator.columns_moved}
 use Rattle.ansi_model.specs.Screens.{HasOwnWidth, HaveOwnWidths, IsWhole, IsWholeAt, IsBlankBeyond, IsTidy}
 use Rattle.ansi_model.proofs.{TextLemmas.blank-sized, PutLemmas.none_between}
@@ -27,6 +28,9 @@ module _ {A : Type 0} (m : Motion) (nothing : A) (was : ℕ → ℕ → A) (x y 
 
 pub moved-sized : (m : Motion) (c : Columns) → HaveOwnWidths c → HaveOwnWidths (columns_moved m c)
 moved-sized m c sized a b = moved-holds m blank_column c a b HasOwnWidth blank-sized (sized a)
+
+pub moved-known : (m : Motion) (c : Columns) → AreKnown c → AreKnown (columns_moved m c)
+moved-known m c known a b = moved-holds m blank_column c a b (λ d. is_known_column d ≡ true) refl (known a)
 
 pub moved-beyond : (w : ℕ) (m : Motion) (c : Columns) → IsBlankBeyond w c → IsBlankBeyond w (columns_moved m c)
 moved-beyond w m c beyond a b out = moved-holds m blank_column c a b (λ d. d ≡ blank_column) refl (λ r. beyond a r out)

@@ -3,10 +3,14 @@ use Rattle.std.proofs.Common.{◌≡◌, ℕ, ◌+◌, ◌-◌, ◌*◌, ◌/◌
 use Rattle.std.specs.{Result.is_ok, Fmt.decimal}
 use Rattle.std.proofs.lemmas.{Fmt.decimal_by_steps, Fmt.decimal_step, Fmt.decimal_digit, Bool.Decides.nat_tests}
 use Rattle.std.proofs.Math.Nat.{div-add-mod'}
-use Rattle.ansi_model.specs.Emulator.{Emulator, Phase, rested, cursor_moved, returned, erased, scrolled, line_fed, fed, if_so, cursor_shown, with_region, without_region, lines_deleted, lines_inserted, with_modes, with_sgr}
+use Rattle.ansi_model.specs.Emulator.{Emulator, Phase, rested, cursor_moved, returned, erased, scrolled, line_fed, fed, if_so, cursor_shown, with_region, without_region, lines_deleted, lines_inserted, with_modes, holding, with_sgr}
 use Rattle.ansi_model.specs.{Emulator.Phase.Ground, Emulator.Phase.Opened, Emulator.Phase.Sequence, Sequences.feed, Sequences.reads_in, Sequences.is_digit}
 use Rattle.ratatui_core.specs.Backend.{ClearType, All, AfterCursor, BeforeCursor, CurrentLine, UntilNewLine}
 use Rattle.ansi_model.specs.Sends.{Sends, Performs}
+use Rattle.ansi_model.specs.{Commands.command_bytes, declared.command.Command.Command, declared.command.SetCursorStyle.SetCursorStyle}
+use Rattle.ansi_model.specs.declared.command.Command.TheVariants.{EnableMouseCapture, DisableMouseCapture, EnableBracketedPaste, DisableBracketedPaste, EnableFocusChange, DisableFocusChange, AskCursorPosition}
+use Rattle.ansi_model.specs.declared.command.Command.TheVariants as Asked
+use Rattle.ansi_model.specs.declared.command.SetCursorStyle.TheVariants.{DefaultUserShape, BlinkingBlock, SteadyBlock, BlinkingUnderScore, SteadyUnderScore, BlinkingBar, SteadyBar}
 use Rattle.ansi_model.specs.{Endings.left_below, Beginnings.without_modes, Sgr.default_sgr, Sgr.inks, Sgr.are_known}
 
 and-true : (b : Bool) → (b && true) ≡ b
@@ -207,7 +211,7 @@ feed-read t ground = ap (λ p. reads_in p 10 t) ground
 
 -- ---- what leaves a terminal
 
-reset-read : (t : Emulator) → t.phase ≡ Ground → feed (27 ∷ 91 ∷ 48 ∷ 109 ∷ []) t ≡ with_sgr default_sgr (rested t)
+pub reset-read : (t : Emulator) → t.phase ≡ Ground → feed (27 ∷ 91 ∷ 48 ∷ 109 ∷ []) t ≡ with_sgr default_sgr (rested t)
 unfolding feed inks are_known
 reset-read t ground =
     let s : Emulator = rested t in
@@ -242,7 +246,7 @@ leaving-read t ground =
 
 -- ---- what settles a terminal's modes
 
-string-read : (t : Emulator) → t.phase ≡ Ground → feed (27 ∷ 92 ∷ []) t ≡ rested t
+pub string-read : (t : Emulator) → t.phase ≡ Ground → feed (27 ∷ 92 ∷ []) t ≡ rested t
 unfolding feed
 string-read t ground = ap (λ p. feed (92 ∷ []) (reads_in p 27 t)) ground
 
@@ -274,9 +278,13 @@ wrap-read : (t : Emulator) → t.phase ≡ Ground → feed (27 ∷ 91 ∷ 63 ∷
 unfolding feed
 wrap-read t ground = begun (63 ∷ 55 ∷ 104 ∷ []) t ground
 
-update-read : (t : Emulator) → t.phase ≡ Ground → feed (27 ∷ 91 ∷ 63 ∷ 50 ∷ 48 ∷ 50 ∷ 54 ∷ 108 ∷ []) t ≡ with_modes (record (rested t).modes { held = false }) (rested t)
+pub update_begin-read : (t : Emulator) → t.phase ≡ Ground → feed (27 ∷ 91 ∷ 63 ∷ 50 ∷ 48 ∷ 50 ∷ 54 ∷ 104 ∷ []) t ≡ holding true (rested t)
 unfolding feed
-update-read t ground = begun (63 ∷ 50 ∷ 48 ∷ 50 ∷ 54 ∷ 108 ∷ []) t ground
+update_begin-read t ground = begun (63 ∷ 50 ∷ 48 ∷ 50 ∷ 54 ∷ 104 ∷ []) t ground
+
+pub update_end-read : (t : Emulator) → t.phase ≡ Ground → feed (27 ∷ 91 ∷ 63 ∷ 50 ∷ 48 ∷ 50 ∷ 54 ∷ 108 ∷ []) t ≡ holding false (rested t)
+unfolding feed
+update_end-read t ground = begun (63 ∷ 50 ∷ 48 ∷ 50 ∷ 54 ∷ 108 ∷ []) t ground
 
 abbrev pub settling_bytes : List ℕ
 settling_bytes =
@@ -317,7 +325,7 @@ settling-read t ground =
     ∙ feed-append a6 r7 t5 ∙ ap (feed r7) (origin-read t5 refl)
     ∙ feed-append a7 r8 t6 ∙ ap (feed r8) (sides-read t6 refl)
     ∙ feed-append a8 a9 t7 ∙ ap (feed a9) (wrap-read t7 refl)
-    ∙ update-read t8 refl
+    ∙ update_end-read t8 refl
 
 -- ---- what changes nothing on the screen
 
@@ -373,7 +381,7 @@ quiet_6n : (t : Emulator) → t.phase ≡ Ground → feed (27 ∷ 91 ∷ 54 ∷ 
 unfolding feed
 quiet_6n t ground = begun (54 ∷ 110 ∷ []) t ground
 
-pub mouse_on-read : (t : Emulator) → t.phase ≡ Ground → feed (27 ∷ 91 ∷ 63 ∷ 49 ∷ 48 ∷ 48 ∷ 48 ∷ 104 ∷ 27 ∷ 91 ∷ 63 ∷ 49 ∷ 48 ∷ 48 ∷ 50 ∷ 104 ∷ 27 ∷ 91 ∷ 63 ∷ 49 ∷ 48 ∷ 48 ∷ 51 ∷ 104 ∷ 27 ∷ 91 ∷ 63 ∷ 49 ∷ 48 ∷ 48 ∷ 54 ∷ 104 ∷ []) t ≡ rested t
+mouse_on-read : (t : Emulator) → t.phase ≡ Ground → feed (27 ∷ 91 ∷ 63 ∷ 49 ∷ 48 ∷ 48 ∷ 48 ∷ 104 ∷ 27 ∷ 91 ∷ 63 ∷ 49 ∷ 48 ∷ 48 ∷ 50 ∷ 104 ∷ 27 ∷ 91 ∷ 63 ∷ 49 ∷ 48 ∷ 48 ∷ 51 ∷ 104 ∷ 27 ∷ 91 ∷ 63 ∷ 49 ∷ 48 ∷ 48 ∷ 54 ∷ 104 ∷ []) t ≡ rested t
 mouse_on-read t ground =
     let a0 : List ℕ = 27 ∷ 91 ∷ 63 ∷ 49 ∷ 48 ∷ 48 ∷ 48 ∷ 104 ∷ [] in
     let a1 : List ℕ = 27 ∷ 91 ∷ 63 ∷ 49 ∷ 48 ∷ 48 ∷ 50 ∷ 104 ∷ [] in
@@ -385,7 +393,7 @@ mouse_on-read t ground =
     feed-append a0 r1 t ∙ ap (feed r1) (quiet_1000h t ground) ∙ feed-append a1 r2 s ∙ ap (feed r2) (quiet_1002h s refl)
     ∙ feed-append a2 a3 s ∙ ap (feed a3) (quiet_1003h s refl) ∙ quiet_1006h s refl
 
-pub mouse_off-read : (t : Emulator) → t.phase ≡ Ground → feed (27 ∷ 91 ∷ 63 ∷ 49 ∷ 48 ∷ 48 ∷ 54 ∷ 108 ∷ 27 ∷ 91 ∷ 63 ∷ 49 ∷ 48 ∷ 48 ∷ 51 ∷ 108 ∷ 27 ∷ 91 ∷ 63 ∷ 49 ∷ 48 ∷ 48 ∷ 50 ∷ 108 ∷ 27 ∷ 91 ∷ 63 ∷ 49 ∷ 48 ∷ 48 ∷ 48 ∷ 108 ∷ []) t ≡ rested t
+mouse_off-read : (t : Emulator) → t.phase ≡ Ground → feed (27 ∷ 91 ∷ 63 ∷ 49 ∷ 48 ∷ 48 ∷ 54 ∷ 108 ∷ 27 ∷ 91 ∷ 63 ∷ 49 ∷ 48 ∷ 48 ∷ 51 ∷ 108 ∷ 27 ∷ 91 ∷ 63 ∷ 49 ∷ 48 ∷ 48 ∷ 50 ∷ 108 ∷ 27 ∷ 91 ∷ 63 ∷ 49 ∷ 48 ∷ 48 ∷ 48 ∷ 108 ∷ []) t ≡ rested t
 mouse_off-read t ground =
     let a0 : List ℕ = 27 ∷ 91 ∷ 63 ∷ 49 ∷ 48 ∷ 48 ∷ 54 ∷ 108 ∷ [] in
     let a1 : List ℕ = 27 ∷ 91 ∷ 63 ∷ 49 ∷ 48 ∷ 48 ∷ 51 ∷ 108 ∷ [] in
@@ -397,20 +405,31 @@ mouse_off-read t ground =
     feed-append a0 r1 t ∙ ap (feed r1) (quiet_1006l t ground) ∙ feed-append a1 r2 s ∙ ap (feed r2) (quiet_1003l s refl)
     ∙ feed-append a2 a3 s ∙ ap (feed a3) (quiet_1002l s refl) ∙ quiet_1000l s refl
 
-pub paste_on-read : (t : Emulator) → t.phase ≡ Ground → feed (27 ∷ 91 ∷ 63 ∷ 50 ∷ 48 ∷ 48 ∷ 52 ∷ 104 ∷ []) t ≡ rested t
-paste_on-read = quiet_2004h
+quiet_style : (style : SetCursorStyle) (t : Emulator) → t.phase ≡ Ground → feed (command_bytes (Asked.SetCursorStyle style)) t ≡ rested t
+unfolding feed
+quiet_style DefaultUserShape t ground = begun (48 ∷ 32 ∷ 113 ∷ []) t ground
+quiet_style BlinkingBlock t ground = begun (49 ∷ 32 ∷ 113 ∷ []) t ground
+quiet_style SteadyBlock t ground = begun (50 ∷ 32 ∷ 113 ∷ []) t ground
+quiet_style BlinkingUnderScore t ground = begun (51 ∷ 32 ∷ 113 ∷ []) t ground
+quiet_style SteadyUnderScore t ground = begun (52 ∷ 32 ∷ 113 ∷ []) t ground
+quiet_style BlinkingBar t ground = begun (53 ∷ 32 ∷ 113 ∷ []) t ground
+quiet_style SteadyBar t ground = begun (54 ∷ 32 ∷ 113 ∷ []) t ground
 
-pub paste_off-read : (t : Emulator) → t.phase ≡ Ground → feed (27 ∷ 91 ∷ 63 ∷ 50 ∷ 48 ∷ 48 ∷ 52 ∷ 108 ∷ []) t ≡ rested t
-paste_off-read = quiet_2004l
+pub command-read : (command : Command) (t : Emulator) → t.phase ≡ Ground → feed (command_bytes command) t ≡ rested t
+command-read EnableMouseCapture t ground = mouse_on-read t ground
+command-read DisableMouseCapture t ground = mouse_off-read t ground
+command-read EnableBracketedPaste t ground = quiet_2004h t ground
+command-read DisableBracketedPaste t ground = quiet_2004l t ground
+command-read EnableFocusChange t ground = quiet_1004h t ground
+command-read DisableFocusChange t ground = quiet_1004l t ground
+command-read AskCursorPosition t ground = quiet_6n t ground
+command-read (Asked.SetCursorStyle style) t ground = quiet_style style t ground
 
-pub focus_on-read : (t : Emulator) → t.phase ≡ Ground → feed (27 ∷ 91 ∷ 63 ∷ 49 ∷ 48 ∷ 48 ∷ 52 ∷ 104 ∷ []) t ≡ rested t
-focus_on-read = quiet_1004h
-
-pub focus_off-read : (t : Emulator) → t.phase ≡ Ground → feed (27 ∷ 91 ∷ 63 ∷ 49 ∷ 48 ∷ 48 ∷ 52 ∷ 108 ∷ []) t ≡ rested t
-focus_off-read = quiet_1004l
-
-pub place-read : (t : Emulator) → t.phase ≡ Ground → feed (27 ∷ 91 ∷ 54 ∷ 110 ∷ []) t ≡ rested t
-place-read = quiet_6n
+-- the end of the screen, and a question there
+pub end_asked-read : (t : Emulator) → t.phase ≡ Ground
+    → feed (27 ∷ 91 ∷ 54 ∷ 53 ∷ 53 ∷ 51 ∷ 53 ∷ 59 ∷ 54 ∷ 53 ∷ 53 ∷ 51 ∷ 53 ∷ 72 ∷ 27 ∷ 91 ∷ 54 ∷ 110 ∷ []) t ≡ cursor_moved 65534 65534 (rested t)
+unfolding feed
+end_asked-read t ground = begun (54 ∷ 53 ∷ 53 ∷ 51 ∷ 53 ∷ 59 ∷ 54 ∷ 53 ∷ 53 ∷ 51 ∷ 53 ∷ 72 ∷ 27 ∷ 91 ∷ 54 ∷ 110 ∷ []) t ground ∙ quiet_6n (cursor_moved 65534 65534 (rested t)) refl
 
 -- a rested terminal stays so
 pub line_fed-rested : (t : Emulator) → line_fed (rested t) ≡ rested (line_fed (rested t))

@@ -11,7 +11,7 @@ use Rattle.ansi_model.specs.Screens.{screen_shown, IsIdle, Turns, Becomes}
 use Rattle.ansi_model.proofs.ReadLemmas.{Sends-then, line_fed-rested}
 use Rattle.ratatui_core.proofs.BackendLemmas.{moved-through}
 use Rattle.ansi_model.proofs.MotionLemmas.{IsOfRows, moved-tidy, row-emptied, up-still, down-still, up-and-down}
-use Rattle.ansi_model.proofs.ScrollLemmas.{KeepsReady, stays-idle, moved-placed, Feeds, feeds-none, feeds-next, fed-feeds, region_row}
+use Rattle.ansi_model.proofs.ScrollLemmas.{all-known, KeepsReady, stays-idle, moved-placed, Feeds, feeds-none, feeds-next, fed-feeds, region_row}
 
 -- one action after another
 pub Does-then : (a b c : List ℕ) (f g : Emulator → Emulator) → Performs a b f → Performs b c g → ((t : Emulator) → rested (f (rested t)) ≡ f (rested t)) → Performs a c (λ t. g (f t))
@@ -180,7 +180,7 @@ screen-up w h b n some_columns some_rows all s ready =
     let v : Emulator = record s { x = 0; y = h - 1 } in
     let u : Emulator = fed n v in
     let feeds : Feeds (min b h) n v u = subst (λ end. Feeds end n v u) (bottom ∙ sym all) (fed-feeds n v ready.rest.top (λ some. omega arith)) in
-    let sure : u.sure ≡ true = feeds.sure ready.rest.sure ready.rest.sgr (omega arith) ready.tidy.sized in
+    let sure : u.sure ≡ true = feeds.sure ready.rest.sure ready.rest.sgr (omega arith) (all-known s.columns ready.tidy.sized) in
     let z : Emulator = record v { columns = u.columns; history = u.history; sure = true } in
     let is : z ≡ fed n (returned (cursor_moved 0 (h - 1) s)) = sym (feeds.rest ∙ ap (λ k. record z { sure = k }) sure) ∙ ap (λ t. fed n (returned t)) (moved-placed 0 (h - 1) s (omega arith) (omega arith)) in
     subst (λ t. IsIdle w h t × Becomes (ScrollsUp 0 b n) (columns_moved (scrolling_up 0 (min b h) n) s.columns) s t) is
@@ -194,7 +194,7 @@ margins-up w h b n s v u some_columns two ready some rest v_sure x_in feeds =
     let columns : v.columns ≡ s.columns = ap (λ (t : Emulator). t.columns) rest in
     let sgr : v.sgr ≡ s.sgr = ap (λ (t : Emulator). t.sgr) rest in
     let width : v.width ≡ s.width = ap (λ (t : Emulator). t.width) rest in
-    let sure : u.sure ≡ true = feeds.sure v_sure (sgr ∙ ready.rest.sgr) (omega arith) (rw (← columns) at ready.tidy.sized) in
+    let sure : u.sure ≡ true = feeds.sure v_sure (sgr ∙ ready.rest.sgr) (omega arith) (all-known v.columns (rw (← columns) at ready.tidy.sized)) in
     let is : without_region u ≡ record s { x = 0; y = 0; columns = u.columns; history = u.history; sure = true }
     = ap without_region (feeds.rest ∙ ap (λ (t : Emulator). record t { columns = u.columns; history = u.history; sure = u.sure }) rest) ∙ without-margins w h 0 0 s u.columns u.history u.sure ready sure in
     subst (λ t. IsIdle w h t × Becomes (ScrollsUp 0 b n) (columns_moved (scrolling_up 0 (min b h) n) s.columns) s t) (sym is)

@@ -1,5 +1,5 @@
 -- Line feeds, and what they do to a screen.
-use Rattle.std.proofs.Common.{◌≡◌, ℕ, ◌+◌, ◌-◌, ◌<◌, ◌++◌, ◌&&◌, min, nat_lt, nat_le, nat_eq, if◌then◌else◌, Bool, List, [], ◌∷◌, zero, suc, true, false, refl, sym, ap, ap₂, map, ◌∙◌, arith, append_assoc, append-nil, subst}
+use Rattle.std.proofs.Common.{◌≡◌, ℕ, ◌+◌, ◌-◌, ◌<◌, ◌≤◌, ◌++◌, ◌&&◌, min, nat_lt, nat_le, nat_eq, if◌then◌else◌, Bool, List, [], ◌∷◌, zero, suc, true, false, refl, sym, ap, ap₂, map, ◌∙◌, arith, append_assoc, append-nil, subst}
 use Rattle.std.proofs.lemmas.Bool.Decides.{nat_tests}
 use Rattle.std.specs.List.{list_all, range_with_len}
 use Rattle.ratatui_core.specs.Buffer.{Look, empty_look}
@@ -7,10 +7,11 @@ use Rattle.ratatui_core.specs.Backend.{Scrolls, Appends, lines_past, scrolling_u
 use Rattle.ansi_model.specs.Columns.{Column, Columns, look_in, is_known_column, blank_column}
 use Rattle.ansi_model.specs.{Sgr.default_sgr, Emulator.Phase.Ground, Sequences.feed, Sends.Performs}
 use Rattle.ansi_model.specs.Emulator.{Emulator, blank_terminal, rested, printed, line_fed, fed, scrolled, returned, cursor_moved, columns_moved, if_so, row_shown, is_row_known}
-use Rattle.ansi_model.specs.Screens.{screen_shown, HasOwnWidth, HaveOwnWidths, IsTidy, IsIdle, Turns, Becomes}
+use Rattle.ansi_model.specs.Screens.{screen_shown, HaveOwnWidths, IsTidy, IsIdle, Turns, Becomes}
+use Rattle.ansi_model.specs.Beginnings.{AreKnown}
 use Rattle.ansi_model.proofs.TextLemmas.{blank-sized, sized-known}
 use Rattle.ratatui_core.proofs.BackendLemmas.{moved-through, moved-along}
-use Rattle.ansi_model.proofs.MotionLemmas.{moved-sized, moved-tidy, tidy-along, blank-whole, up-still, up-again}
+use Rattle.ansi_model.proofs.MotionLemmas.{moved-known, moved-tidy, tidy-along, blank-whole, up-still, up-again}
 
 -- ---- from what bytes do to what a screen shows
 
@@ -75,6 +76,10 @@ blank-idle w h some = record {
 
 -- ---- rows that go to the history
 
+-- what has its own width is known
+pub all-known : (c : Columns) → HaveOwnWidths c → AreKnown c
+all-known c sized a b = sized-known (c a b) (sized a b)
+
 -- what stands in a row of the rows up to `end`; below them all is empty
 abbrev pub region_row : ℕ → Emulator → ℕ → List Look
 region_row end t k = map (λ a. if nat_lt k end then look_in (t.columns a k) else empty_look) (range_with_len 0 t.width)
@@ -84,7 +89,7 @@ pub record Feeds (end n : ℕ) (t u : Emulator) : Type 0 where
   pub rest : u ≡ record t { columns = u.columns; history = u.history; sure = u.sure }
   pub columns : (a b : ℕ) → u.columns a b ≡ columns_moved (scrolling_up 0 end n) t.columns a b
   pub history : u.history ≡ t.history ++ map (region_row end t) (range_with_len 0 n)
-  pub sure : t.sure ≡ true → t.sgr ≡ default_sgr → t.x < t.width → HaveOwnWidths t.columns → u.sure ≡ true
+  pub sure : t.sure ≡ true → t.sgr ≡ default_sgr → t.x < t.width → AreKnown t.columns → u.sure ≡ true
 
 map_same : {A B : Type 0} (f g : A → B) → ((a : A) → f a ≡ g a) → (xs : List A) → map f xs ≡ map g xs
 map_same f g e [] = refl
@@ -110,17 +115,25 @@ seen-up end c a k =
     let least : nat_le 0 k ≡ true = grind (arith, nat_tests) in
     rw least (one-up (nat_lt k end) (nat_lt (k + 1) end) (c a (k + 1)) (c a k) (λ e. grind (arith, nat_tests)))
 
+-- rows of the region are those that the screen shows
+region-row : (end : ℕ) (t : Emulator) (k : ℕ) → k < end → region_row end t k ≡ row_shown t k
+region-row end t k inside =
+    let e : nat_lt k end ≡ true = grind (arith, nat_tests) in
+    map_same (λ a. if nat_lt k end then look_in (t.columns a k) else empty_look) (λ a. look_in (t.columns a k)) (λ a. rw e refl) (range_with_len 0 t.width)
+
+pub region-rows : (end : ℕ) (t : Emulator) (m n : ℕ) → m + n ≤ end → map (region_row end t) (range_with_len m n) ≡ map (row_shown t) (range_with_len m n)
+region-rows end t m zero inside = refl
+region-rows end t m (suc n) inside = ap₂ (λ x xs. x ∷ xs) (region-row end t m (omega arith)) (region-rows end t (m + 1) n (omega arith))
+
 first_row : (end : ℕ) (t : Emulator) → 0 < end → row_shown t 0 ≡ region_row end t 0
-first_row end t some =
-    let e : nat_lt 0 end ≡ true = grind (arith, nat_tests) in
-    map_same (λ a. look_in (t.columns a 0)) (λ a. if nat_lt 0 end then look_in (t.columns a 0) else empty_look) (λ a. rw e refl) (range_with_len 0 t.width)
+first_row end t some = sym (region-row end t 0 some)
 
 pub feeds-none : (end : ℕ) (t : Emulator) → Feeds end 0 t t
 feeds-none end t = record {
   rest = refl;
   columns = λ a b. up-still 0 end 0 blank_column t.columns a b (λ some. refl);
   history = sym (append-nil t.history);
-  sure = λ sure sgr x sized. sure;
+  sure = λ sure sgr x known. sure;
 }
 
 -- one row, and then n more
@@ -137,9 +150,9 @@ feeds-next end n t u c now some once agreed more =
       columns = λ a b. more.columns a b ∙ moved-along (scrolling_up 0 end n) blank_column c a b (columns_moved (scrolling_up 0 end 1) t.columns) (once a) ∙ up-again end n t.columns a b;
       history = more.history ∙ append_assoc t.history (row_shown t 0 ∷ []) (map (region_row end s) (range_with_len 0 n))
           ∙ ap₂ (λ x xs. t.history ++ (x ∷ xs)) (first_row end t some) (shift (region_row end t) (region_row end s) next 0 n);
-      sure = λ sure sgr x sized.
-          let row : is_row_known t 0 ≡ true = all_range (λ a. is_known_column (t.columns a 0)) (λ a. sized-known (t.columns a 0) (sized a 0)) 0 t.width in
-          more.sure (agreed sure sgr x row) sgr x (λ a b. subst HasOwnWidth (sym (once a b)) (moved-sized (scrolling_up 0 end 1) t.columns sized a b));
+      sure = λ sure sgr x known.
+          let row : is_row_known t 0 ≡ true = all_range (λ a. is_known_column (t.columns a 0)) (λ a. known a 0) 0 t.width in
+          more.sure (agreed sure sgr x row) sgr x (λ a b. subst (λ d. is_known_column d ≡ true) (sym (once a b)) (moved-known (scrolling_up 0 end 1) t.columns known a b));
     }
 
 -- line feeds in the last row of a region that begins with the first row
@@ -194,7 +207,7 @@ appends-ready w h n some_columns some_rows s ready =
     let feeds : Feeds h k v u = subst (λ end. Feeds end k v u) same (fed-feeds k v ready.rest.top (λ some. omega arith)) in
     let first : fed m r ≡ v = fed-above m r (ready.rest.bottom ∙ sym high) ready.rest.sure (omega arith) (omega arith) in
     let z : Emulator = record s { x = 0; y = s.y + m; columns = u.columns; history = u.history; sure = true } in
-    let sure : u.sure ≡ true = feeds.sure ready.rest.sure ready.rest.sgr (omega arith) ready.tidy.sized in
+    let sure : u.sure ≡ true = feeds.sure ready.rest.sure ready.rest.sgr (omega arith) (all-known s.columns ready.tidy.sized) in
     let all : fed n r ≡ z = fed-plus m k n r (omega arith) ∙ ap (fed k) first ∙ feeds.rest ∙ ap (λ b. record z { sure = b }) sure in
     let past : s.y + n - (h - 1) ≡ k = omega arith in
     let up = columns_moved (scrolling_up 0 h (s.y + n - (h - 1))) s.columns in

@@ -1,14 +1,15 @@
 -- Text, read as it is sent.
-use Rattle.std.proofs.Common.{◌≡◌, ℕ, ◌+◌, ◌/◌, ◌%◌, ◌≤◌, ◌&&◌, not, cond, ltb, List, [], ◌∷◌, Bool, true, false, IsTrue, IsUtf8, chars, refl, sym, ap, ◌∙◌, arith, ◌==◌, append_assoc, append-nil, ◌<◌, ◌++◌, length, suc, Some, None}
+use Rattle.std.proofs.Common.{◌≡◌, ℕ, ◌+◌, ◌/◌, ◌%◌, ◌≤◌, ◌&&◌, not, cond, ltb, List, [], ◌∷◌, Bool, true, false, IsTrue, IsUtf8, chars, refl, sym, ap, ◌∙◌, arith, ◌==◌, append_assoc, append-nil, ◌<◌, ◌++◌, length, suc, Some, None, if◌then◌else◌}
 use Rattle.std.proofs.lemmas.{Bool.and_parts, Bool.and_right, Bool.Decides.nat_tests, List.Folds.list_all-append}
 use lib.Utf8.{encode, encodes}
-use Rattle.std.specs.{List.list_all, Str.is_utf8}
+use Rattle.std.specs.{List.list_all, List.flat_map, Str.is_utf8}
 use Rattle.std.proofs.lemmas.Str.{chars-nil, chars-encodes, chars_past_char, encodes-chars, IsUtf8-past_char, IsUtf8-from_is_utf8, is_utf8-from_IsUtf8}
 use Rattle.unicode_segmentation.specs.{Grapheme.graphemes, Grapheme.is_grapheme_break, Segments.segments, Segments.cut}
 use Rattle.ratatui_core.specs.Buffer.{blank}
 use Rattle.ansi_model.specs.{Columns.Column, Columns.blank_column, Columns.is_known_column, Columns.Column.Shows, Columns.Column.Unknown, Screens.HasOwnWidth}
 use Rattle.ansi_model.specs.Symbols.{only_of, printed_columns, is_control, is_directional, is_shown, is_plain_char, is_symbol, is_single, begins_anew}
-use Rattle.ansi_model.specs.{Emulator.Emulator, Emulator.Phase.Ground, Sequences.feed, Sequences.reads_in, Sequences.is_text, Sends.typed}
+use Rattle.ansi_model.specs.{Emulator.Emulator, Emulator.rested, Emulator.Phase.Ground, Emulator.Phase.Told, Sequences.feed, Sequences.reads_in, Sequences.is_text, Sends.typed, Commands.shown_char, Commands.shown_text, Commands.title_bytes}
+use Rattle.ansi_model.proofs.ReadLemmas.{feed-append}
 
 one-text : (b : ℕ) → is_text b ≡ true → (t : Emulator) → reads_in Ground b t ≡ typed (b ∷ []) t
 one-text b is t =
@@ -50,14 +51,52 @@ encode-text c is =
     (rw (high (224 + c / 4096) (omega arith), a2, a1) refl)
     (rw (high (240 + c / 262144) (omega arith), a3, a2, a1) refl)
 
+-- nor is one that is shown
+shown-text : (c : ℕ) → is_shown c ≡ true → list_all is_text (encode c) ≡ true
+shown-text c is =
+    let shown = and_parts (not (is_control c)) (not (is_directional c)) is in
+    let control : not (is_control c) ≡ true = shown.0 in
+    let text : is_text c ≡ true = grind (arith, nat_tests) in
+    encode-text c text
+
 encodes-text : (cs : List ℕ) → list_all is_shown cs ≡ true → list_all is_text (encodes cs) ≡ true
 encodes-text [] all = refl
 encodes-text (c ∷ cs) all =
     let both = and_parts (is_shown c) (list_all is_shown cs) all in
-    let shown = and_parts (not (is_control c)) (not (is_directional c)) both.0 in
-    let control : not (is_control c) ≡ true = shown.0 in
-    let text : is_text c ≡ true = grind (arith, nat_tests) in
-    list_all-append is_text (encode c) (encodes cs) ∙ rw (encode-text c text, encodes-text cs both.1) refl
+    list_all-append is_text (encode c) (encodes cs) ∙ rw (shown-text c both.0, encodes-text cs both.1) refl
+
+-- so are those of a text without control characters
+shown-one : (c : ℕ) → list_all is_text (shown_char c) ≡ true
+shown-one c =
+    elim (is_shown c) as (λ v. is_shown c ≡ v → list_all is_text (if v then encode c else []) ≡ true) [
+      | true ↦ λ shown. shown-text c shown
+      | false ↦ λ hidden. refl
+    ] refl
+
+shown-all : (cs : List ℕ) → list_all is_text (flat_map shown_char cs) ≡ true
+shown-all [] = refl
+shown-all (c ∷ cs) = list_all-append is_text (shown_char c) (flat_map shown_char cs) ∙ rw (shown-one c, shown-all cs) refl
+
+one-told : (b : ℕ) → is_text b ≡ true → (t : Emulator) → reads_in Told b t ≡ t
+one-told b is t =
+    let e : (b == 27) ≡ false = grind (arith, nat_tests) in
+    rw (e, is) refl
+
+told-read : (bs : List ℕ) → list_all is_text bs ≡ true → (t : Emulator) → t.phase ≡ Told → feed bs t ≡ t
+unfolding feed
+told-read [] all t told = refl
+told-read (b ∷ bs) all t told =
+    let both = and_parts (is_text b) (list_all is_text bs) all in
+    ap (λ p. feed bs (reads_in p b t)) told ∙ ap (feed bs) (one-told b both.0 t) ∙ told-read bs both.1 t told
+
+-- a title changes nothing on the screen
+pub title-read : (title : List ℕ) (t : Emulator) → t.phase ≡ Ground → feed (title_bytes title) t ≡ rested t
+unfolding feed
+title-read title t ground =
+    let text = shown_text title in
+    let s : Emulator = record (rested t) { phase = Told } in
+    ap (λ p. feed (93 ∷ 50 ∷ 59 ∷ (text ++ 27 ∷ 92 ∷ [])) (reads_in p 27 t)) ground
+    ∙ feed-append text (27 ∷ 92 ∷ []) s ∙ ap (feed (27 ∷ 92 ∷ [])) (told-read text (shown-all (chars title)) s refl)
 
 pub and-true : (b : Bool) → (b && true) ≡ b
 and-true true = refl

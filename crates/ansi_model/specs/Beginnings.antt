@@ -1,7 +1,8 @@
 -- Terminals as other programs may have left them, and what makes one blank.
-use Rattle.std.specs.Prelude.{◌≡◌, ◌⊎◌, ℕ, ◌≤◌, true, List, [], ◌++◌}
+use Rattle.std.specs.Prelude.{◌≡◌, ◌⊎◌, ℕ, ◌-◌, ◌≤◌, true, List, [], ◌++◌, map, Some, None}
+use Rattle.std.specs.List.{range_with_len}
 use Rattle.ratatui_core.specs.Buffer.{Look}
-use Rattle.ansi_model.specs.{Columns.blank_column, Emulator.Emulator, Emulator.blank_terminal, Emulator.Phase.Ground, Modes.no_modes, Sequences.feed}
+use Rattle.ansi_model.specs.{Columns.Columns, Columns.blank_column, Columns.is_known_column, Emulator.Emulator, Emulator.blank_terminal, Emulator.row_shown, Emulator.with_sgr, Emulator.Phase.Ground, Modes.no_modes, Sgr.default_sgr, Sequences.feed, Windows.alternate_of, Windows.feed_window}
 
 -- a terminal of this size as another program may have left it, whatever its rendition, margins, modes, cursor and contents: it isn't in the middle
 -- of a sequence, and nothing stands off its screen
@@ -29,3 +30,29 @@ pub record MakesBlank (w h : ℕ) (old new : List ℕ) : Type 0 where
   pub bytes : List ℕ
   pub appended : new ≡ old ++ bytes
   pub made : (t : Emulator) → IsAsFound w h t → feed bytes (anew t) ≡ record (blank_terminal w h) { history = t.history }
+
+-- it is known what stands in each column, as it is of every real terminal
+abbrev pub AreKnown : Columns → Type 0
+AreKnown columns = (a b : ℕ) → is_known_column (columns a b) ≡ true
+
+-- the rows of a screen, from the first one
+abbrev pub screen_rows : Emulator → List (List Look)
+screen_rows t = map (row_shown t) (range_with_len 0 t.height)
+
+-- a blank terminal of this size, with these rows in its history, and its cursor in the last row, shown or not
+abbrev pub scrolled_off : ℕ → ℕ → List (List Look) → Emulator → Emulator
+scrolled_off w h rows t = record (blank_terminal w h) { history = rows; y = h - 1; visible = t.visible }
+
+-- bytes were appended that scroll the screen of each terminal of this size into its history, however it was left
+pub record SavesScreen (w h : ℕ) (old new : List ℕ) : Type 0 where
+  pub bytes : List ℕ
+  pub appended : new ≡ old ++ bytes
+  pub saved : (t : Emulator) → IsAsFound w h t → AreKnown t.columns → feed bytes (anew t) ≡ scrolled_off w h (t.history ++ screen_rows t) t
+
+-- bytes were appended that put the main screen of each window of this size aside, however it was left, and show a blank one
+pub record OpensAlternate (w h : ℕ) (old new : List ℕ) : Type 0 where
+  pub bytes : List ℕ
+  pub appended : new ≡ old ++ bytes
+  pub opened : (main : Emulator) → IsAsFound w h main
+      → let own : Emulator = with_sgr default_sgr (anew main) in
+      feed_window bytes (record { shown = anew main; aside = None }) ≡ record { shown = alternate_of own; aside = Some own }

@@ -10,14 +10,18 @@ use Rattle.ansi_model.specs.Columns.Column.{Shows, Unknown}
 use Rattle.ansi_model.specs.Columns.{Column, Columns, Area, blank_column, look_in, is_known_column, overwritten}
 
 -- what the next byte belongs to: text, a sequence that just began, one that is at its first parameter or its mark, or one with a mark, some
--- parameters and the number at hand; or one that sets G0, or the coding
+-- parameters and the number at hand, or one with its parameters and a blank after them; or one that sets G0, or the coding; or a string for the
+-- operating system. One that was told to show its other screen waits until it does (Windows)
 pub data Phase : Type 0 where
   Ground : Phase
   Escape : Phase
   Opened : Phase
   Sequence : (mark : Bool) (done : List ℕ) (number : ℕ) → Phase
+  Spaced : (parameters : List ℕ) → Phase
   Letters : Phase
   Coding : Phase
+  Told : Phase
+  Switching : (alternate : Bool) → Phase
 
 -- a terminal: `text` is what it has read since the last sequence; a cursor in column `width` is after the last one; line feeds scroll the
 -- rows from `top` up to `bottom`, its scroll region. Once it isn't sure, real terminals differ
@@ -128,6 +132,10 @@ cursor_shown visible t = record t { visible = visible }
 -- with these modes
 abbrev pub with_modes : Modes → Emulator → Emulator
 with_modes modes t = record t { modes = modes }
+
+-- a synchronized update begun, or ended
+abbrev pub holding : Bool → Emulator → Emulator
+holding on t = with_modes (record t.modes { held = on }) t
 
 -- SGR (select graphic rendition) that all terminals know
 abbrev pub with_sgr : Sgr → Emulator → Emulator

@@ -1,8 +1,19 @@
 -- How a program leaves its terminal.
-use Rattle.std.specs.Prelude.{true}
-use Rattle.ansi_model.specs.Emulator.{Emulator, fed, returned, cursor_moved, cursor_shown, without_region, with_sgr}
-use Rattle.ansi_model.specs.Sgr.{default_sgr}
+use Rattle.std.specs.Prelude.{◌≡◌, true, List, ◌++◌, ℕ, Some, None}
+use Rattle.ansi_model.specs.Emulator.{Emulator, rested, fed, returned, cursor_moved, cursor_shown, without_region, with_sgr}
+use Rattle.ansi_model.specs.{Sgr.default_sgr, Emulator.Phase.Ground, Windows.come_back, Windows.feed_window}
 
 -- a terminal of at most 65535 rows in its own colours, without margins, and with its cursor shown at the beginning of the row below its last one
 abbrev pub left_below : Emulator → Emulator
 left_below t = fed 1 (returned (cursor_moved 0 65534 (cursor_shown true (without_region (with_sgr default_sgr t)))))
+
+-- the main screen as it was put aside, in the terminal's own colours, without margins, and with its cursor shown
+abbrev pub left_back : Emulator → Emulator → Emulator
+left_back main t = with_sgr default_sgr (come_back main (cursor_shown true (without_region t)))
+
+-- bytes were appended that bring the main screen of each window back that shows its alternate one
+pub record ClosesAlternate (old new : List ℕ) : Type 0 where
+  pub bytes : List ℕ
+  pub appended : new ≡ old ++ bytes
+  pub closed : (t main : Emulator) → t.phase ≡ Ground
+      → feed_window bytes (record { shown = t; aside = Some main }) ≡ record { shown = left_back main (rested t); aside = None }

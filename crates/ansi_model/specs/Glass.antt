@@ -17,6 +17,7 @@ has_from_right look = list_any is_from_right (chars look.symbol)
 abbrev pub IsStraight : ℕ → Grid → ℕ → Type 0
 IsStraight w grid y = (x : ℕ) → x < w → has_from_right (grid x y) ≡ false
 
--- a terminal of so many columns may show this on its glass: each row without such letters as it stands. Of the others nothing is said
-pub record MayShow (w : ℕ) (columns : Columns) (glass : Grid) : Type 0 where
-  pub straight : (x y : ℕ) → IsStraight w (λ a b. look_in (columns a b)) y → x < w → glass x y ≡ look_in (columns x y)
+-- a terminal of so many columns may show this on its glass: each row without such letters as it stands. Of the others nothing is said, and of none
+-- while a synchronized update is held
+pub record MayShow (held : Bool) (w : ℕ) (columns : Columns) (glass : Grid) : Type 0 where
+  pub straight : held ≡ false → (x y : ℕ) → IsStraight w (λ a b. look_in (columns a b)) y → x < w → glass x y ≡ look_in (columns x y)

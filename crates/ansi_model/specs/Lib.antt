@@ -7,8 +7,10 @@ pub mod Parameters
 pub mod Modes
 pub mod Emulator
 pub mod Sequences
+pub mod Windows
 pub mod Sends
 pub mod Drawing
 pub mod Screens
 pub mod Beginnings
+pub mod Commands
 pub mod Endings

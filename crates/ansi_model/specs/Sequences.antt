@@ -1,8 +1,8 @@
 -- How a terminal reads bytes: text, and the sequences by their standard names.
 use Rattle.std.specs.Prelude.{ℕ, ◌+◌, ◌-◌, ◌*◌, ◌==◌, ◌&&◌, ◌||◌, not, nat_le, Bool, true, false, if◌then◌else◌, List, [], ◌∷◌, ◌++◌, length}
 use Rattle.ansi_model.specs.{Sgr.inks, Sgr.are_known, Sgr.most_parameters, Sgr.Awaits.Nothing}
-use Rattle.ansi_model.specs.Emulator.{Emulator, Phase, if_so, unsure, rested, cursor_moved, returned, cursor_shown, with_modes, with_sgr, erased, with_region, without_region, line_fed, lines_deleted, lines_inserted}
-use Rattle.ansi_model.specs.Emulator.Phase.{Ground, Escape, Opened, Sequence, Letters, Coding}
+use Rattle.ansi_model.specs.Emulator.{Emulator, Phase, if_so, unsure, rested, cursor_moved, returned, cursor_shown, with_modes, holding, with_sgr, erased, with_region, without_region, line_fed, lines_deleted, lines_inserted}
+use Rattle.ansi_model.specs.Emulator.Phase.{Ground, Escape, Opened, Sequence, Spaced, Letters, Coding, Told, Switching}
 use Rattle.ratatui_core.specs.Backend.{All, AfterCursor, BeforeCursor, CurrentLine, UntilNewLine}
 
 -- ED
@@ -52,6 +52,11 @@ abbrev pub performs_DSR : List ℕ → Emulator → Emulator
 performs_DSR (n ∷ []) t = if n == 6 then t else unsure t
 performs_DSR _ t = unsure t
 
+-- DECSCUSR (set cursor style): 0 to 6 are shapes, which change nothing that stands on the screen
+abbrev pub performs_DECSCUSR : List ℕ → Emulator → Emulator
+performs_DECSCUSR (n ∷ []) t = if nat_le n 6 then t else unsure t
+performs_DECSCUSR _ t = unsure t
+
 -- a whole sequence, by its last byte: H CUP, m SGR, J ED, K EL, r DECSTBM, M DL, L IL, h SM, l RM, n DSR
 abbrev pub performs : List ℕ → ℕ → Emulator → Emulator
 performs parameters final t =
@@ -67,14 +72,16 @@ performs parameters final t =
 abbrev pub is_quiet : ℕ → Bool
 is_quiet m = (m == 1000) || (m == 1002) || (m == 1003) || (m == 1006) || (m == 1004) || (m == 2004)
 
--- DECSET and DECRST: 25 DECTCEM, 6 DECOM, which takes the cursor to the corner, 69 DECLRMM, 7 DECAWM, 2026 a synchronized update
+-- DECSET and DECRST: 25 DECTCEM, 6 DECOM, which takes the cursor to the corner, 69 DECLRMM, 7 DECAWM, 2026 a synchronized update, 1049 the
+-- alternate screen
 abbrev pub sets_mode : Bool → ℕ → Emulator → Emulator
 sets_mode on m t =
     if m == 25 then cursor_shown on t
     else (if m == 6 then record t { modes = record t.modes { origin = on }; x = 0; y = 0 }
     else (if m == 69 then with_modes (record t.modes { sides = on }) t
     else (if m == 7 then with_modes (record t.modes { unwrapped = not on }) t
-    else (if m == 2026 then with_modes (record t.modes { held = on }) t else (if is_quiet m then t else unsure t)))))
+    else (if m == 2026 then holding on t
+    else (if m == 1049 then record t { phase = Switching on } else (if is_quiet m then t else unsure t))))))
 
 -- a sequence with the mark `?`: h sets, l resets
 abbrev pub performs_marked : List ℕ → ℕ → Emulator → Emulator
@@ -88,20 +95,26 @@ is_digit b = nat_le 48 b && nat_le b 57
 abbrev pub is_text : ℕ → Bool
 is_text b = nat_le 32 b && not (b == 127)
 
--- one more byte of a sequence: a digit, a semicolon, or the byte that names it
+-- one more byte of a sequence: a digit, a semicolon, a blank, or the byte that names it
 abbrev pub reads_sequence : Bool → List ℕ → ℕ → ℕ → Emulator → Emulator
 reads_sequence mark done n b t =
     if is_digit b then record t { phase = Sequence mark done (n * 10 + (b - 48)) }
     else (if b == 59 then record t { phase = Sequence mark (done ++ n ∷ []) 0 }
     else (if mark then performs_marked (done ++ n ∷ []) b (record t { phase = Ground })
-    else performs (done ++ n ∷ []) b (record t { phase = Ground })))
+    else (if b == 32 then record t { phase = Spaced (done ++ n ∷ []) } else performs (done ++ n ∷ []) b (record t { phase = Ground }))))
 
--- after ESC: [ opens a sequence, \ ends a string, ( sets the letters of G0, % the coding
+-- the byte that names a sequence with a blank: q DECSCUSR
+abbrev pub reads_spaced : List ℕ → ℕ → Emulator → Emulator
+reads_spaced parameters b t =
+    if b == 113 then performs_DECSCUSR parameters (record t { phase = Ground }) else unsure (record t { phase = Ground })
+
+-- after ESC: [ opens a sequence, ] a string for the operating system, as a window's title, \ ends one, ( sets the letters of G0, % the coding
 abbrev pub reads_escape : ℕ → Emulator → Emulator
 reads_escape b t =
     if b == 91 then record t { phase = Opened }
+    else (if b == 93 then record t { phase = Told }
     else (if b == 92 then record t { phase = Ground }
-    else (if b == 40 then record t { phase = Letters } else (if b == 37 then record t { phase = Coding } else unsure t)))
+    else (if b == 40 then record t { phase = Letters } else (if b == 37 then record t { phase = Coding } else unsure t))))
 
 -- the letters of G0: B is ASCII, 0 lines
 abbrev pub reads_letters : ℕ → Emulator → Emulator
@@ -115,6 +128,10 @@ reads_coding b t =
     if b == 71 then record t { phase = Ground; modes = record t.modes { coded = false } }
     else (if b == 64 then record t { phase = Ground; modes = record t.modes { coded = true } } else unsure t)
 
+-- a string for the operating system changes nothing on the screen; ESC ends it, and terminals differ on control characters in it
+abbrev pub reads_told : ℕ → Emulator → Emulator
+reads_told b t = if b == 27 then record t { phase = Escape } else (if is_text b then t else unsure t)
+
 -- one byte, read: a sequence is ESC [, perhaps ?, numbers between semicolons, and the byte that names it; SI and SO shift
 abbrev pub reads_in : Phase → ℕ → Emulator → Emulator
 reads_in Ground b t =
@@ -126,6 +143,9 @@ reads_in Ground b t =
 reads_in Escape b t = reads_escape b t
 reads_in Letters b t = reads_letters b t
 reads_in Coding b t = reads_coding b t
+reads_in Told b t = reads_told b t
+reads_in (Switching alternate) b t = t
+reads_in (Spaced parameters) b t = reads_spaced parameters b t
 reads_in Opened b t = if b == 63 then record t { phase = Sequence true [] 0 } else reads_sequence false [] 0 b t
 reads_in (Sequence mark done n) b t = reads_sequence mark done n b t
 

@@ -20,7 +20,7 @@ mod sequences;
 mod sgr;
 mod symbol;
 
-pub use command::{Command, push_command};
+pub use command::{Command, SetCursorStyle, push_command, push_title};
 pub use flags::{
     blank_flags, clear_flags, clear_part_flags, is_continuation, lower_flags, mark_symbol,
     raise_flags, symbol_end, tail_end,
@@ -28,12 +28,13 @@ pub use flags::{
 pub use glyph::{Glyph, glyph_of, is_printed};
 pub use pen::{Pen, change_sgr, put_disputed, put_plain, put_spaces, put_symbol, set_sgr};
 pub use screen::{
-    append_lines, clear_screen, leaving, make_blank, scroll_region_down, scroll_region_up,
-    set_cursor_position, set_visible,
+    append_lines, ask_size, clear_screen, closing_alternate, leaving, make_blank,
+    opening_alternate, save_screen, scroll_region_down, scroll_region_up, set_cursor_position,
+    set_visible,
 };
 pub use sequences::{
     delete_lines, erase, erase_all, hide_cursor, insert_lines, line_feeds, move_to, reset_region,
-    set_region, show_cursor,
+    set_region, show_cursor, update_begin, update_end,
 };
 pub use sgr::{Sgr, push_sgr};
 pub use symbol::{is_plain, is_symbol, only_printable, push_plain, push_symbol};

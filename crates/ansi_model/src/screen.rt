@@ -2,8 +2,8 @@
 
 ghost use Rattle.std.specs.Prelude.{◌≡◌, ℕ, List, ◌++◌, ◌+◌, ◌-◌, ◌<◌, ◌≤◌, min, nat_lt, OnOk, string_bytes, encode_utf8};
 ghost use Rattle.ratatui_core.specs.Backend.{Appends, scrolling_up, scrolling_down, clearing, ScrollsUp, ScrollsDown, Clears, with_cursor, with_visible, All, CurrentLine};
-ghost use Rattle.ansi_model.specs.Beginnings.{MakesBlank, without_modes};
-ghost use Rattle.ansi_model.specs.Endings.{left_below};
+ghost use Rattle.ansi_model.specs.Beginnings.{MakesBlank, OpensAlternate, SavesScreen, without_modes};
+ghost use Rattle.ansi_model.specs.Endings.{ClosesAlternate, left_below};
 ghost use Rattle.ansi_model.specs.Emulator.{cursor_moved, returned, erased, line_fed, fed, with_region, without_region, lines_deleted, lines_inserted, fed_and_lowered, fed_and_lowered_by, columns_moved, rested};
 ghost use Rattle.ansi_model.specs.Sends.{Sends, Performs, typed};
 ghost use Rattle.ansi_model.specs.Screens.{Turns, Becomes};
@@ -68,6 +68,29 @@ pub fn clear_screen(
     move_to(out, x, y)
 }
 
+// Moves the cursor as far down and right as it goes, and asks where it is.
+fn ask_at_the_end(out: &mut String) -> Result<(), AllocError>
+    ensures { OnOk result (Performs (string_bytes out.old) (string_bytes out.new)
+        (cursor_moved 65534 65534)) }
+{
+    out.push_str("\u{1b}[65535;65535H\u{1b}[6n")
+}
+
+/// Asks a terminal, whose cursor is in this column and row, for its size: the answer is the place
+/// of its last column and row, as `ESC [ ROWS ; COLUMNS R`. The screen stays.
+///
+/// # Errors
+///
+/// `AllocError` if memory is refused. What the text holds then isn't said.
+pub fn ask_size(out: &mut String, x: u16, y: u16) -> Result<(), AllocError>
+    ensures { OnOk result ((w h : ℕ) → 0 < w → 0 < h → Turns w h (string_bytes out.old)
+        (string_bytes out.new) (λ s. Becomes (λ p q. p.cursor_x ≡ x → p.cursor_y ≡ y
+        → q ≡ p) s.columns s)) }
+{
+    ask_at_the_end(out)?;
+    move_to(out, x, y)
+}
+
 // Ends a string that another program left open, and resets the modes that change how text is taken.
 fn settle(out: &mut String) -> Result<(), AllocError>
     ensures { OnOk result (Performs (string_bytes out.old) (string_bytes out.new) without_modes) }
@@ -106,6 +129,39 @@ pub fn make_blank(out: &mut String, width: u16, height: u16) -> Result<(), Alloc
     erase_all(out, width, height)?;
     move_to(out, 0, 0)?;
     show_cursor(out)
+}
+
+/// Scrolls what stands on the screen of a terminal of so many rows, at least one, into its history,
+/// however another program left it. Then its screen is empty, its colours its own, its cursor in
+/// the last row, and no mode that changes how it takes text is set.
+///
+/// # Errors
+///
+/// `AllocError` if memory is refused. What the text holds then isn't said.
+pub fn save_screen(out: &mut String, height: u16) -> Result<(), AllocError>
+    ensures { OnOk result ((w : ℕ) → 0 < w → 0 < height
+        → SavesScreen w height (string_bytes out.old) (string_bytes out.new)) }
+{
+    settle(out)?;
+    push_sgr(out, &Sgr::DEFAULT)?;
+    reset_region(out)?;
+    feed_screen(out, height, height)
+}
+
+/// What puts a terminal's main screen aside, however another program left it, and shows a blank
+/// alternate one. It takes no memory.
+pub fn opening_alternate() -> &'static str
+    ensures { (w h : ℕ) (old : List ℕ) → OpensAlternate w h old (old ++ result.now) }
+{
+    "\u{1b}\\\u{1b}[0m\u{1b}[?1049h"
+}
+
+/// What brings a terminal's main screen back, as it was put aside, in its own colours, without
+/// margins, and with its cursor shown. It takes no memory.
+pub fn closing_alternate() -> &'static str
+    ensures { (old : List ℕ) → ClosesAlternate old (old ++ result.now) }
+{
+    "\u{1b}[r\u{1b}[?25h\u{1b}[?1049l\u{1b}[0m"
 }
 
 /// What leaves a terminal in its own colours, without margins, and with its cursor shown below its

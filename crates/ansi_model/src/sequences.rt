@@ -1,8 +1,8 @@
 //! Escape sequences by their standard names.
 
-ghost use Rattle.std.specs.Prelude.{◌≡◌, ◌+◌, ◌-◌, ◌<◌, OnOk, true, false, [], ◌∷◌, ◌++◌, string_bytes};
+ghost use Rattle.std.specs.Prelude.{◌≡◌, ℕ, ◌+◌, ◌-◌, ◌<◌, OnOk, true, false, List, [], ◌∷◌, ◌++◌, string_bytes};
 ghost use Rattle.std.specs.Fmt.{decimal};
-ghost use Rattle.ansi_model.specs.Emulator.{cursor_moved, returned, erased, fed, with_region, without_region, lines_deleted, lines_inserted, cursor_shown};
+ghost use Rattle.ansi_model.specs.Emulator.{cursor_moved, returned, erased, fed, with_region, without_region, lines_deleted, lines_inserted, cursor_shown, holding};
 ghost use Rattle.ratatui_core.specs.Backend.{BeforeCursor};
 ghost use Rattle.ansi_model.specs.Sends.{Performs};
 
@@ -105,6 +105,20 @@ pub fn hide_cursor(out: &mut String) -> Result<(), AllocError>
         (cursor_shown false)) }
 {
     out.push_str("\u{1b}[?25l")
+}
+
+/// What begins a synchronized update: what is printed from then on isn't shown before its end.
+pub fn update_begin() -> &'static str
+    ensures { (old : List ℕ) → Performs old (old ++ result.now) (holding true) }
+{
+    "\u{1b}[?2026h"
+}
+
+/// What ends a synchronized update. It takes no memory.
+pub fn update_end() -> &'static str
+    ensures { (old : List ℕ) → Performs old (old ++ result.now) (holding false) }
+{
+    "\u{1b}[?2026l"
 }
 
 /// CR and LF (carriage return, line feed): to the first column, and `n` rows down; what goes past

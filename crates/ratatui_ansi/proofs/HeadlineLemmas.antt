@@ -4,8 +4,8 @@ use Rattle.ratatui_core.specs.{Layout.Size, Backend.Screen, Buffer.Grid, Buffer.
 use Rattle.ratatui_core.specs.Terminal.{TerminalData, IsInStep, DrawsFrame}
 use Rattle.ratatui_core.specs.Headline.{Event, Along, last_state, IsFaithful, Draw}
 use Rattle.ratatui_ansi.specs.Backend.{BackendState, reader, shown_by, IsReadAlike}
-use Rattle.ansi_model.specs.{Beginnings.IsAsFound, Beginnings.anew, Beginnings.with_rows_above, Columns.look_in, Emulator.Emulator, Emulator.rested}
-use Rattle.ansi_model.specs.{Glass.IsStraight, Screens.screen_shown, Sequences.feed}
+use Rattle.ansi_model.specs.{Beginnings.IsAsFound, Beginnings.anew, Beginnings.with_rows_above, Columns.look_in, Emulator.Emulator, Emulator.rested, Emulator.Phase.Ground}
+use Rattle.ansi_model.specs.{Glass.IsStraight, Modes.Modes, Modes.no_modes, Screens.screen_shown, Sequences.feed}
 use Rattle.ratatui_ansi.specs.Headline.{IsReadBy, IsReadByAll, below_rows, IsShownToReader, IsShownToAll, IsHeadlineOfBytes}
 use Rattle.ansi_model.proofs.HistoryLemmas.{rested-above}
 
@@ -17,16 +17,18 @@ last-in-step screen s (e ∷ es) step all = last-in-step screen e.after es all.0
 rested-alike : (size : Size) (sent : List ℕ) → IsReadAlike size sent → (t : Emulator) → IsAsFound size.width size.height t → rested (feed sent (anew t)) ≡ with_rows_above t.history (rested (reader size sent))
 rested-alike size sent alike t left = ap rested (alike t left) ∙ rested-above t.history (reader size sent)
 
-pub read-by-all : {W : Type 0} (b : BackendState W) → IsReadAlike b.size b.sent → (rested (reader b.size b.sent)).sure ≡ true → IsReadByAll b
-read-by-all b alike sure t left =
+pub read-by-all : {W : Type 0} (b : BackendState W) → IsReadAlike b.size b.sent → (reader b.size b.sent).phase ≡ Ground → (rested (reader b.size b.sent)).sure ≡ true → (rested (reader b.size b.sent)).modes ≡ no_modes → IsReadByAll b
+read-by-all b alike phase sure modes t left =
     let e = rested-alike b.size b.sent alike t left in
     let screen : screen_shown b.written (rested (feed b.sent (anew t))) ≡ below_rows t.history (shown_by b) = ap (screen_shown b.written) e in
     record {
+      phase = ap (λ (u : Emulator). u.phase) (alike t left) ∙ phase;
       sure = ap (λ (u : Emulator). u.sure) e ∙ sure;
       screen = screen;
       glass = λ g may x y straight x_in.
+          let held : (rested (feed b.sent (anew t))).modes.held ≡ false = ap (λ (u : Emulator). u.modes.held) e ∙ ap (λ (m : Modes). m.held) modes in
           let same : (λ i j. look_in ((rested (feed b.sent (anew t))).columns i j)) ≡ (shown_by b).grid = ap (λ (s : Screen). s.grid) screen in
-          may.straight x y (subst (λ grid. IsStraight b.size.width grid y) (sym same) straight) x_in ∙ ap (λ (grid : Grid). grid x y) same;
+          may.straight held x y (subst (λ grid. IsStraight b.size.width grid y) (sym same) straight) x_in ∙ ap (λ (grid : Grid). grid x y) same;
     }
 
 pub shown-to-reader : {W : Type 0} (t : TerminalData (BackendState W)) (u : Emulator) → IsInStep shown_by t → IsReadBy t.backend u → IsShownToReader t.previous t.backend u

@@ -96,6 +96,7 @@ pub uncollected-why : (k : Tracker) (t : Emulator) (call : Call) (written : ℕ)
 uncollected-why k t (Called.Move p) written Refused.Memory wide is why = tt
 uncollected-why k t (Called.Show visible) written Refused.Memory wide is why = tt
 uncollected-why k t (Called.Command command) written Refused.Memory wide is why = tt
+uncollected-why k t Called.AskSize written Refused.Memory wide is why = tt
 uncollected-why k t (Called.Append n) written Refused.Memory wide is why = tt
 uncollected-why k t (Called.ScrollUp region n) written Refused.Memory wide is why = tt
 uncollected-why k t (Called.ScrollDown region n) written Refused.Memory wide is why = tt
@@ -105,8 +106,9 @@ uncollected-why k t call written (Refused.Style p) wide is why = absurd why
 uncollected-why k t (Called.Move q) written (Refused.Cut p) wide is why = absurd why.1
 uncollected-why k t (Called.Show visible) written (Refused.Cut p) wide is why = absurd why.1
 uncollected-why k t (Called.Command command) written (Refused.Cut p) wide is why = absurd why.1
+uncollected-why k t Called.AskSize written (Refused.Cut p) wide is why = absurd why.1
 uncollected-why k t (Called.Append n) written (Refused.Cut p) wide is why = absurd why.1
 uncollected-why k t (Called.ScrollUp region n) written (Refused.Cut p) wide is why = absurd why.1
 uncollected-why k t (Called.ScrollDown region n) written (Refused.Cut p) wide is why = absurd why.1
 uncollected-why k t (Called.Clear kind) written (Refused.Cut p) wide is why =
-    subst (λ q. IsOfClearing (screen_shown written (rested t)) (Cut q)) (sym why.0) (cut-is-covered written kind wide is why.1)
+    subst (λ q. IsOfClearing (screen_shown written (rested t)) (Cut q)) (sym why.0) (cut-is-covered written kind wide is.awaiting why.1)

@@ -1,6 +1,8 @@
 -- From what bytes do to a ready terminal to what a backend keeps of it.
-use Rattle.std.proofs.Common.{◌≡◌, ℕ, ◌+◌, ◌-◌, ◌*◌, ◌<◌, ◌≤◌, ◌++◌, ◌&&◌, ◌||◌, min, nat_lt, nat_le, nat_eq, if◌then◌else◌, Bool, List, length, true, false, string_bytes, refl, sym, ap, ap₂, ◌∙◌, arith, append_assoc, subst}
+use Rattle.std.proofs.Common.{◌≡◌, ℕ, ◌+◌, ◌-◌, ◌*◌, ◌<◌, ◌≤◌, ◌++◌, ◌&&◌, ◌||◌, min, nat_lt, nat_le, nat_eq, if◌then◌else◌, Bool, List, length, true, false, string_bytes, refl, sym, ap, ap₂, ◌∙◌, arith, append_assoc, append-nil, [], subst}
+use Rattle.std.proofs.lemmas.Bool.{false≢true}
 use Rattle.std.proofs.lemmas.Bool.Decides.{nat_tests}
+use mathlib.Core.Bool.{beq}
 use Rattle.ratatui_core.specs.{Layout.Position, Layout.Size, Buffer.Look, Buffer.empty_look, Buffer.Update}
 use Rattle.ratatui_core.specs.Backend.{Screen, Motion, scrolling_up, Draws, ScrollsRegion, Appends, Erases, Clears, with_cursor, with_visible, cursor_of, ClearType, All, AfterCursor, BeforeCursor, is_cleared}
 use Rattle.ansi_model.specs.Columns.{Columns, look_in, blank_column, overwritten}
@@ -164,6 +166,14 @@ emptied-kept w h place flags flags_after s t columns at continuations became =
       screens = λ written. became.screens written x y;
     }
 
+-- a cursor that went away and came back
+pub back-kept : (w h : ℕ) (place : Position) (flags : List Bool) (s t : Emulator) → IsIdle w h s → cursor_of (screen_shown 0 s) ≡ place → AreContinuations w h flags s.columns
+    → Becomes (λ p q. p.cursor_x ≡ place.x → p.cursor_y ≡ place.y → q ≡ p) s.columns s t → IsKept w h place flags (λ p q. q ≡ p) s t
+back-kept w h place flags s t ready at continuations became =
+    let x : min s.x (s.width - 1) ≡ place.x = ap (λ (p : Position). p.x) at in
+    let y : s.y ≡ place.y = ap (λ (p : Position). p.y) at in
+    still-kept w h place flags s t ready at continuations (record { screens = λ written. became.screens written x y; columns = became.columns })
+
 -- bytes whose action keeps a terminal awaiting
 pub call-does : (w h : ℕ) (a b : List ℕ) (place place_after : Position) (flags flags_after : List Bool) (f : Emulator → Emulator) (related : Screen → Screen → Type 0) → Performs a b f
     → ((s : Emulator) → IsIdle w h s → cursor_of (screen_shown 0 s) ≡ place → AreContinuations w h flags s.columns → IsIdle w h (f s) × IsKept w h place_after flags_after related s (f s))
@@ -221,14 +231,15 @@ part-kept w h x y part place flags flags_after x_in y_in at_x at_y uncut history
 
 -- ---- what a tracker keeps
 
-module _ (old new : Tracker) (place : Position) (written : ℕ) (flags : List Bool) {related : Screen → Screen → Type 0} (is : IsTracker old)
-    (rest : new ≡ record old { out = new.out; cursor = place; written = written; continuations = new.continuations; draft = new.draft })
+module _ (old new : Tracker) (place : Position) (visible : Bool) (written : ℕ) (flags : List Bool) {related : Screen → Screen → Type 0} (is : IsTracker old)
+    (rest : new ≡ record old { out = new.out; cursor = place; is_visible = visible; written = written; continuations = new.continuations; draft = new.draft })
     (draft : length new.draft.items ≡ old.size.width * old.size.height) (same : new.continuations.items ≡ flags) (count : length flags ≡ length old.continuations.items) where
   -- bytes that keep a tracked terminal so were collected
   gathers : (bytes : List ℕ) → string_bytes new.out ≡ string_bytes old.out ++ bytes
       → ((t : Emulator) → IsTracked old t → IsAwaiting old.size.width old.size.height place flags (feed bytes t))
+      → ((t : Emulator) → IsTracked old t → (rested (feed bytes t)).visible ≡ visible)
       → ((t : Emulator) → IsTracked old t → related (screen_shown old.written (rested t)) (screen_shown written (rested (feed bytes t)))) → Collects old related new
-  gathers bytes appended tracks shows =
+  gathers bytes appended tracks sees shows =
       let size : new.size ≡ old.size = ap (λ (k : Tracker). k.size) rest in
       record {
         tracker = record {
@@ -240,24 +251,68 @@ module _ (old new : Tracker) (place : Position) (written : ℕ) (flags : List Bo
         size = size;
         colors = ap (λ (k : Tracker). k.has_underline_colors) rest;
         ambiguous = ap (λ (k : Tracker). k.ambiguous_is_wide) rest;
+        synchronized = ap (λ (k : Tracker). k.is_synchronized) rest;
         bytes = bytes;
         appended = appended;
-        tracks = λ t awaits.
-            subst (λ (s : Size). IsAwaiting s.width s.height new.cursor new.continuations.items (feed bytes t)) (sym size)
-            (subst (λ p. IsAwaiting old.size.width old.size.height p new.continuations.items (feed bytes t)) (sym (ap (λ (k : Tracker). k.cursor) rest))
-            (subst (λ xs. IsAwaiting old.size.width old.size.height place xs (feed bytes t)) (sym same) (tracks t awaits)));
+        tracks = λ t awaits. record {
+          awaiting = subst (λ (s : Size). IsAwaiting s.width s.height new.cursor new.continuations.items (feed bytes t)) (sym size)
+              (subst (λ p. IsAwaiting old.size.width old.size.height p new.continuations.items (feed bytes t)) (sym (ap (λ (k : Tracker). k.cursor) rest))
+              (subst (λ xs. IsAwaiting old.size.width old.size.height place xs (feed bytes t)) (sym same) (tracks t awaits)));
+          visible = sees t awaits ∙ sym (ap (λ (k : Tracker). k.is_visible) rest);
+        };
         shows = λ t awaits. subst (λ n. related (screen_shown old.written (rested t)) (screen_shown n (rested (feed bytes t)))) (sym (ap (λ (k : Tracker). k.written) rest)) (shows t awaits);
       }
 
 -- a call that draws no cells was collected
+called : (old new : Tracker) (place : Position) (visible : Bool) (flags : List Bool) {related : Screen → Screen → Type 0} → IsTracker old
+    → new ≡ record old { out = new.out; cursor = place; is_visible = visible; continuations = new.continuations } → new.continuations.items ≡ flags → length flags ≡ length old.continuations.items
+    → (sends : SendsCall old.size.width old.size.height (string_bytes old.out) (string_bytes new.out) old.cursor old.continuations.items place flags related)
+    → ((t : Emulator) → IsTracked old t → (rested (feed sends.bytes t)).visible ≡ visible) → Collects old related new
+called old new place visible flags is rest same count sends sees =
+    let draft : new.draft ≡ old.draft = ap (λ (k : Tracker). k.draft) rest in
+    let whole : new ≡ record old { out = new.out; cursor = place; is_visible = visible; written = old.written; continuations = new.continuations; draft = new.draft }
+    = rest ∙ ap (λ d. record old { out = new.out; cursor = place; is_visible = visible; continuations = new.continuations; draft = d }) (sym draft) in
+    gathers old new place visible old.written flags is whole (ap (λ (k : Tracker). length k.draft.items) rest ∙ is.draft_count) same count sends.bytes sends.appended
+    (λ t tracked. sends.awaiting t tracked.awaiting) sees (λ t tracked. sends.shows old.written t tracked.awaiting)
+
+-- one that shows a hidden cursor no more than before, nor hides it
 pub collected : (old new : Tracker) (place : Position) (flags : List Bool) {related : Screen → Screen → Type 0} → IsTracker old
     → new ≡ record old { out = new.out; cursor = place; continuations = new.continuations } → new.continuations.items ≡ flags → length flags ≡ length old.continuations.items
+    → ((p q : Screen) → related p q → q.visible ≡ p.visible)
     → SendsCall old.size.width old.size.height (string_bytes old.out) (string_bytes new.out) old.cursor old.continuations.items place flags related → Collects old related new
-collected old new place flags is rest same count sends =
-    let draft : new.draft ≡ old.draft = ap (λ (k : Tracker). k.draft) rest in
-    let whole : new ≡ record old { out = new.out; cursor = place; written = old.written; continuations = new.continuations; draft = new.draft }
-    = rest ∙ ap (λ d. record old { out = new.out; cursor = place; continuations = new.continuations; draft = d }) (sym draft) in
-    gathers old new place old.written flags is whole (ap (λ (k : Tracker). length k.draft.items) rest ∙ is.draft_count) same count sends.bytes sends.appended sends.awaiting (sends.shows old.written)
+collected old new place flags is rest same count keeps sends =
+    called old new place old.is_visible flags is rest same count sends (λ t tracked. keeps _ _ (sends.shows old.written t tracked.awaiting) ∙ tracked.visible)
+
+-- a cursor was hidden or shown
+pub shown-collected : (old new : Tracker) (visible : Bool) → IsTracker old → new ≡ record old { out = new.out; is_visible = visible }
+    → SendsCall old.size.width old.size.height (string_bytes old.out) (string_bytes new.out) old.cursor old.continuations.items old.cursor old.continuations.items (λ s t. t ≡ with_visible visible s)
+    → Collects old (λ s t. t ≡ with_visible visible s) new
+shown-collected old new visible is rest sends =
+    let same : new.continuations ≡ old.continuations = ap (λ (k : Tracker). k.continuations) rest in
+    called old new old.cursor visible old.continuations.items is
+    (rest ∙ ap (λ c. record old { out = new.out; is_visible = visible; continuations = c }) (sym same)) (ap (λ c. c.items) same) refl sends
+    (λ t tracked. ap (λ (q : Screen). q.visible) (sends.shows old.written t tracked.awaiting))
+
+same-flags : (a b : Bool) → beq a b ≡ true → a ≡ b
+same-flags true true e = refl
+same-flags true false e = absurd (false≢true e)
+same-flags false true e = absurd (false≢true e)
+same-flags false false e = refl
+
+-- or was so already
+pub shown-already : (k : Tracker) (visible : Bool) → IsTracker k → beq visible k.is_visible ≡ true → Collects k (λ s t. t ≡ with_visible visible s) k
+unfolding feed
+shown-already k visible is same = record {
+  tracker = is;
+  size = refl;
+  colors = refl;
+  ambiguous = refl;
+  synchronized = refl;
+  bytes = [];
+  appended = sym (append-nil (string_bytes k.out));
+  tracks = λ t tracked. tracked;
+  shows = λ t tracked. ap (λ v. with_visible v (screen_shown k.written (rested t))) (tracked.visible ∙ sym (same-flags visible k.is_visible same));
+}
 
 -- a draw was
 pub drawn-collected : (old new : Tracker) (place : Position) (written : ℕ) (flags : List Bool) {us : List Update} → IsTracker old
@@ -265,7 +320,8 @@ pub drawn-collected : (old new : Tracker) (place : Position) (written : ℕ) (fl
     → length flags ≡ length old.continuations.items → SendsDraw old.size.width old.size.height (string_bytes old.out) old.cursor old.written old.continuations.items us (string_bytes new.out) place written flags
     → Collects old (λ s t. Draws s us t) new
 drawn-collected old new place written flags is rest draft same count sends =
-    gathers old new place written flags is rest (ap length draft ∙ is.count) same count sends.bytes sends.appended sends.awaiting sends.draws
+    gathers old new place old.is_visible written flags is rest (ap length draft ∙ is.count) same count sends.bytes sends.appended
+    (λ t tracked. sends.awaiting t tracked.awaiting) (λ t tracked. (sends.draws t tracked.awaiting).visible ∙ tracked.visible) (λ t tracked. sends.draws t tracked.awaiting)
 
 -- ---- the clears
 
@@ -276,6 +332,7 @@ weaker old new first second call follows = record {
   size = call.size;
   colors = call.colors;
   ambiguous = call.ambiguous;
+  synchronized = call.synchronized;
   bytes = call.bytes;
   appended = call.appended;
   tracks = call.tracks;
@@ -288,13 +345,13 @@ clears-by kind done x y p q same erased = record { rest = erased.rest; grid = λ
 
 pub clears-at : (old new : Tracker) (kind : ClearType) → Collects old (Erases kind old.cursor.x old.cursor.y) new → Collects old (λ p q. Clears p kind q) new
 clears-at old new kind call = weaker old new (Erases kind old.cursor.x old.cursor.y) (λ p q. Clears p kind q) call (λ t q awaits erased.
-    subst (λ (k : Position). Erases kind k.x k.y (screen_shown old.written (rested t)) q) (sym awaits.placed) erased)
+    subst (λ (k : Position). Erases kind k.x k.y (screen_shown old.written (rested t)) q) (sym awaits.awaiting.placed) erased)
 
 pub clears-corner : (old new : Tracker) → old.cursor.x ≡ 0 → old.cursor.y ≡ 0 → Collects old (λ p q. Clears p All q) new → Collects old (λ p q. Clears p AfterCursor q) new
 clears-corner old new at_x at_y call = weaker old new (λ p q. Clears p All q) (λ p q. Clears p AfterCursor q) call (λ t q awaits cleared.
     let p : Screen = screen_shown old.written (rested t) in
-    let x : p.cursor_x ≡ 0 = ap (λ (k : Position). k.x) awaits.placed ∙ at_x in
-    let y : p.cursor_y ≡ 0 = ap (λ (k : Position). k.y) awaits.placed ∙ at_y in
+    let x : p.cursor_x ≡ 0 = ap (λ (k : Position). k.x) awaits.awaiting.placed ∙ at_x in
+    let y : p.cursor_y ≡ 0 = ap (λ (k : Position). k.y) awaits.awaiting.placed ∙ at_y in
     clears-by AfterCursor All p.cursor_x p.cursor_y p q (λ i j j_in. rw (x, y) (let e : (nat_lt 0 j || (nat_eq j 0 && nat_le 0 i)) ≡ true = grind (arith, nat_tests) in rw e refl)) cleared)
 
 -- up to the end of the symbol at the cursor, whose other columns show nothing of their own
@@ -319,8 +376,8 @@ pub clears-before : (old new : Tracker) (end : ℕ) → old.cursor.x ≤ end →
     → Collects old (Erases BeforeCursor end old.cursor.y) new → Collects old (λ p q. Clears p BeforeCursor q) new
 clears-before old new end from inside rest call = weaker old new (Erases BeforeCursor end old.cursor.y) (λ p q. Clears p BeforeCursor q) call (λ t q awaits erased.
     let s : Emulator = rested t in
-    let x_at : min s.x (s.width - 1) ≡ old.cursor.x = ap (λ (k : Position). k.x) awaits.placed in
-    let y_at : s.y ≡ old.cursor.y = ap (λ (k : Position). k.y) awaits.placed in
-    let height : s.height ≡ old.size.height = awaits.ready.rest.height in
+    let x_at : min s.x (s.width - 1) ≡ old.cursor.x = ap (λ (k : Position). k.x) awaits.awaiting.placed in
+    let y_at : s.y ≡ old.cursor.y = ap (λ (k : Position). k.y) awaits.awaiting.placed in
+    let height : s.height ≡ old.size.height = awaits.awaiting.ready.rest.height in
     clears-by BeforeCursor BeforeCursor end old.cursor.y (screen_shown old.written s) q
-    (λ i j j_in. rw (x_at, y_at) (before old.size.width old.size.height end old.cursor old.continuations.items from inside rest s awaits.continuations i j (omega arith))) erased)
+    (λ i j j_in. rw (x_at, y_at) (before old.size.width old.size.height end old.cursor old.continuations.items from inside rest s awaits.awaiting.continuations i j (omega arith))) erased)

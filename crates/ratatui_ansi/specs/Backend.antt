@@ -1,14 +1,15 @@
 -- What callers see of a backend that sends escape sequences, and the screen that it stands for.
-use Rattle.std.specs.Prelude.{◌≡◌, ℕ, Bool, false, List, Option, length, nat_eq}
+use Rattle.std.specs.Prelude.{◌≡◌, ℕ, Bool, false, List, [], Option, Some, None, length, nat_eq}
 use Rattle.ratatui_core.specs.{Layout.Position, Layout.Size, Backend.Screen}
 use Rattle.ansi_model.specs.{Emulator.Emulator, Emulator.rested, Emulator.blank_terminal, Sequences.feed, Screens.screen_shown}
 use Rattle.ratatui_ansi.specs.Tracker.{FitsScreen, IsAwaiting}
 use Rattle.ansi_model.specs.Beginnings.{IsAsFound, anew, with_rows_above}
-use Rattle.ansi_model.specs.{Sends.Performs, Endings.left_below}
+use Rattle.ansi_model.specs.{Sends.Performs, Endings.left_below, Endings.left_back, Endings.ClosesAlternate, Windows.feed_window}
 use Rattle.std.specs.Io.KnownBytes.{Appends}
 
 -- the writer, what it held as the backend began or began anew, if that is known, what it was sent since, and what of that after the last
--- flush; the terminal's size, whether it is sent colours of the underline, and places after ambiguous characters as if these were wide; how many items were drawn and how many calls failed, and whether a write failed
+-- flush; the terminal's size, whether it is sent colours of the underline, places after ambiguous characters as if these were wide, and draws within
+-- synchronized updates; whether its alternate screen is shown; how many items were drawn and how many calls failed, and whether a write failed
 pub record BackendState (W : Type 0) : Type 0 where
   pub writer : W
   pub before : Option (List ℕ)
@@ -17,6 +18,8 @@ pub record BackendState (W : Type 0) : Type 0 where
   pub size : Size
   pub has_underline_colors : Bool
   pub ambiguous_is_wide : Bool
+  pub is_synchronized : Bool
+  pub is_on_alternate : Bool
   pub written : ℕ
   pub failures : ℕ
   pub is_broken : Bool
@@ -33,10 +36,25 @@ reader size bytes = feed bytes (blank_terminal size.width size.height)
 abbrev pub shown_by : {W : Type 0} → BackendState W → Screen
 shown_by b = screen_shown b.written (rested (reader b.size b.sent))
 
+-- before a backend began its writer took bytes that do this, after what it held
+pub record BeginsBy (does : List ℕ → List ℕ → Type 0) (held before : Option (List ℕ)) : Type 0 where
+  pub first : List ℕ
+  pub begins : does [] first
+  pub tied : Appends held before first
+
 -- after what was sent since the backend began a writer has taken bytes that leave each terminal below its last row
 pub record LeavesTerminal {W : Type 0} (b : BackendState W) (contents : Option (List ℕ)) : Type 0 where
   pub sent : List ℕ
   pub leaves : Performs b.sent sent left_below
+  pub tied : Appends b.before contents sent
+
+-- after what was sent since the backend began a writer has taken bytes that bring the main screen of each window back that shows its alternate
+-- one and has read them all
+pub record BringsBack {W : Type 0} (b : BackendState W) (contents : Option (List ℕ)) : Type 0 where
+  pub sent : List ℕ
+  pub closes : ClosesAlternate b.sent sent
+  pub back : (t main : Emulator) → IsAsFound b.size.width b.size.height t
+      → feed_window sent (record { shown = anew t; aside = Some main }) ≡ record { shown = left_back main (rested (feed b.sent (anew t))); aside = None }
   pub tied : Appends b.before contents sent
 
 -- a terminal of this size that reads these bytes becomes what a new one would, however it was left; its history stays above
@@ -45,8 +63,9 @@ IsReadAlike size sent = (t : Emulator) → IsAsFound size.width size.height t �
 
 -- what a backend keeps is in order: its tracker fits its screen, and unless a write failed, the new terminal that has read what was sent awaits
 -- the next call as it is tracked, however it was left at first; no write failed if no call did
-pub record IsInOrder (size : Size) (cursor : Position) (flags draft : List Bool) (is_broken : Bool) (failures : ℕ) (sent : List ℕ) : Type 0 where
+pub record IsInOrder (size : Size) (cursor : Position) (flags draft : List Bool) (visible is_broken : Bool) (failures : ℕ) (sent : List ℕ) : Type 0 where
   pub tracker : FitsScreen size flags draft
   pub unfailed : failures ≡ 0 → is_broken ≡ false
   pub awaiting : is_broken ≡ false → IsAwaiting size.width size.height cursor flags (reader size sent)
+  pub seen : is_broken ≡ false → (rested (reader size sent)).visible ≡ visible
   pub alike : is_broken ≡ false → IsReadAlike size sent

@@ -1,9 +1,9 @@
 -- What a draw knows of the terminal, and what its bytes do to it.
-use Rattle.std.specs.Prelude.{◌≡◌, ℕ, ◌+◌, ◌-◌, ◌*◌, ◌<◌, ◌≤◌, ◌==◌, ◌&&◌, ◌||◌, ◌⊎◌, not, nat_lt, nat_le, Bool, true, false, if◌then◌else◌, List, ◌++◌, length}
+use Rattle.std.specs.Prelude.{◌≡◌, ℕ, ◌+◌, ◌-◌, ◌*◌, ◌<◌, ◌≤◌, ◌==◌, ◌&&◌, ◌||◌, ◌⊎◌, not, nat_lt, nat_le, Bool, true, false, if◌then◌else◌, List, ◌++◌, length, string_bytes}
 use Rattle.ratatui_core.specs.{Layout.Position, Backend.Draws, Backend.cursor_of}
 use Rattle.ratatui_core.specs.Buffer.{symbol_text, look_of, empty_look, width_of, Update, Cell}
 use Rattle.ansi_model.specs.{declared.pen.Pen.Pen, declared.glyph.Glyph.Glyph, declared.sgr.Sgr.Sgr, Flags.AreContinuations, Flags.flag}
-use Rattle.ratatui_ansi.specs.{declared.draw.DrawState.DrawState, declared.draw.Refusal.Refusal, Tracker.IsAwaiting}
+use Rattle.ratatui_ansi.specs.{declared.draw.DrawState.DrawState, declared.draw.Refusal.Refusal, declared.tracker.Tracker.Tracker, Tracker.IsAwaiting}
 use Rattle.ratatui_ansi.specs.declared.draw.Refusal.TheVariants as Refused
 use Rattle.ansi_model.specs.{Sgr.default_sgr, Sgr.sgr_of, Parameters.is_sendable_by, Emulator.Emulator, Emulator.rested, Emulator.with_sgr}
 use Rattle.ansi_model.specs.{Symbols.is_printed, Symbols.printed_columns, Symbols.IsGlyphOf, Sequences.feed, Screens.screen_shown, Screens.IsIdle}
@@ -93,3 +93,8 @@ pub record SendsDraw (w h : ℕ) (old : List ℕ) (cursor : Position) (written :
   pub awaiting : (t : Emulator) → IsAwaiting w h cursor flags t → IsAwaiting w h cursor_after flags_after (feed bytes t)
   pub draws : (t : Emulator) → IsAwaiting w h cursor flags t
       → Draws (screen_shown written (rested t)) us (screen_shown written_after (rested (feed bytes t)))
+
+-- what a draw of these updates sends to a tracked terminal was collected, and its flags stand in the draft
+abbrev pub Drafts : Tracker → List Update → Position → ℕ → Tracker → Type 0
+Drafts old us cursor written new =
+    SendsDraw old.size.width old.size.height (string_bytes old.out) old.cursor old.written old.continuations.items us (string_bytes new.out) cursor written new.draft.items

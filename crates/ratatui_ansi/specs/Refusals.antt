@@ -22,6 +22,8 @@ pub record IsUnsent {W : Type 0} (old new : BackendState W) : Type 0 where
   pub size : new.size ≡ old.size
   pub colors : new.has_underline_colors ≡ old.has_underline_colors
   pub ambiguous : new.ambiguous_is_wide ≡ old.ambiguous_is_wide
+  pub synchronized : new.is_synchronized ≡ old.is_synchronized
+  pub alternate : new.is_on_alternate ≡ old.is_on_alternate
   pub written : new.written ≡ old.written
   pub is_broken : new.is_broken ≡ old.is_broken
 
@@ -33,6 +35,8 @@ pub record IsAfterSend {W : Type 0} (fails : Bool) (old new : BackendState W) : 
   pub size : new.size ≡ old.size
   pub colors : new.has_underline_colors ≡ old.has_underline_colors
   pub ambiguous : new.ambiguous_is_wide ≡ old.ambiguous_is_wide
+  pub synchronized : new.is_synchronized ≡ old.is_synchronized
+  pub alternate : new.is_on_alternate ≡ old.is_on_alternate
 
 -- a refused call, by its error: after a failed send every call is refused, and only a failed send changes anything
 abbrev pub FailsBy : {W : Type 0} → BackendState W → BackendState W → AnsiError → Type 0

@@ -2,7 +2,7 @@
 use Rattle.std.specs.Prelude.{◌≡◌, ℕ, ◌*◌, ◌<◌, Bool, true, List, length, [], ◌++◌, string_bytes}
 use Rattle.ratatui_core.specs.Layout.{Position, Size}
 use Rattle.ratatui_core.specs.Backend.{Screen, cursor_of, Appends, Clears, ScrollsUp, ScrollsDown, with_cursor, with_visible}
-use Rattle.ansi_model.specs.{Columns.blank_column, Beginnings.MakesBlank, Emulator.Emulator, Emulator.rested, Emulator.Phase.Ground, Sequences.feed}
+use Rattle.ansi_model.specs.{Columns.blank_column, Commands.command_bytes, Beginnings.MakesBlank, Emulator.Emulator, Emulator.rested, Emulator.Phase.Ground, Sequences.feed}
 use Rattle.ansi_model.specs.{Screens.screen_shown, Screens.IsIdle, Flags.AreContinuations, Flags.is_clear_cut}
 use Rattle.ratatui_ansi.specs.{declared.draw.Refusal.Refusal, declared.tracker.Tracker.Tracker, declared.tracker.Call.Call}
 use Rattle.ratatui_ansi.specs.declared.draw.Refusal.TheVariants as Refused
@@ -27,8 +27,9 @@ abbrev pub IsTracker : Tracker → Type 0
 IsTracker k = FitsScreen k.size k.continuations.items k.draft.items
 
 -- a terminal between two calls, as it is tracked
-abbrev pub IsTracked : Tracker → Emulator → Type 0
-IsTracked k t = IsAwaiting k.size.width k.size.height k.cursor k.continuations.items t
+pub record IsTracked (k : Tracker) (t : Emulator) : Type 0 where
+  pub awaiting : IsAwaiting k.size.width k.size.height k.cursor k.continuations.items t
+  pub visible : (rested t).visible ≡ k.is_visible
 
 -- a call's bytes were collected: they relate the screen of each tracked terminal so to the former, and it is tracked as the call left it
 pub record Collects (old : Tracker) (related : Screen → Screen → Type 0) (new : Tracker) : Type 0 where
@@ -36,6 +37,7 @@ pub record Collects (old : Tracker) (related : Screen → Screen → Type 0) (ne
   pub size : new.size ≡ old.size
   pub colors : new.has_underline_colors ≡ old.has_underline_colors
   pub ambiguous : new.ambiguous_is_wide ≡ old.ambiguous_is_wide
+  pub synchronized : new.is_synchronized ≡ old.is_synchronized
   pub bytes : List ℕ
   pub appended : string_bytes new.out ≡ string_bytes old.out ++ bytes
   pub tracks : (t : Emulator) → IsTracked old t → IsTracked new (feed bytes t)
@@ -51,6 +53,7 @@ pub record BeginsBlank (given : Size) (k : Tracker) : Type 0 where
   pub tracker : IsTracker k
   pub size : k.size ≡ given
   pub cursor : k.cursor ≡ record { x = 0; y = 0 }
+  pub visible : k.is_visible ≡ true
   pub continuations : AreContinuations given.width given.height k.continuations.items (λ a b. blank_column)
   pub written : k.written ≡ 0
   pub blank : MakesBlank given.width given.height [] (string_bytes k.out)
@@ -64,6 +67,12 @@ CallDoes (Called.ScrollUp region n) s t = ScrollsUp region.start region.end n s 
 CallDoes (Called.ScrollDown region n) s t = ScrollsDown region.start region.end n s t
 CallDoes (Called.Clear kind) s t = Clears s kind t
 CallDoes (Called.Command command) s t = t ≡ s
+CallDoes Called.AskSize s t = t ≡ s
+
+-- a command's bytes were appended for it
+abbrev pub IsCommanded : Call → List ℕ → List ℕ → Type 0
+IsCommanded (Called.Command command) old new = new ≡ old ++ command_bytes command
+IsCommanded _ old new = Unit {0}
 
 -- a clear would cut a symbol at the cursor
 abbrev pub IsCutByCall : Call → Tracker → Type 0

@@ -7,7 +7,9 @@
 //! (`Collects`).
 #![tactic(auto)]
 
+mod asking;
 mod backend;
+mod calls;
 mod checked;
 mod draw;
 mod error;
@@ -17,6 +19,7 @@ mod sender;
 mod sent;
 mod tracker;
 
+pub use ansi_model::SetCursorStyle;
 pub use backend::AnsiBackend;
 pub use checked::draw_for_all;
 pub use draw::Refusal;

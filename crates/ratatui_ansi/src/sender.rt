@@ -6,6 +6,7 @@ ghost use Rattle.ratatui_ansi.specs.declared.error.AnsiError.TheVariants.{Broken
 
 use crate::error::AnsiError;
 use crate::sent::Sent;
+use ansi_model::update_end;
 use std::io::{self, Write};
 
 /// A writer, what it was sent, and what of it was sent since the last flush: only clauses see these
@@ -105,6 +106,62 @@ impl<W: Write> Sender<W> {
         self.held.note(text.as_bytes());
         self.finish(failures);
         Ok(())
+    }
+
+    // Ends a synchronized update after a failed write, as far as the writer takes that.
+    fn end_update(&mut self)
+        ensures { self.new ≡ record self.old { writer = self.new.writer } }
+    {
+        let _ended = self.writer.write_all(update_end().as_bytes());
+    }
+
+    /// The same, if a write failed before.
+    pub(crate) fn mend(&mut self)
+        ensures writer { self.new ≡ record self.old { writer = self.new.writer } }
+        ensures works { self.old.is_broken ≡ false → self.new ≡ self.old }
+    {
+        if self.is_broken {
+            self.end_update();
+        }
+    }
+
+    /// Writes a last text and has it sent on, as far as the writer takes that.
+    pub(crate) fn give_back(&mut self, text: &str) {
+        self.mend();
+        let _written = self.writer.write_all(text.as_bytes());
+        let _flushed = self.writer.flush();
+    }
+
+    /// Writes the text of a draw whole, as `send` does; after an Err no synchronized update goes
+    /// on, as far as the writer takes its end.
+    pub(crate) fn send_draw(
+        &mut self,
+        text: &str,
+        failures: u64,
+        is_synchronized: bool,
+    ) -> io::Result<()>
+        ensures sent { OnOk result (self.new.sent.bytes ≡ self.old.sent.bytes ++ text.now) }
+        ensures held { OnOk result (self.new.held.bytes ≡ self.old.held.bytes ++ text.now) }
+        ensures before { self.new.sent.before ≡ self.old.sent.before }
+        ensures writes { OnOk result
+            (Appends (W.contents self.old.writer) (W.contents self.new.writer) text.now) }
+        ensures tied { OnOk result (
+            Appends self.old.sent.before (W.contents self.old.writer) self.old.sent.bytes
+            → Appends self.new.sent.before (W.contents self.new.writer) self.new.sent.bytes) }
+        ensures works { OnOk result (self.new.is_broken ≡ false) }
+        ensures finished { OnOk result (self.new.failures ≡ failures) }
+        ensures broken { OnErr result (self.new.is_broken ≡ true) }
+        ensures failed { OnErr result (self.new.failures ≡ self.old.failures) }
+    {
+        match self.send(text, failures) {
+            Ok(()) => Ok(()),
+            Err(error) => {
+                if is_synchronized {
+                    self.end_update();
+                }
+                Err(error)
+            }
+        }
     }
 
     /// Has the writer send on what it kept back; then as many calls failed as had before this one.

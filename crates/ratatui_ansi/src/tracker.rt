@@ -1,6 +1,6 @@
 //! What is known of a terminal between two calls, and the bytes that a call sends to it.
 
-ghost use Rattle.std.specs.Prelude.{◌≡◌, ◌<◌, ℕ, List, map, false, true, OnOk, IfOk, IfErr, OnErr, IsTrue};
+ghost use Rattle.std.specs.Prelude.{◌≡◌, ◌<◌, ◌++◌, ℕ, List, map, false, true, OnOk, IfOk, IfErr, OnErr, IsTrue, string_bytes};
 ghost use Rattle.std.specs.List.{list_all};
 ghost use Rattle.std.specs.Iterator.{IsFinite, Drains};
 ghost use Rattle.ratatui_core.specs.Buffer.{update_by};
@@ -8,16 +8,19 @@ ghost use Rattle.ratatui_core.specs.Backend.{Draws, Appends, Erases, Clears, Scr
 ghost use Rattle.ansi_model.specs.Emulator.{keeps_history};
 ghost use Rattle.ratatui_ansi.specs.declared.tracker.Call.TheVariants as Called;
 ghost use Rattle.ansi_model.specs.Flags.{is_cut, is_clear_cut};
-ghost use Rattle.ratatui_ansi.specs.Frame.{is_sendable_on};
+ghost use Rattle.ansi_model.specs.Commands.{command_bytes, title_bytes};
+ghost use Rattle.ansi_model.specs.Sends.{IsWithinUpdate};
+ghost use Rattle.ratatui_ansi.specs.Frame.{is_sendable_on, Drafts};
 ghost use Rattle.ratatui_ansi.specs.Refusals.{has_place, StopsDraw, RefusesTracker};
-ghost use Rattle.ratatui_ansi.specs.Tracker.{IsTracker, KeepsTracked, Collects, CallDoes, IsUncollected, BeginsBlank};
+ghost use Rattle.ratatui_ansi.specs.Tracker.{IsTracker, KeepsTracked, Collects, CallDoes, IsCommanded, IsUncollected, BeginsBlank};
 
 use crate::draw::{Refusal, Target, draw_cells};
 use crate::error::AnsiError;
 use ansi_model::{
-    Command, append_lines, blank_flags, clear_flags, clear_part_flags, clear_screen, erase,
-    is_continuation, lower_flags, make_blank, move_to, push_command, raise_flags,
-    scroll_region_down, scroll_region_up, set_cursor_position, set_visible, symbol_end,
+    Command, append_lines, ask_size, blank_flags, clear_flags, clear_part_flags, clear_screen,
+    erase, is_continuation, lower_flags, make_blank, move_to, push_command, push_title,
+    raise_flags, scroll_region_down, scroll_region_up, set_cursor_position, set_visible,
+    symbol_end, update_begin, update_end,
 };
 use ratatui_core::backend::{AsCell, ClearType};
 use ratatui_core::layout::{Position, Size};
@@ -35,16 +38,19 @@ pub(crate) enum Call {
     ScrollDown(Range<u16>, u16),
     Clear(ClearType),
     Command(Command),
+    AskSize,
 }
 
-/// A terminal's size, where its cursor is, and which of its columns are continuation columns, row
-/// by row; and what is to be sent to it.
+/// A terminal's size, where its cursor is, whether that is shown, and which of its columns are
+/// continuation columns, row by row; and what is to be sent to it.
 #[derive(Drop)]
 pub(crate) struct Tracker {
     pub(crate) size: Size,
     pub(crate) has_underline_colors: bool,
     pub(crate) ambiguous_is_wide: bool,
+    pub(crate) is_synchronized: bool,
     pub(crate) cursor: Position,
+    pub(crate) is_visible: bool,
     pub(crate) continuations: Vec<bool>,
     // The flags within a draw.
     pub(crate) draft: Vec<bool>,
@@ -59,6 +65,7 @@ impl Tracker {
         ensures ok { IfOk result (BeginsBlank size) }
         ensures colors { IfOk result (λ k. k.has_underline_colors ≡ false) }
         ensures ambiguous { IfOk result (λ k. k.ambiguous_is_wide ≡ false) }
+        ensures synchronized { IfOk result (λ k. k.is_synchronized ≡ false) }
         ensures size { OnOk result ((0 < size.width) × (0 < size.height)) }
         ensures refused { IfErr result (RefusesTracker size.width size.height) }
     {
@@ -73,7 +80,9 @@ impl Tracker {
             size,
             has_underline_colors: false,
             ambiguous_is_wide: false,
+            is_synchronized: false,
             cursor: Position::ORIGIN,
+            is_visible: true,
             continuations,
             draft,
             written: 0,
@@ -96,22 +105,50 @@ impl Tracker {
         Ok(())
     }
 
-    // Shows the cursor or hides it.
+    // Shows the cursor or hides it, if it isn't so already.
     fn show(&mut self, visible: bool) -> Result<(), AllocError>
         requires { IsTracker self.old }
         ensures ok { OnOk result (Collects self.old (λ s t. t ≡ with_visible visible s) self.new) }
         ensures err { OnErr result (KeepsTracked self.old self.new) }
     {
-        set_visible(&mut self.out, visible)
+        if visible == self.is_visible {
+            return Ok(());
+        }
+        set_visible(&mut self.out, visible)?;
+        self.is_visible = visible;
+        Ok(())
     }
 
     // Asks what changes nothing on the screen.
     fn command(&mut self, command: Command) -> Result<(), AllocError>
         requires { IsTracker self.old }
         ensures ok { OnOk result (Collects self.old (λ s t. t ≡ s) self.new) }
+        ensures bytes { OnOk result (string_bytes self.new.out
+            ≡ string_bytes self.old.out ++ command_bytes command) }
         ensures err { OnErr result (KeepsTracked self.old self.new) }
     {
         push_command(&mut self.out, command)
+    }
+
+    /// Collects a title for the window, after what was collected before. If it is refused all else
+    /// stays.
+    pub(crate) fn title(&mut self, title: &str) -> Result<(), AllocError>
+        requires { IsTracker self.old }
+        ensures ok { OnOk result (Collects self.old (λ s t. t ≡ s) self.new) }
+        ensures bytes { OnOk result (string_bytes self.new.out
+            ≡ string_bytes self.old.out ++ title_bytes title.now) }
+        ensures err { OnErr result (KeepsTracked self.old self.new) }
+    {
+        push_title(&mut self.out, title)
+    }
+
+    // Asks for the terminal's size.
+    fn ask_size(&mut self) -> Result<(), AllocError>
+        requires { IsTracker self.old }
+        ensures ok { OnOk result (Collects self.old (λ s t. t ≡ s) self.new) }
+        ensures err { OnErr result (KeepsTracked self.old self.new) }
+    {
+        ask_size(&mut self.out, self.cursor.x, self.cursor.y)
     }
 
     // Moves the cursor's row down by `n`, and scrolls what goes past the last row.
@@ -272,6 +309,8 @@ impl Tracker {
         requires column { self.old.cursor.x < self.old.size.width }
         requires row { self.old.cursor.y < self.old.size.height }
         ensures ok { OnOk result (Collects self.old (CallDoes call) self.new) }
+        ensures bytes { OnOk result
+            (IsCommanded call (string_bytes self.old.out) (string_bytes self.new.out)) }
         ensures err { OnErr result (KeepsTracked self.old self.new) }
         ensures why { IfErr result (IsUncollected call self.old) }
     {
@@ -283,8 +322,102 @@ impl Tracker {
             Call::ScrollDown(region, n) => self.scroll_down(region, n)?,
             Call::Clear(clear_type) => self.clear_uncut(clear_type)?,
             Call::Command(command) => self.command(command)?,
+            Call::AskSize => self.ask_size()?,
         }
         Ok(())
+    }
+
+    // Draws cells: what is sent is collected, and their flags stand in the draft. Answers where the
+    // cursor is then, and how many items were drawn.
+    fn draft<C: AsCell, I: Iterator<Item = (u16, u16, C)>>(
+        &mut self,
+        content: I,
+    ) -> Result<(Position, u64), Refusal>
+        requires tracker { IsTracker self.old }
+        requires can { I.can_next content }
+        requires finite { IsFinite (I.remaining content) }
+        ensures ok { IfOk result (λ after. (items : List (ℕ × ℕ × C))
+            × Drains I.next_gives content items
+            × Drafts self.old (map (update_by C.cell) items) after.0 after.1 self.new
+            × (list_all (is_sendable_on self.old.size.width self.old.size.height
+            self.old.has_underline_colors) (map (update_by C.cell) items) ≡ true)) }
+        ensures kept { KeepsTracked self.old self.new }
+        ensures stopped { IfErr result (λ refusal. IsTrue (has_place refusal)
+            → StopsDraw I.next_gives content (update_by C.cell) self.old.size.width
+            self.old.size.height self.old.has_underline_colors self.old.cursor self.old.written
+            self.old.continuations.items refusal) }
+    {
+        let draft = self.draft.as_mut_slice();
+        draft.copy_from_slice(self.continuations.as_slice());
+        let target = Target {
+            width: self.size.width,
+            height: self.size.height,
+            has_underline_colors: self.has_underline_colors,
+        };
+        draw_cells(
+            &mut self.out,
+            draft,
+            target,
+            self.ambiguous_is_wide,
+            self.cursor,
+            self.written,
+            content,
+        )
+    }
+
+    // The same within a synchronized update.
+    fn draft_update<C: AsCell, I: Iterator<Item = (u16, u16, C)>>(
+        &mut self,
+        content: I,
+    ) -> Result<(Position, u64), Refusal>
+        requires tracker { IsTracker self.old }
+        requires can { I.can_next content }
+        requires finite { IsFinite (I.remaining content) }
+        ensures ok { IfOk result (λ after. (items : List (ℕ × ℕ × C))
+            × Drains I.next_gives content items
+            × Drafts self.old (map (update_by C.cell) items) after.0 after.1 self.new
+            × (list_all (is_sendable_on self.old.size.width self.old.size.height
+            self.old.has_underline_colors) (map (update_by C.cell) items) ≡ true)) }
+        ensures within { OnOk result
+            (IsWithinUpdate (string_bytes self.old.out) (string_bytes self.new.out)) }
+        ensures kept { KeepsTracked self.old self.new }
+        ensures stopped { IfErr result (λ refusal. IsTrue (has_place refusal)
+            → StopsDraw I.next_gives content (update_by C.cell) self.old.size.width
+            self.old.size.height self.old.has_underline_colors self.old.cursor self.old.written
+            self.old.continuations.items refusal) }
+    {
+        self.out.push_str(update_begin())?;
+        let after = self.draft(content)?;
+        self.out.push_str(update_end())?;
+        Ok(after)
+    }
+
+    // The same within a synchronized update, if the terminal is sent these.
+    fn draft_as_told<C: AsCell, I: Iterator<Item = (u16, u16, C)>>(
+        &mut self,
+        content: I,
+    ) -> Result<(Position, u64), Refusal>
+        requires tracker { IsTracker self.old }
+        requires can { I.can_next content }
+        requires finite { IsFinite (I.remaining content) }
+        ensures ok { IfOk result (λ after. (items : List (ℕ × ℕ × C))
+            × Drains I.next_gives content items
+            × Drafts self.old (map (update_by C.cell) items) after.0 after.1 self.new
+            × (list_all (is_sendable_on self.old.size.width self.old.size.height
+            self.old.has_underline_colors) (map (update_by C.cell) items) ≡ true)) }
+        ensures within { OnOk result (self.old.is_synchronized ≡ true
+            → IsWithinUpdate (string_bytes self.old.out) (string_bytes self.new.out)) }
+        ensures kept { KeepsTracked self.old self.new }
+        ensures stopped { IfErr result (λ refusal. IsTrue (has_place refusal)
+            → StopsDraw I.next_gives content (update_by C.cell) self.old.size.width
+            self.old.size.height self.old.has_underline_colors self.old.cursor self.old.written
+            self.old.continuations.items refusal) }
+    {
+        if self.is_synchronized {
+            self.draft_update(content)
+        } else {
+            self.draft(content)
+        }
     }
 
     /// Collects what a draw of these cells sends, after what was collected before. If it is refused
@@ -301,28 +434,15 @@ impl Tracker {
             × Collects self.old (λ s t. Draws s (map (update_by C.cell) items) t) self.new
             × (list_all (is_sendable_on self.old.size.width self.old.size.height
             self.old.has_underline_colors) (map (update_by C.cell) items) ≡ true)) }
+        ensures within { OnOk result (self.old.is_synchronized ≡ true
+            → IsWithinUpdate (string_bytes self.old.out) (string_bytes self.new.out)) }
         ensures err { OnErr result (KeepsTracked self.old self.new) }
         ensures stopped { IfErr result (λ refusal. IsTrue (has_place refusal)
             → StopsDraw I.next_gives content (update_by C.cell) self.old.size.width
             self.old.size.height self.old.has_underline_colors self.old.cursor self.old.written
             self.old.continuations.items refusal) }
     {
-        let draft = self.draft.as_mut_slice();
-        draft.copy_from_slice(self.continuations.as_slice());
-        let target = Target {
-            width: self.size.width,
-            height: self.size.height,
-            has_underline_colors: self.has_underline_colors,
-        };
-        let (cursor, written) = draw_cells(
-            &mut self.out,
-            draft,
-            target,
-            self.ambiguous_is_wide,
-            self.cursor,
-            self.written,
-            content,
-        )?;
+        let (cursor, written) = self.draft_as_told(content)?;
         mem::swap(&mut self.continuations, &mut self.draft);
         self.cursor = cursor;
         self.written = written;

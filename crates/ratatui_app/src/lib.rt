@@ -6,6 +6,7 @@ mod by_hand;
 mod counter;
 mod from_blank;
 pub mod laws;
+mod moments;
 mod running;
 #[cfg(test)]
 mod tests;
@@ -14,4 +15,5 @@ pub use application::Application;
 pub use by_hand::count_by_hand;
 pub use counter::Counter;
 pub use from_blank::count_from_blank;
+pub use moments::run_on_glass;
 pub use running::{Fault, draw, feed, run, step};

@@ -1,5 +1,5 @@
 //! A backend over memory: its calls, what it sends for cells, and what it refuses.
-use ratatui_ansi::{AnsiBackend, AnsiError};
+use ratatui_ansi::{AnsiBackend, AnsiError, SetCursorStyle};
 use rtui_backend::{Backend, ClearType};
 use rtui_cell::Cell;
 use rtui_geometry::{Position, Size};
@@ -60,6 +60,15 @@ fn sends(backend: &Kept, answer: Result<(), AnsiError>, end: &str) -> bool {
 const BLANK_4_3: &str =
     "\u{1b}\\\u{f}\u{1b}(B\u{1b}%G\u{1b}[4l\u{1b}[?6l\u{1b}[?69l\u{1b}[?7h\u{1b}[?2026l\u{1b}[0m\u{1b}[rm\ré\u{1b}[3;4H\u{1b}[1J\u{1b}[1;1H\u{1b}[?25h";
 
+// What scrolls its screen into its history.
+const SAVE_4_3: &str =
+    "\u{1b}\\\u{f}\u{1b}(B\u{1b}%G\u{1b}[4l\u{1b}[?6l\u{1b}[?69l\u{1b}[?7h\u{1b}[?2026l\u{1b}[0m\u{1b}[r\u{1b}[3;1H\r\n\n\n";
+
+// Whether a text is two others, one after the other.
+fn is_joined(text: &str, first: &str, second: &str) -> bool {
+    text.strip_prefix(first) == Some(second)
+}
+
 // Makes one of the calls that answer nothing.
 fn call(backend: &mut Kept, number: usize) -> Result<(), AnsiError> {
     match number {
@@ -95,7 +104,7 @@ fn is_at(backend: &mut Kept, x: u16, y: u16) -> bool {
 #[test]
 fn calls_of_the_backend(rt: HostRuntime) -> Result<(), Fail> {
     let mut backend = over_kept(rt.alloc(), 4, 3)?;
-    assert!(rt; sent(&backend) == BLANK_4_3);
+    assert!(rt; is_joined(sent(&backend), SAVE_4_3, BLANK_4_3));
     for (number, (end, (x, y))) in CALLS.iter().enumerate() {
         let answer = call(&mut backend, number);
         assert!(rt; sends(&backend, answer, end) && is_at(&mut backend, *x, *y));
@@ -276,6 +285,27 @@ fn underlines_that_are_refused(rt: HostRuntime) -> Result<(), Fail> {
     Ok(())
 }
 
+#[test]
+fn draws_within_updates(rt: HostRuntime) -> Result<(), Fail> {
+    let mut backend = over_kept(rt.alloc(), 6, 2)?;
+    let cells = cells_of(rt.alloc(), &["a", "b"])?;
+    let row = [(0, 0), (1, 0)];
+    backend.set_synchronized(true);
+    let held = "\u{1b}[?2026h\u{1b}[1;1Hab\u{1b}[?2026l";
+    assert!(rt; draws(&mut backend, &row, cells.as_slice(), Ok(()), held));
+    backend.set_synchronized(false);
+    assert!(rt;
+        draws(
+            &mut backend,
+            &row,
+            cells.as_slice(),
+            Ok(()),
+            "\u{1b}[1;1Hab"
+        )
+    );
+    Ok(())
+}
+
 // Asks what changes nothing on the screen.
 fn ask(backend: &mut Kept, number: usize) -> Result<(), AnsiError> {
     match number {
@@ -285,11 +315,16 @@ fn ask(backend: &mut Kept, number: usize) -> Result<(), AnsiError> {
         3 => backend.set_bracketed_paste(false),
         4 => backend.set_focus_change(true),
         5 => backend.set_focus_change(false),
-        _ => backend.ask_cursor_position(),
+        6 => backend.ask_cursor_position(),
+        7 => backend.ask_size(),
+        8 => backend.set_cursor_style(SetCursorStyle::DefaultUserShape),
+        9 => backend.set_cursor_style(SetCursorStyle::SteadyBar),
+        10 => backend.send_title("a\u{1b}]b\u{7}コ"),
+        _ => backend.show_cursor(),
     }
 }
 
-static ASKED: [&str; 7] = [
+static ASKED: [&str; 12] = [
     "\u{1b}[?1000h\u{1b}[?1002h\u{1b}[?1003h\u{1b}[?1006h",
     "\u{1b}[?1006l\u{1b}[?1003l\u{1b}[?1002l\u{1b}[?1000l",
     "\u{1b}[?2004h",
@@ -297,6 +332,11 @@ static ASKED: [&str; 7] = [
     "\u{1b}[?1004h",
     "\u{1b}[?1004l",
     "\u{1b}[6n",
+    "\u{1b}[65535;65535H\u{1b}[6n\u{1b}[1;1H",
+    "\u{1b}[0 q",
+    "\u{1b}[6 q",
+    "\u{1b}]2;a]bコ\u{1b}\\",
+    "",
 ];
 
 #[test]
@@ -313,10 +353,10 @@ fn commands(rt: HostRuntime) -> Result<(), Fail> {
 
 const LEFT_BELOW: &str = "\u{1b}[?25l\u{1b}[0m\u{1b}[r\u{1b}[?25h\u{1b}[65535;1H\r\n";
 
-// Whether a terminal is left as it should be.
-fn is_left(backend: Kept) -> bool {
+// Whether what a terminal is sent ends so once it is left.
+fn is_left(backend: Kept, end: &str) -> bool {
     match backend.leave() {
-        Ok(writer) => writer.as_slice().ends_with(LEFT_BELOW.as_bytes()),
+        Ok(writer) => writer.as_slice().ends_with(end.as_bytes()),
         Err(_) => false,
     }
 }
@@ -325,8 +365,55 @@ fn is_left(backend: Kept) -> bool {
 fn a_terminal_is_left(rt: HostRuntime) -> Result<(), Fail> {
     let mut backend = over_kept(rt.alloc(), 4, 3)?;
     assert!(rt; backend.hide_cursor().is_ok());
-    assert!(rt; is_left(backend));
+    assert!(rt; is_left(backend, LEFT_BELOW));
     Ok(())
+}
+
+// A backend over the alternate screen of a terminal of four columns and three rows.
+fn over_alternate(alloc: Global) -> Result<Kept, Fail> {
+    let size = Size {
+        width: 4,
+        height: 3,
+    };
+    match AnsiBackend::new_on_alternate_screen(alloc, Vec::new(alloc), size) {
+        Ok(backend) => Ok(backend),
+        Err(_) => Err(Fail::from(AllocError)),
+    }
+}
+
+const ALTERNATE: &str = "\u{1b}\\\u{1b}[0m\u{1b}[?1049h";
+
+const MAIN: &str = "\u{1b}[1;1H\r\n\u{1b}[r\u{1b}[?25h\u{1b}[?1049l\u{1b}[0m";
+
+#[test]
+fn the_main_screen_comes_back(rt: HostRuntime) -> Result<(), Fail> {
+    let mut backend = over_alternate(rt.alloc())?;
+    assert!(rt; is_joined(sent(&backend), ALTERNATE, BLANK_4_3));
+    assert!(rt; backend.restart().is_ok() && sent(&backend).ends_with(BLANK_4_3));
+    let place = Position { x: 0, y: 0 };
+    assert!(rt; backend.set_cursor_position(place).is_ok() && backend.append_lines(1).is_ok());
+    assert!(rt; is_left(backend, MAIN));
+    Ok(())
+}
+
+// Begins on the alternate screen of a terminal and drops the backend; whether that worked.
+fn begins_and_drops(alloc: Global, writer: &mut Vec<u8>) -> bool {
+    let size = Size {
+        width: 4,
+        height: 3,
+    };
+    AnsiBackend::new_on_alternate_screen(alloc, writer, size).is_ok()
+}
+
+#[test]
+fn a_drop_brings_the_main_screen_back(rt: HostRuntime) {
+    let mut writer = Vec::new(rt.alloc());
+    assert!(rt; begins_and_drops(rt.alloc(), &mut writer));
+    assert!(rt;
+        writer
+            .as_slice()
+            .ends_with(b"\x1b[r\x1b[?25h\x1b[?1049l\x1b[0m")
+    );
 }
 
 #[test]

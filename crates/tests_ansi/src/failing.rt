@@ -10,13 +10,13 @@ use ratatui_core::terminal::Terminal;
 use rtui_backend::Backend;
 use rtui_cell::Cell;
 use rtui_geometry::{Position, Size};
-use std::alloc::Global;
+use std::alloc::{AllocError, Global};
 use std::io::{self, ErrorKind, Write};
 use std::iter;
 use std::test::Fail;
 
 // A writer that keeps what it is given. After so many calls it fails once; the backend's beginning
-// is its first.
+// makes two.
 #[derive(Drop)]
 struct Tearing {
     sent: Vec<u8>,
@@ -111,7 +111,7 @@ fn is_mended(backend: &mut AnsiBackend<Tearing>, cell: &Cell) -> bool {
 // Whether a call is refused if just its own call of the writer fails, all later ones as broken, and
 // a restart mends that.
 fn fails_and_is_mended(alloc: Global, number: u64, cell: &Cell) -> bool {
-    let Ok(mut backend) = over_tearing(alloc, number.saturating_add(1)) else {
+    let Ok(mut backend) = over_tearing(alloc, number.saturating_add(2)) else {
         return false;
     };
     (0..number).all(|before| call(&mut backend, before, cell).is_ok())
@@ -131,8 +131,10 @@ fn each_call_of_a_writer_fails(rt: HostRuntime) -> Result<(), Fail> {
 
 #[test]
 fn the_beginning_fails(rt: HostRuntime) {
-    let answer = by_kind(over_tearing(rt.alloc(), 0));
-    assert!(rt; matches!(answer, Err(Why::Write(ErrorKind::BrokenPipe))));
+    for calls in 0..2 {
+        let answer = by_kind(over_tearing(rt.alloc(), calls));
+        assert!(rt; matches!(answer, Err(Why::Write(ErrorKind::BrokenPipe))));
+    }
 }
 
 // A writer that counts the bytes that it was given since its last flush.
@@ -193,8 +195,21 @@ fn leaving_after_failed_writes(rt: HostRuntime) -> Result<(), Fail> {
     let cell = Cell::new(rt.alloc(), "a")?;
     let torn = Err(Why::Write(ErrorKind::BrokenPipe));
     assert!(rt; held_after_leaving(rt.alloc()) == Some(0));
-    assert!(rt; is_left_after(rt.alloc(), 1, &cell) == Some(Ok(())));
-    assert!(rt; is_left_after(rt.alloc(), 2, &cell) == Some(torn));
+    assert!(rt; is_left_after(rt.alloc(), 2, &cell) == Some(Ok(())));
     assert!(rt; is_left_after(rt.alloc(), 3, &cell) == Some(torn));
+    assert!(rt; is_left_after(rt.alloc(), 4, &cell) == Some(torn));
+    Ok(())
+}
+
+// What is sent last if a draw within a synchronized update fails to write.
+#[test]
+fn a_failed_draw_ends_its_update(rt: HostRuntime) -> Result<(), Fail> {
+    let cell = Cell::new(rt.alloc(), "a")?;
+    let Ok(mut backend) = over_tearing(rt.alloc(), 2) else {
+        return Err(Fail::from(AllocError));
+    };
+    backend.set_synchronized(true);
+    assert!(rt; call(&mut backend, 0, &cell) == Err(Why::Write(ErrorKind::BrokenPipe)));
+    assert!(rt; backend.writer().sent.as_slice().ends_with(b"\x1b[?2026l"));
     Ok(())
 }

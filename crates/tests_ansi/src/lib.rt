@@ -5,6 +5,8 @@
 #[cfg(test)]
 mod backends;
 #[cfg(test)]
+mod columns;
+#[cfg(test)]
 mod failing;
 #[cfg(test)]
 mod parameters;

@@ -3,7 +3,7 @@ use crate::backends::{Kept, over_kept, sent};
 use crate::reader::Reader;
 use ansi_model::is_symbol;
 use bitflags::Flags;
-use ratatui_ansi::AnsiError;
+use ratatui_ansi::{AnsiError, SetCursorStyle};
 use rtui_backend::{Backend, ClearType, TestBackend};
 use rtui_cell::{Cell, CellWidth};
 use rtui_geometry::Position;
@@ -97,29 +97,36 @@ struct Play {
     has_underline_colors: bool,
     // What another program left on the terminal.
     left: &'static str,
+    // How much was sent before the backend's own beginning.
+    first: usize,
     alloc: Global,
 }
 
 impl Play {
     fn new(alloc: Global, width: u16, height: u16) -> Result<Play, Fail> {
+        let backend = over_kept(alloc, width, height)?;
+        let first = sent(&backend).rfind("\u{1b}\\").unwrap_or(0);
         Ok(Play {
-            backend: over_kept(alloc, width, height)?,
+            backend,
             screen: TestBackend::new(alloc, width, height)?,
             width,
             height,
             has_underline_colors: false,
             left: LEFT,
+            first,
             alloc,
         })
     }
 
     fn read(&self) -> Result<Reader<'_>, AllocError> {
+        let all = sent(&self.backend);
+        let (first, rest) = all.split_at_checked(self.first).unwrap_or(("", all));
         Reader::of(
             self.alloc,
             self.width,
             self.height,
-            self.left,
-            sent(&self.backend),
+            (self.left, first),
+            rest,
         )
     }
 
@@ -250,9 +257,25 @@ impl Play {
         }
     }
 
+    // Asks or tells something, which leaves the screen as it is.
+    fn asks(&mut self, random: &mut Random) -> bool {
+        let is_on = random.below(2) == 0;
+        let answer = match random.below(7) {
+            0 => self.backend.set_mouse_capture(is_on),
+            1 => self.backend.set_bracketed_paste(is_on),
+            2 => self.backend.set_focus_change(is_on),
+            3 => self.backend.ask_cursor_position(),
+            4 => self.backend.ask_size(),
+            5 => self.backend.set_cursor_style(SetCursorStyle::SteadyBar),
+            _ => self.backend.send_title("a\u{7}\u{1b}コ\u{9c}"),
+        };
+        answer.is_ok()
+    }
+
     // Makes a call of both; whether both answer as they should.
     fn calls(&mut self, random: &mut Random) -> Result<bool, Fail> {
-        match random.below(16) {
+        match random.below(17) {
+            16 => Ok(self.asks(random)),
             0 => Ok(self.moves(random)),
             1 => Ok(self.hides(random)),
             2 => {
@@ -316,6 +339,7 @@ fn is_played(alloc: Global, width: u16, height: u16, seed: u64) -> Result<bool, 
     play.has_underline_colors = seed % 2 == 0;
     play.backend.set_underline_colors(seed % 2 == 0);
     play.backend.set_ambiguous_is_wide(seed % 3 == 0);
+    play.backend.set_synchronized(seed % 4 == 1);
     play.is_played(seed)
 }
 
@@ -356,7 +380,7 @@ fn blanks(alloc: Global, texts: Option<(&str, &str)>) -> Result<bool, Fail> {
         return Ok(false);
     };
     let blank = TestBackend::new(alloc, 7, 4)?;
-    Ok(Reader::of(alloc, 7, 4, left, rest)?.shows(Position::ORIGIN, &blank))
+    Ok(Reader::of(alloc, 7, 4, (left, ""), rest)?.shows(Position::ORIGIN, &blank))
 }
 
 // Whether a backend that begins anew after a play makes the terminal blank, and its screen is
@@ -379,6 +403,16 @@ fn used_terminals_are_made_blank(rt: HostRuntime) -> Result<(), Fail> {
     for seed in 0..PLAYS {
         assert!(rt; is_begun_anew(alloc, seed)?);
     }
+    Ok(())
+}
+
+// What stood on the screen is in the history, and no more.
+#[test]
+fn the_screen_is_saved(rt: HostRuntime) -> Result<(), Fail> {
+    let backend = over_kept(rt.alloc(), 3, 2)?;
+    let left = "a\u{1b}[31mb\r\ncde\n\rf\u{1b}[1;1H";
+    let reader = Reader::of(rt.alloc(), 3, 2, (left, ""), sent(&backend))?;
+    assert!(rt; reader.has_above(&["cde", "f  "]));
     Ok(())
 }
 

@@ -1,58 +1,11 @@
 //! A terminal that reads what a writer was sent: the model, computed.
+use crate::columns::{Area, BLANK, Column, are_letters, are_shown};
 use crate::parameters::with_parameters;
 use ansi_model::{Sgr, is_plain, is_symbol};
 use rtui_backend::{ClearType, TestBackend};
-use rtui_cell::{Cell, CellWidth};
+use rtui_cell::CellWidth;
 use rtui_geometry::Position;
 use std::alloc::{AllocError, Global};
-
-// One of the columns of a symbol, counted from 0, and how many the symbol takes; none at all if
-// nothing is known.
-#[derive(Clone, Copy)]
-struct Column<'a> {
-    symbol: &'a str,
-    sgr: Sgr,
-    index: u16,
-    count: u16,
-}
-
-const BLANK: Column<'static> = Column {
-    symbol: " ",
-    sgr: Sgr::DEFAULT,
-    index: 0,
-    count: 1,
-};
-
-// Columns that are written over.
-#[derive(Clone, Copy)]
-enum Area {
-    Run(Position, u16),
-    Part(ClearType, Position),
-}
-
-impl Area {
-    fn has(self, a: u16, b: u16) -> bool {
-        match self {
-            Area::Run(from, count) => { b == from.y && from.x <= a && a - from.x < count }
-            Area::Part(ClearType::All, _) => true,
-            Area::Part(ClearType::AfterCursor, at) => at.y < b || (b == at.y && at.x <= a),
-            Area::Part(ClearType::BeforeCursor, at) => b < at.y || (b == at.y && a <= at.x),
-            Area::Part(ClearType::CurrentLine, at) => b == at.y,
-            Area::Part(ClearType::UntilNewLine, at) => b == at.y && at.x <= a,
-        }
-    }
-
-    // Whether a symbol, of which this is column `a` of row `b`, has a column here.
-    fn meets(self, a: u16, b: u16, column: Column<'_>) -> bool {
-        let first = a.saturating_sub(column.index);
-        for k in 0..column.count {
-            if self.has(first.saturating_add(k), b) {
-                return true;
-            }
-        }
-        false
-    }
-}
 
 // A terminal that was blank; `sure` until real terminals would differ.
 #[derive(Drop)]
@@ -88,13 +41,13 @@ struct Modes {
 }
 
 impl<'a> Reader<'a> {
-    // A terminal of this size after it has read a text; before, another program left it as this
-    // other text does.
+    // A terminal of this size after it has read a text; before, other programs left it as these two
+    // other texts do.
     pub fn of(
         alloc: Global,
         width: u16,
         height: u16,
-        left: &'a str,
+        left: (&'a str, &'a str),
         sent: &'a str,
     ) -> Result<Reader<'a>, AllocError> {
         let count = usize::from(width) * usize::from(height);
@@ -114,7 +67,8 @@ impl<'a> Reader<'a> {
             sure: true,
             alloc,
         };
-        reader.read(left)?;
+        reader.read(left.0)?;
+        reader.read(left.1)?;
         reader.rows_left = reader.history.len();
         reader.sure = true;
         reader.read(sent)?;
@@ -162,7 +116,7 @@ impl<'a> Reader<'a> {
             return self.read_escape(part);
         };
         for (at, ch) in sequence.char_indices() {
-            if !ch.is_ascii_digit() && ch != ';' && ch != '?' {
+            if !ch.is_ascii_digit() && ch != ';' && ch != '?' && ch != ' ' {
                 self.perform(sequence.get(..at).unwrap_or(""), ch);
                 return sequence.get(at + ch.len_utf8()..).unwrap_or("");
             }
@@ -171,8 +125,13 @@ impl<'a> Reader<'a> {
         ""
     }
 
-    // The end of a string, the letters of G0, or the coding; the text after it.
+    // A string for the operating system, the end of one, the letters of G0, or the coding; the text
+    // after it.
     fn read_escape(&mut self, part: &'a str) -> &'a str {
+        if part.starts_with(']') {
+            self.sure = self.sure && !part.chars().any(|c| c.is_control());
+            return "";
+        }
         let length = if part.starts_with('\\') { 1 } else { 2 };
         match part.get(..length) {
             Some("\\") => {}
@@ -197,6 +156,7 @@ impl<'a> Reader<'a> {
             "69" => self.modes.sides = on,
             "7" => self.modes.unwrapped = !on,
             "2026" => self.modes.held = on,
+            "1000" | "1002" | "1003" | "1004" | "1006" | "2004" => {}
             _ => self.sure = false,
         }
     }
@@ -211,6 +171,10 @@ impl<'a> Reader<'a> {
         if let Some(mode) = parameters.strip_prefix('?') {
             self.sure = self.sure && (last == 'h' || last == 'l');
             self.set_mode(mode, last == 'h');
+            return;
+        }
+        if let Some(style) = parameters.strip_suffix(' ') {
+            self.sure = self.sure && last == 'q' && style.len() == 1 && style <= "6";
             return;
         }
         let mut numbers = parameters.split(';');
@@ -244,6 +208,7 @@ impl<'a> Reader<'a> {
             ('r', 0) => self.set_region(0, self.height),
             ('h', 4) => self.modes.inserts = true,
             ('l', 4) => self.modes.inserts = false,
+            ('n', 6) => {}
             ('M', _) => {
                 let is_row = 0 < self.y && self.top <= self.y && self.y < self.bottom;
                 self.sure = self.sure && self.has_own_sgr() && is_row && self.x == 0 && 0 < n;
@@ -271,7 +236,11 @@ impl<'a> Reader<'a> {
 
     // Plain characters one by one, any other text as one symbol.
     fn print(&mut self, text: &'a str) {
-        self.sure = self.sure && (text.is_empty() || self.modes == Modes::default());
+        let taken = Modes {
+            held: false,
+            ..self.modes
+        };
+        self.sure = self.sure && (text.is_empty() || taken == Modes::default());
         if text.chars().all(|c| is_plain(c)) {
             for (at, ch) in text.char_indices() {
                 self.print_symbol(text.get(at..at + ch.len_utf8()).unwrap_or(""), 1);
@@ -423,6 +392,19 @@ impl<'a> Reader<'a> {
         Ok(())
     }
 
+    /// Whether it is sure of what it shows, and these are all the rows that scrolled off, without
+    /// what its history had before.
+    pub fn has_above(&self, rows: &[&str]) -> bool {
+        self.sure
+            && self.history.len().checked_sub(self.rows_left) == Some(rows.len())
+            && self
+                .history
+                .iter()
+                .skip(self.rows_left)
+                .zip(rows.iter())
+                .all(|(row, text)| are_letters(row.as_slice(), text))
+    }
+
     /// Whether a place is covered by a symbol that begins left of it.
     pub fn is_behind(&self, x: u16, y: u16) -> bool {
         match self.column(x, y) {
@@ -456,23 +438,4 @@ impl<'a> Reader<'a> {
                 .zip(screen.scrollback().iter())
                 .all(|(row, cells)| are_shown(row.as_slice(), cells.as_slice()))
     }
-}
-
-// Whether what stands in a column has the look of a cell.
-fn is_shown(column: Option<Column<'_>>, cell: &Cell) -> bool {
-    match column {
-        Some(column) if column.index == 0 => {
-            cell.symbol() == column.symbol && Sgr::of(cell) == column.sgr
-        }
-        Some(_) => cell.symbol() == " " && Sgr::of(cell) == Sgr::DEFAULT,
-        None => false,
-    }
-}
-
-fn are_shown(columns: &[Option<Column<'_>>], cells: &[Cell]) -> bool {
-    columns.len() == cells.len()
-        && columns
-            .iter()
-            .zip(cells.iter())
-            .all(|(column, cell)| is_shown(*column, cell))
 }

@@ -99,7 +99,7 @@ fn shows(
     let Some(since) = sent(backend).get(before..) else {
         return Ok(false);
     };
-    let reader = Reader::of(alloc, size.width, size.height, LEFT, since)?;
+    let reader = Reader::of(alloc, size.width, size.height, (LEFT, ""), since)?;
     Ok(reader.shows(cursor, screen))
 }
 

@@ -1,14 +1,12 @@
-use Rattle.std.proofs.Common.{refl}
-use Rattle.ratatui_ansi.proofs.BackendLemmas.{begun, blank-shown-by, blank-sent}
+use Rattle.std.proofs.Common.{[], sym, subst, string_bytes}
+use Rattle.std.proofs.lemmas.Result.{IfOk-weaker}
+use Rattle.ansi_model.specs.Beginnings.{SavesScreen}
 use Rattle.ratatui_ansi.proofs.backend.AnsiBackend.new.Goals as goal
 
-pub invariant_of-result : goal.invariant_of-result
-invariant_of-result g c =
-    let begins = c.in_ok-tracker.ensures.ok in
-    let blank = blank-sent begins.blank refl c.new-sender.ensures.sent c.as_str.ensures.value c.in_ok-send.ensures.sent in
-    (begun begins blank c.in_ok-send.ensures.works, λ _. c.in_ok-send.ensures.tied c.new-sender.ensures.tied)
-
-pub returns-clause-blank : goal.returns-clause-blank
-returns-clause-blank g c =
-    let begins = c.in_ok-tracker.ensures.ok in
-    blank-shown-by begins (blank-sent begins.blank refl c.new-sender.ensures.sent c.as_str.ensures.value c.in_ok-send.ensures.sent)
+pub returns-clause-before : goal.returns-clause-before
+returns-clause-before g c =
+    let w = c.args.size.width in
+    let h = c.args.size.height in
+    let does = c.in_ok-save_screen.ensures w c.in_ok-tracker.ensures.size.0 c.in_ok-tracker.ensures.size.1 in
+    let begins = subst (λ xs. SavesScreen w h [] xs) (sym c.as_str.ensures.value) (subst (λ xs. SavesScreen w h xs (string_bytes c.save_screen.new.out)) c.new-first.ensures.bytes does) in
+    IfOk-weaker c.begin.result _ _ (λ b tied. record { first = c.as_str.result.now; begins = begins; tied = tied }) c.begin.ensures.before

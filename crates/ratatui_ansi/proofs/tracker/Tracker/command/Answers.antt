@@ -1,4 +1,5 @@
-use Rattle.std.proofs.Common.{refl}
+use Rattle.std.proofs.Common.{refl, ap}
+use Rattle.ratatui_core.specs.Backend.{Screen}
 use Rattle.std.proofs.lemmas.Result.{on_ok_weaker}
 use Rattle.ratatui_ansi.proofs.TrackLemmas.{collected, call-from, still-kept}
 use Rattle.ratatui_ansi.proofs.tracker.Tracker.command.Goals as goal
@@ -10,4 +11,4 @@ returns-clause-ok c =
     let h = k.size.height in
     let flags = k.continuations.items in
     on_ok_weaker c.push_command.result (λ turns.
-    collected k _ k.cursor flags c.requires refl refl refl (call-from w h _ _ k.cursor k.cursor flags flags _ _ (turns w h) (still-kept w h k.cursor flags))) c.push_command.ensures
+    collected k _ k.cursor flags c.requires refl refl refl (λ p q e. ap (λ (s : Screen). s.visible) e) (call-from w h _ _ k.cursor k.cursor flags flags _ _ (turns w h) (still-kept w h k.cursor flags))) c.push_command.ensures.turns

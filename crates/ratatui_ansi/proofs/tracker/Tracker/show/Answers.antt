@@ -1,7 +1,10 @@
 use Rattle.std.proofs.Common.{refl}
-use Rattle.std.proofs.lemmas.Result.{on_ok_weaker}
-use Rattle.ratatui_ansi.proofs.TrackLemmas.{collected, call-from, visible-kept}
+use Rattle.ratatui_ansi.specs.declared.tracker.Tracker.{Tracker}
+use Rattle.ratatui_ansi.proofs.TrackLemmas.{shown-collected, shown-already, call-from, visible-kept}
 use Rattle.ratatui_ansi.proofs.tracker.Tracker.show.Goals as goal
+
+pub returns-then-visible-self-clause-ok : goal.returns-then-visible-self-clause-ok
+returns-then-visible-self-clause-ok c = shown-already c.args.self.now c.args.visible c.requires c.if-visible-self.true
 
 pub returns-clause-ok : goal.returns-clause-ok
 returns-clause-ok c =
@@ -9,5 +12,6 @@ returns-clause-ok c =
     let w = k.size.width in
     let h = k.size.height in
     let flags = k.continuations.items in
-    on_ok_weaker c.set_visible.result (λ turns.
-    collected k _ k.cursor flags c.requires refl refl refl (call-from w h _ _ k.cursor k.cursor flags flags _ _ (turns w h) (visible-kept w h c.args.visible k.cursor flags))) c.set_visible.ensures
+    let after : Tracker = record k { out = c.set_visible.new.out; is_visible = c.args.visible } in
+    shown-collected k after c.args.visible c.requires refl
+    (call-from w h _ _ k.cursor k.cursor flags flags _ _ (c.in_ok-set_visible.ensures w h) (visible-kept w h c.args.visible k.cursor flags))

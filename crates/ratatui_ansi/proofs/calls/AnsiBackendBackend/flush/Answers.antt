@@ -2,7 +2,7 @@ use Rattle.std.proofs.Common.{ap, ◌∙◌}
 use Rattle.ratatui_ansi.specs.Backend.{reader}
 use Rattle.ansi_model.specs.{Screens.screen_shown, Emulator.rested}
 use Rattle.ratatui_ansi.proofs.BackendLemmas.{in-order-still}
-use Rattle.ratatui_ansi.proofs.backend.AnsiBackendBackend.flush.Goals as goal
+use Rattle.ratatui_ansi.proofs.calls.AnsiBackendBackend.flush.Goals as goal
 
 pub invariant_of-self-2 : goal.invariant_of-self-2
 invariant_of-self-2 g c =
