@@ -3,14 +3,14 @@ use Rattle.std.proofs.Common.{◌≡◌, ℕ, zero, suc, ◌+◌, ◌-◌, ◌<�
 use Rattle.std.proofs.lemmas.{Bool.cases_lt, List.Elements.All-nil, List.Elements.All-append, List.Elements.All-head, List.Elements.All-tail}
 use Rattle.ratatui_core.specs.Layout.{Rect, Position, intersected, corner}
 use Rattle.ratatui_core.specs.{Style.Style, Style.patch, Text.SpanData, Text.LineData, Text.ArePrintable}
-use Rattle.ratatui_core.specs.Buffer.{BufferData, Piece, text_pieces, line_pieces, columns, pieces_at, room_at, IsPlainFrom, HasNarrowGraphemes, PaintsPieces, text_width, IsStyled}
+use Rattle.ratatui_core.specs.Buffer.{BufferData, Piece, text_pieces, line_pieces, columns, room_at, IsPlainFrom, HasNarrowGraphemes, PaintsPieces, text_width}
 use Rattle.ratatui_core.specs.Widgets.{first_row}
 use Rattle.ratatui_core.proofs.BufferLemmas.{pieces-narrow, pieces-plain, styled-plain, over-all, from-over}
 use Rattle.rtui_boxes.specs.{declared.block.Block.Block, Boxes.IsPlainIfBox, Framed.inner_if, Framed.IsBare, Titles.InTurn}
 use Rattle.rtui_boxes.proofs.InnerLemmas.{plain-framed}
 use Rattle.rtui_tabs.specs.declared.tabs.Tabs.{Tabs as TabsData}
-use Rattle.rtui_tabs.specs.Tabs.{TabPart, PlacedPart, placed_part, placed_parts, after_parts, after_part, tab_parts, title_parts, divider_parts, tabs_from, span_part, line_part, padding_part, is_tab_selected}
-use Rattle.rtui_tabs.specs.Tabs.{IsStyledIf, RendersPart, RendersParts, ShowsTabs, RendersTabs, HasNarrowTabs, HasNarrowSpans, HasNarrowPadding}
+use Rattle.rtui_tabs.specs.Tabs.{TabPart, PlacedPart, placed_parts, after_parts, after_part, tab_parts, title_parts, tabs_from, span_part, padding_part}
+use Rattle.rtui_tabs.specs.Tabs.{IsStyledIf, RendersParts, RendersTabs, HasNarrowTabs, HasNarrowSpans, HasNarrowPadding}
 
 -- a blank is printable
 pub blank-printable : ArePrintable (codes " ")

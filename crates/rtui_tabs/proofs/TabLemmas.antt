@@ -1,19 +1,19 @@
 -- Parts of tabs put one after the other in a row.
-use Rattle.std.proofs.Common.{◌⊎◌, ⊎_elim, inl, inr, ◌≡◌, ℕ, ◌+◌, ◌-◌, ◌<◌, ◌≤◌, ◌==◌, Bool, true, false, List, [], ◌∷◌, ◌++◌, length, drop, min, refl, sym, ap, subst, ◌∙◌, arith, codes, Option, Some, None, Result, Ok, Err, OnOk, IsOk, IfOk}
+use Rattle.std.proofs.Common.{⊎_elim, inl, inr, ◌≡◌, ℕ, ◌+◌, ◌-◌, ◌<◌, ◌≤◌, ◌==◌, true, false, List, [], ◌∷◌, ◌++◌, length, drop, min, refl, sym, ap, subst, ◌∙◌, arith, Result, Ok, Err, OnOk, IfOk}
 use Rattle.std.specs.Result.{IsErr}
 use Rattle.std.specs.declared.alloc.AllocError.{AllocError}
 use Rattle.ratatui_core.specs.Layout.{Rect, Position, HasPosition, IsInside, corner}
-use Rattle.ratatui_core.specs.{Style.Style, Style.new_style, Text.SpanData, Text.LineData}
-use Rattle.ratatui_core.specs.Buffer.{BufferData, Piece, pieces_at, line_pieces_at, text_pieces, line_pieces, columns, room_at, position_of, HasRow, AreShort, PaintsPieces, PaintsOrRefuses, IsBeside, IsStyled}
+use Rattle.ratatui_core.specs.{Style.Style, Text.LineData}
+use Rattle.ratatui_core.specs.Buffer.{BufferData, Piece, text_pieces, line_pieces, columns, room_at, PaintsPieces, PaintsOrRefuses, IsBeside}
 use Rattle.ratatui_core.specs.Widgets.{ChangesWithin, first_row}
 use Rattle.ratatui_core.proofs.BufferLemmas.{PaintsByColumns-paints, same-beside, text-keeps, line-keeps, within-same, within-wider}
-use Rattle.ratatui_core.proofs.WidgetLemmas.{within-then, within-styled}
-use Rattle.rtui_boxes.specs.{Boxes.IsBoxArea, Titles.without_first, Titles.first_columns, Titles.InTurn}
+use Rattle.ratatui_core.proofs.WidgetLemmas.{within-then}
+use Rattle.rtui_boxes.specs.{Boxes.IsBoxArea, Titles.without_first}
 use Rattle.rtui_boxes.proofs.PaintLemmas.{part-has_row, part-starts, part-right}
 use Rattle.std.proofs.Math.ListN.{get_or}
 use Rattle.std.proofs.lemmas.{Bool.cases_lt, Bool.Decides.nat_tests, List.drop_more}
 use Rattle.rtui_tabs.specs.declared.tabs.Tabs.{Tabs as TabsData}
-use Rattle.rtui_tabs.specs.Tabs.{tab_parts, tabs_from, TabPart, PlacedPart, placed_part, after_part, placed_parts, after_parts, span_part, line_part, padding_part, IsStyledIf, RendersPart, RendersParts, AreShortParts}
+use Rattle.rtui_tabs.specs.Tabs.{tab_parts, tabs_from, TabPart, PlacedPart, placed_part, after_part, placed_parts, after_parts, IsStyledIf, RendersParts, AreShortParts}
 use Rattle.rtui_tabs.specs.Inner.{IsRowOf, PutsParts}
 
 -- the first row of an area that a buffer has

@@ -1,11 +1,10 @@
 -- Tabs: where each part of their row stands, and what they make of a buffer.
-use Rattle.std.specs.Prelude.{◌≡◌, ℕ, Bool, true, false, ◌+◌, ◌-◌, ◌==◌, zero, suc, min, List, [], ◌∷◌, ◌++◌, length, codes, Option, Some, None, if◌then◌else◌, unwrap_or, All, Result, IsOk, IfOk, OnOk, ⊤}
-use Rattle.std.specs.declared.alloc.AllocError.{AllocError}
+use Rattle.std.specs.Prelude.{◌≡◌, ℕ, Bool, true, false, ◌+◌, ◌==◌, zero, suc, min, List, [], ◌∷◌, ◌++◌, length, codes, encode_utf8_all, Option, Some, None, if◌then◌else◌, unwrap_or, All, ⊤}
 use Rattle.ratatui_core.specs.Layout.{Rect, corner, intersected}
 use Rattle.ratatui_core.specs.Style.{Style, new_style, with_modifier, modifier_of}
 use Rattle.ratatui_core.specs.Text.{SpanData, LineData, plain}
-use Rattle.ratatui_core.specs.Buffer.{BufferData, HasRow, Piece, text_pieces, line_pieces, columns, AreShort, PaintsPieces, IsStyled, HasNarrowGraphemes}
-use Rattle.ratatui_core.specs.Widgets.{ChangesWithin, first_row}
+use Rattle.ratatui_core.specs.Buffer.{BufferData, Piece, text_pieces, line_pieces, columns, AreShort, PaintsPieces, IsStyled, HasNarrowGraphemes}
+use Rattle.ratatui_core.specs.Widgets.{first_row}
 use Rattle.rtui_boxes.specs.{Titles.without_first, Titles.first_columns, Titles.InTurn}
 use Rattle.rtui_boxes.specs.Framed.{RendersInFrame, IsShortFrame, inner_if}
 use Rattle.rtui_tabs.specs.declared.tabs.Tabs.{Tabs as TabsData}
@@ -26,7 +25,7 @@ pub record IsNewTabs (titles : List LineData) (t : TabsData) : Type 0 where
   pub selected : t.selected ≡ selected_of (length titles) None
   pub plain_tabs : t.style ≡ new_style
   pub reversed : t.highlight_style ≡ reversed_style
-  pub divider : t.divider ≡ plain (codes "│")
+  pub divider : t.divider ≡ plain (encode_utf8_all (codes "│"))
   pub blank_left : t.padding_left ≡ None
   pub blank_right : t.padding_right ≡ None
 

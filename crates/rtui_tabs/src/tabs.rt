@@ -109,8 +109,8 @@ impl<'a> Tabs<'a> {
 
     /// The tabs with these lines before and after each title.
     pub fn padding(self, left: Line<'a>, right: Line<'a>) -> Tabs<'a>
-        ensures { let (before, after) = (Some left.entry, Some right.entry) in
-            result ≡ record self.entry { padding_left = before; padding_right = after } }
+        ensures { result ≡ record self.entry
+            { padding_left = Some left.entry; padding_right = Some right.entry } }
     {
         self.padding_left(left).padding_right(right)
     }
@@ -152,12 +152,7 @@ impl<'a> Tabs<'a> {
     }
 
     // Puts a text at the left of a row.
-    fn put_span(
-        &self,
-        span: &Span<'_>,
-        row: Rect,
-        buf: &mut Buffer,
-    ) -> Result<Rect, AllocError>
+    fn put_span(&self, span: &Span<'_>, row: Rect, buf: &mut Buffer) -> Result<Rect, AllocError>
         requires { IsRowOf buf.old.area row }
         ensures { let ps = span_part span.now ∷ [] in
             PutsParts self.now.highlight_style ps row result buf.old buf.new }

@@ -1,4 +1,4 @@
-use Rattle.std.proofs.Common.{◌≡◌, ◌-◌, ◌∙◌, ap, refl, arith}
+use Rattle.std.proofs.Common.{◌≡◌, ◌-◌, ◌∙◌, ap, arith}
 use Rattle.rtui_boxes.specs.Titles.{without_first}
 use Rattle.ratatui_core.specs.Buffer.{columns, line_pieces}
 use Rattle.rtui_tabs.specs.Tabs.{line_part}

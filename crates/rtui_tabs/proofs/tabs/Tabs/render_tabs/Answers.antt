@@ -1,7 +1,6 @@
 use Rattle.std.proofs.Common.{◌≡◌, ◌+◌, false, true, drop, refl, sym, subst, arith}
-use Rattle.ratatui_core.specs.Widgets.{first_row}
 use Rattle.ratatui_core.proofs.{BufferLemmas.within-wider, BufferLemmas.within-same, WidgetLemmas.within-then}
-use Rattle.rtui_tabs.specs.Tabs.{tab_parts, tabs_from, placed_tabs, RendersParts}
+use Rattle.rtui_tabs.specs.Tabs.{tab_parts, placed_tabs, RendersParts}
 use Rattle.rtui_tabs.proofs.TabLemmas.{first-row-of, first-row-in, title-next, tabs-next, tabs-short, tabs-end, parts-inside}
 use Rattle.rtui_tabs.proofs.tabs.Tabs.render_tabs.Goals as goal
 
