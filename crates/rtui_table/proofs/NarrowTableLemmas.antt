@@ -1,6 +1,5 @@
 -- A table of narrow texts keeps cells plain.
 use Rattle.std.proofs.Common.{◌≡◌, ℕ, ◌+◌, ◌<◌, ◌≤◌, ◌==◌, ◌⊎◌, ⊎_elim, inl, inr, Bool, true, false, if◌then◌else◌, List, [], ◌∷◌, ◌++◌, drop, All, Option, Some, None, is_some, sym, subst, arith}
-use Rattle.std.specs.{List.flat_map}
 use Rattle.std.proofs.lemmas.{Bool.cases_lt, List.Elements.All-head, List.Elements.All-tail, List.Elements.All-drop, List.Concat.flat_map-cons}
 use Rattle.ratatui_core.specs.Layout.{Rect, intersected}
 use Rattle.ratatui_core.specs.{Style.Style, Text.TextData}
@@ -10,8 +9,8 @@ use Rattle.rtui_boxes.specs.{Boxes.IsPlainIfBox, Framed.inner_if, Framed.IsBare}
 use Rattle.rtui_boxes.proofs.InnerLemmas.{plain-framed}
 use Rattle.rtui_list.specs.Items.{is_selected_at}
 use Rattle.rtui_table.specs.{declared.table.Table.Table as TableData, declared.cell.Cell.Cell, declared.row.Row.Row, declared.state.TableState.TableState}
-use Rattle.rtui_table.specs.Rows.{PlacedRow, rows_down, rows_area, footer_area, cells_area, below, full_height}
-use Rattle.rtui_table.specs.Tables.{TablePart, RendersIfText, RendersTablePart, RendersTableParts, cell_parts, symbol_parts, symbol_if, row_parts, placed_row_parts, rows_parts, outer_parts, highlight_parts, selected_row_area, selected_column_area}
+use Rattle.rtui_table.specs.Rows.{stacked_rows, rows_area, footer_area, cells_area, below, full_height}
+use Rattle.rtui_table.specs.Tables.{TablePart, RendersIfText, RendersTableParts, cell_parts, symbol_parts, symbol_if, row_parts, placed_row_parts, rows_parts, outer_parts, highlight_parts, selected_row_area, selected_column_area}
 use Rattle.rtui_table.specs.Tables.{placed_rows, body_parts, table_parts, symbol_columns, ShowsTable, RendersTable, HasNarrowRows, HasNarrowCells, HasNarrowCellsIf, IsNarrowSymbol}
 
 styled-stays : (r : Rect) (style : Style) (old new : BufferData) → IsPlainFrom 0 old → IsStyled r style old new → IsPlainFrom 0 new
@@ -71,15 +70,15 @@ symbol-if true o narrow = narrow
 symbol-if false o narrow = tt
 
 module _ (t : TableData) (symbol : IsNarrowSymbol t.highlight_symbol) (selected : Option ℕ) (n : ℕ) (columns : List Rect) where
-  rows-narrow : (k : ℕ) (r : Rect) (rows : List Row) → All HasNarrowCells rows → AreNarrowParts (rows_parts t selected n columns (rows_down k r rows))
+  rows-narrow : (k : ℕ) (r : Rect) (rows : List Row) → All HasNarrowCells rows → AreNarrowParts (rows_parts t selected n columns (stacked_rows k r rows))
   rows-narrow k r [] all = tt
   rows-narrow k r (row ∷ rows) all = by-test (r.height == 0) (rows-narrow (k + 1) (below (full_height row) r) rows (All-tail HasNarrowCells row rows all))
     where
-      by-test : (stop : Bool) → AreNarrowParts (rows_parts t selected n columns (rows_down (k + 1) (below (full_height row) r) rows))
-          → AreNarrowParts (rows_parts t selected n columns (if stop then [] else record { row = row; number = k; area = cells_area row r } ∷ rows_down (k + 1) (below (full_height row) r) rows))
+      by-test : (stop : Bool) → AreNarrowParts (rows_parts t selected n columns (stacked_rows (k + 1) (below (full_height row) r) rows))
+          → AreNarrowParts (rows_parts t selected n columns (if stop then [] else record { row = row; number = k; area = cells_area row r } ∷ stacked_rows (k + 1) (below (full_height row) r) rows))
       by-test true rest = tt
       by-test false rest =
-          subst AreNarrowParts (sym (flat_map-cons (placed_row_parts t selected n columns) (record { row = row; number = k; area = cells_area row r }) (rows_down (k + 1) (below (full_height row) r) rows)))
+          subst AreNarrowParts (sym (flat_map-cons (placed_row_parts t selected n columns) (record { row = row; number = k; area = cells_area row r }) (stacked_rows (k + 1) (below (full_height row) r) rows)))
           (narrow-then (placed_row_parts t selected n columns (record { row = row; number = k; area = cells_area row r })) _
           (row-narrow (symbol_if (is_selected_at selected k) t.highlight_symbol) n columns row (cells_area row r) (symbol-if (is_selected_at selected k) t.highlight_symbol symbol) (All-head HasNarrowCells row rows all)) rest)
 

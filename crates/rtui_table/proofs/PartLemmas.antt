@@ -1,18 +1,18 @@
 -- The parts of a table, rendered one after the other.
-use Rattle.std.proofs.Common.{◌≡◌, ℕ, zero, suc, if◌then◌else◌, option_map, slice_get, ◌+◌, ◌-◌, ◌<◌, ◌≤◌, ◌==◌, ⊎_elim, Bool, true, false, min, List, [], ◌∷◌, ◌++◌, length, drop, All, Option, Some, None, refl, sym, ap, subst, ◌∙◌, arith, append_assoc, Result, Ok, Err, OnOk, OnErr}
+use Rattle.std.proofs.Common.{◌≡◌, ℕ, zero, suc, if◌then◌else◌, option_map, slice_get, ◌+◌, ◌<◌, ◌≤◌, ◌==◌, ⊎_elim, Bool, true, false, min, List, [], ◌∷◌, ◌++◌, length, drop, Option, Some, None, refl, sym, ap, subst, ◌∙◌, arith, Result, Ok, Err, OnOk, OnErr}
 use Rattle.std.proofs.Math.ListN.{get_or}
-use Rattle.std.specs.{List.flat_map, Option.option_or}
+use Rattle.std.specs.{Option.option_or}
 use Rattle.std.specs.declared.alloc.AllocError.{AllocError}
 use Rattle.std.proofs.lemmas.{Bool.cases_lt, Bool.Decides.nat_tests, List.drop_more, List.drop_all, List.Concat.flat_map-cons, List.Elements.All-head, List.Elements.All-tail}
-use Rattle.ratatui_core.specs.Layout.{Rect, Position, HasPosition, IsInside, intersected}
+use Rattle.ratatui_core.specs.Layout.{Rect, IsInside, intersected}
 use Rattle.ratatui_core.specs.{Style.Style, Text.TextData}
 use Rattle.ratatui_core.specs.Buffer.{BufferData, IsStyled}
 use Rattle.ratatui_core.specs.Widgets.{ChangesWithin, RendersText}
 use Rattle.ratatui_core.proofs.{BufferLemmas.within-wider, BufferLemmas.within-same, WidgetLemmas.within-then, WidgetLemmas.within-styled}
 use Rattle.rtui_list.specs.Items.{is_selected_at}
 use Rattle.rtui_table.specs.{declared.table.Table.Table as TableData, declared.cell.Cell.Cell, declared.row.Row.Row}
-use Rattle.rtui_table.specs.Rows.{PlacedRow, rows_down, cells_area, below, full_height, IsTableArea}
-use Rattle.rtui_table.specs.Tables.{TablePart, text_part, style_part, RendersTablePart, RendersTableParts, cell_parts, in_column, row_parts, placed_row_parts, rows_parts, selected_row_area, selected_column_area, area_if, highlight_parts, RendersIfText}
+use Rattle.rtui_table.specs.Rows.{PlacedRow, stacked_rows, cells_area, below, full_height, IsTableArea}
+use Rattle.rtui_table.specs.Tables.{TablePart, text_part, style_part, RendersTablePart, RendersTableParts, cell_parts, in_column, placed_row_parts, rows_parts, selected_row_area, selected_column_area, area_if, highlight_parts, RendersIfText}
 use Rattle.rtui_table.specs.Inner.{IsColumnOf, AreWithin}
 
 -- one part
@@ -94,15 +94,15 @@ module _ (t : TableData) (selected : Option ℕ) (n : ℕ) (columns : List Rect)
   abbrev placed : PlacedRow
   placed = record { row = row; number = k; area = cells_area row r }
 
-  rows-is : rows_down k r (drop k rows) ≡ placed ∷ rows_down (k + 1) (below (full_height row) r) (drop (k + 1) rows)
+  rows-is : stacked_rows k r (drop k rows) ≡ placed ∷ stacked_rows (k + 1) (below (full_height row) r) (drop (k + 1) rows)
   rows-is = let test : (r.height == 0) ≡ false = grind (arith, nat_tests) in rw (drop-at rows k row lt is, test) refl
 
-  pub rows-next : rows_parts t selected n columns (rows_down k r (drop k rows))
-      ≡ placed_row_parts t selected n columns placed ++ rows_parts t selected n columns (rows_down (k + 1) (below (full_height row) r) (drop (k + 1) rows))
-  rows-next = ap (rows_parts t selected n columns) rows-is ∙ flat_map-cons (placed_row_parts t selected n columns) placed (rows_down (k + 1) (below (full_height row) r) (drop (k + 1) rows))
+  pub rows-next : rows_parts t selected n columns (stacked_rows k r (drop k rows))
+      ≡ placed_row_parts t selected n columns placed ++ rows_parts t selected n columns (stacked_rows (k + 1) (below (full_height row) r) (drop (k + 1) rows))
+  rows-next = ap (rows_parts t selected n columns) rows-is ∙ flat_map-cons (placed_row_parts t selected n columns) placed (stacked_rows (k + 1) (below (full_height row) r) (drop (k + 1) rows))
 
-  pub area-next : (was all : Option Rect) → option_or was (selected_row_area selected (rows_down k r (drop k rows))) ≡ all
-      → option_or (option_or was (area_if (is_selected_at selected k) (cells_area row r))) (selected_row_area selected (rows_down (k + 1) (below (full_height row) r) (drop (k + 1) rows))) ≡ all
+  pub area-next : (was all : Option Rect) → option_or was (selected_row_area selected (stacked_rows k r (drop k rows))) ≡ all
+      → option_or (option_or was (area_if (is_selected_at selected k) (cells_area row r))) (selected_row_area selected (stacked_rows (k + 1) (below (full_height row) r) (drop (k + 1) rows))) ≡ all
   area-next was all so_far = or-assoc was _ _ ∙ ap (λ ps. option_or was (selected_row_area selected ps)) (sym rows-is) ∙ so_far
     where
       or-assoc : (a b c : Option Rect) → option_or (option_or a b) c ≡ option_or a (option_or b c)
@@ -110,10 +110,10 @@ module _ (t : TableData) (selected : Option ℕ) (n : ℕ) (columns : List Rect)
       or-assoc (Some x) b c = refl
 
 -- no rows are left
-pub rows-end : (k : ℕ) (r : Rect) (rows : List Row) → length rows ≤ k → rows_down k r (drop k rows) ≡ []
+pub rows-end : (k : ℕ) (r : Rect) (rows : List Row) → length rows ≤ k → stacked_rows k r (drop k rows) ≡ []
 rows-end k r rows end = rw (drop_all k rows end) refl
 
-pub rows-stop : (k : ℕ) (r : Rect) (rows : List Row) → r.height ≡ 0 → rows_down k r rows ≡ []
+pub rows-stop : (k : ℕ) (r : Rect) (rows : List Row) → r.height ≡ 0 → stacked_rows k r rows ≡ []
 rows-stop k r [] none = refl
 rows-stop k r (row ∷ rows) none = let test : (r.height == 0) ≡ true = grind (arith, nat_tests) in rw test refl
 
@@ -151,13 +151,13 @@ area-if : (area : Rect) (t : Bool) (r : Rect) → IsInside r area → IsInsideIf
 area-if area true r inside = inside
 area-if area false r inside = tt
 
-pub row-inside : (area : Rect) (selected : Option ℕ) (k : ℕ) (r : Rect) (rows : List Row) → IsInside r area → IsInsideIf area (selected_row_area selected (rows_down k r rows))
+pub row-inside : (area : Rect) (selected : Option ℕ) (k : ℕ) (r : Rect) (rows : List Row) → IsInside r area → IsInsideIf area (selected_row_area selected (stacked_rows k r rows))
 row-inside area selected k r [] inside = tt
 row-inside area selected k r (row ∷ rows) inside =
     by-test (r.height == 0) (row-inside area selected (k + 1) (below (full_height row) r) rows (λ p h. inside p (below-inside (full_height row) r p h)))
   where
-    by-test : (stop : Bool) → IsInsideIf area (selected_row_area selected (rows_down (k + 1) (below (full_height row) r) rows))
-        → IsInsideIf area (selected_row_area selected (if stop then [] else record { row = row; number = k; area = cells_area row r } ∷ rows_down (k + 1) (below (full_height row) r) rows))
+    by-test : (stop : Bool) → IsInsideIf area (selected_row_area selected (stacked_rows (k + 1) (below (full_height row) r) rows))
+        → IsInsideIf area (selected_row_area selected (if stop then [] else record { row = row; number = k; area = cells_area row r } ∷ stacked_rows (k + 1) (below (full_height row) r) rows))
     by-test true rest = tt
     by-test false rest = or-inside area (area_if (is_selected_at selected k) (cells_area row r)) _ (area-if area (is_selected_at selected k) (cells_area row r) (λ p h. inside p (cells-inside row r p h))) rest
 

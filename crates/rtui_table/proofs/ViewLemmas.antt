@@ -3,8 +3,8 @@ use Rattle.std.proofs.Common.{◌≡◌, ℕ, zero, suc, ◌+◌, ◌-◌, ◌<�
 use Rattle.std.proofs.Math.ListN.{get_or, get_or-map}
 use Rattle.std.proofs.lemmas.{Bool.cases_lt, Bool.Decides.nat_tests, List.take-take, List.get_or_default, List.length-map, List.Sums.sum_by_more, List.Sums.sum_by-take-le}
 use Rattle.rtui_table.specs.declared.row.Row.{Row}
-use Rattle.rtui_table.specs.Tables.{one_of}
-use Rattle.rtui_table.specs.Rows.{full_height, upper_height, height_before, upper_at, full_at, IsInView, IsFirstRow, KeepsRowInView, IsRowOffset}
+use Rattle.rtui_table.specs.Tables.{within_count}
+use Rattle.rtui_table.specs.Rows.{full_height, height_before, upper_at, full_at, IsInView, IsFirstRow, KeepsRowInView, IsRowOffset}
 
 -- the rows before a later row take at least those before an earlier one
 pub before-grow : (rows : List Row) (n m : ℕ) → n ≤ m → height_before rows n ≤ height_before rows m
@@ -104,7 +104,7 @@ kept-in-view rows height selected was begins fits keeps =
     (cases_lt (height_before rows (min was selected) + height) (height_before rows selected + upper_at rows selected))
 
 -- a table begins so that its selected row is in view
-pub offset-in-view : (rows : List Row) (height selected : ℕ) (chosen was : Option ℕ) (before begins : ℕ) → chosen ≡ Some selected → chosen ≡ one_of (length rows) was → upper_at rows selected ≤ height
+pub offset-in-view : (rows : List Row) (height selected : ℕ) (chosen was : Option ℕ) (before begins : ℕ) → chosen ≡ Some selected → chosen ≡ within_count (length rows) was → upper_at rows selected ≤ height
     → IsRowOffset rows height chosen before begins → (begins ≤ selected) × IsInView rows height begins selected
 offset-in-view [] height selected chosen was before begins is one fits offset = let no : Some selected ≡ None = sym is ∙ one in absurd (cc)
 offset-in-view (row ∷ rows) height selected chosen was before begins is one fits offset = kept-in-view (row ∷ rows) height selected before begins fits (rw is at offset)

@@ -48,10 +48,10 @@ pub record PlacedRow : Type 0 where
   pub area : Rect
 
 -- rows one below the other, the first of them of this number, as far as the area goes
-abbrev pub rows_down : ℕ → Rect → List Row → List PlacedRow
-rows_down k r [] = []
-rows_down k r (row ∷ rows) =
-    if r.height == 0 then [] else record { row = row; number = k; area = cells_area row r } ∷ rows_down (k + 1) (below (full_height row) r) rows
+abbrev pub stacked_rows : ℕ → Rect → List Row → List PlacedRow
+stacked_rows k r [] = []
+stacked_rows k r (row ∷ rows) =
+    if r.height == 0 then [] else record { row = row; number = k; area = cells_area row r } ∷ stacked_rows (k + 1) (below (full_height row) r) rows
 
 -- how many rows of the screen the rows before one take
 abbrev pub height_before : List Row → ℕ → ℕ

@@ -1,5 +1,5 @@
 -- Of which parts a table is made, and what it makes of a buffer and of its state.
-use Rattle.std.specs.Prelude.{◌≡◌, ℕ, Bool, true, false, ◌+◌, ◌-◌, ◌/◌, ◌<◌, ◌==◌, zero, suc, min, max, List, [], ◌∷◌, ◌++◌, length, drop, replicate, Option, Some, None, is_some, option_map, if◌then◌else◌, slice_get, All, ⊤}
+use Rattle.std.specs.Prelude.{◌≡◌, ℕ, Bool, true, false, ◌/◌, ◌<◌, ◌==◌, zero, suc, min, max, List, [], ◌∷◌, ◌++◌, length, drop, replicate, Option, Some, None, is_some, option_map, if◌then◌else◌, slice_get, All, ⊤}
 use Rattle.std.specs.{List.flat_map, Option.option_or}
 use Rattle.ratatui_core.specs.Layout.{Rect, intersected, LayoutData, default_layout, inner, IsSplit}
 use Rattle.ratatui_core.specs.declared.layout.Constraint.{Constraint}
@@ -14,7 +14,7 @@ use Rattle.rtui_boxes.specs.{Titles.InTurn, Framed.IsFramed, Framed.IsBare, Fram
 use Rattle.rtui_list.specs.Items.{has_mark_columns, without_columns, is_selected_at}
 use Rattle.rtui_list.specs.declared.list.HighlightSpacing.TheVariants.{WhenSelected}
 use Rattle.rtui_table.specs.{declared.table.Table.Table as TableData, declared.cell.Cell.Cell, declared.row.Row.Row, declared.state.TableState.TableState}
-use Rattle.rtui_table.specs.Rows.{PlacedRow, rows_down, rows_area, footer_area, cells_area, IsRowOffset}
+use Rattle.rtui_table.specs.Rows.{PlacedRow, stacked_rows, rows_area, footer_area, cells_area, IsRowOffset}
 
 -- a table of these rows in columns of these widths, a column apart, without header, footer, box, styles and highlight symbol
 pub record IsNewTable (rows : List Row) (widths : List Constraint) (t : TableData) : Type 0 where
@@ -155,7 +155,7 @@ highlight_parts t (Some row) (Some column) =
 
 -- the rows of a table over their area, from the state's first one on, and the highlights over them
 abbrev pub placed_rows : TableData → TableState → Rect → List PlacedRow
-placed_rows t u r = rows_down u.offset r (drop u.offset t.rows.items)
+placed_rows t u r = stacked_rows u.offset r (drop u.offset t.rows.items)
 
 abbrev pub body_parts : TableData → TableState → ℕ → List Rect → Rect → List TablePart
 body_parts t u n columns r =
@@ -169,16 +169,16 @@ table_parts t u columns r =
     ++ (body_parts t u (symbol_columns t (is_some u.selected) r) columns (rows_area t.header t.footer r) ++ outer_parts columns t.footer (footer_area t.header t.footer r))
 
 -- a number, but at most the last one of so many; none of none
-abbrev pub one_of : ℕ → Option ℕ → Option ℕ
-one_of zero number = None
-one_of (suc last) None = None
-one_of (suc last) (Some n) = Some (min n last)
+abbrev pub within_count : ℕ → Option ℕ → Option ℕ
+within_count zero number = None
+within_count (suc last) None = None
+within_count (suc last) (Some n) = Some (min n last)
 
 -- The state after a table was shown with so many rows of the screen for its rows: the selection is at most the last row and the last column,
 -- and the first row is such that the selected one is in view.
 pub record IsNextState (t : TableData) (height : ℕ) (s u : TableState) : Type 0 where
-  pub selected : u.selected ≡ one_of (length t.rows.items) s.selected
-  pub selected_column : u.selected_column ≡ one_of (column_count t) s.selected_column
+  pub selected : u.selected ≡ within_count (length t.rows.items) s.selected
+  pub selected_column : u.selected_column ≡ within_count (column_count t) s.selected_column
   pub offset : IsRowOffset t.rows.items height u.selected s.offset u.offset
 
 -- a table over an area: its columns, and its parts, each rendered after the ones before

@@ -5,7 +5,7 @@ ghost use Rattle.ratatui_core.specs.Layout.{inner, IsSplit};
 ghost use Rattle.ratatui_core.specs.Widgets.{ChangesWithin};
 ghost use Rattle.rtui_boxes.specs.Boxes.{IsBoxArea};
 ghost use Rattle.rtui_table.specs.Rows.{height_if, IsTableArea};
-ghost use Rattle.rtui_table.specs.Tables.{IsNewTable, column_count, same_widths, layout_of, symbol_columns, AreColumns, IsNextState, ShowsTable, cells_if, one_of};
+ghost use Rattle.rtui_table.specs.Tables.{IsNewTable, column_count, same_widths, layout_of, symbol_columns, AreColumns, IsNextState, ShowsTable, cells_if, within_count};
 
 use crate::row::{Row, above, below};
 use crate::state::TableState;
@@ -237,11 +237,11 @@ impl<'a> Table<'a> {
         ensures { IsNextState self.now height state result }
     {
         let rows = self.rows.as_slice();
-        let selected = one_of(rows.len(), state.selected);
+        let selected = within_count(rows.len(), state.selected);
         TableState {
             offset: offset_for(rows, selected, state.offset, usize::from(height)),
             selected,
-            selected_column: one_of(self.column_count(), state.selected_column),
+            selected_column: within_count(self.column_count(), state.selected_column),
         }
     }
 
@@ -294,8 +294,8 @@ fn height_if(row: &Option<Row<'_>>) -> usize
 }
 
 // A number, but at most the last one of so many; none of none.
-fn one_of(count: usize, number: Option<usize>) -> Option<usize>
-    ensures { result ≡ one_of count number }
+fn within_count(count: usize, number: Option<usize>) -> Option<usize>
+    ensures { result ≡ within_count count number }
 {
     if count == 0 {
         return None;

@@ -9,7 +9,7 @@ use Rattle.ratatui_core.proofs.BufferLemmas.{pieces-narrow, pieces-plain, styled
 use Rattle.rtui_boxes.specs.{declared.block.Block.Block, Boxes.IsPlainIfBox, Framed.inner_if, Framed.IsBare, Titles.InTurn}
 use Rattle.rtui_boxes.proofs.InnerLemmas.{plain-framed}
 use Rattle.rtui_tabs.specs.declared.tabs.Tabs.{Tabs as TabsData}
-use Rattle.rtui_tabs.specs.Tabs.{TabPart, PlacedPart, placed_parts, after_parts, after_part, tab_parts, title_parts, tabs_from, span_part, padding_part}
+use Rattle.rtui_tabs.specs.Tabs.{TabPart, PlacedPart, placed_parts, after_parts, after_part, tab_parts, title_parts, tabs_from, part_of_span, part_of_padding}
 use Rattle.rtui_tabs.specs.Tabs.{IsStyledIf, RendersParts, RendersTabs, HasNarrowTabs, HasNarrowSpans, HasNarrowPadding}
 
 -- a blank is printable
@@ -71,14 +71,14 @@ parts-split style (p ∷ ps) qs old new is =
     record { between = rest.between; first = record { between = is.between; first = is.first; second = rest.first }; second = rest.second }
 
 module _ (t : TabsData) (blank : HasNarrowGraphemes (codes " ")) (narrow : HasNarrowTabs t) where
-  padding-narrow : (o : Option LineData) → HasNarrowPadding o → IsNarrowPart (padding_part o)
+  padding-narrow : (o : Option LineData) → HasNarrowPadding o → IsNarrowPart (part_of_padding o)
   padding-narrow None is = λ room le. text-narrow room _ (codes " ") le blank
   padding-narrow (Some line) is = λ room le. line-narrow room line.style line.spans le is
 
   title-narrow : (k : ℕ) (line : LineData) → HasNarrowSpans line → AreNarrowParts (title_parts t k line)
   title-narrow k line is = (padding-narrow t.padding_left narrow.left, ((λ room le. line-narrow room line.style line.spans le is), (padding-narrow t.padding_right narrow.right, tt)))
 
-  divider-narrow : (first : Bool) (ps : List TabPart) → AreNarrowParts ps → AreNarrowParts ((if first then [] else span_part t.divider ∷ []) ++ ps)
+  divider-narrow : (first : Bool) (ps : List TabPart) → AreNarrowParts ps → AreNarrowParts ((if first then [] else part_of_span t.divider ∷ []) ++ ps)
   divider-narrow true ps is = is
   divider-narrow false ps is = ((λ room le. text-narrow room t.divider.style t.divider.content le narrow.divider), is)
 

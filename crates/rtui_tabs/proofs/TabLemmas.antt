@@ -13,11 +13,11 @@ use Rattle.rtui_boxes.proofs.PaintLemmas.{part-has_row, part-starts, part-right}
 use Rattle.std.proofs.Math.ListN.{get_or}
 use Rattle.std.proofs.lemmas.{Bool.cases_lt, Bool.Decides.nat_tests, List.drop_more}
 use Rattle.rtui_tabs.specs.declared.tabs.Tabs.{Tabs as TabsData}
-use Rattle.rtui_tabs.specs.Tabs.{tab_parts, tabs_from, TabPart, PlacedPart, placed_part, after_part, placed_parts, after_parts, IsStyledIf, RendersParts, AreShortParts}
-use Rattle.rtui_tabs.specs.Inner.{IsRowOf, PutsParts}
+use Rattle.rtui_tabs.specs.Tabs.{tab_parts, tabs_from, TabPart, PlacedPart, placed_part, after_part, placed_parts, after_parts, IsStyledIf, RendersParts, AreShortTabParts}
+use Rattle.rtui_tabs.specs.Inner.{IsRowInBuffer, PutsParts}
 
 -- the first row of an area that a buffer has
-pub first-row-of : (own r : Rect) → IsBoxArea r → IsInside r own → IsRowOf own (first_row r)
+pub first-row-of : (own r : Rect) → IsBoxArea r → IsInside r own → IsRowInBuffer own (first_row r)
 first-row-of own r box inside =
     let rows = box.rows in let down = box.down in
     record {
@@ -33,11 +33,11 @@ pub first-row-in : (r : Rect) → IsBoxArea r → IsInside (first_row r) r
 first-row-in r box p h = let rows = box.rows in let down = box.down in let l = h.left in let e = h.right in let t = h.top in let b = h.bottom in record { left = l; right = e; top = t; bottom = omega arith }
 
 -- the buffer has all columns of a row of its own
-pub room-is : (own row : Rect) → IsRowOf own row → room_at own row.x row.width ≡ row.width
+pub room-is : (own row : Rect) → IsRowInBuffer own row → room_at own row.x row.width ≡ row.width
 room-is own row is = let l = is.left in let r = is.right in let e = is.edge in omega arith
 
 -- what is left of a row of a buffer is one
-pub row-after : (own row : Rect) (n : ℕ) → n ≤ row.width → IsRowOf own row → IsRowOf own (without_first n row)
+pub row-after : (own row : Rect) (n : ℕ) → n ≤ row.width → IsRowInBuffer own row → IsRowInBuffer own (without_first n row)
 row-after own row n le is =
     let l = is.left in let r = is.right in let e = is.edge in
     record { there = is.there; left = omega arith; right = omega arith; edge = omega arith; down = is.down; high = is.high }
@@ -46,10 +46,10 @@ pub after-inside : (row : Rect) (n : ℕ) → IsInside (without_first n row) row
 after-inside row n p h = let l = h.left in let e = h.right in let t = h.top in let b = h.bottom in record { left = omega arith; right = omega arith; top = t; bottom = b }
 
 -- each part keeps to the columns that it is given
-pub span-fits : (own row : Rect) (style : Style) (text : List ℕ) → IsRowOf own row → columns (text_pieces row.width style text) ≤ row.width
+pub span-fits : (own row : Rect) (style : Style) (text : List ℕ) → IsRowInBuffer own row → columns (text_pieces row.width style text) ≤ row.width
 span-fits own row style text is = rw (room-is own row is) at (text-keeps own row.x row.width style text)
 
-pub line-fits : (own row : Rect) (line : LineData) → IsRowOf own row → columns (line_pieces row.width line.style line.spans) ≤ row.width
+pub line-fits : (own row : Rect) (line : LineData) → IsRowInBuffer own row → columns (line_pieces row.width line.style line.spans) ≤ row.width
 line-fits own row line is = rw (room-is own row is) at (line-keeps own row.x row.width line)
 
 -- where pieces stand that are painted in a row
@@ -65,13 +65,13 @@ beside-row row n edge down high le q off = λ same.
     (cases_lt q.x row.x)
 
 -- parts are refused memory
-pub refused : (highlight : Style) (ps : List TabPart) (row : Rect) (old mid : BufferData) (r : Result Rect AllocError) → IsErr r → ChangesWithin row old mid → (AreShortParts (placed_parts row ps) → ⊥)
+pub refused : (highlight : Style) (ps : List TabPart) (row : Rect) (old mid : BufferData) (r : Result Rect AllocError) → IsErr r → ChangesWithin row old mid → (AreShortTabParts (placed_parts row ps) → ⊥)
     → PutsParts highlight ps row r old mid
 refused highlight ps row old mid (Ok x) err within long = let no : false ≡ true = err in absurd (cc)
 refused highlight ps row old mid (Err e) err within long = record { within = within; ok = tt; rest = tt; left = tt; short = λ short. absurd (long short) }
 
 -- one part at the left of a row
-module _ (highlight : Style) (p : TabPart) (row : Rect) (old mid : BufferData) (is : IsRowOf old.area row) (fits : columns (p.pieces row.width) ≤ row.width) where
+module _ (highlight : Style) (p : TabPart) (row : Rect) (old mid : BufferData) (is : IsRowInBuffer old.area row) (fits : columns (p.pieces row.width) ≤ row.width) where
   abbrev ps : List Piece
   ps = p.pieces row.width
 
@@ -112,7 +112,7 @@ module _ (highlight : Style) (p : TabPart) (row : Rect) (old mid : BufferData) (
   puts-plain rest off paints at = puts-lit rest mid paints (rw off refl) (within-same (record row { width = columns ps }) mid) at
 
 -- no part
-pub puts-none : (highlight : Style) (row : Rect) (s : BufferData) → IsRowOf s.area row → PutsParts highlight [] row (Ok row) s s
+pub puts-none : (highlight : Style) (row : Rect) (s : BufferData) → IsRowInBuffer s.area row → PutsParts highlight [] row (Ok row) s s
 puts-none highlight row s is = record { within = within-same row s; ok = refl; rest = refl; left = is; short = λ _. refl }
 
 -- parts after parts
@@ -124,7 +124,7 @@ parts-then highlight (p ∷ ps) qs old mid new first second = record {
   second = parts-then highlight ps qs first.between mid new first.second second;
 }
 
-pub short-parts : (ps qs : List PlacedPart) → AreShortParts (ps ++ qs) → AreShortParts ps × AreShortParts qs
+pub short-parts : (ps qs : List PlacedPart) → AreShortTabParts (ps ++ qs) → AreShortTabParts ps × AreShortTabParts qs
 short-parts [] qs all = (tt, all)
 short-parts (p ∷ ps) qs all = let rest = short-parts ps qs all.1 in ((all.0, rest.0), rest.1)
 
@@ -190,8 +190,8 @@ module _ (t : TabsData) (r : Rect) (k : ℕ) (line : LineData) (lines rest : Lis
       completes new (subst (λ ps. RendersParts t.highlight_style ps now new) (sym (tabs-is is some))
       (parts-then t.highlight_style (placed_parts r (tab_parts t k line)) (tabs_from t next (k + 1) rest) now mid new made others))
 
-  pub tabs-short : lines ≡ line ∷ rest → 0 < r.width → AreShortParts (tabs_from t r k lines) → AreShortParts (placed_parts r (tab_parts t k line)) × AreShortParts (tabs_from t next (k + 1) rest)
-  tabs-short is some short = short-parts (placed_parts r (tab_parts t k line)) (tabs_from t next (k + 1) rest) (subst AreShortParts (tabs-is is some) short)
+  pub tabs-short : lines ≡ line ∷ rest → 0 < r.width → AreShortTabParts (tabs_from t r k lines) → AreShortTabParts (placed_parts r (tab_parts t k line)) × AreShortTabParts (tabs_from t next (k + 1) rest)
+  tabs-short is some short = short-parts (placed_parts r (tab_parts t k line)) (tabs_from t next (k + 1) rest) (subst AreShortTabParts (tabs-is is some) short)
 
 -- nothing is left without columns
 pub tabs-end : (t : TabsData) (r : Rect) (k : ℕ) (lines : List LineData) → r.width ≡ 0 → tabs_from t r k lines ≡ []

@@ -2,10 +2,10 @@
 use Rattle.std.specs.Prelude.{◌≡◌, ◌+◌, ◌≤◌, List, Result, IsOk, IfOk, OnOk}
 use Rattle.std.specs.declared.alloc.AllocError.{AllocError}
 use Rattle.ratatui_core.specs.{Layout.Rect, Style.Style, Buffer.BufferData, Buffer.HasRow, Widgets.ChangesWithin}
-use Rattle.rtui_tabs.specs.Tabs.{TabPart, placed_parts, after_parts, RendersParts, AreShortParts}
+use Rattle.rtui_tabs.specs.Tabs.{TabPart, placed_parts, after_parts, RendersParts, AreShortTabParts}
 
 -- a row, or a part of one, of a buffer's area
-pub record IsRowOf (own row : Rect) : Type 0 where
+pub record IsRowInBuffer (own row : Rect) : Type 0 where
   pub there : HasRow own row.y
   pub left : own.x ≤ row.x
   pub right : row.x + row.width ≤ own.x + own.width
@@ -18,5 +18,5 @@ pub record PutsParts (highlight : Style) (ps : List TabPart) (row : Rect) (resul
   pub within : ChangesWithin row old new
   pub ok : OnOk result (RendersParts highlight (placed_parts row ps) old new)
   pub rest : IfOk result (λ rest. rest ≡ after_parts row ps)
-  pub left : IfOk result (IsRowOf new.area)
-  pub short : AreShortParts (placed_parts row ps) → IsOk result
+  pub left : IfOk result (IsRowInBuffer new.area)
+  pub short : AreShortTabParts (placed_parts row ps) → IsOk result

@@ -34,16 +34,16 @@ pub record TabPart : Type 0 where
   pub pieces : ℕ → List Piece
   pub is_lit : Bool
 
-abbrev pub span_part : SpanData → TabPart
-span_part span = record { pieces = λ room. text_pieces room span.style span.content; is_lit = false }
+abbrev pub part_of_span : SpanData → TabPart
+part_of_span span = record { pieces = λ room. text_pieces room span.style span.content; is_lit = false }
 
-abbrev pub line_part : LineData → Bool → TabPart
-line_part line is_lit = record { pieces = λ room. line_pieces room line.style line.spans; is_lit = is_lit }
+abbrev pub part_of_line : LineData → Bool → TabPart
+part_of_line line is_lit = record { pieces = λ room. line_pieces room line.style line.spans; is_lit = is_lit }
 
 -- a padding: a blank, if it is no other
-abbrev pub padding_part : Option LineData → TabPart
-padding_part None = span_part (plain (codes " "))
-padding_part (Some line) = line_part line false
+abbrev pub part_of_padding : Option LineData → TabPart
+part_of_padding None = part_of_span (plain (codes " "))
+part_of_padding (Some line) = part_of_line line false
 
 -- the number is the selected one
 abbrev pub is_tab_selected : Option ℕ → ℕ → Bool
@@ -52,11 +52,11 @@ is_tab_selected (Some selected) k = selected == k
 
 -- the divider before each title but the first
 abbrev pub divider_parts : TabsData → ℕ → List TabPart
-divider_parts t k = if k == 0 then [] else span_part t.divider ∷ []
+divider_parts t k = if k == 0 then [] else part_of_span t.divider ∷ []
 
 -- a title between its paddings
 abbrev pub title_parts : TabsData → ℕ → LineData → List TabPart
-title_parts t k line = padding_part t.padding_left ∷ (line_part line (is_tab_selected t.selected k) ∷ (padding_part t.padding_right ∷ []))
+title_parts t k line = part_of_padding t.padding_left ∷ (part_of_line line (is_tab_selected t.selected k) ∷ (part_of_padding t.padding_right ∷ []))
 
 -- a title after the divider, if it isn't the first one
 abbrev pub tab_parts : TabsData → ℕ → LineData → List TabPart
@@ -118,14 +118,14 @@ abbrev pub RendersTabs : TabsData → Rect → BufferData → BufferData → Typ
 RendersTabs t = RendersInFrame t.style t.block (ShowsTabs t)
 
 -- no grapheme of the parts takes memory
-abbrev pub AreShortParts : List PlacedPart → Type 0
-AreShortParts [] = ⊤
-AreShortParts (p ∷ ps) = AreShort p.pieces × AreShortParts ps
+abbrev pub AreShortTabParts : List PlacedPart → Type 0
+AreShortTabParts [] = ⊤
+AreShortTabParts (p ∷ ps) = AreShort p.pieces × AreShortTabParts ps
 
 -- tabs take no memory if their box takes none and all that shows of them is short
 pub record IsShortTabs (t : TabsData) (area : Rect) (s : BufferData) : Type 0 where
   pub frame : IsShortFrame t.block s
-  pub shown : AreShortParts (placed_tabs t (inner_if t.block (intersected area s.area)))
+  pub shown : AreShortTabParts (placed_tabs t (inner_if t.block (intersected area s.area)))
 
 -- each span of a line is of graphemes of one column
 abbrev pub HasNarrowSpans : LineData → Type 0

@@ -5,8 +5,8 @@ ghost use Rattle.ratatui_core.specs.Layout.{IsInside};
 ghost use Rattle.ratatui_core.specs.Widgets.{ChangesWithin};
 ghost use Rattle.rtui_boxes.specs.Boxes.{IsBoxArea};
 ghost use Rattle.rtui_boxes.specs.Titles.{without_first};
-ghost use Rattle.rtui_tabs.specs.Tabs.{IsNewTabs, selected_of, is_tab_selected, IsStyledIf, span_part, line_part, padding_part, divider_parts, tab_parts, placed_tabs, ShowsTabs, AreShortParts};
-ghost use Rattle.rtui_tabs.specs.Inner.{IsRowOf, PutsParts};
+ghost use Rattle.rtui_tabs.specs.Tabs.{IsNewTabs, selected_of, is_tab_selected, IsStyledIf, part_of_span, part_of_line, part_of_padding, divider_parts, tab_parts, placed_tabs, ShowsTabs, AreShortTabParts};
+ghost use Rattle.rtui_tabs.specs.Inner.{IsRowInBuffer, PutsParts};
 
 use ratatui_core::buffer::Buffer;
 use ratatui_core::layout::Rect;
@@ -153,8 +153,8 @@ impl<'a> Tabs<'a> {
 
     // Puts a text at the left of a row.
     fn put_span(&self, span: &Span<'_>, row: Rect, buf: &mut Buffer) -> Result<Rect, AllocError>
-        requires { IsRowOf buf.old.area row }
-        ensures { let ps = span_part span.now ∷ [] in
+        requires { IsRowInBuffer buf.old.area row }
+        ensures { let ps = part_of_span span.now ∷ [] in
             PutsParts self.now.highlight_style ps row result buf.old buf.new }
     {
         let (x, _) = buf.set_span(row.x, row.y, span, row.width)?;
@@ -169,8 +169,8 @@ impl<'a> Tabs<'a> {
         row: Rect,
         buf: &mut Buffer,
     ) -> Result<Rect, AllocError>
-        requires { IsRowOf buf.old.area row }
-        ensures { let ps = line_part line.now is_selected ∷ [] in
+        requires { IsRowInBuffer buf.old.area row }
+        ensures { let ps = part_of_line line.now is_selected ∷ [] in
             PutsParts self.now.highlight_style ps row result buf.old buf.new }
     {
         let (x, _) = buf.set_line(row.x, row.y, line, row.width)?;
@@ -184,7 +184,7 @@ impl<'a> Tabs<'a> {
 
     // Puts a divider at the left of a row, if it isn't before the first title.
     fn put_divider(&self, k: usize, row: Rect, buf: &mut Buffer) -> Result<Rect, AllocError>
-        requires { IsRowOf buf.old.area row }
+        requires { IsRowInBuffer buf.old.area row }
         ensures { let ps = divider_parts self.now k in
             PutsParts self.now.highlight_style ps row result buf.old buf.new }
     {
@@ -201,8 +201,8 @@ impl<'a> Tabs<'a> {
         row: Rect,
         buf: &mut Buffer,
     ) -> Result<Rect, AllocError>
-        requires { IsRowOf buf.old.area row }
-        ensures { let ps = padding_part padding.now ∷ [] in
+        requires { IsRowInBuffer buf.old.area row }
+        ensures { let ps = part_of_padding padding.now ∷ [] in
             PutsParts self.now.highlight_style ps row result buf.old buf.new }
     {
         match padding {
@@ -219,7 +219,7 @@ impl<'a> Tabs<'a> {
         row: Rect,
         buf: &mut Buffer,
     ) -> Result<Rect, AllocError>
-        requires { IsRowOf buf.old.area row }
+        requires { IsRowInBuffer buf.old.area row }
         ensures { let ps = tab_parts self.now k title.now in
             PutsParts self.now.highlight_style ps row result buf.old buf.new }
     {
@@ -235,7 +235,7 @@ impl<'a> Tabs<'a> {
         requires inside { IsInside inner buf.old.area }
         ensures within { ChangesWithin inner buf.old buf.new }
         ensures ok { OnOk result (ShowsTabs self.now inner buf.old buf.new) }
-        ensures short { AreShortParts (placed_tabs self.now inner) → IsOk result }
+        ensures short { AreShortTabParts (placed_tabs self.now inner) → IsOk result }
     {
         let titles = self.titles.as_slice();
         let mut row = Rect { height: 1, ..inner };

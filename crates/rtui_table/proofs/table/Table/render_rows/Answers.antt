@@ -1,7 +1,7 @@
 use Rattle.std.proofs.Common.{◌≡◌, ◌+◌, ◌∙◌, drop, ap, arith}
 use Rattle.ratatui_core.proofs.{BufferLemmas.within-wider, WidgetLemmas.within-then}
-use Rattle.rtui_table.specs.Rows.{rows_down, cells_area, full_height, below}
-use Rattle.rtui_table.specs.Tables.{rows_parts, placed_rows, placed_row_parts, selected_row_area}
+use Rattle.rtui_table.specs.Rows.{stacked_rows, cells_area, full_height, below}
+use Rattle.rtui_table.specs.Tables.{rows_parts, placed_rows, placed_row_parts}
 use Rattle.rtui_table.proofs.PartLemmas.{rows-next, area-next, rows-end, rows-stop, area-end, finishing-next, finishing-end, below-area, below-inside, cells-inside}
 use Rattle.rtui_table.proofs.table.Table.render_rows.Goals as goal
 
@@ -44,11 +44,11 @@ loop-k-preserved c =
           (within-wider c.cells_area-part.result c.args.area c.loop-k.buf c.render_row.new.buf (λ p h. c.loop-k.invariant.inside p (cells-inside c.index-rows-k.result c.loop-k.left p (rw c.cells_area-part.ensures at h)))
           c.in_ok-render_row.ensures.within);
       rest = rw at
-          (finishing-next (rows_parts c.args.self.now c.args.state.selected c.args.symbol_columns c.args.columns.now (rows_down c.loop-k.k c.loop-k.left (drop c.loop-k.k c.args.self.now.rows.items)))
+          (finishing-next (rows_parts c.args.self.now c.args.state.selected c.args.symbol_columns c.args.columns.now (stacked_rows c.loop-k.k c.loop-k.left (drop c.loop-k.k c.args.self.now.rows.items)))
           (placed_row_parts c.args.self.now c.args.state.selected c.args.symbol_columns c.args.columns.now
           (record { row = c.index-rows-k.result; number = c.loop-k.k; area = cells_area c.index-rows-k.result c.loop-k.left }))
           (rows_parts c.args.self.now c.args.state.selected c.args.symbol_columns c.args.columns.now
-          (rows_down (c.loop-k.k + 1) (below (full_height c.index-rows-k.result) c.loop-k.left) (drop (c.loop-k.k + 1) c.args.self.now.rows.items)))
+          (stacked_rows (c.loop-k.k + 1) (below (full_height c.index-rows-k.result) c.loop-k.left) (drop (c.loop-k.k + 1) c.args.self.now.rows.items)))
           (rows_parts c.args.self.now c.args.state.selected c.args.symbol_columns c.args.columns.now (placed_rows c.args.self.now c.args.state c.args.area)) c.args.buf.now c.loop-k.buf c.render_row.new.buf
           (rows-next c.args.self.now c.args.state.selected c.args.symbol_columns c.args.columns.now c.loop-k.left c.loop-k.k c.args.self.now.rows.items c.index-rows-k.result (omega arith) (omega arith) is) c.loop-k.invariant.rest
           (rw (c.is_at-is_selected.ensures, c.cells_area-part.ensures) at c.in_ok-render_row.ensures.ok));

@@ -1,7 +1,7 @@
 use Rattle.std.proofs.Common.{◌≡◌, drop}
 use Rattle.std.specs.Option.{option_or}
 use Rattle.ratatui_core.specs.{Layout.IsInside, Widgets.ChangesWithin}
-use Rattle.rtui_table.specs.Rows.{IsTableArea, rows_down}
+use Rattle.rtui_table.specs.Rows.{IsTableArea, stacked_rows}
 use Rattle.rtui_table.specs.Tables.{rows_parts, placed_rows, selected_row_area}
 use Rattle.rtui_table.specs.Inner.{AreWithin}
 use Rattle.rtui_table.proofs.PartLemmas.{Finishing}
@@ -14,7 +14,7 @@ invariant-loop-k l = record {
   width : l.left.width ≡ l.fn.area.width;
   inside : IsInside l.left l.fn.area;
   within : ChangesWithin l.fn.area l.fn.buf l.buf;
-  rest : Finishing (rows_parts l.fn.self l.fn.state.selected l.fn.symbol_columns l.fn.columns (rows_down l.k l.left (drop l.k l.fn.self.rows.items)))
+  rest : Finishing (rows_parts l.fn.self l.fn.state.selected l.fn.symbol_columns l.fn.columns (stacked_rows l.k l.left (drop l.k l.fn.self.rows.items)))
       (rows_parts l.fn.self l.fn.state.selected l.fn.symbol_columns l.fn.columns (placed_rows l.fn.self l.fn.state l.fn.area)) l.fn.buf l.buf;
-  found : option_or l.selected (selected_row_area l.fn.state.selected (rows_down l.k l.left (drop l.k l.fn.self.rows.items))) ≡ selected_row_area l.fn.state.selected (placed_rows l.fn.self l.fn.state l.fn.area);
+  found : option_or l.selected (selected_row_area l.fn.state.selected (stacked_rows l.k l.left (drop l.k l.fn.self.rows.items))) ≡ selected_row_area l.fn.state.selected (placed_rows l.fn.self l.fn.state l.fn.area);
 }

@@ -1,6 +1,6 @@
 use Rattle.std.proofs.Common.{◌≡◌, ◌++◌, is_some, refl}
 use Rattle.rtui_table.specs.Rows.{rows_area, footer_area}
-use Rattle.rtui_table.specs.Tables.{outer_parts, body_parts, symbol_columns, IsNextState, AreColumns, RendersTableParts}
+use Rattle.rtui_table.specs.Tables.{outer_parts, body_parts, symbol_columns}
 use Rattle.rtui_table.proofs.PartLemmas.{parts-then}
 use Rattle.rtui_table.proofs.table.Table.render_table.Goals as goal
 
