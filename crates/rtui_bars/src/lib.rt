@@ -1,0 +1,12 @@
+//! Bars: values side by side, each as high as its share of the greatest one.
+//!
+//! It stands on `ratatui_core` and `rtui_boxes`. `specs/Levels` says how high a value is in
+//! eighths of a cell and by which symbol a cell shows it, and `specs/Sparklines` what each cell of a
+//! sparkline shows.
+#![tactic(auto)]
+
+pub mod laws;
+mod level;
+mod sparkline;
+
+pub use sparkline::{RenderDirection, Sparkline, SparklineBar};
