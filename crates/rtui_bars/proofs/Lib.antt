@@ -1,1 +1,2 @@
 pub mod BarLemmas
+pub mod ChartLemmas
