@@ -17,7 +17,8 @@ use Rattle.ratatui_core.specs.declared.symbols.bar.Set.{Set as BarSet}
 
 -- a bar of this value, with a label if there is one
 abbrev pub new_bar : ℕ → Option LineData → Bar
-new_bar value label = record { value = value; label = label; style = new_style; value_style = new_style; text_value = None }
+new_bar value label =
+    record { value = value; label = label; style = new_style; value_style = new_style; text_value = None }
 
 -- a chart of these groups: bars of one column, a column apart, without box, labels' and values' styles
 pub record IsNewBarChart (groups : List BarGroup) (c : BarChart) : Type 0 where
@@ -47,9 +48,11 @@ greatest_of_chart c = max (unwrap_or c.max (greatest_group c.groups.items)) 1
 
 -- a cell of a bar that is so many eighths of a cell high
 abbrev pub chart_cell : BarSet → Rect → Style → ℕ → Position → Cell → Cell
-chart_cell set r style eighths p c = styled style (with_symbol (level_text set (left_at eighths (row_from_below r p.y))) c)
+chart_cell set r style eighths p c =
+    styled style (with_symbol (level_text set (left_at eighths (row_from_below r p.y))) c)
 
--- the rows of labels under the bars: those of bars if there are two rows, and those of groups if there is one row more
+-- the rows of labels under the bars: one for those of bars if there are two rows, and one for those of
+-- groups if there is one row more
 abbrev pub has_bar_label : Bar → Bool
 has_bar_label bar = is_some bar.label
 
@@ -86,7 +89,8 @@ middle_columns n r = record r { x = r.x + (r.width - min n r.width) / 2; width =
 -- the label of a bar in the middle of its columns, if it has one
 abbrev pub RendersBarLabel : Style → Option LineData → Rect → BufferData → BufferData → Type 0
 RendersBarLabel style None r old new = new ≡ old
-RendersBarLabel style (Some line) r old new = RendersTitle style (title_at line (middle_columns (title_width line) r)) old new
+RendersBarLabel style (Some line) r old new =
+    RendersTitle style (title_at line (middle_columns (title_width line) r)) old new
 
 -- the text of a bar's value
 abbrev pub text_of_bar : ℕ → Option (Bor (List ℕ)) → List ℕ
@@ -95,11 +99,14 @@ text_of_bar value (Some text) = text.now
 
 -- a text is written if it is narrower than its bar, or as wide and the bar fills a cell; that of 0 isn't
 abbrev pub is_written : ℕ → ℕ → ℕ → ℕ → Bool
-is_written value columns width eighths = not (value == 0) && (nat_lt columns width || ((columns == width) && nat_le 8 eighths))
+is_written value columns width eighths =
+    not (value == 0) && (nat_lt columns width || ((columns == width) && nat_le 8 eighths))
 
 -- a text in the middle of a row
 abbrev pub WritesText : Style → List ℕ → Rect → BufferData → BufferData → Type 0
-WritesText style text r old = PaintsPieces (corner (middle_columns (text_columns text) r)) (pieces_at old.area (middle_columns (text_columns text) r).x (middle_columns (text_columns text) r).width style text) old
+WritesText style text r old =
+    let m = middle_columns (text_columns text) r in
+    PaintsPieces (corner m) (pieces_at old.area m.x m.width style text) old
 
 -- an effect, or none
 abbrev pub DoesIf : Bool → (BufferData → BufferData → Type 0) → BufferData → BufferData → Type 0
@@ -110,14 +117,20 @@ DoesIf false f old new = new ≡ old
 abbrev pub chart_eighths : BarChart → Bar → ℕ → ℕ
 chart_eighths c bar height = eighths_of_value bar.value (greatest_of_chart c) (bar_rows c height)
 
--- a bar in its columns of an area: its cells, its label under them if there is a row for it, and its value in their last row
+-- a bar in its columns of an area: its cells, its label under them if there is a row for it, and its value in
+-- their last row
 pub record RendersBar (c : BarChart) (bar : Bar) (r : Rect) (old new : BufferData) : Type 0 where
   pub filled : BufferData
   pub labelled : BufferData
-  pub cells : ChangesEach (rows_at 0 (bar_rows c r.height) r) (chart_cell c.bar_set (rows_at 0 (bar_rows c r.height) r) (patch c.bar_style bar.style) (chart_eighths c bar r.height)) old filled
-  pub label : DoesIf (has_bar_labels c r.height) (RendersBarLabel c.label_style bar.label (rows_at (r.height - 1 - group_label_rows c r.height) 1 r)) filled labelled
+  pub cells : let bars = rows_at 0 (bar_rows c r.height) r in
+      let f = chart_cell c.bar_set bars (patch c.bar_style bar.style) (chart_eighths c bar r.height) in
+      ChangesEach bars f old filled
+  pub label : let row = rows_at (r.height - 1 - group_label_rows c r.height) 1 r in
+      DoesIf (has_bar_labels c r.height) (RendersBarLabel c.label_style bar.label row) filled labelled
   pub value : let text = text_of_bar bar.value bar.text_value in
-      DoesIf (is_written bar.value (text_columns text) r.width (chart_eighths c bar r.height)) (WritesText (patch c.value_style bar.value_style) text (rows_at (bar_rows c r.height - 1) 1 r)) labelled new
+      let row = rows_at (bar_rows c r.height - 1) 1 r in
+      let written = is_written bar.value (text_columns text) r.width (chart_eighths c bar r.height) in
+      DoesIf written (WritesText (patch c.value_style bar.value_style) text row) labelled new
 
 -- how many columns it is from one bar to the next
 abbrev pub bar_step : BarChart → ℕ
@@ -133,7 +146,9 @@ shown_bars c group r = take (fitting_count c r.width) group.bars.items
 -- bars from the left of an area on, and the columns after them
 abbrev pub RendersBars : BarChart → Rect → List Bar → BufferData → BufferData → Type 0
 RendersBars c r [] old new = new ≡ old
-RendersBars c r (bar ∷ bars) old new = InTurn (RendersBar c bar (first_columns c.bar_width r)) (RendersBars c (without_first (bar_step c) r) bars) old new
+RendersBars c r (bar ∷ bars) old new =
+    let left = without_first (bar_step c) r in
+    InTurn (RendersBar c bar (first_columns c.bar_width r)) (RendersBars c left bars) old new
 
 abbrev pub after_bars : BarChart → Rect → List Bar → Rect
 after_bars c r [] = r
@@ -150,7 +165,9 @@ label_indent (Some Right) width n = width - n
 abbrev pub RendersGroupLabel : Style → Option LineData → ℕ → Rect → BufferData → BufferData → Type 0
 RendersGroupLabel style None width r old new = new ≡ old
 RendersGroupLabel style (Some line) width r old new =
-    RendersTitle style (title_at line (first_columns (title_width line) (without_first (label_indent line.alignment width (title_width line)) r))) old new
+    let n = title_width line in
+    let left = without_first (label_indent line.alignment width n) r in
+    RendersTitle style (title_at line (first_columns n left)) old new
 
 -- how many columns bars take, without the gap after the last one; at most 65535
 abbrev pub bars_columns : BarChart → ℕ → ℕ
@@ -161,18 +178,21 @@ pub record RendersGroup (c : BarChart) (group : BarGroup) (r : Rect) (old new : 
   pub barred : BufferData
   pub bars : RendersBars c r (shown_bars c group r) old barred
   pub label : let n = length (shown_bars c group r) in
-      DoesIf (has_group_labels c r.height && nat_lt 0 n) (RendersGroupLabel c.label_style group.label (bars_columns c n) (rows_at (r.height - 1) 1 r)) barred new
+      let f = RendersGroupLabel c.label_style group.label (bars_columns c n) (rows_at (r.height - 1) 1 r) in
+      DoesIf (has_group_labels c r.height && nat_lt 0 n) f barred new
 
 -- the groups of a chart from the left of an area on
 abbrev pub RendersGroups : BarChart → Rect → List BarGroup → BufferData → BufferData → Type 0
 RendersGroups c r [] old new = new ≡ old
 RendersGroups c r (group ∷ groups) old new =
-    InTurn (RendersGroup c group r) (RendersGroups c (without_first c.group_gap (after_bars c r (shown_bars c group r))) groups) old new
+    let left = without_first c.group_gap (after_bars c r (shown_bars c group r)) in
+    InTurn (RendersGroup c group r) (RendersGroups c left groups) old new
 
 -- a chart over an area; bars of no columns aren't shown
 abbrev pub ShowsChart : BarChart → Rect → BufferData → BufferData → Type 0
 ShowsChart c r = DoesIf (not (c.bar_width == 0)) (RendersGroups c r c.groups.items)
 
--- A bar chart over the part of an area that a buffer has: its style, its box, and inside its groups. Nothing outside the area changes.
+-- A bar chart over the part of an area that a buffer has: its style, its box, and inside its groups. Nothing
+-- outside the area changes.
 abbrev pub RendersBarChart : BarChart → Rect → BufferData → BufferData → Type 0
 RendersBarChart c = RendersInFrame c.style c.block (ShowsChart c)

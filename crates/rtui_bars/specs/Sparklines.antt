@@ -49,10 +49,12 @@ number_of_column RightToLeft r x = r.width - (x - r.x + 1)
 abbrev pub row_from_below : Rect → ℕ → ℕ
 row_from_below r y = r.height - (y - r.y) - 1
 
--- a cell of a bar: the symbol of what shows of its value there, or of an absent one, in the sparkline's style under its own
+-- a cell of a bar: the symbol of what shows of its value there, or of an absent one, in the sparkline's style
+-- under its own
 abbrev pub mark_of_value : Sparkline → ℕ → ℕ → Option ℕ → ℕ → List ℕ
 mark_of_value s greatest rows None row = s.absent_value_symbol.now
-mark_of_value s greatest rows (Some value) row = level_text s.bar_set (left_at (eighths_of_value value greatest rows) row)
+mark_of_value s greatest rows (Some value) row =
+    level_text s.bar_set (left_at (eighths_of_value value greatest rows) row)
 
 abbrev pub style_of_bar : Sparkline → Option ℕ → Option Style → Style
 style_of_bar s None style = s.absent_value_style
@@ -61,16 +63,19 @@ style_of_bar s (Some value) style = unwrap_or style new_style
 abbrev pub cell_of_bar : Sparkline → ℕ → Rect → ℕ → Option SparklineBar → Cell → Cell
 cell_of_bar s greatest r row None c = c
 cell_of_bar s greatest r row (Some bar) c =
-    styled (patch s.style (style_of_bar s bar.value bar.style)) (with_symbol (mark_of_value s greatest r.height bar.value row) c)
+    styled (patch s.style (style_of_bar s bar.value bar.style))
+    (with_symbol (mark_of_value s greatest r.height bar.value row) c)
 
 abbrev pub bar_cell_of : Sparkline → ℕ → Rect → Position → Cell → Cell
-bar_cell_of s greatest r p = cell_of_bar s greatest r (row_from_below r p.y) (slice_get s.bars.items (number_of_column s.direction r p.x))
+bar_cell_of s greatest r p =
+    cell_of_bar s greatest r (row_from_below r p.y) (slice_get s.bars.items (number_of_column s.direction r p.x))
 
 -- the bars of a sparkline over an area, each in a column
 abbrev pub ShowsBars : Sparkline → Rect → BufferData → BufferData → Type 0
 ShowsBars s r = ChangesEach (bars_part s r) (bar_cell_of s (greatest_of s) r)
 
--- A sparkline over the part of an area that a buffer has: its style, its box, and inside the bars. Nothing outside the area changes.
+-- A sparkline over the part of an area that a buffer has: its style, its box, and inside the bars. Nothing
+-- outside the area changes.
 abbrev pub RendersSparkline : Sparkline → Rect → BufferData → BufferData → Type 0
 RendersSparkline s = RendersInFrame s.style s.block (ShowsBars s)
 

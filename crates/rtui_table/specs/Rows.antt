@@ -51,7 +51,9 @@ pub record PlacedRow : Type 0 where
 abbrev pub stacked_rows : ℕ → Rect → List Row → List PlacedRow
 stacked_rows k r [] = []
 stacked_rows k r (row ∷ rows) =
-    if r.height == 0 then [] else record { row = row; number = k; area = cells_area row r } ∷ stacked_rows (k + 1) (below (full_height row) r) rows
+    if r.height == 0 then []
+    else record { row = row; number = k; area = cells_area row r }
+    ∷ stacked_rows (k + 1) (below (full_height row) r) rows
 
 -- how many rows of the screen the rows before one take
 abbrev pub height_before : List Row → ℕ → ℕ
@@ -68,22 +70,26 @@ full_at rows k = slice_index_or (map full_height rows) k 0
 abbrev pub IsInView : List Row → ℕ → ℕ → ℕ → Type 0
 IsInView rows height first k = height_before rows k + upper_at rows k ≤ height_before rows first + height
 
--- the first row, from one on, with which all up to another one fit, of which so much is to be shown; that one itself if it alone doesn't
+-- the first row, from one on, with which all up to another one fit, of which so much is to be shown; that one
+-- itself if it alone doesn't
 pub record IsFirstRow (rows : List Row) (height least last shown first : ℕ) : Type 0 where
   pub from : least ≤ first
   pub to : first ≤ last
   pub fits : first < last → height_before rows last + shown ≤ height_before rows first + height
-  pub nearest : (k : ℕ) → least ≤ k → k < first → height_before rows k + height < height_before rows last + shown
+  pub nearest : (k : ℕ) → least ≤ k → k < first
+      → height_before rows k + height < height_before rows last + shown
 
--- where a table begins that began with a row, if another one is selected: there, or with the selected one if that is above; if its cells
--- aren't in view as little below as it takes to show it with its margins
+-- where a table begins that began with a row, if another one is selected: there, or with the selected one if
+-- that is above; if its cells aren't in view as little below as it takes to show it with its margins
 pub record KeepsRowInView (rows : List Row) (height selected was begins : ℕ) : Type 0 where
   pub stays : IsInView rows height (min was selected) selected → begins ≡ min was selected
-  pub moves : height_before rows (min was selected) + height < height_before rows selected + upper_at rows selected
+  pub moves :
+      height_before rows (min was selected) + height < height_before rows selected + upper_at rows selected
       → IsFirstRow rows height (min was selected) selected (full_at rows selected) begins
 
 -- where a table begins: without rows at the start, and without a selection where it did
 abbrev pub IsRowOffset : List Row → ℕ → Option ℕ → ℕ → ℕ → Type 0
 IsRowOffset [] height selected was begins = begins ≡ 0
 IsRowOffset (row ∷ rows) height None was begins = begins ≡ min was (length rows)
-IsRowOffset (row ∷ rows) height (Some selected) was begins = KeepsRowInView (row ∷ rows) height selected was begins
+IsRowOffset (row ∷ rows) height (Some selected) was begins =
+    KeepsRowInView (row ∷ rows) height selected was begins

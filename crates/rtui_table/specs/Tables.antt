@@ -16,7 +16,8 @@ use Rattle.rtui_list.specs.declared.list.HighlightSpacing.TheVariants.{WhenSelec
 use Rattle.rtui_table.specs.{declared.table.Table.Table as TableData, declared.cell.Cell.Cell, declared.row.Row.Row, declared.state.TableState.TableState}
 use Rattle.rtui_table.specs.Rows.{PlacedRow, stacked_rows, rows_area, footer_area, cells_area, IsRowOffset}
 
--- a table of these rows in columns of these widths, a column apart, without header, footer, box, styles and highlight symbol
+-- a table of these rows in columns of these widths, a column apart, without header, footer, box, styles and
+-- highlight symbol
 pub record IsNewTable (rows : List Row) (widths : List Constraint) (t : TableData) : Type 0 where
   pub rows_are : t.rows.items ≡ rows
   pub widths_are : t.widths.items ≡ widths
@@ -76,11 +77,17 @@ same_widths count width = replicate count (Length (width / max count 1))
 
 -- the widths of the columns in so many columns of the screen: if none are given they are all the same
 abbrev pub table_widths : TableData → ℕ → List Constraint
-table_widths t width = if length t.widths.items == 0 then same_widths (column_count t) width else t.widths.items
+table_widths t width =
+    if length t.widths.items == 0 then same_widths (column_count t) width else t.widths.items
 
 -- columns of these widths, as far apart and placed as the table says
 abbrev pub layout_of : TableData → List Constraint → LayoutData
-layout_of t widths = record default_layout { direction = Horizontal; constraints = widths; flex = t.flex; spacing = Space t.column_spacing }
+layout_of t widths = record default_layout {
+  direction = Horizontal;
+  constraints = widths;
+  flex = t.flex;
+  spacing = Space t.column_spacing;
+}
 
 abbrev pub columns_layout : TableData → ℕ → LayoutData
 columns_layout t width = layout_of t (table_widths t width)
@@ -91,11 +98,13 @@ symbol_width None = 0
 symbol_width (Some text) = widest text.lines
 
 abbrev pub symbol_columns : TableData → Bool → Rect → ℕ
-symbol_columns t is_selected r = if has_mark_columns t.highlight_spacing is_selected then min (symbol_width t.highlight_symbol) r.width else 0
+symbol_columns t is_selected r =
+    if has_mark_columns t.highlight_spacing is_selected then min (symbol_width t.highlight_symbol) r.width else 0
 
 -- the columns of a table over an area: they share what so many columns of the symbol leave
 abbrev pub AreColumns : TableData → ℕ → Rect → List Rect → Type 0
-AreColumns t n r columns = let l = columns_layout t r.width in IsSplit l (inner (without_columns n r) l.margin) columns
+AreColumns t n r columns =
+    let l = columns_layout t r.width in IsSplit l (inner (without_columns n r) l.margin) columns
 
 -- where a column meets an area
 abbrev pub in_column : Rect → Rect → Rect
@@ -105,7 +114,8 @@ in_column column r = record r { x = column.x; width = column.width }
 abbrev pub cell_parts : Rect → List Rect → List Cell → List TablePart
 cell_parts r [] cells = []
 cell_parts r (column ∷ columns) [] = []
-cell_parts r (column ∷ columns) (cell ∷ cells) = text_part (in_column column r) cell.style cell.content ∷ cell_parts r columns cells
+cell_parts r (column ∷ columns) (cell ∷ cells) =
+    text_part (in_column column r) cell.style cell.content ∷ cell_parts r columns cells
 
 -- the highlight symbol in the first columns of a row
 abbrev pub symbol_parts : Option TextData → ℕ → Style → Rect → List TablePart
@@ -114,7 +124,8 @@ symbol_parts (Some text) n style r = if n == 0 then [] else text_part (record r 
 
 -- a row: its style, the symbol if it has it, and its cells
 abbrev pub row_parts : Option TextData → ℕ → List Rect → Row → Rect → List TablePart
-row_parts symbol n columns row r = style_part r row.style ∷ (symbol_parts symbol n row.style r ++ cell_parts r columns row.cells.items)
+row_parts symbol n columns row r =
+    style_part r row.style ∷ (symbol_parts symbol n row.style r ++ cell_parts r columns row.cells.items)
 
 -- some rows, of which one may be selected
 abbrev pub symbol_if : Bool → Option TextData → Option TextData
@@ -122,7 +133,9 @@ symbol_if true symbol = symbol
 symbol_if false symbol = None
 
 abbrev pub placed_row_parts : TableData → Option ℕ → ℕ → List Rect → PlacedRow → List TablePart
-placed_row_parts t selected n columns p = row_parts (symbol_if (is_selected_at selected p.number) t.highlight_symbol) n columns p.row p.area
+placed_row_parts t selected n columns p =
+    let symbol = symbol_if (is_selected_at selected p.number) t.highlight_symbol in
+    row_parts symbol n columns p.row p.area
 
 abbrev pub rows_parts : TableData → Option ℕ → ℕ → List Rect → List PlacedRow → List TablePart
 rows_parts t selected n columns ps = flat_map (placed_row_parts t selected n columns) ps
@@ -139,7 +152,8 @@ area_if false r = None
 
 abbrev pub selected_row_area : Option ℕ → List PlacedRow → Option Rect
 selected_row_area selected [] = None
-selected_row_area selected (p ∷ ps) = option_or (area_if (is_selected_at selected p.number) p.area) (selected_row_area selected ps)
+selected_row_area selected (p ∷ ps) =
+    option_or (area_if (is_selected_at selected p.number) p.area) (selected_row_area selected ps)
 
 abbrev pub selected_column_area : Option ℕ → List Rect → Rect → Option Rect
 selected_column_area None columns r = None
@@ -151,7 +165,9 @@ highlight_parts t None None = []
 highlight_parts t (Some row) None = style_part row t.row_highlight_style ∷ []
 highlight_parts t None (Some column) = style_part column t.column_highlight_style ∷ []
 highlight_parts t (Some row) (Some column) =
-    style_part row t.row_highlight_style ∷ (style_part column t.column_highlight_style ∷ (style_part (intersected row column) t.cell_highlight_style ∷ []))
+    style_part row t.row_highlight_style
+    ∷ (style_part column t.column_highlight_style
+    ∷ (style_part (intersected row column) t.cell_highlight_style ∷ []))
 
 -- the rows of a table over their area, from the state's first one on, and the highlights over them
 abbrev pub placed_rows : TableData → TableState → Rect → List PlacedRow
@@ -160,13 +176,15 @@ placed_rows t u r = stacked_rows u.offset r (drop u.offset t.rows.items)
 abbrev pub body_parts : TableData → TableState → ℕ → List Rect → Rect → List TablePart
 body_parts t u n columns r =
     rows_parts t u.selected n columns (placed_rows t u r)
-    ++ highlight_parts t (selected_row_area u.selected (placed_rows t u r)) (selected_column_area u.selected_column columns r)
+    ++ highlight_parts t (selected_row_area u.selected (placed_rows t u r))
+    (selected_column_area u.selected_column columns r)
 
 -- all parts of a table over an area: the header, the rows, and the footer
 abbrev pub table_parts : TableData → TableState → List Rect → Rect → List TablePart
 table_parts t u columns r =
     outer_parts columns t.header r
-    ++ (body_parts t u (symbol_columns t (is_some u.selected) r) columns (rows_area t.header t.footer r) ++ outer_parts columns t.footer (footer_area t.header t.footer r))
+    ++ (body_parts t u (symbol_columns t (is_some u.selected) r) columns (rows_area t.header t.footer r)
+    ++ outer_parts columns t.footer (footer_area t.header t.footer r))
 
 -- a number, but at most the last one of so many; none of none
 abbrev pub within_count : ℕ → Option ℕ → Option ℕ
@@ -174,8 +192,8 @@ within_count zero number = None
 within_count (suc last) None = None
 within_count (suc last) (Some n) = Some (min n last)
 
--- The state after a table was shown with so many rows of the screen for its rows: the selection is at most the last row and the last column,
--- and the first row is such that the selected one is in view.
+-- The state after a table was shown with so many rows of the screen for its rows: the selection is at most the
+-- last row and the last column, and the first row is such that the selected one is in view.
 pub record IsNextState (t : TableData) (height : ℕ) (s u : TableState) : Type 0 where
   pub selected : u.selected ≡ within_count (length t.rows.items) s.selected
   pub selected_column : u.selected_column ≡ within_count (column_count t) s.selected_column
@@ -193,7 +211,8 @@ pub record TableInFrame (t : TableData) (s u : TableState) (part : Rect) (old ne
   pub framed : BufferData
   pub frame : IsFramed t.style t.block part old framed
   pub none : IsBare (inner_if t.block part) → (new ≡ framed) × (u ≡ s)
-  pub inside : 0 < (inner_if t.block part).width → 0 < (inner_if t.block part).height → ShowsTable t s u (inner_if t.block part) framed new
+  pub inside : 0 < (inner_if t.block part).width → 0 < (inner_if t.block part).height
+      → ShowsTable t s u (inner_if t.block part) framed new
 
 -- A table over the part of an area that a buffer has. Nothing outside the area changes.
 pub record RendersTable (t : TableData) (s u : TableState) (area : Rect) (old new : BufferData) : Type 0 where

@@ -166,7 +166,8 @@ impl TableState {
 
     /// Selects the next column, or the first one.
     pub fn select_next_column(&mut self)
-        ensures { self.new ≡ record self.old { selected_column = Some (next_of self.old.selected_column) } }
+        ensures { let next = next_of self.old.selected_column in
+            self.new ≡ record self.old { selected_column = Some next } }
     {
         let next = match self.selected_column {
             Some(index) => index.saturating_add(1),
@@ -178,7 +179,8 @@ impl TableState {
     /// Selects the column before, or the last one: a rendering makes of too large a number the last
     /// column's.
     pub fn select_previous_column(&mut self)
-        ensures { self.new ≡ record self.old { selected_column = Some (previous_of self.old.selected_column) } }
+        ensures { let previous = previous_of self.old.selected_column in
+            self.new ≡ record self.old { selected_column = Some previous } }
     {
         let previous = match self.selected_column {
             Some(index) => index.saturating_sub(1),

@@ -14,7 +14,8 @@ pub record IsRowInBuffer (own row : Rect) : Type 0 where
   pub high : row.height ≡ 1
 
 -- parts are put at the left of a row, and the row after them is answered, or memory is refused
-pub record PutsParts (highlight : Style) (ps : List TabPart) (row : Rect) (result : Result Rect AllocError) (old new : BufferData) : Type 0 where
+pub record PutsParts (highlight : Style) (ps : List TabPart) (row : Rect) (result : Result Rect AllocError)
+    (old new : BufferData) : Type 0 where
   pub within : ChangesWithin row old new
   pub ok : OnOk result (RendersParts highlight (placed_parts row ps) old new)
   pub rest : IfOk result (λ rest. rest ≡ after_parts row ps)

@@ -18,7 +18,8 @@ abbrev pub selected_of : ℕ → Option ℕ → Option ℕ
 selected_of zero was = None
 selected_of (suc last) was = Some (min (unwrap_or was 0) last)
 
--- tabs with these titles, the first one selected and reversed, a blank on each side of each and a line between each two
+-- tabs with these titles, the first one selected and reversed, a blank on each side of each title and a line
+-- between each two
 pub record IsNewTabs (titles : List LineData) (t : TabsData) : Type 0 where
   pub titles_are : t.titles.items ≡ titles
   pub no_box : t.block ≡ None
@@ -56,7 +57,9 @@ divider_parts t k = if k == 0 then [] else part_of_span t.divider ∷ []
 
 -- a title between its paddings
 abbrev pub title_parts : TabsData → ℕ → LineData → List TabPart
-title_parts t k line = part_of_padding t.padding_left ∷ (part_of_line line (is_tab_selected t.selected k) ∷ (part_of_padding t.padding_right ∷ []))
+title_parts t k line =
+    part_of_padding t.padding_left
+    ∷ (part_of_line line (is_tab_selected t.selected k) ∷ (part_of_padding t.padding_right ∷ []))
 
 -- a title after the divider, if it isn't the first one
 abbrev pub tab_parts : TabsData → ℕ → LineData → List TabPart
@@ -70,7 +73,8 @@ pub record PlacedPart : Type 0 where
 
 -- a part at the left of a row, and the row after it
 abbrev pub placed_part : Rect → TabPart → PlacedPart
-placed_part r p = record { area = first_columns (columns (p.pieces r.width)) r; pieces = p.pieces r.width; is_lit = p.is_lit }
+placed_part r p =
+    let ps = p.pieces r.width in record { area = first_columns (columns ps) r; pieces = ps; is_lit = p.is_lit }
 
 abbrev pub after_part : Rect → TabPart → Rect
 after_part r p = without_first (columns (p.pieces r.width)) r
@@ -104,7 +108,8 @@ RendersParts highlight (p ∷ ps) old new = InTurn (RendersPart highlight p) (Re
 abbrev pub tabs_from : TabsData → Rect → ℕ → List LineData → List PlacedPart
 tabs_from t r k [] = []
 tabs_from t r k (line ∷ lines) =
-    if r.width == 0 then [] else placed_parts r (tab_parts t k line) ++ tabs_from t (after_parts r (tab_parts t k line)) (k + 1) lines
+    if r.width == 0 then []
+    else placed_parts r (tab_parts t k line) ++ tabs_from t (after_parts r (tab_parts t k line)) (k + 1) lines
 
 -- all parts of tabs over an area: they stand in its first row
 abbrev pub placed_tabs : TabsData → Rect → List PlacedPart
@@ -113,7 +118,8 @@ placed_tabs t r = tabs_from t (first_row r) 0 t.titles.items
 abbrev pub ShowsTabs : TabsData → Rect → BufferData → BufferData → Type 0
 ShowsTabs t r = RendersParts t.highlight_style (placed_tabs t r)
 
--- Tabs over the part of an area that a buffer has: their style, their box, and in the first row inside the titles. Nothing outside the area changes.
+-- Tabs over the part of an area that a buffer has: their style, their box, and in the first row inside the
+-- titles. Nothing outside the area changes.
 abbrev pub RendersTabs : TabsData → Rect → BufferData → BufferData → Type 0
 RendersTabs t = RendersInFrame t.style t.block (ShowsTabs t)
 
