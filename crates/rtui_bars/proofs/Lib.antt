@@ -1,0 +1,2 @@
+pub mod BarLemmas
+pub mod ChartLemmas

@@ -1,0 +1,4 @@
+pub mod Levels
+pub mod Sparklines
+pub mod BarCharts
+pub mod Inner

@@ -1,0 +1,204 @@
+//! Bars in groups, with labels and values.
+
+ghost use Rattle.std.specs.Prelude.{◌≡◌, ◌≤◌, Some, OnOk};
+ghost use Rattle.ratatui_core.specs.Widgets.{ChangesWithin};
+ghost use Rattle.rtui_boxes.specs.Boxes.{IsBoxArea};
+ghost use Rattle.rtui_bars.specs.BarCharts.{IsNewBarChart, greatest_bar, greatest_of_chart, ShowsChart};
+
+use crate::group::{Bar, BarGroup};
+use ratatui_core::buffer::Buffer;
+use ratatui_core::layout::Rect;
+use ratatui_core::style::Style;
+use ratatui_core::symbols::bar;
+use ratatui_core::widgets::Widget;
+use rtui_boxes::{Block, render_frame};
+use std::alloc::AllocError;
+
+/// Bars side by side in groups, as high as their share of the greatest value, with their values on
+/// them and labels under them.
+///
+/// ```
+/// let mut bars = Vec::new(alloc);
+/// bars.push(Bar::with_label(Line::raw(alloc, "a")?, 3))?;
+/// bars.push(Bar::with_label(Line::raw(alloc, "b")?, 8))?;
+/// let mut groups = Vec::new(alloc);
+/// groups.push(BarGroup::new(bars))?;
+/// BarChart::new(groups).bar_width(3).render(area, buf)?;
+/// ```
+#[derive(Debug, Drop)]
+pub struct BarChart<'a> {
+    block: Option<Block<'a>>,
+    pub(crate) bar_width: u16,
+    pub(crate) bar_gap: u16,
+    pub(crate) group_gap: u16,
+    pub(crate) bar_set: bar::Set<'a>,
+    pub(crate) bar_style: Style,
+    pub(crate) value_style: Style,
+    pub(crate) label_style: Style,
+    style: Style,
+    pub(crate) groups: Vec<BarGroup<'a>>,
+    max: Option<u64>,
+}
+
+impl<'a> BarChart<'a> {
+    /// A chart of these groups: bars of one column, a column apart, without box and styles. Takes
+    /// no memory.
+    pub fn new(groups: Vec<BarGroup<'a>>) -> BarChart<'a>
+        ensures { IsNewBarChart groups.entry.items result }
+    {
+        BarChart {
+            block: None,
+            bar_width: 1,
+            bar_gap: 1,
+            group_gap: 0,
+            bar_set: bar::NINE_LEVELS,
+            bar_style: Style::new(),
+            value_style: Style::new(),
+            label_style: Style::new(),
+            style: Style::new(),
+            groups,
+            max: None,
+        }
+    }
+
+    /// The chart of other groups.
+    pub fn data(mut self, groups: Vec<BarGroup<'a>>) -> BarChart<'a>
+        ensures { result ≡ record self.entry { groups = groups.entry } }
+    {
+        self.groups = groups;
+        self
+    }
+
+    /// The chart in a box.
+    pub fn block(mut self, block: Block<'a>) -> BarChart<'a>
+        ensures { result ≡ record self.entry { block = Some block.entry } }
+    {
+        self.block = Some(block);
+        self
+    }
+
+    /// The chart with this value as high as the bars' rows; without one it is the greatest value.
+    pub fn max(mut self, max: u64) -> BarChart<'a>
+        ensures { result ≡ record self.entry { max = Some max } }
+    {
+        self.max = Some(max);
+        self
+    }
+
+    /// The chart with its bars in a style.
+    pub fn bar_style(mut self, style: Style) -> BarChart<'a>
+        ensures { result ≡ record self.entry { bar_style = style } }
+    {
+        self.bar_style = style;
+        self
+    }
+
+    /// The chart with bars of so many columns.
+    pub fn bar_width(mut self, width: u16) -> BarChart<'a>
+        ensures { result ≡ record self.entry { bar_width = width } }
+    {
+        self.bar_width = width;
+        self
+    }
+
+    /// The chart with so many columns between each two bars.
+    pub fn bar_gap(mut self, gap: u16) -> BarChart<'a>
+        ensures { result ≡ record self.entry { bar_gap = gap } }
+    {
+        self.bar_gap = gap;
+        self
+    }
+
+    /// The chart with so many columns more between each two groups.
+    pub fn group_gap(mut self, gap: u16) -> BarChart<'a>
+        ensures { result ≡ record self.entry { group_gap = gap } }
+    {
+        self.group_gap = gap;
+        self
+    }
+
+    /// The chart with these symbols for cells that are filled in part.
+    pub fn bar_set(mut self, bar_set: bar::Set<'a>) -> BarChart<'a>
+        ensures { result ≡ record self.entry { bar_set = bar_set.entry } }
+    {
+        self.bar_set = bar_set;
+        self
+    }
+
+    /// The chart with its values in a style.
+    pub fn value_style(mut self, style: Style) -> BarChart<'a>
+        ensures { result ≡ record self.entry { value_style = style } }
+    {
+        self.value_style = style;
+        self
+    }
+
+    /// The chart with its labels in a style.
+    pub fn label_style(mut self, style: Style) -> BarChart<'a>
+        ensures { result ≡ record self.entry { label_style = style } }
+    {
+        self.label_style = style;
+        self
+    }
+
+    /// The chart in a style.
+    pub fn style(mut self, style: Style) -> BarChart<'a>
+        ensures { result ≡ record self.entry { style = style } }
+    {
+        self.style = style;
+        self
+    }
+
+    // The value that is as high as the bars' rows, at least 1.
+    pub(crate) fn greatest(&self) -> u64
+        ensures { result ≡ greatest_of_chart self.now }
+    {
+        if let Some(max) = self.max {
+            return max.max(1);
+        }
+        let mut greatest = 0;
+        for group in self.groups.as_slice() {
+            greatest = greatest_bar(group.bars.as_slice()).max(greatest);
+        }
+        greatest.max(1)
+    }
+}
+
+// The greatest value of some bars.
+fn greatest_bar(bars: &[Bar<'_>]) -> u64
+    ensures { result ≡ greatest_bar bars.now }
+{
+    let mut greatest = 0;
+    for bar in bars {
+        greatest = bar.value.max(greatest);
+    }
+    greatest
+}
+
+/// Over the area, as far as the buffer has it: the style, the box, and inside the groups from the
+/// left, as many bars as fit.
+impl<'b, 'a> Widget for &'b BarChart<'a> {
+    ghost use Rattle.rtui_bars.specs.BarCharts.{RendersBarChart};
+
+    ghost renders = { λ chart. RendersBarChart chart.now };
+
+    fn render(self, area: Rect, buf: &mut Buffer) -> Result<(), AllocError> {
+        let Some(part) = buf.part(area) else {
+            return Ok(());
+        };
+        let Some(inner) = render_frame(self.style, &self.block, part, buf)? else {
+            return Ok(());
+        };
+        self.render_chart(inner, buf)
+    }
+}
+
+impl<'a> Widget for BarChart<'a> {
+    ghost use Rattle.rtui_bars.specs.BarCharts.{RendersBarChart};
+
+    ghost renders = { RendersBarChart };
+
+    fn render(self, area: Rect, buf: &mut Buffer) -> Result<(), AllocError> {
+        (&self).render(area, buf)
+    }
+}

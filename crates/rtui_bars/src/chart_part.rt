@@ -1,0 +1,471 @@
+//! The parts of a bar chart.
+
+ghost use Rattle.std.specs.Prelude.{◌≡◌, ◌≤◌, ◌<◌, ◌+◌, ◌-◌, ◌*◌, ◌&&◌, nat_lt, length, true, OnOk, IfOk};
+ghost use Rattle.std.specs.List.{list_any};
+ghost use Rattle.ratatui_core.specs.Widgets.{ChangesWithin};
+ghost use Rattle.ratatui_core.specs.Layout.{IsInside};
+ghost use Rattle.ratatui_core.specs.Buffer.{ChangesEach, text_columns};
+ghost use Rattle.ratatui_core.specs.Style.{patch};
+ghost use Rattle.rtui_boxes.specs.Boxes.{IsBoxArea};
+ghost use Rattle.rtui_boxes.specs.Titles.{first_columns, without_first, title_width, title_at, RendersTitle};
+ghost use Rattle.rtui_bars.specs.BarCharts.{greatest_of_chart, has_label, has_labelled_bar, has_bar_labels, bar_label_rows, has_group_labels, group_label_rows, bar_rows, rows_at, middle_columns, WritesText, RendersBarLabel, is_written, text_of_bar, DoesIf, chart_cell, RendersBar, RendersBars, after_bars, fitting_count, shown_bars, bars_columns, label_indent, RendersGroupLabel, RendersGroup, RendersGroups, ShowsChart};
+ghost use Rattle.rtui_bars.specs.Inner.{HasRows, BarsFit};
+
+use crate::chart::BarChart;
+use crate::group::{Bar, BarGroup};
+use crate::level::{eighths_of, left_at, level_of};
+use itoa::Buffer as Digits;
+use ratatui_core::buffer::{Buffer, Cell, CellChange, change_area};
+use ratatui_core::layout::{HorizontalAlignment, Position, Rect};
+use ratatui_core::style::Style;
+use ratatui_core::symbols::bar;
+use ratatui_core::text::{Line, text_columns};
+use ratatui_core::widgets::Widget;
+use std::alloc::{AllocError, Global};
+
+// So many rows of an area from one of them on.
+fn rows_at(y: u16, rows: u16, area: Rect) -> Rect
+    requires { area.y + y ≤ 65535 }
+    ensures { result ≡ rows_at y rows area }
+{
+    Rect {
+        y: area.y + y,
+        height: rows,
+        ..area
+    }
+}
+
+// The first columns of an area.
+fn first_columns(columns: u16, area: Rect) -> Rect
+    ensures { result ≡ first_columns columns area }
+{
+    Rect {
+        width: columns.min(area.width),
+        ..area
+    }
+}
+
+// An area without its first columns.
+fn without_first(columns: u16, area: Rect) -> Rect
+    ensures { result ≡ without_first columns area }
+{
+    Rect {
+        x: area.x.saturating_add(columns),
+        width: area.width.saturating_sub(columns),
+        ..area
+    }
+}
+
+// In the middle of an area, so many columns of it.
+fn middle_columns(columns: usize, area: Rect) -> Rect
+    requires { area.x + area.width ≤ 65535 }
+    ensures { result ≡ middle_columns columns area }
+{
+    let width = columns.min(usize::from(area.width)) as u16;
+    Rect {
+        x: area.x + (area.width - width) / 2,
+        width,
+        ..area
+    }
+}
+
+// How many columns a line takes, at most 65535.
+fn columns_of(line: &Line<'_>) -> u16
+    ensures { result ≡ title_width line.now }
+{
+    line.width().min(65535) as u16
+}
+
+// The cells of a bar that is so many eighths of a cell high, from below.
+#[derive(Drop)]
+pub(crate) struct Filling<'b, 'a> {
+    set: &'b bar::Set<'a>,
+    area: Rect,
+    style: Style,
+    eighths: u128,
+}
+
+impl<'b, 'a> CellChange for Filling<'b, 'a> {
+    ghost use Rattle.std.specs.Prelude.{⊤};
+    ghost use Rattle.rtui_bars.specs.BarCharts.{chart_cell};
+
+    ghost made = { λ f. chart_cell f.set.now f.area f.style f.eighths };
+
+    ghost is_light = { λ _ _ _. ⊥ };
+
+    fn change(&self, alloc: Global, position: Position, cell: &mut Cell) -> Result<(), AllocError> {
+        let from_top = position.y.saturating_sub(self.area.y);
+        let row = self.area.height.saturating_sub(from_top).saturating_sub(1);
+        cell.set_symbol(alloc, level_of(self.set, left_at(self.eighths, row)))?;
+        cell.set_style(self.style);
+        Ok(())
+    }
+}
+
+// Lays a style over an area and renders a line there.
+fn render_title(
+    line: &Line<'_>,
+    style: Style,
+    area: Rect,
+    buf: &mut Buffer,
+) -> Result<(), AllocError>
+    ensures within { ChangesWithin area buf.old buf.new }
+    ensures ok { OnOk result (RendersTitle style (title_at line.now area) buf.old buf.new) }
+{
+    buf.set_style(area, style);
+    line.render(area, buf)
+}
+
+// Whether some bar of a group has a label.
+fn has_labelled_bar(group: &BarGroup<'_>) -> bool
+    ensures { result ≡ has_labelled_bar group.now }
+{
+    group.bars.as_slice().iter().any(|bar| bar.label.is_some())
+}
+
+// Writes a text in the middle of a row.
+fn write_text(text: &str, style: Style, row: Rect, buf: &mut Buffer) -> Result<(), AllocError>
+    requires some { IsBoxArea row }
+    requires inside { IsInside row buf.old.area }
+    ensures within { ChangesWithin row buf.old buf.new }
+    ensures ok { OnOk result (WritesText style text.now row buf.old buf.new) }
+{
+    let area = middle_columns(text_columns(text), row);
+    buf.set_stringn(area.x, area.y, text, usize::from(area.width), style)?;
+    Ok(())
+}
+
+// How far from the left a label stands in so many columns.
+fn label_indent(alignment: Option<HorizontalAlignment>, width: u16, columns: u16) -> u16
+    ensures { result ≡ label_indent alignment width columns }
+{
+    let left = width.saturating_sub(columns);
+    match alignment {
+        None | Some(HorizontalAlignment::Left) => 0,
+        Some(HorizontalAlignment::Center) => left / 2,
+        Some(HorizontalAlignment::Right) => left,
+    }
+}
+
+impl<'a> BarChart<'a> {
+    // Whether some bar has a label.
+    fn has_labelled_group(&self) -> bool
+        ensures { result ≡ list_any has_labelled_bar self.now.groups.items }
+    {
+        let groups = self.groups.as_slice();
+        groups.iter().any(|group| has_labelled_bar(group))
+    }
+
+    // Whether some group has a label.
+    fn has_group_label(&self) -> bool
+        ensures { result ≡ list_any has_label self.now.groups.items }
+    {
+        let groups = self.groups.as_slice();
+        groups.iter().any(|group| group.label.is_some())
+    }
+
+    // Whether bars have labels under them in so many rows.
+    fn has_bar_labels(&self, height: u16) -> bool
+        ensures value { result ≡ has_bar_labels self.now height }
+        ensures deep { result ≡ true → 1 < height }
+    {
+        height > 1 && self.has_labelled_group()
+    }
+
+    // How many rows the labels of bars take, of so many.
+    fn bar_label_rows(&self, height: u16) -> u16
+        requires { 0 < height }
+        ensures value { result ≡ bar_label_rows self.now height }
+        ensures below { result < height }
+    {
+        if self.has_bar_labels(height) { 1 } else { 0 }
+    }
+
+    // Whether groups have labels under them in so many rows.
+    fn has_group_labels(&self, height: u16) -> bool
+        requires { 0 < height }
+        ensures value { result ≡ has_group_labels self.now height }
+        ensures deep { result ≡ true → 1 + bar_label_rows self.now height < height }
+    {
+        height - self.bar_label_rows(height) > 1 && self.has_group_label()
+    }
+
+    // How many rows the labels of groups take, of so many.
+    fn group_label_rows(&self, height: u16) -> u16
+        requires { 0 < height }
+        ensures value { result ≡ group_label_rows self.now height }
+        ensures below { bar_label_rows self.now height + result < height }
+    {
+        let _rows = self.bar_label_rows(height);
+        if self.has_group_labels(height) { 1 } else { 0 }
+    }
+
+    // How many rows the bars themselves take, of so many.
+    fn bar_rows(&self, height: u16) -> u16
+        requires { 0 < height }
+        ensures value { result ≡ bar_rows self.now height }
+        ensures some { 0 < result }
+        ensures within { result ≤ height }
+    {
+        height - self.bar_label_rows(height) - self.group_label_rows(height)
+    }
+
+    // Renders the label of a bar in the middle of a row, if there is a row for it.
+    fn render_bar_label(
+        &self,
+        is_shown: bool,
+        label: &Option<Line<'a>>,
+        row: Rect,
+        buf: &mut Buffer,
+    ) -> Result<(), AllocError>
+        requires { row.x + row.width ≤ 65535 }
+        ensures within { ChangesWithin row buf.old buf.new }
+        ensures ok { let f = RendersBarLabel self.now.label_style label.now row in
+            OnOk result (DoesIf is_shown f buf.old buf.new) }
+    {
+        if !is_shown {
+            return Ok(());
+        }
+        match label {
+            Some(line) => {
+                let area = middle_columns(usize::from(columns_of(line)), row);
+                render_title(line, self.label_style, area, buf)
+            }
+            None => Ok(()),
+        }
+    }
+
+    // Writes a bar's value in the middle of a row, if there is room for it.
+    fn write_value(
+        &self,
+        bar: &Bar<'a>,
+        text: &str,
+        eighths: u128,
+        row: Rect,
+        buf: &mut Buffer,
+    ) -> Result<(), AllocError>
+        requires some { IsBoxArea row }
+        requires inside { IsInside row buf.old.area }
+        ensures within { ChangesWithin row buf.old buf.new }
+        ensures ok { let written = is_written bar.now.value (text_columns text.now) row.width eighths in
+            let f = WritesText (patch self.now.value_style bar.now.value_style) text.now row in
+            OnOk result (DoesIf written f buf.old buf.new) }
+    {
+        if !is_written(bar.value, text_columns(text), row.width, eighths) {
+            return Ok(());
+        }
+        write_text(text, self.value_style.patch(bar.value_style), row, buf)
+    }
+
+    // Writes the text of a bar's value, if there is room for it.
+    fn render_value(
+        &self,
+        bar: &Bar<'a>,
+        eighths: u128,
+        row: Rect,
+        buf: &mut Buffer,
+    ) -> Result<(), AllocError>
+        requires some { IsBoxArea row }
+        requires inside { IsInside row buf.old.area }
+        ensures within { ChangesWithin row buf.old buf.new }
+        ensures ok { let text = text_of_bar bar.now.value bar.now.text_value in
+            let written = is_written bar.now.value (text_columns text) row.width eighths in
+            let f = WritesText (patch self.now.value_style bar.now.value_style) text row in
+            OnOk result (DoesIf written f buf.old buf.new) }
+    {
+        match bar.text_value {
+            Some(text) => self.write_value(bar, text, eighths, row, buf),
+            None => {
+                let mut digits = Digits::new();
+                self.write_value(bar, digits.format(bar.value), eighths, row, buf)
+            }
+        }
+    }
+
+    // Fills the cells of a bar.
+    fn fill_bar(
+        &self,
+        bar: &Bar<'a>,
+        eighths: u128,
+        area: Rect,
+        buf: &mut Buffer,
+    ) -> Result<(), AllocError>
+        ensures within { ChangesWithin area buf.old buf.new }
+        ensures ok { let style = patch self.now.bar_style bar.now.style in
+            let f = chart_cell self.now.bar_set area style eighths in
+            OnOk result (ChangesEach area f buf.old buf.new) }
+    {
+        let filling = Filling {
+            set: &self.bar_set,
+            area,
+            style: self.bar_style.patch(bar.style),
+            eighths,
+        };
+        change_area(buf, area, &filling)
+    }
+
+    // Renders a bar in its columns of an area.
+    fn render_bar(
+        &self,
+        bar: &Bar<'a>,
+        greatest: u64,
+        area: Rect,
+        buf: &mut Buffer,
+    ) -> Result<(), AllocError>
+        requires greatest { greatest ≡ greatest_of_chart self.now }
+        requires some { IsBoxArea area }
+        requires inside { IsInside area buf.old.area }
+        ensures within { ChangesWithin area buf.old buf.new }
+        ensures ok { OnOk result (RendersBar self.now bar.now area buf.old buf.new) }
+    {
+        let rows = self.bar_rows(area.height);
+        let eighths = eighths_of(bar.value, greatest, rows);
+        self.fill_bar(bar, eighths, rows_at(0, rows, area), buf)?;
+        let has_label = self.has_bar_labels(area.height);
+        let below = area.height - 1 - self.group_label_rows(area.height);
+        self.render_bar_label(has_label, &bar.label, rows_at(below, 1, area), buf)?;
+        self.render_value(bar, eighths, rows_at(rows - 1, 1, area), buf)
+    }
+
+    // Renders bars from the left of an area on, and answers the columns after them.
+    fn render_bars(
+        &self,
+        bars: &[Bar<'a>],
+        greatest: u64,
+        area: Rect,
+        buf: &mut Buffer,
+    ) -> Result<Rect, AllocError>
+        requires greatest { greatest ≡ greatest_of_chart self.now }
+        requires wide { 0 < self.now.bar_width }
+        requires some { HasRows area }
+        requires fit { BarsFit self.now area.width bars.now }
+        requires inside { IsInside area buf.old.area }
+        ensures within { ChangesWithin area buf.old buf.new }
+        ensures ok { OnOk result (RendersBars self.now area bars.now buf.old buf.new) }
+        ensures rest { IfOk result (λ rest. rest ≡ after_bars self.now area bars.now) }
+    {
+        let step = self.bar_width.saturating_add(self.bar_gap);
+        let mut left = area;
+        for bar in bars {
+            self.render_bar(bar, greatest, first_columns(self.bar_width, left), buf)?;
+            left = without_first(step, left);
+        }
+        Ok(left)
+    }
+
+    // How many bars fit into so many columns.
+    fn fitting_count(&self, width: u16) -> usize
+        requires { 0 < self.now.bar_width }
+        ensures value { result ≡ fitting_count self.now width }
+        ensures fits { result * (self.now.bar_width + self.now.bar_gap)
+            ≤ width + self.now.bar_gap }
+    {
+        let bar = usize::from(self.bar_width);
+        let gap = usize::from(self.bar_gap);
+        (usize::from(width) + gap) / (bar + gap)
+    }
+
+    // How many columns bars take, without the gap after the last one; at most 65535.
+    fn bars_columns(&self, count: usize) -> u16
+        requires { count ≤ 131070 }
+        ensures { result ≡ bars_columns self.now count }
+    {
+        let bar = usize::from(self.bar_width);
+        let gap = usize::from(self.bar_gap);
+        (count * (bar + gap)).saturating_sub(gap).min(65535) as u16
+    }
+
+    // Renders the label of a group under so many bars, if there are any and a row for it.
+    fn render_group_label(
+        &self,
+        is_shown: bool,
+        label: &Option<Line<'a>>,
+        count: usize,
+        row: Rect,
+        buf: &mut Buffer,
+    ) -> Result<(), AllocError>
+        requires { count ≤ 131070 }
+        ensures within { ChangesWithin row buf.old buf.new }
+        ensures ok { let columns = bars_columns self.now count in
+            let f = RendersGroupLabel self.now.label_style label.now columns row in
+            OnOk result (DoesIf (is_shown && nat_lt 0 count) f buf.old buf.new) }
+    {
+        if !is_shown || count == 0 {
+            return Ok(());
+        }
+        match label {
+            Some(line) => {
+                let width = columns_of(line);
+                let indent = label_indent(line.alignment, self.bars_columns(count), width);
+                let area = first_columns(width, without_first(indent, row));
+                render_title(line, self.label_style, area, buf)
+            }
+            None => Ok(()),
+        }
+    }
+
+    // Renders a group from the left of an area on, and answers the columns after its bars.
+    fn render_group(
+        &self,
+        group: &BarGroup<'a>,
+        greatest: u64,
+        area: Rect,
+        buf: &mut Buffer,
+    ) -> Result<Rect, AllocError>
+        requires greatest { greatest ≡ greatest_of_chart self.now }
+        requires wide { 0 < self.now.bar_width }
+        requires some { HasRows area }
+        requires inside { IsInside area buf.old.area }
+        ensures within { ChangesWithin area buf.old buf.new }
+        ensures ok { OnOk result (RendersGroup self.now group.now area buf.old buf.new) }
+        ensures rest { let bars = shown_bars self.now group.now area in
+            IfOk result (λ rest. rest ≡ after_bars self.now area bars) }
+    {
+        let bars = group.bars.as_slice();
+        let count = self.fitting_count(area.width).min(bars.len());
+        let rest = self.render_bars(&bars[..count], greatest, area, buf)?;
+        let is_shown = self.has_group_labels(area.height);
+        let row = rows_at(area.height - 1, 1, area);
+        self.render_group_label(is_shown, &group.label, count, row, buf)?;
+        Ok(rest)
+    }
+
+    // Renders the groups from the left of an area on.
+    fn render_groups(&self, greatest: u64, area: Rect, buf: &mut Buffer) -> Result<(), AllocError>
+        requires greatest { greatest ≡ greatest_of_chart self.now }
+        requires wide { 0 < self.now.bar_width }
+        requires some { HasRows area }
+        requires inside { IsInside area buf.old.area }
+        ensures within { ChangesWithin area buf.old buf.new }
+        ensures ok { let groups = self.now.groups.items in
+            OnOk result (RendersGroups self.now area groups buf.old buf.new) }
+    {
+        let mut left = area;
+        for group in self.groups.as_slice() {
+            let rest = self.render_group(group, greatest, left, buf)?;
+            left = without_first(self.group_gap, rest);
+        }
+        Ok(())
+    }
+
+    // Renders the groups inside the box, if bars have columns.
+    pub(crate) fn render_chart(&self, inner: Rect, buf: &mut Buffer) -> Result<(), AllocError>
+        requires some { IsBoxArea inner }
+        requires inside { IsInside inner buf.old.area }
+        ensures within { ChangesWithin inner buf.old buf.new }
+        ensures ok { OnOk result (ShowsChart self.now inner buf.old buf.new) }
+    {
+        if self.bar_width == 0 {
+            return Ok(());
+        }
+        self.render_groups(self.greatest(), inner, buf)
+    }
+}
+
+// Whether the text of a value, of so many columns, is written on a bar.
+fn is_written(value: u64, columns: usize, width: u16, eighths: u128) -> bool
+    ensures { result ≡ is_written value columns width eighths }
+{
+    let width = usize::from(width);
+    value != 0 && (columns < width || (columns == width && eighths >= 8))
+}

@@ -1,0 +1,123 @@
+//! The bars of a chart, in groups.
+
+ghost use Rattle.std.specs.Prelude.{◌≡◌, Some, None};
+ghost use Rattle.ratatui_core.specs.Style.{new_style};
+ghost use Rattle.rtui_bars.specs.BarCharts.{new_bar};
+
+use ratatui_core::style::Style;
+use ratatui_core::text::Line;
+
+/// A bar of a chart: a value, a label and styles of its own, if it has them.
+#[derive(Debug, Drop)]
+pub struct Bar<'a> {
+    pub(crate) value: u64,
+    pub(crate) label: Option<Line<'a>>,
+    pub(crate) style: Style,
+    pub(crate) value_style: Style,
+    pub(crate) text_value: Option<&'a str>,
+}
+
+impl<'a> Bar<'a> {
+    /// A bar of this value, without a label and styles; takes no memory.
+    pub fn new(value: u64) -> Bar<'a>
+        ensures { result ≡ new_bar value None }
+    {
+        Bar {
+            value,
+            label: None,
+            style: Style::new(),
+            value_style: Style::new(),
+            text_value: None,
+        }
+    }
+
+    /// A bar of this value with a label; takes no memory.
+    pub fn with_label(label: Line<'a>, value: u64) -> Bar<'a>
+        ensures { result ≡ new_bar value (Some label.entry) }
+    {
+        Bar::new(value).label(label)
+    }
+
+    /// The bar with another value.
+    pub fn value(self, value: u64) -> Bar<'a>
+        ensures { result ≡ record self.entry { value = value } }
+    {
+        Bar { value, ..self }
+    }
+
+    /// The bar with a label.
+    pub fn label(mut self, label: Line<'a>) -> Bar<'a>
+        ensures { result ≡ record self.entry { label = Some label.entry } }
+    {
+        self.label = Some(label);
+        self
+    }
+
+    /// The bar in a style, over that of the chart's bars.
+    pub fn style(self, style: Style) -> Bar<'a>
+        ensures { result ≡ record self.entry { style = style } }
+    {
+        Bar { style, ..self }
+    }
+
+    /// The bar with its value in a style, over that of the chart's values.
+    pub fn value_style(self, style: Style) -> Bar<'a>
+        ensures { result ≡ record self.entry { value_style = style } }
+    {
+        Bar {
+            value_style: style,
+            ..self
+        }
+    }
+
+    /// The bar with this text in place of its value's digits.
+    pub fn text_value(mut self, text: &'a str) -> Bar<'a>
+        ensures { result ≡ record self.entry { text_value = Some text.entry } }
+    {
+        self.text_value = Some(text);
+        self
+    }
+}
+
+/// Bars side by side, with a label for all of them, if they have one.
+#[derive(Debug, Drop)]
+pub struct BarGroup<'a> {
+    pub(crate) label: Option<Line<'a>>,
+    pub(crate) bars: Vec<Bar<'a>>,
+}
+
+impl<'a> BarGroup<'a> {
+    /// A group of these bars, without a label; takes no memory.
+    pub fn new(bars: Vec<Bar<'a>>) -> BarGroup<'a>
+        ensures { result ≡ record { label = None; bars = bars.entry } }
+    {
+        BarGroup { label: None, bars }
+    }
+
+    /// A group of these bars with a label; takes no memory.
+    pub fn with_label(label: Line<'a>, bars: Vec<Bar<'a>>) -> BarGroup<'a>
+        ensures { result ≡ record { label = Some label.entry; bars = bars.entry } }
+    {
+        BarGroup {
+            label: Some(label),
+            bars,
+        }
+    }
+
+    /// The group with a label.
+    pub fn label(self, label: Line<'a>) -> BarGroup<'a>
+        ensures { result ≡ record self.entry { label = Some label.entry } }
+    {
+        BarGroup {
+            label: Some(label),
+            ..self
+        }
+    }
+
+    /// The group of other bars.
+    pub fn bars(self, bars: Vec<Bar<'a>>) -> BarGroup<'a>
+        ensures { result ≡ record self.entry { bars = bars.entry } }
+    {
+        BarGroup { bars, ..self }
+    }
+}

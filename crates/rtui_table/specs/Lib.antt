@@ -1,0 +1,4 @@
+pub mod Rows
+pub mod TableStates
+pub mod Tables
+pub mod Inner

@@ -1,0 +1,239 @@
+-- Of which parts a table is made, and what it makes of a buffer and of its state.
+use Rattle.std.specs.Prelude.{◌≡◌, ℕ, Bool, true, false, ◌/◌, ◌<◌, ◌==◌, zero, suc, min, max, List, [], ◌∷◌, ◌++◌, length, drop, replicate, Option, Some, None, is_some, option_map, if◌then◌else◌, slice_get, All, ⊤}
+use Rattle.std.specs.{List.flat_map, Option.option_or}
+use Rattle.ratatui_core.specs.Layout.{Rect, intersected, LayoutData, default_layout, inner, IsSplit}
+use Rattle.ratatui_core.specs.declared.layout.Constraint.{Constraint}
+use Rattle.ratatui_core.specs.declared.layout.Constraint.TheVariants.{Length}
+use Rattle.ratatui_core.specs.declared.layout.Direction.TheVariants.{Horizontal}
+use Rattle.ratatui_core.specs.declared.layout.Spacing.TheVariants.{Space}
+use Rattle.ratatui_core.specs.declared.layout.Flex.TheVariants as flex
+use Rattle.ratatui_core.specs.{Style.Style, Style.new_style, Text.TextData, Text.widest}
+use Rattle.ratatui_core.specs.Buffer.{BufferData, IsStyled, IsNarrowText}
+use Rattle.ratatui_core.specs.Widgets.{ChangesWithin, OnPart, RendersText}
+use Rattle.rtui_boxes.specs.{Titles.InTurn, Framed.IsFramed, Framed.IsBare, Framed.inner_if}
+use Rattle.rtui_list.specs.Items.{has_mark_columns, without_columns, is_selected_at}
+use Rattle.rtui_list.specs.declared.list.HighlightSpacing.TheVariants.{WhenSelected}
+use Rattle.rtui_table.specs.{declared.table.Table.Table as TableData, declared.cell.Cell.Cell, declared.row.Row.Row, declared.state.TableState.TableState}
+use Rattle.rtui_table.specs.Rows.{PlacedRow, stacked_rows, rows_area, footer_area, cells_area, IsRowOffset}
+
+-- a table of these rows in columns of these widths, a column apart, without header, footer, box, styles and
+-- highlight symbol
+pub record IsNewTable (rows : List Row) (widths : List Constraint) (t : TableData) : Type 0 where
+  pub rows_are : t.rows.items ≡ rows
+  pub widths_are : t.widths.items ≡ widths
+  pub no_header : t.header ≡ None
+  pub no_footer : t.footer ≡ None
+  pub apart : t.column_spacing ≡ 1
+  pub no_box : t.block ≡ None
+  pub plain : t.style ≡ new_style
+  pub plain_row : t.row_highlight_style ≡ new_style
+  pub plain_column : t.column_highlight_style ≡ new_style
+  pub plain_cell : t.cell_highlight_style ≡ new_style
+  pub no_symbol : t.highlight_symbol ≡ None
+  pub spaced : t.highlight_spacing ≡ WhenSelected
+  pub from_left : t.flex ≡ flex.Start
+
+-- a part of a table: a style over an area, and a text there, if there is one
+pub record TablePart : Type 0 where
+  pub area : Rect
+  pub style : Style
+  pub content : Option TextData
+
+abbrev pub style_part : Rect → Style → TablePart
+style_part r style = record { area = r; style = style; content = None }
+
+abbrev pub text_part : Rect → Style → TextData → TablePart
+text_part r style text = record { area = r; style = style; content = Some text }
+
+abbrev pub RendersIfText : Option TextData → Rect → BufferData → BufferData → Type 0
+RendersIfText None r old new = new ≡ old
+RendersIfText (Some text) r old new = RendersText text r old new
+
+pub record RendersTablePart (p : TablePart) (old new : BufferData) : Type 0 where
+  pub laid : BufferData
+  pub styled : IsStyled p.area p.style old laid
+  pub text : RendersIfText p.content p.area laid new
+
+-- parts, each rendered after the ones before
+abbrev pub RendersTableParts : List TablePart → BufferData → BufferData → Type 0
+RendersTableParts [] old new = new ≡ old
+RendersTableParts (p ∷ ps) old new = InTurn (RendersTablePart p) (RendersTableParts ps) old new
+
+-- how many columns a table has: as many as the row, header or footer of most cells has cells
+abbrev pub most_cells : List Row → ℕ
+most_cells [] = 0
+most_cells (row ∷ rows) = max (length row.cells.items) (most_cells rows)
+
+abbrev pub cells_if : Option Row → ℕ
+cells_if None = 0
+cells_if (Some row) = length row.cells.items
+
+abbrev pub column_count : TableData → ℕ
+column_count t = max (most_cells t.rows.items) (max (cells_if t.header) (cells_if t.footer))
+
+-- the same width for each of so many columns
+abbrev pub same_widths : ℕ → ℕ → List Constraint
+same_widths count width = replicate count (Length (width / max count 1))
+
+-- the widths of the columns in so many columns of the screen: if none are given they are all the same
+abbrev pub table_widths : TableData → ℕ → List Constraint
+table_widths t width =
+    if length t.widths.items == 0 then same_widths (column_count t) width else t.widths.items
+
+-- columns of these widths, as far apart and placed as the table says
+abbrev pub layout_of : TableData → List Constraint → LayoutData
+layout_of t widths = record default_layout {
+  direction = Horizontal;
+  constraints = widths;
+  flex = t.flex;
+  spacing = Space t.column_spacing;
+}
+
+abbrev pub columns_layout : TableData → ℕ → LayoutData
+columns_layout t width = layout_of t (table_widths t width)
+
+-- how many columns stay free for the highlight symbol
+abbrev pub symbol_width : Option TextData → ℕ
+symbol_width None = 0
+symbol_width (Some text) = widest text.lines
+
+abbrev pub symbol_columns : TableData → Bool → Rect → ℕ
+symbol_columns t is_selected r =
+    if has_mark_columns t.highlight_spacing is_selected then min (symbol_width t.highlight_symbol) r.width else 0
+
+-- the columns of a table over an area: they share what so many columns of the symbol leave
+abbrev pub AreColumns : TableData → ℕ → Rect → List Rect → Type 0
+AreColumns t n r columns =
+    let l = columns_layout t r.width in IsSplit l (inner (without_columns n r) l.margin) columns
+
+-- where a column meets an area
+abbrev pub in_column : Rect → Rect → Rect
+in_column column r = record r { x = column.x; width = column.width }
+
+-- the cells of a row in their columns; a cell without a column isn't shown
+abbrev pub cell_parts : Rect → List Rect → List Cell → List TablePart
+cell_parts r [] cells = []
+cell_parts r (column ∷ columns) [] = []
+cell_parts r (column ∷ columns) (cell ∷ cells) =
+    text_part (in_column column r) cell.style cell.content ∷ cell_parts r columns cells
+
+-- the highlight symbol in the first columns of a row
+abbrev pub symbol_parts : Option TextData → ℕ → Style → Rect → List TablePart
+symbol_parts None n style r = []
+symbol_parts (Some text) n style r = if n == 0 then [] else text_part (record r { width = n }) style text ∷ []
+
+-- a row: its style, the symbol if it has it, and its cells
+abbrev pub row_parts : Option TextData → ℕ → List Rect → Row → Rect → List TablePart
+row_parts symbol n columns row r =
+    style_part r row.style ∷ (symbol_parts symbol n row.style r ++ cell_parts r columns row.cells.items)
+
+-- some rows, of which one may be selected
+abbrev pub symbol_if : Bool → Option TextData → Option TextData
+symbol_if true symbol = symbol
+symbol_if false symbol = None
+
+abbrev pub placed_row_parts : TableData → Option ℕ → ℕ → List Rect → PlacedRow → List TablePart
+placed_row_parts t selected n columns p =
+    let symbol = symbol_if (is_selected_at selected p.number) t.highlight_symbol in
+    row_parts symbol n columns p.row p.area
+
+abbrev pub rows_parts : TableData → Option ℕ → ℕ → List Rect → List PlacedRow → List TablePart
+rows_parts t selected n columns ps = flat_map (placed_row_parts t selected n columns) ps
+
+-- the header or the footer
+abbrev pub outer_parts : List Rect → Option Row → Rect → List TablePart
+outer_parts columns None r = []
+outer_parts columns (Some row) r = row_parts None 0 columns row (cells_area row r)
+
+-- the area of the selected row, if it is one of these, and of the selected column, if there is one
+abbrev pub area_if : Bool → Rect → Option Rect
+area_if true r = Some r
+area_if false r = None
+
+abbrev pub selected_row_area : Option ℕ → List PlacedRow → Option Rect
+selected_row_area selected [] = None
+selected_row_area selected (p ∷ ps) =
+    option_or (area_if (is_selected_at selected p.number) p.area) (selected_row_area selected ps)
+
+abbrev pub selected_column_area : Option ℕ → List Rect → Rect → Option Rect
+selected_column_area None columns r = None
+selected_column_area (Some k) columns r = option_map (λ column. in_column column r) (slice_get columns k)
+
+-- the highlights: over the selected row, over the selected column, and where they meet
+abbrev pub highlight_parts : TableData → Option Rect → Option Rect → List TablePart
+highlight_parts t None None = []
+highlight_parts t (Some row) None = style_part row t.row_highlight_style ∷ []
+highlight_parts t None (Some column) = style_part column t.column_highlight_style ∷ []
+highlight_parts t (Some row) (Some column) =
+    style_part row t.row_highlight_style
+    ∷ (style_part column t.column_highlight_style
+    ∷ (style_part (intersected row column) t.cell_highlight_style ∷ []))
+
+-- the rows of a table over their area, from the state's first one on, and the highlights over them
+abbrev pub placed_rows : TableData → TableState → Rect → List PlacedRow
+placed_rows t u r = stacked_rows u.offset r (drop u.offset t.rows.items)
+
+abbrev pub body_parts : TableData → TableState → ℕ → List Rect → Rect → List TablePart
+body_parts t u n columns r =
+    rows_parts t u.selected n columns (placed_rows t u r)
+    ++ highlight_parts t (selected_row_area u.selected (placed_rows t u r))
+    (selected_column_area u.selected_column columns r)
+
+-- all parts of a table over an area: the header, the rows, and the footer
+abbrev pub table_parts : TableData → TableState → List Rect → Rect → List TablePart
+table_parts t u columns r =
+    outer_parts columns t.header r
+    ++ (body_parts t u (symbol_columns t (is_some u.selected) r) columns (rows_area t.header t.footer r)
+    ++ outer_parts columns t.footer (footer_area t.header t.footer r))
+
+-- a number, but at most the last one of so many; none of none
+abbrev pub within_count : ℕ → Option ℕ → Option ℕ
+within_count zero number = None
+within_count (suc last) None = None
+within_count (suc last) (Some n) = Some (min n last)
+
+-- The state after a table was shown with so many rows of the screen for its rows: the selection is at most the
+-- last row and the last column, and the first row is such that the selected one is in view.
+pub record IsNextState (t : TableData) (height : ℕ) (s u : TableState) : Type 0 where
+  pub selected : u.selected ≡ within_count (length t.rows.items) s.selected
+  pub selected_column : u.selected_column ≡ within_count (column_count t) s.selected_column
+  pub offset : IsRowOffset t.rows.items height u.selected s.offset u.offset
+
+-- a table over an area: its columns, and its parts, each rendered after the ones before
+pub record ShowsTable (t : TableData) (s u : TableState) (r : Rect) (old new : BufferData) : Type 0 where
+  pub state : IsNextState t (rows_area t.header t.footer r).height s u
+  pub columns : List Rect
+  pub are_columns : AreColumns t (symbol_columns t (is_some u.selected) r) r columns
+  pub parts : RendersTableParts (table_parts t u columns r) old new
+
+-- the table inside its style and its box; without room inside the state stays as it is
+pub record TableInFrame (t : TableData) (s u : TableState) (part : Rect) (old new : BufferData) : Type 0 where
+  pub framed : BufferData
+  pub frame : IsFramed t.style t.block part old framed
+  pub none : IsBare (inner_if t.block part) → (new ≡ framed) × (u ≡ s)
+  pub inside : 0 < (inner_if t.block part).width → 0 < (inner_if t.block part).height
+      → ShowsTable t s u (inner_if t.block part) framed new
+
+-- A table over the part of an area that a buffer has. Nothing outside the area changes.
+pub record RendersTable (t : TableData) (s u : TableState) (area : Rect) (old new : BufferData) : Type 0 where
+  pub within : ChangesWithin area old new
+  pub no_part : IsBare (intersected area old.area) → u ≡ s
+  pub parts : OnPart (TableInFrame t s u) area old new
+
+-- each grapheme that a table shows inside its box takes one column
+abbrev pub HasNarrowCells : Row → Type 0
+HasNarrowCells row = All (λ cell. IsNarrowText cell.content) row.cells.items
+
+abbrev pub HasNarrowCellsIf : Option Row → Type 0
+HasNarrowCellsIf None = ⊤
+HasNarrowCellsIf (Some row) = HasNarrowCells row
+
+abbrev pub IsNarrowSymbol : Option TextData → Type 0
+IsNarrowSymbol None = ⊤
+IsNarrowSymbol (Some text) = IsNarrowText text
+
+pub record HasNarrowRows (t : TableData) : Type 0 where
+  pub rows : All HasNarrowCells t.rows.items
+  pub header : HasNarrowCellsIf t.header
+  pub footer : HasNarrowCellsIf t.footer
+  pub symbol : IsNarrowSymbol t.highlight_symbol

@@ -1,0 +1,19 @@
+//! A table: rows of cells in columns, of which a row and a column may be selected.
+//!
+//! It stands on `ratatui_core`, `rtui_boxes` and `rtui_list`. `specs/Rows` says which rows are
+//! shown and where each stands, `specs/TableStates` what selecting makes of a state, and
+//! `specs/Tables` of which parts a table is made and what it makes of a buffer and of its state.
+#![tactic(auto)]
+
+mod cell;
+pub mod laws;
+mod part;
+mod row;
+mod state;
+mod table;
+mod view;
+
+pub use cell::Cell;
+pub use row::Row;
+pub use state::TableState;
+pub use table::Table;

@@ -1,0 +1,129 @@
+//! The rows of a table.
+
+ghost use Rattle.std.specs.Prelude.{◌≡◌, ◌≤◌, ◌<◌, ◌+◌, min};
+ghost use Rattle.ratatui_core.specs.Style.{new_style};
+ghost use Rattle.rtui_table.specs.Rows.{full_height, upper_height, cells_area, below, above, IsTableArea};
+
+use crate::cell::Cell;
+use ratatui_core::layout::Rect;
+use ratatui_core::style::Style;
+
+/// A row of a table: cells from left to right, in so many rows of the screen, with rows that stay
+/// free above and below.
+#[derive(Debug, Drop)]
+pub struct Row<'a> {
+    pub(crate) cells: Vec<Cell<'a>>,
+    pub(crate) height: u16,
+    pub(crate) top_margin: u16,
+    pub(crate) bottom_margin: u16,
+    pub(crate) style: Style,
+}
+
+impl<'a> Row<'a> {
+    /// A row of these cells, one row high and without margins; takes no memory.
+    pub fn new(cells: Vec<Cell<'a>>) -> Row<'a>
+        ensures { result ≡ record
+            { cells = cells.entry; height = 1; top_margin = 0; bottom_margin = 0; style = new_style } }
+    {
+        Row {
+            cells,
+            height: 1,
+            top_margin: 0,
+            bottom_margin: 0,
+            style: Style::new(),
+        }
+    }
+
+    /// The row of other cells.
+    pub fn cells(self, cells: Vec<Cell<'a>>) -> Row<'a>
+        ensures { result ≡ record self.entry { cells = cells.entry } }
+    {
+        Row { cells, ..self }
+    }
+
+    /// The row with its cells in so many rows of the screen.
+    pub fn height(self, height: u16) -> Row<'a>
+        ensures { result ≡ record self.entry { height = height } }
+    {
+        Row { height, ..self }
+    }
+
+    /// The row with so many free rows above its cells.
+    pub fn top_margin(self, margin: u16) -> Row<'a>
+        ensures { result ≡ record self.entry { top_margin = margin } }
+    {
+        Row {
+            top_margin: margin,
+            ..self
+        }
+    }
+
+    /// The row with so many free rows below its cells.
+    pub fn bottom_margin(self, margin: u16) -> Row<'a>
+        ensures { result ≡ record self.entry { bottom_margin = margin } }
+    {
+        Row {
+            bottom_margin: margin,
+            ..self
+        }
+    }
+
+    /// The row in a style, without its margins.
+    pub fn style(self, style: Style) -> Row<'a>
+        ensures { result ≡ record self.entry { style = style } }
+    {
+        Row { style, ..self }
+    }
+
+    /// How many rows of the screen it takes, with its margins.
+    pub fn height_with_margin(&self) -> usize
+        ensures value { result ≡ full_height self.now }
+        ensures small { result ≤ 196605 }
+    {
+        self.upper_height() + usize::from(self.bottom_margin)
+    }
+
+    // How many rows of the screen its cells take, with the margin above.
+    pub(crate) fn upper_height(&self) -> usize
+        ensures value { result ≡ upper_height self.now }
+        ensures small { result ≤ 131070 }
+    {
+        usize::from(self.top_margin) + usize::from(self.height)
+    }
+
+    // Where its cells stand in an area that begins with its margin.
+    pub(crate) fn cells_area(&self, area: Rect) -> Rect
+        requires { IsTableArea area }
+        ensures { result ≡ cells_area self.now area }
+    {
+        let left = below(area, usize::from(self.top_margin));
+        Rect {
+            height: self.height.min(left.height),
+            ..left
+        }
+    }
+}
+
+// An area without its first rows.
+pub(crate) fn below(area: Rect, rows: usize) -> Rect
+    requires { IsTableArea area }
+    ensures { result ≡ below rows area }
+{
+    let rows = rows.min(usize::from(area.height)) as u16;
+    Rect {
+        y: area.y + rows,
+        height: area.height - rows,
+        ..area
+    }
+}
+
+// An area without its last rows.
+pub(crate) fn above(area: Rect, rows: usize) -> Rect
+    ensures { result ≡ above rows area }
+{
+    let rows = rows.min(usize::from(area.height)) as u16;
+    Rect {
+        height: area.height - rows,
+        ..area
+    }
+}

@@ -1,0 +1,366 @@
+//! A table of rows in columns.
+
+ghost use Rattle.std.specs.Prelude.{◌≡◌, ◌≤◌, ◌<◌, ◌+◌, Some, OnOk, OnErr, IfOk, is_some, length};
+ghost use Rattle.ratatui_core.specs.Layout.{inner, IsSplit};
+ghost use Rattle.ratatui_core.specs.Widgets.{ChangesWithin};
+ghost use Rattle.rtui_boxes.specs.Boxes.{IsBoxArea};
+ghost use Rattle.rtui_table.specs.Rows.{height_if, IsTableArea};
+ghost use Rattle.rtui_table.specs.Tables.{IsNewTable, column_count, same_widths, layout_of, symbol_columns, AreColumns, IsNextState, ShowsTable, cells_if, within_count};
+
+use crate::row::{Row, above, below};
+use crate::state::TableState;
+use crate::view::offset_for;
+use ratatui_core::buffer::Buffer;
+use ratatui_core::layout::{Constraint, Flex, Layout, Rect, Spacing, Split};
+use ratatui_core::style::Style;
+use ratatui_core::text::Text;
+use ratatui_core::widgets::StatefulWidget;
+use rtui_boxes::{Block, render_frame};
+use rtui_list::HighlightSpacing;
+use std::alloc::{AllocError, Global};
+
+/// Rows of cells in columns, with a header and a footer, of which a row and a column may be
+/// selected: those that a state says.
+///
+/// ```
+/// let table = Table::new(rows, widths).header(names).row_highlight_style(Style::new().bg(Color::Blue));
+/// (&table).render(area, buf, &mut state)?;
+/// ```
+#[derive(Debug, Drop)]
+pub struct Table<'a> {
+    pub(crate) rows: Vec<Row<'a>>,
+    header: Option<Row<'a>>,
+    footer: Option<Row<'a>>,
+    widths: Vec<Constraint>,
+    column_spacing: u16,
+    block: Option<Block<'a>>,
+    style: Style,
+    pub(crate) row_highlight_style: Style,
+    pub(crate) column_highlight_style: Style,
+    pub(crate) cell_highlight_style: Style,
+    pub(crate) highlight_symbol: Option<Text<'a>>,
+    highlight_spacing: HighlightSpacing,
+    flex: Flex,
+}
+
+impl<'a> Table<'a> {
+    /// A table of rows in columns of these widths, a column apart; without widths its columns are
+    /// all the same. It has no header, footer, box, styles and highlight symbol. Takes no memory.
+    pub fn new(rows: Vec<Row<'a>>, widths: Vec<Constraint>) -> Table<'a>
+        ensures { IsNewTable rows.entry.items widths.items result }
+    {
+        Table {
+            rows,
+            header: None,
+            footer: None,
+            widths,
+            column_spacing: 1,
+            block: None,
+            style: Style::new(),
+            row_highlight_style: Style::new(),
+            column_highlight_style: Style::new(),
+            cell_highlight_style: Style::new(),
+            highlight_symbol: None,
+            highlight_spacing: HighlightSpacing::WhenSelected,
+            flex: Flex::Start,
+        }
+    }
+
+    /// The table of other rows.
+    pub fn rows(mut self, rows: Vec<Row<'a>>) -> Table<'a>
+        ensures { result ≡ record self.entry { rows = rows.entry } }
+    {
+        self.rows = rows;
+        self
+    }
+
+    /// The table with a row above the others, which stays in view.
+    pub fn header(mut self, header: Row<'a>) -> Table<'a>
+        ensures { result ≡ record self.entry { header = Some header.entry } }
+    {
+        self.header = Some(header);
+        self
+    }
+
+    /// The table with a row below the others, which stays in view.
+    pub fn footer(mut self, footer: Row<'a>) -> Table<'a>
+        ensures { result ≡ record self.entry { footer = Some footer.entry } }
+    {
+        self.footer = Some(footer);
+        self
+    }
+
+    /// The table with its columns of these widths; without any they are all the same.
+    pub fn widths(mut self, widths: Vec<Constraint>) -> Table<'a>
+        ensures { result ≡ record self.entry { widths = widths } }
+    {
+        self.widths = widths;
+        self
+    }
+
+    /// The table with so many columns of the screen between each two of its own.
+    pub fn column_spacing(mut self, spacing: u16) -> Table<'a>
+        ensures { result ≡ record self.entry { column_spacing = spacing } }
+    {
+        self.column_spacing = spacing;
+        self
+    }
+
+    /// The table in a box.
+    pub fn block(mut self, block: Block<'a>) -> Table<'a>
+        ensures { result ≡ record self.entry { block = Some block.entry } }
+    {
+        self.block = Some(block);
+        self
+    }
+
+    /// The table in a style.
+    pub fn style(mut self, style: Style) -> Table<'a>
+        ensures { result ≡ record self.entry { style = style } }
+    {
+        self.style = style;
+        self
+    }
+
+    /// The table with its selected row in a style.
+    pub fn row_highlight_style(mut self, style: Style) -> Table<'a>
+        ensures { result ≡ record self.entry { row_highlight_style = style } }
+    {
+        self.row_highlight_style = style;
+        self
+    }
+
+    /// The table with its selected column in a style, over that of the row.
+    pub fn column_highlight_style(mut self, style: Style) -> Table<'a>
+        ensures { result ≡ record self.entry { column_highlight_style = style } }
+    {
+        self.column_highlight_style = style;
+        self
+    }
+
+    /// The table with a style where its selected row and its selected column meet, over theirs.
+    pub fn cell_highlight_style(mut self, style: Style) -> Table<'a>
+        ensures { result ≡ record self.entry { cell_highlight_style = style } }
+    {
+        self.cell_highlight_style = style;
+        self
+    }
+
+    /// The table with a symbol before its selected row.
+    pub fn highlight_symbol(mut self, symbol: Text<'a>) -> Table<'a>
+        ensures { result ≡ record self.entry { highlight_symbol = Some symbol.entry } }
+    {
+        self.highlight_symbol = Some(symbol);
+        self
+    }
+
+    /// The table with this spacing: when the columns of the symbol stay free.
+    pub fn highlight_spacing(mut self, spacing: HighlightSpacing) -> Table<'a>
+        ensures { result ≡ record self.entry { highlight_spacing = spacing } }
+    {
+        self.highlight_spacing = spacing;
+        self
+    }
+
+    /// The table with another place for the columns of the screen that its own leave.
+    pub fn flex(mut self, flex: Flex) -> Table<'a>
+        ensures { result ≡ record self.entry { flex = flex } }
+    {
+        self.flex = flex;
+        self
+    }
+
+    // How many columns it has: as many as the row, header or footer of most cells has cells.
+    fn column_count(&self) -> usize
+        ensures { result ≡ column_count self.now }
+    {
+        let mut count = cells_if(&self.header).max(cells_if(&self.footer));
+        for row in self.rows.as_slice() {
+            count = row.cells.len().max(count);
+        }
+        count
+    }
+
+    // How many columns of the screen stay free for the symbol.
+    fn symbol_columns(&self, is_selected: bool, area: Rect) -> u16
+        ensures value { result ≡ symbol_columns self.now is_selected area }
+        ensures within { result ≤ area.width }
+    {
+        let has_columns = match self.highlight_spacing {
+            HighlightSpacing::Always => true,
+            HighlightSpacing::WhenSelected => is_selected,
+            HighlightSpacing::Never => false,
+        };
+        match &self.highlight_symbol {
+            Some(symbol) if has_columns => symbol.width().min(usize::from(area.width)) as u16,
+            _ => 0,
+        }
+    }
+
+    // Where its columns stand, beside those of the symbol.
+    fn columns(
+        &self,
+        alloc: Global,
+        area: Rect,
+        symbol_columns: u16,
+    ) -> Result<Vec<Rect>, AllocError>
+        requires area { IsTableArea area }
+        requires fits { symbol_columns ≤ area.width }
+        ensures { IfOk result
+            (λ columns. AreColumns self.now symbol_columns area columns.items) }
+    {
+        let left = Rect {
+            x: area.x + symbol_columns,
+            width: area.width - symbol_columns,
+            ..area
+        };
+        if !self.widths.as_slice().is_empty() {
+            return self.cut(alloc, self.widths.as_slice(), left);
+        }
+        let widths = same_widths(alloc, self.column_count(), area.width)?;
+        self.cut(alloc, widths.as_slice(), left)
+    }
+
+    // An area cut into columns of these widths.
+    fn cut(&self, alloc: Global, widths: &[Constraint], area: Rect) -> Result<Vec<Rect>, AllocError>
+        ensures { let l = layout_of self.now widths.now in
+            IfOk result (λ columns. IsSplit l (inner area l.margin) columns.items) }
+    {
+        let layout = Layout::horizontal(alloc, widths)?
+            .flex(self.flex)
+            .spacing(Spacing::Space(self.column_spacing));
+        layout.split(alloc, area)
+    }
+
+    // The state after the table is shown, with so many rows of the screen for its rows.
+    fn next_state(&self, state: TableState, height: u16) -> TableState
+        ensures { IsNextState self.now height state result }
+    {
+        let rows = self.rows.as_slice();
+        let selected = within_count(rows.len(), state.selected);
+        TableState {
+            offset: offset_for(rows, selected, state.offset, usize::from(height)),
+            selected,
+            selected_column: within_count(self.column_count(), state.selected_column),
+        }
+    }
+
+    // Renders the header, the rows and the footer, and brings the state up to date.
+    fn render_table(
+        &self,
+        inner: Rect,
+        buf: &mut Buffer,
+        state: &mut TableState,
+    ) -> Result<(), AllocError>
+        requires { IsBoxArea inner }
+        ensures within { ChangesWithin inner buf.old buf.new }
+        ensures ok { OnOk result
+            (ShowsTable self.now state.old state.new inner buf.old buf.new) }
+        ensures left { OnErr result (state.new ≡ state.old) }
+    {
+        let left = below(inner, height_if(&self.header));
+        let area = above(left, height_if(&self.footer));
+        let next = self.next_state(*state, area.height);
+        let symbol_columns = self.symbol_columns(next.selected.is_some(), inner);
+        let columns = self.columns(buf.allocator(), inner, symbol_columns)?;
+        let columns = columns.as_slice();
+        self.render_outer(&self.header, columns, inner, buf)?;
+        self.render_body(next, symbol_columns, columns, area, buf)?;
+        let footer = below(left, usize::from(area.height));
+        self.render_outer(&self.footer, columns, footer, buf)?;
+        *state = next;
+        Ok(())
+    }
+}
+
+// How many cells the header or the footer has, if there is one.
+fn cells_if(row: &Option<Row<'_>>) -> usize
+    ensures { result ≡ cells_if row.now }
+{
+    match row {
+        Some(row) => row.cells.len(),
+        None => 0,
+    }
+}
+
+// How many rows of the screen the header or the footer takes, if there is one.
+fn height_if(row: &Option<Row<'_>>) -> usize
+    ensures { result ≡ height_if row.now }
+{
+    match row {
+        Some(row) => row.height_with_margin(),
+        None => 0,
+    }
+}
+
+// A number, but at most the last one of so many; none of none.
+fn within_count(count: usize, number: Option<usize>) -> Option<usize>
+    ensures { result ≡ within_count count number }
+{
+    if count == 0 {
+        return None;
+    }
+    match number {
+        Some(number) => Some(number.min(count - 1)),
+        None => None,
+    }
+}
+
+// The same width for each of so many columns, of so many columns of the screen.
+fn same_widths(alloc: Global, count: usize, width: u16) -> Result<Vec<Constraint>, AllocError>
+    ensures { IfOk result (λ widths. widths.items ≡ same_widths count width) }
+{
+    let each = (usize::from(width) / count.max(1)) as u16;
+    let mut widths = Vec::new(alloc);
+    for _ in 0..count {
+        widths.push(Constraint::Length(each))?;
+    }
+    Ok(widths)
+}
+
+/// Over the area, as far as the buffer has it: the style, the box, and inside the header, the rows
+/// from the state's first one on, as far as they fit, and the footer. The state's selection is at
+/// most the last row and the last column, and its first row such that the selected one is in view.
+impl<'b, 'a> StatefulWidget for &'b Table<'a> {
+    type State = TableState;
+
+    ghost use Rattle.rtui_table.specs.Tables.{RendersTable};
+
+    ghost renders = { λ table. RendersTable table.now };
+
+    ghost leaves = { λ _ s t _ _ _. t ≡ s };
+
+    fn render(
+        self,
+        area: Rect,
+        buf: &mut Buffer,
+        state: &mut TableState,
+    ) -> Result<(), AllocError> {
+        let Some(part) = buf.part(area) else {
+            return Ok(());
+        };
+        let Some(inner) = render_frame(self.style, &self.block, part, buf)? else {
+            return Ok(());
+        };
+        self.render_table(inner, buf, state)
+    }
+}
+
+impl<'a> StatefulWidget for Table<'a> {
+    type State = TableState;
+
+    ghost use Rattle.rtui_table.specs.Tables.{RendersTable};
+
+    ghost renders = { RendersTable };
+
+    ghost leaves = { λ _ s t _ _ _. t ≡ s };
+
+    fn render(
+        self,
+        area: Rect,
+        buf: &mut Buffer,
+        state: &mut TableState,
+    ) -> Result<(), AllocError> {
+        (&self).render(area, buf, state)
+    }
+}

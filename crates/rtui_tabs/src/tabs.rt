@@ -1,0 +1,305 @@
+//! Titles in a row.
+
+ghost use Rattle.std.specs.Prelude.{◌≡◌, ◌+◌, ◌-◌, ◌≤◌, ◌<◌, ◌==◌, [], ◌∷◌, ◌++◌, length, Some, OnOk, IsOk};
+ghost use Rattle.ratatui_core.specs.Layout.{IsInside};
+ghost use Rattle.ratatui_core.specs.Widgets.{ChangesWithin};
+ghost use Rattle.rtui_boxes.specs.Boxes.{IsBoxArea};
+ghost use Rattle.rtui_boxes.specs.Titles.{without_first};
+ghost use Rattle.rtui_tabs.specs.Tabs.{IsNewTabs, selected_of, is_tab_selected, IsStyledIf, part_of_span, part_of_line, part_of_padding, divider_parts, tab_parts, placed_tabs, ShowsTabs, AreShortTabParts};
+ghost use Rattle.rtui_tabs.specs.Inner.{IsRowInBuffer, PutsParts};
+
+use ratatui_core::buffer::Buffer;
+use ratatui_core::layout::Rect;
+use ratatui_core::style::{Modifier, Style};
+use ratatui_core::symbols::line;
+use ratatui_core::text::{Line, Span};
+use ratatui_core::widgets::Widget;
+use rtui_boxes::{Block, render_frame};
+use std::alloc::AllocError;
+
+/// Titles one after the other in a row, with a divider between each two, of which one may be
+/// selected.
+///
+/// ```
+/// let mut titles = Vec::new(alloc);
+/// titles.push(Line::raw(alloc, "Files")?)?;
+/// titles.push(Line::raw(alloc, "Log")?)?;
+/// Tabs::new(titles).select(Some(1)).render(area, buf)?; // " Files │ Log ", "Log" reversed
+/// ```
+#[derive(Debug, Drop)]
+pub struct Tabs<'a> {
+    block: Option<Block<'a>>,
+    titles: Vec<Line<'a>>,
+    selected: Option<usize>,
+    style: Style,
+    highlight_style: Style,
+    divider: Span<'a>,
+    padding_left: Option<Line<'a>>,
+    padding_right: Option<Line<'a>>,
+}
+
+impl<'a> Tabs<'a> {
+    /// Tabs with these titles, of which the first is selected: it is reversed. Before and after
+    /// each title stands a blank, and between each two a line. Takes no memory.
+    pub fn new(titles: Vec<Line<'a>>) -> Tabs<'a>
+        ensures { IsNewTabs titles.entry.items result }
+    {
+        Tabs {
+            block: None,
+            selected: selected_of(titles.len(), None),
+            titles,
+            style: Style::new(),
+            highlight_style: Style::new().add_modifier(Modifier::REVERSED),
+            divider: Span::raw(line::VERTICAL),
+            padding_left: None,
+            padding_right: None,
+        }
+    }
+
+    /// The tabs with other titles. The selected number stays, as far as there are titles; if none
+    /// was selected the first one is.
+    pub fn titles(mut self, titles: Vec<Line<'a>>) -> Tabs<'a>
+        ensures { let selected = selected_of (length titles.entry.items) self.entry.selected in
+            result ≡ record self.entry { titles = titles.entry; selected = selected } }
+    {
+        self.selected = selected_of(titles.len(), self.selected);
+        self.titles = titles;
+        self
+    }
+
+    /// The tabs in a box.
+    pub fn block(mut self, block: Block<'a>) -> Tabs<'a>
+        ensures { result ≡ record self.entry { block = Some block.entry } }
+    {
+        self.block = Some(block);
+        self
+    }
+
+    /// The tabs with the title of this number selected, from 0 on, or none.
+    pub fn select(mut self, selected: Option<usize>) -> Tabs<'a>
+        ensures { result ≡ record self.entry { selected = selected } }
+    {
+        self.selected = selected;
+        self
+    }
+
+    /// The tabs in a style.
+    pub fn style(mut self, style: Style) -> Tabs<'a>
+        ensures { result ≡ record self.entry { style = style } }
+    {
+        self.style = style;
+        self
+    }
+
+    /// The tabs with their selected title in a style.
+    pub fn highlight_style(mut self, style: Style) -> Tabs<'a>
+        ensures { result ≡ record self.entry { highlight_style = style } }
+    {
+        self.highlight_style = style;
+        self
+    }
+
+    /// The tabs with this text between each two titles.
+    pub fn divider(mut self, divider: Span<'a>) -> Tabs<'a>
+        ensures { result ≡ record self.entry { divider = divider.entry } }
+    {
+        self.divider = divider;
+        self
+    }
+
+    /// The tabs with these lines before and after each title.
+    pub fn padding(self, left: Line<'a>, right: Line<'a>) -> Tabs<'a>
+        ensures { result ≡ record self.entry
+            { padding_left = Some left.entry; padding_right = Some right.entry } }
+    {
+        self.padding_left(left).padding_right(right)
+    }
+
+    /// The tabs with this line before each title.
+    pub fn padding_left(mut self, padding: Line<'a>) -> Tabs<'a>
+        ensures { result ≡ record self.entry { padding_left = Some padding.entry } }
+    {
+        self.padding_left = Some(padding);
+        self
+    }
+
+    /// The tabs with this line after each title.
+    pub fn padding_right(mut self, padding: Line<'a>) -> Tabs<'a>
+        ensures { result ≡ record self.entry { padding_right = Some padding.entry } }
+    {
+        self.padding_right = Some(padding);
+        self
+    }
+
+    // Whether the title of this number is selected.
+    fn is_selected(&self, k: usize) -> bool
+        ensures { result ≡ is_tab_selected self.now.selected k }
+    {
+        match self.selected {
+            Some(selected) => selected == k,
+            None => false,
+        }
+    }
+
+    // Lays the highlight over the selected title.
+    fn highlight_if(&self, is_selected: bool, area: Rect, buf: &mut Buffer)
+        ensures within { ChangesWithin area buf.old buf.new }
+        ensures styled { IsStyledIf is_selected area self.now.highlight_style buf.old buf.new }
+    {
+        if is_selected {
+            buf.set_style(area, self.highlight_style);
+        }
+    }
+
+    // Puts a text at the left of a row.
+    fn put_span(&self, span: &Span<'_>, row: Rect, buf: &mut Buffer) -> Result<Rect, AllocError>
+        requires { IsRowInBuffer buf.old.area row }
+        ensures { let ps = part_of_span span.now ∷ [] in
+            PutsParts self.now.highlight_style ps row result buf.old buf.new }
+    {
+        let (x, _) = buf.set_span(row.x, row.y, span, row.width)?;
+        Ok(from_column(row, x))
+    }
+
+    // Puts a line at the left of a row, and the highlight over it if it is selected.
+    fn put_line(
+        &self,
+        line: &Line<'a>,
+        is_selected: bool,
+        row: Rect,
+        buf: &mut Buffer,
+    ) -> Result<Rect, AllocError>
+        requires { IsRowInBuffer buf.old.area row }
+        ensures { let ps = part_of_line line.now is_selected ∷ [] in
+            PutsParts self.now.highlight_style ps row result buf.old buf.new }
+    {
+        let (x, _) = buf.set_line(row.x, row.y, line, row.width)?;
+        let area = Rect {
+            width: x - row.x,
+            ..row
+        };
+        self.highlight_if(is_selected, area, buf);
+        Ok(from_column(row, x))
+    }
+
+    // Puts a divider at the left of a row, if it isn't before the first title.
+    fn put_divider(&self, k: usize, row: Rect, buf: &mut Buffer) -> Result<Rect, AllocError>
+        requires { IsRowInBuffer buf.old.area row }
+        ensures { let ps = divider_parts self.now k in
+            PutsParts self.now.highlight_style ps row result buf.old buf.new }
+    {
+        if k == 0 {
+            return Ok(row);
+        }
+        self.put_span(&self.divider, row, buf)
+    }
+
+    // Puts a padding at the left of a row.
+    fn put_padding(
+        &self,
+        padding: &Option<Line<'a>>,
+        row: Rect,
+        buf: &mut Buffer,
+    ) -> Result<Rect, AllocError>
+        requires { IsRowInBuffer buf.old.area row }
+        ensures { let ps = part_of_padding padding.now ∷ [] in
+            PutsParts self.now.highlight_style ps row result buf.old buf.new }
+    {
+        match padding {
+            Some(line) => self.put_line(line, false, row, buf),
+            None => self.put_span(&Span::raw(" "), row, buf),
+        }
+    }
+
+    // Puts a title between its paddings at the left of a row, after a divider if it isn't the first.
+    fn put_tab(
+        &self,
+        k: usize,
+        title: &Line<'a>,
+        row: Rect,
+        buf: &mut Buffer,
+    ) -> Result<Rect, AllocError>
+        requires { IsRowInBuffer buf.old.area row }
+        ensures { let ps = tab_parts self.now k title.now in
+            PutsParts self.now.highlight_style ps row result buf.old buf.new }
+    {
+        let row = self.put_divider(k, row, buf)?;
+        let row = self.put_padding(&self.padding_left, row, buf)?;
+        let row = self.put_line(title, self.is_selected(k), row, buf)?;
+        self.put_padding(&self.padding_right, row, buf)
+    }
+
+    // Renders the titles in the first row inside the box, as far as it has columns.
+    fn render_tabs(&self, inner: Rect, buf: &mut Buffer) -> Result<(), AllocError>
+        requires some { IsBoxArea inner }
+        requires inside { IsInside inner buf.old.area }
+        ensures within { ChangesWithin inner buf.old buf.new }
+        ensures ok { OnOk result (ShowsTabs self.now inner buf.old buf.new) }
+        ensures short { AreShortTabParts (placed_tabs self.now inner) → IsOk result }
+    {
+        let titles = self.titles.as_slice();
+        let mut row = Rect { height: 1, ..inner };
+        for k in 0..titles.len() {
+            if row.width == 0 {
+                return Ok(());
+            }
+            row = self.put_tab(k, &titles[k], row, buf)?;
+        }
+        Ok(())
+    }
+}
+
+// Which of so many titles is selected, if this one was.
+fn selected_of(count: usize, was: Option<usize>) -> Option<usize>
+    ensures { result ≡ selected_of count was }
+{
+    if count == 0 {
+        return None;
+    }
+    Some(was.unwrap_or(0).min(count - 1))
+}
+
+// A row from a column of its own on, or from the one after them.
+fn from_column(row: Rect, x: u16) -> Rect
+    requires from { row.x ≤ x }
+    requires to { x ≤ row.x + row.width }
+    ensures { result ≡ without_first (x - row.x) row }
+{
+    Rect {
+        x,
+        width: row.width - (x - row.x),
+        ..row
+    }
+}
+
+/// Over the area, as far as the buffer has it: the style, the box, and in the first row inside the
+/// titles, as far as it has columns.
+impl<'b, 'a> Widget for &'b Tabs<'a> {
+    ghost use Rattle.rtui_tabs.specs.Tabs.{RendersTabs, IsShortTabs};
+
+    ghost renders = { λ tabs. RendersTabs tabs.now };
+
+    ghost is_short = { λ tabs. IsShortTabs tabs.now };
+
+    fn render(self, area: Rect, buf: &mut Buffer) -> Result<(), AllocError> {
+        let Some(part) = buf.part(area) else {
+            return Ok(());
+        };
+        let Some(inner) = render_frame(self.style, &self.block, part, buf)? else {
+            return Ok(());
+        };
+        self.render_tabs(inner, buf)
+    }
+}
+
+impl<'a> Widget for Tabs<'a> {
+    ghost use Rattle.rtui_tabs.specs.Tabs.{RendersTabs, IsShortTabs};
+
+    ghost renders = { RendersTabs };
+
+    ghost is_short = { IsShortTabs };
+
+    fn render(self, area: Rect, buf: &mut Buffer) -> Result<(), AllocError> {
+        (&self).render(area, buf)
+    }
+}
