@@ -1,0 +1,5 @@
+pub mod Keys
+pub mod Moves
+pub mod Symbols
+pub mod Pages
+pub mod PageLemmas

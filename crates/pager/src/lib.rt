@@ -1,0 +1,22 @@
+//! A pager: a text in pages, moved by keys.
+//!
+//! [`Pager`] is an application of `ratatui_app`: events change its place, and it paints the page
+//! that begins there. `specs/Keys` is the table of its keys, `specs/Moves` what each does to the
+//! place, and `specs/Pages` what stands in each row.
+#![tactic(auto)]
+
+mod command;
+mod document;
+mod moves;
+mod own_text;
+mod pager;
+mod painting;
+mod status;
+mod symbols;
+#[cfg(test)]
+mod tests;
+
+pub use command::Command;
+pub use document::{Document, TextError};
+pub use own_text::OwnText;
+pub use pager::Pager;

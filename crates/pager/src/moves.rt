@@ -1,0 +1,112 @@
+//! What each command does to the place in the text.
+
+ghost use Rattle.std.specs.Prelude.{◌≡◌, ◌-◌};
+ghost use Rattle.pager.specs.Moves.{page_rows, half_page, last_top, or_number, at_line, further, back, typed, moved, obeyed};
+
+use crate::command::Command;
+use crate::pager::Pager;
+
+impl<'a> Pager<'a> {
+    // How many rows of text a page has.
+    pub(crate) fn page_rows(&self) -> u32
+        ensures { result ≡ page_rows self.now }
+    {
+        u32::from(self.rows.saturating_sub(1).max(1))
+    }
+
+    // Half of that.
+    fn half_page(&self) -> u32
+        ensures { result ≡ half_page self.now }
+    {
+        (self.page_rows() / 2).max(1)
+    }
+
+    // The line at which the last page begins.
+    fn last_top(&self) -> u32
+        ensures { result ≡ last_top self.now }
+    {
+        self.document.len().saturating_sub(self.page_rows())
+    }
+
+    // The number that was typed, or else another one.
+    fn or_number(&self, other: u32) -> u32
+        ensures { result ≡ or_number other self.now }
+    {
+        if self.number == 0 { other } else { self.number }
+    }
+
+    // Goes to the page that begins at a line, or to the last one.
+    pub(crate) fn go_to(&mut self, line: u64)
+        ensures { self.new ≡ at_line line self.old }
+    {
+        self.top = line.min(u64::from(self.last_top())) as u32;
+    }
+
+    // Goes so many rows further, or as many as the number says.
+    fn go_down(&mut self, rows: u32)
+        ensures { self.new ≡ further rows self.old }
+    {
+        let by = self.or_number(rows);
+        self.go_to(u64::from(self.top) + u64::from(by));
+    }
+
+    // Goes so many rows back, or as many as the number says.
+    fn go_up(&mut self, rows: u32)
+        ensures { self.new ≡ back rows self.old }
+    {
+        let by = self.or_number(rows);
+        self.go_to(u64::from(self.top.saturating_sub(by)));
+    }
+
+    // Goes to a line from 1 on, or to the one that the number says.
+    fn go_to_number(&mut self, line: u32)
+        ensures { self.new ≡ at_line (or_number line self.old - 1) self.old }
+    {
+        let number = self.or_number(line);
+        self.go_to(u64::from(number.saturating_sub(1)));
+    }
+
+    // Takes another digit of a number.
+    fn type_digit(&mut self, digit: u8)
+        ensures { self.new ≡ typed digit self.old }
+    {
+        self.number = self
+            .number
+            .saturating_mul(10)
+            .saturating_add(u32::from(digit));
+    }
+
+    // Moves as a command says.
+    fn go(&mut self, command: Command)
+        ensures { self.new ≡ moved command self.old }
+    {
+        let page = self.page_rows();
+        let half = self.half_page();
+        let count = self.document.len();
+        match command {
+            Command::Down => self.go_down(1),
+            Command::Up => self.go_up(1),
+            Command::PageDown => self.go_down(page),
+            Command::PageUp => self.go_up(page),
+            Command::HalfDown => self.go_down(half),
+            Command::HalfUp => self.go_up(half),
+            Command::ToStart => self.go_to_number(1),
+            Command::ToEnd => self.go_to_number(count),
+            Command::Quit => self.is_over = true,
+            Command::Digit(_) | Command::Nothing => {}
+        }
+    }
+
+    // Does what a command says; each but a digit takes the number.
+    pub(crate) fn obey(&mut self, command: Command)
+        ensures { self.new ≡ obeyed command self.old }
+    {
+        match command {
+            Command::Digit(digit) => self.type_digit(digit),
+            _ => {
+                self.go(command);
+                self.number = 0;
+            }
+        }
+    }
+}
