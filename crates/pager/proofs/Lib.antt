@@ -1,1 +1,2 @@
 pub mod PaintLemmas
+pub mod SearchLemmas

@@ -1,4 +1,5 @@
 pub mod Keys
+pub mod Search
 pub mod Moves
 pub mod Symbols
 pub mod Pages

@@ -60,6 +60,11 @@ impl<'a> Document<'a> {
         Ok(Document { lines })
     }
 
+    /// What the list of lines takes its memory from.
+    pub fn allocator(&self) -> Global {
+        *self.lines.allocator()
+    }
+
     /// How many lines there are.
     pub fn len(&self) -> u32
         ensures { result ≡ length self.now }

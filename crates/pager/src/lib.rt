@@ -5,18 +5,23 @@
 //! place, and `specs/Pages` what stands in each row.
 #![tactic(auto)]
 
+mod answer;
 mod command;
 mod document;
 mod moves;
 mod own_text;
 mod pager;
 mod painting;
+mod search;
 mod status;
 mod symbols;
 #[cfg(test)]
 mod tests;
+mod typing;
 
+pub use answer::Answer;
 pub use command::Command;
 pub use document::{Document, TextError};
 pub use own_text::OwnText;
-pub use pager::Pager;
+pub use pager::{Mode, Pager};
+pub use typing::Typing;

@@ -1,10 +1,11 @@
 //! What each command does to the place in the text.
 
 ghost use Rattle.std.specs.Prelude.{◌≡◌, ◌-◌};
-ghost use Rattle.pager.specs.Moves.{page_rows, half_page, last_top, or_number, at_line, further, back, typed, moved, obeyed};
+ghost use Rattle.pager.specs.Moves.{page_rows, half_page, last_top, or_number, at_line, further, back, half_width, typed_digit, moved, asked, obeyed};
 
 use crate::command::Command;
-use crate::pager::Pager;
+use crate::pager::{Mode, Pager};
+use crate::typing::Typing;
 
 impl<'a> Pager<'a> {
     // How many rows of text a page has.
@@ -66,9 +67,31 @@ impl<'a> Pager<'a> {
         self.go_to(u64::from(number.saturating_sub(1)));
     }
 
+    // Half of the columns.
+    fn half_width(&self) -> u32
+        ensures { result ≡ half_width self.now }
+    {
+        u32::from((self.columns / 2).max(1))
+    }
+
+    // Shows each line from an earlier or a later column on.
+    fn go_left(&mut self)
+        ensures { self.new ≡ moved Command.ToLeft self.old }
+    {
+        let by = self.or_number(self.half_width());
+        self.left = self.left.saturating_sub(by);
+    }
+
+    fn go_right(&mut self)
+        ensures { self.new ≡ moved Command.ToRight self.old }
+    {
+        let by = self.or_number(self.half_width());
+        self.left = self.left.saturating_add(by);
+    }
+
     // Takes another digit of a number.
     fn type_digit(&mut self, digit: u8)
-        ensures { self.new ≡ typed digit self.old }
+        ensures { self.new ≡ typed_digit digit self.old }
     {
         self.number = self
             .number
@@ -90,23 +113,47 @@ impl<'a> Pager<'a> {
             Command::PageUp => self.go_up(page),
             Command::HalfDown => self.go_down(half),
             Command::HalfUp => self.go_up(half),
+            Command::WheelDown => self.go_down(3),
+            Command::WheelUp => self.go_up(3),
             Command::ToStart => self.go_to_number(1),
             Command::ToEnd => self.go_to_number(count),
+            Command::ToLeft => self.go_left(),
+            Command::ToRight => self.go_right(),
+            Command::Numbers => self.has_numbers = !self.has_numbers,
+            Command::Help => self.mode = Mode::Helping,
             Command::Quit => self.is_over = true,
-            Command::Digit(_) | Command::Nothing => {}
+            _ => {}
         }
+    }
+
+    // Lets a search be typed.
+    fn ask(&mut self, is_back: bool)
+        ensures { self.new ≡ asked is_back self.old }
+    {
+        self.mode = Mode::Asking;
+        self.is_back = is_back;
+        self.typed = Typing::new();
     }
 
     // Does what a command says; each but a digit takes the number.
     pub(crate) fn obey(&mut self, command: Command)
         ensures { self.new ≡ obeyed command self.old }
     {
+        let is_back = self.is_back;
         match command {
-            Command::Digit(digit) => self.type_digit(digit),
+            Command::Digit(digit) => return self.type_digit(digit),
+            Command::Ask(is_back) => {
+                self.ask(is_back);
+                self.is_missing = false;
+            }
+            Command::Next => self.seek_on(is_back),
+            Command::Previous => self.seek_on(!is_back),
             _ => {
                 self.go(command);
-                self.number = 0;
+                self.found = None;
+                self.is_missing = false;
             }
         }
+        self.number = 0;
     }
 }
