@@ -1,6 +1,6 @@
 -- Texts and lines painted in rows, and what may be painted after them.
-use Rattle.std.proofs.Common.{◌≡◌, ℕ, zero, suc, ◌+◌, ◌-◌, ◌<◌, ◌≤◌, ◌&&◌, ⊎_elim, inl, inr, ◌⊎◌, Bool, true, false, nat_lt, nat_le, List, [], ◌∷◌, filter, refl, sym, ap, subst, ◌∙◌, arith, min, Result, Ok, Err, OnOk, OnErr, add-one}
-use Rattle.std.specs.declared.alloc.AllocError.{AllocError}
+use Rattle.std.proofs.Common.{◌≡◌, ℕ, zero, suc, ◌+◌, ◌-◌, ◌<◌, ◌≤◌, ◌&&◌, ⊎_elim, inl, inr, ◌⊎◌, Bool, true, false, nat_lt, nat_le, List, [], ◌∷◌, filter, length, refl, sym, ap, subst, ◌∙◌, arith, min, Result, Ok, Err, OnOk, OnErr, add-one}
+use Rattle.std.specs.{declared.alloc.AllocError.AllocError, List.concat}
 use Rattle.std.proofs.lemmas.{Bool.cases_lt, Bool.Decides.nat_tests}
 use Rattle.unicode_segmentation.specs.Grapheme.{graphemes}
 use Rattle.ratatui_core.specs.{Layout.Rect, Layout.EdgesFit, Layout.IsInside, Style.Style, Widgets.ChangesWithin, Widgets.OnPart, Widgets.IsClipped}
@@ -8,8 +8,9 @@ use Rattle.ratatui_core.specs.Buffer.{BufferData, HasRow, IsPlainFrom, IsReadyAt
 use Rattle.ratatui_core.proofs.{BufferLemmas.within-same, BufferLemmas.within-wider, BufferLemmas.ready-row, BufferLemmas.ready-plain, WidgetLemmas.within-then, WidgetLemmas.OnPart-clipped}
 use Rattle.rtui_boxes.specs.Boxes.{IsBoxArea}
 use Rattle.rtui_boxes.proofs.PaintLemmas.{part-has_row, part-right}
-use Rattle.pager.specs.Symbols.{LineSymbol, shown_columns, symbol_of, symbols_from, is_in_view, symbols_in_view}
-use Rattle.pager.specs.Pages.{PaintsSymbol, PaintsIf, PaintsIfInView, PaintsSymbols, PaintsLine, PaintsRows, PaintsPage, PaintsPager, row_text}
+use Rattle.pager.specs.declared.view.View.{View}
+use Rattle.pager.specs.Symbols.{LineSymbol, shown_columns, symbol_of, marked_bytes, mark_style, symbols_from, is_in_view, symbols_in_view}
+use Rattle.pager.specs.Pages.{PaintsSymbol, PaintsIf, PaintsIfInView, PaintsSymbols, PaintsLine, PaintsRow, PaintsRows, PaintsPage, PaintsPager}
 use Rattle.pager.specs.declared.pager.Pager.{Pager}
 
 pub ruleset within_steps = (within-same, within-then)
@@ -45,42 +46,53 @@ ready-later x z y s ready row le fits =
 
 -- ---- symbols one by one
 
-turn-if : (b : Bool) (r : Rect) (y left : ℕ) (s : LineSymbol) (ss : List LineSymbol) (now mid new : BufferData) → is_in_view left r.width s ≡ b → PaintsIf b r y left s now mid
-    → PaintsSymbols r y left (symbols_in_view left r.width ss) mid new → PaintsSymbols r y left (symbols_in_view left r.width (s ∷ ss)) now new
+turn-if : (b : Bool) (x y : ℕ) (v : View) (s : LineSymbol) (ss : List LineSymbol) (now mid new : BufferData) → is_in_view v s ≡ b → PaintsIf b x y v s now mid
+    → PaintsSymbols x y v (symbols_in_view v ss) mid new → PaintsSymbols x y v (symbols_in_view v (s ∷ ss)) now new
 unfolding PaintsSymbols
-turn-if true r y left s ss now mid new is made others = rw is (record { between = mid; first = made; second = others })
-turn-if false r y left s ss now mid new is made others = rw is (subst (λ b. PaintsSymbols r y left (symbols_in_view left r.width ss) b new) made others)
+turn-if true x y v s ss now mid new is made others = rw is (record { between = mid; first = made; second = others })
+turn-if false x y v s ss now mid new is made others = rw is (subst (λ b. PaintsSymbols x y v (symbols_in_view v ss) b new) made others)
 
 -- to paint what is left of a line is to paint all of it
-abbrev pub FinishesLine : Rect → ℕ → ℕ → ℕ → List (List ℕ) → List ℕ → BufferData → BufferData → Type 0
-FinishesLine r y left column gs line old now = (new : BufferData) → PaintsSymbols r y left (symbols_in_view left r.width (symbols_from column gs)) now new → PaintsLine r y left line old new
+abbrev pub FinishesLine : ℕ → ℕ → View → List ℕ → ℕ → ℕ → List (List ℕ) → List ℕ → BufferData → BufferData → Type 0
+FinishesLine x y v pattern marked column gs line old now =
+    (new : BufferData) → PaintsSymbols x y v (symbols_in_view v (symbols_from pattern marked column gs)) now new → PaintsLine x y v pattern line old new
 
-pub line-turn : (r : Rect) (y left column : ℕ) (g : List ℕ) (all rest : List (List ℕ)) (line : List ℕ) (old now mid : BufferData) → all ≡ g ∷ rest → FinishesLine r y left column all line old now
-    → PaintsIfInView r y left (symbol_of column g) now mid → FinishesLine r y left (column + shown_columns column g) rest line old mid
+pub line-turn : (x y : ℕ) (v : View) (pattern : List ℕ) (marked here column : ℕ) (g rest_text : List ℕ) (all rest : List (List ℕ)) (line : List ℕ) (old now mid : BufferData)
+    → all ≡ g ∷ rest → rest_text ≡ concat all → here ≡ marked_bytes pattern marked rest_text
+    → FinishesLine x y v pattern marked column all line old now
+    → PaintsIfInView x y v (symbol_of (mark_style here) column g) now mid → FinishesLine x y v pattern (here - length g) (column + shown_columns column g) rest line old mid
 unfolding symbols_from
-line-turn r y left column g all rest line old now mid is finishes made = λ new others.
-    finishes new (subst (λ gs. PaintsSymbols r y left (symbols_in_view left r.width (symbols_from column gs)) now new) (sym is)
-    (turn-if (is_in_view left r.width (symbol_of column g)) r y left (symbol_of column g) (symbols_from (column + shown_columns column g) rest) now mid new refl made others))
+line-turn x y v pattern marked here column g rest_text all rest line old now mid is text_is here_is finishes made = λ new others.
+    let same : marked_bytes pattern marked (concat (g ∷ rest)) ≡ here = ap (λ t. marked_bytes pattern marked t) (ap concat (sym is) ∙ sym text_is) ∙ sym here_is in
+    finishes new (subst (λ gs. PaintsSymbols x y v (symbols_in_view v (symbols_from pattern marked column gs)) now new) (sym is)
+    (subst (λ h. PaintsSymbols x y v (symbols_in_view v (symbol_of (mark_style h) column g ∷ symbols_from pattern (h - length g) (column + shown_columns column g) rest)) now new) (sym same)
+    (turn-if (is_in_view v (symbol_of (mark_style here) column g)) x y v (symbol_of (mark_style here) column g) (symbols_from pattern (here - length g) (column + shown_columns column g) rest) now mid new refl made others)))
 
-none-in-view : (left width column : ℕ) (gs : List (List ℕ)) → left + width ≤ column → symbols_in_view left width (symbols_from column gs) ≡ []
+off-view : (v : View) (style : Style) (column : ℕ) (g : List ℕ) → v.limit ≤ column → is_in_view v (symbol_of style column g) ≡ false
+off-view v style column g le = grind (arith, nat_tests)
+
+none-in-view : (v : View) (pattern : List ℕ) (marked column : ℕ) (gs : List (List ℕ)) → v.limit ≤ column → symbols_in_view v (symbols_from pattern marked column gs) ≡ []
 unfolding symbols_from
-none-in-view left width column [] le = refl
-none-in-view left width column (g ∷ gs) le =
-    let off : is_in_view left width (symbol_of column g) ≡ false = grind (arith, nat_tests) in
-    rw off (none-in-view left width (column + shown_columns column g) gs (omega arith))
+none-in-view v pattern marked column [] le = refl
+none-in-view v pattern marked column (g ∷ gs) le =
+    let here = marked_bytes pattern marked (concat (g ∷ gs)) in
+    let off : is_in_view v (symbol_of (mark_style here) column g) ≡ false = off-view v (mark_style here) column g le in
+    rw off (none-in-view v pattern (here - length g) (column + shown_columns column g) gs (omega arith))
 
-painted-none : (r : Rect) (y left : ℕ) (ss : List LineSymbol) (now : BufferData) → ss ≡ [] → PaintsSymbols r y left ss now now
+painted-none : (x y : ℕ) (v : View) (ss : List LineSymbol) (now : BufferData) → ss ≡ [] → PaintsSymbols x y v ss now now
 unfolding PaintsSymbols
-painted-none r y left ss now none = rw none refl
+painted-none x y v ss now none = rw none refl
 
 -- no column is left
-pub line-full : (r : Rect) (y left column : ℕ) (gs : List (List ℕ)) (line : List ℕ) (old now : BufferData) → left + r.width ≤ column → FinishesLine r y left column gs line old now → PaintsLine r y left line old now
-line-full r y left column gs line old now le finishes = finishes now (painted-none r y left _ now (none-in-view left r.width column gs le))
+pub line-full : (x y : ℕ) (v : View) (pattern : List ℕ) (marked column : ℕ) (gs : List (List ℕ)) (line : List ℕ) (old now : BufferData) → v.limit ≤ column → FinishesLine x y v pattern marked column gs line old now
+    → PaintsLine x y v pattern line old now
+line-full x y v pattern marked column gs line old now le finishes = finishes now (painted-none x y v _ now (none-in-view v pattern marked column gs le))
 
 -- no grapheme is left
-pub line-end : (r : Rect) (y left column : ℕ) (gs : List (List ℕ)) (line : List ℕ) (old now : BufferData) → gs ≡ [] → FinishesLine r y left column gs line old now → PaintsLine r y left line old now
+pub line-end : (x y : ℕ) (v : View) (pattern : List ℕ) (marked column : ℕ) (gs : List (List ℕ)) (line : List ℕ) (old now : BufferData) → gs ≡ [] → FinishesLine x y v pattern marked column gs line old now
+    → PaintsLine x y v pattern line old now
 unfolding symbols_from
-line-end r y left column gs line old now none finishes = finishes now (painted-none r y left _ now (rw none refl))
+line-end x y v pattern marked column gs line old now none finishes = finishes now (painted-none x y v _ now (rw none refl))
 
 -- ---- in a part of a buffer
 
@@ -115,6 +127,6 @@ pub rows-none : (p : Pager) (r : Rect) (s : BufferData) → PaintsRows p r 0 s s
 unfolding PaintsRows
 rows-none p r s = refl
 
-pub rows-next : (p : Pager) (r : Rect) (k : ℕ) (old mid new : BufferData) → PaintsRows p r k old mid → PaintsLine r (r.y + k) 0 (row_text p k) mid new → PaintsRows p r (k + 1) old new
+pub rows-next : (p : Pager) (r : Rect) (k : ℕ) (old mid new : BufferData) → PaintsRows p r k old mid → PaintsRow p r k mid new → PaintsRows p r (k + 1) old new
 unfolding PaintsRows
 rows-next p r k old mid new before row = rw add-one (record { between = mid; first = before; second = row })

@@ -1,47 +1,96 @@
 -- What a pager paints: lines in rows, and the status in the last one.
-use Rattle.std.specs.Prelude.{◌≡◌, ℕ, zero, suc, Bool, true, false, ◌+◌, ◌-◌, ◌*◌, ◌/◌, ◌==◌, min, if◌then◌else◌, List, [], ◌∷◌, ◌++◌, length, unwrap_or, slice_get, codes}
-use Rattle.std.specs.Fmt.{decimal}
-use Rattle.ratatui_core.specs.{Layout.Rect, Layout.EdgesFit, Style.Style, Style.new_style, Style.with_modifier, Style.modifier_of}
+use Rattle.std.specs.Prelude.{◌≡◌, ℕ, zero, suc, Bool, true, false, ◌+◌, ◌-◌, ◌*◌, ◌/◌, ◌==◌, ◌&&◌, nat_lt, min, if◌then◌else◌, List, [], ◌∷◌, ◌++◌, length, Option, Some, None, option_map, unwrap_or, slice_get, codes, encode_utf8}
+use Rattle.std.specs.{Fmt.decimal, List.flat_map}
+use Rattle.ratatui_core.specs.{Layout.Rect, Layout.EdgesFit, Style.Style, Style.new_style}
 use Rattle.ratatui_core.specs.Buffer.{BufferData, PaintsPieces, IsPlainFrom, IsSettledBuffer, columns, text_pieces, position_of}
 use Rattle.ratatui_core.specs.Widgets.{ChangesWithin, OnPart}
 use Rattle.rtui_boxes.specs.Titles.{InTurn}
-use Rattle.pager.specs.Symbols.{LineSymbol, is_in_view, line_symbols, symbols_in_view}
+use Rattle.pager.specs.Symbols.{LineSymbol, reversed, is_in_view, line_symbols, symbols_in_view}
 use Rattle.pager.specs.Moves.{page_rows}
+use Rattle.pager.specs.declared.view.View.{View}
+use Rattle.pager.specs.declared.help.TheConstants.{HELP}
 use Rattle.pager.specs.declared.pager.Pager.{Pager}
+use Rattle.pager.specs.declared.pager.Mode.{Mode}
+use Rattle.pager.specs.declared.pager.Mode.TheVariants.{Reading, Asking, Helping}
+
+-- ---- lines
 
 -- a text painted in a style from a place on, as far as these columns go
 abbrev pub PaintsText : ℕ → ℕ → ℕ → Style → List ℕ → BufferData → BufferData → Type 0
 PaintsText x y max style text old new = PaintsPieces (position_of (x, y)) (text_pieces max style text) old new
 
--- a symbol painted in a row, if column `left` of its line stands in the row's first one
-abbrev pub PaintsSymbol : Rect → ℕ → ℕ → LineSymbol → BufferData → BufferData → Type 0
-PaintsSymbol r y left s old new = PaintsText (r.x + (s.column - left)) y s.columns new_style s.text old new
+-- a symbol painted in a row, if the view's first column stands at x
+abbrev pub PaintsSymbol : ℕ → ℕ → View → LineSymbol → BufferData → BufferData → Type 0
+PaintsSymbol x y v s old new = PaintsText (x + (s.column - v.left)) y s.columns s.style s.text old new
 
 -- the same, or nothing, if the symbol isn't in view
-abbrev pub PaintsIf : Bool → Rect → ℕ → ℕ → LineSymbol → BufferData → BufferData → Type 0
-PaintsIf true r y left s old new = PaintsSymbol r y left s old new
-PaintsIf false r y left s old new = new ≡ old
+abbrev pub PaintsIf : Bool → ℕ → ℕ → View → LineSymbol → BufferData → BufferData → Type 0
+PaintsIf true x y v s old new = PaintsSymbol x y v s old new
+PaintsIf false x y v s old new = new ≡ old
 
-abbrev pub PaintsIfInView : Rect → ℕ → ℕ → LineSymbol → BufferData → BufferData → Type 0
-PaintsIfInView r y left s old new = PaintsIf (is_in_view left r.width s) r y left s old new
+abbrev pub PaintsIfInView : ℕ → ℕ → View → LineSymbol → BufferData → BufferData → Type 0
+PaintsIfInView x y v s old new = PaintsIf (is_in_view v s) x y v s old new
 
 -- symbols painted one after the other
-unfoldable pub PaintsSymbols : Rect → ℕ → ℕ → List LineSymbol → BufferData → BufferData → Type 0
-PaintsSymbols r y left [] old new = new ≡ old
-PaintsSymbols r y left (s ∷ ss) old new = InTurn (PaintsSymbol r y left s) (PaintsSymbols r y left ss) old new
+unfoldable pub PaintsSymbols : ℕ → ℕ → View → List LineSymbol → BufferData → BufferData → Type 0
+PaintsSymbols x y v [] old new = new ≡ old
+PaintsSymbols x y v (s ∷ ss) old new = InTurn (PaintsSymbol x y v s) (PaintsSymbols x y v ss) old new
 
--- what shows of a line from a column on, painted in a row
-abbrev pub PaintsLine : Rect → ℕ → ℕ → List ℕ → BufferData → BufferData → Type 0
-PaintsLine r y left line old new = PaintsSymbols r y left (symbols_in_view left r.width (line_symbols line)) old new
+-- what shows of a line, painted in a row from x on, with what is sought marked
+abbrev pub PaintsLine : ℕ → ℕ → View → List ℕ → List ℕ → BufferData → BufferData → Type 0
+PaintsLine x y v pattern line old new = PaintsSymbols x y v (symbols_in_view v (line_symbols pattern line)) old new
 
--- what row k of a page shows: the line that is so far behind the page's first one, and after the end of the text a tilde
-abbrev pub row_text : Pager → ℕ → List ℕ
-row_text p k = unwrap_or (slice_get p.document (p.top + k)) (codes "~")
+-- ---- rows of a page
+
+-- a row that shows as many columns as it has, from one on
+abbrev pub view_from : ℕ → ℕ → View
+view_from left width = record { left = left; limit = left + width; width = width }
+
+-- how many columns the numbers of lines take: none where there is no room for more
+abbrev pub number_columns : Pager → ℕ → ℕ
+number_columns p width = if p.has_numbers && nat_lt 8 width then 8 else 0
+
+-- a number that ends in column 7, with its first seven digits
+abbrev pub PaintsNumber : ℕ → ℕ → ℕ → BufferData → BufferData → Type 0
+PaintsNumber n x y old new =
+    let digits = min (length (decimal n)) 7 in
+    PaintsText (x + (7 - digits)) y digits new_style (decimal n) old new
+
+-- the number of a line from 1 on, if numbers are shown
+abbrev pub PaintsNumberIf : ℕ → ℕ → ℕ → ℕ → BufferData → BufferData → Type 0
+PaintsNumberIf zero n x y old new = new ≡ old
+PaintsNumberIf (suc k) n x y old new = PaintsNumber n x y old new
+
+-- a row of the text: a line with its number, from the column on that is shown first; and after the end of the text a tilde
+abbrev pub PaintsLineAt : Option (List ℕ) → Pager → ℕ → Rect → ℕ → BufferData → BufferData → Type 0
+PaintsLineAt (Some line) p n r y =
+    let beside = number_columns p r.width in
+    InTurn (PaintsNumberIf beside (n + 1) r.x y) (PaintsLine (r.x + beside) y (view_from p.left (r.width - beside)) p.pattern line)
+PaintsLineAt None p n r y = PaintsLine r.x y (view_from 0 r.width) [] (codes "~")
+
+-- a row of the list of the keys
+abbrev pub help_text : ℕ → List ℕ
+help_text k = unwrap_or (option_map (λ line. line.now) (slice_get HELP k)) []
+
+-- row k of the text: the line that is so far behind the first one
+abbrev pub PaintsTextRow : Pager → Rect → ℕ → BufferData → BufferData → Type 0
+PaintsTextRow p r k = PaintsLineAt (slice_get p.document (p.top + k)) p (p.top + k) r (r.y + k)
+
+-- row k of a page: of the text, or of the list of the keys
+abbrev pub PaintsRowIn : Mode → Pager → Rect → ℕ → BufferData → BufferData → Type 0
+PaintsRowIn Helping p r k = PaintsLine r.x (r.y + k) (view_from 0 r.width) [] (help_text k)
+PaintsRowIn Reading p r k = PaintsTextRow p r k
+PaintsRowIn Asking p r k = PaintsTextRow p r k
+
+abbrev pub PaintsRow : Pager → Rect → ℕ → BufferData → BufferData → Type 0
+PaintsRow p r k = PaintsRowIn p.mode p r k
 
 -- the first rows of a page
 unfoldable pub PaintsRows : Pager → Rect → ℕ → BufferData → BufferData → Type 0
 PaintsRows p r zero old new = new ≡ old
-PaintsRows p r (suc k) old new = InTurn (PaintsRows p r k) (PaintsLine r (r.y + k) 0 (row_text p k)) old new
+PaintsRows p r (suc k) old new = InTurn (PaintsRows p r k) (PaintsRow p r k) old new
+
+-- ---- the status
 
 -- the first and the last line that a page shows, from 1 on
 abbrev pub first_shown : Pager → ℕ
@@ -60,17 +109,28 @@ place_text p =
     codes " " ++ decimal (first_shown p) ++ codes "-" ++ decimal (last_shown p) ++ codes "/" ++ decimal (length p.document)
     ++ codes " " ++ decimal (per_cent p) ++ codes "%"
 
--- 64 is `REVERSED`
-abbrev pub status_style : Style
-status_style = with_modifier (modifier_of 64) new_style
+-- the two parts of a status: what the text is called, and the place; or what isn't found; or what is typed of a search; or how to
+-- leave the list of the keys
+abbrev pub first_part : Mode → Pager → List ℕ
+first_part Reading p = if p.is_missing then codes "not found: " else p.name
+first_part Asking p = if p.is_back then codes "?" else codes "/"
+first_part Helping p = codes "keys"
 
--- the status in a row: what the text is called, and the place behind it
+abbrev pub second_part : Mode → Pager → List ℕ
+second_part Reading p = if p.is_missing then p.pattern else place_text p
+second_part Asking p = flat_map encode_utf8 p.typed
+second_part Helping p = codes ": any key goes back"
+
+-- the status in a row, one part after the other
 abbrev pub PaintsStatus : Pager → Rect → ℕ → BufferData → BufferData → Type 0
 PaintsStatus p r y =
-    let used = columns (text_pieces r.width status_style p.name) in
-    InTurn (PaintsText r.x y r.width status_style p.name) (PaintsText (r.x + used) y (r.width - used) status_style (place_text p))
+    let first = first_part p.mode p in
+    let used = columns (text_pieces r.width reversed first) in
+    InTurn (PaintsText r.x y r.width reversed first) (PaintsText (r.x + used) y (r.width - used) reversed (second_part p.mode p))
 
--- a page over a part of a buffer: its rows of text, and in the last row the status
+-- ---- the page
+
+-- a page over a part of a buffer: its rows, and in the last row the status
 abbrev pub PaintsPage : Pager → Rect → BufferData → BufferData → Type 0
 PaintsPage p r = InTurn (PaintsRows p r (r.height - 1)) (PaintsStatus p r (r.y + (r.height - 1)))
 

@@ -1,9 +1,11 @@
--- The symbols of a line: what is shown for each grapheme, and where.
-use Rattle.std.specs.Prelude.{ℕ, Bool, true, ◌+◌, ◌-◌, ◌%◌, ◌<◌, ◌≤◌, ◌&&◌, ◌||◌, ◌==◌, not, nat_lt, nat_le, if◌then◌else◌, List, [], ◌∷◌, filter}
-use Rattle.std.specs.Str.{bytes_eq}
+-- The symbols of a line: what is shown for each grapheme, where, and whether it is marked.
+use Rattle.std.specs.Prelude.{ℕ, Bool, true, ◌+◌, ◌-◌, ◌%◌, ◌<◌, ◌≤◌, ◌&&◌, ◌||◌, ◌==◌, not, nat_lt, nat_le, if◌then◌else◌, List, [], ◌∷◌, filter, length}
+use Rattle.std.specs.{Str.bytes_eq, List.concat}
 use Rattle.unicode_segmentation.specs.Grapheme.{graphemes}
-use Rattle.ratatui_core.specs.{Buffer.text_width, Text.has_control}
+use Rattle.ratatui_core.specs.{Buffer.text_width, Text.has_control, Style.Style, Style.new_style, Style.with_modifier, Style.modifier_of}
 use Rattle.ansi_model.specs.Symbols.{is_printed}
+use Rattle.pager.specs.declared.view.View.{View}
+use Rattle.pager.specs.Search.{begins_with}
 
 abbrev pub is_tab : List ℕ → Bool
 is_tab g = bytes_eq g (9 ∷ [])
@@ -24,28 +26,42 @@ shown_text g = if is_tab g then [] else if is_replaced g then replacement_charac
 unfoldable pub shown_columns : ℕ → List ℕ → ℕ
 shown_columns column g = if is_tab g then 8 - column % 8 else if is_replaced g then 1 else text_width g
 
--- a symbol of a line: its text, the column in which it begins, and the columns that it takes
+-- reversed; 64 is `REVERSED`
+abbrev pub reversed : Style
+reversed = with_modifier (modifier_of 64) new_style
+
+-- a symbol of a line: its text and style, the column in which it begins, and the columns that it takes
 pub record LineSymbol : Type 0 where
   pub text : List ℕ
+  pub style : Style
   pub column : ℕ
   pub columns : ℕ
 
 -- a grapheme as a symbol that begins in a column
-abbrev pub symbol_of : ℕ → List ℕ → LineSymbol
-symbol_of column g = record { text = shown_text g; column = column; columns = shown_columns column g }
+abbrev pub symbol_of : Style → ℕ → List ℕ → LineSymbol
+symbol_of style column g = record { text = shown_text g; style = style; column = column; columns = shown_columns column g }
 
--- graphemes as symbols from a column on, one after the other
-unfoldable pub symbols_from : ℕ → List (List ℕ) → List LineSymbol
-symbols_from column [] = []
-symbols_from column (g ∷ gs) = symbol_of column g ∷ symbols_from (column + shown_columns column g) gs
+-- how many bytes are marked where what is sought stands at the front, and how many are left of an earlier mark elsewhere
+abbrev pub marked_bytes : List ℕ → ℕ → List ℕ → ℕ
+marked_bytes pattern marked rest = if nat_lt 0 (length pattern) && begins_with pattern rest then length pattern else marked
 
-abbrev pub line_symbols : List ℕ → List LineSymbol
-line_symbols line = symbols_from 0 (graphemes true line)
+abbrev pub mark_style : ℕ → Style
+mark_style marked = if nat_lt 0 marked then reversed else new_style
 
--- the whole symbol stands in so many columns from one on
-abbrev pub is_in_view : ℕ → ℕ → LineSymbol → Bool
-is_in_view left width s = nat_le left s.column && nat_lt s.column (left + width) && nat_le (s.column + s.columns) (left + width)
+-- graphemes as symbols from a column on, one after the other, if so many bytes are marked of an earlier match
+unfoldable pub symbols_from : List ℕ → ℕ → ℕ → List (List ℕ) → List LineSymbol
+symbols_from pattern marked column [] = []
+symbols_from pattern marked column (g ∷ gs) =
+    let here = marked_bytes pattern marked (concat (g ∷ gs)) in
+    symbol_of (mark_style here) column g ∷ symbols_from pattern (here - length g) (column + shown_columns column g) gs
 
--- what shows of a line in so many columns from one on
-abbrev pub symbols_in_view : ℕ → ℕ → List LineSymbol → List LineSymbol
-symbols_in_view left width ss = filter (is_in_view left width) ss
+abbrev pub line_symbols : List ℕ → List ℕ → List LineSymbol
+line_symbols pattern line = symbols_from pattern 0 0 (graphemes true line)
+
+-- a symbol that begins in the columns of a view and fits
+abbrev pub is_in_view : View → LineSymbol → Bool
+is_in_view v s = nat_le v.left s.column && nat_lt s.column v.limit && nat_le (s.column + s.columns) (v.left + v.width)
+
+-- what shows of symbols
+abbrev pub symbols_in_view : View → List LineSymbol → List LineSymbol
+symbols_in_view v ss = filter (is_in_view v) ss

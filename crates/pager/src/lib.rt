@@ -8,8 +8,10 @@
 mod answer;
 mod command;
 mod document;
+mod help;
 mod moves;
 mod own_text;
+mod page;
 mod pager;
 mod painting;
 mod search;
@@ -18,10 +20,13 @@ mod symbols;
 #[cfg(test)]
 mod tests;
 mod typing;
+mod view;
 
 pub use answer::Answer;
 pub use command::Command;
 pub use document::{Document, TextError};
+pub use help::HELP;
 pub use own_text::OwnText;
 pub use pager::{Mode, Pager};
 pub use typing::Typing;
+pub use view::View;

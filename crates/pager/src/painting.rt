@@ -2,14 +2,14 @@
 
 ghost use Rattle.std.specs.Prelude.{◌≡◌, ◌+◌, ◌-◌, ◌<◌, ◌≤◌, min, OnOk, IfOk};
 ghost use Rattle.ratatui_core.specs.Layout.{IsInside};
-ghost use Rattle.ratatui_core.specs.Style.{new_style};
 ghost use Rattle.ratatui_core.specs.Buffer.{IsReadyAt, IsReadyFrom, columns, text_pieces};
 ghost use Rattle.ratatui_core.specs.Widgets.{ChangesWithin};
 ghost use Rattle.rtui_boxes.specs.Boxes.{IsBoxArea};
 ghost use Rattle.pager.specs.Symbols.{shown_columns, symbol_of};
 ghost use Rattle.pager.specs.Pages.{PaintsText, PaintsIfInView, PaintsLine};
 
-use crate::symbols::{shown_columns, shown_text};
+use crate::symbols::{mark_style, marked_bytes, shown_columns, shown_text};
+use crate::view::View;
 use ratatui_core::buffer::Buffer;
 use ratatui_core::layout::Rect;
 use ratatui_core::style::Style;
@@ -22,9 +22,9 @@ pub(crate) fn paint_text(
     text: &str,
     max: u16,
     style: Style,
-    part: Rect,
     x: u16,
     y: u16,
+    part: Rect,
     buf: &mut Buffer,
 ) -> Result<u16, AllocError>
     requires some { IsBoxArea part }
@@ -43,62 +43,78 @@ pub(crate) fn paint_text(
     Ok(end)
 }
 
-// Paints a grapheme that begins in a column of its line, if it is in view from a column on; answers
-// the column after it.
+// Paints a grapheme in a style that begins in a column of its line, if it is in view; answers the
+// column after it. The first column of the view stands at x.
 fn paint_grapheme(
     grapheme: &str,
+    style: Style,
     column: u64,
-    left: u32,
-    part: Rect,
+    view: View,
+    x: u16,
     y: u16,
+    part: Rect,
     buf: &mut Buffer,
 ) -> Result<u64, AllocError>
     requires some { IsBoxArea part }
     requires inside { IsInside part buf.old.area }
-    requires column { column < left + part.width }
+    requires column { column < view.limit }
+    requires limit { view.limit ≤ view.left + view.width }
+    requires left { part.x ≤ x }
+    requires right { x + view.width ≤ part.x + part.width }
+    requires far { view.left < 9223372036854775808 }
     requires top { part.y ≤ y }
     requires bottom { y < part.y + part.height }
     ensures within { ChangesWithin part buf.old buf.new }
     ensures ok { OnOk result
-        (PaintsIfInView part y left (symbol_of column grapheme.now) buf.old buf.new) }
+        (PaintsIfInView x y view (symbol_of style column grapheme.now) buf.old buf.new) }
     ensures end { IfOk result (λ end. end ≡ column + shown_columns column grapheme.now) }
-    ensures ready { IsReadyAt (part.x + min (column - left) part.width) y buf.old → IfOk result
-        (λ end. IsReadyAt (part.x + min (end - left) part.width) y buf.new) }
+    ensures ready { IsReadyAt (x + min (column - view.left) view.width) y buf.old → IfOk result
+        (λ end. IsReadyAt (x + min (end - view.left) view.width) y buf.new) }
 {
     let columns = shown_columns(column, grapheme);
     let end = column + u64::from(columns);
-    let left = u64::from(left);
-    if column < left || end > left + u64::from(part.width) {
+    if column < view.left || end > view.left + u64::from(view.width) {
         return Ok(end);
     }
-    let x = part.x + (column - left) as u16;
-    paint_text(shown_text(grapheme), columns, Style::new(), part, x, y, buf)?;
+    let place = x + (column - view.left) as u16;
+    paint_text(shown_text(grapheme), columns, style, place, y, part, buf)?;
     Ok(end)
 }
 
-// Paints a line in a row of a part, from a column of the line on.
+// Paints what shows of a line in a row from x on, with a text marked wherever it stands.
 pub(crate) fn paint_line(
     line: &str,
-    left: u32,
-    part: Rect,
+    pattern: &str,
+    view: View,
+    x: u16,
     y: u16,
+    part: Rect,
     buf: &mut Buffer,
 ) -> Result<(), AllocError>
     requires some { IsBoxArea part }
     requires inside { IsInside part buf.old.area }
+    requires limit { view.limit ≤ view.left + view.width }
+    requires left { part.x ≤ x }
+    requires right { x + view.width ≤ part.x + part.width }
+    requires far { view.left < 9223372036854775808 }
     requires top { part.y ≤ y }
     requires bottom { y < part.y + part.height }
     ensures within { ChangesWithin part buf.old buf.new }
-    ensures ok { OnOk result (PaintsLine part y left line.now buf.old buf.new) }
-    ensures ready { IsReadyFrom y buf.old → OnOk result (IsReadyFrom (y + 1) buf.new) }
+    ensures ok { OnOk result (PaintsLine x y view pattern.now line.now buf.old buf.new) }
+    ensures ready { IsReadyAt x y buf.old → OnOk result (IsReadyFrom (y + 1) buf.new) }
 {
-    let right = u64::from(left) + u64::from(part.width);
+    let mut graphemes = line.graphemes(true);
     let mut column = 0;
-    for grapheme in line.graphemes(true) {
-        if column >= right {
+    let mut marked = 0;
+    while column < view.limit {
+        let rest = graphemes.as_str();
+        let Some(grapheme) = graphemes.next() else {
             return Ok(());
-        }
-        column = paint_grapheme(grapheme, column, left, part, y, buf)?;
+        };
+        let here = marked_bytes(pattern, marked, rest);
+        let style = mark_style(here);
+        column = paint_grapheme(grapheme, style, column, view, x, y, part, buf)?;
+        marked = here.saturating_sub(grapheme.len());
     }
     Ok(())
 }

@@ -1,65 +1,23 @@
-//! The page and its status on a buffer.
+//! The status in the last row of a page.
 
-ghost use Rattle.std.specs.Prelude.{◌≡◌, ◌+◌, ◌-◌, ◌<◌, ◌≤◌, OnOk, unwrap_or, option_map};
+ghost use Rattle.std.specs.Prelude.{◌≡◌, ◌+◌, ◌-◌, ◌<◌, ◌≤◌, OnOk, IfOk};
 ghost use Rattle.ratatui_core.specs.Layout.{IsInside};
-ghost use Rattle.ratatui_core.specs.Buffer.{IsReadyFrom, IsSettledBuffer};
+ghost use Rattle.ratatui_core.specs.Buffer.{IsReadyAt, IsReadyFrom, IsSettledBuffer};
 ghost use Rattle.ratatui_core.specs.Widgets.{ChangesWithin};
 ghost use Rattle.rtui_boxes.specs.Boxes.{IsBoxArea};
-ghost use Rattle.pager.specs.Pages.{row_text, first_shown, last_shown, per_cent, place_text, PaintsLine, PaintsRows, PaintsStatus, PaintsPage};
+ghost use Rattle.pager.specs.Symbols.{reversed};
+ghost use Rattle.pager.specs.Pages.{first_shown, last_shown, per_cent, place_text, first_part, second_part, PaintsText, PaintsStatus};
 
-use crate::painting::{paint_line, paint_text};
-use crate::pager::Pager;
+use crate::pager::{Mode, Pager};
+use crate::painting::paint_text;
+use crate::symbols::reversed;
 use arrayvec::ArrayString;
 use itoa::Buffer as Digits;
-use ratatui_app::Application;
 use ratatui_core::buffer::Buffer;
 use ratatui_core::layout::Rect;
-use ratatui_core::style::{Modifier, Style};
 use std::alloc::AllocError;
 
 impl<'a> Pager<'a> {
-    // What a row of the page shows.
-    fn row_text(&self, k: u16) -> &str
-        ensures { result.now ≡ row_text self.now k }
-    {
-        let line = self.top as usize + usize::from(k);
-        match self.document.line(line) {
-            Some(text) => text,
-            None => "~",
-        }
-    }
-
-    // Paints a row of the page.
-    fn paint_row(&self, part: Rect, k: u16, buf: &mut Buffer) -> Result<(), AllocError>
-        requires some { IsBoxArea part }
-        requires inside { IsInside part buf.old.area }
-        requires row { k < part.height }
-        ensures within { ChangesWithin part buf.old buf.new }
-        ensures ok { OnOk result
-            (PaintsLine part (part.y + k) 0 (row_text self.now k) buf.old buf.new) }
-        ensures ready { IsReadyFrom (part.y + k) buf.old
-            → OnOk result (IsReadyFrom (part.y + (k + 1)) buf.new) }
-    {
-        paint_line(self.row_text(k), 0, part, part.y + k, buf)
-    }
-
-    // Paints the first rows of the page.
-    #[tactic(auto, using(crate::proofs::PaintLemmas::within_steps))]
-    fn paint_rows(&self, part: Rect, rows: u16, buf: &mut Buffer) -> Result<(), AllocError>
-        requires some { IsBoxArea part }
-        requires inside { IsInside part buf.old.area }
-        requires rows { rows ≤ part.height }
-        ensures within { ChangesWithin part buf.old buf.new }
-        ensures ok { OnOk result (PaintsRows self.now part rows buf.old buf.new) }
-        ensures ready { IsReadyFrom part.y buf.old
-            → OnOk result (IsReadyFrom (part.y + rows) buf.new) }
-    {
-        for k in 0..rows {
-            self.paint_row(part, k, buf)?;
-        }
-        Ok(())
-    }
-
     // The first line that is shown, from 1 on.
     fn first_shown(&self) -> u64
         ensures { result ≡ first_shown self.now }
@@ -104,9 +62,79 @@ impl<'a> Pager<'a> {
         text
     }
 
+    // The first part of the status.
+    fn first_part(&self) -> &str
+        ensures { result.now ≡ first_part self.now.mode self.now }
+    {
+        match self.mode {
+            Mode::Reading if self.is_missing => "not found: ",
+            Mode::Reading => self.name.as_str(),
+            Mode::Asking if self.is_back => "?",
+            Mode::Asking => "/",
+            Mode::Helping => "keys",
+        }
+    }
+
+    // Paints what is typed of a search.
+    fn paint_typed(
+        &self,
+        room: u16,
+        x: u16,
+        y: u16,
+        part: Rect,
+        buf: &mut Buffer,
+    ) -> Result<u16, AllocError>
+        requires some { IsBoxArea part }
+        requires inside { IsInside part buf.old.area }
+        requires left { part.x ≤ x }
+        requires right { x + room ≤ part.x + part.width }
+        requires top { part.y ≤ y }
+        requires bottom { y < part.y + part.height }
+        ensures within { ChangesWithin part buf.old buf.new }
+        ensures ok { OnOk result (PaintsText x y room reversed
+            (second_part Mode.Asking self.now) buf.old buf.new) }
+        ensures ready { IsReadyAt x y buf.old → IfOk result (λ end. IsReadyAt end y buf.new) }
+    {
+        let text = self.typed.to_text(buf.allocator())?;
+        paint_text(text.as_str(), room, reversed(), x, y, part, buf)
+    }
+
+    // Paints the second part of the status.
+    fn paint_second(
+        &self,
+        room: u16,
+        x: u16,
+        y: u16,
+        part: Rect,
+        buf: &mut Buffer,
+    ) -> Result<u16, AllocError>
+        requires some { IsBoxArea part }
+        requires inside { IsInside part buf.old.area }
+        requires left { part.x ≤ x }
+        requires right { x + room ≤ part.x + part.width }
+        requires top { part.y ≤ y }
+        requires bottom { y < part.y + part.height }
+        ensures within { ChangesWithin part buf.old buf.new }
+        ensures ok { OnOk result (PaintsText x y room reversed
+            (second_part self.now.mode self.now) buf.old buf.new) }
+        ensures ready { IsReadyAt x y buf.old → IfOk result (λ end. IsReadyAt end y buf.new) }
+    {
+        match self.mode {
+            Mode::Reading if self.is_missing => {
+                paint_text(self.pattern.as_str(), room, reversed(), x, y, part, buf)
+            }
+            Mode::Reading => {
+                paint_text(self.place_text().as_str(), room, reversed(), x, y, part, buf)
+            }
+            Mode::Asking => self.paint_typed(room, x, y, part, buf),
+            Mode::Helping => {
+                paint_text(": any key goes back", room, reversed(), x, y, part, buf)
+            }
+        }
+    }
+
     // Paints the status in the last row.
-    #[tactic(auto, using(crate::proofs::PaintLemmas::within_steps))]
-    fn paint_status(&self, part: Rect, buf: &mut Buffer) -> Result<(), AllocError>
+    pub(crate) fn paint_status(&self, part: Rect, buf: &mut Buffer) -> Result<(), AllocError>
         requires some { IsBoxArea part }
         requires inside { IsInside part buf.old.area }
         ensures within { ChangesWithin part buf.old buf.new }
@@ -116,40 +144,9 @@ impl<'a> Pager<'a> {
             → OnOk result (IsSettledBuffer buf.new) }
     {
         let y = part.y + (part.height - 1);
-        let style = Style::new().add_modifier(Modifier::REVERSED);
-        let name = self.name.as_str();
-        let end = paint_text(name, part.width, style, part, part.x, y, buf)?;
+        let end = paint_text(self.first_part(), part.width, reversed(), part.x, y, part, buf)?;
         let room = part.width - (end - part.x);
-        paint_text(self.place_text().as_str(), room, style, part, end, y, buf)?;
+        self.paint_second(room, end, y, part, buf)?;
         Ok(())
     }
-
-    // Paints the page over a part of a buffer.
-    #[tactic(auto, using(crate::proofs::PaintLemmas::within_steps))]
-    fn paint_page(&self, part: Rect, buf: &mut Buffer) -> Result<(), AllocError>
-        requires some { IsBoxArea part }
-        requires inside { IsInside part buf.old.area }
-        ensures within { ChangesWithin part buf.old buf.new }
-        ensures ok { OnOk result (PaintsPage self.now part buf.old buf.new) }
-        ensures settled { IsReadyFrom part.y buf.old → OnOk result (IsSettledBuffer buf.new) }
-    {
-        self.paint_rows(part, part.height - 1, buf)?;
-        self.paint_status(part, buf)
-    }
-}
-
-impl<'a> Application for Pager<'a> {
-    ghost use Rattle.pager.specs.Pages.{PaintsPager};
-    ghost use Rattle.pager.specs.PageLemmas.{paints-settled};
-
-    ghost paints = { PaintsPager };
-
-    fn paint(&self, area: Rect, buf: &mut Buffer) -> Result<(), AllocError> {
-        let Some(part) = buf.part(area) else {
-            return Ok(());
-        };
-        self.paint_page(part, buf)
-    }
-
-    ghost is_settled = { paints-settled };
 }

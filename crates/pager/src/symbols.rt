@@ -1,13 +1,13 @@
 //! The symbols of a line: what is shown for each of its graphemes, and in how many columns.
 
-ghost use Rattle.std.specs.Prelude.{◌≡◌, ◌||◌, ◌&&◌, ◌<◌, ◌≤◌, not, nat_lt};
-ghost use Rattle.ratatui_core.specs.Buffer.{text_width};
+ghost use Rattle.std.specs.Prelude.{◌≡◌};
 ghost use Rattle.ratatui_core.specs.Text.{has_control};
-ghost use Rattle.ansi_model.specs.Symbols.{is_printed};
-ghost use Rattle.pager.specs.Symbols.{is_tab, is_replaced, shown_text, shown_columns};
+ghost use Rattle.pager.specs.Search.{begins_with};
+ghost use Rattle.pager.specs.Symbols.{is_tab, is_replaced, shown_text, shown_columns, reversed, marked_bytes, mark_style};
 
 use ansi_model::is_printed;
 use ratatui_core::buffer::CellWidth;
+use ratatui_core::style::{Modifier, Style};
 
 // Whether a text has a control character.
 fn has_control(text: &str) -> bool
@@ -56,4 +56,37 @@ pub(crate) fn shown_columns(column: u64, grapheme: &str) -> u16
     } else {
         grapheme.cell_width()
     }
+}
+
+/// Reversed.
+pub(crate) fn reversed() -> Style
+    ensures { result ≡ reversed }
+{
+    Style::new().add_modifier(Modifier::REVERSED)
+}
+
+// Whether a text begins with another.
+fn begins_with(pattern: &str, text: &str) -> bool
+    ensures { result ≡ begins_with pattern.now text.now }
+{
+    text.starts_with(pattern)
+}
+
+// How many bytes are marked, where so many were marked of an earlier match.
+pub(crate) fn marked_bytes(pattern: &str, marked: usize, rest: &str) -> usize
+    ensures { result ≡ marked_bytes pattern.now marked rest.now }
+{
+    let is_match = !pattern.is_empty() && begins_with(pattern, rest);
+    if is_match {
+        pattern.len()
+    } else {
+        marked
+    }
+}
+
+// The style of a grapheme of which so many bytes are marked.
+pub(crate) fn mark_style(marked: usize) -> Style
+    ensures { result ≡ mark_style marked }
+{
+    if marked > 0 { reversed() } else { Style::new() }
 }

@@ -23,7 +23,8 @@ fn shows(alloc: Global, text: &str, keys: &[u8], lines: &[&str]) -> bool {
     let Ok(mut terminal) = Terminal::new(alloc, backend) else {
         return false;
     };
-    let mut pager = Pager::new(document, OwnText::new(name), Size::new(14, 4));
+    let nothing = OwnText::new(String::new(alloc));
+    let mut pager = Pager::new(document, OwnText::new(name), nothing, Size::new(14, 4));
     let mut reader = keys;
     match run(&mut reader, false, &mut terminal, &mut pager) {
         Ok(()) => terminal.backend().lines_are(lines),

@@ -1,14 +1,15 @@
-use Rattle.std.proofs.Common.{◌+◌, ◌-◌, min}
+use Rattle.std.proofs.Common.{◌+◌, ◌-◌, min, length}
 use Rattle.unicode_segmentation.specs.Iter.{graphemes_left}
-use Rattle.ratatui_core.specs.{Widgets.ChangesWithin, Buffer.IsReadyAt, Buffer.IsReadyFrom}
+use Rattle.ratatui_core.specs.{Widgets.ChangesWithin, Buffer.IsReadyAt}
 use Rattle.pager.proofs.PaintLemmas.{FinishesLine}
 use Rattle.pager.proofs.painting.paint_line.Given as goal
 
-abbrev pub invariant-loop-grapheme : goal.invariant-loop-grapheme
-invariant-loop-grapheme l = record {
-  can : (goal.iterator-loop-grapheme).can_next l.grapheme-iterator;
-  ends : (goal.iterator-loop-grapheme).is_finite l.grapheme-iterator;
+abbrev pub invariant-loop-column : goal.invariant-loop-column
+invariant-loop-column l = record {
   within : ChangesWithin l.fn.part l.fn.buf l.buf;
-  paints : FinishesLine l.fn.part l.fn.y l.fn.left l.column (graphemes_left l.grapheme-iterator) l.fn.line l.fn.buf l.buf;
-  ready : IsReadyFrom l.fn.y l.fn.buf → IsReadyAt (l.fn.part.x + min (l.column - l.fn.left) l.fn.part.width) l.fn.y l.buf;
+  paints : FinishesLine l.fn.x l.fn.y l.fn.view l.fn.pattern l.marked l.column (graphemes_left l.graphemes) l.fn.line l.fn.buf l.buf;
+  ready : IsReadyAt l.fn.x l.fn.y l.fn.buf → IsReadyAt (l.fn.x + min (l.column - l.fn.view.left) l.fn.view.width) l.fn.y l.buf;
 }
+
+abbrev pub decreases-loop-column : goal.decreases-loop-column
+decreases-loop-column l = length (graphemes_left l.graphemes)

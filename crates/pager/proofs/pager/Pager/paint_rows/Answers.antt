@@ -18,5 +18,5 @@ loop-k-preserved c =
     record {
       within = within-then c.args.part c.args.buf.now c.loop-k.buf c.paint_row.new.buf i.within c.paint_row.ensures.within;
       paints = rows-next c.args.self.now c.args.part c.loop-k.k c.args.buf.now c.loop-k.buf c.paint_row.new.buf i.paints c.in_ok-paint_row.ensures.ok;
-      ready = λ from. c.in_ok-paint_row.ensures.ready (i.ready from);
+      ready = λ from. subst (λ y. IsReadyFrom y c.paint_row.new.buf) (omega arith) (c.in_ok-paint_row.ensures.ready (i.ready from));
     }

@@ -1,7 +1,7 @@
 use Rattle.ratatui_core.proofs.{BufferLemmas.settled-plain, BufferLemmas.within-same, WidgetLemmas.OnPart-none}
 use Rattle.pager.specs.Pages.{PaintsPage}
 use Rattle.pager.proofs.PaintLemmas.{pager-ok, err-within}
-use Rattle.pager.proofs.status.PagerApplication.paint.Goals as goal
+use Rattle.pager.proofs.page.PagerApplication.paint.Goals as goal
 
 pub returns-in_default-clause-ok : goal.returns-in_default-clause-ok
 returns-in_default-clause-ok c = record {
