@@ -1,2 +1,3 @@
 pub mod PaintLemmas
 pub mod SearchLemmas
+pub mod PlaceLemmas

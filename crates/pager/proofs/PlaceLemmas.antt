@@ -1,0 +1,107 @@
+-- The place lies in the text, whatever comes.
+use Rattle.std.proofs.Common.{◌≡◌, ℕ, ◌≤◌, ◌-◌, Bool, true, false, not, nat_lt, if◌then◌else◌, List, length, take, encode_utf8, Option, Some, None, arith}
+use Rattle.std.specs.List.{flat_map}
+use Rattle.ratatui_core.specs.Layout.{Size}
+use Rattle.ratatui_events.specs.declared.event.Event.{Event}
+use Rattle.ratatui_reads.specs.Reads.{size_in}
+use Rattle.pager.specs.declared.pager.Pager.{Pager}
+use Rattle.pager.specs.declared.pager.Mode.{Mode}
+use Rattle.pager.specs.declared.pager.Mode.TheVariants.{Reading, Asking, Helping}
+use Rattle.pager.specs.declared.answer.Answer.{Answer}
+use Rattle.pager.specs.declared.answer.Answer.TheVariants.{Add, Erase, Search, Cancel, Ignore}
+use Rattle.pager.specs.declared.command.Command.{Command}
+use Rattle.pager.specs.declared.command.Command.TheVariants.{Nothing, Digit, Down, Up, PageDown, PageUp, HalfDown, HalfUp, WheelDown, WheelUp}
+use Rattle.pager.specs.declared.command.Command.TheVariants.{ToStart, ToEnd, ToLeft, ToRight, Ask, Next, Previous, Numbers, Help, Quit}
+use Rattle.pager.specs.Search.{next_match, last_match}
+use Rattle.pager.specs.Moves.{IsInText, started, found_at, sought_before, sought_from, before_found, after_found, sought_on, moved, obeyed, erased, with_pattern, sought_first, answered, acted, updated_by, updated}
+use Rattle.pager.specs.Keys.{event_command, event_answer, is_press}
+
+pub first : (lines : List (List ℕ)) (name pattern : List ℕ) (size : Size) → IsInText (started lines name pattern size)
+first lines name pattern size = omega arith
+
+found-in : (found : Option ℕ) (p : Pager) → IsInText p → IsInText (found_at found p)
+found-in (Some k) p is = omega arith
+found-in None p is = is
+
+sought_on-in : (is_back : Bool) (p : Pager) → IsInText p → IsInText (sought_on is_back p)
+sought_on-in true p is = found-in (last_match p.pattern p.document (before_found p.found p.top)) p is
+sought_on-in false p is = found-in (next_match p.pattern p.document (after_found p.found p.top)) p is
+
+moved-in : (command : Command) (p : Pager) → IsInText p → IsInText (moved command p)
+moved-in Down p is = omega arith
+moved-in Up p is = omega arith
+moved-in PageDown p is = omega arith
+moved-in PageUp p is = omega arith
+moved-in HalfDown p is = omega arith
+moved-in HalfUp p is = omega arith
+moved-in WheelDown p is = omega arith
+moved-in WheelUp p is = omega arith
+moved-in ToStart p is = omega arith
+moved-in ToEnd p is = omega arith
+moved-in ToLeft p is = is
+moved-in ToRight p is = is
+moved-in Numbers p is = is
+moved-in Help p is = is
+moved-in Quit p is = is
+moved-in (Digit d) p is = is
+moved-in (Ask is_back) p is = is
+moved-in Next p is = is
+moved-in Previous p is = is
+moved-in Nothing p is = is
+
+obeyed-in : (command : Command) (p : Pager) → IsInText p → IsInText (obeyed command p)
+obeyed-in (Digit d) p is = is
+obeyed-in (Ask is_back) p is = is
+obeyed-in Next p is = sought_on-in p.is_back p is
+obeyed-in Previous p is = sought_on-in (not p.is_back) p is
+obeyed-in Nothing p is = is
+obeyed-in Down p is = moved-in Down p is
+obeyed-in Up p is = moved-in Up p is
+obeyed-in PageDown p is = moved-in PageDown p is
+obeyed-in PageUp p is = moved-in PageUp p is
+obeyed-in HalfDown p is = moved-in HalfDown p is
+obeyed-in HalfUp p is = moved-in HalfUp p is
+obeyed-in WheelDown p is = moved-in WheelDown p is
+obeyed-in WheelUp p is = moved-in WheelUp p is
+obeyed-in ToStart p is = moved-in ToStart p is
+obeyed-in ToEnd p is = moved-in ToEnd p is
+obeyed-in ToLeft p is = is
+obeyed-in ToRight p is = is
+obeyed-in Numbers p is = is
+obeyed-in Help p is = is
+obeyed-in Quit p is = is
+
+sought_first-if : (is_back : Bool) (p : Pager) → IsInText p → IsInText (if is_back then sought_before p.top p else sought_from p.top p)
+sought_first-if true p is = found-in (last_match p.pattern p.document p.top) p is
+sought_first-if false p is = found-in (next_match p.pattern p.document p.top) p is
+
+pattern-if : (b : Bool) (pattern : List ℕ) (p : Pager) → IsInText p → IsInText (if b then record p { pattern = pattern } else p)
+pattern-if true pattern p is = is
+pattern-if false pattern p is = is
+
+erased-if : (b : Bool) (typed : List ℕ) (p : Pager) → IsInText p → IsInText (if b then record p { typed = typed } else record p { mode = Reading })
+erased-if true typed p is = is
+erased-if false typed p is = is
+
+answered-in : (answer : Answer) (p : Pager) → IsInText p → IsInText (answered answer p)
+answered-in (Add c) p is = is
+answered-in Erase p is = erased-if (nat_lt 0 (length p.typed)) (take (length p.typed - 1) p.typed) p is
+answered-in Search p is = sought_first-if (with_pattern p).is_back (with_pattern p) (pattern-if (nat_lt 0 (length p.typed)) (flat_map encode_utf8 p.typed) p is)
+answered-in Cancel p is = is
+answered-in Ignore p is = is
+
+helped-if : (b : Bool) (p : Pager) → IsInText p → IsInText (if b then record p { mode = Reading } else p)
+helped-if true p is = is
+helped-if false p is = is
+
+acted-in : (mode : Mode) (event : Event) (p : Pager) → IsInText p → IsInText (acted mode event p)
+acted-in Reading event p is = obeyed-in (event_command event) p is
+acted-in Asking event p is = answered-in (event_answer event) p is
+acted-in Helping event p is = helped-if (is_press event) p is
+
+by-size : (size : Option (ℕ × ℕ)) (event : Event) (p : Pager) → IsInText p → IsInText (updated_by size event p)
+by-size (Some size) event p is = omega arith
+by-size None event p is = acted-in p.mode event p is
+
+pub next : (p : Pager) (event : Event) → IsInText p → IsInText (updated p event)
+next p event is = by-size (size_in event) event p is
