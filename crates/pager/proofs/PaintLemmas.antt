@@ -94,6 +94,13 @@ pub line-end : (x y : ℕ) (v : View) (pattern : List ℕ) (marked column : ℕ)
 unfolding symbols_from
 line-end x y v pattern marked column gs line old now none finishes = finishes now (painted-none x y v _ now (rw none refl))
 
+-- numbers take no columns or have room
+pub numbers-fit : (columns width : ℕ) → (0 < columns → (columns ≡ 8) × (8 < width)) → columns ≤ width
+numbers-fit columns width wide = ⊎_elim
+    (λ (some : 0 < columns). let both = wide some in let eight = both.0 in let room = both.1 in omega arith)
+    (λ (none : columns ≤ 0). omega arith)
+    (cases_lt 0 columns)
+
 -- ---- in a part of a buffer
 
 module _ (part : Rect) (y : ℕ) (s : BufferData) (box : IsBoxArea part) (inside : IsInside part s.area) (top : part.y ≤ y) (bottom : y < part.y + part.height) where

@@ -12,7 +12,7 @@ use Rattle.ratatui_events.specs.declared.mouse.MouseEventKind.TheVariants.{Scrol
 use Rattle.ratatui_events.specs.Key.{modifier_bits}
 use Rattle.pager.specs.declared.command.Command.{Command}
 use Rattle.pager.specs.declared.command.Command.TheVariants.{Nothing, Digit, Down, Up, PageDown, PageUp, HalfDown, HalfUp, WheelDown, WheelUp}
-use Rattle.pager.specs.declared.command.Command.TheVariants.{ToStart, ToEnd, ToLeft, ToRight, Ask, Next, Previous, Numbers, Help, Quit}
+use Rattle.pager.specs.declared.command.Command.TheVariants.{ToStart, ToEnd, ToLeft, ToRight, Ask, Next, Previous, Numbers, Wrap, Help, Quit}
 use Rattle.pager.specs.declared.answer.Answer.{Answer}
 use Rattle.pager.specs.declared.answer.Answer.TheVariants.{Add, Erase, Search, Cancel, Ignore}
 
@@ -29,7 +29,7 @@ move_command c =
     else if c == 71 then ToEnd
     else Nothing
 
--- a character: q, /, ?, n, N, l, h, the digits, and those of moves
+-- a character: q, /, ?, n, N, l, w, h, the digits, and those of moves
 abbrev pub character_command : ℕ → Command
 character_command c =
     if c == 113 then Quit
@@ -38,6 +38,7 @@ character_command c =
     else if c == 110 then Next
     else if c == 78 then Previous
     else if c == 108 then Numbers
+    else if c == 119 then Wrap
     else if c == 104 then Help
     else if nat_le 48 c && nat_le c 57 then Digit (c - 48)
     else move_command c

@@ -1,6 +1,7 @@
 pub mod Keys
 pub mod Search
-pub mod Moves
 pub mod Symbols
+pub mod Places
+pub mod Moves
 pub mod Pages
 pub mod PageLemmas

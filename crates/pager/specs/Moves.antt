@@ -11,34 +11,23 @@ use Rattle.pager.specs.declared.answer.Answer.{Answer}
 use Rattle.pager.specs.declared.answer.Answer.TheVariants.{Add, Erase, Search, Cancel, Ignore}
 use Rattle.pager.specs.declared.command.Command.{Command}
 use Rattle.pager.specs.declared.command.Command.TheVariants.{Nothing, Digit, Down, Up, PageDown, PageUp, HalfDown, HalfUp, WheelDown, WheelUp}
-use Rattle.pager.specs.declared.command.Command.TheVariants.{ToStart, ToEnd, ToLeft, ToRight, Ask, Next, Previous, Numbers, Help, Quit}
+use Rattle.pager.specs.declared.command.Command.TheVariants.{ToStart, ToEnd, ToLeft, ToRight, Ask, Next, Previous, Numbers, Wrap, Help, Quit}
 use Rattle.pager.specs.Keys.{event_command, event_answer, is_press}
 use Rattle.pager.specs.Search.{next_match, last_match}
+use Rattle.pager.specs.Places.{place_of, page_rows, at_place, place_after, place_before}
 
 -- at the first line
 abbrev pub started : List (List ℕ) → List ℕ → List ℕ → Size → Pager
 started lines name pattern size = record {
-  document = lines; name = name; columns = size.width; rows = size.height; top = 0; left = 0; number = 0; has_numbers = false;
+  document = lines; name = name; columns = size.width; rows = size.height; top = 0; row = 0; left = 0; wraps = false; number = 0; has_numbers = false;
   mode = Reading; is_back = false; typed = []; pattern = pattern; found = None; is_missing = false; is_over = false }
-
--- how many rows of text a page has: all but the last row, and at least one
-abbrev pub page_rows : Pager → ℕ
-page_rows p = max (p.rows - 1) 1
 
 abbrev pub half_page : Pager → ℕ
 half_page p = max (page_rows p / 2) 1
 
--- the line at which the last page begins: that page ends with the last line
-abbrev pub last_top : Pager → ℕ
-last_top p = length p.document - page_rows p
-
--- the place lies in the text: no page begins after the last one
-abbrev pub IsInText : Pager → Type 0
-IsInText p = p.top ≤ last_top p
-
 -- the page that begins at a line, or the last one
 abbrev pub at_line : ℕ → Pager → Pager
-at_line n p = record p { top = min n (last_top p) }
+at_line n p = at_place (place_of n 0) p
 
 -- the number that was typed, or else another one
 abbrev pub or_number : ℕ → Pager → ℕ
@@ -46,10 +35,10 @@ or_number other p = if p.number == 0 then other else p.number
 
 -- so many rows further, and back
 abbrev pub further : ℕ → Pager → Pager
-further n p = at_line (p.top + or_number n p) p
+further n p = at_place (place_after (or_number n p) p) p
 
 abbrev pub back : ℕ → Pager → Pager
-back n p = at_line (p.top - or_number n p) p
+back n p = at_place (place_before (or_number n p) p) p
 
 -- half of the columns
 abbrev pub half_width : Pager → ℕ
@@ -69,14 +58,15 @@ moved ToStart p = at_line (or_number 1 p - 1) p
 moved ToEnd p = at_line (or_number (length p.document) p - 1) p
 moved ToLeft p = record p { left = p.left - or_number (half_width p) p }
 moved ToRight p = record p { left = min (p.left + or_number (half_width p) p) 4294967295 }
-moved Numbers p = record p { has_numbers = not p.has_numbers }
+moved Numbers p = at_line p.top (record p { has_numbers = not p.has_numbers })
+moved Wrap p = at_line p.top (record p { wraps = not p.wraps; left = 0 })
 moved Help p = record p { mode = Helping }
 moved Quit p = record p { is_over = true }
 moved _ p = p
 
 -- a digit more of a number, which stays at the greatest one
 abbrev pub typed_digit : ℕ → Pager → Pager
-typed_digit d p = record p { number = min (p.number * 10 + d) 4294967295 }
+typed_digit d p = record p { number = min (p.number * 10 + d) 9999999 }
 
 -- at a line that was found; or none was
 abbrev pub found_at : Option ℕ → Pager → Pager

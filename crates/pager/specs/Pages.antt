@@ -6,7 +6,8 @@ use Rattle.ratatui_core.specs.Buffer.{BufferData, PaintsPieces, IsPlainFrom, IsS
 use Rattle.ratatui_core.specs.Widgets.{ChangesWithin, OnPart}
 use Rattle.rtui_boxes.specs.Titles.{InTurn}
 use Rattle.pager.specs.Symbols.{LineSymbol, reversed, is_in_view, line_symbols, symbols_in_view}
-use Rattle.pager.specs.Moves.{page_rows}
+use Rattle.pager.specs.Places.{breaking, number_columns, stride, page_rows, place, rows_after, place_after}
+use Rattle.pager.specs.declared.place.Place.{Place}
 use Rattle.pager.specs.declared.view.View.{View}
 use Rattle.pager.specs.declared.help.TheConstants.{HELP}
 use Rattle.pager.specs.declared.pager.Pager.{Pager}
@@ -46,9 +47,9 @@ PaintsLine x y v pattern line old new = PaintsSymbols x y v (symbols_in_view v (
 abbrev pub view_from : ℕ → ℕ → View
 view_from left width = record { left = left; limit = left + width; width = width }
 
--- how many columns the numbers of lines take: none where there is no room for more
-abbrev pub number_columns : Pager → ℕ → ℕ
-number_columns p width = if p.has_numbers && nat_lt 8 width then 8 else 0
+-- what a row shows of its line: if lines are broken, the columns that begin in that row
+abbrev pub view_at : Pager → ℕ → ℕ → View
+view_at p row width = if p.wraps then record { left = row * stride p; limit = row * stride p + min (stride p) width; width = width } else view_from p.left width
 
 -- a number that ends in column 7, with its first seven digits
 abbrev pub PaintsNumber : ℕ → ℕ → ℕ → BufferData → BufferData → Type 0
@@ -56,34 +57,40 @@ PaintsNumber n x y old new =
     let digits = min (length (decimal n)) 7 in
     PaintsText (x + (7 - digits)) y digits new_style (decimal n) old new
 
--- the number of a line from 1 on, if numbers are shown
+-- a number in so many columns, if they are some; 0 is none
 abbrev pub PaintsNumberIf : ℕ → ℕ → ℕ → ℕ → BufferData → BufferData → Type 0
 PaintsNumberIf zero n x y old new = new ≡ old
-PaintsNumberIf (suc k) n x y old new = PaintsNumber n x y old new
+PaintsNumberIf (suc k) zero x y old new = new ≡ old
+PaintsNumberIf (suc k) (suc n) x y old new = PaintsNumber (suc n) x y old new
 
--- a row of the text: a line with its number, from the column on that is shown first; and after the end of the text a tilde
-abbrev pub PaintsLineAt : Option (List ℕ) → Pager → ℕ → Rect → ℕ → BufferData → BufferData → Type 0
-PaintsLineAt (Some line) p n r y =
+-- the number of a line from 1 on in its first row, and none in its other ones
+abbrev pub number_at : Place → ℕ
+number_at q = if q.row == 0 then q.line + 1 else 0
+
+-- a row of the text: a row of a line, with the line's number in the first one; and after the end of the text a tilde
+abbrev pub PaintsLineAt : Option (List ℕ) → Pager → Place → Rect → ℕ → BufferData → BufferData → Type 0
+PaintsLineAt (Some line) p q r y =
     let beside = number_columns p r.width in
-    InTurn (PaintsNumberIf beside (n + 1) r.x y) (PaintsLine (r.x + beside) y (view_from p.left (r.width - beside)) p.pattern line)
-PaintsLineAt None p n r y = PaintsLine r.x y (view_from 0 r.width) [] (codes "~")
+    InTurn (PaintsNumberIf beside (number_at q) r.x y) (PaintsLine (r.x + beside) y (view_at p q.row (r.width - beside)) p.pattern line)
+PaintsLineAt None p q r y = PaintsLine r.x y (view_from 0 r.width) [] (codes "~")
 
 -- a row of the list of the keys
 abbrev pub help_text : ℕ → List ℕ
 help_text k = unwrap_or (option_map (λ line. line.now) (slice_get HELP k)) []
 
--- row k of the text: the line that is so far behind the first one
-abbrev pub PaintsTextRow : Pager → Rect → ℕ → BufferData → BufferData → Type 0
-PaintsTextRow p r k = PaintsLineAt (slice_get p.document (p.top + k)) p (p.top + k) r (r.y + k)
+-- a place of the text in a row
+abbrev pub PaintsTextRow : Pager → Place → Rect → ℕ → BufferData → BufferData → Type 0
+PaintsTextRow p q r y = PaintsLineAt (slice_get p.document q.line) p q r y
 
--- row k of a page: of the text, or of the list of the keys
-abbrev pub PaintsRowIn : Mode → Pager → Rect → ℕ → BufferData → BufferData → Type 0
-PaintsRowIn Helping p r k = PaintsLine r.x (r.y + k) (view_from 0 r.width) [] (help_text k)
-PaintsRowIn Reading p r k = PaintsTextRow p r k
-PaintsRowIn Asking p r k = PaintsTextRow p r k
+-- row k of a page: a place of the text, or a row of the list of the keys
+abbrev pub PaintsRowIn : Mode → Pager → Rect → ℕ → Place → BufferData → BufferData → Type 0
+PaintsRowIn Helping p r k q = PaintsLine r.x (r.y + k) (view_from 0 r.width) [] (help_text k)
+PaintsRowIn Reading p r k q = PaintsTextRow p q r (r.y + k)
+PaintsRowIn Asking p r k q = PaintsTextRow p q r (r.y + k)
 
+-- row k of a page shows the place that is so many rows behind the first one
 abbrev pub PaintsRow : Pager → Rect → ℕ → BufferData → BufferData → Type 0
-PaintsRow p r k = PaintsRowIn p.mode p r k
+PaintsRow p r k = PaintsRowIn p.mode p r k (rows_after (breaking p) k (place p))
 
 -- the first rows of a page
 unfoldable pub PaintsRows : Pager → Rect → ℕ → BufferData → BufferData → Type 0
@@ -97,7 +104,7 @@ abbrev pub first_shown : Pager → ℕ
 first_shown p = min (p.top + 1) (length p.document)
 
 abbrev pub last_shown : Pager → ℕ
-last_shown p = min (p.top + page_rows p) (length p.document)
+last_shown p = min ((place_after (page_rows p - 1) p).line + 1) (length p.document)
 
 -- how many of a hundred parts of the text end with the page
 abbrev pub per_cent : Pager → ℕ

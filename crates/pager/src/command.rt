@@ -40,6 +40,8 @@ pub enum Command {
     Previous,
     /// The numbers of the lines, or no longer.
     Numbers,
+    /// Long lines broken, or no longer.
+    Wrap,
     /// The list of the keys.
     Help,
     /// The end.
@@ -81,6 +83,7 @@ fn character_command(code: char) -> Command
         'n' => Command::Next,
         'N' => Command::Previous,
         'l' => Command::Numbers,
+        'w' => Command::Wrap,
         'h' => Command::Help,
         '0'..='9' => Command::Digit((code as u32 - 48) as u8),
         _ => move_command(code),

@@ -2,6 +2,7 @@
 
 ghost use Rattle.std.specs.Prelude.{◌≡◌, length, map, slice_get, option_map, IfOk};
 ghost use Rattle.std.specs.Str.Lines.{lines};
+ghost use Rattle.pager.specs.Search.{line_at};
 
 use std::alloc::{AllocError, Global};
 use std::fmt;
@@ -79,6 +80,16 @@ impl<'a> Document<'a> {
         match self.lines.get(number) {
             Some(line) => Some(*line),
             None => None,
+        }
+    }
+
+    /// A line by its number, from 0 on, and after the end an empty one.
+    pub fn line_or_empty(&self, number: u64) -> &'a str
+        ensures { result.now ≡ line_at self.now number }
+    {
+        match self.line(number as usize) {
+            Some(line) => line,
+            None => "",
         }
     }
 }

@@ -4,7 +4,7 @@ ghost use Rattle.std.specs.Prelude.{◌≡◌, [], slice_get, option_map, unwrap
 ghost use Rattle.pager.specs.Pages.{help_text};
 
 /// The list of the keys, row by row.
-pub static HELP: [&str; 16] = [
+pub static HELP: [&str; 17] = [
     "j k  Down Up  Enter   a row further, back: or as many as the number typed before",
     "Space b  f b  PgDn PgUp   a page further, back",
     "d u                   half a page further, back",
@@ -13,6 +13,7 @@ pub static HELP: [&str; 16] = [
     "/ ?                   search further, back: Enter begins, Esc gives up",
     "n N                   the next match, the one before",
     "l                     numbers of lines, or none",
+    "w                     long lines broken, or cut",
     "h                     this list",
     "q  Ctrl+C             the end",
     "",

@@ -7,7 +7,8 @@ ghost use Rattle.ratatui_ansi.specs.Backend.{BackendState};
 ghost use Rattle.ratatui_events.specs.declared.event.Event.{Event};
 ghost use Rattle.ratatui_reads.specs.Reads.{Between};
 ghost use Rattle.ratatui_app.specs.Glass.{RunsOnGlass, IsOnGlass};
-ghost use Rattle.pager.specs.Moves.{started, updated, IsInText};
+ghost use Rattle.pager.specs.Moves.{started, updated};
+ghost use Rattle.pager.specs.Places.{IsInText};
 ghost use Rattle.pager.specs.Pages.{PaintsPager};
 ghost use Rattle.pager.specs.declared.pager.Pager.{Pager};
 

@@ -1,32 +1,19 @@
 //! What each command does to the place in the text.
 
 ghost use Rattle.std.specs.Prelude.{◌≡◌, ◌-◌};
-ghost use Rattle.pager.specs.Moves.{page_rows, half_page, last_top, or_number, at_line, further, back, half_width, typed_digit, moved, asked, obeyed};
+ghost use Rattle.pager.specs.Moves.{half_page, or_number, at_line, further, back, half_width, typed_digit, moved, asked, obeyed};
 
 use crate::command::Command;
 use crate::pager::{Mode, Pager};
+use crate::place::Place;
 use crate::typing::Typing;
 
 impl<'a> Pager<'a> {
-    // How many rows of text a page has.
-    pub(crate) fn page_rows(&self) -> u32
-        ensures { result ≡ page_rows self.now }
-    {
-        u32::from(self.rows.saturating_sub(1).max(1))
-    }
-
-    // Half of that.
+    // Half of the rows of a page.
     fn half_page(&self) -> u32
         ensures { result ≡ half_page self.now }
     {
         (self.page_rows() / 2).max(1)
-    }
-
-    // The line at which the last page begins.
-    fn last_top(&self) -> u32
-        ensures { result ≡ last_top self.now }
-    {
-        self.document.len().saturating_sub(self.page_rows())
     }
 
     // The number that was typed, or else another one.
@@ -40,7 +27,7 @@ impl<'a> Pager<'a> {
     pub(crate) fn go_to(&mut self, line: u64)
         ensures { self.new ≡ at_line line self.old }
     {
-        self.top = line.min(u64::from(self.last_top())) as u32;
+        self.go_to_place(Place { line, row: 0 });
     }
 
     // Goes so many rows further, or as many as the number says.
@@ -48,7 +35,8 @@ impl<'a> Pager<'a> {
         ensures { self.new ≡ further rows self.old }
     {
         let by = self.or_number(rows);
-        self.go_to(u64::from(self.top) + u64::from(by));
+        let place = self.place_after(by);
+        self.go_to_place(place);
     }
 
     // Goes so many rows back, or as many as the number says.
@@ -56,7 +44,8 @@ impl<'a> Pager<'a> {
         ensures { self.new ≡ back rows self.old }
     {
         let by = self.or_number(rows);
-        self.go_to(u64::from(self.top.saturating_sub(by)));
+        let place = self.place_before(by);
+        self.go_to_place(place);
     }
 
     // Goes to a line from 1 on, or to the one that the number says.
@@ -89,6 +78,23 @@ impl<'a> Pager<'a> {
         self.left = self.left.saturating_add(by);
     }
 
+    // Breaks long lines, or no longer.
+    fn go_wrapping(&mut self)
+        ensures { self.new ≡ moved Command.Wrap self.old }
+    {
+        self.wraps = !self.wraps;
+        self.left = 0;
+        self.go_to(u64::from(self.top));
+    }
+
+    // Shows the numbers of the lines, or no longer.
+    fn go_numbering(&mut self)
+        ensures { self.new ≡ moved Command.Numbers self.old }
+    {
+        self.has_numbers = !self.has_numbers;
+        self.go_to(u64::from(self.top));
+    }
+
     // Takes another digit of a number.
     fn type_digit(&mut self, digit: u8)
         ensures { self.new ≡ typed_digit digit self.old }
@@ -96,7 +102,8 @@ impl<'a> Pager<'a> {
         self.number = self
             .number
             .saturating_mul(10)
-            .saturating_add(u32::from(digit));
+            .saturating_add(u32::from(digit))
+            .min(9_999_999);
     }
 
     // Moves as a command says.
@@ -119,7 +126,8 @@ impl<'a> Pager<'a> {
             Command::ToEnd => self.go_to_number(count),
             Command::ToLeft => self.go_left(),
             Command::ToRight => self.go_right(),
-            Command::Numbers => self.has_numbers = !self.has_numbers,
+            Command::Numbers => self.go_numbering(),
+            Command::Wrap => self.go_wrapping(),
             Command::Help => self.mode = Mode::Helping,
             Command::Quit => self.is_over = true,
             _ => {}

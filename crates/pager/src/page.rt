@@ -5,11 +5,12 @@ ghost use Rattle.ratatui_core.specs.Layout.{IsInside};
 ghost use Rattle.ratatui_core.specs.Buffer.{IsReadyAt, IsReadyFrom, IsSettledBuffer};
 ghost use Rattle.ratatui_core.specs.Widgets.{ChangesWithin};
 ghost use Rattle.rtui_boxes.specs.Boxes.{IsBoxArea};
-ghost use Rattle.pager.specs.Pages.{number_columns, PaintsNumber, PaintsNumberIf, PaintsLine, PaintsLineAt, PaintsTextRow, PaintsRow, PaintsRows, view_from, PaintsPage};
+ghost use Rattle.pager.specs.Pages.{view_at, PaintsNumber, PaintsNumberIf, PaintsLine, PaintsLineAt, PaintsTextRow, PaintsRowIn, PaintsRows, view_from, PaintsPage};
 
 use crate::help::help_text;
 use crate::pager::{Mode, Pager};
 use crate::painting::{paint_line, paint_text};
+use crate::place::Place;
 use crate::view::View;
 use itoa::Buffer as Digits;
 use ratatui_app::Application;
@@ -42,7 +43,7 @@ fn paint_number(
     paint_text(text, count, Style::new(), x, y, part, buf)
 }
 
-// Paints the number of a line from 1 on in the columns that numbers take, if they take some.
+// Paints a number in the columns that numbers take, if they take some and there is one.
 fn paint_number_if(
     columns: u16,
     number: u64,
@@ -59,7 +60,7 @@ fn paint_number_if(
     ensures ok { OnOk result (PaintsNumberIf columns number part.x y buf.old buf.new) }
     ensures ready { IsReadyFrom y buf.old → OnOk result (IsReadyAt (part.x + columns) y buf.new) }
 {
-    if columns == 0 {
+    if columns == 0 || number == 0 {
         return Ok(());
     }
     paint_number(number, y, part, buf)?;
@@ -82,18 +83,28 @@ fn paint_plain(line: &str, y: u16, part: Rect, buf: &mut Buffer) -> Result<(), A
 }
 
 impl<'a> Pager<'a> {
-    // How many columns the numbers of lines take.
-    fn number_columns(&self, width: u16) -> u16
-        ensures { result ≡ number_columns self.now width }
+    // What a row shows of its line.
+    fn view_at(&self, row: u32, width: u16) -> View
+        ensures view { result ≡ view_at self.now row width }
+        ensures left { result.left < 9223372036854775808 }
     {
-        if self.has_numbers && width > 8 { 8 } else { 0 }
+        if !self.wraps {
+            return View::new(u64::from(self.left), width);
+        }
+        let stride = u64::from(self.stride());
+        let left = u64::from(row) * stride;
+        View {
+            left,
+            limit: left + stride.min(u64::from(width)),
+            width,
+        }
     }
 
     // Paints a line of the text, with its number.
     fn paint_text_line(
         &self,
         line: &str,
-        number: u64,
+        place: Place,
         y: u16,
         part: Rect,
         buf: &mut Buffer,
@@ -102,50 +113,64 @@ impl<'a> Pager<'a> {
         requires inside { IsInside part buf.old.area }
         requires top { part.y ≤ y }
         requires bottom { y < part.y + part.height }
-        requires number { number < 9223372036854775808 }
+        requires place { place.line < 9223372036854775808 }
         ensures within { ChangesWithin part buf.old buf.new }
         ensures ok { OnOk result
-            (PaintsLineAt (Some line.now) self.now number part y buf.old buf.new) }
+            (PaintsLineAt (Some line.now) self.now place part y buf.old buf.new) }
         ensures ready { IsReadyFrom y buf.old → OnOk result (IsReadyFrom (y + 1) buf.new) }
     {
         let beside = self.number_columns(part.width);
-        paint_number_if(beside, number + 1, y, part, buf)?;
-        let view = View::new(u64::from(self.left), part.width - beside);
+        let number = if place.row == 0 { place.line + 1 } else { 0 };
+        paint_number_if(beside, number, y, part, buf)?;
+        let view = self.view_at(place.row, part.width - beside);
         paint_line(line, self.pattern.as_str(), view, part.x + beside, y, part, buf)
     }
 
     // Paints a row of the text.
-    fn paint_text_row(&self, part: Rect, k: u16, buf: &mut Buffer) -> Result<(), AllocError>
+    fn paint_text_row(
+        &self,
+        place: Place,
+        y: u16,
+        part: Rect,
+        buf: &mut Buffer,
+    ) -> Result<(), AllocError>
         requires some { IsBoxArea part }
         requires inside { IsInside part buf.old.area }
-        requires row { k < part.height }
+        requires place { place.line < 9223372036854775808 }
+        requires top { part.y ≤ y }
+        requires bottom { y < part.y + part.height }
         ensures within { ChangesWithin part buf.old buf.new }
-        ensures ok { OnOk result (PaintsTextRow self.now part k buf.old buf.new) }
-        ensures ready { IsReadyFrom (part.y + k) buf.old
-            → OnOk result (IsReadyFrom (part.y + k + 1) buf.new) }
+        ensures ok { OnOk result (PaintsTextRow self.now place part y buf.old buf.new) }
+        ensures ready { IsReadyFrom y buf.old → OnOk result (IsReadyFrom (y + 1) buf.new) }
     {
-        let number = u64::from(self.top) + u64::from(k);
-        let y = part.y + k;
-        match self.document.line(number as usize) {
-            Some(line) => self.paint_text_line(line, number, y, part, buf),
+        match self.document.line(place.line as usize) {
+            Some(line) => self.paint_text_line(line, place, y, part, buf),
             None => paint_plain("~", y, part, buf),
         }
     }
 
-    // Paints a row of the page.
-    fn paint_row(&self, part: Rect, k: u16, buf: &mut Buffer) -> Result<(), AllocError>
+    // Paints row k of the page, which shows this place if it shows the text.
+    fn paint_row(
+        &self,
+        k: u16,
+        place: Place,
+        part: Rect,
+        buf: &mut Buffer,
+    ) -> Result<(), AllocError>
         requires some { IsBoxArea part }
         requires inside { IsInside part buf.old.area }
+        requires place { place.line < 9223372036854775808 }
         requires row { k < part.height }
         ensures within { ChangesWithin part buf.old buf.new }
-        ensures ok { OnOk result (PaintsRow self.now part k buf.old buf.new) }
+        ensures ok { OnOk result
+            (PaintsRowIn self.now.mode self.now part k place buf.old buf.new) }
         ensures ready { IsReadyFrom (part.y + k) buf.old
             → OnOk result (IsReadyFrom (part.y + k + 1) buf.new) }
     {
         match self.mode {
             Mode::Helping => paint_plain(help_text(k), part.y + k, part, buf),
-            Mode::Reading => self.paint_text_row(part, k, buf),
-            Mode::Asking => self.paint_text_row(part, k, buf),
+            Mode::Reading => self.paint_text_row(place, part.y + k, part, buf),
+            Mode::Asking => self.paint_text_row(place, part.y + k, part, buf),
         }
     }
 
@@ -159,8 +184,10 @@ impl<'a> Pager<'a> {
         ensures ready { IsReadyFrom part.y buf.old
             → OnOk result (IsReadyFrom (part.y + rows) buf.new) }
     {
+        let mut place = self.place();
         for k in 0..rows {
-            self.paint_row(part, k, buf)?;
+            self.paint_row(k, place, part, buf)?;
+            place = self.next_place(place);
         }
         Ok(())
     }

@@ -35,9 +35,13 @@ pub struct Pager<'a> {
     /// The columns and rows of the terminal.
     pub(crate) columns: u16,
     pub(crate) rows: u16,
-    /// The first line of the page, from 0 on, and the first column that is shown of each.
+    /// The first line of the page, from 0 on, and the row of it that is the first one.
     pub(crate) top: u32,
+    pub(crate) row: u32,
+    /// The first column that is shown of each line, if lines aren't broken.
     pub(crate) left: u32,
+    /// Whether lines are broken that are longer than a row.
+    pub(crate) wraps: bool,
     /// The number that is typed, or 0.
     pub(crate) number: u32,
     /// Whether the numbers of the lines are shown.
@@ -85,7 +89,9 @@ impl<'a> Pager<'a> {
             columns: size.width,
             rows: size.height,
             top: 0,
+            row: 0,
             left: 0,
+            wraps: false,
             number: 0,
             has_numbers: false,
             mode: Mode::Reading,

@@ -29,7 +29,8 @@ impl<'a> Pager<'a> {
     fn last_shown(&self) -> u64
         ensures { result ≡ last_shown self.now }
     {
-        (u64::from(self.top) + u64::from(self.page_rows())).min(u64::from(self.document.len()))
+        let last = self.place_after(self.page_rows() - 1);
+        (last.line + 1).min(u64::from(self.document.len()))
     }
 
     // How many of a hundred parts of the text end with the page.

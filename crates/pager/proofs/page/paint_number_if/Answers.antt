@@ -1,11 +1,11 @@
 use Rattle.std.proofs.Common.{◌+◌, ◌≤◌, arith}
 use Rattle.rtui_boxes.proofs.BoxLemmas.{inside-within}
-use Rattle.pager.proofs.PaintLemmas.{part-ready, part-later}
+use Rattle.pager.proofs.PaintLemmas.{part-ready, part-later, numbers-fit}
 use Rattle.pager.proofs.page.paint_number_if.Goals as goal
 
 pub returns-then-columns-eq0-clause-ready : goal.returns-then-columns-eq0-clause-ready
 returns-then-columns-eq0-clause-ready c =
-    part-ready c.args.part c.args.y c.args.buf.now c.requires.some c.requires.inside c.requires.top c.requires.bottom (c.args.part.x + c.args.columns) (omega arith)
+    part-ready c.args.part c.args.y c.args.buf.now c.requires.some c.requires.inside c.requires.top c.requires.bottom (c.args.part.x + c.args.columns) (omega (arith, numbers-fit c.args.columns c.args.part.width c.requires.wide))
 
 pub returns-clause-ready : goal.returns-clause-ready
 returns-clause-ready c = λ from.

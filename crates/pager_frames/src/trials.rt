@@ -1,0 +1,85 @@
+//! Recordings played again: cut at random places, and with reads and calls that fail.
+
+use crate::frames::Stage;
+use crate::recording::{Player, Recording};
+use ratatui_app::{Fault, run};
+use ratatui_core::backend::TestBackend;
+use ratatui_core::terminal::Terminal;
+use std::io;
+
+/// How many times a recording is cut.
+const CUTS: u32 = 40;
+
+// What came of a recording: whether it was played to its end, and the fault if not.
+fn played(
+    stage: Stage<'_>,
+    player: &mut Player<'_>,
+    calls: Option<u64>,
+) -> Option<(Terminal<TestBackend>, &'static str)> {
+    let (mut terminal, mut pager) = stage.open()?;
+    if let Some(calls) = calls {
+        terminal.backend_mut().fail_after(calls);
+    }
+    let told = match run(player, true, &mut terminal, &mut pager) {
+        Ok(()) => "over",
+        Err(Fault::Read(_)) => "read",
+        Err(Fault::Memory) => "memory",
+        Err(Fault::Draw(_)) => "draw",
+        Err(Fault::Resize(_)) => "resize",
+    };
+    Some((terminal, told))
+}
+
+// Whether a recording that is cut leads to the same screen as a whole one.
+fn agrees(stage: Stage<'_>, recording: &Recording, seed: u32) -> Option<bool> {
+    let mut whole = Player::new(recording, None, usize::MAX);
+    let mut cut = Player::new(recording, Some(seed), usize::MAX);
+    let (first, first_told) = played(stage, &mut whole, None)?;
+    let (second, second_told) = played(stage, &mut cut, None)?;
+    let is_same = first.backend().buffer_is(second.backend().buffer());
+    Some(is_same && first_told == second_told)
+}
+
+// How many of the first reads, each failing in turn, are told as such.
+fn told_reads(stage: Stage<'_>, recording: &Recording) -> Option<usize> {
+    let mut told = 0usize;
+    for calls in 0..recording.ends.len() {
+        let mut player = Player::new(recording, None, calls);
+        let (_, fault) = played(stage, &mut player, None)?;
+        if fault == "read" {
+            told = told.saturating_add(1);
+        }
+    }
+    Some(told)
+}
+
+// How many calls of the screen, each failing in turn, are told as such, and how many are made.
+fn told_calls(stage: Stage<'_>, recording: &Recording) -> Option<(u64, u64)> {
+    let mut told = 0u64;
+    for calls in 0..10_000u64 {
+        let mut player = Player::new(recording, None, usize::MAX);
+        let (_, fault) = played(stage, &mut player, Some(calls))?;
+        match fault {
+            "draw" | "resize" => told = told.saturating_add(1),
+            _ => return Some((told, calls)),
+        }
+    }
+    None
+}
+
+/// Prints what came of the trials; answers whether all went as they should.
+pub fn print_trials(rt: &HostRuntime, stage: Stage<'_>, recording: &Recording) -> io::Result<bool> {
+    let mut same = 0u32;
+    for seed in 0..CUTS {
+        if agrees(stage, recording, seed) == Some(true) {
+            same = same.saturating_add(1);
+        }
+    }
+    println!(rt; "cuts: {same} of {CUTS} lead to the same screen")?;
+    let reads = recording.ends.len();
+    let told = told_reads(stage, recording).unwrap_or(0);
+    println!(rt; "reads: {told} of {reads} that fail are told")?;
+    let (calls_told, calls) = told_calls(stage, recording).unwrap_or((0, 1));
+    println!(rt; "calls: {calls_told} of {calls} that fail are told")?;
+    Ok(same == CUTS && told == reads && calls_told == calls)
+}
