@@ -1,5 +1,6 @@
 -- The place lies in the text, whatever comes.
-use Rattle.std.proofs.Common.{◌≡◌, ℕ, ◌≤◌, ◌-◌, ◌==◌, ◌&&◌, ◌||◌, Bool, true, false, not, nat_lt, if◌then◌else◌, List, length, take, encode_utf8, Option, Some, None, refl, arith}
+use Rattle.std.proofs.Common.{◌≡◌, ℕ, ◌≤◌, ◌-◌, ◌==◌, ◌&&◌, ◌||◌, Bool, true, false, not, nat_lt, if◌then◌else◌, List, length}
+use Rattle.std.proofs.Common.{take, encode_utf8, Option, Some, None, refl, arith}
 use Rattle.std.proofs.lemmas.Bool.Decides.{nat_tests}
 use Rattle.std.specs.List.{flat_map}
 use Rattle.ratatui_core.specs.Layout.{Size}
@@ -11,12 +12,15 @@ use Rattle.pager.specs.declared.pager.Mode.TheVariants.{Reading, Asking, Helping
 use Rattle.pager.specs.declared.answer.Answer.{Answer}
 use Rattle.pager.specs.declared.answer.Answer.TheVariants.{Add, Erase, Search, Cancel, Ignore}
 use Rattle.pager.specs.declared.command.Command.{Command}
-use Rattle.pager.specs.declared.command.Command.TheVariants.{Nothing, Digit, Down, Up, PageDown, PageUp, HalfDown, HalfUp, WheelDown, WheelUp}
-use Rattle.pager.specs.declared.command.Command.TheVariants.{ToStart, ToEnd, ToLeft, ToRight, Ask, Next, Previous, Numbers, Wrap, Help, Quit}
+use Rattle.pager.specs.declared.command.Command.TheVariants.{Nothing, Digit, Down, Up, PageDown, PageUp, HalfDown, HalfUp}
+use Rattle.pager.specs.declared.command.Command.TheVariants.{WheelDown, WheelUp}
+use Rattle.pager.specs.declared.command.Command.TheVariants.{ToStart, ToEnd, ToLeft, ToRight, Ask, Next, Previous, Numbers, Wrap}
+use Rattle.pager.specs.declared.command.Command.TheVariants.{Help, Quit}
 use Rattle.pager.specs.Search.{next_match, last_match}
 use Rattle.pager.specs.declared.place.Place.{Place}
 use Rattle.pager.specs.Places.{IsInText, place, place_of, last_place, is_before, earlier, at_place, place_after, place_before}
-use Rattle.pager.specs.Moves.{at_line, started, found_at, sought_before, sought_from, before_found, after_found, sought_on, moved, obeyed, erased, with_pattern, sought_first, answered, acted, updated_by, updated}
+use Rattle.pager.specs.Moves.{at_line, started, found_at, sought_before, sought_from, before_found, after_found, sought_on, moved}
+use Rattle.pager.specs.Moves.{obeyed, erased, with_pattern, sought_first, answered, acted, updated_by, updated}
 use Rattle.pager.specs.Keys.{event_command, event_answer, is_press}
 
 -- of two places at most one stands before the other one

@@ -11,8 +11,10 @@ use Rattle.ratatui_events.specs.declared.mouse.MouseEventKind.{MouseEventKind}
 use Rattle.ratatui_events.specs.declared.mouse.MouseEventKind.TheVariants.{ScrollDown, ScrollUp}
 use Rattle.ratatui_events.specs.Key.{modifier_bits}
 use Rattle.pager.specs.declared.command.Command.{Command}
-use Rattle.pager.specs.declared.command.Command.TheVariants.{Nothing, Digit, Down, Up, PageDown, PageUp, HalfDown, HalfUp, WheelDown, WheelUp}
-use Rattle.pager.specs.declared.command.Command.TheVariants.{ToStart, ToEnd, ToLeft, ToRight, Ask, Next, Previous, Numbers, Wrap, Help, Quit}
+use Rattle.pager.specs.declared.command.Command.TheVariants.{Nothing, Digit, Down, Up, PageDown, PageUp}
+use Rattle.pager.specs.declared.command.Command.TheVariants.{HalfDown, HalfUp, WheelDown, WheelUp}
+use Rattle.pager.specs.declared.command.Command.TheVariants.{ToStart, ToEnd, ToLeft, ToRight, Ask, Next}
+use Rattle.pager.specs.declared.command.Command.TheVariants.{Previous, Numbers, Wrap, Help, Quit}
 use Rattle.pager.specs.declared.answer.Answer.{Answer}
 use Rattle.pager.specs.declared.answer.Answer.TheVariants.{Add, Erase, Search, Cancel, Ignore}
 

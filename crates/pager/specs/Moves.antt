@@ -1,5 +1,7 @@
 -- What each event makes of a pager: its place, its search, and what it shows.
-use Rattle.std.specs.Prelude.{ℕ, Bool, true, false, not, ◌+◌, ◌-◌, ◌*◌, ◌/◌, ◌≤◌, ◌==◌, nat_lt, min, max, if◌then◌else◌, List, [], ◌∷◌, ◌++◌, length, take, encode_utf8, Option, Some, None}
+use Rattle.std.specs.Prelude.{ℕ, Bool, true, false, not, ◌+◌, ◌-◌, ◌*◌, ◌/◌, ◌≤◌, ◌==◌, nat_lt, min, max}
+use Rattle.std.specs.Prelude.{if◌then◌else◌, List, [], ◌∷◌, ◌++◌, length, take, encode_utf8, Option, Some}
+use Rattle.std.specs.Prelude.{None}
 use Rattle.std.specs.List.{flat_map}
 use Rattle.ratatui_core.specs.Layout.{Size}
 use Rattle.ratatui_events.specs.declared.event.Event.{Event}
@@ -10,8 +12,10 @@ use Rattle.pager.specs.declared.pager.Mode.TheVariants.{Reading, Asking, Helping
 use Rattle.pager.specs.declared.answer.Answer.{Answer}
 use Rattle.pager.specs.declared.answer.Answer.TheVariants.{Add, Erase, Search, Cancel, Ignore}
 use Rattle.pager.specs.declared.command.Command.{Command}
-use Rattle.pager.specs.declared.command.Command.TheVariants.{Nothing, Digit, Down, Up, PageDown, PageUp, HalfDown, HalfUp, WheelDown, WheelUp}
-use Rattle.pager.specs.declared.command.Command.TheVariants.{ToStart, ToEnd, ToLeft, ToRight, Ask, Next, Previous, Numbers, Wrap, Help, Quit}
+use Rattle.pager.specs.declared.command.Command.TheVariants.{Nothing, Digit, Down, Up, PageDown, PageUp}
+use Rattle.pager.specs.declared.command.Command.TheVariants.{HalfDown, HalfUp, WheelDown, WheelUp}
+use Rattle.pager.specs.declared.command.Command.TheVariants.{ToStart, ToEnd, ToLeft, ToRight, Ask, Next}
+use Rattle.pager.specs.declared.command.Command.TheVariants.{Previous, Numbers, Wrap, Help, Quit}
 use Rattle.pager.specs.Keys.{event_command, event_answer, is_press}
 use Rattle.pager.specs.Search.{next_match, last_match}
 use Rattle.pager.specs.Places.{place_of, page_rows, at_place, place_after, place_before}
@@ -19,8 +23,24 @@ use Rattle.pager.specs.Places.{place_of, page_rows, at_place, place_after, place
 -- at the first line
 abbrev pub started : List (List ℕ) → List ℕ → List ℕ → Size → Pager
 started lines name pattern size = record {
-  document = lines; name = name; columns = size.width; rows = size.height; top = 0; row = 0; left = 0; wraps = false; number = 0; has_numbers = false;
-  mode = Reading; is_back = false; typed = []; pattern = pattern; found = None; is_missing = false; is_over = false }
+  document = lines;
+  name = name;
+  columns = size.width;
+  rows = size.height;
+  top = 0;
+  row = 0;
+  left = 0;
+  wraps = false;
+  number = 0;
+  has_numbers = false;
+  mode = Reading;
+  is_back = false;
+  typed = [];
+  pattern = pattern;
+  found = None;
+  is_missing = false;
+  is_over = false;
+}
 
 abbrev pub half_page : Pager → ℕ
 half_page p = max (page_rows p / 2) 1
@@ -90,7 +110,9 @@ before_found (Some k) top = k
 before_found None top = top
 
 abbrev pub sought_on : Bool → Pager → Pager
-sought_on is_back p = if is_back then sought_before (before_found p.found p.top) p else sought_from (after_found p.found p.top) p
+sought_on is_back p =
+    if is_back then sought_before (before_found p.found p.top) p
+    else sought_from (after_found p.found p.top) p
 
 -- a search is typed
 abbrev pub asked : Bool → Pager → Pager
@@ -110,7 +132,9 @@ with_character c cs = if nat_lt (length cs) 80 then cs ++ c ∷ [] else cs
 
 -- one less; before the first one the search is given up
 abbrev pub erased : Pager → Pager
-erased p = if nat_lt 0 (length p.typed) then record p { typed = take (length p.typed - 1) p.typed } else record p { mode = Reading }
+erased p =
+    if nat_lt 0 (length p.typed) then record p { typed = take (length p.typed - 1) p.typed }
+    else record p { mode = Reading }
 
 -- what is sought is what was typed, or, if that is nothing, what was sought last
 abbrev pub with_pattern : Pager → Pager

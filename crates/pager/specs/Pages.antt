@@ -1,8 +1,11 @@
 -- What a pager paints: lines in rows, and the status in the last one.
-use Rattle.std.specs.Prelude.{◌≡◌, ℕ, zero, suc, Bool, true, false, ◌+◌, ◌-◌, ◌*◌, ◌/◌, ◌==◌, ◌&&◌, nat_lt, min, if◌then◌else◌, List, [], ◌∷◌, ◌++◌, length, Option, Some, None, option_map, unwrap_or, slice_get, codes, encode_utf8}
+use Rattle.std.specs.Prelude.{◌≡◌, ℕ, zero, suc, Bool, true, false, ◌+◌, ◌-◌, ◌*◌, ◌/◌, ◌==◌, ◌&&◌, nat_lt}
+use Rattle.std.specs.Prelude.{min, if◌then◌else◌, List, [], ◌∷◌, ◌++◌, length, Option, Some, None, option_map}
+use Rattle.std.specs.Prelude.{unwrap_or, slice_get, codes, encode_utf8}
 use Rattle.std.specs.{Fmt.decimal, List.flat_map}
 use Rattle.ratatui_core.specs.{Layout.Rect, Layout.EdgesFit, Style.Style, Style.new_style}
-use Rattle.ratatui_core.specs.Buffer.{BufferData, PaintsPieces, IsPlainFrom, IsSettledBuffer, columns, text_pieces, position_of}
+use Rattle.ratatui_core.specs.Buffer.{BufferData, PaintsPieces, IsPlainFrom, IsSettledBuffer, columns}
+use Rattle.ratatui_core.specs.Buffer.{text_pieces, position_of}
 use Rattle.ratatui_core.specs.Widgets.{ChangesWithin, OnPart}
 use Rattle.rtui_boxes.specs.Titles.{InTurn}
 use Rattle.pager.specs.Symbols.{LineSymbol, reversed, is_in_view, line_symbols, symbols_in_view}
@@ -39,7 +42,8 @@ PaintsSymbols x y v (s ∷ ss) old new = InTurn (PaintsSymbol x y v s) (PaintsSy
 
 -- what shows of a line, painted in a row from x on, with what is sought marked
 abbrev pub PaintsLine : ℕ → ℕ → View → List ℕ → List ℕ → BufferData → BufferData → Type 0
-PaintsLine x y v pattern line old new = PaintsSymbols x y v (symbols_in_view v (line_symbols pattern line)) old new
+PaintsLine x y v pattern line old new =
+    PaintsSymbols x y v (symbols_in_view v (line_symbols pattern line)) old new
 
 -- ---- rows of a page
 
@@ -49,7 +53,10 @@ view_from left width = record { left = left; limit = left + width; width = width
 
 -- what a row shows of its line: if lines are broken, the columns that begin in that row
 abbrev pub view_at : Pager → ℕ → ℕ → View
-view_at p row width = if p.wraps then record { left = row * stride p; limit = row * stride p + min (stride p) width; width = width } else view_from p.left width
+view_at p row width =
+    let left = row * stride p in
+    if p.wraps then record { left = left; limit = left + min (stride p) width; width = width }
+    else view_from p.left width
 
 -- a number that ends in column 7, with its first seven digits
 abbrev pub PaintsNumber : ℕ → ℕ → ℕ → BufferData → BufferData → Type 0
@@ -67,11 +74,12 @@ PaintsNumberIf (suc k) (suc n) x y old new = PaintsNumber (suc n) x y old new
 abbrev pub number_at : Place → ℕ
 number_at q = if q.row == 0 then q.line + 1 else 0
 
--- a row of the text: a row of a line, with the line's number in the first one; and after the end of the text a tilde
+-- a row of the text: a row of a line, with the line's number in the first one; after the end of the text a tilde
 abbrev pub PaintsLineAt : Option (List ℕ) → Pager → Place → Rect → ℕ → BufferData → BufferData → Type 0
 PaintsLineAt (Some line) p q r y =
     let beside = number_columns p r.width in
-    InTurn (PaintsNumberIf beside (number_at q) r.x y) (PaintsLine (r.x + beside) y (view_at p q.row (r.width - beside)) p.pattern line)
+    InTurn (PaintsNumberIf beside (number_at q) r.x y)
+    (PaintsLine (r.x + beside) y (view_at p q.row (r.width - beside)) p.pattern line)
 PaintsLineAt None p q r y = PaintsLine r.x y (view_from 0 r.width) [] (codes "~")
 
 -- a row of the list of the keys
@@ -113,11 +121,12 @@ per_cent p = if length p.document == 0 then 100 else last_shown p * 100 / length
 -- the place, as ` 1-23/100 23%`
 abbrev pub place_text : Pager → List ℕ
 place_text p =
-    codes " " ++ decimal (first_shown p) ++ codes "-" ++ decimal (last_shown p) ++ codes "/" ++ decimal (length p.document)
+    codes " " ++ decimal (first_shown p) ++ codes "-" ++ decimal (last_shown p)
+    ++ codes "/" ++ decimal (length p.document)
     ++ codes " " ++ decimal (per_cent p) ++ codes "%"
 
--- the two parts of a status: what the text is called, and the place; or what isn't found; or what is typed of a search; or how to
--- leave the list of the keys
+-- the two parts of a status: what the text is called, and the place; or what isn't found; or what is typed of a
+-- search; or how to leave the list of the keys
 abbrev pub first_part : Mode → Pager → List ℕ
 first_part Reading p = if p.is_missing then codes "not found: " else p.name
 first_part Asking p = if p.is_back then codes "?" else codes "/"
@@ -133,7 +142,8 @@ abbrev pub PaintsStatus : Pager → Rect → ℕ → BufferData → BufferData �
 PaintsStatus p r y =
     let first = first_part p.mode p in
     let used = columns (text_pieces r.width reversed first) in
-    InTurn (PaintsText r.x y r.width reversed first) (PaintsText (r.x + used) y (r.width - used) reversed (second_part p.mode p))
+    InTurn (PaintsText r.x y r.width reversed first)
+    (PaintsText (r.x + used) y (r.width - used) reversed (second_part p.mode p))
 
 -- ---- the page
 
@@ -141,7 +151,8 @@ PaintsStatus p r y =
 abbrev pub PaintsPage : Pager → Rect → BufferData → BufferData → Type 0
 PaintsPage p r = InTurn (PaintsRows p r (r.height - 1)) (PaintsStatus p r (r.y + (r.height - 1)))
 
--- a page over the part of an area that a buffer has; of a buffer of plain cells comes one that a screen can show
+-- a page over the part of an area that a buffer has; of a buffer of plain cells comes one that a screen can
+-- show
 pub record PaintsPager (p : Pager) (area : Rect) (old new : BufferData) : Type 0 where
   pub within : ChangesWithin area old new
   pub page : OnPart (PaintsPage p) area old new

@@ -1,5 +1,6 @@
 -- Places in a text: a line, and a row of it if lines are broken.
-use Rattle.std.specs.Prelude.{◌≡◌, ℕ, zero, suc, Bool, true, false, ◌+◌, ◌-◌, ◌*◌, ◌/◌, ◌==◌, ◌&&◌, ◌||◌, nat_lt, min, max, if◌then◌else◌, List, [], ◌∷◌, length}
+use Rattle.std.specs.Prelude.{◌≡◌, ℕ, zero, suc, Bool, true, false, ◌+◌, ◌-◌, ◌*◌, ◌/◌, ◌==◌, ◌&&◌, ◌||◌}
+use Rattle.std.specs.Prelude.{nat_lt, min, max, if◌then◌else◌, List, [], ◌∷◌, length}
 use Rattle.pager.specs.declared.pager.Pager.{Pager}
 use Rattle.pager.specs.declared.place.Place.{Place}
 use Rattle.pager.specs.Search.{line_at}
@@ -16,7 +17,8 @@ place p = place_of p.top p.row
 abbrev pub number_columns : Pager → ℕ → ℕ
 number_columns p width = if p.has_numbers && nat_lt 8 width then 8 else 0
 
--- how many columns of a line begin in a row, if lines are broken: all of the text but the last one, in which a wide symbol may end
+-- how many columns of a line begin in a row, if lines are broken: all but those of the numbers and the last one,
+-- in which a wide symbol may end
 abbrev pub stride : Pager → ℕ
 stride p = max (p.columns - number_columns p p.columns - 1) 1
 
@@ -40,7 +42,9 @@ line_rows t line = if t.wraps then min (last_start 0 (line_symbols [] line)) 429
 
 -- the next row of a text, which goes on behind its end
 abbrev pub next_place : Breaking → Place → Place
-next_place t q = if nat_lt (q.row + 1) (line_rows t (line_at t.lines q.line)) then place_of q.line (q.row + 1) else place_of (q.line + 1) 0
+next_place t q =
+    if nat_lt (q.row + 1) (line_rows t (line_at t.lines q.line)) then place_of q.line (q.row + 1)
+    else place_of (q.line + 1) 0
 
 -- the row before; the first one stays
 abbrev pub previous_place : Breaking → Place → Place
@@ -64,7 +68,9 @@ page_rows p = max (p.rows - 1) 1
 
 -- the place at which the last page begins: that page ends with the last row of the text
 abbrev pub last_place : Pager → Place
-last_place p = if p.wraps then rows_before (breaking p) (page_rows p) (place_of (length p.document) 0) else place_of (length p.document - page_rows p) 0
+last_place p =
+    if p.wraps then rows_before (breaking p) (page_rows p) (place_of (length p.document) 0)
+    else place_of (length p.document - page_rows p) 0
 
 -- a place stands before another one
 abbrev pub is_before : Place → Place → Bool

@@ -1,5 +1,6 @@
 -- Which lines have what is sought.
-use Rattle.std.specs.Prelude.{ℕ, zero, suc, Bool, true, ◌&&◌, ◌||◌, ◌==◌, nat_lt, if◌then◌else◌, List, [], ◌∷◌, length, drop, slice_index_or, Option, Some, None}
+use Rattle.std.specs.Prelude.{ℕ, zero, suc, Bool, true, ◌&&◌, ◌||◌, ◌==◌, nat_lt, if◌then◌else◌, List, []}
+use Rattle.std.specs.Prelude.{◌∷◌, length, drop, slice_index_or, Option, Some, None}
 use Rattle.std.specs.List.{starts_with, position_from}
 
 -- a text begins with another
@@ -26,4 +27,5 @@ next_match pattern lines from = position_from (has_match pattern) from (drop fro
 -- the last line before one that has it
 unfoldable pub last_match : List ℕ → List (List ℕ) → ℕ → Option ℕ
 last_match pattern lines zero = None
-last_match pattern lines (suc k) = if has_match pattern (line_at lines k) then Some k else last_match pattern lines k
+last_match pattern lines (suc k) =
+    if has_match pattern (line_at lines k) then Some k else last_match pattern lines k

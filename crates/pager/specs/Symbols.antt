@@ -1,8 +1,10 @@
 -- The symbols of a line: what is shown for each grapheme, where, and whether it is marked.
-use Rattle.std.specs.Prelude.{ℕ, Bool, true, ◌+◌, ◌-◌, ◌%◌, ◌<◌, ◌≤◌, ◌&&◌, ◌||◌, ◌==◌, not, nat_lt, nat_le, if◌then◌else◌, List, [], ◌∷◌, filter, length}
+use Rattle.std.specs.Prelude.{ℕ, Bool, true, ◌+◌, ◌-◌, ◌%◌, ◌<◌, ◌≤◌, ◌&&◌, ◌||◌, ◌==◌, not, nat_lt, nat_le}
+use Rattle.std.specs.Prelude.{if◌then◌else◌, List, [], ◌∷◌, filter, length}
 use Rattle.std.specs.{Str.bytes_eq, List.concat}
 use Rattle.unicode_segmentation.specs.Grapheme.{graphemes}
-use Rattle.ratatui_core.specs.{Buffer.text_width, Text.has_control, Style.Style, Style.new_style, Style.with_modifier, Style.modifier_of}
+use Rattle.ratatui_core.specs.{Buffer.text_width, Text.has_control, Style.Style, Style.new_style}
+use Rattle.ratatui_core.specs.{Style.with_modifier, Style.modifier_of}
 use Rattle.ansi_model.specs.Symbols.{is_printed}
 use Rattle.pager.specs.declared.view.View.{View}
 use Rattle.pager.specs.Search.{begins_with}
@@ -39,11 +41,14 @@ pub record LineSymbol : Type 0 where
 
 -- a grapheme as a symbol that begins in a column
 abbrev pub symbol_of : Style → ℕ → List ℕ → LineSymbol
-symbol_of style column g = record { text = shown_text g; style = style; column = column; columns = shown_columns column g }
+symbol_of style column g =
+    record { text = shown_text g; style = style; column = column; columns = shown_columns column g }
 
--- how many bytes are marked where what is sought stands at the front, and how many are left of an earlier mark elsewhere
+-- how many bytes are marked: all of what is sought where that stands at the front, and else what is left of an
+-- earlier mark
 abbrev pub marked_bytes : List ℕ → ℕ → List ℕ → ℕ
-marked_bytes pattern marked rest = if nat_lt 0 (length pattern) && begins_with pattern rest then length pattern else marked
+marked_bytes pattern marked rest =
+    if nat_lt 0 (length pattern) && begins_with pattern rest then length pattern else marked
 
 abbrev pub mark_style : ℕ → Style
 mark_style marked = if nat_lt 0 marked then reversed else new_style
@@ -53,14 +58,16 @@ unfoldable pub symbols_from : List ℕ → ℕ → ℕ → List (List ℕ) → L
 symbols_from pattern marked column [] = []
 symbols_from pattern marked column (g ∷ gs) =
     let here = marked_bytes pattern marked (concat (g ∷ gs)) in
-    symbol_of (mark_style here) column g ∷ symbols_from pattern (here - length g) (column + shown_columns column g) gs
+    symbol_of (mark_style here) column g
+    ∷ symbols_from pattern (here - length g) (column + shown_columns column g) gs
 
 abbrev pub line_symbols : List ℕ → List ℕ → List LineSymbol
 line_symbols pattern line = symbols_from pattern 0 0 (graphemes true line)
 
 -- a symbol that begins in the columns of a view and fits
 abbrev pub is_in_view : View → LineSymbol → Bool
-is_in_view v s = nat_le v.left s.column && nat_lt s.column v.limit && nat_le (s.column + s.columns) (v.left + v.width)
+is_in_view v s =
+    nat_le v.left s.column && nat_lt s.column v.limit && nat_le (s.column + s.columns) (v.left + v.width)
 
 -- what shows of symbols
 abbrev pub symbols_in_view : View → List LineSymbol → List LineSymbol

@@ -1,7 +1,8 @@
 //! What an event asks for while a search is typed, and which event leaves the help.
 
 ghost use Rattle.std.specs.Prelude.{◌≡◌};
-ghost use Rattle.pager.specs.Keys.{code_answer, control_answer, kind_answer, event_answer, is_press_kind, is_press};
+ghost use Rattle.pager.specs.Keys.{code_answer, control_answer, kind_answer, event_answer, is_press_kind};
+ghost use Rattle.pager.specs.Keys.{is_press};
 
 use crate::command::has_control_key;
 use ratatui_events::{Event, KeyCode, KeyEvent, KeyEventKind};

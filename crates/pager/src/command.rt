@@ -2,7 +2,8 @@
 
 ghost use Rattle.std.specs.Prelude.{◌≡◌, ◌==◌};
 ghost use Rattle.ratatui_events.specs.Key.{modifier_bits};
-ghost use Rattle.pager.specs.Keys.{move_command, character_command, control_command, code_command, kind_command, mouse_command, event_command, has_control_key};
+ghost use Rattle.pager.specs.Keys.{move_command, character_command, control_command, code_command};
+ghost use Rattle.pager.specs.Keys.{kind_command, mouse_command, event_command, has_control_key};
 
 use ratatui_events::{Event, KeyCode, KeyEvent, KeyEventKind, KeyModifiers, MouseEventKind};
 

@@ -1,7 +1,8 @@
 //! What each command does to the place in the text.
 
 ghost use Rattle.std.specs.Prelude.{◌≡◌, ◌-◌};
-ghost use Rattle.pager.specs.Moves.{half_page, or_number, at_line, further, back, half_width, typed_digit, moved, asked, obeyed};
+ghost use Rattle.pager.specs.Moves.{half_page, or_number, at_line, further, back, half_width, typed_digit};
+ghost use Rattle.pager.specs.Moves.{moved, asked, obeyed};
 
 use crate::command::Command;
 use crate::pager::{Mode, Pager};

@@ -5,7 +5,8 @@ ghost use Rattle.ratatui_core.specs.Layout.{IsInside};
 ghost use Rattle.ratatui_core.specs.Buffer.{IsReadyAt, IsReadyFrom, IsSettledBuffer};
 ghost use Rattle.ratatui_core.specs.Widgets.{ChangesWithin};
 ghost use Rattle.rtui_boxes.specs.Boxes.{IsBoxArea};
-ghost use Rattle.pager.specs.Pages.{view_at, PaintsNumber, PaintsNumberIf, PaintsLine, PaintsLineAt, PaintsTextRow, PaintsRowIn, PaintsRows, view_from, PaintsPage};
+ghost use Rattle.pager.specs.Pages.{view_at, PaintsNumber, PaintsNumberIf, PaintsLine, PaintsLineAt};
+ghost use Rattle.pager.specs.Pages.{PaintsTextRow, PaintsRowIn, PaintsRows, view_from, PaintsPage};
 
 use crate::help::help_text;
 use crate::pager::{Mode, Pager};
@@ -20,12 +21,7 @@ use ratatui_core::style::Style;
 use std::alloc::AllocError;
 
 // Paints a number that ends in column 7 of a row.
-fn paint_number(
-    number: u64,
-    y: u16,
-    part: Rect,
-    buf: &mut Buffer,
-) -> Result<u16, AllocError>
+fn paint_number(number: u64, y: u16, part: Rect, buf: &mut Buffer) -> Result<u16, AllocError>
     requires some { IsBoxArea part }
     requires inside { IsInside part buf.old.area }
     requires wide { 8 < part.width }
@@ -123,7 +119,15 @@ impl<'a> Pager<'a> {
         let number = if place.row == 0 { place.line + 1 } else { 0 };
         paint_number_if(beside, number, y, part, buf)?;
         let view = self.view_at(place.row, part.width - beside);
-        paint_line(line, self.pattern.as_str(), view, part.x + beside, y, part, buf)
+        paint_line(
+            line,
+            self.pattern.as_str(),
+            view,
+            part.x + beside,
+            y,
+            part,
+            buf,
+        )
     }
 
     // Paints a row of the text.

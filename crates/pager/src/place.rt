@@ -3,7 +3,9 @@
 ghost use Rattle.std.specs.Prelude.{◌≡◌, ◌<◌, ◌≤◌, ◌+◌, [], min};
 ghost use Rattle.pager.specs.Search.{line_at};
 ghost use Rattle.pager.specs.Symbols.{line_symbols};
-ghost use Rattle.pager.specs.Places.{place, breaking, number_columns, stride, last_start, line_rows, next_place, previous_place, rows_after, rows_before, page_rows, last_place, is_before, earlier, at_place, place_after, place_before};
+ghost use Rattle.pager.specs.Places.{place, breaking, number_columns, stride, last_start, line_rows};
+ghost use Rattle.pager.specs.Places.{next_place, previous_place, rows_after, rows_before, page_rows};
+ghost use Rattle.pager.specs.Places.{last_place, is_before, earlier, at_place, place_after, place_before};
 
 use crate::pager::Pager;
 use crate::symbols::shown_columns;

@@ -2,7 +2,8 @@
 
 ghost use Rattle.std.specs.Prelude.{◌≡◌, OnOk, OnErr};
 ghost use Rattle.pager.specs.Search.{occurs, has_match, line_at, next_match, last_match};
-ghost use Rattle.pager.specs.Moves.{found_at, sought_from, sought_before, after_found, before_found, sought_on, with_pattern, sought_first};
+ghost use Rattle.pager.specs.Moves.{found_at, sought_from, sought_before, after_found, before_found};
+ghost use Rattle.pager.specs.Moves.{sought_on, with_pattern, sought_first};
 
 use crate::pager::{Mode, Pager};
 use std::alloc::AllocError;

@@ -6,7 +6,8 @@ ghost use Rattle.ratatui_core.specs.Buffer.{IsReadyAt, IsReadyFrom, IsSettledBuf
 ghost use Rattle.ratatui_core.specs.Widgets.{ChangesWithin};
 ghost use Rattle.rtui_boxes.specs.Boxes.{IsBoxArea};
 ghost use Rattle.pager.specs.Symbols.{reversed};
-ghost use Rattle.pager.specs.Pages.{first_shown, last_shown, per_cent, place_text, first_part, second_part, PaintsText, PaintsStatus};
+ghost use Rattle.pager.specs.Pages.{first_shown, last_shown, per_cent, place_text, first_part, second_part};
+ghost use Rattle.pager.specs.Pages.{PaintsText, PaintsStatus};
 
 use crate::pager::{Mode, Pager};
 use crate::painting::paint_text;
@@ -125,7 +126,15 @@ impl<'a> Pager<'a> {
                 paint_text(self.pattern.as_str(), room, reversed(), x, y, part, buf)
             }
             Mode::Reading => {
-                paint_text(self.place_text().as_str(), room, reversed(), x, y, part, buf)
+                paint_text(
+                    self.place_text().as_str(),
+                    room,
+                    reversed(),
+                    x,
+                    y,
+                    part,
+                    buf,
+                )
             }
             Mode::Asking => self.paint_typed(room, x, y, part, buf),
             Mode::Helping => {
@@ -145,7 +154,15 @@ impl<'a> Pager<'a> {
             → OnOk result (IsSettledBuffer buf.new) }
     {
         let y = part.y + (part.height - 1);
-        let end = paint_text(self.first_part(), part.width, reversed(), part.x, y, part, buf)?;
+        let end = paint_text(
+            self.first_part(),
+            part.width,
+            reversed(),
+            part.x,
+            y,
+            part,
+            buf,
+        )?;
         let room = part.width - (end - part.x);
         self.paint_second(room, end, y, part, buf)?;
         Ok(())

@@ -3,7 +3,8 @@
 ghost use Rattle.std.specs.Prelude.{◌≡◌};
 ghost use Rattle.ratatui_core.specs.Text.{has_control};
 ghost use Rattle.pager.specs.Search.{begins_with};
-ghost use Rattle.pager.specs.Symbols.{is_tab, is_replaced, shown_text, shown_columns, reversed, marked_bytes, mark_style};
+ghost use Rattle.pager.specs.Symbols.{is_tab, is_replaced, shown_text, shown_columns, reversed, marked_bytes};
+ghost use Rattle.pager.specs.Symbols.{mark_style};
 
 use ansi_model::is_printed;
 use ratatui_core::buffer::CellWidth;
@@ -77,11 +78,7 @@ pub(crate) fn marked_bytes(pattern: &str, marked: usize, rest: &str) -> usize
     ensures { result ≡ marked_bytes pattern.now marked rest.now }
 {
     let is_match = !pattern.is_empty() && begins_with(pattern, rest);
-    if is_match {
-        pattern.len()
-    } else {
-        marked
-    }
+    if is_match { pattern.len() } else { marked }
 }
 
 // The style of a grapheme of which so many bytes are marked.

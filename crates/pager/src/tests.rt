@@ -36,6 +36,18 @@ fn shows(alloc: Global, text: &str, keys: &[u8], lines: &[&str]) -> bool {
 fn moves(rt: HostRuntime) -> Result<(), Fail> {
     let alloc = rt.alloc();
     let text = "one\ntwo\tx\nthr\u{1}e\n日本\nfive\nsix\n";
-    assert!(rt; shows(alloc, text, b"", &["one           ", "two     x     ", "thr\u{fffd}e         ", "t 1-3/6 50%   "]));
+    assert!(rt;
+        shows(
+            alloc,
+            text,
+            b"",
+            &[
+                "one           ",
+                "two     x     ",
+                "thr\u{fffd}e         ",
+                "t 1-3/6 50%   "
+            ]
+        )
+    );
     Ok(())
 }

@@ -1,10 +1,10 @@
 //! Frames, printed.
 
 use crate::recording::Recording;
+use bitflags::Flags;
 use pager::{Document, OwnText, Pager};
 use ratatui_app::{draw, feed};
 use ratatui_core::backend::TestBackend;
-use bitflags::Flags;
 use ratatui_core::buffer::Cell;
 use ratatui_core::layout::Size;
 use ratatui_core::style::Modifier;

@@ -8,7 +8,10 @@ use ratatui_core::terminal::Terminal;
 use std::io;
 
 /// How many times a recording is cut.
-const CUTS: u32 = 40;
+const CUTS: u32 = 10;
+
+/// Every so many calls of the screen one is made to fail.
+const STEP: u64 = 10;
 
 // What came of a recording: whether it was played to its end, and the fault if not.
 fn played(
@@ -30,14 +33,19 @@ fn played(
     Some((terminal, told))
 }
 
-// Whether a recording that is cut leads to the same screen as a whole one.
-fn agrees(stage: Stage<'_>, recording: &Recording, seed: u32) -> Option<bool> {
+// How often a recording that is cut leads to the same screen as the whole one.
+fn same_screens(stage: Stage<'_>, recording: &Recording) -> Option<u32> {
     let mut whole = Player::new(recording, None, usize::MAX);
-    let mut cut = Player::new(recording, Some(seed), usize::MAX);
     let (first, first_told) = played(stage, &mut whole, None)?;
-    let (second, second_told) = played(stage, &mut cut, None)?;
-    let is_same = first.backend().buffer_is(second.backend().buffer());
-    Some(is_same && first_told == second_told)
+    let mut same = 0u32;
+    for seed in 0..CUTS {
+        let mut cut = Player::new(recording, Some(seed), usize::MAX);
+        let (second, told) = played(stage, &mut cut, None)?;
+        if told == first_told && first.backend().buffer_is(second.backend().buffer()) {
+            same = same.saturating_add(1);
+        }
+    }
+    Some(same)
 }
 
 // How many of the first reads, each failing in turn, are told as such.
@@ -53,15 +61,15 @@ fn told_reads(stage: Stage<'_>, recording: &Recording) -> Option<usize> {
     Some(told)
 }
 
-// How many calls of the screen, each failing in turn, are told as such, and how many are made.
+// How many calls of the screen that fail, one in each recording, are told as such, and how many do.
 fn told_calls(stage: Stage<'_>, recording: &Recording) -> Option<(u64, u64)> {
     let mut told = 0u64;
-    for calls in 0..10_000u64 {
+    for tries in 0..1000u64 {
         let mut player = Player::new(recording, None, usize::MAX);
-        let (_, fault) = played(stage, &mut player, Some(calls))?;
+        let (_, fault) = played(stage, &mut player, Some(tries.saturating_mul(STEP)))?;
         match fault {
             "draw" | "resize" => told = told.saturating_add(1),
-            _ => return Some((told, calls)),
+            _ => return Some((told, tries)),
         }
     }
     None
@@ -69,12 +77,7 @@ fn told_calls(stage: Stage<'_>, recording: &Recording) -> Option<(u64, u64)> {
 
 /// Prints what came of the trials; answers whether all went as they should.
 pub fn print_trials(rt: &HostRuntime, stage: Stage<'_>, recording: &Recording) -> io::Result<bool> {
-    let mut same = 0u32;
-    for seed in 0..CUTS {
-        if agrees(stage, recording, seed) == Some(true) {
-            same = same.saturating_add(1);
-        }
-    }
+    let same = same_screens(stage, recording).unwrap_or(0);
     println!(rt; "cuts: {same} of {CUTS} lead to the same screen")?;
     let reads = recording.ends.len();
     let told = told_reads(stage, recording).unwrap_or(0);

@@ -17,10 +17,9 @@ use crate::fault::Refusal;
 use crate::size::{Given, is_terminal, size_for};
 use crate::words::{command, given_by, name_of};
 use pager::{Document, OwnText, Pager, show};
-use std::env;
-use std::fs;
 use std::io::{self, BufWriter, Read};
 use std::process::ExitCode;
+use std::{env, fs};
 
 // Shows a text that has a name, moved by a reader's keys.
 fn page<R: Read>(

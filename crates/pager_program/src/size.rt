@@ -4,9 +4,8 @@ use crate::fault::Refusal;
 use ratatui_core::layout::Size;
 use ratatui_events::Event;
 use ratatui_input::Decoder;
-use std::env;
-use std::fs;
 use std::io::{self, Read, Write};
+use std::{env, fs};
 
 /// What asks a terminal where its last column and row are, and leaves the cursor where it is.
 const ASKING: &str = "\x1b7\x1b[9999;9999H\x1b[6n\x1b8";

@@ -6,8 +6,9 @@ use std::alloc::{AllocError, Global};
 
 /// What the program takes: a file, and the columns and rows of the terminal.
 pub fn command<'a>(alloc: Global) -> Result<Command<'a>, AllocError> {
-    let file = Arg::new(alloc, "FILE")
-        .help("The text, and then the keys are read from standard input; with - it is that");
+    let file = Arg::new(alloc, "FILE").help(
+        "The text, and then the keys are read from standard input; with - it is that",
+    );
     let columns = Arg::new(alloc, "COLUMNS")
         .long("columns")
         .short('c')
