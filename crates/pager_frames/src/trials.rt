@@ -48,17 +48,18 @@ fn same_screens(stage: Stage<'_>, recording: &Recording) -> Option<u32> {
     Some(same)
 }
 
-// How many of the first reads, each failing in turn, are told as such.
-fn told_reads(stage: Stage<'_>, recording: &Recording) -> Option<usize> {
+// How many reads that fail, one in each recording, are told as such, and how many do.
+fn told_reads(stage: Stage<'_>, recording: &Recording) -> Option<(usize, usize)> {
     let mut told = 0usize;
     for calls in 0..recording.ends.len() {
         let mut player = Player::new(recording, None, calls);
         let (_, fault) = played(stage, &mut player, None)?;
-        if fault == "read" {
-            told = told.saturating_add(1);
+        match fault {
+            "read" => told = told.saturating_add(1),
+            _ => return Some((told, calls)),
         }
     }
-    Some(told)
+    Some((told, recording.ends.len()))
 }
 
 // How many calls of the screen that fail, one in each recording, are told as such, and how many do.
@@ -79,8 +80,7 @@ fn told_calls(stage: Stage<'_>, recording: &Recording) -> Option<(u64, u64)> {
 pub fn print_trials(rt: &HostRuntime, stage: Stage<'_>, recording: &Recording) -> io::Result<bool> {
     let same = same_screens(stage, recording).unwrap_or(0);
     println!(rt; "cuts: {same} of {CUTS} lead to the same screen")?;
-    let reads = recording.ends.len();
-    let told = told_reads(stage, recording).unwrap_or(0);
+    let (told, reads) = told_reads(stage, recording).unwrap_or((0, 1));
     println!(rt; "reads: {told} of {reads} that fail are told")?;
     let (calls_told, calls) = told_calls(stage, recording).unwrap_or((0, 1));
     println!(rt; "calls: {calls_told} of {calls} that fail are told")?;
