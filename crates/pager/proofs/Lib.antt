@@ -1,0 +1,4 @@
+pub mod PaintLemmas
+pub mod SearchLemmas
+pub mod PlaceLemmas
+pub mod RowLemmas

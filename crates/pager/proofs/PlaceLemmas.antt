@@ -1,0 +1,133 @@
+-- The place lies in the text, whatever comes.
+use Rattle.std.proofs.Common.{◌≡◌, ℕ, ◌≤◌, ◌-◌, ◌==◌, ◌&&◌, ◌||◌, Bool, true, false, not, nat_lt, if◌then◌else◌, List, length}
+use Rattle.std.proofs.Common.{take, encode_utf8, Option, Some, None, refl, arith}
+use Rattle.std.proofs.lemmas.Bool.Decides.{nat_tests}
+use Rattle.std.specs.List.{flat_map}
+use Rattle.ratatui_core.specs.Layout.{Size}
+use Rattle.ratatui_events.specs.declared.event.Event.{Event}
+use Rattle.ratatui_reads.specs.Reads.{size_in}
+use Rattle.pager.specs.declared.pager.Pager.{Pager}
+use Rattle.pager.specs.declared.pager.Mode.{Mode}
+use Rattle.pager.specs.declared.pager.Mode.TheVariants.{Reading, Asking, Helping}
+use Rattle.pager.specs.declared.answer.Answer.{Answer}
+use Rattle.pager.specs.declared.answer.Answer.TheVariants.{Add, Erase, Search, Cancel, Ignore}
+use Rattle.pager.specs.declared.command.Command.{Command}
+use Rattle.pager.specs.declared.command.Command.TheVariants.{Nothing, Digit, Down, Up, PageDown, PageUp, HalfDown, HalfUp}
+use Rattle.pager.specs.declared.command.Command.TheVariants.{WheelDown, WheelUp}
+use Rattle.pager.specs.declared.command.Command.TheVariants.{ToStart, ToEnd, ToLeft, ToRight, Ask, Next, Previous, Numbers, Wrap}
+use Rattle.pager.specs.declared.command.Command.TheVariants.{Help, Quit}
+use Rattle.pager.specs.Search.{next_match, last_match}
+use Rattle.pager.specs.declared.place.Place.{Place}
+use Rattle.pager.specs.Places.{IsInText, place, place_of, last_place, is_before, earlier, at_place, place_after, place_before}
+use Rattle.pager.specs.Moves.{at_line, started, found_at, sought_before, sought_from, before_found, after_found, sought_on, moved}
+use Rattle.pager.specs.Moves.{obeyed, erased, with_pattern, sought_first, answered, acted, updated_by, updated}
+use Rattle.pager.specs.Keys.{event_command, event_answer, is_press}
+
+-- of two places at most one stands before the other one
+both : (a b c d : ℕ) → (nat_lt a c || ((a == c) && nat_lt b d)) ≡ true → (nat_lt c a || ((c == a) && nat_lt d b)) ≡ false
+both a b c d is = grind (arith, nat_tests)
+
+alone : (a b : ℕ) → (nat_lt a a || ((a == a) && nat_lt b b)) ≡ false
+alone a b = grind (arith, nat_tests)
+
+earlier-in : (b : Bool) (q l : Place) → is_before q l ≡ b → is_before l (if b then q else l) ≡ false
+earlier-in true q l is = both q.line q.row l.line l.row is
+earlier-in false q l is = alone l.line l.row
+
+placed-in : (q : Place) (p : Pager) → IsInText (at_place q p)
+placed-in q p = earlier-in (is_before q (last_place p)) q (last_place p) refl
+
+none-before : (a b : ℕ) → (nat_lt a 0 || ((a == 0) && nat_lt b 0)) ≡ false
+none-before a b = grind (arith, nat_tests)
+
+pub first : (lines : List (List ℕ)) (name pattern : List ℕ) (size : Size) → IsInText (started lines name pattern size)
+first lines name pattern size = let l = last_place (started lines name pattern size) in none-before l.line l.row
+
+found-in : (found : Option ℕ) (p : Pager) → IsInText p → IsInText (found_at found p)
+found-in (Some k) p is = placed-in (place_of k 0) p
+found-in None p is = is
+
+sought_on-in : (is_back : Bool) (p : Pager) → IsInText p → IsInText (sought_on is_back p)
+sought_on-in true p is = found-in (last_match p.pattern p.document (before_found p.found p.top)) p is
+sought_on-in false p is = found-in (next_match p.pattern p.document (after_found p.found p.top)) p is
+
+moved-in : (command : Command) (p : Pager) → IsInText p → IsInText (moved command p)
+moved-in Down p is = placed-in _ p
+moved-in Up p is = placed-in _ p
+moved-in PageDown p is = placed-in _ p
+moved-in PageUp p is = placed-in _ p
+moved-in HalfDown p is = placed-in _ p
+moved-in HalfUp p is = placed-in _ p
+moved-in WheelDown p is = placed-in _ p
+moved-in WheelUp p is = placed-in _ p
+moved-in ToStart p is = placed-in _ p
+moved-in ToEnd p is = placed-in _ p
+moved-in ToLeft p is = is
+moved-in ToRight p is = is
+moved-in Numbers p is = placed-in (place_of p.top 0) (record p { has_numbers = not p.has_numbers })
+moved-in Wrap p is = placed-in (place_of p.top 0) (record p { wraps = not p.wraps; left = 0 })
+moved-in Help p is = is
+moved-in Quit p is = is
+moved-in (Digit d) p is = is
+moved-in (Ask is_back) p is = is
+moved-in Next p is = is
+moved-in Previous p is = is
+moved-in Nothing p is = is
+
+obeyed-in : (command : Command) (p : Pager) → IsInText p → IsInText (obeyed command p)
+obeyed-in (Digit d) p is = is
+obeyed-in (Ask is_back) p is = is
+obeyed-in Next p is = sought_on-in p.is_back p is
+obeyed-in Previous p is = sought_on-in (not p.is_back) p is
+obeyed-in Nothing p is = is
+obeyed-in Down p is = moved-in Down p is
+obeyed-in Up p is = moved-in Up p is
+obeyed-in PageDown p is = moved-in PageDown p is
+obeyed-in PageUp p is = moved-in PageUp p is
+obeyed-in HalfDown p is = moved-in HalfDown p is
+obeyed-in HalfUp p is = moved-in HalfUp p is
+obeyed-in WheelDown p is = moved-in WheelDown p is
+obeyed-in WheelUp p is = moved-in WheelUp p is
+obeyed-in ToStart p is = moved-in ToStart p is
+obeyed-in ToEnd p is = moved-in ToEnd p is
+obeyed-in ToLeft p is = is
+obeyed-in ToRight p is = is
+obeyed-in Numbers p is = moved-in Numbers p is
+obeyed-in Wrap p is = moved-in Wrap p is
+obeyed-in Help p is = is
+obeyed-in Quit p is = is
+
+sought_first-if : (is_back : Bool) (p : Pager) → IsInText p → IsInText (if is_back then sought_before p.top p else sought_from p.top p)
+sought_first-if true p is = found-in (last_match p.pattern p.document p.top) p is
+sought_first-if false p is = found-in (next_match p.pattern p.document p.top) p is
+
+pattern-if : (b : Bool) (pattern : List ℕ) (p : Pager) → IsInText p → IsInText (if b then record p { pattern = pattern } else p)
+pattern-if true pattern p is = is
+pattern-if false pattern p is = is
+
+erased-if : (b : Bool) (typed : List ℕ) (p : Pager) → IsInText p → IsInText (if b then record p { typed = typed } else record p { mode = Reading })
+erased-if true typed p is = is
+erased-if false typed p is = is
+
+answered-in : (answer : Answer) (p : Pager) → IsInText p → IsInText (answered answer p)
+answered-in (Add c) p is = is
+answered-in Erase p is = erased-if (nat_lt 0 (length p.typed)) (take (length p.typed - 1) p.typed) p is
+answered-in Search p is = sought_first-if (with_pattern p).is_back (with_pattern p) (pattern-if (nat_lt 0 (length p.typed)) (flat_map encode_utf8 p.typed) p is)
+answered-in Cancel p is = is
+answered-in Ignore p is = is
+
+helped-if : (b : Bool) (p : Pager) → IsInText p → IsInText (if b then record p { mode = Reading } else p)
+helped-if true p is = is
+helped-if false p is = is
+
+acted-in : (mode : Mode) (event : Event) (p : Pager) → IsInText p → IsInText (acted mode event p)
+acted-in Reading event p is = obeyed-in (event_command event) p is
+acted-in Asking event p is = answered-in (event_answer event) p is
+acted-in Helping event p is = helped-if (is_press event) p is
+
+by-size : (size : Option (ℕ × ℕ)) (event : Event) (p : Pager) → IsInText p → IsInText (updated_by size event p)
+by-size (Some size) event p is = placed-in (place_of p.top 0) (record p { columns = size.0; rows = size.1 })
+by-size None event p is = acted-in p.mode event p is
+
+pub next : (p : Pager) (event : Event) → IsInText p → IsInText (updated p event)
+next p event is = by-size (size_in event) event p is

@@ -1,0 +1,131 @@
+-- The tables of the keys: what each asks for while a text is read, and while a search is typed.
+use Rattle.std.specs.Prelude.{ℕ, Bool, true, false, ◌-◌, ◌==◌, ◌||◌, ◌&&◌, nat_le, if◌then◌else◌}
+use Rattle.ratatui_events.specs.declared.event.Event.{Event}
+use Rattle.ratatui_events.specs.declared.event.Event.TheVariants.{Key, Mouse, Pasted}
+use Rattle.ratatui_events.specs.declared.key.KeyEvent.{KeyEvent}
+use Rattle.ratatui_events.specs.declared.key.KeyEventKind.{KeyEventKind}
+use Rattle.ratatui_events.specs.declared.key.KeyEventKind.TheVariants.{Release}
+use Rattle.ratatui_events.specs.declared.key.KeyCode.{KeyCode}
+use Rattle.ratatui_events.specs.declared.key.KeyCode.TheVariants as key
+use Rattle.ratatui_events.specs.declared.mouse.MouseEventKind.{MouseEventKind}
+use Rattle.ratatui_events.specs.declared.mouse.MouseEventKind.TheVariants.{ScrollDown, ScrollUp}
+use Rattle.ratatui_events.specs.Key.{modifier_bits}
+use Rattle.pager.specs.declared.command.Command.{Command}
+use Rattle.pager.specs.declared.command.Command.TheVariants.{Nothing, Digit, Down, Up, PageDown, PageUp}
+use Rattle.pager.specs.declared.command.Command.TheVariants.{HalfDown, HalfUp, WheelDown, WheelUp}
+use Rattle.pager.specs.declared.command.Command.TheVariants.{ToStart, ToEnd, ToLeft, ToRight, Ask, Next}
+use Rattle.pager.specs.declared.command.Command.TheVariants.{Previous, Numbers, Wrap, Help, Quit}
+use Rattle.pager.specs.declared.answer.Answer.{Answer}
+use Rattle.pager.specs.declared.answer.Answer.TheVariants.{Add, Erase, Search, Cancel, Ignore}
+
+-- characters of moves: j, k, the blank and f, b, d, u, g, G
+abbrev pub move_command : ℕ → Command
+move_command c =
+    if c == 106 then Down
+    else if c == 107 then Up
+    else if (c == 32) || (c == 102) then PageDown
+    else if c == 98 then PageUp
+    else if c == 100 then HalfDown
+    else if c == 117 then HalfUp
+    else if c == 103 then ToStart
+    else if c == 71 then ToEnd
+    else Nothing
+
+-- a character: q, /, ?, n, N, l, w, h, the digits, and those of moves
+abbrev pub character_command : ℕ → Command
+character_command c =
+    if c == 113 then Quit
+    else if c == 47 then Ask false
+    else if c == 63 then Ask true
+    else if c == 110 then Next
+    else if c == 78 then Previous
+    else if c == 108 then Numbers
+    else if c == 119 then Wrap
+    else if c == 104 then Help
+    else if nat_le 48 c && nat_le c 57 then Digit (c - 48)
+    else move_command c
+
+-- a character with Control: c, d, u, f, b, e, y
+abbrev pub control_character_command : ℕ → Command
+control_character_command c =
+    if c == 99 then Quit
+    else if c == 100 then HalfDown
+    else if c == 117 then HalfUp
+    else if c == 102 then PageDown
+    else if c == 98 then PageUp
+    else if c == 101 then Down
+    else if c == 121 then Up
+    else Nothing
+
+abbrev pub control_command : KeyCode → Command
+control_command (key.Char c) = control_character_command c
+control_command key.Home = ToStart
+control_command key.End = ToEnd
+control_command _ = Nothing
+
+-- a key without Control
+abbrev pub code_command : KeyCode → Command
+code_command (key.Char c) = character_command c
+code_command key.Enter = Down
+code_command key.Down = Down
+code_command key.Up = Up
+code_command key.PageDown = PageDown
+code_command key.PageUp = PageUp
+code_command key.Home = ToStart
+code_command key.End = ToEnd
+code_command key.Left = ToLeft
+code_command key.Right = ToRight
+code_command _ = Nothing
+
+-- Control is held, and nothing else
+abbrev pub has_control_key : KeyEvent → Bool
+has_control_key k = modifier_bits k.modifiers == 4
+
+-- a key with what is held beside it; let go it asks for nothing
+abbrev pub kind_command : KeyEventKind → KeyEvent → Command
+kind_command Release k = Nothing
+kind_command _ k = if has_control_key k then control_command k.code else code_command k.code
+
+-- the wheel of the mouse
+abbrev pub mouse_command : MouseEventKind → Command
+mouse_command ScrollDown = WheelDown
+mouse_command ScrollUp = WheelUp
+mouse_command _ = Nothing
+
+-- what an event asks for while a text is read
+abbrev pub event_command : Event → Command
+event_command (Key k) = kind_command k.kind k
+event_command (Mouse m) = mouse_command m.kind
+event_command _ = Nothing
+
+-- a key while a search is typed
+abbrev pub code_answer : KeyCode → Answer
+code_answer (key.Char c) = Add c
+code_answer key.Backspace = Erase
+code_answer key.Enter = Search
+code_answer key.Esc = Cancel
+code_answer _ = Ignore
+
+-- c with Control
+abbrev pub control_answer : KeyCode → Answer
+control_answer (key.Char c) = if c == 99 then Cancel else Ignore
+control_answer _ = Ignore
+
+abbrev pub kind_answer : KeyEventKind → KeyEvent → Answer
+kind_answer Release k = Ignore
+kind_answer _ k = if has_control_key k then control_answer k.code else code_answer k.code
+
+-- what an event asks for while a search is typed
+abbrev pub event_answer : Event → Answer
+event_answer (Key k) = kind_answer k.kind k
+event_answer (Pasted c) = Add c
+event_answer _ = Ignore
+
+abbrev pub is_press_kind : KeyEventKind → Bool
+is_press_kind Release = false
+is_press_kind _ = true
+
+-- an event that leaves the help: a key
+abbrev pub is_press : Event → Bool
+is_press (Key k) = is_press_kind k.kind
+is_press _ = false

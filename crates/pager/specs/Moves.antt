@@ -1,0 +1,175 @@
+-- What each event makes of a pager: its place, its search, and what it shows.
+use Rattle.std.specs.Prelude.{ℕ, Bool, true, false, not, ◌+◌, ◌-◌, ◌*◌, ◌/◌, ◌≤◌, ◌==◌, nat_lt, min, max}
+use Rattle.std.specs.Prelude.{if◌then◌else◌, List, [], ◌∷◌, ◌++◌, length, take, encode_utf8, Option, Some}
+use Rattle.std.specs.Prelude.{None}
+use Rattle.std.specs.List.{flat_map}
+use Rattle.ratatui_core.specs.Layout.{Size}
+use Rattle.ratatui_events.specs.declared.event.Event.{Event}
+use Rattle.ratatui_reads.specs.Reads.{size_in}
+use Rattle.pager.specs.declared.pager.Pager.{Pager}
+use Rattle.pager.specs.declared.pager.Mode.{Mode}
+use Rattle.pager.specs.declared.pager.Mode.TheVariants.{Reading, Asking, Helping}
+use Rattle.pager.specs.declared.answer.Answer.{Answer}
+use Rattle.pager.specs.declared.answer.Answer.TheVariants.{Add, Erase, Search, Cancel, Ignore}
+use Rattle.pager.specs.declared.command.Command.{Command}
+use Rattle.pager.specs.declared.command.Command.TheVariants.{Nothing, Digit, Down, Up, PageDown, PageUp}
+use Rattle.pager.specs.declared.command.Command.TheVariants.{HalfDown, HalfUp, WheelDown, WheelUp}
+use Rattle.pager.specs.declared.command.Command.TheVariants.{ToStart, ToEnd, ToLeft, ToRight, Ask, Next}
+use Rattle.pager.specs.declared.command.Command.TheVariants.{Previous, Numbers, Wrap, Help, Quit}
+use Rattle.pager.specs.Keys.{event_command, event_answer, is_press}
+use Rattle.pager.specs.Search.{next_match, last_match}
+use Rattle.pager.specs.Places.{place_of, page_rows, at_place, place_after, place_before}
+
+-- at the first line
+abbrev pub started : List (List ℕ) → List ℕ → List ℕ → Size → Pager
+started lines name pattern size = record {
+  document = lines;
+  name = name;
+  columns = size.width;
+  rows = size.height;
+  top = 0;
+  row = 0;
+  left = 0;
+  wraps = false;
+  number = 0;
+  has_numbers = false;
+  mode = Reading;
+  is_back = false;
+  typed = [];
+  pattern = pattern;
+  found = None;
+  is_missing = false;
+  is_over = false;
+}
+
+abbrev pub half_page : Pager → ℕ
+half_page p = max (page_rows p / 2) 1
+
+-- the page that begins at a line, or the last one
+abbrev pub at_line : ℕ → Pager → Pager
+at_line n p = at_place (place_of n 0) p
+
+-- the number that was typed, or else another one
+abbrev pub or_number : ℕ → Pager → ℕ
+or_number other p = if p.number == 0 then other else p.number
+
+-- so many rows further, and back
+abbrev pub further : ℕ → Pager → Pager
+further n p = at_place (place_after (or_number n p) p) p
+
+abbrev pub back : ℕ → Pager → Pager
+back n p = at_place (place_before (or_number n p) p) p
+
+-- half of the columns
+abbrev pub half_width : Pager → ℕ
+half_width p = max (p.columns / 2) 1
+
+-- what a command makes of the place, and of what is shown of each line
+abbrev pub moved : Command → Pager → Pager
+moved Down p = further 1 p
+moved Up p = back 1 p
+moved PageDown p = further (page_rows p) p
+moved PageUp p = back (page_rows p) p
+moved HalfDown p = further (half_page p) p
+moved HalfUp p = back (half_page p) p
+moved WheelDown p = further 3 p
+moved WheelUp p = back 3 p
+moved ToStart p = at_line (or_number 1 p - 1) p
+moved ToEnd p = at_line (or_number (length p.document) p - 1) p
+moved ToLeft p = record p { left = p.left - or_number (half_width p) p }
+moved ToRight p = record p { left = min (p.left + or_number (half_width p) p) 4294967295 }
+moved Numbers p = at_line p.top (record p { has_numbers = not p.has_numbers })
+moved Wrap p = at_line p.top (record p { wraps = not p.wraps; left = 0 })
+moved Help p = record p { mode = Helping }
+moved Quit p = record p { is_over = true }
+moved _ p = p
+
+-- a digit more of a number, which stays at the greatest one
+abbrev pub typed_digit : ℕ → Pager → Pager
+typed_digit d p = record p { number = min (p.number * 10 + d) 9999999 }
+
+-- at a line that was found; or none was
+abbrev pub found_at : Option ℕ → Pager → Pager
+found_at (Some k) p = record (at_line k p) { found = Some k; is_missing = false }
+found_at None p = record p { is_missing = true }
+
+-- the first line from one on that has what is sought, and the last one before a line
+abbrev pub sought_from : ℕ → Pager → Pager
+sought_from k p = found_at (next_match p.pattern p.document k) p
+
+abbrev pub sought_before : ℕ → Pager → Pager
+sought_before k p = found_at (last_match p.pattern p.document k) p
+
+-- a search goes on from the line that was found last, or else from the first one of the page
+abbrev pub after_found : Option ℕ → ℕ → ℕ
+after_found (Some k) top = k + 1
+after_found None top = top + 1
+
+abbrev pub before_found : Option ℕ → ℕ → ℕ
+before_found (Some k) top = k
+before_found None top = top
+
+abbrev pub sought_on : Bool → Pager → Pager
+sought_on is_back p =
+    if is_back then sought_before (before_found p.found p.top) p
+    else sought_from (after_found p.found p.top) p
+
+-- a search is typed
+abbrev pub asked : Bool → Pager → Pager
+asked is_back p = record p { mode = Asking; is_back = is_back; typed = [] }
+
+-- what a command makes of a pager: each but a digit takes the number, and each move ends a search
+abbrev pub obeyed : Command → Pager → Pager
+obeyed (Digit d) p = typed_digit d p
+obeyed (Ask is_back) p = record (asked is_back p) { number = 0; is_missing = false }
+obeyed Next p = record (sought_on p.is_back p) { number = 0 }
+obeyed Previous p = record (sought_on (not p.is_back) p) { number = 0 }
+obeyed command p = record (moved command p) { number = 0; found = None; is_missing = false }
+
+-- a character more of what is sought, of at most 80
+abbrev pub with_character : ℕ → List ℕ → List ℕ
+with_character c cs = if nat_lt (length cs) 80 then cs ++ c ∷ [] else cs
+
+-- one less; before the first one the search is given up
+abbrev pub erased : Pager → Pager
+erased p =
+    if nat_lt 0 (length p.typed) then record p { typed = take (length p.typed - 1) p.typed }
+    else record p { mode = Reading }
+
+-- what is sought is what was typed, or, if that is nothing, what was sought last
+abbrev pub with_pattern : Pager → Pager
+with_pattern p = if nat_lt 0 (length p.typed) then record p { pattern = flat_map encode_utf8 p.typed } else p
+
+-- from the first line of the page on, or before it
+abbrev pub sought_first : Pager → Pager
+sought_first p = if p.is_back then sought_before p.top p else sought_from p.top p
+
+-- what an answer makes of a pager of which a search is asked
+abbrev pub answered : Answer → Pager → Pager
+answered (Add c) p = record p { typed = with_character c p.typed }
+answered Erase p = erased p
+answered Search p = record (sought_first (with_pattern p)) { mode = Reading }
+answered Cancel p = record p { mode = Reading }
+answered Ignore p = p
+
+-- on a terminal of another size
+abbrev pub sized : ℕ × ℕ → Pager → Pager
+sized size p = at_line p.top (record p { columns = size.0; rows = size.1 })
+
+abbrev pub resized : Option (ℕ × ℕ) → Pager → Pager
+resized (Some size) p = sized size p
+resized None p = p
+
+-- what an event makes of a pager that tells no size
+abbrev pub acted : Mode → Event → Pager → Pager
+acted Reading event p = obeyed (event_command event) p
+acted Asking event p = answered (event_answer event) p
+acted Helping event p = if is_press event then record p { mode = Reading } else p
+
+abbrev pub updated_by : Option (ℕ × ℕ) → Event → Pager → Pager
+updated_by (Some size) event p = sized size p
+updated_by None event p = acted p.mode event p
+
+-- what an event makes of a pager
+abbrev pub updated : Pager → Event → Pager
+updated p event = updated_by (size_in event) event p

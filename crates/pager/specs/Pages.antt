@@ -1,0 +1,159 @@
+-- What a pager paints: lines in rows, and the status in the last one.
+use Rattle.std.specs.Prelude.{◌≡◌, ℕ, zero, suc, Bool, true, false, ◌+◌, ◌-◌, ◌*◌, ◌/◌, ◌==◌, ◌&&◌, nat_lt}
+use Rattle.std.specs.Prelude.{min, if◌then◌else◌, List, [], ◌∷◌, ◌++◌, length, Option, Some, None, option_map}
+use Rattle.std.specs.Prelude.{unwrap_or, slice_get, codes, encode_utf8}
+use Rattle.std.specs.{Fmt.decimal, List.flat_map}
+use Rattle.ratatui_core.specs.{Layout.Rect, Layout.EdgesFit, Style.Style, Style.new_style}
+use Rattle.ratatui_core.specs.Buffer.{BufferData, PaintsPieces, IsPlainFrom, IsSettledBuffer, columns}
+use Rattle.ratatui_core.specs.Buffer.{text_pieces, position_of}
+use Rattle.ratatui_core.specs.Widgets.{ChangesWithin, OnPart}
+use Rattle.rtui_boxes.specs.Titles.{InTurn}
+use Rattle.pager.specs.Symbols.{LineSymbol, reversed, is_in_view, line_symbols, symbols_in_view}
+use Rattle.pager.specs.Places.{breaking, number_columns, stride, page_rows, place, rows_after, place_after}
+use Rattle.pager.specs.declared.place.Place.{Place}
+use Rattle.pager.specs.declared.view.View.{View}
+use Rattle.pager.specs.declared.help.TheConstants.{HELP}
+use Rattle.pager.specs.declared.pager.Pager.{Pager}
+use Rattle.pager.specs.declared.pager.Mode.{Mode}
+use Rattle.pager.specs.declared.pager.Mode.TheVariants.{Reading, Asking, Helping}
+
+-- ---- lines
+
+-- a text painted in a style from a place on, as far as these columns go
+abbrev pub PaintsText : ℕ → ℕ → ℕ → Style → List ℕ → BufferData → BufferData → Type 0
+PaintsText x y max style text old new = PaintsPieces (position_of (x, y)) (text_pieces max style text) old new
+
+-- a symbol painted in a row, if the view's first column stands at x
+abbrev pub PaintsSymbol : ℕ → ℕ → View → LineSymbol → BufferData → BufferData → Type 0
+PaintsSymbol x y v s old new = PaintsText (x + (s.column - v.left)) y s.columns s.style s.text old new
+
+-- the same, or nothing, if the symbol isn't in view
+abbrev pub PaintsIf : Bool → ℕ → ℕ → View → LineSymbol → BufferData → BufferData → Type 0
+PaintsIf true x y v s old new = PaintsSymbol x y v s old new
+PaintsIf false x y v s old new = new ≡ old
+
+abbrev pub PaintsIfInView : ℕ → ℕ → View → LineSymbol → BufferData → BufferData → Type 0
+PaintsIfInView x y v s old new = PaintsIf (is_in_view v s) x y v s old new
+
+-- symbols painted one after the other
+unfoldable pub PaintsSymbols : ℕ → ℕ → View → List LineSymbol → BufferData → BufferData → Type 0
+PaintsSymbols x y v [] old new = new ≡ old
+PaintsSymbols x y v (s ∷ ss) old new = InTurn (PaintsSymbol x y v s) (PaintsSymbols x y v ss) old new
+
+-- what shows of a line, painted in a row from x on, with what is sought marked
+abbrev pub PaintsLine : ℕ → ℕ → View → List ℕ → List ℕ → BufferData → BufferData → Type 0
+PaintsLine x y v pattern line old new =
+    PaintsSymbols x y v (symbols_in_view v (line_symbols pattern line)) old new
+
+-- ---- rows of a page
+
+-- a row that shows as many columns as it has, from one on
+abbrev pub view_from : ℕ → ℕ → View
+view_from left width = record { left = left; limit = left + width; width = width }
+
+-- what a row shows of its line: if lines are broken, the columns that begin in that row
+abbrev pub view_at : Pager → ℕ → ℕ → View
+view_at p row width =
+    let left = row * stride p in
+    if p.wraps then record { left = left; limit = left + min (stride p) width; width = width }
+    else view_from p.left width
+
+-- a number that ends in column 7, with its first seven digits
+abbrev pub PaintsNumber : ℕ → ℕ → ℕ → BufferData → BufferData → Type 0
+PaintsNumber n x y old new =
+    let digits = min (length (decimal n)) 7 in
+    PaintsText (x + (7 - digits)) y digits new_style (decimal n) old new
+
+-- a number in so many columns, if they are some; 0 is none
+abbrev pub PaintsNumberIf : ℕ → ℕ → ℕ → ℕ → BufferData → BufferData → Type 0
+PaintsNumberIf zero n x y old new = new ≡ old
+PaintsNumberIf (suc k) zero x y old new = new ≡ old
+PaintsNumberIf (suc k) (suc n) x y old new = PaintsNumber (suc n) x y old new
+
+-- the number of a line from 1 on in its first row, and none in its other ones
+abbrev pub number_at : Place → ℕ
+number_at q = if q.row == 0 then q.line + 1 else 0
+
+-- a row of the text: a row of a line, with the line's number in the first one; after the end of the text a tilde
+abbrev pub PaintsLineAt : Option (List ℕ) → Pager → Place → Rect → ℕ → BufferData → BufferData → Type 0
+PaintsLineAt (Some line) p q r y =
+    let beside = number_columns p r.width in
+    InTurn (PaintsNumberIf beside (number_at q) r.x y)
+    (PaintsLine (r.x + beside) y (view_at p q.row (r.width - beside)) p.pattern line)
+PaintsLineAt None p q r y = PaintsLine r.x y (view_from 0 r.width) [] (codes "~")
+
+-- a row of the list of the keys
+abbrev pub help_text : ℕ → List ℕ
+help_text k = unwrap_or (option_map (λ line. line.now) (slice_get HELP k)) []
+
+-- a place of the text in a row
+abbrev pub PaintsTextRow : Pager → Place → Rect → ℕ → BufferData → BufferData → Type 0
+PaintsTextRow p q r y = PaintsLineAt (slice_get p.document q.line) p q r y
+
+-- row k of a page: a place of the text, or a row of the list of the keys
+abbrev pub PaintsRowIn : Mode → Pager → Rect → ℕ → Place → BufferData → BufferData → Type 0
+PaintsRowIn Helping p r k q = PaintsLine r.x (r.y + k) (view_from 0 r.width) [] (help_text k)
+PaintsRowIn Reading p r k q = PaintsTextRow p q r (r.y + k)
+PaintsRowIn Asking p r k q = PaintsTextRow p q r (r.y + k)
+
+-- row k of a page shows the place that is so many rows behind the first one
+abbrev pub PaintsRow : Pager → Rect → ℕ → BufferData → BufferData → Type 0
+PaintsRow p r k = PaintsRowIn p.mode p r k (rows_after (breaking p) k (place p))
+
+-- the first rows of a page
+unfoldable pub PaintsRows : Pager → Rect → ℕ → BufferData → BufferData → Type 0
+PaintsRows p r zero old new = new ≡ old
+PaintsRows p r (suc k) old new = InTurn (PaintsRows p r k) (PaintsRow p r k) old new
+
+-- ---- the status
+
+-- the first and the last line that a page shows, from 1 on
+abbrev pub first_shown : Pager → ℕ
+first_shown p = min (p.top + 1) (length p.document)
+
+abbrev pub last_shown : Pager → ℕ
+last_shown p = min ((place_after (page_rows p - 1) p).line + 1) (length p.document)
+
+-- how many of a hundred parts of the text end with the page
+abbrev pub per_cent : Pager → ℕ
+per_cent p = if length p.document == 0 then 100 else last_shown p * 100 / length p.document
+
+-- the place, as ` 1-23/100 23%`
+abbrev pub place_text : Pager → List ℕ
+place_text p =
+    codes " " ++ decimal (first_shown p) ++ codes "-" ++ decimal (last_shown p)
+    ++ codes "/" ++ decimal (length p.document)
+    ++ codes " " ++ decimal (per_cent p) ++ codes "%"
+
+-- the two parts of a status: what the text is called, and the place; or what isn't found; or what is typed of a
+-- search; or how to leave the list of the keys
+abbrev pub first_part : Mode → Pager → List ℕ
+first_part Reading p = if p.is_missing then codes "not found: " else p.name
+first_part Asking p = if p.is_back then codes "?" else codes "/"
+first_part Helping p = codes "keys"
+
+abbrev pub second_part : Mode → Pager → List ℕ
+second_part Reading p = if p.is_missing then p.pattern else place_text p
+second_part Asking p = flat_map encode_utf8 p.typed
+second_part Helping p = codes ": any key goes back"
+
+-- the status in a row, one part after the other
+abbrev pub PaintsStatus : Pager → Rect → ℕ → BufferData → BufferData → Type 0
+PaintsStatus p r y =
+    let first = first_part p.mode p in
+    let used = columns (text_pieces r.width reversed first) in
+    InTurn (PaintsText r.x y r.width reversed first)
+    (PaintsText (r.x + used) y (r.width - used) reversed (second_part p.mode p))
+
+-- ---- the page
+
+-- a page over a part of a buffer: its rows, and in the last row the status
+abbrev pub PaintsPage : Pager → Rect → BufferData → BufferData → Type 0
+PaintsPage p r = InTurn (PaintsRows p r (r.height - 1)) (PaintsStatus p r (r.y + (r.height - 1)))
+
+-- a page over the part of an area that a buffer has; of a buffer of plain cells comes one that a screen can
+-- show
+pub record PaintsPager (p : Pager) (area : Rect) (old new : BufferData) : Type 0 where
+  pub within : ChangesWithin area old new
+  pub page : OnPart (PaintsPage p) area old new
+  pub settled : EdgesFit old.area → IsPlainFrom 0 old → IsSettledBuffer new

@@ -1,0 +1,102 @@
+//! A text by its lines.
+
+ghost use Rattle.std.specs.Prelude.{◌≡◌, length, map, slice_get, option_map, IfOk};
+ghost use Rattle.std.specs.Str.Lines.{lines};
+ghost use Rattle.pager.specs.Search.{line_at};
+
+use std::alloc::{AllocError, Global};
+use std::fmt;
+use std::marker::Model;
+
+/// The lines of a text, which it borrows.
+#[derive(Drop)]
+pub struct Document<'a> {
+    lines: Vec<&'a str>,
+}
+
+/// Why a text has no `Document`.
+#[derive(Debug, Clone, Copy, PartialEq, Eq)]
+pub enum TextError {
+    /// Memory was refused.
+    Memory,
+    /// It has more than `u32::MAX` lines.
+    Lines,
+}
+
+impl fmt::Display for TextError {
+    fn fmt<W: fmt::Write>(&self, f: &mut fmt::Formatter<W>) -> fmt::Result {
+        match self {
+            TextError::Memory => write!(f, "no memory"),
+            TextError::Lines => write!(f, "too many lines"),
+        }
+    }
+}
+
+impl<'a> Model for Document<'a> {
+    ghost use Rattle.std.specs.Prelude.{ℕ, ◌<◌, ◌^◌, List, map, length};
+
+    ghost Value = { List (List ℕ) };
+
+    ghost view = { λ d. map (λ line. line.now) d.lines.items };
+
+    ghost invariant = { λ d. length d.lines.items < 2 ^ 32 };
+}
+
+impl<'a> Document<'a> {
+    /// The lines of a text, as `str::lines` gives them.
+    ///
+    /// # Errors
+    ///
+    /// `Memory` if memory is refused, and `Lines` if there are more than `u32::MAX` lines.
+    pub fn new(alloc: Global, text: &'a str) -> Result<Document<'a>, TextError>
+        ensures { IfOk result (λ d. d ≡ lines text.now) }
+    {
+        let lines = match collected(alloc, text) {
+            Ok(lines) => lines,
+            Err(_) => return Err(TextError::Memory),
+        };
+        if lines.len() > 0xffff_ffff {
+            return Err(TextError::Lines);
+        }
+        Ok(Document { lines })
+    }
+
+    /// What the list of lines takes its memory from.
+    pub fn allocator(&self) -> Global {
+        *self.lines.allocator()
+    }
+
+    /// How many lines there are.
+    pub fn len(&self) -> u32
+        ensures { result ≡ length self.now }
+    {
+        self.lines.len() as u32
+    }
+
+    /// A line by its number, from 0 on.
+    pub fn line(&self, number: usize) -> Option<&'a str>
+        ensures { option_map (λ line. line.now) result ≡ slice_get self.now number }
+    {
+        match self.lines.get(number) {
+            Some(line) => Some(*line),
+            None => None,
+        }
+    }
+
+    /// A line by its number, from 0 on, and after the end an empty one.
+    pub fn line_or_empty(&self, number: u64) -> &'a str
+        ensures { result.now ≡ line_at self.now number }
+    {
+        match self.line(number as usize) {
+            Some(line) => line,
+            None => "",
+        }
+    }
+}
+
+// The lines of a text, in a list.
+fn collected<'a>(alloc: Global, text: &'a str) -> Result<Vec<&'a str>, AllocError>
+    ensures { IfOk result (λ all. map (λ line. line.now) all.items ≡ lines text.now) }
+{
+    text.lines().collect(alloc)
+}

@@ -1,0 +1,42 @@
+//! The list of the keys.
+
+ghost use Rattle.std.specs.Prelude.{◌≡◌, [], slice_get, option_map, unwrap_or};
+ghost use Rattle.pager.specs.Pages.{help_text};
+
+/// The list of the keys, row by row.
+pub static HELP: [&str; 17] = [
+    "j k  Down Up  Enter   a row further, back: or as many as the number typed before",
+    "Space b  f b  PgDn PgUp   a page further, back",
+    "d u                   half a page further, back",
+    "g G  Home End         to the first line, to the last: or to that of the number",
+    "Left Right            half a screen to the left, to the right",
+    "/ ?                   search further, back: Enter begins, Esc gives up",
+    "n N                   the next match, the one before",
+    "l                     numbers of lines, or none",
+    "w                     long lines broken, or cut",
+    "h                     this list",
+    "q  Ctrl+C             the end",
+    "",
+    "The wheel of the mouse goes three rows further or back.",
+    "",
+    "A search takes what is typed as it is. What it finds is shown reversed.",
+    "Tabs go to every eighth column. What can't be shown is a replacement character.",
+    "",
+];
+
+// Row k of a list, and after it an empty one.
+fn row_of(rows: &[&'static str], k: u16) -> &'static str
+    ensures { result.now ≡ unwrap_or (option_map (λ row. row.now) (slice_get rows.now k)) [] }
+{
+    match rows.get(usize::from(k)) {
+        Some(row) => row,
+        None => "",
+    }
+}
+
+// Row k of the list of the keys, and after it an empty one.
+pub(crate) fn help_text(k: u16) -> &'static str
+    ensures { result.now ≡ help_text k }
+{
+    row_of(&HELP, k)
+}

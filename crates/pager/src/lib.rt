@@ -1,0 +1,37 @@
+//! A pager: a text in pages, moved by keys.
+//!
+//! [`Pager`] is an application of `ratatui_app`: events change its place, and it paints the page
+//! that begins there. `specs/Keys` is the table of its keys, `specs/Moves` what each does to the
+//! place, and `specs/Pages` what stands in each row.
+#![tactic(auto)]
+
+mod answer;
+mod command;
+mod document;
+mod help;
+pub mod laws;
+mod moves;
+mod own_text;
+mod page;
+mod pager;
+mod painting;
+mod place;
+mod search;
+mod showing;
+mod status;
+mod symbols;
+#[cfg(test)]
+mod tests;
+mod typing;
+mod view;
+
+pub use answer::Answer;
+pub use command::Command;
+pub use document::{Document, TextError};
+pub use help::HELP;
+pub use own_text::OwnText;
+pub use pager::{Mode, Pager};
+pub use place::Place;
+pub use showing::show;
+pub use typing::Typing;
+pub use view::View;

@@ -1,0 +1,199 @@
+//! The state of a pager.
+
+ghost use Rattle.std.specs.Prelude.{◌≡◌, OnOk, OnErr};
+ghost use Rattle.ratatui_reads.specs.Reads.{size_in};
+ghost use Rattle.pager.specs.Moves.{started, resized, erased, answered, acted, updated};
+
+use crate::answer::{Answer, answer_of, is_press};
+use crate::command::command_of;
+use crate::document::Document;
+use crate::own_text::OwnText;
+use crate::typing::Typing;
+use ratatui_core::layout::Size;
+use ratatui_events::Event;
+use ratatui_reads::Updates;
+use std::alloc::AllocError;
+
+/// What keys are taken for.
+#[derive(Debug, Clone, Copy, PartialEq, Eq)]
+pub enum Mode {
+    /// For commands.
+    Reading,
+    /// For what is sought.
+    Asking,
+    /// The list of the keys is shown; any key ends that.
+    Helping,
+}
+
+/// A text in pages: the lines of a text, and the place in them.
+#[derive(Drop)]
+pub struct Pager<'a> {
+    /// The lines of the text.
+    pub(crate) document: Document<'a>,
+    /// What the text is called.
+    pub(crate) name: OwnText,
+    /// The columns and rows of the terminal.
+    pub(crate) columns: u16,
+    pub(crate) rows: u16,
+    /// The first line of the page, from 0 on, and the row of it that is the first one.
+    pub(crate) top: u32,
+    pub(crate) row: u32,
+    /// The first column that is shown of each line, if lines aren't broken.
+    pub(crate) left: u32,
+    /// Whether lines are broken that are longer than a row.
+    pub(crate) wraps: bool,
+    /// The number that is typed, or 0.
+    pub(crate) number: u32,
+    /// Whether the numbers of the lines are shown.
+    pub(crate) has_numbers: bool,
+    pub(crate) mode: Mode,
+    /// Whether the last search goes back.
+    pub(crate) is_back: bool,
+    /// What is typed of the next search.
+    pub(crate) typed: Typing,
+    /// What is sought, and the line in which it was found last, unless the place was left since.
+    pub(crate) pattern: OwnText,
+    pub(crate) found: Option<u32>,
+    /// Whether the last search found no line.
+    pub(crate) is_missing: bool,
+    /// Whether the reader is done.
+    pub(crate) is_over: bool,
+}
+
+// The columns and rows that an event tells.
+fn size_in(event: Event) -> Option<(u16, u16)>
+    ensures { result ≡ size_in event }
+{
+    match event {
+        Event::Size(columns, rows) => {
+            if columns > 0 && rows > 0 {
+                Some((columns, rows))
+            } else {
+                None
+            }
+        }
+        Event::Position(x, y) => Some((x.saturating_add(1), y.saturating_add(1))),
+        _ => None,
+    }
+}
+
+impl<'a> Pager<'a> {
+    /// A pager at the first line of a text, on a terminal of this size; `pattern` is what is sought
+    /// before anything was typed.
+    pub fn new(document: Document<'a>, name: OwnText, pattern: OwnText, size: Size) -> Pager<'a>
+        ensures { result ≡ started document.entry name pattern size }
+    {
+        Pager {
+            document,
+            name,
+            columns: size.width,
+            rows: size.height,
+            top: 0,
+            row: 0,
+            left: 0,
+            wraps: false,
+            number: 0,
+            has_numbers: false,
+            mode: Mode::Reading,
+            is_back: false,
+            typed: Typing::new(),
+            pattern,
+            found: None,
+            is_missing: false,
+            is_over: false,
+        }
+    }
+
+    // Takes the size that an event tells, if there is one.
+    fn take_size(&mut self, size: Option<(u16, u16)>)
+        ensures { self.new ≡ resized size self.old }
+    {
+        if let Some((columns, rows)) = size {
+            self.columns = columns;
+            self.rows = rows;
+            self.go_to(u64::from(self.top));
+        }
+    }
+
+    // One character of the search less; before the first one the search is given up.
+    fn erase(&mut self)
+        ensures { self.new ≡ erased self.old }
+    {
+        if self.typed.is_empty() {
+            self.mode = Mode::Reading;
+        } else {
+            self.typed.pop();
+        }
+    }
+
+    // Does what is asked while a search is typed.
+    fn answer(&mut self, answer: Answer) -> Result<(), AllocError>
+        ensures ok { OnOk result (self.new ≡ answered answer self.old) }
+        ensures err { OnErr result (self.new ≡ self.old) }
+    {
+        match answer {
+            Answer::Add(character) => self.typed.push(character),
+            Answer::Erase => self.erase(),
+            Answer::Search => return self.search(),
+            Answer::Cancel => self.mode = Mode::Reading,
+            Answer::Ignore => {}
+        }
+        Ok(())
+    }
+
+    // Leaves the help, if an event does.
+    fn end_help(&mut self, event: Event)
+        ensures { self.new ≡ acted Mode.Helping event self.old }
+    {
+        if is_press(event) {
+            self.mode = Mode::Reading;
+        }
+    }
+
+    // Takes an event that tells no size.
+    fn act(&mut self, event: Event) -> Result<(), AllocError>
+        ensures ok { OnOk result (self.new ≡ acted self.old.mode event self.old) }
+        ensures err { OnErr result (self.new ≡ self.old) }
+    {
+        match self.mode {
+            Mode::Reading => {
+                self.obey(command_of(event));
+                Ok(())
+            }
+            Mode::Asking => self.answer(answer_of(event)),
+            Mode::Helping => {
+                self.end_help(event);
+                Ok(())
+            }
+        }
+    }
+}
+
+impl<'a> Updates for Pager<'a> {
+    ghost updated = { updated };
+
+    ghost is_over = { λ p. p.is_over };
+
+    /// Takes an event.
+    ///
+    /// # Errors
+    ///
+    /// `AllocError` if memory is refused; nothing has changed then. Only the beginning of a search
+    /// takes some.
+    fn update(&mut self, event: Event) -> Result<(), AllocError>
+        ensures ok { OnOk result (self.new ≡ updated self.old event) }
+        ensures err { OnErr result (self.new ≡ self.old) }
+    {
+        match size_in(event) {
+            Some(size) => {
+                self.take_size(Some(size));
+                Ok(())
+            }
+            None => self.act(event),
+        }
+    }
+
+    fn is_over(&self) -> bool {
+        self.is_over
+    }
+}

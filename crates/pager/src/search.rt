@@ -1,0 +1,148 @@
+//! Lines that have what is sought.
+
+ghost use Rattle.std.specs.Prelude.{◌≡◌, OnOk, OnErr};
+ghost use Rattle.pager.specs.Search.{occurs, has_match, line_at, next_match, last_match};
+ghost use Rattle.pager.specs.Moves.{found_at, sought_from, sought_before, after_found, before_found};
+ghost use Rattle.pager.specs.Moves.{sought_on, with_pattern, sought_first};
+
+use crate::pager::{Mode, Pager};
+use std::alloc::AllocError;
+
+// Whether a text stands somewhere in a line.
+fn occurs(pattern: &str, line: &str) -> bool
+    ensures { result ≡ occurs pattern.now line.now }
+{
+    line.contains(pattern)
+}
+
+impl<'a> Pager<'a> {
+    // Whether a line has what is sought.
+    fn has_match(&self, line: u32) -> bool
+        ensures { result ≡ has_match self.now.pattern (line_at self.now.document line) }
+    {
+        let pattern = self.pattern.as_str();
+        match self.document.line(line as usize) {
+            Some(text) => !pattern.is_empty() && occurs(pattern, text),
+            None => false,
+        }
+    }
+
+    // The first line from one on that has what is sought.
+    fn next_match(&self, from: u64) -> Option<u32>
+        ensures { result ≡ next_match self.now.pattern self.now.document from }
+    {
+        for line in from..u64::from(self.document.len()) {
+            if self.has_match(line as u32) {
+                return Some(line as u32);
+            }
+        }
+        None
+    }
+
+    // The last line before one that has what is sought.
+    fn last_match(&self, before: u32) -> Option<u32>
+        ensures { result ≡ last_match self.now.pattern self.now.document before }
+    {
+        let mut line = before;
+        while line > 0 {
+            line -= 1;
+            if self.has_match(line) {
+                return Some(line);
+            }
+        }
+        None
+    }
+
+    // Goes to a line that was found, or keeps in mind that none was.
+    fn go_to_found(&mut self, found: Option<u32>)
+        ensures { self.new ≡ found_at found self.old }
+    {
+        match found {
+            Some(line) => {
+                self.go_to(u64::from(line));
+                self.found = Some(line);
+                self.is_missing = false;
+            }
+            None => self.is_missing = true,
+        }
+    }
+
+    // Goes to the first line from one on that has what is sought.
+    fn seek_from(&mut self, from: u64)
+        ensures { self.new ≡ sought_from from self.old }
+    {
+        let found = self.next_match(from);
+        self.go_to_found(found);
+    }
+
+    // Goes to the last line before one that has what is sought.
+    fn seek_before(&mut self, before: u32)
+        ensures { self.new ≡ sought_before before self.old }
+    {
+        let found = self.last_match(before);
+        self.go_to_found(found);
+    }
+
+    // The line after the one that was found last, or after the first one of the page.
+    fn after_found(&self) -> u64
+        ensures { result ≡ after_found self.now.found self.now.top }
+    {
+        match self.found {
+            Some(line) => u64::from(line) + 1,
+            None => u64::from(self.top) + 1,
+        }
+    }
+
+    // The line that was found last, or the first one of the page.
+    fn before_found(&self) -> u32
+        ensures { result ≡ before_found self.now.found self.now.top }
+    {
+        match self.found {
+            Some(line) => line,
+            None => self.top,
+        }
+    }
+
+    // Goes on with the search in a direction.
+    pub(crate) fn seek_on(&mut self, is_back: bool)
+        ensures { self.new ≡ sought_on is_back self.old }
+    {
+        if is_back {
+            let before = self.before_found();
+            self.seek_before(before);
+        } else {
+            let after = self.after_found();
+            self.seek_from(after);
+        }
+    }
+
+    // Seeks what was typed from now on, if that is something.
+    fn take_pattern(&mut self) -> Result<(), AllocError>
+        ensures ok { OnOk result (self.new ≡ with_pattern self.old) }
+        ensures err { OnErr result (self.new ≡ self.old) }
+    {
+        if self.typed.is_empty() {
+            return Ok(());
+        }
+        self.pattern = self.typed.to_text(self.document.allocator())?;
+        Ok(())
+    }
+
+    // Begins the search of what was typed.
+    pub(crate) fn search(&mut self) -> Result<(), AllocError>
+        ensures ok { OnOk result
+            (self.new ≡ record (sought_first (with_pattern self.old)) { mode = Mode.Reading }) }
+        ensures err { OnErr result (self.new ≡ self.old) }
+    {
+        self.take_pattern()?;
+        self.mode = Mode::Reading;
+        if self.is_back {
+            let before = self.top;
+            self.seek_before(before);
+        } else {
+            let from = u64::from(self.top);
+            self.seek_from(from);
+        }
+        Ok(())
+    }
+}

@@ -1,0 +1,170 @@
+//! The status in the last row of a page.
+
+ghost use Rattle.std.specs.Prelude.{◌≡◌, ◌+◌, ◌-◌, ◌<◌, ◌≤◌, OnOk, IfOk};
+ghost use Rattle.ratatui_core.specs.Layout.{IsInside};
+ghost use Rattle.ratatui_core.specs.Buffer.{IsReadyAt, IsReadyFrom, IsSettledBuffer};
+ghost use Rattle.ratatui_core.specs.Widgets.{ChangesWithin};
+ghost use Rattle.rtui_boxes.specs.Boxes.{IsBoxArea};
+ghost use Rattle.pager.specs.Symbols.{reversed};
+ghost use Rattle.pager.specs.Pages.{first_shown, last_shown, per_cent, place_text, first_part, second_part};
+ghost use Rattle.pager.specs.Pages.{PaintsText, PaintsStatus};
+
+use crate::pager::{Mode, Pager};
+use crate::painting::paint_text;
+use crate::symbols::reversed;
+use arrayvec::ArrayString;
+use itoa::Buffer as Digits;
+use ratatui_core::buffer::Buffer;
+use ratatui_core::layout::Rect;
+use std::alloc::AllocError;
+
+impl<'a> Pager<'a> {
+    // The first line that is shown, from 1 on.
+    fn first_shown(&self) -> u64
+        ensures { result ≡ first_shown self.now }
+    {
+        (u64::from(self.top) + 1).min(u64::from(self.document.len()))
+    }
+
+    // The last line that is shown, from 1 on.
+    fn last_shown(&self) -> u64
+        ensures { result ≡ last_shown self.now }
+    {
+        let last = self.place_after(self.page_rows() - 1);
+        (last.line + 1).min(u64::from(self.document.len()))
+    }
+
+    // How many of a hundred parts of the text end with the page.
+    fn per_cent(&self) -> u64
+        ensures { result ≡ per_cent self.now }
+    {
+        let count = u64::from(self.document.len());
+        if count == 0 {
+            100
+        } else {
+            self.last_shown() * 100 / count
+        }
+    }
+
+    // The place, as it is shown.
+    fn place_text(&self) -> ArrayString<100>
+        ensures { result.bytes ≡ place_text self.now }
+    {
+        let mut digits = Digits::new();
+        let mut text = ArrayString::new();
+        text.push_str(" ");
+        text.push_str(digits.format(self.first_shown()));
+        text.push_str("-");
+        text.push_str(digits.format(self.last_shown()));
+        text.push_str("/");
+        text.push_str(digits.format(self.document.len()));
+        text.push_str(" ");
+        text.push_str(digits.format(self.per_cent()));
+        text.push_str("%");
+        text
+    }
+
+    // The first part of the status.
+    fn first_part(&self) -> &str
+        ensures { result.now ≡ first_part self.now.mode self.now }
+    {
+        match self.mode {
+            Mode::Reading if self.is_missing => "not found: ",
+            Mode::Reading => self.name.as_str(),
+            Mode::Asking if self.is_back => "?",
+            Mode::Asking => "/",
+            Mode::Helping => "keys",
+        }
+    }
+
+    // Paints what is typed of a search.
+    fn paint_typed(
+        &self,
+        room: u16,
+        x: u16,
+        y: u16,
+        part: Rect,
+        buf: &mut Buffer,
+    ) -> Result<u16, AllocError>
+        requires some { IsBoxArea part }
+        requires inside { IsInside part buf.old.area }
+        requires left { part.x ≤ x }
+        requires right { x + room ≤ part.x + part.width }
+        requires top { part.y ≤ y }
+        requires bottom { y < part.y + part.height }
+        ensures within { ChangesWithin part buf.old buf.new }
+        ensures ok { OnOk result (PaintsText x y room reversed
+            (second_part Mode.Asking self.now) buf.old buf.new) }
+        ensures ready { IsReadyAt x y buf.old → IfOk result (λ end. IsReadyAt end y buf.new) }
+    {
+        let text = self.typed.to_text(buf.allocator())?;
+        paint_text(text.as_str(), room, reversed(), x, y, part, buf)
+    }
+
+    // Paints the second part of the status.
+    fn paint_second(
+        &self,
+        room: u16,
+        x: u16,
+        y: u16,
+        part: Rect,
+        buf: &mut Buffer,
+    ) -> Result<u16, AllocError>
+        requires some { IsBoxArea part }
+        requires inside { IsInside part buf.old.area }
+        requires left { part.x ≤ x }
+        requires right { x + room ≤ part.x + part.width }
+        requires top { part.y ≤ y }
+        requires bottom { y < part.y + part.height }
+        ensures within { ChangesWithin part buf.old buf.new }
+        ensures ok { OnOk result (PaintsText x y room reversed
+            (second_part self.now.mode self.now) buf.old buf.new) }
+        ensures ready { IsReadyAt x y buf.old → IfOk result (λ end. IsReadyAt end y buf.new) }
+    {
+        match self.mode {
+            Mode::Reading if self.is_missing => {
+                paint_text(self.pattern.as_str(), room, reversed(), x, y, part, buf)
+            }
+            Mode::Reading => {
+                paint_text(
+                    self.place_text().as_str(),
+                    room,
+                    reversed(),
+                    x,
+                    y,
+                    part,
+                    buf,
+                )
+            }
+            Mode::Asking => self.paint_typed(room, x, y, part, buf),
+            Mode::Helping => {
+                paint_text(": any key goes back", room, reversed(), x, y, part, buf)
+            }
+        }
+    }
+
+    // Paints the status in the last row.
+    pub(crate) fn paint_status(&self, part: Rect, buf: &mut Buffer) -> Result<(), AllocError>
+        requires some { IsBoxArea part }
+        requires inside { IsInside part buf.old.area }
+        ensures within { ChangesWithin part buf.old buf.new }
+        ensures ok { let y = part.y + (part.height - 1) in
+            OnOk result (PaintsStatus self.now part y buf.old buf.new) }
+        ensures settled { IsReadyFrom (part.y + (part.height - 1)) buf.old
+            → OnOk result (IsSettledBuffer buf.new) }
+    {
+        let y = part.y + (part.height - 1);
+        let end = paint_text(
+            self.first_part(),
+            part.width,
+            reversed(),
+            part.x,
+            y,
+            part,
+            buf,
+        )?;
+        let room = part.width - (end - part.x);
+        self.paint_second(room, end, y, part, buf)?;
+        Ok(())
+    }
+}

@@ -1,0 +1,53 @@
+//! Pages after keys.
+
+use crate::{Document, OwnText, Pager};
+use ratatui_app::{Fault, run};
+use ratatui_core::backend::TestBackend;
+use ratatui_core::layout::Size;
+use ratatui_core::terminal::Terminal;
+use std::alloc::{AllocError, Global};
+use std::io::{self, Read};
+use std::test::Fail;
+
+// Whether these bytes lead to a screen with these lines.
+fn shows(alloc: Global, text: &str, keys: &[u8], lines: &[&str]) -> bool {
+    let Ok(document) = Document::new(alloc, text) else {
+        return false;
+    };
+    let Ok(name) = String::from_str(alloc, "t") else {
+        return false;
+    };
+    let Ok(backend) = TestBackend::new(alloc, 14, 4) else {
+        return false;
+    };
+    let Ok(mut terminal) = Terminal::new(alloc, backend) else {
+        return false;
+    };
+    let nothing = OwnText::new(String::new(alloc));
+    let mut pager = Pager::new(document, OwnText::new(name), nothing, Size::new(14, 4));
+    let mut reader = keys;
+    match run(&mut reader, false, &mut terminal, &mut pager) {
+        Ok(()) => terminal.backend().lines_are(lines),
+        Err(_) => false,
+    }
+}
+
+#[test]
+fn moves(rt: HostRuntime) -> Result<(), Fail> {
+    let alloc = rt.alloc();
+    let text = "one\ntwo\tx\nthr\u{1}e\n日本\nfive\nsix\n";
+    assert!(rt;
+        shows(
+            alloc,
+            text,
+            b"",
+            &[
+                "one           ",
+                "two     x     ",
+                "thr\u{fffd}e         ",
+                "t 1-3/6 50%   "
+            ]
+        )
+    );
+    Ok(())
+}

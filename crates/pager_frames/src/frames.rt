@@ -1,0 +1,107 @@
+//! Frames, printed.
+
+use crate::recording::Recording;
+use bitflags::Flags;
+use pager::{Document, OwnText, Pager};
+use ratatui_app::{draw, feed};
+use ratatui_core::backend::TestBackend;
+use ratatui_core::buffer::Cell;
+use ratatui_core::layout::Size;
+use ratatui_core::style::Modifier;
+use ratatui_core::terminal::Terminal;
+use ratatui_input::Decoder;
+use std::alloc::Global;
+use std::io::{self, ErrorKind};
+use std::str;
+
+/// A text, and the size of the screen on which it is shown.
+#[derive(Clone, Copy)]
+pub struct Stage<'a> {
+    pub alloc: Global,
+    pub text: &'a str,
+    pub size: Size,
+}
+
+impl<'a> Stage<'a> {
+    /// A pager of the text, on a screen in memory.
+    pub fn open(&self) -> Option<(Terminal<TestBackend>, Pager<'a>)> {
+        let document = Document::new(self.alloc, self.text).ok()?;
+        let name = OwnText::new(String::from_str(self.alloc, "text").ok()?);
+        let pattern = OwnText::new(String::new(self.alloc));
+        let backend = TestBackend::new(self.alloc, self.size.width, self.size.height).ok()?;
+        let terminal = Terminal::new(self.alloc, backend).ok()?;
+        Some((terminal, Pager::new(document, name, pattern, self.size)))
+    }
+}
+
+// Prints which columns of a row are reversed, if some are.
+fn print_marks(rt: &HostRuntime, alloc: Global, cells: &[Cell], width: usize) -> io::Result<()> {
+    let mut marks = String::new(alloc);
+    let mut is_marked = false;
+    for cell in cells.iter().take(width) {
+        let is_reversed = cell.modifier.contains(Modifier::REVERSED);
+        is_marked = is_marked || is_reversed;
+        let mark = if is_reversed { "^" } else { " " };
+        marks.push_str(mark).map_err(|_| ErrorKind::OutOfMemory)?;
+    }
+    if is_marked {
+        let marks = marks.as_str().trim_end();
+        println!(rt; " {marks}")?;
+    }
+    Ok(())
+}
+
+// Prints the screen, and below each row but the last one what is reversed there.
+fn print_screen(rt: &HostRuntime, alloc: Global, backend: &TestBackend) -> io::Result<()> {
+    let mut rows = Vec::new(alloc);
+    backend.write_to(&mut rows)?;
+    let text = str::from_utf8(rows.as_slice()).map_err(|_| ErrorKind::InvalidData)?;
+    let area = *backend.buffer().area();
+    let width = usize::from(area.width);
+    let last = usize::from(area.height.saturating_sub(1));
+    for (y, row) in text.lines().enumerate() {
+        println!(rt; "{row}")?;
+        if y < last {
+            let from = y.saturating_mul(width);
+            let cells = backend.buffer().content();
+            print_marks(rt, alloc, cells.get(from..).unwrap_or(&[]), width)?;
+        }
+    }
+    Ok(())
+}
+
+// The bytes of read k of a recording.
+fn read_of(recording: &Recording, k: usize) -> &[u8] {
+    let end = recording.ends.get(k).copied().unwrap_or(0);
+    let from = match k.checked_sub(1) {
+        Some(before) => recording.ends.get(before).copied().unwrap_or(0),
+        None => 0,
+    };
+    recording.bytes.get(from..end).unwrap_or(&[])
+}
+
+/// Prints the first frame, and the one after each read; answers whether all were drawn.
+pub fn print_frames(
+    rt: &HostRuntime,
+    stage: Stage<'_>,
+    script: &str,
+    recording: &Recording,
+) -> io::Result<bool> {
+    let Some((mut terminal, mut pager)) = stage.open() else {
+        return Ok(false);
+    };
+    if draw(&mut terminal, &pager).is_err() {
+        return Ok(false);
+    }
+    print_screen(rt, stage.alloc, terminal.backend())?;
+    let mut decoder = Decoder::new();
+    for (k, line) in script.lines().enumerate() {
+        println!(rt; "> {line}")?;
+        let bytes = read_of(recording, k);
+        if feed(bytes, &mut decoder, &mut terminal, &mut pager).is_err() {
+            return Ok(false);
+        }
+        print_screen(rt, stage.alloc, terminal.backend())?;
+    }
+    Ok(true)
+}

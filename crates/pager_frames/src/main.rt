@@ -1,0 +1,55 @@
+//! The program `pager_frames`: plays recorded keys on a pager, and prints each frame.
+//!
+//! `pager_frames FILE COLUMNS ROWS` shows a file on a screen in memory. Each line of standard input
+//! is the bytes of a read: words, each all its characters or the name of a byte (`ESC`, `SP`, `CR`,
+//! `TAB`, `DEL`), and `TICK` a read that finds nothing. After each it prints the screen, with `^`
+//! below what is shown reversed. Then it plays all bytes again, cut at random places, and compares
+//! the last screen; and with each read and each call of the screen failing in turn, and counts the
+//! faults that were told. With wrong words, or if a screen is another one, the status is 1.
+#![tactic(auto)]
+
+mod frames;
+mod recording;
+mod trials;
+
+use crate::frames::{Stage, print_frames};
+use crate::recording::Recording;
+use crate::trials::print_trials;
+use ratatui_core::layout::Size;
+use std::process::ExitCode;
+use std::{env, fs, io};
+
+// The size that words say.
+fn size_of(words: &[String]) -> Option<Size> {
+    let width: u16 = words.get(2)?.as_str().parse().ok()?;
+    let height: u16 = words.get(3)?.as_str().parse().ok()?;
+    Some(Size { width, height })
+}
+
+// Plays what standard input records on the text of a file.
+fn play(rt: &HostRuntime, words: &[String]) -> anyhow::Result<bool> {
+    let (Some(file), Some(size)) = (words.get(1), size_of(words)) else {
+        return Ok(false);
+    };
+    let text = fs::read_to_string(rt, file.as_str())?;
+    let script = io::read_to_string(rt.alloc(), rt.reader())?;
+    let recording = Recording::read(rt.alloc(), script.as_str())?;
+    let stage = Stage {
+        alloc: rt.alloc(),
+        text: text.as_str(),
+        size,
+    };
+    let frames = print_frames(rt, stage, script.as_str(), &recording)?;
+    let trials = print_trials(rt, stage, &recording)?;
+    Ok(frames && trials)
+}
+
+fn main(rt: HostRuntime) -> anyhow::Result<ExitCode> {
+    let words: Vec<String> = env::args(&rt)?.collect(rt.alloc())?;
+    if play(&rt, words.as_slice())? {
+        Ok(ExitCode::SUCCESS)
+    } else {
+        eprintln!(&rt; "pager_frames: a screen is another one, or the words are wrong")?;
+        Ok(ExitCode::FAILURE)
+    }
+}

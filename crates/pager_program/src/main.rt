@@ -1,0 +1,94 @@
+//! The program `pager`: shows a text page by page on a terminal, moved by keys. `h` lists them.
+//!
+//! `pager FILE` shows a file, and reads the keys from standard input; without a word, or with `-`,
+//! the text is standard input's, and the keys come from `/dev/tty`. The terminal has to be in raw
+//! mode, where a read that finds nothing answers after a while: `tools/raw pager_program FILE` sees
+//! to that. The size is that of `--columns` and `--rows`, or of the variables COLUMNS and LINES; or
+//! else the terminal is asked. What isn't a terminal ends with its last byte. If a text can't be
+//! read or a call fails, one line stands on standard error that begins with `pager: `, and the
+//! status is 1; with wrong words it is 2.
+#![tactic(auto)]
+
+mod fault;
+mod size;
+mod words;
+
+use crate::fault::Refusal;
+use crate::size::{Given, is_terminal, size_for};
+use crate::words::{command, given_by, name_of};
+use pager::{Document, OwnText, Pager, show};
+use std::io::{self, BufWriter, Read};
+use std::process::ExitCode;
+use std::{env, fs};
+
+// Shows a text that has a name, moved by a reader's keys.
+fn page<R: Read>(
+    rt: &HostRuntime,
+    name: &str,
+    text: &str,
+    keys: &mut R,
+    has_ticks: bool,
+    given: Given,
+) -> Result<(), Refusal> {
+    let alloc = rt.alloc();
+    let document = Document::new(alloc, text).map_err(Refusal::Text)?;
+    let name = OwnText::new(String::from_str(alloc, name).map_err(|_| Refusal::Memory)?);
+    let pattern = OwnText::new(String::new(alloc));
+    let mut writer = BufWriter::new(alloc, io::writer(rt)).map_err(Refusal::Write)?;
+    let size = size_for(rt, given, keys, has_ticks, &mut writer)?;
+    let mut pager = Pager::new(document, name, pattern, size);
+    show(alloc, size, keys, has_ticks, &mut writer, &mut pager).map_err(Refusal::Run)
+}
+
+// Shows a file; the keys are standard input's.
+fn page_file(rt: &HostRuntime, path: &str, given: Given) -> Result<(), Refusal> {
+    let text = fs::read_to_string(rt, path).map_err(Refusal::Read)?;
+    let has_ticks = is_terminal(rt);
+    page(rt, path, text.as_str(), &mut rt.reader(), has_ticks, given)
+}
+
+// Shows standard input; the keys are the terminal's.
+fn page_input(rt: &HostRuntime, given: Given) -> Result<(), Refusal> {
+    let text = io::read_to_string(rt.alloc(), rt.reader()).map_err(Refusal::Read)?;
+    let mut keys = fs::open(rt, "/dev/tty").map_err(Refusal::Keys)?;
+    page(rt, "standard input", text.as_str(), &mut keys, true, given)
+}
+
+// Reads the words, and shows what they name.
+fn start(rt: &HostRuntime) -> anyhow::Result<ExitCode> {
+    let words: Vec<String> = env::args(rt)?.collect(rt.alloc())?;
+    let matches = match command(rt.alloc())?.try_get_matches_from(words.as_slice()) {
+        Ok(matches) => matches,
+        Err(error) => {
+            if error.use_stderr() {
+                eprint!(rt; "pager: ")?;
+            }
+            error.print(rt)?;
+            return Ok(ExitCode::from(error.exit_code() as u8));
+        }
+    };
+    let given = given_by(&matches);
+    let name = name_of(&matches);
+    let shown = match name {
+        Some(path) => page_file(rt, path, given),
+        None => page_input(rt, given),
+    };
+    match shown {
+        Ok(()) => Ok(ExitCode::SUCCESS),
+        Err(refusal) => {
+            let name = name.unwrap_or("standard input");
+            refusal.tell(rt, name)?;
+            Ok(ExitCode::FAILURE)
+        }
+    }
+}
+
+fn main(rt: HostRuntime) -> ExitCode {
+    match start(&rt) {
+        Ok(status) => status,
+        Err(error) => {
+            let _ = eprintln!(rt; "pager: {error}");
+            ExitCode::FAILURE
+        }
+    }
+}

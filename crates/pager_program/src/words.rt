@@ -1,0 +1,42 @@
+//! What the program takes.
+
+use crate::size::Given;
+use clap::{Arg, ArgMatches, Command, value_parser};
+use std::alloc::{AllocError, Global};
+
+/// What the program takes: a file, and the columns and rows of the terminal.
+pub fn command<'a>(alloc: Global) -> Result<Command<'a>, AllocError> {
+    let file = Arg::new(alloc, "FILE").help(
+        "The text, and then the keys are read from standard input; with - it is that",
+    );
+    let columns = Arg::new(alloc, "COLUMNS")
+        .long("columns")
+        .short('c')
+        .help("How wide the terminal is; else the variable COLUMNS says it, or the terminal")
+        .value_parser(value_parser!(u16).range(1..=65535));
+    let rows = Arg::new(alloc, "ROWS")
+        .long("rows")
+        .short('r')
+        .help("How high the terminal is; else the variable LINES says it, or the terminal")
+        .value_parser(value_parser!(u16).range(1..=65535));
+    Command::new(alloc, "pager")
+        .bin_name("pager")?
+        .about("Shows a text page by page, moved by keys; h lists them")
+        .arg(file)?
+        .arg(columns)?
+        .arg(rows)
+}
+
+/// The columns and rows that the words say.
+pub fn given_by(matches: &ArgMatches<'_>) -> Given {
+    Given {
+        columns: matches.get_one::<u16>("COLUMNS"),
+        rows: matches.get_one::<u16>("ROWS"),
+    }
+}
+
+/// The file that the words name, if they do.
+pub fn name_of<'a>(matches: &ArgMatches<'a>) -> Option<&'a str> {
+    let name = matches.get_str("FILE")?;
+    (name != "-").then_some(name)
+}
