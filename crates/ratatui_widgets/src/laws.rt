@@ -1,5 +1,6 @@
 //! Laws of widgets that are no single call's clause.
 
+pub use rtui_bars::laws::{sparklines_have_this_default, sparklines_keep_cells_plain};
 pub use rtui_boxes::laws::{
     boxes_of_short_symbols_take_no_memory, clearing_keeps_settled, plain_boxes_keep_cells_plain,
 };
@@ -11,3 +12,5 @@ pub use rtui_meters::laws::{
 pub use rtui_paragraph::laws::{
     whole_graphemes_are_painted_together, words_are_broken_only_if_wide, wrapping_loses_nothing,
 };
+pub use rtui_table::laws::{selected_rows_are_shown, tables_of_narrow_texts_keep_cells_plain};
+pub use rtui_tabs::laws::tabs_of_narrow_texts_keep_cells_plain;
