@@ -143,7 +143,6 @@ if-follows : (bytes : List ℕ) (t : Bool) (x y : Next) → (t ≡ true → Foll
 if-follows bytes true x y f g = f refl
 if-follows bytes false x y f g = g refl
 
-
 control-asked : (b : ℕ) → (nat_le b 31 || (b == 127)) ≡ true → (b < 32) ⊎ (b ≡ 127)
 control-asked b h = grind (arith, nat_tests)
 
@@ -231,7 +230,6 @@ any-first alt b other =
     (λ n1. if-follows (after_alt alt (b ∷ [])) (nat_le b 31 || (b == 127)) _ _ (λ e. control-stands alt b (control-asked b e) (differ b 27 n1))
     (λ n2. if-follows (after_alt alt (b ∷ [])) (lies_in 32 126 b) _ _ (λ e. let f = lies 32 126 b e in typed-stands alt b f.0 f.1 (λ a. ((other a).1, (other a).2)))
     (λ n3. beginning-follows alt b (begun b alt) (begun-comes alt b))))
-
 
 pub first-follows : (b : ℕ) → Follows (first b false) (b ∷ [])
 first-follows b = any-first false b (λ e. cc)
@@ -321,7 +319,6 @@ click-stands n x y a1 a2 b1 b2 c1 c2 =
     mouse-stands (n - 32) (x - 32) (y - 32) false (click-some n x y)
     (λ kind p q r is. subst (λ (bs : List ℕ). Stands bs (mouse_told kind (n - 32) (x - 32) (y - 32))) (click-bytes n x y a1 b1 c1)
     (grammar_stands (by_bytes (n - 32) (x - 32) (y - 32) (omega arith) (omega arith) (omega arith) is)))
-
 
 after-some : (alt : Bool) (bytes : List ℕ) → bytes ≢ [] → after_alt alt bytes ≢ []
 after-some true bytes h e = cc
@@ -432,7 +429,6 @@ character-follows {alt = alt} b (three_of_four a a' d x a1 a2 b1 b2 l2 h2 d1 d2 
 after-snoc : (alt : Bool) (bytes : List ℕ) (b : ℕ) → after_alt alt (bytes ++ (b ∷ [])) ≡ after_alt alt bytes ++ (b ∷ [])
 after-snoc true bytes b = refl
 after-snoc false bytes b = refl
-
 
 pub follows : {s : State} {come : List ℕ} → HasCome s come → (b : ℕ) → b < 256 → Follows (stepped s b) (come ++ (b ∷ []))
 unfolding stepped

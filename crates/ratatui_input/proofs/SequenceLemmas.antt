@@ -81,7 +81,6 @@ mouse-stands n x y is_up some h =
     if-stands (nat_le n 255 && (nat_le x 65535 && nat_le y 65535)) (kind_told (mouse_kind n is_up) n x y) Unknown
     (λ e. let bounds = within-all n x y e in mouse-answer (mouse_kind n is_up) n x y some (λ kind is. h kind bounds.0 bounds.1 bounds.2 is)) (λ e. not_known some)
 
-
 tilde-stands : (s : Sequence) (body : List ℕ) → HasNumbers body s.numbers s.first s.second s.third s.kind → Stands (csi body 126) (tilde_event s)
 unfolding tilde_event code_event
 tilde-stands s body h =

@@ -20,7 +20,6 @@ pub data Stands : List ℕ → Event → Type 0 where
   single_stands : {ds : List ℕ} → WritesNumber ds 0 → Stands (27 ∷ 79 ∷ ds) (with_alt (typed_key 79) true)
   not_known : {bytes : List ℕ} → bytes ≢ [] → Stands bytes Unknown
 
-
 pub if-stands : {bytes : List ℕ} (t : Bool) (x y : Event) → (t ≡ true → Stands bytes x) → (t ≡ false → Stands bytes y) → Stands bytes (if t then x else y)
 if-stands true x y f g = f refl
 if-stands false x y f g = g refl
@@ -36,7 +35,6 @@ lies low high b h = grind (arith, nat_tests)
 
 pub lies-not : (low high b : ℕ) → lies_in low high b ≡ false → (b < low) ⊎ (high < b)
 lies-not low high b h = grind (arith, nat_tests)
-
 
 pub not-below : (a b : ℕ) → nat_lt a b ≡ false → b ≤ a
 not-below a b h = grind (arith, nat_tests)

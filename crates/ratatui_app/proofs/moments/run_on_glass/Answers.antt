@@ -27,7 +27,7 @@ returns-then-not-has_ticks-clause-runs g c = λ rest none.
     let step = c.in-Ok-step.ensures.steps (runs-shows shown_by (λ (b : BackendState g.row.W.Denot). b.failures) is_flushed g.A.Application.paints g.A.Updates.updated g.A.Updates.is_over _ _ _ _ _ _ before.0) in (
       c.step.new.decoder,
       glass-step g.A.Application.paints g.A.Updates.updated g.A.Updates.is_over _ _ _ _ _ _ _ _ _ _ (before.1 none) step
-      (c.shown_states_are_on_the_glass-in-loop.ensures _ step.fed.shown (step.fed.moved.faults ∙ run-unfailed g.A.Application.paints g.A.Updates.updated g.A.Updates.is_over _ _ _ _ _ _ before.0 none)),
+          (c.shown_states_are_on_the_glass-in-loop.ensures _ step.fed.shown (step.fed.moved.faults ∙ run-unfailed g.A.Application.paints g.A.Updates.updated g.A.Updates.is_over _ _ _ _ _ _ before.0 none)),
     )
 
 pub returns-clause-stops : goal.returns-clause-stops
