@@ -1,5 +1,5 @@
 -- What is sent to a terminal that changes nothing on its screen.
-use Rattle.std.specs.Prelude.{ℕ, List, [], ◌∷◌, ◌++◌, codes, chars, encode_utf8, if◌then◌else◌}
+use Rattle.std.specs.Prelude.{◌≡◌, ℕ, List, [], ◌∷◌, ◌++◌, codes, chars, encode_utf8, if◌then◌else◌}
 use Rattle.std.specs.List.{flat_map}
 use Rattle.ansi_model.specs.{declared.command.Command.Command, declared.command.SetCursorStyle.SetCursorStyle, Symbols.is_shown}
 use Rattle.ansi_model.specs.declared.command.Command.TheVariants.{EnableMouseCapture, DisableMouseCapture, EnableBracketedPaste, DisableBracketedPaste, EnableFocusChange, DisableFocusChange, AskCursorPosition}
@@ -42,3 +42,12 @@ shown_text text = flat_map shown_char (chars text)
 -- OSC 2, the title of the terminal's window, with its end, ESC \
 abbrev pub title_bytes : List ℕ → List ℕ
 title_bytes title = after_escape (codes "]2;") ++ (shown_text title ++ after_escape (92 ∷ []))
+
+-- asks for the place of the last column and row: CUP goes as far down and right as there is room, and DSR asks there
+abbrev pub size_question : List ℕ
+size_question = after_escape (codes "[65535;65535H") ++ after_escape (codes "[6n")
+
+-- bytes were appended that ask for it, and then others, for the way back
+pub record AsksSize (old new : List ℕ) : Type 0 where
+  pub back : List ℕ
+  pub asked : new ≡ old ++ (size_question ++ back)
