@@ -1,5 +1,5 @@
 -- What is sent to a terminal that changes nothing on its screen.
-use Rattle.std.specs.Prelude.{ℕ, List, [], ◌∷◌, ◌++◌, codes, chars, encode_utf8, if◌then◌else◌}
+use Rattle.std.specs.Prelude.{◌≡◌, ℕ, List, [], ◌∷◌, ◌++◌, codes, chars, encode_utf8, if◌then◌else◌}
 use Rattle.std.specs.List.{flat_map}
 use Rattle.ansi_model.specs.{declared.command.Command.Command, declared.command.SetCursorStyle.SetCursorStyle, Symbols.is_shown}
 use Rattle.ansi_model.specs.declared.command.Command.TheVariants.{EnableMouseCapture, DisableMouseCapture, EnableBracketedPaste, DisableBracketedPaste, EnableFocusChange, DisableFocusChange, AskCursorPosition}
@@ -7,8 +7,8 @@ use Rattle.ansi_model.specs.declared.command.Command.TheVariants as Asked
 use Rattle.ansi_model.specs.declared.command.SetCursorStyle.TheVariants.{DefaultUserShape, BlinkingBlock, SteadyBlock, BlinkingUnderScore, SteadyUnderScore, BlinkingBar, SteadyBar}
 
 -- ESC and a text
-abbrev pub after_escape : List ℕ → List ℕ
-after_escape text = 27 ∷ text
+abbrev pub with_escape : List ℕ → List ℕ
+with_escape text = 27 ∷ text
 
 -- the digit of a cursor's shape
 abbrev pub style_digit : SetCursorStyle → List ℕ
@@ -22,14 +22,14 @@ style_digit SteadyBar = codes "6"
 
 -- the mouse is told by the modes 1000, 1002, 1003 and 1006, pastes by 2004, the focus by 1004
 abbrev pub command_bytes : Command → List ℕ
-command_bytes EnableMouseCapture = after_escape (codes "[?1000h") ++ (after_escape (codes "[?1002h") ++ (after_escape (codes "[?1003h") ++ after_escape (codes "[?1006h")))
-command_bytes DisableMouseCapture = after_escape (codes "[?1006l") ++ (after_escape (codes "[?1003l") ++ (after_escape (codes "[?1002l") ++ after_escape (codes "[?1000l")))
-command_bytes EnableBracketedPaste = after_escape (codes "[?2004h")
-command_bytes DisableBracketedPaste = after_escape (codes "[?2004l")
-command_bytes EnableFocusChange = after_escape (codes "[?1004h")
-command_bytes DisableFocusChange = after_escape (codes "[?1004l")
-command_bytes AskCursorPosition = after_escape (codes "[6n")
-command_bytes (Asked.SetCursorStyle style) = after_escape (codes "[" ++ (style_digit style ++ codes " q"))
+command_bytes EnableMouseCapture = with_escape (codes "[?1000h") ++ (with_escape (codes "[?1002h") ++ (with_escape (codes "[?1003h") ++ with_escape (codes "[?1006h")))
+command_bytes DisableMouseCapture = with_escape (codes "[?1006l") ++ (with_escape (codes "[?1003l") ++ (with_escape (codes "[?1002l") ++ with_escape (codes "[?1000l")))
+command_bytes EnableBracketedPaste = with_escape (codes "[?2004h")
+command_bytes DisableBracketedPaste = with_escape (codes "[?2004l")
+command_bytes EnableFocusChange = with_escape (codes "[?1004h")
+command_bytes DisableFocusChange = with_escape (codes "[?1004l")
+command_bytes AskCursorPosition = with_escape (codes "[6n")
+command_bytes (Asked.SetCursorStyle style) = with_escape (codes "[" ++ (style_digit style ++ codes " q"))
 
 -- a character, unless it is a control character or turns the direction
 abbrev pub shown_char : ℕ → List ℕ
@@ -41,4 +41,13 @@ shown_text text = flat_map shown_char (chars text)
 
 -- OSC 2, the title of the terminal's window, with its end, ESC \
 abbrev pub title_bytes : List ℕ → List ℕ
-title_bytes title = after_escape (codes "]2;") ++ (shown_text title ++ after_escape (92 ∷ []))
+title_bytes title = with_escape (codes "]2;") ++ (shown_text title ++ with_escape (92 ∷ []))
+
+-- asks for the place of the last column and row: CUP goes as far down and right as there is room, and DSR asks there
+abbrev pub size_question : List ℕ
+size_question = with_escape (codes "[65535;65535H") ++ with_escape (codes "[6n")
+
+-- bytes were appended that ask for it, and then others, for the way back
+pub record AsksSize (old new : List ℕ) : Type 0 where
+  pub back : List ℕ
+  pub asked : new ≡ old ++ (size_question ++ back)

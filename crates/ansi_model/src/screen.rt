@@ -3,6 +3,7 @@
 ghost use Rattle.std.specs.Prelude.{◌≡◌, ℕ, List, ◌++◌, ◌+◌, ◌-◌, ◌<◌, ◌≤◌, min, nat_lt, OnOk, string_bytes, encode_utf8};
 ghost use Rattle.ratatui_core.specs.Backend.{Appends, scrolling_up, scrolling_down, clearing, ScrollsUp, ScrollsDown, Clears, with_cursor, with_visible, All, CurrentLine};
 ghost use Rattle.ansi_model.specs.Beginnings.{MakesBlank, OpensAlternate, SavesScreen, without_modes};
+ghost use Rattle.ansi_model.specs.Commands.{size_question, AsksSize};
 ghost use Rattle.ansi_model.specs.Endings.{ClosesAlternate, left_below};
 ghost use Rattle.ansi_model.specs.Emulator.{cursor_moved, returned, erased, line_fed, fed, with_region, without_region, lines_deleted, lines_inserted, fed_and_lowered, fed_and_lowered_by, columns_moved, rested};
 ghost use Rattle.ansi_model.specs.Sends.{Sends, Performs, typed};
@@ -70,7 +71,8 @@ pub fn clear_screen(
 
 // Moves the cursor as far down and right as it goes, and asks where it is.
 fn ask_at_the_end(out: &mut String) -> Result<(), AllocError>
-    ensures { OnOk result (Performs (string_bytes out.old) (string_bytes out.new)
+    ensures bytes { OnOk result (string_bytes out.new ≡ string_bytes out.old ++ size_question) }
+    ensures moves { OnOk result (Performs (string_bytes out.old) (string_bytes out.new)
         (cursor_moved 65534 65534)) }
 {
     out.push_str("\u{1b}[65535;65535H\u{1b}[6n")
@@ -83,7 +85,8 @@ fn ask_at_the_end(out: &mut String) -> Result<(), AllocError>
 ///
 /// `AllocError` if memory is refused. What the text holds then isn't said.
 pub fn ask_size(out: &mut String, x: u16, y: u16) -> Result<(), AllocError>
-    ensures { OnOk result ((w h : ℕ) → 0 < w → 0 < h → Turns w h (string_bytes out.old)
+    ensures asks { OnOk result (AsksSize (string_bytes out.old) (string_bytes out.new)) }
+    ensures turns { OnOk result ((w h : ℕ) → 0 < w → 0 < h → Turns w h (string_bytes out.old)
         (string_bytes out.new) (λ s. Becomes (λ p q. p.cursor_x ≡ x → p.cursor_y ≡ y
         → q ≡ p) s.columns s)) }
 {

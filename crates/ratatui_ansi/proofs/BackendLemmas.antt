@@ -7,7 +7,10 @@ use Rattle.ansi_model.specs.{Endings.ClosesAlternate, Windows.Window, Windows.fe
 use Rattle.ansi_model.specs.{Emulator.Emulator, Emulator.rested, Emulator.blank_terminal, Sequences.feed, Screens.screen_shown}
 use Rattle.ansi_model.specs.{Beginnings.MakesBlank, Beginnings.anew, Beginnings.with_rows_above, Columns.blank_column, Flags.AreContinuations}
 use Rattle.ansi_model.proofs.{ScrollLemmas.blank-idle, ReadLemmas.feed-append, CallLemmas.fresh-left, HistoryLemmas.feed-above, WindowLemmas.window-read, WindowLemmas.window-append}
-use Rattle.ratatui_ansi.specs.Tracker.{IsAwaiting, IsTracked, FitsScreen, Collects, BeginsBlank}
+use Rattle.ansi_model.specs.Commands.{command_bytes, size_question}
+use Rattle.ratatui_ansi.specs.declared.tracker.Call.{Call}
+use Rattle.ratatui_ansi.specs.declared.tracker.Call.TheVariants as Called
+use Rattle.ratatui_ansi.specs.Tracker.{IsAwaiting, IsTracked, FitsScreen, Collects, IsCommanded, BeginsBlank}
 
 read-on : (size : Size) (sent more new : List ℕ) → new ≡ sent ++ more → reader size new ≡ feed more (reader size sent)
 read-on size sent more new e = ap (reader size) e ∙ feed-append sent more (blank_terminal size.width size.height)
@@ -17,6 +20,17 @@ pub alike-on : (size : Size) (sent out new : List ℕ) → new ≡ sent ++ out �
 alike-on size sent out new e alike t left =
     ap (λ bytes. feed bytes (anew t)) e ∙ feed-append sent out (anew t) ∙ ap (feed out) (alike t left) ∙ feed-above out t.history (reader size sent)
     ∙ ap (with_rows_above t.history) (sym (ap (reader size) e ∙ feed-append sent out (blank_terminal size.width size.height)))
+
+-- what a call's bytes are, once they were sent
+pub commanded-on : (call : Call) (sent out new after : List ℕ) → IsCommanded call out new → out ≡ [] → after ≡ sent ++ new → IsCommanded call sent after
+commanded-on (Called.Command command) sent out new after is none e = e ∙ ap (λ xs. sent ++ xs) (is ∙ ap (λ xs. xs ++ command_bytes command) none)
+commanded-on Called.AskSize sent out new after is none e = record { back = is.back; asked = e ∙ ap (λ xs. sent ++ xs) (is.asked ∙ ap (λ xs. xs ++ (size_question ++ is.back)) none) }
+commanded-on (Called.Move p) sent out new after is none e = tt
+commanded-on (Called.Show visible) sent out new after is none e = tt
+commanded-on (Called.Append n) sent out new after is none e = tt
+commanded-on (Called.ScrollUp region n) sent out new after is none e = tt
+commanded-on (Called.ScrollDown region n) sent out new after is none e = tt
+commanded-on (Called.Clear kind) sent out new after is none e = tt
 
 -- what is tracked of the terminal that has read all
 pub tracked-from : (k : Tracker) {broken : Bool} {failures : ℕ} {sent : List ℕ} → IsInOrder k.size k.cursor k.continuations.items k.draft.items k.is_visible broken failures sent → broken ≡ false

@@ -2,7 +2,7 @@
 use Rattle.std.specs.Prelude.{◌≡◌, ℕ, ◌*◌, ◌<◌, Bool, true, List, length, [], ◌++◌, string_bytes}
 use Rattle.ratatui_core.specs.Layout.{Position, Size}
 use Rattle.ratatui_core.specs.Backend.{Screen, cursor_of, Appends, Clears, ScrollsUp, ScrollsDown, with_cursor, with_visible}
-use Rattle.ansi_model.specs.{Columns.blank_column, Commands.command_bytes, Beginnings.MakesBlank, Emulator.Emulator, Emulator.rested, Emulator.Phase.Ground, Sequences.feed}
+use Rattle.ansi_model.specs.{Columns.blank_column, Commands.command_bytes, Commands.AsksSize, Beginnings.MakesBlank, Emulator.Emulator, Emulator.rested, Emulator.Phase.Ground, Sequences.feed}
 use Rattle.ansi_model.specs.{Screens.screen_shown, Screens.IsIdle, Flags.AreContinuations, Flags.is_clear_cut}
 use Rattle.ratatui_ansi.specs.{declared.draw.Refusal.Refusal, declared.tracker.Tracker.Tracker, declared.tracker.Call.Call}
 use Rattle.ratatui_ansi.specs.declared.draw.Refusal.TheVariants as Refused
@@ -69,9 +69,10 @@ CallDoes (Called.Clear kind) s t = Clears s kind t
 CallDoes (Called.Command command) s t = t ≡ s
 CallDoes Called.AskSize s t = t ≡ s
 
--- a command's bytes were appended for it
+-- a command's bytes, or the question for the size, were appended for it
 abbrev pub IsCommanded : Call → List ℕ → List ℕ → Type 0
 IsCommanded (Called.Command command) old new = new ≡ old ++ command_bytes command
+IsCommanded Called.AskSize old new = AsksSize old new
 IsCommanded _ old new = Unit {0}
 
 -- a clear would cut a symbol at the cursor

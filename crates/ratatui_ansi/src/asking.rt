@@ -2,7 +2,7 @@
 
 ghost use Rattle.std.specs.Prelude.{◌≡◌, ◌++◌, if◌then◌else◌, IfErr, OnOk};
 ghost use Rattle.ratatui_core.specs.Backend.{Counts};
-ghost use Rattle.ansi_model.specs.Commands.{command_bytes, title_bytes};
+ghost use Rattle.ansi_model.specs.Commands.{command_bytes, title_bytes, AsksSize};
 ghost use Rattle.ratatui_ansi.specs.Backend.{shown_by};
 ghost use Rattle.ratatui_ansi.specs.Refusals.{Answers, IsOfWriting};
 
@@ -102,6 +102,7 @@ impl<W: Write + Drop> AnsiBackend<W> {
     /// `Memory`, `Broken` and `Write`, as of every call that writes.
     pub fn ask_size(&mut self) -> Result<(), AnsiError>
         ensures ok { OnOk result (shown_by self.new ≡ shown_by self.old) }
+        ensures asked { OnOk result (AsksSize self.old.sent self.new.sent) }
         ensures why { IfErr result IsOfWriting }
         ensures state { Answers result self.old self.new }
         ensures counts { Counts result self.old.failures self.new.failures }

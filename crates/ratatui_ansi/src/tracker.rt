@@ -8,7 +8,7 @@ ghost use Rattle.ratatui_core.specs.Backend.{Draws, Appends, Erases, Clears, Scr
 ghost use Rattle.ansi_model.specs.Emulator.{keeps_history};
 ghost use Rattle.ratatui_ansi.specs.declared.tracker.Call.TheVariants as Called;
 ghost use Rattle.ansi_model.specs.Flags.{is_cut, is_clear_cut};
-ghost use Rattle.ansi_model.specs.Commands.{command_bytes, title_bytes};
+ghost use Rattle.ansi_model.specs.Commands.{command_bytes, title_bytes, AsksSize};
 ghost use Rattle.ansi_model.specs.Sends.{IsWithinUpdate};
 ghost use Rattle.ratatui_ansi.specs.Frame.{is_sendable_on, Drafts};
 ghost use Rattle.ratatui_ansi.specs.Refusals.{has_place, StopsDraw, RefusesTracker};
@@ -146,6 +146,8 @@ impl Tracker {
     fn ask_size(&mut self) -> Result<(), AllocError>
         requires { IsTracker self.old }
         ensures ok { OnOk result (Collects self.old (λ s t. t ≡ s) self.new) }
+        ensures asks { OnOk result
+            (AsksSize (string_bytes self.old.out) (string_bytes self.new.out)) }
         ensures err { OnErr result (KeepsTracked self.old self.new) }
     {
         ask_size(&mut self.out, self.cursor.x, self.cursor.y)

@@ -375,7 +375,7 @@ pub(crate) const LEFT: &str =
 
 // Whether a text, which is what another text has from its end on, makes a terminal blank that read
 // the other.
-fn blanks(alloc: Global, texts: Option<(&str, &str)>) -> Result<bool, Fail> {
+fn blanks<'a>(alloc: Global, texts: Option<(&'a str, &'a str)>) -> Result<bool, Fail> {
     let Some((left, rest)) = texts else {
         return Ok(false);
     };

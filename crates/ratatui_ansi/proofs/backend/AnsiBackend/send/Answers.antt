@@ -1,7 +1,7 @@
 use Rattle.std.proofs.Common.{ap, ◌∙◌, ◌++◌}
 use Rattle.ratatui_ansi.specs.Backend.{reader}
 use Rattle.ratatui_ansi.specs.declared.tracker.Tracker.{Tracker}
-use Rattle.ratatui_ansi.proofs.{RefusalLemmas.if-error, RefusalLemmas.uncollected-why, BackendLemmas.in-order-on, BackendLemmas.shown-on, BackendLemmas.tracked-from}
+use Rattle.ratatui_ansi.proofs.{RefusalLemmas.if-error, RefusalLemmas.uncollected-why, BackendLemmas.in-order-on, BackendLemmas.shown-on, BackendLemmas.tracked-from, BackendLemmas.commanded-on}
 use Rattle.ratatui_ansi.proofs.backend.AnsiBackend.send.Goals as goal
 
 pub invariant_of-self-2 : goal.invariant_of-self-2
@@ -24,3 +24,9 @@ returns-in_err-collect-clause-why g c =
     let k : Tracker = record b.tracker { out = c.clear.new.self } in
     if-error _ _ _ c.from_residual-in_err-collect.ensures (rw (← c.self.view_is)
     (uncollected-why k (reader b.tracker.size b.sender.sent.bytes) c.args.call b.tracker.written _ kept.tracker.columns (tracked-from k kept c.in_ok-failures.ensures.works) c.in_err-collect.ensures.why))
+
+pub returns-clause-sent : goal.returns-clause-sent
+returns-clause-sent g c =
+    let b = c.self.inside in
+    let sent = c.in_ok-send.ensures.sent ∙ ap (λ s. s.sent.bytes ++ c.as_str.result.now) c.begin.ensures.rest ∙ ap (λ xs. b.sender.sent.bytes ++ xs) c.as_str.ensures.value in
+    rw (← c.self.view_is) (commanded-on c.args.call _ _ _ _ c.in_ok-collect.ensures.bytes c.clear.ensures.bytes sent)
