@@ -6,6 +6,7 @@ mod buffers;
 mod geometry;
 mod input;
 mod styles;
+mod tables;
 mod terminals;
 mod texts;
 mod widgets;
