@@ -59,12 +59,15 @@ stacked_rows k r (row ∷ rows) =
 abbrev pub height_before : List Row → ℕ → ℕ
 height_before rows k = sum_by full_height (take k rows)
 
--- how many rows of the screen row number k takes, without its lower margin and with it
+-- how many rows of the screen row number k takes: without its lower margin, with it, and its cells alone
 abbrev pub upper_at : List Row → ℕ → ℕ
 upper_at rows k = slice_index_or (map upper_height rows) k 0
 
 abbrev pub full_at : List Row → ℕ → ℕ
 full_at rows k = slice_index_or (map full_height rows) k 0
+
+abbrev pub cells_at : List Row → ℕ → ℕ
+cells_at rows k = slice_index_or (map (λ row. row.height) rows) k 0
 
 -- in an area of so many rows that begins with one, the cells of another one are shown whole
 abbrev pub IsInView : List Row → ℕ → ℕ → ℕ → Type 0

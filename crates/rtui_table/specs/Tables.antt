@@ -14,7 +14,7 @@ use Rattle.rtui_boxes.specs.{Titles.InTurn, Framed.IsFramed, Framed.IsBare, Fram
 use Rattle.rtui_list.specs.Items.{has_mark_columns, without_columns, is_selected_at}
 use Rattle.rtui_list.specs.declared.list.HighlightSpacing.TheVariants.{WhenSelected}
 use Rattle.rtui_table.specs.{declared.table.Table.Table as TableData, declared.cell.Cell.Cell, declared.row.Row.Row, declared.state.TableState.TableState}
-use Rattle.rtui_table.specs.Rows.{PlacedRow, stacked_rows, rows_area, footer_area, cells_area, IsRowOffset}
+use Rattle.rtui_table.specs.Rows.{PlacedRow, stacked_rows, rows_area, footer_area, cells_area, cells_at, IsRowOffset}
 
 -- a table of these rows in columns of these widths, a column apart, without header, footer, box, styles and
 -- highlight symbol
@@ -172,6 +172,12 @@ highlight_parts t (Some row) (Some column) =
 -- the rows of a table over their area, from the state's first one on, and the highlights over them
 abbrev pub placed_rows : TableData → TableState → Rect → List PlacedRow
 placed_rows t u r = stacked_rows u.offset r (drop u.offset t.rows.items)
+
+-- the selected row stands in the area with all rows of its cells
+pub record IsShownWhole (t : TableData) (u : TableState) (r : Rect) (selected : ℕ) : Type 0 where
+  pub area : Rect
+  pub stands : selected_row_area u.selected (placed_rows t u r) ≡ Some area
+  pub whole : area.height ≡ cells_at t.rows.items selected
 
 abbrev pub body_parts : TableData → TableState → ℕ → List Rect → Rect → List TablePart
 body_parts t u n columns r =

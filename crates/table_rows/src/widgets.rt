@@ -1,0 +1,153 @@
+//! The widgets of the cases.
+
+use crate::cases::Case;
+use crate::shown::push_rows;
+use crate::tables::{push_state, table};
+use ratatui_core::buffer::Buffer;
+use ratatui_core::layout::Rect;
+use ratatui_core::text::{Line, Span};
+use ratatui_core::widgets::Widget;
+use rtui_bars::{Bar, BarChart, BarGroup, RenderDirection, Sparkline, SparklineBar};
+use rtui_tabs::Tabs;
+use std::alloc::{AllocError, Global};
+
+/// The text that an option says, or another one.
+pub fn text_or(
+    alloc: Global,
+    case: &Case<'_>,
+    name: &str,
+    other: &str,
+) -> Result<String, AllocError> {
+    match case.text(alloc, name)? {
+        Some(text) => Ok(text),
+        None => String::from_str(alloc, other),
+    }
+}
+
+// The titles that texts between bars say.
+fn titles_of<'a>(alloc: Global, texts: &'a str) -> Result<Vec<Line<'a>>, AllocError> {
+    let mut titles = Vec::new(alloc);
+    for text in texts.split(" | ") {
+        titles.push(Line::raw(alloc, text)?)?;
+    }
+    Ok(titles)
+}
+
+fn tabs(alloc: Global, case: &Case<'_>, area: Rect, buffer: &mut Buffer) -> Result<(), AllocError> {
+    let divider = text_or(alloc, case, "divider", "│")?;
+    let left = text_or(alloc, case, "left", " ")?;
+    let right = text_or(alloc, case, "right", " ")?;
+    Tabs::new(titles_of(alloc, case.texts)?)
+        .select(case.number("selected"))
+        .divider(Span::raw(divider.as_str()))
+        .padding_left(Line::raw(alloc, left.as_str())?)
+        .padding_right(Line::raw(alloc, right.as_str())?)
+        .render(area, buffer)
+}
+
+// The bars that an option says, between commas; what is no number is an absent value.
+fn bars_of(alloc: Global, case: &Case<'_>) -> Result<Vec<SparklineBar>, AllocError> {
+    let mut bars = Vec::new(alloc);
+    if let Some(words) = case.option("data") {
+        for word in words.split(",") {
+            bars.push(SparklineBar::new(word.parse().ok()))?;
+        }
+    }
+    Ok(bars)
+}
+
+fn sparkline(
+    alloc: Global,
+    case: &Case<'_>,
+    area: Rect,
+    buffer: &mut Buffer,
+) -> Result<(), AllocError> {
+    let absent = text_or(alloc, case, "absent", " ")?;
+    let mut sparkline = Sparkline::new(bars_of(alloc, case)?).absent_value_symbol(absent.as_str());
+    if let Some(max) = case.number("max") {
+        sparkline = sparkline.max(max as u64);
+    }
+    if case.option("from") == Some("right") {
+        sparkline = sparkline.direction(RenderDirection::RightToLeft);
+    }
+    sparkline.render(area, buffer)
+}
+
+// The groups of bars that texts between bars say, as `a=3 | b=5`; a text without `=` begins a group
+// with this label.
+fn groups_of<'a>(alloc: Global, texts: &'a str) -> Result<Vec<BarGroup<'a>>, AllocError> {
+    let mut groups = Vec::new(alloc);
+    let mut group = BarGroup::new(Vec::new(alloc));
+    let mut bars = Vec::new(alloc);
+    for text in texts.split(" | ") {
+        match text.split_once("=") {
+            Some((label, value)) => {
+                let value = value.parse().unwrap_or(0);
+                bars.push(Bar::with_label(Line::raw(alloc, label)?, value))?;
+            }
+            None => {
+                if !bars.is_empty() {
+                    groups.push(group.bars(bars))?;
+                }
+                bars = Vec::new(alloc);
+                group = BarGroup::with_label(Line::raw(alloc, text)?, Vec::new(alloc));
+            }
+        }
+    }
+    groups.push(group.bars(bars))?;
+    Ok(groups)
+}
+
+// A small number that an option says, or another one.
+fn small(case: &Case<'_>, name: &str, other: u16) -> u16 {
+    match case.number(name) {
+        Some(number) => number.min(65535) as u16,
+        None => other,
+    }
+}
+
+fn bar_chart(
+    alloc: Global,
+    case: &Case<'_>,
+    area: Rect,
+    buffer: &mut Buffer,
+) -> Result<(), AllocError> {
+    let mut chart = BarChart::new(groups_of(alloc, case.texts)?)
+        .bar_width(small(case, "width", 1))
+        .bar_gap(small(case, "gap", 1))
+        .group_gap(small(case, "groups", 0));
+    if let Some(max) = case.number("max") {
+        chart = chart.max(max as u64);
+    }
+    chart.render(area, buffer)
+}
+
+// Renders the widget of a case that has no state.
+fn widget(
+    alloc: Global,
+    case: &Case<'_>,
+    area: Rect,
+    buffer: &mut Buffer,
+) -> Result<(), AllocError> {
+    match case.kind {
+        "sparkline" => sparkline(alloc, case, area, buffer),
+        "barchart" => bar_chart(alloc, case, area, buffer),
+        _ => tabs(alloc, case, area, buffer),
+    }
+}
+
+/// The rows that a case leaves, and of a table its state.
+pub fn show(alloc: Global, case: &Case<'_>) -> Result<String, AllocError> {
+    let area = Rect::new(0, 0, case.width, case.height);
+    let mut buffer = Buffer::empty(alloc, area)?;
+    let mut shown = String::new(alloc);
+    if case.kind == "table" {
+        let state = table(alloc, case, area, &mut buffer)?;
+        push_rows(&mut shown, &buffer)?;
+        push_state(&mut shown, &state)?;
+    } else {
+        widget(alloc, case, area, &mut buffer)?;
+        push_rows(&mut shown, &buffer)?;
+    }
+    Ok(shown)
+}
