@@ -18,11 +18,11 @@ use ratatui_core::terminal::{Terminal, TerminalError};
 use std::alloc::Global;
 use std::io::{self, Read, Write};
 
-/// What leaves a terminal's own screen, and tells of the mouse from then on.
-const ENTERING: &str = "\x1b[?1049h\x1b[?1000h\x1b[?1006h";
+/// What leaves a terminal's own screen, and tells of the mouse and of new sizes from then on.
+const ENTERING: &str = "\x1b[?1049h\x1b[?1000h\x1b[?1006h\x1b[?2048h";
 
 /// What takes that back.
-const GIVING_BACK: &str = "\x1b[?1006l\x1b[?1000l\x1b[?1049l";
+const GIVING_BACK: &str = "\x1b[?2048l\x1b[?1006l\x1b[?1000l\x1b[?1049l";
 
 /// Moves a pager by what a reader gives, on a terminal of this size that is sent bytes, until the
 /// pager is over or the reader at its end; answers the terminal. Then each terminal of this size
@@ -98,7 +98,7 @@ fn show_to<R: Read, W: Write>(
 }
 
 /// Shows a text as [`show_on`] does, and gives the terminal back: its own screen and colours, no
-/// margins, the cursor shown, and the mouse not told of.
+/// margins, the cursor shown, and neither the mouse nor new sizes told of.
 ///
 /// No want of memory prevents that, and it is done after a fault, too.
 ///
