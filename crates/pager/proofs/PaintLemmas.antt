@@ -1,13 +1,12 @@
 -- Texts and lines painted in rows, and what may be painted after them.
-use Rattle.std.proofs.Common.{◌≡◌, ℕ, zero, suc, ◌+◌, ◌-◌, ◌<◌, ◌≤◌, ◌&&◌, ⊎_elim, inl, inr, ◌⊎◌, Bool, true, false, nat_lt}
-use Rattle.std.proofs.Common.{nat_le, List, [], ◌∷◌, filter, length, refl, sym, ap, subst, ◌∙◌, arith, min, Result, Ok, Err, OnOk}
+use Rattle.std.proofs.Common.{◌≡◌, ℕ, ◌+◌, ◌-◌, ◌<◌, ◌≤◌, ⊎_elim, inl, inr, Bool, true, false}
+use Rattle.std.proofs.Common.{List, [], ◌∷◌, length, refl, sym, ap, subst, ◌∙◌, arith, Result, Ok, Err, OnOk}
 use Rattle.std.proofs.Common.{OnErr, add-one}
 use Rattle.std.specs.{declared.alloc.AllocError.AllocError, List.concat}
 use Rattle.std.proofs.lemmas.{Bool.cases_lt, Bool.Decides.nat_tests}
-use Rattle.unicode_segmentation.specs.Grapheme.{graphemes}
-use Rattle.ratatui_core.specs.{Layout.Rect, Layout.EdgesFit, Layout.IsInside, Style.Style, Widgets.ChangesWithin, Widgets.OnPart}
+use Rattle.ratatui_core.specs.{Layout.Rect, Layout.IsInside, Style.Style, Widgets.ChangesWithin}
 use Rattle.ratatui_core.specs.{Widgets.IsClipped}
-use Rattle.ratatui_core.specs.Buffer.{BufferData, HasRow, IsPlainFrom, IsReadyAt, IsReadyFrom, IsSettledBuffer, PaintsPieces}
+use Rattle.ratatui_core.specs.Buffer.{BufferData, HasRow, IsReadyAt, IsReadyFrom, IsSettledBuffer, PaintsPieces}
 use Rattle.ratatui_core.specs.Buffer.{columns, pieces_at, room_at, text_pieces, position_of}
 use Rattle.ratatui_core.proofs.{BufferLemmas.within-same, BufferLemmas.within-wider, BufferLemmas.ready-row}
 use Rattle.ratatui_core.proofs.{BufferLemmas.ready-plain, WidgetLemmas.within-then, WidgetLemmas.OnPart-clipped}
@@ -16,7 +15,7 @@ use Rattle.rtui_boxes.proofs.PaintLemmas.{part-has_row, part-right}
 use Rattle.pager.specs.declared.view.View.{View}
 use Rattle.pager.specs.Symbols.{LineSymbol, shown_columns, symbol_of, marked_bytes, mark_style, symbols_from, is_in_view}
 use Rattle.pager.specs.Symbols.{symbols_in_view}
-use Rattle.pager.specs.Pages.{PaintsSymbol, PaintsIf, PaintsIfInView, PaintsSymbols, PaintsLine, PaintsRow, PaintsRows}
+use Rattle.pager.specs.Pages.{PaintsIf, PaintsIfInView, PaintsSymbols, PaintsLine, PaintsRow, PaintsRows}
 use Rattle.pager.specs.Pages.{PaintsPage, PaintsPager}
 use Rattle.pager.specs.declared.pager.Pager.{Pager}
 

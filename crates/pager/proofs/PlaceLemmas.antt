@@ -1,5 +1,5 @@
 -- The place lies in the text, whatever comes.
-use Rattle.std.proofs.Common.{◌≡◌, ℕ, ◌≤◌, ◌-◌, ◌==◌, ◌&&◌, ◌||◌, Bool, true, false, not, nat_lt, if◌then◌else◌, List, length}
+use Rattle.std.proofs.Common.{◌≡◌, ℕ, ◌-◌, ◌==◌, ◌&&◌, ◌||◌, Bool, true, false, not, nat_lt, if◌then◌else◌, List, length}
 use Rattle.std.proofs.Common.{take, encode_utf8, Option, Some, None, refl, arith}
 use Rattle.std.proofs.lemmas.Bool.Decides.{nat_tests}
 use Rattle.std.specs.List.{flat_map}
@@ -18,9 +18,9 @@ use Rattle.pager.specs.declared.command.Command.TheVariants.{ToStart, ToEnd, ToL
 use Rattle.pager.specs.declared.command.Command.TheVariants.{Help, Quit}
 use Rattle.pager.specs.Search.{next_match, last_match}
 use Rattle.pager.specs.declared.place.Place.{Place}
-use Rattle.pager.specs.Places.{IsInText, place, place_of, last_place, is_before, earlier, at_place, place_after, place_before}
-use Rattle.pager.specs.Moves.{at_line, started, found_at, sought_before, sought_from, before_found, after_found, sought_on, moved}
-use Rattle.pager.specs.Moves.{obeyed, erased, with_pattern, sought_first, answered, acted, updated_by, updated}
+use Rattle.pager.specs.Places.{IsInText, place_of, last_place, is_before, at_place}
+use Rattle.pager.specs.Moves.{started, found_at, sought_before, sought_from, before_found, after_found, sought_on, moved}
+use Rattle.pager.specs.Moves.{obeyed, with_pattern, answered, acted, updated_by, updated}
 use Rattle.pager.specs.Keys.{event_command, event_answer, is_press}
 
 -- of two places at most one stands before the other one

@@ -1,8 +1,7 @@
 -- How many rows a line takes, and the rows of a text one after the other.
-use Rattle.std.proofs.Common.{◌≡◌, ℕ, zero, suc, ◌+◌, ◌-◌, ◌≤◌, List, [], ◌∷◌, length, refl, sym, ap, ◌∙◌, arith, add-one}
-use Rattle.std.specs.List.{concat}
+use Rattle.std.proofs.Common.{◌≡◌, ℕ, ◌+◌, ◌-◌, ◌≤◌, List, [], ◌∷◌, length, refl, ap, ◌∙◌, arith, add-one}
 use Rattle.pager.specs.declared.place.Place.{Place}
-use Rattle.pager.specs.Symbols.{LineSymbol, shown_columns, symbols_from}
+use Rattle.pager.specs.Symbols.{shown_columns, symbols_from}
 use Rattle.pager.specs.Places.{Breaking, last_start, next_place, previous_place, rows_after, rows_before}
 
 -- without anything that is sought no byte is marked

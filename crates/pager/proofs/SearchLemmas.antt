@@ -1,13 +1,13 @@
 -- Where a text stands in another, and which line has it.
-use Rattle.std.proofs.Common.{◌≡◌, ℕ, zero, suc, ◌+◌, ◌-◌, ◌<◌, ◌≤◌, ◌&&◌, ◌||◌, ⊎_elim, ◌==◌, nat_lt, Bool, true, false, Decides}
-use Rattle.std.proofs.Common.{List, [], ◌∷◌, ◌++◌, take, drop, length, Option, Some, None, unwrap_or, slice_get, refl, sym, ap}
-use Rattle.std.proofs.Common.{subst, ◌∙◌, arith, IsTrue, ◌↔◌}
+use Rattle.std.proofs.Common.{◌≡◌, ℕ, suc, ◌+◌, ◌<◌, ◌≤◌, ◌&&◌, ⊎_elim, ◌==◌, nat_lt, Bool, true, false, Decides}
+use Rattle.std.proofs.Common.{List, [], ◌∷◌, ◌++◌, drop, length, Some, None, unwrap_or, slice_get, refl, sym, ap}
+use Rattle.std.proofs.Common.{◌∙◌, arith}
 use Rattle.std.specs.Str.Iter.{HasSubslice}
 use Rattle.std.specs.List.{position_from}
-use Rattle.std.proofs.lemmas.Bool.{cases_Bool, or_right, or_left}
-use Rattle.std.proofs.lemmas.{Bool.Decides.same_from_decides, Bool.Decides.Decides-eqb, Bool.Decides.nat_tests}
+use Rattle.std.proofs.lemmas.Bool.{cases_Bool, or_right}
+use Rattle.std.proofs.lemmas.{Bool.Decides.Decides-eqb}
 use Rattle.std.proofs.lemmas.{Option.unwrap_or-slice_get, Slice.Eq.starts_is, List.drop_more, List.drop_all}
-use Rattle.pager.specs.Search.{begins_with, occurs, has_match, line_at, next_match, last_match}
+use Rattle.pager.specs.Search.{begins_with, occurs, has_match, line_at, last_match}
 
 begins : (pattern text : List ℕ) → (begins_with pattern text ≡ true → text ≡ pattern ++ drop (length pattern) text)
 begins pattern text = (starts_is {E = ◌==◌} (λ a b. Decides-eqb a b) text pattern (begins_with pattern text) refl).0

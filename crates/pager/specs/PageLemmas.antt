@@ -1,5 +1,5 @@
 -- What is painted of a pager can be shown.
-use Rattle.std.proofs.Common.{◌≡◌, ap, subst, sym}
+use Rattle.std.proofs.Common.{subst, sym}
 use Rattle.ratatui_core.specs.{Layout.Rect, Layout.EdgesFit, Buffer.BufferData, Buffer.IsEmptied}
 use Rattle.ratatui_core.specs.{Buffer.IsSettledBuffer}
 use Rattle.rtui_changes.proofs.PlainLemmas.{plain-emptied}

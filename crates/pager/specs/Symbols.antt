@@ -1,5 +1,5 @@
 -- The symbols of a line: what is shown for each grapheme, where, and whether it is marked.
-use Rattle.std.specs.Prelude.{ℕ, Bool, true, ◌+◌, ◌-◌, ◌%◌, ◌<◌, ◌≤◌, ◌&&◌, ◌||◌, ◌==◌, not, nat_lt, nat_le}
+use Rattle.std.specs.Prelude.{ℕ, Bool, true, ◌+◌, ◌-◌, ◌%◌, ◌&&◌, ◌||◌, not, nat_lt, nat_le}
 use Rattle.std.specs.Prelude.{if◌then◌else◌, List, [], ◌∷◌, filter, length}
 use Rattle.std.specs.{Str.bytes_eq, List.concat}
 use Rattle.unicode_segmentation.specs.Grapheme.{graphemes}

@@ -32,6 +32,6 @@ pub use help::HELP;
 pub use own_text::OwnText;
 pub use pager::{Mode, Pager};
 pub use place::Place;
-pub use showing::show;
+pub use showing::{show, show_on};
 pub use typing::Typing;
 pub use view::View;

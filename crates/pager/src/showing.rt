@@ -18,15 +18,21 @@ use ratatui_core::terminal::{Terminal, TerminalError};
 use std::alloc::Global;
 use std::io::{self, Read, Write};
 
-/// What leaves a terminal's own screen, and tells of the mouse from then on.
-const ENTERING: &str = "\x1b[?1049h\x1b[?1000h\x1b[?1006h";
+/// What leaves a terminal's own screen, and tells of the mouse and of new sizes from then on.
+const ENTERING: &str = "\x1b[?1049h\x1b[?1000h\x1b[?1006h\x1b[?2048h";
 
 /// What takes that back.
-const GIVING_BACK: &str = "\x1b[?1006l\x1b[?1000l\x1b[?1049l";
+const GIVING_BACK: &str = "\x1b[?2048l\x1b[?1006l\x1b[?1000l\x1b[?1049l";
 
-// Moves a pager by what a reader gives, on a terminal of this size that is sent bytes; answers the
-// terminal.
-pub(crate) fn show_on<R: Read, W: Write + Drop>(
+/// Moves a pager by what a reader gives, on a terminal of this size that is sent bytes, until the
+/// pager is over or the reader at its end; answers the terminal. Then each terminal of this size
+/// that has read what was sent shows the page that the bytes lead to. Where reads that find nothing
+/// are ticks, the reader has no end.
+///
+/// # Errors
+///
+/// Those of `ratatui_app::run`; `Draw` also if the terminal can't be begun.
+pub fn show_on<R: Read, W: Write + Drop>(
     alloc: Global,
     size: Size,
     reader: &mut R,
@@ -64,17 +70,41 @@ fn send<W: Write>(writer: &mut W, texts: &[&str]) -> io::Result<()> {
     writer.flush()
 }
 
-/// Shows a text on a terminal of this size, moves by what a reader gives until the pager is over or
-/// the reader at its end, and gives the terminal back: its own screen and colours, no margins, the
-/// cursor shown, and the mouse not told of. Where reads that find nothing are ticks, the reader has
-/// no end.
+// Gives a terminal back.
+fn give_back<W: Write>(writer: &mut W) -> Result<(), Fault<AnsiError>> {
+    match send(writer, &[leaving(), GIVING_BACK]) {
+        Ok(()) => Ok(()),
+        Err(error) => Err(Fault::Draw(TerminalError::Backend(AnsiError::Write(error)))),
+    }
+}
+
+// Shows a text on a terminal that is lent.
+fn show_to<R: Read, W: Write>(
+    alloc: Global,
+    size: Size,
+    reader: &mut R,
+    has_ticks: bool,
+    writer: &mut W,
+    pager: &mut Pager<'_>,
+) -> Result<(), Fault<AnsiError>>
+    ensures { has_ticks ≡ false → OnOk result (HasEnded updated (λ p. p.is_over)
+        (record { decoder = fresh_decoder; state = pager.old }) (R.remaining reader.old)
+        pager.new (R.remaining reader.new)) }
+{
+    match show_on(alloc, size, reader, has_ticks, writer, pager) {
+        Ok(_) => Ok(()),
+        Err(fault) => Err(fault),
+    }
+}
+
+/// Shows a text as [`show_on`] does, and gives the terminal back: its own screen and colours, no
+/// margins, the cursor shown, and neither the mouse nor new sizes told of.
 ///
 /// No want of memory prevents that, and it is done after a fault, too.
 ///
 /// # Errors
 ///
-/// Those of `ratatui_app::run`. `Read` also where the terminal can't be entered or given back: then
-/// the writer failed.
+/// Those of [`show_on`]; `Draw` also if what gives the terminal back can't be written.
 pub fn show<R: Read, W: Write>(
     alloc: Global,
     size: Size,
@@ -82,19 +112,16 @@ pub fn show<R: Read, W: Write>(
     has_ticks: bool,
     writer: &mut W,
     pager: &mut Pager<'_>,
-) -> Result<(), Fault<AnsiError>> {
+) -> Result<(), Fault<AnsiError>>
+    ensures { has_ticks ≡ false → OnOk result (HasEnded updated (λ p. p.is_over)
+        (record { decoder = fresh_decoder; state = pager.old }) (R.remaining reader.old)
+        pager.new (R.remaining reader.new)) }
+{
     let _ = send(writer, &[ENTERING]);
-    let shown = match show_on(alloc, size, reader, has_ticks, &mut *writer, pager) {
-        Ok(_) => Ok(()),
-        Err(fault) => Err(fault),
-    };
-    let left = send(writer, &[leaving(), GIVING_BACK]);
+    let shown = show_to(alloc, size, reader, has_ticks, writer, pager);
+    let left = give_back(writer);
     match shown {
-        Ok(()) => {}
-        Err(fault) => return Err(fault),
-    }
-    match left {
-        Ok(()) => Ok(()),
-        Err(error) => Err(Fault::Draw(TerminalError::Backend(AnsiError::Write(error)))),
+        Ok(()) => left,
+        Err(fault) => Err(fault),
     }
 }

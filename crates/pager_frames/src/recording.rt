@@ -85,19 +85,13 @@ impl Read for Player<'_> {
             return Err(ErrorKind::BrokenPipe.into());
         }
         self.calls -= 1;
-        let left = end.saturating_sub(self.at).min(buf.len());
-        let count = self.piece(left);
-        let mut copied = 0usize;
-        for byte in self.recording.bytes.iter().skip(self.at).take(count) {
-            if let Some(place) = buf.get_mut(copied) {
-                *place = *byte;
-                copied = copied.saturating_add(1);
-            }
-        }
-        self.at = self.at.saturating_add(copied);
+        let rest = self.recording.bytes.get(self.at..*end).unwrap_or(&[]);
+        let count = self.piece(rest.len()).min(rest.len()).min(buf.len());
+        buf[..count].copy_from_slice(&rest[..count]);
+        self.at = self.at.saturating_add(count);
         if self.at >= *end {
             self.read = self.read.saturating_add(1);
         }
-        Ok(copied)
+        Ok(count)
     }
 }

@@ -1,4 +1,4 @@
-use Rattle.std.proofs.Common.{◌≡◌, ◌+◌, ◌-◌, ◌≤◌, min, arith, subst}
+use Rattle.std.proofs.Common.{◌≡◌, ◌+◌, ◌-◌, min, arith, subst}
 use Rattle.ratatui_core.specs.Buffer.{IsReadyAt}
 use Rattle.rtui_boxes.proofs.BoxLemmas.{inside-within}
 use Rattle.pager.proofs.PaintLemmas.{part-later}

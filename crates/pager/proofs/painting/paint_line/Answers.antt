@@ -1,4 +1,4 @@
-use Rattle.std.proofs.Common.{rules, ◌≡◌, ◌∷◌, [], ◌+◌, ◌-◌, ◌≤◌, min, length, arith, subst, sym}
+use Rattle.std.proofs.Common.{rules, ◌≡◌, ◌∷◌, [], ◌-◌, length, arith, subst, sym}
 use Rattle.unicode_segmentation.specs.Iter.{graphemes_left}
 use Rattle.ratatui_core.proofs.WidgetLemmas.{within-then}
 use Rattle.pager.specs.{Symbols.symbol_of, Pages.PaintsIfInView}

@@ -1,6 +1,6 @@
-use Rattle.std.proofs.Common.{rules, ◌≡◌, ◌≤◌, ◌+◌, true, [], ◌∷◌, min, arith, ap, sym, subst, ◌∙◌}
+use Rattle.std.proofs.Common.{rules, ◌≡◌, ◌+◌, true, [], ◌∷◌, arith, ap, sym, ◌∙◌}
 use Rattle.unicode_segmentation.specs.{Grapheme.graphemes, Iter.graphemes_left}
-use Rattle.pager.specs.{Symbols.line_symbols, Symbols.symbols_from, Symbols.shown_columns, Places.last_start}
+use Rattle.pager.specs.{Symbols.symbols_from, Places.last_start}
 use Rattle.pager.proofs.RowLemmas.{last-turn, last-far, last-none}
 use Rattle.pager.proofs.place.last_start.Goals as goal
 

@@ -1,4 +1,4 @@
-use Rattle.std.proofs.Common.{◌≡◌, None, sym, ◌∙◌, ap, option_map}
+use Rattle.std.proofs.Common.{sym}
 use Rattle.pager.specs.Search.{line_at}
 use Rattle.pager.proofs.SearchLemmas.{none-at, none-matches}
 use Rattle.pager.proofs.pager.Pager.has_match.Goals as goal

@@ -1,5 +1,4 @@
-use Rattle.std.proofs.Common.{◌≡◌, ◌<◌, length, true, false, sym, ◌∙◌, arith}
-use Rattle.pager.specs.Search.{has_match, line_at}
+use Rattle.std.proofs.Common.{sym, ◌∙◌, arith}
 use Rattle.pager.proofs.SearchLemmas.{next-here, next-later, next-none}
 use Rattle.pager.proofs.pager.Pager.next_match.Goals as goal
 

@@ -1,4 +1,4 @@
-use Rattle.std.proofs.Common.{◌≡◌, ◌≤◌, ◌+◌, ◌∙◌, arith, sym, subst}
+use Rattle.std.proofs.Common.{◌∙◌, arith, sym, subst}
 use Rattle.ratatui_core.specs.Buffer.{IsReadyFrom}
 use Rattle.ratatui_core.proofs.{BufferLemmas.within-same, WidgetLemmas.within-then}
 use Rattle.pager.specs.Places.{breaking, place}

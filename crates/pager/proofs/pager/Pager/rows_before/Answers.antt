@@ -1,4 +1,4 @@
-use Rattle.std.proofs.Common.{◌≡◌, ◌≤◌, ◌+◌, sym, arith}
+use Rattle.std.proofs.Common.{sym, arith}
 use Rattle.pager.specs.Places.{breaking}
 use Rattle.pager.proofs.RowLemmas.{before-none, before-next}
 use Rattle.pager.proofs.pager.Pager.rows_before.Goals as goal
