@@ -2,7 +2,7 @@
 use Rattle.std.proofs.Common.{◌≡◌, ℕ, ◌+◌, ◌-◌, ◌≤◌, List, [], ◌∷◌, length, refl, ap, ◌∙◌, arith, add-one}
 use Rattle.pager.specs.declared.place.Place.{Place}
 use Rattle.pager.specs.Symbols.{shown_columns, symbols_from}
-use Rattle.pager.specs.Places.{Breaking, last_start, next_place, previous_place, rows_after, rows_before}
+use Rattle.pager.specs.Places.{Breaking, last_start, next_place, previous_place, rows_after, rows_back}
 
 -- without anything that is sought no byte is marked
 no-mark : (n : ℕ) → 0 - n ≡ 0
@@ -38,10 +38,10 @@ pub after-next : (t : Breaking) (n : ℕ) (q r s : Place) → r ≡ rows_after t
 unfolding rows_after
 after-next t n q r s before is = rw add-one (is ∙ ap (next_place t) before)
 
-pub before-none : (t : Breaking) (q : Place) → rows_before t 0 q ≡ q
-unfolding rows_before
+pub before-none : (t : Breaking) (q : Place) → rows_back t 0 q ≡ q
+unfolding rows_back
 before-none t q = refl
 
-pub before-next : (t : Breaking) (n : ℕ) (q r s : Place) → r ≡ rows_before t n q → s ≡ previous_place t r → s ≡ rows_before t (n + 1) q
-unfolding rows_before
+pub before-next : (t : Breaking) (n : ℕ) (q r s : Place) → r ≡ rows_back t n q → s ≡ previous_place t r → s ≡ rows_back t (n + 1) q
+unfolding rows_back
 before-next t n q r s before is = rw add-one (is ∙ ap (previous_place t) before)

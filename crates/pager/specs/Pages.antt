@@ -9,7 +9,7 @@ use Rattle.ratatui_core.specs.Buffer.{text_pieces, position_of}
 use Rattle.ratatui_core.specs.Widgets.{ChangesWithin, OnPart}
 use Rattle.rtui_boxes.specs.Titles.{InTurn}
 use Rattle.pager.specs.Symbols.{LineSymbol, reversed, is_in_view, line_symbols, symbols_in_view}
-use Rattle.pager.specs.Places.{breaking, number_columns, stride, page_rows, place, rows_after, place_after}
+use Rattle.pager.specs.Places.{breaking, number_columns, stride, page_rows, first_place, rows_after, place_after}
 use Rattle.pager.specs.declared.place.Place.{Place}
 use Rattle.pager.specs.declared.view.View.{View}
 use Rattle.pager.specs.declared.help.TheConstants.{HELP}
@@ -97,13 +97,13 @@ PaintsRowIn Reading p r k q = PaintsTextRow p q r (r.y + k)
 PaintsRowIn Asking p r k q = PaintsTextRow p q r (r.y + k)
 
 -- row k of a page shows the place that is so many rows behind the first one
-abbrev pub PaintsRow : Pager → Rect → ℕ → BufferData → BufferData → Type 0
-PaintsRow p r k = PaintsRowIn p.mode p r k (rows_after (breaking p) k (place p))
+abbrev pub PaintsPageRow : Pager → Rect → ℕ → BufferData → BufferData → Type 0
+PaintsPageRow p r k = PaintsRowIn p.mode p r k (rows_after (breaking p) k (first_place p))
 
 -- the first rows of a page
-unfoldable pub PaintsRows : Pager → Rect → ℕ → BufferData → BufferData → Type 0
-PaintsRows p r zero old new = new ≡ old
-PaintsRows p r (suc k) old new = InTurn (PaintsRows p r k) (PaintsRow p r k) old new
+unfoldable pub PaintsPageRows : Pager → Rect → ℕ → BufferData → BufferData → Type 0
+PaintsPageRows p r zero old new = new ≡ old
+PaintsPageRows p r (suc k) old new = InTurn (PaintsPageRows p r k) (PaintsPageRow p r k) old new
 
 -- ---- the status
 
@@ -149,7 +149,7 @@ PaintsStatus p r y =
 
 -- a page over a part of a buffer: its rows, and in the last row the status
 abbrev pub PaintsPage : Pager → Rect → BufferData → BufferData → Type 0
-PaintsPage p r = InTurn (PaintsRows p r (r.height - 1)) (PaintsStatus p r (r.y + (r.height - 1)))
+PaintsPage p r = InTurn (PaintsPageRows p r (r.height - 1)) (PaintsStatus p r (r.y + (r.height - 1)))
 
 -- a page over the part of an area that a buffer has; of a buffer of plain cells comes one that a screen can
 -- show

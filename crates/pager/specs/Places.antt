@@ -3,15 +3,15 @@ use Rattle.std.specs.Prelude.{◌≡◌, ℕ, zero, suc, Bool, false, ◌+◌, �
 use Rattle.std.specs.Prelude.{nat_lt, min, max, if◌then◌else◌, List, [], ◌∷◌, length}
 use Rattle.pager.specs.declared.pager.Pager.{Pager}
 use Rattle.pager.specs.declared.place.Place.{Place}
-use Rattle.pager.specs.Search.{line_at}
+use Rattle.pager.specs.Search.{line_numbered}
 use Rattle.pager.specs.Symbols.{LineSymbol, line_symbols}
 
-abbrev pub place_of : ℕ → ℕ → Place
-place_of line row = record { line = line; row = row }
+abbrev pub row_place : ℕ → ℕ → Place
+row_place line row = record { line = line; row = row }
 
 -- the place at which the page begins
-abbrev pub place : Pager → Place
-place p = place_of p.top p.row
+abbrev pub first_place : Pager → Place
+first_place p = row_place p.top p.row
 
 -- how many columns the numbers of lines take: none where there is no room for more
 abbrev pub number_columns : Pager → ℕ → ℕ
@@ -37,20 +37,20 @@ abbrev pub breaking : Pager → Breaking
 breaking p = record { lines = p.document; wraps = p.wraps; stride = stride p }
 
 -- how many rows a line takes
-abbrev pub line_rows : Breaking → List ℕ → ℕ
-line_rows t line = if t.wraps then min (last_start 0 (line_symbols [] line)) 4294967295 / t.stride + 1 else 1
+abbrev pub rows_of_line : Breaking → List ℕ → ℕ
+rows_of_line t line = if t.wraps then min (last_start 0 (line_symbols [] line)) 4294967295 / t.stride + 1 else 1
 
 -- the next row of a text, which goes on behind its end
 abbrev pub next_place : Breaking → Place → Place
 next_place t q =
-    if nat_lt (q.row + 1) (line_rows t (line_at t.lines q.line)) then place_of q.line (q.row + 1)
-    else place_of (q.line + 1) 0
+    if nat_lt (q.row + 1) (rows_of_line t (line_numbered t.lines q.line)) then row_place q.line (q.row + 1)
+    else row_place (q.line + 1) 0
 
 -- the row before; the first one stays
 abbrev pub previous_place : Breaking → Place → Place
 previous_place t q =
-    if nat_lt 0 q.row then place_of q.line (q.row - 1)
-    else if nat_lt 0 q.line then place_of (q.line - 1) (line_rows t (line_at t.lines (q.line - 1)) - 1)
+    if nat_lt 0 q.row then row_place q.line (q.row - 1)
+    else if nat_lt 0 q.line then row_place (q.line - 1) (rows_of_line t (line_numbered t.lines (q.line - 1)) - 1)
     else q
 
 -- so many rows further, and back
@@ -58,19 +58,19 @@ unfoldable pub rows_after : Breaking → ℕ → Place → Place
 rows_after t zero q = q
 rows_after t (suc n) q = next_place t (rows_after t n q)
 
-unfoldable pub rows_before : Breaking → ℕ → Place → Place
-rows_before t zero q = q
-rows_before t (suc n) q = previous_place t (rows_before t n q)
+unfoldable pub rows_back : Breaking → ℕ → Place → Place
+rows_back t zero q = q
+rows_back t (suc n) q = previous_place t (rows_back t n q)
 
 -- how many rows of text a page has: all but the last row, and at least one
 abbrev pub page_rows : Pager → ℕ
 page_rows p = max (p.rows - 1) 1
 
 -- the place at which the last page begins: that page ends with the last row of the text
-abbrev pub last_place : Pager → Place
-last_place p =
-    if p.wraps then rows_before (breaking p) (page_rows p) (place_of (length p.document) 0)
-    else place_of (length p.document - page_rows p) 0
+abbrev pub end_place : Pager → Place
+end_place p =
+    if p.wraps then rows_back (breaking p) (page_rows p) (row_place (length p.document) 0)
+    else row_place (length p.document - page_rows p) 0
 
 -- a place stands before another one
 abbrev pub is_before : Place → Place → Bool
@@ -82,15 +82,15 @@ earlier a b = if is_before a b then a else b
 
 -- the page that begins at a place, or the last one
 abbrev pub at_place : Place → Pager → Pager
-at_place q p = record p { top = (earlier q (last_place p)).line; row = (earlier q (last_place p)).row }
+at_place q p = record p { top = (earlier q (end_place p)).line; row = (earlier q (end_place p)).row }
 
 -- the places so many rows further, and back
 abbrev pub place_after : ℕ → Pager → Place
-place_after n p = if p.wraps then rows_after (breaking p) n (place p) else place_of (p.top + n) 0
+place_after n p = if p.wraps then rows_after (breaking p) n (first_place p) else row_place (p.top + n) 0
 
 abbrev pub place_before : ℕ → Pager → Place
-place_before n p = if p.wraps then rows_before (breaking p) n (place p) else place_of (p.top - n) 0
+place_before n p = if p.wraps then rows_back (breaking p) n (first_place p) else row_place (p.top - n) 0
 
 -- the place lies in the text: no page begins after the last one
 abbrev pub IsInText : Pager → Type 0
-IsInText p = is_before (last_place p) (place p) ≡ false
+IsInText p = is_before (end_place p) (first_place p) ≡ false

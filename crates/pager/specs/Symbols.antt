@@ -21,8 +21,8 @@ abbrev pub replacement_character : List ℕ
 replacement_character = 0xEF ∷ 0xBF ∷ 0xBD ∷ []
 
 -- what is shown for a grapheme: nothing for a tab
-unfoldable pub shown_text : List ℕ → List ℕ
-shown_text g = if is_tab g then [] else if is_replaced g then replacement_character else g
+unfoldable pub shown_symbol : List ℕ → List ℕ
+shown_symbol g = if is_tab g then [] else if is_replaced g then replacement_character else g
 
 -- how many columns a grapheme takes that begins in a column: a tab those up to the next multiple of eight
 unfoldable pub shown_columns : ℕ → List ℕ → ℕ
@@ -40,9 +40,9 @@ pub record LineSymbol : Type 0 where
   pub columns : ℕ
 
 -- a grapheme as a symbol that begins in a column
-abbrev pub symbol_of : Style → ℕ → List ℕ → LineSymbol
-symbol_of style column g =
-    record { text = shown_text g; style = style; column = column; columns = shown_columns column g }
+abbrev pub line_symbol_of : Style → ℕ → List ℕ → LineSymbol
+line_symbol_of style column g =
+    record { text = shown_symbol g; style = style; column = column; columns = shown_columns column g }
 
 -- how many bytes are marked: all of what is sought where that stands at the front, and else what is left of an
 -- earlier mark
@@ -58,7 +58,7 @@ unfoldable pub symbols_from : List ℕ → ℕ → ℕ → List (List ℕ) → L
 symbols_from pattern marked column [] = []
 symbols_from pattern marked column (g ∷ gs) =
     let here = marked_bytes pattern marked (concat (g ∷ gs)) in
-    symbol_of (mark_style here) column g
+    line_symbol_of (mark_style here) column g
     ∷ symbols_from pattern (here - length g) (column + shown_columns column g) gs
 
 abbrev pub line_symbols : List ℕ → List ℕ → List LineSymbol

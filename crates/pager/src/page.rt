@@ -6,7 +6,7 @@ ghost use Rattle.ratatui_core.specs.Buffer.{IsReadyAt, IsReadyFrom, IsSettledBuf
 ghost use Rattle.ratatui_core.specs.Widgets.{ChangesWithin};
 ghost use Rattle.rtui_boxes.specs.Boxes.{IsBoxArea};
 ghost use Rattle.pager.specs.Pages.{view_at, PaintsNumber, PaintsNumberIf, PaintsLine, PaintsLineAt};
-ghost use Rattle.pager.specs.Pages.{PaintsTextRow, PaintsRowIn, PaintsRows, view_from, PaintsPage};
+ghost use Rattle.pager.specs.Pages.{PaintsTextRow, PaintsRowIn, PaintsPageRows, view_from, PaintsPage};
 
 use crate::help::help_text;
 use crate::pager::{Mode, Pager};
@@ -184,7 +184,7 @@ impl<'a> Pager<'a> {
         requires inside { IsInside part buf.old.area }
         requires rows { rows ≤ part.height }
         ensures within { ChangesWithin part buf.old buf.new }
-        ensures ok { OnOk result (PaintsRows self.now part rows buf.old buf.new) }
+        ensures ok { OnOk result (PaintsPageRows self.now part rows buf.old buf.new) }
         ensures ready { IsReadyFrom part.y buf.old
             → OnOk result (IsReadyFrom (part.y + rows) buf.new) }
     {
@@ -211,7 +211,7 @@ impl<'a> Pager<'a> {
 
 impl<'a> Application for Pager<'a> {
     ghost use Rattle.pager.specs.Pages.{PaintsPager};
-    ghost use Rattle.pager.specs.PageLemmas.{paints-settled};
+    ghost use Rattle.pager.specs.PageLemmas.{page-settled};
 
     ghost paints = { PaintsPager };
 
@@ -222,5 +222,5 @@ impl<'a> Application for Pager<'a> {
         self.paint_page(part, buf)
     }
 
-    ghost is_settled = { paints-settled };
+    ghost is_settled = { page-settled };
 }

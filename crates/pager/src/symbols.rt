@@ -3,7 +3,7 @@
 ghost use Rattle.std.specs.Prelude.{◌≡◌};
 ghost use Rattle.ratatui_core.specs.Text.{has_control};
 ghost use Rattle.pager.specs.Search.{begins_with};
-ghost use Rattle.pager.specs.Symbols.{is_tab, is_replaced, shown_text, shown_columns, reversed, marked_bytes};
+ghost use Rattle.pager.specs.Symbols.{is_tab, is_replaced, shown_symbol, shown_columns, reversed, marked_bytes};
 ghost use Rattle.pager.specs.Symbols.{mark_style};
 
 use ansi_model::is_printed;
@@ -32,9 +32,9 @@ fn is_tab(grapheme: &str) -> bool
 }
 
 // What is shown for a grapheme.
-#[tactic(auto, unfolding(crate::specs::Symbols::shown_text))]
+#[tactic(auto, unfolding(crate::specs::Symbols::shown_symbol))]
 pub(crate) fn shown_text(grapheme: &str) -> &str
-    ensures { result.now ≡ shown_text grapheme.now }
+    ensures { result.now ≡ shown_symbol grapheme.now }
 {
     if is_tab(grapheme) {
         ""

@@ -25,7 +25,7 @@ abbrev pub IsEnough : ℕ → Bool → List GraphemeData → Type 0
 IsEnough width trim gs = 2 * width < columns_ahead trim gs
 
 -- the next row is held, or all that is left
-pub record IsReady (a : Ahead) : Type 0 where
+pub record HoldsNext (a : Ahead) : Type 0 where
   pub ahead : IsAhead a
   pub enough : IsEnough a.width a.trim (held_of a) ⊎ (line_graphemes_left a.rest ≡ [])
 

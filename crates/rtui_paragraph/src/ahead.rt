@@ -3,7 +3,7 @@
 ghost use Rattle.std.specs.Prelude.{◌≡◌, ◌+◌, ◌≤◌, ◌<◌, ◌==◌, ◌^◌, ◌++◌, ◌∷◌, [], List, length, filter, drop, OnOk};
 ghost use Rattle.ratatui_core.specs.Text.{GraphemeData, grapheme_data, line_graphemes_left};
 ghost use Rattle.rtui_paragraph.specs.Reflow.{data_of, grapheme_columns, columns_taken, fits_row, AllFit, split_row};
-ghost use Rattle.rtui_paragraph.specs.Ahead.{left_of, columns_ahead, HasLeft, IsAhead, IsReady};
+ghost use Rattle.rtui_paragraph.specs.Ahead.{left_of, columns_ahead, HasLeft, IsAhead, HoldsNext};
 
 use crate::reflow::{Row, columns_of, split_row, trimmed_start};
 use ratatui_core::buffer::CellWidth;
@@ -74,7 +74,7 @@ impl<'t, 'a> Ahead<'t, 'a> {
     /// Reads on until the next row is held, or all of the line.
     pub(crate) fn fill(&mut self) -> Result<(), AllocError>
         requires { IsAhead self.old }
-        ensures ready { OnOk result (IsReady self.new) }
+        ensures ready { OnOk result (HoldsNext self.new) }
         ensures left { OnOk result (HasLeft (left_of self.old) self.old self.new) }
     {
         if self.is_read {
@@ -99,7 +99,7 @@ impl<'t, 'a> Ahead<'t, 'a> {
 
     /// Whether no row is left.
     pub(crate) fn is_empty(&self) -> bool
-        requires { IsReady self.now }
+        requires { HoldsNext self.now }
         ensures { result ≡ (length (left_of self.now) == 0) }
     {
         self.passed == self.held.len()
@@ -107,7 +107,7 @@ impl<'t, 'a> Ahead<'t, 'a> {
 
     /// The next row, and how many graphemes stand before the one after it.
     pub(crate) fn row(&self) -> (&[StyledGrapheme<'t>], usize)
-        requires ready { IsReady self.now }
+        requires ready { HoldsNext self.now }
         requires fit { AllFit self.now.width (left_of self.now) }
         ensures value { (data_of result.0.now, result.1)
             ≡ split_row self.now.width self.now.trim (left_of self.now) }

@@ -1,12 +1,12 @@
 use Rattle.std.proofs.Common.{◌≡◌, ◌≤◌, ◌+◌, length}
 use Rattle.ratatui_core.specs.{Widgets.ChangesWithin, Buffer.IsReadyFrom}
-use Rattle.rtui_paragraph.specs.{Ahead.IsReady, Ahead.left_of, Reflow.AllFit, Reflow.broken_rows, Paragraphs.aligned_rows}
+use Rattle.rtui_paragraph.specs.{Ahead.HoldsNext, Ahead.left_of, Reflow.AllFit, Reflow.broken_rows, Paragraphs.aligned_rows}
 use Rattle.rtui_paragraph.proofs.RowsLemmas.{rows_left, FinishesRows}
 use Rattle.rtui_paragraph.proofs.paragraph.render_line.Given as goal
 
 abbrev pub invariant-loop-alignment : goal.invariant-loop-alignment
 invariant-loop-alignment l = record {
-  line : IsReady l.line;
+  line : HoldsNext l.line;
   width : l.line.width ≡ l.fn.part.width;
   trim : l.line.trim ≡ l.fn.line.trim;
   fit : AllFit l.fn.part.width (left_of l.line);

@@ -1,11 +1,11 @@
 use Rattle.std.proofs.Common.{◌≡◌, ◌+◌, min, length}
-use Rattle.rtui_paragraph.specs.{Ahead.IsReady, Ahead.left_of, Reflow.AllFit}
+use Rattle.rtui_paragraph.specs.{Ahead.HoldsNext, Ahead.left_of, Reflow.AllFit}
 use Rattle.rtui_paragraph.proofs.RowsLemmas.{rows_left}
 use Rattle.rtui_paragraph.proofs.paragraph.row_count.Given as goal
 
 abbrev pub invariant-loop-line : goal.invariant-loop-line
 invariant-loop-line l = record {
-  line : IsReady l.line;
+  line : HoldsNext l.line;
   width : l.line.width ≡ l.fn.line.width;
   trim : l.line.trim ≡ l.fn.line.trim;
   fit : AllFit l.fn.line.width (left_of l.line);
