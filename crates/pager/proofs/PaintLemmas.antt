@@ -13,7 +13,7 @@ use Rattle.ratatui_core.proofs.{BufferLemmas.ready-plain, WidgetLemmas.within-th
 use Rattle.rtui_boxes.specs.Boxes.{IsBoxArea}
 use Rattle.rtui_boxes.proofs.PaintLemmas.{part-has_row, part-right}
 use Rattle.pager.specs.declared.view.View.{View}
-use Rattle.pager.specs.Symbols.{LineSymbol, shown_columns, line_symbol_of, marked_bytes, mark_style, symbols_from, is_in_view}
+use Rattle.pager.specs.Symbols.{LineSymbol, shown_columns, line_symbol, marked_bytes, mark_style, symbols_from, is_in_view}
 use Rattle.pager.specs.Symbols.{symbols_in_view}
 use Rattle.pager.specs.Pages.{PaintsIf, PaintsIfInView, PaintsSymbols, PaintsLine, PaintsPageRow, PaintsPageRows}
 use Rattle.pager.specs.Pages.{PaintsPage, PaintsPager}
@@ -66,15 +66,15 @@ FinishesLine x y v pattern marked column gs line old now =
 pub line-turn : (x y : ℕ) (v : View) (pattern : List ℕ) (marked here column : ℕ) (g rest_text : List ℕ) (all rest : List (List ℕ)) (line : List ℕ) (old now mid : BufferData)
     → all ≡ g ∷ rest → rest_text ≡ concat all → here ≡ marked_bytes pattern marked rest_text
     → FinishesLine x y v pattern marked column all line old now
-    → PaintsIfInView x y v (line_symbol_of (mark_style here) column g) now mid → FinishesLine x y v pattern (here - length g) (column + shown_columns column g) rest line old mid
+    → PaintsIfInView x y v (line_symbol (mark_style here) column g) now mid → FinishesLine x y v pattern (here - length g) (column + shown_columns column g) rest line old mid
 unfolding symbols_from
 line-turn x y v pattern marked here column g rest_text all rest line old now mid is text_is here_is finishes made = λ new others.
     let same : marked_bytes pattern marked (concat (g ∷ rest)) ≡ here = ap (λ t. marked_bytes pattern marked t) (ap concat (sym is) ∙ sym text_is) ∙ sym here_is in
     finishes new (subst (λ gs. PaintsSymbols x y v (symbols_in_view v (symbols_from pattern marked column gs)) now new) (sym is)
-    (subst (λ h. PaintsSymbols x y v (symbols_in_view v (line_symbol_of (mark_style h) column g ∷ symbols_from pattern (h - length g) (column + shown_columns column g) rest)) now new) (sym same)
-    (turn-if (is_in_view v (line_symbol_of (mark_style here) column g)) x y v (line_symbol_of (mark_style here) column g) (symbols_from pattern (here - length g) (column + shown_columns column g) rest) now mid new refl made others)))
+    (subst (λ h. PaintsSymbols x y v (symbols_in_view v (line_symbol (mark_style h) column g ∷ symbols_from pattern (h - length g) (column + shown_columns column g) rest)) now new) (sym same)
+    (turn-if (is_in_view v (line_symbol (mark_style here) column g)) x y v (line_symbol (mark_style here) column g) (symbols_from pattern (here - length g) (column + shown_columns column g) rest) now mid new refl made others)))
 
-off-view : (v : View) (style : Style) (column : ℕ) (g : List ℕ) → v.limit ≤ column → is_in_view v (line_symbol_of style column g) ≡ false
+off-view : (v : View) (style : Style) (column : ℕ) (g : List ℕ) → v.limit ≤ column → is_in_view v (line_symbol style column g) ≡ false
 off-view v style column g le = grind (arith, nat_tests)
 
 none-in-view : (v : View) (pattern : List ℕ) (marked column : ℕ) (gs : List (List ℕ)) → v.limit ≤ column → symbols_in_view v (symbols_from pattern marked column gs) ≡ []
@@ -82,7 +82,7 @@ unfolding symbols_from
 none-in-view v pattern marked column [] le = refl
 none-in-view v pattern marked column (g ∷ gs) le =
     let here = marked_bytes pattern marked (concat (g ∷ gs)) in
-    let off : is_in_view v (line_symbol_of (mark_style here) column g) ≡ false = off-view v (mark_style here) column g le in
+    let off : is_in_view v (line_symbol (mark_style here) column g) ≡ false = off-view v (mark_style here) column g le in
     rw off (none-in-view v pattern (here - length g) (column + shown_columns column g) gs (omega arith))
 
 painted-none : (x y : ℕ) (v : View) (ss : List LineSymbol) (now : BufferData) → ss ≡ [] → PaintsSymbols x y v ss now now

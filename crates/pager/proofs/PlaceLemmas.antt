@@ -18,8 +18,8 @@ use Rattle.pager.specs.declared.command.Command.TheVariants.{ToStart, ToEnd, ToL
 use Rattle.pager.specs.declared.command.Command.TheVariants.{Help, Quit}
 use Rattle.pager.specs.Search.{next_match, last_match}
 use Rattle.pager.specs.declared.place.Place.{Place}
-use Rattle.pager.specs.Places.{IsInText, row_place, end_place, is_before, at_place}
-use Rattle.pager.specs.Moves.{started, found_at, sought_before, sought_from, before_found, after_found, sought_on, commanded}
+use Rattle.pager.specs.Places.{IsInText, text_place, last_page, is_before, at_place}
+use Rattle.pager.specs.Moves.{started, found_at, sought_before, sought_from, before_found, after_found, sought_on, after_move}
 use Rattle.pager.specs.Moves.{obeyed, with_pattern, answered, acted, updated_by, updated}
 use Rattle.pager.specs.Keys.{event_command, event_answer, is_press}
 
@@ -35,23 +35,23 @@ earlier-in true q l is = both q.line q.row l.line l.row is
 earlier-in false q l is = alone l.line l.row
 
 placed-in : (q : Place) (p : Pager) → IsInText (at_place q p)
-placed-in q p = earlier-in (is_before q (end_place p)) q (end_place p) refl
+placed-in q p = earlier-in (is_before q (last_page p)) q (last_page p) refl
 
 none-before : (a b : ℕ) → (nat_lt a 0 || ((a == 0) && nat_lt b 0)) ≡ false
 none-before a b = grind (arith, nat_tests)
 
 pub first : (lines : List (List ℕ)) (name pattern : List ℕ) (size : Size) → IsInText (started lines name pattern size)
-first lines name pattern size = let l = end_place (started lines name pattern size) in none-before l.line l.row
+first lines name pattern size = let l = last_page (started lines name pattern size) in none-before l.line l.row
 
 found-in : (found : Option ℕ) (p : Pager) → IsInText p → IsInText (found_at found p)
-found-in (Some k) p is = placed-in (row_place k 0) p
+found-in (Some k) p is = placed-in (text_place k 0) p
 found-in None p is = is
 
 sought_on-in : (is_back : Bool) (p : Pager) → IsInText p → IsInText (sought_on is_back p)
 sought_on-in true p is = found-in (last_match p.pattern p.document (before_found p.found p.top)) p is
 sought_on-in false p is = found-in (next_match p.pattern p.document (after_found p.found p.top)) p is
 
-moved-in : (command : Command) (p : Pager) → IsInText p → IsInText (commanded command p)
+moved-in : (command : Command) (p : Pager) → IsInText p → IsInText (after_move command p)
 moved-in Down p is = placed-in _ p
 moved-in Up p is = placed-in _ p
 moved-in PageDown p is = placed-in _ p
@@ -64,8 +64,8 @@ moved-in ToStart p is = placed-in _ p
 moved-in ToEnd p is = placed-in _ p
 moved-in ToLeft p is = is
 moved-in ToRight p is = is
-moved-in Numbers p is = placed-in (row_place p.top 0) (record p { has_numbers = not p.has_numbers })
-moved-in Wrap p is = placed-in (row_place p.top 0) (record p { wraps = not p.wraps; left = 0 })
+moved-in Numbers p is = placed-in (text_place p.top 0) (record p { has_numbers = not p.has_numbers })
+moved-in Wrap p is = placed-in (text_place p.top 0) (record p { wraps = not p.wraps; left = 0 })
 moved-in Help p is = is
 moved-in Quit p is = is
 moved-in (Digit d) p is = is
@@ -126,7 +126,7 @@ acted-in Asking event p is = answered-in (event_answer event) p is
 acted-in Helping event p is = helped-if (is_press event) p is
 
 by-size : (size : Option (ℕ × ℕ)) (event : Event) (p : Pager) → IsInText p → IsInText (updated_by size event p)
-by-size (Some size) event p is = placed-in (row_place p.top 0) (record p { columns = size.0; rows = size.1 })
+by-size (Some size) event p is = placed-in (text_place p.top 0) (record p { columns = size.0; rows = size.1 })
 by-size None event p is = acted-in p.mode event p is
 
 pub next : (p : Pager) (event : Event) → IsInText p → IsInText (updated p event)

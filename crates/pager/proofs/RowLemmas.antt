@@ -2,7 +2,7 @@
 use Rattle.std.proofs.Common.{◌≡◌, ℕ, ◌+◌, ◌-◌, ◌≤◌, List, [], ◌∷◌, length, refl, ap, ◌∙◌, arith, add-one}
 use Rattle.pager.specs.declared.place.Place.{Place}
 use Rattle.pager.specs.Symbols.{shown_columns, symbols_from}
-use Rattle.pager.specs.Places.{Breaking, last_start, next_place, previous_place, rows_after, rows_back}
+use Rattle.pager.specs.Places.{Breaking, last_start, next_place, previous_place, places_after, places_before}
 
 -- without anything that is sought no byte is marked
 no-mark : (n : ℕ) → 0 - n ≡ 0
@@ -30,18 +30,18 @@ last-none last column gs none = rw none refl
 
 -- ---- places
 
-pub after-none : (t : Breaking) (q : Place) → rows_after t 0 q ≡ q
-unfolding rows_after
+pub after-none : (t : Breaking) (q : Place) → places_after t 0 q ≡ q
+unfolding places_after
 after-none t q = refl
 
-pub after-next : (t : Breaking) (n : ℕ) (q r s : Place) → r ≡ rows_after t n q → s ≡ next_place t r → s ≡ rows_after t (n + 1) q
-unfolding rows_after
+pub after-next : (t : Breaking) (n : ℕ) (q r s : Place) → r ≡ places_after t n q → s ≡ next_place t r → s ≡ places_after t (n + 1) q
+unfolding places_after
 after-next t n q r s before is = rw add-one (is ∙ ap (next_place t) before)
 
-pub before-none : (t : Breaking) (q : Place) → rows_back t 0 q ≡ q
-unfolding rows_back
+pub before-none : (t : Breaking) (q : Place) → places_before t 0 q ≡ q
+unfolding places_before
 before-none t q = refl
 
-pub before-next : (t : Breaking) (n : ℕ) (q r s : Place) → r ≡ rows_back t n q → s ≡ previous_place t r → s ≡ rows_back t (n + 1) q
-unfolding rows_back
+pub before-next : (t : Breaking) (n : ℕ) (q r s : Place) → r ≡ places_before t n q → s ≡ previous_place t r → s ≡ places_before t (n + 1) q
+unfolding places_before
 before-next t n q r s before is = rw add-one (is ∙ ap (previous_place t) before)

@@ -7,7 +7,7 @@ use Rattle.std.specs.List.{position_from}
 use Rattle.std.proofs.lemmas.Bool.{cases_Bool, or_right}
 use Rattle.std.proofs.lemmas.{Bool.Decides.Decides-eqb}
 use Rattle.std.proofs.lemmas.{Option.unwrap_or-slice_get, Slice.Eq.starts_is, List.drop_more, List.drop_all}
-use Rattle.pager.specs.Search.{begins_with, occurs, has_match, line_numbered, last_match}
+use Rattle.pager.specs.Search.{begins_with, occurs, has_match, numbered_line, last_match}
 
 begins : (pattern text : List ℕ) → (begins_with pattern text ≡ true → text ≡ pattern ++ drop (length pattern) text)
 begins pattern text = (starts_is {E = ◌==◌} (λ a b. Decides-eqb a b) text pattern (begins_with pattern text) refl).0
@@ -48,7 +48,7 @@ occurs-decides pattern text = (stands pattern text, λ found. stands-after patte
 
 -- ---- lines
 
-pub none-at : (lines : List (List ℕ)) (k : ℕ) → slice_get lines k ≡ None → line_numbered lines k ≡ []
+pub none-at : (lines : List (List ℕ)) (k : ℕ) → slice_get lines k ≡ None → numbered_line lines k ≡ []
 none-at lines k none = sym (unwrap_or-slice_get lines k []) ∙ ap (λ o. unwrap_or o []) none
 
 and-false : (b : Bool) → (b && false) ≡ false
@@ -61,21 +61,21 @@ unfolding occurs
 none-matches [] line none = refl
 none-matches (b ∷ bs) line none = rw none (and-false (nat_lt 0 (length (b ∷ bs))))
 
-pub next-here : (pattern : List ℕ) (lines : List (List ℕ)) (k : ℕ) → k < length lines → has_match pattern (line_numbered lines k) ≡ true → position_from (has_match pattern) k (drop k lines) ≡ Some k
+pub next-here : (pattern : List ℕ) (lines : List (List ℕ)) (k : ℕ) → k < length lines → has_match pattern (numbered_line lines k) ≡ true → position_from (has_match pattern) k (drop k lines) ≡ Some k
 next-here pattern lines k lt is = ap (position_from (has_match pattern) k) (drop_more lines k [] lt) ∙ rw is refl
 
-pub next-later : (pattern : List ℕ) (lines : List (List ℕ)) (k : ℕ) → k < length lines → has_match pattern (line_numbered lines k) ≡ false
+pub next-later : (pattern : List ℕ) (lines : List (List ℕ)) (k : ℕ) → k < length lines → has_match pattern (numbered_line lines k) ≡ false
     → position_from (has_match pattern) k (drop k lines) ≡ position_from (has_match pattern) (k + 1) (drop (k + 1) lines)
 next-later pattern lines k lt is = ap (position_from (has_match pattern) k) (drop_more lines k [] lt) ∙ rw is refl
 
 pub next-none : (pattern : List ℕ) (lines : List (List ℕ)) (k : ℕ) → length lines ≤ k → position_from (has_match pattern) k (drop k lines) ≡ None
 next-none pattern lines k le = ap (position_from (has_match pattern) k) (drop_all k lines le)
 
-pub last-here : (pattern : List ℕ) (lines : List (List ℕ)) (k n : ℕ) → n ≡ k + 1 → has_match pattern (line_numbered lines k) ≡ true → last_match pattern lines n ≡ Some k
+pub last-here : (pattern : List ℕ) (lines : List (List ℕ)) (k n : ℕ) → n ≡ k + 1 → has_match pattern (numbered_line lines k) ≡ true → last_match pattern lines n ≡ Some k
 unfolding last_match
 last-here pattern lines k n same is = ap (last_match pattern lines) (same ∙ (let e : k + 1 ≡ suc k = omega arith in e)) ∙ rw is refl
 
-pub last-earlier : (pattern : List ℕ) (lines : List (List ℕ)) (k n : ℕ) → n ≡ k + 1 → has_match pattern (line_numbered lines k) ≡ false → last_match pattern lines n ≡ last_match pattern lines k
+pub last-earlier : (pattern : List ℕ) (lines : List (List ℕ)) (k n : ℕ) → n ≡ k + 1 → has_match pattern (numbered_line lines k) ≡ false → last_match pattern lines n ≡ last_match pattern lines k
 unfolding last_match
 last-earlier pattern lines k n same is = ap (last_match pattern lines) (same ∙ (let e : k + 1 ≡ suc k = omega arith in e)) ∙ rw is refl
 

@@ -18,7 +18,7 @@ use Rattle.pager.specs.declared.command.Command.TheVariants.{ToStart, ToEnd, ToL
 use Rattle.pager.specs.declared.command.Command.TheVariants.{Previous, Numbers, Wrap, Help, Quit}
 use Rattle.pager.specs.Keys.{event_command, event_answer, is_press}
 use Rattle.pager.specs.Search.{next_match, last_match}
-use Rattle.pager.specs.Places.{row_place, page_rows, at_place, place_after, place_before}
+use Rattle.pager.specs.Places.{text_place, page_rows, at_place, place_after, place_before}
 
 -- at the first line
 abbrev pub started : List (List ℕ) → List ℕ → List ℕ → Size → Pager
@@ -47,7 +47,7 @@ half_page p = max (page_rows p / 2) 1
 
 -- the page that begins at a line, or the last one
 abbrev pub at_line : ℕ → Pager → Pager
-at_line n p = at_place (row_place n 0) p
+at_line n p = at_place (text_place n 0) p
 
 -- the number that was typed, or else another one
 abbrev pub or_number : ℕ → Pager → ℕ
@@ -65,24 +65,24 @@ abbrev pub half_width : Pager → ℕ
 half_width p = max (p.columns / 2) 1
 
 -- what a command makes of the place, and of what is shown of each line
-abbrev pub commanded : Command → Pager → Pager
-commanded Down p = further 1 p
-commanded Up p = back 1 p
-commanded PageDown p = further (page_rows p) p
-commanded PageUp p = back (page_rows p) p
-commanded HalfDown p = further (half_page p) p
-commanded HalfUp p = back (half_page p) p
-commanded WheelDown p = further 3 p
-commanded WheelUp p = back 3 p
-commanded ToStart p = at_line (or_number 1 p - 1) p
-commanded ToEnd p = at_line (or_number (length p.document) p - 1) p
-commanded ToLeft p = record p { left = p.left - or_number (half_width p) p }
-commanded ToRight p = record p { left = min (p.left + or_number (half_width p) p) 4294967295 }
-commanded Numbers p = at_line p.top (record p { has_numbers = not p.has_numbers })
-commanded Wrap p = at_line p.top (record p { wraps = not p.wraps; left = 0 })
-commanded Help p = record p { mode = Helping }
-commanded Quit p = record p { is_over = true }
-commanded _ p = p
+abbrev pub after_move : Command → Pager → Pager
+after_move Down p = further 1 p
+after_move Up p = back 1 p
+after_move PageDown p = further (page_rows p) p
+after_move PageUp p = back (page_rows p) p
+after_move HalfDown p = further (half_page p) p
+after_move HalfUp p = back (half_page p) p
+after_move WheelDown p = further 3 p
+after_move WheelUp p = back 3 p
+after_move ToStart p = at_line (or_number 1 p - 1) p
+after_move ToEnd p = at_line (or_number (length p.document) p - 1) p
+after_move ToLeft p = record p { left = p.left - or_number (half_width p) p }
+after_move ToRight p = record p { left = min (p.left + or_number (half_width p) p) 4294967295 }
+after_move Numbers p = at_line p.top (record p { has_numbers = not p.has_numbers })
+after_move Wrap p = at_line p.top (record p { wraps = not p.wraps; left = 0 })
+after_move Help p = record p { mode = Helping }
+after_move Quit p = record p { is_over = true }
+after_move _ p = p
 
 -- a digit more of a number, which stays at the greatest one
 abbrev pub typed_digit : ℕ → Pager → Pager
@@ -124,15 +124,15 @@ obeyed (Digit d) p = typed_digit d p
 obeyed (Ask is_back) p = record (asked is_back p) { number = 0; is_missing = false }
 obeyed Next p = record (sought_on p.is_back p) { number = 0 }
 obeyed Previous p = record (sought_on (not p.is_back) p) { number = 0 }
-obeyed command p = record (commanded command p) { number = 0; found = None; is_missing = false }
+obeyed command p = record (after_move command p) { number = 0; found = None; is_missing = false }
 
 -- a character more of what is sought, of at most 80
 abbrev pub with_character : ℕ → List ℕ → List ℕ
 with_character c cs = if nat_lt (length cs) 80 then cs ++ c ∷ [] else cs
 
 -- one less; before the first one the search is given up
-abbrev pub untyped : Pager → Pager
-untyped p =
+abbrev pub with_one_less : Pager → Pager
+with_one_less p =
     if nat_lt 0 (length p.typed) then record p { typed = take (length p.typed - 1) p.typed }
     else record p { mode = Reading }
 
@@ -147,18 +147,18 @@ sought_first p = if p.is_back then sought_before p.top p else sought_from p.top 
 -- what an answer makes of a pager of which a search is asked
 abbrev pub answered : Answer → Pager → Pager
 answered (Add c) p = record p { typed = with_character c p.typed }
-answered Erase p = untyped p
+answered Erase p = with_one_less p
 answered Search p = record (sought_first (with_pattern p)) { mode = Reading }
 answered Cancel p = record p { mode = Reading }
 answered Ignore p = p
 
 -- on a terminal of another size
-abbrev pub in_size : ℕ × ℕ → Pager → Pager
-in_size size p = at_line p.top (record p { columns = size.0; rows = size.1 })
+abbrev pub at_size : ℕ × ℕ → Pager → Pager
+at_size size p = at_line p.top (record p { columns = size.0; rows = size.1 })
 
-abbrev pub told_size : Option (ℕ × ℕ) → Pager → Pager
-told_size (Some size) p = in_size size p
-told_size None p = p
+abbrev pub at_told_size : Option (ℕ × ℕ) → Pager → Pager
+at_told_size (Some size) p = at_size size p
+at_told_size None p = p
 
 -- what an event makes of a pager that tells no size
 abbrev pub acted : Mode → Event → Pager → Pager
@@ -167,7 +167,7 @@ acted Asking event p = answered (event_answer event) p
 acted Helping event p = if is_press event then record p { mode = Reading } else p
 
 abbrev pub updated_by : Option (ℕ × ℕ) → Event → Pager → Pager
-updated_by (Some size) event p = in_size size p
+updated_by (Some size) event p = at_size size p
 updated_by None event p = acted p.mode event p
 
 -- what an event makes of a pager

@@ -6,8 +6,8 @@ use Rattle.rtui_changes.proofs.PlainLemmas.{plain-emptied}
 use Rattle.pager.specs.declared.pager.Pager.{Pager}
 use Rattle.pager.specs.Pages.{PaintsPager}
 
-pub page-settled : (p : Pager) (blank painted : BufferData) → EdgesFit painted.area
+pub pages-settled : (p : Pager) (blank painted : BufferData) → EdgesFit painted.area
     → IsEmptied painted.area blank → PaintsPager p painted.area blank painted → IsSettledBuffer painted
-page-settled p blank painted edges empty paints =
+pages-settled p blank painted edges empty paints =
     paints.settled (subst (λ (r : Rect). EdgesFit r) (sym empty.area) edges)
     (plain-emptied painted.area blank empty)

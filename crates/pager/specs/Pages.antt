@@ -9,7 +9,8 @@ use Rattle.ratatui_core.specs.Buffer.{text_pieces, position_of}
 use Rattle.ratatui_core.specs.Widgets.{ChangesWithin, OnPart}
 use Rattle.rtui_boxes.specs.Titles.{InTurn}
 use Rattle.pager.specs.Symbols.{LineSymbol, reversed, is_in_view, line_symbols, symbols_in_view}
-use Rattle.pager.specs.Places.{breaking, number_columns, stride, page_rows, first_place, rows_after, place_after}
+use Rattle.pager.specs.Places.{breaking, number_columns, stride, page_rows, page_place, places_after}
+use Rattle.pager.specs.Places.{place_after}
 use Rattle.pager.specs.declared.place.Place.{Place}
 use Rattle.pager.specs.declared.view.View.{View}
 use Rattle.pager.specs.declared.help.TheConstants.{HELP}
@@ -74,7 +75,8 @@ PaintsNumberIf (suc k) (suc n) x y old new = PaintsNumber (suc n) x y old new
 abbrev pub number_at : Place → ℕ
 number_at q = if q.row == 0 then q.line + 1 else 0
 
--- a row of the text: a row of a line, with the line's number in the first one; after the end of the text a tilde
+-- a row of the text: a row of a line, with the line's number in the first one; after the end of the text
+-- a tilde
 abbrev pub PaintsLineAt : Option (List ℕ) → Pager → Place → Rect → ℕ → BufferData → BufferData → Type 0
 PaintsLineAt (Some line) p q r y =
     let beside = number_columns p r.width in
@@ -98,7 +100,7 @@ PaintsRowIn Asking p r k q = PaintsTextRow p q r (r.y + k)
 
 -- row k of a page shows the place that is so many rows behind the first one
 abbrev pub PaintsPageRow : Pager → Rect → ℕ → BufferData → BufferData → Type 0
-PaintsPageRow p r k = PaintsRowIn p.mode p r k (rows_after (breaking p) k (first_place p))
+PaintsPageRow p r k = PaintsRowIn p.mode p r k (places_after (breaking p) k (page_place p))
 
 -- the first rows of a page
 unfoldable pub PaintsPageRows : Pager → Rect → ℕ → BufferData → BufferData → Type 0
@@ -125,7 +127,8 @@ place_text p =
     ++ codes "/" ++ decimal (length p.document)
     ++ codes " " ++ decimal (per_cent p) ++ codes "%"
 
--- the two parts of a status: what the text is called, and the place; or what isn't found; or what is typed of a
+-- the two parts of a status: what the text is called, and the place; or what isn't found; or what is
+-- typed of a
 -- search; or how to leave the list of the keys
 abbrev pub first_part : Mode → Pager → List ℕ
 first_part Reading p = if p.is_missing then codes "not found: " else p.name

@@ -17,8 +17,8 @@ abbrev pub has_match : List ℕ → List ℕ → Bool
 has_match pattern line = nat_lt 0 (length pattern) && occurs pattern line
 
 -- a line by its number, and after the end an empty one
-abbrev pub line_numbered : List (List ℕ) → ℕ → List ℕ
-line_numbered lines k = slice_index_or lines k []
+abbrev pub numbered_line : List (List ℕ) → ℕ → List ℕ
+numbered_line lines k = slice_index_or lines k []
 
 -- the first line from one on that has what is sought
 abbrev pub next_match : List ℕ → List (List ℕ) → ℕ → Option ℕ
@@ -28,4 +28,4 @@ next_match pattern lines from = position_from (has_match pattern) from (drop fro
 unfoldable pub last_match : List ℕ → List (List ℕ) → ℕ → Option ℕ
 last_match pattern lines zero = None
 last_match pattern lines (suc k) =
-    if has_match pattern (line_numbered lines k) then Some k else last_match pattern lines k
+    if has_match pattern (numbered_line lines k) then Some k else last_match pattern lines k

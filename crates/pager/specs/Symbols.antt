@@ -40,11 +40,12 @@ pub record LineSymbol : Type 0 where
   pub columns : ℕ
 
 -- a grapheme as a symbol that begins in a column
-abbrev pub line_symbol_of : Style → ℕ → List ℕ → LineSymbol
-line_symbol_of style column g =
+abbrev pub line_symbol : Style → ℕ → List ℕ → LineSymbol
+line_symbol style column g =
     record { text = shown_symbol g; style = style; column = column; columns = shown_columns column g }
 
--- how many bytes are marked: all of what is sought where that stands at the front, and else what is left of an
+-- how many bytes are marked: all of what is sought where that stands at the front, and else what is left
+-- of an
 -- earlier mark
 abbrev pub marked_bytes : List ℕ → ℕ → List ℕ → ℕ
 marked_bytes pattern marked rest =
@@ -58,7 +59,7 @@ unfoldable pub symbols_from : List ℕ → ℕ → ℕ → List (List ℕ) → L
 symbols_from pattern marked column [] = []
 symbols_from pattern marked column (g ∷ gs) =
     let here = marked_bytes pattern marked (concat (g ∷ gs)) in
-    line_symbol_of (mark_style here) column g
+    line_symbol (mark_style here) column g
     ∷ symbols_from pattern (here - length g) (column + shown_columns column g) gs
 
 abbrev pub line_symbols : List ℕ → List ℕ → List LineSymbol

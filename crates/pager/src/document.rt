@@ -2,7 +2,7 @@
 
 ghost use Rattle.std.specs.Prelude.{◌≡◌, length, map, slice_get, option_map, IfOk};
 ghost use Rattle.std.specs.Str.Lines.{lines};
-ghost use Rattle.pager.specs.Search.{line_numbered};
+ghost use Rattle.pager.specs.Search.{numbered_line};
 
 use std::alloc::{AllocError, Global};
 use std::fmt;
@@ -85,7 +85,7 @@ impl<'a> Document<'a> {
 
     /// A line by its number, from 0 on, and after the end an empty one.
     pub fn line_or_empty(&self, number: u64) -> &'a str
-        ensures { result.now ≡ line_numbered self.now number }
+        ensures { result.now ≡ numbered_line self.now number }
     {
         match self.line(number as usize) {
             Some(line) => line,

@@ -2,7 +2,7 @@
 
 ghost use Rattle.std.specs.Prelude.{◌≡◌, ◌-◌};
 ghost use Rattle.pager.specs.Moves.{half_page, or_number, at_line, further, back, half_width, typed_digit};
-ghost use Rattle.pager.specs.Moves.{commanded, asked, obeyed};
+ghost use Rattle.pager.specs.Moves.{after_move, asked, obeyed};
 
 use crate::command::Command;
 use crate::pager::{Mode, Pager};
@@ -66,14 +66,14 @@ impl<'a> Pager<'a> {
 
     // Shows each line from an earlier or a later column on.
     fn go_left(&mut self)
-        ensures { self.new ≡ commanded Command.ToLeft self.old }
+        ensures { self.new ≡ after_move Command.ToLeft self.old }
     {
         let by = self.or_number(self.half_width());
         self.left = self.left.saturating_sub(by);
     }
 
     fn go_right(&mut self)
-        ensures { self.new ≡ commanded Command.ToRight self.old }
+        ensures { self.new ≡ after_move Command.ToRight self.old }
     {
         let by = self.or_number(self.half_width());
         self.left = self.left.saturating_add(by);
@@ -81,7 +81,7 @@ impl<'a> Pager<'a> {
 
     // Breaks long lines, or no longer.
     fn go_wrapping(&mut self)
-        ensures { self.new ≡ commanded Command.Wrap self.old }
+        ensures { self.new ≡ after_move Command.Wrap self.old }
     {
         self.wraps = !self.wraps;
         self.left = 0;
@@ -90,7 +90,7 @@ impl<'a> Pager<'a> {
 
     // Shows the numbers of the lines, or no longer.
     fn go_numbering(&mut self)
-        ensures { self.new ≡ commanded Command.Numbers self.old }
+        ensures { self.new ≡ after_move Command.Numbers self.old }
     {
         self.has_numbers = !self.has_numbers;
         self.go_to(u64::from(self.top));
@@ -109,7 +109,7 @@ impl<'a> Pager<'a> {
 
     // Moves as a command says.
     fn go(&mut self, command: Command)
-        ensures { self.new ≡ commanded command self.old }
+        ensures { self.new ≡ after_move command self.old }
     {
         let page = self.page_rows();
         let half = self.half_page();

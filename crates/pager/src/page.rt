@@ -211,7 +211,7 @@ impl<'a> Pager<'a> {
 
 impl<'a> Application for Pager<'a> {
     ghost use Rattle.pager.specs.Pages.{PaintsPager};
-    ghost use Rattle.pager.specs.PageLemmas.{page-settled};
+    ghost use Rattle.pager.specs.PageLemmas.{pages-settled};
 
     ghost paints = { PaintsPager };
 
@@ -222,5 +222,5 @@ impl<'a> Application for Pager<'a> {
         self.paint_page(part, buf)
     }
 
-    ghost is_settled = { page-settled };
+    ghost is_settled = { pages-settled };
 }

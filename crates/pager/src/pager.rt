@@ -2,7 +2,7 @@
 
 ghost use Rattle.std.specs.Prelude.{◌≡◌, OnOk, OnErr};
 ghost use Rattle.ratatui_reads.specs.Reads.{size_in};
-ghost use Rattle.pager.specs.Moves.{started, told_size, untyped, answered, acted, updated};
+ghost use Rattle.pager.specs.Moves.{started, at_told_size, with_one_less, answered, acted, updated};
 
 use crate::answer::{Answer, answer_of, is_press};
 use crate::command::command_of;
@@ -106,7 +106,7 @@ impl<'a> Pager<'a> {
 
     // Takes the size that an event tells, if there is one.
     fn take_size(&mut self, size: Option<(u16, u16)>)
-        ensures { self.new ≡ told_size size self.old }
+        ensures { self.new ≡ at_told_size size self.old }
     {
         if let Some((columns, rows)) = size {
             self.columns = columns;
@@ -117,7 +117,7 @@ impl<'a> Pager<'a> {
 
     // One character of the search less; before the first one the search is given up.
     fn erase(&mut self)
-        ensures { self.new ≡ untyped self.old }
+        ensures { self.new ≡ with_one_less self.old }
     {
         if self.typed.is_empty() {
             self.mode = Mode::Reading;

@@ -5,7 +5,7 @@ ghost use Rattle.ratatui_core.specs.Layout.{IsInside};
 ghost use Rattle.ratatui_core.specs.Buffer.{IsReadyAt, IsReadyFrom, columns, text_pieces};
 ghost use Rattle.ratatui_core.specs.Widgets.{ChangesWithin};
 ghost use Rattle.rtui_boxes.specs.Boxes.{IsBoxArea};
-ghost use Rattle.pager.specs.Symbols.{shown_columns, line_symbol_of};
+ghost use Rattle.pager.specs.Symbols.{shown_columns, line_symbol};
 ghost use Rattle.pager.specs.Pages.{PaintsText, PaintsIfInView, PaintsLine};
 
 use crate::symbols::{mark_style, marked_bytes, shown_columns, shown_text};
@@ -66,7 +66,7 @@ fn paint_grapheme(
     requires bottom { y < part.y + part.height }
     ensures within { ChangesWithin part buf.old buf.new }
     ensures ok { OnOk result
-        (PaintsIfInView x y view (line_symbol_of style column grapheme.now) buf.old buf.new) }
+        (PaintsIfInView x y view (line_symbol style column grapheme.now) buf.old buf.new) }
     ensures end { IfOk result (λ end. end ≡ column + shown_columns column grapheme.now) }
     ensures ready { IsReadyAt (x + min (column - view.left) view.width) y buf.old → IfOk result
         (λ end. IsReadyAt (x + min (end - view.left) view.width) y buf.new) }

@@ -1,11 +1,11 @@
 //! Places in a text.
 
 ghost use Rattle.std.specs.Prelude.{◌≡◌, ◌<◌, ◌≤◌, ◌+◌, [], min};
-ghost use Rattle.pager.specs.Search.{line_numbered};
+ghost use Rattle.pager.specs.Search.{numbered_line};
 ghost use Rattle.pager.specs.Symbols.{line_symbols};
-ghost use Rattle.pager.specs.Places.{first_place, breaking, number_columns, stride, last_start, rows_of_line};
-ghost use Rattle.pager.specs.Places.{next_place, previous_place, rows_after, rows_back, page_rows};
-ghost use Rattle.pager.specs.Places.{end_place, is_before, earlier, at_place, place_after, place_before};
+ghost use Rattle.pager.specs.Places.{page_place, breaking, number_columns, stride, last_start, rows_of_line};
+ghost use Rattle.pager.specs.Places.{next_place, previous_place, places_after, places_before, page_rows};
+ghost use Rattle.pager.specs.Places.{last_page, is_before, earlier, at_place, place_after, place_before};
 
 use crate::pager::Pager;
 use crate::symbols::shown_columns;
@@ -51,7 +51,7 @@ impl<'a> Pager<'a> {
 
     // The place at which the page begins.
     pub(crate) fn place(&self) -> Place
-        ensures place { result ≡ first_place self.now }
+        ensures place { result ≡ page_place self.now }
         ensures line { result.line < 4294967296 }
     {
         Place {
@@ -78,7 +78,7 @@ impl<'a> Pager<'a> {
     // How many rows a line takes.
     fn line_rows(&self, line: u64) -> u64
         ensures most { result ≤ 4294967296 }
-        ensures rows { result ≡ rows_of_line (breaking self.now) (line_numbered self.now.document line) }
+        ensures rows { result ≡ rows_of_line (breaking self.now) (numbered_line self.now.document line) }
     {
         if !self.wraps {
             return 1;
@@ -129,7 +129,7 @@ impl<'a> Pager<'a> {
     // The place so many rows further.
     fn rows_after(&self, rows: u32, place: Place) -> Place
         requires { place.line < 4294967296 }
-        ensures place { result ≡ rows_after (breaking self.now) rows place }
+        ensures place { result ≡ places_after (breaking self.now) rows place }
         ensures line { result.line ≤ place.line + rows }
     {
         let mut place = place;
@@ -141,7 +141,7 @@ impl<'a> Pager<'a> {
 
     // The place so many rows before.
     fn rows_before(&self, rows: u32, place: Place) -> Place
-        ensures place { result ≡ rows_back (breaking self.now) rows place }
+        ensures place { result ≡ places_before (breaking self.now) rows place }
         ensures line { result.line ≤ place.line }
     {
         let mut place = place;
@@ -180,7 +180,7 @@ impl<'a> Pager<'a> {
 
     // The place at which the last page begins.
     fn last_place(&self) -> Place
-        ensures place { result ≡ end_place self.now }
+        ensures place { result ≡ last_page self.now }
         ensures line { result.line < 4294967296 }
     {
         let count = self.document.len();
@@ -199,7 +199,7 @@ impl<'a> Pager<'a> {
 
     // Goes to the page that begins at a place, or to the last one.
     pub(crate) fn go_to_place(&mut self, place: Place)
-        ensures { self.new ≡ at_place first_place self.old }
+        ensures { self.new ≡ at_place place self.old }
     {
         let last = self.last_place();
         let place = if is_before(place, last) { place } else { last };

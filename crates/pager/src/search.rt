@@ -1,7 +1,7 @@
 //! Lines that have what is sought.
 
 ghost use Rattle.std.specs.Prelude.{◌≡◌, OnOk, OnErr};
-ghost use Rattle.pager.specs.Search.{occurs, has_match, line_numbered, next_match, last_match};
+ghost use Rattle.pager.specs.Search.{occurs, has_match, numbered_line, next_match, last_match};
 ghost use Rattle.pager.specs.Moves.{found_at, sought_from, sought_before, after_found, before_found};
 ghost use Rattle.pager.specs.Moves.{sought_on, with_pattern, sought_first};
 
@@ -18,7 +18,7 @@ fn occurs(pattern: &str, line: &str) -> bool
 impl<'a> Pager<'a> {
     // Whether a line has what is sought.
     fn has_match(&self, line: u32) -> bool
-        ensures { result ≡ has_match self.now.pattern (line_numbered self.now.document line) }
+        ensures { result ≡ has_match self.now.pattern (numbered_line self.now.document line) }
     {
         let pattern = self.pattern.as_str();
         match self.document.line(line as usize) {

@@ -1,7 +1,7 @@
 use Rattle.std.proofs.Common.{rules, ◌≡◌, ◌∷◌, [], ◌-◌, length, arith, subst, sym}
 use Rattle.unicode_segmentation.specs.Iter.{graphemes_left}
 use Rattle.ratatui_core.proofs.WidgetLemmas.{within-then}
-use Rattle.pager.specs.{Symbols.line_symbol_of, Pages.PaintsIfInView}
+use Rattle.pager.specs.{Symbols.line_symbol, Pages.PaintsIfInView}
 use Rattle.pager.proofs.PaintLemmas.{FinishesLine, line-turn, line-full, line-end}
 use Rattle.pager.proofs.painting.paint_line.Goals as goal
 
@@ -21,7 +21,7 @@ loop-column-preserved c =
           (subst (λ k. FinishesLine x y v pattern (c.marked_bytes-here.result - length g) k rest c.args.line.now c.args.buf.now c.paint_grapheme.new.buf) (sym c.in_ok-column.ensures.end)
           (line-turn x y v pattern c.loop-column.marked c.marked_bytes-here.result c.loop-column.column g c.as_str-rest.result.now (graphemes_left c.loop-column.graphemes) rest c.args.line.now c.args.buf.now c.loop-column.buf c.paint_grapheme.new.buf
           is c.as_str-rest.ensures c.marked_bytes-here.ensures i.paints
-          (subst (λ s. PaintsIfInView x y v (line_symbol_of s c.loop-column.column g) c.loop-column.buf c.paint_grapheme.new.buf) c.mark_style-style.ensures c.in_ok-column.ensures.ok)));
+          (subst (λ s. PaintsIfInView x y v (line_symbol s c.loop-column.column g) c.loop-column.buf c.paint_grapheme.new.buf) c.mark_style-style.ensures c.in_ok-column.ensures.ok)));
       ready = λ from. c.in_ok-column.ensures.ready (i.ready from);
     }
 

@@ -1,7 +1,7 @@
 use Rattle.std.proofs.Common.{◌∙◌, arith, sym, subst}
 use Rattle.ratatui_core.specs.Buffer.{IsReadyFrom}
 use Rattle.ratatui_core.proofs.{BufferLemmas.within-same, WidgetLemmas.within-then}
-use Rattle.pager.specs.Places.{breaking, first_place}
+use Rattle.pager.specs.Places.{breaking, page_place}
 use Rattle.pager.specs.Pages.{PaintsRowIn}
 use Rattle.pager.proofs.PaintLemmas.{rows-none, rows-next}
 use Rattle.pager.proofs.RowLemmas.{after-none, after-next}
@@ -10,7 +10,7 @@ use Rattle.pager.proofs.pager.Pager.paint_rows.Goals as goal
 pub loop-k-init : goal.loop-k-init
 loop-k-init c = record {
   line = omega (arith, c.place-place.ensures.line);
-  place = c.place-place.ensures.place ∙ sym (after-none (breaking c.args.self.now) (first_place c.args.self.now));
+  place = c.place-place.ensures.place ∙ sym (after-none (breaking c.args.self.now) (page_place c.args.self.now));
   within = within-same c.args.part c.args.buf.now;
   paints = rows-none c.args.self.now c.args.part c.args.buf.now;
   ready = λ from. subst (λ y. IsReadyFrom y c.args.buf.now) (omega arith) from;
@@ -21,7 +21,7 @@ loop-k-preserved c =
     let i = c.loop-k.invariant in
     record {
       line = omega (arith, c.next_place-place.ensures.line, i.line);
-      place = after-next (breaking c.args.self.now) c.loop-k.k (first_place c.args.self.now) c.loop-k.place c.next_place-place.result i.place c.next_place-place.ensures.place;
+      place = after-next (breaking c.args.self.now) c.loop-k.k (page_place c.args.self.now) c.loop-k.place c.next_place-place.result i.place c.next_place-place.ensures.place;
       within = within-then c.args.part c.args.buf.now c.loop-k.buf c.paint_row.new.buf i.within c.paint_row.ensures.within;
       paints = rows-next c.args.self.now c.args.part c.loop-k.k c.args.buf.now c.loop-k.buf c.paint_row.new.buf i.paints
           (subst (λ q. PaintsRowIn c.args.self.now.mode c.args.self.now c.args.part c.loop-k.k q c.loop-k.buf c.paint_row.new.buf) i.place c.in_ok-paint_row.ensures.ok);

@@ -1,9 +1,9 @@
 use Rattle.std.proofs.Common.{◌≡◌, ◌≤◌, ◌+◌}
-use Rattle.pager.specs.Places.{breaking, rows_after}
+use Rattle.pager.specs.Places.{breaking, places_after}
 use Rattle.pager.proofs.pager.Pager.rows_after.Given as goal
 
 abbrev pub invariant-loop : goal.invariant-loop
 invariant-loop l = record {
   line : l.place.line ≤ l.initial.place.line + l.counter;
-  place : l.place ≡ rows_after (breaking l.fn.self) l.counter l.initial.place;
+  place : l.place ≡ places_after (breaking l.fn.self) l.counter l.initial.place;
 }
