@@ -118,6 +118,30 @@ fn spacing_of(case: &Case<'_>) -> HighlightSpacing {
     }
 }
 
+// The table that a case says, of these rows, with this symbol and this footer.
+fn table_of<'a>(
+    alloc: Global,
+    case: &Case<'_>,
+    rows: &'a str,
+    symbol: &'a str,
+    footer: &'a str,
+) -> Result<Table<'a>, AllocError> {
+    let symbol = Text::raw(alloc, symbol)?;
+    let table = Table::new(Vec::new(alloc), widths_of(alloc, case)?)
+        .column_spacing(small(case, "spacing", 1))
+        .flex(flex_of(case))
+        .highlight_symbol(symbol)
+        .highlight_spacing(spacing_of(case))
+        .row_highlight_style(Style::new().add_modifier(Modifier::REVERSED))
+        .column_highlight_style(Style::new().add_modifier(Modifier::BOLD))
+        .cell_highlight_style(Style::new().add_modifier(Modifier::UNDERLINED));
+    let table = with_rows(alloc, case, table, rows)?;
+    if footer.is_empty() {
+        return Ok(table);
+    }
+    Ok(table.footer(row_of(alloc, case, footer)?))
+}
+
 /// Renders the table that a case says, and answers its state.
 pub fn table(
     alloc: Global,
@@ -127,18 +151,8 @@ pub fn table(
 ) -> Result<TableState, AllocError> {
     let symbol = text_or(alloc, case, "symbol", "")?;
     let footer = text_or(alloc, case, "footer", "")?;
-    let mut table = Table::new(Vec::new(alloc), widths_of(alloc, case)?)
-        .column_spacing(small(case, "spacing", 1))
-        .flex(flex_of(case))
-        .highlight_symbol(Text::raw(alloc, symbol.as_str())?)
-        .highlight_spacing(spacing_of(case))
-        .row_highlight_style(Style::new().add_modifier(Modifier::REVERSED))
-        .column_highlight_style(Style::new().add_modifier(Modifier::BOLD))
-        .cell_highlight_style(Style::new().add_modifier(Modifier::UNDERLINED));
-    table = with_rows(alloc, case, table, case.texts)?;
-    if !footer.is_empty() {
-        table = table.footer(row_of(alloc, case, footer.as_str())?);
-    }
+    let rows = String::from_str(alloc, case.texts)?;
+    let table = table_of(alloc, case, rows.as_str(), symbol.as_str(), footer.as_str())?;
     let mut state = TableState::new()
         .with_offset(case.number("offset").unwrap_or(0))
         .with_selected(case.number("selected"))

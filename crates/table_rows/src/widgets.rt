@@ -33,16 +33,33 @@ fn titles_of<'a>(alloc: Global, texts: &'a str) -> Result<Vec<Line<'a>>, AllocEr
     Ok(titles)
 }
 
+// Tabs of these titles, with these texts between, before and after them.
+fn tabs_of<'a>(
+    alloc: Global,
+    titles: &'a str,
+    divider: &'a str,
+    left: &'a str,
+    right: &'a str,
+) -> Result<Tabs<'a>, AllocError> {
+    let left = Line::raw(alloc, left)?;
+    let right = Line::raw(alloc, right)?;
+    let tabs = Tabs::new(titles_of(alloc, titles)?);
+    Ok(tabs.divider(Span::raw(divider)).padding(left, right))
+}
+
 fn tabs(alloc: Global, case: &Case<'_>, area: Rect, buffer: &mut Buffer) -> Result<(), AllocError> {
     let divider = text_or(alloc, case, "divider", "│")?;
     let left = text_or(alloc, case, "left", " ")?;
     let right = text_or(alloc, case, "right", " ")?;
-    Tabs::new(titles_of(alloc, case.texts)?)
-        .select(case.number("selected"))
-        .divider(Span::raw(divider.as_str()))
-        .padding_left(Line::raw(alloc, left.as_str())?)
-        .padding_right(Line::raw(alloc, right.as_str())?)
-        .render(area, buffer)
+    let titles = String::from_str(alloc, case.texts)?;
+    let tabs = tabs_of(
+        alloc,
+        titles.as_str(),
+        divider.as_str(),
+        left.as_str(),
+        right.as_str(),
+    )?;
+    tabs.select(case.number("selected")).render(area, buffer)
 }
 
 // The bars that an option says, between commas; what is no number is an absent value.
