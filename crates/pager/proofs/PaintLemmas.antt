@@ -19,8 +19,6 @@ use Rattle.pager.specs.Pages.{PaintsIf, PaintsIfInView, PaintsSymbols, PaintsLin
 use Rattle.pager.specs.Pages.{PaintsPage, PaintsPager}
 use Rattle.pager.specs.declared.pager.Pager.{Pager}
 
-pub ruleset within_steps = (within-same, within-then)
-
 room-is : (r : Rect) (x n : ℕ) → x + n ≤ r.x + r.width → n ≤ 65535 → room_at r x n ≡ n
 room-is r x n fits small = omega arith
 

@@ -31,7 +31,7 @@ move_command c =
     else if c == 71 then ToEnd
     else Nothing
 
--- a character: q, /, ?, n, N, l, w, h, the digits, and those of moves
+-- a character: a letter of the table below, a slash, a question mark, a digit, or a move
 abbrev pub character_command : ℕ → Command
 character_command c =
     if c == 113 then Quit

@@ -4,4 +4,3 @@ pub mod Symbols
 pub mod Places
 pub mod Moves
 pub mod Pages
-pub mod PageLemmas

@@ -6,7 +6,15 @@ use std::io::Write;
 
 impl<W: Write + Drop> Resizable for AnsiBackend<W> {
     fn take_size(&mut self, size: Size) -> Result<bool, AnsiError> {
-        self.resize(size)?;
-        Ok(true)
+        let failures = self.sender.failures;
+        match self.resize(size) {
+            Ok(()) => Ok(true),
+            Err(AnsiError::Size | AnsiError::Memory) => {
+                // a size that isn't taken is no failure
+                self.sender.failures = failures;
+                Ok(false)
+            }
+            Err(error) => Err(error),
+        }
     }
 }

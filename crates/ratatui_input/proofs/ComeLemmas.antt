@@ -32,6 +32,8 @@ use Rattle.ratatui_input.proofs.CharacterLemmas.{encode-one, encode-two, encode-
 use Rattle.ratatui_input.proofs.StandLemmas.{Stands, if-stands, same, differ, lies, not-below, grammar_stands, escape_stands, bracket_stands, single_stands, not_known}
 use Rattle.ratatui_input.proofs.CodeLemmas.{letter-of, scalar-is}
 use Rattle.ratatui_input.proofs.NumberLemmas.{keeps-digit, keeps-none, Come, come-numbers, come-source, come-digit, with_colon, with_semicolon, come-colon, come-semicolon, field_comes, come_one}
+use Rattle.ratatui_input.proofs.NothingLemmas.{digit-keeps}
+use Rattle.ratatui_input.proofs.TableLemmas.{printed-plain}
 use Rattle.ratatui_input.proofs.SequenceLemmas.{csi-some, letter-answer, mouse-stands, keys-stand, pointer-stands}
 
 pub data InSequence : Sequence → List ℕ → Type 0 where
@@ -57,21 +59,10 @@ if-pushed : (body : List ℕ) (t : Bool) (x y : Option Sequence) → (t ≡ true
 if-pushed body true x y f g = f refl
 if-pushed body false x y f g = g refl
 
-either-source : (t : Bool) (x y : Sequence) → x.source ≡ Other → y.source ≡ Other → (if t then x else y).source ≡ Other
-either-source true x y h k = h
-either-source false x y h k = k
-
-digit-source : (s : Sequence) (b : ℕ) → s.source ≡ Other → (digit_pushed s b).source ≡ Other
-unfolding digit_pushed
-digit-source s b h =
-    either-source ((s.numbers == 0) && (s.parts == 0)) _ _ h
-    (either-source ((s.numbers == 1) && (s.parts == 0)) _ _ h
-    (either-source ((s.numbers == 2) && (s.parts == 0)) _ _ h (either-source ((s.numbers == 1) && (s.parts == 1)) _ _ h h)))
-
 digit-come : {s : Sequence} {body : List ℕ} (b : ℕ) → InSequence s body → 48 ≤ b → b ≤ 57 → InSequence (digit_pushed s b) (body ++ (b ∷ []))
 digit-come b (keys_come h) low high = keys_come (come-digit b h low high)
 digit-come b (mouse_comes h) low high = mouse_comes (come-digit b h low high)
-digit-come {s = s} b (mark_comes body e) low high = mark_comes (body ++ (b ∷ [])) (digit-source s b e)
+digit-come {s = s} b (mark_comes body e) low high = mark_comes (body ++ (b ∷ [])) (digit-keeps s b e)
 
 semicolon-come : {s : Sequence} {body : List ℕ} → InSequence s body → InSequence (with_semicolon s) (body ++ (59 ∷ []))
 semicolon-come (keys_come h) = keys_come (come-semicolon h)
@@ -153,16 +144,13 @@ control-stands true b low other = grammar_stands (alt_control b low other)
 low-scalar : (c : ℕ) → c < 128 → IsScalar c
 low-scalar c h = grind (arith, nat_tests)
 
-printed-is : (c : ℕ) → 32 ≤ c → c ≤ 126 → is_control c ≡ false
-printed-is c low high = grind (arith, nat_tests)
-
 typed-stands : (alt : Bool) (b : ℕ) → 32 ≤ b → b ≤ 126 → (alt ≡ true → (b ≢ 91) × (b ≢ 79)) → Stands (after_alt alt (b ∷ [])) (with_alt (typed_key b) alt)
 typed-stands false b low high other =
     subst (λ (x : List ℕ). Stands x (with_alt (typed_key b) false)) (encode-one b (omega arith))
-    (grammar_stands (character b (low-scalar b (omega arith)) (printed-is b low high)))
+    (grammar_stands (character b (low-scalar b (omega arith)) (printed-plain b low high)))
 typed-stands true b low high other =
     subst (λ (x : List ℕ). Stands (27 ∷ x) (with_alt (typed_key b) true)) (encode-one b (omega arith))
-    (grammar_stands (alt_character b (low-scalar b (omega arith)) (printed-is b low high) (other refl).0 (other refl).1))
+    (grammar_stands (alt_character b (low-scalar b (omega arith)) (printed-plain b low high) (other refl).0 (other refl).1))
 
 -- the first byte of a character
 abbrev IsBegun : Bool → ℕ → Option Partial → Type 0

@@ -59,7 +59,7 @@ either : (b : Bool) (x y : Sequence) → x.source ≡ Other → y.source ≡ Oth
 either true x y h k = h
 either false x y h k = k
 
-digit-keeps : (s : Sequence) (b : ℕ) → s.source ≡ Other → (digit_pushed s b).source ≡ Other
+pub digit-keeps : (s : Sequence) (b : ℕ) → s.source ≡ Other → (digit_pushed s b).source ≡ Other
 unfolding digit_pushed
 digit-keeps s b h =
     either ((s.numbers == 0) && (s.parts == 0)) _ _ h

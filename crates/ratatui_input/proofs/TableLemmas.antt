@@ -188,7 +188,7 @@ none-above (e ∷ table) n h k =
     ∙ none-above table n (both (nat_lt e.0 35) (list_all (λ (x : ℕ × KeyCode). nat_lt x.0 35) table) h).1 k
 
 -- no table has a printed ASCII character
-printed-plain : (c : ℕ) → 32 ≤ c → c ≤ 126 → is_control c ≡ false
+pub printed-plain : (c : ℕ) → 32 ≤ c → c ≤ 126 → is_control c ≡ false
 printed-plain c low high = grind (arith, nat_tests)
 
 pub keypad-none : (c : ℕ) → 32 ≤ c → c ≤ 126 → keypad_key c ≡ None

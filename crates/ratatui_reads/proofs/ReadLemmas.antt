@@ -1,12 +1,12 @@
 -- Events of reads, one after the other.
-use Rattle.std.proofs.Common.{◌≡◌, ℕ, ◌+◌, ◌<◌, ◌≤◌, Bool, false, if◌then◌else◌, List, [], ◌∷◌, ◌++◌, length, drop, get_or, refl, ap, ap₂, sym, ◌∙◌, arith, add-one, append-nil, append_assoc, Option, None}
+use Rattle.std.proofs.Common.{◌≡◌, ℕ, ◌+◌, ◌<◌, ◌≤◌, Bool, false, if◌then◌else◌, List, [], ◌∷◌, ◌++◌, length, drop, get_or, refl, ap, ap₂, sym, ◌∙◌, arith, add-one, append-nil, append_assoc, rules, Option, None, Result, Ok, Err, OnErr}
 use Rattle.std.proofs.Math.Seq.{drop-cons}
 use Rattle.std.proofs.lemmas.List.{drop_all}
 use Rattle.ratatui_events.specs.declared.event.Event.{Event}
 use Rattle.ratatui_input.specs.declared.decoder.Decoder.{Decoder}
 use Rattle.ratatui_input.specs.Decoding.{Told, some_list, byte_told, decoded, next_told}
 use Rattle.ratatui_input.proofs.DecodingLemmas.{decoded-append}
-use Rattle.ratatui_reads.specs.Reads.{Between, told_by, all_updated, after_read, after_reads, after_bytes, all_bytes, IsNonEmpty, AreNonEmpty, size_in, later, last_size}
+use Rattle.ratatui_reads.specs.Reads.{Between, told_by, all_updated, after_read, after_reads, after_bytes, all_bytes, IsNonEmpty, AreNonEmpty, size_in, later, last_size, RefusesAmong}
 
 -- both lists are empty
 pub both-nil : {A : Type 0} (a b : List A) → a ≡ [] → b ≡ [] → a ++ b ≡ []
@@ -24,6 +24,16 @@ nonempty (b ∷ bs) lt = tt
 size-append : (z : Option (ℕ × ℕ)) (a b : List Event) → last_size z (a ++ b) ≡ last_size (last_size z a) b
 size-append z [] b = refl
 size-append z (e ∷ a) b = size-append (later (size_in e) z) a b
+
+-- what holds at each answer holds at an error
+pub at-error : {A E P : Type 0} (result : Result A E) → P → OnErr result P
+at-error (Ok x) holds = tt
+at-error (Err e) holds = holds
+
+-- a list is empty if it is with more after it
+pub front-nil : (a b : List Event) → a ++ b ≡ [] → a ≡ []
+front-nil [] b none = refl
+front-nil (e ∷ a) b none = absurd (search (rules, none))
 
 module _ {S : Type 0} (u : S → Event → S) (o : S → Bool) where
   pub all_updated-append : (s : S) (a b : List Event) → all_updated u o s (a ++ b) ≡ all_updated u o (all_updated u o s a) b
@@ -102,3 +112,22 @@ module _ {S : Type 0} (u : S → Event → S) (o : S → Bool) where
   left-end d s bytes d' s' any z i past h =
       let whole : decoded d bytes ≡ (h.told, d') = h.whole ∙ ap (next_told (h.told, d')) (drop_all i bytes past) ∙ none-left h.told d' in
       (ap (λ (t : Told). t.1) (sym whole), h.state ∙ ap (λ (t : Told). all_updated u o s t.0) (sym whole), λ n. ap (λ (t : Told). t.0) whole ∙ h.quiet n, h.sized ∙ ap (λ (t : Told). last_size None t.0) (sym whole))
+
+  -- an update of a byte's events was refused: those before it, and all of the bytes before, were taken
+  pub left-refused : (d : Decoder) (s : S) (bytes : List ℕ) (d' : Decoder) (s' : S) (any : Bool) (z : Option (ℕ × ℕ)) (i : ℕ) (taken left : List Event) (after : S)
+      → i < length bytes → (byte_told d' (get_or bytes i 0)).0 ≡ taken ++ left → (left ≡ [] → ⊥) → after ≡ all_updated u o s' taken
+      → Left d s bytes d' s' any z (drop i bytes) → RefusesAmong u o (decoded d bytes).0 s after
+  left-refused d s bytes d' s' any z i taken left after lt told some e h =
+      let b = get_or bytes i 0 in
+      let rest = drop (i + 1) bytes in
+      let one : drop i bytes ≡ b ∷ rest = rw add-one (drop-cons bytes i 0 lt) in
+      let more = (decoded (byte_told d' b).1 rest).0 in
+      let whole : decoded d bytes ≡ next_told (h.told ++ (byte_told d' b).0, (byte_told d' b).1) rest = h.whole ∙ ap (next_told (h.told, d')) one ∙ next-byte h.told d' b rest in
+      record {
+        taken = h.told ++ taken;
+        left = left ++ more;
+        some = λ none. some (front-nil left more none);
+        told_is = ap (λ (t : Told). t.0) whole ∙ ap (λ (es : List Event). (h.told ++ es) ++ more) told
+            ∙ ap (λ (es : List Event). es ++ more) (sym (append_assoc h.told taken left)) ∙ append_assoc (h.told ++ taken) left more;
+        after_is = e ∙ ap (λ (x : S). all_updated u o x taken) h.state ∙ sym (all_updated-append s h.told taken);
+      }

@@ -26,14 +26,14 @@ module _ {S T : Type 0} where
   reads_of (m ∷ ms) = m.bytes ∷ reads_of ms
 
 module _ {S T : Type 0} (updated : S → Event → S) (is_over : S → Bool)
-    (shows : S → T → Type 0) (moves : T → T → Type 0) (has_size : ℕ × ℕ → T → Type 0) where
-  -- after each read the state is what the read makes of the one before, the terminal moved on from the one before, has
+    (shows : S → T → Type 0) (moves : T → T → Type 0) (takes_size : ℕ × ℕ → T → T → Type 0) where
+  -- after each read the state is what the read makes of the one before, the terminal moved on from the one before, took
   -- the last size that the read told, and shows the state
   abbrev pub AreMoments : Between S → T → List (Moment S T) → Type 0
   AreMoments b t [] = Unit {0}
   AreMoments b t (m ∷ ms) = (m.between ≡ after_read updated is_over b m.bytes)
       × moves t m.terminal
-      × IfSome (size_told b.decoder m.bytes) (λ size. has_size size m.terminal)
+      × IfSome (size_told b.decoder m.bytes) (λ size. takes_size size t m.terminal)
       × shows m.between.state m.terminal
       × AreMoments m.between m.terminal ms
 
@@ -50,11 +50,11 @@ module _ {S T : Type 0} (updated : S → Event → S) (is_over : S → Bool)
     pub terminal_is : t ≡ last_terminal begun moments
     pub consumed : Consumes all rest (all_bytes (reads_of moments))
 
-  -- bytes of a read, some or none, were fed: what they make of the state is shown, at the last size that they told
+  -- bytes of a read, some or none, were fed: what they make of the state is shown, and the last size that they told was taken
   pub record Feeds (before : Between S) (t : T) (bytes : List ℕ) (after : Between S) (t' : T) : Type 0 where
     pub taken : after ≡ after_read updated is_over before bytes
     pub moved : moves t t'
-    pub sized : IfSome (size_told before.decoder bytes) (λ size. has_size size t')
+    pub sized : IfSome (size_told before.decoder bytes) (λ size. takes_size size t t')
     pub shown : shows after.state t'
 
   -- one read: bytes were taken from the reader, and fed

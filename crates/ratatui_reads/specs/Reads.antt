@@ -2,7 +2,7 @@
 use Rattle.std.specs.Prelude.{ℕ, Bool, if◌then◌else◌, List, [], ◌∷◌, ◌++◌}
 use Rattle.ratatui_events.specs.declared.event.Event.{Event}
 use Rattle.ratatui_input.specs.declared.decoder.Decoder.{Decoder}
-use Rattle.std.specs.Prelude.{◌+◌, min, nat_lt, ◌&&◌, Option, Some, None}
+use Rattle.std.specs.Prelude.{◌≡◌, ◌+◌, ◌*◌, min, nat_lt, nat_le, ◌&&◌, Option, Some, None}
 use Rattle.ratatui_events.specs.declared.event.Event.TheVariants.{Size, Position}
 use Rattle.ratatui_input.specs.Decoding.{Told, decoded, settled}
 
@@ -42,6 +42,14 @@ module _ {S : Type 0} (updated : S → Event → S) (is_over : S → Bool) where
   after_reads b [] = b
   after_reads b (r ∷ rs) = after_reads (after_read b r) rs
 
+  -- the update by one of these events was refused memory: those before it were taken
+  pub record RefusesAmong (told : List Event) (before after : S) : Type 0 where
+    pub taken : List Event
+    pub left : List Event
+    pub some : left ≡ [] → ⊥
+    pub told_is : told ≡ taken ++ left
+    pub after_is : after ≡ all_updated before taken
+
 -- all bytes of reads
 abbrev pub all_bytes : List (List ℕ) → List ℕ
 all_bytes [] = []
@@ -56,11 +64,15 @@ abbrev pub AreNonEmpty : List (List ℕ) → Type 0
 AreNonEmpty [] = Unit {0}
 AreNonEmpty (r ∷ rs) = IsNonEmpty r × AreNonEmpty rs
 
--- the columns and rows that an event tells: those of the terminal, or of the last place, where the cursor was sent to ask
--- for it; a size without columns or rows is none
+-- columns and rows, if these are a size: of one cell at least, and of a million at most
+abbrev pub size_if : ℕ → ℕ → Option (ℕ × ℕ)
+size_if columns rows = if nat_lt 0 (columns * rows) && nat_le (columns * rows) 1000000 then Some (columns, rows) else None
+
+-- the size that an event tells: the terminal's columns and rows, or those up to the last place, where the cursor was sent
+-- to ask for them
 abbrev pub size_in : Event → Option (ℕ × ℕ)
-size_in (Size columns rows) = if nat_lt 0 columns && nat_lt 0 rows then Some (columns, rows) else None
-size_in (Position x y) = Some (min (x + 1) 65535, min (y + 1) 65535)
+size_in (Size columns rows) = size_if columns rows
+size_in (Position x y) = size_if (min (x + 1) 65535) (min (y + 1) 65535)
 size_in _ = None
 
 abbrev pub later : Option (ℕ × ℕ) → Option (ℕ × ℕ) → Option (ℕ × ℕ)

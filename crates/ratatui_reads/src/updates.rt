@@ -1,7 +1,7 @@
-ghost use Rattle.std.specs.Prelude.{◌≡◌, Bool, [], false, true, None, OnOk, IfOk};
+ghost use Rattle.std.specs.Prelude.{◌≡◌, Bool, [], false, true, None, OnOk, OnErr, IfOk};
 ghost use Rattle.ratatui_input.specs.Decoding.{decoded, some_list};
 ghost use Rattle.ratatui_events.specs.declared.event.Event.{Event};
-ghost use Rattle.ratatui_reads.specs.Reads.{told_by, all_updated, size_in, last_size, size_told};
+ghost use Rattle.ratatui_reads.specs.Reads.{told_by, all_updated, RefusesAmong, size_if, size_in, last_size, size_told};
 
 use ratatui_events::Event;
 use ratatui_input::{Decoder, Fed};
@@ -19,9 +19,10 @@ pub trait Updates {
     ///
     /// # Errors
     ///
-    /// `AllocError` if memory is refused. What stands then isn't said.
+    /// `AllocError` if memory is refused. Nothing has changed then.
     fn update(&mut self, event: Event) -> Result<(), AllocError>
-        ensures { OnOk result (self.new ≡ updated self.old event) };
+        ensures ok { OnOk result (self.new ≡ updated self.old event) }
+        ensures refused { OnErr result (self.new ≡ self.old) };
 
     /// Whether it takes no more events.
     fn is_over(&self) -> bool
@@ -36,19 +37,30 @@ pub struct Taken {
     pub size: Option<(u16, u16)>,
 }
 
-// The size that an event tells.
-fn size_in(event: Event) -> Option<(u16, u16)>
+/// The cells of the largest size that an event may tell.
+pub const MOST_CELLS: u32 = 1_000_000;
+
+// Columns and rows, if these are a size.
+fn size_if(columns: u16, rows: u16) -> Option<(u16, u16)>
+    ensures { result ≡ size_if columns rows }
+{
+    let cells = u32::from(columns) * u32::from(rows);
+    if 0 < cells && cells <= MOST_CELLS {
+        Some((columns, rows))
+    } else {
+        None
+    }
+}
+
+/// The size that an event tells, in columns and rows: the terminal's, or that up to the last place,
+/// where the cursor was sent to ask for it. A size of no cell, or of more than [`MOST_CELLS`], is
+/// none.
+pub fn size_in(event: Event) -> Option<(u16, u16)>
     ensures { result ≡ size_in event }
 {
     match event {
-        Event::Size(columns, rows) => {
-            if columns > 0 && rows > 0 {
-                Some((columns, rows))
-            } else {
-                None
-            }
-        }
-        Event::Position(x, y) => Some((x.saturating_add(1), y.saturating_add(1))),
+        Event::Size(columns, rows) => size_if(columns, rows),
+        Event::Position(x, y) => size_if(x.saturating_add(1), y.saturating_add(1)),
         _ => None,
     }
 }
@@ -61,6 +73,8 @@ fn take_some<A: Updates>(
 ) -> Result<Taken, AllocError>
     ensures state { OnOk result (state.new
         ≡ all_updated A.updated A.is_over state.old (some_list event)) }
+    ensures refused { OnErr result (state.new ≡ state.old) }
+    ensures some { OnErr result (some_list event ≡ [] → ⊥) }
     ensures quiet { IfOk result (λ taken. taken.any ≡ false
         → (before.any ≡ false) × (some_list event ≡ [])) }
     ensures size { IfOk result (λ taken. taken.size
@@ -90,6 +104,8 @@ fn take_bytes<A: Updates>(
     ensures decoder { OnOk result (decoder.new ≡ (decoded decoder.old bytes.now).1) }
     ensures state { OnOk result (state.new
         ≡ all_updated A.updated A.is_over state.old (decoded decoder.old bytes.now).0) }
+    ensures refused { OnErr result (RefusesAmong A.updated A.is_over
+        (decoded decoder.old bytes.now).0 state.old state.new) }
     ensures quiet { IfOk result (λ taken. taken.any ≡ false
         → (decoded decoder.old bytes.now).0 ≡ []) }
     ensures size { IfOk result (λ taken. taken.size
@@ -111,7 +127,7 @@ fn take_bytes<A: Updates>(
 ///
 /// # Errors
 ///
-/// `AllocError` if an update was refused memory.
+/// `AllocError` if an update was refused memory. The events before that one are taken then.
 pub fn take<A: Updates>(
     bytes: &[u8],
     decoder: &mut Decoder,
@@ -120,6 +136,8 @@ pub fn take<A: Updates>(
     ensures decoder { OnOk result (decoder.new ≡ (told_by decoder.old bytes.now).1) }
     ensures state { OnOk result (state.new
         ≡ all_updated A.updated A.is_over state.old (told_by decoder.old bytes.now).0) }
+    ensures refused { OnErr result (RefusesAmong A.updated A.is_over
+        (told_by decoder.old bytes.now).0 state.old state.new) }
     ensures quiet { IfOk result (λ taken. taken.any ≡ false
         → (told_by decoder.old bytes.now).0 ≡ []) }
     ensures size { IfOk result (λ taken. taken.size ≡ size_told decoder.old bytes.now) }

@@ -16,9 +16,7 @@ pub trait Resizable: Backend {
     fn take_size(&mut self, size: Size) -> Result<bool, Self::Error>
         ensures taken { IfOk result (λ is_taken. IsTrue is_taken
             → size_of (Self.screen self.new) ≡ size) }
-        ensures kept { IfOk result (λ is_taken. is_taken ≡ false
-            → (Self.screen self.new ≡ Self.screen self.old)
-            × (Self.is_flushed self.new ≡ Self.is_flushed self.old)) }
+        ensures kept { IfOk result (λ is_taken. is_taken ≡ false → self.new ≡ self.old) }
         ensures counts { OnOk result (Self.failures self.new ≡ Self.failures self.old) };
 }
 

@@ -26,10 +26,6 @@ pub titled-in : {A : Type 0} (result : Result A AllocError) (r : Rect) (style : 
 titled-in (Ok x) r style line old laid new is ok err = within-then r old laid new (within-styled r r style old laid (λ p in_own h. h) is) ok.within
 titled-in (Err e) r style line old laid new is ok err = within-then r old laid new (within-styled r r style old laid (λ p in_own h. h) is) err
 
--- parts of an area
-pub middle-inside : (n : ℕ) (r : Rect) → IsInside (middle_columns n r) r
-middle-inside n r p h = let left = h.left in let right = h.right in let top = h.top in let bottom = h.bottom in record { left = omega arith; right = omega arith; top = top; bottom = bottom }
-
 pub rows-inside : (y n : ℕ) (r : Rect) → y + n ≤ r.height → IsInside (rows_at y n r) r
 rows-inside y n r le p h = let left = h.left in let right = h.right in let top = h.top in let bottom = h.bottom in record { left = left; right = right; top = omega arith; bottom = omega arith }
 
@@ -52,9 +48,6 @@ text-within result text style r m old new at box inside paints =
 -- the columns after some
 pub rest-rows : (n : ℕ) (r : Rect) → HasRows r → HasRows (without_first n r)
 rest-rows n r is = let a = is.across in record { rows = is.rows; across = omega arith; down = is.down }
-
-pub first-box : (n : ℕ) (r : Rect) → 0 < n → n ≤ r.width → HasRows r → IsBoxArea (first_columns n r)
-first-box n r some le is = let a = is.across in record { columns = omega arith; rows = is.rows; across = omega arith; down = is.down }
 
 -- as many bars as fit do
 pub bars-fit : (c : BarChart) (n width : ℕ) (bars : List Bar) → n * (c.bar_width + c.bar_gap) ≤ width + c.bar_gap → BarsFit c width (take n bars)

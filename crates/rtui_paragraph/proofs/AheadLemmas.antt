@@ -143,13 +143,6 @@ blanks-end g gs word =
     let none : prefix_len is_break (g ∷ gs) ≡ 0 = rw word refl in
     ap (λ n. columns_taken (drop n (g ∷ gs))) none
 
-blanks-kept : (gs : List GraphemeData) (g : GraphemeData) → after_blanks gs ≤ after_blanks (gs ++ g ∷ [])
-blanks-kept [] g = omega arith
-blanks-kept (h ∷ gs) g = ⊎_elim
-    (λ (blank : is_break h ≡ true). omega (arith, blanks-next h gs blank, blanks-next h (gs ++ g ∷ []) blank, blanks-kept gs g))
-    (λ (word : is_break h ≡ false). omega (arith, blanks-end h gs word, blanks-end h (gs ++ g ∷ []) word, append-columns (h ∷ gs) g))
-    (cases_Bool (is_break h))
-
 blanks-grown : (gs : List GraphemeData) (g : GraphemeData) → (0 < after_blanks gs) ⊎ (is_break g ≡ false)
     → after_blanks gs + grapheme_columns g ≤ after_blanks (gs ++ g ∷ [])
 blanks-grown [] g (inl some) = absurd (omega arith)
@@ -160,10 +153,6 @@ blanks-grown (h ∷ gs) g counts = ⊎_elim
     omega (arith, same, blanks-next h (gs ++ g ∷ []) blank, blanks-grown gs g (⊎_elim (λ (some : 0 < after_blanks (h ∷ gs)). inl (omega (arith, same))) (λ (word : is_break g ≡ false). inr word) counts)))
     (λ (word : is_break h ≡ false). omega (arith, blanks-end h gs word, blanks-end h (gs ++ g ∷ []) word, append-columns (h ∷ gs) g))
     (cases_Bool (is_break h))
-
-pub ahead-kept : (trim : Bool) (gs : List GraphemeData) (g : GraphemeData) → columns_ahead trim gs ≤ columns_ahead trim (gs ++ g ∷ [])
-ahead-kept true gs g = blanks-kept gs g
-ahead-kept false gs g = omega (arith, append-columns gs g)
 
 pub ahead-grown : (trim : Bool) (gs : List GraphemeData) (g : GraphemeData) → (trim ≡ true → (0 < columns_ahead trim gs) ⊎ (is_break g ≡ false))
     → columns_ahead trim gs + grapheme_columns g ≤ columns_ahead trim (gs ++ g ∷ [])
@@ -198,23 +187,6 @@ row-of-left width passed trim gs more enough fit =
     (λ (enough : IsEnough width trim here). sym (split-append width trim here more enough (fit-front width here more fit)))
     (λ (none : more ≡ []). ap (split_row width trim) (sym (ap (λ xs. here ++ xs) none ∙ append-nil here)))
     enough
-
--- one grapheme more
-pub held-pushed : (passed : ℕ) (gs pushed : List StyledGrapheme) (g : StyledGrapheme) → passed ≤ length gs → pushed ≡ gs ++ g ∷ []
-    → data_of (drop passed pushed) ≡ data_of (drop passed gs) ++ grapheme_data g ∷ []
-held-pushed passed gs pushed g le is =
-    ap (λ xs. data_of (drop passed xs)) is ∙ (ap data_of (drop-append-le passed gs (g ∷ []) le) ∙ map-append grapheme_data (drop passed gs) (g ∷ []))
-
-pub left-pushed : (width : ℕ) (here left rest : List GraphemeData) (g : GraphemeData) → left ≡ g ∷ rest → grapheme_columns g ≤ width
-    → (here ++ g ∷ []) ++ filter (fits_row width) rest ≡ here ++ filter (fits_row width) left
-left-pushed width here left rest g is le =
-    let yes_fits : fits_row width g ≡ true = grind (arith, nat_tests) in
-    append_assoc here (g ∷ []) (filter (fits_row width) rest) ∙ ap (λ xs. here ++ xs) (sym (ap (filter (fits_row width)) is ∙ rw yes_fits refl))
-
--- a grapheme that doesn't fit a row
-pub left-skipped : (width : ℕ) (left rest : List GraphemeData) (g : GraphemeData) → left ≡ g ∷ rest → width < grapheme_columns g
-    → filter (fits_row width) rest ≡ filter (fits_row width) left
-left-skipped width left rest g is lt = let off : fits_row width g ≡ false = grind (arith, nat_tests) in sym (ap (filter (fits_row width)) is ∙ rw off refl)
 
 -- nothing that fits is left of a line of which nothing is left
 pub none-left : {Enough : Type 0} (width : ℕ) (rest : List GraphemeData) → Enough ⊎ (rest ≡ []) → Enough ⊎ (filter (fits_row width) rest ≡ [])

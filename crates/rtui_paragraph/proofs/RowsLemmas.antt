@@ -70,39 +70,11 @@ rows-next width trim (g ∷ gs) fit some =
     let less : length rest ≡ length (g ∷ gs) - split.1 = length-drop split.1 (g ∷ gs) in
     ap (λ rows. split.0 ∷ rows) (fuel-same (length gs) (length rest) width trim rest (fit-past width split.1 (g ∷ gs) fit) (omega arith) (omega arith))
 
-pub broken-none : (width : ℕ) (trim : Bool) (gs : List GraphemeData) → length gs ≡ 0 → broken_rows width trim gs ≡ [] ∷ []
-broken-none width trim [] none = refl
-broken-none width trim (g ∷ gs) none = absurd (omega arith)
-
 -- To paint the rows that are left, and whatever rows come after them, is to paint all: k rows are painted, and some are still to be skipped.
 abbrev pub FinishesRows : Rect → ℕ → ℕ → List TextRow → ℕ → ℕ → List TextRow → BufferData → BufferData → Type 0
 FinishesRows r k skip left start first all old now =
     (more : List TextRow) (new : BufferData) → PaintsRows r (r.y + k) (rows_shown (r.height - k) skip (left ++ more)) now new
     → PaintsRows r (r.y + start) (rows_shown (r.height - start) first (all ++ more)) old new
-
-module _ (r : Rect) (k skip start first : ℕ) (row : TextRow) (left rest all : List TextRow) (old now : BufferData) (is : left ≡ row ∷ rest) (finishes : FinishesRows r k skip left start first all old now) where
-  -- a row is skipped
-  pub rows-skip : 0 < skip → FinishesRows r k (skip - 1) rest start first all old now
-  rows-skip some = λ more new others.
-      let e : skip ≡ suc (skip - 1) = omega arith in
-      let same : rows_shown (r.height - k) skip (left ++ more) ≡ rows_shown (r.height - k) (skip - 1) (rest ++ more) = ap (λ ls. take (r.height - k) (drop skip (ls ++ more))) is ∙ ap (λ s. take (r.height - k) (drop s (row ∷ (rest ++ more)))) e in
-      finishes more new (subst (λ rows. PaintsRows r (r.y + k) rows now new) (sym same) others)
-
-  -- a row is painted
-  pub rows-paint : (mid : BufferData) → skip ≡ 0 → k < r.height → PaintsRow r (r.y + k) row now mid → FinishesRows r (k + 1) skip rest start first all old mid
-  rows-paint mid none lt made = λ more new others.
-      let e : r.height - k ≡ suc (r.height - (k + 1)) = omega arith in
-      let same : rows_shown (r.height - k) skip (left ++ more) ≡ row ∷ rows_shown (r.height - (k + 1)) skip (rest ++ more) =
-      ap (λ ls. take (r.height - k) (drop skip (ls ++ more))) is ∙ (ap (λ s. take (r.height - k) (drop s (row ∷ (rest ++ more)))) none ∙ (ap (λ h. take h (row ∷ (rest ++ more))) e
-      ∙ ap (λ s. row ∷ take (r.height - (k + 1)) (drop s (rest ++ more))) (sym none))) in
-      let y : r.y + (k + 1) ≡ r.y + k + 1 = omega arith in
-      finishes more new (subst (λ rows. PaintsRows r (r.y + k) rows now new) (sym same) (record { between = mid; first = made; second = subst (λ z. PaintsRows r z (rows_shown (r.height - (k + 1)) skip (rest ++ more)) mid new) y others }))
-
--- a row for which there is no room
-pub rows-past : (r : Rect) (k : ℕ) (rows : List TextRow) (old : BufferData) → k ≡ r.height → PaintsOn r k k 0 0 rows old old
-rows-past r k rows old full = λ more new others.
-    let none : r.height - k ≡ 0 = omega arith in
-    subst (λ h. PaintsRows r (r.y + k) (rows_shown h 0 (rows ++ more)) old new) (sym none) (subst (λ h. PaintsRows r (r.y + k) (rows_shown h 0 more) old new) none others)
 
 -- the rows of a line are painted, and those of the lines after it are left
 pub rows-line : (r : Rect) (k n skip skip_then start first : ℕ) (line rest left all : List TextRow) (old now mid : BufferData) → left ≡ line ++ rest → FinishesRows r k skip left start first all old now → PaintsOn r k n skip skip_then line now mid
@@ -121,9 +93,6 @@ rows-done r k skip first left all old now none finishes =
     let made = finishes [] now (subst (λ rows. PaintsRows r (r.y + k) rows now now) (sym same) refl) in
     subst (λ rows. PaintsRows r r.y (rows_shown r.height first rows) old now) (append-nil all)
     (subst (λ z. PaintsRows r z (rows_shown r.height first (all ++ [])) old now) y (subst (λ z. PaintsRows r (r.y + 0) (rows_shown z first (all ++ [])) old now) h made))
-
-pub rows-start : (r : Rect) (k skip : ℕ) (all : List TextRow) (old : BufferData) → FinishesRows r k skip all k skip all old old
-rows-start r k skip all old = λ more new others. others
 
 drop-none : (skip : ℕ) (left : List TextRow) → left ≡ [] → drop skip left ≡ []
 drop-none zero left none = none
@@ -254,11 +223,6 @@ pub left-next : (width : ℕ) (trim : Bool) (gs row : List GraphemeData) (count 
 left-next width trim gs row count fit some is =
     rows-next width trim gs fit some ∙ ap (λ s. s.0 ∷ rows_left width trim (drop s.1 gs)) (sym is)
 
--- a line with graphemes has the rows that are left of it
-pub broken-some : (width : ℕ) (trim : Bool) (gs : List GraphemeData) → 0 < length gs → broken_rows width trim gs ≡ rows_left width trim gs
-broken-some width trim [] some = absurd (omega arith)
-broken-some width trim (g ∷ gs) some = refl
-
 pub fitting-fit : (width : ℕ) (gs : List GraphemeData) → AllFit width (filter (fits_row width) gs)
 fitting-fit width [] = refl
 fitting-fit width (g ∷ gs) = ⊎_elim
@@ -285,11 +249,6 @@ cut-line-next p width lines i line lt is =
 pub rows-of-line : (p : Paragraph) (width : ℕ) (wrap : Wrap) (line : LineData) (a : HorizontalAlignment) (gs : List GraphemeData) → a ≡ alignment_of p line → gs ≡ filter (fits_row width) (graphemes_of p line)
     → aligned_rows a (broken_rows width wrap.trim gs) ≡ broken_line p width wrap line
 rows-of-line p width wrap line a gs same fit = ap₂ (λ b ds. aligned_rows b (broken_rows width wrap.trim ds)) same fit
-
-pub count-of-line : (p : Paragraph) (width : ℕ) (wrap : Wrap) (line : LineData) (gs : List GraphemeData) → gs ≡ filter (fits_row width) (graphemes_of p line)
-    → length (broken_rows width wrap.trim gs) ≡ length (broken_line p width wrap line)
-count-of-line p width wrap line gs fit =
-    ap (λ ds. length (broken_rows width wrap.trim ds)) fit ∙ sym (length-map (broken_rows width wrap.trim (filter (fits_row width) (graphemes_of p line))) (aligned_row (alignment_of p line)))
 
 pub fit-of-line : (width : ℕ) (gs all : List GraphemeData) → gs ≡ filter (fits_row width) all → AllFit width gs
 fit-of-line width gs all fit = subst (AllFit width) (sym fit) (fitting-fit width all)

@@ -15,10 +15,6 @@ use Rattle.rtui_table.specs.Rows.{PlacedRow, stacked_rows, cells_area, below, fu
 use Rattle.rtui_table.specs.Tables.{TablePart, text_part, style_part, RendersTablePart, RendersTableParts, cell_parts, in_column, placed_row_parts, rows_parts, selected_row_area, selected_column_area, area_if, highlight_parts, RendersIfText}
 use Rattle.rtui_table.specs.Inner.{IsColumnOf, AreWithin}
 
--- one part
-pub one-part : (p : TablePart) (old new : BufferData) → RendersTablePart p old new → RendersTableParts (p ∷ []) old new
-one-part p old new is = record { between = new; first = is; second = refl }
-
 -- a style alone
 pub laid-part : (r : Rect) (style : Style) (old new : BufferData) → IsStyled r style old new → RendersTablePart (style_part r style) old new
 laid-part r style old new is = record { laid = new; styled = is; text = refl }
@@ -56,11 +52,6 @@ finishing-end left all old now none finishes = finishes now (subst (λ us. Rende
 -- the elements of a list from one on
 drop-at : {A : Type 0} (xs : List A) (k : ℕ) (x : A) → k < length xs → x ≡ get_or xs k x → drop k xs ≡ x ∷ drop (k + 1) xs
 drop-at xs k x lt is = drop_more xs k x lt ∙ ap (λ y. y ∷ drop (k + 1) xs) (sym is)
-
--- the next cell
-pub cells-next : (r : Rect) (columns : List Rect) (cells : List Cell) (k : ℕ) (column : Rect) (cell : Cell) → k < length columns → k < length cells → column ≡ get_or columns k column → cell ≡ get_or cells k cell
-    → cell_parts r (drop k columns) (drop k cells) ≡ (text_part (in_column column r) cell.style cell.content ∷ []) ++ cell_parts r (drop (k + 1) columns) (drop (k + 1) cells)
-cells-next r columns cells k column cell lt less at is = rw (drop-at columns k column lt at, drop-at cells k cell less is) refl
 
 no-cells : (r : Rect) (columns : List Rect) → cell_parts r columns [] ≡ []
 no-cells r [] = refl

@@ -69,19 +69,6 @@ view-moves rows height selected was least upper full first begins high whole at 
       moves = λ _. rw (← at, ← whole) moved;
     }
 
--- where a table begins
-pub offset-none : (rows : List Row) (height : ℕ) (selected : Option ℕ) (was : ℕ) → (length rows == 0) ≡ true → IsRowOffset rows height selected was 0
-offset-none [] height selected was none = refl
-offset-none (row ∷ rows) height selected was none = absurd (grind (arith, nat_tests, none))
-
-pub offset-start : (rows : List Row) (height was begins : ℕ) → 0 < length rows → begins ≡ min was (length rows - 1) → IsRowOffset rows height None was begins
-offset-start [] height was begins some at = absurd (omega arith)
-offset-start (row ∷ rows) height was begins some at = omega arith
-
-pub offset-kept : (rows : List Row) (height selected was begins : ℕ) → 0 < length rows → KeepsRowInView rows height selected was begins → IsRowOffset rows height (Some selected) was begins
-offset-kept [] height selected was begins some keeps = absurd (omega arith)
-offset-kept (row ∷ rows) height selected was begins some keeps = keeps
-
 -- a row without its lower margin is no higher than with it
 upper-full : (rows : List Row) (k : ℕ) → upper_at rows k ≤ full_at rows k
 upper-full [] k = omega arith

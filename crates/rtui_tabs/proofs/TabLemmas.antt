@@ -111,10 +111,6 @@ module _ (highlight : Style) (p : TabPart) (row : Rect) (old mid : BufferData) (
   pub puts-plain : (rest : Rect) → p.is_lit ≡ false → PaintsPieces (corner row) ps old mid → rest ≡ without_first (columns ps) row → PutsParts highlight (p ∷ []) row (Ok rest) old mid
   puts-plain rest off paints at = puts-lit rest mid paints (rw off refl) (within-same (record row { width = columns ps }) mid) at
 
--- no part
-pub puts-none : (highlight : Style) (row : Rect) (s : BufferData) → IsRowInBuffer s.area row → PutsParts highlight [] row (Ok row) s s
-puts-none highlight row s is = record { within = within-same row s; ok = refl; rest = refl; left = is; short = λ _. refl }
-
 -- parts after parts
 pub parts-then : (highlight : Style) (ps qs : List PlacedPart) (old mid new : BufferData) → RendersParts highlight ps old mid → RendersParts highlight qs mid new → RendersParts highlight (ps ++ qs) old new
 parts-then highlight [] qs old mid new first second = subst (λ s. RendersParts highlight qs s new) first second
