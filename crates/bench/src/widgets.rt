@@ -78,7 +78,7 @@ fn lists(alloc: Global, size: Size, count: u32) -> Done {
         } else {
             state.select_first();
         }
-        (&list).render(area, &mut buffer, &mut state)?;
+        StatefulWidget::render(&list, area, &mut buffer, &mut state)?;
     }
     Ok(Some((state.offset() as u64, sum(&buffer))))
 }

@@ -1,7 +1,6 @@
 //! The state of a pager.
 
 ghost use Rattle.std.specs.Prelude.{◌≡◌, OnOk, OnErr};
-ghost use Rattle.ratatui_reads.specs.Reads.{size_in};
 ghost use Rattle.pager.specs.Moves.{started, at_told_size, with_one_less, answered, acted, updated};
 
 use crate::answer::{Answer, answer_of, is_press};
@@ -11,7 +10,7 @@ use crate::own_text::OwnText;
 use crate::typing::Typing;
 use ratatui_core::layout::Size;
 use ratatui_events::Event;
-use ratatui_reads::Updates;
+use ratatui_reads::{Updates, size_in};
 use std::alloc::AllocError;
 
 /// What keys are taken for.
@@ -58,23 +57,6 @@ pub struct Pager<'a> {
     pub(crate) is_missing: bool,
     /// Whether the reader is done.
     pub(crate) is_over: bool,
-}
-
-// The columns and rows that an event tells.
-fn size_in(event: Event) -> Option<(u16, u16)>
-    ensures { result ≡ size_in event }
-{
-    match event {
-        Event::Size(columns, rows) => {
-            if columns > 0 && rows > 0 {
-                Some((columns, rows))
-            } else {
-                None
-            }
-        }
-        Event::Position(x, y) => Some((x.saturating_add(1), y.saturating_add(1))),
-        _ => None,
-    }
 }
 
 impl<'a> Pager<'a> {

@@ -28,8 +28,7 @@ fn tell_fault(rt: &HostRuntime, fault: Fault<AnsiError>) -> io::Result<()> {
         Fault::Read(error) => eprintln!(rt; "pager: the keys: {error}"),
         Fault::Memory => eprintln!(rt; "pager: no memory"),
         Fault::Draw(error) => eprintln!(rt; "pager: {error}"),
-        Fault::Resize(Some(error)) => eprintln!(rt; "pager: {error}"),
-        Fault::Resize(None) => eprintln!(rt; "pager: a terminal of no size"),
+        Fault::Resize(error) => eprintln!(rt; "pager: {error}"),
     }
 }
 

@@ -12,7 +12,7 @@ use Rattle.ratatui_reads.specs.Reads.{Between, told_by, all_updated, size_told, 
 use Rattle.ratatui_reads.proofs.ReadLemmas.{nonempty}
 use Rattle.ratatui_reads.proofs.MomentLemmas.{ran-start, ran-step, ran-shows}
 use Rattle.ratatui_app.specs.Showing
-use Rattle.ratatui_app.specs.Showing.{ShowsState, Moves, StepsTo, RunsTo, MayDraw, HasNewSize, HasSize, FeedsTo, LacksFrame, RefusesState, Stops, StopsFeeding}
+use Rattle.ratatui_app.specs.Showing.{ShowsState, Moves, StepsTo, RunsTo, MayDraw, HasNewSize, TakesSize, FeedsTo, LacksFrame, RefusesState, Stops, StopsFeeding}
 use Rattle.ratatui_app.specs.declared.running.Fault.{Fault}
 use Rattle.ratatui_app.specs.declared.running.Fault.TheVariants.{Read, Memory, Draw, Resize}
 
@@ -29,13 +29,15 @@ module _ {B S : Type 0} (screen : B → Screen) (failures : B → ℕ) (is_flush
       → RunsTo screen failures is_flushed paints u o t0 (record { decoder = fresh_decoder; state = s }) all (record { decoder = d; state = s }) all t
   runs-start t0 d s all t e draws same sh =
       subst (λ (x : Decoder). RunsTo screen failures is_flushed paints u o t0 (record { decoder = fresh_decoder; state = s }) all (record { decoder = x; state = s }) all t) (sym e)
-      (ran-start u o (ShowsState screen is_flushed paints) (Moves screen failures) (HasSize screen failures) t0 (record { decoder = fresh_decoder; state = s }) all t
+      (ran-start u o (ShowsState screen is_flushed paints) (Moves screen failures) (TakesSize screen failures) t0 (record { decoder = fresh_decoder; state = s }) all t
       (record { drawn = inr (record { before = t0; taken = inl refl; then = draws }); faults = same }) sh)
 
   -- the size that a screen keeps
-  kept-size : (size : Option (ℕ × ℕ)) (t t' : TerminalData B) → size_of (screen t'.backend) ≡ size_of (screen t.backend) → IfSome size (λ z. HasSize screen failures z t) → IfSome size (λ z. HasSize screen failures z t')
-  kept-size None t t' e h = tt
-  kept-size (Some z) t t' e h = e ∙ h
+  kept-size : (size : Option (ℕ × ℕ)) (s t t' : TerminalData B) → size_of (screen t'.backend) ≡ size_of (screen t.backend)
+      → IfSome size (λ z. TakesSize screen failures z s t) → IfSome size (λ z. TakesSize screen failures z s t')
+  kept-size None s t t' e h = tt
+  kept-size (Some z) s t t' e (inl has) = inl (e ∙ has)
+  kept-size (Some z) s t t' e (inr kept) = inr (e ∙ kept)
 
   -- the frame of bytes was drawn
   pub feeds-drawn : (d : Decoder) (s : S) (t : TerminalData B) (d' : Decoder) (s' : S) (t' : TerminalData B) (bytes : List ℕ) (size : Option (ℕ × ℕ)) (sized : TerminalData B)
@@ -46,7 +48,7 @@ module _ {B S : Type 0} (screen : B → Screen) (failures : B → ℕ) (is_flush
   feeds-drawn d s t d' s' t' bytes size sized e1 e2 ez asked draws shows same same_count = record {
     taken = ap₂ (λ (x : Decoder) (y : S). record { decoder = x; state = y }) e1 e2;
     moved = record { drawn = inr (record { before = sized; taken = asked.taken; then = draws }); faults = same_count ∙ asked.faults };
-    sized = subst (λ (z : Option (ℕ × ℕ)). IfSome z (λ x. HasSize screen failures x t')) ez (kept-size size sized t' (same asked.may) asked.has);
+    sized = subst (λ (z : Option (ℕ × ℕ)). IfSome z (λ x. TakesSize screen failures x t t')) ez (kept-size size t sized t' (same asked.may) asked.has);
     shown = shows asked.may;
   }
 
@@ -87,12 +89,12 @@ module _ {B S : Type 0} (screen : B → Screen) (failures : B → ℕ) (is_flush
       → (ShowsState screen is_flushed paints now.state t → StepsTo screen failures is_flushed paints u o now rest t next left t' came)
       → RunsTo screen failures is_flushed paints u o t0 first all next left t'
   runs-step t0 first all now rest t next left t' came ran step =
-      ran-step u o (ShowsState screen is_flushed paints) (Moves screen failures) (HasSize screen failures) t0 first all now rest t next left t' came ran
-      (step (ran-shows u o (ShowsState screen is_flushed paints) (Moves screen failures) (HasSize screen failures) t0 first all now rest t ran))
+      ran-step u o (ShowsState screen is_flushed paints) (Moves screen failures) (TakesSize screen failures) t0 first all now rest t next left t' came ran
+      (step (ran-shows u o (ShowsState screen is_flushed paints) (Moves screen failures) (TakesSize screen failures) t0 first all now rest t ran))
 
   pub runs-shows : (t0 : TerminalData B) (first : Between S) (all : Option (List ℕ)) (now : Between S) (rest : Option (List ℕ)) (t : TerminalData B)
       → RunsTo screen failures is_flushed paints u o t0 first all now rest t → ShowsState screen is_flushed paints now.state t
-  runs-shows t0 first all now rest t ran = ran-shows u o (ShowsState screen is_flushed paints) (Moves screen failures) (HasSize screen failures) t0 first all now rest t ran
+  runs-shows t0 first all now rest t ran = ran-shows u o (ShowsState screen is_flushed paints) (Moves screen failures) (TakesSize screen failures) t0 first all now rest t ran
 
 pub keeps-known : (known : Option (List ℕ)) → Keeps known known
 keeps-known None = tt
@@ -164,12 +166,26 @@ module _ {B : Type 0} (screen : B → Screen) (failures : B → ℕ) where
       → Showing.TakesTold screen failures (Some (w, h)) s (record s { backend = b })
   resizes-new s b w h other size same rest =
       let unknown : IsSized screen (record s { backend = b }) → ⊥ = λ sized. other (known-size s b w h size rest sized rest.sized) in
-      record { may = inr (record { before = s; rest = rest; only = refl; unknown = unknown }); taken = inr (refl, unknown); has = size; faults = same }
+      record { may = inr (record { before = s; rest = rest; only = refl; unknown = unknown }); taken = inr (refl, unknown); has = inl size; faults = same }
+
+  -- a size that is refused
+  resizes-kept : (s : TerminalData B) (b : B) (w h : ℕ) → b ≡ s.backend → failures b ≡ failures s.backend → IsAtRest screen Fullscreen s
+      → Showing.TakesTold screen failures (Some (w, h)) s (record s { backend = b })
+  resizes-kept s b w h kept same rest =
+      let stays : record s { backend = b } ≡ s = ap (λ (x : B). record s { backend = x }) kept in
+      record {
+        may = inl (subst (λ (x : TerminalData B). IsAtRest screen Fullscreen x) (sym stays) rest);
+        taken = inl stays;
+        has = inr (ap (λ (x : B). size_of (screen x)) kept);
+        faults = same;
+      }
 
   -- by the answer
   pub resizes-if : {E : Type 0} (s : TerminalData B) (b : B) (w h : ℕ) (result : Result (Unit {0}) E) → ((s.viewport_area.width ≡ w) × (s.viewport_area.height ≡ h) → ⊥)
-      → OnOk result (size_of (screen b) ≡ record { width = w; height = h }) → OnOk result (failures b ≡ failures s.backend) → IsAtRest screen Fullscreen s → OnOk result (Showing.TakesTold screen failures (Some (w, h)) s (record s { backend = b }))
-  resizes-if s b w h (Ok x) other size same rest = resizes-new s b w h other size same rest
+      → OnOk result ((size_of (screen b) ≡ record { width = w; height = h }) ⊎ (b ≡ s.backend)) → OnOk result (failures b ≡ failures s.backend) → IsAtRest screen Fullscreen s
+      → OnOk result (Showing.TakesTold screen failures (Some (w, h)) s (record s { backend = b }))
+  resizes-if s b w h (Ok x) other (inl size) same rest = resizes-new s b w h other size same rest
+  resizes-if s b w h (Ok x) other (inr kept) same rest = resizes-kept s b w h kept same rest
   resizes-if s b w h (Err e) other size same rest = tt
 
 -- something came, where an empty read would have ended the run

@@ -9,7 +9,7 @@ use Rattle.std.specs.Prelude.{⊤, IfSome}
 use Rattle.std.specs.Io.KnownBytes.{Consumes, Keeps, IsAtEnd}
 use Rattle.ratatui_core.specs.Terminal.{TerminalError, DrawErr, RendersCurrent, IsSized}
 use Rattle.ratatui_core.specs.Headline.{AtAnySize, MayTakeSize}
-use Rattle.ratatui_reads.specs.Reads.{Between, after_read}
+use Rattle.ratatui_reads.specs.Reads.{Between, told_by, after_read, RefusesAmong}
 use Rattle.ratatui_app.specs.declared.running.Fault.{Fault}
 use Rattle.ratatui_app.specs.declared.running.Fault.TheVariants.{Read, Memory, Draw, Resize}
 use Rattle.ratatui_reads.specs.Moments.{Ran, Feeds, Steps}
@@ -35,16 +35,17 @@ module _ {B : Type 0} (screen : B → Screen) (failures : B → ℕ) where
   abbrev pub MayDraw : TerminalData B → Type 0
   MayDraw t = IsAtRest screen Fullscreen t ⊎ HasNewSize t
 
-  -- the screen has so many columns and rows
-  abbrev pub HasSize : ℕ × ℕ → TerminalData B → Type 0
-  HasSize size t = size_of (screen t.backend) ≡ record { width = size.0; height = size.1 }
+  -- a size was told: the screen has it now, or kept its own, as it does if the backend refused the new one
+  abbrev pub TakesSize : ℕ × ℕ → TerminalData B → TerminalData B → Type 0
+  TakesSize size s t = (size_of (screen t.backend) ≡ record { width = size.0; height = size.1 })
+      ⊎ (size_of (screen t.backend) ≡ size_of (screen s.backend))
 
-  -- the screen took a size that was told, if one was and it was another one; then it has any contents, and a draw will
-  -- find its size
+  -- the screen took a size that was told, if one was and it was another one, or the backend refused it; a screen of
+  -- another size has any contents, and a draw will find its size
   pub record TakesTold (size : Option (ℕ × ℕ)) (s t : TerminalData B) : Type 0 where
     pub may : MayDraw t
     pub taken : MayTakeSize screen s t
-    pub has : IfSome size (λ z. HasSize z t)
+    pub has : IfSome size (λ z. TakesSize z s t)
     pub faults : failures t.backend ≡ failures s.backend
 
   -- the terminal stayed, or a frame was drawn on it, at the size that it had or at another one; no call failed
@@ -57,14 +58,14 @@ module _ {B S : Type 0} (screen : B → Screen) (failures : B → ℕ) (is_flush
   -- a run, the bytes of a read that are fed, and one read, on a terminal that shows the state after each
   abbrev pub RunsTo : TerminalData B → Between S → Option (List ℕ) → Between S → Option (List ℕ) → TerminalData B
       → Type 0
-  RunsTo = Ran updated is_over (ShowsState screen is_flushed paints) (Moves screen failures) (HasSize screen failures)
+  RunsTo = Ran updated is_over (ShowsState screen is_flushed paints) (Moves screen failures) (TakesSize screen failures)
 
   abbrev pub FeedsTo : Between S → TerminalData B → List ℕ → Between S → TerminalData B → Type 0
-  FeedsTo = Feeds updated is_over (ShowsState screen is_flushed paints) (Moves screen failures) (HasSize screen failures)
+  FeedsTo = Feeds updated is_over (ShowsState screen is_flushed paints) (Moves screen failures) (TakesSize screen failures)
 
   abbrev pub StepsTo : Between S → Option (List ℕ) → TerminalData B → Between S → Option (List ℕ) → TerminalData B
       → Bool → Type 0
-  StepsTo = Steps updated is_over (ShowsState screen is_flushed paints) (Moves screen failures) (HasSize screen failures)
+  StepsTo = Steps updated is_over (ShowsState screen is_flushed paints) (Moves screen failures) (TakesSize screen failures)
 
 -- a draw of a state was refused: nothing was written after the resize, or the backend failed
 abbrev pub RefusesState : {B S E : Type 0} → (B → Screen) → (S → Rect → BufferData → BufferData → Type 0) → S
@@ -82,12 +83,13 @@ module _ {B S : Type 0} (screen : B → Screen) (failures : B → ℕ) (is_flush
     pub given : MayTakeSize screen t sized
     pub refused : RefusesState screen paints after.state sized t' error
 
-  -- where bytes and their frame stop: at a refused update the terminal stayed, and at a refused size all of it but the
-  -- backend
+  -- where bytes and their frame stop: at a refused update the terminal stayed, and the events before it were taken; where
+  -- the backend failed to take a size, all of the terminal stayed but the backend
   abbrev pub StopsFeeding : {E : Type 0} → Between S → TerminalData B → List ℕ → Between S → TerminalData B → Fault E
       → Type 0
   StopsFeeding before t bytes after t' (Read error) = ⊥
-  StopsFeeding before t bytes after t' Memory = t' ≡ t
+  StopsFeeding before t bytes after t' Memory =
+      (t' ≡ t) × RefusesAmong updated is_over (told_by before.decoder bytes).0 before.state after.state
   StopsFeeding before t bytes after t' (Draw error) = LacksFrame before t bytes after t' error
   StopsFeeding before t bytes after t' (Resize error) =
       (after ≡ after_read updated is_over before bytes) × (t' ≡ record t { backend = t'.backend })

@@ -8,6 +8,7 @@ mod from_blank;
 pub mod laws;
 mod moments;
 mod running;
+mod whole;
 #[cfg(test)]
 mod tests;
 
@@ -17,3 +18,4 @@ pub use counter::Counter;
 pub use from_blank::count_from_blank;
 pub use moments::run_on_glass;
 pub use running::{Fault, draw, feed, run, step};
+pub use whole::run_and_leave;

@@ -1,6 +1,6 @@
 //! Running an application.
 
-ghost use Rattle.std.specs.Prelude.{◌≡◌, Bool, Some, [], false, OnOk, IfOk, IfErr};
+ghost use Rattle.std.specs.Prelude.{◌≡◌, ◌⊎◌, Bool, Some, [], false, OnOk, IfOk, IfErr};
 ghost use Rattle.std.specs.Io.KnownBytes.{IsAtEnd};
 ghost use Rattle.ratatui_core.specs.Backend.{size_of};
 ghost use Rattle.ratatui_core.specs.Terminal.{IsAtRest, Fullscreen, DrawsFrame};
@@ -28,8 +28,8 @@ pub enum Fault<E> {
     Memory,
     /// A draw was refused.
     Draw(TerminalError<E>),
-    /// A size that the terminal told was refused: by the backend's own error, or without one.
-    Resize(Option<E>),
+    /// The backend failed to take a size that the terminal told.
+    Resize(E),
 }
 
 /// Draws a frame of an application.
@@ -56,24 +56,22 @@ pub fn draw<B: Backend, A: Application>(
     Ok(())
 }
 
-// Gives a backend another size, which it may refuse without an error.
-fn take_size<B: Resizable>(backend: &mut B, size: Size) -> Result<(), Option<B::Error>>
-    ensures size { OnOk result (size_of (B.screen backend.new) ≡ size) }
+// Gives a backend another size, which it may refuse.
+fn take_size<B: Resizable>(backend: &mut B, size: Size) -> Result<(), B::Error>
+    ensures size { OnOk result
+        ((size_of (B.screen backend.new) ≡ size) ⊎ (backend.new ≡ backend.old)) }
     ensures faults { OnOk result (B.failures backend.new ≡ B.failures backend.old) }
 {
-    match backend.take_size(size) {
-        Ok(true) => Ok(()),
-        Ok(false) => Err(None),
-        Err(error) => Err(Some(error)),
-    }
+    let _is_taken = backend.take_size(size)?;
+    Ok(())
 }
 
-// Gives the screen another size.
+// Gives the screen another size, or leaves it at its own if the backend refuses that.
 fn give_size<B: Resizable>(
     terminal: &mut Terminal<B>,
     columns: u16,
     rows: u16,
-) -> Result<(), Option<B::Error>>
+) -> Result<(), B::Error>
     ensures only { terminal.new ≡ record terminal.old { backend = terminal.new.backend } }
     ensures ok { IsAtRest B.screen Fullscreen terminal.old
         → ((terminal.old.viewport_area.width ≡ columns)
@@ -92,7 +90,7 @@ fn give_size<B: Resizable>(
 fn resize<B: Resizable>(
     terminal: &mut Terminal<B>,
     size: Option<(u16, u16)>,
-) -> Result<(), Option<B::Error>>
+) -> Result<(), B::Error>
     ensures only { terminal.new ≡ record terminal.old { backend = terminal.new.backend } }
     ensures ok { IsAtRest B.screen Fullscreen terminal.old
         → OnOk result (TakesTold B.screen B.failures size terminal.old terminal.new) }
@@ -108,12 +106,13 @@ fn resize<B: Resizable>(
 }
 
 /// Takes the events of the bytes of a read, none where nothing came, and draws a frame if there
-/// were any or nothing came.
+/// were any or nothing came. A size that they tell is the screen's first, unless the backend refuses
+/// it.
 ///
 /// # Errors
 ///
-/// `Memory` if an update was refused memory, `Resize` if the backend refused a size that was told,
-/// and `Draw` if the draw was refused.
+/// `Memory` if an update was refused memory, `Resize` if the backend failed to take a size that was
+/// told, and `Draw` if the draw was refused.
 pub fn feed<B: Resizable, A: Application>(
     bytes: &[u8],
     decoder: &mut Decoder,

@@ -89,5 +89,7 @@ fn counts_in_pieces(rt: HostRuntime) -> Result<(), Fail> {
         )
     );
     assert!(rt; shows_on(alloc, &[b"++\x1b[8;0;0t\x1b[2;3R"], &["2  ", "   "]));
+    // A size of more than a million cells is none.
+    assert!(rt; shows_on(alloc, &[b"++\x1b[8;1001;1000t"], &["2   ", "    "]));
     Ok(())
 }

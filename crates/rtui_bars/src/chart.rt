@@ -35,7 +35,7 @@ pub struct BarChart<'a> {
     pub(crate) bar_style: Style,
     pub(crate) value_style: Style,
     pub(crate) label_style: Style,
-    style: Style,
+    pub(crate) style: Style,
     pub(crate) groups: Vec<BarGroup<'a>>,
     max: Option<u64>,
 }

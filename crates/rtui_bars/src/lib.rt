@@ -11,6 +11,7 @@ mod group;
 pub mod laws;
 mod level;
 mod sparkline;
+mod styled;
 
 pub use chart::BarChart;
 pub use group::{Bar, BarGroup};

@@ -61,7 +61,7 @@ impl SparklineBar {
 #[derive(Debug, Drop)]
 pub struct Sparkline<'a> {
     block: Option<Block<'a>>,
-    style: Style,
+    pub(crate) style: Style,
     absent_value_style: Style,
     absent_value_symbol: &'a str,
     bars: Vec<SparklineBar>,

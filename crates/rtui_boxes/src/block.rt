@@ -39,7 +39,7 @@ pub struct Block<'a> {
     borders: Borders,
     border_style: Style,
     border_set: border::Set<'a>,
-    style: Style,
+    pub(crate) style: Style,
     padding: Padding,
     merge_borders: MergeStrategy,
 }

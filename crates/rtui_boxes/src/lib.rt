@@ -13,6 +13,7 @@ mod clear;
 mod frame;
 pub mod laws;
 mod padding;
+mod styled;
 mod title;
 
 pub use block::Block;

@@ -146,3 +146,7 @@ pub record RendersList (l : ListData) (s t : ListState) (area : Rect) (old new :
   pub within : ChangesWithin area old new
   pub no_part : IsBare (intersected area old.area) → t ≡ s
   pub parts : OnPart (ListInFrame l s t) area old new
+
+-- a list without a state of its own: from the first item on, none selected
+abbrev pub RendersListFresh : ListData → Rect → BufferData → BufferData → Type 0
+RendersListFresh l area old new = (last : ListState) × RendersList l (record { offset = 0; selected = None }) last area old new

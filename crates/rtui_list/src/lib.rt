@@ -5,10 +5,12 @@
 //! and what a list makes of a buffer and of its state.
 #![tactic(auto)]
 
+mod fresh;
 mod item;
 pub mod laws;
 mod list;
 mod state;
+mod styled;
 mod window;
 
 pub use item::ListItem;

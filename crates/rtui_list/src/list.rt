@@ -58,13 +58,13 @@ impl HighlightSpacing {
 ///
 /// ```
 /// let list = List::new(items).highlight_symbol("> ").highlight_style(Style::new().bg(Color::Blue));
-/// (&list).render(area, buf, &mut state)?;
+/// StatefulWidget::render(&list, area, buf, &mut state)?;
 /// ```
 #[derive(Debug, Drop)]
 pub struct List<'a> {
     block: Option<Block<'a>>,
     items: Vec<ListItem<'a>>,
-    style: Style,
+    pub(crate) style: Style,
     direction: ListDirection,
     highlight_style: Style,
     highlight_symbol: &'a str,
@@ -490,6 +490,6 @@ impl<'a> StatefulWidget for List<'a> {
     ghost is_short = { λ list _ _. IsShortList list };
 
     fn render(self, area: Rect, buf: &mut Buffer, state: &mut ListState) -> Result<(), AllocError> {
-        (&self).render(area, buf, state)
+        StatefulWidget::render(&self, area, buf, state)
     }
 }

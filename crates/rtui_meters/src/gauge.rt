@@ -29,7 +29,7 @@ pub struct Gauge<'a> {
     share: Share,
     label: Option<Span<'a>>,
     use_unicode: bool,
-    style: Style,
+    pub(crate) style: Style,
     gauge_style: Style,
 }
 

@@ -10,6 +10,7 @@ pub mod laws;
 mod line_gauge;
 mod scrollbar;
 mod share;
+mod styled;
 
 pub use gauge::Gauge;
 pub use line_gauge::LineGauge;

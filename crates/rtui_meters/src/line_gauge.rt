@@ -33,7 +33,7 @@ pub struct LineGauge<'a> {
     label: Option<Line<'a>>,
     filled_symbol: &'a str,
     unfilled_symbol: &'a str,
-    style: Style,
+    pub(crate) style: Style,
     filled_style: Style,
     unfilled_style: Style,
 }

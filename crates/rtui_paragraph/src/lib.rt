@@ -9,5 +9,6 @@ mod ahead;
 pub mod laws;
 mod paragraph;
 mod reflow;
+mod styled;
 
 pub use paragraph::{Paragraph, Wrap};

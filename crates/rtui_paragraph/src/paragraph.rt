@@ -42,7 +42,7 @@ pub struct Wrap {
 #[derive(Debug, Drop)]
 pub struct Paragraph<'a> {
     block: Option<Block<'a>>,
-    style: Style,
+    pub(crate) style: Style,
     wrap: Option<Wrap>,
     text: Text<'a>,
     scroll: Position,

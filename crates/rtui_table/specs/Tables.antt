@@ -243,3 +243,8 @@ pub record HasNarrowRows (t : TableData) : Type 0 where
   pub header : HasNarrowCellsIf t.header
   pub footer : HasNarrowCellsIf t.footer
   pub symbol : IsNarrowSymbol t.highlight_symbol
+
+-- a table without a state of its own: from the first row on, nothing selected
+abbrev pub RendersTableFresh : TableData → Rect → BufferData → BufferData → Type 0
+RendersTableFresh t area old new =
+    (last : TableState) × RendersTable t (record { offset = 0; selected = None; selected_column = None }) last area old new

@@ -6,10 +6,12 @@
 #![tactic(auto)]
 
 mod cell;
+mod fresh;
 pub mod laws;
 mod part;
 mod row;
 mod state;
+mod styled;
 mod table;
 mod view;
 

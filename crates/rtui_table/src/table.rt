@@ -24,7 +24,7 @@ use std::alloc::{AllocError, Global};
 ///
 /// ```
 /// let table = Table::new(rows, widths).header(names).row_highlight_style(Style::new().bg(Color::Blue));
-/// (&table).render(area, buf, &mut state)?;
+/// StatefulWidget::render(&table, area, buf, &mut state)?;
 /// ```
 #[derive(Debug, Drop)]
 pub struct Table<'a> {
@@ -34,7 +34,7 @@ pub struct Table<'a> {
     widths: Vec<Constraint>,
     column_spacing: u16,
     block: Option<Block<'a>>,
-    style: Style,
+    pub(crate) style: Style,
     pub(crate) row_highlight_style: Style,
     pub(crate) column_highlight_style: Style,
     pub(crate) cell_highlight_style: Style,
@@ -361,6 +361,6 @@ impl<'a> StatefulWidget for Table<'a> {
         buf: &mut Buffer,
         state: &mut TableState,
     ) -> Result<(), AllocError> {
-        (&self).render(area, buf, state)
+        StatefulWidget::render(&self, area, buf, state)
     }
 }

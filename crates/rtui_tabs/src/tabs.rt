@@ -31,7 +31,7 @@ pub struct Tabs<'a> {
     block: Option<Block<'a>>,
     titles: Vec<Line<'a>>,
     selected: Option<usize>,
-    style: Style,
+    pub(crate) style: Style,
     highlight_style: Style,
     divider: Span<'a>,
     padding_left: Option<Line<'a>>,

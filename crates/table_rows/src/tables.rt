@@ -157,7 +157,7 @@ pub fn table(
         .with_offset(case.number("offset").unwrap_or(0))
         .with_selected(case.number("selected"))
         .with_selected_column(case.number("column"));
-    (&table).render(area, buffer, &mut state)?;
+    StatefulWidget::render(&table, area, buffer, &mut state)?;
     Ok(state)
 }
 

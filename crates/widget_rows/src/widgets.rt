@@ -41,7 +41,7 @@ fn list(alloc: Global, case: &Case<'_>, area: Rect, buffer: &mut Buffer) -> Resu
     if case.option("corner") == Some("bottom") {
         list = list.direction(ListDirection::BottomToTop);
     }
-    list.render(area, buffer, &mut state)
+    StatefulWidget::render(list, area, buffer, &mut state)
 }
 
 // The percentage of a gauge.
