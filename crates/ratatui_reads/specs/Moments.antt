@@ -27,7 +27,8 @@ module _ {S T : Type 0} where
 
 module _ {S T : Type 0} (updated : S → Event → S) (is_over : S → Bool)
     (shows : S → T → Type 0) (moves : T → T → Type 0) (takes_size : ℕ × ℕ → T → T → Type 0) where
-  -- after each read the state is what the read makes of the one before, the terminal moved on from the one before, took
+  -- after each read the state is what the read makes of the one before, the terminal moved on from the one
+  -- before, took
   -- the last size that the read told, and shows the state
   abbrev pub AreMoments : Between S → T → List (Moment S T) → Type 0
   AreMoments b t [] = Unit {0}
@@ -37,9 +38,11 @@ module _ {S T : Type 0} (updated : S → Event → S) (is_over : S → Bool)
       × shows m.between.state m.terminal
       × AreMoments m.between m.terminal ms
 
-  -- a run that is between two reads: its first frame on a terminal, and each moment up to now; what it read was taken from
+  -- a run that is between two reads: its first frame on a terminal, and each moment up to now; what it read
+  -- was taken from
   -- the reader's bytes, as far as these are known
-  pub record Ran (before : T) (first : Between S) (all : Option (List ℕ)) (now : Between S) (rest : Option (List ℕ))
+  pub record Ran (before : T) (first : Between S) (all : Option (List ℕ)) (now : Between S)
+      (rest : Option (List ℕ))
       (t : T) : Type 0 where
     pub begun : T
     pub began : moves before begun
@@ -50,7 +53,8 @@ module _ {S T : Type 0} (updated : S → Event → S) (is_over : S → Bool)
     pub terminal_is : t ≡ last_terminal begun moments
     pub consumed : Consumes all rest (all_bytes (reads_of moments))
 
-  -- bytes of a read, some or none, were fed: what they make of the state is shown, and the last size that they told was taken
+  -- bytes of a read, some or none, were fed: what they make of the state is shown, and the last size that
+  -- they told was taken
   pub record Feeds (before : Between S) (t : T) (bytes : List ℕ) (after : Between S) (t' : T) : Type 0 where
     pub taken : after ≡ after_read updated is_over before bytes
     pub moved : moves t t'
@@ -58,7 +62,8 @@ module _ {S T : Type 0} (updated : S → Event → S) (is_over : S → Bool)
     pub shown : shows after.state t'
 
   -- one read: bytes were taken from the reader, and fed
-  pub record Steps (before : Between S) (all : Option (List ℕ)) (t : T) (after : Between S) (rest : Option (List ℕ))
+  pub record Steps (before : Between S) (all : Option (List ℕ)) (t : T) (after : Between S)
+      (rest : Option (List ℕ))
       (t' : T) (came : Bool) : Type 0 where
     pub bytes : List ℕ
     pub some : came ≡ true → IsNonEmpty bytes
@@ -66,7 +71,8 @@ module _ {S T : Type 0} (updated : S → Event → S) (is_over : S → Bool)
     pub consumed : Consumes all rest bytes
     pub fed : Feeds before t bytes after t'
 
--- if nothing read is no tick: the bytes that were read, in whatever pieces, and what they make of decoder and state
+-- if nothing read is no tick: the bytes that were read, in whatever pieces, and what they make of decoder and
+-- state
 pub record HasTyped {S : Type 0} (updated : S → Event → S) (is_over : S → Bool)
     (first : Between S) (all : Option (List ℕ)) (now : Between S) (rest : Option (List ℕ)) : Type 0 where
   pub bytes : List ℕ
@@ -79,4 +85,5 @@ pub record HasEnded {S : Type 0} (updated : S → Event → S) (is_over : S → 
   pub bytes : List ℕ
   pub consumed : Consumes all rest bytes
   pub state_is : (state ≡ (after_bytes updated is_over first bytes).state)
-      ⊎ (IsAtEnd rest × (state ≡ (after_read updated is_over (after_bytes updated is_over first bytes) []).state))
+      ⊎ (IsAtEnd rest × (state ≡ (after_read updated is_over (after_bytes updated is_over first bytes)
+      []).state))

@@ -66,9 +66,13 @@ AreNonEmpty (r ∷ rs) = IsNonEmpty r × AreNonEmpty rs
 
 -- columns and rows, if these are a size: of one cell at least, and of a million at most
 abbrev pub size_if : ℕ → ℕ → Option (ℕ × ℕ)
-size_if columns rows = if nat_lt 0 (columns * rows) && nat_le (columns * rows) 1000000 then Some (columns, rows) else None
+size_if columns rows = if nat_lt 0 (columns * rows) && nat_le (columns * rows) 1000000 then Some (
+  columns,
+  rows,
+) else None
 
--- the size that an event tells: the terminal's columns and rows, or those up to the last place, where the cursor was sent
+-- the size that an event tells: the terminal's columns and rows, or those up to the last place, where the
+-- cursor was sent
 -- to ask for them
 abbrev pub size_in : Event → Option (ℕ × ℕ)
 size_in (Size columns rows) = size_if columns rows
